@@ -5,6 +5,9 @@ pub use Rattle.std.proofs.lemmas.Bool.{cases_Bool, cases_lt}
 pub use Rattle.std.proofs.lemmas.Bool.Decides.{eqb_tells, nat_tests}
 pub use Rattle.std.proofs.lemmas.Int.{ints}
 pub use Rattle.std.proofs.lemmas.List.{get_or_append_left, get_or_past, length-map}
+pub use Rattle.std.proofs.lemmas.List.Elements.{All-cons, All-nil}
+pub use Rattle.std.proofs.lemmas.Option.{get_or_from_slice_get, same_Some, slice_get_read, slice_get_within}
+pub use Rattle.std.specs.List.{AllByRecursion, range_with_len}
 pub use Rattle.ta_automaton.specs.Forms.{ConditionOver, FallRow, FormOver, RiseRow, RowOver}
 pub use Rattle.ta_automaton.specs.Laws.{CountersAddUp, CountersByFirings, FallGuardsStayFalse, ParametersStay, RiseGuardsStayTrue, SharedByFirings, SharedNeverFalls, SomeUnsafe, leads_into, leads_out_of, update_of}
 pub use Rattle.ta_automaton.specs.Places.{Whole, location_place, one_if, rule_change}
@@ -14,15 +17,16 @@ unfoldable pub use Rattle.ta_automaton.specs.Sums.{times_in, total}
 pub use Rattle.ta_automaton.specs.declared.automaton.Automaton.{Automaton}
 pub use Rattle.ta_automaton.specs.declared.condition.Comparison.{Comparison}
 pub use Rattle.ta_automaton.specs.declared.condition.Condition.{Condition}
+pub use Rattle.ta_automaton.specs.declared.file.File.{File}
 pub use Rattle.ta_automaton.specs.declared.pattern.Event.{Event}
 pub use Rattle.ta_automaton.specs.declared.pattern.Pattern.{Pattern}
 pub use Rattle.ta_automaton.specs.declared.rule.Rule.{Rule}
 pub use Rattle.ta_base.proofs.Bits.{bit_below, no_bit}
-pub use Rattle.ta_base.proofs.Each.{all_none, each_at, each_from_at}
+pub use Rattle.ta_base.proofs.Each.{each_at, each_from_at}
 pub use Rattle.ta_base.proofs.Integers.{by_one, distributes, less_times, natural, not_held, one_times, pos_natural, times_le}
-pub use Rattle.ta_base.proofs.Lists.{filter_all, filter_false, filter_true, left_place, length_parts, letters_apart, middle_place, no_sign, right_place, without_last}
+pub use Rattle.ta_base.proofs.Lists.{filter_all, filter_false, filter_true, left_place, letters_apart, middle_place, no_sign, right_place, without_last}
 pub use Rattle.ta_base.proofs.Naturals.{one_if_turned, word_letter}
-pub use Rattle.ta_base.specs.Masks.{In, numbers_from}
+pub use Rattle.ta_base.specs.Masks.{In}
 pub use Rattle.ta_linear.specs.Terms.{IsNormal, IsTerm, coefficient}
 pub use Rattle.ta_linear.specs.Values.{RowHolds, terms_value, value_of}
 pub use Rattle.ta_linear.specs.declared.form.Form.{Form}

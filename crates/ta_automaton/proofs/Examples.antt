@@ -1,6 +1,5 @@
 -- a file with one rule from A to B, whose pattern, that some process is in B, occurs
-use Rattle.ta_automaton.proofs.Common.{◌≡◌, ℕ, zero, suc, ◌+◌, ℤ, pos, negsuc, [], ◌∷◌, eqb, cond, arith, refl, sym, subst, ◌≤◌, slice_get, get_or, Some, All, Contains, IsBitSet, ints, nat_tests, no_bit, all_none, letters_apart, IsTerm, RowHolds, Form, Row, Comparison, Condition, Rule, Automaton, Event, Pattern, FormOver, Config, Initial, Move, Occurs, HoldsAt, HappensAt, number_at, value_at, SomeUnsafe}
-use Rattle.std.proofs.lemmas.List.Elements.{All-cons}
+use Rattle.ta_automaton.proofs.Common.{◌≡◌, ℕ, zero, suc, ◌+◌, ℤ, pos, negsuc, [], ◌∷◌, eqb, cond, arith, refl, sym, subst, ◌≤◌, slice_get, get_or, Some, All, Contains, IsBitSet, ints, nat_tests, no_bit, letters_apart, IsTerm, RowHolds, Form, Row, Comparison, Condition, Rule, Automaton, Event, Pattern, FormOver, Config, Initial, Move, Occurs, HoldsAt, HappensAt, number_at, value_at, SomeUnsafe, All-cons, All-nil}
 use Rattle.ta_automaton.proofs.ShortNames.{letter_name}
 
 one_term : (x : ℕ) → IsTerm (x, pos 1)
@@ -79,7 +78,7 @@ abbrev comparison : Form → Comparison
 comparison form = record { rows = row_of form ∷ []; some = omega arith; most = omega arith }
 
 one_holds : (point : ℕ → ℤ) (form : Form) → RowHolds point (row_of form) → HoldsAt point (one_row form)
-one_holds point form h = All-cons (λ (k : Comparison). All (RowHolds point) k.rows) (comparison form) [] (All-cons (RowHolds point) (row_of form) [] h (all_none (RowHolds point))) (all_none (λ (k : Comparison). All (RowHolds point) k.rows))
+one_holds point form h = All-cons (λ (k : Comparison). All (RowHolds point) k.rows) (comparison form) [] (All-cons (RowHolds point) (row_of form) [] h (All-nil (RowHolds point))) (All-nil (λ (k : Comparison). All (RowHolds point) k.rows))
 
 starts : Initial first at_first
 starts = record {
@@ -115,7 +114,7 @@ occurs : Occurs first reached at_first (0 ∷ [])
 occurs = record {
   later = at_last ∷ [];
   run = record { initial = starts; steps = (record { rule = move; named = refl; move = moves }, tt) };
-  start = all_none (λ (k : Comparison). All (RowHolds (value_at at_first)) k.rows);
+  start = All-nil (λ (k : Comparison). All (RowHolds (value_at at_first)) k.rows);
   kept_empty = λ l b. absurd (no_bit l b);
   positions = 1 ∷ [];
   each_has_one = refl;

@@ -1,22 +1,23 @@
 -- firing a rule
-use Rattle.ta_automaton.proofs.Common.{◌≡◌, inl, inr, ℕ, ◌+◌, ◌≤◌, pos, ◌+ℤ◌, ◌-ℤ◌, map, length, eqb, cond, false, arith, sym, ap, ◌∙◌, refl, slice_get, get_or, Some, List, ints, cases_lt, nat_tests, eqb_tells, length-map, get_or_past, natural, pos_natural, coefficient, Rule, Automaton, Config, Step, MaskedHold, numbers_from, one_if, Whole}
-use Rattle.ta_base.proofs.Ranges.{at_index, length_numbers, past_numbers}
+use Rattle.ta_automaton.proofs.Common.{◌≡◌, inl, inr, ℕ, ◌+◌, ◌≤◌, pos, ◌+ℤ◌, ◌-ℤ◌, map, length, eqb, cond, false, arith, sym, ap, ◌∙◌, refl, slice_get, get_or, Some, List, ints, cases_lt, nat_tests, eqb_tells, length-map, get_or_past, natural, pos_natural, coefficient, Rule, Automaton, Config, Step, MaskedHold, range_with_len, one_if, Whole}
+use Rattle.ta_base.proofs.Ranges.{at_index, past_numbers}
 pub use Rattle.ta_automaton.specs.Places.{Whole}
 use Rattle.ta_automaton.proofs.Thresholds.{updates_natural, updates_within, from_within, to_within}
 use Rattle.ta_automaton.proofs.Moves.{Fits}
+use Rattle.std.proofs.lemmas.List.FromFn.{length-range_with_len}
 
 abbrev pub fire : Automaton → Rule → Config → Config
 fire a rule c = record {
   parameters = c.parameters;
-  shared = map (λ x. natural (pos (get_or c.shared x 0) +ℤ coefficient rule.updates x)) (numbers_from 0 (length a.shared));
-  counters = map (λ l. natural ((pos (get_or c.counters l 0) +ℤ one_if rule.to l) -ℤ one_if rule.from l)) (numbers_from 0 (length a.locations));
+  shared = map (λ x. natural (pos (get_or c.shared x 0) +ℤ coefficient rule.updates x)) (range_with_len 0 (length a.shared));
+  counters = map (λ l. natural ((pos (get_or c.counters l 0) +ℤ one_if rule.to l) -ℤ one_if rule.from l)) (range_with_len 0 (length a.locations));
 }
 
 pub fire_whole : (a : Automaton) (rule : Rule) (c : Config) → Whole a c → Whole a (fire a rule c)
 fire_whole a rule c w = record {
   parameters = w.parameters;
-  shared = length-map (numbers_from 0 (length a.shared)) _ ∙ length_numbers 0 (length a.shared);
-  counters = length-map (numbers_from 0 (length a.locations)) _ ∙ length_numbers 0 (length a.locations);
+  shared = length-map (range_with_len 0 (length a.shared)) _ ∙ length-range_with_len 0 (length a.shared);
+  counters = length-map (range_with_len 0 (length a.locations)) _ ∙ length-range_with_len 0 (length a.locations);
 }
 
 count_after : (b from to l n : ℕ) → 1 ≤ n → (l ≡ from → b ≡ n) → natural ((pos b +ℤ one_if to l) -ℤ one_if from l) + cond (eqb l from) 1 0 ≡ b + cond (eqb l to) 1 0

@@ -1,5 +1,5 @@
 -- lists of fired rules and their numbers
-use Rattle.ta_automaton.proofs.Common.{◌≡◌, inl, inr, ℕ, zero, suc, ◌+◌, ◌<◌, ◌≤◌, ℤ, pos, ◌+ℤ◌, ◌*ℤ◌, List, [], ◌∷◌, eqb, cond, Bool, true, false, arith, sym, ap, ◌∙◌, refl, zero-add, ints, cases_Bool, nat_tests, eqb_tells, *ℤ-zero, numbers_from, by_one, distributes, filter_false, filter_true, total, times_in, one_if}
+use Rattle.ta_automaton.proofs.Common.{◌≡◌, inl, inr, ℕ, zero, suc, ◌+◌, ◌<◌, ◌≤◌, ℤ, pos, ◌+ℤ◌, ◌*ℤ◌, List, [], ◌∷◌, eqb, cond, Bool, true, false, arith, sym, ap, ◌∙◌, refl, zero-add, ints, cases_Bool, nat_tests, eqb_tells, *ℤ-zero, range_with_len, by_one, distributes, filter_false, filter_true, total, times_in, one_if}
 use Rattle.std.specs.Prelude.{filter}
 use Rattle.ta_automaton.proofs.Sums.{total-zero, total-same, total-add, one_if-same, one_if-other}
 
@@ -33,24 +33,24 @@ firings g rules (x ∷ xs) h =
     let parts = total-add (λ r. one_if r x *ℤ g r) (λ r. g r *ℤ pos (times_in r xs)) rules in
     omega (arith, ints, rest, split, parts, times_in-total g x rules, ap (λ z. g x *ℤ pos z) h.0, by_one (g x))
 
-outside : (ok : ℕ → Bool) (o k n : ℕ) → o < k → times_in o (filter ok (numbers_from k n)) ≡ 0
+outside : (ok : ℕ → Bool) (o k n : ℕ) → o < k → times_in o (filter ok (range_with_len k n)) ≡ 0
 unfolding times_in
 outside ok o k zero h = refl
 outside ok o k (suc n) h =
     let ne : eqb k o ≡ false = grind (arith, nat_tests) in
     elim (cases_Bool (ok k)) [
-      | inl e ↦ rw (filter_true ok k (numbers_from (k + 1) n) e, ne) (omega (arith, outside ok o (k + 1) n (omega arith)))
-      | inr e ↦ rw (filter_false ok k (numbers_from (k + 1) n) e) (outside ok o (k + 1) n (omega arith))
+      | inl e ↦ rw (filter_true ok k (range_with_len (k + 1) n) e, ne) (omega (arith, outside ok o (k + 1) n (omega arith)))
+      | inr e ↦ rw (filter_false ok k (range_with_len (k + 1) n) e) (outside ok o (k + 1) n (omega arith))
     ]
 
-pub once : (ok : ℕ → Bool) (o k n : ℕ) → ok o ≡ true → k ≤ o → o < k + n → times_in o (filter ok (numbers_from k n)) ≡ 1
+pub once : (ok : ℕ → Bool) (o k n : ℕ) → ok o ≡ true → k ≤ o → o < k + n → times_in o (filter ok (range_with_len k n)) ≡ 1
 unfolding times_in
 once ok o k zero t low high = absurd (omega arith)
 once ok o k (suc n) t low high = elim (eqb_tells k o) [
-  | inl e ↦ rw (filter_true ok k (numbers_from (k + 1) n) (ap ok e.1 ∙ t), e.0) (omega (arith, outside ok o (k + 1) n (let p = e.1 in omega arith)))
+  | inl e ↦ rw (filter_true ok k (range_with_len (k + 1) n) (ap ok e.1 ∙ t), e.0) (omega (arith, outside ok o (k + 1) n (let p = e.1 in omega arith)))
   | inr ne ↦ (let rest = once ok o (k + 1) n t (let p = ne.1 in omega arith) (omega arith) in
       elim (cases_Bool (ok k)) [
-        | inl e ↦ rw (filter_true ok k (numbers_from (k + 1) n) e, ne.0) (omega (arith, rest))
-        | inr e ↦ rw (filter_false ok k (numbers_from (k + 1) n) e) rest
+        | inl e ↦ rw (filter_true ok k (range_with_len (k + 1) n) e, ne.0) (omega (arith, rest))
+        | inr e ↦ rw (filter_false ok k (range_with_len (k + 1) n) e) rest
       ])
 ]

@@ -1,8 +1,6 @@
 -- a pattern by its number in a file
-use Rattle.ta_automaton.proofs.Common.{◌≡◌, ℕ, ◌<◌, List, length, get_or, slice_get, Some, arith, sym, ap, ◌∙◌, refl, subst, Pattern}
-use Rattle.std.proofs.lemmas.Option.{get_or_from_slice_get, slice_get_read}
+use Rattle.ta_automaton.proofs.Common.{◌≡◌, ℕ, ◌<◌, List, length, get_or, slice_get, Some, arith, sym, ap, ◌∙◌, refl, subst, Pattern, get_or_from_slice_get, slice_get_read, File}
 use Rattle.ta_automaton.specs.Numbered.{OfPattern}
-use Rattle.ta_automaton.specs.declared.file.File.{File}
 
 -- the pattern that a call reads is the pattern with its number
 pub pattern_at : (file : File) (items : List Pattern) (k : ℕ) (p : Pattern) → items ≡ file.patterns → k < length file.patterns → p ≡ get_or items k p → slice_get file.patterns k ≡ Some p

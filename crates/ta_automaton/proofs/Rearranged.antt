@@ -1,5 +1,5 @@
 -- firings from which the circuits are taken out stand in an order in which nobody arrives any more where one leaves
-use Rattle.ta_automaton.proofs.Common.{◌≡◌, ◌≢◌, ◌⊎◌, inl, inr, ℕ, zero, suc, ◌≤◌, ℤ, pos, ◌≤ℤ◌, List, [], ◌∷◌, ◌++◌, length, arith, sym, ap, ◌∙◌, refl, subst, slice_get, Some, append_assoc, ints, eqb_tells, length_parts, coefficient, Rule, Automaton, Walk, InScope, In, total}
+use Rattle.ta_automaton.proofs.Common.{◌≡◌, ◌≢◌, ◌⊎◌, inl, inr, ℕ, zero, suc, ◌≤◌, ℤ, pos, ◌≤ℤ◌, List, [], ◌∷◌, ◌++◌, length, arith, sym, ap, ◌∙◌, refl, subst, slice_get, Some, append_assoc, ints, eqb_tells, coefficient, Rule, Automaton, Walk, InScope, In, total, length-append}
 use Rattle.ta_base.proofs.Members.{In-left, In-right, in_append}
 use Rattle.ta_automaton.proofs.Sums.{total-append}
 use Rattle.ta_automaton.proofs.Thresholds.{updates_natural}
@@ -89,7 +89,7 @@ same_moved rs front o behind = record {
       | inr k ↦ In-right q rs (front ++ o ∷ behind) (elim (in_append q front behind k) [ inl m ↦ In-left q front (o ∷ behind) m | inr m ↦ In-right q front (o ∷ behind) (inr m) ])
     ]
   ];
-  size = omega (arith, length_parts rs (front ++ o ∷ behind), length_parts front (o ∷ behind), length_parts rs (front ++ behind), length_parts front behind);
+  size = omega (arith, length-append rs (front ++ o ∷ behind), length-append front (o ∷ behind), length-append rs (front ++ behind), length-append front behind);
 }
 
 same_cut : (front : List ℕ) (o : ℕ) (behind left : List ℕ) → Same ((front ++ o ∷ behind) ++ left) ((front ++ o ∷ []) ++ (behind ++ left))
@@ -162,7 +162,7 @@ back_on a os fuel b w rest size = record {
   walk = (w.rule, w.named, refl, subst (λ (l : ℕ). Walk a l (b.first ∷ b.rs) b.target) (sym w.into) b.walk);
   left = w.front ++ w.behind;
   same = same_trans os ((b.first ∷ b.rs) ++ b.left) ((w.firing ∷ b.first ∷ b.rs) ++ (w.front ++ w.behind)) b.same (subst (λ (xs : List ℕ). Same ((b.first ∷ b.rs) ++ xs) ((w.firing ∷ b.first ∷ b.rs) ++ (w.front ++ w.behind))) (sym w.cut) (same_moved (b.first ∷ b.rs) w.front w.firing w.behind));
-  short = omega (arith, b.short, ap (λ (xs : List ℕ). length xs) w.cut, length_parts w.front (w.firing ∷ w.behind), length_parts w.front w.behind);
+  short = omega (arith, b.short, ap (λ (xs : List ℕ). length xs) w.cut, length-append w.front (w.firing ∷ w.behind), length-append w.front w.behind);
 }
 
 -- the walk is round where one of its firings leads into its beginning
@@ -174,7 +174,7 @@ back_round a os fuel b w =
       place = x;
       circuit = circuit;
       walk = subst (Walk a x circuit) w.into (walk_cut a x w.front w.firing w.behind b.target w.rule w.named (subst (λ (xs : List ℕ). Walk a x xs b.target) w.cut b.walk));
-      some = omega (arith, length_parts w.front (w.firing ∷ []));
+      some = omega (arith, length-append w.front (w.firing ∷ []));
       rest = w.behind ++ b.left;
       same = same_trans os ((b.first ∷ b.rs) ++ b.left) (circuit ++ (w.behind ++ b.left)) b.same (subst (λ (xs : List ℕ). Same (xs ++ b.left) (circuit ++ (w.behind ++ b.left))) (sym w.cut) (same_cut w.front w.firing w.behind b.left));
     }
@@ -187,7 +187,7 @@ go_back a os rules zero b =
       | inr w ↦ inr (back_round a os zero b w)
       | inl here ↦ elim (into_or a b.rule.from b.left (each_rule_back a ((b.first ∷ b.rs) ++ b.left) b.left all (λ q i. In-right q (b.first ∷ b.rs) b.left i))) [
         | inl none ↦ inl (record { firing = b.first; rule = b.rule; named = b.named; rest = b.rs ++ b.left; same = b.same; none = none_append a b.rule.from (b.first ∷ b.rs) b.left here none })
-        | inr w ↦ absurd (omega (arith, b.short, ap (λ (xs : List ℕ). length xs) w.cut, length_parts w.front (w.firing ∷ w.behind)))
+        | inr w ↦ absurd (omega (arith, b.short, ap (λ (xs : List ℕ). length xs) w.cut, length-append w.front (w.firing ∷ w.behind)))
       ]
     ]
 go_back a os rules (suc fuel) b =
@@ -241,7 +241,7 @@ rearrange a scope (suc fuel) (o ∷ os) h short = elim (free_or_circuit a o os h
       })
   | inr c ↦ (
       let rest : EachRule a c.rest = each_rule_back a (o ∷ os) c.rest h (λ q i. c.same.back q (In-right q c.circuit c.rest i)) in
-      let more = rearrange a scope fuel c.rest rest (omega (arith, c.same.size, c.some, length_parts c.circuit c.rest)) in
+      let more = rearrange a scope fuel c.rest rest (omega (arith, c.same.size, c.some, length-append c.circuit c.rest)) in
       record {
         firings = more.firings;
         onward = more.onward;

@@ -1,8 +1,7 @@
 -- the laws of runs
-use Rattle.ta_automaton.proofs.Common.{◌≡◌, inl, inr, ℕ, zero, suc, ◌+◌, ◌<◌, ◌≤◌, ℤ, pos, ◌+ℤ◌, ◌≤ℤ◌, ◌<ℤ◌, List, [], ◌∷◌, length, take, sum, count_by, eqb, cond, true, false, arith, sym, ap, ◌∙◌, refl, subst, slice_get, get_or, Some, ints, nat_tests, eqb_tells, not_held, filter_all, one_if_turned, coefficient, value_of, Rule, Automaton, Config, Initial, Step, Steps, Run, At, value_at, number_at, numbers_from, total, times_in, CountersAddUp, ParametersStay, SharedNeverFalls, RiseGuardsStayTrue, FallGuardsStayFalse, CountersByFirings, SharedByFirings, leads_into, leads_out_of, update_of}
-use Rattle.std.proofs.lemmas.Option.{slice_get_within, same_Some}
-use Rattle.std.proofs.lemmas.List.Sums.{sum_by-cons}
+use Rattle.ta_automaton.proofs.Common.{◌≡◌, inl, inr, ℕ, zero, suc, ◌+◌, ◌<◌, ◌≤◌, ℤ, pos, ◌+ℤ◌, ◌≤ℤ◌, ◌<ℤ◌, List, [], ◌∷◌, length, take, sum, count_by, eqb, cond, true, false, arith, sym, ap, ◌∙◌, refl, subst, slice_get, get_or, Some, ints, nat_tests, eqb_tells, not_held, filter_all, one_if_turned, coefficient, value_of, Rule, Automaton, Config, Initial, Step, Steps, Run, At, value_at, number_at, range_with_len, total, times_in, CountersAddUp, ParametersStay, SharedNeverFalls, RiseGuardsStayTrue, FallGuardsStayFalse, CountersByFirings, SharedByFirings, leads_into, leads_out_of, update_of, slice_get_within, same_Some}
 use Rattle.ta_base.proofs.Sums.{count-cons}
+use Rattle.std.proofs.lemmas.List.Sums.{sum_by-cons}
 use Rattle.ta_automaton.proofs.Thresholds.{Later, updates_natural, stays_true, stays_below, from_within, to_within}
 use Rattle.ta_automaton.proofs.Moves.{Fits, fits_after, step_later}
 use Rattle.ta_automaton.proofs.Fired.{EachOnce, firings, once}
@@ -33,7 +32,7 @@ pub shared_never_falls : SharedNeverFalls
 shared_never_falls a first rules later run j k b c le at there =
     between a (λ x y. (v : ℕ) → get_or x.shared v 0 ≤ get_or y.shared v 0) (λ x v. omega arith) (λ r x y z step h v. omega (arith, ints, step.move.added v, updates_natural a r step.rule step.named v, h v)) first rules later run.steps j k b c le at there
 
-first_fits : (a : Automaton) (first : Config) → Initial a first → Fits a first
+pub first_fits : (a : Automaton) (first : Config) → Initial a first → Fits a first
 first_fits a first initial = record { parameters = initial.admissible.count; shared = initial.shared_count }
 
 later_here : (a : Automaton) (c : Config) → Later a (value_at c) (value_at c)
@@ -96,11 +95,11 @@ added a x c rules later steps k d at =
     c rules later steps k d at
 
 -- each rule of a run is once among the numbers of the rules
-each_once : (a : Automaton) (c : Config) (rules : List ℕ) (later : List Config) → Steps a c rules later → (k : ℕ) (d : Config) → slice_get (c ∷ later) k ≡ Some d → EachOnce (take k rules) (numbers_from 0 (length a.rules))
+each_once : (a : Automaton) (c : Config) (rules : List ℕ) (later : List Config) → Steps a c rules later → (k : ℕ) (d : Config) → slice_get (c ∷ later) k ≡ Some d → EachOnce (take k rules) (range_with_len 0 (length a.rules))
 each_once a c rules later steps k d at =
-    along a (λ rs b e. EachOnce rs (numbers_from 0 (length a.rules))) (λ b. tt)
+    along a (λ rs b e. EachOnce rs (range_with_len 0 (length a.rules))) (λ b. tt)
     (λ r rs b e f step h. (
-      ap (times_in r) (sym (filter_all (numbers_from 0 (length a.rules)))) ∙ once (λ q. true) r 0 (length a.rules) refl (omega arith) (omega (arith, slice_get_within a.rules r step.rule step.named)),
+      ap (times_in r) (sym (filter_all (range_with_len 0 (length a.rules)))) ∙ once (λ q. true) r 0 (length a.rules) refl (omega arith) (omega (arith, slice_get_within a.rules r step.rule step.named)),
       h,
     ))
     c rules later steps k d at
@@ -109,7 +108,7 @@ pub shared_by_firings : SharedByFirings
 shared_by_firings a first rules later run k c at x =
     let sum = added a x first rules later run.steps k c at in
     let none = run.initial.shared_zero x in
-    let counts = firings (λ r. update_of x (slice_get a.rules r)) (numbers_from 0 (length a.rules)) (take k rules) (each_once a first rules later run.steps k c at) in
+    let counts = firings (λ r. update_of x (slice_get a.rules r)) (range_with_len 0 (length a.rules)) (take k rules) (each_once a first rules later run.steps k c at) in
     omega (arith, ints, sum, none, counts)
 
 -- how often a number is among n numbers from k on

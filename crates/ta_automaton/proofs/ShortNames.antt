@@ -19,26 +19,7 @@ no_mark b l mark.Plus e = no_sign b 43 l refl e
 no_mark b l mark.Minus e = no_sign b 45 l refl e
 no_mark b l mark.Less e = no_sign b 60 l refl e
 no_mark b l mark.More e = no_sign b 62 l refl e
-no_mark b l mark.PlusEquals e = cc
-no_mark b l mark.Arrow e = cc
-no_mark b l mark.AtMost e = cc
-no_mark b l mark.Equal e = cc
-no_mark b l mark.AtLeast e = cc
-no_mark b l mark.Automaton e = cc
-no_mark b l mark.Parameters e = cc
-no_mark b l mark.Shared e = cc
-no_mark b l mark.Locations e = cc
-no_mark b l mark.Initial e = cc
-no_mark b l mark.Processes e = cc
-no_mark b l mark.Resilience e = cc
-no_mark b l mark.Rule e = cc
-no_mark b l mark.When e = cc
-no_mark b l mark.Do e = cc
-no_mark b l mark.Pattern e = cc
-no_mark b l mark.Start e = cc
-no_mark b l mark.Empty e = cc
-no_mark b l mark.Event e = cc
-no_mark b l mark.After e = cc
+no_mark b l _ e = cc
 
 -- a letter is a name
 pub letter_name : (b : ℕ) → IsTrue (is_letter b) → Name (b ∷ [])

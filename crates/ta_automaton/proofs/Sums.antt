@@ -1,4 +1,4 @@
-use Rattle.ta_automaton.proofs.Common.{◌≡◌, ◌≢◌, ◌⊎◌, inl, inr, ℕ, zero, suc, ◌+◌, ◌<◌, ◌≤◌, ℤ, pos, ◌+ℤ◌, ◌*ℤ◌, List, [], ◌∷◌, ◌++◌, arith, sym, ap, refl, ints, eqb_tells, zero-*ℤ, *ℤ-zero, distributes, one_times, terms_value, numbers_from, total, one_if}
+use Rattle.ta_automaton.proofs.Common.{◌≡◌, ◌≢◌, ◌⊎◌, inl, inr, ℕ, zero, suc, ◌+◌, ◌<◌, ◌≤◌, ℤ, pos, ◌+ℤ◌, ◌*ℤ◌, List, [], ◌∷◌, ◌++◌, arith, sym, ap, refl, ints, eqb_tells, zero-*ℤ, *ℤ-zero, distributes, one_times, terms_value, range_with_len, total, one_if}
 
 pub total-append : {X : Type 0} (f : X → ℤ) (xs ys : List X) → total f (xs ++ ys) ≡ (total f xs +ℤ total f ys)
 unfolding total
@@ -37,7 +37,7 @@ pub one_if-other : (x y : ℕ) (z : ℤ) → x ≢ y → (one_if x y *ℤ z) ≡
 one_if-other x y z h = elim (eqb_tells x y) [ inl e ↦ absurd (h e.1) | inr ne ↦ rw ne.0 (zero-*ℤ z) ]
 
 -- a sum over numbers in a row, all of whose parts but one are 0
-pub one_outside : (f : ℕ → ℤ) (k n i : ℕ) → (i < k) ⊎ (k + n ≤ i) → total (λ j. one_if j i *ℤ f j) (numbers_from k n) ≡ pos 0
+pub one_outside : (f : ℕ → ℤ) (k n i : ℕ) → (i < k) ⊎ (k + n ≤ i) → total (λ j. one_if j i *ℤ f j) (range_with_len k n) ≡ pos 0
 unfolding total
 one_outside f k zero i h = refl
 one_outside f k (suc n) i h =
@@ -45,7 +45,7 @@ one_outside f k (suc n) i h =
     let rest : (i < k + 1) ⊎ (k + 1 + n ≤ i) = elim h [ inl a ↦ inl (omega arith) | inr b ↦ inr (omega arith) ] in
     omega (arith, ints, one_if-other k i (f k) ne, one_outside f (k + 1) n i rest)
 
-pub one_inside : (f : ℕ → ℤ) (k n i : ℕ) → k ≤ i → i < k + n → total (λ j. one_if j i *ℤ f j) (numbers_from k n) ≡ f i
+pub one_inside : (f : ℕ → ℤ) (k n i : ℕ) → k ≤ i → i < k + n → total (λ j. one_if j i *ℤ f j) (range_with_len k n) ≡ f i
 unfolding total
 one_inside f k zero i h g = absurd (omega arith)
 one_inside f k (suc n) i h g = elim (eqb_tells k i) [

@@ -1,8 +1,6 @@
 -- what the types of an automaton and of a file keep, in the form that the laws of runs need
-use Rattle.ta_automaton.proofs.Common.{◌≡◌, ◌⊎◌, inl, inr, ℕ, zero, suc, ◌+◌, ◌<◌, ◌≤◌, ℤ, pos, ◌+ℤ◌, ◌*ℤ◌, ◌≤ℤ◌, ◌<ℤ◌, List, [], ◌∷◌, ◌++◌, length, arith, sym, ap, ◌∙◌, refl, slice_get, Some, IsBitSet, eqb, false, length-append, All, ints, cases_lt, nat_tests, eqb_tells, get_or_append_left, bit_below, each_at, each_from_at, less_times, times_le, coefficient, IsNormal, terms_value, value_of, RowHolds, Form, Row, Rule, Automaton, Event, Pattern, FormOver, RowOver, ConditionOver, RiseRow, FallRow, Comparison, Condition, Config, value_at, number_at, HoldsAt}
-use Rattle.std.specs.List.{AllByRecursion}
+use Rattle.ta_automaton.proofs.Common.{◌≡◌, ◌⊎◌, inl, inr, ℕ, zero, suc, ◌+◌, ◌<◌, ◌≤◌, ℤ, pos, ◌+ℤ◌, ◌*ℤ◌, ◌≤ℤ◌, ◌<ℤ◌, List, [], ◌∷◌, ◌++◌, length, arith, sym, ap, ◌∙◌, refl, slice_get, Some, IsBitSet, eqb, false, length-append, All, ints, cases_lt, nat_tests, eqb_tells, get_or_append_left, bit_below, each_at, each_from_at, less_times, times_le, coefficient, IsNormal, terms_value, value_of, RowHolds, Form, Row, Rule, Automaton, Event, Pattern, FormOver, RowOver, ConditionOver, RiseRow, FallRow, Comparison, Condition, Config, value_at, number_at, HoldsAt, File, AllByRecursion}
 use Rattle.ta_linear.proofs.TermLemmas.{IsNormal-le}
-use Rattle.ta_automaton.specs.declared.file.File.{File}
 use Rattle.ta_automaton.specs.Shape.{Update, RuleWithin}
 use Rattle.ta_automaton.specs.Patterns.{EventWithin, PatternWithin}
 

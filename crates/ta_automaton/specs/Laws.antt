@@ -7,7 +7,7 @@ use Rattle.ta_automaton.specs.declared.rule.Rule.{Rule}
 use Rattle.ta_automaton.specs.declared.automaton.Automaton.{Automaton}
 use Rattle.ta_automaton.specs.declared.pattern.Pattern.{Pattern}
 use Rattle.ta_automaton.specs.Runs.{Config, Run, At, Safe, value_at, number_at}
-use Rattle.ta_base.specs.Masks.{numbers_from}
+use Rattle.std.specs.List.{range_with_len}
 use Rattle.ta_automaton.specs.Sums.{total, times_in}
 
 -- at every moment the counters add up to the number of processes
@@ -74,7 +74,7 @@ abbrev pub SharedByFirings : Type 0
 SharedByFirings =
     (a : Automaton) (first : Config) (rules : List ℕ) (later : List Config) → Run a first rules later
     → (k : ℕ) (c : Config) → At first later k c
-    → (x : ℕ) → pos (slice_index c.shared x) ≡ total (λ r. update_of x (slice_get a.rules r) *ℤ pos (times_in r (take k rules))) (numbers_from 0 (length a.rules))
+    → (x : ℕ) → pos (slice_index c.shared x) ≡ total (λ r. update_of x (slice_get a.rules r) *ℤ pos (times_in r (take k rules))) (range_with_len 0 (length a.rules))
 
 -- some pattern isn't safe
 abbrev pub SomeUnsafe : Type 0

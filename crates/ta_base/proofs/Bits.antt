@@ -1,33 +1,32 @@
 -- sets of numbers as masks and as tests
-use Rattle.ta_base.proofs.Common.{ℕ, ◌<◌, eqb, max, ◌≡◌, ◌||◌, zero, refl, suc, arith, min, ◌&&◌, true≢false, bit_or, ap, ◌∙◌, bit_and, ◌^◌, ◌==◌, inl, sym, inr, false, ◌≤◌, ◌-◌, true, Bool, not, eqb-true, eq-eqb, ◌*◌, ◌%◌, pow_pos, ◌+◌, ◌⊎◌, IsBitSet, ◌/◌, cond, ◌↔◌, List, filter, [], ◌∷◌, get_or, ◌≢◌, w32, false≢true, and_parts, and_from, cases_lt, cases_eq, and_cases, bit_at, bit_not, eqb_tells, one_shl, and_le_r, pow-le-pow_right, div-eq_of_lt, AllByRecursion, has_bit, implies, all_below}
-use Rattle.std.proofs.lemmas.Nat.Bits.{bit_at_or, bit_at-lt, bit_at_and, same_from_bits, bit_at-pow_same, bit_at-pow_other, bit_at-zero, bit_at_above, bit_at_ones, and_pow, bit_at_lowest, bit_at-suc, bit_at_cat_low, bit_at_not}
-use Rattle.ta_base.proofs.Naturals.{in_or_above, mask_of, bit_small}
-use Rattle.ta_base.proofs.Booleans.{both_ways, implies-from, and_left}
-use Rattle.ta_base.proofs.Lists.{filter_same, filter_all}
+use Rattle.ta_base.proofs.Common.{ℕ, ◌<◌, eqb, max, ◌≡◌, ◌||◌, zero, refl, suc, arith, min, ◌&&◌, true≢false, bit_or, ap, ◌∙◌, bit_and, ◌^◌, ◌==◌, inl, sym, inr, false, ◌≤◌, ◌-◌, true, Bool, not, eqb-true, eq-eqb, ◌*◌, ◌%◌, pow_pos, ◌+◌, ◌⊎◌, IsBitSet, ◌/◌, cond, ◌↔◌, List, filter, [], ◌∷◌, get_or, ◌≢◌, w32, false≢true, cases_lt, and_cases, bit_at, bit_not, eqb_tells, one_shl, and_le_r, AllByRecursion, has_bit, implies, all_below, nat_tests, cases_Bool, Decides-eqb, same_from_decides, ne_eqb, and_parts, subst, cases_eq, not-false, not-true, not-not, and_comm, bit_set_by_shift, Decides-below_and, Decides, filter_agree}
+use Rattle.std.proofs.lemmas.Nat.Bits.{bit_at_or, bit_at-lt, bit_at_and, same_from_bits, bit_at-pow_same, bit_at-pow_other, bit_at-zero, bit_at_above, bit_at_ones, bit_at_lowest, bit_at-suc, bit_at_cat_low, bit_at_not, shr_and_one}
+use Rattle.ta_base.proofs.Naturals.{mask_of, bit_small}
+use Rattle.ta_base.proofs.Booleans.{both_ways, implies-from, and_false}
+use Rattle.ta_base.proofs.Lists.{filter_all}
 
 or_max : (x y : ℕ) → x < 2 → y < 2 → eqb (max x y) 1 ≡ (eqb y 1 || eqb x 1)
-or_max zero zero h g = refl
-or_max zero (suc zero) h g = refl
-or_max (suc zero) zero h g = refl
-or_max (suc zero) (suc zero) h g = refl
-or_max (suc (suc x)) y h g = absurd (omega arith)
-or_max x (suc (suc y)) h g = absurd (omega arith)
+or_max x y h g = grind (arith, nat_tests)
 
 and_min : (x y : ℕ) → x < 2 → y < 2 → eqb (min x y) 1 ≡ (eqb x 1 && eqb y 1)
-and_min zero zero h g = refl
-and_min zero (suc zero) h g = refl
-and_min (suc zero) zero h g = refl
-and_min (suc zero) (suc zero) h g = refl
-and_min (suc (suc x)) y h g = absurd (omega arith)
-and_min x (suc (suc y)) h g = absurd (omega arith)
+and_min x y h g = grind (arith, nat_tests)
 
 same_digit : (x y : ℕ) → x < 2 → y < 2 → eqb x 1 ≡ eqb y 1 → x ≡ y
-same_digit zero zero h g e = refl
-same_digit zero (suc zero) h g e = absurd (false≢true e)
-same_digit (suc zero) zero h g e = absurd (true≢false e)
-same_digit (suc zero) (suc zero) h g e = refl
-same_digit (suc (suc x)) y h g e = absurd (omega arith)
-same_digit x (suc (suc y)) h g e = absurd (omega arith)
+same_digit x y h g e = grind (arith, nat_tests)
+
+pub set_at : (n i : ℕ) → IsBitSet n i → bit_at n i ≡ 1
+set_at n i h = sym (shr_and_one n i) ∙ (bit_set_by_shift n i).1 h
+
+pub at_set : (n i : ℕ) → bit_at n i ≡ 1 → IsBitSet n i
+at_set n i h = (bit_set_by_shift n i).0 (shr_and_one n i ∙ h)
+
+pub bit_true : (n i : ℕ) → IsBitSet n i → has_bit n i ≡ true
+unfolding has_bit
+bit_true n i h = eq-eqb (bit_at n i) 1 (set_at n i h)
+
+pub bit_set : (n i : ℕ) → has_bit n i ≡ true → IsBitSet n i
+unfolding has_bit
+bit_set n i h = at_set n i (eqb-true (bit_at n i) 1 h)
 
 pub has_or : (a b i : ℕ) → has_bit (bit_or a b) i ≡ (has_bit b i || has_bit a i)
 unfolding has_bit
@@ -65,61 +64,46 @@ and_same true y e = e
 and_same false y e = refl
 
 and_none : (x y : Bool) → implies x (not y) ≡ true → (x && y) ≡ false
-and_none true true e = absurd (false≢true e)
-and_none true false e = refl
+and_none true y e = not-true y e
 and_none false y e = refl
 
-pub all_below-at : (n : ℕ) (test : ℕ → Bool) → all_below n test ≡ true → (k : ℕ) → k < n → test k ≡ true
+all_below_tells : (n : ℕ) (test : ℕ → Bool) → Decides (all_below n test) ((k : ℕ) → k < n → test k ≡ true)
 unfolding all_below
-all_below-at zero test h k b = absurd (omega arith)
-all_below-at (suc n) test h k b =
-    let parts = and_parts (all_below n test) (test n) h in
-    elim (eqb_tells k n) [ inl e ↦ ap test e.1 ∙ parts.1 | inr ne ↦ all_below-at n test parts.0 k (let q = ne.1 in omega arith) ]
+all_below_tells n test = Decides-below_and test (λ k. test k ≡ true) (λ m. all_below m test) (λ k. (λ t. t, λ t. t)) refl (λ m. and_comm (all_below m test) (test m)) n
+
+pub all_below-at : (n : ℕ) (test : ℕ → Bool) → all_below n test ≡ true → (k : ℕ) → k < n → test k ≡ true
+all_below-at n test = (all_below_tells n test).0
 
 -- a test of each number below another says the same of each number, where a mask has no bit above
 implied : (part n : ℕ) (test : ℕ → Bool) → part < 2 ^ n → all_below n (λ i. implies (has_bit part i) (test i)) ≡ true → (i : ℕ) → implies (has_bit part i) (test i) ≡ true
-implied part n test b h i = elim (in_or_above n i) [
+implied part n test b h i = elim (cases_lt i n) [
   | inl below ↦ all_below-at n (λ k. implies (has_bit part k) (test k)) h i below
   | inr above ↦ ap (λ x. implies x (test i)) (has_above part n i b above)
 ]
 
 pub all_below-from : (n : ℕ) (test : ℕ → Bool) → ((k : ℕ) → k < n → test k ≡ true) → all_below n test ≡ true
-unfolding all_below
-all_below-from zero test h = refl
-all_below-from (suc n) test h = and_from (all_below n test) (test n) (all_below-from n test (λ k b. h k (omega arith))) (h n (omega arith))
+all_below-from n test = (all_below_tells n test).1
 
 pub subset : (part whole n : ℕ) → part < 2 ^ n → (bit_and part whole == part) ≡ all_below n (λ i. implies (has_bit part i) (has_bit whole i))
 subset part whole n b = both_ways _ _
-    (λ e. all_below-from n (λ i. implies (has_bit part i) (has_bit whole i)) (λ i _. implies-from (has_bit part i) (has_bit whole i) (λ t. and_left (has_bit part i) (has_bit whole i) (sym (has_and part whole i) ∙ ap (λ m. has_bit m i) (eqb-true (bit_and part whole) part e) ∙ t))))
+    (λ e. all_below-from n (λ i. implies (has_bit part i) (has_bit whole i)) (λ i _. implies-from (has_bit part i) (has_bit whole i) (λ t. (and_parts (has_bit part i) (has_bit whole i) (sym (has_and part whole i) ∙ ap (λ m. has_bit m i) (eqb-true (bit_and part whole) part e) ∙ t)).1)))
     (λ h. eq-eqb (bit_and part whole) part (same_mask (bit_and part whole) part (λ i. has_and part whole i ∙ and_same (has_bit part i) (has_bit whole i) (implied part n (has_bit whole) b h i))))
 
 pub disjoint : (part other n : ℕ) → part < 2 ^ n → (bit_and part other == 0) ≡ all_below n (λ i. implies (has_bit part i) (not (has_bit other i)))
 disjoint part other n b = both_ways _ _
-    (λ e. all_below-from n (λ i. implies (has_bit part i) (not (has_bit other i))) (λ i _. implies-from (has_bit part i) (not (has_bit other i)) (λ t. none_both (has_bit part i) (has_bit other i) t (sym (has_and part other i) ∙ ap (λ m. has_bit m i) (eqb-true (bit_and part other) 0 e) ∙ has_none i))))
+    (λ e. all_below-from n (λ i. implies (has_bit part i) (not (has_bit other i))) (λ i _. implies-from (has_bit part i) (not (has_bit other i)) (λ t. ap not (and_false (has_bit part i) (has_bit other i) (sym (has_and part other i) ∙ ap (λ m. has_bit m i) (eqb-true (bit_and part other) 0 e) ∙ has_none i) t))))
     (λ h. eq-eqb (bit_and part other) 0 (same_mask (bit_and part other) 0 (λ i. has_and part other i ∙ and_none (has_bit part i) (has_bit other i) (implied part n (λ k. not (has_bit other k)) b h i) ∙ sym (has_none i))))
-  where
-    none_both : (x y : Bool) → x ≡ true → (x && y) ≡ false → not y ≡ true
-    none_both true true t e = sym e
-    none_both true false t e = refl
-    none_both false y t e = absurd (false≢true t)
-
-digit_test : (b m : ℕ) → b < 2 → 0 < m → not (eqb (b * m) 0) ≡ eqb b 1
-digit_test zero m h g = ap (λ k. not (eqb k 0)) (let e : 0 * m ≡ 0 = omega arith in e)
-digit_test (suc zero) m h g = elim (eqb_tells (1 * m) 0) [ inl e ↦ absurd (let q = e.1 in omega arith) | inr ne ↦ ap not ne.0 ]
-digit_test (suc (suc b)) m h g = absurd (omega arith)
 
 pub set_test : (w mask k : ℕ) → k < w → not (eqb (bit_and mask ((1 * 2 ^ k) % 2 ^ w)) 0) ≡ has_bit mask k
-unfolding has_bit
 set_test w mask k h =
-    ap (λ b. not (eqb (bit_and mask b) 0)) (one_shl k w h) ∙ ap (λ b. not (eqb b 0)) (and_pow mask k) ∙ digit_test (bit_at mask k) (2 ^ k) (bit_at-lt mask k) (pow_pos k)
+    ap (λ b. not (eqb (bit_and mask b) 0)) (one_shl k w h)
+    ∙ both_ways _ _ (λ t. bit_true mask k (λ e. true≢false (sym t ∙ ap not (eq-eqb (bit_and mask (2 ^ k)) 0 e)))) (λ t. ap not (ne_eqb (bit_and mask (2 ^ k)) 0 (bit_set mask k t)))
 
 pub with_bit : (w mask k i : ℕ) → k < w → has_bit (bit_or mask ((1 * 2 ^ k) % 2 ^ w)) i ≡ ((k == i) || has_bit mask i)
 with_bit w mask k i h = ap (λ b. has_bit (bit_or mask b) i) (one_shl k w h) ∙ has_or mask (2 ^ k) i ∙ ap (λ b. b || has_bit mask i) (has_pow k i)
 
 pub all_below-same : (n : ℕ) (f g : ℕ → Bool) → ((k : ℕ) → k < n → f k ≡ g k) → all_below n f ≡ all_below n g
-unfolding all_below
-all_below-same zero f g h = refl
-all_below-same (suc n) f g h = ap (λ b. b && f n) (all_below-same n f g (λ k b. h k (omega arith))) ∙ ap (λ b. all_below n g && b) (h n (omega arith))
+all_below-same n f g h = both_ways _ _ (λ t. all_below-from n g (λ k b. sym (h k b) ∙ all_below-at n f t k b)) (λ t. all_below-from n f (λ k b. h k b ∙ all_below-at n g t k b))
 
 -- the mask of the first n numbers
 pub first_numbers : (n : ℕ) (test : ℕ → Bool) → n < 32 → all_below n (λ i. implies (has_bit ((1 * 2 ^ n) % 4294967296 - 1) i) (test i)) ≡ all_below n test
@@ -133,63 +117,38 @@ pub record Told (test : ℕ → Bool) (mask n : ℕ) : Type 0 where
 pub none_told : (test : ℕ → Bool) → Told test 0 0
 none_told test = record { below = λ k b. absurd (omega arith); above = λ k b. has_none k }
 
-pub one_told : (test : ℕ → Bool) (w mask more n : ℕ) → Told test mask n → n < w → test n ≡ true → more ≡ bit_or mask ((1 * 2 ^ n) % 2 ^ w) → Told test more (n + 1)
-one_told test w mask more n told within passes is = record {
-  below = λ k b. ap (λ m. has_bit m k) is ∙ with_bit w mask n k within ∙ elim (eqb_tells n k) [
-    | inl e ↦ ap (λ x. x || has_bit mask k) e.0 ∙ sym (sym (ap test e.1) ∙ passes)
-    | inr ne ↦ ap (λ x. x || has_bit mask k) ne.0 ∙ told.below k (let q = ne.1 in omega arith)
-  ];
-  above = λ k b. ap (λ m. has_bit m k) is ∙ with_bit w mask n k within ∙ elim (eqb_tells n k) [
-    | inl e ↦ absurd (let q = e.1 in omega arith)
-    | inr ne ↦ ap (λ x. x || has_bit mask k) ne.0 ∙ told.above k (omega arith)
-  ];
+-- one more number, at which alone the mask may change
+told_more : (test : ℕ → Bool) (mask more n : ℕ) → Told test mask n → ((k : ℕ) → k ≢ n → has_bit more k ≡ has_bit mask k) → has_bit more n ≡ test n → Told test more (n + 1)
+told_more test mask more n told other here = record {
+  below = λ k b. elim (cases_eq k n) [ inl e ↦ subst (λ j. has_bit more j ≡ test j) (sym e) here | inr ne ↦ other k ne ∙ told.below k (omega arith) ];
+  above = λ k b. other k (omega arith) ∙ told.above k (omega arith);
 }
 
+pub one_told : (test : ℕ → Bool) (w mask more n : ℕ) → Told test mask n → n < w → test n ≡ true → more ≡ bit_or mask ((1 * 2 ^ n) % 2 ^ w) → Told test more (n + 1)
+one_told test w mask more n told within passes is = told_more test mask more n told
+    (λ k ne. ap (λ m. has_bit m k) is ∙ with_bit w mask n k within ∙ ap (λ b. b || has_bit mask k) (ne_eqb n k (λ e. ne (sym e))))
+    (ap (λ m. has_bit m n) is ∙ with_bit w mask n n within ∙ ap (λ b. b || has_bit mask n) (eq-eqb n n refl) ∙ sym passes)
+
 pub not_told : (test : ℕ → Bool) (mask n : ℕ) → Told test mask n → test n ≡ false → Told test mask (n + 1)
-not_told test mask n told fails = record {
-  below = λ k b. elim (eqb_tells n k) [
-    | inl e ↦ told.above k (let q = e.1 in omega arith) ∙ sym fails ∙ ap test e.1
-    | inr ne ↦ told.below k (let q = ne.1 in omega arith)
-  ];
-  above = λ k b. told.above k (omega arith);
-}
+not_told test mask n told fails = told_more test mask mask n told (λ k ne. refl) (told.above n (omega arith) ∙ sym fails)
+
+pub all_below-false : (n : ℕ) (test : ℕ → Bool) → all_below n test ≡ false → (k : ℕ) × (k < n) × (test k ≡ false)
+unfolding all_below
+all_below-false zero test h = absurd (true≢false h)
+all_below-false (suc n) test h = elim (and_cases (all_below n test) (test n) h) [
+  | inl e ↦ (let w = all_below-false n test e in (w.0, (let b = w.1 in omega arith), w.2))
+  | inr e ↦ (n, omega arith, e)
+]
 
 -- a mask that isn't 0 has a bit
 pub some_bit : (mask n : ℕ) → 1 ≤ mask → mask < 2 ^ n → (j : ℕ) × (j < n) × (has_bit mask j ≡ true)
-some_bit mask n least most = elim (find (has_bit mask) n) [
-  | inl found ↦ found
-  | inr none ↦ absurd (let zero_mask = same_mask mask 0 (λ i. elim (in_or_above n i) [ inl below ↦ none i below ∙ sym (has_none i) | inr above ↦ has_above mask n i most above ∙ sym (has_none i) ]) in omega arith)
+some_bit mask n least most = elim (cases_Bool (all_below n (λ k. not (has_bit mask k)))) [
+  | inl all ↦ absurd (let empty = same_mask mask 0 (λ i. no_bit_at i all ∙ sym (has_none i)) in omega arith)
+  | inr some ↦ (let w = all_below-false n (λ k. not (has_bit mask k)) some in (w.0, w.1, not-false (has_bit mask w.0) w.2))
 ]
   where
-    found_or : (test : ℕ → Bool) (n : ℕ) (b : Bool) → test n ≡ b → ((j : ℕ) × (j < n) × (test j ≡ true)) ⊎ ((j : ℕ) → j < n → test j ≡ false) → ((j : ℕ) × (j < suc n) × (test j ≡ true)) ⊎ ((j : ℕ) → j < suc n → test j ≡ false)
-    found_or test n true e h = inl (n, omega arith, e)
-    found_or test n false e (inl f) = inl (f.0, (let b = f.1 in omega arith), f.2)
-    found_or test n false e (inr f) = inr (λ j b. elim (eqb_tells j n) [ inl q ↦ ap test q.1 ∙ e | inr ne ↦ f j (let q = ne.1 in omega arith) ])
-
-    find : (test : ℕ → Bool) (n : ℕ) → ((j : ℕ) × (j < n) × (test j ≡ true)) ⊎ ((j : ℕ) → j < n → test j ≡ false)
-    find test zero = inr (λ j b. absurd (omega arith))
-    find test (suc n) = found_or test n (test n) refl (find test n)
-
-pow_positive : (k : ℕ) → 1 ≤ 2 ^ k
-pow_positive zero = omega arith
-pow_positive (suc k) = omega (arith, pow_positive k)
-
-pub bit_true : (n i : ℕ) → IsBitSet n i → has_bit n i ≡ true
-unfolding has_bit
-bit_true n i h =
-    let e = and_pow n i in
-    let one : (n / 2 ^ i) % 2 ≡ 1 = elim (eqb_tells ((n / 2 ^ i) % 2) 0) [
-      | inl z ↦ absurd (h (e ∙ ap (λ b. b * 2 ^ i) z.1 ∙ (let q : 0 * 2 ^ i ≡ 0 = omega arith in q)))
-      | inr ne ↦ (let q = ne.1 in omega arith)
-    ] in
-    eq-eqb ((n / 2 ^ i) % 2) 1 one
-
-pub bit_set : (n i : ℕ) → has_bit n i ≡ true → IsBitSet n i
-unfolding has_bit
-bit_set n i h none =
-    let one = eqb-true ((n / 2 ^ i) % 2) 1 h in
-    let e : 1 * 2 ^ i ≡ 0 = ap (λ b. b * 2 ^ i) (sym one) ∙ sym (and_pow n i) ∙ none in
-    omega (arith, pow_positive i)
+    no_bit_at : (i : ℕ) → all_below n (λ k. not (has_bit mask k)) ≡ true → has_bit mask i ≡ false
+    no_bit_at i all = elim (cases_lt i n) [ inl below ↦ not-true (has_bit mask i) (all_below-at n (λ k. not (has_bit mask k)) all i below) | inr above ↦ has_above mask n i most above ]
 
 odd_part : (b m : ℕ) → b < 2 → (b + 2 * m) % 2 ≡ b
 odd_part b m h = omega arith
@@ -214,31 +173,16 @@ no_bit i b = b refl
 
 -- a bit that is set is below a limit of the mask
 pub bit_below : (mask n i : ℕ) → mask < 2 ^ n → IsBitSet mask i → i < n
-unfolding has_bit
-bit_below mask n i h b = elim (cases_lt i n) [
-  | inl c ↦ c
-  | inr c ↦ (
-      let more : 2 ^ n ≤ 2 ^ i = pow-le-pow_right (omega arith) c in
-      let none : mask / 2 ^ i ≡ 0 = div-eq_of_lt (omega arith) in
-      absurd (false≢true (sym (ap (λ q. eqb (q % 2) 1) none) ∙ bit_true mask i b)))
-]
-
-pub set_at : (n i : ℕ) → IsBitSet n i → bit_at n i ≡ 1
-unfolding has_bit
-set_at n i h = eqb-true (bit_at n i) 1 (bit_true n i h)
-
-pub at_set : (n i : ℕ) → bit_at n i ≡ 1 → IsBitSet n i
-unfolding has_bit
-at_set n i h = bit_set n i (eq-eqb (bit_at n i) 1 h)
+bit_below mask n i h b = elim (cases_lt i n) [ inl low ↦ low | inr high ↦ absurd (false≢true (sym (has_above mask n i h high) ∙ bit_true mask i b)) ]
 
 pub set_or : (n i : ℕ) → IsBitSet n i ⊎ (IsBitSet n i → ⊥)
 set_or n i = elim (eqb_tells (bit_at n i) 1) [ inl e ↦ inl (at_set n i e.1) | inr ne ↦ inr (λ h. ne.1 (set_at n i h)) ]
 
 pub not_set : (n i : ℕ) → (IsBitSet n i → ⊥) → bit_at n i ≡ 0
-not_set n i none = elim (eqb_tells (bit_at n i) 1) [
-  | inl e ↦ absurd (none (at_set n i e.1))
-  | inr ne ↦ (let q = ne.1 in let low = bit_at-lt n i in omega arith)
-]
+not_set n i none =
+    let other : bit_at n i ≢ 1 = λ one. none (at_set n i one) in
+    let low = bit_at-lt n i in
+    omega arith
 
 -- a mask without bits from a number on is below that power of 2
 pub mask_below : (mask n : ℕ) → ((i : ℕ) → IsBitSet mask i → i < n) → mask < 2 ^ n
@@ -256,10 +200,9 @@ mask_below mask n below =
 
 -- a mask is determined by its bits
 pub mask-one : (IsIn : ℕ → Type 0) (m n : ℕ) → ((i : ℕ) → IsBitSet m i ↔ IsIn i) → ((i : ℕ) → IsBitSet n i ↔ IsIn i) → m ≡ n
-mask-one IsIn m n p q = same_from_bits m n (λ i. elim (cases_eq (bit_at m i) 1) [
-  | inl e ↦ e ∙ sym (set_at n i ((q i).1 ((p i).0 (at_set m i e))))
-  | inr ne ↦ not_set m i (λ b. ne (set_at m i b)) ∙ sym (not_set n i (λ b. ne (set_at m i ((p i).1 ((q i).0 b)))))
-])
+mask-one IsIn m n p q = same_mask m n (λ i. both_ways _ _
+    (λ t. bit_true n i ((q i).1 ((p i).0 (bit_set m i t))))
+    (λ t. bit_true m i ((p i).1 ((q i).0 (bit_set n i t)))))
 
 pub no_numbers : (xs : List ℕ) → filter (has_bit 0) xs ≡ []
 no_numbers [] = refl
@@ -268,7 +211,7 @@ no_numbers (x ∷ xs) = ap (λ b. cond b (x ∷ filter (has_bit 0) xs) (filter (
 -- a mask of numbers of guards alone has no other bits
 pub bit_in_masks_below : (masks : List ℕ) (d j : ℕ) → AllByRecursion (λ m. m < 2 ^ 16) masks → has_bit (get_or masks d 0) j ≡ true → j < 16
 bit_in_masks_below [] d j h has = absurd (false≢true (sym (has_none j) ∙ has))
-bit_in_masks_below (m ∷ ms) zero j h has = elim (in_or_above 16 j) [ inl below ↦ below | inr above ↦ absurd (false≢true (sym (has_above m 16 j h.0 above) ∙ has)) ]
+bit_in_masks_below (m ∷ ms) zero j h has = bit_below m 16 j h.0 (bit_set m j has)
 bit_in_masks_below (m ∷ ms) (suc d) j h has = bit_in_masks_below ms d j h.1 has
 
 pub bit_on : (w mask k : ℕ) → k < w → bit_and mask ((1 * 2 ^ k) % 2 ^ w) ≢ 0 → has_bit mask k ≡ true
@@ -278,10 +221,7 @@ pub bit_off : (w mask k : ℕ) → k < w → bit_and mask ((1 * 2 ^ k) % 2 ^ w) 
 bit_off w mask k b h = sym (set_test w mask k b) ∙ ap not (eq-eqb (bit_and mask ((1 * 2 ^ k) % 2 ^ w)) 0 h)
 
 eqb_turned : (x y : ℕ) → (x == y) ≡ (y == x)
-eqb_turned x y = elim (eqb_tells x y) [
-  | inl e ↦ e.0 ∙ sym (eq-eqb y x (sym e.1))
-  | inr ne ↦ ne.0 ∙ elim (eqb_tells y x) [ inl e ↦ absurd (ne.1 (sym e.1)) | inr other ↦ sym other.0 ]
-]
+eqb_turned x y = same_from_decides (x == y) (y == x) (Decides-eqb x y) (λ e. sym ((Decides-eqb y x).0 e), λ e. (Decides-eqb y x).1 (sym e))
 
 pub only_bit : (n k : ℕ) → n < 32 → has_bit ((1 * 2 ^ n) % 4294967296) k ≡ (k == n)
 only_bit n k b = ap (λ m. has_bit m k) (one_shl n 32 b) ∙ has_pow n k ∙ eqb_turned n k
@@ -290,9 +230,7 @@ pub has_no_bit : (n k : ℕ) → 32 ≤ n → k < 32 → has_bit 0 k ≡ (k == n
 has_no_bit n k b h = has_none k ∙ elim (eqb_tells k n) [ inl e ↦ absurd (let q = e.1 in omega arith) | inr ne ↦ sym ne.0 ]
 
 opposite_digit : (b : ℕ) → b < 2 → eqb (1 - b) 1 ≡ not (eqb b 1)
-opposite_digit zero h = refl
-opposite_digit (suc zero) h = refl
-opposite_digit (suc (suc b)) h = absurd (omega arith)
+opposite_digit b h = grind (arith, nat_tests)
 
 pub standing_bit : (mask j : ℕ) → mask < 2 ^ 32 → j < 32 → has_bit (bit_not w32 mask) j ≡ not (has_bit mask j)
 unfolding has_bit
@@ -300,25 +238,13 @@ standing_bit mask j b h = ap (λ k. eqb k 1) (bit_at_not w32 mask j b h) ∙ opp
 
 -- no location is kept empty
 pub none_kept_empty : (ls : List ℕ) → filter (λ l. not (has_bit 0 l)) ls ≡ ls
-none_kept_empty ls = filter_same (λ l. not (has_bit 0 l)) (λ l. true) ls (λ l. ap not (has_none l)) ∙ filter_all ls
-
-pub all_below-false : (n : ℕ) (test : ℕ → Bool) → all_below n test ≡ false → (k : ℕ) × (k < n) × (test k ≡ false)
-unfolding all_below
-all_below-false zero test h = absurd (true≢false h)
-all_below-false (suc n) test h = elim (and_cases (all_below n test) (test n) h) [
-  | inl e ↦ (let w = all_below-false n test e in (w.0, (let b = w.1 in omega arith), w.2))
-  | inr e ↦ (n, omega arith, e)
-]
-
-not_not : (b : Bool) → not (not b) ≡ b
-not_not true = refl
-not_not false = refl
+none_kept_empty ls = filter_agree (λ l. not (has_bit 0 l)) (λ l. true) (λ l. ap not (has_none l)) ls ∙ filter_all ls
 
 -- the complement of the locations that are left and aren't kept empty
 pub left_bit : (empty left l : ℕ) → empty < 2 ^ 32 → left < 2 ^ 32 → l < 32 → not (has_bit (bit_not w32 (bit_and (bit_not w32 empty) left)) l) ≡ (not (has_bit empty l) && has_bit left l)
 left_bit empty left l e f h =
     let b : bit_and (bit_not w32 empty) left < 2 ^ 32 = omega (arith, and_le_r (bit_not w32 empty) left) in
     ap not (standing_bit (bit_and (bit_not w32 empty) left) l b h)
-    ∙ not_not (has_bit (bit_and (bit_not w32 empty) left) l)
+    ∙ not-not (has_bit (bit_and (bit_not w32 empty) left) l)
     ∙ has_and (bit_not w32 empty) left l
     ∙ ap (λ (c : Bool). c && has_bit left l) (standing_bit empty l e h)

@@ -1,6 +1,6 @@
 -- bytes and texts
-use Rattle.ta_base.proofs.Common.{ℕ, IsTrue, ◌<◌, arith, List, IsAscii, [], ◌∷◌, bytes_eq, ◌≡◌, true, refl, ◌≢◌, false, String, Global, string_eq, string_bytes, map, sym, ◌∙◌, nat_tests, same_from_decides, AllByRecursion, IsDistinct, IsAscii-nil, IsAscii-cons, bytes_eq-Decides, false_from_ne_true, false≢true, is_word, Distinct}
-use Rattle.std.proofs.lemmas.Map.Keys.{IsDistinct-head, IsDistinct-tail}
+use Rattle.ta_base.proofs.Common.{ℕ, IsTrue, ◌<◌, arith, List, IsAscii, [], ◌∷◌, bytes_eq, ◌≡◌, true, refl, ◌≢◌, false, String, Global, string_eq, string_bytes, map, sym, ◌∙◌, nat_tests, same_from_decides, AllByRecursion, IsDistinct, IsAscii-nil, IsAscii-cons, bytes_eq-Decides, false_from_ne_true, false≢true, is_word, Distinct, IsDistinct-head, IsDistinct-tail}
+use Rattle.ta_base.proofs.Each.{each_map}
 
 -- the bytes of words are ASCII
 word_ascii : (b : ℕ) → IsTrue (is_word b) → b < 128
@@ -20,8 +20,7 @@ other_name known name differ = false_from_ne_true (bytes_eq known name) (λ e. d
 
 -- ---- names that are kept as strings
 each_other : (k : String Global) (ks : List (String Global)) → AllByRecursion (λ y. string_eq k y ≡ false) ks → AllByRecursion (λ y. string_bytes k ≡ y → ⊥) (map string_bytes ks)
-each_other k [] h = tt
-each_other k (y ∷ ks) h = (λ e. false≢true (sym h.0 ∙ (bytes_eq-Decides (string_bytes k) (string_bytes y)).1 e), each_other k ks h.1)
+each_other k ks h = each_map string_bytes (λ y. string_eq k y ≡ false) (λ y. string_bytes k ≡ y → ⊥) ks (λ y no e. false≢true (sym no ∙ (bytes_eq-Decides (string_bytes k) (string_bytes y)).1 e)) h
 
 pub distinct_names : (keys : List (String Global)) → IsDistinct string_eq keys → Distinct (map string_bytes keys)
 distinct_names [] h = tt

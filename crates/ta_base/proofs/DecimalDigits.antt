@@ -1,79 +1,55 @@
 -- decimal digits and the numbers that they write
-use Rattle.ta_base.proofs.Common.{ℕ, ◌≡◌, true, ◌<◌, rules, tests, arith, List, ◌≤◌, [], ◌∷◌, ◌*◌, ◌+◌, ◌^◌, decimal, ◌++◌, ◌/◌, ◌%◌, ◌∙◌, ap, sym, append-nil, append_assoc, false, ◌≢◌, length, take, get_or, ◌-◌, refl, subst, Bool, drop, cond, one-add, take-append-drop, IsTrue, IsAscii, ℤ, pos, ◌≤ℤ◌, ◌<ℤ◌, negsuc, lit≤, lit<, Option, Some, None, codes, is_ascii_digit, digit_value, IsInRange, digits_value_after, AllDigits, digits_value, decimal_step_wide, decimal_digit, decimal_is_IsNumeral_wide, length-decimal-le_wide, decimal_injective, decimal_is_IsNumeral, false≢true, prefix_len, AllByRecursion, list_all, nat_tests, IsAscii-nil, IsAscii-cons, signed_decimal, ints, is_padded, BeginsNoDigit, DigitsAt, DecimalAt, NoDecimalAt, IsDecimal, Avoids, is_letter}
+use Rattle.ta_base.proofs.Common.{ℕ, ◌≡◌, true, ◌<◌, rules, tests, arith, List, ◌≤◌, [], ◌∷◌, ◌*◌, ◌+◌, ◌^◌, decimal, ◌++◌, ◌/◌, ◌%◌, ◌∙◌, ap, sym, append-nil, append_assoc, false, ◌≢◌, length, take, get_or, ◌-◌, refl, subst, Bool, drop, cond, one-add, take-append-drop, IsTrue, IsAscii, ℤ, pos, ◌≤ℤ◌, ◌<ℤ◌, negsuc, lit≤, lit<, Option, Some, None, codes, is_ascii_digit, digit_value, digits_value_after, AllDigits, digits_value, decimal_step_wide, decimal_digit, decimal_is_IsNumeral_wide, length-decimal-le_wide, decimal_injective, decimal_is_IsNumeral, false≢true, prefix_len, AllByRecursion, list_all, nat_tests, IsAscii-nil, IsAscii-cons, signed_decimal, ints, is_padded, BeginsNoDigit, DigitsAt, DecimalAt, NoDecimalAt, IsDecimal, Avoids, is_letter, unsigned_abs}
 use Rattle.std.proofs.lemmas.Str.{digit_value_digit}
 use Rattle.std.proofs.lemmas.Str.Parse.{digit_from_value, digit_at, digits_value-take-le, IsNumeralModel, numerals_by_value}
 use Rattle.std.proofs.lemmas.Int.Digits.{digits_value_more}
 use Rattle.ta_base.proofs.Naturals.{wide, small_is_wide}
-use Rattle.ta_base.proofs.Integers.{floor_is}
+use Rattle.ta_base.proofs.Integers.{abs_natural}
 use Rattle.ta_base.proofs.Lists.{avoids-append}
 
 -- a digit's test and its value
 digit_is : (c : ℕ) → is_ascii_digit c ≡ true → digit_value c < 10
-digit_is c e =
-    let range : IsInRange 48 57 c = search (rules, tests) in
-    let value = digit_value_digit c range in
-    omega arith
+digit_is c e = grind (arith, nat_tests)
 
 is_digit : (c : ℕ) → digit_value c < 10 → is_ascii_digit c ≡ true
-is_digit c low =
-    let range = digit_from_value c low in
-    let below = range.0 in
-    let above = range.1 in
-    search (rules, tests)
+is_digit c low = grind (arith, nat_tests, digit_from_value c low)
 
 -- the value only grows
 after_ge : (n : ℕ) (ds : List ℕ) → n ≤ digits_value_after 10 n ds
 after_ge n [] = omega arith
 after_ge n (c ∷ cs) = omega (arith, after_ge (n * 10 + digit_value c) cs)
 
--- one digit more
-decimal_push : (n d : ℕ) → 0 < n → d < 10 → n * 10 + d < 10 ^ 64 → decimal (n * 10 + d) ≡ decimal n ++ ((48 + d) ∷ [])
-decimal_push n d some low below =
-    let step = decimal_step_wide (n * 10 + d) (omega arith) below in
-    let q : (n * 10 + d) / 10 ≡ n = omega arith in
-    let r : (n * 10 + d) % 10 ≡ d = omega arith in
-    step ∙ ap (λ k. decimal k ++ ((48 + (n * 10 + d) % 10) ∷ [])) q ∙ ap (λ k. decimal n ++ ((48 + k) ∷ [])) r
-
 -- digits behind those of a number that isn't 0
 decimal_after : (n : ℕ) (ds : List ℕ) → 0 < n → AllDigits 10 ds → digits_value_after 10 n ds < 10 ^ 64 → decimal (digits_value_after 10 n ds) ≡ decimal n ++ ds
 decimal_after n [] some digits below = sym (append-nil (decimal n))
 decimal_after n (c ∷ cs) some digits below =
-    let d = digit_value c in
+    let m : ℕ = n * 10 + digit_value c in
     let value = digit_value_digit c (digit_from_value c digits.0) in
-    let glyph : 48 + d ≡ c = omega arith in
-    let low : d < 10 = digits.0 in
-    let grows = after_ge (n * 10 + d) cs in
-    let rest = decimal_after (n * 10 + d) cs (omega arith) digits.1 below in
-    let push = decimal_push n d some low (omega arith) in
-    rest ∙ ap (λ xs. xs ++ cs) push ∙ append_assoc (decimal n) ((48 + d) ∷ []) cs ∙ ap (λ g. decimal n ++ (g ∷ cs)) glyph
+    let front : m / 10 ≡ n = omega (arith, digits.0) in
+    let end : 48 + m % 10 ≡ c = omega (arith, digits.0) in
+    let step = decimal_step_wide m (omega arith) (omega (arith, after_ge m cs)) in
+    decimal_after m cs (omega arith) digits.1 below ∙ ap (λ xs. xs ++ cs) (step ∙ (λ i. decimal (front i) ++ (end i ∷ []))) ∙ append_assoc (decimal n) (c ∷ []) cs
 
 -- digits that aren't padded are the decimal of their value
 pub decimal-digits : (ds : List ℕ) → AllDigits 10 ds → is_padded ds ≡ false → digits_value 10 ds < 10 ^ 64 → decimal (digits_value 10 ds) ≡ ds
 decimal-digits [] digits plain below = absurd (false≢true (sym plain))
 decimal-digits (c ∷ []) digits plain below =
     let value = digit_value_digit c (digit_from_value c digits.0) in
-    let low : digit_value c < 10 = digits.0 in
-    let zero : 0 * 10 + digit_value c ≡ digit_value c = omega arith in
-    let glyph : 48 + digit_value c ≡ c = omega arith in
-    ap decimal zero ∙ decimal_digit (digit_value c) low ∙ ap (λ g. g ∷ []) glyph
+    decimal_digit (0 * 10 + digit_value c) (omega (arith, digits.0)) ∙ ap (λ g. g ∷ []) (omega arith)
 decimal-digits (c ∷ e ∷ es) digits plain below =
     let value = digit_value_digit c (digit_from_value c digits.0) in
     let other : c ≢ 48 = search (rules, tests) in
-    let d = 0 * 10 + digit_value c in
-    let glyph : 48 + d ≡ c = omega arith in
-    let low : d < 10 = omega (arith, digits.0) in
-    let some : 0 < d = omega arith in
-    decimal_after d (e ∷ es) some digits.1 below ∙ ap (λ xs. xs ++ (e ∷ es)) (decimal_digit d low ∙ ap (λ g. g ∷ []) glyph)
+    let glyph : 48 + (0 * 10 + digit_value c) ≡ c = omega arith in
+    let front = decimal_digit (0 * 10 + digit_value c) (omega (arith, digits.0)) ∙ ap (λ g. g ∷ []) glyph in
+    decimal_after (0 * 10 + digit_value c) (e ∷ es) (omega arith) digits.1 below ∙ ap (λ xs. xs ++ (e ∷ es)) front
 
 -- the value of one digit more, which isn't above that of all
 pub value_more : (ds : List ℕ) (i n : ℕ) → i < length ds → AllDigits 10 ds → n ≡ digits_value 10 (take i ds) → (n * 10 + (get_or ds i 0 - 48) ≡ digits_value 10 (take (i + 1) ds)) × (digits_value 10 (take (i + 1) ds) ≤ digits_value 10 ds) × (48 ≤ get_or ds i 0)
 value_more ds i n within digits so_far =
-    let range : IsInRange 48 57 (get_or ds i 0) = digit_at ds i digits within in
+    let range = digit_at ds i digits within in
     let value = digit_value_digit (get_or ds i 0) range in
     let more = digits_value_more 10 ds i within in
-    let low = range.0 in
-    let bound = digits_value-take-le 10 ds (i + 1) (omega arith) in
-    (omega arith, bound, low)
+    (omega arith, digits_value-take-le 10 ds (i + 1) (omega arith), range.0)
 
 -- a number is written in digits
 pub decimal_digits : (n : ℕ) → n < 10 ^ 64 → AllDigits 10 (decimal n)
@@ -89,9 +65,7 @@ digits_unique [] [] r s dx dy nr ns e = (refl, e)
 digits_unique [] (y ∷ ys) r s dx dy nr ns e = absurd (false≢true (sym (subst BeginsNoDigit e nr) ∙ is_digit y dy.0))
 digits_unique (x ∷ xs) [] r s dx dy nr ns e = absurd (false≢true (sym (subst BeginsNoDigit (sym e) ns) ∙ is_digit x dx.0))
 digits_unique (x ∷ xs) (y ∷ ys) r s dx dy nr ns e =
-    let head : x ≡ y = cc in
-    let tail : xs ++ r ≡ ys ++ s = cc in
-    let more = digits_unique xs ys r s dx.1 dy.1 nr ns tail in
+    let more = digits_unique xs ys r s dx.1 dy.1 nr ns (cc) in
     let same = more.0 in
     (cc, more.1)
 
@@ -100,6 +74,14 @@ pub number_unique : (m n : ℕ) (r s : List ℕ) → m < 10 ^ 64 → n < 10 ^ 64
 number_unique m n r s small low nr ns e =
     let parts = digits_unique (decimal m) (decimal n) r s (decimal_digits m small) (decimal_digits n low) nr ns e in
     (sym (value-decimal m small) ∙ ap (digits_value 10) parts.0 ∙ value-decimal n low, parts.1)
+
+-- a number in front of a byte below the digits is determined, and so is what stands behind it
+pub number_same : (low m n : ℕ) (r s : List ℕ) → low < 48 → m < 2 ^ 64 → n < 2 ^ 64 → decimal m ++ (low ∷ r) ≡ decimal n ++ (low ∷ s) → (m ≡ n) × (r ≡ s)
+number_same low m n r s below small fits e =
+    let stop : is_ascii_digit low ≡ false = grind (arith, nat_tests) in
+    let parts = number_unique m n (low ∷ r) (low ∷ s) (omega arith) (omega arith) stop stop e in
+    let rest = parts.1 in
+    (parts.0, cc)
 
 -- the digits that stand first, and what stands behind them
 run_at : (c : ℕ) (cs : List ℕ) (k : ℕ) (b : Bool) → is_ascii_digit c ≡ b → AllDigits 10 (take k cs) → BeginsNoDigit (drop k cs) → AllDigits 10 (take (cond b (1 + k) 0) (c ∷ cs)) × BeginsNoDigit (drop (cond b (1 + k) 0) (c ∷ cs))
@@ -124,9 +106,7 @@ digits_are limit n bytes ds after rest small found at =
 pub none_large : (limit : ℕ) (bytes ds after : List ℕ) → limit ≤ 2 ^ 128 → DigitsAt bytes ds after → limit ≤ digits_value 10 ds → NoDecimalAt limit bytes
 none_large limit bytes ds after small found large n rest at =
     let same = digits_are limit n bytes ds after rest small found at in
-    let value = ap (digits_value 10) same.0 ∙ value-decimal n (wide n limit at.below small) in
-    let below = at.below in
-    omega arith
+    omega (arith, ap (digits_value 10) same.0 ∙ value-decimal n (wide n limit at.below small))
 
 -- other digits are the number
 pub number_at : (limit n : ℕ) (bytes ds after : List ℕ) → limit ≤ 2 ^ 128 → DigitsAt bytes ds after → is_padded ds ≡ false → n ≡ digits_value 10 ds → n < limit → DecimalAt limit bytes n after
@@ -151,8 +131,7 @@ pub not_whole : (limit n m : ℕ) (bytes rest : List ℕ) → limit ≤ 2 ^ 128 
 not_whole limit n m bytes rest small at more is =
     let low = wide n limit at.below small in
     let same = number_unique m n [] rest (wide m limit is.below small) low tt at.ends (append-nil (decimal m) ∙ sym is.text ∙ at.split) in
-    let empty = ap length same.1 in
-    omega arith
+    omega (arith, ap length same.1)
 
 -- the number that stands first is one
 pub number_is : (limit m n : ℕ) (bytes r s : List ℕ) → limit ≤ 2 ^ 128 → DecimalAt limit bytes m r → DecimalAt limit bytes n s → (m ≡ n) × (r ≡ s)
@@ -182,32 +161,24 @@ multiplier_number (negsuc k) x rest low high e = absurd (omega (arith, ints))
 -- a floor is determined by its text
 pub floor_same : (f g : ℤ) → pos 0 ≤ℤ f → f <ℤ pos (2 ^ 126) → pos 0 ≤ℤ g → g <ℤ pos (2 ^ 126) → signed_decimal f ≡ signed_decimal g → f ≡ g
 floor_same f g low high least most e =
-    let a = floor_is f low high in
-    let b = floor_is g least most in
-    let texts : decimal a.0 ≡ decimal b.0 = ap signed_decimal (sym a.1) ∙ e ∙ ap signed_decimal b.1 in
-    a.1 ∙ ap pos (decimal_same (2 ^ 126) a.0 b.0 (lit≤ tt) a.2 b.2 texts) ∙ sym b.1
+    let texts = ap signed_decimal (abs_natural f low) ∙ e ∙ sym (ap signed_decimal (abs_natural g least)) in
+    let same = decimal_same (2 ^ 126) (unsigned_abs f) (unsigned_abs g) (lit≤ tt) (omega (arith, ints)) (omega (arith, ints)) texts in
+    omega (arith, ints)
 
 -- two guards are determined by their text
 pub guards_same : (j h i g : ℕ) → j < 2 ^ 32 → h < 2 ^ 32 → i < 2 ^ 32 → g < 2 ^ 32 → decimal j ++ (32 ∷ decimal i) ≡ decimal h ++ (32 ∷ decimal g) → (j ≡ h) × (i ≡ g)
 guards_same j h i g low least high most e =
-    let parts = number_is (2 ^ 32) j h (decimal j ++ (32 ∷ decimal i)) (32 ∷ decimal i) (32 ∷ decimal g) (lit≤ tt) record { split = refl; below = low; ends = refl } record { split = e; below = least; ends = refl } in
-    let rest = parts.1 in
-    let seconds : decimal i ≡ decimal g = cc in
-    (parts.0, decimal_same (2 ^ 32) i g (lit≤ tt) high most seconds)
+    let parts = number_same 32 j h (decimal i) (decimal g) (omega arith) (omega arith) (omega arith) e in
+    (parts.0, decimal_injective i g (omega arith) (omega arith) parts.1)
 
 -- a row or an unknown has at most 10 digits, and a multiplier or a floor at most 39
 pub row_short : (k : ℕ) → k < 2 ^ 32 → length (decimal k) ≤ 10
-row_short k below =
-    let small : 2 ^ 32 < 10 ^ 10 = lit< tt in
-    length-decimal-le_wide 10 k (omega arith) (omega arith) (wide k (2 ^ 32) below (omega arith))
+row_short k below = length-decimal-le_wide 10 k (omega arith) (omega arith) (omega arith)
 
 -- the number of a limit, or one below it
 pub found_here : (limit : ℕ) (text : List ℕ) (rest : Option ℕ) (b : Bool) → (b ≡ true → text ≡ decimal limit) → (n : ℕ) → n ≤ limit → limit < 2 ^ 64 → text ≡ decimal n → (n ≢ limit → rest ≡ Some n) → (n ≡ limit → b ≡ true) → cond b (Some limit) rest ≡ Some n
 found_here limit text rest true same n within low is below here = ap (λ k. Some k) (decimal_injective limit n low (omega arith) (sym (same refl) ∙ is))
-found_here limit text rest false same n within low is below here = below (λ e. absurd (false_true (here e)))
-  where
-    false_true : false ≡ true → ⊥
-    false_true e = cc
+found_here limit text rest false same n within low is below here = below (λ e. absurd (false≢true (here e)))
 
 pub none_here : (limit : ℕ) (text : List ℕ) (rest : Option ℕ) (b : Bool) → (b ≡ true → text ≡ decimal limit) → (text ≢ decimal limit) → rest ≡ None → cond b (Some limit) rest ≡ None
 none_here limit text rest true same other none = absurd (other (same refl))
@@ -217,30 +188,6 @@ none_here limit text rest false same other none = none
 pub numeral_same : (m n : ℕ) (x y : List ℕ) → m < 2 ^ 127 → n < 2 ^ 127 → BeginsNoDigit x → BeginsNoDigit y → decimal m ++ x ≡ decimal n ++ y → (m ≡ n) × (x ≡ y)
 numeral_same m n x y low high ends stops e = number_unique m n x y (small_is_wide m low) (small_is_wide n high) ends stops e
 
--- a number is written in digits
-decimal_written : (n : ℕ) → n < 2 ^ 64 → AllDigits 10 (decimal n)
-decimal_written n fits = (decimal_is_IsNumeral n fits).0.1
-
--- digits in front of a byte below them are determined
-digits_same : (low : ℕ) (xs ys r s : List ℕ) → low < 48 → AllDigits 10 xs → AllDigits 10 ys → xs ++ (low ∷ r) ≡ ys ++ (low ∷ s) → (xs ≡ ys) × (r ≡ s)
-digits_same low [] [] r s below dx dy e = let tail : r ≡ s = cc in (refl, tail)
-digits_same low [] (y ∷ ys) r s below dx dy e =
-    let range = digit_from_value y dy.0 in let least = range.0 in let same : low ≡ y = cc in absurd (omega arith)
-digits_same low (x ∷ xs) [] r s below dx dy e =
-    let range = digit_from_value x dx.0 in let least = range.0 in let same : x ≡ low = cc in absurd (omega arith)
-digits_same low (x ∷ xs) (y ∷ ys) r s below dx dy e =
-    let head : x ≡ y = cc in
-    let tail : xs ++ (low ∷ r) ≡ ys ++ (low ∷ s) = cc in
-    let more = digits_same low xs ys r s below dx.1 dy.1 tail in
-    let same = more.0 in
-    (cc, more.1)
-
--- a number in front of a byte below the digits is determined, and so is what stands behind it
-pub number_same : (low m n : ℕ) (r s : List ℕ) → low < 48 → m < 2 ^ 64 → n < 2 ^ 64 → decimal m ++ (low ∷ r) ≡ decimal n ++ (low ∷ s) → (m ≡ n) × (r ≡ s)
-number_same low m n r s below small fits e =
-    let parts = digits_same low (decimal m) (decimal n) r s below (decimal_written m small) (decimal_written n fits) e in
-    (decimal_injective m n small fits parts.0, parts.1)
-
 -- a number and a letter begin otherwise
 front_other : (ds xs : List ℕ) (x : ℕ) (r : List ℕ) → AllDigits 10 ds → 0 < length ds → 58 ≤ x → ds ++ r ≡ x ∷ xs → ⊥
 front_other [] xs x r digits some high e = omega arith
@@ -248,11 +195,11 @@ front_other (d ∷ ds) xs x r digits some high e =
     let range = digit_from_value d digits.0 in let most = range.1 in let same : d ≡ x = cc in omega arith
 
 pub number_other : (n x : ℕ) (xs r : List ℕ) → n < 2 ^ 64 → 58 ≤ x → decimal n ++ r ≡ x ∷ xs → ⊥
-number_other n x xs r fits high e = front_other (decimal n) xs x r (decimal_written n fits) (decimal_is_IsNumeral n fits).0.0 high e
+number_other n x xs r fits high e = front_other (decimal n) xs x r (decimal_is_IsNumeral n fits).0.1 (decimal_is_IsNumeral n fits).0.0 high e
 
 -- the lines of a report
 pub number_clear : (n : ℕ) → n < 2 ^ 64 → Avoids 10 (decimal n)
-number_clear n fits = digits_avoid 10 (decimal n) (lit< tt) (decimal_is_IsNumeral n fits).0.1
+number_clear n fits = decimal_avoids 10 (2 ^ 64) n (lit< tt) fits (lit≤ tt)
 
 pub between : (head tail : List ℕ) (n : ℕ) → Avoids 10 head → n < 2 ^ 64 → Avoids 10 tail → Avoids 10 (head ++ (decimal n ++ tail))
 between head tail n before fits behind = avoids-append 10 head (decimal n ++ tail) before (avoids-append 10 (decimal n) tail (number_clear n fits) behind)

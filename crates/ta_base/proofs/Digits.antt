@@ -1,5 +1,5 @@
 -- Numbers in decimal: the digits of each, and the number of digits
-use Rattle.ta_base.proofs.Common.{ℕ, ◌+◌, ◌/◌, ◌%◌, ◌^◌, ◌<◌, ◌≤◌, ◌≡◌, ◌≢◌, true, false, List, [], ◌∷◌, ◌++◌, length, get_or, refl, sym, ap, ◌∙◌, decimal, arith, rules, tests, zero, suc, IsTrue, ◌-◌, false≢true, decimal_by_steps_wide, is_ascii_digit, digit_value, AllByRecursion, nat_tests, DigitsAt, NoDecimalAt, is_padded}
+use Rattle.ta_base.proofs.Common.{ℕ, ◌+◌, ◌/◌, ◌%◌, ◌^◌, ◌<◌, ◌≤◌, ◌≡◌, ◌≢◌, true, false, List, [], ◌∷◌, ◌++◌, length, get_or, refl, sym, ap, ◌∙◌, decimal, arith, rules, tests, IsTrue, ◌-◌, false≢true, decimal_by_steps_wide, is_ascii_digit, digit_value, AllByRecursion, nat_tests, DigitsAt, NoDecimalAt, is_padded, All-get_or, All-from_recursion}
 use Rattle.ta_base.proofs.DecimalDigits.{digits_are}
 use Rattle.ta_base.proofs.Naturals.{wide}
 
@@ -31,9 +31,7 @@ none_padded limit bytes ds after small found padded n rest at =
     false≢true (sym (decimal_plain n (wide n limit at.below small)) ∙ ap is_padded (sym same.0) ∙ padded)
 
 pub digit_at : (ds : List ℕ) (i : ℕ) → AllByRecursion (λ c. IsTrue (is_ascii_digit c)) ds → i < length ds → is_ascii_digit (get_or ds i 0) ≡ true
-digit_at [] i all h = absurd (omega arith)
-digit_at (d ∷ ds) zero all h = all.0
-digit_at (d ∷ ds) (suc i) all h = digit_at ds i all.1 (omega arith)
+digit_at ds i all h = All-get_or (λ c. IsTrue (is_ascii_digit c)) ds i 0 h (All-from_recursion (λ c. IsTrue (is_ascii_digit c)) ds all)
 
 pub value_of_digit : (c : ℕ) → is_ascii_digit c ≡ true → digit_value c ≡ c - 48
 value_of_digit c h = grind (arith, nat_tests)

@@ -1,74 +1,44 @@
 -- whole numbers: signs, sizes, products, and a ruleset that writes polynomials as sums of sorted products
-use Rattle.ta_base.proofs.Common.{ℕ, ◌<◌, ◌*◌, ◌≡◌, sym, ◌∙◌, ap, ◌/◌, ℤ, pos, ◌*ℤ◌, arith, unsigned_abs, int_div, negsuc, suc, neg_ℤ, ◌≤ℤ◌, ◌<ℤ◌, ◌+ℤ◌, div-add-mod', ◌-ℤ◌, ◌≢◌, zero, refl, cond, eqb, FitsSigned, w64, ◌≤◌, ◌^◌, true, false, ◌⊎◌, inl, inr, int_lt, Bool, ◌+◌, to_z, of_z, to_z-of_z, subst, mul-le-mul, true≢false, if◌then◌else◌, mul-le-mul_left, div-le_self, mul-le-mul_right, length, replicate, lit<, get_or, mul-div_cancel_left, mul-div_cancel', mul-dvd-mul_left, dvd-mul_right, ◌∣◌, int_div_euclid, IsGcd, int_min, w128, int_rem_euclid, mod_below, ints, fits_signed_from_abs, unsigned_abs-mul, by_lt_z, *ℤ_comm, pos-*ℤ-pos, pos-*ℤ-negsuc, negsuc-*ℤ-pos, negsuc-*ℤ-negsuc, *ℤ-zero, one, *ℤ-one, nat_tests, eqb_tells, cases_Bool, false≢true, cases_eq, props, signed_decimal, length-decimal-le_wide}
-use borrow.Author.Differences.{product_is, up, down, same_in, neg_is, sum_is_lem}
-use Rattle.std.specs.Int.{w32}
-use Rattle.ta_base.proofs.Naturals.{wide}
+use Rattle.ta_base.proofs.Common.{ℕ, eq-eqb, ne_eqb, ◌<◌, ◌*◌, ◌≡◌, sym, ◌∙◌, ap, ◌/◌, ℤ, pos, ◌*ℤ◌, arith, unsigned_abs, int_div, negsuc, suc, neg_ℤ, ◌≤ℤ◌, ◌<ℤ◌, ◌+ℤ◌, div-add-mod', ◌-ℤ◌, ◌≢◌, zero, refl, cond, eqb, FitsSigned, w64, ◌≤◌, ◌^◌, true, false, ◌⊎◌, inl, inr, int_lt, Bool, ◌+◌, to_z, of_z, to_z-of_z, subst, mul-le-mul, true≢false, if◌then◌else◌, mul-le-mul_left, div-le_self, mul-le-mul_right, length, replicate, get_or, mul-div_cancel', mul-dvd-mul_left, dvd-mul_right, ◌∣◌, int_div_euclid, IsGcd, int_min, w128, int_rem_euclid, mod_below, ints, fits_signed_from_abs, unsigned_abs-mul, by_lt_z, *ℤ_comm, *ℤ-zero, ◌-◌, nat_tests, cases_Bool, false≢true, cases_eq, props, signed_decimal, length-decimal-le_wide, cases_lt, get_or-replicate, get_or_past, length-replicate, w32, +ℤ_idl, +ℤ_idr, +ℤ_invr, mul-pos, lt_of_mul-lt-mul_left, lt_of_mul-lt-mul_right, cond_both, cond-true, cond-false}
+use borrow.Author.Differences.{product_is, up, down, same_in, sum_is_lem}
+use Rattle.ta_base.proofs.Naturals.{small_is_wide}
 use mir.Val.{SFits}
 use mir.Syntax.{w16}
 
-mul_cancel_ℕ : (g x y : ℕ) → 0 < g → g * x ≡ g * y → x ≡ y
-mul_cancel_ℕ g x y h e = sym (mul-div_cancel_left x h) ∙ ap (λ (n : ℕ). n / g) e ∙ mul-div_cancel_left y h
+-- a number is its quotient's product and its remainder
+pub euclid : (a b : ℤ) → pos 0 <ℤ b → a ≡ ((int_div_euclid a b *ℤ b) +ℤ int_rem_euclid a b)
+euclid (pos a) (pos b) h = omega (arith, ints, div-add-mod' a b)
+euclid (negsuc a) (pos b) h = omega (arith, ints, div-add-mod' a b, mod_below a b (omega (arith, ints, h)), product_is (negsuc (a / b)) (pos b))
+euclid a (negsuc b) h = absurd (omega (arith, ints, h))
 
--- a positive factor is taken off
-pub mul_cancel : (g : ℕ) (x y : ℤ) → 0 < g → (pos g *ℤ x) ≡ (pos g *ℤ y) → x ≡ y
-mul_cancel g x y h e =
-    let p = product_is (pos g) x in
-    let q = product_is (pos g) y in
-    let a : g * up x ≡ g * up y = omega (arith, p, q, ap up e) in
-    let b : g * down x ≡ g * down y = omega (arith, p, q, ap down e) in
-    same_in x y (omega (arith, mul_cancel_ℕ g (up x) (up y) h a, mul_cancel_ℕ g (down x) (down y) h b))
-
--- an exact quotient
-pub div_exact : (g : ℕ) (z : ℤ) → g ∣ unsigned_abs z → (pos g *ℤ int_div z (pos g)) ≡ z
-div_exact g (pos a) d = ap pos (mul-div_cancel' g d)
-div_exact g (negsuc a) d =
-    let e = mul-div_cancel' g d in
-    let n = neg_is (pos (suc a / g)) in
-    let p = product_is (pos g) (neg_ℤ (pos (suc a / g))) in
-    same_in (pos g *ℤ int_div (negsuc a) (pos g)) (negsuc a) (omega (arith, p, e, ap (λ (k : ℕ). g * k) n.0, ap (λ (k : ℕ). g * k) n.1))
-
--- the quotient that rounds down, by cases
-floor_pos : (a b : ℕ) → 0 < b → ((pos (a / b) *ℤ pos b) ≤ℤ pos a) × (pos a <ℤ (pos (a / b) *ℤ pos b +ℤ pos b))
-floor_pos a b h =
-    let e = div-add-mod' a b in
-    let m = mod_below a b h in
-    (omega (arith, ints, e, m), omega (arith, ints, e, m))
-
-floor_neg : (a b : ℕ) → 0 < b → ((negsuc (a / b) *ℤ pos b) ≤ℤ negsuc a) × (negsuc a <ℤ (negsuc (a / b) *ℤ pos b +ℤ pos b))
-floor_neg a b h =
-    let e = div-add-mod' a b in
-    let m = mod_below a b h in
-    let p = product_is (negsuc (a / b)) (pos b) in
-    (omega (arith, ints, e, m, p), omega (arith, ints, e, m, p))
+-- the remainder is natural and below the divisor
+rest_within : (a b : ℤ) → pos 0 <ℤ b → (pos 0 ≤ℤ int_rem_euclid a b) × (int_rem_euclid a b <ℤ b)
+rest_within (pos a) b h = (omega (arith, ints), omega (arith, ints, mod_below a (unsigned_abs b) (omega (arith, ints))))
+rest_within (negsuc a) b h = (omega (arith, ints), omega (arith, ints))
 
 pub floor_low : (a b q : ℤ) → pos 0 <ℤ b → q ≡ int_div_euclid a b → (q *ℤ b) ≤ℤ a
-floor_low (pos a) (pos b) q h e = rw e (floor_pos a b (omega (arith, ints, h))).0
-floor_low (negsuc a) (pos b) q h e = rw e (floor_neg a b (omega (arith, ints, h))).0
-floor_low a (negsuc b) q h e = absurd (omega (arith, ints, h))
+floor_low a b q h e = rw e (omega (arith, ints, euclid a b h, rest_within a b h))
 
 pub distributes : (a b c : ℤ) → (a *ℤ (b +ℤ c)) ≡ ((a *ℤ b) +ℤ (a *ℤ c))
-distributes a b c =
-    same_in (a *ℤ (b +ℤ c)) ((a *ℤ b) +ℤ (a *ℤ c))
-    (omega (arith, product_is a (b +ℤ c), product_is a b, product_is a c, sum_is_lem (a *ℤ b) (a *ℤ c), ap (λ (n : ℕ). up a * n) (sum_is_lem b c), ap (λ (n : ℕ). down a * n) (sum_is_lem b c)))
+distributes a b c = omega (arith, ints, ap (λ (n : ℕ). up a * n) (sum_is_lem b c), ap (λ (n : ℕ). down a * n) (sum_is_lem b c))
 
 pub distributes_right : (a b c : ℤ) → ((a +ℤ b) *ℤ c) ≡ ((a *ℤ c) +ℤ (b *ℤ c))
-distributes_right a b c =
-    *ℤ_comm (a +ℤ b) c ∙ distributes c a b ∙ ap (λ x. x +ℤ (c *ℤ b)) (*ℤ_comm c a) ∙ ap (λ x. (a *ℤ c) +ℤ x) (*ℤ_comm c b)
+distributes_right a b c = rw (*ℤ_comm (a +ℤ b) c, distributes c a b, *ℤ_comm c a, *ℤ_comm c b) refl
 
 pub floor_high : (a b q : ℤ) → pos 0 <ℤ b → q ≡ int_div_euclid a b → a <ℤ ((q +ℤ pos 1) *ℤ b)
-floor_high (pos a) (pos b) q h e = rw e (omega (arith, ints, (floor_pos a b (omega (arith, ints, h))).1, distributes_right (pos (a / b)) (pos 1) (pos b)))
-floor_high (negsuc a) (pos b) q h e = rw e (omega (arith, ints, (floor_neg a b (omega (arith, ints, h))).1, distributes_right (negsuc (a / b)) (pos 1) (pos b)))
-floor_high a (negsuc b) q h e = absurd (omega (arith, ints, h))
+floor_high a b q h e = rw e (omega (arith, ints, euclid a b h, rest_within a b h, distributes_right (int_div_euclid a b) (pos 1) b))
 
 -- from natural numbers to whole ones
 pub IsGcd-whole : (a b : ℤ) (x y g : ℕ) (r : ℤ) → x ≡ unsigned_abs a → y ≡ unsigned_abs b → r ≡ pos g → IsGcd x y g → IsGcd (unsigned_abs a) (unsigned_abs b) (unsigned_abs r)
 IsGcd-whole a b x y g r d e f h = rw (← d, ← e, f) h
 
 pub mul-neg : (a b : ℤ) → (a *ℤ neg_ℤ b) ≡ neg_ℤ (a *ℤ b)
-mul-neg a b =
-    let n = neg_is b in
-    same_in (a *ℤ neg_ℤ b) (neg_ℤ (a *ℤ b))
-    (omega (arith, product_is a (neg_ℤ b), product_is a b, neg_is (a *ℤ b), ap (λ (k : ℕ). up a * k) n.0, ap (λ (k : ℕ). up a * k) n.1, ap (λ (k : ℕ). down a * k) n.0, ap (λ (k : ℕ). down a * k) n.1))
+mul-neg a b = omega (arith, ints, distributes a b (neg_ℤ b), ap (λ z. a *ℤ z) (+ℤ_invr b), *ℤ-zero a)
+
+-- an exact quotient
+pub div_exact : (g : ℕ) (z : ℤ) → g ∣ unsigned_abs z → (pos g *ℤ int_div z (pos g)) ≡ z
+div_exact g (pos a) d = ap pos (mul-div_cancel' g d)
+div_exact g (negsuc a) d = mul-neg (pos g) (pos (suc a / g)) ∙ ap (λ (n : ℕ). neg_ℤ (pos n)) (mul-div_cancel' g d)
 
 pub neg-mul : (a b : ℤ) → (neg_ℤ a *ℤ b) ≡ neg_ℤ (a *ℤ b)
 neg-mul a b = *ℤ_comm (neg_ℤ a) b ∙ mul-neg b a ∙ ap neg_ℤ (*ℤ_comm b a)
@@ -76,24 +46,14 @@ neg-mul a b = *ℤ_comm (neg_ℤ a) b ∙ mul-neg b a ∙ ap neg_ℤ (*ℤ_comm 
 pub minus_times : (a b c : ℤ) → ((a -ℤ b) *ℤ c) ≡ ((a *ℤ c) -ℤ (b *ℤ c))
 minus_times a b c = distributes_right a (neg_ℤ b) c ∙ ap (λ z. (a *ℤ c) +ℤ z) (neg-mul b c)
 
+up_times : (a b : ℤ) → up (a *ℤ b) ≡ up a * up b + down a * down b
+up_times a b = (product_is a b).0
+
+down_times : (a b : ℤ) → down (a *ℤ b) ≡ up a * down b + down a * up b
+down_times a b = (product_is a b).1
+
 pub times_assoc : (a b c : ℤ) → ((a *ℤ b) *ℤ c) ≡ (a *ℤ (b *ℤ c))
-times_assoc a b c =
-    let p = product_is a b in
-    let q = product_is b c in
-    same_in ((a *ℤ b) *ℤ c) (a *ℤ (b *ℤ c))
-    (omega (
-      arith,
-      product_is (a *ℤ b) c,
-      product_is a (b *ℤ c),
-      ap (λ (n : ℕ). n * up c) p.0,
-      ap (λ (n : ℕ). n * down c) p.0,
-      ap (λ (n : ℕ). n * up c) p.1,
-      ap (λ (n : ℕ). n * down c) p.1,
-      ap (λ (n : ℕ). up a * n) q.0,
-      ap (λ (n : ℕ). down a * n) q.0,
-      ap (λ (n : ℕ). up a * n) q.1,
-      ap (λ (n : ℕ). down a * n) q.1,
-    ))
+times_assoc a b c = same_in ((a *ℤ b) *ℤ c) (a *ℤ (b *ℤ c)) (simp (up_times, down_times) (omega arith))
 
 pub mul_left_comm : (a b c : ℤ) → (a *ℤ (b *ℤ c)) ≡ (b *ℤ (a *ℤ c))
 mul_left_comm a b c = sym (times_assoc a b c) ∙ ap (λ z. z *ℤ c) (*ℤ_comm a b) ∙ times_assoc b a c
@@ -102,13 +62,22 @@ mul_left_comm a b c = sym (times_assoc a b c) ∙ ap (λ z. z *ℤ c) (*ℤ_comm
 pub ruleset expand = (distributes, distributes_right, times_assoc, mul-neg, neg-mul, *ℤ_comm, mul_left_comm)
 
 pub times_not_zero : (a b : ℤ) → a ≢ pos 0 → b ≢ pos 0 → (a *ℤ b) ≢ pos 0
-times_not_zero (pos zero) b p q e = p refl
-times_not_zero (pos (suc m)) (pos zero) p q e = q refl
-times_not_zero (pos (suc m)) (pos (suc n)) p q e = grind (arith, ints, pos-*ℤ-pos (suc m) (suc n))
-times_not_zero (pos (suc m)) (negsuc n) p q e = grind (arith, ints, pos-*ℤ-negsuc (suc m) n)
-times_not_zero (negsuc m) (pos zero) p q e = q refl
-times_not_zero (negsuc m) (pos (suc n)) p q e = grind (arith, ints, negsuc-*ℤ-pos m (suc n))
-times_not_zero (negsuc m) (negsuc n) p q e = grind (arith, ints, negsuc-*ℤ-negsuc m n)
+times_not_zero a b p q e =
+    let some : 0 < unsigned_abs a * unsigned_abs b = mul-pos (omega (arith, ints)) (omega (arith, ints)) in
+    omega (arith, unsigned_abs-mul a b, ap unsigned_abs e)
+
+pub zero_or_not : (z : ℤ) → (z ≡ pos 0) ⊎ (z ≢ pos 0)
+zero_or_not z = elim (cases_eq (unsigned_abs z) 0) [ inl e ↦ inl (omega (arith, ints)) | inr ne ↦ inr (λ e. ne (ap unsigned_abs e)) ]
+
+pub cancel_positive : (d x y : ℤ) → pos 0 <ℤ d → d *ℤ x ≡ d *ℤ y → x ≡ y
+cancel_positive d x y h e = elim (zero_or_not (x -ℤ y)) [
+  | inl same ↦ omega (arith, ints)
+  | inr apart ↦ absurd (times_not_zero d (x -ℤ y) (λ z. omega (arith, ints)) apart (omega (arith, ints, distributes d x (neg_ℤ y), mul-neg d y)))
+]
+
+-- a positive factor is taken off
+pub mul_cancel : (g : ℕ) (x y : ℤ) → 0 < g → (pos g *ℤ x) ≡ (pos g *ℤ y) → x ≡ y
+mul_cancel g x y h e = cancel_positive (pos g) x y (omega (arith, ints)) e
 
 pub add_cond : (a b x : ℕ) (p q : ℤ) → a ≡ b → cond (eqb a x) (p +ℤ q) (pos 0) ≡ (cond (eqb a x) p (pos 0) +ℤ cond (eqb b x) q (pos 0))
 add_cond a b x p q e = grind (arith, ints, nat_tests)
@@ -118,62 +87,49 @@ unfoldable pub range_sum : (ℕ → ℤ) → ℕ → ℤ
 range_sum f zero = pos 0
 range_sum f (suc n) = range_sum f n +ℤ f n
 
-pub turned_negative : (z : ℤ) → ¬ (pos 0 ≤ℤ z) → pos 0 ≤ℤ (neg_ℤ z -ℤ pos 1)
-turned_negative (pos n) h = absurd (h (let z : pos 0 ≤ℤ pos n = omega (arith, ints) in z))
-turned_negative (negsuc n) h = omega (arith, ints)
-
-pub lt-zero_of_mul : (d v : ℤ) → pos 0 <ℤ d → (d *ℤ v) <ℤ pos 0 → v <ℤ pos 0
-lt-zero_of_mul (pos zero) v h k = absurd (omega (arith, ints, h))
-lt-zero_of_mul (pos (suc d)) (pos n) h k = absurd (omega (arith, ints, k))
-lt-zero_of_mul (pos (suc d)) (negsuc n) h k = omega (arith, ints)
-lt-zero_of_mul (negsuc d) v h k = absurd (omega (arith, ints, h))
-
-pub ge-zero_of_mul : (d v : ℤ) → pos 0 <ℤ d → pos 0 ≤ℤ (d *ℤ v) → pos 0 ≤ℤ v
-ge-zero_of_mul (pos zero) v h k = absurd (omega (arith, ints, h))
-ge-zero_of_mul (pos (suc d)) (pos n) h k = omega (arith, ints)
-ge-zero_of_mul (pos (suc d)) (negsuc n) h k = absurd (omega (arith, ints, k))
-ge-zero_of_mul (negsuc d) v h k = absurd (omega (arith, ints, h))
-
-pub mul-lt-zero : (m : ℕ) (b : ℤ) → 0 < m → b <ℤ pos 0 → (pos m *ℤ b) <ℤ pos 0
-mul-lt-zero zero b h k = absurd (omega arith)
-mul-lt-zero (suc m) (pos n) h k = absurd (omega (arith, ints, k))
-mul-lt-zero (suc m) (negsuc n) h k = omega (arith, ints)
-
 pub mul-ge-zero : (a b : ℤ) → pos 0 ≤ℤ a → pos 0 ≤ℤ b → pos 0 ≤ℤ (a *ℤ b)
 mul-ge-zero (pos m) (pos n) h k = omega (arith, ints)
 mul-ge-zero (pos m) (negsuc n) h k = absurd (omega (arith, ints, k))
 mul-ge-zero (negsuc m) b h k = absurd (omega (arith, ints, h))
 
+pub product_positive : (a b : ℤ) → pos 0 <ℤ a → pos 0 <ℤ b → pos 0 <ℤ (a *ℤ b)
+product_positive a b h k =
+    let apart = times_not_zero a b (λ e. omega (arith, ints)) (λ e. omega (arith, ints)) in
+    omega (arith, ints, mul-ge-zero a b (omega (arith, ints)) (omega (arith, ints)))
+
+pub mul-lt-zero : (m : ℕ) (b : ℤ) → 0 < m → b <ℤ pos 0 → (pos m *ℤ b) <ℤ pos 0
+mul-lt-zero m b h k = omega (arith, ints, mul-neg (pos m) b, product_positive (pos m) (neg_ℤ b) (omega (arith, ints)) (omega (arith, ints)))
+
+pub ge-zero_of_mul : (d v : ℤ) → pos 0 <ℤ d → pos 0 ≤ℤ (d *ℤ v) → pos 0 ≤ℤ v
+ge-zero_of_mul d v h k = by_lt_z v (pos 0) (λ l. absurd (omega (arith, ints, mul-neg d v, product_positive d (neg_ℤ v) h (omega (arith, ints))))) (λ m. m)
+
+pub lt-zero_of_mul : (d v : ℤ) → pos 0 <ℤ d → (d *ℤ v) <ℤ pos 0 → v <ℤ pos 0
+lt-zero_of_mul d v h k = by_lt_z v (pos 0) (λ l. l) (λ m. absurd (omega (arith, ints, mul-ge-zero d v (omega (arith, ints)) m)))
+
 pub mul-le-zero : (c v : ℤ) → c ≤ℤ pos 0 → pos 0 ≤ℤ v → (c *ℤ v) ≤ℤ pos 0
-mul-le-zero (pos zero) v h k = omega (arith, ints)
-mul-le-zero (pos (suc n)) v h k = absurd (omega (arith, ints, h))
-mul-le-zero (negsuc n) (pos m) h k = omega (arith, ints)
-mul-le-zero (negsuc n) (negsuc m) h k = absurd (omega (arith, ints, k))
+mul-le-zero c v h k = omega (arith, ints, neg-mul c v, mul-ge-zero (neg_ℤ c) v (omega (arith, ints)) k)
 
 pub mul-le-zero_turned : (c v : ℤ) → pos 0 ≤ℤ c → v ≤ℤ pos 0 → (c *ℤ v) ≤ℤ pos 0
-mul-le-zero_turned (pos c) (pos zero) h k = omega (arith, ints)
-mul-le-zero_turned (pos c) (pos (suc n)) h k = absurd (omega (arith, ints, k))
-mul-le-zero_turned (pos c) (negsuc n) h k = omega (arith, ints)
-mul-le-zero_turned (negsuc c) v h k = absurd (omega (arith, ints, h))
+mul-le-zero_turned c v h k = omega (arith, ints, mul-neg c v, mul-ge-zero c (neg_ℤ v) h (omega (arith, ints)))
 
 pub fits_64_abs : (a : ℤ) → FitsSigned w64 a → unsigned_abs a ≤ 2 ^ 63
-fits_64_abs (pos n) f = omega (arith, ints, f)
-fits_64_abs (negsuc n) f = omega (arith, ints, f)
+fits_64_abs a f = omega (arith, ints, f)
+
+pub abs_natural : (z : ℤ) → pos 0 ≤ℤ z → pos (unsigned_abs z) ≡ z
+abs_natural z h = omega (arith, ints)
 
 pub if_zero : (a x : ℕ) (z : ℤ) → z ≡ pos 0 → cond (eqb a x) z (pos 0) ≡ pos 0
 if_zero a x z e = grind (arith, ints, nat_tests)
 
 pub times_if : (factor z product : ℤ) (a x : ℕ) → product ≡ (factor *ℤ z) → cond (eqb a x) product (pos 0) ≡ (factor *ℤ cond (eqb a x) z (pos 0))
-times_if factor z product a x is =
-    elim (eqb a x) as (λ v. cond v product (pos 0) ≡ (factor *ℤ cond v z (pos 0))) [ true ↦ is | false ↦ sym (*ℤ-zero factor) ]
+times_if factor z product a x is = grind (arith, ints, nat_tests, *ℤ-zero)
 
 pub if_same : (a x : ℕ) (z : ℤ) → a ≡ x → cond (eqb a x) z (pos 0) ≡ z
-if_same a x z h = grind (arith, ints, nat_tests)
+if_same a x z h = cond-true (eqb a x) z (pos 0) (eq-eqb a x h)
 
 -- a floor is natural
 pub floor_is : (f : ℤ) → pos 0 ≤ℤ f → f <ℤ pos (2 ^ 126) → (k : ℕ) × (f ≡ pos k) × (k < 2 ^ 126)
-floor_is (pos k) low high = (k, refl, omega (arith, ints))
-floor_is (negsuc k) low high = absurd (omega (arith, ints))
+floor_is f low high = (unsigned_abs f, sym (abs_natural f low), omega (arith, ints))
 
 -- a whole number as a natural one
 abbrev pub natural : ℤ → ℕ
@@ -185,59 +141,37 @@ pos_natural (pos n) h = refl
 pos_natural (negsuc n) h = absurd (omega (arith, ints))
 
 pub not_held : (z : ℤ) → (pos 0 ≤ℤ z → ⊥) → z <ℤ pos 0
-not_held (pos n) h = absurd (h (omega (arith, ints)))
-not_held (negsuc n) h = omega (arith, ints)
+not_held z h = by_lt_z z (pos 0) (λ l. l) (λ m. absurd (h m))
+
+pub turned_negative : (z : ℤ) → ¬ (pos 0 ≤ℤ z) → pos 0 ≤ℤ (neg_ℤ z -ℤ pos 1)
+turned_negative z h = omega (arith, ints, not_held z h)
 
 pub one_times : (z : ℤ) → (pos 1 *ℤ z) ≡ z
-unfolding one
-one_times z = *ℤ_comm (pos 1) z ∙ *ℤ-one z
+one_times z = omega (arith, ints)
 
 pub less_times : (c x y : ℤ) → c ≤ℤ pos 0 → x ≤ℤ y → (c *ℤ y) ≤ℤ (c *ℤ x)
-less_times c x y h le =
-    let u = y -ℤ x in
-    let e : y ≡ (x +ℤ u) = omega (arith, ints) in
-    let g : pos 0 ≤ℤ u = omega (arith, ints) in
-    omega (arith, ints, ap (λ z. c *ℤ z) e, distributes c x u, mul-le-zero c u h g)
+less_times c x y h le = omega (arith, ints, distributes c y (neg_ℤ x), mul-neg c x, mul-le-zero c (y -ℤ x) h (omega (arith, ints)))
 
 pub times_le : (c x y : ℤ) → pos 0 ≤ℤ c → x ≤ℤ y → (c *ℤ x) ≤ℤ (c *ℤ y)
-times_le c x y h le =
-    let u = y -ℤ x in
-    let e : y ≡ (x +ℤ u) = omega (arith, ints) in
-    let g : pos 0 ≤ℤ u = omega (arith, ints) in
-    omega (arith, ints, ap (λ z. c *ℤ z) e, distributes c x u, mul-ge-zero c u h g)
+times_le c x y h le = omega (arith, ints, distributes c y (neg_ℤ x), mul-neg c x, mul-ge-zero c (y -ℤ x) h (omega (arith, ints)))
 
 pub zero_or_more : (z : ℤ) → pos 0 ≤ℤ z → (z ≡ pos 0) ⊎ (pos 1 ≤ℤ z)
-zero_or_more (pos zero) h = inl refl
-zero_or_more (pos (suc n)) h = inr (omega (arith, ints))
-zero_or_more (negsuc n) h = absurd (omega (arith, ints))
+zero_or_more z h = by_lt_z (pos 0) z (λ l. inr (omega (arith, ints))) (λ m. inl (omega (arith, ints)))
 
 pub above_zero : (z : ℤ) → int_lt (pos 0) z ≡ true → pos 1 ≤ℤ z
-above_zero z h = grind (arith, ints)
+above_zero z h = omega (arith, ints)
 
 pub not_above_zero : (z : ℤ) → int_lt (pos 0) z ≡ false → z ≤ℤ pos 0
-not_above_zero z h = grind (arith, ints)
-
-lt_true : (a b : ℤ) → int_lt b a ≡ true → b ≤ℤ a
-lt_true a b h = grind (arith, ints)
-
-lt_false : (a b : ℤ) → int_lt b a ≡ false → a ≤ℤ b
-lt_false a b h = grind (arith, ints)
+not_above_zero z h = omega (arith, ints)
 
 pub min_cases : (a b : ℤ) → ((int_min a b ≡ a) × (a ≤ℤ b)) ⊎ ((int_min a b ≡ b) × (b ≤ℤ a))
-min_cases a b = elim (cases_Bool (int_lt b a)) [
-  | inl e ↦ inr (rw e refl, lt_true a b e)
-  | inr e ↦ inl (rw e refl, lt_false a b e)
-]
+min_cases a b = elim (cases_Bool (int_lt b a)) [ inl e ↦ inr (rw e refl, omega (arith, ints)) | inr e ↦ inl (rw e refl, omega (arith, ints)) ]
 
 pub abs_less : (x y : ℤ) → pos 0 ≤ℤ x → x ≤ℤ y → unsigned_abs x ≤ unsigned_abs y
-abs_less (pos m) (pos n) low h = omega (arith, ints)
-abs_less (pos m) (negsuc n) low h = absurd (omega (arith, ints))
-abs_less (negsuc m) y low h = absurd (omega (arith, ints))
+abs_less x y low h = omega (arith, ints)
 
 pub abs_less_than : (x y : ℤ) → pos 0 ≤ℤ x → (x +ℤ pos 1) ≤ℤ y → unsigned_abs x < unsigned_abs y
-abs_less_than (pos m) (pos n) low h = omega (arith, ints)
-abs_less_than (pos m) (negsuc n) low h = absurd (omega (arith, ints))
-abs_less_than (negsuc m) y low h = absurd (omega (arith, ints))
+abs_less_than x y low h = omega (arith, ints)
 
 -- ---- a comparison
 pub less_alike : (a b c d z : ℤ) → a ≡ c → b ≡ d → ((a -ℤ b) -ℤ z) ≡ ((c -ℤ d) -ℤ z)
@@ -246,42 +180,26 @@ less_alike a b c d z e g = omega (arith, ints, e, g)
 pub minus_alike : (a b c d : ℤ) → a ≡ c → b ≡ d → (a -ℤ b) ≡ (c -ℤ d)
 minus_alike a b c d e g = omega (arith, ints, e, g)
 
-pub none_less_none : (pos 0 -ℤ pos 0) ≡ pos 0
-none_less_none = refl
-
 -- ---- terms
 pub cond_small : (b : Bool) (z c : ℤ) → (b ≡ true → c ≡ pos 0) → unsigned_abs z ≤ 1000000000 → unsigned_abs c ≤ 1000000000 → unsigned_abs (cond b z (pos 0) +ℤ c) ≤ 1000000000
 cond_small true z c e h k = let none : c ≡ pos 0 = e refl in omega (arith, ints, none)
 cond_small false z c e h k = omega (arith, ints)
 
--- ---- terms
-pub small_constant : (n : ℕ) → n ≤ 1000000000 → unsigned_abs (pos n) ≤ 1000000000
-small_constant n h = h
-
-pub times_none : (d : ℕ) → (pos d *ℤ pos 0) ≡ pos 0
-times_none d = omega (arith, ints)
-
 pub add_moved : (f g t l a : ℤ) → (f +ℤ (t +ℤ l)) ≡ a → g ≡ (f +ℤ t) → (g +ℤ l) ≡ a
 add_moved f g t l a e h = omega (arith, ints, e, h)
 
-pub add_within : (p q : ℕ) (x y : ℤ) → unsigned_abs x ≤ p → unsigned_abs y ≤ q → unsigned_abs (x +ℤ y) ≤ p + q
-add_within p q x y h k = omega (arith, ints)
+pub abs_sum : (a b : ℤ) (m n : ℕ) → unsigned_abs a ≤ m → unsigned_abs b ≤ n → unsigned_abs (a +ℤ b) ≤ m + n
+abs_sum a b m n h g = omega (arith, ints)
 
 pub more_within : (count : ℕ) (x y : ℤ) → unsigned_abs x ≤ 1000000000 * count → unsigned_abs y ≤ 1000000000 → unsigned_abs (x +ℤ y) ≤ 1000000000 * (count + 1)
-more_within count x y h k = omega (arith, add_within (1000000000 * count) 1000000000 x y h k)
-
-pub zero_left : (z : ℤ) → (pos 0 +ℤ z) ≡ z
-zero_left z = omega (arith, ints)
-
-pub zero_right : (z : ℤ) → (z +ℤ pos 0) ≡ z
-zero_right z = omega (arith, ints)
+more_within count x y h k = omega (arith, ints)
 
 -- -1 times a number
 pub minus_one_times : (x : ℤ) → (negsuc 0 *ℤ x) ≡ (pos 0 -ℤ x)
 minus_one_times x = omega (arith, ints)
 
-pub minus_within : (p : ℕ) (x : ℤ) → unsigned_abs x ≤ p → unsigned_abs (pos 0 -ℤ x) ≤ p
-minus_within p x h = omega (arith, ints)
+pub less_small : (c : ℤ) (n : ℕ) → unsigned_abs c ≤ n → unsigned_abs (pos 0 -ℤ c) ≤ n
+less_small c n h = omega (arith, ints)
 
 pub less_both : (f g l k s n z : ℤ) → f ≡ (g +ℤ n) → n ≡ (negsuc 0 *ℤ s) → s ≡ (l +ℤ k) → k ≡ z → f ≡ ((g -ℤ l) -ℤ z)
 less_both f g l k s n z a b c d = omega (arith, ints, a, b ∙ minus_one_times s, c, d)
@@ -290,51 +208,43 @@ pub less_one : (f g l k s n : ℤ) → f ≡ (g +ℤ n) → n ≡ (negsuc 0 *ℤ
 less_one f g l k s n a b c d = omega (arith, ints, a, b ∙ minus_one_times s, c, d)
 
 pub abs_below : (n : ℕ) (x y : ℤ) → pos 0 ≤ℤ x → x ≤ℤ y → unsigned_abs y < n → unsigned_abs x < n
-abs_below n (pos x) (pos y) h le b = omega (arith, ints)
-abs_below n (pos x) (negsuc y) h le b = absurd (omega (arith, ints))
-abs_below n (negsuc x) y h le b = absurd (omega (arith, ints))
+abs_below n x y h le b = omega (arith, ints)
 
 pub suc_times : (k : ℕ) (x : ℤ) → (pos (suc k) *ℤ x) ≡ (x +ℤ (pos k *ℤ x))
-suc_times k x =
-    let e : pos (suc k) ≡ (pos 1 +ℤ pos k) = omega (arith, ints) in
-    ap (λ z. z *ℤ x) e ∙ distributes_right (pos 1) (pos k) x ∙ ap (λ z. z +ℤ (pos k *ℤ x)) (one_times x)
+suc_times k x = omega (arith, ints)
 
 pub times_natural : (k : ℕ) (x : ℤ) → pos 0 ≤ℤ x → pos 0 ≤ℤ (pos k *ℤ x)
 times_natural k x h = mul-ge-zero (pos k) x (omega (arith, ints)) h
 
 pub by_one : (z : ℤ) → (z *ℤ pos 1) ≡ z
-unfolding one
-by_one z = *ℤ-one z
+by_one z = omega (arith, ints)
 
 pub times_minus_one : (k : ℤ) → (k *ℤ negsuc 0) ≡ (pos 0 -ℤ k)
 times_minus_one k = mul-neg k (pos 1) ∙ omega (arith, ints, by_one k)
 
 pub less_fits : (z : ℤ) → pos 1 ≤ℤ z → FitsSigned w128 z → FitsSigned w128 (z -ℤ pos 1)
-less_fits z some fits = first_of (omega (arith, ints), grind (arith, ints))
+less_fits z some fits = omega (arith, ints, fits)
 
 pub less_none : (z : ℤ) → (z -ℤ pos 0) ≡ z
-less_none z = omega (arith, ints)
+less_none z = +ℤ_idr z
 
 pub one_term_value : (z : ℤ) → (((pos 1 *ℤ z) +ℤ pos 0) -ℤ pos 0) ≡ z
 one_term_value z = omega (arith, ints)
 
-pub abs_sum : (a b : ℤ) (m n : ℕ) → unsigned_abs a ≤ m → unsigned_abs b ≤ n → unsigned_abs (a +ℤ b) ≤ m + n
-abs_sum a b m n h g = omega (arith, ints)
-
 pub abs_minus : (a b : ℤ) (m n : ℕ) → unsigned_abs a ≤ m → unsigned_abs b ≤ n → unsigned_abs (a -ℤ b) ≤ m + n
 abs_minus a b m n h g = omega (arith, ints)
 
-pub to_z_abs : (z : ℤ) (m : ℕ) → unsigned_abs z ≤ m → m < 2 ^ 127 → to_z w128 (of_z w128 z) ≡ z
-to_z_abs z m h g = let few : unsigned_abs z < 2 ^ 127 = omega arith in let fits : FitsSigned w128 z = fits_signed_from_abs w128 z few in to_z-of_z fits
-
 pub fits_sum : (a b : ℤ) (m n : ℕ) → unsigned_abs a ≤ m → unsigned_abs b ≤ n → m + n < 2 ^ 127 → FitsSigned w128 (a +ℤ b)
-fits_sum a b m n h g k = let sum = abs_sum a b m n h g in let few : unsigned_abs (a +ℤ b) < 2 ^ 127 = omega arith in fits_signed_from_abs w128 (a +ℤ b) few
+fits_sum a b m n h g k = fits_signed_from_abs w128 (a +ℤ b) (omega (arith, abs_sum a b m n h g))
 
 pub abs_product : (a b : ℤ) → unsigned_abs a ≤ 1000000000 → unsigned_abs b ≤ 17000000000 → unsigned_abs (a *ℤ b) ≤ 17000000000000000000
 abs_product a b h g = subst (λ n. n ≤ 17000000000000000000) (sym (unsigned_abs-mul a b)) (mul-le-mul h g)
 
 pub to_z_range : (z : ℤ) → unsigned_abs z < 2 ^ 127 → to_z w128 (of_z w128 z) ≡ z
-to_z_range z h = let fits : FitsSigned w128 z = fits_signed_from_abs w128 z h in to_z-of_z fits
+to_z_range z h = to_z-of_z (fits_signed_from_abs w128 z h)
+
+pub to_z_abs : (z : ℤ) (m : ℕ) → unsigned_abs z ≤ m → m < 2 ^ 127 → to_z w128 (of_z w128 z) ≡ z
+to_z_abs z m h g = to_z_range z (omega arith)
 
 pub not_none : (z : ℤ) → (of_z w128 z ≡ 0 → ⊥) → z ≡ pos 0 → ⊥
 not_none z h e = h (ap (of_z w128) e)
@@ -357,22 +267,16 @@ negative_false (negsuc n) e = absurd (true≢false e)
 
 -- ---- numbers
 pub choose_small : (b : Bool) (x y : ℤ) (n : ℕ) → unsigned_abs x ≤ n → unsigned_abs y ≤ n → unsigned_abs (if b then x else y) ≤ n
-choose_small true x y n h g = h
-choose_small false x y n h g = g
-
-pub less_small : (c : ℤ) (n : ℕ) → unsigned_abs c ≤ n → unsigned_abs (pos 0 -ℤ c) ≤ n
-less_small c n h = omega (arith, ints)
+choose_small b x y n h g = cond_both b x y (λ z. unsigned_abs z ≤ n) (λ _. h) (λ _. g)
 
 pub times_next : (z : ℤ) (n : ℕ) → (z *ℤ pos (suc n)) ≡ (z +ℤ (z *ℤ pos n))
-times_next z n = omega (arith, ints, ap (λ y. z *ℤ y) (let s : pos (suc n) ≡ (pos n +ℤ pos 1) = omega (arith, ints) in s), distributes z (pos n) (pos 1), by_one z)
+times_next z n = omega (arith, ints)
 
 pub product_le : (p x : ℤ) (b : ℕ) → unsigned_abs x ≤ b → unsigned_abs (p *ℤ x) ≤ unsigned_abs p * b
 product_le p x b h = rw (unsigned_abs-mul p x) (mul-le-mul_left (unsigned_abs p) h)
 
 pub unsigned_abs-neg : (z : ℤ) → unsigned_abs (neg_ℤ z) ≡ unsigned_abs z
-unsigned_abs-neg (pos zero) = refl
-unsigned_abs-neg (pos (suc n)) = refl
-unsigned_abs-neg (negsuc n) = refl
+unsigned_abs-neg z = omega (arith, ints)
 
 pub quotient_le : (z : ℤ) (g : ℕ) → unsigned_abs (int_div z (pos g)) ≤ unsigned_abs z
 quotient_le (pos a) g = div-le_self a g
@@ -380,19 +284,11 @@ quotient_le (negsuc a) g = rw (unsigned_abs-neg (pos (suc a / g))) (div-le_self 
 
 -- smaller factors show as much
 pub factors_below : (c a : ℤ) (g b d : ℕ) → unsigned_abs c * b + unsigned_abs a * d < 2 ^ 31 → unsigned_abs (int_div c (pos g)) * b + unsigned_abs (int_div a (pos g)) * d < 2 ^ 31
-factors_below c a g b d h =
-    let x = mul-le-mul_right b (quotient_le c g) in
-    let y = mul-le-mul_right d (quotient_le a g) in
-    omega arith
+factors_below c a g b d h = omega (arith, mul-le-mul_right b (quotient_le c g), mul-le-mul_right d (quotient_le a g))
 
 -- divisors of positive numbers of 32 bits
 pub abs_positive : (z : ℤ) → pos 0 <ℤ z → 0 < unsigned_abs z
-abs_positive (pos n) h = omega (arith, ints, h)
-abs_positive (negsuc n) h = omega arith
-
-pub cancel_positive : (d x y : ℤ) → pos 0 <ℤ d → d *ℤ x ≡ d *ℤ y → x ≡ y
-cancel_positive (pos d) x y h e = mul_cancel d x y (omega (arith, ints, h)) e
-cancel_positive (negsuc d) x y h e = absurd (omega (arith, ints, h))
+abs_positive z h = omega (arith, ints)
 
 pub divided_arith : (g d v s b t d' b' t' : ℤ) → d *ℤ v ≡ s *ℤ b +ℤ t → g *ℤ d' ≡ d → g *ℤ b' ≡ b → g *ℤ t' ≡ t →
     g *ℤ (d' *ℤ v) ≡ g *ℤ (s *ℤ b' +ℤ t')
@@ -412,23 +308,13 @@ leaving_arith d vl m c s b sum picked scaled w wl we h1 h2 h3 h4 =
     simp expand (omega (arith, ints, x, y, z, h2))
 
 pub pos_out : (z : ℤ) → pos 0 <ℤ z → (k : ℕ) × (z ≡ pos (suc k))
-pos_out (pos zero) h = absurd (omega (arith, ints, h))
-pos_out (pos (suc k)) h = (k, refl)
-pos_out (negsuc k) h = absurd (omega (arith, ints, h))
+pos_out z h = (unsigned_abs z - 1, omega (arith, ints))
 
 -- a positive number's factor is positive where the other is natural
 pub factor_positive : (g : ℕ) (z w : ℤ) → pos g *ℤ z ≡ w → pos 0 <ℤ w → (0 < g) × (pos 0 <ℤ z)
-factor_positive zero z w e h = absurd (omega (arith, ints, e, h))
-factor_positive (suc g) (pos zero) w e h = absurd (omega (arith, ints, e, h))
-factor_positive (suc g) (pos (suc k)) w e h = (omega arith, omega (arith, ints))
-factor_positive (suc g) (negsuc k) w e h = absurd (omega (arith, ints, e, h))
-
-pub product_positive : (a b : ℤ) → pos 0 <ℤ a → pos 0 <ℤ b → pos 0 <ℤ (a *ℤ b)
-product_positive (pos zero) b h k = absurd (omega (arith, ints, h))
-product_positive (pos (suc a)) (pos zero) h k = absurd (omega (arith, ints, k))
-product_positive (pos (suc a)) (pos (suc b)) h k = omega (arith, ints)
-product_positive (pos (suc a)) (negsuc b) h k = absurd (omega (arith, ints, k))
-product_positive (negsuc a) b h k = absurd (omega (arith, ints, h))
+factor_positive g z w e h =
+    let p = product_is (pos g) z in
+    (lt_of_mul-lt-mul_right (up z) (omega (arith, ints)), omega (arith, ints, lt_of_mul-lt-mul_left g {m = down z} {n = up z} (omega (arith, ints))))
 
 pub factors_agree : (c a p q : ℤ) (g : ℕ) → 0 < g → pos g *ℤ p ≡ c → pos g *ℤ q ≡ a → p *ℤ a ≡ q *ℤ c
 factors_agree c a p q g some e f =
@@ -455,36 +341,25 @@ dvd_times g k z h d =
     let e : g * unsigned_abs (int_div z (pos g)) ≡ unsigned_abs z = sym (unsigned_abs-mul (pos g) (int_div z (pos g))) ∙ ap unsigned_abs (div_exact g z h) in
     subst (λ (m : ℕ). g * k ∣ m) e (mul-dvd-mul_left k g d)
 
-pub zero_or_not : (z : ℤ) → (z ≡ pos 0) ⊎ (z ≢ pos 0)
-zero_or_not (pos zero) = inl refl
-zero_or_not (pos (suc n)) = inr (λ e. cc)
-zero_or_not (negsuc n) = inr (λ e. cc)
-
 pub div-one : (z : ℤ) → int_div z (pos 1) ≡ z
-div-one (pos a) = ap pos (omega arith)
-div-one (negsuc a) = let e : suc a / 1 ≡ suc a = omega arith in ap (λ (n : ℕ). neg_ℤ (pos n)) e
+div-one z = omega (arith, ints)
 
 pub pos_abs : (z : ℤ) → pos 0 <ℤ z → pos (unsigned_abs z) ≡ z
-pos_abs (pos n) h = refl
-pos_abs (negsuc n) h = absurd (omega (arith, ints, h))
-
-pub abs_natural : (z : ℤ) → pos 0 ≤ℤ z → pos (unsigned_abs z) ≡ z
-abs_natural (pos n) h = refl
-abs_natural (negsuc n) h = absurd (omega (arith, ints, h))
+pos_abs z h = omega (arith, ints)
 
 pub zero_minus : (z : ℤ) → pos 0 -ℤ z ≡ neg_ℤ z
-zero_minus z = omega (arith, ints)
+zero_minus z = +ℤ_idl (neg_ℤ z)
 
 unfoldable pub single : ℕ → ℤ → ℕ → ℤ
 single u y w = cond (eqb u w) y (pos 0)
 
 pub single-at : (u w : ℕ) (y : ℤ) → u ≡ w → single u y w ≡ y
 unfolding single
-single-at u w y e = elim (eqb_tells u w) [ inl same ↦ rw same.0 refl | inr other ↦ absurd (other.1 e) ]
+single-at u w y e = cond-true (eqb u w) y (pos 0) (eq-eqb u w e)
 
 pub single-elsewhere : (u w : ℕ) (y : ℤ) → u ≢ w → single u y w ≡ pos 0
 unfolding single
-single-elsewhere u w y ne = elim (eqb_tells u w) [ inl same ↦ absurd (ne same.1) | inr other ↦ rw other.0 refl ]
+single-elsewhere u w y ne = cond-false (eqb u w) y (pos 0) (ne_eqb u w ne)
 
 pub cross_arith : (d d' v m q b b' s s' : ℤ) → d *ℤ v ≡ (m *ℤ q) *ℤ b +ℤ m *ℤ s → d' *ℤ v ≡ (m *ℤ q) *ℤ b' +ℤ m *ℤ s' → m *ℤ (d' *ℤ (q *ℤ b +ℤ s)) ≡ m *ℤ (d *ℤ (q *ℤ b' +ℤ s'))
 cross_arith d d' v m q b b' s s' h k =
@@ -498,27 +373,13 @@ dvd_cross d d' x x' e =
     subst (λ (m : ℕ). unsigned_abs d ∣ m) k (dvd-mul_right (unsigned_abs d) (unsigned_abs x'))
 
 pub same_positive : (a b : ℤ) → pos 0 <ℤ a → pos 0 <ℤ b → unsigned_abs a ≡ unsigned_abs b → a ≡ b
-same_positive (pos a) (pos b) h k e = ap pos e
-same_positive (pos a) (negsuc b) h k e = absurd (omega (arith, ints, k))
-same_positive (negsuc a) b h k e = absurd (omega (arith, ints, h))
+same_positive a b h k e = omega (arith, ints)
 
 pub negated : (z : ℤ) → (negsuc 0 *ℤ z -ℤ pos 0 *ℤ z) ≡ neg_ℤ z
 negated z = omega (arith, ints)
 
 pub minus_one_negates : (z : ℤ) → (negsuc 0 *ℤ z) ≡ neg_ℤ z
 minus_one_negates z = omega (arith, ints)
-
-pub no_times : (z : ℤ) → (pos 0 *ℤ z) ≡ pos 0
-no_times z = omega (arith, ints)
-
-pub negative_or_not : (z : ℤ) → (z <ℤ pos 0) ⊎ (pos 0 ≤ℤ z)
-negative_or_not (pos n) = inr (omega (arith, ints))
-negative_or_not (negsuc n) = inl (omega (arith, ints))
-
-pub positive_or_not : (z : ℤ) → (pos 0 <ℤ z) ⊎ (z ≤ℤ pos 0)
-positive_or_not (pos zero) = inr (omega (arith, ints))
-positive_or_not (pos (suc n)) = inl (omega (arith, ints))
-positive_or_not (negsuc n) = inr (omega (arith, ints))
 
 pub positive_prop : (z : ℤ) → IsProp (pos 0 <ℤ z)
 positive_prop z = hlevel props
@@ -531,13 +392,8 @@ sum_between a (suc n) f = f a +ℤ sum_between (suc a) n f
 pub single-le : (u w : ℕ) (y : ℤ) → y ≤ℤ pos 0 → single u y w ≤ℤ pos 0
 single-le u w y h = elim (cases_eq u w) [ inl same ↦ rw (single-at u w y same) h | inr other ↦ rw (single-elsewhere u w y other) (omega (arith, ints)) ]
 
-pub length-zeros : (n : ℕ) → length (replicate n (pos 0)) ≡ n
-length-zeros zero = refl
-length-zeros (suc n) = ap suc (length-zeros n)
-
 pub at_least_one : (m : ℤ) → pos 0 ≤ℤ m → m ≢ pos 0 → pos 1 ≤ℤ m
-at_least_one (pos zero) h ne = absurd (ne refl)
-at_least_one m h ne = grind (arith, ints)
+at_least_one m h ne = omega (arith, ints)
 
 -- top over bottom is v, and q times it is x: x is q times v
 pub quotient_whole : (x q v top bottom : ℤ) → pos 0 <ℤ bottom → x *ℤ bottom ≡ q *ℤ top → top ≡ v *ℤ bottom → x ≡ q *ℤ v
@@ -549,80 +405,48 @@ times_zero p q = omega (arith, ints)
 
 -- a product with a positive number is below another only if the other factor is
 pub factor_below : (b x y : ℤ) → pos 0 <ℤ b → (x *ℤ b) <ℤ (y *ℤ b) → x <ℤ y
-factor_below b x y positive h =
-    let e = minus_times x y b in
-    let c = *ℤ_comm (x -ℤ y) b in
-    let less = lt-zero_of_mul b (x -ℤ y) positive (omega (arith, ints)) in
-    omega (arith, ints)
+factor_below b x y positive h = omega (arith, ints, lt-zero_of_mul b (x -ℤ y) positive (omega (arith, ints, minus_times x y b, *ℤ_comm (x -ℤ y) b)))
 
 pub number_short : (z : ℤ) → pos 0 ≤ℤ z → z <ℤ pos (2 ^ 127) → length (signed_decimal z) ≤ 39
-number_short (pos k) low high =
-    let large : 2 ^ 127 < 10 ^ 39 = lit< tt in
-    let below : k < 2 ^ 127 = omega (arith, ints) in
-    length-decimal-le_wide 39 k (omega arith) (omega arith) (wide k (2 ^ 127) below (omega arith))
-number_short (negsuc k) low high = absurd (omega (arith, ints))
+number_short z low high =
+    let short = length-decimal-le_wide 39 (unsigned_abs z) (omega arith) (omega (arith, ints)) (small_is_wide (unsigned_abs z) (omega (arith, ints))) in
+    subst (λ y. length (signed_decimal y) ≤ 39) (abs_natural z low) short
 
 pub below_limit : (z : ℤ) (limit : ℕ) → pos 1 ≤ℤ z → unsigned_abs z < limit → z <ℤ pos limit
-below_limit (pos n) limit low h = omega (arith, ints, h)
-below_limit (negsuc n) limit low h = absurd (omega (arith, ints, low))
+below_limit z limit low h = omega (arith, ints)
 
 pub floor_natural : (k t b : ℤ) → pos 0 <ℤ b → pos 0 ≤ℤ t → t <ℤ ((k +ℤ pos 1) *ℤ b) → pos 0 ≤ℤ k
-floor_natural (pos n) t b positive natural below = omega (arith, ints)
-floor_natural (negsuc n) t b positive natural below =
-    let least = mul-le-zero (negsuc n +ℤ pos 1) b (omega (arith, ints)) (omega (arith, ints)) in
-    absurd (omega (arith, ints))
+floor_natural k t b positive natural below =
+    by_lt_z k (pos 0) (λ less. absurd (omega (arith, ints, mul-le-zero (k +ℤ pos 1) b (omega (arith, ints)) (omega (arith, ints))))) (λ most. most)
 
 pub twice_most : (n d : ℕ) → (pos n *ℤ pos 2) ≤ℤ (pos n *ℤ pos (suc (suc d)))
-twice_most n d =
-    let e : pos (suc (suc d)) ≡ pos d +ℤ pos 2 = omega (arith, ints) in
-    let more = mul-ge-zero (pos n) (pos d) (omega (arith, ints)) (omega (arith, ints)) in
-    let shown : (pos n *ℤ pos 2) ≤ℤ (pos n *ℤ (pos d +ℤ pos 2)) = rw (distributes (pos n) (pos d) (pos 2)) (omega (arith, ints)) in
-    subst (λ (z : ℤ). (pos n *ℤ pos 2) ≤ℤ (pos n *ℤ z)) (sym e) shown
-
--- a greater factor gives a greater product
-scaled : (a c b : ℤ) → a ≤ℤ c → pos 0 ≤ℤ b → (a *ℤ b) ≤ℤ (c *ℤ b)
-scaled a c b least natural = omega (arith, ints, minus_times c a b, mul-ge-zero (c -ℤ a) b (omega (arith, ints)) natural)
+twice_most n d = omega (arith, ints)
 
 -- the whole number below a whole fraction is its own
 pub floor_once : (top bottom floor k : ℤ) → pos 0 <ℤ bottom → (floor *ℤ bottom) ≤ℤ top → top <ℤ ((floor +ℤ pos 1) *ℤ bottom) → top ≡ (k *ℤ bottom) → floor ≡ k
 floor_once top bottom floor k positive low high is =
-    by_lt_z floor k
-    (λ less. let s = scaled (floor +ℤ pos 1) k bottom (omega (arith, ints)) (omega (arith, ints)) in absurd (omega (arith, ints)))
-    (λ most. by_lt_z k floor
-    (λ less. let s = scaled (k +ℤ pos 1) floor bottom (omega (arith, ints)) (omega (arith, ints)) in absurd (omega (arith, ints, distributes_right k (pos 1) bottom)))
-    (λ least. omega (arith, ints)))
-
--- a number is its quotient's product and its remainder
-pub euclid : (a b : ℤ) → pos 0 <ℤ b → a ≡ ((int_div_euclid a b *ℤ b) +ℤ int_rem_euclid a b)
-euclid (pos a) (pos b) h =
-    let e = div-add-mod' a b in
-    omega (arith, ints, e)
-euclid (negsuc a) (pos b) h =
-    let e = div-add-mod' a b in
-    let m = mod_below a b (omega (arith, ints, h)) in
-    let p = product_is (negsuc (a / b)) (pos b) in
-    omega (arith, ints, e, m, p)
-euclid a (negsuc b) h = absurd (omega (arith, ints, h))
+    let above = factor_below bottom k (floor +ℤ pos 1) positive (omega (arith, ints)) in
+    let beneath = factor_below bottom floor (k +ℤ pos 1) positive (omega (arith, ints, distributes_right k (pos 1) bottom)) in
+    omega (arith, ints)
 
 pub pos_same : (m n : ℕ) → pos m ≡ pos n → m ≡ n
 pos_same m n h = omega (arith, ints)
 
 -- a value from 1 on
 pub natural_of : (z : ℤ) → pos 1 ≤ℤ z → pos 0 ≤ℤ z
-natural_of (pos n) low = omega (arith, ints)
-natural_of (negsuc n) low = absurd (omega (arith, ints))
+natural_of z low = omega (arith, ints)
 
 pub next_value : (times : ℕ) (v c : ℤ) → ((v +ℤ (pos times *ℤ c)) +ℤ (pos 1 *ℤ c)) ≡ (v +ℤ (pos (times + 1) *ℤ c))
-next_value times v c = (let e : pos (times + 1) ≡ (pos times +ℤ pos 1) = omega (arith, ints) in omega (arith, ints, ap (λ z. z *ℤ c) e, distributes_right (pos times) (pos 1) c))
+next_value times v c = omega (arith, ints)
 
 pub replicate_zeros : (n r : ℕ) → get_or (replicate n (pos 0)) r (pos 0) ≡ pos 0
-replicate_zeros zero r = refl
-replicate_zeros (suc n) zero = refl
-replicate_zeros (suc n) (suc r) = replicate_zeros n r
+replicate_zeros n r = elim (cases_lt r n) [
+  | inl within ↦ get_or-replicate n r (pos 0) (pos 0) within
+  | inr past ↦ get_or_past (replicate n (pos 0)) r (pos 0) (omega (arith, length-replicate n (pos 0)))
+]
 
 pub natural_or_not : (z : ℤ) → (pos 0 ≤ℤ z) ⊎ (pos 0 ≤ℤ z → ⊥)
-natural_or_not (pos n) = inl (omega (arith, ints))
-natural_or_not (negsuc n) = inr (λ h. absurd (omega (arith, ints)))
+natural_or_not z = by_lt_z z (pos 0) (λ less. inr (λ h. omega (arith, ints))) inl
 
 pub pos_cond : (b : Bool) (x y : ℕ) → cond b (pos x) (pos y) ≡ pos (cond b x y)
 pos_cond true x y = refl
@@ -638,13 +462,10 @@ pub fits32 : (z : ℤ) (t : ℕ) → unsigned_abs z ≤ t → t < 2 ^ 31 → SFi
 fits32 z t h k = fits_signed_from_abs w32 z (omega arith)
 
 pub small_positive : (z : ℤ) → SFits w32 z → pos 0 <ℤ z → unsigned_abs z < 2 ^ 31
-small_positive (pos n) f h = let s = f.sfits in omega arith
-small_positive (negsuc n) f h = absurd (omega (arith, ints, h))
+small_positive z f h = omega (arith, ints, f)
 
 pub fits_more : (z : ℤ) → SFits w16 z → SFits w32 z
-fits_more (pos n) f = let s = f.sfits in fits_signed_from_abs w32 (pos n) (omega arith)
-fits_more (negsuc n) f = let s = f.sfits in fits_signed_from_abs w32 (negsuc n) (omega arith)
+fits_more z f = omega (arith, ints, f)
 
 pub zero_from_bits : (z : ℤ) → SFits w128 z → of_z w128 z ≡ 0 → z ≡ pos 0
-zero_from_bits (pos n) f e = ap pos e
-zero_from_bits (negsuc n) f e = let s = f.sfits in absurd (omega arith)
+zero_from_bits z f e = omega (arith, ints, f)

@@ -1,7 +1,6 @@
 -- lists: items by number, parts, maps, filters
-use Rattle.ta_base.proofs.Common.{ℕ, List, [], ◌∙◌, sym, append-nil, decimal, ◌<◌, get_or, ◌≡◌, take, zero, suc, ◌∷◌, arith, length, ◌≤◌, subst, ◌-◌, ◌+◌, drop, length-drop, ap, ◌++◌, refl, not, eqb, true, rules, tests, ℤ, add-one, drop-cons, Bool, Option, if◌then◌else◌, Some, None, false, length-take-le, map, append_assoc, IsTrue, pos, ◌≤ℤ◌, ◌<ℤ◌, ◌^◌, negsuc, length-append, false-eqb, filter, get_or-append-add, eq-eqb, slice_get, ◌⊎◌, inr, inl, cond, take_at, drop_at, replicate, drop-drop, take-append-drop, ext_get_or, true≢false, reverse, set, ◌+ℤ◌, get_or-set_same, get_or-set_other, ◌≢◌, neg_ℤ, int_div, IsSomeAnd, unsigned_abs, slice_index, ◌==◌, Result, is_ok, OnOk, Ok, Err, split_at, take-append-add, take-length, list_all, prefix_len, list_any, range_with_len, slice_split, onto_first, and_parts, false≢true, or_cases, cases_lt, cases_eq, none-some, same_Some, slice_get_read, slice_get_within, take-append-le, length-map, get_or_append_left, drop_more, get_or-append_right, get_or-replicate, length-replicate, take_more, reverse-append, map-append, nat_tests, eqb_tells, signed_decimal, ints, filter-append, IsDecimal, DecimalAt, Avoids, SplitAt, is_letter, is_word, BeginsByLetter}
-use Rattle.std.proofs.Common.{take_all as take_all_of_Common}
-use Rattle.std.proofs.lemmas.List.{get_or_past as get_or_past_of_List}
+use Rattle.ta_base.proofs.Common.{ℕ, List, [], ◌∙◌, sym, append-nil, decimal, ◌<◌, get_or, ◌≡◌, take, zero, suc, ◌∷◌, arith, length, ◌≤◌, subst, ◌-◌, ◌+◌, drop, length-drop, ap, ◌++◌, refl, not, eqb, true, rules, tests, ℤ, Bool, Option, if◌then◌else◌, Some, None, false, length-take-le, map, append_assoc, IsTrue, pos, ◌≤ℤ◌, ◌<ℤ◌, ◌^◌, negsuc, length-append, false-eqb, filter, get_or-append-add, eq-eqb, slice_get, ◌⊎◌, inr, inl, cond, take_at, drop_at, replicate, drop-drop, take-append-drop, ext_get_or, reverse, set, ◌+ℤ◌, get_or-set_same, get_or-set_other, ◌≢◌, neg_ℤ, int_div, IsSomeAnd, unsigned_abs, slice_index, ◌==◌, Result, is_ok, OnOk, Ok, Err, split_at, take-append-add, take-length, list_all, prefix_len, list_any, range_with_len, slice_split, onto_first, and_parts, false≢true, or_cases, cases_lt, cases_eq, none-some, same_Some, slice_get_read, slice_get_within, take-append-le, length-map, get_or_append_left, drop_more, get_or-append_right, get_or-replicate, length-replicate, take_more, reverse-append, map-append, nat_tests, eqb_tells, signed_decimal, ints, filter-append, IsDecimal, DecimalAt, Avoids, SplitAt, is_letter, is_word, BeginsByLetter, take_all as take_all_of_Common, get_or_past as get_or_past_of_List, take-take, length-filter, count_by-le-length, get_or_from_slice_get}
+use Rattle.std.proofs.Math.ListN.{get_or-map as get_or-map_of_ListN}
 use Rattle.std.proofs.lemmas.List.Edits.{fill_by_more}
 use Rattle.std.proofs.lemmas.List.Splits.{slice_split-cons_yes, slice_split-cons_no}
 use Rattle.ta_base.proofs.Integers.{pos_same, div-one}
@@ -63,9 +62,6 @@ pub avoids_known : (byte : ℕ) (bs : List ℕ) → list_all (λ b. not (eqb b b
 avoids_known byte [] e = tt
 avoids_known byte (b ∷ bs) e = let parts = and_parts (not (eqb b byte)) (list_all (λ c. not (eqb c byte)) bs) e in (other_byte byte b parts.0, avoids_known byte bs parts.1)
 
-pub at_drop : (xs : List (ℕ × ℤ)) (i : ℕ) (d : ℕ × ℤ) → i < length xs → drop i xs ≡ get_or xs i d ∷ drop (i + 1) xs
-at_drop xs i d h = rw add-one (drop-cons xs i d h)
-
 -- a search that finds nothing passed over the first file and found nothing later
 pub passed_over : (b : Bool) (bytes : List ℕ) (later : Option (List ℕ)) → (if b then Some bytes else later) ≡ None → (b ≡ false) × (later ≡ None)
 passed_over true bytes later none = absurd (none-some bytes (sym none))
@@ -77,35 +73,18 @@ filled_more a n xs ys behind fits few =
     let size : length (take a xs) ≡ a = length-take-le a xs fits in
     ap (λ k. take (k + n) (take a xs ++ (ys ++ behind))) (sym size) ∙ take-append-add (take a xs) (ys ++ behind) n ∙ ap (λ zs. take a xs ++ zs) (take-append-le n ys behind few)
 
--- the text from a place on, as the code cuts it
-pub rest_of : (text : List ℕ) (at : ℕ) → take (length text - at) (drop at text) ≡ drop at text
-rest_of text at = rw (← length-drop at text) (take-length (drop at text))
-
 pub length_of_map : {A P : Type 0} (plain : A → P) (xs : List A) (ps : List P) → map plain xs ≡ ps → length xs ≡ length ps
 length_of_map plain xs ps e = sym (length-map xs plain) ∙ ap length e
 
 -- the pieces of a file, each with its semicolon
 pub regroup : {B : Type 0} (a b c d e s t u v w : B) (la lb lc ld le r : List B) → (a ∷ (la ++ s ∷ [])) ++ ((b ∷ (lb ++ t ∷ [])) ++ ((c ∷ (lc ++ u ∷ [])) ++ ((d ∷ (ld ++ v ∷ [])) ++ ((e ∷ (le ++ w ∷ [])) ++ r)))) ≡ a ∷ (la ++ s ∷ b ∷ (lb ++ t ∷ c ∷ (lc ++ u ∷ d ∷ (ld ++ v ∷ e ∷ (le ++ w ∷ r)))))
-regroup a b c d e s t u v w la lb lc ld le r =
-    ap (λ z. a ∷ z) (append_assoc la (s ∷ []) ((b ∷ (lb ++ t ∷ [])) ++ ((c ∷ (lc ++ u ∷ [])) ++ ((d ∷ (ld ++ v ∷ [])) ++ ((e ∷ (le ++ w ∷ [])) ++ r)))))
-    ∙ ap (λ z. a ∷ (la ++ s ∷ b ∷ z)) (append_assoc lb (t ∷ []) ((c ∷ (lc ++ u ∷ [])) ++ ((d ∷ (ld ++ v ∷ [])) ++ ((e ∷ (le ++ w ∷ [])) ++ r))))
-    ∙ ap (λ z. a ∷ (la ++ s ∷ b ∷ (lb ++ t ∷ c ∷ z))) (append_assoc lc (u ∷ []) ((d ∷ (ld ++ v ∷ [])) ++ ((e ∷ (le ++ w ∷ [])) ++ r)))
-    ∙ ap (λ z. a ∷ (la ++ s ∷ b ∷ (lb ++ t ∷ c ∷ (lc ++ u ∷ d ∷ z)))) (append_assoc ld (v ∷ []) ((e ∷ (le ++ w ∷ [])) ++ r))
-    ∙ ap (λ z. a ∷ (la ++ s ∷ b ∷ (lb ++ t ∷ c ∷ (lc ++ u ∷ d ∷ (ld ++ v ∷ e ∷ z))))) (append_assoc le (w ∷ []) r)
+regroup a b c d e s t u v w la lb lc ld le r = simp append_assoc
 
 pub left_nested : {B : Type 0} (h a b c d e r q : List B) → ((((((h ++ a) ++ b) ++ c) ++ d) ++ e) ++ r) ++ q ≡ h ++ (a ++ (b ++ (c ++ (d ++ (e ++ (r ++ q))))))
 left_nested h a b c d e r q = simp append_assoc
 
 pub short_map : {A B : Type 0} (g : A → B) (xs : List A) (n : ℕ) → length xs ≤ n → length (map g xs) ≤ n
-short_map g xs n h = omega (arith, same xs)
-  where
-    same : (ys : List _) → length (map g ys) ≡ length ys
-    same [] = refl
-    same (y ∷ ys) = ap suc (same ys)
-
-pub after_same : (a x y : List ℕ) → a ++ x ≡ a ++ y → x ≡ y
-after_same [] x y e = e
-after_same (c ∷ a) x y e = let h : a ++ x ≡ a ++ y = cc in after_same a x y h
+short_map g xs n h = omega (arith, length-map xs g)
 
 pub unlike : (f : List ℕ → Bool) (x y : List ℕ) → x ≡ y → f x ≡ true → f y ≡ false → ⊥
 unlike f x y e a b = let h : f x ≡ f y = ap f e in cc
@@ -138,13 +117,13 @@ next_shorter rest front behind next = omega (arith, ap length next.split, length
 pub differ : (k : ℕ) (xs ys : List ℕ) → eqb (get_or xs k 0) (get_or ys k 0) ≡ false → xs ≡ ys → ⊥
 differ k xs ys apart e = let at = ap (λ zs. get_or zs k 0) e in let other = false-eqb (get_or xs k 0) (get_or ys k 0) (sym apart) in other at
 
--- what is written when nothing is left
-pub written_whole : (text begun all rest : List ℕ) → text ++ rest ≡ begun ++ all → rest ≡ [] → text ≡ begun ++ all
-written_whole text begun all rest e none = sym (append-nil text) ∙ ap (λ xs. text ++ xs) (sym none) ∙ e
+-- nothing is left
+pub append_nothing : (old left all : List ℕ) → left ≡ [] → old ++ left ≡ all → old ≡ all
+append_nothing old left all none so_far = sym (append-nil old) ∙ ap (λ xs. old ++ xs) (sym none) ∙ so_far
 
 -- the same, and something more
 pub append_last : (text begun all rest last : List ℕ) → text ++ rest ≡ begun ++ all → rest ≡ [] → text ++ last ≡ begun ++ (all ++ last)
-append_last text begun all rest last e none = ap (λ xs. xs ++ last) (written_whole text begun all rest e none) ∙ append_assoc begun all last
+append_last text begun all rest last e none = ap (λ xs. xs ++ last) (append_nothing text rest (begun ++ all) none e) ∙ append_assoc begun all last
 
 pub filter_true : (ok : ℕ → Bool) (k : ℕ) (xs : List ℕ) → ok k ≡ true → filter ok (k ∷ xs) ≡ k ∷ filter ok xs
 filter_true ok k xs e = rw e refl
@@ -171,10 +150,6 @@ without_last [] = []
 without_last (o ∷ []) = []
 without_last (o ∷ q ∷ os) = o ∷ without_last (q ∷ os)
 
-pub length_parts : (xs ys : List ℕ) → length (xs ++ ys) ≡ length xs + length ys
-length_parts [] ys = omega arith
-length_parts (x ∷ xs) ys = omega (arith, length_parts xs ys)
-
 pub filter_all : (xs : List ℕ) → filter (λ r. true) xs ≡ xs
 filter_all [] = refl
 filter_all (x ∷ xs) = ap (λ ys. x ∷ ys) (filter_all xs)
@@ -186,45 +161,46 @@ no_sign b c letter other e = let same : c ≡ b = cc in false≢true (sym other 
 pub letters_apart : (b c : ℕ) → eqb b c ≡ false → (b ∷ []) ≡ (c ∷ []) → ⊥
 letters_apart b c test e = let same : b ≡ c = cc in false≢true (sym test ∙ eq-eqb b c same)
 
+pub slice_get_right : {X : Type 0} (xs ys : List X) (n i : ℕ) → n ≡ length xs + i → slice_get (xs ++ ys) n ≡ slice_get ys i
+slice_get_right [] ys n i e = ap (slice_get ys) (let z : n ≡ i = omega arith in z)
+slice_get_right (x ∷ xs) ys zero i e = absurd (omega arith)
+slice_get_right (x ∷ xs) ys (suc n) i e = slice_get_right xs ys n i (omega arith)
+
+pub slice_get_before : {X : Type 0} (xs ys : List X) (i : ℕ) → i < length xs → slice_get (xs ++ ys) i ≡ slice_get xs i
+slice_get_before [] ys i h = absurd (omega arith)
+slice_get_before (x ∷ xs) ys zero h = refl
+slice_get_before (x ∷ xs) ys (suc i) h = slice_get_before xs ys i (omega arith)
+
 pub get_end : {X : Type 0} (xs : List X) (y : X) (n : ℕ) → length xs ≡ n → slice_get (xs ++ y ∷ []) n ≡ Some y
-get_end [] y zero e = refl
-get_end [] y (suc n) e = absurd (omega arith)
-get_end (x ∷ xs) y zero e = absurd (omega arith)
-get_end (x ∷ xs) y (suc n) e = get_end xs y n (omega arith)
+get_end xs y n e = slice_get_right xs (y ∷ []) n 0 (omega arith)
 
 pub longer_front : (front : List ℕ) (q : ℕ) (behind : List ℕ) → length behind < length (front ++ q ∷ behind)
 longer_front front q behind = omega (arith, length-append front (q ∷ behind))
 
 pub get_middle : (xs : List ℕ) (y : ℕ) (ys : List ℕ) → slice_get (xs ++ y ∷ ys) (length xs) ≡ Some y
-get_middle [] y ys = refl
-get_middle (x ∷ xs) y ys = get_middle xs y ys
-
-pub take_front : (xs ys : List ℕ) → take (length xs) (xs ++ ys) ≡ xs
-take_front [] ys = refl
-take_front (x ∷ xs) ys = ap (λ (zs : List ℕ). x ∷ zs) (take_front xs ys)
+get_middle xs y ys = slice_get_right xs (y ∷ ys) (length xs) 0 (omega arith)
 
 pub one_step : (count : ℕ → ℤ) (n : ℕ) (b : Bool) (z : ℤ) → z ≡ count n → map {B = ℕ × ℤ} (λ r. (r, count r)) (cond b (n ∷ []) []) ≡ cond b ((n, z) ∷ []) []
 one_step count n true z e = ap (λ (y : ℤ). (n, y) ∷ []) (sym e)
 one_step count n false z e = refl
 
+-- the pieces of one more element
+pub last_item : {X : Type 0} (x y : X) (k : ℕ) → slice_get (x ∷ []) k ≡ Some y → (k ≡ 0) × (x ≡ y)
+last_item x y zero e = (refl, (let q : x ≡ y = cc in q))
+last_item x y (suc k) e = absurd (cc)
+
+-- an item of a list behind another is in one of the two
+pub get_parts : {X : Type 0} (xs ys : List X) (j : ℕ) (c : X) → slice_get (xs ++ ys) j ≡ Some c → (slice_get xs j ≡ Some c) ⊎ ((k : ℕ) × (j ≡ length xs + k) × (slice_get ys k ≡ Some c))
+get_parts [] ys j c e = inr (j, omega arith, e)
+get_parts (x ∷ xs) ys zero c e = inl e
+get_parts (x ∷ xs) ys (suc j) c e = elim (get_parts xs ys j c e) [ inl h ↦ inl h | inr w ↦ inr (w.0, (let q = w.1 in omega arith), w.2) ]
+
 -- an item of a list that has one item more at its end
 pub push_cases : {X : Type 0} (xs : List X) (y : X) (k : ℕ) (x : X) → slice_get (xs ++ y ∷ []) k ≡ Some x → ((k < length xs) × (slice_get xs k ≡ Some x)) ⊎ ((k ≡ length xs) × (y ≡ x))
-push_cases [] y zero x e = inr (refl, cc)
-push_cases [] y (suc k) x e = absurd (cc)
-push_cases (z ∷ zs) y zero x e = inl (omega arith, e)
-push_cases (z ∷ zs) y (suc k) x e = elim (push_cases zs y k x e) [
-  | inl w ↦ inl ((let b = w.0 in omega arith), w.1)
-  | inr w ↦ inr ((let b = w.0 in omega arith), w.1)
+push_cases xs y k x e = elim (get_parts xs (y ∷ []) k x e) [
+  | inl w ↦ inl (slice_get_within xs k x w, w)
+  | inr w ↦ (let last = last_item y x w.0 w.2 in inr ((let at = w.1 in let none = last.0 in omega arith), last.1))
 ]
-
-pub get_or_push : (xs : List ℕ) (x y : ℕ) → x < length xs → get_or (xs ++ y ∷ []) x 0 ≡ get_or xs x 0
-get_or_push [] x y b = absurd (omega arith)
-get_or_push (z ∷ zs) zero y b = refl
-get_or_push (z ∷ zs) (suc x) y b = get_or_push zs x y (omega arith)
-
-pub get_pushed : (xs : List ℕ) (y : ℕ) → get_or (xs ++ y ∷ []) (length xs) 0 ≡ y
-get_pushed [] y = refl
-get_pushed (z ∷ zs) y = get_pushed zs y
 
 -- names in order, cut into their kinds
 pub cut_in_three : (ps ss ls : List (List ℕ)) (p s : ℕ) → length ps ≡ p → length ss ≡ s → (take p (ps ++ ss ++ ls) ≡ ps) × (take s (drop p (ps ++ ss ++ ls)) ≡ ss) × (drop (p + s) (ps ++ ss ++ ls) ≡ ls)
@@ -242,11 +218,6 @@ number_gives test (z ∷ zs) h = elim (or_cases (test z) (list_any test zs) h) [
   | inr e ↦ (let w = number_gives test zs e in (suc w.0, (let b = w.1 in omega arith), w.2))
 ]
 
-pub get_or_past : (zs : List ℤ) (i : ℕ) → length zs ≤ i → get_or zs i (pos 0) ≡ pos 0
-get_or_past [] i h = refl
-get_or_past (z ∷ zs) zero h = absurd (omega (arith, h))
-get_or_past (z ∷ zs) (suc i) h = get_or_past zs i (omega (arith, h))
-
 -- ---- numbers made one by one
 pub at_map : (op : ℤ → ℤ) → op (pos 0) ≡ pos 0 → (f : List ℕ → ℤ) (names : List (List ℕ)) (i : ℕ) → get_or (map (λ x. op (f x)) names) i (pos 0) ≡ op (get_or (map f names) i (pos 0))
 at_map op none f [] i = sym none
@@ -259,9 +230,7 @@ at_map_both op none f g (n ∷ names) zero = refl
 at_map_both op none f g (n ∷ names) (suc i) = at_map_both op none f g names i
 
 pub at_map_none : (names : List (List ℕ)) (i : ℕ) → get_or (map (λ x. pos 0) names) i (pos 0) ≡ pos 0
-at_map_none [] i = refl
-at_map_none (n ∷ names) zero = refl
-at_map_none (n ∷ names) (suc i) = at_map_none names i
+at_map_none names i = get_or-map_of_ListN (λ x. pos 0) names i []
 
 -- ---- what stands at a place
 
@@ -290,19 +259,13 @@ slice_get-take_within (y ∷ xs) (suc n) (suc i) x e = let h = slice_get-take_wi
 pub get_of_drop : {X : Type 0} (k : ℕ) (xs : List X) (i : ℕ) (x : X) → slice_get (drop k xs) i ≡ Some x → slice_get xs (k + i) ≡ Some x
 get_of_drop k xs i x e = sym (slice_get-drop xs k i) ∙ e
 
-pub get_take : {X : Type 0} (k : ℕ) (xs : List X) (i : ℕ) (x : X) → slice_get (take k xs) i ≡ Some x → slice_get xs i ≡ Some x
-get_take k xs i x e = sym (slice_get-take xs k i (slice_get-take_within xs k i x e)) ∙ e
-
-pub get_last : {X : Type 0} (xs : List X) (x : X) → slice_get (xs ++ x ∷ []) (length xs) ≡ Some x
-get_last [] x = refl
-get_last (y ∷ xs) x = get_last xs x
+-- an item of a front is the list's
+pub get_front : {X : Type 0} (xs : List X) (i j : ℕ) (x : X) → slice_get (take i xs) j ≡ Some x → (j < i) × (slice_get xs j ≡ Some x)
+get_front xs i j x at = let b = slice_get-take_within xs i j x at in (b, sym (slice_get-take xs i j b) ∙ at)
 
 -- an item of a list with one more is the last or was there before
 pub get_push : {X : Type 0} (xs : List X) (y : X) (i : ℕ) (x : X) → slice_get (xs ++ y ∷ []) i ≡ Some x → (slice_get xs i ≡ Some x) ⊎ ((i ≡ length xs) × (x ≡ y))
-get_push [] y zero x e = inr (refl, sym (same_Some y x e))
-get_push [] y (suc i) x e = absurd (cc)
-get_push (z ∷ xs) y zero x e = inl e
-get_push (z ∷ xs) y (suc i) x e = elim (get_push xs y i x e) [ inl h ↦ inl h | inr h ↦ inr (ap suc h.0, h.1) ]
+get_push xs y i x e = elim (push_cases xs y i x e) [ inl w ↦ inl w.1 | inr w ↦ inr (w.0, sym w.1) ]
 
 pub get_map : {X Y : Type 0} (f : X → Y) (xs : List X) (i : ℕ) (x : X) → slice_get xs i ≡ Some x → slice_get (map f xs) i ≡ Some (f x)
 get_map f [] i x e = absurd (cc)
@@ -385,45 +348,18 @@ twice_back old new newer rest same also =
     take_at newer rest (length (take (length old) (new ++ drop (length new) old))) (also ∙ sym same ∙ sym (ap (λ (xs : List ℤ). length xs) (front_back old new same)))
 
 pub take_next_read : {X : Type 0} (k : ℕ) (xs : List X) (x : X) → k < length xs → x ≡ get_or xs k x → take (k + 1) xs ≡ take k xs ++ x ∷ []
-take_next_read k [] x below is = absurd (omega arith)
-take_next_read zero (y ∷ ys) x below is = ap (λ z. z ∷ []) (sym is)
-take_next_read (suc k) (y ∷ ys) x below is =
-    let more : suc k + 1 ≡ suc (k + 1) = omega arith in
-    ap (λ n. take n (y ∷ ys)) more ∙ ap (λ zs. y ∷ zs) (take_next_read k ys x (omega arith) is)
-
--- what is read from a list is at its place
-pub read_at : {X : Type 0} (xs : List X) (k : ℕ) (x : X) → k < length xs → x ≡ get_or xs k x → slice_get xs k ≡ Some x
-read_at [] k x below is = absurd (omega arith)
-read_at (y ∷ ys) zero x below is = ap Some (sym is)
-read_at (y ∷ ys) (suc k) x below is = read_at ys k x (omega arith) is
+take_next_read k xs x below is = take_more xs k x below ∙ ap (λ y. take k xs ++ y ∷ []) (sym is)
 
 pub append_empty : (xs ys : List (ℕ × ℕ)) → xs ++ ys ≡ [] → (xs ≡ []) × (ys ≡ [])
 append_empty [] ys e = (refl, e)
 append_empty (x ∷ xs) ys e = absurd (let n = ap (λ (zs : List (ℕ × ℕ)). length zs) e in omega arith)
 
-pub if_first : (pair other : ℕ × ℕ) (others rest : List (ℕ × ℕ)) (b : Bool) → b ≡ true → cond b (pair ∷ other ∷ others) (other ∷ rest) ≡ pair ∷ other ∷ others
-if_first pair other others rest true e = refl
-if_first pair other others rest false e = absurd (false≢true e)
-
-pub if_second : (pair other : ℕ × ℕ) (others rest : List (ℕ × ℕ)) (b : Bool) → b ≡ false → cond b (pair ∷ other ∷ others) (other ∷ rest) ≡ other ∷ rest
-if_second pair other others rest true e = absurd (true≢false e)
-if_second pair other others rest false e = refl
-
 pub filter_shorter : (test : ℕ → Bool) (xs : List ℕ) → length (filter test xs) ≤ length xs
-filter_shorter test [] = omega arith
-filter_shorter test (x ∷ xs) = kept_shorter (test x) x (filter test xs) (length xs) (filter_shorter test xs)
-  where
-    kept_shorter : (b : Bool) (y : ℕ) (ys : List ℕ) (n : ℕ) → length ys ≤ n → length (cond b (y ∷ ys) ys) ≤ suc n
-    kept_shorter true y ys n h = omega arith
-    kept_shorter false y ys n h = omega arith
+filter_shorter test xs = omega (arith, length-filter test xs, count_by-le-length test xs)
 
 -- the first elements of a word, the newest first
 pub reverse_more : {X : Type 0} (xs : List X) (i : ℕ) (d : X) → i < length xs → reverse (take (i + 1) xs) ≡ get_or xs i d ∷ reverse (take i xs)
 reverse_more xs i d b = ap reverse (take_more xs i d b) ∙ reverse-append (take i xs) (get_or xs i d ∷ [])
-
-pub append_nil : {X : Type 0} (xs : List X) → xs ++ [] ≡ xs
-append_nil [] = refl
-append_nil (x ∷ xs) = ap (λ ys. x ∷ ys) (append_nil xs)
 
 pub one_longer : {X : Type 0} (xs ys : List X) (x : X) → ys ≡ xs ++ x ∷ [] → length ys ≡ length xs + 1
 one_longer xs ys x e = ap length e ∙ length-append xs (x ∷ [])
@@ -432,26 +368,8 @@ pub map_same : {X Y : Type 0} (f g : X → Y) (xs : List X) → ((x : X) → f x
 map_same f g [] h = refl
 map_same f g (x ∷ xs) h = ap (λ y. y ∷ map f xs) (h x) ∙ ap (λ ys. g x ∷ ys) (map_same f g xs h)
 
-pub map_twice : {X Y Z : Type 0} (f : Y → Z) (g : X → Y) (xs : List X) → map f (map g xs) ≡ map (λ x. f (g x)) xs
-map_twice f g [] = refl
-map_twice f g (x ∷ xs) = ap (λ ys. f (g x) ∷ ys) (map_twice f g xs)
-
-pub length_take : {X : Type 0} (xs : List X) (i : ℕ) → i ≤ length xs → length (take i xs) ≡ i
-length_take xs i b = length-take-le i xs b
-
--- an item of a list behind another is in one of the two
-pub get_parts : {X : Type 0} (xs ys : List X) (j : ℕ) (c : X) → slice_get (xs ++ ys) j ≡ Some c → (slice_get xs j ≡ Some c) ⊎ ((k : ℕ) × (j ≡ length xs + k) × (slice_get ys k ≡ Some c))
-get_parts [] ys j c e = inr (j, omega arith, e)
-get_parts (x ∷ xs) ys zero c e = inl e
-get_parts (x ∷ xs) ys (suc j) c e = elim (get_parts xs ys j c e) [ inl h ↦ inl h | inr w ↦ inr (w.0, (let q = w.1 in omega arith), w.2) ]
-
 pub get_right : {X : Type 0} (xs ys : List X) (k : ℕ) (c : X) → slice_get ys k ≡ Some c → slice_get (xs ++ ys) (length xs + k) ≡ Some c
-get_right [] ys k c e = subst (λ (j : ℕ). slice_get ys j ≡ Some c) (let q : k ≡ 0 + k = omega arith in q) e
-get_right (x ∷ xs) ys k c e = subst (λ (j : ℕ). slice_get (x ∷ (xs ++ ys)) j ≡ Some c) (let q : suc (length xs + k) ≡ suc (length xs) + k = omega arith in q) (get_right xs ys k c e)
-
-pub map_itself : (zs : List ℤ) → map (λ z. z) zs ≡ zs
-map_itself [] = refl
-map_itself (z ∷ zs) = ap (λ ys. z ∷ ys) (map_itself zs)
+get_right xs ys k c e = slice_get_right xs ys (length xs + k) k refl ∙ e
 
 item_more : {X : Type 0} (f : ℕ → X) (test : ℕ → Bool) (xs : List ℕ) (i d : ℕ) → i < length xs → map f (filter test (take (i + 1) xs)) ≡ map f (filter test (take i xs)) ++ map f (cond (test (get_or xs i d)) (get_or xs i d ∷ []) [])
 item_more f test xs i d b = ap (λ ys. map f (filter test ys)) (take_more xs i d b) ∙ ap (map f) (filter-append test (take i xs) (get_or xs i d ∷ [])) ∙ map-append f (filter test (take i xs)) (cond (test (get_or xs i d)) (get_or xs i d ∷ []) [])
@@ -465,16 +383,12 @@ items_one test xs i d b t =
     omega (arith, ap length (item_one f test xs i d b t), length-append (map f (filter test (take i xs))) (get_or xs i d ∷ []), length-map (filter test (take i xs)) f, length-map (filter test (take (i + 1) xs)) f)
 
 pub item_none : {X : Type 0} (f : ℕ → X) (test : ℕ → Bool) (xs : List ℕ) (i d : ℕ) → i < length xs → test (get_or xs i d) ≡ false → map f (filter test (take i xs)) ≡ map f (filter test (take (i + 1) xs))
-item_none f test xs i d b t = sym (item_more f test xs i d b ∙ ap (λ c. map f (filter test (take i xs)) ++ map f (cond c (get_or xs i d ∷ []) [])) t ∙ append_nil (map f (filter test (take i xs))))
+item_none f test xs i d b t = sym (item_more f test xs i d b ∙ ap (λ c. map f (filter test (take i xs)) ++ map f (cond c (get_or xs i d ∷ []) [])) t ∙ append-nil (map f (filter test (take i xs))))
 
 pub items_none : (test : ℕ → Bool) (xs : List ℕ) (i d : ℕ) → i < length xs → test (get_or xs i d) ≡ false → length (filter test (take (i + 1) xs)) ≡ length (filter test (take i xs))
 items_none test xs i d b t =
     let f : ℕ → ℕ = λ k. k in
     omega (arith, ap length (item_none f test xs i d b t), length-map (filter test (take i xs)) f, length-map (filter test (take (i + 1) xs)) f)
-
-pub filter_same : (f g : ℕ → Bool) (xs : List ℕ) → ((x : ℕ) → f x ≡ g x) → filter f xs ≡ filter g xs
-filter_same f g [] h = refl
-filter_same f g (x ∷ xs) h = ap (λ c. cond c (x ∷ filter f xs) (filter f xs)) (h x) ∙ ap (λ ys. cond (g x) (x ∷ ys) ys) (filter_same f g xs h)
 
 pub longer : {X : Type 0} (xs ys zs : List X) → zs ≡ xs ++ ys → length xs ≤ length zs
 longer xs ys zs e = omega (arith, ap length e, length-append xs ys)
@@ -496,19 +410,10 @@ get_of_map f (x ∷ xs) zero y e = (x, refl, (let q : f x ≡ y = cc in q))
 get_of_map f (x ∷ xs) (suc j) y e = get_of_map f xs j y e
 
 pub get_drop : {X : Type 0} (n : ℕ) (xs : List X) (j : ℕ) (x : X) → slice_get xs (n + j) ≡ Some x → slice_get (drop n xs) j ≡ Some x
-get_drop zero xs j x e = subst (λ (k : ℕ). slice_get xs k ≡ Some x) (let q : 0 + j ≡ j = omega arith in q) e
-get_drop (suc n) [] j x e = absurd (cc)
-get_drop (suc n) (y ∷ xs) j x e = get_drop n xs j x (subst (λ (k : ℕ). slice_get (y ∷ xs) k ≡ Some x) (let q : suc n + j ≡ suc (n + j) = omega arith in q) e)
-
-pub get_or_map : {M : Type 0} (f : M → ℤ) (ms : List M) (n : ℕ) (d : M) → n < length ms → get_or (map f ms) n (pos 0) ≡ f (get_or ms n d)
-get_or_map f [] n d b = absurd (omega arith)
-get_or_map f (m ∷ ms) zero d b = refl
-get_or_map f (m ∷ ms) (suc n) d b = get_or_map f ms n d (omega arith)
+get_drop n xs j x e = slice_get-drop xs n j ∙ e
 
 pub get_past : {M : Type 0} (f : M → ℤ) (ms : List M) (n : ℕ) → length ms ≤ n → get_or (map f ms) n (pos 0) ≡ pos 0
-get_past f [] n b = refl
-get_past f (m ∷ ms) zero b = absurd (omega arith)
-get_past f (m ∷ ms) (suc n) b = get_past f ms n (omega arith)
+get_past f ms n b = get_or_past_of_List (map f ms) n (pos 0) (omega (arith, length-map ms f))
 
 pub maps_length : {X Y Z : Type 0} (f : X → Y) (g : X → Z) (xs : List X) → length (map f xs) ≡ length (map g xs)
 maps_length f g xs = omega (arith, length-map xs f, length-map xs g)
@@ -518,26 +423,12 @@ some_at [] i h = absurd (omega arith)
 some_at (x ∷ xs) zero h = (x, refl)
 some_at (x ∷ xs) (suc i) h = some_at xs i (omega arith)
 
-pub take_first : (xs ys : List ℕ) (n : ℕ) → length xs ≡ n → take n (xs ++ ys) ≡ xs
-take_first [] ys zero e = refl
-take_first [] ys (suc n) e = absurd (omega arith)
-take_first (x ∷ xs) ys zero e = absurd (omega arith)
-take_first (x ∷ xs) ys (suc n) e = ap (λ (zs : List ℕ). x ∷ zs) (take_first xs ys n (omega arith))
-
 pub at_most_first : (n f : ℕ) → get_or (n ∷ []) f 0 ≤ n
 at_most_first n zero = omega arith
 at_most_first n (suc f) = omega arith
 
-pub take_take : {X : Type 0} (m n : ℕ) (xs : List X) → m ≤ n → take m (take n xs) ≡ take m xs
-take_take zero n xs le = refl
-take_take (suc m) zero xs le = absurd (omega arith)
-take_take (suc m) (suc n) [] le = refl
-take_take (suc m) (suc n) (x ∷ xs) le = ap (λ ys. x ∷ ys) (take_take m n xs (omega arith))
-
 pub next_dropped : {X : Type 0} (xs : List X) (k : ℕ) (x : X) → slice_get xs k ≡ Some x → drop k xs ≡ x ∷ drop (k + 1) xs
-next_dropped [] k x e = cc
-next_dropped (y ∷ ys) zero x e = let same : y ≡ x = cc in ap (λ z. z ∷ ys) same
-next_dropped (y ∷ ys) (suc k) x e = next_dropped ys k x e ∙ ap (λ n. x ∷ drop n (y ∷ ys)) (let more : suc (k + 1) ≡ suc k + 1 = omega arith in more)
+next_dropped xs k x e = next_item xs k x (slice_get_within xs k x e) (sym (get_or_from_slice_get xs k x x e))
 
 pub none_dropped : {X : Type 0} (xs : List X) (k : ℕ) → slice_get xs k ≡ None → drop k xs ≡ []
 none_dropped [] zero e = refl
@@ -546,7 +437,7 @@ none_dropped (y ∷ ys) zero e = cc
 none_dropped (y ∷ ys) (suc k) e = none_dropped ys k e
 
 pub fewer_alike : {X : Type 0} (m n : ℕ) (xs ys : List X) → m ≤ n → take n xs ≡ take n ys → take m xs ≡ take m ys
-fewer_alike m n xs ys le e = sym (take_take m n xs le) ∙ ap (take m) e ∙ take_take m n ys le
+fewer_alike m n xs ys le e = sym (take-take m n xs le) ∙ ap (take m) e ∙ take-take m n ys le
 
 pub take_begins : {X : Type 0} (n : ℕ) (xs ys more : List X) → n ≡ length xs → ys ≡ xs ++ more → take n ys ≡ take n xs
 take_begins n xs ys more e f = ap (take n) f ∙ take-append-le n xs more (omega arith)
@@ -556,12 +447,6 @@ all_taken n xs e = ap (λ m. take m xs) e ∙ take-length xs
 
 pub longer_by : {X : Type 0} (n : ℕ) (xs ys more : List X) → n ≡ length xs → ys ≡ xs ++ more → n ≤ length ys
 longer_by n xs ys more e f = omega (arith, ap length f, length-append xs more)
-
-pub take_whole : {X : Type 0} (k : ℕ) (xs : List X) → length xs ≤ k → take k xs ≡ xs
-take_whole zero [] most = refl
-take_whole zero (x ∷ xs) most = absurd (omega arith)
-take_whole (suc k) [] most = refl
-take_whole (suc k) (x ∷ xs) most = ap (λ ys. x ∷ ys) (take_whole k xs (omega arith))
 
 pub get_set_added : (cells : List ℤ) (a x : ℕ) (z rest : ℤ) → a < length cells → get_or cells a (pos 0) ≡ pos 0 → (get_or (set cells a z) x (pos 0) +ℤ rest) ≡ (get_or cells x (pos 0) +ℤ (cond (eqb a x) z (pos 0) +ℤ rest))
 get_set_added cells a x z rest inside none =
@@ -596,21 +481,11 @@ rest_more d old xs j x rest k below =
     get_or-set_other xs j k x d apart ∙ rest k (omega arith)
 
 pub get_or-neg : (cs : List ℤ) (column : ℕ) → get_or (map neg_ℤ cs) column (pos 0) ≡ neg_ℤ (get_or cs column (pos 0))
-get_or-neg [] column = refl
-get_or-neg (c ∷ cs) zero = refl
-get_or-neg (c ∷ cs) (suc column) = get_or-neg cs column
+get_or-neg cs column = get_or-map_of_ListN neg_ℤ cs column (pos 0)
 
 pub map-div-one : (cs : List ℤ) → map (λ z. int_div z (pos 1)) cs ≡ cs
 map-div-one [] = refl
 map-div-one (c ∷ cs) = rw (div-one c, map-div-one cs) refl
-
-pub range_more : (a n : ℕ) → range_with_len a (suc n) ≡ range_with_len a n ++ (a + n) ∷ []
-range_more a zero = ap (λ (x : ℕ). x ∷ []) (omega arith)
-range_more a (suc n) = ap (λ (xs : List ℕ). a ∷ xs) (range_more (a + 1) n ∙ ap (λ (x : ℕ). range_with_len (a + 1) n ++ x ∷ []) (omega arith))
-
-pub map_alike : (f g : ℕ → ℤ) → ((u : ℕ) → f u ≡ g u) → (us : List ℕ) → map f us ≡ map g us
-map_alike f g same [] = refl
-map_alike f g same (u ∷ us) = let first = same u in let rest = map_alike f g same us in cc
 
 pub range_split : (a n e : ℕ) → range_with_len a (n + e) ≡ range_with_len a n ++ range_with_len (a + n) e
 range_split a zero e = let h : zero + e ≡ e = omega arith in let k : a + zero ≡ a = omega arith in ap (range_with_len a) h ∙ ap (λ (x : ℕ). range_with_len x e) (sym k)
@@ -618,6 +493,9 @@ range_split a (suc n) e =
     let h : suc n + e ≡ suc (n + e) = omega arith in
     let k : (a + 1) + n ≡ a + suc n = omega arith in
     ap (range_with_len a) h ∙ ap (λ (xs : List ℕ). a ∷ xs) (range_split (a + 1) n e ∙ ap (λ (x : ℕ). range_with_len (a + 1) n ++ range_with_len x e) k)
+
+pub range_more : (a n : ℕ) → range_with_len a (suc n) ≡ range_with_len a n ++ (a + n) ∷ []
+range_more a n = ap (range_with_len a) (let more : suc n ≡ n + 1 = omega arith in more) ∙ range_split a n 1
 
 pub get-set_same : {A : Type 0} (xs : List A) (i : ℕ) (x : A) → i < length xs → slice_get (set xs i x) i ≡ Some x
 get-set_same [] i x h = absurd (omega arith)
@@ -631,63 +509,24 @@ get-set_other (y ∷ ys) zero (suc j) x ne = refl
 get-set_other (y ∷ ys) (suc i) zero x ne = refl
 get-set_other (y ∷ ys) (suc i) (suc j) x ne = get-set_other ys i j x (λ e. ne (ap suc e))
 
-pub get-push_last : {A : Type 0} (xs : List A) (i : ℕ) (x : A) → length xs ≡ i → slice_get (xs ++ x ∷ []) i ≡ Some x
-get-push_last [] zero x e = refl
-get-push_last [] (suc i) x e = absurd (omega arith)
-get-push_last (y ∷ ys) zero x e = absurd (omega arith)
-get-push_last (y ∷ ys) (suc i) x e = get-push_last ys i x (omega arith)
-
-pub get-push_before : {A : Type 0} (xs : List A) (i : ℕ) (x : A) → i < length xs → slice_get (xs ++ x ∷ []) i ≡ slice_get xs i
-get-push_before [] i x h = absurd (omega arith)
-get-push_before (y ∷ ys) zero x h = refl
-get-push_before (y ∷ ys) (suc i) x h = get-push_before ys i x (omega arith)
-
 pub some_within : {A : Type 0} (xs : List A) (k : ℕ) (P : A → Type 0) → IsSomeAnd (slice_get xs k) P → k < length xs
 some_within [] k P h = absurd h
 some_within (x ∷ xs) zero P h = omega arith
 some_within (x ∷ xs) (suc k) P h = let below = some_within xs k P h in omega arith
 
--- the newest stands first
-pub reverse_first : (k : ℕ) (ks begun : List ℕ) → reverse ks ++ (k ∷ begun) ≡ reverse (k ∷ ks) ++ begun
-reverse_first k ks begun = sym (ap (λ (xs : List ℕ). xs ++ begun) (reverse-append (k ∷ []) ks) ∙ append_assoc (reverse ks) (k ∷ []) begun)
-
--- the items up to one, and it
-take_suc : {X : Type 0} (xs : List X) (i : ℕ) (x : X) → slice_get xs i ≡ Some x → take (suc i) xs ≡ take i xs ++ x ∷ []
-take_suc [] i x at = absurd (cc)
-take_suc {X} (y ∷ ys) zero x at = let same : y ≡ x = cc in ap (λ (z : X). z ∷ []) same
-take_suc {X} (y ∷ ys) (suc i) x at = ap (λ (zs : List X). y ∷ zs) (take_suc ys i x at)
+pub reverse_onto : {X : Type 0} (x : X) (xs past : List X) → reverse (x ∷ xs) ++ past ≡ reverse xs ++ (x ∷ past)
+reverse_onto x xs past = ap (λ ys. ys ++ past) (reverse-append (x ∷ []) xs) ∙ append_assoc (reverse xs) (x ∷ []) past
 
 pub take_next : {X : Type 0} (xs : List X) (i : ℕ) (x : X) → slice_get xs i ≡ Some x → take (i + 1) xs ≡ take i xs ++ x ∷ []
-take_next {X} xs i x at = ap (λ n. take n xs) (add-one i) ∙ take_suc xs i x at
+take_next xs i x at = take_next_read i xs x (slice_get_within xs i x at) (sym (get_or_from_slice_get xs i x x at))
 
 -- an item below the end of a front is the list's
 pub front_get : {X : Type 0} (xs : List X) (i j : ℕ) (x : X) → j < i → slice_get xs j ≡ Some x → slice_get (take i xs) j ≡ Some x
-front_get xs zero j x b at = absurd (omega arith)
-front_get [] (suc i) j x b at = absurd (cc)
-front_get (y ∷ ys) (suc i) zero x b at = at
-front_get (y ∷ ys) (suc i) (suc j) x b at = front_get ys i j x (omega arith) at
-
--- an item of a front is the list's
-pub get_front : {X : Type 0} (xs : List X) (i j : ℕ) (x : X) → slice_get (take i xs) j ≡ Some x → (j < i) × (slice_get xs j ≡ Some x)
-get_front xs zero j x at = absurd (cc)
-get_front [] (suc i) j x at = absurd (cc)
-get_front (y ∷ ys) (suc i) zero x at = (omega arith, at)
-get_front (y ∷ ys) (suc i) (suc j) x at = let w = get_front ys i j x at in (let b = w.0 in omega arith, w.1)
-
-pub take_all : {X : Type 0} (xs : List X) → take (length xs) xs ≡ xs
-take_all [] = refl
-take_all {X} (x ∷ xs) = ap (λ (ys : List X). x ∷ ys) (take_all xs)
+front_get xs i j x b at = slice_get-take xs i j b ∙ at
 
 -- an item of the first list, or of the second
 pub slice_get_left : {X : Type 0} (xs ys : List X) (i : ℕ) (x : X) → slice_get xs i ≡ Some x → slice_get (xs ++ ys) i ≡ Some x
-slice_get_left [] ys i x e = cc
-slice_get_left (y ∷ xs) ys zero x e = e
-slice_get_left (y ∷ xs) ys (suc i) x e = slice_get_left xs ys i x e
-
-pub slice_get_right : {X : Type 0} (xs ys : List X) (n i : ℕ) → n ≡ length xs + i → slice_get (xs ++ ys) n ≡ slice_get ys i
-slice_get_right [] ys n i e = ap (slice_get ys) (let z : n ≡ i = omega arith in z)
-slice_get_right (x ∷ xs) ys zero i e = absurd (omega arith)
-slice_get_right (x ∷ xs) ys (suc n) i e = slice_get_right xs ys n i (omega arith)
+slice_get_left xs ys i x e = slice_get_before xs ys i (slice_get_within xs i x e) ∙ e
 
 -- lists that are equal in two parts, the first of the same length
 pub same_parts : {X : Type 0} (xs ys r s : List X) → length xs ≡ length ys → xs ++ r ≡ ys ++ s → (xs ≡ ys) × (r ≡ s)
@@ -702,15 +541,11 @@ same_parts (x ∷ xs) (y ∷ ys) r s n e =
 
 -- natural numbers as whole ones
 pub get_or-pos : (xs : List ℕ) (i : ℕ) → get_or (map pos xs) i (pos 0) ≡ pos (get_or xs i 0)
-get_or-pos [] i = refl
-get_or-pos (x ∷ xs) zero = refl
-get_or-pos (x ∷ xs) (suc i) = get_or-pos xs i
+get_or-pos xs i = get_or-map_of_ListN pos xs i 0
 
 -- a list with an item has a front, the item, and what is behind it
 pub cut_at : {X : Type 0} (xs : List X) (i : ℕ) (x : X) → slice_get xs i ≡ Some x → xs ≡ take i xs ++ x ∷ drop (suc i) xs
-cut_at [] i x at = absurd (cc)
-cut_at {X} (y ∷ ys) zero x at = let same : y ≡ x = cc in ap (λ (z : X). z ∷ ys) same
-cut_at {X} (y ∷ ys) (suc i) x at = ap (λ (zs : List X). y ∷ zs) (cut_at ys i x at)
+cut_at xs i x at = split_at xs i x (slice_get_within xs i x at) ∙ ap (λ y. take i xs ++ y ∷ drop (suc i) xs) (get_or_from_slice_get xs i x x at)
 
 pub replicate_cut : (k t r : ℕ) → t < k → replicate k r ≡ replicate t r ++ r ∷ replicate (k - suc t) r
 replicate_cut zero t r b = absurd (omega arith)
@@ -733,54 +568,9 @@ split_last (y ∷ ys) x (f ∷ fs) r behind e =
       | inr w ↦ inr (w.0, ap (λ z. z ∷ ys) same ∙ ap (λ (zs : List ℕ). f ∷ zs) w.1)
     ]
 
-pub get_of_drop_at : {X : Type 0} (n i : ℕ) (xs : List X) (x : X) → slice_get (drop n xs) i ≡ Some x → slice_get xs (n + i) ≡ Some x
-get_of_drop_at zero i xs x at = let e : i ≡ 0 + i = omega arith in subst (λ m. slice_get xs m ≡ Some x) e at
-get_of_drop_at (suc n) i [] x at = absurd (cc)
-get_of_drop_at (suc n) i (y ∷ ys) x at = let e : suc (n + i) ≡ suc n + i = omega arith in subst (λ m. slice_get (y ∷ ys) m ≡ Some x) e (get_of_drop_at n i ys x at)
-
-pub reverse_onto : {X : Type 0} (x : X) (xs past : List X) → reverse (x ∷ xs) ++ past ≡ reverse xs ++ (x ∷ past)
-reverse_onto x xs past = ap (λ ys. ys ++ past) (reverse-append (x ∷ []) xs) ∙ append_assoc (reverse xs) (x ∷ []) past
-
-pub map-map : {X Y Z : Type 0} (f : X → Y) (g : Y → Z) (xs : List X) → map g (map f xs) ≡ map (λ x. g (f x)) xs
-map-map f g [] = refl
-map-map {X} {Y} {Z} f g (x ∷ xs) = ap (λ (zs : List Z). g (f x) ∷ zs) (map-map f g xs)
-
-pub drop_map : (n : ℕ) (vs : List ℕ) → drop n (map pos vs) ≡ map pos (drop n vs)
-drop_map zero vs = refl
-drop_map (suc n) [] = refl
-drop_map (suc n) (v ∷ vs) = drop_map n vs
-
-pub same_items : {X : Type 0} (f g : ℕ → X) (xs : List ℕ) → ((x : ℕ) → f x ≡ g x) → map f xs ≡ map g xs
-same_items f g [] h = refl
-same_items f g (x ∷ xs) h = let first = h x in let rest = same_items f g xs h in cc
-
--- the pieces of one more element
-pub last_item : {X : Type 0} (x y : X) (k : ℕ) → slice_get (x ∷ []) k ≡ Some y → (k ≡ 0) × (x ≡ y)
-last_item x y zero e = (refl, (let q : x ≡ y = cc in q))
-last_item x y (suc k) e = absurd (cc)
-
-pub only_one : (g e k : ℕ) → slice_get (g ∷ []) k ≡ Some e → g ≡ e
-only_one g e zero at = cc
-only_one g e (suc k) at = absurd (cc)
-
-pub take_map : (n : ℕ) (vs : List ℕ) → take n (map pos vs) ≡ map pos (take n vs)
-take_map zero vs = refl
-take_map (suc n) [] = refl
-take_map (suc n) (v ∷ vs) = ap (λ (ws : List ℤ). pos v ∷ ws) (take_map n vs)
-
 pub naturals_back : (xs : List ℕ) → map unsigned_abs (map pos xs) ≡ xs
 naturals_back [] = refl
 naturals_back (x ∷ xs) = ap (λ (ys : List ℕ). x ∷ ys) (naturals_back xs)
-
-pub drop_front : (n : ℕ) (xs ys : List ℤ) → length xs ≡ n → drop n (xs ++ ys) ≡ ys
-drop_front zero [] ys e = refl
-drop_front zero (x ∷ xs) ys e = absurd (omega arith)
-drop_front (suc n) [] ys e = absurd (omega arith)
-drop_front (suc n) (x ∷ xs) ys e = drop_front n xs ys (omega arith)
-
-pub map_append : (xs ys : List ℕ) → map pos (xs ++ ys) ≡ map pos xs ++ map pos ys
-map_append [] ys = refl
-map_append (x ∷ xs) ys = ap (λ (zs : List ℤ). pos x ∷ zs) (map_append xs ys)
 
 pub natural_at : (f : ℕ → ℤ) (xs : List ℕ) (j l n : ℕ) → slice_get xs j ≡ Some l → f l ≡ pos n → slice_index (map unsigned_abs (map f xs)) j ≡ n
 natural_at f [] j l n at e = absurd (cc)
@@ -795,10 +585,6 @@ not_empty (x ∷ xs) ys e = cc
 pub piece_written : (old new bytes left rest all : List ℕ) → new ≡ old ++ bytes → left ≡ bytes ++ rest → old ++ left ≡ all → new ++ rest ≡ all
 piece_written old new bytes left rest all written next so_far =
     ap (λ xs. xs ++ rest) written ∙ append_assoc old bytes rest ∙ ap (λ xs. old ++ xs) (sym next) ∙ so_far
-
--- nothing is left
-pub append_nothing : (old left all : List ℕ) → left ≡ [] → old ++ left ≡ all → old ≡ all
-append_nothing old left all none so_far = sym (append-nil old) ∙ ap (λ xs. old ++ xs) (sym none) ∙ so_far
 
 -- texts that begin otherwise differ
 pub heads_apart : {X : Type 0} (x y : ℕ) (xs ys : List ℕ) → x < y ⊎ y < x → x ∷ xs ≡ y ∷ ys → X

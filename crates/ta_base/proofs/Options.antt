@@ -1,5 +1,6 @@
 -- options and results
-use Rattle.ta_base.proofs.Common.{Result, IfOk, Ok, Err, Option, ℕ, IfNone, None, Some, IfSome, ℤ, ◌≡◌, SomeIff, ◌∙◌, ◌⊎◌, inl, refl, inr, ◌<◌, IsSomeAnd, sym, is_some, false, true≢false, option_map, arith, suc, Bool, cond, true, zero, List, [], ◌∷◌, ◌++◌, slice_get, same_Some}
+use Rattle.ta_base.proofs.Common.{Result, IfOk, Ok, Err, Option, ℕ, IfNone, None, Some, IfSome, ℤ, ◌≡◌, SomeIff, ◌∙◌, ◌⊎◌, inl, refl, inr, ◌<◌, IsSomeAnd, is_some, false, true≢false, option_map, arith, suc, Bool, cond, true, List, [], ◌∷◌, ◌++◌, slice_get, same_Some, none-some}
+use Rattle.ta_base.proofs.Lists.{push_cases}
 
 pub if_ok_then : {T E A B : Type 0} (r : Result T E) → (A → B) → IfOk r (λ x. A) → IfOk r (λ x. B)
 if_ok_then (Ok x) f p = f p
@@ -9,10 +10,6 @@ pub none_weaker : {P Q : Type 0} (first : Option ℕ) → (P → Q) → IfNone f
 none_weaker None f h = f h
 none_weaker (Some k) f h = h
 
-pub some_weaker : {P Q : Type 0} (first : Option ℕ) → (P → Q) → IfSome first (λ k. P) → IfSome first (λ k. Q)
-some_weaker None f h = h
-some_weaker (Some k) f h = f h
-
 pub SomeIff-same : (o : Option ℤ) (P Q : Type 0) (v w : ℤ) → (P → Q) → (Q → P) → v ≡ w → SomeIff o P v → SomeIff o Q w
 SomeIff-same None P Q v w f g e s = λ q. s (g q)
 SomeIff-same (Some x) P Q v w f g e s = (f s.0, s.1 ∙ e)
@@ -21,12 +18,6 @@ pub none_or_some : (o : Option ℕ) → (o ≡ None) ⊎ ((k : ℕ) × (o ≡ So
 none_or_some None = inl refl
 none_or_some (Some k) = inr (k, refl)
 
-pub not_both : (o : Option ℕ) (k : ℕ) → o ≡ Some k → o ≡ None → ⊥
-not_both o k e n = cc
-
-pub same_index : (o : Option ℕ) (j k : ℕ) → o ≡ Some j → o ≡ Some k → j ≡ k
-same_index o j k e f = cc
-
 pub some_below : (o : Option ℕ) (n : ℕ) → ((j : ℕ) → o ≡ Some j → j < n) → IfSome o (λ k. k < n)
 some_below None n h = tt
 some_below (Some j) n h = h j refl
@@ -34,10 +25,6 @@ some_below (Some j) n h = h j refl
 pub is_some-map : {A : Type 0} (o : Option A) (P Q : A → Type 0) → ((x : A) → P x → Q x) → IsSomeAnd o P → IsSomeAnd o Q
 is_some-map None P Q f p = p
 is_some-map (Some x) P Q f p = f x p
-
--- no pair waits where none does
-pub not_waiting : (o : Option (ℕ × ℕ)) (pair : ℕ × ℕ) → o ≡ None → o ≡ Some pair → ⊥
-not_waiting o pair none some = let e : None ≡ Some pair = sym none ∙ some in cc
 
 pub none_of : {X : Type 0} (o : Option X) → is_some o ≡ false → o ≡ None
 none_of None e = refl
@@ -51,7 +38,4 @@ below_if n p false (Some q) below e = let same = same_Some (suc q) p e in let lo
 
 -- an empty place behind others is none of those with a value
 pub none_behind : {X : Type 0} (xs : List (Option X)) (place : ℕ) (x : X) → slice_get (xs ++ None ∷ []) place ≡ Some (Some x) → slice_get xs place ≡ Some (Some x)
-none_behind [] zero x at = cc
-none_behind [] (suc place) x at = at
-none_behind (y ∷ ys) zero x at = at
-none_behind (y ∷ ys) (suc place) x at = none_behind ys place x at
+none_behind xs place x at = elim (push_cases xs None place (Some x) at) [ inl h ↦ h.1 | inr h ↦ absurd (none-some x h.1) ]

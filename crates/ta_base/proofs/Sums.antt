@@ -1,5 +1,5 @@
 -- sums over numbers and over lists
-use Rattle.ta_base.proofs.Common.{ℕ, ℤ, ◌<◌, ◌≡◌, zero, refl, suc, arith, ◌+ℤ◌, pos, ◌≢◌, inl, inr, cond, eqb, ◌*ℤ◌, ap, ◌∙◌, sym, ◌≤ℤ◌, Bool, List, count_by, ◌∷◌, ◌+◌, ◌≤◌, ◌-ℤ◌, ints, eqb_tells, nat_tests, zero-*ℤ, *ℤ-zero, sum_by-cons, cases_eq}
+use Rattle.ta_base.proofs.Common.{ℕ, ℤ, ◌<◌, ◌≡◌, zero, refl, suc, arith, ◌+ℤ◌, pos, ◌≢◌, inl, inr, cond, eqb, ◌*ℤ◌, ap, ◌∙◌, sym, ◌≤ℤ◌, ◌+◌, ◌≤◌, ◌-ℤ◌, ints, zero-*ℤ, *ℤ-zero, cases_eq, zero-add, add-zero, suc-add, Bool, List, count_by, ◌∷◌, sum_by-cons}
 use Rattle.ta_base.proofs.Integers.{range_sum, distributes, sum_between, single, single-elsewhere, single-at}
 use Rattle.ta_base.proofs.Naturals.{sum_below}
 
@@ -22,12 +22,15 @@ range_sum-zero f (suc n) h = omega (arith, ints, range_sum-zero f n (λ x b. h x
 pub range_sum-one : (f : ℕ → ℤ) (n a : ℕ) → a < n → ((x : ℕ) → x ≢ a → f x ≡ pos 0) → range_sum f n ≡ f a
 unfolding range_sum
 range_sum-one f zero a b h = absurd (omega arith)
-range_sum-one f (suc n) a b h = elim (eqb_tells n a) [ inl e ↦ rw (← e.1) (omega (arith, ints, range_sum-zero f n (λ x c. h x (omega arith)))) | inr ne ↦ omega (arith, ints, range_sum-one f n a (let p = ne.1 in omega arith) h, h n ne.1) ]
+range_sum-one f (suc n) a b h = elim (cases_eq n a) [
+  | inl e ↦ rw (← e) (omega (arith, ints, range_sum-zero f n (λ x c. h x (omega arith))))
+  | inr ne ↦ omega (arith, ints, range_sum-one f n a (omega arith) h, h n ne)
+]
 
 pub one_term : (point : ℕ → ℤ) (a : ℕ) (c : ℤ) (n : ℕ) → a < n → range_sum (λ x. cond (eqb a x) c (pos 0) *ℤ point x) n ≡ (c *ℤ point a)
+unfolding single
 one_term point a c n b =
-    range_sum-one _ n a b (λ x ne. ap (λ z. z *ℤ point x) (let off : cond (eqb a x) c (pos 0) ≡ pos 0 = grind (arith, nat_tests) in off) ∙ zero-*ℤ (point x))
-    ∙ ap (λ z. z *ℤ point a) (let on : cond (eqb a a) c (pos 0) ≡ c = grind (arith, nat_tests) in on)
+    range_sum-one _ n a b (λ x ne. ap (λ z. z *ℤ point x) (single-elsewhere a x c (λ e. ne (sym e))) ∙ zero-*ℤ (point x)) ∙ ap (λ z. z *ℤ point a) (single-at a a c refl)
 
 pub range_sum-times : (k : ℤ) (f : ℕ → ℤ) (n : ℕ) → range_sum (λ x. k *ℤ f x) n ≡ (k *ℤ range_sum f n)
 unfolding range_sum
@@ -58,6 +61,11 @@ unfolding sum_between
 sum-zero a zero = refl
 sum-zero a (suc n) = omega (arith, ints, sum-zero (suc a) n)
 
+pub sum-upto : (a n : ℕ) (f g : ℕ → ℤ) → ((w : ℕ) → w < a + n → f w ≡ g w) → sum_between a n f ≡ sum_between a n g
+unfolding sum_between
+sum-upto a zero f g same = refl
+sum-upto a (suc n) f g same = rw (same a (omega arith), sum-upto (suc a) n f g (λ w h. same w (omega arith))) refl
+
 sum-none : (a n u : ℕ) (y : ℤ) (f : ℕ → ℤ) → u < a → sum_between a n (λ w. single u y w *ℤ f w) ≡ pos 0
 unfolding sum_between
 sum-none a zero u y f h = refl
@@ -72,11 +80,6 @@ sum-single a (suc n) u y f h k =
       | inr later ↦ rw (single-elsewhere u a y later, sum-single (suc a) n u y f (omega arith) (omega arith)) (omega (arith, ints))
     ]
 
-pub sum-same : (a n : ℕ) (f g : ℕ → ℤ) → ((w : ℕ) → f w ≡ g w) → sum_between a n f ≡ sum_between a n g
-unfolding sum_between
-sum-same a zero f g same = refl
-sum-same a (suc n) f g same = rw (same a, sum-same (suc a) n f g same) refl
-
 pub sum-sub : (a n : ℕ) (f g : ℕ → ℤ) → sum_between a n (λ w. f w -ℤ g w) ≡ sum_between a n f -ℤ sum_between a n g
 unfolding sum_between
 sum-sub a zero f g = refl
@@ -84,25 +87,10 @@ sum-sub a (suc n) f g = omega (arith, ints, sum-sub (suc a) n f g)
 
 pub sum-split : (a n m : ℕ) (f : ℕ → ℤ) → sum_between a (n + m) f ≡ sum_between a n f +ℤ sum_between (a + n) m f
 unfolding sum_between
-sum-split a zero m f =
-    let e : 0 + m ≡ m = omega arith in
-    let g : a ≡ a + 0 = omega arith in
-    ap (λ (k : ℕ). sum_between a k f) e ∙ ap (λ (k : ℕ). sum_between k m f) g ∙ nothing (sum_between (a + 0) m f)
-  where
-    nothing : (z : ℤ) → z ≡ pos 0 +ℤ z
-    nothing z = omega (arith, ints)
+sum-split a zero m f = rw (zero-add m, add-zero a) (omega (arith, ints))
 sum-split a (suc n) m f =
-    let e : suc n + m ≡ suc (n + m) = omega arith in
-    let g : suc a + n ≡ a + suc n = omega arith in
-    ap (λ (k : ℕ). sum_between a k f) e ∙ ap (λ (z : ℤ). f a +ℤ z) (sum-split (suc a) n m f ∙ ap (λ (k : ℕ). sum_between (suc a) n f +ℤ sum_between k m f) g) ∙ regroup (f a) (sum_between (suc a) n f) (sum_between (a + suc n) m f)
-  where
-    regroup : (x y z : ℤ) → x +ℤ (y +ℤ z) ≡ x +ℤ y +ℤ z
-    regroup x y z = omega (arith, ints)
-
-pub sum-upto : (a n : ℕ) (f g : ℕ → ℤ) → ((w : ℕ) → w < a + n → f w ≡ g w) → sum_between a n f ≡ sum_between a n g
-unfolding sum_between
-sum-upto a zero f g same = refl
-sum-upto a (suc n) f g same = rw (same a (omega arith), sum-upto (suc a) n f g (λ w h. same w (omega arith))) refl
+    let moved : a + suc n ≡ suc a + n = omega arith in
+    rw (suc-add n m, moved) (omega (arith, ints, sum-split (suc a) n m f))
 
 pub sum-ones : (f : ℕ → ℕ) (n : ℕ) → ((e : ℕ) → e < n → f e ≡ 1) → sum_below f n ≡ n
 unfolding sum_below

@@ -1,5 +1,5 @@
 -- Sets of numbers as tests, as masks and as lists (this project's profile)
-use Rattle.std.specs.Prelude.{ℕ, zero, suc, ◌+◌, ◌/◌, ◌%◌, ◌^◌, ◌≡◌, ◌==◌, ◌⊎◌, Bool, true, false, ◌&&◌, List, [], ◌∷◌}
+use Rattle.std.specs.Prelude.{ℕ, zero, suc, ◌/◌, ◌%◌, ◌^◌, ◌≡◌, ◌==◌, ◌⊎◌, Bool, true, false, ◌&&◌, List, [], ◌∷◌}
 
 -- whether bit i of a mask is 1
 unfoldable pub has_bit : ℕ → ℕ → Bool
@@ -14,11 +14,6 @@ all_below (suc n) test = all_below n test && test n
 abbrev pub implies : Bool → Bool → Bool
 implies true b = b
 implies false b = true
-
--- n numbers from k on
-abbrev pub numbers_from : ℕ → ℕ → List ℕ
-numbers_from k zero = []
-numbers_from k (suc n) = k ∷ numbers_from (k + 1) n
 
 -- an item of a list
 abbrev pub In : {X : Type 0} → X → List X → Type 0

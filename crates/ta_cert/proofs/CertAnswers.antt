@@ -1,6 +1,5 @@
 -- A text is the lines of a certificate, or has a first fault at a line.
-use Rattle.ta_cert.proofs.Common.{◌≡◌, ◌≢◌, ◌⊎◌, ℕ, zero, suc, ◌<◌, ◌≤◌, Bool, true, false, List, [], ◌∷◌, ◌++◌, length, inl, inr, ⊎_elim, refl, sym, ap, ◌∙◌, append_assoc, length-append, arith, cases_lt, cases_eq, line_text, cert_lines_text, has_end, line_limit, AreLines, IsUnbroken, line_number, AreNoLine, Line}
-use Rattle.std.proofs.lemmas.List.{append-nil}
+use Rattle.ta_cert.proofs.Common.{◌≡◌, ◌≢◌, ◌⊎◌, ℕ, zero, suc, ◌<◌, ◌≤◌, Bool, true, false, List, [], ◌∷◌, ◌++◌, length, inl, inr, ⊎_elim, refl, sym, ap, ◌∙◌, append_assoc, length-append, arith, cases_lt, cases_eq, line_text, cert_lines_text, has_end, line_limit, AreLines, IsUnbroken, line_number, AreNoLine, Line, append-nil}
 use Rattle.ta_cert.specs.Answers.{HasLines, HasLineFault}
 use Rattle.ta_cert.specs.declared.fault.CertFault.TheVariants as fault
 use Rattle.ta_cert.proofs.Standing.{lines_text-append}

@@ -23,13 +23,6 @@ version_is : (os : List Order) → IsVersion (version_of os)
 version_is [] = inl refl
 version_is (o ∷ os) = inr refl
 
--- an order is its guards and its multipliers
-same_order : (o r : Order) → o.before ≡ r.before → o.after ≡ r.after → o.multipliers ≡ r.multipliers → o ≡ r
-same_order o r e f g =
-    ap (λ n. record o { before = n }) e
-    ∙ ap (λ n. record o { before = r.before; after = n }) f
-    ∙ ap (λ ts. record o { before = r.before; after = r.after; multipliers = ts }) g
-
 -- the orders end where no order stands
 orders_unique : (os rs : List Order) (ps qs : List Proof) → order_lines os ++ proof_lines ps ≡ order_lines rs ++ proof_lines qs → (os ≡ rs) × (proof_lines ps ≡ proof_lines qs)
 orders_unique [] [] ps qs e = (refl, e)
@@ -44,7 +37,7 @@ orders_unique (o ∷ os) (r ∷ rs) ps qs e =
     let tail : order_lines os ++ proof_lines ps ≡ order_lines rs ++ proof_lines qs = cc in
     let more = orders_unique os rs ps qs tail in
     let same = more.0 in
-    let first = same_order o r before after multipliers in
+    let first : o ≡ r = λ i. record { before = before i; after = after i; multipliers = multipliers i } in
     (cc, more.1)
 
 -- the nodes of a proof end where no node stands

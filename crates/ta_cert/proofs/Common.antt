@@ -2,11 +2,11 @@
 pub use Rattle.std.proofs.Common.{Bool, Err, List, MatchOption, MatchResult, None, Ok, Option, Result, Some, [], ap, append-nil, append_assoc, arith, codes, decimal, drop, eqb, eqb-true, false, false-eqb, get_or, inl, inr, is_err, length, length-append, lit<, lit≤, map, min, not, pos, refl, string_bytes, subst, suc, sym, take, take-append-drop, true, zero, ℕ, ℤ, ⊎_elim, ◌++◌, ◌+◌, ◌-◌, ◌<◌, ◌^◌, ◌||◌, ◌∙◌, ◌∷◌, ◌≡◌, ◌≢◌, ◌≤◌, ◌⊎◌}
 pub use Rattle.std.proofs.lemmas.Bool.{cases_eq, cases_lt, false_from_ne_true, false≢true, or_from, or_parts}
 pub use Rattle.std.proofs.lemmas.List.{append_cancel_left, at_drop_all, nil_from_length, take-append-le}
-pub use Rattle.std.proofs.lemmas.Result.{err_from_is_err_and}
+pub use Rattle.std.proofs.result.Match.{err_is}
 pub use Rattle.std.specs.Fmt.{signed_decimal}
 pub use Rattle.std.specs.List.{AllByRecursion}
 pub use Rattle.ta_base.proofs.DecimalDigits.{decimal_avoids, decimal_same, floor_same, guards_same, multiplier_number, number_is}
-pub use Rattle.ta_base.proofs.Lists.{append_last, avoids-append, avoids_known, differ, first_byte, floor_number, next_shorter, not_parted, whole_more, written_whole}
+pub use Rattle.ta_base.proofs.Lists.{append_last, append_nothing, avoids-append, avoids_known, differ, first_byte, floor_number, next_shorter, not_parted, whole_more}
 pub use Rattle.ta_base.specs.Bytes.{BeginsOtherwise, SplitAt}
 pub use Rattle.ta_base.specs.Decimals.{BeginsNoDigit, DecimalAt, NoDecimal, NoDecimalAt}
 pub use Rattle.ta_cert.specs.Certificates.{AreOrders, AreWritable, cert_lines, cert_text, head_text, nodes_text, order_lines, order_text, orders_text, proof_lines, proof_text, proofs_text, version_of}
@@ -21,3 +21,4 @@ pub use Rattle.ta_cert.specs.declared.line.Node.{Node}
 pub use Rattle.ta_cert.specs.declared.line.Order.{Order}
 pub use Rattle.ta_cert.specs.declared.line.Proof.{Proof}
 pub use Rattle.ta_cert.specs.declared.reader.Reader.{Reader}
+pub use mathlib.Core.Bool.{beq, not-eq-not, or-false}

@@ -1,8 +1,7 @@
 -- What a reader stands for, step by step.
-use Rattle.ta_cert.proofs.Common.{ℕ, ◌+◌, ◌-◌, ◌^◌, ◌<◌, ◌≤◌, ◌≡◌, min, true, false, not, eqb, ◌||◌, List, [], ◌∷◌, ◌++◌, length, take, get_or, Option, Some, None, refl, sym, ap, subst, ◌∙◌, inl, inr, append_assoc, append-nil, length-append, arith, Result, Ok, Err, is_err, false≢true, or_parts, take-append-le, SplitAt, avoids-append, whole_more, line_text, cert_lines_text, IsLine, SaysLine, is_header, is_end, has_end, line_limit, AreLater, AreLines, IsUnbroken, ReadsLines, line_number, IsMalformed, IsTrailing, IsRefusedText, IsRefusedBehind, numbered_lines, has_line, StandsAt, StandsFor, CompletesLines, FeedAnswers, EndsLine, FeedLineAnswers, IsFaultAt, IsFaultHere, TakeLineAnswers, AreTaken, TakeAnswers, Line, CertFault, Reader}
-use mathlib.Core.Bool.{beq}
+use Rattle.ta_cert.proofs.Common.{ℕ, ◌+◌, ◌-◌, ◌^◌, ◌<◌, ◌≤◌, ◌≡◌, min, true, false, not, eqb, ◌||◌, List, [], ◌∷◌, ◌++◌, length, take, get_or, Option, Some, None, refl, sym, ap, subst, ◌∙◌, inl, inr, append_assoc, append-nil, length-append, arith, Result, Ok, Err, is_err, false≢true, or_parts, take-append-le, SplitAt, avoids-append, whole_more, line_text, cert_lines_text, IsLine, SaysLine, is_header, is_end, has_end, line_limit, AreLater, AreLines, IsUnbroken, ReadsLines, line_number, IsMalformed, IsTrailing, IsRefusedText, IsRefusedBehind, numbered_lines, has_line, StandsAt, StandsFor, CompletesLines, FeedAnswers, EndsLine, FeedLineAnswers, IsFaultAt, IsFaultHere, TakeLineAnswers, AreTaken, TakeAnswers, Line, CertFault, Reader, beq, not-eq-not, or-false}
 use Rattle.std.proofs.Math.Seq.{take-length}
-use Rattle.ta_base.proofs.Booleans.{beq_true, or_false, other_header, place_is}
+use Rattle.ta_base.proofs.Booleans.{beq_true, place_is}
 use Rattle.ta_cert.specs.declared.reader.Ended.{Ended}
 use Rattle.ta_cert.specs.declared.line.Line.TheVariants as line
 use Rattle.ta_cert.specs.declared.line.Node.TheVariants as node
@@ -15,7 +14,7 @@ lines_text-append (l ∷ ls) ms = ap (λ xs. line_text l ++ (10 ∷ xs)) (lines_
 
 -- whether the end is among them, with one more line
 has_end_push : (ls : List Line) (l : Line) → has_end ls ≡ false → has_end (ls ++ (l ∷ [])) ≡ is_end l
-has_end_push [] l going_on = or_false (is_end l)
+has_end_push [] l going_on = or-false (is_end l)
 has_end_push (m ∷ ls) l going_on =
     let parts = or_parts (is_end m) (has_end ls) going_on in
     ap (λ b. b || has_end (ls ++ (l ∷ []))) parts.0 ∙ has_end_push ls l parts.1
@@ -28,12 +27,10 @@ has_line_push (m ∷ ls) l = refl
 -- the header alone is a text that begins so
 header_text : (l : Line) → is_header l ≡ eqb (get_or (line_text l) 0 0) 116
 header_text (line.Header version) = refl
-header_text (line.Order before after) = refl
-header_text (line.Pattern k) = refl
 header_text (line.Tree node.Extend) = refl
 header_text (line.Tree (node.Split unknown floor)) = refl
 header_text (line.Tree (node.Leaf ts)) = refl
-header_text line.End = refl
+header_text _ = refl
 
 -- one more line
 later_push : (ls : List Line) (l : Line) → AreLater ls → has_end ls ≡ false → IsLine l → length (line_text l) ≤ line_limit → is_header l ≡ false → AreLater (ls ++ (l ∷ []))
@@ -209,7 +206,7 @@ wrong_place old mid front l going_on keeps says place = record {
   refused = λ text ls at.
       let stands = keeps text ls at in
       let header = beq_true (is_header l) mid.begun place ∙ stands.begun in
-      subst (λ t. (m : IsMalformed t mid.number) × (m.ls ≡ ls)) (append_assoc text front (10 ∷ [])) (bad_line mid (text ++ front) ls stands (sym at.ended ∙ going_on) (λ m other is. other_header (is_header m) (has_line ls) (same_header mid.line l m says other ∙ header) is));
+      subst (λ t. (m : IsMalformed t mid.number) × (m.ls ≡ ls)) (append_assoc text front (10 ∷ [])) (bad_line mid (text ++ front) ls stands (sym at.ended ∙ going_on) (λ m other is. not-eq-not.1 (same_header mid.line l m says other ∙ header) is));
 }
 
 -- the number after one more line

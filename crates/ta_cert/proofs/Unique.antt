@@ -192,10 +192,7 @@ last_short [] l legal = header_short l legal.0.0 legal.0.1
 
     header_short : (l : Line) → IsLine l → is_header l ≡ true → length (line_text l) ≤ line_limit
     header_short (line.Header v) form e = version_short v form
-    header_short (line.Order j i) form e = absurd (false≢true e)
-    header_short (line.Pattern k) form e = absurd (false≢true e)
-    header_short (line.Tree n) form e = absurd (false≢true e)
-    header_short line.End form e = absurd (false≢true e)
+    header_short _ form e = absurd (false≢true e)
 last_short (m ∷ ls) l legal = later_short ls l legal.1
   where
     later_short : (ls : List Line) (l : Line) → AreLater (ls ++ (l ∷ [])) → length (line_text l) ≤ line_limit
@@ -218,11 +215,8 @@ end_later (m ∷ ls) l later = or_from (is_end m) (has_end ls) (false_from_ne_tr
 
 -- the header isn't the end
 header_end : (l : Line) → is_header l ≡ true → is_end l ≡ false
-header_end (line.Header v) e = refl
-header_end (line.Order j i) e = refl
-header_end (line.Pattern k) e = refl
-header_end (line.Tree n) e = refl
 header_end line.End e = absurd (false≢true e)
+header_end _ e = refl
 
 -- no line before the last of legal lines is the end
 end_last : (ls : List Line) (l : Line) → AreLines (ls ++ (l ∷ [])) → has_end ls ≡ false

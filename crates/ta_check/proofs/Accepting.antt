@@ -11,7 +11,7 @@
 -- so there is none, and the pattern is safe (`certificates_show`).
 -- The other way, the lines of a certificate follow each other, whoever wrote it (`lines_of`): the standing is computed
 -- from the lines alone, and only a number that leaves the range, or memory, can stop the checker before its end.
-use Rattle.ta_check.proofs.Common.{◌≡◌, inl, inr, ℕ, zero, suc, ◌≤◌, List, [], ◌∷◌, ◌++◌, map, length, reverse, Some, slice_get, arith, sym, ap, ◌∙◌, refl, subst, append-nil, codes, lit<, lit≤, false≢true, reverse-reverse, AllByRecursion, none_begun, File, Pattern, Distinct, Line, Node, Order, Tree, IsVersion, line_text, cert_lines_text, AreLater, IsComplete, line_limit, AreOrders, cert_lines, order_lines, pair_of, proof_lines, proofs_of, version_of, AreShort, Good, Search, weaker_proof, IsJudged, MayClaim, search_for, Claim, Safe, RestSafe, ComesLast, HasVersion, Subject, claiming, AllClaimsHold, AllSafe, AllUnsolved, Certificate, CertificateFor, CertificatesShow, ClaimsHold, MayClaimAll, MayHave, PatternUnsolved, ProvesClaim, ProvesPattern, ShowsPair, proof_number, Standing, OpensCertificate, first_standing, LeadThrough, MayFollow}
+use Rattle.ta_check.proofs.Common.{◌≡◌, inl, inr, ℕ, zero, suc, ◌≤◌, List, [], ◌∷◌, ◌++◌, map, length, reverse, Some, slice_get, arith, sym, ap, ◌∙◌, refl, subst, append-nil, codes, lit<, lit≤, false≢true, reverse-reverse, AllByRecursion, File, Pattern, Distinct, Line, Node, Order, Tree, IsVersion, line_text, cert_lines_text, AreLater, IsComplete, line_limit, AreOrders, cert_lines, order_lines, pair_of, proof_lines, proofs_of, version_of, AreShort, Good, Search, weaker_proof, IsJudged, MayClaim, search_for, Claim, Safe, RestSafe, ComesLast, HasVersion, Subject, claiming, AllClaimsHold, AllSafe, AllUnsolved, Certificate, CertificateFor, CertificatesShow, ClaimsHold, MayClaimAll, MayHave, PatternUnsolved, ProvesClaim, ProvesPattern, ShowsPair, proof_number, Standing, OpensCertificate, first_standing, LeadThrough, MayFollow, In, each_all}
 use Rattle.std.proofs.lemmas.Fmt.{decimal_digit}
 use Rattle.ta_rest.proofs.Resting.{no_pairs_good}
 use Rattle.ta_automaton.specs.Runs.{InScope, LoopsPure}
@@ -182,8 +182,8 @@ certificate_of subject text (line.Header version ∷ ls) s complete lead =
 
 -- the lines behind the first one lead to the end
 lead_all : (subject : Subject) (orders : List Order) (proofs : List (ℕ × List Tree)) → Good subject.file.automaton (map pair_of orders) → AllByRecursion (ShowsPair subject.file.automaton) orders → AllByRecursion (ProvesClaim subject (map pair_of orders)) proofs → Distinct (map proof_number proofs) → (after : Standing) × LeadThrough subject (standing (version_of orders) [] [] []) (order_lines orders ++ proof_lines (proofs_of proofs)) after
-lead_all subject [] proofs good shown prove distinct = lead_proofs subject 1 [] proofs [] (λ two. let e : 1 ≡ 2 = two in absurd (omega arith)) prove distinct (none_begun (map proof_number proofs))
-lead_all subject (o ∷ os) proofs good shown prove distinct = lead_orders subject [] (o ∷ os) (proof_lines (proofs_of proofs)) good shown (lead_proofs subject 2 (map pair_of (o ∷ os)) proofs [] (λ two empty. cc) prove distinct (none_begun (map proof_number proofs)))
+lead_all subject [] proofs good shown prove distinct = lead_proofs subject 1 [] proofs [] (λ two. let e : 1 ≡ 2 = two in absurd (omega arith)) prove distinct (each_all (λ (k : ℕ). In k [] → ⊥) (map proof_number proofs) (λ k is. is))
+lead_all subject (o ∷ os) proofs good shown prove distinct = lead_orders subject [] (o ∷ os) (proof_lines (proofs_of proofs)) good shown (lead_proofs subject 2 (map pair_of (o ∷ os)) proofs [] (λ two empty. cc) prove distinct (each_all (λ (k : ℕ). In k [] → ⊥) (map proof_number proofs) (λ k is. is)))
 
 -- pairs that a certificate may have are such pairs, and so is their version
 pub have_orders : (claim : Claim) (orders : List Order) → MayHave claim orders → AreOrders orders

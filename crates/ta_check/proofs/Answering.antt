@@ -1,7 +1,6 @@
 -- what the judge's answer excludes and proves
-use Rattle.ta_check.proofs.Common.{ℕ, ◌≡◌, ◌≢◌, ◌⊎◌, inl, inr, false, List, [], ◌++◌, Result, Ok, Err, IfOk, IfErr, IsErrOf, is_err, refl, sym, ap, ◌∙◌, subst, false≢true, CertFault, IsErrOrMemory, Reader, reads_malformed, reads_trailing, Subject, Accepted, CertificateFor, MayClaimAll, Position, StandBehind, CheckerStandsFor, IsSoundChecker, CheckerFeedAnswers, IsExactFeed, CheckerFinishAnswers, IsExactCheck, subject_of, TakenTo, LineAtFault, IsFirstFaultFor, IsLastingFor}
+use Rattle.ta_check.proofs.Common.{ℕ, ◌≡◌, ◌≢◌, ◌⊎◌, inl, inr, false, List, [], ◌++◌, Result, Ok, Err, IfOk, IfErr, IsErrOf, is_err, refl, sym, ap, ◌∙◌, subst, false≢true, CertFault, IsErrOrMemory, Reader, reads_malformed, reads_trailing, Subject, Accepted, CertificateFor, MayClaimAll, Position, StandBehind, CheckerStandsFor, IsSoundChecker, CheckerFeedAnswers, IsExactFeed, CheckerFinishAnswers, IsExactCheck, subject_of, TakenTo, LineAtFault, IsFirstFaultFor, IsLastingFor, FinishAnswers as ReaderFinished}
 use Rattle.ta_cert.specs.declared.fault.CertFault.TheVariants as fault
-use Rattle.ta_cert.specs.Streams.{FinishAnswers as ReaderFinished}
 use Rattle.ta_check.specs.declared.checker.Checker.{Checker}
 use Rattle.ta_check.proofs.OneFault.{one_fault}
 use Rattle.ta_check.proofs.Refusing.{no_certificate}

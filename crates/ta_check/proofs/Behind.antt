@@ -1,7 +1,7 @@
 -- lines behind the pairs of a certificate: its proofs
-use Rattle.ta_check.proofs.Common.{◌≡◌, inl, inr, ℕ, ◌<◌, ◌^◌, true, List, [], ◌∷◌, ◌++◌, map, reverse, None, Some, sym, ap, ◌∙◌, refl, subst, AllByRecursion, false≢true, slice_get_within, older_new, others, still_new, reverse_first, some_at, not_waiting, Pattern, Distinct, In, Line, Node, Tree, all_preorder, IsNode, has_end, AreLater, AreWritable, proof_lines, proofs_of, Pending, Search, all_starts, parts, RefutedInOrder, in_order, IsJudged, search_for, Subject, search_at, ProvesClaim, proof_number, Standing, AtWord, NothingIsLeft, BeginsProof, Stands, EndsCertificate, LeadThrough}
+use Rattle.ta_check.proofs.Common.{◌≡◌, inl, inr, ℕ, ◌<◌, ◌^◌, true, List, [], ◌∷◌, ◌++◌, map, reverse, None, Some, sym, ap, ◌∙◌, refl, subst, AllByRecursion, false≢true, slice_get_within, older_new, others, still_new, some_at, Distinct, In, Line, Node, Tree, all_preorder, IsNode, has_end, AreLater, AreWritable, proof_lines, proofs_of, Pending, Search, all_starts, parts, RefutedInOrder, in_order, IsJudged, search_for, Subject, search_at, ProvesClaim, proof_number, Standing, AtWord, NothingIsLeft, BeginsProof, Stands, EndsCertificate, LeadThrough, reverse_onto, none-some, claim_roots}
 use Rattle.ta_cert.specs.declared.line.Line.TheVariants as line
-use Rattle.ta_check.proofs.Searches.{same_roots, searched, search_named}
+use Rattle.ta_check.proofs.Searches.{searched, search_named}
 
 -- where a certificate stands where no pair waits
 abbrev pub standing : ℕ → List (ℕ × ℕ) → List ℕ → List Pending → Standing
@@ -74,7 +74,7 @@ behind_pattern subject s number between ls after form begins b =
     let found = some_at subject.file.patterns number begins.exists in
     let search = search_for subject.claim subject.file.automaton found.0 s.pairs in
     let named = search_named subject s.pairs number found.0 found.1 in
-    let starts = same_roots subject.claim subject.file.automaton found.0 s.pairs in
+    let starts = claim_roots subject.claim subject.file.automaton found.0 s.pairs in
     let trees = (in_order IsJudged search rest.nodes).0 (subst (λ (ws : List Pending). RefutedInOrder search (IsJudged search) ws rest.nodes) (sym starts) (rest.refute number s.begun search refl named)) in
     record {
       nodes = [];
@@ -85,7 +85,7 @@ behind_pattern subject s number between ls after form begins b =
       forms = tt;
       writable = (record { pattern = form; nodes = subst (AllByRecursion IsNode) (sym trees.2) rest.forms }, rest.writable);
       prove = (record { search = search; searched = named; proves = trees.1 }, rest.prove);
-      begun = rest.begun ∙ reverse_first number (map proof_number rest.proofs) s.begun;
+      begun = rest.begun ∙ sym (reverse_onto number (map proof_number rest.proofs) s.begun);
       new = (begins.new, older_new number s.begun (map proof_number rest.proofs) rest.new);
       distinct = (others number s.begun (map proof_number rest.proofs) rest.new, rest.distinct);
     }
@@ -107,7 +107,7 @@ behind subject s (line.Pattern number ∷ ls) after none some later ended (next,
     behind_pattern subject s number next ls after later.0 begins (behind subject next ls after (ap (λ (t : Standing). t.waiting) begins.leads ∙ none) (λ e. let gone : number ∷ s.begun ≡ [] = sym began ∙ e in cc) later.4 ended lead)
 behind subject s (line.Tree node ∷ ls) after none some later ended (next, inl stands, lead) =
     behind_node subject s node next ls after later.0 stands (behind subject next ls after (ap (λ (t : Standing). t.waiting) stands.leads ∙ none) (λ e. some (sym (ap (λ (t : Standing). t.begun) stands.leads) ∙ e)) later.4 ended lead)
-behind subject s (line.Tree node ∷ ls) after none some later ended (next, inr shows, lead) = absurd (not_waiting s.waiting shows.pair none shows.waits)
+behind subject s (line.Tree node ∷ ls) after none some later ended (next, inr shows, lead) = absurd (none-some shows.pair (sym none ∙ shows.waits))
 behind subject s (line.End ∷ ls) after none some later ended (next, ends, lead) = behind_last subject s next ls after later ends lead
 
 -- nodes that refute what is pending lead through it
@@ -132,7 +132,7 @@ lead_proofs subject version pairs (q ∷ qs) begun some prove distinct new =
     let found = searched subject pairs q.0 one.search one.searched in
     let starts = all_starts subject.file.automaton in
     let refuted = (in_order IsJudged one.search (all_preorder q.1)).1 (q.1, one.proves, refl) in
-    let same : one.search.roots ≡ starts = sym (ap (λ (p : Search). p.roots) found.is) ∙ same_roots subject.claim subject.file.automaton found.pattern pairs in
+    let same : one.search.roots ≡ starts = sym (ap (λ (p : Search). p.roots) found.is) ∙ claim_roots subject.claim subject.file.automaton found.pattern pairs in
     let rest = lead_proofs subject version pairs qs (q.0 ∷ begun) some prove.1 distinct.1 (still_new q.0 begun (map proof_number qs) distinct.0 new.1) in
     let through = lead_nodes subject version pairs one.search q.0 begun starts (all_preorder q.1) (proof_lines (proofs_of qs)) one.searched (subst (λ (ws : List Pending). RefutedInOrder one.search (IsJudged one.search) ws (all_preorder q.1)) same refuted) rest in
     let free : NothingIsLeft (standing version pairs begun []) = record { none = refl; some = some; done = refl } in

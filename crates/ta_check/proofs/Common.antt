@@ -1,19 +1,19 @@
 -- The names that the proofs of this crate cite, passed on from one place. Declares nothing.
 pub use Rattle.std.proofs.Common.{Bool, Err, FitsSigned, IfErr, IfOk, IsErrOf, List, None, Ok, Option, Result, Some, [], ap, append-nil, append_assoc, arith, codes, cond, drop, false, get_or, inl, inr, is_err, length, length-drop, lit<, lit≤, map, nat_lt, neg_ℤ, of_z, pos, refl, reverse, rules, slice_get, subst, suc, sym, take, take-append-drop, to_z, true, unsigned_abs, zero, ℕ, ℤ, ◌*ℤ◌, ◌++◌, ◌+ℤ◌, ◌+◌, ◌-ℤ◌, ◌<ℤ◌, ◌<◌, ◌^◌, ◌∙◌, ◌∷◌, ◌≡◌, ◌≢◌, ◌≤ℤ◌, ◌≤◌, ◌⊎◌}
-pub use Rattle.std.proofs.lemmas.Bool.{cases_lt, false≢true, not-true}
+pub use Rattle.std.proofs.lemmas.Bool.{cases_lt, false_from_ne_true, false≢true, not-true, not_from_false}
 pub use Rattle.std.proofs.lemmas.Int.{fits_signed_from_abs, ints, to_z-of_z}
 pub use Rattle.std.proofs.lemmas.List.{reverse-append, reverse-reverse}
-pub use Rattle.std.proofs.lemmas.Option.{slice_get_cases, slice_get_within}
+pub use Rattle.std.proofs.lemmas.Option.{none-some, slice_get_cases, slice_get_within}
 pub use Rattle.std.proofs.lemmas.Result.{err_from_is_err_and}
 pub use Rattle.std.specs.Int.{w128}
 pub use Rattle.std.specs.List.{AllByRecursion}
 pub use Rattle.ta_automaton.specs.declared.automaton.Automaton.{Automaton}
 pub use Rattle.ta_automaton.specs.declared.file.File.{File}
 pub use Rattle.ta_automaton.specs.declared.pattern.Pattern.{Pattern}
-pub use Rattle.ta_base.proofs.Each.{apart_before, each_at_head, none_begun, older_new, others, still_new}
-pub use Rattle.ta_base.proofs.Lists.{first_byte, reverse_first, some_at}
+pub use Rattle.ta_base.proofs.Each.{apart_before, each_all, each_back, older_new, others, still_new}
+pub use Rattle.ta_base.proofs.Lists.{first_byte, reverse_onto, some_at}
 pub use Rattle.ta_base.proofs.Members.{In-left, In-right, in_append, known_first}
-pub use Rattle.ta_base.proofs.Options.{none_of, not_waiting}
+pub use Rattle.ta_base.proofs.Options.{none_of}
 pub use Rattle.ta_base.specs.Lists.{Distinct}
 pub use Rattle.ta_base.specs.Masks.{In}
 pub use Rattle.ta_cert.proofs.Standing.{legal_last, lines_text-append}
@@ -22,7 +22,7 @@ unfoldable pub use Rattle.ta_cert.proofs.Unique.{GoesOn, Stuck}
 pub use Rattle.ta_cert.specs.Certificates.{AreOrders, AreWritable, cert_lines, order_lines, pair_of, proof_lines, proofs_of, version_of}
 pub use Rattle.ta_cert.specs.Laws.{AreShort, IsErrOrMemory}
 pub use Rattle.ta_cert.specs.Lines.{ArePairs, IsLine, IsNode, IsVersion, cert_lines_text, has_end, line_text}
-pub use Rattle.ta_cert.specs.Streams.{AreLater, AreLines, AreNoLine, FeedLineAnswers, IsComplete, IsMalformed, IsRefusedBehind, IsTrailing, ReadsLines, StandsAt, line_limit, line_number}
+pub use Rattle.ta_cert.specs.Streams.{AreLater, AreLines, AreNoLine, FeedLineAnswers, FinishAnswers, IsComplete, IsMalformed, IsRefusedBehind, IsTrailing, ReadsLines, StandsAt, StandsFor, line_limit, line_number}
 pub use Rattle.ta_cert.specs.Tree.{Tree, all_preorder}
 pub use Rattle.ta_cert.specs.declared.fault.CertFault.{CertFault}
 pub use Rattle.ta_cert.specs.declared.line.Line.{Line}
@@ -39,6 +39,7 @@ pub use Rattle.ta_check.specs.Positions.{Between, InNewest, IsPositionAt, IsSome
 pub use Rattle.ta_check.specs.Subjects.{HasVersion, Subject, claiming, search_at, search_in}
 pub use Rattle.ta_check.specs.declared.accepted.Accepted.{Accepted}
 pub use Rattle.ta_check.specs.declared.position.Position.{Position}
+pub use Rattle.ta_claim.proofs.ClaimWords.{claim_roots}
 pub use Rattle.ta_claim.specs.Claims.{MayClaim, search_for}
 pub use Rattle.ta_claim.specs.Trees.{search_of_claim}
 pub use Rattle.ta_claim.specs.declared.claim.Claim.{Claim}

@@ -1,5 +1,5 @@
 -- Lines lead to one standing, and those that lead on are not at fault
-use Rattle.ta_check.proofs.Common.{◌≡◌, ◌⊎◌, inl, inr, ℕ, ◌<◌, ℤ, List, [], ◌∷◌, ◌++◌, length, false, None, Some, refl, sym, ap, subst, ◌∙◌, arith, false≢true, not_waiting, Line, Node, CertFault, IsShown, Pending, Search, parts, MayStand, leaf_back, LeafFault, no_fault, IsJudged, Subject, search_at, Standing, AtWord, ShowsWaiting, Stands, Leads, LeadThrough, AtSomeWord, IsMisplaced, IsNoLeaf, FirstLeafFault, LeafFails, PairFails, IsAtFault, check_stays}
+use Rattle.ta_check.proofs.Common.{◌≡◌, ◌⊎◌, inl, inr, ℕ, ◌<◌, ℤ, List, [], ◌∷◌, ◌++◌, length, false, None, Some, refl, sym, ap, subst, ◌∙◌, arith, false≢true, Line, Node, CertFault, IsShown, Pending, Search, parts, MayStand, leaf_back, LeafFault, no_fault, IsJudged, Subject, search_at, Standing, AtWord, ShowsWaiting, Stands, Leads, LeadThrough, AtSomeWord, IsMisplaced, IsNoLeaf, FirstLeafFault, LeafFails, PairFails, IsAtFault, check_stays, none-some}
 use Rattle.ta_cert.specs.declared.line.Line.TheVariants as line
 use Rattle.ta_cert.specs.declared.line.Node.TheVariants as node
 use Rattle.ta_cert.specs.declared.fault.CertFault.TheVariants as fault
@@ -46,8 +46,8 @@ leads_once subject s (line.Header version) x y a b = a.leads ∙ sym b.leads
 leads_once subject s (line.Order before later) x y a b = a.leads ∙ sym b.leads
 leads_once subject s (line.Pattern number) x y a b = a.leads ∙ sym b.leads
 leads_once subject s (line.Tree n) x y (inl a) (inl b) = stands_once subject s n x y a b
-leads_once subject s (line.Tree n) x y (inl a) (inr b) = absurd (not_waiting s.waiting b.pair a.at.none b.waits)
-leads_once subject s (line.Tree n) x y (inr a) (inl b) = absurd (not_waiting s.waiting a.pair b.at.none a.waits)
+leads_once subject s (line.Tree n) x y (inl a) (inr b) = absurd (none-some b.pair (sym a.at.none ∙ b.waits))
+leads_once subject s (line.Tree n) x y (inr a) (inl b) = absurd (none-some a.pair (sym b.at.none ∙ a.waits))
 leads_once subject s (line.Tree n) x y (inr a) (inr b) = shows_once subject s n x y a b
 leads_once subject s line.End x y a b = a.leads ∙ sym b.leads
 
@@ -74,7 +74,7 @@ may_stand subject s n after p w ws at stands =
 -- so does a node that leads on there
 may_lead : (subject : Subject) (s : Standing) (n : Node) (after : Standing) (p : Search) (w : Pending) (ws : List Pending) → AtWord subject s p w ws → Stands subject s n after ⊎ ShowsWaiting subject s n after → MayStand p (IsJudged p) w n
 may_lead subject s n after p w ws at (inl stands) = may_stand subject s n after p w ws at stands
-may_lead subject s n after p w ws at (inr shows) = absurd (not_waiting s.waiting shows.pair at.none shows.waits)
+may_lead subject s n after p w ws at (inr shows) = absurd (none-some shows.pair (sym at.none ∙ shows.waits))
 
 -- a line that leads on is not misplaced
 in_place : (subject : Subject) (s : Standing) (l : Line) (after : Standing) → IsMisplaced subject.claim s l → Leads subject s l after → ⊥
@@ -82,8 +82,8 @@ in_place subject s (line.Header version) after m leads = m leads.has
 in_place subject s (line.Order before later) after m leads = m leads.takes
 in_place subject s (line.Pattern number) after m leads = m leads.free
 in_place subject s (line.Tree n) after (inl idle) (inl stands) = let none : [] ≡ (stands.word ∷ stands.words) = sym idle.done ∙ stands.at.pending in cc
-in_place subject s (line.Tree n) after (inl idle) (inr shows) = not_waiting s.waiting shows.pair idle.none shows.waits
-in_place subject s (line.Tree n) after (inr (waits, none)) (inl stands) = not_waiting s.waiting waits.pair stands.at.none waits.waits
+in_place subject s (line.Tree n) after (inl idle) (inr shows) = none-some shows.pair (sym idle.none ∙ shows.waits)
+in_place subject s (line.Tree n) after (inr (waits, none)) (inl stands) = none-some waits.pair (sym stands.at.none ∙ waits.waits)
 in_place subject s (line.Tree n) after (inr (waits, none)) (inr shows) = let leaf : IsNoLeaf (node.Leaf shows.multipliers) = subst IsNoLeaf shows.is none in leaf
 in_place subject s line.End after m leads = m leads.free
 
@@ -99,7 +99,7 @@ leaf_leads subject s ts f after (inl at) leads =
       leaf_back at.search at.word wrong.system ts wrong.is judged.leaf,
       check_stays at.search at.word wrong.system ts wrong.is judged.in_range,
     )
-leaf_leads subject s ts f after (inr fails) (inl stands) = not_waiting s.waiting fails.pair stands.at.none fails.waits
+leaf_leads subject s ts f after (inr fails) (inl stands) = none-some fails.pair (sym stands.at.none ∙ fails.waits)
 leaf_leads subject s ts f after (inr fails) (inr shows) =
     let pair : shows.pair ≡ fails.pair = waits_once s shows.pair fails.pair shows.waits fails.waits in
     let same : shows.multipliers ≡ ts = sym (leaf_of_leaf ts shows.multipliers shows.is) in

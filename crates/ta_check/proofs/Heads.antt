@@ -1,5 +1,5 @@
 -- lines behind the first line of a certificate: its pairs with their leaves, and then its proofs
-use Rattle.ta_check.proofs.Common.{◌≡◌, inl, inr, ℕ, suc, ℤ, true, List, [], ◌∷◌, ◌++◌, map, None, Some, sym, ap, ◌∙◌, refl, subst, append_assoc, append-nil, false≢true, AllByRecursion, apart_before, each_at_head, In-left, In-right, not_waiting, Line, Node, Order, IsLine, IsNode, has_end, AreLater, AreOrders, order_lines, pair_of, Automaton, Good, IsPair, IsShown, MayJoin, leads_along, Subject, ShowsPair, Standing, NothingIsLeft, ShowsWaiting, TakesOrder, Waits, LeadThrough}
+use Rattle.ta_check.proofs.Common.{◌≡◌, inl, inr, ℕ, suc, ℤ, true, List, [], ◌∷◌, ◌++◌, map, None, Some, sym, ap, ◌∙◌, refl, subst, append_assoc, append-nil, false≢true, AllByRecursion, apart_before, In-left, In-right, Line, Node, Order, IsLine, IsNode, has_end, AreLater, AreOrders, order_lines, pair_of, Automaton, Good, IsPair, IsShown, MayJoin, leads_along, Subject, ShowsPair, Standing, NothingIsLeft, ShowsWaiting, TakesOrder, Waits, LeadThrough, none-some, each_back}
 use Rattle.ta_cert.specs.declared.line.Line.TheVariants as line
 use Rattle.ta_cert.specs.declared.line.Node.TheVariants as node
 use Rattle.ta_implied.proofs.Joining.{good_behind}
@@ -69,10 +69,10 @@ heads subject version pairs (line.Tree n ∷ ls) after later ended (next, inr sh
 heads subject version pairs (line.End ∷ ls) after later ended (next, ends, lead) = none_more subject version pairs (line.End ∷ ls) after ends.free (behind_last subject (standing version pairs [] []) next ls after later ends lead)
 heads subject version pairs (line.Order j i ∷ []) after later ended lead = absurd (false≢true ended)
 heads subject version pairs (line.Order j i ∷ line.Header v ∷ ls) after later ended lead = absurd (false≢true (sym later.4.2))
-heads subject version pairs (line.Order j i ∷ line.Order k l ∷ ls) after later ended (next, waits, (last, second, lead)) = absurd (not_waiting next.waiting (j, i) second.takes.none (ap (λ (t : Standing). t.waiting) waits.leads))
-heads subject version pairs (line.Order j i ∷ line.Pattern k ∷ ls) after later ended (next, waits, (last, second, lead)) = absurd (not_waiting next.waiting (j, i) second.free.none (ap (λ (t : Standing). t.waiting) waits.leads))
-heads subject version pairs (line.Order j i ∷ line.End ∷ ls) after later ended (next, waits, (last, second, lead)) = absurd (not_waiting next.waiting (j, i) second.free.none (ap (λ (t : Standing). t.waiting) waits.leads))
-heads subject version pairs (line.Order j i ∷ line.Tree n ∷ ls) after later ended (next, waits, (last, inl stands, lead)) = absurd (not_waiting next.waiting (j, i) stands.at.none (ap (λ (t : Standing). t.waiting) waits.leads))
+heads subject version pairs (line.Order j i ∷ line.Order k l ∷ ls) after later ended (next, waits, (last, second, lead)) = absurd (none-some (j, i) (sym second.takes.none ∙ (ap (λ (t : Standing). t.waiting) waits.leads)))
+heads subject version pairs (line.Order j i ∷ line.Pattern k ∷ ls) after later ended (next, waits, (last, second, lead)) = absurd (none-some (j, i) (sym second.free.none ∙ (ap (λ (t : Standing). t.waiting) waits.leads)))
+heads subject version pairs (line.Order j i ∷ line.End ∷ ls) after later ended (next, waits, (last, second, lead)) = absurd (none-some (j, i) (sym second.free.none ∙ (ap (λ (t : Standing). t.waiting) waits.leads)))
+heads subject version pairs (line.Order j i ∷ line.Tree n ∷ ls) after later ended (next, waits, (last, inl stands, lead)) = absurd (none-some (j, i) (sym stands.at.none ∙ (ap (λ (t : Standing). t.waiting) waits.leads)))
 heads subject version pairs (line.Order j i ∷ line.Tree n ∷ ls) after later ended (next, waits, (last, inr shows, lead)) =
     let at = shown_at subject version pairs (j, i) n next last waits.leads shows in
     one_order subject version pairs j i n ls after next shows.multipliers later.0 later.4.0 waits shows.is (subst (λ (q : ℕ × ℕ). IsShown subject.file.automaton q shows.multipliers) at.0 shows.shown)
@@ -80,7 +80,7 @@ heads subject version pairs (line.Order j i ∷ line.Tree n ∷ ls) after later 
 
 joins : (a : Automaton) (xs rest : List (ℕ × ℕ)) (pair : ℕ × ℕ) → Good a (xs ++ pair ∷ rest) → MayJoin a xs pair
 joins a xs rest pair good = record {
-  is = each_at_head (IsPair a) xs rest pair good.pairs_are;
+  is = (each_back (IsPair a) xs (pair ∷ rest) good.pairs_are).0;
   fresh = apart_before xs rest pair good.distinct;
   closes_none = λ more chain. good.acyclic (suc more) pair.0 (pair.1, In-right pair xs (pair ∷ rest) (inl refl), leads_along xs (xs ++ pair ∷ rest) (λ q there. In-left q xs (pair ∷ rest) there) more pair.1 pair.0 chain);
 }

@@ -1,5 +1,5 @@
 -- a position that takes a node
-use Rattle.ta_check.proofs.Common.{◌≡◌, ◌⊎◌, ◌<◌, length, slice_get, inl, inr, ℕ, ℤ, Bool, true, false, List, [], ◌∷◌, ◌++◌, reverse, Option, None, Some, Result, Ok, Err, sym, ap, ◌∙◌, subst, refl, slice_get_within, not_waiting, Pattern, Line, Node, CertFault, Element, Pending, Search, parts, MayStand, IsEncoding, Place, IsWord, here, Cursor, AllGoOn, AllWithin, IsAllWithin, here_at, here_first, here_is, later_words, LeafFault, search_for, Subject, Position, IsJudged, Standing, AtWord, Stands, AtSomeWord, FirstLeafFault, LeafFails, Between, InNewest, IsPositionAt, IsSomewhere, LeafTaken, SamePairs, LineAnswers, fault_at}
+use Rattle.ta_check.proofs.Common.{◌≡◌, ◌⊎◌, ◌<◌, length, slice_get, inl, inr, ℕ, ℤ, Bool, true, false, List, [], ◌∷◌, ◌++◌, reverse, Option, None, Some, Result, Ok, Err, sym, ap, ◌∙◌, subst, refl, slice_get_within, Pattern, Line, Node, CertFault, Element, Pending, Search, parts, MayStand, IsEncoding, Place, IsWord, here, Cursor, AllGoOn, AllWithin, IsAllWithin, here_at, here_first, here_is, later_words, LeafFault, search_for, Subject, Position, IsJudged, Standing, AtWord, Stands, AtSomeWord, FirstLeafFault, LeafFails, Between, InNewest, IsPositionAt, IsSomewhere, LeafTaken, SamePairs, LineAnswers, fault_at, none-some}
 use Rattle.ta_cert.specs.declared.line.Line.TheVariants as line
 use Rattle.ta_cert.specs.declared.line.Node.TheVariants as node
 use Rattle.ta_farkas.specs.declared.LeafFault.TheVariants as leaf
@@ -76,10 +76,12 @@ tree_within subject s number tree none current same (at, is) =
 pub tree_word : (subject : Subject) (s : Position) (number : ℕ) (tree : Search) → s.waiting ≡ None → s.current ≡ Some number → IsTree subject s number tree → IsSomewhere subject s → IsWord tree (here_at s.place)
 tree_word subject s number tree none current same somewhere = (tree_within subject s number tree none current same somewhere).1.within.word
 
--- what a tree answers of that word
-pub told_at : {X : Type 0} (f : Search → ℕ → List Element → X) (tree search : Search) (answer : X) (start there : ℕ) (word elements : List Element) → tree ≡ search → start ≡ there → word ≡ elements → answer ≡ f tree start (reverse word) → answer ≡ f search there (reverse elements)
-told_at f tree search answer start there word elements same starts words told =
-    told ∙ ap (λ (q : Search). f q start (reverse word)) same ∙ ap (λ (k : ℕ). f search k (reverse word)) starts ∙ ap (λ (es : List Element). f search there (reverse es)) words
+-- what a tree answers of the word of a cursor that was read
+pub told_at : {X : Type 0} (f : Search → ℕ → List Element → X) (tree search : Search) (answer : X) (start : ℕ) (word : List Element) (read also cursor : Cursor) → tree ≡ search → start ≡ read.start_mask → read ≡ cursor → word ≡ also.word → also ≡ cursor →
+    answer ≡ f tree start (reverse word) → answer ≡ f search cursor.start_mask (reverse cursor.word)
+told_at f tree search answer start word read also cursor same starts reads words reads_also told =
+    told ∙ ap (λ (q : Search). f q start (reverse word)) same ∙ ap (λ (k : ℕ). f search k (reverse word)) (starts ∙ ap (λ (c : Cursor). c.start_mask) reads)
+    ∙ ap (λ (es : List Element). f search cursor.start_mask (reverse es)) (words ∙ ap (λ (c : Cursor). c.word) reads_also)
 
 -- a place that went on within a tree did so within the search of that tree
 pub went_on : (tree search : Search) (old new : Place) (n : Node) (more : Bool) (words : List Pending) → tree ≡ search
@@ -134,7 +136,7 @@ went_at subject s at number p words older more head named newest proved current 
   version = head.version;
   pairs = head.pairs;
   waiting = head.waiting;
-  may = λ pair some. absurd (not_waiting at.waiting pair head.none some);
+  may = λ pair some. absurd (none-some pair (sym head.none ∙ some));
   begun = proved;
   place = placed words went;
 }

@@ -1,6 +1,5 @@
 -- a position that begins a proof
-use Rattle.ta_check.proofs.Common.{◌≡◌, inl, inr, ℕ, ◌<◌, List, [], ◌∷◌, ◌++◌, length, reverse, Some, slice_get, sym, ap, ◌∙◌, subst, refl, arith, reverse-append, slice_get_cases, In, not_waiting, Pattern, Automaton, Claim, Place, Search, all_starts, IsEncoding, AllWithin, search_for, Subject, Position, Standing, BeginsProof, NothingIsLeft, IsPositionAt}
-use Rattle.ta_check.proofs.Searches.{same_roots}
+use Rattle.ta_check.proofs.Common.{◌≡◌, inl, inr, ℕ, ◌<◌, List, [], ◌∷◌, ◌++◌, length, reverse, Some, slice_get, sym, ap, ◌∙◌, subst, refl, arith, reverse-append, slice_get_cases, In, Pattern, Automaton, Claim, Place, Search, all_starts, IsEncoding, AllWithin, search_for, Subject, Position, Standing, BeginsProof, NothingIsLeft, IsPositionAt, none-some, claim_roots}
 use Rattle.ta_check.proofs.JudgingHeads.{free_back}
 use Rattle.ta_check.proofs.JudgingNodes.{Head, SameHead, head_kept, head_of}
 
@@ -16,7 +15,7 @@ pub record Began (subject : Subject) (old : Position) (k : ℕ) (new : Position)
 pub first_of : (claim : Claim) (a : Automaton) (p : Pattern) (pairs : List (ℕ × ℕ)) (tree : Search) (place : Place) → tree ≡ search_for claim a p pairs → AllWithin tree place tree.roots → AllWithin (search_for claim a p pairs) place (all_starts a)
 first_of claim a p pairs tree place same within =
     let search = search_for claim a p pairs in
-    subst (AllWithin search place) (same_roots claim a p pairs) (subst (λ (q : Search). AllWithin q place q.roots) same within)
+    subst (AllWithin search place) (claim_roots claim a p pairs) (subst (λ (q : Search). AllWithin q place q.roots) same within)
 
 pattern_exists : (subject : Subject) (k : ℕ) → k < length subject.file.patterns → (p : Pattern) × (slice_get subject.file.patterns k ≡ Some p)
 pattern_exists subject k within = elim ((slice_get_cases subject.file.patterns k).1) [ inl found ↦ (found.0, found.2) | inr past ↦ absurd (let beyond = past.0 in omega arith) ]
@@ -29,7 +28,7 @@ began_at subject old new at k exists begun first began =
       version = head.version;
       pairs = head.pairs;
       waiting = head.waiting;
-      may = λ pair some. absurd (not_waiting at.waiting pair head.none some);
+      may = λ pair some. absurd (none-some pair (sym head.none ∙ some));
       begun = ap (λ ns. k ∷ ns) begun ∙ sym (reverse-append old.proved.items (k ∷ [])) ∙ ap reverse (sym began.proved);
       place = inr (record {
         number = k;
@@ -64,14 +63,14 @@ begins_none subject old new at k tree exists fresh is free same current proved s
     let after = record at { begun = k ∷ at.begun; pending = all_starts subject.file.automaton } in
     let head = head_kept old new at same (head_of subject old at (sym is.waiting ∙ free.none) is) in
     let starts : BeginsProof subject at k after = record { free = free; exists = exists; new = λ before. fresh (subst (In k) is.begun before); leads = refl } in
-    let empty = sym (same_roots subject.claim subject.file.automaton found.0 old.orders) ∙ sym (ap (λ (q : Search). q.roots) (search found.0 found.1)) ∙ none in (
+    let empty = sym (claim_roots subject.claim subject.file.automaton found.0 old.orders) ∙ sym (ap (λ (q : Search). q.roots) (search found.0 found.1)) ∙ none in (
       after,
       starts,
       record {
         version = head.version;
         pairs = head.pairs;
         waiting = head.waiting;
-        may = λ pair some. absurd (not_waiting at.waiting pair head.none some);
+        may = λ pair some. absurd (none-some pair (sym head.none ∙ some));
         begun = ap (λ ns. k ∷ ns) is.begun ∙ sym (reverse-append old.proved.items (k ∷ [])) ∙ ap reverse (sym proved);
         place = inl (record { current = current ∙ (free_back subject old at is free).nowhere; left = empty });
       },

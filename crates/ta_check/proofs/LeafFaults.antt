@@ -1,51 +1,39 @@
 -- A leaf has one first fault
-use Rattle.ta_check.proofs.Common.{◌≡◌, ℕ, ◌<◌, ◌≤◌, ◌⊎◌, List, cond, nat_lt, ℤ, pos, ◌≤ℤ◌, ◌<ℤ◌, slice_get, inl, inr, refl, sym, ap, subst, ◌∙◌, arith, cases_lt, ints, coefficient_in, constant_in, System, Automaton, FailsToShow, IsShown, no_fault, bounded_rows, SystemAt, coefficient_same, constant_same, rows_count, weighted_same, part_in, entry, column_sum, ColumnStays, row_at, FirstMissing, FineBefore, IsFirstFaultOfLeaf, LeafFault, RowNumber, Overflow, Positive, NotNegative, FirstLeafFault, stays_same}
-use Rattle.ta_check.proofs.PairSystems.{SameColumns, imply_columns}
-use Rattle.ta_encode.specs.Search.{Pending, Search}
-
--- systems of one word are the same column by column
-same_columns : (search : Search) (w : Pending) (s z : System) → SystemAt search w s → SystemAt search w z → SameColumns s z
-same_columns search w s z is other =
-    let ls = bounded_rows search w in
-    let unknowns : s.unknowns ≡ z.unknowns = is.unknowns ∙ sym other.unknowns in
-    record {
-      unknowns = unknowns;
-      rows = rows_count ls s.rows is.rows ∙ sym (rows_count ls z.rows other.rows);
-      entries = λ column k.
-          let here = slice_get s.rows k in
-          let there = slice_get z.rows k in
-          ap (λ n. cond (nat_lt column n) (coefficient_in column here) (constant_in here)) unknowns
-          ∙ ap (λ c. cond (nat_lt column z.unknowns) c (constant_in here)) (coefficient_same column ls s.rows k is.rows ∙ sym (coefficient_same column ls z.rows k other.rows))
-          ∙ ap (λ c. cond (nat_lt column z.unknowns) (coefficient_in column there) c) (constant_same ls s.rows k is.rows ∙ sym (constant_same ls z.rows k other.rows));
-    }
+use Rattle.ta_check.proofs.Common.{◌≡◌, ℕ, ◌<◌, ◌≤◌, ◌⊎◌, List, ℤ, pos, ◌≤ℤ◌, ◌<ℤ◌, inl, inr, refl, sym, ap, subst, ◌∙◌, arith, cases_lt, ints, System, Automaton, FailsToShow, IsShown, no_fault, weighted_same, part_in, entry, column_sum, ColumnStays, row_at, FirstMissing, FineBefore, IsFirstFaultOfLeaf, LeafFault, RowNumber, Overflow, Positive, NotNegative, FirstLeafFault, stays_same, Pending, Search}
+use Rattle.ta_base.proofs.Naturals.{neither_below}
+use Rattle.ta_encode.proofs.SameSystems.{same_numbers}
+use Rattle.ta_implied.proofs.PairNumbers.{pair_numbers}
+use Rattle.ta_linear.proofs.RowsAlike.{count_alike}
+use Rattle.ta_linear.specs.SameNumbers.{SameNumbers}
+use Rattle.ta_farkas.proofs.Alike.{entry_alike}
 
 -- the same sums
-same_sum : (s z : System) (ts : List (ℕ × ℤ)) (column : ℕ) → SameColumns s z → column_sum s ts column ≡ column_sum z ts column
-same_sum s z ts column same = weighted_same (part_in s.unknowns column) (part_in z.unknowns column) s.rows z.rows ts (same.entries column)
+same_sum : (s z : System) (ts : List (ℕ × ℤ)) (column : ℕ) → SameNumbers s z → column_sum s ts column ≡ column_sum z ts column
+same_sum s z ts column same = weighted_same (part_in s.unknowns column) (part_in z.unknowns column) s.rows z.rows ts (entry_alike s z same column)
 
 -- the same columns stay in range
-same_stay : (s z : System) (ts : List (ℕ × ℤ)) (column : ℕ) → SameColumns s z → ColumnStays s ts column → ColumnStays z ts column
-same_stay s z ts column same stays = stays_same (entry s column) (entry z column) (pos 0) ts (same.entries column) stays
+same_stay : (s z : System) (ts : List (ℕ × ℤ)) (column : ℕ) → SameNumbers s z → ColumnStays s ts column → ColumnStays z ts column
+same_stay s z ts column same stays = stays_same (entry s column) (entry z column) (pos 0) ts (entry_alike s z same column) stays
 
-same_leave : (s z : System) (ts : List (ℕ × ℤ)) (column : ℕ) → SameColumns s z → ¬ ColumnStays s ts column → ¬ ColumnStays z ts column
-same_leave s z ts column same leaves stays = leaves (stays_same (entry z column) (entry s column) (pos 0) ts (λ k. sym (same.entries column k)) stays)
+same_leave : (s z : System) (ts : List (ℕ × ℤ)) (column : ℕ) → SameNumbers s z → ¬ ColumnStays s ts column → ¬ ColumnStays z ts column
+same_leave s z ts column same leaves stays = leaves (stays_same (entry z column) (entry s column) (pos 0) ts (λ k. sym (entry_alike s z same column k)) stays)
 
 -- the same columns are fine
-same_fine : (s z : System) (ts : List (ℕ × ℤ)) (column : ℕ) → SameColumns s z → FineBefore s ts column → FineBefore z ts column
+same_fine : (s z : System) (ts : List (ℕ × ℤ)) (column : ℕ) → SameNumbers s z → FineBefore s ts column → FineBefore z ts column
 same_fine s z ts column same fine = record {
-  exist = λ i below. subst (λ n. row_at ts i < n) same.rows (fine.exist i below);
+  exist = λ i below. subst (λ n. row_at ts i < n) (count_alike s.rows z.rows same.rows) (fine.exist i below);
   in_range = λ c before. same_stay s z ts c same (fine.in_range c before);
   none_positive = λ c before. subst (λ x. x ≤ℤ pos 0) (same_sum s z ts c same) (fine.none_positive c before);
 }
 
 -- the same first fault
-same_fault : (s z : System) (ts : List (ℕ × ℤ)) (f : LeafFault) → SameColumns s z → IsFirstFaultOfLeaf s ts f → IsFirstFaultOfLeaf z ts f
+same_fault : (s z : System) (ts : List (ℕ × ℤ)) (f : LeafFault) → SameNumbers s z → IsFirstFaultOfLeaf s ts f → IsFirstFaultOfLeaf z ts f
 same_fault s z ts (RowNumber row) same first = record {
   at = first.at;
   below = first.below;
   is = first.is;
-  missing = subst (λ n. n ≤ row) same.rows first.missing;
-  first = λ j before. subst (λ n. row_at ts j < n) same.rows (first.first j before);
+  missing = subst (λ n. n ≤ row) (count_alike s.rows z.rows same.rows) first.missing;
+  first = λ j before. subst (λ n. row_at ts j < n) (count_alike s.rows z.rows same.rows) (first.first j before);
 }
 same_fault s z ts (Overflow column) same first = (subst (λ n. column ≤ n) same.unknowns first.0, same_fine s z ts column same first.1, same_leave s z ts column same first.2)
 same_fault s z ts (Positive unknown) same first = (subst (λ n. unknown < n) same.unknowns first.0, same_fine s z ts unknown same first.1, same_stay s z ts unknown same first.2, subst (λ x. pos 0 <ℤ x) (same_sum s z ts unknown same) first.3)
@@ -59,24 +47,15 @@ same_fault s z ts NotNegative same first = (
 missing_first : (s : System) (ts : List (ℕ × ℤ)) (row column : ℕ) → FirstMissing s ts row → FineBefore s ts column → ⊥
 missing_first s ts row column m fine =
     let exists = fine.exist m.at m.below in
-    let is = m.is in
-    let missing = m.missing in
     omega arith
 
 -- one row is the first missing one
 missing_once : (s : System) (ts : List (ℕ × ℤ)) (row other : ℕ) → FirstMissing s ts row → FirstMissing s ts other → row ≡ other
 missing_once s ts row other m o =
     let is = m.is in
-    let missing = m.missing in
     let is_other = o.is in
-    let missing_other = o.missing in
-    elim (cases_lt m.at o.at) [
-      | inl before ↦ let exists = o.first m.at before in absurd (omega arith)
-      | inr from ↦ elim (cases_lt o.at m.at) [
-        | inl before ↦ let exists = m.first o.at before in absurd (omega arith)
-        | inr to ↦ let same : m.at ≡ o.at = omega arith in sym is ∙ ap (row_at ts) same ∙ is_other
-      ]
-    ]
+    let same = neither_below m.at o.at (λ before. omega (arith, o.first m.at before)) (λ before. omega (arith, m.first o.at before)) in
+    sym is ∙ ap (row_at ts) same ∙ is_other
 
 -- a column that leaves the range or has a positive sum
 Bad : System → List (ℕ × ℤ) → ℕ → Type 0
@@ -90,14 +69,7 @@ none_bad s ts c d fine before (inr positive) = let none = fine.none_positive c b
 
 -- one column is the first bad one
 bad_once : (s : System) (ts : List (ℕ × ℤ)) (c d : ℕ) → FineBefore s ts c → FineBefore s ts d → Bad s ts c → Bad s ts d → c ≡ d
-bad_once s ts c d fine other bad worse =
-    elim (cases_lt c d) [
-      | inl before ↦ absurd (none_bad s ts c d other before bad)
-      | inr from ↦ elim (cases_lt d c) [
-        | inl before ↦ absurd (none_bad s ts d c fine before worse)
-        | inr to ↦ omega arith
-      ]
-    ]
+bad_once s ts c d fine other bad worse = neither_below c d (λ before. none_bad s ts c d other before bad) (λ before. none_bad s ts d c fine before worse)
 
 -- a column that leaves the range has no sum
 leaves_first : (s : System) (ts : List (ℕ × ℤ)) (c d : ℕ) → FineBefore s ts c → FineBefore s ts d → ¬ ColumnStays s ts c → ColumnStays s ts d → Bad s ts d → ⊥
@@ -134,14 +106,14 @@ fault_once s ts NotNegative NotNegative a b = refl
 
 -- and over a word
 pub leaf_fault_once : (search : Search) (w : Pending) (ts : List (ℕ × ℤ)) (f g : LeafFault) → FirstLeafFault search w ts f → FirstLeafFault search w ts g → f ≡ g
-leaf_fault_once search w ts f g this that = fault_once that.system ts f g (same_fault this.system that.system ts f (same_columns search w this.system that.system this.is that.is) this.first) that.first
+leaf_fault_once search w ts f g this that = fault_once that.system ts f g (same_fault this.system that.system ts f (same_numbers search w this.system that.system this.is that.is) this.first) that.first
 
 -- and over the system of a pair
 pub pair_fault_once : (a : Automaton) (pair : ℕ × ℕ) (ts : List (ℕ × ℤ)) (f g : LeafFault) → FailsToShow a pair ts f → FailsToShow a pair ts g → f ≡ g
 pair_fault_once a pair ts f g this that =
-    fault_once that.system ts f g (same_fault this.system that.system ts f (imply_columns a pair.0 pair.1 this.system that.system this.is that.is) this.first) that.first
+    fault_once that.system ts f g (same_fault this.system that.system ts f (pair_numbers a pair.0 pair.1 this.system that.system this.is that.is) this.first) that.first
 
 -- multipliers that show a pair don't fail
 pub shows_or_fails : (a : Automaton) (pair : ℕ × ℕ) (ts : List (ℕ × ℤ)) (f : LeafFault) → IsShown a pair ts → FailsToShow a pair ts f → ⊥
 shows_or_fails a pair ts f shown fails =
-    no_fault shown.system ts f (same_fault fails.system shown.system ts f (imply_columns a pair.0 pair.1 fails.system shown.system fails.is shown.is) fails.first) (shown.leaf, shown.stays)
+    no_fault shown.system ts f (same_fault fails.system shown.system ts f (pair_numbers a pair.0 pair.1 fails.system shown.system fails.is shown.is) fails.first) (shown.leaf, shown.stays)

@@ -1,6 +1,5 @@
 -- the judge of a leaf
-use Rattle.ta_check.proofs.Common.{◌≡◌, ℕ, zero, suc, ◌+◌, ◌<◌, ◌≤◌, ◌^◌, ℤ, pos, unsigned_abs, List, [], ◌∷◌, ◌++◌, length, take, get_or, to_z, of_z, FitsSigned, ap, ◌∙◌, arith, w128, ints, to_z-of_z, fits_signed_from_abs, AreMultipliers, LeafOf, System, ArePairs, SystemAt, leaf_of, CheckStays, renumbered, IsJudged, leaf_stays}
-use Rattle.ta_encode.specs.Search.{Pending, Search}
+use Rattle.ta_check.proofs.Common.{◌≡◌, ℕ, zero, suc, ◌+◌, ◌<◌, ◌≤◌, ◌^◌, ℤ, pos, unsigned_abs, List, [], ◌∷◌, ◌++◌, length, take, get_or, to_z, of_z, FitsSigned, ap, ◌∙◌, arith, w128, ints, to_z-of_z, fits_signed_from_abs, AreMultipliers, LeafOf, System, ArePairs, SystemAt, leaf_of, CheckStays, renumbered, IsJudged, leaf_stays, Pending, Search}
 
 -- pairs of a line are multipliers
 pub pairs_rise : (low : ℕ) (ts : List (ℕ × ℤ)) → ArePairs low ts → AreMultipliers low (2 ^ 32) ts

@@ -6,7 +6,6 @@ mod Behind
 mod Heads
 pub mod Accepting
 mod Stopping
-mod PairSystems
 mod LeafFaults
 mod Reasons
 mod Refusing

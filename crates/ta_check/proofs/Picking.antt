@@ -1,11 +1,10 @@
 -- the rows that a leaf names, judged apart from the others
-use Rattle.ta_check.proofs.Common.{◌≡◌, ℕ, zero, suc, ◌+◌, ◌<◌, ◌≤◌, ◌^◌, ℤ, pos, ◌+ℤ◌, ◌*ℤ◌, ◌≤ℤ◌, ◌<ℤ◌, cond, nat_lt, List, [], ◌∷◌, ◌++◌, length, map, reverse, slice_get, Option, Some, refl, sym, ap, subst, ◌∙◌, arith, weighted, AreMultipliers, LeafOf, coefficient_in, constant_in, Row, System, ArePairs, LinearRow, bound_row, IsRowOf, AreRowsOf, SystemAt, bounded_rows, BoundsWithin, rows_count, whole_system, Cursor, IsWord, here, IsJudged, part_in, column_sum, ColumnStays, CheckStays, row_at, FirstMissing, FineBefore, IsFirstFaultOfLeaf, LeafFault, RowNumber, Overflow, Positive, NotNegative, FirstLeafFault, WithoutBounds, renumbered}
+use Rattle.ta_check.proofs.Common.{◌≡◌, ℕ, zero, suc, ◌+◌, ◌<◌, ◌≤◌, ◌^◌, ℤ, pos, ◌+ℤ◌, ◌*ℤ◌, ◌≤ℤ◌, ◌<ℤ◌, cond, nat_lt, List, [], ◌∷◌, ◌++◌, length, map, reverse, slice_get, Option, Some, refl, sym, ap, subst, ◌∙◌, arith, weighted, AreMultipliers, LeafOf, coefficient_in, constant_in, Row, System, ArePairs, LinearRow, bound_row, IsRowOf, AreRowsOf, SystemAt, bounded_rows, BoundsWithin, rows_count, whole_system, Cursor, IsWord, here, IsJudged, part_in, column_sum, ColumnStays, CheckStays, row_at, FirstMissing, FineBefore, IsFirstFaultOfLeaf, LeafFault, RowNumber, Overflow, Positive, NotNegative, FirstLeafFault, WithoutBounds, renumbered, Pending, Search}
 use Rattle.ta_linear.specs.Numbers.{InRange}
 use Rattle.ta_linear.specs.Sums.{StaysInRange}
 use Rattle.ta_encode.specs.Named.{row_numbered, rows_named, row_number_at, AreThere, FirstAbsent, NamesRows}
 use Rattle.ta_encode.specs.declared.meaning.Bound.{Bound}
 use Rattle.ta_encode.specs.declared.named.Named.TheVariants.{Rows, Absent}
-use Rattle.ta_encode.specs.Search.{Pending, Search}
 use Rattle.ta_check.proofs.Leaves.{judged}
 
 -- one list names rows of a system and another those of another, and what a function takes of them is the same one by one
@@ -150,11 +149,7 @@ picked_fine s z ts column p fine = record {
 -- no picked row is missing
 none_missing : (s z : System) (ts : List (ℕ × ℤ)) (row : ℕ) → Picked s z ts → FirstMissing z (renumbered 0 ts) row → ⊥
 none_missing s z ts row p m =
-    let count = p.count in
     let same = renumbered_count 0 ts in
-    let below = m.below in
-    let is = m.is in
-    let missing = m.missing in
     let at = renumbered_at 0 ts m.at (omega arith) in
     omega arith
 

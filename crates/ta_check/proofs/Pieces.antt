@@ -1,6 +1,5 @@
 -- a certificate that is judged piece by piece
-use Rattle.ta_check.proofs.Common.{ℕ, ◌<◌, ◌≤◌, ◌≡◌, ◌⊎◌, List, [], ◌∷◌, ◌++◌, length, take, drop, reverse, Option, Some, Result, Ok, Err, refl, sym, ap, subst, ◌∙◌, inl, inr, append_assoc, take-append-drop, arith, reverse-reverse, IsLine, cert_lines_text, IsComplete, ReadsLines, StandsAt, IsRefusedBehind, FeedLineAnswers, Line, CertFault, Reader, legal_last, reads_unique, Subject, Position, CertificateFor, StandBehind, IsAtFault, LineAtFault, IsFirstFaultFor, IsLastingFor, NextTaken, StandSomewhere, TakenTo, Standing, first_standing, Leads, LeadThrough, MayFollow, IsPositionAt, LineAnswers}
-use Rattle.ta_cert.specs.Streams.{StandsFor as ReaderStandsFor, FinishAnswers as ReaderFinished}
+use Rattle.ta_check.proofs.Common.{ℕ, ◌<◌, ◌≤◌, ◌≡◌, ◌⊎◌, List, [], ◌∷◌, ◌++◌, length, take, drop, reverse, Option, Some, Result, Ok, Err, refl, sym, ap, subst, ◌∙◌, inl, inr, append_assoc, take-append-drop, arith, reverse-reverse, IsLine, cert_lines_text, IsComplete, ReadsLines, StandsAt, IsRefusedBehind, FeedLineAnswers, Line, CertFault, Reader, legal_last, reads_unique, Subject, Position, CertificateFor, StandBehind, IsAtFault, LineAtFault, IsFirstFaultFor, IsLastingFor, NextTaken, StandSomewhere, TakenTo, Standing, first_standing, Leads, LeadThrough, MayFollow, IsPositionAt, LineAnswers, StandsFor as ReaderStandsFor, FinishAnswers as ReaderFinished}
 use Rattle.ta_cert.specs.declared.fault.CertFault.TheVariants as fault
 use Rattle.ta_cert.specs.declared.reader.Ended.{Ended}
 use Rattle.ta_check.proofs.Accepting.{certificate_of}

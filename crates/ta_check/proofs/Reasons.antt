@@ -1,5 +1,5 @@
 -- A line that can't follow has one fault
-use Rattle.ta_check.proofs.Common.{◌≡◌, ℕ, ℤ, ◌<◌, ◌≤◌, ◌⊎◌, List, [], ◌∷◌, length, Some, inl, inr, refl, sym, ap, subst, ◌∙◌, arith, In, known_first, not_waiting, Line, Node, CertFault, FailsToShow, Pending, Search, LeafFault, Subject, Standing, NothingIsLeft, TakesOrder, Leads, LeadThrough, IsMisplaced, IsNoLeaf, AtSomeWord, FirstLeafFault, LeafFails, IsAtFault, fault_at}
+use Rattle.ta_check.proofs.Common.{◌≡◌, ℕ, ℤ, ◌<◌, ◌≤◌, ◌⊎◌, List, [], ◌∷◌, length, Some, inl, inr, refl, sym, ap, subst, ◌∙◌, arith, In, known_first, Line, Node, CertFault, FailsToShow, Pending, Search, LeafFault, Subject, Standing, NothingIsLeft, TakesOrder, Leads, LeadThrough, IsMisplaced, IsNoLeaf, AtSomeWord, FirstLeafFault, LeafFails, IsAtFault, fault_at, none-some}
 use Rattle.ta_cert.specs.declared.line.Line.TheVariants as line
 use Rattle.ta_cert.specs.declared.line.Node.TheVariants as node
 use Rattle.ta_cert.specs.declared.fault.CertFault.TheVariants as fault
@@ -124,10 +124,10 @@ pattern_once subject s number k f g known (inr (is, old)) (inr (that, other)) = 
 -- a node that stands at a word or is the leaf of a pair isn't misplaced
 placed_word : (subject : Subject) (s : Standing) (n : Node) (number : ℕ) (f : CertFault) → IsMisplaced subject.claim s (line.Tree n) → AtSomeWord subject s (AtWordFault number n f) → ⊥
 placed_word subject s n number f (inl idle) at = let none : [] ≡ (at.word ∷ at.words) = sym idle.done ∙ at.at.pending in cc
-placed_word subject s n number f (inr (waits, none)) at = not_waiting s.waiting waits.pair at.at.none waits.waits
+placed_word subject s n number f (inr (waits, none)) at = none-some waits.pair (sym at.at.none ∙ waits.waits)
 
 placed_leaf : (subject : Subject) (s : Standing) (n : Node) (number : ℕ) (f : CertFault) → IsMisplaced subject.claim s (line.Tree n) → WaitFault subject s number n f → ⊥
-placed_leaf subject s n number f (inl idle) at = not_waiting s.waiting at.pair idle.none at.waits
+placed_leaf subject s n number f (inl idle) at = none-some at.pair (sym idle.none ∙ at.waits)
 placed_leaf subject s n number f (inr (waits, none)) at = (let leaf : IsNoLeaf (node.Leaf at.multipliers) = subst IsNoLeaf at.is none in leaf)
 
 reason_once : (subject : Subject) (s : Standing) (number : ℕ) (l : Line) (f g : CertFault) → KnowsBegun subject s → Reason subject s number l f → Reason subject s number l g → f ≡ g
@@ -147,8 +147,8 @@ reason_once subject s number (line.Tree n) f g known (inl (is, m)) (inr (inr at)
 reason_once subject s number (line.Tree n) f g known (inr (inl at)) (inl (is, m)) = absurd (placed_word subject s n number f m at)
 reason_once subject s number (line.Tree n) f g known (inr (inr at)) (inl (is, m)) = absurd (placed_leaf subject s n number f m at)
 reason_once subject s number (line.Tree n) f g known (inr (inl at)) (inr (inl there)) = word_fault_once subject s number n f g at there
-reason_once subject s number (line.Tree n) f g known (inr (inl at)) (inr (inr wait)) = absurd (not_waiting s.waiting wait.pair at.at.none wait.waits)
-reason_once subject s number (line.Tree n) f g known (inr (inr wait)) (inr (inl at)) = absurd (not_waiting s.waiting wait.pair at.at.none wait.waits)
+reason_once subject s number (line.Tree n) f g known (inr (inl at)) (inr (inr wait)) = absurd (none-some wait.pair (sym at.at.none ∙ wait.waits))
+reason_once subject s number (line.Tree n) f g known (inr (inr wait)) (inr (inl at)) = absurd (none-some wait.pair (sym at.at.none ∙ wait.waits))
 reason_once subject s number (line.Tree n) f g known (inr (inr wait)) (inr (inr other)) = wait_fault_once subject s number n f g wait other
 reason_once subject s number line.End f g known a b = a ∙ sym b
 

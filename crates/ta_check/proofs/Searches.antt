@@ -12,11 +12,6 @@ same_search Safe a p xs ys same =
     ap with (fun_ext (λ start. fun_ext (λ past. same_children a p xs ys start past same)))
 same_search RestSafe a p xs ys same = refl
 
--- each begins with the empty word of each start set
-pub same_roots : (claim : Claim) (a : Automaton) (p : Pattern) (pairs : List (ℕ × ℕ)) → (search_for claim a p pairs).roots ≡ all_starts a
-same_roots Safe a p pairs = refl
-same_roots RestSafe a p pairs = refl
-
 -- the pattern that a search is of
 pub record Searched (subject : Subject) (pairs : List (ℕ × ℕ)) (number : ℕ) (search : Search) : Type 0 where
   pub pattern : Pattern

@@ -141,9 +141,6 @@ IsLastingFor subject text f = IsFirstFaultFor subject text f
 abbrev pub IsFirstFault : File → List ℕ → CertFault → Type 0
 IsFirstFault file text f = IsFirstFaultFor (claiming Safe file) text f
 
-abbrev pub IsLasting : File → List ℕ → CertFault → Type 0
-IsLasting file text f = IsLastingFor (claiming Safe file) text f
-
 -- it is the first fault of each longer text
 abbrev pub LastingFaultsLast : Type 0
 LastingFaultsLast = (subject : Subject) (text more : List ℕ) (f : CertFault) → IsLastingFor subject text f → IsFirstFaultFor subject (text ++ more) f

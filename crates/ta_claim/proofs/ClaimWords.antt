@@ -1,14 +1,5 @@
 -- the words of a claim, whichever claim it is
-use Rattle.ta_claim.proofs.Common.{◌≡◌, ℕ, ◌≤◌, List, [], length, arith, refl, Automaton, Pattern, Element, LegalWord, is_complete, Comes, Pending, IsSmall}
-use Rattle.ta_linear.specs.declared.row.System.{System}
-use Rattle.ta_automaton.specs.Patterns.{PatternOver}
-use Rattle.ta_encode.specs.Code.{SystemAt}
-use Rattle.ta_encode.specs.PatternSearch.{all_starts}
-use Rattle.ta_encode.specs.Unknowns.{meanings}
-use Rattle.ta_cursor.proofs.RowCounts.{few_rows, few_unknowns, small_of}
-use Rattle.ta_claim.specs.Claims.{search_for}
-use Rattle.ta_claim.specs.declared.claim.Claim.{Claim}
-use Rattle.ta_claim.specs.declared.claim.Claim.TheVariants.{Safe, RestSafe}
+use Rattle.ta_claim.proofs.Common.{◌≡◌, ℕ, ◌≤◌, List, [], length, arith, refl, Automaton, Pattern, Element, LegalWord, is_complete, Comes, Pending, IsSmall, System, PatternOver, SystemAt, all_starts, meanings, few_rows, few_unknowns, small_of, search_for, Claim, Safe, RestSafe}
 use Rattle.ta_claim.proofs.PatternWords.{comes_legal}
 use Rattle.ta_claim.proofs.RestRows.{rest_comes, rest_few}
 

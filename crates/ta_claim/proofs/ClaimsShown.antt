@@ -1,11 +1,9 @@
 -- the proofs of a claim show it
-use Rattle.ta_claim.proofs.Common.{◌≡◌, ℕ, ◌+◌, length, slice_get, Some, File, Pattern}
+use Rattle.ta_claim.proofs.Common.{◌≡◌, ℕ, ◌+◌, length, slice_get, Some, File, Pattern, ProofsShowClaims, Safe, RestSafe}
 use Rattle.ta_automaton.proofs.Thresholds.{after_earlier, pattern_within}
 use Rattle.ta_encode.proofs.Theorems.{safety}
 use Rattle.ta_rest.specs.Rest.{ComeAfterEarlier}
 use Rattle.ta_rest.proofs.Resting.{refuted_rests}
-use Rattle.ta_claim.specs.Claims.{ProofsShowClaims}
-use Rattle.ta_claim.specs.declared.claim.Claim.TheVariants.{Safe, RestSafe}
 
 -- the events of a file's pattern come after events of lower numbers alone
 pub come_after : (file : File) (number : ℕ) (p : Pattern) → slice_get file.patterns number ≡ Some p → ComeAfterEarlier p

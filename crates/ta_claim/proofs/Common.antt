@@ -1,8 +1,11 @@
 -- The names that the proofs of this crate cite, passed on from one place. Declares nothing.
 pub use Rattle.std.proofs.Common.{Bool, Fits, List, None, Option, Some, [], ap, arith, bit_or, cond, false, inl, inr, length, length-append, lit<, map, not, refl, reverse, rules, slice_get, subst, suc, sym, true, w32, zero, ℕ, ◌%◌, ◌&&◌, ◌*◌, ◌++◌, ◌+◌, ◌-◌, ◌<◌, ◌^◌, ◌||◌, ◌∙◌, ◌∷◌, ◌≡◌, ◌≤◌}
-pub use Rattle.std.proofs.lemmas.Option.{slice_get-map, slice_get_within}
+pub use Rattle.std.proofs.lemmas.Option.{slice_get-map, slice_get_read, slice_get_within}
 pub use Rattle.std.proofs.lemmas.Result.{IfOk-weaker}
-pub use Rattle.std.specs.Prelude.{filter, if◌then◌else◌, ◌==◌}
+pub use Rattle.std.specs.List.{range_with_len}
+pub use Rattle.std.specs.Prelude.{filter, if◌then◌else◌, ◌==◌, ◌↔◌}
+pub use Rattle.ta_automaton.proofs.Numbered.{same_pattern}
+pub use Rattle.ta_automaton.specs.Patterns.{PatternOver}
 pub use Rattle.ta_automaton.specs.declared.automaton.Automaton.{Automaton}
 pub use Rattle.ta_automaton.specs.declared.file.File.{File}
 pub use Rattle.ta_automaton.specs.declared.pattern.Pattern.{Pattern}
@@ -10,19 +13,25 @@ pub use Rattle.ta_automaton.specs.declared.rule.Rule.{Rule}
 pub use Rattle.ta_base.proofs.Bits.{has_none, left_bit, standing_bit, with_bit}
 pub use Rattle.ta_base.proofs.Members.{in_at}
 pub use Rattle.ta_base.proofs.Naturals.{shifted}
-pub use Rattle.ta_base.proofs.Ranges.{numbers_end, slice_numbers}
-pub use Rattle.ta_base.specs.Masks.{In, has_bit, implies, numbers_from}
+pub use Rattle.ta_base.proofs.Ranges.{count_few, filter_numbers_same, numbers_end, slice_numbers}
+pub use Rattle.ta_base.specs.Masks.{In, has_bit, implies}
 unfoldable pub use Rattle.ta_base.specs.Masks.{all_below}
+pub use Rattle.ta_claim.specs.Claims.{ProofsShowClaims, search_for}
+pub use Rattle.ta_claim.specs.declared.claim.Claim.{Claim}
+pub use Rattle.ta_claim.specs.declared.claim.Claim.TheVariants.{RestSafe, Safe}
+pub use Rattle.ta_cursor.proofs.RowCounts.{few_rows, few_unknowns, guards_few, small_of}
+pub use Rattle.ta_cursor.specs.Cursors.{word_at}
 pub use Rattle.ta_cursor.specs.TreeCalls.{IsPushed, IsSmall, PushAnswers}
+pub use Rattle.ta_encode.specs.Code.{AreRowsOf, SystemAt}
 pub use Rattle.ta_encode.specs.PatternSearch.{all_starts, empty_word, pattern_search}
 pub use Rattle.ta_encode.specs.Search.{BeginsAtWord, Comes, Pending}
-unfoldable pub use Rattle.ta_rest.specs.RestSearch.{end_rows, rest_rows}
+pub use Rattle.ta_encode.specs.Unknowns.{meanings}
+pub use Rattle.ta_linear.specs.declared.row.System.{System}
 pub use Rattle.ta_rest.specs.RestSearch.{leads_out, must_be_left, rest_search, some_below}
-pub use Rattle.ta_cursor.specs.Cursors.{word_at}
+unfoldable pub use Rattle.ta_rest.specs.RestSearch.{end_rows, rest_rows}
 pub use Rattle.ta_words.proofs.Counts.{under_none}
 pub use Rattle.ta_words.proofs.Lists.{passed_length}
-pub use Rattle.ta_automaton.proofs.Numbered.{same_pattern}
-unfoldable pub use Rattle.ta_words.specs.Words.{children}
 pub use Rattle.ta_words.specs.Words.{LegalUnder, LegalWord, has_fallen, has_rise, is_complete, is_ready, is_standing, may_rise}
-pub use Rattle.ta_words.specs.declared.element.Element.TheVariants.{Event, Fall, Rise}
+unfoldable pub use Rattle.ta_words.specs.Words.{children}
 pub use Rattle.ta_words.specs.declared.element.Element.{Element}
+pub use Rattle.ta_words.specs.declared.element.Element.TheVariants.{Event, Fall, Rise}

@@ -1,8 +1,7 @@
 -- the words of a pattern
-use Rattle.ta_claim.proofs.Common.{◌≡◌, inl, inr, ℕ, zero, suc, ◌+◌, ◌-◌, ◌^◌, ◌<◌, ◌≤◌, List, [], ◌∷◌, ◌++◌, length, map, reverse, slice_get, Some, None, cond, Bool, true, false, arith, sym, ap, ◌∙◌, refl, subst, length-append, lit<, filter, if◌then◌else◌, slice_get-map, slice_get_within, In, numbers_from, numbers_end, slice_numbers, Automaton, Pattern, Element, Event, Rise, Fall, LegalWord, LegalUnder, children, is_complete, is_ready, is_standing, may_rise, under_none, passed_length, Pending, BeginsAtWord, Comes, all_starts, empty_word, pattern_search, IsPushed, PushAnswers}
+use Rattle.ta_claim.proofs.Common.{◌≡◌, inl, inr, ℕ, zero, suc, ◌+◌, ◌-◌, ◌^◌, ◌<◌, ◌≤◌, List, [], ◌∷◌, ◌++◌, length, map, reverse, slice_get, Some, None, cond, Bool, true, false, arith, sym, ap, ◌∙◌, refl, subst, length-append, lit<, filter, if◌then◌else◌, slice_get-map, slice_get_within, In, range_with_len, numbers_end, slice_numbers, Automaton, Pattern, Element, Event, Rise, Fall, LegalWord, LegalUnder, children, is_complete, is_ready, is_standing, may_rise, under_none, passed_length, Pending, BeginsAtWord, Comes, all_starts, empty_word, pattern_search, IsPushed, PushAnswers, PatternOver}
 use Rattle.std.proofs.Math.Nat.{pow-le-pow_right}
 use Rattle.ta_encode.proofs.Prefixes.{prefix_fewer}
-use Rattle.ta_automaton.specs.Patterns.{PatternOver}
 
 either_most : (b : Bool) (xs : List Element) → length xs ≤ 87 → length (cond b [] xs) ≤ 87
 either_most true xs h = omega arith
@@ -12,9 +11,9 @@ either_most false xs h = h
 children_most : (a : Automaton) (p : Pattern) (pairs : List (ℕ × ℕ)) (start : ℕ) (past : List Element) → PatternOver a p → length (children a p pairs start past) ≤ 87
 unfolding children
 children_most a p pairs start past over =
-    let events = map Event (filter (is_ready p past) (numbers_from 0 (length p.events))) in
-    let rises = map Rise (filter (may_rise pairs past) (numbers_from 0 (length a.rise))) in
-    let falls = map Fall (filter (is_standing a start past) (numbers_from 1 (2 ^ length a.fall - 1))) in
+    let events = map Event (filter (is_ready p past) (range_with_len 0 (length p.events))) in
+    let rises = map Rise (filter (may_rise pairs past) (range_with_len 0 (length a.rise))) in
+    let falls = map Fall (filter (is_standing a start past) (range_with_len 1 (2 ^ length a.fall - 1))) in
     let two : 0 < 2 = omega arith in
     let power : 2 ^ length a.fall ≤ 2 ^ 6 = pow-le-pow_right two a.shape.limits.fall_limit in
     let first = passed_length Event (is_ready p past) 0 (length p.events) in
@@ -32,18 +31,18 @@ child_below a p pairs start past k e over at = omega (arith, children_most a p p
 -- the word of a start set, by its number
 pub start_at : (a : Automaton) (number : ℕ) → number < 2 ^ length a.fall → slice_get (all_starts a) number ≡ Some (empty_word number)
 start_at a number h =
-    slice_get-map empty_word (numbers_from 0 (2 ^ length a.fall)) number
+    slice_get-map empty_word (range_with_len 0 (2 ^ length a.fall)) number
     ∙ rw (slice_numbers 0 (2 ^ length a.fall) number h) (ap (λ (k : ℕ). Some (empty_word k)) (let e : 0 + number ≡ number = omega arith in e))
 
 pub start_none : (a : Automaton) (number : ℕ) → 2 ^ length a.fall ≤ number → slice_get (all_starts a) number ≡ None
-start_none a number h = slice_get-map empty_word (numbers_from 0 (2 ^ length a.fall)) number ∙ rw (numbers_end 0 (2 ^ length a.fall) number h) refl
+start_none a number h = slice_get-map empty_word (range_with_len 0 (2 ^ length a.fall)) number ∙ rw (numbers_end 0 (2 ^ length a.fall) number h) refl
 
 -- what is known of a word with which the search of a pattern begins
 record IsStart (a : Automaton) (w : Pending) : Type 0 where
   pub start : w.start < 2 ^ length a.fall
   pub past : w.past ≡ []
 
-starts_are : (a : Automaton) (k n : ℕ) (w : Pending) → k + n ≤ 2 ^ length a.fall → In w (map empty_word (numbers_from k n)) → IsStart a w
+starts_are : (a : Automaton) (k n : ℕ) (w : Pending) → k + n ≤ 2 ^ length a.fall → In w (map empty_word (range_with_len k n)) → IsStart a w
 starts_are a k zero w h is = absurd is
 starts_are a k (suc n) w h (inl same) = record { start = subst (λ (v : Pending). v.start < 2 ^ length a.fall) (sym same) (let below : k < 2 ^ length a.fall = omega arith in below); past = ap (λ (v : Pending). v.past) same }
 starts_are a k (suc n) w h (inr is) = starts_are a (k + 1) n w (omega arith) is

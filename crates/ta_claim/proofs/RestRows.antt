@@ -1,16 +1,10 @@
 -- words of rest are words under no pairs, and the rows of their ends
-use Rattle.ta_claim.proofs.Common.{◌≡◌, inl, inr, ℕ, ◌≤◌, List, [], ◌∷◌, ◌++◌, length, map, cond, Bool, true, false, not, Option, Some, None, arith, sym, ap, ◌∙◌, subst, length-append, filter, Automaton, Pattern, has_bit, numbers_from, Element, LegalWord, has_rise, is_complete, pattern_search, Comes, Pending, PushAnswers, end_rows, must_be_left, rest_rows, rest_search}
+use Rattle.ta_claim.proofs.Common.{◌≡◌, inl, inr, ℕ, ◌≤◌, List, [], ◌∷◌, ◌++◌, length, map, cond, Bool, true, false, not, Option, Some, None, arith, sym, ap, ◌∙◌, subst, length-append, filter, Automaton, Pattern, has_bit, range_with_len, Element, LegalWord, has_rise, is_complete, pattern_search, Comes, Pending, PushAnswers, end_rows, must_be_left, rest_rows, rest_search, count_few, filter_numbers_same, System, AreRowsOf, SystemAt, meanings, PatternOver, few_rows, guards_few}
 use Rattle.std.proofs.lemmas.List.{length-map}
-use Rattle.ta_base.proofs.Ranges.{count_few, filter_numbers_same}
-use Rattle.ta_linear.specs.declared.row.System.{System}
 use Rattle.ta_encode.specs.declared.ending.WordEnd.{WordEnd}
-use Rattle.ta_encode.specs.Code.{AreRowsOf, SystemAt}
 use Rattle.ta_encode.specs.Ends.{EndedSystem, ended_rows}
 use Rattle.ta_encode.specs.System.{LinearRow, bound_row, counter_row, guard_rows, negated, opposite, word_rows}
-use Rattle.ta_encode.specs.Unknowns.{meanings}
 use Rattle.ta_encode.proofs.Ended.{guards_same}
-use Rattle.ta_automaton.specs.Patterns.{PatternOver}
-use Rattle.ta_cursor.proofs.RowCounts.{few_rows, guards_few}
 use Rattle.ta_claim.proofs.PatternWords.{comes_legal}
 use Rattle.ta_claim.specs.RestEnds.{IsRestEnd}
 
@@ -25,10 +19,6 @@ pub rest_pushed : (a : Automaton) (p : Pattern) (start : ℕ) (old new : List El
 rest_pushed a p start old new number false h = h
 rest_pushed a p start old new number true h = record { element = h.element; follows = h.follows; word = h.word; more = h.more; small = h.small }
 
--- a word to which it comes is legal
-pub rest_legal : (a : Automaton) (p : Pattern) (start : ℕ) (past : List Element) → Comes (rest_search a p) start past → LegalWord a p start past
-rest_legal a p start past c = (comes_legal a p [] start past (rest_comes a p start past c)).legal
-
 -- the rows that are asked for at a word's end are those of rest
 ended_are : (a : Automaton) (p : Pattern) (start : ℕ) (past : List Element) (end : Option WordEnd) → IsRestEnd a p start past end → ended_rows a (meanings a p start past) end ≡ cond (is_complete p past) (end_rows a p start past) []
 unfolding end_rows
@@ -38,7 +28,7 @@ ended_are a p start past (Some end) is =
     let row : ℕ → LinearRow = λ l. opposite (counter_row a ms l) in
     let guards = guards_same a ms (has_bit end.failing) (λ i. not (has_rise past i)) 0 (length a.rise) a.rise is.1.failing (omega arith) in
     let places = filter_numbers_same (λ l. not (has_bit end.inhabited l)) (must_be_left a p start past) 0 (length a.locations) (length a.locations) is.1.left (omega arith) in
-    ap (λ (rs : List LinearRow). map negated rs ++ map row (filter (λ l. not (has_bit end.inhabited l)) (numbers_from 0 (length a.locations)))) guards
+    ap (λ (rs : List LinearRow). map negated rs ++ map row (filter (λ l. not (has_bit end.inhabited l)) (range_with_len 0 (length a.locations)))) guards
     ∙ ap (λ (ls : List ℕ). map negated (guard_rows a ms (λ i. not (has_rise past i)) 0 a.rise) ++ map row ls) places
     ∙ sym (ap (λ (b : Bool). cond b (end_rows a p start past) []) is.0)
 
@@ -55,7 +45,7 @@ unfolding end_rows
 end_few a p start past =
     let ms = meanings a p start past in
     let guards = guard_rows a ms (λ i. not (has_rise past i)) 0 a.rise in
-    let places = filter (must_be_left a p start past) (numbers_from 0 (length a.locations)) in
+    let places = filter (must_be_left a p start past) (range_with_len 0 (length a.locations)) in
     let row : ℕ → LinearRow = λ l. opposite (counter_row a ms l) in
     let rises = a.shape.limits.rise_limit in
     let locations = a.shape.limits.locations_limit in

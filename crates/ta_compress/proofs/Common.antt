@@ -7,10 +7,8 @@ pub use Rattle.std.proofs.lemmas.Int.{ints}
 pub use Rattle.std.proofs.lemmas.List.{ext_get_or, get_or-set_other, get_or-set_same, get_or_past, length-map, length-replicate, length-set, map_push, take_all, take_more}
 pub use Rattle.std.proofs.lemmas.Option.{same_Some, slice_get-get_or, slice_get_within}
 pub use Rattle.std.proofs.lemmas.Result.{err_from_is_err_and, on_ok_weaker}
-pub use Rattle.std.specs.List.{AllByRecursion}
-pub use mathlib.Core.Path.{fun_ext}
-pub use mir.Syntax.{w128}
-pub use mir.Val.{of_z, to_z}
+pub use Rattle.std.proofs.result.Match.{err_is}
+pub use Rattle.std.specs.List.{AllByRecursion, range_with_len}
 pub use Rattle.ta_automaton.proofs.Moves.{move_at, one_if-natural, one_if-ne, shared_change-shared}
 pub use Rattle.ta_automaton.proofs.Onward.{EachRule, change_of, later_after}
 pub use Rattle.ta_automaton.proofs.Sums.{total-append}
@@ -24,10 +22,11 @@ pub use Rattle.ta_automaton.specs.declared.file.File.{File}
 pub use Rattle.ta_automaton.specs.declared.pattern.Pattern.{Pattern}
 pub use Rattle.ta_automaton.specs.declared.rule.Rule.{Rule}
 pub use Rattle.ta_base.proofs.Bits.{at_set, bit_below, set_at}
-pub use Rattle.ta_base.proofs.Each.{each_append, each_at, each_back, each_copies, each_front, each_point, each_take}
+pub use Rattle.ta_base.proofs.Each.{each_append, each_at, each_back, each_copies, each_front, each_get_or, each_take}
 pub use Rattle.ta_base.proofs.Integers.{abs_natural, distributes_right, minus_times, mul-ge-zero, natural_or_not, next_value, one_times, replicate_zeros}
-pub use Rattle.ta_base.proofs.Lists.{cut_at, filter_all, get_of_drop_at, read_same, replicate_cut, some_at, split_last, take_next}
-pub use Rattle.ta_base.proofs.Naturals.{capped, two_bits}
+pub use Rattle.ta_base.proofs.Lists.{cut_at, filter_all, get_of_drop, read_same, replicate_cut, some_at, split_last, take_next}
+pub use Rattle.ta_base.proofs.Naturals.{at_most, capped, neither_below, two_bits}
+pub use Rattle.ta_base.proofs.Ranges.{at_number}
 pub use Rattle.ta_compress.specs.Faults.{CompressFaultOf, Compressible, GuardsOutOfRangeAt, GuardsOutOfRangeFirstIn, GuardsOutOfRangeIn, GuardsStayed, IsShortRun, IsSmallReplay, ReplaysInRange}
 pub use Rattle.ta_compress.specs.Inside.Drafts.{Advances, Closes, CountsStep, DraftAt, DraftIsReady, DraftStops, GuardsOutOfRangeWithin, HasFallen, IsFirstDraft, LineKeeps, LineMay, MayRepeat, MayStep, OneMore, RepeatStops, RepeatsRule, Room, SameGuards, repeated, zeros}
 pub use Rattle.ta_compress.specs.Pieces.{AreCut, CompressOf, CutOf, CutPiece, DropsAt, IsPiece, IsShortened, Still, SwitchesAt, counts_of, lines_in, units}
@@ -47,7 +46,7 @@ pub use Rattle.ta_linear.specs.Values.{RowHolds, point_of, value_of}
 pub use Rattle.ta_linear.specs.declared.row.Row.{Row}
 pub use Rattle.ta_pattern.specs.Empty.{KeepsEmpty}
 pub use Rattle.ta_replay.proofs.Lines.{factors_sum-next, unit_steps-append}
-pub use Rattle.ta_replay.proofs.Showing.{lines-change, shown_first, total-replicate}
+pub use Rattle.ta_replay.proofs.Showing.{first_whole, lines-change, shown_first, total-replicate}
 pub use Rattle.ta_replay.specs.Fits.{Fits, LineFits}
 pub use Rattle.ta_replay.specs.Inside.Following.{FitsPattern}
 pub use Rattle.ta_replay.specs.Pieces.{OncePerRule, last_lines, piece_lines, pieces_lines, step_line, steps_count}
@@ -60,3 +59,6 @@ pub use Rattle.ta_replay.specs.declared.run.RunLine.{RunLine}
 pub use Rattle.ta_replay.specs.declared.run.RunLine.TheVariants.{Mark, Step}
 pub use Rattle.ta_scope.specs.Arranged.{AreRuleCounts, ArrangedOf, count_at}
 pub use Rattle.ta_scope.specs.Legal.{GuardsHold, LeadsToEnd, StepsWithin, fall_mask, rise_mask, value_at_end}
+pub use mathlib.Core.Path.{fun_ext}
+pub use mir.Syntax.{w128}
+pub use mir.Val.{of_z, to_z}

@@ -148,18 +148,7 @@ going_stops a r factor times line old now (Replay fault) less g s = by_fault fau
           t.1.leaves (subst (λ n. GuardsStay a (repeated a r now.config.values.items n)) (sym one) (subst (GuardsStay a) same stay));
     },
   )
-  by_fault (runs.Line l) t = absurd t
-  by_fault (runs.Name l) t = absurd t
-  by_fault (runs.Resilience l) t = absurd t
-  by_fault runs.Processes t = absurd t
-  by_fault (runs.Start l) t = absurd t
-  by_fault (runs.NotEmpty l) t = absurd t
-  by_fault (runs.Guard l guard) t = absurd t
-  by_fault (runs.Count l) t = absurd t
-  by_fault (runs.Event l) t = absurd t
-  by_fault (runs.MissingEvent l) t = absurd t
-  by_fault (runs.Order l) t = absurd t
-  by_fault runs.Memory t = absurd t
+  by_fault _ t = absurd t
 
 pub gone_room : (a : Automaton) (r factor times : ℕ) (old new : Draft) → times ≡ factor → Going a r factor times old new → (more : ℕ) → Room (factor + more) old.counts.items → Room more new.counts.items
 gone_room a r factor times old new all g more room = (let e : (factor - times) + more ≡ more = omega arith in subst (λ n. Room n new.counts.items) e (g.room more room))

@@ -1,5 +1,5 @@
 -- what can be compressed isn't refused
-use Rattle.ta_compress.proofs.Common.{◌≡◌, inl, inr, ℕ, ◌≤◌, ℤ, List, arith, sym, ◌∙◌, refl, subst, fun_ext, ints, cases_lt, point_of, Automaton, File, GuardsStay, StartsAt, Run, RunLine, Fits, ShowsPattern, shown_first, CompressFault, Replay, TooManySteps, Memory, IsSmallReplay, Compressible, CompressFaultOf, GuardsOutOfRangeAt, GuardsOutOfRangeIn, EndsAtLastMark}
+use Rattle.ta_compress.proofs.Common.{◌≡◌, inl, inr, ℕ, ◌≤◌, ℤ, List, arith, sym, ◌∙◌, refl, subst, fun_ext, ints, point_of, Automaton, File, GuardsStay, StartsAt, Run, RunLine, Fits, ShowsPattern, shown_first, CompressFault, Replay, TooManySteps, Memory, IsSmallReplay, Compressible, CompressFaultOf, GuardsOutOfRangeAt, GuardsOutOfRangeIn, EndsAtLastMark, at_most}
 use Rattle.ta_compress.proofs.Finishing.{shown_named}
 use Rattle.ta_compress.proofs.Shortening.{fits_named}
 
@@ -7,10 +7,7 @@ use Rattle.ta_compress.proofs.Shortening.{fits_named}
 one_last : (lines : List RunLine) (m n : ℕ) → EndsAtLastMark lines m → EndsAtLastMark lines n → n ≤ m
 one_last lines m n a b = elim b.ends [
   | inl none ↦ omega arith
-  | inr w ↦ elim (cases_lt m n) [
-    | inl less ↦ absurd (let e = w.2 in a.behind w.0 w.1 (omega arith) w.3)
-    | inr more ↦ omega arith
-  ]
+  | inr w ↦ at_most m n (λ less. let e = w.2 in a.behind w.0 w.1 (omega arith) w.3)
 ]
 
 -- the values that a run starts with are the same at each place

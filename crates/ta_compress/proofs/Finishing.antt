@@ -1,5 +1,5 @@
 -- the compressed run
-use Rattle.ta_compress.proofs.Common.{◌≡◌, inl, inr, ℕ, suc, ◌+◌, ◌<◌, ◌≤◌, ℤ, pos, negsuc, ◌≤ℤ◌, List, [], ◌∷◌, ◌++◌, length, map, take, arith, sym, ap, ◌∙◌, refl, subst, slice_get, get_or, Some, None, Option, append_assoc, length-append, ints, eqb_tells, length-map, same_Some, AllByRecursion, each_append, each_back, each_front, each_take, InRange, Automaton, File, Pattern, Config, InScope, total, times_in, pattern_within, naturals, Value, count_at, StepsWithin, Run, RunLine, Mark, Fits, LineFits, OncePerRule, step_line, last_lines, piece_lines, pieces_lines, steps_count, IsFirstConfig, Shows, ShowsPattern, marks_count, shown_first, IsSmallReplay, IsShortRun, unit, unfolded, value_after, CutPiece, CompressOf, AreCut, IsPiece, IsShortened, counts_of, lines_in, units, SameTale, LinesTell}
+use Rattle.ta_compress.proofs.Common.{◌≡◌, inl, inr, ℕ, suc, ◌+◌, ◌<◌, ◌≤◌, ℤ, pos, negsuc, ◌≤ℤ◌, List, [], ◌∷◌, ◌++◌, length, map, take, arith, sym, ap, ◌∙◌, refl, subst, slice_get, get_or, Some, None, Option, append_assoc, length-append, ints, eqb_tells, length-map, same_Some, AllByRecursion, each_append, each_back, each_front, each_take, InRange, Automaton, File, Pattern, Config, InScope, total, times_in, pattern_within, naturals, Value, count_at, StepsWithin, Run, RunLine, Mark, Fits, LineFits, OncePerRule, step_line, last_lines, piece_lines, pieces_lines, steps_count, IsFirstConfig, Shows, ShowsPattern, marks_count, shown_first, IsSmallReplay, IsShortRun, unit, unfolded, value_after, CutPiece, CompressOf, AreCut, IsPiece, IsShortened, counts_of, lines_in, units, SameTale, LinesTell, first_whole}
 use Rattle.std.proofs.lemmas.Nat.{mul-le}
 use Rattle.ta_scope.proofs.Arranging.{arranged_within}
 use Rattle.ta_replay.specs.Pieces as pieces
@@ -8,7 +8,7 @@ use Rattle.ta_replay.proofs.PieceLines.{are_short}
 use Rattle.ta_compress.proofs.Cutting.{pieces_retell}
 use Rattle.ta_compress.proofs.Few.{left_most, pieces_few}
 use Rattle.ta_compress.proofs.Rearranging.{Stands, count_in, counts_natural}
-use Rattle.ta_compress.proofs.Repeating.{first_whole, whole_run}
+use Rattle.ta_compress.proofs.Repeating.{whole_run}
 use Rattle.ta_compress.proofs.Retelling.{shows_same}
 use Rattle.ta_compress.proofs.Shortening.{fits_named}
 use Rattle.ta_compress.proofs.Telling.{cut_off, tell_unfolded, told}
@@ -37,7 +37,7 @@ twice file run short scope fits s c =
     let all = whole_run a p run s in
     let t = told a p s.first run.lines all.0 all.1 in
     let front = tell_unfolded a p s.first (take cut.n run.lines) t.0 (cut_off a p s.first run.lines cut.n t.0 cut.last_mark t.1) in
-    let stands : Stands a cut.first [] s.first = record { whole = first_whole a p run s; same = λ i. omega (arith, ints, shown_first a p run (fits_named file run fits) s cut.first cut.starts i) } in
+    let stands : Stands a cut.first [] s.first = record { whole = first_whole a s.first s.follows.initial; same = λ i. omega (arith, ints, shown_first a p run (fits_named file run fits) s cut.first cut.starts i) } in
     record {
       tale = t.0;
       told = t.1;
@@ -75,7 +75,7 @@ short_shows file run short scope fits admitted c =
     record {
       pattern = fits.pattern;
       named = named_short file run short fits c;
-      shows = shows_same file.automaton fits.pattern run short s (first_whole file.automaton fits.pattern run s) t.begins t.tale t.told t.short_told;
+      shows = shows_same file.automaton fits.pattern run short s (first_whole file.automaton s.first s.follows.initial) t.begins t.tale t.told t.short_told;
     }
 
 within : (a : Automaton) → InScope a → (piece : CutPiece) (lines rest : List RunLine) → (sh : IsShortened a piece lines rest) → StepsWithin a (counts_of a piece.body) sh.steps

@@ -1,13 +1,13 @@
 -- the arranged steps of a piece lead where the piece leads
-use Rattle.ta_compress.proofs.Common.{◌≡◌, inl, inr, ℕ, zero, suc, ◌+◌, ◌<◌, ◌≤◌, ℤ, pos, ◌*ℤ◌, ◌≤ℤ◌, List, [], ◌∷◌, ◌++◌, length, true, arith, sym, ap, ◌∙◌, refl, subst, slice_get, get_or, Some, IsBitSet, fun_ext, ints, cases_lt, eqb_tells, length-map, get_or_past, same_Some, slice_get_within, filter_all, RowHolds, Row, Automaton, Pattern, Rule, Whole, location_place, Config, InScope, Steps, At, value_at, total, times_in, change_of, same_model, KeepsEmpty, ArrangedOf, AreRuleCounts, count_at, GuardsHold, LeadsToEnd, rise_mask, fall_mask, value_at_end, RunLine, value_after, units, counts_of, StepsLead}
-use Rattle.ta_base.proofs.Ranges.{length_numbers, number_get}
-use Rattle.ta_base.specs.Masks.{In, numbers_from}
+use Rattle.ta_compress.proofs.Common.{◌≡◌, inl, inr, ℕ, zero, suc, ◌+◌, ◌<◌, ◌≤◌, ℤ, pos, ◌*ℤ◌, ◌≤ℤ◌, List, [], ◌∷◌, ◌++◌, length, true, arith, sym, ap, ◌∙◌, refl, subst, slice_get, get_or, Some, IsBitSet, fun_ext, ints, cases_lt, eqb_tells, length-map, get_or_past, same_Some, slice_get_within, filter_all, RowHolds, Row, Automaton, Pattern, Rule, Whole, location_place, Config, InScope, Steps, At, value_at, total, times_in, change_of, same_model, KeepsEmpty, ArrangedOf, AreRuleCounts, count_at, GuardsHold, LeadsToEnd, rise_mask, fall_mask, value_at_end, RunLine, value_after, units, counts_of, StepsLead, at_number, range_with_len}
+use Rattle.ta_base.specs.Masks.{In}
 use Rattle.ta_automaton.specs.Runs.{Step}
 use Rattle.ta_automaton.proofs.Fired.{EachOnce, firings, once}
 use Rattle.ta_scope.specs.Legal as legal
 use Rattle.ta_scope.proofs.ArrangedLaws.{FromCounts, from_counts, arranged_end}
 use Rattle.ta_compress.proofs.Leading.{leads_first, leads_split, leads_value, leads_whole}
 use Rattle.ta_compress.proofs.Steady.{Steady, units-value}
+use Rattle.std.proofs.lemmas.List.FromFn.{length-range_with_len}
 
 -- an item of a list, with what is before it and behind it
 pub record Occurs (r : ℕ) (xs : List ℕ) : Type 0 where
@@ -26,10 +26,10 @@ occurs r (x ∷ xs) h = elim (eqb_tells x r) [
 ]
 
 pub count_in : (a : Automaton) (body : List ℕ) (r : ℕ) → r < length a.rules → count_at (counts_of a body) r ≡ pos (times_in r body)
-count_in a body r b = number_get (λ q. pos (times_in q body)) 0 (length a.rules) r b ∙ (let e : 0 + r ≡ r = omega arith in ap (λ q. pos (times_in q body)) e)
+count_in a body r b = at_number (λ q. pos (times_in q body)) 0 (length a.rules) r (pos 0) b ∙ (let e : 0 + r ≡ r = omega arith in ap (λ q. pos (times_in q body)) e)
 
 pub counts_length : (a : Automaton) (body : List ℕ) → length (counts_of a body) ≡ length a.rules
-counts_length a body = length-map (numbers_from 0 (length a.rules)) _ ∙ length_numbers 0 (length a.rules)
+counts_length a body = length-map (range_with_len 0 (length a.rules)) _ ∙ length-range_with_len 0 (length a.rules)
 
 pub counts_natural : (a : Automaton) (body : List ℕ) → AreRuleCounts a (counts_of a body)
 counts_natural a body = record {
@@ -44,16 +44,16 @@ counts_natural a body = record {
 pub counted_occurs : (a : Automaton) (body : List ℕ) (r : ℕ) (rule : Rule) → slice_get a.rules r ≡ Some rule → pos 1 ≤ℤ count_at (counts_of a body) r → Occurs r body
 counted_occurs a body r rule named h = occurs r body (omega (arith, ints, count_in a body r (slice_get_within a.rules r rule named)))
 
-total_below : (f g : ℕ → ℤ) (k n : ℕ) → ((r : ℕ) → r < k + n → f r ≡ g r) → total f (numbers_from k n) ≡ total g (numbers_from k n)
+total_below : (f g : ℕ → ℤ) (k n : ℕ) → ((r : ℕ) → r < k + n → f r ≡ g r) → total f (range_with_len k n) ≡ total g (range_with_len k n)
 unfolding total
 total_below f g k zero h = refl
 total_below f g k (suc n) h = omega (arith, ints, h k (omega arith), total_below f g (k + 1) n (λ r b. h r (omega arith)))
 
-each_once : (a : Automaton) (p : Pattern) (c : Config) (rules : List ℕ) (d : Config) → StepsLead a p c rules d → EachOnce rules (numbers_from 0 (length a.rules))
+each_once : (a : Automaton) (p : Pattern) (c : Config) (rules : List ℕ) (d : Config) → StepsLead a p c rules d → EachOnce rules (range_with_len 0 (length a.rules))
 each_once a p c [] d l = tt
 each_once a p c (r ∷ rs) d l =
     let f = leads_first a p c r rs d l in (
-      ap (times_in r) (sym (filter_all (numbers_from 0 (length a.rules)))) ∙ once (λ q. true) r 0 (length a.rules) refl (omega arith) (let b = slice_get_within a.rules r f.step.rule f.step.named in omega arith),
+      ap (times_in r) (sym (filter_all (range_with_len 0 (length a.rules)))) ∙ once (λ q. true) r 0 (length a.rules) refl (omega arith) (let b = slice_get_within a.rules r f.step.rule f.step.named in omega arith),
       each_once a p f.next rs d f.rest,
     )
 
@@ -62,7 +62,7 @@ end_value : (a : Automaton) (p : Pattern) (c : Config) (body : List ℕ) (d : Co
 end_value a p c body d w l i =
     let n = length a.rules in
     let counts = total_below (λ r. change_of a i r *ℤ count_at (counts_of a body) r) (λ r. change_of a i r *ℤ pos (times_in r body)) 0 n (λ r b. ap (λ z. change_of a i r *ℤ z) (count_in a body r (omega arith))) in
-    omega (arith, ints, counts, firings (change_of a i) (numbers_from 0 n) body (each_once a p c body d l), leads_value a p c body d w l i)
+    omega (arith, ints, counts, firings (change_of a i) (range_with_len 0 n) body (each_once a p c body d l), leads_value a p c body d w l i)
 
 -- a unit step of the body, and where it is taken
 pub record Taken (a : Automaton) (p : Pattern) (c : Config) (body : List ℕ) (r : ℕ) (rule : Rule) : Type 0 where

@@ -1,5 +1,5 @@
 -- the unit steps of a run that shows its pattern pass every check, where all guards stay in range
-use Rattle.ta_compress.proofs.Common.{◌≡◌, inl, inr, ℕ, zero, suc, ◌+◌, ◌-◌, ◌<◌, ℤ, pos, ◌+ℤ◌, ◌-ℤ◌, ◌*ℤ◌, List, [], ◌∷◌, ◌++◌, length, map, take, drop, replicate, unsigned_abs, arith, sym, ap, ◌∙◌, refl, subst, slice_get, Some, Option, append_assoc, fun_ext, ints, eqb_tells, zero-*ℤ, AllByRecursion, each_at, each_point, each_take, abs_natural, distributes_right, minus_times, mul-ge-zero, one_times, cut_at, replicate_cut, some_at, point_of, Automaton, Pattern, Rule, Whole, location_place, rule_change, shared_change, Config, value_at, one_if-ne, shared_change-shared, change_of, rule_within, run_length, IsOf, config_of, GuardsStay, Value, model_at, model_whole, same_model, Run, LineFits, NumbersStay, ValuesAfter, ShowsPattern, unit_steps, FitsPattern, unit_steps-append, lines-change, total-replicate, shown_first, MayRepeat, MayStep, RepeatsRule, StepsLead}
+use Rattle.ta_compress.proofs.Common.{◌≡◌, inl, inr, ℕ, zero, suc, ◌+◌, ◌-◌, ◌<◌, ℤ, pos, ◌+ℤ◌, ◌-ℤ◌, ◌*ℤ◌, List, [], ◌∷◌, ◌++◌, length, map, take, drop, replicate, unsigned_abs, arith, sym, ap, ◌∙◌, refl, subst, slice_get, Some, Option, append_assoc, fun_ext, ints, eqb_tells, zero-*ℤ, AllByRecursion, each_at, each_take, abs_natural, distributes_right, minus_times, mul-ge-zero, one_times, cut_at, replicate_cut, some_at, point_of, Automaton, Pattern, Rule, location_place, rule_change, shared_change, Config, value_at, one_if-ne, shared_change-shared, change_of, rule_within, run_length, IsOf, config_of, GuardsStay, Value, model_at, model_whole, same_model, Run, LineFits, NumbersStay, ValuesAfter, ShowsPattern, unit_steps, FitsPattern, unit_steps-append, lines-change, total-replicate, shown_first, MayRepeat, MayStep, RepeatsRule, StepsLead, each_get_or, first_whole}
 use Rattle.ta_counter.proofs.Adding.{range_below}
 use Rattle.ta_linear.specs.Sums.{StaysInRange}
 use Rattle.ta_linear.specs.Terms.{coefficient}
@@ -20,9 +20,6 @@ whole_run a p run s =
     let last = some_at (s.first ∷ s.later) (length (unit_steps run.lines)) (omega arith) in
     (last.0, record { later = s.later; steps = s.follows.steps; ends = last.1; kept = s.kept_empty })
 
-pub first_whole : (a : Automaton) (p : Pattern) (run : Run) (s : ShowsPattern a p run) → Whole a s.first
-first_whole a p run s = record { parameters = s.follows.initial.admissible.count; shared = s.follows.initial.shared_count; counters = s.follows.initial.locations_count }
-
 -- a step of the model from a configuration
 record StepFrom (a : Automaton) (r : ℕ) (c : Config) : Type 0 where
   next : Config
@@ -41,7 +38,7 @@ unit_of_line a p run fits s i r k at values reached times now less is repeated =
     let one = leads_split a p s.first front (replicate times r ++ (r ∷ (replicate (n - suc times) r ++ back))) all.0 (subst (λ (xs : List ℕ). StepsLead a p s.first xs all.0) parts all.1) in
     let two = leads_split a p one.middle (replicate times r) (r ∷ (replicate (n - suc times) r ++ back)) all.0 one.right in
     let f : First a p two.middle r (replicate (n - suc times) r ++ back) all.0 = leads_first a p two.middle r (replicate (n - suc times) r ++ back) all.0 two.right in
-    let start = first_whole a p run s in
+    let start = first_whole a s.first s.follows.initial in
     let middle = leads_whole a p s.first front one.middle start one.left in
     let here = leads_whole a p one.middle (replicate times r) two.middle middle two.left in
     let value : (place : ℕ) → value_at two.middle place ≡ point_of now.values.items place = (λ place.
@@ -81,7 +78,7 @@ one_grows a r rule named k values times now less is repeated grow j u at =
     let g = grow j u at in
     let place = length a.parameters + u.0 in
     let exists = update.exists in
-    let natural = (each_point Value now.values.items now.natural place (omega (arith, is.places))).natural in
+    let natural = (each_get_or Value now.values.items place (pos 0) now.natural (omega (arith, is.places))).natural in
     let shared : shared_change a rule place ≡ u.1 = shared_change-shared a rule u.0 exists ∙ coefficient_there rule.updates j u w.variables_distinct at in
     let change : rule_change a (slice_get a.rules r) place ≡ u.1 = ap (λ (o : Option Rule). rule_change a o place) named ∙ (let to = one_if-ne (location_place a rule.to) place (λ e. omega arith) in let from = one_if-ne (location_place a rule.from) place (λ e. omega arith) in omega (arith, ints, shared, to, from)) in
     let here : point_of now.values.items place ≡ (point_of values place +ℤ (pos times *ℤ u.1)) = repeated place ∙ ap (λ z. point_of values place +ℤ (pos times *ℤ z)) change in

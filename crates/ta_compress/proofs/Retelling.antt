@@ -1,5 +1,5 @@
 -- runs that tell the same show the same
-use Rattle.ta_compress.proofs.Common.{◌≡◌, inl, inr, ℕ, zero, suc, ◌+◌, ◌<◌, ◌≤◌, ℤ, List, [], ◌∷◌, ◌++◌, length, take, replicate, unsigned_abs, arith, sym, ap, ◌∙◌, refl, subst, slice_get, Some, length-append, length-replicate, cases_lt, same_Some, Automaton, Pattern, Whole, Config, Steps, At, Holds, KeepsEmpty, Run, RunLine, Step, Mark, unit_steps, steps_before, marks_count, MarksAt, IsFirstConfig, ShowsPattern, run_length, StepsLead, LinesTell}
+use Rattle.ta_compress.proofs.Common.{◌≡◌, inl, inr, ℕ, zero, suc, ◌+◌, ◌<◌, ◌≤◌, ℤ, List, [], ◌∷◌, ◌++◌, length, take, replicate, unsigned_abs, arith, sym, ap, ◌∙◌, refl, subst, slice_get, Some, length-append, length-replicate, cases_lt, same_Some, Automaton, Pattern, Whole, Config, Steps, At, Holds, KeepsEmpty, Run, RunLine, Step, Mark, unit_steps, steps_before, marks_count, MarksAt, IsFirstConfig, ShowsPattern, run_length, StepsLead, LinesTell, neither_below}
 use Rattle.ta_replay.proofs.Paths.{steps-append, at_further, at_either}
 use Rattle.ta_compress.proofs.Leading.{steps_same, only_one}
 
@@ -117,13 +117,7 @@ marks_strict (Step r k ∷ lines) (suc i) (suc j) e at b = marks_strict lines i 
 marks_strict (Mark x ∷ lines) (suc i) (suc j) e at b = omega (arith, marks_strict lines i j e at (omega arith))
 
 same_mark : (lines : List RunLine) (i j e f : ℕ) → MarksAt lines i e → MarksAt lines j f → marks_before lines i ≡ marks_before lines j → i ≡ j
-same_mark lines i j e f at there same = elim (cases_lt i j) [
-  | inl less ↦ absurd (let s = marks_strict lines i j e at less in omega arith)
-  | inr more ↦ elim (cases_lt j i) [
-    | inl less ↦ absurd (let s = marks_strict lines j i f there less in omega arith)
-    | inr least ↦ omega arith
-  ]
-]
+same_mark lines i j e f at there same = neither_below i j (λ less. omega (arith, marks_strict lines i j e at less)) (λ less. omega (arith, marks_strict lines j i f there less))
 
 -- a run that tells the same from the same configuration on shows the same
 pub shows_same : (a : Automaton) (p : Pattern) (run other : Run) (s : ShowsPattern a p run) → Whole a s.first → IsFirstConfig a other s.first → (tale : List (ℕ × Config)) → LinesTell a p s.first run.lines tale → LinesTell a p s.first other.lines tale → ShowsPattern a p other

@@ -123,18 +123,7 @@ going_stops file run number n draft (Step r k) place (Replay fault) fits admitte
       },
     );
   })
-  by_fault (runs.Line l) s = absurd s
-  by_fault (runs.Name l) s = absurd s
-  by_fault (runs.Resilience l) s = absurd s
-  by_fault runs.Processes s = absurd s
-  by_fault (runs.Start l) s = absurd s
-  by_fault (runs.NotEmpty l) s = absurd s
-  by_fault (runs.Guard l guard) s = absurd s
-  by_fault (runs.Count l) s = absurd s
-  by_fault (runs.Event l) s = absurd s
-  by_fault (runs.MissingEvent l) s = absurd s
-  by_fault (runs.Order l) s = absurd s
-  by_fault runs.Memory s = absurd s
+  by_fault _ s = absurd s
 
 -- all lines up to the last mark are followed
 pub gone : (file : File) (run : Run) (n : ℕ) (draft : Draft) → EndsAtLastMark run.lines n → Going file run n draft → CutOf file.automaton run draft.lines.items

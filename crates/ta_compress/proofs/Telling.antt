@@ -1,5 +1,5 @@
 -- what lines tell
-use Rattle.ta_compress.proofs.Common.{◌≡◌, ℕ, zero, suc, ◌+◌, ℤ, List, [], ◌∷◌, ◌++◌, map, take, drop, replicate, unsigned_abs, arith, sym, ap, refl, subst, take-append-drop, get_of_drop_at, Automaton, Pattern, Config, KeepsEmpty, RunLine, Step, Mark, unit_steps, MarksAt, unit, unfolded, EndsAtLastMark, step_line, units, StepsLead, LinesTell}
+use Rattle.ta_compress.proofs.Common.{◌≡◌, ℕ, zero, suc, ◌+◌, ℤ, List, [], ◌∷◌, ◌++◌, map, take, drop, replicate, unsigned_abs, arith, sym, ap, refl, subst, take-append-drop, Automaton, Pattern, Config, KeepsEmpty, RunLine, Step, Mark, unit_steps, MarksAt, unit, unfolded, EndsAtLastMark, step_line, units, StepsLead, LinesTell, get_of_drop}
 use Rattle.ta_automaton.specs.Runs as runs
 use Rattle.ta_scope.specs.Legal as legal
 use Rattle.ta_compress.proofs.Leading.{leads_none, leads_cons, leads_first, leads_nowhere, leads_split}
@@ -71,4 +71,4 @@ front_told a p c (Mark e ∷ xs) ys tale none t = (t.0, t.1, front_told a p c xs
 -- nothing is told behind the last mark
 pub cut_off : (a : Automaton) (p : Pattern) (c : Config) (lines : List RunLine) (n : ℕ) (tale : List (ℕ × Config)) → EndsAtLastMark lines n → LinesTell a p c lines tale → LinesTell a p c (take n lines) tale
 cut_off a p c lines n tale last t =
-    front_told a p c (take n lines) (drop n lines) tale (λ i e at. last.behind (n + i) e (omega arith) (get_of_drop_at n i lines (Mark e) at)) (subst (λ (ls : List RunLine). LinesTell a p c ls tale) (sym (take-append-drop n lines)) t)
+    front_told a p c (take n lines) (drop n lines) tale (λ i e at. last.behind (n + i) e (omega arith) (get_of_drop n lines i (Mark e) at)) (subst (λ (ls : List RunLine). LinesTell a p c ls tale) (sym (take-append-drop n lines)) t)

@@ -2,7 +2,7 @@
 use Rattle.std.specs.Prelude.{ℕ, ℤ, pos, ◌≡◌, ◌⊎◌, List, [], ◌∷◌, ◌++◌, length, map, take}
 use Rattle.ta_automaton.specs.declared.automaton.Automaton.{Automaton}
 use Rattle.ta_automaton.specs.declared.file.File.{File}
-use Rattle.ta_base.specs.Masks.{numbers_from}
+use Rattle.std.specs.List.{range_with_len}
 use Rattle.ta_automaton.specs.Sums.{times_in}
 use Rattle.ta_counter.specs.Starts.{StartsAt}
 use Rattle.ta_scope.specs.Arranged.{ArrangedOf}
@@ -66,7 +66,7 @@ IsPiece a first done piece = MarkedEnd a first done piece ⊎ (FallenEnd a first
 
 -- how often each rule of the automaton is in a list
 abbrev pub counts_of : Automaton → List ℕ → List ℤ
-counts_of a rules = map (λ r. pos (times_in r rules)) (numbers_from 0 (length a.rules))
+counts_of a rules = map (λ r. pos (times_in r rules)) (range_with_len 0 (length a.rules))
 
 -- the lines are the piece's arranged steps and the line that it keeps, and what follows
 pub record IsShortened (a : Automaton) (piece : CutPiece) (lines rest : List RunLine) : Type 0 where

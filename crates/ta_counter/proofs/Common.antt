@@ -8,8 +8,7 @@ pub use Rattle.std.proofs.lemmas.List.{drop-set-add, drop_all, drop_more, ext_ge
 pub use Rattle.std.proofs.lemmas.Option.{get_or_from_slice_get, same_Some, slice_get-get_or, slice_get_within}
 pub use Rattle.std.proofs.lemmas.Result.{IfErr-weaker, err_from_is_err_and, on_ok_weaker}
 pub use Rattle.std.specs.Int.{w128}
-pub use Rattle.std.specs.List.{AllByRecursion, refill}
-pub use mathlib.Core.Path.{fun_ext}
+pub use Rattle.std.specs.List.{AllByRecursion, range_with_len, refill}
 pub use Rattle.ta_automaton.proofs.Fire.{Whole, fire, fire_step, fire_whole, fits_whole}
 pub use Rattle.ta_automaton.proofs.Moves.{Fits, fits_after, move_at, one_if-ne, one_if-shift, place_cases, shared_change-location, shared_change-parameter, shared_change-shared, step_later, value_at-location, value_at-parameter, value_at-shared}
 pub use Rattle.ta_automaton.proofs.Thresholds.{Later, fall_back, falls, form_same, stays_true, updates_natural}
@@ -21,7 +20,7 @@ unfoldable pub use Rattle.ta_automaton.specs.Sums.{total}
 pub use Rattle.ta_automaton.specs.declared.automaton.Automaton.{Automaton}
 pub use Rattle.ta_automaton.specs.declared.condition.Comparison.{Comparison}
 pub use Rattle.ta_automaton.specs.declared.rule.Rule.{Rule}
-pub use Rattle.ta_base.proofs.Each.{all_at, each_append, each_at, each_copies, each_drop, each_from_get_or, each_point, each_set}
+pub use Rattle.ta_base.proofs.Each.{all_at, each_append, each_at, each_copies, each_drop, each_get_or, each_set}
 pub use Rattle.ta_base.proofs.Integers.{abs_below, abs_natural, by_one, distributes, less_fits, minus_times, mul-ge-zero, one_times, suc_times, times_minus_one, times_natural}
 pub use Rattle.ta_base.proofs.Lists.{PassedTo, all_passed, front_back, none_passed, one_passed, pieces, read_same, same_numbers, twice_back, zeros_past}
 pub use Rattle.ta_base.specs.Lists.{Distinct, Rises}
@@ -40,3 +39,4 @@ pub use Rattle.ta_linear.specs.Sums.{StaysInRange}
 pub use Rattle.ta_linear.specs.Terms.{IsNormal, coefficient}
 pub use Rattle.ta_linear.specs.Values.{RowHolds, point_of, value_of}
 pub use Rattle.ta_linear.specs.declared.row.Row.{Row}
+pub use mathlib.Core.Path.{fun_ext}

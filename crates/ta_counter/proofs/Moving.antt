@@ -1,5 +1,5 @@
 -- the move of processes
-use Rattle.ta_counter.proofs.Common.{◌≡◌, ◌≢◌, inl, inr, ℕ, ◌+◌, ◌<◌, ℤ, pos, negsuc, ◌+ℤ◌, ◌-ℤ◌, ◌*ℤ◌, ◌≤ℤ◌, List, length, set, arith, sym, ap, ◌∙◌, subst, FitsSigned, ints, fits_signed_from_abs, w128, nat_tests, eqb_tells, get_or-set_same, get_or-set_other, length-set, *ℤ-zero, AllByRecursion, each_drop, each_point, each_set, by_one, times_minus_one, InRange, point_of, Rule, Automaton, one_if, location_place, one_if-ne, Value, places_of, counters_of, sum_of, Enough}
+use Rattle.ta_counter.proofs.Common.{◌≡◌, ◌≢◌, inl, inr, ℕ, ◌+◌, ◌<◌, ℤ, pos, negsuc, ◌+ℤ◌, ◌-ℤ◌, ◌*ℤ◌, ◌≤ℤ◌, List, length, set, arith, sym, ap, ◌∙◌, subst, FitsSigned, ints, fits_signed_from_abs, w128, nat_tests, eqb_tells, get_or-set_same, get_or-set_other, length-set, *ℤ-zero, AllByRecursion, each_drop, each_set, by_one, times_minus_one, InRange, point_of, Rule, Automaton, one_if, location_place, one_if-ne, Value, places_of, counters_of, sum_of, Enough, each_get_or}
 use Rattle.ta_counter.proofs.Starting.{counter_at}
 use Rattle.ta_counter.proofs.Adding.{range_below, item_below}
 use Rattle.ta_counter.proofs.Updating.{Within, moved_values, counters-set-sum}
@@ -19,7 +19,7 @@ pub record MayMove (a : Automaton) (from to : ℕ) (k : ℤ) (values : List ℤ)
   pub fits : InRange (sum_of (counters_of a values))
 
 value_there : (a : Automaton) (values : List ℤ) (l : ℕ) → length values ≡ places_of a → AllByRecursion Value values → l < length a.locations → Value (point_of values (location_place a l))
-value_there a values l places natural b = each_point Value values natural (location_place a l) (omega arith)
+value_there a values l places natural b = each_get_or Value values (location_place a l) (pos 0) natural (omega arith)
 
 pub left_value : (a : Automaton) (from to : ℕ) (k : ℤ) (values : List ℤ) → MayMove a from to k values → Value (point_of values (location_place a from) -ℤ k)
 left_value a from to k values m =

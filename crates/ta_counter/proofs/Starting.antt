@@ -1,12 +1,12 @@
 -- the configuration at the start
-use Rattle.ta_counter.proofs.Common.{◌≡◌, ◌⊎◌, inl, inr, ℕ, zero, suc, ◌+◌, ◌<◌, ◌≤◌, ℤ, pos, ◌+ℤ◌, List, [], ◌∷◌, length, arith, sym, ap, ◌∙◌, refl, subst, get_or, slice_get, Some, Err, Contains, length-drop, add-one, fun_ext, ints, cases_lt, eqb_tells, get_or-drop, get_or-take, get_or_past, slice_get-get_or, slice_get_within, same_Some, AllByRecursion, each_drop, each_from_get_or, each_point, point_of, value_of, Automaton, Rises, Initial, HoldsAt, number_at, total, location_place, value_at-shared, value_at-location, place_cases, form_same, fits_whole, Value, places_of, naturals, counters_of, model_of, sum_of, AreOf, StartsAt, MayStart, StartChecked, NoStart}
-use Rattle.ta_base.specs.Masks.{numbers_from}
+use Rattle.ta_counter.proofs.Common.{◌≡◌, ◌⊎◌, inl, inr, ℕ, zero, suc, ◌+◌, ◌<◌, ◌≤◌, ℤ, pos, ◌+ℤ◌, List, [], ◌∷◌, length, arith, sym, ap, ◌∙◌, refl, subst, get_or, slice_get, Some, Err, Contains, length-drop, add-one, fun_ext, ints, cases_lt, eqb_tells, get_or-drop, get_or-take, get_or_past, slice_get-get_or, slice_get_within, same_Some, AllByRecursion, each_drop, point_of, value_of, Automaton, Rises, Initial, HoldsAt, number_at, total, location_place, value_at-shared, value_at-location, place_cases, form_same, fits_whole, Value, places_of, naturals, counters_of, model_of, sum_of, AreOf, StartsAt, MayStart, StartChecked, NoStart, range_with_len, each_get_or}
 use Rattle.ta_automaton.proofs.Sums.{total-same}
 use Rattle.ta_counter.specs.declared.fault.StartFault.{StartFault}
 use Rattle.ta_counter.specs.declared.fault.StartFault.TheVariants.{Resilience, Processes, OutOfRange}
 use Rattle.ta_counter.proofs.Rows.{holds_from, fails_from}
 use Rattle.ta_counter.proofs.Models.{naturals_at, model_at, model_whole, sum_naturals}
 use Rattle.ta_counter.proofs.Filling.{zero_value}
+use Rattle.std.proofs.lemmas.List.Elements.{All-from_get_or, recursion_from_All}
 
 abbrev pub NotIn : List ℕ → ℕ → Type 0
 NotIn ls l = (j : ℕ) → slice_get ls j ≡ Some l → ⊥
@@ -17,7 +17,7 @@ below_all low high (x ∷ ls) h l b zero e = let same : x ≡ l = cc in absurd (
 below_all low high (x ∷ ls) h l b (suc j) e = below_all (x + 1) high ls h.2 l (let low_is = h.0 in omega arith) j e
 
 -- a function that has given values at rising places, and is 0 elsewhere, adds up to them
-placed_sum : (f : ℕ → ℤ) (low n : ℕ) (ls : List ℕ) (cs : List ℤ) → Rises low (low + n) ls → length cs ≡ length ls → ((j l : ℕ) → slice_get ls j ≡ Some l → f l ≡ get_or cs j (pos 0)) → ((l : ℕ) → low ≤ l → NotIn ls l → f l ≡ pos 0) → total f (numbers_from low n) ≡ sum_of cs
+placed_sum : (f : ℕ → ℤ) (low n : ℕ) (ls : List ℕ) (cs : List ℤ) → Rises low (low + n) ls → length cs ≡ length ls → ((j l : ℕ) → slice_get ls j ≡ Some l → f l ≡ get_or cs j (pos 0)) → ((l : ℕ) → low ≤ l → NotIn ls l → f l ≡ pos 0) → total f (range_with_len low n) ≡ sum_of cs
 unfolding total
 placed_sum f low zero [] [] r e g z = refl
 placed_sum f low zero [] (c ∷ cs) r e g z = absurd (omega arith)
@@ -47,28 +47,28 @@ placed_sum f low (suc n) (l ∷ ls) (c ∷ cs) r e g z = elim (eqb_tells low l) 
   first l ls k b q zero t = let same : l ≡ k = cc in absurd (omega arith)
   first l ls k b q (suc j) t = q j t
 
-numbers_shift : (f : ℕ → ℤ) (k n : ℕ) → total f (numbers_from (k + 1) n) ≡ total (λ l. f (l + 1)) (numbers_from k n)
+numbers_shift : (f : ℕ → ℤ) (k n : ℕ) → total f (range_with_len (k + 1) n) ≡ total (λ l. f (l + 1)) (range_with_len k n)
 unfolding total
 numbers_shift f k zero = refl
 numbers_shift f k (suc n) = ap (λ z. f (k + 1) +ℤ z) (numbers_shift f (k + 1) n)
 
-pub sum_numbers : (xs : List ℤ) → total (λ l. get_or xs l (pos 0)) (numbers_from 0 (length xs)) ≡ sum_of xs
+pub sum_numbers : (xs : List ℤ) → total (λ l. get_or xs l (pos 0)) (range_with_len 0 (length xs)) ≡ sum_of xs
 unfolding total
 sum_numbers [] = refl
 sum_numbers (x ∷ xs) =
     let shift = numbers_shift (λ l. get_or (x ∷ xs) l (pos 0)) 0 (length xs) in
-    let inner = total-same (λ l. get_or (x ∷ xs) (l + 1) (pos 0)) (λ l. get_or xs l (pos 0)) (numbers_from 0 (length xs)) (λ l. rw (add-one l) refl) in
+    let inner = total-same (λ l. get_or (x ∷ xs) (l + 1) (pos 0)) (λ l. get_or xs l (pos 0)) (range_with_len 0 (length xs)) (λ l. rw (add-one l) refl) in
     omega (arith, ints, shift, inner, sum_numbers xs)
 
 -- the counter of a location
 pub counter_at : (a : Automaton) (v : List ℤ) (l : ℕ) → get_or (counters_of a v) l (pos 0) ≡ point_of v (location_place a l)
 counter_at a v l = get_or-drop (length a.parameters + length a.shared) v l (pos 0)
 
-pub counters_sum : (a : Automaton) (v : List ℤ) → length v ≡ places_of a → total (λ l. point_of v (location_place a l)) (numbers_from 0 (length a.locations)) ≡ sum_of (counters_of a v)
+pub counters_sum : (a : Automaton) (v : List ℤ) → length v ≡ places_of a → total (λ l. point_of v (location_place a l)) (range_with_len 0 (length a.locations)) ≡ sum_of (counters_of a v)
 counters_sum a v same =
     let count : length (counters_of a v) ≡ length a.locations = omega (arith, length-drop (length a.parameters + length a.shared) v) in
-    let at = total-same (λ l. point_of v (location_place a l)) (λ l. get_or (counters_of a v) l (pos 0)) (numbers_from 0 (length a.locations)) (λ l. sym (counter_at a v l)) in
-    at ∙ ap (λ n. total (λ l. get_or (counters_of a v) l (pos 0)) (numbers_from 0 n)) (sym count) ∙ sum_numbers (counters_of a v)
+    let at = total-same (λ l. point_of v (location_place a l)) (λ l. get_or (counters_of a v) l (pos 0)) (range_with_len 0 (length a.locations)) (λ l. sym (counter_at a v l)) in
+    at ∙ ap (λ n. total (λ l. get_or (counters_of a v) l (pos 0)) (range_with_len 0 n)) (sym count) ∙ sum_numbers (counters_of a v)
 
 pub not_contained : (ls : List ℕ) (l : ℕ) → NotIn ls l → ¬ Contains ls l
 not_contained ls l none c = none c.0 (slice_get-get_or ls c.0 l c.1 ∙ ap Some c.2)
@@ -140,14 +140,14 @@ in_or_not (x ∷ ls) l = elim (eqb_tells x l) [
 
 -- values that start so are natural and in range
 pub starts_natural : (a : Automaton) (parameters counts values : List ℤ) → length parameters ≡ length a.parameters → length counts ≡ length a.initial → AllByRecursion Value parameters → AllByRecursion Value counts → StartsAt a parameters counts values → AllByRecursion Value values
-starts_natural a parameters counts values many same n m s = each_from_get_or Value values (λ i b. elim (place_cases a i) [
-  | inl p ↦ subst Value (sym (first_points a parameters counts values s i p)) (each_point Value parameters n i (omega arith))
+starts_natural a parameters counts values many same n m s = recursion_from_All Value values (All-from_get_or Value values (pos 0) (λ i b. elim (place_cases a i) [
+  | inl p ↦ subst Value (sym (first_points a parameters counts values s i p)) (each_get_or Value parameters i (pos 0) n (omega arith))
   | inr (inl w) ↦ subst Value (sym (ap (point_of values) w.2 ∙ s.shared_zero w.0 w.1)) zero_value
   | inr (inr w) ↦ elim (in_or_not a.initial w.0) [
-    | inl at ↦ subst Value (sym (ap (point_of values) w.1 ∙ s.counts_there at.0 w.0 at.1)) (each_point Value counts m at.0 (omega (arith, slice_get_within a.initial at.0 w.0 at.1)))
+    | inl at ↦ subst Value (sym (ap (point_of values) w.1 ∙ s.counts_there at.0 w.0 at.1)) (each_get_or Value counts at.0 (pos 0) m (omega (arith, slice_get_within a.initial at.0 w.0 at.1)))
     | inr none ↦ subst Value (sym (ap (point_of values) w.1 ∙ s.others_empty w.0 (not_contained a.initial w.0 none))) zero_value
   ]
-])
+]))
 
 -- a configuration that isn't initial
 pub no_start : (a : Automaton) (parameters counts : List ℤ) (fault : StartFault) → length parameters ≡ length a.parameters → length counts ≡ length a.initial → AllByRecursion Value parameters → AllByRecursion Value counts → StartChecked a parameters counts (Err fault) → NoStart a parameters counts fault

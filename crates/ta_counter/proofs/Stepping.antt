@@ -1,5 +1,5 @@
 -- the checks of a step, and the steps of the model
-use Rattle.ta_counter.proofs.Common.{◌≡◌, inl, inr, ℕ, zero, suc, ◌+◌, ◌<◌, ℤ, pos, negsuc, ◌+ℤ◌, ◌-ℤ◌, ◌*ℤ◌, ◌≤ℤ◌, List, length, eqb, cond, unsigned_abs, arith, sym, ap, ◌∙◌, subst, slice_get, Some, length-drop, ints, ext_get_or, get_or-drop, *ℤ-zero, AllByRecursion, each_at, each_point, distributes, minus_times, mul-ge-zero, one_times, point_of, RowHolds, Rule, Automaton, value_at, MaskedHold, Update, one_if, location_place, shared_change, rule_change, form_same, one_if-ne, shared_change-parameter, shared_change-location, fits_whole, StepFault, Count, OutOfRange, Guard, Value, places_of, counters_of, sum_of, model_of, AreOf, MaskedPass, GuardFault, Fires, Enough, Grows, AllGrow, UpdateOutOfRange, shifted, before_last, StepFails, StepIsTaken, NoSteps}
+use Rattle.ta_counter.proofs.Common.{◌≡◌, inl, inr, ℕ, zero, suc, ◌+◌, ◌<◌, ℤ, pos, negsuc, ◌+ℤ◌, ◌-ℤ◌, ◌*ℤ◌, ◌≤ℤ◌, List, length, eqb, cond, unsigned_abs, arith, sym, ap, ◌∙◌, subst, slice_get, Some, length-drop, ints, ext_get_or, get_or-drop, *ℤ-zero, AllByRecursion, each_at, distributes, minus_times, mul-ge-zero, one_times, point_of, RowHolds, Rule, Automaton, value_at, MaskedHold, Update, one_if, location_place, shared_change, rule_change, form_same, one_if-ne, shared_change-parameter, shared_change-location, fits_whole, StepFault, Count, OutOfRange, Guard, Value, places_of, counters_of, sum_of, model_of, AreOf, MaskedPass, GuardFault, Fires, Enough, Grows, AllGrow, UpdateOutOfRange, shifted, before_last, StepFails, StepIsTaken, NoSteps, each_get_or}
 use Rattle.ta_automaton.specs.Runs as runs
 use Rattle.ta_counter.specs.declared.config.Config.{Config}
 use Rattle.ta_counter.proofs.Models.{model_at, model_point, model_whole, same_model}
@@ -21,7 +21,7 @@ pub no_leave : (a : Automaton) (rule : Rule) (factor : ℤ) (values : List ℤ) 
 no_leave a rule factor values place w some places natural grow l =
     let u = l.first.item in
     let update = each_at (Update (length a.shared)) rule.updates l.number u w.updates l.first.at in
-    l.first.bad (less_grows a values factor u some update.least (each_point Value values natural (length a.parameters + u.0) (omega (arith, update.exists))).natural (grow l.number u l.first.at))
+    l.first.bad (less_grows a values factor u some update.least (each_get_or Value values (length a.parameters + u.0) (pos 0) natural (omega (arith, update.exists))).natural (grow l.number u l.first.at))
 
 pub updates_fail : (a : Automaton) (rule : Rule) (factor : ℤ) (values : List ℤ) (fault : StepFault) → Enough a rule factor values → ((place : ℕ) × (fault ≡ OutOfRange place) × UpdateOutOfRange a rule factor values place) → StepFails a rule factor values fault
 updates_fail a rule factor values fault enough h = subst (StepFails a rule factor values) (sym h.1) (enough, inl h.2)

@@ -1,5 +1,5 @@
 -- updates one after another, and the move of processes
-use Rattle.ta_counter.proofs.Common.{◌≡◌, ◌≢◌, inl, inr, ℕ, zero, suc, ◌+◌, ◌<◌, ◌≤◌, ℤ, pos, ◌+ℤ◌, ◌-ℤ◌, ◌*ℤ◌, ◌≤ℤ◌, List, [], ◌∷◌, ◌++◌, length, map, take, set, eqb, cond, arith, sym, ap, ◌∙◌, refl, subst, get_or, slice_get, Some, length-drop, ints, eqb_tells, get_or-set_same, get_or-set_other, length-set, take_more, take_all, drop-set-add, get_or_from_slice_get, slice_get_within, *ℤ-zero, AllByRecursion, each_at, each_point, each_set, mul-ge-zero, PassedTo, all_passed, none_passed, one_passed, InRange, coefficient, point_of, Rule, Automaton, Distinct, Update, RuleWithin, variable_of, location_place, shared_change, total, place_cases, shared_change-parameter, shared_change-shared, shared_change-location, Value, places_of, counters_of, sum_of, Grows, AllGrow, UpdateOutOfRange, shifted}
+use Rattle.ta_counter.proofs.Common.{◌≡◌, ◌≢◌, inl, inr, ℕ, zero, suc, ◌+◌, ◌<◌, ◌≤◌, ℤ, pos, ◌+ℤ◌, ◌-ℤ◌, ◌*ℤ◌, ◌≤ℤ◌, List, [], ◌∷◌, ◌++◌, length, map, take, set, eqb, cond, arith, sym, ap, ◌∙◌, refl, subst, get_or, slice_get, Some, length-drop, ints, eqb_tells, get_or-set_same, get_or-set_other, length-set, take_more, take_all, drop-set-add, get_or_from_slice_get, slice_get_within, *ℤ-zero, AllByRecursion, each_at, each_set, mul-ge-zero, PassedTo, all_passed, none_passed, one_passed, InRange, coefficient, point_of, Rule, Automaton, Distinct, Update, RuleWithin, variable_of, location_place, shared_change, total, place_cases, shared_change-parameter, shared_change-shared, shared_change-location, Value, places_of, counters_of, sum_of, Grows, AllGrow, UpdateOutOfRange, shifted, each_get_or}
 use Rattle.ta_counter.proofs.Starting.{counter_at}
 
 -- the rule's parts exist in the automaton
@@ -68,7 +68,7 @@ update_next a rule times old values i place u v w more h at here product sum is 
     let within : place < length values = omega (arith, h.places) in
     let was : get_or values place (pos 0) ≡ point_of old (length a.parameters + u.0) = ap (point_of values) here ∙ untouched a rule times old values i u w h at in
     let grows : Grows a old times u = record { product = product; sum = subst (λ z. InRange (z +ℤ (times *ℤ u.1))) was sum } in
-    let natural : pos 0 ≤ℤ get_or values place (pos 0) = (each_point Value values h.natural place within).natural in
+    let natural : pos 0 ≤ℤ get_or values place (pos 0) = (each_get_or Value values place (pos 0) h.natural within).natural in
     let positive : pos 0 ≤ℤ (times *ℤ u.1) = mul-ge-zero times u.1 more (omega (arith, ints, update.least)) in
     record {
       passed = one_passed (λ j update. Grows a old times update) rule.updates i u at grows h.passed;

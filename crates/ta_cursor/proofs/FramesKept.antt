@@ -1,5 +1,5 @@
 -- what open nodes leave depends on the beginnings of the word and of the bounds alone
-use Rattle.ta_cursor.proofs.Common.{◌≡◌, ℕ, ◌+◌, ◌≤◌, List, [], ◌∷◌, ◌++◌, length, take, drop, reverse, slice_get, Some, arith, sym, ap, ◌∙◌, refl, subst, length-take-le, reverse-append, all_taken, fewer_alike, longer_by, next_dropped, take_begins, take_take, Element, Bound, Pending, Search, parts, Frame, Cursor, here, word_of, node_of, behind, all_behind, IsWord, SplitFits, FrameFits, FramesFit, Inside, Within}
+use Rattle.ta_cursor.proofs.Common.{◌≡◌, ℕ, ◌+◌, ◌≤◌, List, [], ◌∷◌, ◌++◌, length, take, drop, reverse, slice_get, Some, arith, sym, ap, ◌∙◌, refl, subst, length-take-le, reverse-append, all_taken, fewer_alike, longer_by, next_dropped, take_begins, Element, Bound, Pending, Search, parts, Frame, Cursor, here, word_of, node_of, behind, all_behind, IsWord, SplitFits, FrameFits, FramesFit, Inside, Within, take-take}
 
 -- cursors under the same start set, with this many elements and bounds alike
 pub record BeginAlike (c d : Cursor) (n m : ℕ) : Type 0 where
@@ -120,8 +120,8 @@ popped_word old new f o = same_pending new.start_mask old.start_mask (reverse ne
 alike_popped : (old new : Cursor) (f : Frame) → Popped old new f → BeginAlike old new f.length f.bounds
 alike_popped old new f o = record {
   start = o.start;
-  word = ap (take f.length) o.word ∙ take_take f.length f.length old.word (omega arith);
-  bounds = ap (take f.bounds) o.bounds ∙ take_take f.bounds f.bounds old.bounds.items (omega arith);
+  word = ap (take f.length) o.word ∙ take-take f.length f.length old.word (omega arith);
+  bounds = ap (take f.bounds) o.bounds ∙ take-take f.bounds f.bounds old.bounds.items (omega arith);
 }
 
 pub reopened : (s : Search) (old new : Cursor) (words : List Pending) (f : Frame) → Inside s old words → Popped old new f → Reopened s new words f

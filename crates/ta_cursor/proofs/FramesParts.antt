@@ -1,6 +1,5 @@
 -- the parts of a node, one after another
-use Rattle.ta_cursor.proofs.Common.{◌≡◌, ◌⊎◌, inl, inr, ℕ, ◌≤◌, ℤ, List, [], ◌∷◌, ◌++◌, length, map, drop, reverse, slice_get, Some, None, true, false, arith, sym, ap, ◌∙◌, refl, subst, AllocError, slice_get-map, none_dropped, in_at, Element, Bound, Low, High, Pending, Search, Comes, bound_at, bounded, longer, parts, Extend, Split, Frame, Cursor, here, IsWord, SplitFits, Within, GoesOn}
-use Rattle.std.specs.Prelude.{Ok, Err}
+use Rattle.ta_cursor.proofs.Common.{◌≡◌, ◌⊎◌, inl, inr, ℕ, ◌≤◌, ℤ, List, [], ◌∷◌, ◌++◌, length, map, drop, reverse, slice_get, Some, None, true, false, arith, sym, ap, ◌∙◌, refl, subst, AllocError, slice_get-map, none_dropped, in_at, Element, Bound, Low, High, Pending, Search, Comes, bound_at, bounded, longer, parts, Extend, Split, Frame, Cursor, here, IsWord, SplitFits, Within, GoesOn, Ok, Err}
 use Rattle.ta_base.proofs.Each.{each_push}
 use Rattle.ta_encode.specs.Lines.{BoundWithin, BoundsWithin}
 use Rattle.ta_encode.specs.declared.meaning.Side.{Side}

@@ -1,5 +1,5 @@
 -- open nodes of which the outermost go to another cursor
-use Rattle.ta_cursor.proofs.Common.{◌≡◌, ℕ, ◌+◌, ◌≤◌, List, [], ◌∷◌, ◌++◌, length, take, drop, reverse, slice_get, Some, arith, sym, ap, ◌∙◌, refl, subst, append_assoc, length-take-le, reverse-append, take-append-drop, next_dropped, take_take, take_whole, Pending, Search, Frame, Cursor, here, word_of, behind, all_behind, left_at, FramesFit, Inside, IsBeforeWords, IsShared, IsWord, Within}
+use Rattle.ta_cursor.proofs.Common.{◌≡◌, ℕ, ◌+◌, ◌≤◌, List, [], ◌∷◌, ◌++◌, length, take, drop, reverse, slice_get, Some, arith, sym, ap, ◌∙◌, refl, subst, append_assoc, length-take-le, reverse-append, take-append-drop, next_dropped, Pending, Search, Frame, Cursor, here, word_of, behind, all_behind, left_at, FramesFit, Inside, IsBeforeWords, IsShared, IsWord, Within, take-take, take_all}
 use Rattle.ta_cursor.proofs.FramesLeft.{SamePlace, inside_moved}
 use Rattle.ta_cursor.proofs.FramesKept.{BeginAlike, frames_kept, left_kept, same_pending}
 
@@ -58,8 +58,8 @@ stands_inside s c d k g words inside at o =
     let a = around s c (here c) (length c.word) (length c.bounds.items) (reverse (drop (k + 1) c.frames.items)) g fs fit in
     let alike : BeginAlike c d g.length g.bounds = record {
       start = o.start;
-      word = ap (take g.length) o.word ∙ take_take g.length g.length c.word (omega arith);
-      bounds = ap (take g.bounds) o.bounds ∙ take_take g.bounds g.bounds c.bounds.items (omega arith);
+      word = ap (take g.length) o.word ∙ take-take g.length g.length c.word (omega arith);
+      bounds = ap (take g.bounds) o.bounds ∙ take-take g.bounds g.bounds c.bounds.items (omega arith);
     } in
     let is : here d ≡ word_of c g = same_pending d.start_mask c.start_mask (reverse d.word) (reverse (take g.length c.word)) d.bounds.items (take g.bounds c.bounds.items) o.start (ap reverse o.word) o.bounds in
     let elements : length d.word ≡ g.length = ap length o.word ∙ length-take-le g.length c.word a.length in
@@ -116,5 +116,5 @@ shared s c d later k pending within o is =
 -- a cursor at the same place, with all nodes open
 pub all_inside : (s : Search) (c d : Cursor) (k : ℕ) (words : List Pending) → Inside s c words → SamePlace c d → length c.frames.items ≤ k → Inside s d (all_behind s c (reverse (take k c.frames.items)))
 all_inside s c d k words inside same most =
-    let left = inside.left ∙ ap (λ (fs : List Frame). all_behind s c (reverse fs)) (sym (take_whole k c.frames.items most)) in
+    let left = inside.left ∙ ap (λ (fs : List Frame). all_behind s c (reverse fs)) (sym (take_all k c.frames.items most)) in
     subst (Inside s d) left (inside_moved s c d words inside same)

@@ -1,5 +1,5 @@
 -- a legal word has few unknowns, and its system few variables
-use Rattle.ta_cursor.proofs.Common.{◌≡◌, inl, inr, ℕ, suc, ◌+◌, ◌*◌, ◌<◌, ◌≤◌, ◌^◌, List, [], ◌∷◌, ◌++◌, length, map, cond, Bool, true, false, not, slice_get, Option, None, Some, arith, ap, length-append, filter, ◌==◌, length-map, count_few, System, has_bit, numbers_from, Automaton, Pattern, Element, Event, Rise, Fall, LegalWord, allowed_rules, has_event, has_rise, has_fallen, is_ready, is_standing, in_children, event_new, rise_new, fall_new, legal_length, SystemAt, Pending, Search, rows_count, IsSmall}
+use Rattle.ta_cursor.proofs.Common.{◌≡◌, inl, inr, ℕ, suc, ◌+◌, ◌*◌, ◌<◌, ◌≤◌, ◌^◌, List, [], ◌∷◌, ◌++◌, length, map, cond, Bool, true, false, not, slice_get, Option, None, Some, arith, ap, length-append, filter, ◌==◌, length-map, count_few, System, has_bit, range_with_len, Automaton, Pattern, Element, Event, Rise, Fall, LegalWord, allowed_rules, has_event, has_rise, has_fallen, is_ready, is_standing, in_children, event_new, rise_new, fall_new, legal_length, SystemAt, Pending, Search, rows_count, IsSmall}
 use Rattle.ta_base.proofs.Naturals.{count, count_most}
 use Rattle.ta_linear.specs.declared.row.Row.{Row}
 use Rattle.ta_automaton.specs.Patterns.{PatternOver}
@@ -38,7 +38,7 @@ counters_few : (a : Automaton) (p : Pattern) (ms : List Meaning) → length (cou
 counters_few a p ms =
     let limit = a.shape.limits.locations_limit in
     let test = λ (l : ℕ). not (has_bit p.empty l) in
-    omega (arith, length-map (filter test (numbers_from 0 (length a.locations))) (counter_row a ms), count_few test (length a.locations))
+    omega (arith, length-map (filter test (range_with_len 0 (length a.locations))) (counter_row a ms), count_few test (length a.locations))
 
 rise_guards_few : (a : Automaton) (ms : List Meaning) (test : ℕ → Bool) → length (guard_rows a ms test 0 a.rise) ≤ 16
 rise_guards_few a ms test = let limit = a.shape.limits.rise_limit in omega (arith, guards_few a ms test 0 a.rise)

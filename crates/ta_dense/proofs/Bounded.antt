@@ -36,6 +36,9 @@ in32 p a q c t h k = record {
   difference = fits32 (p *ℤ a -ℤ q *ℤ c) t h.difference k;
 }
 
+pub combine_in32 : (p a q c : ℤ) (b d : ℕ) → unsigned_abs a ≤ b → unsigned_abs c ≤ d → unsigned_abs p * b + unsigned_abs q * d < 2 ^ 31 → CombinesIn32 p a q c
+combine_in32 p a q c b d h k within = in32 p a q c (unsigned_abs p * b + unsigned_abs q * d) (combines_below p a q c b d h k) within
+
 in_range_of : (z : ℤ) (t : ℕ) → unsigned_abs z ≤ t → t < 2 ^ 31 → InRange z
 in_range_of z t h k = omega arith
 
@@ -51,7 +54,7 @@ cell_le xs b j all h = all j (pos 0) h
 
 pub cells_in32 : (p q : ℤ) (b d : ℕ) (xs cs : List ℤ) → length xs ≡ length cs → AreBounded b xs → AreBounded d cs → unsigned_abs p * b + unsigned_abs q * d < 2 ^ 31 → AllCombineIn32 p q xs cs
 cells_in32 p q b d xs cs e x c within j h =
-    in32 p (get_or xs j (pos 0)) q (get_or cs j (pos 0)) (unsigned_abs p * b + unsigned_abs q * d) (combines_below p (get_or xs j (pos 0)) q (get_or cs j (pos 0)) b d (cell_le xs b j x h) (cell_le cs d j c (omega arith))) within
+    combine_in32 p (get_or xs j (pos 0)) q (get_or cs j (pos 0)) b d (cell_le xs b j x h) (cell_le cs d j c (omega arith)) within
 
 -- the bound of a merged row
 pub IsBound-merged_by : (p q : ℤ) (b d column : ℕ) (chosen r : TableauRow) → length r.cells ≡ length chosen.cells → column < length chosen.cells → IsBound d chosen → IsBound b r →
@@ -92,8 +95,6 @@ pub IsBound-divided : (b g : ℕ) (r : TableauRow) → IsBound b r → IsBound b
 IsBound-divided b g r k =
     let d = quotient_le r.denominator g in
     let n = quotient_le r.constant g in
-    let kd = k.denominator in
-    let kn = k.constant in
     record {
       denominator = omega arith;
       constant = omega arith;

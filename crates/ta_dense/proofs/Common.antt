@@ -3,7 +3,7 @@ pub use Rattle.std.proofs.Common.{FitsSigned, List, [], ap, append-nil, append_a
 pub use Rattle.std.proofs.Math.Nat.{div-le_self, dvd-add_iff_right, dvd-mul_right_of_dvd, dvd_of_mul-dvd-mul_left, eq-one_of_dvd-one, one-dvd}
 pub use Rattle.std.proofs.lemmas.Bool.{cases_eq, cases_lt, cases_order}
 pub use Rattle.std.proofs.lemmas.Int.{fits_signed_from_abs, ints, quot_fits, to_z-of_z, to_z_pos}
-pub use Rattle.std.proofs.lemmas.List.{at_drop_more, drop-replicate, ext_get_or, get_or-append_right, get_or-map, get_or_append_left, get_or_at, get_or_default, get_or_push, get_or_read, length-append, length-map, length-replicate, length-set, length-take-le, map-append, map-id, map-set, set-get_or, set_at, take_all, take_more, with_items_is}
+pub use Rattle.std.proofs.lemmas.List.{at_drop_more, drop-replicate, drop_more, ext_get_or, get_or-append_right, get_or-map, get_or_append_left, get_or_at, get_or_default, get_or_push, get_or_read, length-append, length-map, length-replicate, length-set, length-take-le, map-append, map-id, map-set, set-get_or, set_at, take_all, take_more, with_items_is}
 pub use Rattle.std.proofs.lemmas.List.Edits.{map_over_more}
 pub use Rattle.std.proofs.lemmas.List.Elements.{All-append, All-cons, All-from_get_or, All-get_or, All-head, All-map, All-push, All-replicate, All-set, All-tail, AllWithin-more_set}
 pub use Rattle.std.proofs.lemmas.List.FromFn.{get_or-range_with_len, length-range_with_len}
@@ -13,11 +13,9 @@ pub use Rattle.std.specs.Int.{IsGcd, ◌∣◌}
 pub use Rattle.std.specs.List.{AllWithin, range_with_len}
 pub use Rattle.std.specs.Prelude.{IfOk, int_div}
 pub use Rattle.std.specs.Vec.Iter.{into_iter_items, into_iter_len}
-pub use mir.Syntax.{w128, w16, w32}
-pub use mir.Val.{SFits, of_z, to_z}
 pub use Rattle.ta_base.proofs.Integers.{abs_minus, abs_natural, abs_positive, cancel_positive, cross_arith, div-one, div_exact, divided_arith, dvd_cross, dvd_times, expand, factor_positive, factors_agree, factors_below, fits32, fits_more, ge-zero_of_mul, leaving_arith, lt-zero_of_mul, merged_arith, mul-ge-zero, mul-lt-zero, mul_cancel, pos_abs, pos_out, product_le, product_positive, quotient_le, replicate_zeros, same_positive, single-at, single-elsewhere, small_positive, times_assoc, turned_arith, unsigned_abs-neg, zero_from_bits, zero_minus, zero_or_not}
 unfoldable pub use Rattle.ta_base.proofs.Integers.{single}
-pub use Rattle.ta_base.proofs.Lists.{at_drop, done_more, get_or-neg, get_set_added, map-div-one, range_more, rest_more, write_more}
+pub use Rattle.ta_base.proofs.Lists.{done_more, get_or-neg, get_set_added, map-div-one, range_more, rest_more, write_more}
 pub use Rattle.ta_dense.specs.Bounds.{AllCombineIn32, AreBounded, AreSmall, CombinesIn32, IsBound}
 pub use Rattle.ta_dense.specs.Extending.{FirstLeaving, new_rows, raised, widened}
 pub use Rattle.ta_dense.specs.GrownPivots.{form_pivot, pivot_in_either, pivots_of}
@@ -44,3 +42,5 @@ pub use Rattle.ta_linear.specs.Rows.{AllBelow}
 pub use Rattle.ta_linear.specs.Terms.{IsNormal, coefficient}
 pub use Rattle.ta_linear.specs.declared.row.Row.{Row}
 pub use Rattle.ta_linear.specs.declared.row.System.{System}
+pub use mir.Syntax.{w128, w16, w32}
+pub use mir.Val.{SFits, of_z, to_z}

@@ -1,5 +1,4 @@
-use Rattle.ta_dense.proofs.Common.{◌≡◌, ℕ, ◌<◌, List, [], ◌∷◌, map, arith, ap, ℤ, pos, ◌+ℤ◌, ◌*ℤ◌, int_div, ◌∣◌, one-dvd, dvd_refl, dvd_trans, dvd_antisymm, ints, div_exact, divided_arith, expand, mul_cancel, IsGcd-gcd_of, gcd_of, TableauRow, divided, gcd_with, dot, EquationHolds, AllDivided}
-use Rattle.std.specs.Prelude.{unsigned_abs}
+use Rattle.ta_dense.proofs.Common.{◌≡◌, ℕ, ◌<◌, List, [], ◌∷◌, map, arith, ap, ℤ, pos, ◌+ℤ◌, ◌*ℤ◌, int_div, ◌∣◌, one-dvd, dvd_refl, dvd_trans, dvd_antisymm, ints, div_exact, divided_arith, expand, mul_cancel, IsGcd-gcd_of, gcd_of, TableauRow, divided, gcd_with, dot, EquationHolds, AllDivided, unsigned_abs}
 
 pub gcd_with_divides : (xs : List ℤ) (g : ℕ) → (gcd_with g xs ∣ g) × AllDivided (gcd_with g xs) xs
 gcd_with_divides [] g = (dvd_refl g, tt)

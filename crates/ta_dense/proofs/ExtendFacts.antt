@@ -1,5 +1,5 @@
 -- rows with more columns
-use Rattle.ta_dense.proofs.Common.{◌≡◌, ℕ, zero, suc, ◌+◌, ◌-◌, ◌<◌, ◌≤◌, List, [], ◌∷◌, ◌++◌, length, get_or, take, drop, map, replicate, arith, refl, inl, inr, sym, ap, ◌∙◌, subst, pos, length-append, length-replicate, map-append, take_more, length-map, get_or_append_left, get_or-append_right, cases_lt, All-append, All-replicate, InRange, AllBelow, IsNormal, Row, TableauRow, Tableau, merged, no_row, System, IsProper, FirstRefused, slack_rows, row_view, views, AreProper, DenseRow, raised, widened, new_rows, FirstLeaving, padded, zero_filled, KeptPivot, kept_at, chosen_row, carried, AreKept, StayInRange}
+use Rattle.ta_dense.proofs.Common.{◌≡◌, ℕ, zero, suc, ◌+◌, ◌-◌, ◌<◌, ◌≤◌, List, [], ◌∷◌, ◌++◌, length, get_or, take, drop, map, replicate, arith, refl, inl, inr, sym, ap, ◌∙◌, subst, pos, length-append, length-replicate, map-append, take_more, length-map, length-range_with_len, range_with_len, get_or_append_left, get_or-append_right, cases_lt, All-append, All-replicate, InRange, AllBelow, IsNormal, Row, TableauRow, Tableau, merged, no_row, System, IsProper, FirstRefused, slack_rows, row_view, views, AreProper, DenseRow, raised, widened, new_rows, FirstLeaving, padded, zero_filled, KeptPivot, kept_at, chosen_row, carried, AreKept, StayInRange}
 use Rattle.ta_dense.proofs.DenseFacts.{terms_at}
 
 pub IsProper-padded : (n basic columns : ℕ) (r : TableauRow) → IsProper n r → n ≤ columns → IsProper columns (padded basic columns r)
@@ -81,3 +81,7 @@ proper_joined n xs ys p q i h =
       | inl below ↦ rw (get_or_append_left (views xs) (views ys) no_row i (omega arith)) (p i below)
       | inr above ↦ rw (get_or-append_right (views xs) (views ys) (length xs) i no_row l1 above) (q (i - length xs) (omega arith))
     ])
+
+-- the names of a longer dictionary are as many as its unknowns
+pub names_long : (us nb : List ℕ) (u m : ℕ) → u ≤ m → u ≡ length us → nb ≡ map (raised u (m - u)) us ++ range_with_len u (m - u) → length nb ≡ m
+names_long us nb u m few eu names = ap (λ (xs : List ℕ). length xs) names ∙ simp (length-append, length-map, length-range_with_len) (omega arith)

@@ -1,5 +1,5 @@
 -- one more coefficient is written into the cell of its unknown
-use Rattle.ta_dense.proofs.Common.{◌≡◌, ◌≢◌, ℕ, ◌+◌, ◌<◌, ◌≤◌, List, [], length, set, get_or, drop, arith, ap, ◌∙◌, ℤ, pos, ◌+ℤ◌, get_or-set_other, replicate, ints, ext_get_or, length-map, length-set, get_or-map, length-range_with_len, get_or-range_with_len, range_with_len, replicate_zeros, at_drop, get_set_added, coefficient, IsNormal, IsNormal-le, coefficients}
+use Rattle.ta_dense.proofs.Common.{◌≡◌, ◌≢◌, ℕ, ◌+◌, ◌<◌, ◌≤◌, List, [], length, set, get_or, drop, arith, ap, ◌∙◌, ℤ, pos, ◌+ℤ◌, get_or-set_other, replicate, ints, ext_get_or, length-map, length-set, get_or-map, length-range_with_len, get_or-range_with_len, range_with_len, replicate_zeros, get_set_added, coefficient, IsNormal, IsNormal-le, coefficients, drop_more}
 use Rattle.std.proofs.Math.ListN.{drop_of_length-le}
 
 -- what is written and what is left make up the coefficients; nothing is written from a place on
@@ -12,15 +12,14 @@ pub record Filling (n : ℕ) (all left : List (ℕ × ℤ)) (cells : List ℤ) :
 
 pub fill-inside : (n : ℕ) (all ts : List (ℕ × ℤ)) (i : ℕ) (d : ℕ × ℤ) (cells : List ℤ) → Filling n all (drop i ts) cells → i < length ts → (get_or ts i d).0 < length cells
 fill-inside n all ts i d cells f h =
-    let g = rw (at_drop ts i d h) at f in
+    let g = rw (drop_more ts i d h) at f in
     let below = IsNormal-le ((get_or ts i d).0 + 1) n (drop (i + 1) ts) g.normal.2 in
-    let long = f.long in
     omega arith
 
 pub fill-more : (n : ℕ) (all ts : List (ℕ × ℤ)) (i : ℕ) (d : ℕ × ℤ) (cells : List ℤ) → Filling n all (drop i ts) cells → i < length ts → Filling n all (drop (i + 1) ts) (set cells (get_or ts i d).0 (get_or ts i d).1)
 fill-more n all ts i d cells f h =
     let t = get_or ts i d in
-    let g = rw (at_drop ts i d h) at f in
+    let g = rw (drop_more ts i d h) at f in
     let inside = fill-inside n all ts i d cells f h in
     record {
       place = t.0 + 1;
@@ -35,7 +34,6 @@ fill-end n ts i cells f h =
     let none : drop i ts ≡ [] = drop_of_length-le ts h in
     let wide = length-map (range_with_len 0 n) (coefficient ts) in
     let long = length-range_with_len 0 n in
-    let own = f.long in
     ext_get_or (pos 0) cells (coefficients n ts) (omega arith)
     (λ x below.
     (let sums = rw none at (f.sums x) in

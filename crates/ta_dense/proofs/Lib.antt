@@ -10,6 +10,7 @@ pub mod DenseFacts
 pub mod SlackRows
 pub mod SlackDictionary
 pub mod PushedRows
+pub mod ExtendFacts
 mod Dot
 mod CellSteps
 mod Unique
@@ -22,7 +23,6 @@ mod Primitive
 mod Bounded
 mod NarrowFacts
 mod SharedFacts
-mod ExtendFacts
 mod Halves
 mod EqualRows
 mod Common

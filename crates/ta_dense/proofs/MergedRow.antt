@@ -1,5 +1,4 @@
-use Rattle.ta_dense.proofs.Common.{◌≡◌, ◌⊎◌, inl, inr, ℕ, zero, suc, ◌<◌, List, ◌∷◌, length, set, arith, refl, sym, ◌∙◌, ℤ, pos, negsuc, ◌<ℤ◌, int_div, length-map, length-set, div_exact, factor_positive, factors_agree, product_positive, IsGcd-gcd_of, TableauRow, combine, cell_of, merged, merged_at, merged_by, reduced, divisor_of, factor_divisor, EquationHolds}
-use Rattle.std.specs.Prelude.{unsigned_abs}
+use Rattle.ta_dense.proofs.Common.{◌≡◌, ◌⊎◌, inl, inr, ℕ, zero, suc, ◌<◌, List, ◌∷◌, length, set, arith, refl, sym, ◌∙◌, ℤ, pos, negsuc, ◌<ℤ◌, int_div, length-map, length-set, div_exact, factor_positive, factors_agree, product_positive, IsGcd-gcd_of, TableauRow, combine, cell_of, merged, merged_at, merged_by, reduced, divisor_of, factor_divisor, EquationHolds, unsigned_abs}
 use Rattle.ta_dense.proofs.Dot.{dot-replaced}
 use Rattle.ta_dense.proofs.PivotLaws.{Holds-merged_by, length-combine}
 use Rattle.ta_dense.proofs.Divide.{gcd_with_divides, Holds-divided}

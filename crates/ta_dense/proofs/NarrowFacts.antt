@@ -19,7 +19,6 @@ pub narrow_merged_by : (n column : ℕ) (chosen r new : NarrowRow) (p q : ℤ) �
     narrow_view new ≡ merged_by p q column (narrow_view chosen) (narrow_view r) → new.bound ≡ unsigned_abs p * r.bound + unsigned_abs q * chosen.bound → IsNarrow n new
 narrow_merged_by n column chosen r new p q h positive c k within e f =
     let same : length r.cells.items ≡ length chosen.cells.items = k.proper.long ∙ sym c.proper.long in
-    let long = c.proper.long in
     narrow_from n new (merged_by p q column (narrow_view chosen) (narrow_view r)) (unsigned_abs p * r.bound + unsigned_abs q * chosen.bound) e f
     (IsProper-merged_by n p q column (narrow_view chosen) (narrow_view r) h positive c.proper k.proper (merges_by_in_range p q r.bound chosen.bound column (narrow_view chosen) (narrow_view r) same c.bounded k.bounded within))
     (IsBound-merged_by p q r.bound chosen.bound column (narrow_view chosen) (narrow_view r) same (omega arith) c.bounded k.bounded) within
@@ -30,7 +29,6 @@ narrow_reduced n r new k e f =
 
 pub narrow_turned : (n column entering : ℕ) (r new : NarrowRow) → column < n → pos 0 <ℤ cell_of (narrow_view r) column → IsNarrow n r → narrow_view new ≡ turned entering column (narrow_view r) → new.bound ≡ r.bound → IsNarrow n new
 narrow_turned n column entering r new h positive k e f =
-    let long = k.proper.long in
     narrow_from n new (turned entering column (narrow_view r)) r.bound e f (IsProper-turned n column entering (narrow_view r) h positive k.proper) (IsBound-turned r.bound entering column (narrow_view r) (omega arith) k.bounded) k.fits
 
 -- what fits 32 bits is in range

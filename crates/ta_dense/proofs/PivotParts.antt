@@ -31,15 +31,12 @@ pub pivoted_cut : (rows before after new_before new_after : List TableauRow) (ch
     new_before ++ new ∷ new_after ≡ pivoted_rows rows row column entering
 pivoted_cut rows before after new_before new_after chosen new row column entering c e f g =
     let a = at_row rows before after chosen row c in
-    let l = c.long in
     let m = length-map before (merged column chosen) in
     rw (e, f, g, a, c.whole, map-append) (sym (set_at (map (merged column chosen) before) (merged column chosen chosen) (map (merged column chosen) after) (turned entering column chosen) row (omega arith)))
 
 pub refused_before : (rows before after : List TableauRow) (chosen : TableauRow) (row column k : ℕ) → Cut rows row before chosen after → FirstRefused column chosen before k → FirstOtherRefused row column (get_or rows row no_row) rows k
 refused_before rows before after chosen row column k c f =
-    let l = c.long in
     let n = length_cut rows before after chosen row c in
-    let h = f.below in
     rw (at_row rows before after chosen row c) record {
       below = omega arith;
       apart = λ e. (absurd (omega arith));
@@ -50,7 +47,6 @@ refused_before rows before after chosen row column k c f =
 others_before : (rows before after : List TableauRow) (chosen : TableauRow) (row column k : ℕ) → Cut rows row before chosen after → RowsMergeBelow column chosen before (length before) → RowsMergeBelow column chosen after k →
     OthersMergeBelow row column chosen rows (row + 1 + k)
 others_before rows before after chosen row column k c b a i less inside apart =
-    let l = c.long in
     let n = length_cut rows before after chosen row c in
     elim (cases_order i row) [
       | inl same ↦ absurd (apart same)
@@ -67,7 +63,6 @@ pub refused_after : (rows before after : List TableauRow) (chosen : TableauRow) 
     FirstOtherRefused row column (get_or rows row no_row) rows (row + 1 + k)
 refused_after rows before after chosen row column k c b f =
     let n = length_cut rows before after chosen row c in
-    let h = f.below in
     rw (at_row rows before after chosen row c) record {
       below = omega arith;
       apart = λ e. (absurd (omega arith));

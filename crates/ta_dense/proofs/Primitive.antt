@@ -1,5 +1,4 @@
-use Rattle.ta_dense.proofs.Common.{◌≡◌, inl, inr, ℕ, zero, suc, ◌*◌, ◌<◌, List, [], ◌∷◌, length, map, set, get_or, arith, subst, ℤ, pos, neg_ℤ, ◌<ℤ◌, get_or-set_same, int_div, ◌∣◌, length-map, length-set, dvd_of_mul-dvd-mul_left, eq-one_of_dvd-one, dvd_times, unsigned_abs-neg, IsGcd-gcd_of, gcd_of, IsPrimitive, AllDivided, TableauRow, cell_of, turned, merged, reduced, divisor_of, gcd_with}
-use Rattle.std.specs.Prelude.{unsigned_abs}
+use Rattle.ta_dense.proofs.Common.{◌≡◌, inl, inr, ℕ, zero, suc, ◌*◌, ◌<◌, List, [], ◌∷◌, length, map, set, get_or, arith, subst, ℤ, pos, neg_ℤ, ◌<ℤ◌, get_or-set_same, int_div, ◌∣◌, length-map, length-set, dvd_of_mul-dvd-mul_left, eq-one_of_dvd-one, dvd_times, unsigned_abs-neg, IsGcd-gcd_of, gcd_of, IsPrimitive, AllDivided, TableauRow, cell_of, turned, merged, reduced, divisor_of, gcd_with, unsigned_abs}
 use Rattle.ta_dense.proofs.Divide.{gcd_with_divides}
 use Rattle.ta_dense.proofs.MergedRow.{merged_cases, merged_with}
 use Rattle.ta_dense.proofs.ReduceFacts.{divisor_positive}

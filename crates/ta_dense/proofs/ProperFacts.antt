@@ -1,5 +1,4 @@
-use Rattle.ta_dense.proofs.Common.{◌≡◌, ◌≢◌, inl, inr, ℕ, suc, ◌/◌, ◌<◌, List, ◌∷◌, length, map, set, get_or, arith, refl, sym, ap, ◌∙◌, ℤ, pos, negsuc, neg_ℤ, ◌<ℤ◌, ◌*ℤ◌, get_or-set_same, get_or-set_other, int_div, cases_eq, length-map, length-set, get_or-map, All-from_get_or, All-get_or, All-map, All-set, div-le_self, div_exact, factor_positive, product_positive, unsigned_abs-neg, zero_or_not, InRange, TableauRow, cell_of, combine, merged, merged_at, turned, pivoted_rows, no_row, merged_by, divisor_of, reduced, factor_divisor, IsProper, MergesByInRange, MergesInRange, OthersMergeBelow}
-use Rattle.std.specs.Prelude.{unsigned_abs}
+use Rattle.ta_dense.proofs.Common.{◌≡◌, ◌≢◌, inl, inr, ℕ, suc, ◌/◌, ◌<◌, List, ◌∷◌, length, map, set, get_or, arith, refl, sym, ap, ◌∙◌, ℤ, pos, negsuc, neg_ℤ, ◌<ℤ◌, ◌*ℤ◌, get_or-set_same, get_or-set_other, int_div, cases_eq, length-map, length-set, get_or-map, All-from_get_or, All-get_or, All-map, All-set, div-le_self, div_exact, factor_positive, product_positive, unsigned_abs-neg, zero_or_not, InRange, TableauRow, cell_of, combine, merged, merged_at, turned, pivoted_rows, no_row, merged_by, divisor_of, reduced, factor_divisor, IsProper, MergesByInRange, MergesInRange, OthersMergeBelow, unsigned_abs}
 use Rattle.ta_dense.proofs.PivotLaws.{length-combine, get_or-combine}
 use Rattle.ta_dense.proofs.Divide.{gcd_with_divides}
 use Rattle.ta_dense.proofs.ReduceFacts.{factors_positive}

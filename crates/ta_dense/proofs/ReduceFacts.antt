@@ -1,5 +1,4 @@
-use Rattle.ta_dense.proofs.Common.{◌≡◌, zero, suc, ◌<◌, ◌∷◌, map, arith, sym, ap, ◌∙◌, ℤ, pos, negsuc, ◌-ℤ◌, ◌<ℤ◌, ◌≤ℤ◌, int_div, SFits, w128, abs_natural, div-one, div_exact, factor_positive, zero_minus, map-div-one, InRange, TableauRow, divided, divisor_of, factor_divisor, IsGcd, IsGcd-gcd_of, gcd_of_is}
-use Rattle.std.specs.Prelude.{unsigned_abs}
+use Rattle.ta_dense.proofs.Common.{◌≡◌, zero, suc, ◌<◌, ◌∷◌, map, arith, sym, ap, ◌∙◌, ℤ, pos, negsuc, ◌-ℤ◌, ◌<ℤ◌, ◌≤ℤ◌, int_div, SFits, w128, abs_natural, div-one, div_exact, factor_positive, zero_minus, map-div-one, InRange, TableauRow, divided, divisor_of, factor_divisor, IsGcd, IsGcd-gcd_of, gcd_of_is, unsigned_abs}
 use Rattle.ta_dense.proofs.Divide.{gcd_with_divides}
 use Rattle.ta_dense.proofs.RowFacts.{row_same}
 

@@ -1,6 +1,5 @@
-use Rattle.ta_dense.proofs.Common.{◌≡◌, ◌⊎◌, inl, inr, ℕ, zero, suc, ◌+◌, ◌-◌, ◌<◌, ◌≤◌, List, [], ◌∷◌, length, map, get_or, arith, refl, sym, ap, ◌∙◌, subst, ℤ, pos, ◌+ℤ◌, ◌*ℤ◌, range_with_len, cases_lt, cases_eq, ints, length-map, length-range_with_len, get_or-range_with_len, eq-one_of_dvd-one, expand, single, single-at, single-elsewhere, coefficient, IsNormal, AllBelow, IsNormal-le, Row, System, ◌∣◌, TableauRow, no_row, IsPrimitive, dot, IsDictionary, EquationHolds, slack_tableau, slack_rows, coefficients, variables, IsAssignment, SlacksFollow, slack_at}
+use Rattle.ta_dense.proofs.Common.{◌≡◌, ◌⊎◌, inl, inr, ℕ, zero, suc, ◌+◌, ◌-◌, ◌<◌, ◌≤◌, List, [], ◌∷◌, length, map, get_or, arith, refl, sym, ap, ◌∙◌, subst, ℤ, pos, ◌+ℤ◌, ◌*ℤ◌, range_with_len, cases_lt, cases_eq, ints, length-map, length-range_with_len, get_or-range_with_len, eq-one_of_dvd-one, expand, single, single-at, single-elsewhere, coefficient, IsNormal, AllBelow, IsNormal-le, Row, System, ◌∣◌, TableauRow, no_row, IsPrimitive, dot, IsDictionary, EquationHolds, slack_tableau, slack_rows, coefficients, variables, IsAssignment, SlacksFollow, slack_at, unsigned_abs}
 use Rattle.ta_linear.specs.Values.{terms_value}
-use Rattle.std.specs.Prelude.{unsigned_abs}
 
 dot-map-add : (f g : ℕ → ℤ) (us : List ℕ) (value : ℕ → ℤ) → dot (map (λ v. f v +ℤ g v) us) us value ≡ dot (map f us) us value +ℤ dot (map g us) us value
 dot-map-add f g [] value = refl

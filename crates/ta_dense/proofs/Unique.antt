@@ -1,5 +1,4 @@
-use Rattle.ta_dense.proofs.Common.{◌≡◌, ◌≢◌, ℕ, zero, suc, ◌+◌, ◌*◌, ◌/◌, ◌%◌, ◌<◌, List, [], ◌∷◌, length, get_or, arith, refl, sym, ap, ◌∙◌, subst, ℤ, pos, ◌+ℤ◌, ◌*ℤ◌, ◌∣◌, ints, ext_get_or, div-add-mod', dvd_antisymm, dvd-mul_right_of_dvd, dvd-add_iff_right, cancel_positive, cross_arith, dvd_cross, mul_cancel, same_positive, single, single-at, single-elsewhere, TableauRow, Tableau, non_basic_of, gcd_with, IsDictionaryRow, dot, IsDictionary, gcd_within, gcd_of}
-use Rattle.std.specs.Prelude.{unsigned_abs}
+use Rattle.ta_dense.proofs.Common.{◌≡◌, ◌≢◌, ℕ, zero, suc, ◌+◌, ◌*◌, ◌/◌, ◌%◌, ◌<◌, List, [], ◌∷◌, length, get_or, arith, refl, sym, ap, ◌∙◌, subst, ℤ, pos, ◌+ℤ◌, ◌*ℤ◌, ◌∣◌, ints, ext_get_or, div-add-mod', dvd_antisymm, dvd-mul_right_of_dvd, dvd-add_iff_right, cancel_positive, cross_arith, dvd_cross, mul_cancel, same_positive, single, single-at, single-elsewhere, TableauRow, Tableau, non_basic_of, gcd_with, IsDictionaryRow, dot, IsDictionary, gcd_within, gcd_of, unsigned_abs}
 use Rattle.std.proofs.Math.IntN.{*ℤ_comm}
 use Rattle.ta_dense.proofs.Dot.{dot-change, dot-scaled}
 use Rattle.ta_dense.proofs.Primitive.{primitive_divisor}

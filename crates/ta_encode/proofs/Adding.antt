@@ -1,5 +1,5 @@
 -- rows that are written one after another
-use Rattle.ta_encode.proofs.Common.{◌≡◌, ℕ, suc, ℤ, pos, ◌+◌, ◌<◌, ◌≤◌, ◌-ℤ◌, List, [], ◌∷◌, ◌++◌, length, map, get_or, take, Bool, true, false, cond, arith, sym, ap, ◌∙◌, refl, subst, append_assoc, flat_map, take_more, map-append, has_bit, less_none, one_term_value, append_nil, length_take, map_same, map_twice, below_append, AllBelow, IsNormal, terms_value, Form, Row, Automaton, location_place, Meaning, place_coefficient, LinearRow, negated, form_row, counter_row, guard_rows, start_guard_rows, IsRowOf, AreRowsOf, line_row, line_coefficient, Adds, Draft, AreWritten, IsBehind, AddsRows, in_sense, constant_in_sense, start_sense, Sense, Plain, Opposite, Negated}
+use Rattle.ta_encode.proofs.Common.{◌≡◌, ℕ, suc, ℤ, pos, ◌+◌, ◌<◌, ◌≤◌, ◌-ℤ◌, List, [], ◌∷◌, ◌++◌, length, map, get_or, take, Bool, true, false, cond, arith, sym, ap, ◌∙◌, refl, subst, append_assoc, flat_map, take_more, map-append, has_bit, less_none, one_term_value, map_same, below_append, AllBelow, IsNormal, terms_value, Form, Row, Automaton, location_place, Meaning, place_coefficient, LinearRow, negated, form_row, counter_row, guard_rows, start_guard_rows, IsRowOf, AreRowsOf, line_row, line_coefficient, Adds, Draft, AreWritten, IsBehind, AddsRows, in_sense, constant_in_sense, start_sense, Sense, Plain, Opposite, Negated, map-map, append-nil, length-take-le}
 use Rattle.std.proofs.lemmas.Grind.{flat_map-append}
 
 with_coefficients : (c : ℤ) (xs ys : List ℤ) (row : Row) → xs ≡ ys → IsRowOf (record { constant = c; coefficients = xs }) row → IsRowOf (record { constant = c; coefficients = ys }) row
@@ -9,8 +9,8 @@ with_coefficients c xs ys row e h = subst (λ zs. IsRowOf (record { constant = c
 pub line_in_sense : (a : Automaton) (ms : List Meaning) (ts : List (ℕ × ℤ)) (less_starts : Bool) (sense : Sense) (constant : ℤ) (row : Row) → IsRowOf (line_row a ms ts less_starts sense (constant_in_sense sense constant)) row
     → IsRowOf (in_sense sense (line_row a ms ts less_starts Plain constant)) row
 line_in_sense a ms ts less_starts Plain constant row h = h
-line_in_sense a ms ts less_starts Opposite constant row h = with_coefficients (pos 0 -ℤ constant) _ _ row (sym (map_twice (λ c. pos 0 -ℤ c) (line_coefficient a ts less_starts Plain) ms)) h
-line_in_sense a ms ts less_starts Negated constant row h = with_coefficients ((pos 0 -ℤ constant) -ℤ pos 1) _ _ row (sym (map_twice (λ c. pos 0 -ℤ c) (line_coefficient a ts less_starts Plain) ms)) h
+line_in_sense a ms ts less_starts Opposite constant row h = with_coefficients (pos 0 -ℤ constant) _ _ row (sym (map-map (λ c. pos 0 -ℤ c) (line_coefficient a ts less_starts Plain) ms)) h
+line_in_sense a ms ts less_starts Negated constant row h = with_coefficients ((pos 0 -ℤ constant) -ℤ pos 1) _ _ row (sym (map-map (λ c. pos 0 -ℤ c) (line_coefficient a ts less_starts Plain) ms)) h
 
 pub form_plain : (a : Automaton) (ms : List Meaning) (f : Form) → line_row a ms f.terms false Plain f.constant ≡ form_row a ms f
 form_plain a ms f =
@@ -32,7 +32,7 @@ pub behind_join : {X : Type 0} (before middle after : List X) → IsBehind befor
 behind_join {X = X} before middle after h g = record { more = h.more ++ g.more; is = g.is ∙ ap (λ (xs : List X). xs ++ g.more) h.is ∙ append_assoc before h.more g.more }
 
 pub adds_none : (n : ℕ) (before : List Row) → AddsRows [] n before before
-adds_none n before = record { rows = λ done h. subst (λ (ls : List LinearRow). AreWritten ls n before) (sym (append_nil done)) h; behind = record { more = []; is = sym (append_nil before) } }
+adds_none n before = record { rows = λ done h. subst (λ (ls : List LinearRow). AreWritten ls n before) (sym (append-nil done)) h; behind = record { more = []; is = sym (append-nil before) } }
 
 pub adds_one : (n : ℕ) (before after : List Row) (l : LinearRow) (row : Row) → IsRowOf l row → IsNormal 0 n row.form.terms → after ≡ before ++ row ∷ [] → AddsRows (l ∷ []) n before after
 adds_one n before after l row is below e = record {
@@ -54,7 +54,7 @@ pub map_more : {X : Type 0} (f : X → LinearRow) (xs : List X) (i : ℕ) (d : X
 map_more f xs i d b = sym (ap (map f) (take_more xs i d b) ∙ map-append f (take i xs) (get_or xs i d ∷ []))
 
 pub flat_more : {X : Type 0} (f : X → List LinearRow) (xs : List X) (i : ℕ) (d : X) → i < length xs → flat_map f (take i xs) ++ f (get_or xs i d) ≡ flat_map f (take (i + 1) xs)
-flat_more f xs i d b = sym (ap (flat_map f) (take_more xs i d b) ∙ flat_map-append f (take i xs) (get_or xs i d ∷ []) ∙ ap (λ ys. flat_map f (take i xs) ++ ys) (append_nil (f (get_or xs i d))))
+flat_more f xs i d b = sym (ap (flat_map f) (take_more xs i d b) ∙ flat_map-append f (take i xs) (get_or xs i d ∷ []) ∙ ap (λ ys. flat_map f (take i xs) ++ ys) (append-nil (f (get_or xs i d))))
 
 guard_append : (a : Automaton) (ms : List Meaning) (test : ℕ → Bool) (k : ℕ) (xs ys : List Row) → guard_rows a ms test k (xs ++ ys) ≡ guard_rows a ms test k xs ++ guard_rows a ms test (k + length xs) ys
 guard_append a ms test k [] ys = ap (λ n. guard_rows a ms test n ys) (let e : k ≡ k + 0 = omega arith in e)
@@ -71,7 +71,7 @@ pub guard_taken : (a : Automaton) (ms : List Meaning) (test : ℕ → Bool) (sen
 guard_taken a ms test sense xs i d b t =
     let x = get_or xs i d in
     let more : guard_rows a ms test 0 (take (i + 1) xs) ≡ guard_rows a ms test 0 (take i xs) ++ form_row a ms x.form ∷ [] =
-    ap (guard_rows a ms test 0) (take_more xs i d b) ∙ guard_append a ms test 0 (take i xs) (x ∷ []) ∙ ap (λ n. guard_rows a ms test 0 (take i xs) ++ guard_rows a ms test n (x ∷ [])) (let e = length_take xs i (omega arith) in let f : 0 + length (take i xs) ≡ i = omega arith in f)
+    ap (guard_rows a ms test 0) (take_more xs i d b) ∙ guard_append a ms test 0 (take i xs) (x ∷ []) ∙ ap (λ n. guard_rows a ms test 0 (take i xs) ++ guard_rows a ms test n (x ∷ [])) (let e = length-take-le i xs (omega arith) in let f : 0 + length (take i xs) ≡ i = omega arith in f)
     ∙ ap (λ c. guard_rows a ms test 0 (take i xs) ++ cond c (form_row a ms x.form ∷ []) []) t in
     sym (ap (map (in_sense sense)) more ∙ map-append (in_sense sense) (guard_rows a ms test 0 (take i xs)) (form_row a ms x.form ∷ []))
 
@@ -80,8 +80,8 @@ pub guard_left : (a : Automaton) (ms : List Meaning) (test : ℕ → Bool) (sens
 guard_left a ms test sense xs i d b t =
     let x = get_or xs i d in
     let more : guard_rows a ms test 0 (take (i + 1) xs) ≡ guard_rows a ms test 0 (take i xs) =
-    ap (guard_rows a ms test 0) (take_more xs i d b) ∙ guard_append a ms test 0 (take i xs) (x ∷ []) ∙ ap (λ n. guard_rows a ms test 0 (take i xs) ++ guard_rows a ms test n (x ∷ [])) (let e = length_take xs i (omega arith) in let f : 0 + length (take i xs) ≡ i = omega arith in f)
-    ∙ ap (λ c. guard_rows a ms test 0 (take i xs) ++ cond c (form_row a ms x.form ∷ []) []) t ∙ append_nil (guard_rows a ms test 0 (take i xs)) in
+    ap (guard_rows a ms test 0) (take_more xs i d b) ∙ guard_append a ms test 0 (take i xs) (x ∷ []) ∙ ap (λ n. guard_rows a ms test 0 (take i xs) ++ guard_rows a ms test n (x ∷ [])) (let e = length-take-le i xs (omega arith) in let f : 0 + length (take i xs) ≡ i = omega arith in f)
+    ∙ ap (λ c. guard_rows a ms test 0 (take i xs) ++ cond c (form_row a ms x.form ∷ []) []) t ∙ append-nil (guard_rows a ms test 0 (take i xs)) in
     sym (ap (map (in_sense sense)) more)
 
 start_append : (a : Automaton) (ms : List Meaning) (start k : ℕ) (xs ys : List Row) → start_guard_rows a ms start k (xs ++ ys) ≡ start_guard_rows a ms start k xs ++ start_guard_rows a ms start (k + length xs) ys
@@ -93,7 +93,7 @@ pub start_more : (a : Automaton) (ms : List Meaning) (start : ℕ) (xs : List Ro
     → start_guard_rows a ms start 0 (take i xs) ++ in_sense (start_sense (has_bit start i)) (form_row a ms (get_or xs i d).form) ∷ [] ≡ start_guard_rows a ms start 0 (take (i + 1) xs)
 start_more a ms start xs i d b =
     let x = get_or xs i d in
-    sym (ap (start_guard_rows a ms start 0) (take_more xs i d b) ∙ start_append a ms start 0 (take i xs) (x ∷ []) ∙ ap (λ n. start_guard_rows a ms start 0 (take i xs) ++ start_guard_rows a ms start n (x ∷ [])) (let e = length_take xs i (omega arith) in let f : 0 + length (take i xs) ≡ i = omega arith in f)
+    sym (ap (start_guard_rows a ms start 0) (take_more xs i d b) ∙ start_append a ms start 0 (take i xs) (x ∷ []) ∙ ap (λ n. start_guard_rows a ms start 0 (take i xs) ++ start_guard_rows a ms start n (x ∷ [])) (let e = length-take-le i xs (omega arith) in let f : 0 + length (take i xs) ≡ i = omega arith in f)
     ∙ ap (λ l. start_guard_rows a ms start 0 (take i xs) ++ l ∷ []) (sensed (has_bit start i) (form_row a ms x.form)))
   where
     sensed : (c : Bool) (l : LinearRow) → cond c (negated l) l ≡ in_sense (start_sense c) l
@@ -103,8 +103,8 @@ start_more a ms start xs i d b =
 pub guards_same : (a : Automaton) (ms : List Meaning) (f g : ℕ → Bool) (k n : ℕ) (rs : List Row) → ((i : ℕ) → i < n → f i ≡ g i) → k + length rs ≤ n → guard_rows a ms f k rs ≡ guard_rows a ms g k rs
 guards_same a ms f g k n [] h b = refl
 guards_same a ms f g k n (r ∷ rs) h b =
-    ap (λ ls. cond (f k) (form_row a ms r.form ∷ ls) ls) (guards_same a ms f g (k + 1) n rs h (omega arith))
-    ∙ ap (λ c. cond c (form_row a ms r.form ∷ guard_rows a ms g (k + 1) rs) (guard_rows a ms g (k + 1) rs)) (h k (omega arith))
+    let more = guards_same a ms f g (k + 1) n rs h (omega arith) in
+    λ i. cond (h k (omega arith) i) (form_row a ms r.form ∷ more i) (more i)
 
 pub as_they_are : (ls : List LinearRow) → map (in_sense Plain) ls ≡ ls
 as_they_are [] = refl

@@ -1,10 +1,9 @@
 -- the first configuration of a solution is initial, and its values are those of the empty word
-use Rattle.ta_encode.proofs.Common.{◌≡◌, ◌≢◌, ◌⊎◌, inl, inr, ℕ, ◌+◌, ◌<◌, ℤ, pos, ◌*ℤ◌, ◌≤ℤ◌, List, [], ◌∷◌, ◌++◌, map, length, not, arith, sym, ap, ◌∙◌, refl, subst, get_or, sum, length-map, ints, false≢true, cases_lt, not-true, zero-*ℤ, by_one, mul-ge-zero, natural, pos_natural, contains_of, filter_passes, in_all, in_append, in_map, at_index, in_numbers, length_numbers, past_numbers, rises_below, terms_value, Automaton, Pattern, Config, value_at, Initial, has_bit, numbers_from, In, Element, has_event, has_rise, Meaning, Parameter, Start, start_locations, start_meanings, meanings, place_coefficient, one_if, location_place, opposite, processes_row, start_coefficient, condition_rows, start_guard_rows, start_rows, word_rows, sum_of_products, AllHold, total, total-zero, total-same, one_inside, terms_value-same, place_cases, value_at-parameter, value_at-shared, value_at-location, one_if-ne, one_if-shift, one_if-natural, Whole, fits_whole, resilience_at}
+use Rattle.ta_encode.proofs.Common.{◌≡◌, ◌≢◌, ◌⊎◌, inl, inr, ℕ, ◌+◌, ◌<◌, ℤ, pos, ◌*ℤ◌, ◌≤ℤ◌, List, [], ◌∷◌, ◌++◌, map, length, not, arith, sym, ap, ◌∙◌, refl, subst, get_or, sum, length-map, ints, false≢true, cases_lt, not-true, zero-*ℤ, by_one, mul-ge-zero, natural, pos_natural, contains_of, in_append, in_map, at_index, in_numbers, past_numbers, rises_below, terms_value, Automaton, Pattern, Config, value_at, Initial, has_bit, range_with_len, In, Element, has_event, has_rise, Meaning, Parameter, Start, start_locations, start_meanings, meanings, place_coefficient, one_if, location_place, opposite, processes_row, start_coefficient, condition_rows, start_guard_rows, start_rows, word_rows, sum_of_products, AllHold, total, total-zero, total-same, one_inside, terms_value-same, place_cases, value_at-parameter, value_at-shared, value_at-location, one_if-ne, one_if-shift, one_if-natural, Whole, fits_whole, resilience_at, processes_value as processes_at, in_filter, length-range_with_len}
 use Rattle.ta_encode.proofs.Combine.{combine-zero, combine-add, combine-minus, combine-terms}
 use Rattle.ta_encode.proofs.Moments.{opposite_value, AllHold-left}
 use Rattle.ta_encode.proofs.Start.{sum_total, one_if_comm, start_rises}
 use Rattle.ta_encode.proofs.Switch.{KeptEmpty}
-use Rattle.ta_automaton.proofs.Thresholds.{processes_value as processes_at}
 use Rattle.ta_encode.proofs.Appending.{trail_begun}
 use Rattle.ta_encode.proofs.Values.{place_value, AllHold-right, condition_back}
 use Rattle.ta_encode.proofs.Safety.{prefix_rows, take_apart}
@@ -36,8 +35,8 @@ total-combine f (l ∷ ls) ms vs = omega (arith, ints, total-combine f ls ms vs,
 -- an unknown at the start
 in_start : (a : Automaton) (p : Pattern) (m : Meaning) → In m (start_meanings a p) → ((i : ℕ) × (i < length a.parameters) × (m ≡ Parameter i)) ⊎ ((l : ℕ) × In l (start_locations a p) × (m ≡ Start l))
 unfolding start_meanings
-in_start a p m h = elim (in_append m (map Parameter (numbers_from 0 (length a.parameters))) (map Start (start_locations a p)) h) [
-  | inl i ↦ (let w = in_map Parameter m (numbers_from 0 (length a.parameters)) i in inl (w.0, (let high = (in_numbers w.0 0 (length a.parameters) w.1).1 in omega arith), w.2))
+in_start a p m h = elim (in_append m (map Parameter (range_with_len 0 (length a.parameters))) (map Start (start_locations a p)) h) [
+  | inl i ↦ (let w = in_map Parameter m (range_with_len 0 (length a.parameters)) i in inl (w.0, (let high = (in_numbers w.0 0 (length a.parameters) w.1).1 in omega arith), w.2))
   | inr i ↦ (let w = in_map Start m (start_locations a p) i in inr (w.0, w.1, w.2))
 ]
 
@@ -56,16 +55,16 @@ natural_place a p vs i = combine-on_natural (λ m. place_coefficient a m i) (sta
 -- the first configuration of a solution
 abbrev pub first_of : Automaton → Pattern → List ℕ → Config
 first_of a p vs = record {
-  parameters = map (λ i. natural (place_value a (start_meanings a p) vs i)) (numbers_from 0 (length a.parameters));
-  shared = map (λ x. 0) (numbers_from 0 (length a.shared));
-  counters = map (λ l. natural (place_value a (start_meanings a p) vs (location_place a l))) (numbers_from 0 (length a.locations));
+  parameters = map (λ i. natural (place_value a (start_meanings a p) vs i)) (range_with_len 0 (length a.parameters));
+  shared = map (λ x. 0) (range_with_len 0 (length a.shared));
+  counters = map (λ l. natural (place_value a (start_meanings a p) vs (location_place a l))) (range_with_len 0 (length a.locations));
 }
 
 first_whole : (a : Automaton) (p : Pattern) (vs : List ℕ) → Whole a (first_of a p vs)
 first_whole a p vs = record {
-  parameters = length-map (numbers_from 0 (length a.parameters)) _ ∙ length_numbers 0 (length a.parameters);
-  shared = length-map (numbers_from 0 (length a.shared)) _ ∙ length_numbers 0 (length a.shared);
-  counters = length-map (numbers_from 0 (length a.locations)) _ ∙ length_numbers 0 (length a.locations);
+  parameters = length-map (range_with_len 0 (length a.parameters)) _ ∙ length-range_with_len 0 (length a.parameters);
+  shared = length-map (range_with_len 0 (length a.shared)) _ ∙ length-range_with_len 0 (length a.shared);
+  counters = length-map (range_with_len 0 (length a.locations)) _ ∙ length-range_with_len 0 (length a.locations);
 }
 
 pub start_below : (a : Automaton) (p : Pattern) (l : ℕ) → In l (start_locations a p) → l < length a.locations
@@ -107,8 +106,8 @@ counters_sum a p vs =
     let c = first_of a p vs in
     let fits = fits_whole a c (first_whole a p vs) in
     let sm = start_meanings a p in
-    let nums = numbers_from 0 (length a.locations) in
-    let all = subst (λ (k : ℕ). total (λ l. pos (get_or c.counters l 0)) (numbers_from 0 k) ≡ pos (sum c.counters)) (first_whole a p vs).counters (sum_total c.counters) in
+    let nums = range_with_len 0 (length a.locations) in
+    let all = subst (λ (k : ℕ). total (λ l. pos (get_or c.counters l 0)) (range_with_len 0 k) ≡ pos (sum c.counters)) (first_whole a p vs).counters (sum_total c.counters) in
     let each = total-same (λ l. pos (get_or c.counters l 0)) (λ l. sum_of_products (map (λ m. place_coefficient a m (location_place a l)) sm) vs) nums (λ l. sym (value_at-location a c l fits) ∙ first_values a p vs (location_place a l)) in
     let swap = total-combine (λ m l. place_coefficient a m (location_place a l)) nums sm vs in
     let n = length a.parameters + length a.shared in
@@ -148,7 +147,7 @@ first_initial a p vs h =
       admissible = record { count = (first_whole a p vs).parameters; resilience = resilience_at a c (first_whole a p vs).parameters (condition_back a ms vs c (first_values a p vs) a.resilience.comparisons h.resilience) };
       shared_count = (first_whole a p vs).shared;
       locations_count = (first_whole a p vs).counters;
-      others_empty = λ l out. counter_none a p vs l (λ i. out (contains_of a.initial l (in_all (λ k. not (has_bit p.empty k)) l a.initial i)));
+      others_empty = λ l out. counter_none a p vs l (λ i. out (contains_of a.initial l ((in_filter (λ k. not (has_bit p.empty k)) l a.initial i).1)));
       processes = omega (arith, ints, processes_at a c (first_whole a p vs).parameters, minus, terms, same, counters_sum a p vs, h.processes.0, h.processes.1.0, opposite_value vs (processes_row a ms));
       shared_zero = shared_none a p vs;
     }
@@ -156,7 +155,7 @@ first_initial a p vs h =
 pub begin_at : (a : Automaton) (p : Pattern) (start : ℕ) (vs : List ℕ) → At a p start [] vs (meanings a p start []) (first_of a p vs) [] (λ e. 0)
 unfolding meanings has_event has_rise
 begin_at a p start vs =
-    let begun = trail_begun a (KeptEmpty p) (first_of a p vs) (λ l t. counter_none a p vs l (λ i. false≢true (sym (not-true _ (filter_passes (λ k. not (has_bit p.empty k)) l a.initial i)) ∙ t))) in
+    let begun = trail_begun a (KeptEmpty p) (first_of a p vs) (λ l t. counter_none a p vs l (λ i. false≢true (sym (not-true _ ((in_filter (λ k. not (has_bit p.empty k)) l a.initial i).0)) ∙ t))) in
     record {
       config = first_of a p vs;
       trail = begun.trail;

@@ -1,5 +1,5 @@
 -- the unknowns and rows of a word, element by element
-use Rattle.ta_encode.proofs.Common.{Bool, ◌≡◌, ℕ, pos, negsuc, ◌+◌, ◌-◌, ◌*◌, ◌≤◌, ◌-ℤ◌, List, [], ◌∷◌, ◌++◌, length, map, reverse, not, ◌||◌, bit_or, slice_get, arith, sym, ap, ◌∙◌, refl, subst, append_assoc, length-append, filter, ◌==◌, map-append, length-map, length-reverse, has_or, each_from_at, filter_same, filter_shorter, map_constant, map_twice, length_numbers, rises_length, AllBelow, Row, IsNormal-higher, has_bit, numbers_from, Automaton, Pattern, Element, Event, Rise, Fall, LegalWord, may_fire, allowed_rules, has_fallen, legal_length, Meaning, Count, Single, Start, Parameter, meanings, start_meanings, start_locations, counts_after, singles_after, LinearRow, opposite, negated, singles_row, start_rows, event_rows, guard_rows, standing_rows, rise_rows, happening_rows, fall_rows, word_rows, condition_rows, processes_row, start_guard_rows, AreWritten, IsBehind, SmallCondition, SmallEvents, block_row, counters_outside, firing, Adds, AddsUnknowns, Continues, IsDraft, Draft, Origin, Plain, Opposite}
+use Rattle.ta_encode.proofs.Common.{Bool, ◌≡◌, ℕ, pos, negsuc, ◌+◌, ◌-◌, ◌*◌, ◌≤◌, ◌-ℤ◌, List, [], ◌∷◌, ◌++◌, length, map, reverse, not, ◌||◌, bit_or, slice_get, arith, sym, ap, ◌∙◌, refl, subst, append_assoc, length-append, filter, ◌==◌, map-append, length-map, length-reverse, has_or, each_from_at, filter_shorter, map_constant, rises_length, AllBelow, Row, IsNormal-higher, has_bit, range_with_len, Automaton, Pattern, Element, Event, Rise, Fall, LegalWord, may_fire, allowed_rules, has_fallen, legal_length, Meaning, Count, Single, Start, Parameter, meanings, start_meanings, start_locations, counts_after, singles_after, LinearRow, opposite, negated, singles_row, start_rows, event_rows, guard_rows, standing_rows, rise_rows, happening_rows, fall_rows, word_rows, condition_rows, processes_row, start_guard_rows, AreWritten, IsBehind, SmallCondition, SmallEvents, block_row, counters_outside, firing, Adds, AddsUnknowns, Continues, IsDraft, Draft, Origin, Plain, Opposite, map-map, filter_agree, length-range_with_len}
 use Rattle.ta_base.proofs.Lists.{longer}
 use Rattle.ta_automaton.specs.Patterns.{EventWithin, PatternOver}
 use Rattle.ta_words.specs.declared.task.Task.{Task}
@@ -15,19 +15,19 @@ widen ls n m rows h w = record { rows_of = w.rows_of; below = below_more n m row
 
 -- the firings of a mask of allowed rules
 pub fired_after : (single : Bool) (o : Origin) (before : List Element) (allowed : ℕ) {draft grown : Draft} → ((r : ℕ) → has_bit allowed r ≡ may_fire o.task.automaton.now o.task.pattern.now o.start_mask (reverse before) (slice_get o.task.automaton.now.rules r)) → draft.automaton.now ≡ o.task.automaton.now
-    → AddsUnknowns (map (firing single (length before)) (filter (has_bit allowed) (numbers_from 0 (length draft.automaton.now.rules)))) draft grown
+    → AddsUnknowns (map (firing single (length before)) (filter (has_bit allowed) (range_with_len 0 (length draft.automaton.now.rules)))) draft grown
     → AddsUnknowns (map (firing single (length (reverse before))) (allowed_rules o.task.automaton.now o.task.pattern.now o.start_mask (reverse before))) draft grown
 unfolding allowed_rules
 fired_after single o before allowed {draft = draft} {grown = grown} may e added =
     let a = o.task.automaton.now in
-    let same = ap (λ (b : Automaton). map (firing single (length before)) (filter (has_bit allowed) (numbers_from 0 (length b.rules)))) e
-    ∙ ap (map (firing single (length before))) (filter_same (has_bit allowed) (λ r. may_fire a o.task.pattern.now o.start_mask (reverse before) (slice_get a.rules r)) (numbers_from 0 (length a.rules)) may)
+    let same = ap (λ (b : Automaton). map (firing single (length before)) (filter (has_bit allowed) (range_with_len 0 (length b.rules)))) e
+    ∙ ap (map (firing single (length before))) (filter_agree (has_bit allowed) (λ r. may_fire a o.task.pattern.now o.start_mask (reverse before) (slice_get a.rules r)) may (range_with_len 0 (length a.rules)))
     ∙ ap (λ n. map (firing single n) (allowed_rules a o.task.pattern.now o.start_mask (reverse before))) (sym (length-reverse before)) in
     subst (λ (ms : List Meaning). AddsUnknowns ms draft grown) same added
 
 allowed_few : (a : Automaton) (p : Pattern) (start : ℕ) (past : List Element) → length (allowed_rules a p start past) ≤ 128
 unfolding allowed_rules
-allowed_few a p start past = omega (arith, filter_shorter (λ r. may_fire a p start past (slice_get a.rules r)) (numbers_from 0 (length a.rules)), length_numbers 0 (length a.rules), a.shape.limits.rules_limit)
+allowed_few a p start past = omega (arith, filter_shorter (λ r. may_fire a p start past (slice_get a.rules r)) (range_with_len 0 (length a.rules)), length-range_with_len 0 (length a.rules), a.shape.limits.rules_limit)
 
 pub counts_few : (a : Automaton) (p : Pattern) (start : ℕ) (past : List Element) → length (counts_after a p start past) ≤ 128
 counts_few a p start past = omega (arith, length-map (allowed_rules a p start past) (λ r. Count (length past) r), allowed_few a p start past)
@@ -41,10 +41,10 @@ start_few a p =
     let least : 0 ≤ length a.locations = omega arith in
     omega (
       arith,
-      length-append (map Parameter (numbers_from 0 (length a.parameters))) (map Start (start_locations a p)),
-      length-map (numbers_from 0 (length a.parameters)) Parameter,
+      length-append (map Parameter (range_with_len 0 (length a.parameters))) (map Start (start_locations a p)),
+      length-map (range_with_len 0 (length a.parameters)) Parameter,
       length-map (start_locations a p) Start,
-      length_numbers 0 (length a.parameters),
+      length-range_with_len 0 (length a.parameters),
       filter_shorter (λ l. not (has_bit p.empty l)) a.initial,
       rises_length 0 (length a.locations) a.initial least a.shape.initial_rises,
       a.shape.limits.parameters_limit,
@@ -124,19 +124,19 @@ event_drafted o past x fallen d h stand added =
 -- the two rows of Singles
 singles_block : (before : List Meaning) (rules : List ℕ) (from to : ℕ) → from ≡ length before → to ≡ from + length rules → block_row (negsuc 0) from to Plain ≡ singles_row before rules
 singles_block before rules from to e f =
-    let first = map_constant (pos 0) (numbers_from 0 from) before (length_numbers 0 from ∙ e) in
-    let count : length (numbers_from from (to - from)) ≡ length rules = length_numbers from (to - from) ∙ (omega arith) in
-    let second = map_constant (pos 1) (numbers_from from (to - from)) rules count in
-    ap (λ cs. record { constant = negsuc 0; coefficients = cs }) (ap (λ cs. cs ++ map (λ k. pos 1) (numbers_from from (to - from))) first ∙ ap (λ cs. map (λ m. pos 0) before ++ cs) second)
+    let first = map_constant (pos 0) (range_with_len 0 from) before (length-range_with_len 0 from ∙ e) in
+    let count : length (range_with_len from (to - from)) ≡ length rules = length-range_with_len from (to - from) ∙ (omega arith) in
+    let second = map_constant (pos 1) (range_with_len from (to - from)) rules count in
+    ap (λ cs. record { constant = negsuc 0; coefficients = cs }) (ap (λ cs. cs ++ map (λ k. pos 1) (range_with_len from (to - from))) first ∙ ap (λ cs. map (λ m. pos 0) before ++ cs) second)
 
 opposite_block : (before : List Meaning) (rules : List ℕ) (from to : ℕ) → from ≡ length before → to ≡ from + length rules → block_row (pos 1) from to Opposite ≡ opposite (singles_row before rules)
 opposite_block before rules from to e f =
-    let first = map_constant (pos 0) (numbers_from 0 from) before (length_numbers 0 from ∙ e) in
-    let count : length (numbers_from from (to - from)) ≡ length rules = length_numbers from (to - from) ∙ (omega arith) in
-    let second = map_constant (negsuc 0) (numbers_from from (to - from)) rules count in
+    let first = map_constant (pos 0) (range_with_len 0 from) before (length-range_with_len 0 from ∙ e) in
+    let count : length (range_with_len from (to - from)) ≡ length rules = length-range_with_len from (to - from) ∙ (omega arith) in
+    let second = map_constant (negsuc 0) (range_with_len from (to - from)) rules count in
     let turned_parts : map (λ c. pos 0 -ℤ c) (map (λ m. pos 0) before ++ map (λ r. pos 1) rules) ≡ map (λ m. pos 0) before ++ map (λ r. negsuc 0) rules =
-    map-append (λ c. pos 0 -ℤ c) (map (λ m. pos 0) before) (map (λ r. pos 1) rules) ∙ ap (λ cs. cs ++ map (λ c. pos 0 -ℤ c) (map (λ r. pos 1) rules)) (map_twice (λ c. pos 0 -ℤ c) (λ m. pos 0) before) ∙ ap (λ cs. map (λ m. pos 0) before ++ cs) (map_twice (λ c. pos 0 -ℤ c) (λ r. pos 1) rules) in
-    ap (λ cs. record { constant = pos 1; coefficients = cs }) (ap (λ cs. cs ++ map (λ k. negsuc 0) (numbers_from from (to - from))) first ∙ ap (λ cs. map (λ m. pos 0) before ++ cs) second ∙ sym turned_parts)
+    map-append (λ c. pos 0 -ℤ c) (map (λ m. pos 0) before) (map (λ r. pos 1) rules) ∙ ap (λ cs. cs ++ map (λ c. pos 0 -ℤ c) (map (λ r. pos 1) rules)) (map-map (λ c. pos 0 -ℤ c) (λ m. pos 0) before) ∙ ap (λ cs. map (λ m. pos 0) before ++ cs) (map-map (λ c. pos 0 -ℤ c) (λ r. pos 1) rules) in
+    ap (λ cs. record { constant = pos 1; coefficients = cs }) (ap (λ cs. cs ++ map (λ k. negsuc 0) (range_with_len from (to - from))) first ∙ ap (λ cs. map (λ m. pos 0) before ++ cs) second ∙ sym turned_parts)
 
 pub fall_drafted : (o : Origin) (past : List Element) (falls fallen from : ℕ) {before grown fell more block after : Draft} → IsDraft o past before → AddsUnknowns (counts_after o.task.automaton.now o.task.pattern.now o.start_mask past) before grown → AddsUnknowns (singles_after o.task.automaton.now o.task.pattern.now o.start_mask past) fell more
     → ((j : ℕ) → has_bit fallen j ≡ has_fallen o.start_mask (Fall falls ∷ past) j) → from ≡ length grown.meanings.items

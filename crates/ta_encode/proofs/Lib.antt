@@ -37,4 +37,5 @@ mod Naming
 pub mod Samples
 pub mod SystemsExist
 pub mod Ended
+pub mod SameSystems
 mod Common

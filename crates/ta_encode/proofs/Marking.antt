@@ -1,6 +1,5 @@
 -- marks: one more, and fewer
-use Rattle.ta_encode.proofs.Common.{◌≡◌, inl, inr, ℕ, ◌+◌, ◌<◌, ◌≤◌, List, [], ◌∷◌, ◌++◌, length, reverse, take, arith, refl, sym, ap, ◌∙◌, subst, take-length, cases_lt, append-nil, length-take-le, get_or_append_left, get_or_push, get_or-take, take-append-le, take_take, Row, Automaton, Pattern, Element, Meaning, IsDraftOf, IsBehind, AreMarks, IsPart, MarkHolds, SameRows, mark_at, no_mark, Mark, Origin}
-use Rattle.std.proofs.lemmas.List.{length-append}
+use Rattle.ta_encode.proofs.Common.{◌≡◌, inl, inr, ℕ, ◌+◌, ◌<◌, ◌≤◌, List, [], ◌∷◌, ◌++◌, length, reverse, take, arith, refl, sym, ap, ◌∙◌, subst, take-length, cases_lt, append-nil, length-take-le, get_or_append_left, get_or_push, get_or-take, take-append-le, Row, Automaton, Pattern, Element, Meaning, IsDraftOf, IsBehind, AreMarks, IsPart, MarkHolds, SameRows, mark_at, no_mark, Mark, Origin, length-append, take-take, fewer_alike}
 use Rattle.ta_encode.specs.declared.growing.Part.{Part}
 
 behind_take : {X : Type 0} (n : ℕ) (before after : List X) → IsBehind before after → n ≤ length before → take n after ≡ take n before
@@ -83,12 +82,9 @@ holds_cut a p start elements others ms rows i n r mark e h k x y holds =
       rows_within = omega arith;
       drafted =
           subst (λ (w : List Element). IsDraftOf a p start (reverse w) (take mark.unknowns (take n ms)) (take mark.rows (take r rows))) e
-          (subst (λ (xs : List Meaning). IsDraftOf a p start (reverse (take i elements)) xs (take mark.rows (take r rows))) (sym (take_take mark.unknowns n ms h))
-          (subst (λ (xs : List Row). IsDraftOf a p start (reverse (take i elements)) (take mark.unknowns ms) xs) (sym (take_take mark.rows r rows x)) holds.drafted));
+          (subst (λ (xs : List Meaning). IsDraftOf a p start (reverse (take i elements)) xs (take mark.rows (take r rows))) (sym (take-take mark.unknowns n ms h))
+          (subst (λ (xs : List Row). IsDraftOf a p start (reverse (take i elements)) (take mark.unknowns ms) xs) (sym (take-take mark.rows r rows x)) holds.drafted));
     }
-
-take_fewer : (elements others : List Element) (i n : ℕ) → i ≤ n → take n elements ≡ take n others → take i elements ≡ take i others
-take_fewer elements others i n h e = sym (take_take i n elements h) ∙ ap (take i) e ∙ take_take i n others h
 
 pub marks_cut : (a : Automaton) (p : Pattern) (start : ℕ) (elements others : List Element) (ms : List Meaning) (rows : List Row) (marks : List Mark) (shared : ℕ) → AreMarks a p start elements ms rows marks → shared < length marks → take shared elements ≡ take shared others →
     AreMarks a p start others (take (mark_at marks shared).unknowns ms) (take (mark_at marks shared).rows rows) (take (shared + 1) marks)
@@ -102,7 +98,7 @@ marks_cut a p start elements others ms rows marks shared are h e =
         holds = λ i below.
             let rises = are.rise i shared (omega arith) h in
             subst (λ (m : Mark). MarkHolds a p start others (take last.unknowns ms) (take last.rows rows) i m) (sym (at i (omega arith)))
-            (holds_cut a p start elements others ms rows i last.unknowns last.rows (mark_at marks i) (take_fewer elements others i shared (omega arith) e) rises.0 here.unknowns_within rises.1 here.rows_within (are.holds i (omega arith)));
+            (holds_cut a p start elements others ms rows i last.unknowns last.rows (mark_at marks i) (fewer_alike i shared elements others (omega arith) e) rises.0 here.unknowns_within rises.1 here.rows_within (are.holds i (omega arith)));
         rise = λ i j low below.
             subst (λ (m : Mark). (m.unknowns ≤ (mark_at (take (shared + 1) marks) j).unknowns) × (m.rows ≤ (mark_at (take (shared + 1) marks) j).rows)) (sym (at i (omega arith)))
             (subst (λ (m : Mark). ((mark_at marks i).unknowns ≤ m.unknowns) × ((mark_at marks i).rows ≤ m.rows)) (sym (at j (omega arith))) (are.rise i j low (omega arith)));

@@ -1,5 +1,5 @@
 -- the first values of a solution solve the systems of the prefixes
-use Rattle.ta_encode.proofs.Common.{◌≡◌, ℕ, zero, suc, ◌+◌, ◌≤◌, ℤ, pos, ◌+ℤ◌, ◌-ℤ◌, ◌*ℤ◌, List, [], ◌∷◌, ◌++◌, map, length, take, drop, reverse, cond, Bool, true, false, not, eqb, arith, ap, refl, subst, length-append, slice_get, Option, Some, None, length-map, length-take-le, ints, terms_value, Row, Comparison, Automaton, Pattern, has_bit, numbers_from, location_place, Element, Event, Rise, Fall, allowed_rules, has_fallen, Meaning, Single, place_coefficient, start_meanings, meanings, counts_after, singles_after, LinearRow, opposite, negated, form_row, counter_row, counter_rows, condition_rows, guard_rows, start_guard_rows, start_coefficient, processes_row, singles_row, event_rows, standing_rows, start_rows, rise_rows, happening_rows, fall_rows, word_rows, sum_of_products, AllHold, SolvesWord, values_of_prefix}
+use Rattle.ta_encode.proofs.Common.{◌≡◌, ℕ, zero, suc, ◌+◌, ◌≤◌, ℤ, pos, ◌+ℤ◌, ◌-ℤ◌, ◌*ℤ◌, List, [], ◌∷◌, ◌++◌, map, length, take, drop, reverse, cond, Bool, true, false, not, eqb, arith, ap, refl, subst, length-append, slice_get, Option, Some, None, length-map, length-take-le, ints, terms_value, Row, Comparison, Automaton, Pattern, has_bit, range_with_len, location_place, Element, Event, Rise, Fall, allowed_rules, has_fallen, Meaning, Single, place_coefficient, start_meanings, meanings, counts_after, singles_after, LinearRow, opposite, negated, form_row, counter_row, counter_rows, condition_rows, guard_rows, start_guard_rows, start_coefficient, processes_row, singles_row, event_rows, standing_rows, start_rows, rise_rows, happening_rows, fall_rows, word_rows, sum_of_products, AllHold, SolvesWord, values_of_prefix}
 use Rattle.std.specs.List.{filter}
 use Rattle.ta_automaton.specs.declared.pattern.Event.{Event as PatternEvent}
 use Rattle.ta_encode.proofs.Moments.{AllHold-append, AllHold-left}
@@ -77,13 +77,13 @@ start_within a p start =
 happening_within : (a : Automaton) (p : Pattern) (start : ℕ) (past : List Element) (ms : List Meaning) (e : ℕ) → Within (length ms) (happening_rows a p start past ms e)
 unfolding happening_rows
 happening_within a p start past ms e =
-    Within-append (length ms) (counter_rows a p ms) (event_rows a ms (slice_get p.events e) ++ standing_rows a start past ms) (counters_within a ms (filter (λ l. not (has_bit p.empty l)) (numbers_from 0 (length a.locations))))
+    Within-append (length ms) (counter_rows a p ms) (event_rows a ms (slice_get p.events e) ++ standing_rows a start past ms) (counters_within a ms (filter (λ l. not (has_bit p.empty l)) (range_with_len 0 (length a.locations))))
     (Within-append (length ms) (event_rows a ms (slice_get p.events e)) (standing_rows a start past ms) (event_within a ms (slice_get p.events e)) (guards_within a ms (λ j. not (has_fallen start past j)) 0 a.fall))
 
 rise_within : (a : Automaton) (p : Pattern) (start : ℕ) (past : List Element) (ms : List Meaning) (i : ℕ) → Within (length ms) (rise_rows a p start past ms i)
 unfolding rise_rows
 rise_within a p start past ms i =
-    Within-append (length ms) (counter_rows a p ms) (guard_rows a ms (λ k. eqb k i) 0 a.rise ++ standing_rows a start past ms) (counters_within a ms (filter (λ l. not (has_bit p.empty l)) (numbers_from 0 (length a.locations))))
+    Within-append (length ms) (counter_rows a p ms) (guard_rows a ms (λ k. eqb k i) 0 a.rise ++ standing_rows a start past ms) (counters_within a ms (filter (λ l. not (has_bit p.empty l)) (range_with_len 0 (length a.locations))))
     (Within-append (length ms) (guard_rows a ms (λ k. eqb k i) 0 a.rise) (standing_rows a start past ms) (guards_within a ms (λ k. eqb k i) 0 a.rise) (guards_within a ms (λ j. not (has_fallen start past j)) 0 a.fall))
 
 fall_within : (a : Automaton) (p : Pattern) (start : ℕ) (past : List Element) (before : List Meaning) (mask : ℕ) → Within (length (before ++ singles_after a p start past)) (fall_rows a p start past before (before ++ singles_after a p start past) mask)
@@ -94,7 +94,7 @@ fall_within a p start past before mask =
     let n = length end in
     let more = length-append before (singles_after a p start past) in
     let many = length-map al (Single (length past)) in
-    let ls = filter (λ l. not (has_bit p.empty l)) (numbers_from 0 (length a.locations)) in
+    let ls = filter (λ l. not (has_bit p.empty l)) (range_with_len 0 (length a.locations)) in
     let early = Within-more (length before) n (counter_rows a p before) (omega arith) (counters_within a before ls) in
     let chosen = Within-more (length before) n (guard_rows a before (has_bit mask) 0 a.fall) (omega arith) (guards_within a before (has_bit mask) 0 a.fall) in
     let row = singles_row before al in

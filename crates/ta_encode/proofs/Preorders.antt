@@ -1,7 +1,6 @@
 -- reading a proof node by node
-use Rattle.ta_encode.proofs.Common.{◌≡◌, ℕ, zero, suc, ◌≤◌, ◌<◌, ℤ, List, [], ◌∷◌, ◌++◌, map, length, arith, sym, ap, ◌∙◌, refl, subst, append_assoc, Node, Tree, Forest, Leaf, Extend, Split, Done, More, preorder, forest_preorder, all_preorder, Low, High, Pending, Search, bound_at, bounded, longer, IsLeaf, RefutesBy, RefuteEach, RefuteAll, ProofBy, RefutedInOrder, ProofsReadInOrder, ProofsAreDetermined}
+use Rattle.ta_encode.proofs.Common.{◌≡◌, ℕ, zero, suc, ◌≤◌, ◌<◌, ℤ, List, [], ◌∷◌, ◌++◌, map, length, arith, sym, ap, ◌∙◌, refl, subst, append_assoc, Node, Tree, Forest, Leaf, Extend, Split, Done, More, preorder, forest_preorder, all_preorder, Low, High, Pending, Search, bound_at, bounded, longer, IsLeaf, RefutesBy, RefuteEach, RefuteAll, ProofBy, RefutedInOrder, ProofsReadInOrder, ProofsAreDetermined, LeafTest}
 use Rattle.ta_cert.specs.declared.line.Node.TheVariants as node
-use Rattle.ta_encode.specs.Search.{LeafTest}
 
 join : (ns xs mid ys rest : List Node) → ns ≡ xs ++ mid → mid ≡ ys ++ rest → ns ≡ (xs ++ ys) ++ rest
 join ns xs mid ys rest e f = e ∙ ap (λ (zs : List Node). xs ++ zs) f ∙ sym (append_assoc xs ys rest)
@@ -143,12 +142,6 @@ mutual
 
   same_tree : (t u : Tree) (s : Search) (test : LeafTest) (w v : Pending) (xs ys : List Node) → w ≡ v → RefutesBy s test w t → RefutesBy s test v u → preorder t ++ xs ≡ preorder u ++ ys → SameTree t u xs ys
   same_tree (Leaf ts) (Leaf us) s test w v xs ys o h g e = let q = leaf_parts ts us xs ys e in record { tree = ap Leaf q.0; rest = q.1 }
-  same_tree (Leaf ts) (Extend us) s test w v xs ys o h g e = absurd (cc)
-  same_tree (Leaf ts) (Split x k l r) s test w v xs ys o h g e = absurd (cc)
-  same_tree (Extend ts) (Leaf us) s test w v xs ys o h g e = absurd (cc)
-  same_tree (Extend ts) (Split x k l r) s test w v xs ys o h g e = absurd (cc)
-  same_tree (Split x k l r) (Leaf us) s test w v xs ys o h g e = absurd (cc)
-  same_tree (Split x k l r) (Extend us) s test w v xs ys o h g e = absurd (cc)
   same_tree (Extend ts) (Extend us) s test w v xs ys o h g e =
       let q = same_forest ts us s test (map (longer w) (s.following w.start w.past)) (map (longer v) (s.following v.start v.past)) xs ys (ap (λ (u : Pending). map (longer u) (s.following u.start u.past)) o) h.1 g.1 (tail_same (forest_preorder ts ++ xs) (forest_preorder us ++ ys) e) in
       record { tree = ap Extend q.trees; rest = q.rest }
@@ -163,6 +156,7 @@ mutual
       let number = q.0 in
       let at = q.1 in
       record { tree = cc; rest = two.rest }
+  same_tree _ _ s test w v xs ys o h g e = absurd (cc)
 
   same_forest : (t u : Forest) (s : Search) (test : LeafTest) (ws vs : List Pending) (xs ys : List Node) → ws ≡ vs → RefuteEach s test ws t → RefuteEach s test vs u → forest_preorder t ++ xs ≡ forest_preorder u ++ ys → SameForest t u xs ys
   same_forest Done Done s test ws vs xs ys o h g e = record { trees = refl; rest = e }

@@ -12,7 +12,7 @@
 --
 -- The first configuration has the values of the parameters and start counts, and is initial by the rows at the start. `unwind` puts
 -- the firings of the elements behind each other. Each event happens at the end of its element, where its condition's rows hold.
-use Rattle.ta_encode.proofs.Common.{◌≡◌, ℕ, ◌<◌, ◌≤◌, List, [], ◌∷◌, ◌++◌, map, length, drop, true, arith, refl, sym, ap, ◌∙◌, subst, slice_get, get_or, Some, length-map, slice_get_within, slice_get-get_or, all_below-at, bit_true, only_item, at_index, length_numbers, RowHolds, Row, Automaton, Pattern, numbers_from, Config, InScope, Steps, value_at, Element, Event, Rise, Fall, LegalWord, allowed_rules, is_complete, has_event, has_rise, Count, start_meanings, meanings, counts_after, place_coefficient, word_rows, fall_rows, AllHold, FiresBefore, FiresFall, WordFires, RunsThrough, position_in, steps_of, Whole}
+use Rattle.ta_encode.proofs.Common.{◌≡◌, ℕ, ◌<◌, ◌≤◌, List, [], ◌∷◌, ◌++◌, map, length, drop, true, arith, refl, sym, ap, ◌∙◌, subst, slice_get, get_or, Some, length-map, slice_get_within, slice_get-get_or, all_below-at, bit_true, only_item, at_index, RowHolds, Row, Automaton, Pattern, range_with_len, Config, InScope, Steps, value_at, Element, Event, Rise, Fall, LegalWord, allowed_rules, is_complete, has_event, has_rise, Count, start_meanings, meanings, counts_after, place_coefficient, word_rows, fall_rows, AllHold, FiresBefore, FiresFall, WordFires, RunsThrough, position_in, steps_of, Whole, length-range_with_len}
 use Rattle.ta_encode.proofs.Moments.{AllHold-left}
 use Rattle.ta_automaton.proofs.Rearranged.{rearrange}
 use Rattle.ta_encode.proofs.Values.{place_value, condition_back, AllHold-right, unfolded, unfolded-total, unfolded-may, allowed_may}
@@ -76,9 +76,9 @@ solution_runs a p earlier start past vs firings fires legal complete rows enough
     let u = unwind a p start past vs c firings fires (begin_at a p start vs) legal rows in
     let position = position_in past firings in
     let n = length p.events in
-    let positions = map position (numbers_from 0 n) in
+    let positions = map position (range_with_len 0 n) in
     let all : (e : ℕ) → e < n → has_event past e ≡ true = (λ e b. all_below-at n (has_event past) complete e b) in
-    let many : length positions ≡ n = length-map (numbers_from 0 n) position ∙ length_numbers 0 n in
+    let many : length positions ≡ n = length-map (range_with_len 0 n) position ∙ length-range_with_len 0 n in
     record {
       first = c;
       begins = first_starts a p vs enough;

@@ -11,7 +11,7 @@
 -- all runs: first a Fall, whose Single is the step that leads there; then the rise guards, in an order that keeps the given pairs,
 -- where a guard that implies another comes behind it; then the events, those of a lower number first. Each new row holds, because
 -- the configuration at its moment meets it. With the last event the word is complete, and what is left of the run is dropped.
-use Rattle.ta_encode.proofs.Common.{◌≡◌, ◌⊎◌, inl, inr, ℕ, zero, suc, ◌+◌, ◌-◌, ◌^◌, ◌<◌, ◌≤◌, pos, ◌≤ℤ◌, ◌<ℤ◌, List, [], ◌∷◌, ◌++◌, length, eqb, true, arith, sym, ap, ◌∙◌, refl, subst, slice_get, get_or, Some, IsBitSet, append-nil, ints, false≢true, cases_Bool, and_from, eq-eqb, eqb-true, or_cases, cases_lt, not_from_false, or_left, or_right, eqb_tells, slice_get_within, slice_get-get_or, same_Some, all_below-at, all_below-from, bit_set, implies-from, each_in, is_negative, negative_false, negative_true, some_at, mask_of-below, In-numbers, in_numbers, value_of, RowHolds, Automaton, Pattern, Config, value_at, Holds, Steps, LoopsPure, Occurs, has_bit, implies, numbers_from, In, Good, IsPair, RiseHolds, Element, Event, Rise, LegalUnder, has_event, has_fallen, has_rise, is_complete, is_due, is_ready, follows, AllHold, word_rows, SolvesWord, EndsAt, total, Fits}
+use Rattle.ta_encode.proofs.Common.{◌≡◌, ◌⊎◌, inl, inr, ℕ, zero, suc, ◌+◌, ◌-◌, ◌^◌, ◌<◌, ◌≤◌, pos, ◌≤ℤ◌, ◌<ℤ◌, List, [], ◌∷◌, ◌++◌, length, eqb, true, arith, sym, ap, ◌∙◌, refl, subst, slice_get, get_or, Some, IsBitSet, append-nil, ints, false≢true, cases_Bool, and_from, eq-eqb, eqb-true, or_cases, cases_lt, not_from_false, or_left, or_right, eqb_tells, slice_get_within, slice_get-get_or, same_Some, all_below-at, all_below-from, bit_set, implies-from, each_in, is_negative, negative_false, negative_true, some_at, mask_of-below, In-numbers, in_numbers, value_of, RowHolds, Automaton, Pattern, Config, value_at, Holds, Steps, LoopsPure, Occurs, has_bit, implies, range_with_len, In, Good, IsPair, RiseHolds, Element, Event, Rise, LegalUnder, has_event, has_fallen, has_rise, is_complete, is_due, is_ready, follows, AllHold, word_rows, SolvesWord, EndsAt, total, Fits}
 use Rattle.ta_automaton.specs.declared.pattern.Event.{Event as PatternEvent}
 use Rattle.ta_implied.specs.Orders.{GuardsInOrder, LeadsSome}
 use Rattle.ta_implied.proofs.Implying.{guards_come_after}
@@ -341,7 +341,7 @@ describe a p pairs good loops earlier first rules o =
     let here : Begins origin origin = ([], sym (append-nil origin)) in
     let s = start_state a p pairs first fits o.run.initial (rest.empty 0 first refl) o.start in
     let ps : Positions p o.positions = record { order = λ e f event at set. o.in_order e f event at set; earlier = earlier } in
-    let guards = ordered pairs good.acyclic (numbers_from 0 (length a.rise)) in
+    let guards = ordered pairs good.acyclic (range_with_len 0 (length a.rise)) in
     let turn : InTurn a pairs guards.ys = record {
       good = good;
       in_order = guards.in_order;

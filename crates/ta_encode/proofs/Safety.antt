@@ -1,5 +1,5 @@
 -- a proof of a pattern shows that the pattern is safe
-use Rattle.ta_encode.proofs.Common.{◌≡◌, ◌⊎◌, inl, inr, ℕ, zero, suc, ◌+◌, ◌<◌, ◌≤◌, ◌^◌, ℤ, pos, negsuc, ◌-ℤ◌, ◌≤ℤ◌, ◌<ℤ◌, List, [], ◌∷◌, ◌++◌, map, length, get_or, true, arith, sym, ap, ◌∙◌, refl, subst, ints, false≢true, cases_Bool, zero-*ℤ, is_negative, negative_false, negative_true, one_times, cases_start, Automaton, Pattern, LoopsPure, Safe, In, numbers_from, Good, Element, Event, Rise, Fall, LegalUnder, is_complete, Bound, Low, High, only_at, side_row, bound_row, word_rows, sum_of_products, row_value, AllHold, Tree, Forest, Leaf, Extend, Split, Done, More, Pending, Search, bound_at, bounded, longer, bounded_rows, empty_word, pattern_search, IsLeaf, RefutesBy, RefuteEach, RefuteAll, ProofOf}
+use Rattle.ta_encode.proofs.Common.{◌≡◌, ◌⊎◌, inl, inr, ℕ, zero, suc, ◌+◌, ◌<◌, ◌≤◌, ◌^◌, ℤ, pos, negsuc, ◌-ℤ◌, ◌≤ℤ◌, ◌<ℤ◌, List, [], ◌∷◌, ◌++◌, map, length, get_or, true, arith, sym, ap, ◌∙◌, refl, subst, ints, false≢true, cases_Bool, zero-*ℤ, is_negative, negative_false, negative_true, one_times, cases_start, Automaton, Pattern, LoopsPure, Safe, In, range_with_len, Good, Element, Event, Rise, Fall, LegalUnder, is_complete, Bound, Low, High, only_at, side_row, bound_row, word_rows, sum_of_products, row_value, AllHold, Tree, Forest, Leaf, Extend, Split, Done, More, Pending, Search, bound_at, bounded, longer, bounded_rows, empty_word, pattern_search, IsLeaf, RefutesBy, RefuteEach, RefuteAll, ProofOf}
 use Rattle.ta_encode.proofs.Moments.{AllHold-append, AllHold-left}
 use Rattle.ta_encode.proofs.RowSums.{leaf_contradicts}
 use Rattle.ta_encode.proofs.Reorder.{AfterEarlier, describe}
@@ -86,7 +86,7 @@ mutual
   no_forest (More tree trees) s w e future vs along held (x ∷ es) (inr i) h =
       no_forest trees s w e future vs along held es i h.1
 
-pick_tree : (s : Search) (first start count : ℕ) (trees : List Tree) → RefuteAll s (IsLeaf s) (map empty_word (numbers_from first count)) trees → first ≤ start → start < first + count → (tree : Tree) × RefutesBy s (IsLeaf s) (empty_word start) tree
+pick_tree : (s : Search) (first start count : ℕ) (trees : List Tree) → RefuteAll s (IsLeaf s) (map empty_word (range_with_len first count)) trees → first ≤ start → start < first + count → (tree : Tree) × RefutesBy s (IsLeaf s) (empty_word start) tree
 pick_tree s first start zero trees h low high = absurd (omega arith)
 pick_tree s first start (suc count) [] h low high = absurd h
 pick_tree s first start (suc count) (tree ∷ trees) h low high = elim (cases_start first start low) [
@@ -95,7 +95,7 @@ pick_tree s first start (suc count) (tree ∷ trees) h low high = elim (cases_st
 ]
 
 -- where a search of words from each start set is refuted, no values solve along the elements of a complete word
-pub none_along : (s : Search) (n : ℕ) (trees : List Tree) → RefuteAll s (IsLeaf s) (map empty_word (numbers_from 0 n)) trees → (start : ℕ) → start < n → (future : List Element) (vs : List ℕ) → SolvesAlong s start vs [] future → ⊥
+pub none_along : (s : Search) (n : ℕ) (trees : List Tree) → RefuteAll s (IsLeaf s) (map empty_word (range_with_len 0 n)) trees → (start : ℕ) → start < n → (future : List Element) (vs : List ℕ) → SolvesAlong s start vs [] future → ⊥
 none_along s n trees proof start b future vs along =
     let w = pick_tree s 0 start n trees proof (omega arith) (omega arith) in
     no_tree w.0 s (empty_word start) future vs along tt w.1

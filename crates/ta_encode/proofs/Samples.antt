@@ -1,6 +1,5 @@
 -- the sample system is what stands at the start of a pattern that asks for nothing
-use Rattle.ta_encode.proofs.Common.{◌≡◌, inl, inr, ℕ, ℤ, ◌+◌, ◌≤◌, List, [], ◌∷◌, ◌++◌, map, length, arith, sym, ap, ◌∙◌, refl, subst, length-append, get_or, slice_index, false≢true, true≢false, ints, length-map, has_none, none_kept_empty, each_index, length_numbers, Automaton, Pattern, In, numbers_from, Config, Initial, Fits, resilience_holds, Node, Meaning, Parameter, Start, start_locations, start_meanings, AllHold, High, LinearRow, Low, bound_row, condition_rows, opposite, processes_row, RefutedInOrder, IsLeaf, LeafTest, HasStart, SamplesStart, StartsAreSampled, sample_meanings, sample_rows, sample_search, sampled, Pending, bound_at, bounded, bounded_rows, Adds, AreWritten, Draft}
-use Rattle.std.proofs.Common.{append-nil}
+use Rattle.ta_encode.proofs.Common.{◌≡◌, inl, inr, ℕ, ℤ, ◌+◌, ◌≤◌, List, [], ◌∷◌, ◌++◌, map, length, arith, sym, ap, ◌∙◌, refl, subst, length-append, get_or, slice_index, false≢true, true≢false, ints, length-map, has_none, none_kept_empty, each_index, Automaton, Pattern, In, range_with_len, Config, Initial, Fits, resilience_holds, Node, Meaning, Parameter, Start, start_locations, start_meanings, AllHold, High, LinearRow, Low, bound_row, condition_rows, opposite, processes_row, RefutedInOrder, IsLeaf, LeafTest, HasStart, SamplesStart, StartsAreSampled, sample_meanings, sample_rows, sample_search, sampled, Pending, bound_at, bounded, bounded_rows, Adds, AreWritten, Draft, append-nil, length-range_with_len}
 use Rattle.ta_cert.specs.declared.line.Node.TheVariants as node
 use Rattle.ta_encode.proofs.Adding.{adds_behind, adds_both, nothing_written}
 use Rattle.ta_encode.proofs.Begin.{FirstRows, first_initial, first_of}
@@ -20,7 +19,7 @@ plain_locations a = none_kept_empty a.initial
 
 plain_meanings : (a : Automaton) → start_meanings a plain ≡ sample_meanings a
 unfolding start_meanings sample_meanings
-plain_meanings a = ap (λ (ls : List ℕ). map Parameter (numbers_from 0 (length a.parameters)) ++ map Start ls) (plain_locations a)
+plain_meanings a = ap (λ (ls : List ℕ). map Parameter (range_with_len 0 (length a.parameters)) ++ map Start ls) (plain_locations a)
 
 pub sample_few : (a : Automaton) → length (sample_meanings a) ≤ 48
 sample_few a = omega (arith, ap (λ (ms : List Meaning). length ms) (plain_meanings a), start_few a plain)
@@ -36,8 +35,8 @@ plain_rows a = ap (rows_over a) (plain_meanings a)
 pub sample_count : (a : Automaton) → length (sample_meanings a) ≡ length a.parameters + length a.initial
 unfolding sample_meanings
 sample_count a =
-    let nums = numbers_from 0 (length a.parameters) in
-    omega (arith, length-append (map Parameter nums) (map Start a.initial), length-map nums Parameter, length-map a.initial Start, length_numbers 0 (length a.parameters))
+    let nums = range_with_len 0 (length a.parameters) in
+    omega (arith, length-append (map Parameter nums) (map Start a.initial), length-map nums Parameter, length-map a.initial Start, length-range_with_len 0 (length a.parameters))
 
 pub samples_start : SamplesStart
 samples_start a vs s =
@@ -54,7 +53,7 @@ none_empty c l h = absurd (false≢true (sym (has_none l) ∙ h))
 -- the values of an initial configuration
 start_sample : (a : Automaton) (c : Config) → Initial a c → parameter_values a c ++ start_counts a plain c ≡ c.parameters ++ map (slice_index c.counters) a.initial
 start_sample a c start =
-    let parameters : parameter_values a c ≡ c.parameters = subst (λ (n : ℕ). map (λ j. get_or c.parameters j 0) (numbers_from 0 n) ≡ c.parameters) start.admissible.count (each_index c.parameters) in
+    let parameters : parameter_values a c ≡ c.parameters = subst (λ (n : ℕ). map (λ j. get_or c.parameters j 0) (range_with_len 0 n) ≡ c.parameters) start.admissible.count (each_index c.parameters) in
     ap (λ (ps : List ℕ). ps ++ start_counts a plain c) parameters ∙ ap (λ (ls : List ℕ). c.parameters ++ map (slice_index c.counters) ls) (plain_locations a)
 
 pub starts_sampled : StartsAreSampled

@@ -1,6 +1,5 @@
 -- the unknowns of an element stand behind those of the elements before it, and one of the Singles of a Fall is 1
-use Rattle.ta_encode.proofs.Common.{◌≡◌, inl, inr, ℕ, zero, suc, ◌+◌, ◌<◌, ℤ, pos, ◌+ℤ◌, List, [], ◌∷◌, ◌++◌, map, length, drop, arith, sym, ap, ◌∙◌, refl, subst, slice_get, Some, length-map, ints, AllByRecursion, each_append, each_at, each_map_all, get_drop, get_of_drop, get_of_map, get_parts, get_right, only_in, Automaton, Pattern, has_bit, numbers_from, In, Element, Event, Rise, Fall, allowed_rules, Meaning, Parameter, Start, Count, Single, meanings, counts_after, singles_after, start_locations, start_meanings, opposite, counter_rows, guard_rows, singles_row, fall_rows, sum_of_products, AllHold, IsOne}
-use Rattle.ta_base.proofs.Lists.{get_map as map_get}
+use Rattle.ta_encode.proofs.Common.{◌≡◌, inl, inr, ℕ, zero, suc, ◌+◌, ◌<◌, ℤ, pos, ◌+ℤ◌, List, [], ◌∷◌, ◌++◌, map, length, drop, arith, sym, ap, ◌∙◌, refl, subst, slice_get, Some, length-map, ints, AllByRecursion, each_append, each_at, each_map_all, get_drop, get_of_drop, get_of_map, get_parts, get_right, only_in, Automaton, Pattern, has_bit, range_with_len, In, Element, Event, Rise, Fall, allowed_rules, Meaning, Parameter, Start, Count, Single, meanings, counts_after, singles_after, start_locations, start_meanings, opposite, counter_rows, guard_rows, singles_row, fall_rows, sum_of_products, AllHold, IsOne, get_map as map_get}
 use Rattle.ta_encode.proofs.Combine.{combine-zero}
 use Rattle.ta_encode.proofs.Moments.{opposite_value, AllHold-left}
 use Rattle.ta_encode.proofs.Values.{unfolded, repeat, unfolded-count, AllHold-right}
@@ -50,7 +49,7 @@ counts_below a p start past = each_map_all (NumberBelow (suc (length past))) (Co
 -- the unknowns of a word have the numbers of its elements
 pub numbers_below : (a : Automaton) (p : Pattern) (start : ℕ) (past : List Element) → AllByRecursion (NumberBelow (length past)) (meanings a p start past)
 unfolding meanings start_meanings
-numbers_below a p start [] = each_append (NumberBelow 0) (map Parameter (numbers_from 0 (length a.parameters))) (map Start (start_locations a p)) (each_map_all (NumberBelow 0) Parameter (numbers_from 0 (length a.parameters)) (λ i. tt)) (each_map_all (NumberBelow 0) Start (start_locations a p) (λ l. tt))
+numbers_below a p start [] = each_append (NumberBelow 0) (map Parameter (range_with_len 0 (length a.parameters))) (map Start (start_locations a p)) (each_map_all (NumberBelow 0) Parameter (range_with_len 0 (length a.parameters)) (λ i. tt)) (each_map_all (NumberBelow 0) Start (start_locations a p) (λ l. tt))
 numbers_below a p start (Event e ∷ past) = each_append (NumberBelow (suc (length past))) (meanings a p start past) (counts_after a p start past) (each_more (length past) (meanings a p start past) (numbers_below a p start past)) (counts_below a p start past)
 numbers_below a p start (Rise i ∷ past) = each_append (NumberBelow (suc (length past))) (meanings a p start past) (counts_after a p start past) (each_more (length past) (meanings a p start past) (numbers_below a p start past)) (counts_below a p start past)
 numbers_below a p start (Fall mask ∷ past) =
@@ -97,9 +96,9 @@ only_single a p start past mask vs r one size =
       same_rule : (k x y : ℕ) → Single k x ≡ Single k y → x ≡ y
       same_rule k x y e = cc
 
-repeat_none : (n q r : ℕ) (xs : List ℕ) → repeat n q xs ≡ [] → n ≡ 0
-repeat_none zero q r xs e = refl
-repeat_none (suc n) q r xs e = absurd (cc)
+pub repeat_none : (n q : ℕ) (xs : List ℕ) → repeat n q xs ≡ [] → n ≡ 0
+repeat_none zero q xs e = refl
+repeat_none (suc n) q xs e = absurd (cc)
 
 -- where the unfolded list is one rule, its value is 1
 one_at : (al ws : List ℕ) (r : ℕ) → unfolded al ws ≡ r ∷ [] → (j : ℕ) × (slice_get al j ≡ Some r) × (slice_get ws j ≡ Some 1)
@@ -109,7 +108,7 @@ one_at (q ∷ al) (zero ∷ ws) r e = let w = one_at al ws r e in (suc w.0, w.1,
 one_at (q ∷ al) (suc n ∷ ws) r e =
     let first : q ≡ r = cc in
     let rest : repeat n q (unfolded al ws) ≡ [] = cc in
-    (0, ap Some first, ap (λ k. Some (suc k)) (repeat_none n q r (unfolded al ws) rest))
+    (0, ap Some first, ap (λ k. Some (suc k)) (repeat_none n q (unfolded al ws) rest))
 
 -- the only rule is the one whose Single is 1
 pub single_one : (a : Automaton) (p : Pattern) (start : ℕ) (past : List Element) (mask : ℕ) (vs : List ℕ) (r : ℕ) → unfolded (allowed_rules a p start past) (drop (length (meanings a p start past ++ counts_after a p start past)) vs) ≡ r ∷ [] → IsOne (meanings a p start (Fall mask ∷ past)) vs (Single (length past) r)

@@ -1,5 +1,5 @@
 -- a row's terms, unknown by unknown
-use Rattle.ta_encode.proofs.Common.{◌≡◌, ◌≢◌, ◌⊎◌, inl, inr, ℕ, zero, suc, ℤ, pos, ◌+◌, ◌<◌, ◌≤◌, List, [], ◌∷◌, ◌++◌, length, map, get_or, arith, sym, ap, ◌∙◌, subst, ints, eqb_tells, get_or_map, get_past, below_or_last, InRange, coefficient, IsNormal, IsNormal-push, IsNormal-higher, coefficient-append, coefficient-above}
+use Rattle.ta_encode.proofs.Common.{◌≡◌, ◌≢◌, ◌⊎◌, inl, inr, ℕ, zero, suc, ℤ, pos, ◌+◌, ◌<◌, ◌≤◌, List, [], ◌∷◌, ◌++◌, length, map, get_or, arith, sym, ap, ◌∙◌, subst, ints, eqb_tells, get_past, below_or_last, InRange, coefficient, IsNormal, IsNormal-push, IsNormal-higher, coefficient-append, coefficient-above, get_or-map}
 use Rattle.ta_encode.proofs.Running.{if_same, if_other}
 
 -- terms of the first n unknowns whose coefficients are a function of the meanings
@@ -12,7 +12,7 @@ sparse_push f ms n ts next d z h b same some fits e = record {
   normal = subst (IsNormal 0 (n + 1)) (sym e) (IsNormal-push 0 n ts (n, z) h.normal (omega arith) (record { not_zero = some; in_range = fits }));
   coefficients = λ u c. ap (λ us. coefficient us u) e ∙ coefficient-append ts ((n, z) ∷ []) u ∙ elim (below_or_last u n c) [
     | inl below ↦ (let other : n ≢ u = (λ q. absurd (let w = q in omega arith)) in omega (arith, ints, if_other (n, z) u other, h.coefficients u below))
-    | inr here ↦ (let value : get_or (map f ms) u (pos 0) ≡ z = ap (λ k. get_or (map f ms) k (pos 0)) here ∙ get_or_map f ms n d b ∙ sym same in
+    | inr here ↦ (let value : get_or (map f ms) u (pos 0) ≡ z = ap (λ k. get_or (map f ms) k (pos 0)) here ∙ get_or-map f ms n d (pos 0) b ∙ sym same in
         omega (arith, ints, if_same (n, z) u (sym here), coefficient-above 0 n ts u h.normal (omega arith), value))
   ];
 }
@@ -22,7 +22,7 @@ sparse_skip f ms n ts d z h b same none = record {
   normal = IsNormal-higher 0 n (n + 1) ts (omega arith) h.normal;
   coefficients = λ u c. elim (below_or_last u n c) [
     | inl below ↦ h.coefficients u below
-    | inr here ↦ coefficient-above 0 n ts u h.normal (omega arith) ∙ sym none ∙ same ∙ sym (get_or_map f ms n d b) ∙ ap (λ k. get_or (map f ms) k (pos 0)) (sym here)
+    | inr here ↦ coefficient-above 0 n ts u h.normal (omega arith) ∙ sym none ∙ same ∙ sym (get_or-map f ms n d (pos 0) b) ∙ ap (λ k. get_or (map f ms) k (pos 0)) (sym here)
   ];
 }
 

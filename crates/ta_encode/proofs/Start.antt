@@ -1,9 +1,8 @@
 -- the empty word at the start of a run
-use Rattle.ta_encode.proofs.Common.{◌≡◌, inl, inr, ℕ, zero, suc, ◌+◌, ◌<◌, ◌≤◌, ℤ, pos, ◌+ℤ◌, ◌-ℤ◌, ◌*ℤ◌, List, [], ◌∷◌, ◌++◌, map, length, Bool, true, false, not, arith, sym, ap, ◌∙◌, refl, subst, slice_get, get_or, Some, None, Option, length-append, zero-add, sum, ints, cases_Bool, not_from_false, nat_tests, eqb_tells, slice_get_within, zero-*ℤ, mask_of-bit, is_negative, negative_false, negative_true, one_times, maps_length, In-filter, in_of, mask_of, rises_filter, terms_value, value_of, RowHolds, Row, Automaton, Pattern, Config, value_at, Holds, Initial, Rises, has_bit, numbers_from, In, has_fallen, Meaning, Parameter, Start, start_locations, start_meanings, meanings, place_coefficient, one_if, location_place, opposite, processes_row, start_coefficient, condition_rows, start_guard_rows, start_rows, word_rows, sum_of_products, row_value, AllHold, total, total-zero, total-same, total-swap, one_inside, one_outside, one_if-same, one_if-other, terms_value-same, Fits, place_cases, value_at-parameter, value_at-shared, value_at-location, one_if-ne, one_if-shift, resilience_holds}
+use Rattle.ta_encode.proofs.Common.{◌≡◌, inl, inr, ℕ, zero, suc, ◌+◌, ◌<◌, ◌≤◌, ℤ, pos, ◌+ℤ◌, ◌-ℤ◌, ◌*ℤ◌, List, [], ◌∷◌, ◌++◌, map, length, Bool, true, false, not, arith, sym, ap, ◌∙◌, refl, subst, slice_get, get_or, Some, None, Option, length-append, zero-add, sum, ints, cases_Bool, not_from_false, nat_tests, eqb_tells, slice_get_within, zero-*ℤ, mask_of-bit, is_negative, negative_false, negative_true, one_times, maps_length, In-filter, in_of, mask_of, rises_filter, terms_value, value_of, RowHolds, Row, Automaton, Pattern, Config, value_at, Holds, Initial, Rises, has_bit, range_with_len, In, has_fallen, Meaning, Parameter, Start, start_locations, start_meanings, meanings, place_coefficient, one_if, location_place, opposite, processes_row, start_coefficient, condition_rows, start_guard_rows, start_rows, word_rows, sum_of_products, row_value, AllHold, total, total-zero, total-same, total-swap, one_inside, one_outside, one_if-same, one_if-other, terms_value-same, Fits, place_cases, value_at-parameter, value_at-shared, value_at-location, one_if-ne, one_if-shift, resilience_holds, processes_value as processes_at}
 use Rattle.std.proofs.lemmas.List.Sums.{sum_by-cons}
 use Rattle.ta_encode.proofs.Combine.{combine-append, combine-extra, combine-map, combine-minus, combine-terms}
 use Rattle.ta_encode.proofs.Moments.{Moment, RowFails, AllHold-append, condition_holds, start_guards, opposite_value}
-use Rattle.ta_automaton.proofs.Thresholds.{processes_value as processes_at}
 use Rattle.ta_encode.proofs.State.{State}
 
 -- whether a guard fails in a configuration
@@ -27,27 +26,27 @@ start_sum f low high (x ∷ xs) l h out = elim (eqb_tells x l) [
   | inr ne ↦ omega (arith, ints, one_if-other x l (f x) ne.1, start_sum f (x + 1) high xs l h.2 (λ w. out (λ v. elim v [ inl e ↦ ne.1 (sym e) | inr g ↦ w g ])))
 ]
 
-shift : (f : ℕ → ℤ) (k n : ℕ) → total f (numbers_from (k + 1) n) ≡ total (λ x. f (x + 1)) (numbers_from k n)
+shift : (f : ℕ → ℤ) (k n : ℕ) → total f (range_with_len (k + 1) n) ≡ total (λ x. f (x + 1)) (range_with_len k n)
 unfolding total
 shift f k zero = refl
 shift f k (suc n) = ap (λ z. f (k + 1) +ℤ z) (shift f (k + 1) n)
 
-pub sum_total : (xs : List ℕ) → total (λ l. pos (get_or xs l 0)) (numbers_from 0 (length xs)) ≡ pos (sum xs)
+pub sum_total : (xs : List ℕ) → total (λ l. pos (get_or xs l 0)) (range_with_len 0 (length xs)) ≡ pos (sum xs)
 unfolding total
 sum_total [] = refl
 sum_total (x ∷ xs) =
     let more = shift (λ l. pos (get_or (x ∷ xs) l 0)) 0 (length xs) in
-    let same = total-same (λ l. pos (get_or (x ∷ xs) (l + 1) 0)) (λ l. pos (get_or xs l 0)) (numbers_from 0 (length xs)) (λ l. grind arith) in
+    let same = total-same (λ l. pos (get_or (x ∷ xs) (l + 1) 0)) (λ l. pos (get_or xs l 0)) (range_with_len 0 (length xs)) (λ l. grind arith) in
     omega (arith, ints, sum_total xs, more, same, sum_by-cons (λ y. y) x xs)
 
 pub one_if_comm : (x y : ℕ) → one_if x y ≡ one_if y x
 one_if_comm x y = elim (eqb_tells x y) [ inl e ↦ rw e.1 refl | inr ne ↦ grind (arith, nat_tests) ]
 
-each_once : (f : ℕ → ℤ) (low high : ℕ) (xs : List ℕ) → Rises low high xs → total (λ j. total (λ l. one_if j l *ℤ f j) (numbers_from 0 high)) xs ≡ total f xs
+each_once : (f : ℕ → ℤ) (low high : ℕ) (xs : List ℕ) → Rises low high xs → total (λ j. total (λ l. one_if j l *ℤ f j) (range_with_len 0 high)) xs ≡ total f xs
 unfolding total
 each_once f low high [] h = refl
 each_once f low high (x ∷ xs) h =
-    let flip = total-same (λ l. one_if x l *ℤ f x) (λ l. one_if l x *ℤ f x) (numbers_from 0 high) (λ l. ap (λ z. z *ℤ f x) (one_if_comm x l)) in
+    let flip = total-same (λ l. one_if x l *ℤ f x) (λ l. one_if l x *ℤ f x) (range_with_len 0 high) (λ l. ap (λ z. z *ℤ f x) (one_if_comm x l)) in
     omega (arith, ints, flip, one_inside (λ _. f x) 0 high x (omega arith) (omega (arith, h.1)), each_once f (x + 1) high xs h.2)
 
 -- the locations that are kept empty have no process at the start
@@ -69,13 +68,13 @@ starts_total a p c start empty =
     let f : ℕ → ℤ = λ l. pos (get_or c.counters l 0) in
     let n = length a.locations in
     let once = each_once f 0 n (start_locations a p) (start_rises a p) in
-    let swap = total-swap (λ j l. one_if j l *ℤ f j) (start_locations a p) (numbers_from 0 n) in
-    let each = total-same (λ l. total (λ j. one_if j l *ℤ f j) (start_locations a p)) f (numbers_from 0 n) (λ l. start_sum f 0 n (start_locations a p) l (start_rises a p) (out_of_start a p c start empty l)) in
-    let all = subst (λ (k : ℕ). total f (numbers_from 0 k) ≡ pos (sum c.counters)) start.locations_count (sum_total c.counters) in
+    let swap = total-swap (λ j l. one_if j l *ℤ f j) (start_locations a p) (range_with_len 0 n) in
+    let each = total-same (λ l. total (λ j. one_if j l *ℤ f j) (start_locations a p)) f (range_with_len 0 n) (λ l. start_sum f 0 n (start_locations a p) l (start_rises a p) (out_of_start a p c start empty l)) in
+    let all = subst (λ (k : ℕ). total f (range_with_len 0 k) ≡ pos (sum c.counters)) start.locations_count (sum_total c.counters) in
     omega (arith, ints, once, swap, each, all)
 
 abbrev pub parameter_values : Automaton → Config → List ℕ
-parameter_values a c = map (λ j. get_or c.parameters j 0) (numbers_from 0 (length a.parameters))
+parameter_values a c = map (λ j. get_or c.parameters j 0) (range_with_len 0 (length a.parameters))
 
 abbrev pub start_counts : Automaton → Pattern → Config → List ℕ
 start_counts a p c = map (λ l. get_or c.counters l 0) (start_locations a p)
@@ -83,7 +82,7 @@ start_counts a p c = map (λ l. get_or c.counters l 0) (start_locations a p)
 pub start_moment : (a : Automaton) (p : Pattern) (c : Config) → Fits a c → Initial a c → StartsEmpty p c → Moment a (start_meanings a p) (parameter_values a c ++ start_counts a p c) c
 unfolding start_meanings
 start_moment a p c fits start empty =
-    let nums = numbers_from 0 (length a.parameters) in
+    let nums = range_with_len 0 (length a.parameters) in
     let locs = start_locations a p in
     let first : length (parameter_values a c) ≡ length (map Parameter nums) = maps_length (λ j. get_or c.parameters j 0) Parameter nums in
     let second : length (start_counts a p c) ≡ length (map Start locs) = maps_length (λ l. get_or c.counters l 0) Start locs in
@@ -120,7 +119,7 @@ processes_value a p c fits start empty more =
     let m = start_moment a p c fits start empty in
     let vs = parameter_values a c ++ start_counts a p c in
     let ms = start_meanings a p in
-    let nums = numbers_from 0 (length a.parameters) in
+    let nums = range_with_len 0 (length a.parameters) in
     let locs = start_locations a p in
     let ts = a.processes.terms in
     let extra = combine-extra (λ k. terms_value (place_coefficient a k) ts -ℤ start_coefficient k) ms vs more m.count in

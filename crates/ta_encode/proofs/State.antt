@@ -1,22 +1,10 @@
 -- a word that describes the first steps of a run, and the steps since its last element
-use Rattle.ta_encode.proofs.Common.{◌≡◌, inl, inr, ℕ, ◌+◌, ◌^◌, ◌<◌, ◌≤◌, pos, ◌+ℤ◌, ◌≤ℤ◌, ◌<ℤ◌, List, [], ◌∷◌, ◌++◌, map, length, eqb, true, false, not, arith, sym, ap, ◌∙◌, refl, subst, slice_get, Some, Option, append_assoc, length-append, zero-add, length-map, ints, eqb-true, or_cases, and_from, not-true, not_from_false, or_parts, slice_get_within, all_below-at, implies-at, value_of, RowHolds, Row, Automaton}
+use Rattle.ta_encode.proofs.Common.{◌≡◌, inl, inr, ℕ, ◌+◌, ◌^◌, ◌<◌, ◌≤◌, pos, ◌+ℤ◌, ◌≤ℤ◌, ◌<ℤ◌, List, [], ◌∷◌, ◌++◌, map, length, eqb, true, false, not, arith, sym, ap, ◌∙◌, refl, subst, slice_get, Some, Option, append_assoc, length-append, zero-add, length-map, ints, eqb-true, or_cases, and_from, not-true, not_from_false, or_parts, slice_get_within, all_below-at, implies-at, value_of, RowHolds, Row, Automaton, terms_value-same, Pattern, Config, value_at, Holds, has_bit, implies, range_with_len, Element, Event, Rise, Fall, has_rise, has_fallen, is_complete, is_due, is_ready, is_standing, LegalUnder, allowed_rules, Meaning, Count, Single, meanings, counts_after, singles_after, place_coefficient, LinearRow, opposite, negated, counter_rows, guard_rows, standing_rows, singles_row, event_rows, rise_rows, happening_rows, fall_rows, word_rows, sum_of_products, row_value, AllHold, total, times_in, EachOnce, firings, Fits}
 use Rattle.std.specs.List.{filter}
 pub use Rattle.ta_automaton.proofs.Onward.{change_of}
-use Rattle.ta_automaton.proofs.Sums.{terms_value-same}
 use Rattle.ta_automaton.specs.declared.pattern.Event.{Event as PatternEvent}
-use Rattle.ta_automaton.specs.declared.pattern.Pattern.{Pattern}
-use Rattle.ta_automaton.specs.Runs.{Config, value_at, Holds}
-use Rattle.ta_base.specs.Masks.{has_bit, implies, numbers_from}
-use Rattle.ta_words.specs.declared.element.Element.{Element}
-use Rattle.ta_words.specs.declared.element.Element.TheVariants.{Event, Rise, Fall}
-use Rattle.ta_words.specs.Words.{has_rise, has_fallen, is_complete, is_due, is_ready, is_standing, LegalUnder, allowed_rules}
-use Rattle.ta_encode.specs.Unknowns.{Meaning, Count, Single, meanings, counts_after, singles_after, place_coefficient}
-use Rattle.ta_encode.specs.System.{LinearRow, opposite, negated, counter_rows, guard_rows, standing_rows, singles_row, event_rows, rise_rows, happening_rows, fall_rows, word_rows, sum_of_products, row_value, AllHold}
-use Rattle.ta_automaton.specs.Sums.{total, times_in}
 use Rattle.ta_encode.proofs.Combine.{combine-append, combine-extra, combine-map, combine-zero, combine-concat, combine-own}
-use Rattle.ta_automaton.proofs.Fired.{EachOnce, firings}
 use Rattle.ta_encode.proofs.Moments.{Moment, RowFails, AllHold-append, counters_hold, condition_holds, guards_hold, guards_fail, opposite_value}
-use Rattle.ta_automaton.proofs.Moves.{Fits}
 use Rattle.ta_words.proofs.Listed.{event_child, rise_child, fall_child}
 
 pub record State (a : Automaton) (p : Pattern) (pairs : List (ℕ × ℕ)) (start : ℕ) (past : List Element) (vs : List ℕ) (fired : List ℕ) (d : Config) : Type 0 where
@@ -134,9 +122,9 @@ push_fall a p pairs start past vs fired d s r next mask more low high stands one
           let pair : AllHold ((ws ++ counts_of a p start past (r ∷ [])) ++ extra) (singles_row before al ∷ opposite (singles_row before al) ∷ []) = (omega (arith, ints, value), (omega (arith, ints, value, opposite_value ((ws ++ counts_of a p start past (r ∷ [])) ++ extra) (singles_row before al)), tt)) in
           let ends = before ++ singles_after a p start past in
           let v = (ws ++ counts_of a p start past (r ∷ [])) ++ extra in
-          let early : AllHold v (counter_rows a p before) = at_before (counter_rows a p before) (λ e. counters_hold a before ws d m e (filter (λ l. not (has_bit p.empty l)) (numbers_from 0 (length a.locations)))) in
+          let early : AllHold v (counter_rows a p before) = at_before (counter_rows a p before) (λ e. counters_hold a before ws d m e (filter (λ l. not (has_bit p.empty l)) (range_with_len 0 (length a.locations)))) in
           let chosen : AllHold v (guard_rows a before (has_bit mask) 0 a.fall) = at_before (guard_rows a before (has_bit mask) 0 a.fall) (λ e. guards_hold a before ws d m e (has_bit mask) 0 a.fall (λ j row at t. s.standing j row at (not-true (has_fallen start past j) (implies-at (has_bit mask j) (not (has_fallen start past j)) (all_below-at (length a.fall) (λ k. implies (has_bit mask k) (not (has_fallen start past k))) stands j (slice_get_within a.fall j row at)) (ap (has_bit mask) (sym (zero-add j)) ∙ t))))) in
-          let late : AllHold v (counter_rows a p ends) = counters_hold a ends (ws ++ counts_of a p start past (r ∷ [])) next end extra (filter (λ l. not (has_bit p.empty l)) (numbers_from 0 (length a.locations))) in
+          let late : AllHold v (counter_rows a p ends) = counters_hold a ends (ws ++ counts_of a p start past (r ∷ [])) next end extra (filter (λ l. not (has_bit p.empty l)) (range_with_len 0 (length a.locations))) in
           let gone : AllHold v (map negated (guard_rows a ends (has_bit mask) 0 a.fall)) = guards_fail a ends (ws ++ counts_of a p start past (r ∷ [])) next end extra (has_bit mask) 0 a.fall (λ j row at t. falls.fails j row at (ap (has_bit mask) (sym (zero-add j)) ∙ t)) in
           let left : AllHold v (standing_rows a start (Fall mask ∷ past) ends) = standing_hold a start (Fall mask ∷ past) ends (ws ++ counts_of a p start past (r ∷ [])) next end extra stand in
           let old : AllHold v (word_rows a p start past) = at_before (word_rows a p start past) (λ e. old_rows vs (counts_of a p start past fired) e (word_rows a p start past) s.solved) in

@@ -1,6 +1,5 @@
 -- one step of a run: a self-loop, a step that switches no fall guard, or one that does
-use Rattle.ta_encode.proofs.Common.{◌≡◌, ◌≢◌, inl, inr, ℕ, ◌<◌, ◌≤◌, pos, ◌≤ℤ◌, ◌<ℤ◌, List, [], ◌∷◌, ◌++◌, map, length, Bool, true, false, not, ◌&&◌, arith, sym, ap, ◌∙◌, subst, slice_get, get_or, Some, append_assoc, ◌⊎◌, ints, cases_Bool, and_parts, and_from, ne_eqb, not-false, not-true, not_from_false, eqb_tells, slice_get_within, all_below-at, all_below-false, all_below-from, bit_set, mask_of-bit, and_false, implies-from, negative_false, negative_true, some_at, arrives, mask_of, mask_of-below, mask_of-some, value_of, Row, Automaton, Pattern, Admissible, Config, value_at, Step, LoopsPure, has_bit, all_below, implies, In, RiseHolds, Element, Fall, has_event, has_rise, has_fallen, is_complete, may_fire, allowed_rules, times_in, Fits, move_at, fits_after, loop_at, step_later, stays_below, stays_true}
-use Rattle.ta_automaton.proofs.Fired.{once}
+use Rattle.ta_encode.proofs.Common.{◌≡◌, ◌≢◌, inl, inr, ℕ, ◌<◌, ◌≤◌, pos, ◌≤ℤ◌, ◌<ℤ◌, List, [], ◌∷◌, ◌++◌, map, length, Bool, true, false, not, ◌&&◌, arith, sym, ap, ◌∙◌, subst, slice_get, get_or, Some, append_assoc, ◌⊎◌, ints, cases_Bool, and_parts, and_from, ne_eqb, not-false, not-true, not_from_false, eqb_tells, slice_get_within, all_below-at, all_below-false, all_below-from, bit_set, mask_of-bit, and_false, implies-from, negative_false, negative_true, some_at, arrives, mask_of, mask_of-below, mask_of-some, value_of, Row, Automaton, Pattern, Admissible, Config, value_at, Step, LoopsPure, has_bit, all_below, implies, In, RiseHolds, Element, Fall, has_event, has_rise, has_fallen, is_complete, may_fire, allowed_rules, times_in, Fits, move_at, fits_after, loop_at, step_later, stays_below, stays_true, once}
 use Rattle.ta_encode.proofs.Moments.{RowFails}
 use Rattle.ta_encode.proofs.State.{State, add_step, skip_step, push_fall}
 use Rattle.ta_encode.proofs.Start.{row_fails}

@@ -1,5 +1,5 @@
 -- The numbers of a word's rows are in range, so each word has a system.
-use Rattle.ta_encode.proofs.Common.{◌≡◌, ◌≢◌, ⊎_elim, ℕ, zero, suc, ℤ, pos, negsuc, ◌+◌, ◌-◌, ◌*◌, ◌^◌, ◌<◌, ◌≤◌, ◌+ℤ◌, ◌-ℤ◌, ◌*ℤ◌, ◌≤ℤ◌, ◌<ℤ◌, unsigned_abs, Bool, true, false, not, eqb, cond, List, [], ◌∷◌, ◌++◌, length, length-append, map, get_or, slice_get, Option, Some, None, arith, refl, sym, ap, subst, ◌∙◌, AllByRecursion, ◌==◌, if◌then◌else◌, nat_lt, ints, length-map, coefficients_turned, each_append, each_cond, each_map_all, each_turned, each_weaker, abs_minus, abs_product, abs_sum, choose_small, less_small, zero_or_not, InRange, AllBelow, coefficient, IsNormal, terms_value, Form, Row, System, IsNormal-higher, IsNormal-lower, coefficient-below, Automaton, Comparison, File, Pattern, Rule, has_bit, numbers_from, one_if, location_place, shared_change, rule_change, rule_within, pattern_within, Element, Event, Rise, Fall, allowed_rules, has_fallen, IsRowOf, AreRowsOf, SystemAt, BoundsWithin, pattern_search, sample_meanings, sample_rows, sample_search, Pending, Search, bounded_rows, Meaning, Parameter, Start, Count, Single, place_coefficient, start_meanings, meanings, counts_after, singles_after, LinearRow, Bound, Side, Low, High, bound_row, only_at, side_row, opposite, negated, form_row, counter_row, counter_rows, condition_rows, guard_rows, start_guard_rows, start_coefficient, processes_row, singles_row, event_rows, standing_rows, start_rows, rise_rows, happening_rows, fall_rows, word_rows, SmallForm, SmallRows, SmallCondition, SmallEvents}
+use Rattle.ta_encode.proofs.Common.{◌≡◌, ◌≢◌, ⊎_elim, ℕ, zero, suc, ℤ, pos, negsuc, ◌+◌, ◌-◌, ◌*◌, ◌^◌, ◌<◌, ◌≤◌, ◌+ℤ◌, ◌-ℤ◌, ◌*ℤ◌, ◌≤ℤ◌, ◌<ℤ◌, unsigned_abs, Bool, true, false, not, eqb, cond, List, [], ◌∷◌, ◌++◌, length, length-append, map, get_or, slice_get, Option, Some, None, arith, refl, sym, ap, subst, ◌∙◌, AllByRecursion, ◌==◌, if◌then◌else◌, nat_lt, ints, length-map, coefficients_turned, each_append, each_map_all, each_weaker, abs_minus, abs_product, abs_sum, choose_small, less_small, zero_or_not, InRange, AllBelow, coefficient, IsNormal, terms_value, Form, Row, System, IsNormal-higher, IsNormal-lower, coefficient-below, Automaton, Comparison, File, Pattern, Rule, has_bit, range_with_len, one_if, location_place, shared_change, rule_change, rule_within, pattern_within, Element, Event, Rise, Fall, allowed_rules, has_fallen, IsRowOf, AreRowsOf, SystemAt, BoundsWithin, pattern_search, sample_meanings, sample_rows, sample_search, Pending, Search, bounded_rows, Meaning, Parameter, Start, Count, Single, place_coefficient, start_meanings, meanings, counts_after, singles_after, LinearRow, Bound, Side, Low, High, bound_row, only_at, side_row, opposite, negated, form_row, counter_row, counter_rows, condition_rows, guard_rows, start_guard_rows, start_coefficient, processes_row, singles_row, event_rows, standing_rows, start_rows, rise_rows, happening_rows, fall_rows, word_rows, SmallForm, SmallRows, SmallCondition, SmallEvents, cond_both, each_map}
 use Rattle.std.specs.List.{filter}
 use Rattle.ta_automaton.specs.declared.pattern.Event.{Event as PatternEvent}
 use Rattle.ta_encode.proofs.Changes.{small_updates, one_if-small}
@@ -94,7 +94,7 @@ guards_mild : (a : Automaton) (ms : List Meaning) (test : ℕ → Bool) (k : ℕ
 guards_mild a ms test k [] small = tt
 guards_mild a ms test k (r ∷ rs) small =
     let rest = guards_mild a ms test (k + 1) rs small.1 in
-    each_cond (Mild 1000000000 (length ms)) (test k) (form_row a ms r.form ∷ guard_rows a ms test (k + 1) rs) (guard_rows a ms test (k + 1) rs) (form_mild a ms r.form small.0, rest) rest
+    cond_both (test k) (form_row a ms r.form ∷ guard_rows a ms test (k + 1) rs) (guard_rows a ms test (k + 1) rs) (AllByRecursion (Mild 1000000000 (length ms))) (λ _. (form_mild a ms r.form small.0, rest)) (λ _. rest)
 
 guards_more : (a : Automaton) (ms : List Meaning) (test : ℕ → Bool) (rows : List Row) → SmallRows rows → AllMild 1000000001 (length ms) (guard_rows a ms test 0 rows)
 guards_more a ms test rows small = more 1000000000 1000000001 (length ms) (length ms) (guard_rows a ms test 0 rows) (omega arith) (omega arith) (guards_mild a ms test 0 rows small)
@@ -112,9 +112,7 @@ start_guards_mild a ms start k (r ∷ rs) small =
 
 start_coefficient-small : (m : Meaning) → unsigned_abs (start_coefficient m) ≤ 1
 start_coefficient-small (Parameter i) = omega arith
-start_coefficient-small (Start l) = omega arith
-start_coefficient-small (Count k r) = omega arith
-start_coefficient-small (Single k r) = omega arith
+start_coefficient-small _ = omega arith
 
 processes_mild : (a : Automaton) (ms : List Meaning) → AllMild 1000000001 (length ms) (processes_row a ms ∷ opposite (processes_row a ms) ∷ [])
 processes_mild a ms =
@@ -148,7 +146,7 @@ module _ (a : Automaton) (p : Pattern) (start_small : SmallCondition p.start) (e
   falls_mild ms test = guards_more a ms test a.fall (fall_rows_small a)
 
   kept_mild : (ms : List Meaning) → AllMild 1000000001 (length ms) (counter_rows a p ms)
-  kept_mild ms = counters_mild a ms (filter (λ l. not (has_bit p.empty l)) (numbers_from 0 (length a.locations)))
+  kept_mild ms = counters_mild a ms (filter (λ l. not (has_bit p.empty l)) (range_with_len 0 (length a.locations)))
 
   start_mild : (start : ℕ) → AllMild 1000000001 (length (start_meanings a p)) (start_rows a p start)
   unfolding start_rows
@@ -173,7 +171,7 @@ module _ (a : Automaton) (p : Pattern) (start_small : SmallCondition p.start) (e
       (each_append (Mild 1000000001 (length ms)) (guard_rows a ms (λ k. eqb k i) 0 a.rise) (standing_rows a start past ms) (guards_more a ms (λ k. eqb k i) a.rise (rise_rows_small a)) (falls_mild ms (λ j. not (has_fallen start past j))))
 
   gone_mild : (ms : List Meaning) (test : ℕ → Bool) → AllMild 1000000001 (length ms) (map negated (guard_rows a ms test 0 a.fall))
-  gone_mild ms test = each_turned (Mild 1000000000 (length ms)) (Mild 1000000001 (length ms)) negated (guard_rows a ms test 0 a.fall) (λ l mild. negated_mild 1000000000 (length ms) l mild) (guards_mild a ms test 0 a.fall (fall_rows_small a))
+  gone_mild ms test = each_map negated (Mild 1000000000 (length ms)) (Mild 1000000001 (length ms)) (guard_rows a ms test 0 a.fall) (λ l mild. negated_mild 1000000000 (length ms) l mild) (guards_mild a ms test 0 a.fall (fall_rows_small a))
 
   fall_mild : (start : ℕ) (past : List Element) (before : List Meaning) (mask : ℕ) → AllMild 1000000001 (length (before ++ singles_after a p start past)) (fall_rows a p start past before (before ++ singles_after a p start past) mask)
   unfolding fall_rows

@@ -1,5 +1,5 @@
 -- the laws of words, systems, refutations and runs
-use Rattle.ta_encode.proofs.Common.{◌≡◌, ◌≤◌, inl, inr, true, ℕ, ◌<◌, ◌+◌, List, [], ◌∷◌, ◌++◌, map, get_or, take, length, length-append, arith, reverse, sym, ap, ◌∙◌, subst, slice_get, Some, reverse-reverse, length-map, false≢true, all_below-at, take_first, each_index, Automaton, Pattern, File, Config, LoopsPure, Occurs, numbers_from, pattern_within, after_earlier, Good, Element, LegalUnder, has_event, is_complete, Parameter, Start, start_locations, start_meanings, meanings, word_rows, SolvesWord, EndsAt, IsReordered, ReorderedTo, RunsReorderTo, start_values, steps_of, RunsReorder, ProofsShowSafety, ProofsLeaveNoSolution, SolutionsBecomeRuns, StepsOfSolutionsRun}
+use Rattle.ta_encode.proofs.Common.{◌≡◌, ◌≤◌, inl, inr, true, ℕ, ◌<◌, ◌+◌, List, [], ◌∷◌, ◌++◌, map, get_or, take, length, length-append, arith, reverse, sym, ap, ◌∙◌, subst, slice_get, Some, reverse-reverse, length-map, false≢true, all_below-at, each_index, Automaton, Pattern, File, Config, LoopsPure, Occurs, range_with_len, pattern_within, after_earlier, Good, Element, LegalUnder, has_event, is_complete, Parameter, Start, start_locations, start_meanings, meanings, word_rows, SolvesWord, EndsAt, IsReordered, ReorderedTo, RunsReorderTo, start_values, steps_of, RunsReorder, ProofsShowSafety, ProofsLeaveNoSolution, SolutionsBecomeRuns, StepsOfSolutionsRun, take_at}
 use Rattle.ta_encode.proofs.Moments.{AllHold-left}
 use Rattle.ta_encode.proofs.Start.{parameter_values, start_counts}
 use Rattle.ta_encode.proofs.Switch.{Begins}
@@ -15,11 +15,11 @@ begins_with : (a : Automaton) (p : Pattern) (first : Config) (vs : List ℕ) →
 unfolding start_meanings
 begins_with a p first vs count b =
     let origin = parameter_values a first ++ start_counts a p first in
-    let nums = numbers_from 0 (length a.parameters) in
+    let nums = range_with_len 0 (length a.parameters) in
     let locs = start_locations a p in
     let many : length origin ≡ length (start_meanings a p) = omega (arith, length-append (parameter_values a first) (start_counts a p first), length-append (map Parameter nums) (map Start locs), length-map nums (λ j. get_or first.parameters j 0), length-map nums Parameter, length-map locs (λ l. get_or first.counters l 0), length-map locs Start) in
-    let parameters : parameter_values a first ≡ first.parameters = subst (λ (n : ℕ). map (λ j. get_or first.parameters j 0) (numbers_from 0 n) ≡ first.parameters) count (each_index first.parameters) in
-    sym (ap (λ (xs : List ℕ). take (length (start_meanings a p)) xs) b.1 ∙ take_first origin b.0 (length (start_meanings a p)) many ∙ ap (λ (xs : List ℕ). xs ++ start_counts a p first) parameters)
+    let parameters : parameter_values a first ≡ first.parameters = subst (λ (n : ℕ). map (λ j. get_or first.parameters j 0) (range_with_len 0 n) ≡ first.parameters) count (each_index first.parameters) in
+    sym (ap (λ (xs : List ℕ). take (length (start_meanings a p)) xs) b.1 ∙ take_at origin b.0 (length (start_meanings a p)) many ∙ ap (λ (xs : List ℕ). xs ++ start_counts a p first) parameters)
 
 -- the word of a run in which a pattern occurs whose events come after earlier ones alone
 pub reordered_by : (a : Automaton) (p : Pattern) → AfterEarlier p → LoopsPure a → (pairs : List (ℕ × ℕ)) → Good a pairs → (first : Config) (rules : List ℕ) → Occurs a p first rules → IsReordered a p pairs first

@@ -1,10 +1,9 @@
 -- the run of a word's solution, element by element
-use Rattle.ta_encode.proofs.Common.{◌≡◌, ◌≢◌, ◌⊎◌, inl, inr, ℕ, ◌+◌, ◌<◌, ◌≤◌, pos, ◌+ℤ◌, ◌≤ℤ◌, List, [], ◌∷◌, ◌++◌, map, length, drop, eqb, cond, true, false, not, ◌||◌, arith, sym, ap, ◌∙◌, refl, subst, slice_get, get_or, Some, Option, IsBitSet, zero-add, append_assoc, ints, false≢true, cases_Bool, and_parts, eqb-true, or_cases, not-true, not_from_false, or_right, nat_tests, eqb_tells, all_below-at, bit_true, implies-at, position_here, position_other, value_of, RowHolds, Row, Rule, Automaton, terms_value-same, Pattern, Config, value_at, Holds, has_bit, implies, In, Element, Event, Rise, Fall, has_event, has_rise, has_fallen, follows, children, LegalWord, allowed_rules, may_fire, one_if, location_place, Meaning, Single, meanings, counts_after, singles_after, place_coefficient, opposite, negated, counter_rows, guard_rows, standing_rows, singles_row, event_rows, rise_rows, happening_rows, fall_rows, word_rows, AllHold, total, value_at-location, one_if-ne, from_within, Whole, fits_whole, Trail, FiresBefore, FiresFall, WordFires, steps_of, position_in, later_after, change_location, fall_back, rise_on}
+use Rattle.ta_encode.proofs.Common.{◌≡◌, ◌≢◌, ◌⊎◌, inl, inr, ℕ, ◌+◌, ◌<◌, ◌≤◌, pos, ◌+ℤ◌, ◌≤ℤ◌, List, [], ◌∷◌, ◌++◌, map, length, drop, eqb, cond, true, false, not, ◌||◌, arith, sym, ap, ◌∙◌, refl, subst, slice_get, get_or, Some, Option, IsBitSet, zero-add, append_assoc, ints, false≢true, cases_Bool, and_parts, eqb-true, or_cases, not-true, not_from_false, or_right, nat_tests, eqb_tells, all_below-at, bit_true, implies-at, position_here, position_other, value_of, RowHolds, Row, Rule, Automaton, terms_value-same, Pattern, Config, value_at, Holds, has_bit, implies, In, Element, Event, Rise, Fall, has_event, has_rise, has_fallen, follows, children, LegalWord, allowed_rules, may_fire, one_if, location_place, Meaning, Single, meanings, counts_after, singles_after, place_coefficient, opposite, negated, counter_rows, guard_rows, standing_rows, singles_row, event_rows, rise_rows, happening_rows, fall_rows, word_rows, AllHold, total, value_at-location, one_if-ne, from_within, Whole, fits_whole, Trail, FiresBefore, FiresFall, WordFires, steps_of, position_in, later_after, change_location, fall_back, rise_on, falls as falls_rows, rises as rises_rows}
 use Rattle.ta_encode.proofs.Moments.{AllHold-left}
 use Rattle.ta_automaton.specs.declared.pattern.Event.{Event as PatternEvent}
 use Rattle.ta_encode.proofs.State.{change_of}
 use Rattle.ta_encode.proofs.Switch.{KeptEmpty}
-use Rattle.ta_automaton.proofs.Thresholds.{falls as falls_rows, rises as rises_rows}
 use Rattle.ta_encode.proofs.Forward.{onward_of}
 use Rattle.ta_encode.proofs.Singles.{one_single, only_single}
 use Rattle.ta_encode.proofs.Segment.{Segment, Fired, EachMay, may_rules, fire_all, fire_last, may_parts}

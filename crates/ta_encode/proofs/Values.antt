@@ -1,5 +1,5 @@
 -- what a solution says at a moment
-use Rattle.ta_encode.proofs.Common.{◌≡◌, inl, inr, ℕ, zero, suc, ◌+◌, ◌-◌, ◌^◌, ◌<◌, ℤ, pos, ◌+ℤ◌, ◌*ℤ◌, ◌≤ℤ◌, List, [], ◌∷◌, ◌++◌, map, length, drop, cond, Bool, true, false, not, arith, sym, ap, ◌∙◌, refl, subst, slice_get, Some, All, ints, false≢true, not_from_false, *ℤ-zero, one_times, times_next, In-filter, filter_passes, in_append, in_more, In-numbers, value_of, RowHolds, Form, Row, Comparison, Automaton, Pattern, Config, value_at, has_bit, numbers_from, In, Element, Event, Rise, Fall, may_fire, allowed_rules, children, is_complete, is_ready, is_standing, may_rise, Meaning, place_coefficient, location_place, LinearRow, form_row, counter_row, counter_rows, condition_rows, guard_rows, sum_of_products, row_value, AllHold, total, terms_value-same}
+use Rattle.ta_encode.proofs.Common.{◌≡◌, inl, inr, ℕ, zero, suc, ◌+◌, ◌-◌, ◌^◌, ◌<◌, ℤ, pos, ◌+ℤ◌, ◌*ℤ◌, ◌≤ℤ◌, List, [], ◌∷◌, ◌++◌, map, length, drop, cond, Bool, true, false, not, arith, sym, ap, ◌∙◌, refl, subst, slice_get, Some, All, ints, false≢true, not_from_false, *ℤ-zero, one_times, times_next, In-filter, in_append, in_more, In-numbers, value_of, RowHolds, Form, Row, Comparison, Automaton, Pattern, Config, value_at, has_bit, range_with_len, In, Element, Event, Rise, Fall, may_fire, allowed_rules, children, is_complete, is_ready, is_standing, may_rise, Meaning, place_coefficient, location_place, LinearRow, form_row, counter_row, counter_rows, condition_rows, guard_rows, sum_of_products, row_value, AllHold, total, terms_value-same, in_filter}
 use Rattle.std.specs.List.{filter}
 use Rattle.ta_encode.proofs.Moments.{AllHold-left}
 use Rattle.ta_encode.proofs.Combine.{combine-terms}
@@ -23,7 +23,7 @@ held_map vs f (y ∷ xs) x h (inr i) = held_map vs f xs x h.1 i
 
 pub counter_natural : (a : Automaton) (p : Pattern) (ms : List Meaning) (vs : List ℕ) → AllHold vs (counter_rows a p ms) → (l : ℕ) → l < length a.locations → has_bit p.empty l ≡ false → pos 0 ≤ℤ place_value a ms vs (location_place a l)
 counter_natural a p ms vs h l b f =
-    let r = held_map vs (counter_row a ms) (filter (λ k. not (has_bit p.empty k)) (numbers_from 0 (length a.locations))) l h (In-filter (λ k. not (has_bit p.empty k)) l (numbers_from 0 (length a.locations)) (not_from_false _ f) (In-numbers l 0 (length a.locations) (omega arith) (omega arith))) in
+    let r = held_map vs (counter_row a ms) (filter (λ k. not (has_bit p.empty k)) (range_with_len 0 (length a.locations))) l h (In-filter (λ k. not (has_bit p.empty k)) l (range_with_len 0 (length a.locations)) (not_from_false _ f) (In-numbers l 0 (length a.locations) (omega arith) (omega arith))) in
     omega (arith, ints, r)
 
 held_true : (vs : List ℕ) (b : Bool) (x : LinearRow) (xs : List LinearRow) → b ≡ true → AllHold vs (cond b (x ∷ xs) xs) → pos 0 ≤ℤ row_value vs x
@@ -113,7 +113,7 @@ filter_may a p start past (r ∷ xs) = kept_may a p start past r (filter (λ k. 
 
 pub allowed_may : (a : Automaton) (p : Pattern) (start : ℕ) (past : List Element) → EachMay a p start past (allowed_rules a p start past)
 unfolding allowed_rules
-allowed_may a p start past = filter_may a p start past (numbers_from 0 (length a.rules))
+allowed_may a p start past = filter_may a p start past (range_with_len 0 (length a.rules))
 
 same_event : (e f : ℕ) → Event e ≡ Event f → e ≡ f
 same_event e f q = cc
@@ -136,10 +136,10 @@ no_fall e (x ∷ xs) (inr h) = no_fall e xs h
 pub event_ready : (a : Automaton) (p : Pattern) (pairs : List (ℕ × ℕ)) (start : ℕ) (past : List Element) (e : ℕ) → In (Event e) (children a p pairs start past) → is_ready p past e ≡ true
 unfolding children
 event_ready a p pairs start past e h =
-    let es = map Event (filter (is_ready p past) (numbers_from 0 (length p.events))) in
-    let rs = map Rise (filter (may_rise pairs past) (numbers_from 0 (length a.rise))) in
-    let fs = map Fall (filter (is_standing a start past) (numbers_from 1 (2 ^ length a.fall - 1))) in
+    let es = map Event (filter (is_ready p past) (range_with_len 0 (length p.events))) in
+    let rs = map Rise (filter (may_rise pairs past) (range_with_len 0 (length a.rise))) in
+    let fs = map Fall (filter (is_standing a start past) (range_with_len 1 (2 ^ length a.fall - 1))) in
     elim (in_append (Event e) es (rs ++ fs) (in_more (Event e) (is_complete p past) (es ++ (rs ++ fs)) h)) [
-      | inl i ↦ filter_passes (is_ready p past) e (numbers_from 0 (length p.events)) (in_events e _ i)
+      | inl i ↦ (in_filter (is_ready p past) e (range_with_len 0 (length p.events)) (in_events e _ i)).0
       | inr i ↦ elim (in_append (Event e) rs fs i) [ inl j ↦ absurd (no_rise e _ j) | inr j ↦ absurd (no_fall e _ j) ]
     ]

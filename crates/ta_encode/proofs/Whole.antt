@@ -1,6 +1,5 @@
 -- the system of a word with bounds, from that without
-use Rattle.ta_encode.proofs.Common.{◌≡◌, ◌≢◌, ℕ, zero, suc, ◌<◌, ◌≤◌, ◌^◌, ℤ, pos, negsuc, ◌+ℤ◌, ◌-ℤ◌, List, [], ◌∷◌, ◌++◌, map, get_or, arith, sym, ap, ◌∙◌, refl, subst, inl, inr, cases_lt, ints, below_append, InRange, IsNormal, coefficient, AllBelow, Form, Row, System, Element, LinearRow, Bound, Side, Low, High, only_at, bound_row, IsRowOf, AreRowsOf, SystemAt, Search, BoundWithin, BoundsWithin}
-use Rattle.std.proofs.Common.{append-nil}
+use Rattle.ta_encode.proofs.Common.{◌≡◌, ◌≢◌, ℕ, zero, suc, ◌<◌, ◌≤◌, ◌^◌, ℤ, pos, negsuc, ◌+ℤ◌, ◌-ℤ◌, List, [], ◌∷◌, ◌++◌, map, get_or, arith, sym, ap, ◌∙◌, refl, subst, inl, inr, ints, below_append, InRange, IsNormal, coefficient, AllBelow, Form, Row, System, Element, LinearRow, Bound, Side, Low, High, only_at, bound_row, IsRowOf, AreRowsOf, SystemAt, Search, BoundWithin, BoundsWithin, append-nil, cases_eq}
 use Rattle.ta_encode.proofs.Running.{at_variable, if_same, if_other}
 use Rattle.ta_encode.proofs.Adding.{RowsOf-append}
 
@@ -18,14 +17,9 @@ only_there (suc x) (suc u) z other = only_there x u z (λ same. other (ap suc sa
 same_or_not : (x u : ℕ) (z : ℤ) → coefficient ((x, z) ∷ []) u ≡ get_or (only_at x z) u (pos 0)
 same_or_not x u z =
     let alone : (at_variable (x, z) u +ℤ pos 0) ≡ at_variable (x, z) u = omega (arith, ints) in
-    elim (cases_lt x u) [
-      | inl below ↦ alone ∙ if_other (x, z) u (λ same. absurd (omega arith)) ∙ sym (only_there x u z (λ same. absurd (omega arith)))
-      | inr from ↦ elim (cases_lt u x) [
-        | inl above ↦ alone ∙ if_other (x, z) u (λ same. absurd (omega arith)) ∙ sym (only_there x u z (λ same. absurd (omega arith)))
-        | inr to ↦
-            let same : x ≡ u = omega arith in
-            alone ∙ if_same (x, z) u same ∙ sym (ap (λ k. get_or (only_at x z) k (pos 0)) (sym same) ∙ only_here x z)
-      ]
+    elim (cases_eq x u) [
+      | inl same ↦ alone ∙ if_same (x, z) u same ∙ sym (ap (λ k. get_or (only_at x z) k (pos 0)) (sym same) ∙ only_here x z)
+      | inr other ↦ alone ∙ if_other (x, z) u other ∙ sym (only_there x u z other)
     ]
 
 -- a row of the code for a bound

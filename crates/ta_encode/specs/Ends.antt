@@ -3,7 +3,8 @@ use Rattle.std.specs.Prelude.{ℕ, ◌≡◌, List, [], ◌++◌, length, map, f
 use Rattle.ta_linear.specs.declared.row.System.{System}
 use Rattle.ta_automaton.specs.declared.automaton.Automaton.{Automaton}
 use Rattle.ta_automaton.specs.declared.pattern.Pattern.{Pattern}
-use Rattle.ta_base.specs.Masks.{has_bit, numbers_from}
+use Rattle.ta_base.specs.Masks.{has_bit}
+use Rattle.std.specs.List.{range_with_len}
 use Rattle.ta_words.specs.declared.element.Element.{Element}
 use Rattle.ta_encode.specs.Unknowns.{Meaning, meanings}
 use Rattle.ta_encode.specs.System.{LinearRow, Bound, bound_row, counter_row, guard_rows, negated, opposite, word_rows}
@@ -15,7 +16,7 @@ abbrev pub ended_rows : Automaton → List Meaning → Option WordEnd → List L
 ended_rows a ms None = []
 ended_rows a ms (Some end) =
     map negated (guard_rows a ms (has_bit end.failing) 0 a.rise)
-    ++ map (λ l. opposite (counter_row a ms l)) (filter (λ l. not (has_bit end.inhabited l)) (numbers_from 0 (length a.locations)))
+    ++ map (λ l. opposite (counter_row a ms l)) (filter (λ l. not (has_bit end.inhabited l)) (range_with_len 0 (length a.locations)))
 
 -- the unknowns of a word, and its rows, then those of its end, then those of bounds
 pub record EndedSystem (a : Automaton) (p : Pattern) (start : ℕ) (past : List Element) (end : Option WordEnd) (bounds : List Bound) (system : System) : Type 0 where

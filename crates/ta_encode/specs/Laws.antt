@@ -1,14 +1,13 @@
 -- What words, their systems and their refutations say of runs (the reordering theorem after POPL 2017, with start sets
 -- and joint falls as this project's own)
 use Rattle.std.specs.Prelude.{ℕ, ℤ, ◌<◌, ◌≤◌, ◌^◌, ◌≡◌, ◌≢◌, ◌==◌, ◌↔◌, false, if◌then◌else◌, true, List, [], ◌∷◌, ◌++◌, length, map, reverse, take, drop, slice_get, slice_index, Some}
-use Rattle.std.specs.List.{AllByRecursion}
+use Rattle.std.specs.List.{AllByRecursion, range_with_len}
 use Rattle.ta_linear.specs.Values.{RowHolds}
 use Rattle.ta_linear.specs.declared.row.Row.{Row}
 use Rattle.ta_automaton.specs.declared.rule.Rule.{Rule}
 use Rattle.ta_automaton.specs.declared.automaton.Automaton.{Automaton}
 use Rattle.ta_automaton.specs.declared.pattern.Pattern.{Pattern}
 use Rattle.ta_automaton.specs.declared.file.File.{File}
-use Rattle.ta_base.specs.Masks.{numbers_from}
 use Rattle.ta_automaton.specs.Places.{rule_change}
 use Rattle.ta_automaton.specs.Runs.{Config, InScope, LoopsPure, Occurs, Safe, value_at}
 use Rattle.ta_automaton.specs.Sums.{total}
@@ -166,7 +165,7 @@ pub record RunsThrough (a : Automaton) (p : Pattern) (past : List Element) (valu
   pub first : Config
   pub begins : start_values a p first ≡ take (length (start_meanings a p)) values
   pub occurs : Occurs a p first (steps_of firings)
-  pub there : occurs.positions ≡ map (position_in past firings) (numbers_from 0 (length p.events))
+  pub there : occurs.positions ≡ map (position_in past firings) (range_with_len 0 (length p.events))
 
 -- a complete legal word with a natural solution: whatever unit steps are taken for each element, as its Counts and its
 -- Single say and forward, make a run in which the pattern occurs

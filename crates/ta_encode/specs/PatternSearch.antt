@@ -2,7 +2,7 @@
 use Rattle.std.specs.Prelude.{ℕ, ◌^◌, List, [], length, map}
 use Rattle.ta_automaton.specs.declared.automaton.Automaton.{Automaton}
 use Rattle.ta_automaton.specs.declared.pattern.Pattern.{Pattern}
-use Rattle.ta_base.specs.Masks.{numbers_from}
+use Rattle.std.specs.List.{range_with_len}
 use Rattle.ta_words.specs.Words.{children, is_complete}
 use Rattle.ta_encode.specs.Unknowns.{meanings}
 use Rattle.ta_encode.specs.System.{word_rows}
@@ -14,7 +14,7 @@ empty_word start = record { start = start; past = []; bounds = [] }
 
 -- the empty word for each start set by rising mask
 abbrev pub all_starts : Automaton → List Pending
-all_starts a = map empty_word (numbers_from 0 (2 ^ length a.fall))
+all_starts a = map empty_word (range_with_len 0 (2 ^ length a.fall))
 
 -- under pairs of rise guards, (j, i) for j before i: it begins with the empty word of each start set, and goes on with the children of each word
 abbrev pub pattern_search : Automaton → Pattern → List (ℕ × ℕ) → Search

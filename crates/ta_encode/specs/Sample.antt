@@ -2,7 +2,7 @@
 -- project's profile)
 use Rattle.std.specs.Prelude.{ℕ, ◌≡◌, true, List, [], ◌∷◌, ◌++◌, length, map, slice_index, take}
 use Rattle.ta_automaton.specs.declared.automaton.Automaton.{Automaton}
-use Rattle.ta_base.specs.Masks.{numbers_from}
+use Rattle.std.specs.List.{range_with_len}
 use Rattle.ta_automaton.specs.Runs.{Config, Initial}
 use Rattle.ta_encode.specs.Unknowns.{Meaning, Parameter, Start}
 use Rattle.ta_encode.specs.System.{Bound, LinearRow, condition_rows, opposite, processes_row}
@@ -10,7 +10,7 @@ use Rattle.ta_encode.specs.Search.{Pending, Search, SolvesAt}
 
 -- the unknowns: the parameters, and a start count for each initial location
 unfoldable pub sample_meanings : Automaton → List Meaning
-sample_meanings a = map Parameter (numbers_from 0 (length a.parameters)) ++ map Start a.initial
+sample_meanings a = map Parameter (range_with_len 0 (length a.parameters)) ++ map Start a.initial
 
 -- the rows: the resilience condition, and as many processes at the start as there are
 unfoldable pub sample_rows : Automaton → List LinearRow

@@ -8,7 +8,8 @@ use Rattle.ta_automaton.specs.declared.condition.Comparison.{Comparison}
 use Rattle.ta_automaton.specs.declared.automaton.Automaton.{Automaton}
 use Rattle.ta_automaton.specs.declared.pattern.Event.{Event as PatternEvent}
 use Rattle.ta_automaton.specs.declared.pattern.Pattern.{Pattern}
-use Rattle.ta_base.specs.Masks.{has_bit, numbers_from}
+use Rattle.ta_base.specs.Masks.{has_bit}
+use Rattle.std.specs.List.{range_with_len}
 use Rattle.ta_automaton.specs.Places.{location_place}
 use Rattle.ta_words.specs.declared.element.Element.{Element}
 use Rattle.ta_words.specs.declared.element.Element.TheVariants.{Event, Rise, Fall}
@@ -41,7 +42,7 @@ counter_row a ms l = record { constant = pos 0; coefficients = map (λ m. place_
 
 -- the counters of the locations that are not kept empty, in order
 abbrev pub counter_rows : Automaton → Pattern → List Meaning → List LinearRow
-counter_rows a p ms = map (counter_row a ms) (filter (λ l. not (has_bit p.empty l)) (numbers_from 0 (length a.locations)))
+counter_rows a p ms = map (counter_row a ms) (filter (λ l. not (has_bit p.empty l)) (range_with_len 0 (length a.locations)))
 
 -- the rows of a condition's comparisons at a moment
 abbrev pub condition_rows : Automaton → List Meaning → List Comparison → List LinearRow

@@ -3,7 +3,8 @@
 use Rattle.std.specs.Prelude.{ℕ, ℤ, not, List, [], ◌∷◌, ◌++◌, length, map, filter, slice_get}
 use Rattle.ta_automaton.specs.declared.automaton.Automaton.{Automaton}
 use Rattle.ta_automaton.specs.declared.pattern.Pattern.{Pattern}
-use Rattle.ta_base.specs.Masks.{has_bit, numbers_from}
+use Rattle.ta_base.specs.Masks.{has_bit}
+use Rattle.std.specs.List.{range_with_len}
 use Rattle.ta_automaton.specs.Places.{one_if, location_place, rule_change}
 use Rattle.ta_words.specs.declared.element.Element.{Element}
 use Rattle.ta_words.specs.declared.element.Element.TheVariants.{Event, Rise, Fall}
@@ -17,7 +18,7 @@ start_locations a p = filter (λ l. not (has_bit p.empty l)) a.initial
 
 -- the unknowns at the start: the parameters, and a start count for each such location
 unfoldable pub start_meanings : Automaton → Pattern → List Meaning
-start_meanings a p = map Parameter (numbers_from 0 (length a.parameters)) ++ map Start (start_locations a p)
+start_meanings a p = map Parameter (range_with_len 0 (length a.parameters)) ++ map Start (start_locations a p)
 
 -- how often each rule that is allowed after a word fires before the next element
 abbrev pub counts_after : Automaton → Pattern → ℕ → List Element → List Meaning

@@ -2,7 +2,8 @@
 #![tactic(auto)]
 
 ghost use Rattle.std.specs.Prelude.{ℕ, ◌+◌, ◌≡◌, ◌≤◌, ◌∷◌, filter, length, not, reverse};
-ghost use Rattle.ta_base.specs.Masks.{has_bit, numbers_from};
+ghost use Rattle.ta_base.specs.Masks.{has_bit};
+ghost use Rattle.std.specs.List.{range_with_len};
 ghost use Rattle.ta_words.specs.Words.{LegalWord};
 ghost use Rattle.ta_encode.specs.Unknowns.{meanings, start_meanings};
 
@@ -53,7 +54,7 @@ fn element_count(task: Task<'_>, start_mask: u8, before: &[Element], element: El
 /// How many rules are in a set.
 fn firing_count(rules: usize, allowed: u128) -> u32
     requires { rules ≤ 128 }
-    ensures value { result ≡ length (filter (has_bit allowed) (numbers_from 0 rules)) }
+    ensures value { result ≡ length (filter (has_bit allowed) (range_with_len 0 rules)) }
     ensures few { result ≤ 128 }
 {
     let mut count = 0;

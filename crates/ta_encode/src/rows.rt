@@ -3,7 +3,8 @@
 
 ghost use Rattle.std.specs.Prelude.{ℕ, ◌+◌, ◌*◌, ◌^◌, ◌≡◌, ◌≤◌, ◌<◌, ◌≤ℤ◌, ◌<ℤ◌, ◌∷◌, [], IfOk, OnOk, filter, length, map, negsuc, not, pos, unsigned_abs};
 ghost use Rattle.ta_automaton.specs.Places.{location_place};
-ghost use Rattle.ta_base.specs.Masks.{has_bit, numbers_from};
+ghost use Rattle.ta_base.specs.Masks.{has_bit};
+ghost use Rattle.std.specs.List.{range_with_len};
 ghost use Rattle.ta_encode.specs.Code.{IsRowOf};
 ghost use Rattle.ta_encode.specs.Inside.Draft.{Adds};
 ghost use Rattle.ta_encode.specs.Inside.Lines.{AddsRows, SmallCondition, SmallForm, SmallRows, block_row, bound_constant, bound_sense, constant_in_sense, in_sense, start_sense};
@@ -141,7 +142,7 @@ impl<'a> Draft<'a> {
 
     /// The counters of the locations outside a set, written in a sense.
     pub(crate) fn push_counters(&mut self, empty: u32, sense: Sense) -> Result<(), AllocError>
-        ensures { OnOk result (Adds (λ a ms. map (λ l. in_sense sense (counter_row a ms l)) (filter (λ l. not (has_bit empty l)) (numbers_from 0 (length a.locations)))) self.old self.new) }
+        ensures { OnOk result (Adds (λ a ms. map (λ l. in_sense sense (counter_row a ms l)) (filter (λ l. not (has_bit empty l)) (range_with_len 0 (length a.locations)))) self.old self.new) }
     {
         let automaton = self.automaton;
         for location in 0..automaton.locations.as_slice().len() {

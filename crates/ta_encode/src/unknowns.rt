@@ -2,7 +2,8 @@
 #![tactic(auto)]
 
 ghost use Rattle.std.specs.Prelude.{ℕ, ◌+◌, ◌≡◌, ◌≤◌, ◌++◌, IfOk, OnOk, filter, length, map, not};
-ghost use Rattle.ta_base.specs.Masks.{has_bit, numbers_from};
+ghost use Rattle.ta_base.specs.Masks.{has_bit};
+ghost use Rattle.std.specs.List.{range_with_len};
 ghost use Rattle.ta_encode.specs.Unknowns.{Parameter, Start, start_meanings};
 ghost use Rattle.ta_encode.specs.Inside.Firings.{firing};
 
@@ -26,7 +27,7 @@ pub(crate) fn start_meanings(
 
 pub(crate) fn push_parameters(count: usize, meanings: &mut Vec<Meaning>) -> Result<(), AllocError>
     requires { count ≤ 16 }
-    ensures { OnOk result (meanings.new.items ≡ meanings.old.items ++ map Parameter (numbers_from 0 count)) }
+    ensures { OnOk result (meanings.new.items ≡ meanings.old.items ++ map Parameter (range_with_len 0 count)) }
 {
     for parameter in 0..count {
         meanings.push(Meaning::Parameter(parameter as u32))?;
@@ -58,7 +59,7 @@ pub(crate) fn push_firings(
     meanings: &mut Vec<Meaning>,
 ) -> Result<(), AllocError>
     requires { rules ≤ 128 }
-    ensures items { OnOk result (meanings.new.items ≡ meanings.old.items ++ map (firing single element) (filter (has_bit allowed) (numbers_from 0 rules))) }
+    ensures items { OnOk result (meanings.new.items ≡ meanings.old.items ++ map (firing single element) (filter (has_bit allowed) (range_with_len 0 rules))) }
     ensures most { length meanings.new.items ≤ length meanings.old.items + rules }
 {
     for rule in 0..rules {

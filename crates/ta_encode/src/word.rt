@@ -2,7 +2,8 @@
 #![tactic(auto)]
 
 ghost use Rattle.std.specs.Prelude.{ℕ, ◌+◌, ◌^◌, ◌≤◌, ◌<◌, ◌∷◌, [], IfOk, OnOk, filter, length, reverse, map};
-ghost use Rattle.ta_base.specs.Masks.{has_bit, numbers_from};
+ghost use Rattle.ta_base.specs.Masks.{has_bit};
+ghost use Rattle.std.specs.List.{range_with_len};
 ghost use Rattle.ta_encode.specs.Inside.Draft.{AddsUnknowns, Continues, IsDraft};
 ghost use Rattle.ta_encode.specs.Inside.Firings.{firing};
 
@@ -32,7 +33,7 @@ impl<'a> Draft<'a> {
     /// A Count before an element for each rule in a set, or a Single.
     fn push_firings(&mut self, allowed: u128, element: u32, single: bool) -> Result<(), AllocError>
         requires room { length self.old.meanings.items + 128 < 2 ^ 32 }
-        ensures { OnOk result (AddsUnknowns (map (firing single element) (filter (has_bit allowed) (numbers_from 0 (length self.old.automaton.now.rules)))) self.old self.new) }
+        ensures { OnOk result (AddsUnknowns (map (firing single element) (filter (has_bit allowed) (range_with_len 0 (length self.old.automaton.now.rules)))) self.old self.new) }
     {
         let rules = self.automaton.rules.as_slice().len();
         push_firings(rules, allowed, element, single, &mut self.meanings)?;

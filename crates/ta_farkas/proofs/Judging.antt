@@ -1,11 +1,9 @@
 -- What the columns of a check say of a leaf, and the other way
-use Rattle.ta_farkas.proofs.Common.{◌≡◌, ℕ, zero, suc, ◌+◌, ◌<◌, ◌≤◌, ◌^◌, inl, inr, List, [], ◌∷◌, length, Bool, true, false, cond, sym, subst, ap, refl, ℤ, pos, ◌*ℤ◌, ◌<ℤ◌, slice_get, nat_lt, arith, ints, weighted, coefficient_in, constant_in, AreMultipliers, LeafOf, column_sum, ColumnStays, CheckStays, row_at, FineBefore, IsFirstFaultOfLeaf, RowNumber, Overflow, Positive, NotNegative}
+use Rattle.ta_farkas.proofs.Common.{◌≡◌, ℕ, zero, suc, ◌+◌, ◌<◌, ◌≤◌, ◌^◌, inl, inr, List, [], ◌∷◌, length, Bool, true, false, cond, sym, subst, ap, refl, ℤ, pos, ◌*ℤ◌, ◌<ℤ◌, slice_get, nat_lt, arith, ints, weighted, coefficient_in, constant_in, AreMultipliers, LeafOf, column_sum, ColumnStays, CheckStays, row_at, FineBefore, IsFirstFaultOfLeaf, RowNumber, Overflow, Positive, NotNegative, Row, System}
 use Rattle.std.proofs.lemmas.Bool.{cases_lt}
 use Rattle.std.proofs.lemmas.Bool.Decides.{nat_tests}
 use Rattle.std.proofs.Math.IntN.{*ℤ-zero}
 use Rattle.ta_linear.specs.Rows.{AllBelow}
-use Rattle.ta_linear.specs.declared.row.Row.{Row}
-use Rattle.ta_linear.specs.declared.row.System.{System}
 use Rattle.ta_linear.proofs.TermLemmas.{coefficient-above}
 use Rattle.ta_farkas.specs.declared.LeafFault.{LeafFault}
 

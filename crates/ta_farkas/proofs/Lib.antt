@@ -1,4 +1,5 @@
 -- lemmas for the crates above
 pub mod Judging
+pub mod Alike
 mod Sums
 mod Common

@@ -1,7 +1,5 @@
 -- rows with copies of others behind them, and the rows of a pair's system
-use Rattle.ta_implied.proofs.Common.{◌≡◌, ℕ, ◌+◌, ◌<◌, ◌≤◌, ◌^◌, neg_ℤ, List, [], ◌∷◌, ◌++◌, length, take, get_or, slice_get, Some, arith, refl, sym, ap, ◌∙◌, subst, append_assoc, lit<, append-nil, AllByRecursion, each_at, take_next_read, AllBelow, Row, Automaton, Comparison, FormOver, RiseRow, resilience_rows, IsCopy, AreCopies, AreCopied, resilience_of}
-use Rattle.ta_linear.specs.Forms.{IsNegation}
-use Rattle.ta_linear.specs.Terms.{IsNormal}
+use Rattle.ta_implied.proofs.Common.{◌≡◌, ℕ, ◌+◌, ◌<◌, ◌≤◌, ◌^◌, neg_ℤ, List, [], ◌∷◌, ◌++◌, length, take, get_or, slice_get, Some, arith, refl, sym, ap, ◌∙◌, subst, append_assoc, lit<, append-nil, AllByRecursion, each_at, take_next_read, AllBelow, Row, Automaton, Comparison, FormOver, RiseRow, resilience_rows, IsCopy, AreCopies, AreCopied, resilience_of, IsNegation, IsNormal}
 use Rattle.ta_linear.proofs.TermLemmas.{IsNormal-higher, coefficient-above}
 use Rattle.ta_linear.proofs.NormalTerms.{normal_narrow}
 

@@ -1,6 +1,5 @@
 -- gathering the guards from which chains of pairs lead to a guard
-use Rattle.ta_implied.proofs.Common.{◌≡◌, ◌↔◌, ◌⊎◌, inl, inr, ℕ, zero, suc, ◌+◌, ◌<◌, ◌≤◌, ◌^◌, List, true, ◌||◌, bit_or, arith, sym, ◌∙◌, subst, le_or_l, false≢true, or_cases, or_left, or_right, eqb_tells, has_bit, In, has_above, has_or, ChainLeads, IsBeforeSome, LeadsSome}
-use Rattle.ta_base.proofs.Naturals.{in_or_above}
+use Rattle.ta_implied.proofs.Common.{◌≡◌, ◌↔◌, ◌⊎◌, inl, inr, ℕ, zero, suc, ◌+◌, ◌<◌, ◌≤◌, ◌^◌, List, true, ◌||◌, bit_or, arith, sym, ◌∙◌, subst, le_or_l, false≢true, or_cases, or_left, or_right, eqb_tells, has_bit, In, has_above, has_or, ChainLeads, IsBeforeSome, LeadsSome, cases_lt}
 use Rattle.ta_implied.proofs.Chains.{one_more}
 
 -- some guards, with all that come before one of them whose number is below another
@@ -50,7 +49,7 @@ pub all_searched : (pairs : List (ℕ × ℕ)) (guard found : ℕ) → found < 2
 all_searched pairs guard found fits so is j = (so.lead j, λ l. holds l.0 j l.1)
   where
     below : (k : ℕ) → has_bit found k ≡ true → k < 16
-    below k t = elim (in_or_above 16 k) [ inl b ↦ b | inr above ↦ absurd (false≢true (sym (has_above found 16 k fits above) ∙ t)) ]
+    below k t = elim (cases_lt k 16) [ inl b ↦ b | inr above ↦ absurd (false≢true (sym (has_above found 16 k fits above) ∙ t)) ]
 
     holds : (more first : ℕ) → ChainLeads pairs more first guard → has_bit found first ≡ true
     holds zero first l = so.direct first l

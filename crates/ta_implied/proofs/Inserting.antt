@@ -1,5 +1,6 @@
 -- masks with one more pair
-use Rattle.ta_implied.proofs.Common.{◌≡◌, inl, inr, ℕ, ◌*◌, ◌%◌, ◌^◌, ◌<◌, List, ◌∷◌, length, set, get_or, false, bit_or, arith, sym, ap, ◌∙◌, subst, or_lt, one_shl, cases_Bool, with_bit, fits_at, fits_set, Automaton, has_bit, In, AreOrderMasks, HasNoCircle, MayJoin, pairs_from, with_pair}
+use Rattle.ta_implied.proofs.Common.{◌≡◌, inl, inr, ℕ, ◌*◌, ◌%◌, ◌^◌, ◌<◌, List, ◌∷◌, length, set, get_or, false, bit_or, arith, sym, ap, ◌∙◌, subst, or_lt, one_shl, cases_Bool, with_bit, Automaton, has_bit, In, AreOrderMasks, HasNoCircle, MayJoin, pairs_from, with_pair, each_set}
+use Rattle.ta_base.proofs.Each.{each_get_or}
 use Rattle.std.proofs.Math.Pow.{pow-lt}
 use Rattle.ta_implied.proofs.Pairs.{pair_of_bit}
 use Rattle.ta_implied.proofs.Placing.{placed_pair, in_placed}
@@ -31,6 +32,6 @@ inserted_orders a pairs j i masks are view count limit may =
     let first : j < length a.rise = may.is.before in
     let second : i < length a.rise = may.is.after in
     record {
-      fit = fits_set masks i (with_number (get_or masks i 0) j) are.fit (with_fits (get_or masks i 0) j (fits_at masks i are.fit (omega arith)) (omega arith));
+      fit = each_set (λ m. m < 2 ^ 16) masks i (with_number (get_or masks i 0) j) are.fit (with_fits (get_or masks i 0) j (each_get_or (λ m. m < 2 ^ 16) masks i 0 are.fit (omega arith)) (omega arith));
       no_circle = subst HasNoCircle (sym (inserted_pairs a pairs j i masks are view count limit may)) (joined_no_circle a pairs (j, i) (subst HasNoCircle view are.no_circle) may);
     }

@@ -1,8 +1,7 @@
 -- good pairs with one more, and in another order
-use Rattle.ta_implied.proofs.Common.{◌≡◌, inl, inr, ℕ, ℤ, List, [], ◌∷◌, ◌++◌, Bool, true, false, cond, sym, subst, behind_distinct, each_from_in, each_in, in_append, Automaton, In, ImplySystem, IsPair, IsImplied, Good, IsShown, JoinsPair, MayJoin, is_earlier, with_pair}
+use Rattle.ta_implied.proofs.Common.{◌≡◌, inl, inr, ℕ, ℤ, List, [], ◌∷◌, ◌++◌, Bool, true, false, cond, sym, subst, behind_distinct, each_from_in, each_in, in_append, Automaton, In, ImplySystem, IsPair, IsImplied, Good, IsShown, JoinsPair, MayJoin, is_earlier, with_pair, System}
 use Rattle.ta_base.specs.Lists.{Distinct}
 use Rattle.ta_linear.specs.Leaf.{LeafOf}
-use Rattle.ta_linear.specs.declared.row.System.{System}
 use Rattle.ta_farkas.specs.Columns.{CheckStays}
 use Rattle.ta_implied.proofs.Chains.{leads_along, still_no_circle}
 use Rattle.ta_implied.proofs.Placing.{in_placed}

@@ -8,4 +8,5 @@ mod Inserting
 pub mod Ordering
 pub mod Implying
 pub mod Copying
+pub mod PairNumbers
 mod Common

@@ -1,15 +1,15 @@
 -- the pairs of masks: which they are, their order, and one more at its place
-use Rattle.ta_implied.proofs.Common.{length, ◌≡◌, inl, inr, ℕ, zero, suc, ◌+◌, ◌-◌, ◌^◌, ◌<◌, ◌≤◌, List, [], ◌∷◌, ◌++◌, map, get_or, true, arith, sym, ap, ◌∙◌, refl, subst, lit<, filter, replicate, false≢true, AllByRecursion, has_bit, numbers_from, In, bit_in_masks_below, has_none, no_numbers, some_bit, append_empty, In-filter, In-left, In-map, In-right, in_append, in_filter, in_map, In-numbers, pairs_at, pairs_from}
+use Rattle.ta_implied.proofs.Common.{length, ◌≡◌, inl, inr, ℕ, zero, suc, ◌+◌, ◌-◌, ◌^◌, ◌<◌, ◌≤◌, List, [], ◌∷◌, ◌++◌, map, get_or, true, arith, sym, ap, ◌∙◌, refl, subst, lit<, filter, replicate, false≢true, AllByRecursion, has_bit, range_with_len, In, bit_in_masks_below, has_none, no_numbers, some_bit, append_empty, In-filter, In-left, In-map, In-right, in_append, in_filter, in_map, In-numbers, pairs_at, pairs_from}
 
 -- a pair of the guards of a mask
 in_pairs_at : (j i guard mask : ℕ) → In (j, i) (pairs_at guard mask) → (i ≡ guard) × (has_bit mask j ≡ true)
 in_pairs_at j i guard mask h =
-    let mapped = in_map (λ k. (k, guard)) (j, i) (filter (has_bit mask) (numbers_from 0 16)) h in
-    let kept = in_filter (has_bit mask) mapped.0 (numbers_from 0 16) mapped.1 in
+    let mapped = in_map (λ k. (k, guard)) (j, i) (filter (has_bit mask) (range_with_len 0 16)) h in
+    let kept = in_filter (has_bit mask) mapped.0 (range_with_len 0 16) mapped.1 in
     (ap (λ (q : ℕ × ℕ). q.1) mapped.2, ap (λ (q : ℕ × ℕ). has_bit mask q.0) mapped.2 ∙ kept.0)
 
 pairs_at_in : (j guard mask : ℕ) → j < 16 → has_bit mask j ≡ true → In (j, guard) (pairs_at guard mask)
-pairs_at_in j guard mask below has = In-map (λ k. (k, guard)) j (filter (has_bit mask) (numbers_from 0 16)) (In-filter (has_bit mask) j (numbers_from 0 16) has (In-numbers j 0 16 (omega arith) (omega arith)))
+pairs_at_in j guard mask below has = In-map (λ k. (k, guard)) j (filter (has_bit mask) (range_with_len 0 16)) (In-filter (has_bit mask) j (range_with_len 0 16) has (In-numbers j 0 16 (omega arith) (omega arith)))
 
 -- a pair of masks is one of the mask of its guard after
 in_pairs : (j i k : ℕ) (masks : List ℕ) → In (j, i) (pairs_from k masks) → (k ≤ i) × (has_bit (get_or masks (i - k) 0) j ≡ true)
@@ -34,7 +34,7 @@ AreEmpty [] = Unit {0}
 AreEmpty (m ∷ ms) = (m ≡ 0) × AreEmpty ms
 
 no_pairs_at : (k : ℕ) → pairs_at k 0 ≡ []
-no_pairs_at k = ap (map (λ j. (j, k))) (no_numbers (numbers_from 0 16))
+no_pairs_at k = ap (map (λ j. (j, k))) (no_numbers (range_with_len 0 16))
 
 pub no_pairs : (k : ℕ) (masks : List ℕ) → AreEmpty masks → pairs_from k masks ≡ []
 no_pairs k [] h = refl

@@ -1,5 +1,5 @@
 -- one more pair at its place in a list
-use Rattle.ta_implied.proofs.Common.{◌≡◌, ◌⊎◌, inl, inr, ℕ, zero, suc, ◌+◌, ◌<◌, ◌≤◌, List, [], ◌∷◌, ◌++◌, map, length, set, get_or, eqb, cond, Bool, true, false, ◌&&◌, ◌||◌, arith, sym, ap, ◌∙◌, refl, subst, filter, nat_lt, lt-ltb, ne_eqb, nat_tests, eqb_tells, has_bit, numbers_from, In, if_first, if_second, cond_append, back, either, in_append, in_filter, in_map, in_numbers, pairs_at, pairs_from, is_earlier, with_pair}
+use Rattle.ta_implied.proofs.Common.{◌≡◌, ◌⊎◌, inl, inr, ℕ, zero, suc, ◌+◌, ◌<◌, ◌≤◌, List, [], ◌∷◌, ◌++◌, map, length, set, get_or, eqb, cond, Bool, true, false, ◌&&◌, ◌||◌, arith, sym, ap, ◌∙◌, refl, subst, filter, nat_lt, lt-ltb, ne_eqb, nat_tests, eqb_tells, has_bit, range_with_len, In, cond_append, back, either, in_append, in_filter, in_map, in_numbers, pairs_at, pairs_from, is_earlier, with_pair, cond-false, cond-true}
 
 pub in_placed : (pair : ℕ × ℕ) (pairs : List (ℕ × ℕ)) (q : ℕ × ℕ) → In q (with_pair pair pairs) → In q (pair ∷ pairs)
 in_placed pair [] q h = h
@@ -25,12 +25,12 @@ later_before k j x h = grind (arith, nat_tests)
 -- behind pairs whose places are before its own
 placed_behind : (pair : ℕ × ℕ) (xs ys : List (ℕ × ℕ)) → ((q : ℕ × ℕ) → In q xs → is_earlier pair q ≡ false) → with_pair pair (xs ++ ys) ≡ xs ++ with_pair pair ys
 placed_behind pair [] ys h = refl
-placed_behind pair (x ∷ xs) ys h = if_second pair x (xs ++ ys) (with_pair pair (xs ++ ys)) (is_earlier pair x) (h x (inl refl)) ∙ ap (λ zs. x ∷ zs) (placed_behind pair xs ys (λ q i. h q (inr i)))
+placed_behind pair (x ∷ xs) ys h = cond-false (is_earlier pair x) (pair ∷ x ∷ (xs ++ ys)) (x ∷ (with_pair pair (xs ++ ys))) (h x (inl refl)) ∙ ap (λ zs. x ∷ zs) (placed_behind pair xs ys (λ q i. h q (inr i)))
 
 -- before pairs whose places are behind its own
 placed_first : (pair : ℕ × ℕ) (ys : List (ℕ × ℕ)) → ((q : ℕ × ℕ) → In q ys → is_earlier pair q ≡ true) → with_pair pair ys ≡ pair ∷ ys
 placed_first pair [] h = refl
-placed_first pair (y ∷ ys) h = if_first pair y ys (with_pair pair ys) (is_earlier pair y) (h y (inl refl))
+placed_first pair (y ∷ ys) h = cond-true (is_earlier pair y) (pair ∷ y ∷ ys) (y ∷ (with_pair pair ys)) (h y (inl refl))
 
 placed_before : (pair : ℕ × ℕ) (xs ys : List (ℕ × ℕ)) → ((q : ℕ × ℕ) → In q ys → is_earlier pair q ≡ true) → with_pair pair (xs ++ ys) ≡ with_pair pair xs ++ ys
 placed_before pair [] ys h = placed_first pair ys h
@@ -65,50 +65,50 @@ own_bit more mask j is = is j ∙ ap (λ b. b || has_bit mask j) (own (eqb_tells
     own (inl e) = e.0
     own (inr ne) = absurd (ne.1 refl)
 
-listed_later : (guard more mask j low n : ℕ) → IsWith more mask j → j < low → listed guard mask (numbers_from low n) ≡ listed guard more (numbers_from low n)
+listed_later : (guard more mask j low n : ℕ) → IsWith more mask j → j < low → listed guard mask (range_with_len low n) ≡ listed guard more (range_with_len low n)
 listed_later guard more mask j low zero is h = refl
 listed_later guard more mask j low (suc n) is h =
     let same = other_bit more mask j low is (λ e. omega arith) in
-    ap (λ b. headed guard b low (filter (has_bit mask) (numbers_from (low + 1) n))) (sym same)
+    ap (λ b. headed guard b low (filter (has_bit mask) (range_with_len (low + 1) n))) (sym same)
     ∙ with_head (has_bit more low) (listed_later guard more mask j (low + 1) n is (omega arith))
   where
-    with_head : (b : Bool) → listed guard mask (numbers_from (low + 1) n) ≡ listed guard more (numbers_from (low + 1) n) → headed guard b low (filter (has_bit mask) (numbers_from (low + 1) n)) ≡ headed guard b low (filter (has_bit more) (numbers_from (low + 1) n))
+    with_head : (b : Bool) → listed guard mask (range_with_len (low + 1) n) ≡ listed guard more (range_with_len (low + 1) n) → headed guard b low (filter (has_bit mask) (range_with_len (low + 1) n)) ≡ headed guard b low (filter (has_bit more) (range_with_len (low + 1) n))
     with_head true e = ap (λ zs. (low, guard) ∷ zs) e
     with_head false e = e
 
-in_listed : (guard mask low n : ℕ) (q : ℕ × ℕ) → In q (listed guard mask (numbers_from low n)) → (q.1 ≡ guard) × (low ≤ q.0)
+in_listed : (guard mask low n : ℕ) (q : ℕ × ℕ) → In q (listed guard mask (range_with_len low n)) → (q.1 ≡ guard) × (low ≤ q.0)
 in_listed guard mask low n q h =
-    let mapped = in_map (λ k. (k, guard)) q (filter (has_bit mask) (numbers_from low n)) h in
-    let kept = in_filter (has_bit mask) mapped.0 (numbers_from low n) mapped.1 in
+    let mapped = in_map (λ k. (k, guard)) q (filter (has_bit mask) (range_with_len low n)) h in
+    let kept = in_filter (has_bit mask) mapped.0 (range_with_len low n) mapped.1 in
     let within = in_numbers mapped.0 low n kept.1 in
     (ap (λ (p : ℕ × ℕ). p.1) mapped.2, (let e : q.0 ≡ mapped.0 = ap (λ (p : ℕ × ℕ). p.0) mapped.2 in let w = within.0 in omega arith))
 
 -- the pairs of one guard from its first number on, with one more: where it is the first, and where it is later
-here : (guard more mask j n : ℕ) → IsWith more mask j → has_bit mask j ≡ false → with_pair (j, guard) (listed guard mask (numbers_from j (suc n))) ≡ listed guard more (numbers_from j (suc n))
+here : (guard more mask j n : ℕ) → IsWith more mask j → has_bit mask j ≡ false → with_pair (j, guard) (listed guard mask (range_with_len j (suc n))) ≡ listed guard more (range_with_len j (suc n))
 here guard more mask j n is none =
-    let rest = numbers_from (j + 1) n in
+    let rest = range_with_len (j + 1) n in
     let bare : listed guard mask (j ∷ rest) ≡ listed guard mask rest = listed_false guard mask j rest none in
     let first : with_pair (j, guard) (listed guard mask rest) ≡ (j, guard) ∷ listed guard mask rest = placed_first (j, guard) (listed guard mask rest) (λ q i. (let w = in_listed guard mask (j + 1) n q i in let early = earlier_before guard j q.0 (let b = w.1 in omega arith) in subst (λ g. is_earlier (j, guard) (q.0, g) ≡ true) (sym w.0) early)) in
     let with_it : listed guard more (j ∷ rest) ≡ (j, guard) ∷ listed guard more rest = listed_true guard more j rest (own_bit more mask j is) in
     ap (with_pair (j, guard)) bare ∙ first ∙ ap (λ zs. (j, guard) ∷ zs) (listed_later guard more mask j (j + 1) n is (omega arith)) ∙ sym with_it
 
-later : (guard more mask j low n : ℕ) → IsWith more mask j → low < j → (b : Bool) → has_bit mask low ≡ b → with_pair (j, guard) (listed guard mask (numbers_from (low + 1) n)) ≡ listed guard more (numbers_from (low + 1) n) → with_pair (j, guard) (listed guard mask (numbers_from low (suc n))) ≡ listed guard more (numbers_from low (suc n))
+later : (guard more mask j low n : ℕ) → IsWith more mask j → low < j → (b : Bool) → has_bit mask low ≡ b → with_pair (j, guard) (listed guard mask (range_with_len (low + 1) n)) ≡ listed guard more (range_with_len (low + 1) n) → with_pair (j, guard) (listed guard mask (range_with_len low (suc n))) ≡ listed guard more (range_with_len low (suc n))
 later guard more mask j low n is below true t rest_placed =
-    let rest = numbers_from (low + 1) n in
+    let rest = range_with_len (low + 1) n in
     let bit : has_bit more low ≡ true = other_bit more mask j low is (λ e. omega arith) ∙ t in
     ap (with_pair (j, guard)) (listed_true guard mask low rest t)
-    ∙ if_second (j, guard) (low, guard) (listed guard mask rest) (with_pair (j, guard) (listed guard mask rest)) (is_earlier (j, guard) (low, guard)) (later_before guard j low below)
+    ∙ cond-false (is_earlier (j, guard) (low, guard)) ((j, guard) ∷ (low, guard) ∷ (listed guard mask rest)) ((low, guard) ∷ (with_pair (j, guard) (listed guard mask rest))) (later_before guard j low below)
     ∙ ap (λ zs. (low, guard) ∷ zs) rest_placed
     ∙ sym (listed_true guard more low rest bit)
 later guard more mask j low n is below false f rest_placed =
-    let rest = numbers_from (low + 1) n in
+    let rest = range_with_len (low + 1) n in
     let bit : has_bit more low ≡ false = other_bit more mask j low is (λ e. omega arith) ∙ f in
     ap (with_pair (j, guard)) (listed_false guard mask low rest f) ∙ rest_placed ∙ sym (listed_false guard more low rest bit)
 
-placed_here : (guard more mask j low n : ℕ) → IsWith more mask j → has_bit mask j ≡ false → low ≤ j → j < low + n → with_pair (j, guard) (listed guard mask (numbers_from low n)) ≡ listed guard more (numbers_from low n)
+placed_here : (guard more mask j low n : ℕ) → IsWith more mask j → has_bit mask j ≡ false → low ≤ j → j < low + n → with_pair (j, guard) (listed guard mask (range_with_len low n)) ≡ listed guard more (range_with_len low n)
 placed_here guard more mask j low zero is none least most = absurd (omega arith)
 placed_here guard more mask j low (suc n) is none least most = elim (eqb_tells low j) [
-  | inl e ↦ subst (λ k. with_pair (j, guard) (listed guard mask (numbers_from k (suc n))) ≡ listed guard more (numbers_from k (suc n))) (sym e.1) (here guard more mask j n is none)
+  | inl e ↦ subst (λ k. with_pair (j, guard) (listed guard mask (range_with_len k (suc n))) ≡ listed guard more (range_with_len k (suc n))) (sym e.1) (here guard more mask j n is none)
   | inr ne ↦ (let q = ne.1 in let below : low < j = omega arith in later guard more mask j low n is below (has_bit mask low) refl (placed_here guard more mask j (low + 1) n is none (omega arith) (omega arith)))
 ]
 

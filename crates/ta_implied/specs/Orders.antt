@@ -1,16 +1,16 @@
 -- Lists of pairs of rise guards by rising numbers, the pairs that may join them, and why a pair is refused (this project's profile)
 use Rattle.std.specs.Prelude.{ℕ, ◌+◌, ◌<◌, ◌^◌, ◌==◌, ◌&&◌, ◌||◌, nat_lt, if◌then◌else◌, ℤ, ◌≡◌, Bool, List, [], ◌∷◌, ◌++◌, map, filter, true}
-use Rattle.std.specs.List.{AllByRecursion}
+use Rattle.std.specs.List.{AllByRecursion, range_with_len}
 use Rattle.ta_linear.specs.Leaf.{LeafOf}
 use Rattle.ta_linear.specs.declared.row.System.{System}
 use Rattle.ta_automaton.specs.declared.automaton.Automaton.{Automaton}
-use Rattle.ta_base.specs.Masks.{In, has_bit, numbers_from}
+use Rattle.ta_base.specs.Masks.{In, has_bit}
 use Rattle.ta_farkas.specs.Columns.{CheckStays}
 use Rattle.ta_implied.specs.Implied.{ImplySystem, IsPair, ChainLeads}
 
 -- the pairs of a guard with the guards of a mask before it, by rising number of the guard before
 abbrev pub pairs_at : ℕ → ℕ → List (ℕ × ℕ)
-pairs_at guard mask = map (λ j. (j, guard)) (filter (has_bit mask) (numbers_from 0 16))
+pairs_at guard mask = map (λ j. (j, guard)) (filter (has_bit mask) (range_with_len 0 16))
 
 -- the pairs of guards from a number on, by rising number of the guard after, where each has a mask of the guards before it
 abbrev pub pairs_from : ℕ → List ℕ → List (ℕ × ℕ)

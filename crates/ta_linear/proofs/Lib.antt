@@ -5,6 +5,7 @@ pub mod TermLemmas
 pub mod NormalTerms
 pub mod RangeSum
 pub mod Farkas
+pub mod RowsAlike
 mod SmallProduct
 mod LeastTerm
 mod SumLemmas

@@ -1,4 +1,4 @@
-use Rattle.ta_linear.proofs.Common.{length, drop, get_or, ◌≡◌, ◌↔◌, ℕ, ℤ, ◌+◌, ◌<◌, ◌+ℤ◌, ◌*ℤ◌, List, arith, ints, at_drop, InRange, IsNormal, terms_value}
+use Rattle.ta_linear.proofs.Common.{length, drop, get_or, ◌≡◌, ◌↔◌, ℕ, ℤ, ◌+◌, ◌<◌, ◌+ℤ◌, ◌*ℤ◌, List, arith, ints, InRange, IsNormal, terms_value, drop_more}
 use Rattle.ta_linear.specs.Sums.{StaysInRange}
 use Rattle.ta_linear.proofs.TermLemmas.{IsNormal-le}
 
@@ -11,7 +11,7 @@ pub record Summing (number : ℕ → ℤ) (high : ℕ) (start : ℤ) (all : List
 
 pub sum-next : (number : ℕ → ℤ) (high : ℕ) (start : ℤ) (all : List (ℕ × ℤ)) (sum : ℤ) (xs : List (ℕ × ℤ)) (i : ℕ) (d : ℕ × ℤ) (next : ℤ) → Summing number high start all sum (drop i xs) → i < length xs → InRange ((get_or xs i d).1 *ℤ number (get_or xs i d).0) × InRange (sum +ℤ ((get_or xs i d).1 *ℤ number (get_or xs i d).0)) → next ≡ (sum +ℤ ((get_or xs i d).1 *ℤ number (get_or xs i d).0)) → Summing number high start all next (drop (i + 1) xs)
 sum-next number high start all sum xs i d next s h fits is =
-    let m = rw (at_drop xs i d h) at s in
+    let m = rw (drop_more xs i d h) at s in
     rw is (record {
       place = (get_or xs i d).0 + 1;
       normal = m.normal.2;
@@ -21,6 +21,6 @@ sum-next number high start all sum xs i d next s h fits is =
 
 pub sum-place : (number : ℕ → ℤ) (high : ℕ) (start : ℤ) (all : List (ℕ × ℤ)) (sum : ℤ) (xs : List (ℕ × ℤ)) (i : ℕ) (d : ℕ × ℤ) → Summing number high start all sum (drop i xs) → i < length xs → (get_or xs i d).0 < high
 sum-place number high start all sum xs i d s h =
-    let m = rw (at_drop xs i d h) at s in
+    let m = rw (drop_more xs i d h) at s in
     let above = IsNormal-le _ high _ m.normal.2 in
     omega arith

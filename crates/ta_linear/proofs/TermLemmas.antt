@@ -1,4 +1,4 @@
-use Rattle.ta_linear.proofs.Common.{length, drop, get_or, ◌≡◌, ◌≢◌, ℕ, ℤ, pos, negsuc, neg_ℤ, ◌-ℤ◌, inl, inr, ◌+◌, ◌<◌, ◌≤◌, ◌^◌, ◌+ℤ◌, ◌*ℤ◌, List, [], ◌∷◌, ◌++◌, eqb, cond, refl, arith, sym, ap, ◌∙◌, ints, unsigned_abs-mul, nat_tests, eqb_tells, distributes, if_same, if_zero, times_if, times_not_zero, at_drop, InRange, coefficient, IsTerm, IsNormal, IsLeastTerm, SomeSumOutOfRange, IsSum, SumOutOfRange, IsMultiple, MultipleOutOfRange, IsNegation, Form, *ℤ-zero}
+use Rattle.ta_linear.proofs.Common.{length, drop, get_or, ◌≡◌, ◌≢◌, ℕ, ℤ, pos, negsuc, neg_ℤ, ◌-ℤ◌, inl, inr, ◌+◌, ◌<◌, ◌≤◌, ◌^◌, ◌+ℤ◌, ◌*ℤ◌, List, [], ◌∷◌, ◌++◌, eqb, cond, refl, arith, sym, ap, ◌∙◌, ints, unsigned_abs-mul, nat_tests, eqb_tells, distributes, if_same, if_zero, times_if, times_not_zero, InRange, coefficient, IsTerm, IsNormal, IsLeastTerm, SomeSumOutOfRange, IsSum, SumOutOfRange, IsMultiple, MultipleOutOfRange, IsNegation, Form, *ℤ-zero, drop_more}
 use Rattle.std.proofs.Math.ListN.{drop_of_length-le}
 
 pub IsNormal-le : (low high : ℕ) (ts : List (ℕ × ℤ)) → IsNormal low high ts → low ≤ high
@@ -104,11 +104,11 @@ scale-leaves factor all out t rest m leaves =
 
 pub scale-push-at : (factor : ℤ) (all out xs : List (ℕ × ℤ)) (i : ℕ) (d : ℕ × ℤ) (product : ℤ) → Scaling factor all out (drop i xs) → i < length xs → factor ≢ pos 0 → product ≡ (factor *ℤ (get_or xs i d).1) → InRange product → Scaling factor all (out ++ ((get_or xs i d).0, product) ∷ []) (drop (i + 1) xs)
 scale-push-at factor all out xs i d product m h ne is fits =
-    scale-push factor all out (get_or xs i d) (drop (i + 1) xs) product (rw (at_drop xs i d h) at m) ne is fits
+    scale-push factor all out (get_or xs i d) (drop (i + 1) xs) product (rw (drop_more xs i d h) at m) ne is fits
 
 pub scale-leaves-at : (factor : ℤ) (all out xs : List (ℕ × ℤ)) (i : ℕ) (d : ℕ × ℤ) → Scaling factor all out (drop i xs) → i < length xs → (InRange (factor *ℤ (get_or xs i d).1) → ⊥) → (x : ℕ) × (InRange (factor *ℤ coefficient all x) → ⊥)
 scale-leaves-at factor all out xs i d m h leaves =
-    scale-leaves factor all out (get_or xs i d) (drop (i + 1) xs) (rw (at_drop xs i d h) at m) leaves
+    scale-leaves factor all out (get_or xs i d) (drop (i + 1) xs) (rw (drop_more xs i d h) at m) leaves
 
 pub scale-end : (factor : ℤ) (all out xs : List (ℕ × ℤ)) (i : ℕ) → Scaling factor all out (drop i xs) → length xs ≤ i → (x : ℕ) → coefficient out x ≡ (factor *ℤ coefficient all x)
 scale-end factor all out xs i m h x =
@@ -124,7 +124,7 @@ pub record Looking (all left : List (ℕ × ℤ)) (x : ℕ) : Type 0 where
 
 pub look-found : (all xs : List (ℕ × ℤ)) (i x : ℕ) (d : ℕ × ℤ) → Looking all (drop i xs) x → i < length xs → (get_or xs i d).0 ≡ x → ((get_or xs i d).1 ≡ coefficient all x) × InRange (get_or xs i d).1
 look-found all xs i x d l h e =
-    let m = rw (at_drop xs i d h) at l in
+    let m = rw (drop_more xs i d h) at l in
     let t = get_or xs i d in
     let rest = coefficient-below (t.0 + 1) (2 ^ 32) (drop (i + 1) xs) x m.normal.2 (omega arith) in
     (omega (arith, ints, m.same, rest, if_same t.0 x t.1 e), m.normal.1.in_range)

@@ -7,3 +7,4 @@ pub mod Sums
 pub mod Leaf
 pub mod Laws
 pub mod Gcd
+pub mod SameNumbers

@@ -1,5 +1,5 @@
 -- Rows that are merged one after another
-use Rattle.ta_links.proofs.Common.{◌≡◌, ◌≢◌, ◌⊎◌, inl, inr, ℕ, zero, suc, ℤ, pos, ◌+◌, ◌-◌, ◌<◌, ◌≤◌, List, [], ◌∷◌, length, map, drop, drop_of_length-le, get_or, arith, sym, ap, ◌∙◌, refl, subst, range_with_len, at_drop, equal_or_not, TableauRow, merged, MergesInRange, merged-zero, Cell, RowHead, LinkedCells, value_in, row_values, fills, filled_places, filled_rows, AreSound, table_row, no_head, AreProperHeads, row_in, RowMerged, IsSpared, RowStepped, MergeRefused, MergedBelow, RefusedFirst, IsNormal, coefficient, coefficient-below, IsNormal-le, coefficient-other}
+use Rattle.ta_links.proofs.Common.{◌≡◌, ◌≢◌, ◌⊎◌, inl, inr, ℕ, zero, suc, ℤ, pos, ◌+◌, ◌-◌, ◌<◌, ◌≤◌, List, [], ◌∷◌, length, map, drop, drop_of_length-le, get_or, arith, sym, ap, ◌∙◌, refl, subst, range_with_len, TableauRow, merged, MergesInRange, merged-zero, Cell, RowHead, LinkedCells, value_in, row_values, fills, filled_places, filled_rows, AreSound, table_row, no_head, AreProperHeads, row_in, RowMerged, IsSpared, RowStepped, MergeRefused, MergedBelow, RefusedFirst, IsNormal, coefficient, coefficient-below, IsNormal-le, coefficient-other, drop_more, cases_eq}
 use Rattle.ta_links.proofs.LinkedFacts.{row_value_at}
 use Rattle.ta_links.proofs.ColumnSteps.{filled_same, fills_same}
 
@@ -93,12 +93,12 @@ merged_more first columns row column hs old place hs1 now hs2 new m s =
       proper = s.proper;
       rest = λ i c w. s.others i c (apart i w) ∙ m.rest i c (before i w);
       rest_heads = λ i w. s.other_heads i (apart i w) ∙ m.rest_heads i (before i w);
-      done = λ i b ne. elim (equal_or_not i place) [
+      done = λ i b ne. elim (cases_eq i place) [
         | inl e ↦ subst (λ (k : ℕ). row_in hs2 new columns k ≡ merged column (row_in hs old columns row) (row_in hs old columns k)) (sym e)
             (s.row_merged (λ same. ne (subst (IsSpared first row) (sym e) same)) ∙ ap (λ (t : TableauRow). merged column t (row_in hs1 now columns place)) chosen ∙ ap (merged column (row_in hs old columns row)) here)
         | inr apart_ ↦ row_same_in hs1 hs2 now new columns i (λ c. s.others i c (inl apart_)) (s.other_heads i (inl apart_)) ∙ m.done i (omega arith) ne
       ];
-      within = λ i b ne. elim (equal_or_not i place) [
+      within = λ i b ne. elim (cases_eq i place) [
         | inl e ↦ subst (λ (k : ℕ). MergesInRange column (row_in hs old columns row) (row_in hs old columns k)) (sym e)
             (subst (λ (t : TableauRow). MergesInRange column t (row_in hs old columns place)) chosen (subst (λ (t : TableauRow). MergesInRange column (row_in hs1 now columns row) t) here (s.within (λ same. ne (subst (IsSpared first row) (sym e) same)))))
         | inr apart_ ↦ m.within i (omega arith) ne
@@ -107,8 +107,6 @@ merged_more first columns row column hs old place hs1 now hs2 new m s =
           let more : place + 1 ≡ suc place = omega arith in
           let rows_ = filled_rows_same place columns (value_in old.cells.items) (value_in now.cells.items) (value_in new.cells.items) (λ i j b. s.others i j (inl (λ e. omega arith))) in
           let from = filled_from columns (value_in now.cells.items place) (value_in old.cells.items place) (value_in new.cells.items place) (λ j. m.rest place j (inl (omega arith))) in
-          let a = s.held in
-          let b = m.held in
           subst (λ (k : ℕ). length new.cells.items ≤ length old.cells.items + filled_rows k columns (value_in old.cells.items) (value_in new.cells.items)) (sym more) (omega arith);
     }
 
@@ -142,7 +140,7 @@ next_met first columns row column hs old met index d hs1 now column_inside m h =
     let t = get_or met index d in
     let rest = drop (index + 1) met in
     let n = length hs in
-    let split = at_drop met index d h in
+    let split = drop_more met index d h in
     let todo : IsNormal m.place n (t ∷ rest) = subst (IsNormal m.place n) split m.todo in
     let low : m.place ≤ t.0 = todo.0 in
     let high = IsNormal-le (t.0 + 1) n rest todo.2 in

@@ -1,5 +1,5 @@
 -- The cells and heads of a system's rows
-use Rattle.ta_links.proofs.Common.{◌≡◌, ◌≢◌, inl, inr, ℕ, zero, suc, ℤ, pos, ◌+◌, ◌≤◌, List, [], ◌∷◌, ◌++◌, length, get_or, arith, sym, ap, ◌∙◌, refl, Option, None, zero_or_not, equal_or_not, not_both, coefficient, Row, Cell, head_at, IsLive, Direction, IsChained, along_rows, along_columns, AreLinked, RowsShow}
+use Rattle.ta_links.proofs.Common.{◌≡◌, ◌≢◌, inl, inr, ℕ, zero, suc, ℤ, pos, ◌+◌, ◌≤◌, List, [], ◌∷◌, ◌++◌, length, get_or, arith, sym, ap, ◌∙◌, refl, Option, None, zero_or_not, coefficient, Row, Cell, head_at, IsLive, Direction, IsChained, along_rows, along_columns, AreLinked, RowsShow, cases_eq, none-some}
 
 dead : (cells : List Cell) (i : ℕ) → length cells ≡ 0 → IsLive cells i → ⊥
 dead cells i none live = let h = live.inside in omega arith
@@ -8,7 +8,7 @@ empty_chained : (way : Direction) (cells : List Cell) (heads : List (Option ℕ)
 empty_chained way cells heads none empty = record {
   inside = λ i l. absurd (dead cells i none l);
   empty = λ q e k l at. dead cells k none l;
-  first = λ q i e. absurd (not_both (head_at heads q) i e (empty q));
+  first = λ q i e. absurd (none-some i (sym (empty q) ∙ e));
   next = λ i j l e. absurd (dead cells i none l);
   last = λ i l e k m at. absurd (dead cells i none l);
   begins = λ i l e. absurd (dead cells i none l);
@@ -43,7 +43,7 @@ pub shows_more : (first : ℕ) (old : ℕ → ℕ → ℤ) (rows : List Row) (k 
     ((c : ℕ) → coefficient ts c ≢ pos 0 → g k c ≡ coefficient ts c) → ((c : ℕ) → coefficient ts c ≡ pos 0 → g k c ≡ f k c) → RowsShow first old rows (k + 1) g
 shows_more first old rows k f g ts from s is others listed rest = record {
   same = λ i c b. others i c (λ e. omega arith) ∙ s.same i c b;
-  shown = λ i c d low h. elim (equal_or_not i k) [
+  shown = λ i c d low h. elim (cases_eq i k) [
     | inl e ↦ ap (λ (m : ℕ). g m c) e ∙ here c ∙ ap (λ (xs : List (ℕ × ℤ)). coefficient xs c) (is d) ∙ ap (λ (m : ℕ). coefficient (get_or rows m d).form.terms c) (sym e)
     | inr ne ↦ others i c ne ∙ s.shown i c d low (omega arith)
   ];

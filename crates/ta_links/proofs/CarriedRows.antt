@@ -1,5 +1,5 @@
 -- Rows that are carried through a kept pivot
-use Rattle.ta_links.proofs.Common.{◌≡◌, ◌≢◌, inl, inr, ℕ, ℤ, pos, ◌+◌, ◌-◌, ◌<◌, ◌≤◌, ◌<ℤ◌, List, ◌++◌, length, replicate, get_or, arith, sym, ap, ◌∙◌, refl, subst, cases_lt, ext_get_or, length-append, length-replicate, length-map, get_or-map, get_or_past, get_or_append_left, get_or-append_right, get_or-replicate, length-range_with_len, get_or-range_with_len, length-map-range_with_len, range_with_len, IsNormal, coefficient, coefficient-above, TableauRow, merged, no_row, coefficients, KeptPivot, IsKept, chosen_row, after_pivot, MergesInRange, Cell, RowHead, LinkedCells, value_in, row_values, AreSound, table_row, row_in, MergedBelow, RefusedFirst, rows_from, IsRoom, IsEmpty, HasChosenNumbers, OthersSame, RowsCarried, CarryRefused}
+use Rattle.ta_links.proofs.Common.{◌≡◌, ◌≢◌, inl, inr, ℕ, ℤ, pos, ◌+◌, ◌-◌, ◌<◌, ◌≤◌, ◌<ℤ◌, List, ◌++◌, length, replicate, get_or, arith, sym, ap, ◌∙◌, refl, subst, cases_lt, ext_get_or, length-append, length-replicate, length-map, get_or-map, get_or-map-range_with_len, get_or_past, get_or_append_left, get_or-append_right, get_or-replicate, length-map-range_with_len, IsNormal, coefficient, coefficient-above, TableauRow, merged, no_row, coefficients, KeptPivot, IsKept, chosen_row, after_pivot, MergesInRange, Cell, RowHead, LinkedCells, value_in, row_values, AreSound, table_row, row_in, MergedBelow, RefusedFirst, rows_from, IsRoom, IsEmpty, HasChosenNumbers, OthersSame, RowsCarried, CarryRefused}
 use Rattle.ta_links.proofs.LinkedFacts.{row_value_at}
 use Rattle.ta_links.proofs.RowMerging.{numbers_long}
 use Rattle.ta_links.proofs.AllMerging.{row_same_in, not_spared_by}
@@ -8,9 +8,8 @@ use Rattle.ta_links.proofs.AllMerging.{row_same_in, not_spared_by}
 pub coefficients_at : (n : ℕ) (ts : List (ℕ × ℤ)) (c : ℕ) → IsNormal 0 n ts → coefficient ts c ≡ get_or (coefficients n ts) c (pos 0)
 coefficients_at n ts c normal =
     let l = length-map-range_with_len (coefficient ts) 0 n in
-    let r = length-range_with_len 0 n in
     elim (cases_lt c n) [
-      | inl b ↦ sym (get_or-map (coefficient ts) (range_with_len 0 n) c 0 (pos 0) (omega arith) ∙ ap (coefficient ts) (get_or-range_with_len 0 n c 0 b ∙ omega arith))
+      | inl b ↦ sym (get_or-map-range_with_len (coefficient ts) 0 n c c (pos 0) b (omega arith))
       | inr h ↦ coefficient-above 0 n ts c normal h ∙ sym (get_or_past (coefficients n ts) c (pos 0) (omega arith))
     ]
 
@@ -18,9 +17,7 @@ pub length-rows_from : (hs : List RowHead) (l : LinkedCells) (n first count : �
 length-rows_from hs l n first count = length-map-range_with_len (row_in hs l n) first count
 
 pub rows_from_at : (hs : List RowHead) (l : LinkedCells) (n first count i : ℕ) → i < count → get_or (rows_from hs l n first count) i no_row ≡ row_in hs l n (first + i)
-rows_from_at hs l n first count i b =
-    let r = length-range_with_len first count in
-    get_or-map (row_in hs l n) (range_with_len first count) i 0 no_row (omega arith) ∙ ap (row_in hs l n) (get_or-range_with_len first count i 0 b)
+rows_from_at hs l n first count i b = get_or-map-range_with_len (row_in hs l n) first count i (first + i) no_row b refl
 
 -- the chosen row of a kept pivot
 pub chosen_cells : (columns last : ℕ) (cells : List Cell) (ks : List ℤ) → length ks ≤ columns → ((c : ℕ) → value_in cells last c ≡ get_or ks c (pos 0)) → row_values cells columns last ≡ ks ++ replicate (columns - length ks) (pos 0)
@@ -104,9 +101,7 @@ carried_done columns first count k hs hs1 hs2 l l1 l2 l3 kept room p o m x =
 pub carry_refused : (columns first count at : ℕ) (k : KeptPivot) (hs hs1 : List RowHead) (l l1 : LinkedCells) → IsKept columns k → IsRoom columns (first + count) hs1 l1 → HasChosenNumbers (first + count) k hs1 l1 → OthersSame (first + count) hs l hs1 l1 →
     RefusedFirst first columns (first + count) k.column hs1 l1 (length hs1) at → CarryRefused columns first count k hs l at
 carry_refused columns first count at k hs hs1 l l1 kept room p o r =
-    let long = room.long in
     let few = kept.long in
-    let under = r.inside in
     let lo = length-rows_from hs l columns first count in
     let low : first ≤ at = elim (cases_lt at first) [ inl b ↦ absurd (r.refused.apart (inl b)) | inr h ↦ h ] in
     let other : at ≢ first + count = λ e. r.refused.apart (inr e) in

@@ -1,5 +1,5 @@
 -- A row that is written over, column by column
-use Rattle.ta_links.proofs.Common.{◌≡◌, ◌≢◌, inl, inr, ℕ, zero, suc, ℤ, pos, negsuc, ◌+◌, ◌<◌, ◌≤◌, List, [], ◌∷◌, length, drop, get_or, drop_of_length-le, arith, sym, ap, ◌∙◌, refl, subst, Option, None, cases_lt, at_drop, equal_or_not, IsNormal, coefficient, coefficient-below, IsNormal-le, coefficient-other, coefficient-first, LinkedCells, along_rows, value_in, written, fills, filled_places, AreSound, MayBefore}
+use Rattle.ta_links.proofs.Common.{◌≡◌, ◌≢◌, inl, inr, ℕ, zero, suc, ℤ, pos, negsuc, ◌+◌, ◌<◌, ◌≤◌, List, [], ◌∷◌, length, drop, get_or, drop_of_length-le, arith, sym, ap, ◌∙◌, refl, subst, Option, None, cases_lt, IsNormal, coefficient, coefficient-below, IsNormal-le, coefficient-other, coefficient-first, LinkedCells, along_rows, value_in, written, fills, filled_places, AreSound, MayBefore, drop_more, cases_eq}
 use Rattle.ta_links.proofs.Writing.{written_here, written_elsewhere}
 
 pub fills_same : (a b : ℤ) → a ≡ b → fills a b ≡ 0
@@ -19,7 +19,7 @@ filled_same (suc n) f g h same =
 -- one number of a row is written that was as before
 pub filled_step : (n : ℕ) (f g h : ℕ → ℤ) (c : ℕ) → c < n → g c ≡ f c → ((j : ℕ) → j ≢ c → h j ≡ g j) → filled_places n f h ≡ filled_places n f g + fills (f c) (h c)
 filled_step zero f g h c inside here rest = absurd (omega arith)
-filled_step (suc n) f g h c inside here rest = elim (equal_or_not c n) [
+filled_step (suc n) f g h c inside here rest = elim (cases_eq c n) [
   | inl e ↦
       let below = filled_same n f g h (λ j b. rest j (omega arith)) in
       let old : fills (f n) (g n) ≡ 0 = fills_same (f n) (g n) (ap f (sym e) ∙ sym here ∙ ap g e) in
@@ -67,9 +67,8 @@ pub next_column : (old : LinkedCells) (row : ℕ) (list form : List (ℕ × ℤ)
     ((get_or list index d).0 < length now.column_heads.items) × MayBefore along_rows now.cells.items row (get_or list index d).0 left
 next_column old row list form index left now d w h =
     let t = get_or list index d in
-    let todo : IsNormal w.low (length old.column_heads.items) (t ∷ drop (index + 1) list) = subst (IsNormal w.low (length old.column_heads.items)) (at_drop list index d h) w.todo in
+    let todo : IsNormal w.low (length old.column_heads.items) (t ∷ drop (index + 1) list) = subst (IsNormal w.low (length old.column_heads.items)) (drop_more list index d h) w.todo in
     let high = IsNormal-le (t.0 + 1) (length old.column_heads.items) (drop (index + 1) list) todo.2 in
-    let columns = w.columns in
     let low = todo.0 in
     (omega arith, λ k e. let b = w.start k e in let under = b.low in record { live = b.live; here = b.here; low = omega arith })
 
@@ -89,7 +88,7 @@ overwritten_more old row list form index left now d value left' new w h is p =
     let t = get_or list index d in
     let rest = drop (index + 1) list in
     let n = length old.column_heads.items in
-    let split = at_drop list index d h in
+    let split = drop_more list index d h in
     let todo : IsNormal w.low n (t ∷ rest) = subst (IsNormal w.low n) split w.todo in
     let low = todo.0 in
     let high = IsNormal-le (t.0 + 1) n rest todo.2 in
@@ -107,7 +106,7 @@ overwritten_more old row list form index left now d value left' new w h is p =
       columns = p.columns ∙ w.columns;
       start = λ k e. let b = p.before k e in let under = b.low in record { live = b.live; here = b.here; low = omega arith };
       others = λ r c ne. p.values r c ∙ written_elsewhere f row t.0 value r c (inl (λ e. ne (sym e))) ∙ w.others r c ne;
-      done = λ c b ne. elim (equal_or_not c t.0) [
+      done = λ c b ne. elim (cases_eq c t.0) [
         | inl e ↦ ap (value_in new.cells.items row) e ∙ here ∙ is ∙ ap (coefficient form) (sym e)
         | inr apart ↦ elim (cases_lt c w.low) [
           | inl under ↦ elsewhere c apart ∙ w.done c under ne
@@ -122,8 +121,6 @@ overwritten_more old row list form index left now d value left' new w h is p =
       held =
           let step = filled_step n (value_in old.cells.items row) (f row) (value_in new.cells.items row) t.0 (omega arith) was (λ j ne. elsewhere j ne) in
           let one : fills (f row t.0) value ≡ fills (value_in old.cells.items row t.0) (value_in new.cells.items row t.0) = ap (λ (z : ℤ). fills z value) was ∙ ap (fills (value_in old.cells.items row t.0)) (sym here) in
-          let a = p.held in
-          let b = w.held in
           omega arith;
     }
 

@@ -1,7 +1,5 @@
 -- Columns without a cell are passed
-use Rattle.ta_links.proofs.Common.{◌≡◌, ℕ, pos, ◌<◌, ◌≤◌, length, arith, inl, inr, Option, None, Some, MatchOption, cases_lt, ints, Tableau, row_of, cell_of, EntersBelow, NoneEntersBelow}
-use Rattle.std.specs.Prelude.{IfSome, IfNone}
-use Rattle.ta_dense.specs.Entering.{Enters, NoneEnters}
+use Rattle.ta_links.proofs.Common.{◌≡◌, ℕ, pos, ◌<◌, ◌≤◌, length, arith, inl, inr, Option, None, Some, MatchOption, cases_lt, ints, Tableau, row_of, cell_of, EntersBelow, NoneEntersBelow, IfSome, IfNone, Enters, NoneEnters}
 
 pub enters_far : (t : Tableau) (row k p : ℕ) (least : Option ℕ) → k ≤ p → ((j : ℕ) → k ≤ j → j < p → cell_of (row_of t row) j ≡ pos 0) → MatchOption least (NoneEntersBelow t row k) (EntersBelow t row k) →
     MatchOption least (NoneEntersBelow t row p) (EntersBelow t row p)

@@ -1,21 +1,14 @@
 -- The rows of a longer system
-use Rattle.ta_links.proofs.Common.{◌≡◌, ◌≢◌, inl, inr, ℕ, ℤ, pos, suc, ◌+◌, ◌-◌, ◌<◌, ◌≤◌, List, [], ◌∷◌, ◌++◌, length, map, take, drop, replicate, get_or, arith, sym, ap, ◌∙◌, refl, subst, Option, None, cases_lt, ints, ext_get_or, length-append, length-map, length-replicate, get_or-replicate, length-take, length-drop, get_or-map, get_or_past, get_or-take, get_or-drop, get_or_append_left, get_or-append_right, equal_or_not, none_or_some, coefficient, Row, TableauRow, no_row, slack_rows, raised, widened, KeptPivot, kept_at, chosen_row, carried, after_pivot, RowsMergeBelow, FirstRefused, Cell, RowHead, LinkedCells, cell_at, head_at, IsLive, Direction, line_at, IsChained, AreLinked, value_in, row_values, AreSound, table_row, table_rows, no_head, AreProperHeads, IsProperHead, row_in, RowsShow, slack_heads, rows_from, IsRoom, IsEmpty, AreKeptBelow, RowsCarried, CarryRefused, raised_head, AllCarried, IsRefusal}
+use Rattle.ta_links.proofs.Common.{◌≡◌, ◌≢◌, inl, inr, ℕ, ℤ, pos, suc, ◌+◌, ◌-◌, ◌<◌, ◌≤◌, List, [], ◌∷◌, ◌++◌, length, map, take, drop, replicate, get_or, arith, sym, ap, ◌∙◌, refl, subst, Option, None, cases_lt, ints, ext_get_or, length-append, length-map, length-replicate, get_or-replicate, length-take, length-drop, get_or-map, get_or_past, get_or-take, get_or-drop, get_or_append_left, get_or-append_right, none_or_some, coefficient, Row, TableauRow, no_row, slack_rows, raised, widened, KeptPivot, kept_at, chosen_row, carried, after_pivot, RowsMergeBelow, FirstRefused, Cell, RowHead, LinkedCells, cell_at, head_at, IsLive, Direction, line_at, IsChained, AreLinked, value_in, row_values, AreSound, table_row, table_rows, no_head, AreProperHeads, IsProperHead, row_in, RowsShow, slack_heads, rows_from, IsRoom, IsEmpty, AreKeptBelow, RowsCarried, CarryRefused, raised_head, AllCarried, IsRefusal, cases_eq}
 use Rattle.ta_links.proofs.Cells.{value_none, value_found}
 use Rattle.ta_links.proofs.LinkedFacts.{length-table_rows, table_row_at, row_value_at, table_is, length-slack_heads, proper_slacks}
+use Rattle.ta_links.proofs.Removing.{chained_same}
 use Rattle.ta_links.proofs.RowMerging.{numbers_long}
 use Rattle.ta_links.proofs.CarriedRows.{length-rows_from, rows_from_at, chosen_cells}
 
 -- the chains under other heads that show the same cells
 chained_heads : (way : Direction) (cells : List Cell) (heads heads' : List (Option ℕ)) → IsChained way cells heads → ((line : ℕ) → head_at heads' line ≡ head_at heads line) → ((i : ℕ) → IsLive cells i → line_at way cells i < length heads') → IsChained way cells heads'
-chained_heads way cells heads heads' c same inside = record {
-  inside = inside;
-  empty = λ line e. c.empty line (sym (same line) ∙ e);
-  first = λ line i e. c.first line i (sym (same line) ∙ e);
-  next = c.next;
-  last = c.last;
-  begins = λ i live e. same (line_at way cells i) ∙ c.begins i live e;
-  back = c.back;
-}
+chained_heads way cells heads heads' c same inside = chained_same way cells heads heads' cells (λ k l. l) (λ k l. l) (λ k. refl) (λ k. refl) (λ k. refl) (λ k. refl) same inside c
 
 pub widened_linked : (cells : List Cell) (rs rs' cs cs' : List (Option ℕ)) (free : Option ℕ) → AreLinked cells rs cs free → ((line : ℕ) → head_at rs' line ≡ head_at rs line) → length rs ≤ length rs' → ((line : ℕ) → head_at cs' line ≡ head_at cs line) → length cs ≤ length cs' →
     AreLinked cells rs' cs' free
@@ -58,7 +51,7 @@ dropped_linked cells rs cs free last l long empty = record {
     | inl low ↦ get_or-take last rs line None low
     | inr high ↦
         let t = length-take last rs in
-        get_or_past (take last rs) line None (omega arith) ∙ sym (elim (equal_or_not line last) [ inl e ↦ ap (head_at rs) e ∙ none | inr ne ↦ get_or_past rs line None (omega arith) ])
+        get_or_past (take last rs) line None (omega arith) ∙ sym (elim (cases_eq line last) [ inl e ↦ ap (head_at rs) e ∙ none | inr ne ↦ get_or_past rs line None (omega arith) ])
   ]
 
 -- one more pivot
@@ -92,7 +85,7 @@ carrying_more columns first count ks j k hs hs1 hs2 l l1 l2 e a r =
         heads_same = λ i b. r.kept.heads_same i b ∙ a.kept.heads_same i b;
       };
       rows = r.rows ∙ ap (after_pivot columns k) a.rows ∙ ap (λ (q : KeptPivot). after_pivot columns q (carried columns ks j rows0)) e ∙ sym (carried_more columns j ks rows0);
-      within = λ i b. elim (equal_or_not i j) [
+      within = λ i b. elim (cases_eq i j) [
         | inl same ↦ subst (λ (m : ℕ). RowsMergeBelow (kept_at ks m).column (chosen_row columns (kept_at ks m)) (carried columns ks m rows0) (length rows0)) (sym same) step
         | inr ne ↦ a.within i (omega arith)
       ];
@@ -116,17 +109,7 @@ pub record Lengthened (u n first count : ℕ) (hs : List RowHead) (old : LinkedC
 
 pub length-lengthened : (u n first count : ℕ) (hs : List RowHead) (old : LinkedCells) (rows : List Row) (hs1 : List RowHead) (l1 : LinkedCells) → Lengthened u n first count hs old rows hs1 l1 → length hs1 ≡ first + count + 1
 length-lengthened u n first count hs old rows hs1 l1 w =
-    let names = map (raised_head u n) hs in
-    let slacks = slack_heads (u + n + first) (drop first rows) in
-    let a = length-map hs (raised_head u n) in
-    let b = length-slack_heads (u + n + first) (drop first rows) in
-    let d = length-drop first rows in
-    let j = length-append names slacks in
-    let k = length-append (names ++ slacks) (no_head ∷ []) in
-    let e = ap (λ (xs : List RowHead). length xs) w.heads in
-    let long = w.long in
-    let all = w.all in
-    omega arith
+    ap (λ (xs : List RowHead). length xs) w.heads ∙ simp (length-append, length-map, length-slack_heads, length-drop) (omega arith)
 
 -- an old row's head
 pub old_head : (u n first count : ℕ) (hs : List RowHead) (old : LinkedCells) (rows : List Row) (hs1 : List RowHead) (l1 : LinkedCells) (i : ℕ) → Lengthened u n first count hs old rows hs1 l1 → i < first → get_or hs1 i no_head ≡ raised_head u n (get_or hs i no_head)
@@ -135,7 +118,6 @@ old_head u n first count hs old rows hs1 l1 i w b =
     let slacks = slack_heads (u + n + first) (drop first rows) in
     let a = length-map hs (raised_head u n) in
     let j = length-append names slacks in
-    let long = w.long in
     ap (λ (xs : List RowHead). get_or xs i no_head) w.heads ∙ get_or_append_left (names ++ slacks) (no_head ∷ []) no_head i (omega arith) ∙ get_or_append_left names slacks no_head i (omega arith) ∙ get_or-map (raised_head u n) hs i no_head no_head (omega arith)
 
 -- a new row's head
@@ -148,8 +130,6 @@ new_head_at u n first count hs old rows hs1 l1 i w b =
     let s = length-slack_heads (u + n + first) (drop first rows) in
     let d = length-drop first rows in
     let j = length-append names slacks in
-    let long = w.long in
-    let all = w.all in
     let e : first + i - first ≡ i = omega arith in
     ap (λ (xs : List RowHead). get_or xs (first + i) no_head) w.heads ∙ get_or_append_left (names ++ slacks) (no_head ∷ []) no_head (first + i) (omega arith) ∙ get_or-append_right names slacks first (first + i) no_head (omega arith) (omega arith)
     ∙ ap (λ (k : ℕ). get_or slacks k no_head) e
@@ -163,7 +143,6 @@ new_rows_begin u n first count hs old rows hs1 l1 w =
     let slacks = slack_heads (u + n + first) (drop first rows) in
     let s = length-slack_heads (u + n + first) (drop first rows) in
     let d = length-drop first rows in
-    let all = w.all in
     let lr = length-rows_from hs1 l1 (u + n) first count in
     let lt = length-table_rows cells (u + n) first slacks in
     ext_get_or no_row (rows_from hs1 l1 (u + n) first count) (table_rows cells (u + n) first slacks) (omega arith) (λ i b.
@@ -184,8 +163,6 @@ begun_room u n first count hs old rows hs1 l1 w proper sound rl cl =
     let s = length-slack_heads (u + n + first) (drop first rows) in
     let d = length-drop first rows in
     let j = length-append names slacks in
-    let first_is = w.long in
-    let all = w.all in
     record {
       sound = sound;
       rows = omega arith;
@@ -231,7 +208,6 @@ extended_table u n first count hs old rows hs1 hs2 hs3 l1 l2 w sound cl kept lon
     let l7 = length-map before (widened u n) in
     let l8 = length-table_rows old.cells.items u 0 hs in
     let l9 = length-rows_from hs2 l2 (u + n) first count in
-    let first_is = w.long in
     ext_get_or no_row (table_rows l2.cells.items (u + n) 0 hs3) (wide ++ new) (omega arith) (λ i b.
     let inside : i < first + count = omega arith in
     let head : get_or hs3 i no_head ≡ get_or hs2 i no_head = ap (λ (xs : List RowHead). get_or xs i no_head) e ∙ get_or-take (first + count) hs2 i no_head inside in

@@ -1,5 +1,5 @@
 -- A cell that is put into a line keeps chains
-use Rattle.ta_links.proofs.Common.{◌≡◌, ◌≢◌, ◌⊎◌, inl, inr, ℕ, ◌<◌, ◌≤◌, List, length, arith, sym, ap, ◌∙◌, subst, Option, Some, None, equal_or_not, some_or_not, none_or_some, not_both, same_index, Cell, head_at, IsLive, Direction, line_at, place_at, before_at, after_at, IsFirstCell, FollowsCell, IsChained}
+use Rattle.ta_links.proofs.Common.{◌≡◌, ◌≢◌, ◌⊎◌, inl, inr, ℕ, ◌<◌, ◌≤◌, List, length, arith, sym, ap, ◌∙◌, subst, Option, Some, None, some_or_not, none_or_some, Cell, head_at, IsLive, Direction, line_at, place_at, before_at, after_at, IsFirstCell, FollowsCell, IsChained, cases_eq, same_Some, none-some}
 
 -- a cell `x` goes into a line, between the cells `p` and `n`, one or both of which may be missing
 pub record Insertion : Type 0 where
@@ -48,7 +48,6 @@ stands w k live at = elim (none_or_some w.p) [
   ]
   | inr h ↦
       let gap = w.gap_p h.0 h.1 in
-      let below = gap.2 in
       elim (none_or_some w.n) [
         | inl end ↦
             let least = w.chained.last h.0 gap.0 (gap.3 ∙ end) k live (at ∙ sym gap.1) in
@@ -81,7 +80,6 @@ place_kept w k live = (w.old k live).3
 
 insert_inside : (w : Insertion) (i : ℕ) → IsLive w.cells' i → line_at w.way w.cells' i < length w.heads'
 insert_inside w i live =
-    let long = w.long in
     elim (w.only i live) [
       | inl e ↦ let a = ap (λ (k : ℕ). line_at w.way w.cells' k) e in let b = w.line_x in let c = w.inside in omega arith
       | inr old ↦ let a = line_kept w i old in let b = w.chained.inside i old in omega arith
@@ -89,8 +87,8 @@ insert_inside w i live =
 
 insert_empty : (w : Insertion) (q : ℕ) → head_at w.heads' q ≡ None → (k : ℕ) → IsLive w.cells' k → line_at w.way w.cells' k ≢ q
 insert_empty w q none k live at =
-    let apart : (q ≢ w.line) ⊎ (w.p ≢ None) = elim (equal_or_not q w.line) [
-      | inl e ↦ inr (λ first. not_both (head_at w.heads' q) w.x (ap (head_at w.heads') e ∙ w.head_new first) none)
+    let apart : (q ≢ w.line) ⊎ (w.p ≢ None) = elim (cases_eq q w.line) [
+      | inl e ↦ inr (λ first. none-some w.x (sym none ∙ (ap (head_at w.heads') e ∙ w.head_new first)))
       | inr ne ↦ inl ne
     ] in
     let was : head_at w.heads q ≡ None = sym (w.head_rest q apart) ∙ none in
@@ -98,19 +96,19 @@ insert_empty w q none k live at =
       | inl e ↦
           let here_ : w.line ≡ q = sym w.line_x ∙ sym (ap (line_at w.way w.cells') e) ∙ at in
           elim (none_or_some w.p) [
-            | inl first ↦ not_both (head_at w.heads' q) w.x (ap (head_at w.heads') (sym here_) ∙ w.head_new first) none
+            | inl first ↦ none-some w.x (sym none ∙ (ap (head_at w.heads') (sym here_) ∙ w.head_new first))
             | inr h ↦ let gap = w.gap_p h.0 h.1 in w.chained.empty q was h.0 gap.0 (gap.1 ∙ here_)
           ]
       | inr old ↦ w.chained.empty q was k old (sym (line_kept w k old) ∙ at)
     ]
 
 insert_first : (w : Insertion) (q i : ℕ) → head_at w.heads' q ≡ Some i → IsFirstCell w.way w.cells' q i
-insert_first w q i e = elim (equal_or_not q w.line) [
+insert_first w q i e = elim (cases_eq q w.line) [
   | inl here_ ↦ elim (none_or_some w.p) [
     | inl front ↦
-        let same : w.x ≡ i = same_index (head_at w.heads' q) w.x i (ap (head_at w.heads') here_ ∙ w.head_new front) e in
+        let same : w.x ≡ i = same_Some w.x i (sym (ap (head_at w.heads') here_ ∙ w.head_new front) ∙ e) in
         first_new w q here_ front i same
-    | inr h ↦ first_old w q i (inr (λ none. not_both w.p h.0 h.1 none)) e
+    | inr h ↦ first_old w q i (inr (λ none. none-some h.0 (sym none ∙ h.1))) e
   ]
   | inr ne ↦ first_old w q i (inl ne) e
 ] where
@@ -122,10 +120,9 @@ insert_first w q i e = elim (equal_or_not q w.line) [
     least = λ k live at. elim (w.only k live) [
       | inl e ↦ let a = ap (place_at w.way w.cells') e in omega arith
       | inr old ↦
-          let a = w.place_x in
           let b = place_kept w k old in
           elim (stands w k old (sym (line_kept w k old) ∙ at ∙ here_)) [
-            | inl h ↦ absurd (not_both w.p h.0 h.1 front)
+            | inl h ↦ absurd (none-some h.0 (sym front ∙ h.1))
             | inr j ↦ let c = j.3 in omega arith
           ]
     ];
@@ -142,7 +139,7 @@ insert_first w q i e = elim (equal_or_not q w.line) [
         | inr h ↦
             let gap = w.gap_p h.0 h.1 in
             let follows = w.chained.next h.0 i gap.0 (gap.3 ∙ n) in
-            not_both (before_at w.way w.cells i) h.0 follows.back first.front
+            none-some h.0 (sym first.front ∙ follows.back)
       ] in
       record {
         live = (w.old i first.live).0;
@@ -175,29 +172,26 @@ insert_last w i live end k alive at = elim (w.only i live) [
   | inl x ↦
       let none : w.n ≡ None = sym w.after_x ∙ sym (ap (after_at w.way w.cells') x) ∙ end in
       let pi = ap (place_at w.way w.cells') x in
-      let px = w.place_x in
       elim (w.only k alive) [
         | inl y ↦ let pk = ap (place_at w.way w.cells') y in omega arith
         | inr old ↦
             let pk = place_kept w k old in
             elim (stands w k old (sym (line_kept w k old) ∙ at ∙ ap (line_at w.way w.cells') x ∙ w.line_x)) [
               | inl h ↦ let c = h.3 in omega arith
-              | inr j ↦ absurd (not_both w.n j.0 j.1 none)
+              | inr j ↦ absurd (none-some j.0 (sym none ∙ j.1))
             ]
       ]
   | inr was ↦
-      let apart : w.p ≢ Some i = λ e. not_both (after_at w.way w.cells' i) w.x (w.after_p i was e) end in
+      let apart : w.p ≢ Some i = λ e. none-some w.x (sym end ∙ (w.after_p i was e)) in
       let over : after_at w.way w.cells i ≡ None = sym (w.after_rest i was apart) ∙ end in
       let pi = place_kept w i was in
       elim (w.only k alive) [
         | inl y ↦
             let pk = ap (place_at w.way w.cells') y in
-            let px = w.place_x in
             let line : line_at w.way w.cells i ≡ w.line = sym (line_kept w i was) ∙ sym at ∙ ap (line_at w.way w.cells') y ∙ w.line_x in
             elim (stands w i was line) [
               | inl h ↦
                   let gap = w.gap_p h.0 h.1 in
-                  let low = h.2 in
                   let least = w.chained.last i was over h.0 gap.0 (gap.1 ∙ sym line) in
                   let same : h.0 ≡ i = w.one h.0 i gap.0 was (gap.1 ∙ sym line) (omega arith) in
                   absurd (apart (h.1 ∙ ap (λ (m : ℕ). Some m) same))
@@ -214,14 +208,13 @@ insert_next : (w : Insertion) (i j : ℕ) → IsLive w.cells' i → after_at w.w
 insert_next w i j live e = elim (w.only i live) [
   | inl x ↦ subst (λ (k : ℕ). FollowsCell w.way w.cells' k j) (sym x) (from_new w j (sym w.after_x ∙ sym (ap (after_at w.way w.cells') x) ∙ e))
   | inr was ↦ elim (some_or_not w.p i) [
-    | inl p ↦ subst (λ (k : ℕ). FollowsCell w.way w.cells' i k) (same_index (after_at w.way w.cells' i) w.x j (w.after_p i was p) e) (to_new w i was p)
+    | inl p ↦ subst (λ (k : ℕ). FollowsCell w.way w.cells' i k) (same_Some w.x j (sym (w.after_p i was p) ∙ e)) (to_new w i was p)
     | inr p ↦ from_old w i j was p (sym (w.after_rest i was p) ∙ e)
   ]
 ] where
   from_new : (w : Insertion) (j : ℕ) → w.n ≡ Some j → FollowsCell w.way w.cells' w.x j
   from_new w j n =
       let b = behind w j n in
-      let px = w.place_x in
       let pj = place_kept w j b.0 in
       let gap = w.gap_n j n in
       record {
@@ -236,8 +229,7 @@ insert_next w i j live e = elim (w.only i live) [
               elim (stands w k old (sym (line_kept w k old) ∙ at ∙ w.line_x)) [
                 | inl h ↦ let c = h.3 in inl (omega arith)
                 | inr m ↦
-                    let c = m.2 in
-                    let same = ap (place_at w.way w.cells) (same_index w.n m.0 j m.1 n) in
+                    let same = ap (place_at w.way w.cells) (same_Some m.0 j (sym m.1 ∙ n)) in
                     inr (omega arith)
               ]
         ];
@@ -261,7 +253,7 @@ insert_next w i j live e = elim (w.only i live) [
               elim (stands w k old (sym (line_kept w k old) ∙ at ∙ line_kept w i was ∙ gap.1)) [
                 | inl h ↦
                     let c = h.2 in
-                    let same = ap (place_at w.way w.cells) (same_index w.p h.0 i h.1 p) in
+                    let same = ap (place_at w.way w.cells) (same_Some h.0 i (sym h.1 ∙ p)) in
                     inl (omega arith)
                 | inr m ↦ let c = m.3 in inr (omega arith)
               ]
@@ -277,11 +269,11 @@ insert_next w i j live e = elim (w.only i live) [
       let apart : w.n ≢ Some j = λ n. elim (none_or_some w.p) [
         | inl none ↦
             let first = w.chained.first w.line j (w.gap_none none ∙ n) in
-            not_both (before_at w.way w.cells j) i f.back first.front
+            none-some i (sym first.front ∙ f.back)
         | inr h ↦
             let gap = w.gap_p h.0 h.1 in
             let g = w.chained.next h.0 j gap.0 (gap.3 ∙ n) in
-            p (h.1 ∙ ap (λ (m : ℕ). Some m) (same_index (before_at w.way w.cells j) h.0 i g.back f.back))
+            p (h.1 ∙ ap (λ (m : ℕ). Some m) (same_Some h.0 i (sym g.back ∙ f.back)))
       ] in
       record {
         live = (w.old j f.live).0;
@@ -321,9 +313,9 @@ insert_begins w i live e = elim (w.only i live) [
       let front : w.p ≡ None = sym w.before_x ∙ sym (ap (before_at w.way w.cells') x) ∙ e in
       ap (λ (k : ℕ). head_at w.heads' (line_at w.way w.cells' k)) x ∙ ap (head_at w.heads') w.line_x ∙ w.head_new front ∙ ap (λ (m : ℕ). Some m) (sym x)
   | inr was ↦
-      let apart : w.n ≢ Some i = λ n. not_both (before_at w.way w.cells' i) w.x (w.before_n i was n) e in
+      let apart : w.n ≢ Some i = λ n. none-some w.x (sym e ∙ (w.before_n i was n)) in
       let begins = w.chained.begins i was (sym (w.before_rest i was apart) ∙ e) in
-      let other : (line_at w.way w.cells i ≢ w.line) ⊎ (w.p ≢ None) = elim (equal_or_not (line_at w.way w.cells i) w.line) [
+      let other : (line_at w.way w.cells i ≢ w.line) ⊎ (w.p ≢ None) = elim (cases_eq (line_at w.way w.cells i) w.line) [
         | inl here_ ↦ inr (λ none. apart (sym (w.gap_none none) ∙ ap (head_at w.heads) (sym here_) ∙ begins))
         | inr ne ↦ inl ne
       ] in
@@ -338,7 +330,7 @@ insert_back w i h live e = elim (w.only i live) [
       ((w.old h gap.0).0, w.after_p h gap.0 p ∙ ap (λ (m : ℕ). Some m) (sym x))
   | inr was ↦ elim (some_or_not w.n i) [
     | inl n ↦
-        let same : w.x ≡ h = same_index (before_at w.way w.cells' i) w.x h (w.before_n i was n) e in
+        let same : w.x ≡ h = same_Some w.x h (sym (w.before_n i was n) ∙ e) in
         (subst (λ (k : ℕ). IsLive w.cells' k) same w.new, ap (after_at w.way w.cells') (sym same) ∙ w.after_x ∙ n)
     | inr n ↦
         let b = w.chained.back i h was (sym (w.before_rest i was n) ∙ e) in

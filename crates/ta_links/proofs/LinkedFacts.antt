@@ -1,5 +1,5 @@
 -- Rows that are read from cells, and live cells that are counted
-use Rattle.ta_links.proofs.Common.{◌≡◌, ◌≢◌, ℕ, zero, suc, ℤ, pos, negsuc, ◌+◌, ◌<◌, ◌≤◌, List, [], ◌∷◌, length, get_or, map, arith, sym, ap, ◌∙◌, refl, subst, Option, None, ints, get_or-map, length-range_with_len, get_or-range_with_len, range_with_len, not_both, coefficient, Row, TableauRow, no_row, row_of, cell_of, coefficients, slack_rows, slack_row_of, Cell, RowHead, cell_at, IsFree, FreeVisits, NotIn, value_in, row_values, fills, table_row, table_rows, no_head, live_count, AreProperHeads, IsProperHead, Linked, IsKeptInChains, linked_of, IsSoundLinks, Inside, slack_heads}
+use Rattle.ta_links.proofs.Common.{◌≡◌, ◌≢◌, ℕ, zero, suc, ℤ, pos, negsuc, ◌+◌, ◌<◌, ◌≤◌, List, [], ◌∷◌, length, get_or, map, arith, sym, ap, ◌∙◌, refl, subst, Option, None, ints, range_with_len, coefficient, Row, TableauRow, no_row, row_of, cell_of, coefficients, slack_rows, slack_row_of, Cell, RowHead, cell_at, IsFree, FreeVisits, NotIn, value_in, row_values, fills, table_row, table_rows, no_head, live_count, AreProperHeads, IsProperHead, Linked, IsKeptInChains, linked_of, IsSoundLinks, Inside, slack_heads, none-some, get_or-map-range_with_len}
 
 pub length-table_rows : (cells : List Cell) (n k : ℕ) (hs : List RowHead) → length (table_rows cells n k hs) ≡ length hs
 length-table_rows cells n k [] = refl
@@ -12,9 +12,7 @@ table_row_at cells n k (x ∷ xs) (suc i) h =
     table_row_at cells n (suc k) xs i (omega arith) ∙ ap (λ (r : ℕ). table_row cells n r (get_or xs i no_head)) (omega arith)
 
 pub row_value_at : (cells : List Cell) (n row j : ℕ) → j < n → get_or (row_values cells n row) j (pos 0) ≡ value_in cells row j
-row_value_at cells n row j h =
-    let long = length-range_with_len 0 n in
-    get_or-map (value_in cells row) (range_with_len 0 n) j 0 (pos 0) (omega arith) ∙ ap (value_in cells row) (get_or-range_with_len 0 n j 0 h ∙ omega arith)
+row_value_at cells n row j h = get_or-map-range_with_len (value_in cells row) 0 n j j (pos 0) h (omega arith)
 
 -- the number in a place of a table
 pub table_cell : (cells : List Cell) (n : ℕ) (hs : List RowHead) (i j : ℕ) → i < length hs → j < n → cell_of (get_or (table_rows cells n 0 hs) i no_row) j ≡ value_in cells i j
@@ -57,7 +55,7 @@ pub full_live : (cells : List Cell) (free : Option ℕ) → free ≡ None → Is
 full_live cells free none f = go cells free none f.visited f.visits f.all where
   go : (cells : List Cell) (free : Option ℕ) → free ≡ None → (is : List ℕ) → FreeVisits cells free is → ((i : ℕ) → i < length cells → NotIn i is → (cell_at cells i).value ≢ pos 0) → live_count cells ≡ length cells
   go cells free none [] v all = all_live cells (λ i h. all i h tt)
-  go cells free none (i ∷ is) v all = absurd (not_both free i v.0 none)
+  go cells free none (i ∷ is) v all = absurd (none-some i (sym none ∙ v.0))
 
 pub live_few : (cells : List Cell) → live_count cells ≤ length cells
 live_few [] = omega arith

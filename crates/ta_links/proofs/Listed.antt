@@ -1,5 +1,5 @@
 -- A list of the cells of a line that grows cell by cell
-use Rattle.ta_links.proofs.Common.{◌≡◌, inl, inr, ℕ, ℤ, pos, ◌+◌, ◌<◌, ◌≤◌, List, [], ◌∷◌, ◌++◌, arith, sym, ap, ◌∙◌, refl, Option, None, Some, ints, cases_lt, equal_or_not, IsNormal, IsTerm, coefficient, IsNormal-push, IsNormal-higher, coefficient-append, coefficient-above, coefficient-other, coefficient-first, LinkedCells, Way, Rows, Columns, cell_at, IsLive, place_at, AreSound, spot, direction, line_value_at, MayBeOn, IsNext, NoneLeft, Lists, line_places}
+use Rattle.ta_links.proofs.Common.{◌≡◌, inl, inr, ℕ, ℤ, pos, ◌+◌, ◌<◌, ◌≤◌, List, [], ◌∷◌, ◌++◌, arith, sym, ap, ◌∙◌, refl, Option, None, Some, ints, cases_lt, IsNormal, IsTerm, coefficient, IsNormal-push, IsNormal-higher, coefficient-append, coefficient-above, coefficient-other, coefficient-first, LinkedCells, Way, Rows, Columns, cell_at, IsLive, place_at, AreSound, spot, direction, line_value_at, MayBeOn, IsNext, NoneLeft, Lists, line_places, cases_eq}
 
 -- the cells before a place are listed
 pub record Listing (way : Way) (l : LinkedCells) (on : ℕ) (before : Option ℕ) (ts : List (ℕ × ℤ)) : Type 0 where
@@ -17,7 +17,6 @@ pub listed_more : (way : Way) (l : LinkedCells) (on : ℕ) (before : Option ℕ)
 listed_more way l on before ts at t sound w n e0 e1 =
     let cells = l.cells.items in
     let place = place_at (direction way) cells at in
-    let far = n.further in
     let live = n.on.live in
     let term : IsTerm t = record { not_zero = λ z. live.value (sym e1 ∙ z); in_range = rw e1 (sound.fits at live) } in
     let pushed = IsNormal-push 0 (spot (direction way) cells before) ts t w.normal (omega arith) term in
@@ -25,7 +24,7 @@ listed_more way l on before ts at t sound w n e0 e1 =
     record {
       may = λ h e. let same : at ≡ h = cc in rw (sym same) n.on;
       normal = IsNormal-higher 0 (t.0 + 1) (spot (direction way) cells (Some at)) (ts ++ t ∷ []) (omega arith) pushed;
-      numbers = λ p b. elim (equal_or_not t.0 p) [
+      numbers = λ p b. elim (cases_eq t.0 p) [
         | inl e ↦
             let none : coefficient ts t.0 ≡ pos 0 = coefficient-above 0 (spot (direction way) cells before) ts t.0 w.normal (omega arith) in
             let sum = coefficient-append ts (t ∷ []) t.0 in

@@ -1,5 +1,5 @@
 -- A row that is merged place by place
-use Rattle.ta_links.proofs.Common.{◌≡◌, ◌≢◌, inl, inr, ℕ, suc, ℤ, pos, ◌+◌, ◌*ℤ◌, ◌-ℤ◌, ◌<ℤ◌, ◌<◌, ◌≤◌, List, length, arith, sym, ap, ◌∙◌, refl, subst, Option, Some, None, IfSome, IfNone, unsigned_abs, int_div, eqb_tells, pos_out, equal_or_not, in_range-div, InRange, CombinesInRange, Cell, LinkedCells, along_rows, value_in, fills, filled_places, AreSound, MayBefore, merged_cell, MergesAt, gcd_below, gcd_of, of_z, w128}
+use Rattle.ta_links.proofs.Common.{◌≡◌, ◌≢◌, inl, inr, ℕ, suc, ℤ, pos, ◌+◌, ◌*ℤ◌, ◌-ℤ◌, ◌<ℤ◌, ◌<◌, ◌≤◌, List, length, arith, sym, ap, ◌∙◌, refl, subst, Option, Some, None, IfSome, IfNone, unsigned_abs, int_div, eqb_tells, pos_out, in_range-div, InRange, CombinesInRange, Cell, LinkedCells, along_rows, value_in, fills, filled_places, AreSound, MayBefore, merged_cell, MergesAt, gcd_below, gcd_of, cases_eq}
 use Rattle.std.specs.Option.{SomeIff}
 use Rattle.ta_links.proofs.Writing.{written_here, written_elsewhere}
 use Rattle.ta_links.proofs.ColumnSteps.{PutOver, filled_step}
@@ -14,7 +14,7 @@ pub merged_elsewhere : (p q : ℤ) (column : ℕ) (turned : ℤ) (f g : ℕ → 
 merged_elsewhere p q column turned f g j ne = elim (eqb_tells j column) [ inl a ↦ absurd (ne a.1) | inr a ↦ rw a.0 refl ]
 
 pub merged_same : (p q : ℤ) (column : ℕ) (turned : ℤ) (f g f' g' : ℕ → ℤ) (j : ℕ) → f j ≡ f' j → g j ≡ g' j → merged_cell p q column turned f g j ≡ merged_cell p q column turned f' g' j
-merged_same p q column turned f g f' g' j e h = elim (equal_or_not j column) [
+merged_same p q column turned f g f' g' j e h = elim (cases_eq j column) [
   | inl a ↦ merged_here p q column turned f g j a ∙ sym (merged_here p q column turned f' g' j a)
   | inr ne ↦ merged_elsewhere p q column turned f g j ne ∙ ap (λ (z : ℤ). p *ℤ z -ℤ q *ℤ g j) e ∙ ap (λ (z : ℤ). p *ℤ f' j -ℤ q *ℤ z) h ∙ sym (merged_elsewhere p q column turned f' g' j ne)
 ]
@@ -41,7 +41,7 @@ pub record Rewritten (old : LinkedCells) (columns row at : ℕ) (p q : ℤ) (col
 -- the chosen row's number at the next place is as before, also if it is the row that is written
 pub chosen_kept : (old : LinkedCells) (columns row at : ℕ) (p q : ℤ) (column : ℕ) (turned divisor : ℤ) (place : ℕ) (left chosen : Option ℕ) (now : LinkedCells) → Rewritten old columns row at p q column turned divisor place left chosen now →
     value_in now.cells.items row place ≡ value_in old.cells.items row place
-chosen_kept old columns row at p q column turned divisor place left chosen now w = elim (equal_or_not row at) [
+chosen_kept old columns row at p q column turned divisor place left chosen now w = elim (cases_eq row at) [
   | inl e ↦ ap (λ (r : ℕ). value_in now.cells.items r place) e ∙ w.rest place (omega arith) ∙ ap (λ (r : ℕ). value_in old.cells.items r place) (sym e)
   | inr ne ↦ w.others row place ne
 ]
@@ -63,7 +63,7 @@ rewritten_more old columns row at p q column turned divisor place left chosen no
       start = may_before_next new.cells.items at place left' o.before;
       front = may_before_next new.cells.items row place chosen' front;
       others = λ r c ne. o.values r c ∙ written_elsewhere f at place v r c (inl (λ e. ne (sym e))) ∙ w.others r c ne;
-      done = λ j b. elim (equal_or_not j place) [
+      done = λ j b. elim (cases_eq j place) [
         | inl e ↦ ap (value_in new.cells.items at) e ∙ here ∙ ap (λ (z : ℤ). int_div z divisor) target ∙ ap (λ (k : ℕ). int_div (merged_cell p q column turned (value_in old.cells.items at) (value_in old.cells.items row) k) divisor) (sym e)
         | inr ne ↦ elsewhere j ne ∙ w.done j (omega arith)
       ];
@@ -71,8 +71,6 @@ rewritten_more old columns row at p q column turned divisor place left chosen no
       held =
           let step = filled_step columns (value_in old.cells.items at) (f at) (value_in new.cells.items at) place inside was (λ j ne. elsewhere j ne) in
           let one : fills (f at place) v ≡ fills (value_in old.cells.items at place) (value_in new.cells.items at place) = ap (λ (z : ℤ). fills z v) was ∙ ap (fills (value_in old.cells.items at place)) (sym here) in
-          let a = o.held in
-          let b = w.held in
           omega arith;
     }
 

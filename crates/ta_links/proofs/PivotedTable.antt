@@ -1,5 +1,5 @@
 -- The dictionary after a pivot
-use Rattle.ta_links.proofs.Common.{◌≡◌, ◌≢◌, inl, inr, ℕ, zero, suc, ℤ, ◌+◌, ◌<◌, ◌≤◌, List, length, map, set, get_or, arith, sym, ap, ◌∙◌, refl, subst, ext_get_or, length-set, length-map, get_or-map, get_or-set_same, get_or-set_other, equal_or_not, Tableau, TableauRow, merged, turned, no_row, pivoted, pivoted_rows, MergesInRange, OthersMergeBelow, FirstOtherRefused, RowHead, LinkedCells, value_in, fills, filled_places, filled_rows, table_row, table_rows, no_head, numbers_of, Cell, row_in, IsSpared, MergedBelow, RowTurned, RefusedFirst}
+use Rattle.ta_links.proofs.Common.{◌≡◌, ◌≢◌, inl, inr, ℕ, zero, suc, ℤ, ◌+◌, ◌<◌, ◌≤◌, List, length, map, set, get_or, arith, sym, ap, ◌∙◌, refl, subst, ext_get_or, length-set, length-map, get_or-map, get_or-set_same, get_or-set_other, Tableau, TableauRow, merged, turned, no_row, pivoted, pivoted_rows, MergesInRange, OthersMergeBelow, FirstOtherRefused, RowHead, LinkedCells, value_in, fills, filled_places, filled_rows, table_row, table_rows, no_head, numbers_of, Cell, row_in, IsSpared, MergedBelow, RowTurned, RefusedFirst, cases_eq}
 use Rattle.ta_links.specs.Pivoting.{RowsPivoted}
 use Rattle.ta_links.proofs.LinkedFacts.{length-table_rows, table_row_at, table_cell}
 use Rattle.ta_links.proofs.ColumnSteps.{filled_same}
@@ -22,14 +22,12 @@ pivoted_is n row column entering hs hs1 hs2 l l1 l2 inside m t =
     let chosen_is = table_at hs l n row inside in
     let lo = length-table_rows l.cells.items n 0 hs in
     let ln = length-table_rows l2.cells.items n 0 hs2 in
-    let long = t.long in
-    let long1 = m.long in
     let lm = length-map old (merged column chosen) in
     let ls = length-set (map (merged column chosen) old) row (turned entering column chosen) in
     ext_get_or no_row new (set (map (merged column chosen) old) row (turned entering column chosen)) (omega arith) (λ i b.
     let below : i < length hs = omega arith in
     let mine = table_at hs2 l2 n i (omega arith) in
-    elim (equal_or_not i row) [
+    elim (cases_eq i row) [
       | inl e ↦
           mine ∙ ap (λ (k : ℕ). row_in hs2 l2 n k) e ∙ t.row_turned ∙ ap (turned entering column) (unreached 0 n row column hs l (length hs) hs1 l1 m row (inr (inr refl))) ∙ ap (turned entering column) (sym chosen_is)
           ∙ sym (ap (λ (k : ℕ). get_or (set (map (merged column chosen) old) row (turned entering column chosen)) k no_row) e ∙ get_or-set_same (map (merged column chosen) old) row (turned entering column chosen) no_row (omega arith))
@@ -60,7 +58,7 @@ first_refused n row column k hs l inside r =
 -- one row of a table is written that was as before
 filled_rows_step : (m n : ℕ) (f g h : ℕ → ℕ → ℤ) (row : ℕ) → row < m → ((j : ℕ) → g row j ≡ f row j) → ((i j : ℕ) → i ≢ row → h i j ≡ g i j) → filled_rows m n f h ≡ filled_rows m n f g + filled_places n (f row) (h row)
 filled_rows_step zero n f g h row inside here rest = absurd (omega arith)
-filled_rows_step (suc m) n f g h row inside here rest = elim (equal_or_not row m) [
+filled_rows_step (suc m) n f g h row inside here rest = elim (cases_eq row m) [
   | inl e ↦
       let below = filled_rows_same m n f g h (λ i j b. rest i j (omega arith)) in
       let old : filled_places n (f m) (g m) ≡ 0 = filled_none n (f m) (g m) (λ j. ap (λ (k : ℕ). g k j) (sym e) ∙ here j ∙ ap (λ (k : ℕ). f k j) e) in
@@ -92,8 +90,6 @@ held_after n row column entering hs hs1 hs2 l l1 l2 inside m t =
     let same : (j : ℕ) → value_in l1.cells.items row j ≡ value_in l.cells.items row j = λ j. m.rest row j (inr (inr refl)) in
     let step = filled_rows_step (length hs) n (value_in l.cells.items) (value_in l1.cells.items) (value_in l2.cells.items) row inside same (λ i j ne. t.others i j ne) in
     let from = filled_from n (value_in l1.cells.items row) (value_in l.cells.items row) (value_in l2.cells.items row) same in
-    let a = m.held in
-    let b = t.held in
     omega arith
 
 -- what the calls of a pivot come to
@@ -133,10 +129,8 @@ pivoted_held us us' hs hs' l l' n row column entering t cells view ec en eu d =
     let f = value_in l.cells.items in
     let g = value_in l'.cells.items in
     let rows_ = length-table_rows l.cells.items (length us) 0 hs in
-    let long = d.long in
     let same = filled_rows_below (length hs) (length us) f g (numbers_of old) (numbers_of new) (λ i j a b. sym (table_cell l.cells.items (length us) hs i j a b)) (λ i j a b. sym (table_cell l'.cells.items (length us') hs' i j (omega arith) (omega arith))) in
     let wide = ap (λ (k : ℕ). filled_rows (length hs) k f g) en in
     let high = ap (λ (k : ℕ). filled_rows k (length us) (numbers_of old) (numbers_of new)) rows_ in
-    let held = d.held in
     let kept = ap (λ (xs : List Cell). length xs) ec in
     subst (λ (s : Tableau). length l'.cells.items ≤ length cells + filled_rows (length s.rows) (length s.non_basic) (numbers_of s) (numbers_of new)) view (omega arith)

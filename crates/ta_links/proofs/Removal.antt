@@ -1,5 +1,5 @@
 -- A cell that is taken out of its line keeps chains
-use Rattle.ta_links.proofs.Common.{◌≡◌, ◌≢◌, ◌⊎◌, inl, inr, ℕ, ◌<◌, ◌≤◌, List, length, arith, sym, ap, ◌∙◌, Option, Some, None, equal_or_not, some_or_not, none_or_some, not_both, same_index, Cell, head_at, IsLive, Direction, line_at, place_at, before_at, after_at, IsFirstCell, FollowsCell, IsChained}
+use Rattle.ta_links.proofs.Common.{◌≡◌, ◌≢◌, ◌⊎◌, inl, inr, ℕ, ◌<◌, ◌≤◌, List, length, arith, sym, ap, ◌∙◌, Option, Some, None, some_or_not, none_or_some, Cell, head_at, IsLive, Direction, line_at, place_at, before_at, after_at, IsFirstCell, FollowsCell, IsChained, cases_eq, same_Some, none-some}
 
 -- a live cell `x` leaves its line, where it stood between the cells `p` and `n`, one or both of which may be missing
 pub record Removal : Type 0 where
@@ -40,19 +40,17 @@ alone : (w : Removal) (k : ℕ) → IsLive w.cells k → k ≢ w.x → line_at w
 alone w k live apart at same = apart (w.one k w.x live w.live at same)
 
 apart_or : (w : Removal) (q : ℕ) → ((q ≡ line_at w.way w.cells w.x) × (w.p ≡ None)) ⊎ ((q ≢ line_at w.way w.cells w.x) ⊎ (w.p ≢ None))
-apart_or w q = elim (equal_or_not q (line_at w.way w.cells w.x)) [
+apart_or w q = elim (cases_eq q (line_at w.way w.cells w.x)) [
   | inl e ↦ elim (none_or_some w.p) [
     | inl none ↦ inl (e, none)
-    | inr h ↦ inr (inr (λ none. not_both w.p h.0 h.1 none))
+    | inr h ↦ inr (inr (λ none. none-some h.0 (sym none ∙ h.1)))
   ]
   | inr ne ↦ inr (inl ne)
 ]
 
 remove_inside : (w : Removal) (i : ℕ) → IsLive w.cells' i → line_at w.way w.cells' i < length w.heads'
 remove_inside w i live =
-    let long = w.long in
     let o = w.only i live in
-    let a = o.2 in
     let b = w.chained.inside i o.0 in
     omega arith
 
@@ -76,11 +74,9 @@ remove_first w q i e = elim (apart_or w q) [
   | inl at ↦
       let n : w.n ≡ Some i = sym (w.head_new at.1) ∙ ap (head_at w.heads') (sym at.0) ∙ e in
       let f = behind w i n in
-      let up = f.rises in
       let apart : i ≢ w.x = λ s. let same = ap (place_at w.way w.cells) s in omega arith in
       let live = w.old i f.live apart in
       let o = w.only i live in
-      let pi = o.3 in
       let begins = w.chained.begins w.x w.live (w.before_x ∙ at.1) in
       let first = w.chained.first (line_at w.way w.cells w.x) w.x begins in
       record {
@@ -89,7 +85,6 @@ remove_first w q i e = elim (apart_or w q) [
         front = w.before_n i live n ∙ at.1;
         least = λ k alive here.
             let m = w.only k alive in
-            let pk = m.3 in
             let line : line_at w.way w.cells k ≡ line_at w.way w.cells w.x = sym m.2 ∙ here ∙ at.0 in
             let low = first.least k m.0 line in
             elim (f.nothing_between k m.0 line) [
@@ -105,15 +100,13 @@ remove_first w q i e = elim (apart_or w q) [
       ] in
       let live = w.old i first.live apart in
       let o = w.only i live in
-      let pi = o.3 in
-      let behind_ : w.n ≢ Some i = λ n. not_both (before_at w.way w.cells i) w.x (behind w i n).back first.front in
+      let behind_ : w.n ≢ Some i = λ n. none-some w.x (sym first.front ∙ (behind w i n).back) in
       record {
         live = live;
         here = o.2 ∙ first.here;
         front = w.before_rest i live behind_ ∙ first.front;
         least = λ k alive here.
             let m = w.only k alive in
-            let pk = m.3 in
             let low = first.least k m.0 (sym m.2 ∙ here) in
             omega arith;
       }
@@ -123,8 +116,6 @@ remove_last : (w : Removal) (i : ℕ) → IsLive w.cells' i → after_at w.way w
 remove_last w i live end k alive at =
     let o = w.only i live in
     let m = w.only k alive in
-    let pi = o.3 in
-    let pk = m.3 in
     let line : line_at w.way w.cells k ≡ line_at w.way w.cells i = sym m.2 ∙ at ∙ o.2 in
     elim (some_or_not w.p i) [
       | inl p ↦
@@ -144,18 +135,14 @@ remove_last w i live end k alive at =
 remove_next : (w : Removal) (i j : ℕ) → IsLive w.cells' i → after_at w.way w.cells' i ≡ Some j → FollowsCell w.way w.cells' i j
 remove_next w i j live e =
     let o = w.only i live in
-    let pi = o.3 in
     elim (some_or_not w.p i) [
       | inl p ↦
           let a = ahead w i p in
           let n : w.n ≡ Some j = sym (w.after_p i live p) ∙ e in
           let f = behind w j n in
-          let up = a.1.rises in
-          let further = f.rises in
           let apart : j ≢ w.x = λ s. let same = ap (place_at w.way w.cells) s in omega arith in
           let fresh = w.old j f.live apart in
           let d = w.only j fresh in
-          let pj = d.3 in
           record {
             live = fresh;
             here = d.2 ∙ f.here ∙ a.1.here ∙ sym o.2;
@@ -163,7 +150,6 @@ remove_next w i j live e =
             back = w.before_n j fresh n ∙ p;
             nothing_between = λ k alive at.
                 let m = w.only k alive in
-                let pk = m.3 in
                 let line : line_at w.way w.cells k ≡ line_at w.way w.cells i = sym m.2 ∙ at ∙ o.2 in
                 elim (a.1.nothing_between k m.0 line) [
                   | inl under ↦ inl (omega arith)
@@ -176,12 +162,10 @@ remove_next w i j live e =
       | inr p ↦
           let was : after_at w.way w.cells i ≡ Some j = sym (w.after_rest i live p) ∙ e in
           let f = w.chained.next i j o.0 was in
-          let up = f.rises in
           let apart : j ≢ w.x = λ s. p (sym w.before_x ∙ ap (before_at w.way w.cells) (sym s) ∙ f.back) in
           let fresh = w.old j f.live apart in
           let d = w.only j fresh in
-          let pj = d.3 in
-          let behind_ : w.n ≢ Some j = λ n. o.1 (sym (same_index (before_at w.way w.cells j) w.x i (behind w j n).back f.back)) in
+          let behind_ : w.n ≢ Some j = λ n. o.1 (sym (same_Some w.x i (sym (behind w j n).back ∙ f.back))) in
           record {
             live = fresh;
             here = d.2 ∙ f.here ∙ sym o.2;
@@ -189,7 +173,6 @@ remove_next w i j live e =
             back = w.before_rest j fresh behind_ ∙ f.back;
             nothing_between = λ k alive at.
                 let m = w.only k alive in
-                let pk = m.3 in
                 elim (f.nothing_between k m.0 (sym m.2 ∙ at ∙ o.2)) [
                   | inl under ↦ inl (omega arith)
                   | inr over ↦ inr (omega arith)
@@ -209,7 +192,7 @@ remove_begins w i live e =
           elim (apart_or w (line_at w.way w.cells i)) [
             | inl at ↦
                 let other = w.chained.begins w.x w.live (w.before_x ∙ at.1) in
-                absurd (o.1 (same_index (head_at w.heads (line_at w.way w.cells i)) i w.x begins (ap (head_at w.heads) at.0 ∙ other)))
+                absurd (o.1 (same_Some i w.x (sym begins ∙ (ap (head_at w.heads) at.0 ∙ other))))
             | inr other ↦ ap (head_at w.heads') o.2 ∙ w.head_rest (line_at w.way w.cells i) other ∙ begins
           ]
     ]
@@ -221,7 +204,6 @@ remove_back w i h live e =
       | inl n ↦
           let p : w.p ≡ Some h = sym (w.before_n i live n) ∙ e in
           let a = ahead w h p in
-          let up = a.1.rises in
           let apart : h ≢ w.x = λ s. let same = ap (place_at w.way w.cells) s in omega arith in
           let fresh = w.old h a.0 apart in
           (fresh, w.after_p h fresh p ∙ n)
@@ -229,7 +211,7 @@ remove_back w i h live e =
           let b = w.chained.back i h o.0 (sym (w.before_rest i live n) ∙ e) in
           let apart : h ≢ w.x = λ s. n (sym w.after_x ∙ ap (after_at w.way w.cells) (sym s) ∙ b.1) in
           let fresh = w.old h b.0 apart in
-          let other : w.p ≢ Some h = λ p. o.1 (same_index (after_at w.way w.cells h) i w.x b.1 (ahead w h p).2) in
+          let other : w.p ≢ Some h = λ p. o.1 (same_Some i w.x (sym b.1 ∙ (ahead w h p).2)) in
           (fresh, w.after_rest h fresh other ∙ b.1)
     ]
 

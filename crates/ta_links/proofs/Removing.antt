@@ -1,5 +1,5 @@
 -- Cells stay linked where one is taken out, and where a value is written
-use Rattle.ta_links.proofs.Common.{◌≡◌, ◌≢◌, inl, inr, ℕ, ℤ, pos, ◌+ℤ◌, ◌-ℤ◌, ◌<◌, List, [], ◌∷◌, length, set, arith, sym, ap, ◌∙◌, refl, subst, Option, Some, ints, get_or-set_same, get_or-set_other, length-set, at_or_not, equal_or_not, InRange, Cell, Rows, Columns, no_cell, cell_at, head_at, IsLive, Direction, line_at, place_at, before_at, after_at, along_rows, along_columns, IsChained, NotIn, FreeVisits, AreLinked, only_at_place, shown, value_in, headed, spliced, freed, with_value, Stays}
+use Rattle.ta_links.proofs.Common.{◌≡◌, ◌≢◌, inl, inr, ℕ, ℤ, pos, ◌+ℤ◌, ◌-ℤ◌, ◌<◌, List, [], ◌∷◌, length, set, arith, sym, ap, ◌∙◌, refl, subst, Option, Some, ints, get_or-set_same, get_or-set_other, length-set, at_or_not, InRange, Cell, Rows, Columns, no_cell, cell_at, head_at, IsLive, Direction, line_at, place_at, before_at, after_at, along_rows, along_columns, IsChained, NotIn, FreeVisits, AreLinked, only_at_place, shown, value_in, headed, spliced, freed, with_value, Stays, cases_eq}
 use Rattle.ta_links.proofs.Removal.{Removal, removal_keeps}
 use Rattle.ta_links.proofs.Heads.{headed_new, headed_rest, headed_long}
 use Rattle.ta_links.proofs.Splicing.{Spliced, Relinked, splice_facts, rows_relinked, columns_relinked}
@@ -77,21 +77,14 @@ before_in way cells heads at chained live j e = (chained.back at j live e).0.ins
 pub after_in : (way : Direction) (cells : List Cell) (heads : List (Option ℕ)) (at : ℕ) → IsChained way cells heads → IsLive cells at → (j : ℕ) → after_at way cells at ≡ Some j → j < length cells
 after_in way cells heads at chained live j e = (chained.next at j live e).live.inside
 
-abbrev pub across_spliced : List Cell → ℕ → List Cell
-across_spliced cells at =
-    let cell = cell_at cells at in
-    spliced Rows cells cell.left cell.right cell.right cell.left
-
-abbrev pub down_spliced : List Cell → ℕ → List Cell
-down_spliced cells at =
-    let cell = cell_at cells at in
-    spliced Columns (across_spliced cells at) cell.above cell.below cell.below cell.above
-
-pub record CutDone (cells : List Cell) (row_heads column_heads : List (Option ℕ)) (free : Option ℕ) (at : ℕ) (new : List Cell) : Type 0 where
-  pub linked : let cell = cell_at cells at in AreLinked new (headed row_heads cell.left cell.row cell.right) (headed column_heads cell.above cell.column cell.below) (Some at)
+-- what the calls that take a cell out come to
+pub record CutFrom (cells : List Cell) (row_heads column_heads : List (Option ℕ)) (at : ℕ) (new : List Cell) (rows columns : List (Option ℕ)) (head : Option ℕ) : Type 0 where
+  pub linked : AreLinked new rows columns head
   pub long : length new ≡ length cells
   pub values : let cell = cell_at cells at in (r c : ℕ) → value_in new r c ≡ (value_in cells r c -ℤ only_at_place cell.row cell.column cell.value r c)
   pub kept : (k : ℕ) → IsLive cells k → k ≢ at → Stays cells new k
+  pub rows_long : length rows ≡ length row_heads
+  pub columns_long : length columns ≡ length column_heads
 
 -- a live cell isn't in the chain of free ones
 not_visited : (cells : List Cell) (head : Option ℕ) (is : List ℕ) (at : ℕ) → FreeVisits cells head is → IsLive cells at → NotIn at is
@@ -100,7 +93,8 @@ not_visited cells head (i ∷ is) at v live = (λ e. live.value (ap (λ (q : ℕ
 
 cut_done : (cells : List Cell) (row_heads column_heads : List (Option ℕ)) (free : Option ℕ) (at : ℕ) (s1 s2 new : List Cell) → AreLinked cells row_heads column_heads free → IsLive cells at →
     Spliced Rows cells (cell_at cells at).left (cell_at cells at).right (cell_at cells at).right (cell_at cells at).left s1 →
-    Spliced Columns s1 (cell_at cells at).above (cell_at cells at).below (cell_at cells at).below (cell_at cells at).above s2 → Freed s2 free at new → CutDone cells row_heads column_heads free at new
+    Spliced Columns s1 (cell_at cells at).above (cell_at cells at).below (cell_at cells at).below (cell_at cells at).above s2 → Freed s2 free at new →
+    (let cell = cell_at cells at in CutFrom cells row_heads column_heads at new (headed row_heads cell.left cell.row cell.right) (headed column_heads cell.above cell.column cell.below) (Some at))
 unfolding removal_of
 cut_done cells row_heads column_heads free at s1 s2 new l live one two free_ =
     let cell = cell_at cells at in
@@ -114,6 +108,8 @@ cut_done cells row_heads column_heads free at s1 s2 new l live one two free_ =
     let f = l.free in
     record {
       long = free_.long ∙ rows.long;
+      rows_long = headed_long row_heads cell.left cell.row cell.right;
+      columns_long = headed_long column_heads cell.above cell.column cell.below;
       kept = λ k alive ne. record { live = across.old k alive ne; row = cut_row k ne; column = cut_column k ne };
       values = λ r c.
           let same = value_same s2 cells rows.long rows.line rows.place rows.value r c in
@@ -130,9 +126,6 @@ cut_done cells row_heads column_heads free at s1 s2 new l live one two free_ =
         free = record {
           visited = at ∷ f.visited;
           visits =
-              let in_ = live.inside in
-              let a = free_.long in
-              let b = rows.long in
               let fresh = not_visited cells free f.visited at f.visits live in (
                 refl,
                 omega arith,
@@ -142,8 +135,6 @@ cut_done cells row_heads column_heads free at s1 s2 new l live one two free_ =
                     (λ k ne dead. (cut_value k ne ∙ dead, ap (λ (c : Cell). c.right) (free_.rest k ne) ∙ rows.after_rest k (λ e. (l.rows.back at k live e).0.value dead)))),
               );
           all = λ i inside out e.
-              let a = free_.long in
-              let b = rows.long in
               f.all i (omega arith) out.1 (sym (cut_value i out.0) ∙ e);
         };
         fits = λ i alive.
@@ -151,18 +142,6 @@ cut_done cells row_heads column_heads free at s1 s2 new l live one two free_ =
             subst InRange (sym (cut_value i x.1)) (l.fits i x.0);
       };
     }
-
-pub cut_keeps : (cells : List Cell) (row_heads column_heads : List (Option ℕ)) (free : Option ℕ) (at : ℕ) → AreLinked cells row_heads column_heads free → IsLive cells at →
-    CutDone cells row_heads column_heads free at (freed (down_spliced cells at) free at)
-cut_keeps cells row_heads column_heads free at l live =
-    let cell = cell_at cells at in
-    let one = splice_facts Rows cells cell.left cell.right cell.right cell.left (before_in along_rows cells row_heads at l.rows live) (after_in along_rows cells row_heads at l.rows live) in
-    let s1 = across_spliced cells at in
-    let long = one.long in
-    let two = splice_facts Columns s1 cell.above cell.below cell.below cell.above (λ j e. let h = before_in along_columns cells column_heads at l.columns live j e in omega arith) (λ j e. let h = after_in along_columns cells column_heads at l.columns live j e in omega arith) in
-    let further = two.long in
-    let in_ = live.inside in
-    cut_done cells row_heads column_heads free at s1 (down_spliced cells at) (freed (down_spliced cells at) free at) l live one two (freed_facts (down_spliced cells at) free at (omega arith))
 
 -- a direction reads these from cells that stay as they are but for a value
 pub record Valued (cells : List Cell) (at : ℕ) (value : ℤ) (new : List Cell) : Type 0 where
@@ -177,7 +156,7 @@ pub record Valued (cells : List Cell) (at : ℕ) (value : ℤ) (new : List Cell)
   pub below : (k : ℕ) → (cell_at new k).below ≡ (cell_at cells k).below
 
 field_kept : {A : Type 0} (g : Cell → A) (cells : List Cell) (at : ℕ) (value : ℤ) → at < length cells → ((c : Cell) → g (with_value value c) ≡ g c) → (k : ℕ) → g (cell_at (set cells at (with_value value (cell_at cells at))) k) ≡ g (cell_at cells k)
-field_kept g cells at value inside same k = elim (equal_or_not k at) [
+field_kept g cells at value inside same k = elim (cases_eq k at) [
   | inl e ↦
       let at_ = get_or-set_same cells at (with_value value (cell_at cells at)) no_cell inside in
       ap (λ (q : ℕ). g (cell_at (set cells at (with_value value (cell_at cells at))) q)) e ∙ ap g at_ ∙ same (cell_at cells at) ∙ ap (λ (q : ℕ). g (cell_at cells q)) (sym e)
@@ -197,15 +176,15 @@ valued_facts cells at value inside = record {
   below = field_kept (λ (c : Cell). c.below) cells at value inside (λ c. refl);
 }
 
--- chains along which nothing changed
-chained_same : (way : Direction) (cells : List Cell) (heads : List (Option ℕ)) (new : List Cell) → ((k : ℕ) → IsLive new k → IsLive cells k) → ((k : ℕ) → IsLive cells k → IsLive new k) →
+-- chains along which nothing changed, under heads that show the same cells
+pub chained_same : (way : Direction) (cells : List Cell) (heads heads' : List (Option ℕ)) (new : List Cell) → ((k : ℕ) → IsLive new k → IsLive cells k) → ((k : ℕ) → IsLive cells k → IsLive new k) →
     ((k : ℕ) → line_at way new k ≡ line_at way cells k) → ((k : ℕ) → place_at way new k ≡ place_at way cells k) → ((k : ℕ) → before_at way new k ≡ before_at way cells k) → ((k : ℕ) → after_at way new k ≡ after_at way cells k) →
-    IsChained way cells heads → IsChained way new heads
-chained_same way cells heads new back_ on lines places befores afters c = record {
-  inside = λ i l. let a = lines i in let b = c.inside i (back_ i l) in omega arith;
-  empty = λ q none k l e. c.empty q none k (back_ k l) (sym (lines k) ∙ e);
+    ((line : ℕ) → head_at heads' line ≡ head_at heads line) → ((i : ℕ) → IsLive cells i → line_at way cells i < length heads') → IsChained way cells heads → IsChained way new heads'
+chained_same way cells heads heads' new back_ on lines places befores afters same inside c = record {
+  inside = λ i l. let a = lines i in let b = inside i (back_ i l) in omega arith;
+  empty = λ q none k l e. c.empty q (sym (same q) ∙ none) k (back_ k l) (sym (lines k) ∙ e);
   first = λ q i e.
-      let f = c.first q i e in
+      let f = c.first q i (sym (same q) ∙ e) in
       record {
         live = on i f.live;
         here = lines i ∙ f.here;
@@ -216,7 +195,6 @@ chained_same way cells heads new back_ on lines places befores afters c = record
       let f = c.next i j (back_ i l) (sym (afters i) ∙ e) in
       let a = places i in
       let b = places j in
-      let up = f.rises in
       record {
         live = on j f.live;
         here = lines j ∙ f.here ∙ sym (lines i);
@@ -231,7 +209,7 @@ chained_same way cells heads new back_ on lines places befores afters c = record
       let b = places k in
       let d = c.last i (back_ i l) (sym (afters i) ∙ e) k (back_ k m) (sym (lines k) ∙ at ∙ lines i) in
       omega arith;
-  begins = λ i l e. ap (head_at heads) (lines i) ∙ c.begins i (back_ i l) (sym (befores i) ∙ e);
+  begins = λ i l e. ap (head_at heads') (lines i) ∙ same (line_at way cells i) ∙ c.begins i (back_ i l) (sym (befores i) ∙ e);
   back = λ i h l e. let b = c.back i h (back_ i l) (sym (befores i) ∙ e) in (on h b.0, afters h ∙ b.1);
 }
 
@@ -251,30 +229,29 @@ pub set_keeps : (cells : List Cell) (row_heads column_heads : List (Option ℕ))
 set_keeps cells row_heads column_heads free at value l live not_zero fits =
     let new = set cells at (with_value value (cell_at cells at)) in
     let v = valued_facts cells at value live.inside in
-    let long = v.long in
     let f = l.free in
-    let back_ : (k : ℕ) → IsLive new k → IsLive cells k = λ k m. elim (equal_or_not k at) [
+    let back_ : (k : ℕ) → IsLive new k → IsLive cells k = λ k m. elim (cases_eq k at) [
       | inl e ↦ subst (λ (q : ℕ). IsLive cells q) (sym e) live
       | inr ne ↦ record { inside = let a = m.inside in omega arith; value = λ e. m.value (ap (λ (c : Cell). c.value) (v.rest k ne) ∙ e) }
     ] in
-    let on : (k : ℕ) → IsLive cells k → IsLive new k = λ k m. elim (equal_or_not k at) [
+    let on : (k : ℕ) → IsLive cells k → IsLive new k = λ k m. elim (cases_eq k at) [
       | inl e ↦ record { inside = let a = m.inside in omega arith; value = λ z. not_zero (sym v.here ∙ ap (λ (q : ℕ). (cell_at new q).value) (sym e) ∙ z) }
       | inr ne ↦ record { inside = let a = m.inside in omega arith; value = λ e. m.value (sym (ap (λ (c : Cell). c.value) (v.rest k ne)) ∙ e) }
     ] in
     record {
       linked = record {
-        rows = chained_same along_rows cells row_heads new back_ on v.row v.column v.left v.right l.rows;
-        columns = chained_same along_columns cells column_heads new back_ on v.column v.row v.above v.below l.columns;
+        rows = chained_same along_rows cells row_heads row_heads new back_ on v.row v.column v.left v.right (λ line. refl) l.rows.inside l.rows;
+        columns = chained_same along_columns cells column_heads column_heads new back_ on v.column v.row v.above v.below (λ line. refl) l.columns.inside l.columns;
         one = λ i k a b e g. l.one i k (back_ i a) (back_ k b) (sym (v.row i) ∙ e ∙ v.row k) (sym (v.column i) ∙ g ∙ v.column k);
         free = record {
           visited = f.visited;
           visits = visits_kept cells new free f.visited at f.visits (not_visited cells free f.visited at f.visits live) (omega arith) (λ k ne dead. (ap (λ (c : Cell). c.value) (v.rest k ne) ∙ dead, v.right k));
-          all = λ i inside out e. elim (equal_or_not i at) [
+          all = λ i inside out e. elim (cases_eq i at) [
             | inl x ↦ not_zero (sym v.here ∙ ap (λ (q : ℕ). (cell_at new q).value) (sym x) ∙ e)
             | inr ne ↦ f.all i (omega arith) out (sym (ap (λ (c : Cell). c.value) (v.rest i ne)) ∙ e)
           ];
         };
-        fits = λ i m. elim (equal_or_not i at) [
+        fits = λ i m. elim (cases_eq i at) [
           | inl x ↦ subst InRange (sym (ap (λ (q : ℕ). (cell_at new q).value) x ∙ v.here)) fits
           | inr ne ↦ subst InRange (sym (ap (λ (c : Cell). c.value) (v.rest i ne))) (l.fits i (back_ i m))
         ];
@@ -283,33 +260,17 @@ set_keeps cells row_heads column_heads free at value l live not_zero fits =
       values = λ r c. omega (arith, ints, value_set cells at (with_value value (cell_at cells at)) r c live.inside, placed_difference (cell_at cells at).row (cell_at cells at).column value (cell_at cells at).value r c);
     }
 
--- what the calls that take a cell out come to
-pub record CutFrom (cells : List Cell) (row_heads column_heads : List (Option ℕ)) (at : ℕ) (new : List Cell) (rows columns : List (Option ℕ)) (head : Option ℕ) : Type 0 where
-  pub linked : AreLinked new rows columns head
-  pub long : length new ≡ length cells
-  pub values : let cell = cell_at cells at in (r c : ℕ) → value_in new r c ≡ (value_in cells r c -ℤ only_at_place cell.row cell.column cell.value r c)
-  pub kept : (k : ℕ) → IsLive cells k → k ≢ at → Stays cells new k
-  pub rows_long : length rows ≡ length row_heads
-  pub columns_long : length columns ≡ length column_heads
-
 pub cut_from : (cells : List Cell) (row_heads column_heads : List (Option ℕ)) (free : Option ℕ) (at : ℕ) → AreLinked cells row_heads column_heads free → IsLive cells at → (cell : Cell) (s1 s2 new : List Cell) (rows columns : List (Option ℕ)) (head : Option ℕ) →
     cell ≡ cell_at cells at → s1 ≡ spliced Rows cells cell.left cell.right cell.right cell.left → s2 ≡ spliced Columns s1 cell.above cell.below cell.below cell.above → new ≡ freed s2 free at →
     rows ≡ headed row_heads cell.left cell.row cell.right → columns ≡ headed column_heads cell.above cell.column cell.below → head ≡ Some at → CutFrom cells row_heads column_heads at new rows columns head
 cut_from cells row_heads column_heads free at l live cell s1 s2 new rows columns head e e1 e2 e3 r c h =
-    let one : s1 ≡ across_spliced cells at = e1 ∙ ap (λ (c : Cell). spliced Rows cells c.left c.right c.right c.left) e in
-    let two : s2 ≡ down_spliced cells at = e2 ∙ ap (λ (xs : List Cell). spliced Columns xs cell.above cell.below cell.below cell.above) one ∙ ap (λ (c : Cell). spliced Columns (across_spliced cells at) c.above c.below c.below c.above) e in
-    let three : new ≡ freed (down_spliced cells at) free at = e3 ∙ ap (λ (xs : List Cell). freed xs free at) two in
-    let r_ = r ∙ ap (λ (c : Cell). headed row_heads c.left c.row c.right) e in
-    let c_ = c ∙ ap (λ (c : Cell). headed column_heads c.above c.column c.below) e in
-    let done = cut_keeps cells row_heads column_heads free at l live in
-    let at_ = cell_at cells at in
-    record {
-      linked = subst (λ (xs : List Cell). AreLinked xs rows columns head) (sym three) (subst (λ (xs : List (Option ℕ)). AreLinked (freed (down_spliced cells at) free at) xs columns head) (sym r_)
-          (subst (λ (xs : List (Option ℕ)). AreLinked (freed (down_spliced cells at) free at) (headed row_heads at_.left at_.row at_.right) xs head) (sym c_)
-          (subst (λ (o : Option ℕ). AreLinked (freed (down_spliced cells at) free at) (headed row_heads at_.left at_.row at_.right) (headed column_heads at_.above at_.column at_.below) o) (sym h) done.linked)));
-      long = ap (λ (xs : List Cell). length xs) three ∙ done.long;
-      values = λ q p. ap (λ (xs : List Cell). value_in xs q p) three ∙ done.values q p;
-      kept = λ k alive ne. subst (λ (xs : List Cell). Stays cells xs k) (sym three) (done.kept k alive ne);
-      rows_long = ap (λ (xs : List (Option ℕ)). length xs) r ∙ headed_long row_heads cell.left cell.row cell.right;
-      columns_long = ap (λ (xs : List (Option ℕ)). length xs) c ∙ headed_long column_heads cell.above cell.column cell.below;
-    }
+    let old = cell_at cells at in
+    let one : Spliced Rows cells old.left old.right old.right old.left s1 = subst (λ (xs : List Cell). Spliced Rows cells old.left old.right old.right old.left xs) (sym (e1 ∙ ap (λ (c : Cell). spliced Rows cells c.left c.right c.right c.left) e))
+    (splice_facts Rows cells old.left old.right old.right old.left (before_in along_rows cells row_heads at l.rows live) (after_in along_rows cells row_heads at l.rows live)) in
+    let two : Spliced Columns s1 old.above old.below old.below old.above s2 = subst (λ (xs : List Cell). Spliced Columns s1 old.above old.below old.below old.above xs) (sym (e2 ∙ ap (λ (c : Cell). spliced Columns s1 c.above c.below c.below c.above) e))
+    (splice_facts Columns s1 old.above old.below old.below old.above (λ j e. let h = before_in along_columns cells column_heads at l.columns live j e in omega arith) (λ j e. let h = after_in along_columns cells column_heads at l.columns live j e in omega arith)) in
+    let three : Freed s2 free at new = subst (λ (xs : List Cell). Freed s2 free at xs) (sym e3) (freed_facts s2 free at (omega arith)) in
+    subst (λ (o : Option ℕ). CutFrom cells row_heads column_heads at new rows columns o) (sym h)
+    (subst (λ (xs : List (Option ℕ)). CutFrom cells row_heads column_heads at new rows xs (Some at)) (sym (c ∙ ap (λ (c : Cell). headed column_heads c.above c.column c.below) e))
+    (subst (λ (xs : List (Option ℕ)). CutFrom cells row_heads column_heads at new xs (headed column_heads old.above old.column old.below) (Some at)) (sym (r ∙ ap (λ (c : Cell). headed row_heads c.left c.row c.right) e))
+    (cut_done cells row_heads column_heads free at s1 s2 new l live one two three)))

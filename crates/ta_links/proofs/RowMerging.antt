@@ -1,5 +1,5 @@
 -- A row that was merged place by place is the row of the definition
-use Rattle.ta_links.proofs.Common.{◌≡◌, ◌≢◌, inl, inr, ℕ, zero, suc, ℤ, pos, ◌+◌, ◌*ℤ◌, ◌-ℤ◌, ◌<ℤ◌, ◌<◌, ◌≤◌, List, [], ◌∷◌, ◌++◌, length, map, set, get_or, arith, sym, ap, ◌∙◌, refl, subst, Option, unsigned_abs, int_div, range_with_len, ext_get_or, length-set, length-map, get_or-map, get_or-set_same, get_or-set_other, map-append, length-range_with_len, get_or-range_with_len, product_positive, range_more, equal_or_not, gcd_of, InRange, combine, gcd_with, cell_of, merged, merged_by, divisor_of, divided, reduced, factor_divisor, CombinesInRange, MergesByInRange, MergesInRange, IsProper, record_same, Factored, factored, merged_from, IsProper-merged, divisor_positive, AreLinked, Cell, RowHead, value_in, row_values, filled_places, table_row, IsProperHead, AreProperHeads, no_head, merged_cell, MergesAt, RefusedAt, gcd_below, HeadsMerge, MergedHead, RowMerged, LinkedCells, AreSound}
+use Rattle.ta_links.proofs.Common.{◌≡◌, ◌≢◌, inl, inr, ℕ, zero, suc, ℤ, pos, ◌+◌, ◌*ℤ◌, ◌-ℤ◌, ◌<ℤ◌, ◌<◌, ◌≤◌, List, [], ◌∷◌, ◌++◌, length, map, set, get_or, arith, sym, ap, ◌∙◌, refl, subst, Option, unsigned_abs, int_div, range_with_len, ext_get_or, length-set, length-map, get_or-map, get_or-set_same, get_or-set_other, map-append, product_positive, range_more, gcd_of, InRange, combine, gcd_with, cell_of, merged, merged_by, divisor_of, divided, reduced, factor_divisor, CombinesInRange, MergesByInRange, MergesInRange, IsProper, record_same, Factored, factored, merged_from, IsProper-merged, divisor_positive, AreLinked, Cell, RowHead, value_in, row_values, filled_places, table_row, IsProperHead, AreProperHeads, no_head, merged_cell, MergesAt, RefusedAt, gcd_below, HeadsMerge, MergedHead, RowMerged, LinkedCells, AreSound, cases_eq, length-map-range_with_len, get_or-map-range_with_len}
 use Rattle.ta_dense.proofs.PivotLaws.{get_or-combine, length-combine}
 use Rattle.std.proofs.lemmas.List.Elements.{All-map}
 use Rattle.ta_links.proofs.Cells.{look, value_found, value_none}
@@ -7,7 +7,7 @@ use Rattle.ta_links.proofs.LinkedFacts.{row_value_at}
 use Rattle.ta_links.proofs.MergeSteps.{merged_here, merged_elsewhere}
 
 pub numbers_long : (cells : List Cell) (n row : ℕ) → length (row_values cells n row) ≡ n
-numbers_long cells n row = length-map (range_with_len 0 n) (value_in cells row) ∙ length-range_with_len 0 n
+numbers_long cells n row = length-map-range_with_len (value_in cells row) 0 n
 
 -- the cells of the merged row
 pub merged_list : (p q : ℤ) (column : ℕ) (turned : ℤ) (cells : List Cell) (n row at : ℕ) → column < n →
@@ -21,12 +21,11 @@ merged_list p q column turned cells n row at inside =
     let lb = length-combine p q xs cs (lx ∙ sym lc) in
     let ls = length-set both column turned in
     let F = merged_cell p q column turned (value_in cells at) (value_in cells row) in
-    let lm = length-map (range_with_len 0 n) F in
-    let lr = length-range_with_len 0 n in
+    let lm = length-map-range_with_len F 0 n in
     ext_get_or (pos 0) (set both column turned) (map F (range_with_len 0 n)) (omega arith) (λ j b.
     let below : j < n = omega arith in
-    let right : get_or (map F (range_with_len 0 n)) j (pos 0) ≡ F j = get_or-map F (range_with_len 0 n) j 0 (pos 0) (omega arith) ∙ ap F (get_or-range_with_len 0 n j 0 below ∙ omega arith) in
-    elim (equal_or_not j column) [
+    let right : get_or (map F (range_with_len 0 n)) j (pos 0) ≡ F j = get_or-map-range_with_len F 0 n j j (pos 0) below (omega arith) in
+    elim (cases_eq j column) [
       | inl e ↦ ap (λ (k : ℕ). get_or (set both column turned) k (pos 0)) e ∙ get_or-set_same both column turned (pos 0) (omega arith) ∙ sym (merged_here p q column turned (value_in cells at) (value_in cells row) j e) ∙ sym right
       | inr ne ↦
           get_or-set_other both column j turned (pos 0) ne ∙ get_or-combine p q xs cs j (lx ∙ sym lc) ∙ ap (λ (z : ℤ). p *ℤ z -ℤ q *ℤ get_or cs j (pos 0)) (row_value_at cells n at j below)
@@ -53,6 +52,15 @@ pub record RowWritten (cells new : List Cell) (n row at column : ℕ) (p q : ℤ
 abbrev pub new_head : ℤ → ℤ → RowHead → RowHead → ℕ → RowHead
 new_head p q head chosen g = record { basic = head.basic; denominator = int_div (p *ℤ head.denominator) (pos g); constant = int_div (p *ℤ head.constant -ℤ q *ℤ chosen.constant) (pos g) }
 
+-- the divisor of the merged row
+divisor_is : (cells : List Cell) (n row at column : ℕ) (p q : ℤ) (head chosen : RowHead) (g : ℕ) → column < n →
+    g ≡ gcd_below (gcd_of (unsigned_abs (p *ℤ head.denominator)) (unsigned_abs (p *ℤ head.constant -ℤ q *ℤ chosen.constant))) (merged_cell p q column (q *ℤ chosen.denominator) (value_in cells at) (value_in cells row)) n →
+    divisor_of (merged_by p q column (table_row cells n row chosen) (table_row cells n at head)) ≡ g
+divisor_is cells n row at column p q head chosen g inside e =
+    let turned = q *ℤ chosen.denominator in
+    let G = gcd_of (unsigned_abs (p *ℤ head.denominator)) (unsigned_abs (p *ℤ head.constant -ℤ q *ℤ chosen.constant)) in
+    ap (gcd_with G) (merged_list p q column turned cells n row at inside) ∙ gcd_with-below G (merged_cell p q column turned (value_in cells at) (value_in cells row)) n ∙ sym e
+
 pub written_row : (cells new : List Cell) (n row at column : ℕ) (p q : ℤ) (head chosen : RowHead) (g : ℕ) → RowWritten cells new n row at column p q head chosen g →
     table_row new n at (new_head p q head chosen g) ≡ reduced (merged_by p q column (table_row cells n row chosen) (table_row cells n at head))
 written_row cells new n row at column p q head chosen g w =
@@ -60,16 +68,14 @@ written_row cells new n row at column p q head chosen g w =
     let F = merged_cell p q column turned (value_in cells at) (value_in cells row) in
     let m = merged_by p q column (table_row cells n row chosen) (table_row cells n at head) in
     let list = merged_list p q column turned cells n row at w.inside in
-    let G = gcd_of (unsigned_abs (p *ℤ head.denominator)) (unsigned_abs (p *ℤ head.constant -ℤ q *ℤ chosen.constant)) in
-    let d : divisor_of m ≡ g = ap (gcd_with G) list ∙ gcd_with-below G F n ∙ sym w.divisor in
-    let lr = length-range_with_len 0 n in
-    let lm = length-map (range_with_len 0 n) F in
+    let d = divisor_is cells n row at column p q head chosen g w.inside w.divisor in
+    let lm = length-map-range_with_len F 0 n in
     let ln = numbers_long new n at in
     let lq = length-map (map F (range_with_len 0 n)) (λ (z : ℤ). int_div z (pos g)) in
     let cells_ : row_values new n at ≡ map (λ (z : ℤ). int_div z (pos g)) (map F (range_with_len 0 n)) =
     ext_get_or (pos 0) (row_values new n at) (map (λ (z : ℤ). int_div z (pos g)) (map F (range_with_len 0 n))) (omega arith) (λ j b.
     let below : j < n = omega arith in
-    let one : get_or (map F (range_with_len 0 n)) j (pos 0) ≡ F j = get_or-map F (range_with_len 0 n) j 0 (pos 0) (omega arith) ∙ ap F (get_or-range_with_len 0 n j 0 below ∙ omega arith) in
+    let one : get_or (map F (range_with_len 0 n)) j (pos 0) ≡ F j = get_or-map-range_with_len F 0 n j j (pos 0) below (omega arith) in
     row_value_at new n at j below ∙ w.values j below ∙ ap (λ (z : ℤ). int_div z (pos g)) (sym one) ∙ sym (get_or-map (λ (z : ℤ). int_div z (pos g)) (map F (range_with_len 0 n)) j (pos 0) (pos 0) (omega arith))) in
     let same : table_row new n at (new_head p q head chosen g) ≡ divided g m = record_same (table_row new n at (new_head p q head chosen g)) (divided g m) refl refl refl (cells_ ∙ ap (map (λ (z : ℤ). int_div z (pos g))) (sym list)) in
     same ∙ ap (λ (k : ℕ). divided k m) (sym d)
@@ -136,12 +142,8 @@ merge_is cells new n row at column p q c a head chosen g b w =
 pub divisor_above : (cells : List Cell) (n row at column : ℕ) (p q : ℤ) (head chosen : RowHead) (g : ℕ) → column < n → pos 0 <ℤ p → pos 0 <ℤ head.denominator →
     g ≡ gcd_below (gcd_of (unsigned_abs (p *ℤ head.denominator)) (unsigned_abs (p *ℤ head.constant -ℤ q *ℤ chosen.constant))) (merged_cell p q column (q *ℤ chosen.denominator) (value_in cells at) (value_in cells row)) n → 0 < g
 divisor_above cells n row at column p q head chosen g inside positive den e =
-    let turned = q *ℤ chosen.denominator in
-    let F = merged_cell p q column turned (value_in cells at) (value_in cells row) in
-    let m = merged_by p q column (table_row cells n row chosen) (table_row cells n at head) in
-    let G = gcd_of (unsigned_abs (p *ℤ head.denominator)) (unsigned_abs (p *ℤ head.constant -ℤ q *ℤ chosen.constant)) in
-    let d : divisor_of m ≡ g = ap (gcd_with G) (merged_list p q column turned cells n row at inside) ∙ gcd_with-below G F n ∙ sym e in
-    let above = divisor_positive m (product_positive p head.denominator positive den) in
+    let d = divisor_is cells n row at column p q head chosen g inside e in
+    let above = divisor_positive (merged_by p q column (table_row cells n row chosen) (table_row cells n at head)) (product_positive p head.denominator positive den) in
     omega arith
 
 -- numbers of linked cells are in range
@@ -203,7 +205,7 @@ row_done columns row at column hs hs' old new p q c a head chosen nh g sound pro
       row_heads = rl;
       column_heads = cl;
       long = long;
-      proper = λ i below. elim (equal_or_not i at) [
+      proper = λ i below. elim (cases_eq i at) [
         | inl e ↦ subst IsProperHead (sym (ap (λ (k : ℕ). get_or hs' k no_head) e ∙ here)) np
         | inr ne ↦ subst IsProperHead (sym (elsewhere i ne)) (proper i (omega arith))
       ];

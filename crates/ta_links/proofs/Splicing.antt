@@ -1,5 +1,5 @@
 -- What splicing leaves and writes of each cell
-use Rattle.ta_links.proofs.Common.{◌≡◌, ◌≢◌, inl, inr, ℕ, ◌<◌, List, length, set, arith, sym, ap, ◌∙◌, refl, subst, Option, Some, None, get_or-set_same, get_or-set_other, length-set, equal_or_not, Cell, Way, Rows, Columns, no_cell, cell_at, line_at, place_at, before_at, after_at, Direction, along_rows, along_columns, direction, with_after, with_before, linked, spliced}
+use Rattle.ta_links.proofs.Common.{◌≡◌, ◌≢◌, inl, inr, ℕ, ◌<◌, List, length, set, arith, sym, ap, ◌∙◌, refl, subst, Option, Some, None, get_or-set_same, get_or-set_other, length-set, Cell, Way, Rows, Columns, no_cell, cell_at, line_at, place_at, before_at, after_at, Direction, along_rows, along_columns, direction, with_after, with_before, linked, spliced, cases_eq}
 
 abbrev pub other : Way → Way
 other Rows = Columns
@@ -21,7 +21,7 @@ linked_length write cells (Some j) to = length-set cells j (write to (cell_at ce
 
 linked_keeps : {A : Type 0} (g : Cell → A) (write : Option ℕ → Cell → Cell) (cells : List Cell) (at to : Option ℕ) → ((c : Cell) → g (write to c) ≡ g c) → ((j : ℕ) → at ≡ Some j → j < length cells) → (k : ℕ) → g (cell_at (linked write cells at to) k) ≡ g (cell_at cells k)
 linked_keeps g write cells None to same inside k = refl
-linked_keeps g write cells (Some j) to same inside k = elim (equal_or_not j k) [
+linked_keeps g write cells (Some j) to same inside k = elim (cases_eq j k) [
   | inl e ↦
       let some : Some j ≡ Some k = ap (λ (m : ℕ). Some m) e in
       ap g (linked_hit write cells (Some j) to k some (inside k some)) ∙ same (cell_at cells k)

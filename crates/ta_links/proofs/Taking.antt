@@ -54,7 +54,6 @@ taken_free : (cells : List Cell) (a : ℕ) (cell : Cell) (visited : List ℕ) �
 taken_free cells a cell [] visits all = absurd (let e = visits in cc)
 taken_free cells a cell (i ∷ is) visits all =
     let same : a ≡ i = let e = visits.0 in cc in
-    let in_ = visits.1 in
     let long = length-set cells a cell in
     let dead : (cell_at cells a).value ≡ pos 0 = ap (λ (m : ℕ). (cell_at cells m).value) same ∙ visits.2 in
     record {
@@ -86,6 +85,5 @@ visits_kept cells new head [] at v out longer keep = v
 visits_kept cells new head (i ∷ is) at v out longer keep =
     let ne : i ≢ at = λ e. out.0 (sym e) in
     let k = keep i ne v.2 in
-    let h = v.1 in
     let rest = visits_kept cells new (cell_at cells i).right is at v.4 out.1 longer keep in
     (v.0, omega arith, k.0, v.3, subst (λ (o : Option ℕ). FreeVisits new o is) (sym k.1) rest)

@@ -1,8 +1,9 @@
 -- The chosen row after a pivot
-use Rattle.ta_links.proofs.Common.{◌≡◌, ◌≢◌, inl, inr, ℕ, ℤ, pos, negsuc, neg_ℤ, ◌+◌, ◌<ℤ◌, ◌<◌, ◌≤◌, List, length, map, set, get_or, arith, sym, ap, ◌∙◌, subst, int_div, ext_get_or, length-set, length-map, get_or-map, get_or-set_same, get_or-set_other, div-one, minus_one_negates, negated, no_times, unsigned_abs-neg, equal_or_not, InRange, turned, IsProper, record_same, IsProper-turned, Cell, RowHead, LinkedCells, value_in, row_values, filled_places, AreSound, table_row, no_head, IsProperHead, AreProperHeads, merged_cell, MergesAt, RowTurned}
+use Rattle.ta_links.proofs.Common.{◌≡◌, ◌≢◌, inl, inr, ℕ, ℤ, pos, negsuc, neg_ℤ, ◌+◌, ◌<ℤ◌, ◌<◌, ◌≤◌, List, length, map, set, get_or, arith, sym, ap, ◌∙◌, subst, int_div, ext_get_or, length-set, length-map, get_or-map, get_or-set_same, get_or-set_other, div-one, minus_one_negates, negated, unsigned_abs-neg, InRange, turned, IsProper, record_same, IsProper-turned, Cell, RowHead, LinkedCells, value_in, row_values, filled_places, AreSound, table_row, no_head, IsProperHead, AreProperHeads, merged_cell, MergesAt, RowTurned, cases_eq}
 use Rattle.ta_links.proofs.LinkedFacts.{row_value_at}
 use Rattle.ta_links.proofs.MergeSteps.{merged_here, merged_elsewhere}
 use Rattle.ta_links.proofs.RowMerging.{numbers_long, value_fits, table_proper}
+use Rattle.std.proofs.Math.IntN.{zero-*ℤ}
 
 pub turns_within : (l : LinkedCells) (row column : ℕ) → AreSound l → (j : ℕ) → MergesAt (negsuc 0) (pos 0) column (value_in l.cells.items row) (value_in l.cells.items row) j
 turns_within l row column sound j ne =
@@ -11,7 +12,7 @@ turns_within l row column sound j ne =
     let neg : InRange (neg_ℤ z) = rw (unsigned_abs-neg z) fits in
     record {
       left = subst InRange (sym (minus_one_negates z)) neg;
-      right = subst InRange (sym (no_times z)) (omega arith);
+      right = subst InRange (sym (zero-*ℤ z)) (omega arith);
       difference = subst InRange (sym (negated z)) neg;
     }
 
@@ -27,7 +28,7 @@ turned_cells cells new n row column den inside values =
     ext_get_or (pos 0) (row_values new n row) (set (map neg_ℤ xs) column den) (omega arith) (λ j b.
     let below : j < n = omega arith in
     let is = row_value_at new n row j below ∙ values j below ∙ div-one (merged_cell (negsuc 0) (pos 0) column den f f j) in
-    elim (equal_or_not j column) [
+    elim (cases_eq j column) [
       | inl e ↦ is ∙ merged_here (negsuc 0) (pos 0) column den f f j e ∙ sym (ap (λ (k : ℕ). get_or (set (map neg_ℤ xs) column den) k (pos 0)) e ∙ get_or-set_same (map neg_ℤ xs) column den (pos 0) (omega arith))
       | inr ne ↦ is ∙ merged_elsewhere (negsuc 0) (pos 0) column den f f j ne ∙ negated (f j) ∙ sym (get_or-set_other (map neg_ℤ xs) column j den (pos 0) ne ∙ get_or-map neg_ℤ xs j (pos 0) (pos 0) (omega arith) ∙ ap neg_ℤ (row_value_at cells n row j below))
     ])
@@ -54,7 +55,7 @@ turn_done n row column entering hs hs' old new head nh c sound proper inside_row
       row_heads = rl;
       column_heads = cl;
       long = long;
-      proper = λ i below. elim (equal_or_not i row) [
+      proper = λ i below. elim (cases_eq i row) [
         | inl e ↦ subst IsProperHead (sym (ap (λ (k : ℕ). get_or hs' k no_head) e ∙ here)) nhp
         | inr ne ↦ subst IsProperHead (sym (elsewhere i ne)) (proper i (omega arith))
       ];

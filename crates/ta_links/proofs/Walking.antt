@@ -27,7 +27,6 @@ next_from way cells heads line (Some h) j one chained may e =
     let m = may h refl in
     let f = chained.next h j m.live e in
     let on : IsOn way cells line j = record { live = f.live; here = f.here ∙ m.here } in
-    let up = f.rises in
     record {
       on = on;
       further = omega arith;

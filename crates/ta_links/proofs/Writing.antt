@@ -14,11 +14,9 @@ vacant_first way cells heads line place (Some j) e chained behind k live at same
 vacant_next : (way : Direction) (cells : List Cell) (heads : List (Option ℕ)) (line place h : ℕ) (o : Option ℕ) → after_at way cells h ≡ o → IsChained way cells heads → IsCellBefore way cells line place h → ((j : ℕ) → after_at way cells h ≡ Some j → place < place_at way cells j) →
     (k : ℕ) → IsLive cells k → line_at way cells k ≡ line → place_at way cells k ≢ place
 vacant_next way cells heads line place h None e chained b behind k live at same =
-    let low = b.low in
     let last = chained.last h b.live e k live (at ∙ sym b.here) in
     omega arith
 vacant_next way cells heads line place h (Some j) e chained b behind k live at same =
-    let low = b.low in
     let high = behind j e in
     elim ((chained.next h j b.live e).nothing_between k live (at ∙ sym b.here)) [ inl x ↦ omega arith | inr y ↦ omega arith ]
 

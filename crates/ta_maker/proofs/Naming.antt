@@ -24,37 +24,7 @@ no_mark text = ends_with_digit text || bytes_eq text (codes "A") || bytes_eq tex
 marks_are : (m : Mark) → no_mark (mark_bytes m) ≡ false
 unfolding no_mark ends_with_digit
 marks_are mark.Semicolon = refl
-marks_are mark.Comma = refl
-marks_are mark.Colon = refl
-marks_are mark.OpenBrace = refl
-marks_are mark.CloseBrace = refl
-marks_are mark.Open = refl
-marks_are mark.Close = refl
-marks_are mark.Star = refl
-marks_are mark.Plus = refl
-marks_are mark.Minus = refl
-marks_are mark.PlusEquals = refl
-marks_are mark.Arrow = refl
-marks_are mark.Less = refl
-marks_are mark.AtMost = refl
-marks_are mark.Equal = refl
-marks_are mark.AtLeast = refl
-marks_are mark.More = refl
-marks_are mark.Automaton = refl
-marks_are mark.Parameters = refl
-marks_are mark.Shared = refl
-marks_are mark.Locations = refl
-marks_are mark.Initial = refl
-marks_are mark.Processes = refl
-marks_are mark.Resilience = refl
-marks_are mark.Rule = refl
-marks_are mark.When = refl
-marks_are mark.Do = refl
-marks_are mark.Pattern = refl
-marks_are mark.Start = refl
-marks_are mark.Empty = refl
-marks_are mark.Event = refl
-marks_are mark.After = refl
+marks_are _ = refl
 
 free : (text : List ℕ) → no_mark text ≡ true → (m : Mark) → mark_bytes m ≡ text → ⊥
 free text none m same = let e : true ≡ false = sym none ∙ ap no_mark (sym same) ∙ marks_are m in cc

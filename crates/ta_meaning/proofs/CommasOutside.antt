@@ -60,10 +60,7 @@ record FlatItem {A : Type 0} (f : A → List Kind) : Type 0 where
 
 relation-flat : (r : Relation) (ks : List Kind) → Flat 0 ks → Flat 0 (relation_kind r ∷ ks)
 relation-flat relation.Less ks h = (tt, h)
-relation-flat relation.AtMost ks h = (tt, h)
-relation-flat relation.Equal ks h = (tt, h)
-relation-flat relation.AtLeast ks h = (tt, h)
-relation-flat relation.More ks h = (tt, h)
+relation-flat _ ks h = (tt, h)
 
 name-flat : FlatItem name_kinds
 name-flat = record { flat = λ n. (tt, refl) }

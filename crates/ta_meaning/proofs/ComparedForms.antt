@@ -1,5 +1,5 @@
 -- The rows of compared forms, and what a comparison and a condition mean.
-use Rattle.ta_meaning.proofs.Common.{◌≡◌, ℕ, ℤ, pos, ◌+◌, ◌^◌, ◌-ℤ◌, Bool, List, [], ◌∷◌, ◌++◌, length, map, get_or, Result, sym, ap, subst, ◌∙◌, append-nil, length-map, AllByRecursion, less_alike, minus_alike, none_less_none, at_map_both, coefficient, Form, Row, Terms, plain_sum, plain_comparison, Relation, TreeComparison, FileFault, RowOver, Comparison, Condition, sum_coefficient, sum_constant, sum_uses, Difference, FormOf, RowOf, Pairwise, linear_sum, linear_difference, differences_by, comparison_rows, any_large, MeansComparison, is_large_linear, Scope, FirstOrMemory, Answers, where_, else_, sum_faults, comparison_faults, condition_faults, ResolvedForm, ResolvedComparison, ResolvedCondition, IsDifference, PartOf, is_large_form, any_large_row, form_differences, RowOfDifference}
+use Rattle.ta_meaning.proofs.Common.{◌≡◌, ℕ, ℤ, pos, ◌+◌, ◌^◌, ◌-ℤ◌, Bool, List, [], ◌∷◌, ◌++◌, length, map, get_or, Result, sym, ap, subst, ◌∙◌, append-nil, length-map, AllByRecursion, less_alike, minus_alike, at_map_both, coefficient, Form, Row, Terms, plain_sum, plain_comparison, Relation, TreeComparison, FileFault, RowOver, Comparison, Condition, sum_coefficient, sum_constant, sum_uses, Difference, FormOf, RowOf, Pairwise, linear_sum, linear_difference, differences_by, comparison_rows, any_large, MeansComparison, is_large_linear, Scope, FirstOrMemory, Answers, where_, else_, sum_faults, comparison_faults, condition_faults, ResolvedForm, ResolvedComparison, ResolvedCondition, IsDifference, PartOf, is_large_form, any_large_row, form_differences, RowOfDifference, refl}
 use Rattle.ta_syntax.specs.declared.tokens.Relation.TheVariants as relation
 use Rattle.ta_syntax.specs.declared.fault.FileFault.TheVariants as fault
 use Rattle.ta_meaning.proofs.Answering.{else-left-none, not-where, answers-along, answers-knowing, answers-otherwise, append-none, append-left-first, else-left-first}
@@ -28,7 +28,7 @@ row_of names greater less g l shift row is_g is_l is = record {
   coefficients = λ i.
       is.coefficients i
       ∙ minus_alike (coefficient g.terms i) (coefficient l.terms i) (get_or (map (λ x. sum_coefficient x greater) names) i (pos 0)) (get_or (map (λ x. sum_coefficient x less) names) i (pos 0)) (is_g.coefficients i) (is_l.coefficients i)
-      ∙ sym (at_map_both (λ a b. a -ℤ b) none_less_none (λ x. sum_coefficient x greater) (λ x. sum_coefficient x less) names i);
+      ∙ sym (at_map_both (λ a b. a -ℤ b) refl (λ x. sum_coefficient x greater) (λ x. sum_coefficient x less) names i);
 }
 
 -- the rows of compared forms have the numbers of the comparison

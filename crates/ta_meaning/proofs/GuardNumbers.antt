@@ -1,6 +1,5 @@
 -- what numbering a comparison's row does to the guards so far
-use Rattle.ta_meaning.proofs.Common.{drop, ◌≡◌, ◌⊎◌, inl, inr, ℕ, ◌+◌, ◌≤◌, List, [], ◌∷◌, ◌++◌, map, length, Bool, true, false, not, ltb, ◌&&◌, slice_get, Some, Ok, Err, arith, sym, ap, ◌∙◌, refl, subst, list_any, AllByRecursion, map_push, length-map, cond-true, cond-false, false_from_ne_true, true≢false, lt-ltb, le-ltb, and_left, and_right, and_from, not_from_true, not_from_false, distinct_push, each_at, each_map_of, each_push, each_weaker, map_each, get_last, get_map, get_of_map, IsNormal, Row, plain_comparison, TreeComparison, FileFault, Distinct, RowOver, RiseRow, FallRow, Comparison, Names, guard_names, Linear, comparison_rows, differences_by, Guards, is_negative, is_positive, falls, has_row, with_row, is_no_threshold, is_one_more, is_past_limit, FirstOrMemory, where_, else_, in_guards, comparison_faults, guard_faults, ResolvedComparison, any_shared, is_no_guard, Has, RowAnswers, linear_of, guards_so_far, GuardsKept, GuardNumbered, GuardList}
-use Rattle.std.proofs.lemmas.List.{length-append}
+use Rattle.ta_meaning.proofs.Common.{drop, ◌≡◌, ◌⊎◌, inl, inr, ℕ, ◌+◌, ◌≤◌, List, [], ◌∷◌, ◌++◌, map, length, Bool, true, false, not, ltb, ◌&&◌, slice_get, Some, Ok, Err, arith, sym, ap, ◌∙◌, refl, subst, list_any, AllByRecursion, map_push, length-map, cond-true, cond-false, false_from_ne_true, true≢false, lt-ltb, le-ltb, and_left, and_right, and_from, not_from_true, not_from_false, distinct_push, each_at, each_map_of, each_push, each_weaker, map_each, get_map, get_of_map, IsNormal, Row, plain_comparison, TreeComparison, FileFault, Distinct, RowOver, RiseRow, FallRow, Comparison, Names, guard_names, Linear, comparison_rows, differences_by, Guards, is_negative, is_positive, falls, has_row, with_row, is_no_threshold, is_one_more, is_past_limit, FirstOrMemory, where_, else_, in_guards, comparison_faults, guard_faults, ResolvedComparison, any_shared, is_no_guard, Has, RowAnswers, linear_of, guards_so_far, GuardsKept, GuardNumbered, GuardList, length-append, get_end}
 use Rattle.ta_syntax.specs.declared.fault.FileFault.TheVariants as fault
 use Rattle.ta_meaning.specs.declared.guards.GuardNumber.TheVariants as number
 use Rattle.ta_meaning.proofs.ComparedForms.{each_length}
@@ -53,7 +52,7 @@ row_placed places limit at rows after row n normal is few distinct (inr h) =
     let room = h.2 in
     record {
       linears = more ∙ sym (cond-false (has_row ls l) ls (ls ++ l ∷ []) none);
-      named = ap (λ (zs : List Linear). slice_get zs n) more ∙ ap (slice_get (ls ++ l ∷ [])) (h.1 ∙ sym count) ∙ get_last ls l;
+      named = ap (λ (zs : List Linear). slice_get zs n) more ∙ ap (slice_get (ls ++ l ∷ [])) (h.1 ∙ sym count) ∙ get_end ls l (length ls) refl;
       fits = subst (λ (zs : List Row). length zs ≤ limit) (sym h.0) (let e = length-append rows (row ∷ []) in omega arith);
       distinct = subst (λ (zs : List Linear). Distinct zs) (sym more) (distinct_push ls l distinct (λ i e. true≢false (sym (has_at ls i l e) ∙ none)));
       no_more = and_right (not (has_row ls l)) (not (ltb (length ls) limit)) (not_from_true (ltb (length ls) limit) (lt-ltb (length ls) limit (omega arith)));

@@ -1,6 +1,5 @@
 -- the guards of one rule, numbered one after another
-use Rattle.ta_meaning.proofs.Common.{◌≡◌, ◌⊎◌, inl, inr, ℕ, List, [], ◌∷◌, ◌++◌, map, length, true, false, arith, sym, ap, ◌∙◌, refl, subst, append-nil, length-map, slice_get_within, true≢false, AllByRecursion, each_at, each_push, each_weaker, PlainComparison, plain_comparison, TreeComparison, FileFault, Names, guard_names, Linear, UsesNames, Guards, falls, with_row, with_guard, with_guards, rows_of, NamesGuards, FirstOrMemory, in_guards, guard_faults, guards_faults, guards_then, guards_so_far, GuardsKept, GuardNumbered, GuardsNumbered, AmongGuards, WithNumber, NumberFits, linear_of, GuardList, GuardMasks, GuardNumber}
-use Rattle.std.proofs.lemmas.List.{append_assoc}
+use Rattle.ta_meaning.proofs.Common.{◌≡◌, ◌⊎◌, inl, inr, ℕ, List, [], ◌∷◌, ◌++◌, map, length, true, false, arith, sym, ap, ◌∙◌, refl, subst, append-nil, length-map, slice_get_within, true≢false, AllByRecursion, each_at, each_push, each_weaker, PlainComparison, plain_comparison, TreeComparison, FileFault, Names, guard_names, Linear, UsesNames, Guards, falls, with_row, with_guard, with_guards, rows_of, NamesGuards, FirstOrMemory, in_guards, guard_faults, guards_faults, guards_then, guards_so_far, GuardsKept, GuardNumbered, GuardsNumbered, AmongGuards, WithNumber, NumberFits, linear_of, GuardList, GuardMasks, GuardNumber, append_assoc}
 use Rattle.ta_meaning.specs.declared.guards.GuardNumber.TheVariants as number
 use Rattle.ta_meaning.proofs.Answering.{append-left-none, append-left-first}
 use Rattle.ta_meaning.proofs.GuardSteps.{Extends, with_row_cases, guard_falls, guard_rises, extends_guard, guards_append, rows_append, rows_one, among_extends, among_number, mask_kind, mask_other, no_rows, guards_counted}

@@ -1,5 +1,5 @@
 -- rows as numbers: when two are the same, and which are among others
-use Rattle.ta_meaning.proofs.Common.{◌≡◌, ◌⊎◌, inl, inr, ℕ, zero, suc, List, [], ◌∷◌, ◌++◌, length, true, ◌&&◌, slice_get, Some, Decides, ap, refl, false≢true, or_cases, or_left, or_right, Decides-int_eq, Decides-and, Decides-like, slice_eq-Decides, same_Some, get_last, get_push, slice_get_left, Linear, same_row, has_row}
+use Rattle.ta_meaning.proofs.Common.{◌≡◌, ◌⊎◌, inl, inr, ℕ, zero, suc, List, [], ◌∷◌, ◌++◌, length, true, ◌&&◌, slice_get, Some, Decides, ap, refl, false≢true, or_cases, or_left, or_right, Decides-int_eq, Decides-and, Decides-like, slice_eq-Decides, same_Some, get_push, slice_get_left, Linear, same_row, has_row, get_end}
 use Rattle.std.specs.Ordering.{int_eq}
 use lib.Pointwise.{pointwise}
 use Rattle.ta_meaning.proofs.NormalTerms.{linear_same}
@@ -32,4 +32,4 @@ has_push rows q r t =
     elim (get_push rows q w.0 r w.1) [ inl e ↦ inl (has_at rows w.0 r e) | inr h ↦ inr h.1 ]
 
 pub has_last : (rows : List Linear) (q : Linear) → has_row (rows ++ q ∷ []) q ≡ true
-has_last rows q = has_at (rows ++ q ∷ []) (length rows) q (get_last rows q)
+has_last rows q = has_at (rows ++ q ∷ []) (length rows) q (get_end rows q (length rows) refl)

@@ -1,5 +1,5 @@
 -- the signs of shared variables' coefficients, in a row's terms and in its numbers
-use Rattle.ta_meaning.proofs.Common.{◌≡◌, inl, inr, ℕ, ℤ, pos, negsuc, ◌+◌, ◌-◌, ◌<◌, ◌≤◌, ◌≤ℤ◌, List, [], ◌∷◌, map, length, drop, get_or, Bool, true, false, leb, ◌&&◌, arith, sym, ap, ◌∙◌, refl, list_any, AllByRecursion, ints, false≢true, or_cases, or_left, or_right, or_parts, and_parts, and_from, and_cases, cases_eq, leb-true, leb-false, le-leb, ltb-false, same_from_decides, get_or-drop, length-drop, or_at, number_gives, length-numbers, negative_false, coefficient, IsNormal, Row, IsNormal-le, coefficient-first, coefficient-other, RowOver, Linear, Pairwise, RowOf, is_negative, is_positive, falls, is_no_threshold, any_shared, is_no_guard, linear_of}
+use Rattle.ta_meaning.proofs.Common.{◌≡◌, inl, inr, ℕ, ℤ, pos, negsuc, ◌+◌, ◌-◌, ◌<◌, ◌≤◌, ◌≤ℤ◌, List, [], ◌∷◌, map, length, drop, get_or, Bool, true, false, leb, ◌&&◌, arith, sym, ap, ◌∙◌, refl, list_any, AllByRecursion, ints, false≢true, or_cases, or_left, or_right, or_parts, and_parts, and_from, and_cases, cases_eq, leb-true, leb-false, le-leb, ltb-false, same_from_decides, get_or-drop, length-drop, or_at, number_gives, negative_false, coefficient, IsNormal, Row, IsNormal-le, coefficient-first, coefficient-other, RowOver, Linear, Pairwise, RowOf, is_negative, is_positive, falls, is_no_threshold, any_shared, is_no_guard, linear_of, length-map-range_with_len}
 use Rattle.ta_meaning.proofs.NormalTerms.{linear_at, linear_is}
 
 -- ---- terms
@@ -83,7 +83,7 @@ pub any_same : (test : ℤ → Bool) (parameters places : ℕ) (row : Row) → t
 any_same test parameters places row none n =
     let ts = row.form.terms in
     let zs = (linear_of places row).coefficients in
-    let count = length-numbers (coefficient ts) 0 places in
+    let count = length-map-range_with_len (coefficient ts) 0 places in
     let short = length-drop parameters zs in
     same_from_decides (any_shared test parameters ts) (list_any test (drop parameters zs)) (
       λ h. (

@@ -1,6 +1,5 @@
 -- guards one after another: what stays true of masks and of rows among the guards
-use Rattle.ta_meaning.proofs.Common.{◌≡◌, ◌⊎◌, inl, inr, ℕ, ◌<◌, ◌^◌, List, [], ◌∷◌, ◌++◌, map, length, true, false, slice_get, Some, sym, ap, ◌∙◌, refl, subst, append-nil, slice_get_within, false≢true, cond-true, cond-false, cases_Bool, mask_below, no_bit, distinct_at, get_push, slice_get_left, PlainComparison, plain_comparison, TreeComparison, Distinct, Linear, comparison_rows, Guards, falls, has_row, with_row, with_guard, with_guards, rows_of, NamesGuards, Scope, guards_with, guard_faults, guards_faults, guards_then, counted, IsGuardNumber, AmongGuards, WithBit, GuardNumber, FileFault}
-use Rattle.std.proofs.lemmas.List.{append_assoc}
+use Rattle.ta_meaning.proofs.Common.{◌≡◌, ◌⊎◌, inl, inr, ℕ, ◌<◌, ◌^◌, List, [], ◌∷◌, ◌++◌, map, length, true, false, slice_get, Some, sym, ap, ◌∙◌, refl, subst, append-nil, slice_get_within, false≢true, cond-true, cond-false, cases_Bool, mask_below, no_bit, distinct_at, get_push, slice_get_left, PlainComparison, plain_comparison, TreeComparison, Distinct, Linear, comparison_rows, Guards, falls, has_row, with_row, with_guard, with_guards, rows_of, NamesGuards, Scope, guards_with, guard_faults, guards_faults, guards_then, counted, IsGuardNumber, AmongGuards, WithBit, GuardNumber, FileFault, append_assoc}
 use Rattle.ta_meaning.specs.declared.guards.GuardNumber.TheVariants as number
 use Rattle.ta_meaning.proofs.GuardRows.{has_at, at_has, has_left, has_push, has_last}
 use Rattle.ta_meaning.proofs.Answering.{none-append-left, none-append-right}

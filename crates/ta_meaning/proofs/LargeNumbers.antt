@@ -1,6 +1,5 @@
 -- Numbers above 1,000,000,000: in a form exactly where they are in what it means.
-use Rattle.ta_meaning.proofs.Common.{◌≡◌, ℕ, zero, suc, ℤ, pos, ◌+◌, ◌^◌, ◌≤◌, unsigned_abs, Bool, false, ◌||◌, eqb, List, [], ◌∷◌, length, get_or, refl, sym, ap, subst, ◌∙◌, arith, list_any, AllByRecursion, ints, nat_tests, or_parts, or_from, both_or_neither, cond_small, coefficient, IsNormal, Form, Row, coefficient-below, coefficient-first, coefficient-other, normal_narrow, FormOver, Linear, FormOf, Pairwise, RowOf, is_large, is_large_linear, any_large, FormWithin, is_large_form, any_large_term, any_large_row}
-use Rattle.ta_base.proofs.Lists.{get_or_past}
+use Rattle.ta_meaning.proofs.Common.{◌≡◌, ℕ, zero, suc, ℤ, pos, ◌+◌, ◌^◌, ◌≤◌, unsigned_abs, Bool, false, ◌||◌, eqb, List, [], ◌∷◌, length, get_or, refl, sym, ap, subst, ◌∙◌, arith, list_any, AllByRecursion, ints, nat_tests, or_parts, or_from, both_or_neither, cond_small, coefficient, IsNormal, Form, Row, coefficient-below, coefficient-first, coefficient-other, normal_narrow, FormOver, Linear, FormOf, Pairwise, RowOf, is_large, is_large_linear, any_large, FormWithin, is_large_form, any_large_term, any_large_row, get_or_past}
 
 pub small_tells : (z : ℤ) → is_large z ≡ false → unsigned_abs z ≤ 1000000000
 small_tells z h = grind (arith, nat_tests)
@@ -75,7 +74,7 @@ each_small (t ∷ ts) h = (small_tells t.1 (or_parts (is_large t.1) (any_large_t
 
 pub form_over : (l : Linear) (places : ℕ) (form : Form) → FormOf l form → length l.coefficients ≡ places → is_large_form form ≡ false → FormOver places form
 form_over l places form is e small = record {
-  below = normal_narrow 0 (2 ^ 32) places form.terms (omega arith) form.normal (λ x h. is.coefficients x ∙ get_or_past l.coefficients x (omega (arith, e)));
+  below = normal_narrow 0 (2 ^ 32) places form.terms (omega arith) form.normal (λ x h. is.coefficients x ∙ get_or_past l.coefficients x (pos 0) (omega (arith, e)));
   small = record {
     constant = small_tells form.constant (or_parts (is_large form.constant) (any_large_term form.terms) small).0;
     coefficients = each_small form.terms (or_parts (is_large form.constant) (any_large_term form.terms) small).1;

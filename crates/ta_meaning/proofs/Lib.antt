@@ -1,7 +1,6 @@
 -- lemmas for the crates above
 pub mod OneTree
 mod Answering
-mod Exits
 mod PairwiseItems
 mod ListedNames
 mod UsedNames

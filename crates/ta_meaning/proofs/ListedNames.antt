@@ -39,15 +39,12 @@ outside_part names n from to i d e out = by (has_name (take (to - from) (drop fr
 abbrev pub is_key : List ℕ → String Global → Bool
 is_key n k = bytes_eq n (string_bytes k)
 
-found_key : (n : List ℕ) (keys : List (String Global)) (i : ℕ) (d : String Global) → position (is_key n) keys ≡ Some i → slice_get (map string_bytes keys) i ≡ Some n
-found_key n keys i d e =
-    let p = position-Some (is_key n) keys i d e in
-    slice_get-map string_bytes keys i ∙ ap (option_map string_bytes) (slice_get-get_or keys i d p.0) ∙ ap Some (sym ((bytes_eq-Decides n (string_bytes (get_or keys i d))).0 p.1))
-
 -- a key that is found stands at its place
 pub key_at : (n : List ℕ) (keys : List (String Global)) (i : ℕ) → position (is_key n) keys ≡ Some i → slice_get (map string_bytes keys) i ≡ Some n
 key_at n [] i e = cc
-key_at n (k ∷ ks) i e = found_key n (k ∷ ks) i k e
+key_at n (k ∷ ks) i e =
+    let p = position-Some (is_key n) (k ∷ ks) i k e in
+    slice_get-map string_bytes (k ∷ ks) i ∙ ap (option_map string_bytes) (slice_get-get_or (k ∷ ks) i k p.0) ∙ ap Some (sym ((bytes_eq-Decides n (string_bytes (get_or (k ∷ ks) i k))).0 p.1))
 
 pub has_key : (n : List ℕ) (keys : List (String Global)) → list_any (is_key n) keys ≡ has_name (map string_bytes keys) n
 has_key n [] = refl

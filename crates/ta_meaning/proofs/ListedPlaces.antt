@@ -1,5 +1,5 @@
 -- names among names, and the numbers of used names
-use Rattle.ta_meaning.proofs.Common.{◌≡◌, inl, inr, ℕ, zero, suc, ◌+◌, ◌-◌, ◌<◌, List, [], ◌∷◌, length, take, drop, get_or, true, false, not, slice_get, Some, Contains, arith, sym, ap, ◌∙◌, refl, subst, bytes_eq, bytes_eq-Decides, slice_get-get_or, get_or_from_slice_get, false≢true, or_cases, or_left, or_right, false_from_ne_true, not_from_true, take-length, Contains-append_right, AllByRecursion, distinct_at, distinct_drop, distinct_take, get_of_drop, get_take, Spelled, FileFault, Distinct, all_names, has_name, First, where_, used_faults, kinds_of, names_at, variable_faults, IsNewVariable, Places}
+use Rattle.ta_meaning.proofs.Common.{◌≡◌, inl, inr, ℕ, zero, suc, ◌+◌, ◌-◌, ◌<◌, List, [], ◌∷◌, length, take, drop, get_or, true, false, not, slice_get, Some, Contains, arith, sym, ap, ◌∙◌, refl, subst, bytes_eq, bytes_eq-Decides, slice_get-get_or, get_or_from_slice_get, false≢true, or_cases, or_left, or_right, false_from_ne_true, not_from_true, take-length, Contains-append_right, AllByRecursion, distinct_at, distinct_drop, distinct_take, get_of_drop, Spelled, FileFault, Distinct, all_names, has_name, First, where_, used_faults, kinds_of, names_at, variable_faults, IsNewVariable, Places, get_front}
 use Rattle.ta_syntax.specs.declared.fault.FileFault.TheVariants as fault
 use Rattle.ta_meaning.proofs.ListedNames.{has_name-at, has_name-where}
 use Rattle.ta_meaning.proofs.Answering.{where-false, where-leads, else-none, else-left-leads, else-right-leads}
@@ -14,7 +14,7 @@ shared_place : (places : Places) (n : List ℕ) → has_name (kinds_of places).s
 shared_place places n t =
     let w = has_name-where (kinds_of places).shared n t in
     subst (λ (names : List (List ℕ)). has_name names n ≡ true) (sym (all_names_are places))
-    (has_name-at places.names n (places.parameters + w.0) (get_of_drop places.parameters places.names w.0 n (get_take places.shared (drop places.parameters places.names) w.0 n w.1)))
+    (has_name-at places.names n (places.parameters + w.0) (get_of_drop places.parameters places.names w.0 n ((get_front (drop places.parameters places.names) places.shared w.0 n w.1).1)))
 
 pub shared_used : (places : Places) (n : Spelled) → has_name (kinds_of places).shared n.name ≡ true → used_faults (all_names (kinds_of places)) (kinds_of places).shared n ≡ []
 shared_used places n t =

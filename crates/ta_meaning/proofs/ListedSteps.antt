@@ -1,7 +1,7 @@
 -- Listing names one after another: the mask so far, and what is left.
-use Rattle.ta_meaning.proofs.Common.{◌≡◌, ℕ, zero, suc, ◌-◌, ◌*◌, ◌%◌, ◌^◌, ◌<◌, ◌≤◌, ◌⊎◌, inl, inr, false, ◌||◌, List, [], ◌∷◌, ◌++◌, length, map, take, drop, Decides, Contains, slice_get, Some, IsBitSet, bit_or, w32, refl, sym, ap, subst, ◌∙◌, arith, bytes_eq, mod-eq_of_lt, false≢true, false_from_ne_true, eqb_tells, Decides-like, Decides-or, bit_at_set_same, bit_at_set_other, append-nil, take-append-drop, length-take-le, length-drop, Contains-append_left, Contains-append_right, Contains-push, Contains-push_cases, slice_get_within, same_Some, bytes_eq-Decides, at_set, no_bit, set_at, distinct_at, distinct_drop, distinct_take, each_append, each_contains, contains-later, contains_at, plain_name, Spelled, FileFault, Distinct, has_name, between, ListedMask, where_, else_, First, used_faults, listed_faults}
+use Rattle.ta_meaning.proofs.Common.{◌≡◌, ℕ, zero, suc, ◌-◌, ◌*◌, ◌%◌, ◌^◌, ◌<◌, ◌≤◌, ◌⊎◌, inl, inr, false, ◌||◌, List, [], ◌∷◌, ◌++◌, length, map, take, drop, Decides, Contains, slice_get, Some, IsBitSet, bit_or, w32, refl, sym, ap, subst, ◌∙◌, arith, bytes_eq, mod-eq_of_lt, false≢true, false_from_ne_true, eqb_tells, Decides-like, Decides-or, bit_at_set_same, bit_at_set_other, append-nil, take-append-drop, length-take-le, length-drop, Contains-append_left, Contains-append_right, Contains-push, Contains-push_cases, slice_get_within, same_Some, bytes_eq-Decides, at_set, no_bit, set_at, distinct_at, distinct_drop, distinct_take, each_append, contains_at, plain_name, Spelled, FileFault, Distinct, has_name, between, ListedMask, where_, else_, First, used_faults, listed_faults, append_assoc, All-from_recursion, All-contains}
 use Rattle.std.proofs.lemmas.Nat.{or_lt, pow_below, pow_pos}
-use Rattle.std.proofs.lemmas.List.{append_assoc}
+use Rattle.ta_scope.proofs.Reaching.{bit_of}
 use Rattle.ta_syntax.specs.declared.fault.FileFault.TheVariants as fault
 use Rattle.ta_meaning.proofs.Answering.{where-false, append-left-none, append-left-leads, else-left-leads, else-right-leads, else-none, where-leads}
 use Rattle.ta_meaning.proofs.UsedNames.{rightly_used}
@@ -14,7 +14,7 @@ has_name-Decides (m ∷ names) n =
   where
     here_or_later : (m n : List ℕ) (names : List (List ℕ)) → (m ≡ n) ⊎ Contains names n → Contains (m ∷ names) n
     here_or_later m n names (inl e) = (0, omega arith, e)
-    here_or_later m n names (inr c) = contains-later m n names c
+    here_or_later m n names (inr c) = Contains-append_right (m ∷ []) names n c
 
     cases : (m n : List ℕ) (names : List (List ℕ)) → Contains (m ∷ names) n → (m ≡ n) ⊎ Contains names n
     cases m n names (zero, b, e) = inl e
@@ -33,10 +33,6 @@ pub between-length : (from to : ℕ) (names : List (List ℕ)) → to ≤ length
 between-length from to names within = length-take-le (to - from) (drop from names) (let e = length-drop from names in omega arith)
 
 -- ---- masks
-
--- the bit of a number, as the code computes it
-abbrev bit_of : ℕ → ℕ
-bit_of i = 1 * 2 ^ i % 4294967296
 
 pub no_mask : (names : List (List ℕ)) → ListedMask names [] 0
 no_mask names = record {
@@ -100,7 +96,7 @@ module _ (declared allowed : List (List ℕ)) (all : List Spelled) (n : Spelled)
   -- a name at fault by itself was not listed before
   not_listed : (e : FileFault) (later : List FileFault) → ((m : List ℕ) → Contains allowed m → Contains declared m) → used_faults declared allowed n ≡ e ∷ later → has_name to.before n.name ≡ false
   not_listed e later sub is = false_from_ne_true (has_name to.before n.name) (λ t.
-      let known : Contains allowed n.name = each_contains (Contains allowed) to.before n.name to.mask_is.bits.known ((has_name-Decides to.before n.name).0 t) in
+      let known : Contains allowed n.name = All-contains (Contains allowed) to.before n.name (All-from_recursion (Contains allowed) to.before to.mask_is.bits.known) ((has_name-Decides to.before n.name).0 t) in
       let none = rightly_used declared allowed n ((has_name-Decides declared n.name).1 (sub n.name known)) ((has_name-Decides allowed n.name).1 known) in
       absurd (cc))
 

@@ -115,10 +115,7 @@ sum_exists s t few none small =
 
 one_or_two : (rel : Relation) (l r : Terms) → (1 ≤ length (differences_by rel l r)) × (length (differences_by rel l r) ≤ 2)
 one_or_two relation.Less l r = (omega arith, omega arith)
-one_or_two relation.AtMost l r = (omega arith, omega arith)
-one_or_two relation.Equal l r = (omega arith, omega arith)
-one_or_two relation.AtLeast l r = (omega arith, omega arith)
-one_or_two relation.More l r = (omega arith, omega arith)
+one_or_two _ l r = (omega arith, omega arith)
 
 all_few : (n : ℕ) (ls : List Linear) → n ≤ 64 → AllByRecursion (λ l. length l.coefficients ≡ n) ls → AllByRecursion (λ l. length l.coefficients ≤ 64) ls
 all_few n [] few h = tt

@@ -1,7 +1,5 @@
 -- Rules without a fault mean rules and guards.
-use Rattle.ta_meaning.proofs.Common.{◌≡◌, ◌⊎◌, inl, inr, ⊎_elim, ℕ, ℤ, pos, ◌*◌, ◌%◌, ◌^◌, ◌<◌, ◌≤◌, Bool, true, false, not, ltb, ◌&&◌, cond, eqb, bit_or, List, [], ◌∷◌, ◌++◌, map, length, Ok, Contains, refl, sym, ap, ◌∙◌, arith, w8, w16, Vec, cases_Bool, nat_tests, length-map, bit_at_set_same, bit_at_set_other, second_false, IsNormal, Row, plain_comparison, plain_update, plain_rule, TreeComparison, TreeUpdate, TreeRule, Rule, Names, all_names, guard_names, has_name, number_of, no_guards, is_negative, is_positive, falls, has_row, is_no_threshold, is_one_more, is_past_limit, Linear, comparison_rows, where_, else_, in_guards, comparison_faults, guard_faults, guards_faults, guards_with, declared_faults, used_faults, digits_faults, updates_faults, rule_faults, rules_faults, guards_then, any_shared, is_no_guard, Has, RowAnswers, linear_of, guards_so_far, GuardsKept, GuardNumbered, GuardsNumbered, NumberFits, WithNumber, names_at, UpdatesRead, RuleRead, ResolvedRules, GuardList, GuardMasks, GuardNumber}
-use Rattle.std.proofs.lemmas.List.{length-append}
-use denote.RawPtr.{null_ptr}
+use Rattle.ta_meaning.proofs.Common.{◌≡◌, ◌⊎◌, inl, inr, ⊎_elim, ℕ, ℤ, pos, ◌*◌, ◌%◌, ◌^◌, ◌<◌, ◌≤◌, Bool, true, false, not, ltb, ◌&&◌, cond, eqb, bit_or, List, [], ◌∷◌, ◌++◌, map, length, Ok, Contains, refl, sym, ap, ◌∙◌, arith, w8, w16, cases_Bool, nat_tests, length-map, bit_at_set_same, bit_at_set_other, IsNormal, Row, plain_comparison, plain_update, plain_rule, TreeComparison, TreeUpdate, TreeRule, Rule, Names, all_names, guard_names, has_name, number_of, no_guards, is_negative, is_positive, falls, has_row, is_no_threshold, is_one_more, is_past_limit, Linear, comparison_rows, where_, else_, in_guards, comparison_faults, guard_faults, guards_faults, guards_with, declared_faults, used_faults, digits_faults, updates_faults, rule_faults, rules_faults, guards_then, any_shared, is_no_guard, Has, RowAnswers, linear_of, guards_so_far, GuardsKept, GuardNumbered, GuardsNumbered, NumberFits, WithNumber, names_at, UpdatesRead, RuleRead, ResolvedRules, GuardList, GuardMasks, GuardNumber, length-append, and_false}
 use Rattle.ta_syntax.specs.declared.fault.FileFault.TheVariants as fault
 use Rattle.ta_meaning.specs.declared.guards.GuardNumber.TheVariants as number
 use Rattle.ta_meaning.proofs.Answering.{not-where, none-else-left, none-else-right, none-append-left, none-append-right}
@@ -17,10 +15,7 @@ use Rattle.ta_meaning.proofs.RuleSteps.{rule_read}
 use Rattle.ta_meaning.proofs.RuleSequence.{RulesReading, rules_begin, rules_more, rules_end}
 use Rattle.ta_meaning.proofs.MadeForms.{comparison_exists}
 use Rattle.ta_meaning.proofs.MadePatterns.{FineNames}
-
--- a list of the program with these items; where it lies in memory doesn't matter
-abbrev vec_of : {A : Type 0} (xs : List A) → length xs < 2 ^ 63 → Vec A
-vec_of xs small = record { ptr = null_ptr; len = length xs; cap = length xs; alloc = record { memory = record { seal = tt } }; items = xs; ok = (refl, omega arith); small = small }
+use Rattle.ta_syntax.proofs.BuiltSums.{vec_of}
 
 -- ---- updates
 module _ (ns : Names) where
@@ -115,7 +110,7 @@ module _ (ns : Names) (before : GuardList) (kept : GuardsKept ns before) (c : Tr
       ⊎_elim
       (λ (h : any_shared is_negative parameters row.form.terms ≡ true).
       let falling : falls parameters linear ≡ true = sym same ∙ h in
-      made_fall h (second_false (any_shared is_negative parameters row.form.terms) (any_shared is_positive parameters row.form.terms) h threshold) (rw falling at no_more))
+      made_fall h (and_false (any_shared is_negative parameters row.form.terms) (any_shared is_positive parameters row.form.terms) threshold h) (rw falling at no_more))
       (λ (h : any_shared is_negative parameters row.form.terms ≡ false).
       let rising : falls parameters linear ≡ false = sym same ∙ h in
       made_rise h (rw rising at no_more))

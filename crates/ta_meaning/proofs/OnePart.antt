@@ -1,5 +1,5 @@
 -- Comparisons, rules, events, patterns and trees with the same text that are placed on the same tokens are the same.
-use Rattle.ta_meaning.proofs.Common.{◌≡◌, ℕ, Bool, true, false, List, [], ◌∷◌, ◌++◌, sym, ap, subst, ◌∙◌, append-nil, PlainComparison, PlainLocation, PlainUpdate, PlainRule, PlainEvent, PlainPattern, PlainTree, Terms, listed, led, ended, each, plain_sum, plain_name, plain_location, plain_update, plain_comparison, plain_rule, plain_event, plain_pattern, plain_tree, Offsets, unplaced, at_first, sum_stated, name_stated, initial_stated, location_stated, comparison_stated, update_stated, rule_stated, event_stated, pattern_stated, tree_stated, Relation, Digits, Spelled, TreeComparison, TreeLocation, TreeUpdate, TreeRule, TreeEvent, TreePattern, Tree, Pairwise}
+use Rattle.ta_meaning.proofs.Common.{◌≡◌, Bool, true, false, List, [], ◌∷◌, ◌++◌, sym, ap, subst, append-nil, PlainComparison, PlainLocation, PlainUpdate, PlainRule, PlainEvent, PlainPattern, PlainTree, listed, led, ended, each, plain_name, plain_location, plain_update, plain_comparison, plain_rule, plain_event, plain_pattern, plain_tree, Offsets, unplaced, at_first, sum_stated, name_stated, initial_stated, location_stated, comparison_stated, update_stated, rule_stated, event_stated, pattern_stated, tree_stated, TreeComparison, TreeRule, TreeEvent, TreePattern, Tree, Pairwise}
 use Rattle.ta_syntax.specs.declared.tokens.Mark.TheVariants as mark
 use Rattle.ta_meaning.proofs.StartedParts.{starts-append, sum-starts}
 use Rattle.ta_meaning.proofs.OneSum.{spelled-same, digits-same, SameSum, same_sum-plain, same_sum-stated, one-sum}
@@ -13,9 +13,6 @@ Equal a b = a ≡ b
 name-once : IsOnce plain_name name_stated Equal
 name-once = record { once = λ a b x y e h. (spelled-same a b e (same-first a.at b.at [] [] h.0), h.1) }
 
-abbrev made-location : Spelled → Bool → TreeLocation
-made-location n i = record { name = n; initial = i }
-
 initial-agree : (i j : Bool) (x y : List Offsets) → i ≡ j → Agree (initial_stated i ++ x) (initial_stated j ++ y) → Agree x y
 initial-agree true true x y e h = h.1
 initial-agree true false x y e h = absurd cc
@@ -27,18 +24,15 @@ location-once = record {
   once = λ a b x y e h.
       let name = spelled-same a.name b.name (ap (λ (l : PlainLocation). l.name) e) (same-first a.name.at b.name.at [] [] h.0) in
       let initial = ap (λ (l : PlainLocation). l.initial) e in
-      (ap (λ (z : Spelled). made-location z a.initial) name ∙ ap (made-location b.name) initial, initial-agree a.initial b.initial x y initial h.1);
+      ((λ i. record { name = name i; initial = initial i }), initial-agree a.initial b.initial x y initial h.1);
 }
-
-abbrev made-update : Spelled → Digits → TreeUpdate
-made-update n d = record { name = n; amount = d }
 
 update-once : IsOnce plain_update update_stated Equal
 update-once = record {
   once = λ a b x y e h.
       let name = spelled-same a.name b.name (ap (λ (u : PlainUpdate). u.name) e) (same-first a.name.at b.name.at [] [] h.0) in
       let amount = digits-same a.amount b.amount (ap (λ (u : PlainUpdate). u.amount) e) (same-first a.amount.at b.amount.at [] [] h.1.1.0) in
-      (ap (λ (z : Spelled). made-update z a.amount) name ∙ ap (made-update b.name) amount, h.1.1.1);
+      ((λ i. record { name = name i; amount = amount i }), h.1.1.1);
 }
 
 -- ---- comparisons
@@ -58,20 +52,11 @@ comparison-once = record {
       (record { at = start.first; left = left.0; relation = ap (λ (c : PlainComparison). c.relation) e; right = right.0 }, right.1);
 }
 
-abbrev plain-made : Terms → Relation → Terms → PlainComparison
-plain-made l r s = record { left = l; relation = r; right = s }
-
 pub same_comparison-plain : (a b : TreeComparison) → SameComparison a b → plain_comparison a ≡ plain_comparison b
-same_comparison-plain a b h =
-    ap (λ (z : Terms). plain-made z a.relation (plain_sum a.right)) (same_sum-plain a.left b.left h.left)
-    ∙ ap (λ (z : Relation). plain-made (plain_sum b.left) z (plain_sum a.right)) h.relation
-    ∙ ap (λ (z : Terms). plain-made (plain_sum b.left) b.relation z) (same_sum-plain a.right b.right h.right)
+same_comparison-plain a b h = λ i. record { left = same_sum-plain a.left b.left h.left i; relation = h.relation i; right = same_sum-plain a.right b.right h.right i }
 
 comparison-stated : (a b : TreeComparison) → SameComparison a b → comparison_stated a ≡ comparison_stated b
-comparison-stated a b h =
-    ap (λ (z : ℕ). at_first z (sum_stated a.left ++ [] ∷ sum_stated a.right)) h.at
-    ∙ ap (λ (z : List Offsets). at_first b.at (z ++ [] ∷ sum_stated a.right)) (same_sum-stated a.left b.left h.left)
-    ∙ ap (λ (z : List Offsets). at_first b.at (sum_stated b.left ++ [] ∷ z)) (same_sum-stated a.right b.right h.right)
+comparison-stated a b h = λ i. at_first (h.at i) (same_sum-stated a.left b.left h.left i ++ [] ∷ same_sum-stated a.right b.right h.right i)
 
 -- ---- rules
 
@@ -99,16 +84,9 @@ rule-once = record {
       (record { name = name; from = from; to = to; guards = guards.0; updates = pairwise-equal a.updates b.updates updates.0 }, updates.1.1);
 }
 
-abbrev rule-offsets : Spelled → Spelled → Spelled → List Offsets → List TreeUpdate → List Offsets
-rule-offsets n f t g u = [] ∷ (n.at ∷ []) ∷ [] ∷ (f.at ∷ []) ∷ [] ∷ (t.at ∷ []) ∷ (g ++ (led unplaced mark.Do update_stated u ++ [] ∷ []))
-
 rule-stated : (a b : TreeRule) → SameRule a b → rule_stated a ≡ rule_stated b
 rule-stated a b h =
-    ap (λ (z : Spelled). rule-offsets z a.from a.to (when_stated a) a.updates) h.name
-    ∙ ap (λ (z : Spelled). rule-offsets b.name z a.to (when_stated a) a.updates) h.from
-    ∙ ap (λ (z : Spelled). rule-offsets b.name b.from z (when_stated a) a.updates) h.to
-    ∙ ap (λ (z : List Offsets). rule-offsets b.name b.from b.to z a.updates) (led-stated mark.When comparison_stated SameComparison comparison-stated a.guards b.guards h.guards)
-    ∙ ap (λ (z : List TreeUpdate). rule-offsets b.name b.from b.to (when_stated b) z) h.updates
+    λ i. [] ∷ ((h.name i).at ∷ []) ∷ [] ∷ ((h.from i).at ∷ []) ∷ [] ∷ ((h.to i).at ∷ []) ∷ (led-stated mark.When comparison_stated SameComparison comparison-stated a.guards b.guards h.guards i ++ (led unplaced mark.Do update_stated (h.updates i) ++ [] ∷ []))
 
 -- ---- events and patterns
 
@@ -132,14 +110,9 @@ event-once = record {
       (record { name = name; after = pairwise-equal a.after b.after after.0; condition = condition.0 }, condition.1.1);
 }
 
-abbrev event-offsets : Spelled → List Spelled → List Offsets → List Offsets
-event-offsets n f c = [] ∷ (n.at ∷ []) ∷ (led unplaced mark.After name_stated f ++ [] ∷ (c ++ [] ∷ []))
-
 event-stated : (a b : TreeEvent) → SameEvent a b → event_stated a ≡ event_stated b
 event-stated a b h =
-    ap (λ (z : Spelled). event-offsets z a.after (condition_stated a)) h.name
-    ∙ ap (λ (z : List Spelled). event-offsets b.name z (condition_stated a)) h.after
-    ∙ ap (λ (z : List Offsets). event-offsets b.name b.after z) (listed-stated comparison_stated SameComparison comparison-stated a.condition b.condition h.condition)
+    λ i. [] ∷ ((h.name i).at ∷ []) ∷ (led unplaced mark.After name_stated (h.after i) ++ [] ∷ (listed-stated comparison_stated SameComparison comparison-stated a.condition b.condition h.condition i ++ [] ∷ []))
 
 pub record SamePattern (a b : TreePattern) : Type 0 where
   pub name : a.name ≡ b.name
@@ -166,15 +139,9 @@ pattern-once = record {
       (record { name = name; start = start.0; empty = pairwise-equal a.empty b.empty empty.0; events = events.0 }, events.1.1);
 }
 
-abbrev pattern-offsets : Spelled → List Offsets → List Spelled → List Offsets → List Offsets
-pattern-offsets n s m v = [] ∷ (n.at ∷ []) ∷ [] ∷ (s ++ (ended unplaced mark.Empty name_stated m ++ (v ++ [] ∷ [])))
-
 pattern-stated : (a b : TreePattern) → SamePattern a b → pattern_stated a ≡ pattern_stated b
 pattern-stated a b h =
-    ap (λ (z : Spelled). pattern-offsets z (start_stated a) a.empty (events_stated a)) h.name
-    ∙ ap (λ (z : List Offsets). pattern-offsets b.name z a.empty (events_stated a)) (ended-stated mark.Start comparison_stated SameComparison comparison-stated a.start b.start h.start)
-    ∙ ap (λ (z : List Spelled). pattern-offsets b.name (start_stated b) z (events_stated a)) h.empty
-    ∙ ap (λ (z : List Offsets). pattern-offsets b.name (start_stated b) b.empty z) (each-stated event_stated SameEvent event-stated a.events b.events h.events)
+    λ i. [] ∷ ((h.name i).at ∷ []) ∷ [] ∷ (ended-stated mark.Start comparison_stated SameComparison comparison-stated a.start b.start h.start i ++ (ended unplaced mark.Empty name_stated (h.empty i) ++ (each-stated event_stated SameEvent event-stated a.events b.events h.events i ++ [] ∷ [])))
 
 -- ---- trees
 
@@ -234,22 +201,11 @@ tree-once t u e h =
       patterns = patterns.0;
     }
 
-abbrev tree-offsets : Spelled → List Spelled → List Spelled → ℕ → List TreeLocation → ℕ → List Offsets → List Offsets → List Offsets → List Offsets → List Offsets
-tree-offsets n p s a l b c r k v =
-    [] ∷ (n.at ∷ []) ∷ [] ∷ [] ∷ (listed unplaced name_stated p ++ [] ∷ [] ∷ (listed unplaced name_stated s ++ [] ∷ (a ∷ []) ∷ (listed unplaced location_stated l ++ [] ∷ [] ∷ (at_first b c ++ [] ∷ [] ∷ (r ++ [] ∷ (k ++ v))))))
-
-abbrev resilience_stated : Tree → List Offsets
-resilience_stated t = listed unplaced comparison_stated t.resilience
-
 pub tree-stated : (t u : Tree) → SameParts t u → tree_stated t ≡ tree_stated u
 tree-stated t u h =
-    ap (λ (z : Spelled). tree-offsets z t.parameters t.shared t.locations_at t.locations t.processes_at (sum_stated t.processes) (resilience_stated t) (rules_stated t) (patterns_stated t)) h.name
-    ∙ ap (λ (z : List Spelled). tree-offsets u.name z t.shared t.locations_at t.locations t.processes_at (sum_stated t.processes) (resilience_stated t) (rules_stated t) (patterns_stated t)) h.parameters
-    ∙ ap (λ (z : List Spelled). tree-offsets u.name u.parameters z t.locations_at t.locations t.processes_at (sum_stated t.processes) (resilience_stated t) (rules_stated t) (patterns_stated t)) h.shared
-    ∙ ap (λ (z : ℕ). tree-offsets u.name u.parameters u.shared z t.locations t.processes_at (sum_stated t.processes) (resilience_stated t) (rules_stated t) (patterns_stated t)) h.locations_at
-    ∙ ap (λ (z : List TreeLocation). tree-offsets u.name u.parameters u.shared u.locations_at z t.processes_at (sum_stated t.processes) (resilience_stated t) (rules_stated t) (patterns_stated t)) h.locations
-    ∙ ap (λ (z : ℕ). tree-offsets u.name u.parameters u.shared u.locations_at u.locations z (sum_stated t.processes) (resilience_stated t) (rules_stated t) (patterns_stated t)) h.processes_at
-    ∙ ap (λ (z : List Offsets). tree-offsets u.name u.parameters u.shared u.locations_at u.locations u.processes_at z (resilience_stated t) (rules_stated t) (patterns_stated t)) (same_sum-stated t.processes u.processes h.processes)
-    ∙ ap (λ (z : List Offsets). tree-offsets u.name u.parameters u.shared u.locations_at u.locations u.processes_at (sum_stated u.processes) z (rules_stated t) (patterns_stated t)) (listed-stated comparison_stated SameComparison comparison-stated t.resilience u.resilience h.resilience)
-    ∙ ap (λ (z : List Offsets). tree-offsets u.name u.parameters u.shared u.locations_at u.locations u.processes_at (sum_stated u.processes) (resilience_stated u) z (patterns_stated t)) (each-stated rule_stated SameRule rule-stated t.rules u.rules h.rules)
-    ∙ ap (λ (z : List Offsets). tree-offsets u.name u.parameters u.shared u.locations_at u.locations u.processes_at (sum_stated u.processes) (resilience_stated u) (rules_stated u) z) (each-stated pattern_stated SamePattern pattern-stated t.patterns u.patterns h.patterns)
+    λ i. [] ∷ ((h.name i).at ∷ []) ∷ [] ∷ [] ∷ (listed unplaced name_stated (h.parameters i)
+    ++ [] ∷ [] ∷ (listed unplaced name_stated (h.shared i)
+    ++ [] ∷ (h.locations_at i ∷ []) ∷ (listed unplaced location_stated (h.locations i)
+    ++ [] ∷ [] ∷ (at_first (h.processes_at i) (same_sum-stated t.processes u.processes h.processes i)
+    ++ [] ∷ [] ∷ (listed-stated comparison_stated SameComparison comparison-stated t.resilience u.resilience h.resilience i
+    ++ [] ∷ (each-stated rule_stated SameRule rule-stated t.rules u.rules h.rules i ++ each-stated pattern_stated SamePattern pattern-stated t.patterns u.patterns h.patterns i))))))

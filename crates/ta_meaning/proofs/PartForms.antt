@@ -1,5 +1,5 @@
 -- Forms of the parts of a sum, and how they make the form of the whole.
-use Rattle.ta_meaning.proofs.Common.{◌≡◌, ℕ, ℤ, pos, ◌+◌, ◌*◌, ◌^◌, ◌<◌, ◌≤◌, ◌+ℤ◌, ◌*ℤ◌, unsigned_abs, Bool, IsTrue, List, [], ◌∷◌, ◌++◌, map, get_or, slice_get, Option, Some, None, Result, refl, sym, ap, subst, ◌∙◌, arith, ints, nat_tests, and_known, add_moved, minus_within, more_within, one_times, small_constant, times_none, zero_left, zero_right, at_map, at_map_both, at_map_none, coefficient, IsMultiple, Form, Terms, Term, Factor, number, blank, named, plain_term, plain_factor, plain_terms, term_of, Digits, Sign, TreeTerm, TreeFactor, out-TreeTerm, FileFault, Distinct, signed, number_of, sum_coefficient, term_coefficient, factor_coefficient, sum_constant, term_constant, sum_uses, term_uses, factor_uses, FormOf, linear_sum, is_large_linear, Scope, FirstOrMemory, Answers, where_, else_, linear_term, number_faults, FormWithin, judged_term, judged_factor, is_large_form, linear_factor, number_or, PartOf, IsSignedSum}
+use Rattle.ta_meaning.proofs.Common.{◌≡◌, ℕ, ℤ, pos, ◌+◌, ◌*◌, ◌^◌, ◌<◌, ◌≤◌, ◌+ℤ◌, ◌*ℤ◌, unsigned_abs, Bool, IsTrue, List, [], ◌∷◌, ◌++◌, map, get_or, slice_get, Option, Some, None, Result, refl, sym, ap, subst, ◌∙◌, arith, ints, nat_tests, add_moved, more_within, one_times, at_map, at_map_both, at_map_none, coefficient, IsMultiple, Form, Terms, Term, Factor, number, blank, named, plain_term, plain_factor, plain_terms, term_of, Digits, Sign, TreeTerm, TreeFactor, out-TreeTerm, FileFault, Distinct, signed, number_of, sum_coefficient, term_coefficient, factor_coefficient, sum_constant, term_constant, sum_uses, term_uses, factor_uses, FormOf, linear_sum, is_large_linear, Scope, FirstOrMemory, Answers, where_, else_, linear_term, number_faults, FormWithin, judged_term, judged_factor, is_large_form, linear_factor, number_or, PartOf, IsSignedSum, less_small, ◌&&◌}
 use Rattle.ta_syntax.specs.declared.sums.Sign.TheVariants as sign
 use Rattle.ta_syntax.specs.declared.fault.FileFault.TheVariants as fault
 use Rattle.ta_meaning.proofs.Answering.{append-left-none, append-none, append-left-first, else-none, else-left-first, where-false, not-where, answers-along, answers-knowing, answers-otherwise}
@@ -9,6 +9,7 @@ use Rattle.ta_meaning.proofs.WrittenNumbers.{number_is_small}
 use Rattle.ta_meaning.proofs.SmallForms.{within_more}
 use Rattle.ta_meaning.proofs.LinearSums.{name_numbers}
 use Rattle.ta_meaning.proofs.TreeSums.{terms_faults, large_term, term_faults_none, term_faults_some, plain_term_none, plain_term_some}
+use Rattle.std.proofs.Math.IntN.{+ℤ_idr, +ℤ_idl, *ℤ-zero}
 
 -- ---- names
 one_small : (i x : ℕ) → unsigned_abs (coefficient ((i, pos 1) ∷ []) x) ≤ 1
@@ -29,7 +30,7 @@ number_alone names t n form known is none small constant terms = record {
   known = known;
   numbers = record { constant = constant ∙ sym is; coefficients = λ i. ap (λ (ts : List (ℕ × ℤ)). coefficient ts i) terms ∙ sym (none i) };
   within = record {
-    constant = subst (λ (z : ℤ). unsigned_abs z ≤ 1000000000) (sym constant) (small_constant n small);
+    constant = subst (λ (z : ℤ). unsigned_abs z ≤ 1000000000) (sym constant) (small);
     coefficients = λ i. subst (λ (ts : List (ℕ × ℤ)). unsigned_abs (coefficient ts i) ≤ 1000000000) (sym terms) (omega (arith, ints));
   };
 }
@@ -53,7 +54,7 @@ product_numbers names (Some d) f n inner product is numbers multiple =
       constant = multiple.constant ∙ same inner.constant ∙ ap (λ (z : ℤ). pos (number_of d.text) *ℤ z) numbers.constant;
       coefficients = λ i.
           multiple.coefficients i ∙ same (coefficient inner.terms i) ∙ ap (λ (z : ℤ). pos (number_of d.text) *ℤ z) (numbers.coefficients i)
-          ∙ sym (at_map (λ z. pos (number_of d.text) *ℤ z) (times_none (number_of d.text)) (λ x. factor_coefficient x f) names i);
+          ∙ sym (at_map (λ z. pos (number_of d.text) *ℤ z) (*ℤ-zero (pos (number_of d.text))) (λ x. factor_coefficient x f) names i);
     }
 
 pub product_known : (names : List (List ℕ)) (factor : Option Digits) (f : Factor) → IsTrue (factor_uses names f) → IsTrue (term_uses names (term_of factor (Some f)))
@@ -67,7 +68,7 @@ signed_zero sign.Minus = omega (arith, ints)
 
 signed_within : (s : Sign) (p : ℕ) (z : ℤ) → unsigned_abs z ≤ p → unsigned_abs (signed s z) ≤ p
 signed_within sign.Plus p z h = h
-signed_within sign.Minus p z h = minus_within p z h
+signed_within sign.Minus p z h = less_small z p h
 
 -- what stands before the names in terms, by place
 abbrev pub sum_at : List (List ℕ) → Terms → ℕ → ℤ
@@ -87,7 +88,7 @@ signed_same s a b e = ap (λ (z : ℤ). signed s z) e
 pub sum_more : (s : Scope) (all left : List (Sign × TreeTerm)) (t : Sign × TreeTerm) (count : ℕ) (form next sum : Form) → Summing s all (t ∷ left) count form → (judged_term s t.1).faults ≡ [] → PartOf (term_uses s.allowed (plain_term t.1)) (linear_term s.allowed (plain_term t.1)) 1000000000 next → IsSignedSum sum form t.0 next → Summing s all left (count + 1) sum
 sum_more s all left t count form next sum so_far none part is = record {
   faults = so_far.faults ∙ append-left-none (judged_term s t.1).faults (terms_faults s left) none;
-  known = so_far.known ∙ and_known (term_uses s.allowed (plain_term t.1)) (sum_uses s.allowed (plain_terms left)) part.known;
+  known = so_far.known ∙ ap (λ b. b && (sum_uses s.allowed (plain_terms left))) part.known;
   constant = add_moved form.constant sum.constant (signed t.0 (term_constant (plain_term t.1))) (sum_constant (plain_terms left)) (sum_constant (plain_terms all)) so_far.constant
       (is.constant ∙ ap (λ (z : ℤ). form.constant +ℤ z) (signed_same t.0 next.constant (term_constant (plain_term t.1)) part.numbers.constant));
   coefficients = λ i.
@@ -104,8 +105,8 @@ pub sum_begins : (s : Scope) (all : List (Sign × TreeTerm)) (form : Form) → f
 sum_begins s all form constant terms = record {
   faults = refl;
   known = refl;
-  constant = ap (λ (z : ℤ). z +ℤ sum_constant (plain_terms all)) constant ∙ zero_left (sum_constant (plain_terms all));
-  coefficients = λ i. ap (λ (ts : List (ℕ × ℤ)). coefficient ts i +ℤ sum_at s.allowed (plain_terms all) i) terms ∙ zero_left (sum_at s.allowed (plain_terms all) i);
+  constant = ap (λ (z : ℤ). z +ℤ sum_constant (plain_terms all)) constant ∙ +ℤ_idl (sum_constant (plain_terms all));
+  coefficients = λ i. ap (λ (ts : List (ℕ × ℤ)). coefficient ts i +ℤ sum_at s.allowed (plain_terms all) i) terms ∙ +ℤ_idl (sum_at s.allowed (plain_terms all) i);
   within = record {
     constant = subst (λ (z : ℤ). unsigned_abs z ≤ 1000000000 * 0) (sym constant) (omega (arith, ints));
     coefficients = λ i. subst (λ (ts : List (ℕ × ℤ)). unsigned_abs (coefficient ts i) ≤ 1000000000 * 0) (sym terms) (omega (arith, ints));
@@ -118,8 +119,8 @@ sum_ends s all count form so_far few = (
   record {
     known = so_far.known;
     numbers = record {
-      constant = sym (zero_right form.constant) ∙ so_far.constant;
-      coefficients = λ i. sym (zero_right (coefficient form.terms i)) ∙ ap (λ (z : ℤ). coefficient form.terms i +ℤ z) (sym (at_map_none s.allowed i)) ∙ so_far.coefficients i;
+      constant = sym (+ℤ_idr form.constant) ∙ so_far.constant;
+      coefficients = λ i. sym (+ℤ_idr (coefficient form.terms i)) ∙ ap (λ (z : ℤ). coefficient form.terms i +ℤ z) (sym (at_map_none s.allowed i)) ∙ so_far.coefficients i;
     };
     within = within_more (1000000000 * count) (2 ^ 93) form (omega (arith, few)) so_far.within;
   },

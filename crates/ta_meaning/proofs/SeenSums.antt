@@ -1,5 +1,5 @@
 -- What is read off a sum as plain data is what the program's sum says.
-use Rattle.ta_meaning.proofs.Common.{◌≡◌, ℕ, List, [], ◌∷◌, ◌++◌, Option, Some, None, map, refl, sym, ap, subst, ◌∙◌, Terms, Term, Factor, done, term, times, alone, nested, plain_sum, plain_term, plain_factor, plain_terms, factor_layer, sum_layer, term_layer, Offsets, at_first, leading, unplaced_sign, more_of, signed_sum, factor_stated, term_layer_stated, sum_layer_stated, sum_stated, sum_term_stated, sum_factor_stated, Sign, Digits, TreeSum, TreeTerm, TreeFactor, TreeFactor-F, TreeSum-F, TreeTerm-F, Named, Nested, roll-TreeFactor, roll-TreeSum, roll-TreeTerm, fold-TreeTerm, fold-TreeFactor, fold-roll-TreeSum, fold-roll-TreeTerm, fold-roll-TreeFactor, map-TreeFactor, map-TreeTerm, ind-TreeSum, SeenTerms, SeenTerm, SeenFactor, seen_none, seen_more, seen_number, seen_times, seen_alone, seen_blank, seen_named, seen_nested, seen_list, factor_seen, sum_seen, term_seen, seen_sum, plain_of_terms, plain_of_term, plain_of_factor, Scope, WithFaults, judged_terms, factor_judged, sum_judged, term_judged, judged_sum}
+use Rattle.ta_meaning.proofs.Common.{◌≡◌, ℕ, List, [], ◌∷◌, ◌++◌, Option, Some, None, map, refl, sym, ap, subst, ◌∙◌, Terms, Term, Factor, done, term, times, alone, nested, plain_sum, plain_term, plain_factor, plain_terms, factor_layer, sum_layer, term_layer, Offsets, at_first, leading, unplaced_sign, more_of, signed_sum, factor_stated, term_layer_stated, sum_layer_stated, sum_stated, sum_term_stated, sum_factor_stated, Sign, Digits, TreeSum, TreeTerm, TreeFactor, TreeFactor-F, TreeSum-F, TreeTerm-F, Named, Nested, roll-TreeFactor, roll-TreeSum, roll-TreeTerm, fold-TreeTerm, fold-TreeFactor, fold-roll-TreeSum, fold-roll-TreeTerm, fold-roll-TreeFactor, map-TreeFactor, map-TreeTerm, ind-TreeSum, SeenTerms, SeenTerm, SeenFactor, seen_none, seen_more, seen_number, seen_times, seen_alone, seen_blank, seen_named, seen_nested, seen_list, factor_seen, sum_seen, term_seen, seen_sum, plain_of_terms, plain_of_term, plain_of_factor, Scope, WithFaults, judged_terms, factor_judged, sum_judged, term_judged, judged_term, judged_factor, judged_sum}
 use Rattle.ta_syntax.proofs.SumSteps.{pairs, stated_sum_roll, plain_sum_roll}
 
 abbrev pub seen_term : TreeTerm → SeenTerm
@@ -46,12 +46,6 @@ abbrev mutual
   pub judged_of_factor : Scope → SeenFactor → WithFaults Factor
   judged_of_factor sc (seen_named n) = factor_judged sc (Named n)
   judged_of_factor sc (seen_nested ts) = factor_judged sc (Nested (judged_of_terms sc ts))
-
-abbrev judged_term : Scope → TreeTerm → WithFaults Term
-judged_term s = fold-TreeTerm (WithFaults Factor) (WithFaults Terms) (WithFaults Term) (factor_judged s) (sum_judged s) (term_judged s)
-
-abbrev judged_factor : Scope → TreeFactor → WithFaults Factor
-judged_factor s = fold-TreeFactor (WithFaults Factor) (WithFaults Terms) (WithFaults Term) (factor_judged s) (sum_judged s) (term_judged s)
 
 -- ---- and it is all read off
 pub record SeenSum (s : TreeSum) : Type 0 where

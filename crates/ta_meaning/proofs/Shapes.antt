@@ -1,5 +1,5 @@
 -- What an automaton's type keeps, of the parts that a tree resolves to
-use Rattle.ta_meaning.proofs.Common.{ℕ, ◌+◌, ◌≤◌, ◌<◌, ◌≡◌, true, false, ◌||◌, if◌then◌else◌, List, [], ◌∷◌, length, map, arith, length-map, rises-from, PlainLocation, plain_location, TreeLocation, Rises, initial_from, plain_sum, plain_comparison, plain_rule, Tree, Form, Row, Condition, Rule, AutomatonShape, names_of, location_name, ResolvedForm, ResolvedCondition, ResolvedRules, any_initial, names_faults}
+use Rattle.ta_meaning.proofs.Common.{ℕ, ◌+◌, ◌≤◌, ◌<◌, ◌≡◌, true, false, ◌||◌, if◌then◌else◌, List, [], ◌∷◌, length, map, arith, length-map, PlainLocation, plain_location, TreeLocation, Rises, initial_from, plain_sum, plain_comparison, plain_rule, Tree, Form, Row, Condition, Rule, AutomatonShape, names_of, location_name, ResolvedForm, ResolvedCondition, ResolvedRules, any_initial, names_faults, rises-wider}
 use Rattle.ta_meaning.proofs.MadeForms.{paired_length}
 use Rattle.ta_meaning.proofs.Declared.{name-legal, names-legal, names-distinct, some_initial}
 
@@ -9,7 +9,7 @@ initial-rises k high [] h = tt
 initial-rises k high (l ∷ ls) h =
     let below : k < high = omega arith in
     let later : Rises (k + 1) high (initial_from (k + 1) ls) = initial-rises (k + 1) high ls (omega arith) in
-    elim l.initial as (λ b. Rises k high (if b then k ∷ initial_from (k + 1) ls else initial_from (k + 1) ls)) [ true ↦ (omega arith, below, later) | false ↦ rises-from k high (initial_from (k + 1) ls) later ]
+    elim l.initial as (λ b. Rises k high (if b then k ∷ initial_from (k + 1) ls else initial_from (k + 1) ls)) [ true ↦ (omega arith, below, later) | false ↦ rises-wider (k + 1) high k high (initial_from (k + 1) ls) (omega arith) (omega arith) later ]
 
 -- where a location is marked, some number is listed
 pub some-initial : (k : ℕ) (ls : List TreeLocation) → any_initial ls ≡ true → 1 ≤ length (initial_from k (map plain_location ls))

@@ -1,8 +1,7 @@
 -- The faults of a sum and of a comparison rise within its tokens.
-use Rattle.ta_meaning.proofs.Common.{ℕ, List, [], ◌∷◌, ◌++◌, refl, sym, subst, Terms, Term, IsSum, AreTerms, IsTerm, IsFactor, plain_sum, plain_comparison, Offsets, at_first, sum_stated, comparison_stated, Digits, Spelled, TreeSum, TreeComparison, FileFault, number_of, has_name, linear_sum, comparison_rows, is_large_linear, any_large, Scope, WithFaults, where_, else_, is_long, declared_faults, used_faults, digits_faults, sum_faults, linear_term, comparison_faults, condition_faults, SeenTerms, SeenTerm, SeenFactor, seen_none, seen_more, seen_number, seen_times, seen_alone, seen_blank, seen_named, seen_nested, plain_of_terms, plain_of_term, plain_of_factor, seen_sum}
+use Rattle.ta_meaning.proofs.Common.{ℕ, List, [], ◌∷◌, ◌++◌, refl, sym, subst, Terms, Term, IsSum, AreTerms, IsTerm, IsFactor, plain_sum, plain_comparison, Offsets, at_first, sum_stated, comparison_stated, Digits, Spelled, TreeSum, TreeComparison, FileFault, number_of, has_name, linear_sum, comparison_rows, is_large_linear, any_large, Scope, WithFaults, where_, else_, is_long, declared_faults, used_faults, digits_faults, sum_faults, linear_term, comparison_faults, condition_faults, SeenTerms, SeenTerm, SeenFactor, seen_none, seen_more, seen_number, seen_times, seen_alone, seen_blank, seen_named, seen_nested, plain_of_terms, plain_of_term, plain_of_factor, seen_sum, Bool, not, ltb}
 use Rattle.ta_syntax.specs.declared.sums.Sign.TheVariants as sign
 use Rattle.ta_syntax.specs.declared.fault.FileFault.TheVariants as fault
-use Rattle.std.specs.Prelude.{Bool, not, ltb}
 use Rattle.ta_meaning.proofs.StartedParts.{factor-starts, sum-starts, Starts, starts-append}
 use Rattle.ta_meaning.proofs.SeenSums.{offsets_of_sum, offsets_of_more, offsets_of_term, offsets_of_factor, judged_of_terms, judged_of_term, judged_of_factor, SeenSum, every_sum_seen}
 use Rattle.ta_meaning.proofs.InOrder.{InOrder, IsInside, inside-name, inside-at_first, no_faults, one, either, together, after_token, before_tokens, with_first, Items}

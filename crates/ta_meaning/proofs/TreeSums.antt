@@ -23,9 +23,7 @@ module _ (s : Scope) {A B C : Type 0} (a : A → TreeFactor) (b : B → TreeSum)
 
   sum_items : (ts : List (Sign × C)) → (judged_terms (map (λ (x : Sign × TreeTerm). (x.0, judged_term s x.1)) (map (λ (x : Sign × C). (x.0, c x.1)) ts))).plain ≡ terms_of (map (λ (x : Sign × TreeTerm). (x.0, plain_term x.1)) (map (λ (x : Sign × C). (x.0, c x.1)) ts))
   sum_items [] = refl
-  sum_items (t ∷ ts) =
-      ap (λ (p : Term). term t.0 p (judged_terms (map (λ (x : Sign × TreeTerm). (x.0, judged_term s x.1)) (map (λ (x : Sign × C). (x.0, c x.1)) ts))).plain) (same_c t.1)
-      ∙ ap (λ (p : Terms). term t.0 (plain_term (c t.1)) p) (sum_items ts)
+  sum_items (t ∷ ts) = λ i. term t.0 (same_c t.1 i) (sum_items ts i)
 
   sum_step : (y : TreeSum-F A B C) → SameSum s (roll-TreeSum (map-TreeSum A B C TreeFactor TreeSum TreeTerm a b c y))
   sum_step y =

@@ -1,6 +1,5 @@
 -- the updates of a rule, read one after another
-use Rattle.ta_meaning.proofs.Common.{◌≡◌, inl, inr, ℕ, ℤ, pos, ◌+◌, ◌<◌, ◌≤◌, List, [], ◌∷◌, ◌++◌, map, length, get_or, eqb, cond, ltb, slice_get, Some, Contains, arith, sym, ap, ◌∙◌, refl, subst, ints, append-nil, map_push, length-map, Contains-append_left, Contains-append_right, slice_get_within, get_or_from_slice_get, ltb-false, eqb_tells, AllByRecursion, distinct_push, each_at, each_push, each_weaker, contains_at, PlainUpdate, plain_update, TreeUpdate, FileFault, Distinct, Update, variable_of, Names, number_of, FirstOrMemory, digits_faults, updates_faults, MeansUpdates, names_at, variable_faults, IsNewVariable, UpdatesRead}
-use Rattle.std.proofs.lemmas.List.{append_assoc, length-append}
+use Rattle.ta_meaning.proofs.Common.{◌≡◌, inl, inr, ℕ, ℤ, pos, ◌+◌, ◌<◌, ◌≤◌, List, [], ◌∷◌, ◌++◌, map, length, get_or, eqb, cond, ltb, slice_get, Some, Contains, arith, sym, ap, ◌∙◌, refl, subst, ints, append-nil, map_push, length-map, Contains-append_left, Contains-append_right, slice_get_within, get_or_from_slice_get, ltb-false, eqb_tells, AllByRecursion, distinct_push, each_at, each_push, each_weaker, contains_at, PlainUpdate, plain_update, TreeUpdate, FileFault, Distinct, Update, variable_of, Names, number_of, FirstOrMemory, digits_faults, updates_faults, MeansUpdates, names_at, variable_faults, IsNewVariable, UpdatesRead, append_assoc, length-append}
 use Rattle.ta_syntax.specs.declared.fault.FileFault.TheVariants as fault
 use Rattle.ta_meaning.proofs.Answering.{append-left-none, append-left-first, append-right-first, not-where}
 

@@ -1,5 +1,6 @@
 -- what `rest` puts `rest-check` accepts
-use Rattle.ta_program.proofs.Common.{◌≡◌, ◌∙◌, ◌≤◌, ◌+◌, ℕ, zero, suc, List, [], ◌∷◌, length, map, Option, None, Some, slice_get, refl, sym, ap, subst, inl, Automaton, File, Pattern, AllRestSafe, RestCertificate, claiming, rest_check_text, Verdict, Safe, Unsafe, Spent, Overflow, Endings, IsEnding, RestSafe, RestVerdictHolds, RestVerdictsHold, Told, WhereTold, is_more, sub_told, IsSo, Performs, State, HoldsText, in_files, seen, FileMeans, Answer, SafeOne, safe_numbers, safe_ones, tree_size, with_safe, CERTIFICATE, IsFile, certificate_kind, file_kind, SaysOrFails, WrittenAtRestIsAccepted, rest_check_meaning, FileEndings, IsEnds}
+use Rattle.ta_program.proofs.Common.{◌≡◌, ◌∙◌, ◌≤◌, ◌+◌, ℕ, List, [], ◌∷◌, length, map, Option, None, Some, slice_get, refl, sym, ap, subst, inl, Automaton, File, Pattern, AllRestSafe, RestCertificate, claiming, rest_check_text, Verdict, Safe, Unsafe, Spent, Overflow, Endings, IsEnding, RestSafe, EachHolds, EndingVerdictHolds, RestVerdictHolds, some_at, slice_get_within, arith, Told, WhereTold, is_more, sub_told, IsSo, Performs, State, HoldsText, in_files, seen, FileMeans, Answer, SafeOne, safe_numbers, safe_ones, tree_size, with_safe, CERTIFICATE, IsFile, certificate_kind, file_kind, SaysOrFails, WrittenAtRestIsAccepted, rest_check_meaning, FileEndings, IsEnds, held, endings_count}
+use Rattle.ta_rest_verdict.proofs.VerdictsTold.{ending_of_own}
 use Rattle.ta_claim.specs.declared.claim.Claim.TheVariants as claim
 use Rattle.ta_rest.proofs.EndingLaws.{endings_rest}
 use Rattle.ta_program.proofs.Accepted.{told_before}
@@ -17,16 +18,11 @@ module _ (file ending : File) (added budget : ℕ) (same : ending.automaton ≡ 
   size_safe number own p (Spent nodes) size is sized h = absurd (cc)
   size_safe number own p (Overflow node kind) size is sized h = absurd (cc)
 
-  safe_at : (number : ℕ) (owns ps : List Pattern) (vs : List Verdict) → Endings owns ps → RestVerdictsHold file ending added budget number owns ps vs → (k : ℕ) (p : Pattern) (v : Verdict) (size : ℕ) → slice_get ps k ≡ Some p → slice_get vs k ≡ Some v → tree_size v ≡ Some size → RestSafe ending.automaton p
-  safe_at number [] [] vs are hold k p v size named given sized = absurd (cc)
-  safe_at number [] (q ∷ ps) vs are hold k p v size named given sized = absurd are
-  safe_at number (own ∷ owns) [] vs are hold k p v size named given sized = absurd are
-  safe_at number (own ∷ owns) (q ∷ ps) [] are hold k p v size named given sized = absurd hold
-  safe_at number (own ∷ owns) (q ∷ ps) (w ∷ vs) are hold zero p v size named given sized =
-      let here : q ≡ p = cc in
-      let said : w ≡ v = cc in
-      subst (RestSafe ending.automaton) here (size_safe number own q w size are.0 (ap tree_size said ∙ sized) hold.0)
-  safe_at number (own ∷ owns) (q ∷ ps) (w ∷ vs) are hold (suc k) p v size named given sized = safe_at (number + 1) owns ps vs are.1 hold.1 k p v size named given sized
+  safe_at : (vs : List Verdict) → Endings file.patterns ending.patterns → EachHolds (EndingVerdictHolds file ending added budget) 0 ending.patterns vs → (k : ℕ) (p : Pattern) (v : Verdict) (size : ℕ) → slice_get ending.patterns k ≡ Some p → slice_get vs k ≡ Some v → tree_size v ≡ Some size → RestSafe ending.automaton p
+  safe_at vs are hold k p v size named given sized =
+      let own = some_at file.patterns k (omega (arith, slice_get_within ending.patterns k p named, endings_count file.patterns ending.patterns are)) in
+      let is = ending_of_own file.patterns ending.patterns are k own.0 p own.1 named in
+      size_safe k own.0 p v size is sized (held (EndingVerdictHolds file ending added budget) ending.patterns vs hold k p v named given own.0 own.1)
 
 -- they have the numbers of the patterns themselves
 alike_one : (number : ℕ) (p q : Pattern) (size : Option ℕ) (xs ys : List SafeOne) → map (λ one. one.number) xs ≡ map (λ one. one.number) ys → map (λ one. one.number) (with_safe number q size xs) ≡ map (λ one. one.number) (with_safe number p size ys)
@@ -72,7 +68,7 @@ written_at_rest_is_accepted words first before after h asked out is given low to
     let read = written.added in
     let is_first : IsFile (in_files files.0) name r.file = is_more file_kind (seen (Some files.0) read) (in_files files.0) (sub_told files.0 read) name r.file (subst (λ (o : Option Told). IsFile (seen o read) name r.file) files.1 r.is_file) in
     let is_now = is_kept file_kind files.0 told name r.file (files.2.others name (rest_out_differs words asked out is given)) is_first in
-    let safe = ones_hold (claiming claim.RestSafe ending) 0 ending.patterns r.verdicts (safe_at r.file ending r.ends.added asked.nodes endings.automaton 0 r.file.patterns ending.patterns r.verdicts endings.patterns r.are.hold) (own_numbers ending.patterns) in
+    let safe = ones_hold (claiming claim.RestSafe ending) 0 ending.patterns r.verdicts (safe_at r.file ending r.ends.added asked.nodes endings.automaton r.verdicts endings.patterns r.are.hold) (own_numbers ending.patterns) in
     let accepted = rest_checks name out told r.file r.ends (safe_numbers ending r.verdicts) c.text is_now r.are_ends files.2.held c.within c.accepted safe second begun ended begun_told (as_rest_check again second begun ended done (record { file = name; other = out }) checked) in
     record {
       file = r.file;

@@ -1,5 +1,5 @@
 -- what `search` puts `check` accepts
-use Rattle.ta_program.proofs.Common.{◌≡◌, ◌≤◌, ℕ, List, [], ◌∷◌, ◌++◌, length, Bool, Option, Some, refl, sym, subst, inl, inr, arith, IsSome, numbers_from, claiming, SearchEnd, Tried, Template, filled_text, AreTried, IsSearchEnd, LastIsFound, vectors, Told, WhereTold, is_more, sub_told, in_files, seen, FILE, IsFile, FoundIsAccepted, HoldFound, IsTemplate, template_kind}
+use Rattle.ta_program.proofs.Common.{◌≡◌, ◌≤◌, ℕ, List, [], ◌∷◌, ◌++◌, length, Bool, Option, Some, refl, sym, subst, inl, inr, arith, IsSome, range_with_len, claiming, SearchEnd, Tried, Template, filled_text, AreTried, IsSearchEnd, LastIsFound, vectors, Told, WhereTold, is_more, sub_told, in_files, seen, FILE, IsFile, FoundIsAccepted, HoldFound, IsTemplate, template_kind}
 use Rattle.ta_claim.specs.declared.claim.Claim.TheVariants as claim
 use Rattle.ta_search.specs.declared.outcome.Outcome.{Outcome}
 use Rattle.ta_search.specs.Outcomes.{OutcomeHolds}
@@ -55,5 +55,5 @@ found_is_accepted words before after h asked out filled is out_is filled_is told
       last = last;
       held = held;
       is_file = is_file;
-      accepted = checks filled out told file (numbers_from 0 (length file.patterns)) last.certificate is_file (holds.second out out_is) short last.found.accepted safe second begun ended begun_told (as_check again second begun ended done (record { file = filled; other = out }) checked);
+      accepted = checks filled out told file (range_with_len 0 (length file.patterns)) last.certificate is_file (holds.second out out_is) short last.found.accepted safe second begun ended begun_told (as_check again second begun ended done (record { file = filled; other = out }) checked);
     }

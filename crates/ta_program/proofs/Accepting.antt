@@ -1,11 +1,10 @@
 -- what a judge makes of a certificate that was put
-use Rattle.ta_program.proofs.Common.{◌≡◌, ◌∙◌, ◌+◌, ℕ, suc, List, [], ◌∷◌, length, map, Option, None, Some, slice_get, refl, sym, ap, subst, inl, inr, arith, AllByRecursion, Pattern, numbers_from, proofs_of, AllClaimsHold, CertificateFor, proof_number, Subject, Verdict, Told, with_text, answered, Decides, IsSo, Meaning, Performs, State, in_files, seen, FileMeans, Kind, Answer, SafeOne, safe_ones, tree_size, with_safe, SaysOrFails}
+use Rattle.ta_program.proofs.Common.{◌≡◌, ◌∙◌, ◌+◌, ℕ, suc, List, [], ◌∷◌, length, map, Option, None, Some, slice_get, refl, sym, ap, subst, inl, inr, arith, AllByRecursion, Pattern, range_with_len, proofs_of, AllClaimsHold, CertificateFor, proof_number, Subject, Verdict, Told, with_text, answered, Decides, IsSo, Meaning, Performs, State, in_files, seen, FileMeans, Kind, Answer, SafeOne, safe_ones, tree_size, with_safe, SaysOrFails}
 use Rattle.ta_check.proofs.Accepting.{have_orders}
 use Rattle.ta_cert.proofs.CertLines.{one_certificate}
 use Rattle.ta_cert.specs.Tree.{Tree}
 use Rattle.ta_cert.specs.declared.line.Proof.{Proof}
 use Rattle.ta_claim.specs.Claims.{claimed}
-use Rattle.ta_claim.specs.declared.claim.Claim.TheVariants as claim
 
 -- a name means in told files what it meant in others in which its bytes are the same
 pub is_kept : {A F : Type 0} (kind : Kind A F) (told later : Told) (name : List ℕ) (value : A) → later name ≡ told name → FileMeans kind (in_files told) name value → FileMeans kind (in_files later) name value
@@ -31,7 +30,7 @@ module _ (subject : Subject) where
       (ones_hold (number + 1) ps vs (λ k q w nodes named given is. safe (suc k) q w nodes named given is) (λ k q named. let there : number + suc k ≡ (number + 1) + k = omega arith in subst (λ (n : ℕ). slice_get subject.file.patterns n ≡ Some q) there (at (suc k) q named)))
 
   -- it holds of all, if it holds of each
-  pub each_holds : (number : ℕ) (ps : List Pattern) → AllByRecursion (claimed subject.claim subject.file.automaton) ps → ((k : ℕ) (p : Pattern) → slice_get ps k ≡ Some p → slice_get subject.file.patterns (number + k) ≡ Some p) → AllClaimsHold subject (numbers_from number (length ps))
+  pub each_holds : (number : ℕ) (ps : List Pattern) → AllByRecursion (claimed subject.claim subject.file.automaton) ps → ((k : ℕ) (p : Pattern) → slice_get ps k ≡ Some p → slice_get subject.file.patterns (number + k) ≡ Some p) → AllClaimsHold subject (range_with_len number (length ps))
   each_holds number [] each at = tt
   each_holds number (p ∷ ps) each at =
       let here : number + 0 ≡ number = omega arith in (

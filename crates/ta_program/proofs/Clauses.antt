@@ -1,5 +1,5 @@
 -- from how a run ends to its clauses
-use Rattle.ta_program.proofs.Common.{◌≡◌, ◌≢◌, ◌≤◌, ◌+◌, ℕ, zero, Bool, true, false, List, [], ◌∷◌, Option, None, Some, slice_get, refl, sym, ap, subst, ◌∙◌, inl, arith, rules, codes, if◌then◌else◌, list_any, AllByRecursion, bytes_eq, or_parts, File, Pattern, PatternSafe, one_legal, printed_proved, printed_rest_proved, printed_rest_safe, told_safe, check_text, rest_check_text, report_of, Verdict, Safe, Unsafe, Spent, Overflow, filled_text, Grew, OthersStay, Told, WhereTold, with_text, answered, hindered, kept_refused, never_five, whole_one, Decides, Meaning, IsAnswered, Performs, Quiet, ShelfState, SinkState, State, HoldsPut, HoldsText, KeptBut, Stand, put_bytes, View, in_files, seen, run_text, unit_steps, Answer, Put, plain_tree, Asked, LegalFile, Runs, ask, ask_where, Command, NoCommand, BenchHolds, bench_meaning, bench_of, bench_status, bench_words, CheckHolds, check_meaning, check_of, IsFile, file_kind, EachPrintedUnsafe, EachToldSafe, rest_telling, verify_telling, AdmitAsked, AdmitHolds, admit_meaning, admit_of, admit_words, ExportHolds, export_meaning, export_of, export_words, Admitting, Benches, CertificateWritten, CheckProves, ExactlySo, Exports, KeepsFiles, PassesLegal, PrintedHolds, ReplayShows, RestProves, RestsReport, RunShortens, Searches, VerifyReports, put_by, CompressHolds, compress_meaning, compress_of, ReplayHolds, replay_meaning, replay_of, request_of, ClaimHolds, claiming, rest_text, RestOccurs, RestSafe, RestCertificateStands, RestReportHolds, rest_meaning, RestCheckHolds, rest_check_meaning, LegalAtRest, rest_check_of, rest_of, rest_words, CertificateStands, ReportHolds, verify_meaning, VerdictHolds, VerdictsHold, is_unsafe, is_unknown, LegalTemplate, SearchHolds, end_number, leaves_unknown, search_meaning, SearchWords, search_of, search_words, TwoNames, two_names, VerifyWords, verify_of, verify_words, WordAsked, behind_name}
+use Rattle.ta_program.proofs.Common.{◌≡◌, ◌≢◌, ◌≤◌, ◌+◌, ℕ, zero, Bool, true, false, List, [], ◌∷◌, Option, None, Some, refl, sym, ap, subst, ◌∙◌, inl, arith, rules, codes, if◌then◌else◌, list_any, AllByRecursion, bytes_eq, or_parts, File, Pattern, PatternSafe, one_legal, printed_proved, printed_rest_proved, printed_rest_safe, told_safe, check_text, rest_check_text, report_of, Verdict, Safe, Unsafe, Spent, Overflow, filled_text, Grew, OthersStay, Told, WhereTold, with_text, answered, hindered, kept_refused, never_five, whole_one, Decides, Meaning, IsAnswered, Performs, Quiet, ShelfState, SinkState, State, HoldsPut, HoldsText, KeptBut, Stand, put_bytes, View, in_files, seen, run_text, unit_steps, Answer, Put, plain_tree, Asked, LegalFile, Runs, ask, ask_where, Command, NoCommand, BenchHolds, bench_meaning, bench_of, bench_status, bench_words, CheckHolds, check_meaning, check_of, IsFile, file_kind, EachPrintedUnsafe, EachToldSafe, rest_telling, verify_telling, AdmitAsked, AdmitHolds, admit_meaning, admit_of, admit_words, ExportHolds, export_meaning, export_of, export_words, Admitting, Benches, CertificateWritten, CheckProves, ExactlySo, Exports, KeepsFiles, PassesLegal, PrintedHolds, ReplayShows, RestProves, RestsReport, RunShortens, Searches, VerifyReports, put_by, CompressHolds, compress_meaning, compress_of, ReplayHolds, replay_meaning, replay_of, request_of, ClaimHolds, claiming, rest_text, RestOccurs, RestSafe, RestCertificateStands, RestReportHolds, rest_meaning, RestCheckHolds, rest_check_meaning, LegalAtRest, rest_check_of, rest_of, rest_words, CertificateStands, ReportHolds, verify_meaning, VerdictHolds, VerdictsHold, is_unsafe, is_unknown, LegalTemplate, SearchHolds, end_number, leaves_unknown, search_meaning, SearchWords, search_of, search_words, TwoNames, two_names, VerifyWords, verify_of, verify_words, WordAsked, behind_name, map, pair_of, held, held_by}
 use Rattle.ta_automaton.specs.Runs as runs
 use Rattle.ta_program.specs.Headline.{EachPatternSafe, EachPrinted, HoldsFile, SomePatternOccurs, StatusTells}
 use Rattle.ta_check.proofs.OwnPatterns.{all_own}
@@ -7,7 +7,7 @@ use Rattle.ta_claim.specs.declared.claim.Claim.TheVariants as claim
 use Rattle.ta_program.proofs.AtRest.{rest_safe_at, rest_unsafe_printed}
 use Rattle.ta_program.proofs.FoundStands.{found_stands}
 use Rattle.ta_program.proofs.WordsDiffer.{Apart, names_apart}
-use Rattle.ta_program.proofs.UnsafePrinted.{hold_at, run_within, some_occurs, unsafe_printed}
+use Rattle.ta_program.proofs.UnsafePrinted.{run_within, unsafe_occurs, unsafe_printed, unsafe_there}
 use Rattle.ta_program.proofs.WordMeanings.{admit_decides}
 use Rattle.ta_base.proofs.Members.{listed}
 
@@ -328,7 +328,7 @@ module _ (words : List (List ℕ)) (number : ℕ) (before after : State) (h : Ru
     gained = r.wrote;
     safe = λ k p named line.
         let said = told_safe r.file r.sample r.verdicts k p named r.is_sample.fits r.are.fit json line in
-        (hold_at r.file budget 0 r.file.patterns r.verdicts k p (Safe said.0 said.1) r.are.hold named said.2).holds.safe;
+        (held (VerdictHolds r.file budget) r.file.patterns r.verdicts r.are.hold k p (Safe said.0 said.1) named said.2).holds.safe;
   }
 
   printed_check : (name certificate : List ℕ) (view : View) → CheckHolds view name certificate before.out.written after.out.written → EachPrinted runs.Safe (codes "proved") view name before.out.written after.out.written
@@ -399,17 +399,17 @@ module _ (words : List (List ℕ)) (number : ℕ) (before after : State) (h : Ru
   -- some pattern of a file whose report has the number 1 occurs in a run
   some_occurring : (name : List ℕ) (budget : ℕ) (json : Bool) (view : View) → number ≡ 1 → ReportHolds number view name budget json before.out.written after.out.written → SomePatternOccurs view name
   some_occurring name budget json view one r =
-      let some = some_occurs r.file budget 0 r.file.patterns r.verdicts (kind_of_one (list_any is_unsafe r.verdicts) (list_any is_unknown r.verdicts) (r.numbered ∙ one)) r.are.hold in
-      let here : 0 + some.place ≡ some.place = omega arith in
-      let occurrence = some.occurs (ap (slice_get r.file.patterns) here ∙ some.at) in
+      let some = unsafe_there r.verdicts (kind_of_one (list_any is_unsafe r.verdicts) (list_any is_unknown r.verdicts) (r.numbered ∙ one)) in
+      let by = held_by (VerdictHolds r.file budget) r.file.patterns r.verdicts r.are.hold some.0 (Unsafe some.1 some.2) some.3 in
+      let occurrence = unsafe_occurs r.file (map pair_of by.2.orders) some.0 by.0 budget some.1 some.2 by.1 by.2.holds in
       record {
         file = r.file;
         holds = holds_file view name r.file r.is_file;
-        number = some.place;
-        pattern = some.pattern;
-        among = some.at;
+        number = some.0;
+        pattern = by.0;
+        among = by.1;
         first = occurrence.first;
-        rules = unit_steps some.run.lines;
+        rules = unit_steps some.2.lines;
         occurs = occurrence.occurs;
       }
 

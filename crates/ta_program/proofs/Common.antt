@@ -1,20 +1,20 @@
 -- The names that the proofs of this crate cite, passed on from one place. Declares nothing.
 pub use Rattle.std.proofs.Common.{Bool, Err, List, None, Ok, Option, Result, Some, [], ap, append_assoc, arith, cond, drop, false, get_or, inl, inr, length, length-append, ltb-false, ltb-true, map, min, nat_le, nat_lt, not, option_map, refl, rules, slice_get, subst, suc, sym, take, take_all, tests, true, zero, ℕ, ◌&&◌, ◌++◌, ◌+◌, ◌-◌, ◌<◌, ◌^◌, ◌∙◌, ◌∷◌, ◌≡◌, ◌≢◌, ◌≤◌, ◌⊎◌}
 pub use Rattle.std.proofs.Math.Seq.{take-append-add}
-pub use Rattle.std.proofs.lemmas.Bool.{cases_order, eqb-true, false_from_ne_true, false≢true, or_parts}
+pub use Rattle.std.proofs.lemmas.Bool.{and_parts, cases_order, eqb-true, false_from_ne_true, false≢true, or_parts}
 pub use Rattle.std.proofs.lemmas.Iterator.{YieldsList-from_slice}
 pub use Rattle.std.proofs.lemmas.Iterator.Search.{any_from_yields_List}
 pub use Rattle.std.proofs.lemmas.List.{append-nil, length-drop, length-take-le, take-append-drop, take-append-le, take_more}
-pub use Rattle.std.proofs.lemmas.Option.{get_or_from_slice_get, option_and_then_some, same_Some}
-pub use Rattle.std.specs.List.{AllByRecursion, list_all, list_any}
+pub use Rattle.std.proofs.lemmas.Option.{get_or_from_slice_get, option_and_then_some, slice_get_within}
+pub use Rattle.std.specs.List.{AllByRecursion, list_all, list_any, range_with_len}
 pub use Rattle.std.specs.Prelude.{Contains, IfOk, IsSome, codes, if◌then◌else◌, is_some, option_and_then, ◌==◌}
 pub use Rattle.std.specs.Str.{bytes_eq}
 pub use Rattle.ta_automaton.specs.declared.automaton.Automaton.{Automaton}
 pub use Rattle.ta_automaton.specs.declared.file.File.{File}
 pub use Rattle.ta_automaton.specs.declared.pattern.Pattern.{Pattern}
-pub use Rattle.ta_base.proofs.Each.{each_append, each_at, each_last}
-pub use Rattle.ta_base.proofs.Lists.{none_not_some, one_content, piece_size, same_parts}
-pub use Rattle.ta_base.specs.Masks.{has_bit, numbers_from}
+pub use Rattle.ta_base.proofs.Each.{each_append, each_at, each_back}
+pub use Rattle.ta_base.proofs.Lists.{none_not_some, one_content, piece_size, same_parts, some_at}
+pub use Rattle.ta_base.specs.Masks.{has_bit}
 pub use Rattle.ta_cert.specs.Certificates.{pair_of, proofs_of}
 pub use Rattle.ta_cert.specs.declared.fault.CertFault.{CertFault}
 pub use Rattle.ta_check.proofs.Lasting.{lasting_faults_last, no_longer_certificate}
@@ -74,10 +74,11 @@ pub use Rattle.ta_report.specs.Telling.{TellsRestUnsafe, TellsUnsafe, report_of}
 pub use Rattle.ta_report.specs.declared.verdict.ReportSample.{ReportSample}
 pub use Rattle.ta_report.specs.declared.verdict.Verdict.{Verdict}
 pub use Rattle.ta_report.specs.declared.verdict.Verdict.TheVariants.{Overflow, Safe, Spent, Unsafe}
+pub use Rattle.ta_rest.proofs.EndingShapes.{endings_count}
 pub use Rattle.ta_rest.specs.Endings.{Endings, IsEnding, LastMoved, RestAdded, events_below}
 pub use Rattle.ta_rest.specs.Rest.{RestOccurs, RestSafe}
 pub use Rattle.ta_rest_verdict.specs.Certificates.{RestCertificateOf}
-pub use Rattle.ta_rest_verdict.specs.Verdicts.{AreRestVerdicts, RestUnsafeHolds, RestVerdictHolds, RestVerdictsHold}
+pub use Rattle.ta_rest_verdict.specs.Verdicts.{AreRestVerdicts, EndingVerdictHolds, RestVerdictHolds, rest_question}
 pub use Rattle.ta_scope.specs.LongerCycles.{FirstLongerCycle, LoopsAlone}
 pub use Rattle.ta_scope.specs.declared.scoped.ScopedFile.{ScopedFile}
 pub use Rattle.ta_search.proofs.OneFault.{no_fault, one_fault, one_template}
@@ -109,8 +110,10 @@ pub use Rattle.ta_shell.specs.declared.answer.Refusal.{Refusal}
 pub use Rattle.ta_shell.specs.declared.answer.Refusal.TheVariants.{Memory, PutFailed, ReadFailed, Refused}
 pub use Rattle.ta_smt.proofs.FaultsOnce.{admit_faults_once, whole_faults_once, word_faults_once}
 pub use Rattle.ta_smt.proofs.WordsNamed.{legal_exists, legal_of, legal_word, whole_exact, words_exact}
+pub use Rattle.ta_smt.specs.Admit.{AskedWord}
 pub use Rattle.ta_smt.specs.Named.{IsWholeWordOf, IsWordOf, Spelling, WholeFaultOf, WordFaultOf}
 pub use Rattle.ta_smt.specs.declared.fault.WordFault.{WordFault}
 pub use Rattle.ta_syntax.specs.PlainTrees.{plain_tree}
+pub use Rattle.ta_verdict.proofs.VerdictsMade.{as_many, held, held_by}
 pub use Rattle.ta_verdict.specs.Certificates.{CertificateOf, SafeOne, safe_numbers, safe_ones, tree_size, with_safe}
-pub use Rattle.ta_verdict.specs.Verdicts.{AreVerdicts, IsKnown, IsSample, NoSample, SampleReal, UnsafeHolds, VerdictHolds, VerdictsHold, is_unknown, is_unsafe, place_of}
+pub use Rattle.ta_verdict.specs.Verdicts.{AreVerdicts, EachHolds, IsKnown, IsSample, NoSample, SampleReal, UnsafeHolds, VerdictHolds, VerdictsHold, is_unknown, is_unsafe, place_of, safety_question}

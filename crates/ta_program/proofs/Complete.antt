@@ -1,10 +1,8 @@
 -- what a report of verdicts ends with where told files hold a legal FILE
-use Rattle.ta_program.proofs.Common.{◌≡◌, ◌≢◌, ◌≤◌, ◌+◌, ℕ, suc, Bool, true, false, List, [], ◌∷◌, Option, None, Some, slice_get, refl, sym, ap, subst, ◌∙◌, inl, inr, arith, IsSome, list_any, File, Verdict, Told, answered, Decides, Meaning, Performs, State, in_files, seen, Answer, IsKnown, is_unknown, is_unsafe, Runs, HindersCertificate, LongCertificate, long_line, IsFile, Completes, EndsSo, Reports, verify_meaning, request_of, HindersRest, IsKnownAtRest, LongAtRest, LongRest, RestReports, rest_meaning, FileEndings, IsEnds, verdicts_number}
-use Rattle.ta_program.proofs.AtRest.{rest_held}
+use Rattle.ta_program.proofs.Common.{◌≡◌, ◌≢◌, ◌≤◌, ℕ, suc, Bool, true, false, List, [], ◌∷◌, Option, None, Some, slice_get, refl, sym, subst, ◌∙◌, inl, inr, arith, IsSome, list_any, File, Verdict, Told, answered, Decides, Meaning, Performs, State, in_files, seen, Answer, IsKnown, is_unknown, is_unsafe, Runs, HindersCertificate, LongCertificate, long_line, IsFile, Completes, EndsSo, Reports, verify_meaning, request_of, HindersRest, IsKnownAtRest, LongAtRest, LongRest, RestReports, rest_meaning, FileEndings, IsEnds, verdicts_number, EndingVerdictHolds, VerdictHolds, endings_count, held_by, some_at, slice_get_within}
 use Rattle.ta_program.proofs.Clauses.{as_rest, as_verify, hinders_told, kinds_of_two, passes_legal, quiet, same_file}
 use Rattle.ta_program.proofs.Meanings.{hinders_long, verify_decides}
 use Rattle.ta_program.proofs.RestMeanings.{hinders_rest, rest_decides}
-use Rattle.ta_program.proofs.UnsafePrinted.{held_at}
 
 -- none of some verdicts leaves a pattern unknown
 none_unknown : (vs : List Verdict) → ((k : ℕ) (v : Verdict) → slice_get vs k ≡ Some v → is_unknown v ≡ true → ⊥) → list_any is_unknown vs ≡ false
@@ -59,9 +57,8 @@ module _ (told : Told) (name : List ℕ) (budget : ℕ) (out : Option (List ℕ)
         let same : answers.0 ≡ file = same_file told name file answers.0 answers.1 is_file in
         let r : Reports file budget json out a.answer = subst (λ (f : File). Reports f budget json out a.answer) same answers.2 in
         never_two r.verdicts (sym r.numbered ∙ sym a.numbered ∙ two) (λ k v given unknown.
-        let held = held_at file budget 0 file.patterns r.verdicts r.are.hold k v given in
-        let here : 0 + k ≡ k = omega arith in
-        none (0 + k) held.0 v (ap (slice_get file.patterns) here ∙ held.1) unknown held.2)
+        let by = held_by (VerdictHolds file budget) file.patterns r.verdicts r.are.hold k v given in
+        none k by.0 v by.1 unknown by.2)
 
     -- with 4 the certificate that is asked for is too long
     fits : number ≡ 4 → IsSome out × LongCertificate file budget
@@ -93,9 +90,10 @@ module _ (told : Told) (name : List ℕ) (budget : ℕ) (out : Option (List ℕ)
         let ends = found.0 in
         let r = found.2 in
         never_two r.verdicts (sym r.numbered ∙ sym a.numbered ∙ two) (λ k v given unknown.
-        let held = rest_held file ends.ending ends.added budget 0 file.patterns ends.ending.patterns r.verdicts r.are.hold k v given in
-        let here : 0 + k ≡ k = omega arith in
-        none ends found.1 (0 + k) held.own held.p v (ap (slice_get file.patterns) here ∙ held.named) (ap (slice_get ends.ending.patterns) here ∙ held.ends) unknown held.holds)
+        let by = held_by (EndingVerdictHolds file ends.ending ends.added budget) ends.ending.patterns r.verdicts r.are.hold k v given in
+        let same = endings_count file.patterns ends.ending.patterns found.1.endings.patterns in
+        let own = some_at file.patterns k (omega (arith, slice_get_within ends.ending.patterns k by.0 by.1)) in
+        none ends found.1 k own.0 by.0 v own.1 by.1 unknown (by.2 own.0 own.1))
 
     fits_at_rest : number ≡ 4 → IsSome out × LongAtRest file budget
     fits_at_rest four =

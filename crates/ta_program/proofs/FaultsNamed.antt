@@ -1,8 +1,6 @@
 -- What is told names the fault.
-use Rattle.ta_program.proofs.Common.{◌≡◌, ◌∙◌, ◌≤◌, ℕ, Bool, true, false, List, [], ◌∷◌, Option, None, Some, refl, sym, ap, subst, inl, inr, arith, codes, bytes_eq, File, one_legal, check_text, rest_check_text, run_text, Template, one_fault, Told, replies_monotone, Monotone, Decides, Meaning, Performs, State, Tells, file_line, in_files, seen, Writes, after, finds, replies, whole_faults_once, word_faults_once, whole_exact, words_exact, IsWholeWordOf, IsWordOf, Spelling, WholeFaultOf, WordFaultOf, WordFault, claiming, AdmitAsked, admit_meaning, admit_words, run_meaning, values_kind, values_meaning, Asked, LegalFile, Runs, ask, ask_where, choose, Command, NoCommand, SaysBench, bench_meaning, bench_words, HindersCertificate, may_put, check_meaning, proved_meaning, SaysShort, compress_meaning, long_kind, short_meaning, SaysSystem, WordHinders, export_meaning, export_words, system_meaning, word_fault_text, FaultsAreNamed, HinderOnce, NamesFault, OfCommand, certificate_kind, file_kind, run_kind, SaysShown, replay_meaning, shown_meaning, Reports, report_meaning, verify_meaning, request_of, HindersRest, RestReports, rest_meaning, rest_report_meaning, rest_check_meaning, rest_proved_meaning, CycleHinders, FileEndings, IsEnds, LegalAtRest, cycle_text, with_ends, rest_words, Finds, HindersFound, LegalTemplate, found_meaning, found_names, search_meaning, template_kind, SearchWords, search_words, two_names, verify_words, WordAsked}
-use Rattle.std.specs.Prelude.{◌⊎◌}
+use Rattle.ta_program.proofs.Common.{◌≡◌, ◌∙◌, ◌≤◌, ℕ, Bool, true, false, List, [], ◌∷◌, Option, None, Some, refl, sym, ap, subst, inl, inr, arith, codes, bytes_eq, File, one_legal, check_text, rest_check_text, run_text, Template, one_fault, Told, replies_monotone, Monotone, Decides, Meaning, Performs, State, Tells, file_line, in_files, seen, Writes, after, finds, replies, whole_faults_once, word_faults_once, whole_exact, words_exact, IsWholeWordOf, IsWordOf, Spelling, WholeFaultOf, WordFaultOf, WordFault, claiming, AdmitAsked, admit_meaning, admit_words, run_meaning, values_kind, values_meaning, Asked, LegalFile, Runs, ask, ask_where, choose, Command, NoCommand, SaysBench, bench_meaning, bench_words, HindersCertificate, may_put, check_meaning, proved_meaning, SaysShort, compress_meaning, long_kind, short_meaning, SaysSystem, WordHinders, export_meaning, export_words, system_meaning, word_fault_text, FaultsAreNamed, HinderOnce, NamesFault, OfCommand, certificate_kind, file_kind, run_kind, SaysShown, replay_meaning, shown_meaning, Reports, report_meaning, verify_meaning, request_of, HindersRest, RestReports, rest_meaning, rest_report_meaning, rest_check_meaning, rest_proved_meaning, CycleHinders, FileEndings, IsEnds, LegalAtRest, cycle_text, with_ends, rest_words, Finds, HindersFound, LegalTemplate, found_meaning, found_names, search_meaning, template_kind, SearchWords, search_words, two_names, verify_words, WordAsked, ◌⊎◌, AskedWord as Word}
 use Rattle.ta_meaning.specs.Laws.{FirstFaultsAreUnique}
-use Rattle.ta_smt.specs.Admit.{AskedWord as Word}
 use Rattle.ta_claim.specs.declared.claim.Claim.TheVariants as claim
 use Rattle.ta_program.proofs.EndsOnce.{ends_once}
 use Rattle.ta_program.proofs.RestMeanings.{cycle_rule, ends_monotone, hinders_rest, no_cycle, rest_proved_monotone, rest_report_monotone}

@@ -1,6 +1,5 @@
 -- Bytes have one fault of each kind.
-use Rattle.ta_program.proofs.Common.{◌≡◌, ◌∙◌, ◌++◌, ℕ, List, sym, ap, subst, inl, inr, File, CertFault, IsFirstFaultFor, IsLastingFor, Subject, lasting_faults_last, Run, IsRunText, Kind, admit_faults_once, values_kind, CompressFaultIn, IsRefusedRun, IsTextFault, long_kind, of_run, OneFault, IsReplayFault, certificate_kind, run_kind}
-use Rattle.std.specs.Prelude.{◌≢◌}
+use Rattle.ta_program.proofs.Common.{◌≡◌, ◌∙◌, ◌++◌, ℕ, List, sym, ap, subst, inl, inr, File, CertFault, IsFirstFaultFor, IsLastingFor, Subject, lasting_faults_last, Run, IsRunText, Kind, admit_faults_once, values_kind, CompressFaultIn, IsRefusedRun, IsTextFault, long_kind, of_run, OneFault, IsReplayFault, certificate_kind, run_kind, ◌≢◌, AskedWord}
 use Rattle.ta_check.proofs.Answering.{first_of_lasting}
 use Rattle.ta_cert.specs.declared.fault.CertFault.TheVariants as cert
 use Rattle.ta_check.proofs.OneFault.{one_fault}
@@ -13,7 +12,6 @@ use Rattle.ta_replay.specs.ReplayFaults.{ReplayFault}
 use Rattle.ta_replay.specs.TextFaults.{TextFault}
 use Rattle.ta_replay.proofs.OneRefusal.{one_refusal}
 use Rattle.ta_replay.proofs.Once.{text_fault_once, texts_once}
-use Rattle.ta_smt.specs.Admit.{AskedWord}
 use Rattle.ta_program.proofs.OneLine.{Settled}
 
 -- a text of a run has no fault as a text

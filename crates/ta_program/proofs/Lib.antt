@@ -22,6 +22,7 @@ mod AcceptedFound
 mod RunsReplayed
 mod PiecesJudged
 mod Benching
+mod Replied
 mod OneLine
 mod FaultsOnce
 mod FaultsNamed

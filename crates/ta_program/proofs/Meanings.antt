@@ -1,6 +1,5 @@
 -- what each command says grows with what is seen, and told files leave one number
-use Rattle.ta_program.proofs.Common.{◌≡◌, ◌∙◌, ℕ, List, [], length, slice_get, Option, None, Some, refl, sym, ap, subst, inl, inr, arith, Bool, IsSome, File, Pattern, one_legal, check_text, Verdict, Told, Decides, IsSo, Meaning, put_bytes, View, in_files, Answer, Kind, Writes, after, replies, after_monotone, decides, no_hindrance, one_number, replies_monotone, replies_one, settles_monotone, Monotone, IsAskedFor, LegalFile, Passes, PassesWhere, ask, ask_where, claiming, BUDGET, IsBench, SaysBench, bench_meaning, bench_status, family_text, check_meaning, proved_meaning, SaysShort, compress_meaning, long_kind, short_meaning, certificate_kind, file_kind, run_kind, SaysShown, replay_meaning, shown_meaning, HindersCertificate, LongCertificate, may_put, Reports, report_meaning, verify_meaning, AreVerdicts, verdicts_number}
-use Rattle.std.specs.Prelude.{option_map}
+use Rattle.ta_program.proofs.Common.{◌≡◌, ◌∙◌, ℕ, List, [], length, slice_get, Option, None, Some, refl, sym, ap, subst, inl, inr, arith, Bool, IsSome, File, Pattern, one_legal, check_text, Verdict, Told, Decides, IsSo, Meaning, put_bytes, View, in_files, Answer, Kind, Writes, after, replies, after_monotone, decides, no_hindrance, one_number, replies_monotone, replies_one, settles_monotone, Monotone, IsAskedFor, LegalFile, Passes, PassesWhere, ask, ask_where, claiming, BUDGET, IsBench, SaysBench, bench_meaning, bench_status, family_text, check_meaning, proved_meaning, SaysShort, compress_meaning, long_kind, short_meaning, certificate_kind, file_kind, run_kind, SaysShown, replay_meaning, shown_meaning, HindersCertificate, LongCertificate, may_put, Reports, report_meaning, verify_meaning, AreVerdicts, verdicts_number, option_map}
 use Rattle.ta_claim.specs.declared.claim.Claim.TheVariants as claim
 use Rattle.ta_verdict.proofs.CertificatesOnce.{certificates_once}
 use Rattle.ta_verdict.proofs.VerdictsOnce.{verdicts_once}

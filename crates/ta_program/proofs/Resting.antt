@@ -1,6 +1,5 @@
 -- what the commands on runs that come to rest make of FILE's endings
-use Rattle.ta_program.proofs.Common.{◌≡◌, ◌∙◌, ◌+◌, ◌≤◌, ℕ, true, List, [], ◌∷◌, ◌++◌, Option, None, Some, Result, Ok, Err, refl, sym, ap, subst, arith, length, Automaton, File, Pattern, RestCertificate, proofs_told, rest_check_text, word_told, rest_text, ReportSample, Verdict, Endings, AreRestVerdicts, RestCertificateOf, Told, Answer, Refusal, Refused, ReadFailed, PutFailed, Memory, Meaning, Says, PutsWithin, ReadCause, finds, finds_memory, finds_wrong, safe_numbers, IsSample, NoSample, SampleReal, place_of, Certifies, EndsRefused, ReportsAndPuts, RestReported, RestReports, HindersRest, rest_report_meaning, CycleHinders, FileEndings, IsEnds, ends_of, verdicts_number}
-use Rattle.std.proofs.Common.{codes}
+use Rattle.ta_program.proofs.Common.{◌≡◌, ◌∙◌, ◌+◌, ℕ, true, List, [], ◌∷◌, ◌++◌, Option, None, Some, Result, Ok, Err, refl, sym, ap, subst, arith, length, Automaton, File, Pattern, RestCertificate, proofs_told, rest_check_text, word_told, rest_text, ReportSample, Verdict, Endings, AreRestVerdicts, RestCertificateOf, Told, Answer, Refusal, Refused, ReadFailed, PutFailed, Memory, Meaning, Says, PutsWithin, ReadCause, finds, finds_memory, finds_wrong, safe_numbers, IsSample, NoSample, SampleReal, place_of, Certifies, EndsRefused, ReportsAndPuts, RestReported, RestReports, HindersRest, rest_report_meaning, CycleHinders, FileEndings, IsEnds, ends_of, verdicts_number, codes}
 use Rattle.ta_report.specs.declared.verdict.ReportSample.TheVariants as sample
 use Rattle.ta_rest.specs.Faults.{EndingsOf}
 use Rattle.ta_rest.specs.declared.rest_file.RestFile.{RestFile}

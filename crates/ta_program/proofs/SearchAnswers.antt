@@ -1,5 +1,5 @@
 -- what the answers of `search` say
-use Rattle.ta_program.proofs.Common.{◌≡◌, ◌∙◌, ◌<◌, ◌≤◌, ℕ, suc, Bool, true, false, List, [], ◌∷◌, ◌++◌, length, map, Option, None, Some, Ok, Err, refl, sym, ap, subst, inl, inr, rules, arith, Contains, IsSome, AllByRecursion, each_append, each_last, Tried, Template, filled_text, AreTried, LastIsFound, each_before, hole_values, vectors, Told, Says, file_line, phrase_text, PutsWithin, Answer, Put, Refusal, Refused, ReadFailed, PutFailed, Memory, long_line, may_put, CERTIFICATE, SaysLong, HindersFound, PutText, end_number, found_files, found_meaning, found_names, put_text, SearchWords}
+use Rattle.ta_program.proofs.Common.{◌≡◌, ◌∙◌, ◌<◌, ◌≤◌, ℕ, suc, Bool, true, false, List, [], ◌∷◌, ◌++◌, length, map, Option, None, Some, Ok, Err, refl, sym, ap, subst, inl, inr, rules, arith, Contains, IsSome, AllByRecursion, each_append, Tried, Template, filled_text, AreTried, LastIsFound, each_before, hole_values, vectors, Told, Says, file_line, phrase_text, PutsWithin, Answer, Put, Refusal, Refused, ReadFailed, PutFailed, Memory, long_line, may_put, CERTIFICATE, SaysLong, HindersFound, PutText, end_number, found_files, found_meaning, found_names, put_text, SearchWords, each_back}
 use Rattle.ta_search.specs.declared.outcome.Outcome.TheVariants.{Safe}
 use Rattle.ta_search.specs.declared.template.Hole.{Hole}
 use Rattle.ta_program.specs.Inside.FoundFiles.{FoundBy}
@@ -112,4 +112,4 @@ module _ (asked : SearchWords) (t : Template) (values certificate text : List �
   -- there is a value for each hole
   pub values_sized : length values ≡ length t.holes
   values_sized =
-      ap length (sym same_values) ∙ each_last (λ (x : Tried). length x.values ≡ length t.holes) last.before last.last (subst (AllByRecursion (λ (x : Tried). length x.values ≡ length t.holes)) last.whole (tried_sized t asked.nodes (length t.holes) (vectors t.holes) h.end.tried h.end.found (vectors_sized t.holes) h.ends.is_end))
+      ap length (sym same_values) ∙ (each_back (λ (x : Tried). length x.values ≡ length t.holes) last.before (last.last ∷ []) (subst (AllByRecursion (λ (x : Tried). length x.values ≡ length t.holes)) last.whole (tried_sized t asked.nodes (length t.holes) (vectors t.holes) h.end.tried h.end.found (vectors_sized t.holes) h.ends.is_end))).0

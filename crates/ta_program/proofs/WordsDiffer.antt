@@ -1,7 +1,5 @@
 -- the files that a command puts are not its FILE, and not each other
-use Rattle.ta_program.proofs.Common.{◌≡◌, ◌≢◌, ◌∙◌, ℕ, Bool, true, false, ◌&&◌, not, List, [], ◌∷◌, length, Option, None, Some, refl, sym, subst, rules, option_and_then_some, option_and_then, if◌then◌else◌, bytes_eq, rest_form, rest_of, rest_taken, rest_words, SearchWords, search_form, search_of, search_taken, search_words, are_same, budget_of, filled_of, file_name_of, out_of, VerifyWords, verify_form, verify_of, verify_taken, verify_words, Taken, behind_name, plain_of, taken_by, option_value}
-use Rattle.std.proofs.Common.{codes, is_some}
-use Rattle.std.specs.Prelude.{nat_lt, option_map}
+use Rattle.ta_program.proofs.Common.{◌≡◌, ◌≢◌, ◌∙◌, ℕ, Bool, true, false, ◌&&◌, not, List, [], ◌∷◌, length, Option, None, Some, refl, sym, subst, rules, option_and_then_some, option_and_then, if◌then◌else◌, bytes_eq, rest_form, rest_of, rest_taken, rest_words, SearchWords, search_form, search_of, search_taken, search_words, are_same, budget_of, filled_of, file_name_of, out_of, VerifyWords, verify_form, verify_of, verify_taken, verify_words, Taken, behind_name, plain_of, taken_by, option_value, codes, is_some, nat_lt, option_map}
 
 -- two names that are both given differ
 abbrev pub Apart : Option (List ℕ) → Option (List ℕ) → Type 0

@@ -2,7 +2,7 @@
 use Rattle.std.specs.Prelude.{ℕ, ◌≡◌, ◌≤◌, ◌⊎◌, Bool, List, length, slice_get, Some}
 use Rattle.ta_automaton.specs.declared.file.File.{File}
 use Rattle.ta_automaton.specs.declared.pattern.Pattern.{Pattern}
-use Rattle.ta_base.specs.Masks.{numbers_from}
+use Rattle.std.specs.List.{range_with_len}
 use Rattle.ta_report.specs.Check.{check_text, rest_check_text}
 use Rattle.ta_report.specs.Report.{rest_text}
 use Rattle.ta_report.specs.Telling.{TellsRun, TellsUnsafe, report_of}
@@ -99,7 +99,7 @@ pub record ProvesFound (told : Told) (name filled : List ℕ) (before after : St
   pub last : LastIsFound template end
   pub held : told filled ≡ Some (filled_text template last.last.values)
   pub is_file : IsFile (in_files told) filled last.found.file
-  pub accepted : SaysOrFails (check_text last.found.file (numbers_from 0 (length last.found.file.patterns))) number begun ended
+  pub accepted : SaysOrFails (check_text last.found.file (range_with_len 0 (length last.found.file.patterns))) number begun ended
 
 -- what `search FILE --certificate OUT --filled OUT2` put with status 0 `check OUT2 OUT` accepts over the files as they were left: so it
 -- never ends with 3, 4 or 5, and with 0 it says that every pattern of OUT2 is proved. OUT, OUT2 and FILE differ: words in which two of these

@@ -1,6 +1,6 @@
 -- a replay from line to line
-use Rattle.ta_replay.proofs.Common.{◌≡◌, inl, inr, ℕ, ◌+◌, ◌<◌, ◌↔◌, ℤ, ◌+ℤ◌, ◌*ℤ◌, List, [], ◌∷◌, ◌++◌, length, take, arith, sym, ap, ◌∙◌, subst, slice_get, Some, Option, IsBitSet, ints, cases_lt, same_Some, each_at, some_at, take_next, point_of, Automaton, Rule, Pattern, rule_change, total, total-append, Config, config_of, IsOf, Run, RunLine, Step, Mark, RunFault, Line, Resilience, Processes, Start, NotEmpty, Guard, Count, MissingEvent, Overflow, Order, Memory, LineFits, IsMarked, steps_before, ValuesAfter, Takes, LineTakes, LinePasses, InOrder, line_change, LineRefuses, LineStops, FirstRefusal, run_line_number, FitsPattern, Following, MarksAfter}
-use Rattle.ta_replay.specs.declared.fault.RunFault.TheVariants.{Name, Event}
+use Rattle.ta_replay.proofs.Common.{◌≡◌, inl, inr, ℕ, ◌+◌, ◌<◌, ◌↔◌, ℤ, ◌+ℤ◌, ◌*ℤ◌, List, [], ◌∷◌, ◌++◌, length, take, arith, sym, ap, ◌∙◌, subst, slice_get, Some, Option, IsBitSet, ints, cases_lt, same_Some, each_at, some_at, take_next, point_of, Automaton, Rule, Pattern, rule_change, total, total-append, Config, config_of, IsOf, Run, RunLine, Step, Mark, RunFault, NotEmpty, Guard, Count, Overflow, Order, LineFits, IsMarked, steps_before, ValuesAfter, Takes, LineTakes, LinePasses, InOrder, line_change, LineRefuses, LineStops, FirstRefusal, run_line_number, FitsPattern, Following, MarksAfter}
+use Rattle.ta_replay.specs.declared.fault.RunFault.TheVariants.{Event}
 use Rattle.ta_replay.proofs.Lines.{marked-next}
 use Rattle.ta_replay.proofs.Paths.{line_moves, path_next}
 
@@ -99,39 +99,18 @@ refuses_same a p P Q values (Step r factor) number fault same h = h
 refuses_same a p P Q values (Mark e) number (Order line) same h = (h.0, event_same p P Q same e h.1)
 refuses_same a p P Q values (Mark e) number (Overflow line) same h = (h.0, (in_order_same p P Q same e h.1.0, h.1.1))
 refuses_same a p P Q values (Mark e) number (Event line) same h = (h.0, (in_order_same p P Q same e h.1.0, h.1.1))
-refuses_same a p P Q values (Mark e) number (Line line) same h = h
-refuses_same a p P Q values (Mark e) number (Name line) same h = h
-refuses_same a p P Q values (Mark e) number (Resilience k) same h = h
-refuses_same a p P Q values (Mark e) number Processes same h = h
-refuses_same a p P Q values (Mark e) number (Start k) same h = h
-refuses_same a p P Q values (Mark e) number (NotEmpty line) same h = h
-refuses_same a p P Q values (Mark e) number (Guard line guard) same h = h
-refuses_same a p P Q values (Mark e) number (Count line) same h = h
-refuses_same a p P Q values (Mark e) number (MissingEvent f) same h = h
-refuses_same a p P Q values (Mark e) number Memory same h = h
+refuses_same a p P Q values (Mark e) number _ same h = h
 
 -- what no line answers
 never : (a : Automaton) (p : Pattern) (Marked : ℕ → Type 0) (values : List ℤ) (line : RunLine) (number : ℕ) (fault : RunFault) → LineRefuses a p Marked values line number fault → (run : Run) → LineStops a p run fault → FirstRefusal a p run fault
-never a p Marked values (Step r factor) number (Line n) h run s = absurd h
-never a p Marked values (Mark e) number (Line n) h run s = absurd h
-never a p Marked values (Step r factor) number (Name n) h run s = absurd h
-never a p Marked values (Mark e) number (Name n) h run s = absurd h
-never a p Marked values (Step r factor) number (Resilience n) h run s = absurd h
-never a p Marked values (Mark e) number (Resilience n) h run s = absurd h
-never a p Marked values (Step r factor) number Processes h run s = absurd h
-never a p Marked values (Mark e) number Processes h run s = absurd h
-never a p Marked values (Step r factor) number (Start n) h run s = absurd h
-never a p Marked values (Mark e) number (Start n) h run s = absurd h
-never a p Marked values (Step r factor) number (MissingEvent n) h run s = absurd h
-never a p Marked values (Mark e) number (MissingEvent n) h run s = absurd h
 never a p Marked values line number (NotEmpty n) h run s = inr s
 never a p Marked values line number (Guard n guard) h run s = s
 never a p Marked values line number (Count n) h run s = s
 never a p Marked values line number (Event n) h run s = s
 never a p Marked values line number (Overflow n) h run s = inr (inr s)
 never a p Marked values line number (Order n) h run s = s
-never a p Marked values (Step r factor) number Memory h run s = h
-never a p Marked values (Mark e) number Memory h run s = h
+never a p Marked values (Step r factor) number _ h run s = absurd h
+never a p Marked values (Mark e) number _ h run s = absurd h
 
 -- a line that refuses
 pub following_stops : (a : Automaton) (p : Pattern) (run : Run) (i : ℕ) (config : Config) (marks : ℕ) (line : RunLine) (number : ℕ) (fault : RunFault) → slice_get run.lines i ≡ Some line → Following a p run i config marks → number ≡ run_line_number a i → LineRefuses a p (IsBitSet marks) config.values.items line number fault → FirstRefusal a p run fault

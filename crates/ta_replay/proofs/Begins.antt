@@ -1,5 +1,5 @@
 -- where a replay begins
-use Rattle.ta_replay.proofs.Common.{◌≡◌, inl, inr, ℕ, zero, suc, ◌+◌, ◌<◌, ℤ, pos, List, [], length, arith, sym, ap, ◌∙◌, refl, subst, slice_get, get_or, Some, ints, ext_get_or, get_or-take, same_Some, slice_get_within, no_bit, pos_same, rises_length_most, point_of, Automaton, Pattern, At, total, place_cases, Config, ConditionPasses, config_of, naturals, StartsAt, naturals_at, holds_from, in_or_not, not_contained, KeepsEmpty, holds_there, counter_there, Run, RunLine, Mark, ValuesAfter, NoneFilled, FirstFilled, FitsPattern, Following, StartsWith}
+use Rattle.ta_replay.proofs.Common.{◌≡◌, inl, inr, ℕ, zero, suc, ◌+◌, ◌<◌, ℤ, pos, List, [], length, arith, sym, ap, ◌∙◌, refl, subst, slice_get, get_or, Some, ints, ext_get_or, get_or-take, same_Some, slice_get_within, no_bit, pos_same, point_of, Automaton, Pattern, At, total, place_cases, Config, ConditionPasses, config_of, naturals, StartsAt, naturals_at, holds_from, in_or_not, not_contained, KeepsEmpty, holds_there, counter_there, Run, RunLine, Mark, ValuesAfter, NoneFilled, FirstFilled, FitsPattern, Following, StartsWith, rises_length}
 use Rattle.ta_automaton.specs.Runs as runs
 
 counter_at_start : (a : Automaton) (run : Run) (config : Config) → StartsWith a run config → (j l : ℕ) → slice_get a.initial j ≡ Some l → pos (get_or (config_of a config).counters l 0) ≡ point_of run.counts j
@@ -68,5 +68,5 @@ after_same a run lines v w s t =
 pub filled_below : (a : Automaton) (p : Pattern) (run : Run) (j : ℕ) → FirstFilled a p run j → length a.parameters + j < 48
 filled_below a p run j filled =
     let within = slice_get_within a.initial j filled.location filled.at in
-    let count = rises_length_most 0 (length a.locations) a.initial a.shape.initial_rises (omega arith) in
+    let count = rises_length 0 (length a.locations) a.initial (omega arith) a.shape.initial_rises in
     omega (arith, a.shape.limits.parameters_limit, a.shape.limits.locations_limit)

@@ -1,5 +1,5 @@
 -- where all lines pass
-use Rattle.ta_replay.proofs.Common.{◌≡◌, inl, inr, ℕ, ◌<◌, ℤ, List, length, take, arith, subst, slice_get, Some, IsBitSet, cases_lt, slice_get_within, front_get, get_front, take_all, point_of, Row, Automaton, Condition, Pattern, Steps, Config, ConditionPasses, MaskedPass, Run, RunLine, Step, Mark, unit_steps, MarksAt, IsMarked, ShowsPattern, LineTakes, LinePasses, InOrder, ConditionStays, MaskedStay, LineStays, NumbersStay, LacksMark, Following, FirstUnmarked}
+use Rattle.ta_replay.proofs.Common.{◌≡◌, ℕ, ◌<◌, ℤ, List, length, take, subst, slice_get, Some, IsBitSet, slice_get_within, front_get, get_front, point_of, Row, Automaton, Condition, Pattern, Steps, Config, ConditionPasses, MaskedPass, Run, RunLine, Step, Mark, unit_steps, MarksAt, IsMarked, ShowsPattern, LineTakes, LinePasses, InOrder, ConditionStays, MaskedStay, LineStays, NumbersStay, LacksMark, Following, FirstUnmarked, take-length, neither_below}
 use Rattle.ta_replay.proofs.Begins.{starts_same, after_same}
 
 -- an event isn't marked on two lines
@@ -13,13 +13,10 @@ all_pass : (a : Automaton) (p : Pattern) (run : Run) (config : Config) (marks : 
 all_pass a p run config marks f j line at = f.before j line (slice_get_within run.lines j line at) at
 
 one_line : (a : Automaton) (p : Pattern) (run : Run) (config : Config) (marks : ℕ) → Following a p run (length run.lines) config marks → (e i j : ℕ) → MarksAt run.lines i e → MarksAt run.lines j e → j ≡ i
-one_line a p run config marks f e i j here there = elim (cases_lt j i) [
-  | inl less ↦ absurd (marked_apart a p run i j e less (all_pass a p run config marks f i (Mark e) here) there)
-  | inr more ↦ elim (cases_lt i j) [
-    | inl less ↦ absurd (marked_apart a p run j i e less (all_pass a p run config marks f j (Mark e) there) here)
-    | inr other ↦ omega arith
-  ]
-]
+one_line a p run config marks f e i j here there =
+    neither_below j i
+    (λ less. marked_apart a p run i j e less (all_pass a p run config marks f i (Mark e) here) there)
+    (λ less. marked_apart a p run j i e less (all_pass a p run config marks f j (Mark e) there) here)
 
 all_marked : (a : Automaton) (p : Pattern) (run : Run) (config : Config) (marks : ℕ) → Following a p run (length run.lines) config marks → (e : ℕ) → IsBitSet marks e → IsMarked run.lines e
 all_marked a p run config marks f e bit = let m = (f.marked e).0 bit in (m.0, (get_front run.lines (length run.lines) m.0 (Mark e) m.1).1)
@@ -31,7 +28,7 @@ ended_shows a p run config marks f all = record {
   begins = f.begins;
   follows = record {
     initial = f.initial;
-    steps = subst (λ (lines : List RunLine). Steps a f.first (unit_steps lines) f.path.later) (take_all run.lines) f.path.steps;
+    steps = subst (λ (lines : List RunLine). Steps a f.first (unit_steps lines) f.path.later) (take-length run.lines) f.path.steps;
   };
   start = f.start;
   kept_empty = f.path.kept;

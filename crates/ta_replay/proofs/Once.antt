@@ -1,6 +1,5 @@
 -- Texts and runs have one answer.
-use Rattle.ta_replay.proofs.Common.{◌≡◌, ℕ, List, refl, sym, ap, subst, File, Run, RunFault, Fits, FirstRefusal, ReplayFault, ReplayStays, Shows, TextFault}
-use Rattle.std.specs.Prelude.{◌≢◌}
+use Rattle.ta_replay.proofs.Common.{◌≡◌, ℕ, List, refl, sym, ap, subst, File, Run, RunFault, Fits, FirstRefusal, ReplayFault, ReplayStays, Shows, TextFault, ◌≢◌}
 use Rattle.ta_replay.specs.declared.fault.RunFault.TheVariants as fault
 use Rattle.ta_replay.specs.Determined.{RefusalsAreDetermined, TextsAreDetermined}
 use Rattle.ta_replay.proofs.Naming.{fits_read}

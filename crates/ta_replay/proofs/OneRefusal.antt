@@ -1,10 +1,10 @@
 -- A run has one first refusal.
-use Rattle.ta_replay.proofs.Common.{cases_order, ◌≡◌, inl, inr, ℕ, ◌+◌, ◌<◌, ℤ, pos, List, length, take, refl, sym, ap, ◌∙◌, subst, slice_get, Some, ext_get_or, same_Some, AllByRecursion, each_at, some_at, point_of, Automaton, File, Pattern, Rule, RowFails, RowOutOfRange, ConditionPasses, MayStart, StartsAt, StartFails, StepFails, StepIsTaken, before_last, Run, RunLine, Step, Mark, RunFault, Line, Resilience, Processes, Start, NotEmpty, Guard, Count, MissingEvent, Overflow, Order, Memory, Fits, LineFits, IsMarked, EmptyAt, FirstFilled, LinePasses, LineTakes, MarkPasses, MayTakeLines, Takes, ValuesAfter, ConfigRefuses, StartRefuses, FilledAt, LineStops, LineRefuses, StepRefuses, StepFills, MarkRefuses, LacksMark, FirstRefusal, ReplayFault, run_line_number}
+use Rattle.ta_replay.proofs.Common.{cases_order, ◌≡◌, inl, inr, ℕ, ◌+◌, ◌<◌, ℤ, pos, List, length, take, refl, sym, ap, ◌∙◌, subst, slice_get, Some, ext_get_or, same_Some, AllByRecursion, each_at, some_at, point_of, Automaton, File, Pattern, Rule, RowFails, RowOutOfRange, ConditionPasses, MayStart, StartsAt, StartFails, StepFails, StepIsTaken, before_last, Run, RunLine, Step, Mark, RunFault, Resilience, Processes, Start, NotEmpty, Guard, Count, MissingEvent, Overflow, Order, Fits, LineFits, IsMarked, EmptyAt, FirstFilled, LinePasses, LineTakes, MarkPasses, MayTakeLines, Takes, ValuesAfter, ConfigRefuses, StartRefuses, FilledAt, LineStops, LineRefuses, StepRefuses, StepFills, MarkRefuses, LacksMark, FirstRefusal, ReplayFault, run_line_number}
 use Rattle.ta_counter.specs.declared.fault.StartFault.{StartFault}
 use Rattle.ta_counter.specs.declared.fault.StartFault.TheVariants as start
 use Rattle.ta_counter.specs.declared.fault.StepFault.{StepFault}
 use Rattle.ta_counter.specs.declared.fault.StepFault.TheVariants as step
-use Rattle.ta_replay.specs.declared.fault.RunFault.TheVariants.{Name, Event}
+use Rattle.ta_replay.specs.declared.fault.RunFault.TheVariants.{Event}
 use Rattle.ta_replay.proofs.Begins.{starts_same, after_same}
 use Rattle.ta_replay.proofs.FirstBad.{condition_clash, condition_meets, fails_clash, guards_clash, guards_meet, leaves_clash, not_both_bad}
 
@@ -49,16 +49,7 @@ unfolding of_start
 start_is a run (Resilience k) h = record { fault = start.Resilience k; fails = h; is = refl }
 start_is a run Processes h = record { fault = start.Processes; fails = h; is = refl }
 start_is a run (Overflow line) h = record { fault = start.OutOfRange; fails = h.1; is = ap Overflow h.0 }
-start_is a run (Line line) h = absurd h
-start_is a run (Name line) h = absurd h
-start_is a run (Start k) h = absurd h
-start_is a run (NotEmpty line) h = absurd h
-start_is a run (Guard line guard) h = absurd h
-start_is a run (Count line) h = absurd h
-start_is a run (Event line) h = absurd h
-start_is a run (MissingEvent e) h = absurd h
-start_is a run (Order line) h = absurd h
-start_is a run Memory h = absurd h
+start_is a run _ h = absurd h
 
 config_once : (a : Automaton) (run : Run) (e f : RunFault) → ConfigRefuses a run e → ConfigRefuses a run f → e ≡ f
 config_once a run e f h g =
@@ -130,15 +121,7 @@ step_is a p vs r factor n (Count line) h = Checked step.Count h.1 (ap Count h.0)
 step_is a p vs r factor n (Overflow line) h = Checked (step.OutOfRange h.1.0) h.1.1 (ap Overflow h.0)
 step_is a p vs r factor n (Guard line guard) h = Checked (step.Guard guard) h.1 (ap (λ l. Guard l guard) h.0)
 step_is a p vs r factor n (NotEmpty line) h = Filled h.1 (ap NotEmpty h.0)
-step_is a p vs r factor n (Line line) h = absurd h
-step_is a p vs r factor n (Name line) h = absurd h
-step_is a p vs r factor n (Resilience k) h = absurd h
-step_is a p vs r factor n Processes h = absurd h
-step_is a p vs r factor n (Start k) h = absurd h
-step_is a p vs r factor n (Event line) h = absurd h
-step_is a p vs r factor n (MissingEvent k) h = absurd h
-step_is a p vs r factor n (Order line) h = absurd h
-step_is a p vs r factor n Memory h = absurd h
+step_is a p vs r factor n _ h = absurd h
 
 step_same : (a : Automaton) (p : Pattern) (values : List ℤ) (r : ℕ) (factor : ℤ) (n : ℕ) (e f : RunFault) → r < length a.rules → StepIs a p values r factor n e → StepIs a p values r factor n f → e ≡ f
 step_same a p vs r factor n e f within (Checked x fails is) (Checked y fail be) =
@@ -283,8 +266,6 @@ data Stage (a : Automaton) (p : Pattern) (run : Run) (e : RunFault) : Type 0 whe
   AtEnd : EventLacks a p run e → Stage a p run e
 
 stage_of : (a : Automaton) (p : Pattern) (run : Run) (e : RunFault) → FirstRefusal a p run e → Stage a p run e
-stage_of a p run (Line line) h = absurd h
-stage_of a p run (Name line) h = absurd h
 stage_of a p run (Resilience k) h = AtConfig h
 stage_of a p run Processes h = AtConfig h
 stage_of a p run (Start k) h = AtCondition (record { may_start = h.may_start; first = h.first; starts = h.starts; refuses = h.stops })
@@ -298,7 +279,7 @@ stage_of a p run (Overflow line) (inl h) = AtConfig h
 stage_of a p run (Overflow line) (inr (inl h)) = (let s = h.1.1 in AtCondition (record { may_start = s.may_start; first = s.first; starts = s.starts; refuses = (h.0, (h.1.0, s.stops)) }))
 stage_of a p run (Overflow line) (inr (inr h)) = AtLine h
 stage_of a p run (Order line) h = AtLine h
-stage_of a p run Memory h = absurd h
+stage_of a p run _ h = absurd h
 
 -- what stands where the start condition passed
 record Begun (a : Automaton) (p : Pattern) (run : Run) : Type 0 where

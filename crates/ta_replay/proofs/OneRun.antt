@@ -1,6 +1,5 @@
 -- A text is that of at most one run, and has then no fault.
-use Rattle.ta_replay.proofs.Common.{ℕ, ℤ, zero, suc, ◌+◌, ◌<◌, ◌≡◌, ◌⊎◌, List, [], ◌∷◌, ◌++◌, length, map, refl, sym, ap, subst, ◌∙◌, Some, None, Option, inl, inr, append_assoc, append-nil, arith, codes, signed_decimal, length-map, append_cancel_left, same_from_push, slice_get_within, AllByRecursion, each_append, each_at, each_back, each_front, last_only, word_avoids, avoids-append, avoids_known, differ, first_byte, not_parted, same_parts, pattern_within, Automaton, Pattern, File, EachFrom, event_name, pattern_name, EventWithin, PatternWithin, Event, name_of, Value, Run, RunLine, Step, Mark, RunFault, Fits, LineFits, Slot, name_at, named_line, valued_line, slots, value_lines, line_of, head_line, run_lines, lines_text, IsRunText, FormFor, FormAt, LinesGoOn, IsTrailingRun, IsUnfinishedRun, IsMisformed, IsMalformedRun, IsMisnamed, TextFault, Avoids, IsWord}
-use Rattle.std.specs.Prelude.{slice_get}
+use Rattle.ta_replay.proofs.Common.{ℕ, ℤ, zero, suc, ◌+◌, ◌<◌, ◌≡◌, ◌⊎◌, List, [], ◌∷◌, ◌++◌, length, map, refl, sym, ap, subst, ◌∙◌, Some, None, Option, inl, inr, append_assoc, append-nil, arith, codes, signed_decimal, length-map, append_cancel_left, same_from_push, slice_get_within, AllByRecursion, each_append, each_at, each_back, each_front, last_only, word_avoids, avoids-append, avoids_known, differ, first_byte, not_parted, same_parts, pattern_within, Automaton, Pattern, File, EachFrom, event_name, pattern_name, EventWithin, PatternWithin, Event, name_of, Value, Run, RunLine, Step, Mark, RunFault, Fits, LineFits, Slot, name_at, named_line, valued_line, slots, value_lines, line_of, head_line, run_lines, lines_text, IsRunText, FormFor, FormAt, LinesGoOn, IsTrailingRun, IsUnfinishedRun, IsMisformed, IsMalformedRun, IsMisnamed, TextFault, Avoids, IsWord, slice_get}
 use Rattle.ta_replay.specs.declared.fault.RunFault.TheVariants as fault
 use Rattle.ta_replay.proofs.NumberedNames.{one_name}
 use Rattle.ta_replay.proofs.Decimals.{number_avoids}

@@ -1,6 +1,5 @@
 -- The lines of a run, as they are written.
-use Rattle.ta_replay.proofs.Common.{ℕ, ℤ, zero, suc, pos, ◌+◌, ◌<◌, ◌≡◌, List, [], ◌∷◌, ◌++◌, length, map, drop, get_or, refl, sym, ap, ◌∙◌, Some, append_assoc, append-nil, arith, codes, ◌≤◌, option_map, signed_decimal, slice_get-map, slice_get_read, get_or_from_slice_get, at_drop_all, length-map, Automaton, Pattern, RunLine, Slot, name_at, parameter_slot, parameter_slots, start_slots, slots, valued_line, value_lines, line_of, head_line, lines_text, run_text, Run, File, pattern_name}
-use Rattle.std.specs.Prelude.{slice_get}
+use Rattle.ta_replay.proofs.Common.{ℕ, ℤ, zero, suc, pos, ◌+◌, ◌<◌, ◌≡◌, List, [], ◌∷◌, ◌++◌, length, map, drop, get_or, refl, sym, ap, ◌∙◌, Some, append_assoc, append-nil, arith, codes, ◌≤◌, option_map, signed_decimal, slice_get-map, slice_get_read, get_or_from_slice_get, at_drop_all, length-map, Automaton, Pattern, RunLine, Slot, name_at, parameter_slot, parameter_slots, start_slots, slots, valued_line, value_lines, line_of, head_line, lines_text, run_text, Run, File, pattern_name, slice_get}
 use Rattle.ta_replay.proofs.ListSteps.{lines_text-append}
 use Rattle.ta_replay.proofs.ValueLines.{value_lines-append}
 use Rattle.ta_replay.proofs.RunFacts.{behind_head, run_lines_are}

@@ -1,10 +1,10 @@
 -- a run that shows its pattern within the range isn't refused
-use Rattle.ta_replay.proofs.Common.{◌≡◌, inl, inr, ℕ, ◌+◌, ◌<◌, ℤ, pos, List, ◌∷◌, length, take, unsigned_abs, arith, sym, ap, ◌∙◌, refl, subst, slice_get, Some, same_Some, slice_get_within, each_at, front_get, get_front, some_at, point_of, Automaton, Condition, File, Pattern, Rule, location_place, HoldsAt, Initial, value_at, value_at-location, fits_whole, RowFails, RowOutOfRange, ConditionStopsAt, config_of, Fires, StepFails, model_at, model_whole, naturals_at, same_model, fails_from, no_start, no_steps, Run, RunLine, Step, Mark, RunFault, Line, Resilience, Processes, Start, NotEmpty, Guard, Count, MissingEvent, Overflow, Order, Memory, LineFits, IsMarked, MarksAt, ShowsPattern, steps_before, InOrder, ConditionStays, StepStays, NumbersStay, ConfigRefuses, StartStops, FilledAt, LineStops, LineRefuses, StepRefuses, MarkRefuses, LacksMark, FirstRefusal, RefusedThough, run_line_number, FitsPattern}
+use Rattle.ta_replay.proofs.Common.{◌≡◌, inl, inr, ℕ, ◌+◌, ◌<◌, ℤ, pos, List, ◌∷◌, length, take, unsigned_abs, arith, sym, ap, ◌∙◌, refl, subst, slice_get, Some, same_Some, slice_get_within, each_at, front_get, get_front, some_at, point_of, Automaton, Condition, File, Pattern, Rule, location_place, HoldsAt, Initial, value_at, value_at-location, fits_whole, RowFails, RowOutOfRange, ConditionStopsAt, config_of, Fires, StepFails, model_at, model_whole, naturals_at, same_model, fails_from, no_start, no_steps, Run, RunLine, Step, Mark, RunFault, Resilience, Processes, Start, NotEmpty, Guard, Count, MissingEvent, Overflow, Order, Memory, LineFits, IsMarked, MarksAt, ShowsPattern, steps_before, InOrder, ConditionStays, StepStays, NumbersStay, ConfigRefuses, StartStops, FilledAt, LineStops, LineRefuses, StepRefuses, MarkRefuses, LacksMark, FirstRefusal, RefusedThough, run_line_number, FitsPattern}
 use mathlib.Core.Path.{fun_ext}
 use Rattle.ta_automaton.specs.Runs as runs
 use Rattle.ta_counter.specs.declared.fault.StepFault.TheVariants as step
 use Rattle.ta_counter.specs.declared.fault.StartFault.TheVariants as start
-use Rattle.ta_replay.specs.declared.fault.RunFault.TheVariants.{Name, Event}
+use Rattle.ta_replay.specs.declared.fault.RunFault.TheVariants.{Event}
 use Rattle.ta_replay.proofs.Along.{step_values}
 use Rattle.ta_replay.proofs.Showing.{shown_starts, shown_model, shown_first, ShownAt, shown_at, shown_fires, values_of}
 
@@ -21,24 +21,15 @@ Possible a p run Memory = ⊥
 Possible a p run _ = ⊥
 
 pub config_denied : (a : Automaton) (p : Pattern) (run : Run) (fault : RunFault) → FitsPattern a p run → ShowsPattern a p run → ConfigRefuses a run fault → Possible a p run fault
-config_denied a p run (Line line) fits s h = h
-config_denied a p run (Name line) fits s h = h
 config_denied a p run (Resilience k) fits s h =
     (no_start a run.parameters run.counts (start.Resilience k) fits.parameters fits.counts fits.parameters_natural fits.counts_natural h (values_of s.first) (shown_starts a p run fits s) (subst (Initial a) (sym (shown_model a p run fits s)) s.follows.initial))
 config_denied a p run Processes fits s h =
     (no_start a run.parameters run.counts start.Processes fits.parameters fits.counts fits.parameters_natural fits.counts_natural h (values_of s.first) (shown_starts a p run fits s) (subst (Initial a) (sym (shown_model a p run fits s)) s.follows.initial))
-config_denied a p run (Start k) fits s h = h
-config_denied a p run (NotEmpty line) fits s h = h
-config_denied a p run (Guard line guard) fits s h = h
-config_denied a p run (Count line) fits s h = h
-config_denied a p run (Event line) fits s h = h
-config_denied a p run (MissingEvent e) fits s h = h
 config_denied a p run (Overflow line) fits s h = λ stays. elim h.1 [
   | inl w ↦ no_leave (point_of run.parameters) a.resilience w.0 stays.resilience w.1
   | inr w ↦ elim w.1 [ inl leaves ↦ leaves stays.processes | inr leaves ↦ leaves stays.sum ]
 ]
-config_denied a p run (Order line) fits s h = h
-config_denied a p run Memory fits s h = h
+config_denied a p run _ fits s h = h
 
 start_denied : (a : Automaton) (p : Pattern) (run : Run) (k : ℕ) → FitsPattern a p run → ShowsPattern a p run → StartStops a p run RowFails k → ⊥
 start_denied a p run k fits s h =
@@ -118,15 +109,7 @@ step_denied a p run fits s fault stop r factor number is other h =
           let reached = step_values a run stop.i r factor stop.config.values.items after fit.0 at stop.reached g.1.1 in
           let c = shown_at a p run fits s (stop.i + 1) (let b = slice_get_within run.lines stop.i (Step r factor) at in omega arith) in
           g.1.2 (λ l bit. sym (c.same after reached (location_place a l)) ∙ value_at-location a c.config l (fits_whole a c.config c.whole) ∙ ap pos (s.kept_empty (steps_before run.lines (stop.i + 1)) c.config c.at l bit))
-      by_fault (Line line) g = g
-      by_fault (Name line) g = g
-      by_fault (Resilience k) g = g
-      by_fault Processes g = g
-      by_fault (Start k) g = g
-      by_fault (Event line) g = g
-      by_fault (MissingEvent e) g = g
-      by_fault (Order line) g = g
-      by_fault Memory g = g
+      by_fault _ g = g
 
 order_there : (a : Automaton) (p : Pattern) (run : Run) → (s : ShowsPattern a p run) (i e : ℕ) → e < length p.events → MarksAt run.lines i e → InOrder p (IsMarked (take i run.lines)) e
 order_there a p run s i e exists at = record {
@@ -168,16 +151,7 @@ mark_denied a p run fits s fault stop e number is other h =
           let same : m.happens.0 ≡ b.shown.config = same_Some m.happens.0 b.shown.config (sym there ∙ b.shown.at) in
           let points : value_at b.shown.config ≡ point_of stop.config.values.items = fun_ext b.points in
           fails_from (point_of stop.config.values.items) event.0.condition w.0 w.1 (subst (λ (f : ℕ → ℤ). HoldsAt f event.0.condition) (ap value_at same ∙ points) m.happens.2)
-      by_fault (Line line) g = g
-      by_fault (Name line) g = g
-      by_fault (Resilience k) g = g
-      by_fault Processes g = g
-      by_fault (Start k) g = g
-      by_fault (NotEmpty line) g = g
-      by_fault (Guard line guard) g = g
-      by_fault (Count line) g = g
-      by_fault (MissingEvent k) g = g
-      by_fault Memory g = g
+      by_fault _ g = g
 
 line_denied : (a : Automaton) (p : Pattern) (run : Run) → FitsPattern a p run → ShowsPattern a p run → (fault : RunFault) → LineStops a p run fault → Possible a p run fault
 line_denied a p run fits s fault stop = by_line stop.line refl stop.refuses where
@@ -187,8 +161,6 @@ line_denied a p run fits s fault stop = by_line stop.line refl stop.refuses wher
 
 -- a run that shows its pattern is refused only where a number leaves the range
 pub denied : (a : Automaton) (p : Pattern) (run : Run) → FitsPattern a p run → ShowsPattern a p run → (fault : RunFault) → FirstRefusal a p run fault → Possible a p run fault
-denied a p run fits s (Line line) h = h
-denied a p run fits s (Name line) h = h
 denied a p run fits s (Resilience k) h = config_denied a p run (Resilience k) fits s h
 denied a p run fits s Processes h = config_denied a p run Processes fits s h
 denied a p run fits s (Start k) h = start_denied a p run k fits s h
@@ -202,35 +174,14 @@ denied a p run fits s (Overflow line) (inl h) = config_denied a p run (Overflow 
 denied a p run fits s (Overflow line) (inr (inl h)) = λ stays. start_leaves_denied a p run h.1.0 stays h.1.1
 denied a p run fits s (Overflow line) (inr (inr h)) = line_denied a p run fits s (Overflow line) h
 denied a p run fits s (Order line) h = line_denied a p run fits s (Order line) h
-denied a p run fits s Memory h = h
+denied a p run fits s _ h = h
 
 pub only_memory : (a : Automaton) (p : Pattern) (run : Run) → NumbersStay a p run → (fault : RunFault) → Possible a p run fault → fault ≡ Memory
-only_memory a p run stays (Line line) h = absurd h
-only_memory a p run stays (Name line) h = absurd h
-only_memory a p run stays (Resilience k) h = absurd h
-only_memory a p run stays Processes h = absurd h
-only_memory a p run stays (Start k) h = absurd h
-only_memory a p run stays (NotEmpty line) h = absurd h
-only_memory a p run stays (Guard line guard) h = absurd h
-only_memory a p run stays (Count line) h = absurd h
-only_memory a p run stays (Event line) h = absurd h
-only_memory a p run stays (MissingEvent e) h = absurd h
 only_memory a p run stays (Overflow line) h = absurd (h stays)
-only_memory a p run stays (Order line) h = absurd h
 only_memory a p run stays Memory h = refl
+only_memory a p run stays _ h = absurd h
 
 -- the same, of the pattern that a file names
 pub refused_though : (file : File) (p : Pattern) (run : Run) → slice_get file.patterns run.pattern ≡ Some p → (fault : RunFault) → Possible file.automaton p run fault → RefusedThough file run fault
-refused_though file p run named (Line line) h = h
-refused_though file p run named (Name line) h = h
-refused_though file p run named (Resilience k) h = h
-refused_though file p run named Processes h = h
-refused_though file p run named (Start k) h = h
-refused_though file p run named (NotEmpty line) h = h
-refused_though file p run named (Guard line guard) h = h
-refused_though file p run named (Count line) h = h
-refused_though file p run named (Event line) h = h
-refused_though file p run named (MissingEvent e) h = h
 refused_though file p run named (Overflow line) h = λ stays. h (stays p named)
-refused_though file p run named (Order line) h = h
-refused_though file p run named Memory h = h
+refused_though file p run named _ h = h

@@ -1,6 +1,5 @@
 -- The lines of runs that fit a file.
-use Rattle.ta_replay.proofs.Common.{ℕ, ℤ, ◌+◌, ◌-◌, ◌<◌, ◌≡◌, List, [], ◌∷◌, ◌++◌, length, map, take, drop, refl, sym, ap, subst, ◌∙◌, Some, None, length-append, take-append-drop, length-take-le, length-drop, arith, codes, AllByRecursion, length-map, each_append, each_back, each_front, each_get_or, each_map, avoids_known, differ, each_below, Automaton, Pattern, File, Name, Value, Run, RunLine, Fits, LineFits, Slot, name_at, valued_line, parameter_slot, start_slot, parameter_slots, start_slots, slots, value_lines, line_of, lines_of, head_line, run_lines, Avoids, IsWord}
-use Rattle.std.specs.Prelude.{slice_get}
+use Rattle.ta_replay.proofs.Common.{ℕ, ℤ, ◌+◌, ◌-◌, ◌<◌, ◌≡◌, List, [], ◌∷◌, ◌++◌, length, map, take, drop, refl, sym, ap, subst, ◌∙◌, Some, None, length-append, take-append-drop, length-take-le, length-drop, arith, codes, AllByRecursion, length-map, each_append, each_back, each_front, each_get_or, each_map, avoids_known, differ, each_below, Automaton, Pattern, File, Name, Value, Run, RunLine, Fits, LineFits, Slot, name_at, valued_line, parameter_slot, start_slot, parameter_slots, start_slots, slots, value_lines, line_of, lines_of, head_line, run_lines, Avoids, IsWord, slice_get}
 use Rattle.ta_replay.proofs.Statements.{word_of}
 
 -- a line is no end

@@ -1,6 +1,5 @@
 -- A run's text in front of others: the run is determined, and so is what stands behind it.
-use Rattle.ta_replay.proofs.Common.{ℕ, ℤ, ◌≡◌, List, [], ◌∷◌, ◌++◌, map, refl, sym, ap, subst, ◌∙◌, Some, None, Option, append_assoc, codes, append_cancel_left, AllByRecursion, each_append, each_front, avoids_known, first_byte, Automaton, Pattern, File, event_name, pattern_name, name_of, Run, RunLine, Step, Mark, Fits, Slot, name_at, named_line, valued_line, parameter_slot, start_slot, slots, value_lines, line_of, lines_of, run_lines, lines_text, run_text, Avoids}
-use Rattle.std.specs.Prelude.{slice_get}
+use Rattle.ta_replay.proofs.Common.{ℕ, ℤ, ◌≡◌, List, [], ◌∷◌, ◌++◌, map, refl, sym, ap, subst, ◌∙◌, Some, None, Option, append_assoc, codes, append_cancel_left, AllByRecursion, each_append, each_front, avoids_known, first_byte, Automaton, Pattern, File, event_name, pattern_name, name_of, Run, RunLine, Step, Mark, Fits, Slot, name_at, named_line, valued_line, parameter_slot, start_slot, slots, value_lines, line_of, lines_of, run_lines, lines_text, run_text, Avoids, slice_get}
 use Rattle.ta_replay.proofs.RunFacts.{IsNoEnd}
 use Rattle.ta_replay.proofs.OneRun.{front_lines, front_no_end, front_whole, one_run, run_clear}
 

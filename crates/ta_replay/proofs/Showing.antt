@@ -1,11 +1,9 @@
 -- the configurations of a run that shows a pattern, and their values
-use Rattle.ta_replay.proofs.Common.{◌≡◌, ℕ, zero, suc, ◌+◌, ◌<◌, ◌≤◌, ℤ, pos, ◌+ℤ◌, ◌*ℤ◌, List, [], ◌∷◌, ◌++◌, length, take, drop, map, replicate, unsigned_abs, arith, sym, ap, ◌∙◌, refl, subst, slice_get, get_or, Some, length-append, append_assoc, ints, ext_get_or, get_or-take, length-map, length-replicate, same_Some, AllByRecursion, each_take, abs_natural, distributes_right, one_times, get_or-pos, slice_get_left, some_at, take_all, take_next, point_of, Automaton, Pattern, location_place, rule_change, At, Initial, Steps, value_at, total, Whole, fits_after, move_at, value_at-parameter, value_at-shared, value_at-location, total-append, run_length, model_of, places_of, StartsAt, Fires, naturals_at, model_at, model_whole, same_model, starts_natural, Run, RunLine, Step, Mark, LineFits, unit_steps, steps_before, ShowsPattern, ValuesAfter, line_change, FitsPattern}
-use Rattle.std.proofs.lemmas.List.{length-take-le, take-append-drop, append-nil}
-use Rattle.std.proofs.Math.Seq.{take-append_seam}
+use Rattle.ta_replay.proofs.Common.{◌≡◌, ℕ, zero, suc, ◌+◌, ◌<◌, ◌≤◌, ℤ, pos, ◌+ℤ◌, ◌*ℤ◌, List, [], ◌∷◌, ◌++◌, length, take, drop, map, replicate, unsigned_abs, arith, sym, ap, ◌∙◌, refl, subst, slice_get, get_or, Some, length-append, append_assoc, ints, ext_get_or, get_or-take, length-map, length-replicate, same_Some, AllByRecursion, each_take, abs_natural, distributes_right, one_times, get_or-pos, slice_get_left, some_at, take_next, point_of, Automaton, Pattern, location_place, rule_change, At, Initial, Steps, value_at, total, Whole, fits_after, move_at, value_at-parameter, value_at-shared, value_at-location, total-append, run_length, model_of, places_of, StartsAt, Fires, naturals_at, model_at, model_whole, same_model, starts_natural, Run, RunLine, Step, Mark, LineFits, unit_steps, steps_before, ShowsPattern, ValuesAfter, line_change, FitsPattern, length-take-le, take-append-drop, append-nil, take-append_seam, take-length}
 use Rattle.std.proofs.Math.IntN.{zero-*ℤ}
 use Rattle.ta_automaton.specs.Runs as runs
 use Rattle.ta_automaton.proofs.Moves.{Fits}
-use Rattle.ta_automaton.proofs.RunLaws.{along, fits_at}
+use Rattle.ta_automaton.proofs.RunLaws.{along, first_fits, fits_at}
 use Rattle.ta_replay.proofs.Lines.{unit_steps-append}
 use Rattle.ta_replay.proofs.Begins.{first_same}
 use Rattle.ta_replay.proofs.Occurring.{steps_before_le}
@@ -16,11 +14,8 @@ values_of c = map pos (c.parameters ++ c.shared ++ c.counters)
 values-at : (c : runs.Config) (i : ℕ) → point_of (values_of c) i ≡ value_at c i
 values-at c i = get_or-pos (c.parameters ++ c.shared ++ c.counters) i
 
-first_whole : (a : Automaton) (c : runs.Config) → Initial a c → Whole a c
+pub first_whole : (a : Automaton) (c : runs.Config) → Initial a c → Whole a c
 first_whole a c initial = record { parameters = initial.admissible.count; shared = initial.shared_count; counters = initial.locations_count }
-
-first_fits : (a : Automaton) (c : runs.Config) → Initial a c → Fits a c
-first_fits a c initial = record { parameters = initial.admissible.count; shared = initial.shared_count }
 
 -- a shown run's first configuration has the values that the run starts with
 pub shown_starts : (a : Automaton) (p : Pattern) (run : Run) → FitsPattern a p run → (s : ShowsPattern a p run) → StartsAt a run.parameters run.counts (values_of s.first)
@@ -96,7 +91,7 @@ shown_at a p run fits s i b =
     let n = steps_before run.lines i in
     let count = run_length a s.first (unit_steps run.lines) s.later s.follows.steps in
     let le = steps_before_le run.lines i (length run.lines) b in
-    let all = ap (λ (lines : List RunLine). length (unit_steps lines)) (take_all run.lines) in
+    let all = ap (λ (lines : List RunLine). length (unit_steps lines)) (take-length run.lines) in
     let here = some_at (s.first ∷ s.later) n (omega arith) in
     let fitting = fits_at a s.first (unit_steps run.lines) s.later s.follows n here.0 here.1 in
     record {

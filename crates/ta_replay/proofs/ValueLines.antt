@@ -1,6 +1,5 @@
 -- The lines of values.
-use Rattle.ta_replay.proofs.Common.{ℕ, ℤ, ◌+◌, ◌<◌, ◌≤◌, ◌≡◌, List, [], ◌∷◌, ◌++◌, length, map, refl, sym, ap, subst, ◌∙◌, Some, length-append, arith, get_or, option_map, slice_get-map, slice_get_read, slice_get_within, each_append, each_push, slice_get_left, slice_get_right, Value, RunFault, Slot, valued_line, value_lines, lines_text, ValueRead, ValueRefused, ValuesBegun, ValuesRead, ValuesStopped, ValuesFault}
-use Rattle.std.specs.Prelude.{slice_get}
+use Rattle.ta_replay.proofs.Common.{ℕ, ℤ, ◌+◌, ◌<◌, ◌≤◌, ◌≡◌, List, [], ◌∷◌, ◌++◌, length, map, refl, sym, ap, subst, ◌∙◌, Some, length-append, arith, get_or, option_map, slice_get-map, slice_get_read, slice_get_within, each_append, each_push, slice_get_left, slice_get_right, Value, RunFault, Slot, valued_line, value_lines, lines_text, ValueRead, ValueRefused, ValuesBegun, ValuesRead, ValuesStopped, ValuesFault, slice_get}
 use Rattle.ta_replay.specs.declared.fault.RunFault.TheVariants as fault
 use Rattle.ta_replay.proofs.ListSteps.{read_more, read_both}
 

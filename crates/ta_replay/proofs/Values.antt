@@ -1,11 +1,11 @@
 -- what the values of a configuration say
-use Rattle.ta_replay.proofs.Common.{◌≡◌, ℕ, pos, length, sym, ap, ◌∙◌, subst, slice_get, Some, AllByRecursion, each_from_at, weaker_each, Row, Automaton, Comparison, Condition, Event, Pattern, EventWithin, Config, Over, RowsOver, config_of, places_of, IsOf, KeepsEmpty, counter_there, keeps_empty, PatternOf, EmptyAt}
+use Rattle.ta_replay.proofs.Common.{◌≡◌, ℕ, pos, length, sym, ap, ◌∙◌, subst, slice_get, Some, AllByRecursion, each_from_at, Row, Automaton, Comparison, Condition, Event, Pattern, EventWithin, Config, Over, RowsOver, config_of, places_of, IsOf, KeepsEmpty, counter_there, keeps_empty, PatternOf, EmptyAt, each_weaker}
 use Rattle.ta_automaton.specs.Forms.{ConditionOver, RowOver}
 use Rattle.ta_linear.specs.Terms.{IsNormal}
 
 over_condition : (places : ℕ) (condition : Condition) → ConditionOver places condition → Over places condition
 over_condition places condition all =
-    weaker_each (λ (k : Comparison). AllByRecursion (RowOver places) k.rows) (λ (k : Comparison). RowsOver places k.rows) (λ k rows. weaker_each (RowOver places) (λ (row : Row). IsNormal 0 places row.form.terms) (λ row over. over.below) k.rows rows) condition.comparisons all
+    each_weaker (λ (k : Comparison). AllByRecursion (RowOver places) k.rows) (λ (k : Comparison). RowsOver places k.rows) condition.comparisons (λ k rows. each_weaker (RowOver places) (λ (row : Row). IsNormal 0 places row.form.terms) k.rows (λ row over. over.below) rows) all
 
 pub event_over : (a : Automaton) (p : Pattern) (config : Config) → PatternOf a p → IsOf a config → (e : ℕ) (event : Event) → slice_get p.events e ≡ Some event → Over (length config.values.items) event.condition
 event_over a p config within is e event at =

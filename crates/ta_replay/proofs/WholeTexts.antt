@@ -1,6 +1,5 @@
 -- What the whole of a text says.
-use Rattle.ta_replay.proofs.Common.{ℕ, ℤ, ◌+◌, ◌≡◌, List, [], ◌∷◌, ◌++◌, length, map, refl, sym, ap, ◌∙◌, Some, append_assoc, append-nil, codes, length-map, Pattern, File, Run, RunLine, RunFault, parameter_slot, start_slot, parameter_slots, start_slots, slots, value_lines, line_of, head_line, lines_text, IsRunText, TextFault, HeadRead, ValuesRead, ValuesFault, StepsRead, StepsFault}
-use Rattle.std.specs.Prelude.{slice_get}
+use Rattle.ta_replay.proofs.Common.{ℕ, ℤ, ◌+◌, ◌≡◌, List, [], ◌∷◌, ◌++◌, length, map, refl, sym, ap, ◌∙◌, Some, append_assoc, append-nil, codes, length-map, Pattern, File, Run, RunLine, RunFault, parameter_slot, start_slot, parameter_slots, start_slots, slots, value_lines, line_of, head_line, lines_text, IsRunText, TextFault, HeadRead, ValuesRead, ValuesFault, StepsRead, StepsFault, slice_get}
 use Rattle.ta_replay.proofs.ListSteps.{read_more}
 use Rattle.ta_replay.proofs.ValueLines.{values_left, values_right, values_both}
 use Rattle.ta_replay.proofs.RunFacts.{run_lines_are}

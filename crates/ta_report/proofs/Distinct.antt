@@ -116,26 +116,20 @@ verdict_same file (Safe m k) (Safe n l) r s fv fw e =
     let first = number_same 32 m n _ _ (lit< tt) fv.0 fw.0 (append_cancel_left (codes "safe, ") _ _ (sym (flat m k r) ∙ e ∙ flat n l s)) in
     let second = number_same 32 k l _ _ (lit< tt) fv.1 fw.1 (append_cancel_left (codes "nodes, ") _ _ first.1) in
     (ap (λ x. Safe x k) first.0 ∙ ap (λ y. Safe n y) second.0, append_cancel_left (codes "leaves\n") r s second.1)
-verdict_same file (Safe m k) (Unsafe n run) r s fv fw e = heads_apart 115 117 _ _ (inl (lit< tt)) e
-verdict_same file (Safe m k) (Spent n) r s fv fw e = heads_apart 115 117 _ _ (inl (lit< tt)) e
-verdict_same file (Safe m k) (Overflow n j) r s fv fw e = heads_apart 115 117 _ _ (inl (lit< tt)) e
-verdict_same file (Unsafe m run) (Safe n l) r s fv fw e = heads_apart 117 115 _ _ (inr (lit< tt)) e
 verdict_same file (Unsafe m run) (Unsafe n other) r s fv fw e =
     let first = number_same 32 m n _ _ (lit< tt) fv.0 fw.0 (append_cancel_left (codes "unsafe, ") _ _ (sym (unsafe_flat m run (run_text file run ++ r)) ∙ e ∙ unsafe_flat n other (run_text file other ++ s))) in
     let second = run_front file run other r s fv.1 fw.1 (append_cancel_left (codes "nodes\n") _ _ first.1) in
     (ap (λ x. Unsafe x run) first.0 ∙ ap (λ y. Unsafe n y) second.0, second.1)
-verdict_same file (Unsafe m run) (Spent n) r s fv fw e = apart_third 117 110 115 107 _ _ (inr (lit< tt)) e
-verdict_same file (Unsafe m run) (Overflow n j) r s fv fw e = apart_third 117 110 115 107 _ _ (inr (lit< tt)) e
-verdict_same file (Spent m) (Safe n l) r s fv fw e = heads_apart 117 115 _ _ (inr (lit< tt)) e
-verdict_same file (Spent m) (Unsafe n run) r s fv fw e = apart_third 117 110 107 115 _ _ (inl (lit< tt)) e
 verdict_same file (Spent m) (Spent n) r s fv fw e = let parts = spent_same m n r s fv fw e in (ap Spent parts.0, parts.1)
 verdict_same file (Spent m) (Overflow n j) r s fv fw e = absurd (spent_other m n j r s fv e)
-verdict_same file (Overflow m j) (Safe n l) r s fv fw e = heads_apart 117 115 _ _ (inr (lit< tt)) e
-verdict_same file (Overflow m j) (Unsafe n run) r s fv fw e = apart_third 117 110 107 115 _ _ (inl (lit< tt)) e
 verdict_same file (Overflow m j) (Spent n) r s fv fw e = absurd (spent_other n m j s r fw (sym e))
 verdict_same file (Overflow m j) (Overflow n k) r s fv fw e =
     let parts = overflow_same m n j k r s fv fw e in
     (ap (λ x. Overflow x j) parts.0 ∙ ap (λ i. Overflow n i) parts.1, parts.2)
+verdict_same file (Safe m k) _ r s fv fw e = heads_apart 115 117 _ _ (inl (lit< tt)) e
+verdict_same file _ (Safe n l) r s fv fw e = heads_apart 117 115 _ _ (inr (lit< tt)) e
+verdict_same file (Unsafe m run) _ r s fv fw e = apart_third 117 110 115 107 _ _ (inr (lit< tt)) e
+verdict_same file _ (Unsafe n run) r s fv fw e = apart_third 117 110 107 115 _ _ (inl (lit< tt)) e
 
 -- a line, and what stands behind it
 line_flat : (p : Pattern) (v : Verdict) (r : List ℕ) → verdict_line p v ++ r ≡ codes "pattern " ++ (p.name ++ (codes ": " ++ (verdict_text v ++ (10 ∷ r))))

@@ -147,9 +147,7 @@ item_at file (p ∷ ps) (v ∷ vs) (suc place) found e = let more = item_at file
 -- its name
 name_at : (file : File) (p : Pattern) (v : Verdict) → get (codes "name") (verdict_data file p v) ≡ Some (json.string p.name)
 name_at file p (Safe nodes leaves) = refl
-name_at file p (Unsafe nodes run) = refl
-name_at file p (Spent nodes) = refl
-name_at file p (Overflow node kind) = refl
+name_at file p _ = refl
 
 -- what a line says of a pattern
 pub record SaidIn (file : File) (vs : List Verdict) (number : ℕ) (p : Pattern) (found : json.Data) : Type 0 where

@@ -278,9 +278,7 @@ more_plain file (Overflow node kind) fits = tt
 
 more_text : (file : File) (v : Verdict) → run_part file v ≡ lines_text (run_more file v)
 more_text file (Safe nodes leaves) = refl
-more_text file (Unsafe nodes run) = refl
-more_text file (Spent nodes) = refl
-more_text file (Overflow node kind) = refl
+more_text file _ = refl
 
 verdicts_clear : (rest : Bool) (file : File) (vs : List Verdict) → AllByRecursion (VerdictFits file) vs → AllByRecursion IsSaid (map (said_of rest file) vs)
 verdicts_clear rest file [] fits = tt
@@ -307,27 +305,22 @@ verdict_get rest file (w ∷ vs) (suc k) v at = verdict_get rest file vs k v at
 
 safe_word : (v : Verdict) (rest behind : List ℕ) → verdict_text v ++ (10 ∷ rest) ≡ codes "safe, " ++ behind → (n : ℕ) × (l : ℕ) × (v ≡ Safe n l)
 safe_word (Safe n l) rest behind e = (n, l, refl)
-safe_word (Unsafe n run) rest behind e = heads_apart 117 115 _ _ (inr (lit< tt)) e
-safe_word (Spent n) rest behind e = heads_apart 117 115 _ _ (inr (lit< tt)) e
-safe_word (Overflow n kind) rest behind e = heads_apart 117 115 _ _ (inr (lit< tt)) e
+safe_word _ rest behind e = heads_apart 117 115 _ _ (inr (lit< tt)) e
 
 unsafe_word : (v : Verdict) (rest behind : List ℕ) → verdict_text v ++ (10 ∷ rest) ≡ codes "unsafe, " ++ behind → (n : ℕ) × (run : RunOf) × (v ≡ Unsafe n run)
 unsafe_word (Safe n l) rest behind e = heads_apart 115 117 _ _ (inl (lit< tt)) e
 unsafe_word (Unsafe n run) rest behind e = (n, run, refl)
-unsafe_word (Spent n) rest behind e = apart_third 117 110 107 115 _ _ (inl (lit< tt)) e
-unsafe_word (Overflow n kind) rest behind e = apart_third 117 110 107 115 _ _ (inl (lit< tt)) e
+unsafe_word _ rest behind e = apart_third 117 110 107 115 _ _ (inl (lit< tt)) e
 
 rest_safe_word : (v : Verdict) (rest behind : List ℕ) → (rest_word v ++ verdict_text v) ++ (10 ∷ rest) ≡ codes "rest safe, " ++ behind → (n : ℕ) × (l : ℕ) × (v ≡ Safe n l)
 rest_safe_word (Safe n l) rest behind e = (n, l, refl)
 rest_safe_word (Unsafe n run) rest behind e = heads_apart 117 115 _ _ (inr (lit< tt)) (append_cancel_left (codes "rest ") _ _ e)
-rest_safe_word (Spent n) rest behind e = heads_apart 117 114 _ _ (inr (lit< tt)) e
-rest_safe_word (Overflow n kind) rest behind e = heads_apart 117 114 _ _ (inr (lit< tt)) e
+rest_safe_word _ rest behind e = heads_apart 117 114 _ _ (inr (lit< tt)) e
 
 rest_unsafe_word : (v : Verdict) (rest behind : List ℕ) → (rest_word v ++ verdict_text v) ++ (10 ∷ rest) ≡ codes "rest unsafe, " ++ behind → (n : ℕ) × (run : RunOf) × (v ≡ Unsafe n run)
 rest_unsafe_word (Safe n l) rest behind e = heads_apart 115 117 _ _ (inl (lit< tt)) (append_cancel_left (codes "rest ") _ _ e)
 rest_unsafe_word (Unsafe n run) rest behind e = (n, run, refl)
-rest_unsafe_word (Spent n) rest behind e = heads_apart 117 114 _ _ (inr (lit< tt)) e
-rest_unsafe_word (Overflow n kind) rest behind e = heads_apart 117 114 _ _ (inr (lit< tt)) e
+rest_unsafe_word _ rest behind e = heads_apart 117 114 _ _ (inr (lit< tt)) e
 
 within_name : (places locations : ℕ) (p : Pattern) → PatternWithin places locations p → Name p.name
 within_name places locations p is = is.name

@@ -13,9 +13,6 @@ abbrev pub word_told : Bool → List ℕ → ℕ → List ℕ
 word_told false numbers number = if is_proved numbers number then codes "proved" else codes "not proved"
 word_told true numbers number = if is_proved numbers number then codes "rest proved" else codes "not rest proved"
 
-abbrev pub proof_word : List ℕ → ℕ → List ℕ
-proof_word numbers number = word_told false numbers number
-
 -- a line for each pattern, of which the first has this number
 abbrev pub proofs_told : Bool → List ℕ → ℕ → List Pattern → List ℕ
 proofs_told rest numbers number [] = []

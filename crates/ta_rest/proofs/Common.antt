@@ -5,7 +5,7 @@ pub use Rattle.std.proofs.lemmas.Bool.Decides.{eqb_tells, nat_tests}
 pub use Rattle.std.proofs.lemmas.Int.{ints}
 pub use Rattle.std.proofs.lemmas.Nat.{pow_pos}
 pub use Rattle.std.proofs.lemmas.Option.{same_Some, slice_get-get_or, slice_get_read, slice_get_within}
-pub use Rattle.std.specs.List.{AllByRecursion}
+pub use Rattle.std.specs.List.{AllByRecursion, range_with_len}
 pub use Rattle.std.specs.Prelude.{filter}
 pub use Rattle.ta_automaton.proofs.Moves.{Fits, value_at-location}
 pub use Rattle.ta_automaton.proofs.Thresholds.{from_within, to_within}
@@ -22,9 +22,9 @@ pub use Rattle.ta_base.proofs.Bits.{all_below-at, all_below-false, all_below-fro
 pub use Rattle.ta_base.proofs.Booleans.{implies-at, implies-from}
 pub use Rattle.ta_base.proofs.Lists.{at_most_first, get_end, push_cases, slice_get_left, some_at}
 pub use Rattle.ta_base.proofs.Members.{In-filter, cond_child, in_filter}
-pub use Rattle.ta_base.proofs.Naturals.{item_moves, not_same, times_le_left}
+pub use Rattle.ta_base.proofs.Naturals.{item_moves, not_same}
 pub use Rattle.ta_base.specs.Lists.{Distinct, EachFrom}
-pub use Rattle.ta_base.specs.Masks.{In, all_below, has_bit, implies, numbers_from}
+pub use Rattle.ta_base.specs.Masks.{In, all_below, has_bit, implies}
 pub use Rattle.ta_encode.proofs.Moments.{AllHold-append, AllHold-left, Moment, RowFails, guards_fail, opposite_value}
 pub use Rattle.ta_encode.proofs.Safety.{SolvesAlong, extend, none_along, prefix_legal, prefix_rows, take_apart}
 pub use Rattle.ta_encode.specs.Laws.{EndsAt, RunsThrough, WordFires, position_in, steps_of}

@@ -9,38 +9,9 @@ use Rattle.ta_automaton.specs.Patterns.{EventWithin, PatternWithin, PatternsShap
 use Rattle.ta_rest.proofs.EndingLaws.{ending_has}
 
 no_mark : (m : Mark) → mark_bytes m ≡ rest_name → ⊥
-no_mark mark.Semicolon e = cc
-no_mark mark.Comma e = cc
-no_mark mark.Colon e = cc
-no_mark mark.OpenBrace e = cc
-no_mark mark.CloseBrace e = cc
-no_mark mark.Open e = cc
-no_mark mark.Close e = cc
-no_mark mark.Star e = cc
-no_mark mark.Plus e = cc
-no_mark mark.Minus e = cc
-no_mark mark.Less e = cc
-no_mark mark.More e = cc
-no_mark mark.PlusEquals e = cc
-no_mark mark.Arrow e = cc
-no_mark mark.AtMost e = cc
-no_mark mark.Equal e = cc
-no_mark mark.AtLeast e = cc
-no_mark mark.Automaton e = cc
-no_mark mark.Parameters e = cc
-no_mark mark.Shared e = cc
-no_mark mark.Locations e = cc
-no_mark mark.Initial e = cc
-no_mark mark.Processes e = cc
-no_mark mark.Resilience e = cc
 no_mark mark.Rule e = false≢true (ap (λ (xs : List ℕ). eqb (get_or xs 1 0) 101) e)
 no_mark mark.When e = false≢true (ap (λ (xs : List ℕ). eqb (get_or xs 1 0) 101) e)
-no_mark mark.Do e = cc
-no_mark mark.Pattern e = cc
-no_mark mark.Start e = cc
-no_mark mark.Empty e = cc
-no_mark mark.Event e = cc
-no_mark mark.After e = cc
+no_mark _ e = cc
 
 -- `rest` is a name
 rest_is_name : Name rest_name

@@ -1,9 +1,10 @@
 -- the heights of the locations of all processes together fall with each step between locations
-use Rattle.ta_rest.proofs.Common.{◌≡◌, inl, inr, ℕ, zero, suc, ◌+◌, ◌*◌, ◌-◌, ◌<◌, ◌≤◌, pos, ◌*ℤ◌, ◌≤ℤ◌, List, [], ◌∷◌, length, sum, eqb, cond, not, Bool, true, false, arith, sym, ap, ◌∙◌, refl, subst, slice_get, get_or, add-mul, ints, false≢true, true≢false, eqb_tells, nat_tests, item_moves, times_le_left, Automaton, Config, Step, Steps, from_within, to_within, LoopsAlone}
+use Rattle.ta_rest.proofs.Common.{◌≡◌, inl, inr, ℕ, zero, suc, ◌+◌, ◌*◌, ◌-◌, ◌<◌, ◌≤◌, pos, ◌*ℤ◌, ◌≤ℤ◌, List, [], ◌∷◌, length, sum, eqb, cond, not, Bool, true, false, arith, sym, ap, ◌∙◌, refl, subst, slice_get, get_or, add-mul, ints, false≢true, true≢false, eqb_tells, nat_tests, item_moves, Automaton, Config, Step, Steps, from_within, to_within, LoopsAlone}
 use Rattle.std.proofs.lemmas.List.Sums.{sum_by-cons}
 use Rattle.std.proofs.Math.IntN.{pos-*ℤ-pos}
 use Rattle.ta_rest.specs.Moves.{MovesAreBounded, is_move, moves_count}
 use Rattle.ta_rest.proofs.Heights.{height_of, height_below, height_falls}
+use Rattle.std.proofs.Math.Nat.{mul-le-mul_left}
 
 -- counters, each times its location's height; the first location has number k
 unfoldable weight : (ℕ → ℕ) → ℕ → List ℕ → ℕ
@@ -86,7 +87,7 @@ weight_most : (h : ℕ → ℕ) (m k : ℕ) (cs : List ℕ) → ((l : ℕ) → l
 unfolding weight
 weight_most h m k [] low = omega arith
 weight_most h m k (c ∷ cs) low =
-    let here = times_le_left c (h k) m (low k (omega arith)) in
+    let here = mul-le-mul_left c (low k (omega arith)) in
     let rest = weight_most h m (k + 1) cs (λ l b. low l (omega arith)) in
     let all : sum (c ∷ cs) * m ≡ (c + sum cs) * m = ap (λ n. n * m) (sum_by-cons (λ n. n) c cs) in
     omega (arith, add-mul c (sum cs) m)

@@ -1,7 +1,6 @@
 -- a run that has come to rest solves the system of rest of its word
-use Rattle.ta_rest.proofs.Common.{◌≡◌, inl, inr, ℕ, zero, suc, ◌+◌, ◌-◌, ◌≤◌, ◌^◌, pos, List, [], ◌∷◌, map, length, eqb, cond, Bool, true, false, not, arith, sym, ap, ◌∙◌, refl, subst, slice_get, get_or, Some, None, Option, reverse, filter, ints, false≢true, true≢false, cases_Bool, and_parts, eq-eqb, not-false, not-true, slice_get_within, same_Some, all_below-at, all_below-false, bit_true, implies-at, cond_child, in_filter, value_of, RowHolds, Row, Rule, Automaton, Pattern, has_bit, all_below, implies, numbers_from, In, Whole, location_place, Config, MaskedHold, Steps, value_at, Fits, value_at-location, run_length, Element, LegalWord, children, has_fallen, has_rise, is_complete, EndsAt, LinearRow, AllHold, counter_row, guard_rows, negated, opposite, word_rows, meanings, AllHold-append, AllHold-left, Moment, RowFails, guards_fail, opposite_value, SolvesAlong, extend, none_along, prefix_legal, prefix_rows, take_apart, AtRest, end_rows, leads_out, must_be_left, rest_rows, rest_search, RestingRunsSolve, RefutedEndingsRest, RefutedEndingsShow}
+use Rattle.ta_rest.proofs.Common.{◌≡◌, inl, inr, ℕ, zero, suc, ◌+◌, ◌-◌, ◌≤◌, ◌^◌, pos, List, [], ◌∷◌, map, length, eqb, cond, Bool, true, false, not, arith, sym, ap, ◌∙◌, refl, subst, slice_get, get_or, Some, None, Option, reverse, filter, ints, false≢true, true≢false, cases_Bool, and_parts, eq-eqb, not-false, not-true, slice_get_within, same_Some, all_below-at, all_below-false, bit_true, implies-at, cond_child, in_filter, value_of, RowHolds, Row, Rule, Automaton, Pattern, has_bit, all_below, implies, range_with_len, In, Whole, location_place, Config, MaskedHold, Steps, value_at, Fits, value_at-location, run_length, Element, LegalWord, children, has_fallen, has_rise, is_complete, EndsAt, LinearRow, AllHold, counter_row, guard_rows, negated, opposite, word_rows, meanings, AllHold-append, AllHold-left, Moment, RowFails, guards_fail, opposite_value, SolvesAlong, extend, none_along, prefix_legal, prefix_rows, take_apart, AtRest, end_rows, leads_out, must_be_left, rest_rows, rest_search, RestingRunsSolve, RefutedEndingsRest, RefutedEndingsShow, eqb-true}
 use Rattle.std.proofs.lemmas.List.{append-nil}
-use Rattle.std.proofs.lemmas.Bool.{eqb-true}
 use Rattle.ta_base.proofs.Integers.{is_negative, negative_false, negative_true}
 use Rattle.ta_automaton.proofs.Fire.{fire, fire_step, step_whole}
 use Rattle.ta_implied.specs.Implied.{Good}
@@ -67,9 +66,9 @@ rest_holds a p start past vs configs positions ends w rests =
           absurd (true≢false (sym risen ∙ ap (has_rise past) (sym same) ∙ not-true (has_rise past (0 + j)) t)))
     ]) in
     let guards : AllHold vs (map negated (guard_rows a ms (λ i. not (has_rise past i)) 0 a.rise)) = subst (λ (v : List ℕ). AllHold v (map negated (guard_rows a ms (λ i. not (has_rise past i)) 0 a.rise))) (append-nil vs) (guards_fail a ms vs c m [] (λ i. not (has_rise past i)) 0 a.rise fails) in
-    let ls = filter (must_be_left a p start past) (numbers_from 0 (length a.locations)) in
+    let ls = filter (must_be_left a p start past) (range_with_len 0 (length a.locations)) in
     let none : (l : ℕ) → In l ls → get_or c.counters l 0 ≡ 0 = (λ l i.
-    let parts = and_parts (not (has_bit p.empty l)) (not (all_below (length a.rules) (λ r. not (leads_out a start past l (slice_get a.rules r))))) (in_filter (must_be_left a p start past) l (numbers_from 0 (length a.locations)) i).0 in
+    let parts = and_parts (not (has_bit p.empty l)) (not (all_below (length a.rules) (λ r. not (leads_out a start past l (slice_get a.rules r))))) (in_filter (must_be_left a p start past) l (range_with_len 0 (length a.locations)) i).0 in
     let found = all_below-false (length a.rules) (λ r. not (leads_out a start past l (slice_get a.rules r))) (not-true _ parts.1) in
     nobody a start past c w rests (λ i row at t. (ends.risen i row at).1 t) (λ j row at f. (ends.fallen j row at).1 f) l found.0 (slice_get a.rules found.0) refl (not-false (leads_out a start past l (slice_get a.rules found.0)) found.2)) in
     AllHold-append vs (map negated (guard_rows a ms (λ i. not (has_rise past i)) 0 a.rise)) (map (λ l. opposite (counter_row a ms l)) ls) guards (empty_rows a ms vs c m fits ls none)

@@ -1,8 +1,7 @@
 -- the run of a solution of a word's system of rest comes to rest
-use Rattle.ta_rest.proofs.Common.{◌≡◌, ◌≢◌, inl, inr, ℕ, ◌+◌, ◌<◌, ◌≤◌, ℤ, pos, ◌≤ℤ◌, List, [], ◌∷◌, ◌++◌, map, length, eqb, cond, Bool, true, false, not, arith, sym, ap, ◌∙◌, refl, subst, slice_get, get_or, Some, None, Option, IsBitSet, filter, ints, false≢true, true≢false, cases_Bool, and_parts, and_from, not-true, not_from_false, eqb_tells, slice_get_within, same_Some, all_below-at, all_below-from, at_set, bit_set, implies-from, some_at, In-filter, value_of, RowHolds, Row, Rule, Automaton, Pattern, has_bit, all_below, implies, numbers_from, In, Whole, location_place, Config, Move, value_at, Fits, value_at-location, from_within, Element, LegalWord, children, follows, has_event, has_fallen, has_rise, is_complete, RunsThrough, WordFires, position_in, steps_of, AllHold, counter_row, guard_rows, negated, opposite, row_value, word_rows, meanings, start_meanings, AllHold-left, RowFails, opposite_value, take_apart, ComesLast, events_below, EndsOfSolutionsRest, SolutionsComeToRest, StepsOfSolutionsRest, AtRest, end_rows, leads_out, must_be_left, rest_rows, some_below}
+use Rattle.ta_rest.proofs.Common.{◌≡◌, ◌≢◌, inl, inr, ℕ, ◌+◌, ◌<◌, ◌≤◌, ℤ, pos, ◌≤ℤ◌, List, [], ◌∷◌, ◌++◌, map, length, eqb, cond, Bool, true, false, not, arith, sym, ap, ◌∙◌, refl, subst, slice_get, get_or, Some, None, Option, IsBitSet, filter, ints, false≢true, true≢false, cases_Bool, and_parts, and_from, not-true, not_from_false, eqb_tells, slice_get_within, same_Some, all_below-at, all_below-from, at_set, bit_set, implies-from, some_at, In-filter, value_of, RowHolds, Row, Rule, Automaton, Pattern, has_bit, all_below, implies, range_with_len, In, Whole, location_place, Config, Move, value_at, Fits, value_at-location, from_within, Element, LegalWord, children, follows, has_event, has_fallen, has_rise, is_complete, RunsThrough, WordFires, position_in, steps_of, AllHold, counter_row, guard_rows, negated, opposite, row_value, word_rows, meanings, start_meanings, AllHold-left, RowFails, opposite_value, take_apart, ComesLast, events_below, EndsOfSolutionsRest, SolutionsComeToRest, StepsOfSolutionsRest, AtRest, end_rows, leads_out, must_be_left, rest_rows, some_below, Event as PatternEvent}
 use Rattle.std.proofs.lemmas.Nat.Bits.{bit_at_ones}
 use Rattle.ta_base.proofs.Ranges.{In-numbers, at_index}
-use Rattle.ta_automaton.specs.declared.pattern.Event.{Event as PatternEvent}
 use Rattle.ta_automaton.proofs.Sums.{terms_value-same}
 use Rattle.ta_words.specs.declared.element.Element.TheVariants.{Event, Rise, Fall}
 use Rattle.ta_encode.proofs.Fallen.{fallen_fail, guard_fails}
@@ -46,9 +45,9 @@ nobody_left : (a : Automaton) (p : Pattern) (start : ℕ) (past : List Element) 
 unfolding end_rows
 nobody_left a p start past vs c end l within left =
     let ms = meanings a p start past in
-    let ls = filter (must_be_left a p start past) (numbers_from 0 (length a.locations)) in
+    let ls = filter (must_be_left a p start past) (range_with_len 0 (length a.locations)) in
     let rows = AllHold-right vs (map negated (guard_rows a ms (λ i. not (has_rise past i)) 0 a.rise)) (map (λ m. opposite (counter_row a ms m)) ls) end.ends in
-    let row = row_in vs a p start past ls rows l (In-filter (must_be_left a p start past) l (numbers_from 0 (length a.locations)) left (In-numbers l 0 (length a.locations) (omega arith) (omega arith))) in
+    let row = row_in vs a p start past ls rows l (In-filter (must_be_left a p start past) l (range_with_len 0 (length a.locations)) left (In-numbers l 0 (length a.locations) (omega arith) (omega arith))) in
     let fits : Fits a c = record { parameters = end.whole.parameters; shared = end.whole.shared } in
     let same = end.values (location_place a l) in
     let counter : row_value vs (counter_row a ms l) ≡ place_value a ms vs (location_place a l) = omega (arith, ints) in

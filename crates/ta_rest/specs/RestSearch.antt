@@ -4,7 +4,8 @@ use Rattle.std.specs.Prelude.{ℕ, ◌==◌, Bool, false, cond, not, ◌&&◌, L
 use Rattle.ta_automaton.specs.declared.rule.Rule.{Rule}
 use Rattle.ta_automaton.specs.declared.automaton.Automaton.{Automaton}
 use Rattle.ta_automaton.specs.declared.pattern.Pattern.{Pattern}
-use Rattle.ta_base.specs.Masks.{has_bit, all_below, implies, numbers_from}
+use Rattle.ta_base.specs.Masks.{has_bit, all_below, implies}
+use Rattle.std.specs.List.{range_with_len}
 use Rattle.ta_words.specs.declared.element.Element.{Element}
 use Rattle.ta_words.specs.Words.{children, has_fallen, has_rise, is_complete}
 use Rattle.ta_encode.specs.Unknowns.{meanings}
@@ -33,7 +34,7 @@ must_be_left a p start past l = not (has_bit p.empty l) && some_below (length a.
 unfoldable pub end_rows : Automaton → Pattern → ℕ → List Element → List LinearRow
 end_rows a p start past =
     map negated (guard_rows a (meanings a p start past) (λ i. not (has_rise past i)) 0 a.rise)
-    ++ map (λ l. opposite (counter_row a (meanings a p start past) l)) (filter (must_be_left a p start past) (numbers_from 0 (length a.locations)))
+    ++ map (λ l. opposite (counter_row a (meanings a p start past) l)) (filter (must_be_left a p start past) (range_with_len 0 (length a.locations)))
 
 -- the rows of a word, and of rest where it is complete
 unfoldable pub rest_rows : Automaton → Pattern → ℕ → List Element → List LinearRow

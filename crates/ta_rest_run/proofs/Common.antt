@@ -1,5 +1,5 @@
 -- The names that the proofs of this crate cite, passed on from one place. Declares nothing.
-pub use Rattle.std.proofs.Common.{Bool, IsBitSet, List, None, Option, Some, [], ap, append-nil, append_assoc, arith, cond, false, get_or, inl, inr, length, length-append, map, refl, reverse, slice_get, subst, suc, sym, take, true, unsigned_abs, zero, ℕ, ℤ, ◌++◌, ◌+◌, ◌<◌, ◌^◌, ◌∙◌, ◌∷◌, ◌≡◌, ◌≤◌}
+pub use Rattle.std.proofs.Common.{Bool, IsBitSet, List, None, Some, [], ap, append-nil, append_assoc, arith, cond, false, get_or, inl, inr, length, length-append, map, refl, reverse, slice_get, subst, suc, sym, take, true, unsigned_abs, zero, ℕ, ℤ, ◌++◌, ◌+◌, ◌<◌, ◌^◌, ◌∙◌, ◌∷◌, ◌≡◌, ◌≤◌}
 pub use Rattle.std.proofs.lemmas.Bool.{cases_Bool, false≢true, true≢false}
 pub use Rattle.std.proofs.lemmas.List.{append_cancel_right, ext_get_or, reverse-append, reverse-reverse}
 pub use Rattle.std.proofs.lemmas.Option.{same_Some, slice_get-get_or, slice_get_within}
@@ -9,6 +9,7 @@ pub use Rattle.ta_automaton.proofs.Thresholds.{after_earlier, pattern_within}
 pub use Rattle.ta_automaton.specs.Runs.{At, Config, Holds, InScope, Initial}
 pub use Rattle.ta_automaton.specs.declared.automaton.Automaton.{Automaton}
 pub use Rattle.ta_automaton.specs.declared.file.File.{File}
+pub use Rattle.ta_automaton.specs.declared.pattern.Event.{Event}
 pub use Rattle.ta_automaton.specs.declared.pattern.Pattern.{Pattern}
 pub use Rattle.ta_base.proofs.Bits.{at_set, bit_set, bit_true}
 pub use Rattle.ta_base.proofs.Each.{each_at, each_back, each_from, each_front}

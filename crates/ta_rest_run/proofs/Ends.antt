@@ -5,6 +5,7 @@ use Rattle.ta_automaton.specs.Places.{Whole}
 use Rattle.ta_automaton.specs.Runs as runs
 use Rattle.ta_automaton.proofs.RunLaws.{counters_by_firings, parameters_stay, shared_by_firings}
 use Rattle.ta_counter.proofs.Starting.{in_or_not, not_contained}
+use Rattle.ta_replay.proofs.Showing.{first_whole}
 use Rattle.ta_rest.proofs.Resting.{whole_at}
 
 -- two configurations with the same parameters and counters
@@ -24,11 +25,8 @@ begins_same a run c d i j b e = record {
 config_same : (c d : Config) → c.parameters ≡ d.parameters → c.shared ≡ d.shared → c.counters ≡ d.counters → c ≡ d
 config_same c d p s q = ap (λ (x : List ℕ). record c { parameters = x }) p ∙ ap (λ (x : List ℕ). record c { parameters = d.parameters; shared = x }) s ∙ ap (λ (x : List ℕ). record d { counters = x }) q
 
-initial_whole : (a : Automaton) (c : Config) → Initial a c → Whole a c
-initial_whole a c i = record { parameters = i.admissible.count; shared = i.shared_count; counters = i.locations_count }
-
 pub end_whole : (a : Automaton) (first : Config) (rules : List ℕ) (later : List Config) → runs.Run a first rules later → (k : ℕ) (c : Config) → At first later k c → Whole a c
-end_whole a first rules later run k c at = whole_at a first rules later (initial_whole a first run.initial) run.steps k c at
+end_whole a first rules later run k c at = whole_at a first rules later (first_whole a first run.initial) run.steps k c at
 
 -- they are the same after as many of the same steps
 pub ends_same : (a : Automaton) (first other : Config) (rules : List ℕ) (later latest : List Config) → runs.Run a first rules later → runs.Run a other rules latest → SameStart first other → (k : ℕ) (c d : Config) → At first later k c → At other latest k d → c ≡ d

@@ -1,7 +1,6 @@
 -- the run of a solution of an added event's word ends with its mark
-use Rattle.ta_rest_run.proofs.Common.{◌≡◌, inl, inr, ℕ, ◌≤◌, ℤ, true, List, [], ◌∷◌, ◌++◌, map, length, length-append, append_assoc, append-nil, reverse, arith, sym, ap, ◌∙◌, subst, slice_get, None, Option, reverse-append, reverse-reverse, same_Some, AllByRecursion, bit_set, each_back, Automaton, Pattern, File, has_bit, Element, Solution, EndingsOf, by_event, Run, RunLine, Mark, Fits, LineFits, WitnessOf, PiecesBack, pieces_back, values_of, parts_of, IsRestSolution}
+use Rattle.ta_rest_run.proofs.Common.{◌≡◌, inl, inr, ℕ, ◌≤◌, ℤ, true, List, [], ◌∷◌, ◌++◌, map, length, length-append, append_assoc, append-nil, reverse, arith, sym, ap, ◌∙◌, subst, slice_get, None, reverse-append, reverse-reverse, same_Some, AllByRecursion, bit_set, each_back, Automaton, Pattern, File, has_bit, Element, Solution, EndingsOf, by_event, Run, RunLine, Mark, Fits, LineFits, WitnessOf, PiecesBack, pieces_back, values_of, parts_of, IsRestSolution, Event as PatternEvent}
 use Rattle.ta_witness.proofs.Making.{pieces_lines-append}
-use Rattle.ta_automaton.specs.declared.pattern.Event.{Event as PatternEvent}
 use Rattle.ta_words.specs.declared.element.Element.TheVariants.{Event}
 use Rattle.ta_encode.specs.declared.meaning.Meaning.{Meaning}
 use Rattle.ta_replay.specs.Pieces.{Piece, last_lines, piece_lines, pieces_lines, step_line}
@@ -13,9 +12,7 @@ abbrev EndsWithMark : ℕ → List RunLine → Type 0
 EndsWithMark e lines = (front : List RunLine) × (lines ≡ front ++ Mark e ∷ [])
 
 marked_piece : (piece : Piece) (e : ℕ) → piece.last ≡ None → piece.marks ≡ e ∷ [] → piece_lines piece ≡ map step_line piece.steps ++ Mark e ∷ []
-marked_piece piece e last marks =
-    ap (λ (o : Option ℕ). map step_line piece.steps ++ (last_lines o ++ map Mark piece.marks)) last
-    ∙ ap (λ (es : List ℕ). map step_line piece.steps ++ map Mark es) marks
+marked_piece piece e last marks = λ i. map step_line piece.steps ++ (last_lines (last i) ++ map Mark (marks i))
 
 newest_marked : (a : Automaton) (value : Meaning → ℤ) (e : ℕ) (older : List Element) (newest : List Piece) → PiecesBack a value (Event e ∷ older) newest → EndsWithMark e (pieces_lines (reverse newest))
 newest_marked a value e older [] back = absurd back

@@ -1,10 +1,9 @@
 -- a run of an ending is, less the mark of an added event, a run of the pattern itself
-use Rattle.ta_rest_run.proofs.Common.{◌≡◌, inl, inr, ℕ, zero, suc, ◌+◌, ◌<◌, ◌≤◌, ℤ, Bool, true, false, List, [], ◌∷◌, ◌++◌, length, length-append, append-nil, cond, take, get_or, arith, sym, ap, ◌∙◌, refl, subst, slice_get, Some, IsBitSet, slice_index, cases_Bool, false≢true, same_Some, slice_get-get_or, slice_get_within, AllByRecursion, at_set, bit_set, bit_true, each_at, each_from, each_front, Automaton, Pattern, File, has_bit, At, Config, Holds, after_earlier, pattern_within, Endings, IsEnding, LastMoved, RestAdded, events_below, EndingsOf, AtRest, ComeAfterEarlier, RestOccurs, back_of, endings_rest, moved_count, no_event, Run, RunLine, Step, Mark, LineFits, ConditionStays, LineStays, NumbersStay, ValuesAfter, IsFirstConfig, MarkedOnce, MarksAt, ShowsPattern, unit_steps, OwnRunsRest, OccursAtRest, ending_run, marked_at_end}
+use Rattle.ta_rest_run.proofs.Common.{◌≡◌, inl, inr, ℕ, zero, suc, ◌+◌, ◌<◌, ◌≤◌, ℤ, Bool, true, false, List, [], ◌∷◌, ◌++◌, length, length-append, append-nil, cond, take, get_or, arith, sym, ap, ◌∙◌, refl, subst, slice_get, Some, IsBitSet, slice_index, cases_Bool, false≢true, same_Some, slice_get-get_or, slice_get_within, AllByRecursion, at_set, bit_set, bit_true, each_at, each_from, each_front, Automaton, Pattern, File, has_bit, At, Config, Holds, after_earlier, pattern_within, Endings, IsEnding, LastMoved, RestAdded, events_below, EndingsOf, AtRest, ComeAfterEarlier, RestOccurs, back_of, endings_rest, moved_count, no_event, Run, RunLine, Step, Mark, LineFits, ConditionStays, LineStays, NumbersStay, ValuesAfter, IsFirstConfig, MarkedOnce, MarksAt, ShowsPattern, unit_steps, OwnRunsRest, OccursAtRest, ending_run, marked_at_end, Event}
 use Rattle.std.proofs.lemmas.Nat.Bits.{bit_at_ones}
 use Rattle.ta_base.proofs.Lists.{slice_get_left, slice_get_right}
 use Rattle.ta_linear.specs.Values.{point_of}
 use Rattle.ta_automaton.specs.declared.condition.Condition.{Condition}
-use Rattle.ta_automaton.specs.declared.pattern.Event.{Event}
 use Rattle.ta_automaton.specs.Runs as runs
 use Rattle.ta_automaton.proofs.Trails.{run_length}
 use Rattle.ta_counter.specs.Configs.{naturals}

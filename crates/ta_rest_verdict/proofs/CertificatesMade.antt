@@ -1,20 +1,14 @@
 -- the text of the trees of safe endings is a certificate that a judge accepts
-use Rattle.ta_rest_verdict.proofs.Common.{◌≡◌, ◌∙◌, ℕ, ◌≤◌, List, [], ◌++◌, Some, slice_get, refl, sym, ap, subst, File, Pattern, AreWritable, cert_lines, cert_text, head_text, proofs_text, Node, Proof, Verdict, rest_search, AreTreesOf, safe_numbers, safe_ones, ended_line, RestCertificateOf, rest_tree}
+use Rattle.ta_rest_verdict.proofs.Common.{◌≡◌, ◌∙◌, ℕ, ◌≤◌, List, [], ◌++◌, Some, slice_get, refl, sym, ap, subst, File, Pattern, AreWritable, cert_lines, cert_text, head_text, proofs_text, Node, Proof, Verdict, rest_search, AreTreesOf, safe_numbers, safe_ones, ended_line, RestCertificateOf, rest_tree, RestSafe, no_pairs_good, pattern_within, proof_made, IsProof}
 use Rattle.ta_cert.specs.Laws.{AreShort}
 use Rattle.ta_cert.specs.declared.line.Line.TheVariants as line
 use Rattle.ta_check.specs.Certificate.{RestCertificate}
 use Rattle.ta_check.specs.Subjects.{claiming}
-use Rattle.ta_claim.specs.declared.claim.Claim.TheVariants.{RestSafe}
-use Rattle.ta_rest.proofs.Resting.{no_pairs_good}
-use Rattle.ta_automaton.proofs.Thresholds.{pattern_within}
-use Rattle.ta_walk.proofs.ProofsMade.{proof_made}
-use Rattle.ta_verdict.proofs.CertificatesMade.{Judgeable, all_short, cert_written, made, ones_distinct, safe_named}
+use Rattle.ta_verdict.proofs.CertificatesMade.{all_short, cert_written, made, ones_distinct, safe_named}
 
 -- the nodes of such a tree
-judgeable : (ending : File) (budget : ℕ) → budget ≤ 1000000000 → (number : ℕ) (p : Pattern) → slice_get ending.patterns number ≡ Some p → (nodes : List Node) (count : ℕ) → rest_tree ending budget p nodes count → Judgeable (rest_search ending.automaton p) nodes
-judgeable ending budget within number p at nodes count tree =
-    let proof = proof_made RestSafe ending.automaton p [] (pattern_within ending number p at) budget within nodes count tree in
-    record { refutes = proof.refutes; writable = proof.writable; short = proof.short }
+judgeable : (ending : File) (budget : ℕ) → budget ≤ 1000000000 → (number : ℕ) (p : Pattern) → slice_get ending.patterns number ≡ Some p → (nodes : List Node) (count : ℕ) → rest_tree ending budget p nodes count → IsProof (rest_search ending.automaton p) nodes
+judgeable ending budget within number p at nodes count tree = proof_made RestSafe ending.automaton p [] (pattern_within ending number p at) budget within nodes count tree
 
 pub rest_accepted : (ending : File) (budget : ℕ) → budget ≤ 1000000000 → (vs : List Verdict) (text : List ℕ) → RestCertificateOf ending budget vs text → RestCertificate ending text (safe_numbers ending vs)
 rest_accepted ending budget within vs text c =

@@ -1,6 +1,5 @@
 -- the lines of a tree at rest in a draft
-use Rattle.ta_rest_verdict.proofs.Common.{◌≡◌, ℕ, subst, File, Verdict, Safe, Unsafe, Spent, Overflow, rest_search, KeepsSafe, DraftKeeps, DraftHasTree, TreeIs, rest_tree}
-use Rattle.ta_automaton.specs.Numbered.{OfPattern}
+use Rattle.ta_rest_verdict.proofs.Common.{◌≡◌, ℕ, subst, File, Verdict, Safe, Unsafe, Spent, Overflow, rest_search, KeepsSafe, DraftKeeps, DraftHasTree, TreeIs, rest_tree, OfPattern}
 use Rattle.ta_verdict.specs.declared.draft.Draft.{Draft}
 
 pub drafted : (ending : File) (budget number : ℕ) (v : Verdict) (first now : Draft) → OfPattern ending number (λ p. KeepsSafe (rest_search ending.automaton p) budget (DraftKeeps first now) v) → OfPattern ending number (λ p. DraftHasTree (rest_tree ending budget) p v first now)

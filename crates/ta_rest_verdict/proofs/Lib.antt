@@ -4,7 +4,7 @@ pub mod CertificatesMade
 pub mod VerdictsOnce
 pub mod TextsAlike
 mod RestsSolved
-mod VerdictsTold
+pub mod VerdictsTold
 mod VerdictsMade
 mod Drafting
 mod Common

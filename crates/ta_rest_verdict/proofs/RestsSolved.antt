@@ -1,12 +1,9 @@
 -- a whole node of a search of rest solves its word
-use Rattle.ta_rest_verdict.proofs.Common.{[], ◌∷◌, slice_get, sym, ap, ◌∙◌, append-nil, subst, rest_rows, rest_search, left_wait, RestsAreSolved}
-use Rattle.ta_cert.specs.declared.line.Node.TheVariants as node
+use Rattle.ta_rest_verdict.proofs.Common.{[], ◌∷◌, slice_get, sym, ap, ◌∙◌, append-nil, subst, rest_rows, rest_search, left_wait, RestsAreSolved, RestSafe, starts_wait}
 use Rattle.ta_encode.specs.System.{AllHold}
 use Rattle.ta_encode.proofs.Moments.{AllHold-left}
 use Rattle.ta_claim.proofs.PatternWords.{comes_legal}
 use Rattle.ta_claim.proofs.RestRows.{rest_comes}
-use Rattle.ta_claim.specs.declared.claim.Claim.TheVariants.{RestSafe}
-use Rattle.ta_walk.proofs.WordsVisited.{left_wait, starts_wait}
 use Rattle.ta_walk.proofs.WordsSolved.{whole_solves}
 
 pub found_solved : RestsAreSolved

@@ -1,16 +1,13 @@
 -- a report names a file's own patterns as it names their endings
-use Rattle.ta_rest_verdict.proofs.Common.{◌≡◌, inl, inr, ℕ, zero, suc, true, List, [], ◌∷◌, ◌++◌, map, length, codes, Option, Some, slice_get, arith, sym, ap, ◌∙◌, refl, subst, AllByRecursion, Automaton, File, Pattern, Run, Endings, IsEnding, Verdict, Safe, Unsafe, Spent, Overflow, RestTextsAreAlike}
-use Rattle.std.proofs.lemmas.List.{map-append}
-use Rattle.ta_rest.proofs.EndingShapes.{endings_names}
+use Rattle.ta_rest_verdict.proofs.Common.{◌≡◌, inl, inr, ℕ, true, List, [], ◌∷◌, ◌++◌, map, length, codes, Option, slice_get, arith, sym, ap, ◌∙◌, refl, AllByRecursion, Automaton, File, Pattern, Run, Endings, IsEnding, Verdict, Safe, Unsafe, Spent, Overflow, RestTextsAreAlike, map-append, endings_names, EndingsOf, VerdictFits, rest_word, run_part, sample_line, told_line, told_lines, values_text, verdict_text}
+use Rattle.ta_rest_verdict.proofs.VerdictsTold.{ending_there}
 use Rattle.ta_automaton.specs.Patterns.{event_name, pattern_name}
 use Rattle.ta_replay.specs.declared.run.RunLine.{RunLine}
 use Rattle.ta_replay.specs.declared.run.RunLine.TheVariants.{Step, Mark}
 use Rattle.ta_replay.specs.Fits.{Fits, LineFits}
 use Rattle.ta_replay.specs.RunText.{line_of, lines_of, lines_text, name_at, named_line, run_text, slots, value_lines}
-use Rattle.ta_rest.specs.Faults.{EndingsOf}
 use Rattle.ta_report.specs.declared.verdict.ReportSample.{ReportSample}
 use Rattle.ta_report.specs.declared.verdict.ReportSample.TheVariants as sample
-use Rattle.ta_report.specs.Report.{VerdictFits, rest_word, run_part, sample_line, told_line, told_lines, values_text, verdict_text}
 
 -- the line of a step or of a mark
 line_alike : (a : Automaton) (p q : Pattern) → IsEnding p q → (l : RunLine) → LineFits a p l → line_of a q l ≡ line_of a p l
@@ -25,18 +22,6 @@ line_alike a p q is (Mark event) fits = elim is.events [
 lines_alike : (a : Automaton) (p q : Pattern) → IsEnding p q → (ls : List RunLine) → AllByRecursion (LineFits a p) ls → map (line_of a q) ls ≡ map (line_of a p) ls
 lines_alike a p q is [] fits = refl
 lines_alike a p q is (l ∷ ls) fits = ap (λ (x : List ℕ). x ∷ map (line_of a q) ls) (line_alike a p q is l fits.0) ∙ ap (λ (xs : List (List ℕ)). line_of a p l ∷ xs) (lines_alike a p q is ls fits.1)
-
--- a pattern's ending, by its number
-record EndingAt (qs : List Pattern) (k : ℕ) (p : Pattern) : Type 0 where
-  ending : Pattern
-  named : slice_get qs k ≡ Some ending
-  is : IsEnding p ending
-
-ending_there : (ps qs : List Pattern) → Endings ps qs → (k : ℕ) (p : Pattern) → slice_get ps k ≡ Some p → EndingAt qs k p
-ending_there [] qs h k p at = cc
-ending_there (x ∷ ps) [] h k p at = absurd h
-ending_there (x ∷ ps) (y ∷ qs) h zero p at = let same : x ≡ p = cc in record { ending = y; named = refl; is = subst (λ (o : Pattern). IsEnding o y) same h.0 }
-ending_there (x ∷ ps) (y ∷ qs) h (suc k) p at = let there = ending_there ps qs h.1 k p at in record { ending = there.ending; named = there.named; is = there.is }
 
 -- the text of a run of the file's own pattern
 run_alike : (file ending : File) (added : ℕ) → EndingsOf file ending added → (run : Run) → Fits file run → run_text ending run ≡ run_text file run

@@ -1,30 +1,25 @@
 -- what is known of verdicts on runs that come to rest, as they are made
-use Rattle.ta_rest_verdict.proofs.Common.{◌≡◌, ℕ, zero, suc, ◌<◌, ◌≤◌, List, [], ◌∷◌, length, sym, subst, Some, slice_get, Result, Ok, Err, IfOk, Automaton, File, Pattern, Node, IsLeaf, Pending, Search, Solution, in_order, weaker_proof, IsJudged, Endings, IsEnding, rest_search, refuted_show, IsRestSolution, Run, Verdict, Safe, Unsafe, Spent, Overflow, come_after, IsSpent, NodeOf, TreeKept, IsOutOfRangeAt, PlaceKind, node_with, SolutionAt, IsNotSafe, KeepsSafe, OwnVerdict, RestIsOutOfRangeIn, place_of}
+use Rattle.ta_rest_verdict.proofs.Common.{◌≡◌, ℕ, zero, suc, refl, ◌∙◌, same_Some, ◌<◌, ◌≤◌, List, [], ◌∷◌, length, sym, subst, Some, slice_get, Result, Ok, Err, IfOk, Automaton, File, Pattern, Node, IsLeaf, Search, Solution, in_order, weaker_proof, IsJudged, Endings, IsEnding, rest_search, refuted_show, IsRestSolution, Verdict, Safe, Unsafe, Spent, Overflow, come_after, IsSpent, NodeOf, TreeKept, SolutionAt, IsNotSafe, KeepsSafe, OwnVerdict, some_at, OfPattern, RestFile, pattern_within, RestSafe as ClaimRestSafe, proof_made}
 use Rattle.std.specs.declared.alloc.AllocError.{AllocError}
-use Rattle.ta_base.proofs.Lists.{some_at}
-use Rattle.ta_automaton.specs.Numbered.{OfPattern}
 use Rattle.ta_rest.specs.Rest.{RestSafe}
-use Rattle.ta_rest.specs.declared.rest_file.RestFile.{RestFile}
-use Rattle.ta_report.specs.declared.verdict.ReportKind.{ReportKind}
-use Rattle.ta_report.specs.declared.verdict.ReportKind.TheVariants as kind
 use Rattle.ta_scope.proofs.Judging.{loops_pure}
 use Rattle.ta_walk.proofs.SpentSplits.{split_of_words}
-use Rattle.ta_witness.specs.Witness.{WitnessOutOfRange}
-use Rattle.ta_automaton.proofs.Thresholds.{pattern_within}
-use Rattle.ta_claim.specs.declared.claim.Claim.TheVariants.{RestSafe as ClaimRestSafe}
-use Rattle.ta_walk.proofs.ProofsMade.{proof_made}
 use Rattle.ta_rest_verdict.proofs.RestsSolved.{found_solved}
 
--- the ending of a pattern of a number
+-- a pattern's ending, by its number
+pub record EndingAt (qs : List Pattern) (k : ℕ) (p : Pattern) : Type 0 where
+  pub ending : Pattern
+  pub named : slice_get qs k ≡ Some ending
+  pub is : IsEnding p ending
+
+pub ending_there : (ps qs : List Pattern) → Endings ps qs → (k : ℕ) (p : Pattern) → slice_get ps k ≡ Some p → EndingAt qs k p
+ending_there [] qs h k p at = cc
+ending_there (x ∷ ps) [] h k p at = absurd h
+ending_there (x ∷ ps) (y ∷ qs) h zero p at = let same : x ≡ p = cc in record { ending = y; named = refl; is = subst (λ (o : Pattern). IsEnding o y) same h.0 }
+ending_there (x ∷ ps) (y ∷ qs) h (suc k) p at = let there = ending_there ps qs h.1 k p at in record { ending = there.ending; named = there.named; is = there.is }
+
 pub ending_of_own : (ps qs : List Pattern) → Endings ps qs → (k : ℕ) (own q : Pattern) → slice_get ps k ≡ Some own → slice_get qs k ≡ Some q → IsEnding own q
-ending_of_own [] [] h k own q at there = cc
-ending_of_own [] (y ∷ qs) h k own q at there = absurd h
-ending_of_own (x ∷ ps) [] h k own q at there = absurd h
-ending_of_own (x ∷ ps) (y ∷ qs) h zero own q at there =
-    let first : x ≡ own = cc in
-    let second : y ≡ q = cc in
-    subst (IsEnding own) second (subst (λ (p : Pattern). IsEnding p y) first h.0)
-ending_of_own (x ∷ ps) (y ∷ qs) h (suc k) own q at there = ending_of_own ps qs h.1 k own q at there
+ending_of_own ps qs h k own q at there = let ending = ending_there ps qs h k own at in subst (IsEnding own) (same_Some ending.ending q (sym ending.named ∙ there)) ending.is
 
 -- a tree that refutes the words of rest of a pattern's ending
 pub safe_verdict : (rest : RestFile) (budget number : ℕ) (p : Pattern) (Keeps : List Node → Type 0) (nodes leaves : ℕ) → slice_get rest.ending.file.patterns number ≡ Some p → budget ≤ 1000000000 → TreeKept (rest_search rest.ending.file.automaton p) budget Keeps nodes leaves → OwnVerdict rest budget number p (Safe nodes leaves)
@@ -56,23 +51,6 @@ pub solution_found : (file : File) (number : ℕ) → number < length file.patte
 solution_found file number within budget nodes solution found =
     let at = some_at file.patterns number within in
     found_solved file number at.0 at.1 budget nodes solution (found at.0 at.1)
-
--- where a visit says that a number leaves the range, it does
-rest_out_of_range_in : (ending : File) (number : ℕ) (p : Pattern) (k : PlaceKind) (r : ReportKind) (w : Pending) → place_of r ≡ k → IsOutOfRangeAt (rest_search ending.automaton p) w k → RestIsOutOfRangeIn ending number p r w
-rest_out_of_range_in ending number p k (kind.Pivot pivot) w same leaves = subst (IsOutOfRangeAt (rest_search ending.automaton p) w) (sym same) leaves
-rest_out_of_range_in ending number p k kind.Leaf w same leaves = subst (IsOutOfRangeAt (rest_search ending.automaton p) w) (sym same) leaves
-rest_out_of_range_in ending number p k kind.Run w same leaves = absurd (subst (IsOutOfRangeAt (rest_search ending.automaton p) w) (sym same) leaves)
-
-pub overflow_verdict : (rest : RestFile) (budget number : ℕ) (p : Pattern) (node : ℕ) (k : PlaceKind) (r : ReportKind) → place_of r ≡ k → NodeOf (rest_search rest.ending.file.automaton p) budget node (λ w. IsOutOfRangeAt (rest_search rest.ending.file.automaton p) w k) → OwnVerdict rest budget number p (Overflow node r)
-overflow_verdict rest budget number p node k r same found file ends own at =
-    let f = rest.ending.file in
-    node_with (rest_search f.automaton p) budget node (λ w. IsOutOfRangeAt (rest_search f.automaton p) w k) (RestIsOutOfRangeIn f number p r) found (rest_out_of_range_in f number p k r found.word same found.holds)
-
--- the solution of the first whole node has a run whose replay leaves the range
-pub run_leaves : (rest : RestFile) (budget number : ℕ) (p : Pattern) (node : ℕ) (solution : Solution) → NodeOf (rest_search rest.ending.file.automaton p) budget node (SolutionAt (rest_search rest.ending.file.automaton p) number solution) → WitnessOutOfRange rest.ending.file solution → OwnVerdict rest budget number p (Overflow node kind.Run)
-run_leaves rest budget number p node solution found leaves file ends own at =
-    let f = rest.ending.file in
-    node_with (rest_search f.automaton p) budget node (SolutionAt (rest_search f.automaton p) number solution) (RestIsOutOfRangeIn f number p kind.Run) found (record { solution = solution; whole = found.holds; run = leaves })
 
 keeps_nothing : (s : Search) (budget : ℕ) (Keeps : List Node → Type 0) (v : Verdict) → IsNotSafe v → KeepsSafe s budget Keeps v
 keeps_nothing s budget Keeps (Safe nodes leaves) other = absurd other

@@ -1,7 +1,6 @@
 -- arranged steps are legal
-use Rattle.ta_scope.proofs.Common.{◌≡◌, ℕ, ℤ, pos, ◌+ℤ◌, ◌≤ℤ◌, List, [], ◌∷◌, ◌++◌, inl, arith, sym, ap, ◌∙◌, refl, subst, slice_get, Some, ints, without_last, In-right, last_of, Rule, Automaton, In, location_place, Config, value_at, InScope, total, total-append, terms_value-same, fall_back, change_of, Onward, Piece, after, later_after, fire_in_order, each_rule_from, AreRuleCounts, ArrangedOf, count_at, steps_along, ArrangedStepsAreLegal, ArrangedStepsReachTheEnd, GuardsHold, Passable, LeadsToEnd, arranged_steps, fall_mask, value_after_steps, value_at_end}
+use Rattle.ta_scope.proofs.Common.{◌≡◌, ℕ, ℤ, pos, ◌+ℤ◌, ◌≤ℤ◌, List, [], ◌∷◌, ◌++◌, inl, arith, sym, ap, ◌∙◌, refl, subst, slice_get, Some, ints, without_last, In-right, last_of, Rule, Automaton, In, location_place, Config, value_at, InScope, total, total-append, terms_value-same, fall_back, change_of, Onward, Piece, after, later_after, fire_in_order, each_rule_from, AreRuleCounts, ArrangedOf, count_at, steps_along, ArrangedStepsAreLegal, ArrangedStepsReachTheEnd, GuardsHold, Passable, LeadsToEnd, arranged_steps, fall_mask, value_after_steps, value_at_end, falls as falls_rows}
 use Rattle.ta_linear.specs.Values.{RowHolds}
-use Rattle.ta_automaton.proofs.Thresholds.{falls as falls_rows}
 use Rattle.ta_scope.proofs.Circulations.{Rest, rest_same, rest_all, weighted}
 use Rattle.ta_scope.proofs.Listing.{in_along, along_total, along_onward}
 

@@ -1,6 +1,6 @@
 -- Counts have one list of arranged steps.
-use Rattle.ta_scope.proofs.Common.{◌≡◌, inl, inr, ℕ, ℤ, suc, ◌<◌, List, [], ◌∷◌, ◌++◌, length, take, arith, sym, ap, ◌∙◌, refl, subst, slice_get, Some, Contains, append_assoc, append-nil, cases_lt, ints, AllByRecursion, in_or, Rule, Automaton, AllTakenOut, FirstPath, LeastCount, LeastCycle, NoLater, NotAbove, SubtractsFrom, Support, TakenOut, count_at, steps_along, NoCycle, ArrangedStepsAreDetermined, IsLocationOrder, Next, Ready}
-use Rattle.std.specs.Prelude.{IsBitSet}
+use Rattle.ta_scope.proofs.Common.{◌≡◌, inl, inr, ℕ, ℤ, suc, ◌<◌, List, [], ◌∷◌, ◌++◌, length, take, arith, sym, ap, ◌∙◌, refl, subst, slice_get, Some, Contains, append_assoc, append-nil, ints, AllByRecursion, in_or, Rule, Automaton, AllTakenOut, FirstPath, LeastCount, LeastCycle, NoLater, NotAbove, SubtractsFrom, Support, TakenOut, count_at, steps_along, NoCycle, ArrangedStepsAreDetermined, IsLocationOrder, Next, Ready, IsBitSet}
+use Rattle.ta_base.proofs.Naturals.{neither_below}
 use Rattle.ta_scope.proofs.OrderLaws.{placed}
 
 -- each rule of a mask is one of another
@@ -48,10 +48,7 @@ cycle_once : (a : Automaton) (m n i j : ℕ) (p q : List ℕ) → Within m n →
 cycle_once a m n i j p q mn nm first second =
     let low : (i < j) → ⊥ = not_below a m n i j p q mn first second in
     let high : (j < i) → ⊥ = not_below a n m j i q p nm second first in
-    let same : i ≡ j = elim (cases_lt i j) [
-      | inl less ↦ absurd (low less)
-      | inr least ↦ elim (cases_lt j i) [ inl more ↦ absurd (high more) | inr most ↦ omega (arith, least, most) ]
-    ] in
+    let same : i ≡ j = neither_below i j low high in
     let named : Some first.rule ≡ Some second.rule = sym first.named ∙ ap (slice_get a.rules) same ∙ second.named in
     let rule : first.rule ≡ second.rule = cc in
     (same, path_once a m n second.rule.to second.rule.from p q mn nm (subst (λ (o : Rule). FirstPath a m o.to p o.from) rule first.path) second.path)
@@ -117,10 +114,8 @@ ready_within : (a : Automaton) (m n : ℕ) (done : List ℕ) (l : ℕ) → Withi
 ready_within a m n done l nm ready = record { remains = ready.remains; free = λ r rule named set. ready.free r rule named (nm r set) }
 
 next_once : (a : Automaton) (m n : ℕ) (done : List ℕ) (k l : ℕ) → Within m n → Within n m → Next a m done k → Next a n done l → k ≡ l
-next_once a m n done k l mn nm first second = elim (cases_lt k l) [
-  | inl less ↦ absurd (second.least k less (ready_within a m n done k nm first.ready))
-  | inr least ↦ elim (cases_lt l k) [ inl more ↦ absurd (first.least l more (ready_within a n m done l mn second.ready)) | inr most ↦ omega (arith, least, most) ]
-]
+next_once a m n done k l mn nm first second =
+    neither_below k l (λ less. second.least k less (ready_within a m n done k nm first.ready)) (λ less. first.least l less (ready_within a n m done l mn second.ready))
 
 -- each item is next behind those before it and some that are done
 abbrev BuiltOn : Automaton → ℕ → List ℕ → List ℕ → Type 0

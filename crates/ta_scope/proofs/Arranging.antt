@@ -1,5 +1,5 @@
 -- arranged steps are of existing rules, each at most once, and no rule fires more often than its count
-use Rattle.ta_scope.proofs.Common.{◌≡◌, ◌⊎◌, inl, inr, ℕ, ◌+◌, ◌<◌, ◌≤◌, ℤ, pos, ◌≤ℤ◌, List, [], ◌∷◌, ◌++◌, map, length, Bool, true, arith, sym, ap, ◌∙◌, refl, subst, slice_get, Some, filter, cases_Bool, eqb_tells, map-append, slice_get_within, same_Some, AllByRecursion, each_append, each_listed, filter_false, filter_true, Rule, Automaton, In, numbers_from, times_in, from_within, count_at, is_step_from, steps_along, ArrangedStepsAreWithin, StepsWithin, steps_from}
+use Rattle.ta_scope.proofs.Common.{◌≡◌, ◌⊎◌, inl, inr, ℕ, ◌+◌, ◌<◌, ◌≤◌, ℤ, pos, ◌≤ℤ◌, List, [], ◌∷◌, ◌++◌, map, length, Bool, true, arith, sym, ap, ◌∙◌, refl, subst, slice_get, Some, filter, cases_Bool, eqb_tells, map-append, slice_get_within, same_Some, AllByRecursion, each_append, each_listed, filter_false, filter_true, Rule, Automaton, In, range_with_len, times_in, from_within, count_at, is_step_from, steps_along, ArrangedStepsAreWithin, StepsWithin, steps_from}
 use Rattle.ta_scope.proofs.Circulations.{Rest, rest_same, rest_all, numbers_once}
 use Rattle.ta_scope.proofs.Listing.{StepFrom, step_from}
 
@@ -44,7 +44,7 @@ each_along : (P : (ℕ × ℤ) → Type 0) (a : Automaton) (counts : List ℤ) (
 each_along P a counts [] h = tt
 each_along P a counts (l ∷ ls) h =
     each_append P (steps_from a counts l (length a.rules)) (steps_along a counts ls)
-    (each_listed P (is_step_from a counts l) (count_at counts) (numbers_from 0 (length a.rules)) (λ n e. h l n (step_from a counts l n e)))
+    (each_listed P (is_step_from a counts l) (count_at counts) (range_with_len 0 (length a.rules)) (λ n e. h l n (step_from a counts l n e)))
     (each_along P a counts ls h)
 
 -- a rule is among the steps from its source alone
@@ -52,7 +52,7 @@ from_source : (a : Automaton) (counts : List ℤ) (r : ℕ) (rule : Rule) → sl
 unfolding times_in
 from_source a counts r rule named l =
     let t = is_step_from a counts l in
-    let ns = numbers_from 0 (length a.rules) in
+    let ns = range_with_len 0 (length a.rules) in
     let most = fewer_listed t (count_at counts) ns r in
     let once = numbers_once r 0 (length a.rules) (omega arith) (let b = slice_get_within a.rules r rule named in omega arith) in
     elim (none_or r (map rule_of (steps_from a counts l (length a.rules)))) [

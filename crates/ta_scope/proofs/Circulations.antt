@@ -1,5 +1,5 @@
 -- taking circulations out leaves natural counts with the same end
-use Rattle.ta_scope.proofs.Common.{◌≡◌, ◌⊎◌, inl, inr, ℕ, zero, suc, ◌+◌, ◌<◌, ◌≤◌, ℤ, pos, ◌+ℤ◌, ◌*ℤ◌, ◌≤ℤ◌, List, [], ◌∷◌, length, arith, sym, ap, ◌∙◌, refl, subst, IsBitSet, ints, eqb_tells, slice_get_within, *ℤ-zero, AllByRecursion, each_in, each_weaker, by_one, distributes, mul_left_comm, Automaton, Distinct, In, numbers_from, Walk, InScope, total, times_in, total-same, total-add, total-times, change_of, circuit_pure, NoCycle, IsLeastCycle, count_at, AreRuleCounts, Support, LeastCount, SubtractsFrom, TakenOut, AllTakenOut}
+use Rattle.ta_scope.proofs.Common.{◌≡◌, ◌⊎◌, inl, inr, ℕ, zero, suc, ◌+◌, ◌<◌, ◌≤◌, ℤ, pos, ◌+ℤ◌, ◌*ℤ◌, ◌≤ℤ◌, List, [], ◌∷◌, length, arith, sym, ap, ◌∙◌, refl, subst, IsBitSet, ints, eqb_tells, slice_get_within, *ℤ-zero, AllByRecursion, each_in, each_weaker, by_one, distributes, mul_left_comm, Automaton, Distinct, In, range_with_len, Walk, InScope, total, times_in, total-same, total-add, total-times, change_of, circuit_pure, NoCycle, IsLeastCycle, count_at, AreRuleCounts, Support, LeastCount, SubtractsFrom, TakenOut, AllTakenOut}
 use Rattle.ta_automaton.proofs.Fired.{EachOnce, firings}
 use Rattle.ta_automaton.proofs.Circuits.{circuit_total}
 use Rattle.ta_scope.proofs.Taken.{sum_of, sum_less, counted}
@@ -22,12 +22,12 @@ in_times r (x ∷ xs) d = elim (eqb_tells x r) [
   ]
 ]
 
-numbers_before : (r k n : ℕ) → r < k → times_in r (numbers_from k n) ≡ 0
+numbers_before : (r k n : ℕ) → r < k → times_in r (range_with_len k n) ≡ 0
 unfolding times_in
 numbers_before r k zero h = refl
 numbers_before r k (suc n) h = elim (eqb_tells k r) [ inl e ↦ absurd (let s = e.1 in omega arith) | inr ne ↦ rw ne.0 (omega (arith, numbers_before r (k + 1) n (omega arith))) ]
 
-pub numbers_once : (r k n : ℕ) → k ≤ r → r < k + n → times_in r (numbers_from k n) ≡ 1
+pub numbers_once : (r k n : ℕ) → k ≤ r → r < k + n → times_in r (range_with_len k n) ≡ 1
 unfolding times_in
 numbers_once r k zero low high = absurd (omega arith)
 numbers_once r k (suc n) low high = elim (eqb_tells k r) [
@@ -35,13 +35,13 @@ numbers_once r k (suc n) low high = elim (eqb_tells k r) [
   | inr ne ↦ rw ne.0 (omega (arith, numbers_once r (k + 1) n (let s = ne.1 in omega arith) (omega arith)))
 ]
 
-walk_once : (a : Automaton) (x : ℕ) (rs : List ℕ) (y : ℕ) → Walk a x rs y → EachOnce rs (numbers_from 0 (length a.rules))
+walk_once : (a : Automaton) (x : ℕ) (rs : List ℕ) (y : ℕ) → Walk a x rs y → EachOnce rs (range_with_len 0 (length a.rules))
 walk_once a x [] y w = tt
 walk_once a x (r ∷ rs) y w = (numbers_once r 0 (length a.rules) (omega arith) (let b = slice_get_within a.rules r w.0 w.1 in omega arith), walk_once a (w.0).to rs y w.3)
 
 -- what counts add at a place
 abbrev pub weighted : Automaton → List ℤ → ℕ → ℤ
-weighted a counts i = total (λ r. change_of a i r *ℤ count_at counts r) (numbers_from 0 (length a.rules))
+weighted a counts i = total (λ r. change_of a i r *ℤ count_at counts r) (range_with_len 0 (length a.rules))
 
 -- the counts before are those after and the amount for each rule of the cycle
 split_count : (a : Automaton) (before after : List ℤ) (t : TakenOut a before after) (r : ℕ) → count_at before r ≡ (count_at after r +ℤ (t.amount *ℤ pos (times_in r (t.number ∷ t.back))))
@@ -53,7 +53,7 @@ split_count a before after t r = elim (in_times r (t.number ∷ t.back) (cycle_d
 -- a circulation changes nothing
 pub taken_total : (a : Automaton) → InScope a → (before after : List ℤ) → TakenOut a before after → (i : ℕ) → weighted a before i ≡ weighted a after i
 taken_total a scope before after t i =
-    let n = numbers_from 0 (length a.rules) in
+    let n = range_with_len 0 (length a.rules) in
     let circuit = t.number ∷ t.back in
     let walk = cycle_walk a t.rules t.number t.back t.cycle in
     let none : total (change_of a i) circuit ≡ pos 0 = circuit_total a t.cycle.rule.from circuit walk (circuit_pure a scope t.cycle.rule.from circuit walk) i in

@@ -1,5 +1,5 @@
 -- first paths have no rule twice
-use Rattle.ta_scope.proofs.Common.{◌≡◌, ◌⊎◌, inl, inr, ℕ, ◌<◌, List, [], ◌∷◌, ◌++◌, length, arith, sym, ap, ◌∙◌, refl, subst, slice_get, Some, IsBitSet, eqb_tells, AllByRecursion, same_Some, each_behind, longer_front, Rule, Automaton, Distinct, Walk, NotAbove, NoLater, FirstPath, LeastCycle}
+use Rattle.ta_scope.proofs.Common.{◌≡◌, ◌⊎◌, inl, inr, ℕ, ◌<◌, List, [], ◌∷◌, ◌++◌, length, arith, sym, ap, ◌∙◌, refl, subst, slice_get, Some, IsBitSet, eqb_tells, AllByRecursion, same_Some, longer_front, Rule, Automaton, Distinct, Walk, NotAbove, NoLater, FirstPath, LeastCycle, each_back}
 
 -- an item of a list with the items before it and behind it
 pub record Cut (q : ℕ) (rs : List ℕ) : Type 0 where
@@ -49,7 +49,7 @@ first_once a rules from r rs to p = elim (cut_or r rs) [
   | inl w ↦ absurd (
       let rule = p.walk.0 in
       let walk : Walk a rule.to w.behind to = walk_behind a rule.to w.front r w.behind to rule p.walk.1 (subst (λ (xs : List ℕ). Walk a rule.to xs to) w.cut p.walk.3) in
-      let members : AllByRecursion (IsBitSet rules) w.behind = each_behind (IsBitSet rules) w.front r w.behind (subst (AllByRecursion (IsBitSet rules)) w.cut p.members.1) in
+      let members : AllByRecursion (IsBitSet rules) w.behind = (each_back (IsBitSet rules) w.front (r ∷ w.behind) (subst (AllByRecursion (IsBitSet rules)) w.cut p.members.1)).1 in
       not_later (r ∷ rs) (r ∷ w.behind) (let e = ap (λ (xs : List ℕ). length xs) w.cut in let l = longer_front w.front r w.behind in omega arith)
       (p.first (r ∷ w.behind) (rule, p.walk.1, p.walk.2, walk) (p.members.0, members)))
 ]
@@ -66,7 +66,7 @@ cycle_distinct a rules number back c = (once (cut_or number back), first_distinc
   once (inr none) = none
   once (inl w) = absurd (
       let walk : Walk a c.rule.to w.behind c.rule.from = walk_behind a c.rule.to w.front number w.behind c.rule.from c.rule c.named (subst (λ (xs : List ℕ). Walk a c.rule.to xs c.rule.from) w.cut c.path.walk) in
-      let members : AllByRecursion (IsBitSet rules) w.behind = each_behind (IsBitSet rules) w.front number w.behind (subst (AllByRecursion (IsBitSet rules)) w.cut c.path.members) in
+      let members : AllByRecursion (IsBitSet rules) w.behind = (each_back (IsBitSet rules) w.front (number ∷ w.behind) (subst (AllByRecursion (IsBitSet rules)) w.cut c.path.members)).1 in
       not_later back w.behind (let e = ap (λ (xs : List ℕ). length xs) w.cut in let l = longer_front w.front number w.behind in omega arith)
       (c.path.first w.behind walk members))
 

@@ -1,7 +1,6 @@
 -- steps along an order of the locations go forward, and have the end of the counts
-use Rattle.ta_scope.proofs.Common.{◌≡◌, ◌≢◌, inl, inr, ℕ, zero, suc, ◌+◌, ◌<◌, ℤ, pos, ◌+ℤ◌, ◌*ℤ◌, ◌≤ℤ◌, List, [], ◌∷◌, ◌++◌, map, length, replicate, eqb, cond, Bool, true, false, ◌&&◌, arith, sym, ap, ◌∙◌, refl, subst, slice_get, Option, Some, None, IsBitSet, Contains, append_assoc, append-nil, zero-add, filter, int_lt, unsigned_abs, ints, cases_Bool, and_parts, false≢true, eqb-true, eqb_tells, map-append, *ℤ-zero, zero-*ℤ, same_Some, above_zero, abs_natural, by_one, distributes, not_above_zero, filter_false, filter_true, get_middle, one_step, take_front, contains_left, in_append, in_replicate, Rule, Automaton, In, numbers_from, rule_change, total, times_in, total-append, total-same, total-zero, total-swap, from_within, change_of, NoneInto, Onward, none_from, NoCycle, Next, IsBuilt, IsLocationOrder, count_at, Support, is_step_from, steps_along, arranged_steps, steps_from}
+use Rattle.ta_scope.proofs.Common.{◌≡◌, ◌≢◌, inl, inr, ℕ, zero, suc, ◌+◌, ◌<◌, ℤ, pos, ◌+ℤ◌, ◌*ℤ◌, ◌≤ℤ◌, List, [], ◌∷◌, ◌++◌, map, length, replicate, eqb, cond, Bool, true, false, ◌&&◌, arith, sym, ap, ◌∙◌, refl, subst, slice_get, Option, Some, None, IsBitSet, Contains, append_assoc, append-nil, zero-add, filter, int_lt, unsigned_abs, ints, cases_Bool, and_parts, false≢true, eqb-true, eqb_tells, map-append, *ℤ-zero, zero-*ℤ, same_Some, above_zero, abs_natural, by_one, distributes, not_above_zero, filter_false, filter_true, get_middle, one_step, in_append, in_replicate, Rule, Automaton, In, range_with_len, rule_change, total, times_in, total-append, total-same, total-zero, total-swap, from_within, change_of, NoneInto, Onward, none_from, NoCycle, Next, IsBuilt, IsLocationOrder, count_at, Support, is_step_from, steps_along, arranged_steps, steps_from, take_at, filter-append, Contains-append_left}
 use Rattle.std.proofs.lemmas.Grind.{flat_map-append}
-use Rattle.std.proofs.lemmas.List.Elements.{filter-append}
 use Rattle.ta_base.proofs.Ranges.{numbers_more}
 use Rattle.ta_automaton.specs.Laws.{leads_out_of}
 use Rattle.ta_scope.proofs.Circulations.{weighted}
@@ -37,14 +36,14 @@ step_from a counts l r h =
     let w = leaving l (slice_get a.rules r) parts.0 in
     record { rule = w.0; named = w.1; from = w.2; above = above_zero (count_at counts r) parts.1 }
 
-steps_cons : (a : Automaton) (counts : List ℤ) (l : ℕ) (ls : List ℕ) → arranged_steps (steps_along a counts (l ∷ ls)) ≡ passed (is_step_from a counts l) (count_at counts) (numbers_from 0 (length a.rules)) ++ arranged_steps (steps_along a counts ls)
-steps_cons a counts l ls = flat_map-append (λ (step : ℕ × ℤ). replicate (unsigned_abs step.1) step.0) (map (λ r. (r, count_at counts r)) (filter (is_step_from a counts l) (numbers_from 0 (length a.rules)))) (steps_along a counts ls)
+steps_cons : (a : Automaton) (counts : List ℤ) (l : ℕ) (ls : List ℕ) → arranged_steps (steps_along a counts (l ∷ ls)) ≡ passed (is_step_from a counts l) (count_at counts) (range_with_len 0 (length a.rules)) ++ arranged_steps (steps_along a counts ls)
+steps_cons a counts l ls = flat_map-append (λ (step : ℕ × ℤ). replicate (unsigned_abs step.1) step.0) (map (λ r. (r, count_at counts r)) (filter (is_step_from a counts l) (range_with_len 0 (length a.rules)))) (steps_along a counts ls)
 
 -- each unit step leaves a location of the order and has a count above 0
 pub in_along : (a : Automaton) (counts : List ℤ) (ls : List ℕ) (q : ℕ) → In q (arranged_steps (steps_along a counts ls)) → (l : ℕ) × In l ls × StepFrom a counts l q
 in_along a counts [] q i = absurd i
-in_along a counts (l ∷ ls) q i = elim (in_append q (passed (is_step_from a counts l) (count_at counts) (numbers_from 0 (length a.rules))) (arranged_steps (steps_along a counts ls)) (subst (In q) (steps_cons a counts l ls) i)) [
-  | inl j ↦ (l, inl refl, step_from a counts l q (in_passed (is_step_from a counts l) (count_at counts) (numbers_from 0 (length a.rules)) q j))
+in_along a counts (l ∷ ls) q i = elim (in_append q (passed (is_step_from a counts l) (count_at counts) (range_with_len 0 (length a.rules))) (arranged_steps (steps_along a counts ls)) (subst (In q) (steps_cons a counts l ls) i)) [
+  | inl j ↦ (l, inl refl, step_from a counts l q (in_passed (is_step_from a counts l) (count_at counts) (range_with_len 0 (length a.rules)) q j))
   | inr j ↦ (let w = in_along a counts ls q j in (w.0, inr w.1, w.2))
 ]
 
@@ -56,7 +55,7 @@ After a rules placed (l ∷ ls) = Next a rules placed l × After a rules (placed
 after_from : (a : Automaton) (rules : ℕ) (placed ls : List ℕ) → IsBuilt a rules (placed ++ ls) → After a rules placed ls
 after_from a rules placed [] built = tt
 after_from a rules placed (l ∷ ls) built = (
-  subst (λ (xs : List ℕ). Next a rules xs l) (take_front placed (l ∷ ls)) (built (length placed) l (get_middle placed l ls)),
+  subst (λ (xs : List ℕ). Next a rules xs l) (take_at placed (l ∷ ls) (length placed) refl) (built (length placed) l (get_middle placed l ls)),
   after_from a rules (placed ++ l ∷ []) ls (subst (IsBuilt a rules) (sym (append_assoc placed (l ∷ []) ls)) built),
 )
 
@@ -64,7 +63,7 @@ after_from a rules placed (l ∷ ls) built = (
 not_placed : (a : Automaton) (rules : ℕ) (placed ls : List ℕ) → After a rules placed ls → (m : ℕ) → In m ls → Contains placed m → ⊥
 not_placed a rules placed [] h m i c = absurd i
 not_placed a rules placed (l ∷ ls) h m (inl e) c = h.0.ready.remains (subst (Contains placed) e c)
-not_placed a rules placed (l ∷ ls) h m (inr i) c = not_placed a rules (placed ++ l ∷ []) ls h.1 m i (contains_left m placed (l ∷ []) c)
+not_placed a rules placed (l ∷ ls) h m (inr i) c = not_placed a rules (placed ++ l ∷ []) ls h.1 m i (Contains-append_left placed (l ∷ []) m c)
 
 onward_append : (a : Automaton) (l : ℕ) (xs ys : List ℕ) → ((q : ℕ) → In q xs → (rule : Rule) → slice_get a.rules q ≡ Some rule → rule.from ≡ l) → NoneInto a l (xs ++ ys) → Onward a ys → Onward a (xs ++ ys)
 onward_append a l [] ys from none h = h
@@ -77,7 +76,7 @@ onward_append a l (x ∷ xs) ys from none h = (
 onward_along : (a : Automaton) (counts : List ℤ) (rules : ℕ) → Support counts rules → NoCycle a rules → (placed ls : List ℕ) → After a rules placed ls → Onward a (arranged_steps (steps_along a counts ls))
 onward_along a counts rules support acyclic placed [] h = tt
 onward_along a counts rules support acyclic placed (l ∷ ls) h =
-    let xs = passed (is_step_from a counts l) (count_at counts) (numbers_from 0 (length a.rules)) in
+    let xs = passed (is_step_from a counts l) (count_at counts) (range_with_len 0 (length a.rules)) in
     let ys = arranged_steps (steps_along a counts ls) in
     let into : (q : ℕ) → In q (xs ++ ys) → (rule : Rule) → slice_get a.rules q ≡ Some rule → rule.to ≢ l = (λ q i rule named to.
     let w = in_along a counts (l ∷ ls) q (subst (In q) (sym (steps_cons a counts l ls)) i) in
@@ -90,7 +89,7 @@ onward_along a counts rules support acyclic placed (l ∷ ls) h =
       | inr ne ↦ h.0.ready.free q rule named member (record { to = to; other = ne.1; remains = λ c. not_placed a rules placed (l ∷ ls) h w.0 w.1 (subst (Contains placed) from c) })
     ]) in
     let from : (q : ℕ) → In q xs → (rule : Rule) → slice_get a.rules q ≡ Some rule → rule.from ≡ l = (λ q i rule named.
-    let s = step_from a counts l q (in_passed (is_step_from a counts l) (count_at counts) (numbers_from 0 (length a.rules)) q i) in
+    let s = step_from a counts l q (in_passed (is_step_from a counts l) (count_at counts) (range_with_len 0 (length a.rules)) q i) in
     let same : s.rule ≡ rule = same_Some s.rule rule (sym s.named ∙ named) in
     ap (λ (r : Rule). r.from) (sym same) ∙ s.from) in
     subst (Onward a) (sym (steps_cons a counts l ls)) (onward_append a l xs ys from (none_from a l (xs ++ ys) into) (onward_along a counts rules support acyclic (placed ++ l ∷ []) ls h.1))
@@ -116,11 +115,11 @@ passed_total g test count natural (n ∷ ns) = elim (cases_Bool (test n)) [
   | inr e ↦ rw e (omega (arith, ints, passed_total g test count natural ns))
 ]
 
-along_parts : (a : Automaton) (counts : List ℤ) → ((r : ℕ) → pos 0 ≤ℤ count_at counts r) → (g : ℕ → ℤ) (ls : List ℕ) → total g (arranged_steps (steps_along a counts ls)) ≡ total (λ l. total (λ r. cond (is_step_from a counts l r) (g r *ℤ count_at counts r) (pos 0)) (numbers_from 0 (length a.rules))) ls
+along_parts : (a : Automaton) (counts : List ℤ) → ((r : ℕ) → pos 0 ≤ℤ count_at counts r) → (g : ℕ → ℤ) (ls : List ℕ) → total g (arranged_steps (steps_along a counts ls)) ≡ total (λ l. total (λ r. cond (is_step_from a counts l r) (g r *ℤ count_at counts r) (pos 0)) (range_with_len 0 (length a.rules))) ls
 unfolding total
 along_parts a counts natural g [] = refl
 along_parts a counts natural g (l ∷ ls) =
-    let ns = numbers_from 0 (length a.rules) in
+    let ns = range_with_len 0 (length a.rules) in
     omega (arith, ints, ap (total g) (steps_cons a counts l ls), total-append g (passed (is_step_from a counts l) (count_at counts) ns) (arranged_steps (steps_along a counts ls)), passed_total g (is_step_from a counts l) (count_at counts) natural ns, along_parts a counts natural g ls)
 
 -- a sum whose parts but those of one number are 0
@@ -160,7 +159,7 @@ one_source a order once (Some rule) within z natural i = elim (cases_Bool (int_l
 -- the unit steps along an order have the end of the counts
 pub along_total : (a : Automaton) (counts : List ℤ) → ((r : ℕ) → pos 0 ≤ℤ count_at counts r) → (order : List ℕ) → ((l : ℕ) → l < length a.locations → times_in l order ≡ 1) → (i : ℕ) → total (change_of a i) (arranged_steps (steps_along a counts order)) ≡ weighted a counts i
 along_total a counts natural order once i =
-    let ns = numbers_from 0 (length a.rules) in
+    let ns = range_with_len 0 (length a.rules) in
     along_parts a counts natural (change_of a i) order
     ∙ total-swap (λ l r. cond (is_step_from a counts l r) (change_of a i r *ℤ count_at counts r) (pos 0)) order ns
     ∙ total-same (λ r. total (λ l. cond (is_step_from a counts l r) (change_of a i r *ℤ count_at counts r) (pos 0)) order) (λ r. change_of a i r *ℤ count_at counts r) ns (λ r. one_source a order once (slice_get a.rules r) (λ rule named. from_within a r rule named) (count_at counts r) (natural r) i)
@@ -171,9 +170,9 @@ steps_more a counts l n rule z named e =
     let f : ℕ → ℕ × ℤ = λ r. (r, count_at counts r) in
     let t = is_step_from a counts l in
     let test : t n ≡ (eqb rule.from l && int_lt (pos 0) z) = ap (λ (o : Option Rule). leads_out_of l o && int_lt (pos 0) (count_at counts n)) named ∙ ap (λ (y : ℤ). eqb rule.from l && int_lt (pos 0) y) (sym e) in
-    ap (λ (ns : List ℕ). map f (filter t ns)) (numbers_more 0 n ∙ ap (λ (x : ℕ). numbers_from 0 n ++ x ∷ []) (zero-add n))
-    ∙ ap (map f) (filter-append t (numbers_from 0 n) (n ∷ []))
-    ∙ map-append f (filter t (numbers_from 0 n)) (filter t (n ∷ []))
+    ap (λ (ns : List ℕ). map f (filter t ns)) (numbers_more 0 n ∙ ap (λ (x : ℕ). range_with_len 0 n ++ x ∷ []) (zero-add n))
+    ∙ ap (map f) (filter-append t (range_with_len 0 n) (n ∷ []))
+    ∙ map-append f (filter t (range_with_len 0 n)) (filter t (n ∷ []))
     ∙ ap (λ (xs : List (ℕ × ℤ)). steps_from a counts l n ++ xs) (one_step (count_at counts) n (t n) z e ∙ ap (λ (b : Bool). cond b ((n, z) ∷ []) []) test)
 
 -- the steps from one more location

@@ -1,14 +1,14 @@
 -- what an order of the locations says
 use Rattle.ta_scope.proofs.Common.{◌≡◌, inl, inr, ℕ, ◌<◌, ◌≤◌, List, [], ◌∷◌, ◌++◌, length, take, arith, sym, ap, ◌∙◌, subst, Contains, take-append-le, distinct_from, distinct_length, each_from, push_cases, Automaton, Distinct, NoCycle, Next, IsBuilt, IsLocationOrder}
-use Rattle.ta_base.proofs.Lists.{take_all}
 use Rattle.ta_scope.proofs.Places.{times_once, times_contains}
 use Rattle.ta_scope.proofs.Cycles.{NoneReady, none_remains}
+use Rattle.std.proofs.Math.Seq.{take-length}
 
 pub built_push : (a : Automaton) (rules : ℕ) (order : List ℕ) (location : ℕ) → IsBuilt a rules order → Next a rules order location → IsBuilt a rules (order ++ location ∷ [])
 built_push a rules order location built next k l at = elim (push_cases order location k l at) [
   | inl w ↦ subst (λ xs. Next a rules xs l) (sym (take-append-le k order (location ∷ []) (let b = w.0 in omega arith))) (built k l w.1)
   | inr w ↦ (
-      let none : take k (order ++ location ∷ []) ≡ order = take-append-le k order (location ∷ []) (let b = w.0 in omega arith) ∙ ap (λ n. take n order) w.0 ∙ take_all order in
+      let none : take k (order ++ location ∷ []) ≡ order = take-append-le k order (location ∷ []) (let b = w.0 in omega arith) ∙ ap (λ n. take n order) w.0 ∙ take-length order in
       subst (λ xs. Next a rules xs l) (sym none) (subst (Next a rules order) w.1 next))
 ]
 

@@ -1,5 +1,5 @@
 -- lists of numbers: what they contain, and how long they can be
-use Rattle.ta_scope.proofs.Common.{◌≡◌, inl, inr, ℕ, ◌≤◌, List, [], ◌∷◌, arith, sym, subst, Contains, AllByRecursion, eqb_tells, Distinct, contains_cases, contains_here, contains_later, times_in}
+use Rattle.ta_scope.proofs.Common.{◌≡◌, inl, inr, ℕ, ◌≤◌, List, [], ◌∷◌, arith, sym, subst, Contains, AllByRecursion, eqb_tells, Distinct, contains_cases, contains_here, times_in, Contains-append_right}
 use Rattle.ta_scope.proofs.Circulations.{none_times}
 
 pub times_once : (x : ℕ) (xs : List ℕ) → Distinct xs → Contains xs x → times_in x xs ≡ 1
@@ -15,5 +15,5 @@ unfolding times_in
 times_contains x [] h = absurd (omega arith)
 times_contains x (y ∷ ys) h = elim (eqb_tells y x) [
   | inl e ↦ subst (λ z. Contains (z ∷ ys) x) (sym e.1) (contains_here x ys)
-  | inr ne ↦ contains_later x y ys (times_contains x ys (let t = rw ne.0 at h in omega arith))
+  | inr ne ↦ Contains-append_right (y ∷ []) ys x (times_contains x ys (let t = rw ne.0 at h in omega arith))
 ]

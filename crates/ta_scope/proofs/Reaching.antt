@@ -1,5 +1,5 @@
 -- what growing masks of locations say of walks
-use Rattle.ta_scope.proofs.Common.{◌≡◌, inl, inr, ℕ, ◌<◌, ◌^◌, List, [], ◌∷◌, ◌++◌, arith, sym, ap, ◌∙◌, refl, subst, slice_get, Some, IsBitSet, ◌%◌, ◌*◌, ◌↔◌, bit_or, w32, length, length-append, get_or, bit_at, le_or_l, bit_at_set_same, bit_at_set_other, bit_at-pow_same, bit_at-pow_other, bit_at_ones, slice_get_within, eqb_tells, AllByRecursion, at_set, set_at, set_or, each_push, get_or_push, get_pushed, one_bit, Rule, Automaton, Walk, every_rule, Reaches, to_within, LeadsOut, AddsLocation, IsClosed}
+use Rattle.ta_scope.proofs.Common.{◌≡◌, inl, inr, ℕ, ◌<◌, ◌^◌, List, [], ◌∷◌, ◌++◌, arith, sym, ap, ◌∙◌, refl, subst, slice_get, Some, IsBitSet, ◌%◌, ◌*◌, ◌↔◌, bit_or, w32, length, length-append, get_or, bit_at, le_or_l, bit_at_set_same, bit_at_set_other, bit_at-pow_same, bit_at-pow_other, bit_at_ones, slice_get_within, eqb_tells, AllByRecursion, at_set, set_at, set_or, each_push, Rule, Automaton, Walk, every_rule, Reaches, to_within, LeadsOut, AddsLocation, IsClosed, get_or_append_left, get_or_push, one_shl}
 
 pub walk_push : (a : Automaton) (x : ℕ) (rs : List ℕ) (y r : ℕ) (rule : Rule) → Walk a x rs y → slice_get a.rules r ≡ Some rule → rule.from ≡ y → Walk a x (rs ++ r ∷ []) rule.to
 walk_push a x [] y r rule walk named from = (rule, named, from ∙ sym walk, refl)
@@ -66,7 +66,7 @@ to_fits a r rule named = let b = to_within a r rule named in let limit = a.shape
 
 pub reached_first : (a : Automaton) (rules first : ℕ) → first < 32 → Reached a rules first (1 * 2 ^ first % 4294967296)
 reached_first a rules first within =
-    let same : bit_of first ≡ 2 ^ first = one_bit first within in
+    let same : bit_of first ≡ 2 ^ first = one_shl first 32 within in
     record {
       has_first = at_set _ first (ap (λ n. bit_at n first) same ∙ bit_at-pow_same first);
       walks = λ l b. elim (eqb_tells l first) [
@@ -85,8 +85,8 @@ LeadsSoFar a rules table = (x y : ℕ) → x < length table → IsBitSet (get_or
 
 pub leads_push : (a : Automaton) (rules : ℕ) (table : List ℕ) (mask : ℕ) → LeadsSoFar a rules table → ((y : ℕ) → IsBitSet mask y ↔ Reaches a rules (length table) y) → LeadsSoFar a rules (table ++ mask ∷ [])
 leads_push a rules table mask before here x y b = elim (eqb_tells x (length table)) [
-  | inl e ↦ subst (λ z. IsBitSet (get_or (table ++ mask ∷ []) z 0) y ↔ Reaches a rules z y) (sym e.1) (subst (λ m. IsBitSet m y ↔ Reaches a rules (length table) y) (sym (get_pushed table mask)) (here y))
-  | inr ne ↦ (let within : x < length table = omega (arith, ne.1, b, length-append table (mask ∷ [])) in subst (λ m. IsBitSet m y ↔ Reaches a rules x y) (sym (get_or_push table x mask within)) (before x y within))
+  | inl e ↦ subst (λ z. IsBitSet (get_or (table ++ mask ∷ []) z 0) y ↔ Reaches a rules z y) (sym e.1) (subst (λ m. IsBitSet m y ↔ Reaches a rules (length table) y) (sym (get_or_push table mask 0 (length table) refl)) (here y))
+  | inr ne ↦ (let within : x < length table = omega (arith, ne.1, b, length-append table (mask ∷ [])) in subst (λ m. IsBitSet m y ↔ Reaches a rules x y) (sym (get_or_append_left table (mask ∷ []) 0 x within)) (before x y within))
 ]
 
 -- every rule is in the mask of all rules

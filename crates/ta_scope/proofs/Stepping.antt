@@ -1,5 +1,5 @@
 -- distances by masks of locations that grow step by step
-use Rattle.ta_scope.proofs.Common.{◌≡◌, ◌⊎◌, inl, inr, ℕ, suc, ◌+◌, ◌<◌, ◌≤◌, ◌^◌, List, [], ◌∷◌, ◌++◌, length, arith, sym, ap, ◌∙◌, refl, subst, slice_get, Some, IsBitSet, ◌↔◌, length-append, append_assoc, append-nil, ◌*◌, ◌%◌, cases_order, eqb_tells, pow_pos, bit_at-pow_other, slice_get_within, same_Some, bit_at, AllByRecursion, set_at, each_push, one_bit, Rule, Automaton, Walk, Reaches, IsClosed, FirstPath, NotAbove, NoLater, Distance, LeadsTo, AddsNextLocations, IsStep, FirstStep}
+use Rattle.ta_scope.proofs.Common.{◌≡◌, ◌⊎◌, inl, inr, ℕ, suc, ◌+◌, ◌<◌, ◌≤◌, ◌^◌, List, [], ◌∷◌, ◌++◌, length, arith, sym, ap, ◌∙◌, refl, subst, slice_get, Some, IsBitSet, ◌↔◌, length-append, append_assoc, append-nil, ◌*◌, ◌%◌, cases_order, eqb_tells, pow_pos, bit_at-pow_other, slice_get_within, same_Some, bit_at, AllByRecursion, set_at, each_push, Rule, Automaton, Walk, Reaches, IsClosed, FirstPath, NotAbove, NoLater, Distance, LeadsTo, AddsNextLocations, IsStep, FirstStep, one_shl}
 use Rattle.ta_scope.proofs.Reaching.{walk_push, walk_stays, reached_first, bit_of}
 
 -- one of the first rules leads from a mask to a location
@@ -64,7 +64,7 @@ pub record Layer (a : Automaton) (rules from to count mask : ℕ) : Type 0 where
 first_only : (first l : ℕ) → first < 32 → IsBitSet (bit_of first) l → l ≡ first
 first_only first l within b = elim (eqb_tells l first) [
   | inl e ↦ e.1
-  | inr ne ↦ absurd (let none = bit_at-pow_other first l ne.1 in let one = set_at _ l b in let m = ap (λ n. bit_at n l) (one_bit first within) in omega arith)
+  | inr ne ↦ absurd (let none = bit_at-pow_other first l ne.1 in let one = set_at _ l b in let m = ap (λ n. bit_at n l) (one_shl first 32 within) in omega arith)
 ]
 
 no_path : (a : Automaton) (x : ℕ) (rs : List ℕ) (y : ℕ) → length rs ≤ 0 → Walk a x rs y → x ≡ y
@@ -80,7 +80,7 @@ layer_first a rules from to fits =
         λ n. subst (IsBitSet (bit_of from)) (no_path a from n.path l n.short n.walk) first.has_first,
       );
       nearer = λ other w m. omega arith;
-      below = (let same = one_bit from fits in let some = pow_pos from in omega arith);
+      below = (let same = one_shl from 32 fits in let some = pow_pos from in omega arith);
     }
 
 -- a walk with its last rule apart

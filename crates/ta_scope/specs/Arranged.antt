@@ -1,10 +1,10 @@
 -- Arranged steps: counts of rules without their circulations, as steps that go forward (this project's profile)
 use Rattle.std.specs.Prelude.{ℕ, ℤ, pos, ◌<◌, ◌≡◌, ◌≤ℤ◌, ◌-ℤ◌, ◌⊎◌, ◌↔◌, ◌&&◌, Bool, List, [], ◌∷◌, length, map, filter, flat_map, int_lt, slice_get, slice_index_or, Some, IsBitSet}
-use Rattle.std.specs.List.{AllByRecursion}
+use Rattle.std.specs.List.{AllByRecursion, range_with_len}
 use Rattle.ta_automaton.specs.declared.rule.Rule.{Rule}
 use Rattle.ta_automaton.specs.declared.automaton.Automaton.{Automaton}
 use Rattle.ta_automaton.specs.Laws.{leads_out_of}
-use Rattle.ta_base.specs.Masks.{In, numbers_from}
+use Rattle.ta_base.specs.Masks.{In}
 use Rattle.ta_automaton.specs.Runs.{Walk}
 use Rattle.ta_scope.specs.Cycles.{OnCycle, NoCycle}
 use Rattle.ta_scope.specs.Order.{IsLocationOrder}
@@ -81,7 +81,7 @@ is_step_from a counts l r = leads_out_of l (slice_get a.rules r) && int_lt (pos 
 
 -- the rules with a count above 0, each with its count, by their source in the order of the locations and then by number
 abbrev pub steps_along : Automaton → List ℤ → List ℕ → List (ℕ × ℤ)
-steps_along a counts order = flat_map (λ l. map (λ r. (r, count_at counts r)) (filter (is_step_from a counts l) (numbers_from 0 (length a.rules)))) order
+steps_along a counts order = flat_map (λ l. map (λ r. (r, count_at counts r)) (filter (is_step_from a counts l) (range_with_len 0 (length a.rules)))) order
 
 -- the arranged steps of counts: circulations are taken out until the support has no cycle; the rest is listed in the order
 -- of the locations by its support

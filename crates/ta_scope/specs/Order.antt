@@ -1,7 +1,6 @@
 -- The order of an automaton's locations by some of its rules (this project's profile). A mask says which rules: bit r
 -- names rule r
 use Rattle.std.specs.Prelude.{ℕ, ◌<◌, ◌≡◌, ◌≢◌, ◌==◌, List, length, take, Contains, slice_get, take_while, not, Some, IsBitSet}
-use Rattle.std.proofs.Props.{props}
 use Rattle.ta_automaton.specs.declared.rule.Rule.{Rule}
 use Rattle.ta_automaton.specs.declared.automaton.Automaton.{Automaton}
 use Rattle.ta_automaton.specs.Sums.{times_in}
@@ -23,12 +22,6 @@ pub record Next (a : Automaton) (rules : ℕ) (placed : List ℕ) (location : �
   pub ready : Ready a rules placed location
   pub least : (l : ℕ) → l < location → ¬ Ready a rules placed l
 
-Ready-prop : (a : Automaton) (rules : ℕ) (placed : List ℕ) (location : ℕ) → IsProp (Ready a rules placed location)
-Ready-prop a rules placed location = hlevel props
-
-Next-prop : (a : Automaton) (rules : ℕ) (placed : List ℕ) (location : ℕ) → IsProp (Next a rules placed location)
-Next-prop a rules placed location = hlevel (props, Ready-prop a rules placed)
-
 -- each item is the next location after the items before it
 abbrev pub IsBuilt : Automaton → ℕ → List ℕ → Type 0
 IsBuilt a rules order = (k l : ℕ) → slice_get order k ≡ Some l → Next a rules (take k order) l
@@ -37,9 +30,6 @@ IsBuilt a rules order = (k l : ℕ) → slice_get order k ≡ Some l → Next a 
 pub record IsLocationOrder (a : Automaton) (rules : ℕ) (order : List ℕ) : Type 0 where
   pub each_once : (l : ℕ) → l < length a.locations → times_in l order ≡ 1
   pub built : IsBuilt a rules order
-
-pub IsLocationOrder-prop : (a : Automaton) (rules : ℕ) (order : List ℕ) → IsProp (IsLocationOrder a rules order)
-IsLocationOrder-prop a rules order = hlevel (props, Next-prop a rules)
 
 -- the number of locations before a location in the order
 abbrev pub rank_of : List ℕ → ℕ → ℕ

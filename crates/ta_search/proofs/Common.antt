@@ -5,20 +5,20 @@ pub use Rattle.std.proofs.lemmas.List.{append_cancel_left, drop_all, drop_more, 
 pub use Rattle.std.proofs.lemmas.Nat.{div-add-mod', mul-le}
 pub use Rattle.std.proofs.lemmas.Option.{get_or_from_slice_get, same_Some, slice_get_past, slice_get_read, slice_get_within}
 pub use Rattle.std.proofs.lemmas.Slice.Eq.{bytes_eq-Decides}
-pub use Rattle.std.specs.List.{AllByRecursion, list_all, list_any}
+pub use Rattle.std.specs.List.{AllByRecursion, list_all, list_any, range_with_len}
 pub use Rattle.std.specs.Prelude.{IsTrue, option_map}
 pub use Rattle.std.specs.Str.{IsUtf8, bytes_eq}
 pub use Rattle.ta_automaton.specs.declared.file.File.{File}
 pub use Rattle.ta_automaton.specs.declared.pattern.Pattern.{Pattern}
 pub use Rattle.ta_base.proofs.ByteLists.{differs, words_ascii}
-pub use Rattle.ta_base.proofs.Each.{each_all, each_append, each_at, each_back, each_made, each_push, each_weaker, word_avoids, word_tells}
+pub use Rattle.ta_base.proofs.Each.{each_all, each_append, each_at, each_back, each_map, each_push, each_weaker, word_avoids, word_tells}
 pub use Rattle.ta_base.proofs.Lists.{avoids-append, first_byte, heads, named_ended, not_long, not_parted, some_at, three_behind}
 pub use Rattle.ta_base.proofs.Naturals.{at_most, quotient_below, rest_below}
 pub use Rattle.ta_base.proofs.Options.{below_if, none_behind}
-pub use Rattle.ta_base.proofs.Ranges.{In-numbers, each_number, length_numbers, numbers_get_or}
+pub use Rattle.ta_base.proofs.Ranges.{In-numbers, each_number, numbers_get_or}
 pub use Rattle.ta_base.specs.Bytes.{Avoids, IsWord, SplitAt, is_letter, is_word}
 pub use Rattle.ta_base.specs.Lists.{Distinct}
-pub use Rattle.ta_base.specs.Masks.{In, numbers_from}
+pub use Rattle.ta_base.specs.Masks.{In}
 pub use Rattle.ta_check.specs.Certificate.{Certificate}
 pub use Rattle.ta_report.specs.declared.verdict.Verdict.{Verdict}
 pub use Rattle.ta_report.specs.declared.verdict.Verdict.TheVariants.{Overflow, Safe, Spent, Unsafe}
@@ -39,4 +39,4 @@ pub use Rattle.ta_search.specs.declared.template.Hole.{Hole}
 pub use Rattle.ta_search.specs.declared.template.Template.{Template}
 pub use Rattle.ta_syntax.specs.declared.fault.FileFault.{FileFault}
 pub use Rattle.ta_verdict.specs.Certificates.{CertificateOf, CertificatesAreDetermined, SafeOne, safe_numbers, safe_ones}
-pub use Rattle.ta_verdict.specs.Verdicts.{AreVerdicts, IsSample, SamplesAreDetermined, VerdictsAreDetermined, VerdictsHold, is_unknown}
+pub use Rattle.ta_verdict.specs.Verdicts.{AreVerdicts, IsSample, SamplesAreDetermined, VerdictHolds, VerdictsAreDetermined, VerdictsHold, is_unknown}

@@ -1,5 +1,5 @@
 -- what is found is safe
-use Rattle.ta_search.proofs.Common.{◌≡◌, ◌∙◌, inl, inr, ℕ, ◌+◌, true, List, [], ◌∷◌, ◌++◌, length, map, refl, sym, ap, subst, append_assoc, false≢true, AllByRecursion, File, Pattern, numbers_from, Certificate, Verdict, Safe, Unsafe, Spent, Overflow, SafeOne, safe_ones, VerdictsHold, Outcome, Tried, Template, filled_text, IsSafe, OutcomeHolds, is_safe, AreTried, IsFound, IsSearchEnd, IsTried, LastIsFound, is_found, vectors}
+use Rattle.ta_search.proofs.Common.{◌≡◌, ◌∙◌, inl, inr, ℕ, ◌+◌, true, List, [], ◌∷◌, ◌++◌, length, map, refl, sym, ap, subst, append_assoc, false≢true, AllByRecursion, File, Pattern, range_with_len, Certificate, Verdict, Safe, Unsafe, Spent, Overflow, SafeOne, safe_ones, VerdictsHold, Outcome, Tried, Template, filled_text, IsSafe, OutcomeHolds, is_safe, AreTried, IsFound, IsSearchEnd, IsTried, LastIsFound, is_found, vectors}
 use Rattle.ta_automaton.specs.Runs as runs
 use Rattle.ta_search.specs.declared.outcome.Outcome.TheVariants as outcome
 use Rattle.ta_search.specs.declared.outcome.SearchEnd.{SearchEnd}
@@ -16,7 +16,7 @@ all_safe file budget number (p ∷ ps) (Unsafe nodes run ∷ vs) hold all = absu
 all_safe file budget number (p ∷ ps) (Spent nodes ∷ vs) hold all = absurd (false≢true all.0)
 all_safe file budget number (p ∷ ps) (Overflow node kind ∷ vs) hold all = absurd (false≢true all.0)
 
-all_numbers : (file : File) (budget number : ℕ) (ps : List Pattern) (vs : List Verdict) → VerdictsHold file budget number ps vs → AllByRecursion (λ v. is_safe v ≡ true) vs → map (λ (one : SafeOne). one.number) (safe_ones number ps vs) ≡ numbers_from number (length ps)
+all_numbers : (file : File) (budget number : ℕ) (ps : List Pattern) (vs : List Verdict) → VerdictsHold file budget number ps vs → AllByRecursion (λ v. is_safe v ≡ true) vs → map (λ (one : SafeOne). one.number) (safe_ones number ps vs) ≡ range_with_len number (length ps)
 all_numbers file budget number [] vs hold all = refl
 all_numbers file budget number (p ∷ ps) [] hold all = absurd hold
 all_numbers file budget number (p ∷ ps) (Safe nodes leaves ∷ vs) hold all = ap (λ (ks : List ℕ). number ∷ ks) (all_numbers file budget (number + 1) ps vs hold.1 all.1)

@@ -1,5 +1,5 @@
 -- a template has one end of its search
-use Rattle.ta_search.proofs.Common.{◌≡◌, ◌∙◌, ◌⊎◌, inl, inr, ℕ, ◌<◌, Bool, true, List, [], ◌∷◌, length, Some, slice_get, refl, sym, ap, subst, false≢true, AllByRecursion, each_at, not_long, File, Pattern, Verdict, Safe, Unsafe, Spent, Overflow, FileFault, CertificateOf, CertificatesAreDetermined, AreVerdicts, SamplesAreDetermined, VerdictsAreDetermined, is_unknown, Outcome, Tried, Template, filled_text, IsOfPattern, IsRefusedFilling, IsSampled, IsUnknown, IsUnsafe, OutcomeHolds, is_safe, is_unsampled, safe_before, AreTried, IsTried, SearchesAreDetermined, is_found, vectors}
+use Rattle.ta_search.proofs.Common.{◌≡◌, ◌∙◌, ◌⊎◌, inl, inr, ℕ, ◌<◌, Bool, true, List, [], ◌∷◌, length, Some, slice_get, refl, sym, ap, subst, false≢true, AllByRecursion, each_at, not_long, File, Pattern, Verdict, Safe, Unsafe, Spent, Overflow, FileFault, CertificateOf, CertificatesAreDetermined, AreVerdicts, SamplesAreDetermined, VerdictsAreDetermined, is_unknown, Outcome, Tried, Template, filled_text, HasVerdicts, IsOfPattern, IsRefusedFilling, IsSampled, IsUnknown, IsUnsafe, OutcomeHolds, is_safe, is_unsampled, safe_before, AreTried, IsTried, SearchesAreDetermined, is_found, vectors}
 use Rattle.ta_meaning.specs.Laws.{FilesAreUnique, FirstFaultsAreUnique}
 use Rattle.ta_report.specs.declared.verdict.ReportSample.{ReportSample}
 use Rattle.ta_report.specs.declared.verdict.ReportSample.TheVariants as sample
@@ -71,35 +71,22 @@ of_unknown file p (Unsafe nodes run) name said named = absurd (false≢true said
 of_unknown file p (Spent nodes) name said named = ap (λ (n : List ℕ). outcome.Unknown n (Spent nodes)) named
 of_unknown file p (Overflow node kind) name said named = ap (λ (n : List ℕ). outcome.Unknown n (Overflow node kind)) named
 
+by_verdicts : {bytes : List ℕ} {budget : ℕ} {file : File} {verdicts : List Verdict} (o : Outcome) → HasVerdicts bytes budget file verdicts → Decided file verdicts o ⊎ Proved file budget verdicts o → By bytes budget o
+by_verdicts {bytes} {budget} {file} {verdicts} o judged gives = inr (inr (record {
+  file = file;
+  s = sample.Sample judged.values;
+  sampled = judged.sampled;
+  gives = record { verdicts = verdicts; are = judged.verdicts; gives = gives };
+}))
+
 by_unsafe : (bytes : List ℕ) (budget : ℕ) (name run : List ℕ) → IsUnsafe bytes budget name run → By bytes budget (outcome.Unsafe name run)
 by_unsafe bytes budget name run h =
-    let judged = h.judged in
-    let decides = h.decides in
-    inr (inr (record {
-      file = h.file;
-      s = sample.Sample judged.values;
-      sampled = judged.sampled;
-      gives = record {
-        verdicts = h.verdicts;
-        are = judged.verdicts;
-        gives = inl (record { p = h.p; v = Unsafe h.nodes h.run; pattern = decides.pattern; verdict = decides.verdict; is = ap (λ (n : List ℕ). outcome.Unsafe n run) h.named ∙ ap (outcome.Unsafe h.p.name) h.shown });
-      };
-    }))
+    let is = ap (λ (n : List ℕ). outcome.Unsafe n run) h.named ∙ ap (outcome.Unsafe h.p.name) h.shown in
+    by_verdicts (outcome.Unsafe name run) h.judged (inl (record { p = h.p; v = Unsafe h.nodes h.run; pattern = h.decides.pattern; verdict = h.decides.verdict; is = is }))
 
 by_unknown : (bytes : List ℕ) (budget : ℕ) (name : List ℕ) (v : Verdict) → IsUnknown bytes budget name v → By bytes budget (outcome.Unknown name v)
 by_unknown bytes budget name v h =
-    let judged = h.judged in
-    let decides = h.decides in
-    inr (inr (record {
-      file = h.file;
-      s = sample.Sample judged.values;
-      sampled = judged.sampled;
-      gives = record {
-        verdicts = h.verdicts;
-        are = judged.verdicts;
-        gives = inl (record { p = h.p; v = v; pattern = decides.pattern; verdict = decides.verdict; is = of_unknown h.file h.p v name h.unknown h.named });
-      };
-    }))
+    by_verdicts (outcome.Unknown name v) h.judged (inl (record { p = h.p; v = v; pattern = h.decides.pattern; verdict = h.decides.verdict; is = of_unknown h.file h.p v name h.unknown h.named }))
 
 by : (bytes : List ℕ) (budget : ℕ) (o : Outcome) → OutcomeHolds bytes budget o → By bytes budget o
 by bytes budget outcome.Long h = inl (record { long = h; is = refl })
@@ -108,14 +95,7 @@ by bytes budget outcome.Empty h = inr (inr (record { file = h.file; s = sample.E
 by bytes budget (outcome.SampleUnknown s) h = let has = h.0 in inr (inr (record { file = has.file; s = s; sampled = has.sampled; gives = unsampled has.file budget s h.1 }))
 by bytes budget (outcome.Unsafe name run) h = by_unsafe bytes budget name run h
 by bytes budget (outcome.Unknown name v) h = by_unknown bytes budget name v h
-by bytes budget (outcome.Safe certificate) h =
-    let judged = h.judged in
-    inr (inr (record {
-      file = h.file;
-      s = sample.Sample judged.values;
-      sampled = judged.sampled;
-      gives = record { verdicts = h.verdicts; are = judged.verdicts; gives = inr (record { text = certificate; all = h.all; certificate = h.certificate; is = refl }) };
-    }))
+by bytes budget (outcome.Safe certificate) h = by_verdicts (outcome.Safe certificate) h.judged (inr (record { text = certificate; all = h.all; certificate = h.certificate; is = refl }))
 
 -- ---- which is one
 pattern_once : (file : File) (p : Pattern) (v : Verdict) (a b : Outcome) → IsOfPattern file p v a → IsOfPattern file p v b → a ≡ b

@@ -1,5 +1,5 @@
 -- what comes of a file by its verdicts
-use Rattle.ta_search.proofs.Common.{◌≡◌, ◌≢◌, ◌∙◌, ◌⊎◌, inl, inr, ℕ, suc, ◌+◌, ◌<◌, ◌≤◌, ℤ, false, true, List, [], ◌∷◌, length, Some, None, slice_get, IfOk, Result, refl, sym, ap, subst, arith, get_or_from_slice_get, slice_get_within, AllByRecursion, some_at, File, Pattern, Certificate, Verdict, Safe, Unsafe, Spent, Overflow, FileFault, CertificateOf, safe_numbers, AreVerdicts, Outcome, IsOfPattern, IsFirstNotSafe, HasVerdicts, IsRefusedFilling, IsSafe, IsSampled, OutcomeHolds, is_safe, safe_before}
+use Rattle.ta_search.proofs.Common.{◌≡◌, ◌≢◌, ◌∙◌, ◌⊎◌, inl, inr, ℕ, suc, ◌+◌, ◌<◌, ◌≤◌, ℤ, false, true, List, [], ◌∷◌, length, Some, None, slice_get, IfOk, Result, refl, sym, ap, subst, arith, get_or_from_slice_get, slice_get_within, AllByRecursion, some_at, File, Pattern, Certificate, Verdict, Safe, Unsafe, Spent, Overflow, FileFault, CertificateOf, safe_numbers, AreVerdicts, Outcome, IsOfPattern, IsFirstNotSafe, HasVerdicts, IsRefusedFilling, IsSafe, IsSampled, OutcomeHolds, is_safe, safe_before, VerdictHolds}
 use Rattle.std.proofs.lemmas.List.Sums.{prefix_len_stops}
 use Rattle.std.proofs.lemmas.Result.{IfOk-weaker}
 use Rattle.ta_meaning.specs.FirstFault.{FirstFault}
@@ -33,7 +33,7 @@ all_before (Overflow node kind ∷ vs) none = cc
 pub numbered : (file : File) (budget : ℕ) (vs : List Verdict) (v : Verdict) (place : ℕ) → AreVerdicts file budget vs → slice_get vs place ≡ Some v → place < length file.patterns
 numbered file budget vs v place are at =
     let within = slice_get_within vs place v at in
-    let same = as_many file budget 0 file.patterns vs are.hold in
+    let same = as_many (VerdictHolds file budget) 0 file.patterns vs are.hold in
     omega arith
 
 -- the outcome of the pattern that decides holds

@@ -1,5 +1,6 @@
 -- the vectors of a template by their numbers
-use Rattle.ta_search.proofs.Common.{◌≡◌, ◌∙◌, ℕ, zero, suc, ◌+◌, ◌*◌, ◌/◌, ◌%◌, ◌<◌, List, [], ◌∷◌, ◌++◌, length, map, drop, get_or, refl, sym, ap, subst, arith, length-append, drop_all, drop_more, get_or-append-add, get_or-map, get_or_append_left, length-map, div-add-mod', quotient_below, rest_below, length_numbers, numbers_get_or, Hole, value_count, vector_count, vector_at, each_before, hole_values, vectors}
+use Rattle.ta_search.proofs.Common.{◌≡◌, ◌∙◌, ℕ, zero, suc, ◌+◌, ◌*◌, ◌/◌, ◌%◌, ◌<◌, List, [], ◌∷◌, ◌++◌, length, map, drop, get_or, refl, sym, ap, subst, arith, length-append, drop_all, drop_more, get_or-append-add, get_or-map, get_or_append_left, length-map, div-add-mod', quotient_below, rest_below, numbers_get_or, Hole, value_count, vector_count, vector_at, each_before, hole_values, vectors}
+use Rattle.std.proofs.lemmas.List.FromFn.{length-range_with_len}
 
 -- vectors that begin with a value
 abbrev begun : ℕ → List (List ℕ) → List (List ℕ)
@@ -28,7 +29,7 @@ each_at (x ∷ xs) vs m (suc k) r same h g =
 pub vectors_counted : (hs : List Hole) → length (vectors hs) ≡ vector_count hs
 vectors_counted [] = refl
 vectors_counted (h ∷ hs) =
-    each_count (hole_values h) (vectors hs) ∙ ap (λ n. n * length (vectors hs)) (length_numbers h.low (value_count h)) ∙ ap (λ n. value_count h * n) (vectors_counted hs)
+    each_count (hole_values h) (vectors hs) ∙ ap (λ n. n * length (vectors hs)) (length-range_with_len h.low (value_count h)) ∙ ap (λ n. value_count h * n) (vectors_counted hs)
 
 pub vector_numbered : (hs : List Hole) (place : ℕ) → place < vector_count hs → get_or (vectors hs) place [] ≡ vector_at hs place
 vector_numbered [] zero h = refl
@@ -39,7 +40,7 @@ vector_numbered (h ∷ hs) place below =
     let r = place % m in
     let first : q < value_count h = quotient_below (value_count h) m place below in
     let rest : r < m = (rest_below (value_count h) m place below).1 in
-    let many : q < length (hole_values h) = subst (λ n. q < n) (sym (length_numbers h.low (value_count h))) first in
+    let many : q < length (hole_values h) = subst (λ n. q < n) (sym (length-range_with_len h.low (value_count h))) first in
     let e : q * m + r ≡ place = div-add-mod' place m in
     ap (λ n. get_or (vectors (h ∷ hs)) n []) (sym e) ∙ each_at (hole_values h) (vectors hs) m q r (sym (vectors_counted hs)) many rest ∙ ap (λ v. v ∷ get_or (vectors hs) r []) (numbers_get_or h.low (value_count h) q first)
     ∙ ap (λ (vs : List ℕ). (h.low + q) ∷ vs) (vector_numbered hs r rest)

@@ -1,8 +1,7 @@
 -- The search for values of a template's holes with which every pattern is safe (this project's profile)
 use Rattle.std.specs.Prelude.{ℕ, ◌≡◌, Bool, true, false, List, [], ◌∷◌, ◌++◌, length, ◌⊎◌}
-use Rattle.std.specs.List.{AllByRecursion}
+use Rattle.std.specs.List.{AllByRecursion, range_with_len}
 use Rattle.ta_automaton.specs.declared.file.File.{File}
-use Rattle.ta_base.specs.Masks.{numbers_from}
 use Rattle.ta_automaton.specs.Runs as runs
 use Rattle.ta_check.specs.Certificate.{Certificate}
 use Rattle.ta_encode.specs.Sample.{HasStart}
@@ -56,7 +55,7 @@ pub record IsFound (bytes certificate : List ℕ) : Type 0 where
   pub safe : AllByRecursion (runs.Safe file.automaton) file.patterns
   pub parameters : List ℕ
   pub start : HasStart file.automaton parameters
-  pub accepted : Certificate file certificate (numbers_from 0 (length file.patterns))
+  pub accepted : Certificate file certificate (range_with_len 0 (length file.patterns))
 
 -- the last vector that was tried is found: it is listed with a certificate
 pub record LastIsFound (t : Template) (end : SearchEnd) : Type 0 where

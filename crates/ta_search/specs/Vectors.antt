@@ -1,14 +1,14 @@
 -- The choices of a value for each hole of a template, in their order (this project's profile)
 use Rattle.std.specs.Prelude.{ℕ, ◌<◌, ◌≤◌, ◌≡◌, ◌⊎◌, List, [], ◌∷◌, ◌++◌, map}
-use Rattle.std.specs.List.{AllByRecursion}
-use Rattle.ta_base.specs.Masks.{In, numbers_from}
+use Rattle.std.specs.List.{AllByRecursion, range_with_len}
+use Rattle.ta_base.specs.Masks.{In}
 use Rattle.ta_search.specs.declared.template.Hole.{Hole}
 use Rattle.ta_search.specs.declared.template.Template.{Template}
 use Rattle.ta_search.specs.Holes.{value_count}
 
 -- the values of a hole, from the lowest to the highest
 abbrev pub hole_values : Hole → List ℕ
-hole_values h = numbers_from h.low (value_count h)
+hole_values h = range_with_len h.low (value_count h)
 
 -- each of these values in front of each of these vectors: first all that begin with the first value, then all that begin with the next
 abbrev pub each_before : List ℕ → List (List ℕ) → List (List ℕ)

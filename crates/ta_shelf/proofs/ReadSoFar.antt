@@ -1,6 +1,5 @@
 -- what a read of a whole file keeps from turn to turn
-use Rattle.ta_shelf.proofs.Common.{◌+◌, ◌-◌, ◌∙◌, ap, drop, arith, length-append, ◌≡◌, ℕ, ◌<◌, ◌≤◌, List, [], ◌++◌, length, take, Some, None, Option, refl, sym, subst, take-add, drop-drop, length-drop, take-append-drop, none-some, IfSome, unwrap_or, Call}
-use Rattle.std.proofs.lemmas.List.{length-take-le}
+use Rattle.ta_shelf.proofs.Common.{◌+◌, ◌-◌, ◌∙◌, ap, drop, arith, length-append, ◌≡◌, ℕ, ◌<◌, ◌≤◌, List, [], ◌++◌, length, take, Some, None, Option, refl, sym, subst, take-add, drop-drop, length-drop, take-append-drop, none-some, IfSome, unwrap_or, Call, length-take-le}
 use Rattle.ta_shelf.specs.Shelf.{ReadsBytes}
 use Rattle.ta_shelf.specs.ReadPiece.{BeginsWith, FillsFrom}
 use Rattle.ta_shelf.proofs.CallLemmas.{TurnsFrom}

@@ -1,6 +1,5 @@
 -- texts, one behind the other
-use Rattle.ta_shell.proofs.Common.{◌≡◌, ◌∙◌, ℕ, List, [], ◌∷◌, ◌++◌, refl, sym, ap, append_assoc, texts_joined}
-use Rattle.std.proofs.Common.{append-nil}
+use Rattle.ta_shell.proofs.Common.{◌≡◌, ◌∙◌, ℕ, List, [], ◌∷◌, ◌++◌, refl, sym, ap, append_assoc, texts_joined, append-nil}
 
 pub joined_append : (ts us : List (List ℕ)) → texts_joined (ts ++ us) ≡ texts_joined ts ++ texts_joined us
 joined_append [] us = refl

@@ -1,5 +1,5 @@
 -- pieces that are written one after the other
-use Rattle.ta_shell.proofs.Common.{◌≡◌, ◌∙◌, ◌≤◌, ◌<◌, ◌+◌, ℕ, suc, List, [], ◌∷◌, ◌++◌, length, take, drop, get_or, Option, Err, refl, sym, ap, inl, inr, arith, append_assoc, length-append, add-one, drop-cons, append-nil, take-append-le, Calm, SinkState, Tells, piece_text, pieces_text}
+use Rattle.ta_shell.proofs.Common.{◌≡◌, ◌∙◌, ◌≤◌, ◌<◌, ◌+◌, ℕ, suc, List, [], ◌∷◌, ◌++◌, length, take, drop, get_or, Option, Err, refl, sym, ap, inl, inr, arith, append_assoc, length-append, add-one, drop-cons, append-nil, take-append-le, Calm, SinkState, Tells, piece_text, pieces_text, SinkFaltered as SinkFailed}
 use Rattle.std.proofs.Math.Seq.{drop-length, take-append-add, take-length}
 use Rattle.ta_shelf.proofs.WrittenSoFar.{with_text-append}
 use Rattle.ta_shelf.specs.Sink.{with_text}
@@ -7,7 +7,6 @@ use Rattle.ta_shelf.specs.WriteWhole.{AddsPrefix, AddsWhole, HasCause}
 use Rattle.ta_shelf.specs.declared.fault.SinkFault.{SinkFault}
 use Rattle.ta_shelf.specs.declared.fault.SinkFault.TheVariants.{Failed, Stuck}
 use Rattle.ta_shell.specs.declared.phrase.Piece.{Piece}
-use Rattle.ta_shell.specs.Ends.{SinkFaltered as SinkFailed}
 
 -- so many pieces were written whole
 pub record Written (pieces : List Piece) (index : ℕ) (before now : SinkState) : Type 0 where

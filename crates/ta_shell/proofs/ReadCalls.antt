@@ -1,9 +1,8 @@
 -- what the calls of a reading give is seen in them and in the files
-use Rattle.ta_shell.proofs.Common.{List, [], ℕ, Option, None, Some, Result, Ok, Err, sym, subst, inl, inr, append-nil, Call, ReadsBy, Spells, bytes_given, Told, BeginsWith, GivesFirst, ReadsWhole, Missing, TooLong, Refusal, Refused, ReadFailed, PutFailed, Gives, IsReading, IsUnreadable, SaysOfFile, Absent, Begins, HasMore, Part, View, Whole, seen, where_told}
+use Rattle.ta_shell.proofs.Common.{List, [], ℕ, Option, None, Some, Result, Ok, Err, sym, subst, inl, inr, append-nil, Call, ReadsBy, Spells, bytes_given, Told, BeginsWith, GivesFirst, ReadsWhole, Missing, TooLong, Refusal, Refused, ReadFailed, PutFailed, Gives, IsReading, IsUnreadable, SaysOfFile, Absent, Begins, HasMore, Part, View, Whole, seen, where_told, Memory as NoMemory}
 use Rattle.std.specs.Prelude.{IfSome}
 use Rattle.ta_shelf.specs.declared.fault.WholeFault.{WholeFault}
 use Rattle.ta_shelf.specs.declared.fault.WholeFault.TheVariants.{Failed, Memory}
-use Rattle.ta_shell.specs.declared.answer.Refusal.TheVariants.{Memory as NoMemory}
 use Rattle.ta_shell.specs.declared.reading.Limit.{Limit}
 
 -- all calls are part of them

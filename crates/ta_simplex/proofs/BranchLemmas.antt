@@ -1,5 +1,5 @@
 -- the systems of a branch: one more, fewer, and the pivots cut or longer
-use Rattle.ta_simplex.proofs.Common.{◌≡◌, ℕ, zero, suc, ◌-◌, ◌≤◌, List, [], ◌∷◌, ◌++◌, length, map, take, drop, get_or, reverse, arith, refl, sym, ap, ◌∙◌, subst, Option, Some, None, ℤ, pos, ◌<ℤ◌, option_to_list, remove, replicate, append-nil, reverse-append, length-append, length-map, length-take-le, get_or_append_left, take-map, take-append-drop, Row, System, Tableau, slack_tableau, KeptPivot, kept_at, AreKept, StayInRange, MayBegin, FirstLeaving, extended, new_rows, IsCount, OverflowsAt, tableau_after, Follows, BeginsSystem, AddsPivots, AreStanding, LastFits, StandsOn}
+use Rattle.ta_simplex.proofs.Common.{◌≡◌, ℕ, suc, ◌-◌, ◌≤◌, List, [], ◌∷◌, ◌++◌, length, map, take, drop, fewer_alike, get_or, reverse, arith, sym, ap, ◌∙◌, subst, Option, Some, None, ℤ, pos, ◌<ℤ◌, option_to_list, remove, replicate, append-nil, reverse-append, length-append, length-map, length-take-le, get_or_append_left, take-map, take-append-drop, Row, System, Tableau, slack_tableau, KeptPivot, kept_at, AreKept, StayInRange, MayBegin, FirstLeaving, extended, new_rows, IsCount, OverflowsAt, tableau_after, Follows, BeginsSystem, AddsPivots, AreStanding, LastFits, StandsOn}
 use Rattle.ta_simplex.specs.declared.branch.Standing.{Standing}
 use Rattle.ta_simplex.proofs.Prefixes.{reached_after, size_reached, follows_extended, overflow_extended}
 use Rattle.ta_simplex.proofs.FollowLemmas.{follows_take, follows_append, follows_reached}
@@ -57,21 +57,11 @@ standing_on {D = D} {K = K} tableau pivot_of rows most old new os goes s =
     (subst (λ (qs : List KeptPivot). AreStanding tableau qs rows (length old) most os) (sym goes.is) (standing_append tableau (map pivot_of old) goes.more rows (length old) most os s))
 
 -- other rows, the first of which are the same
-take_less : (rows other : List Row) (n same : ℕ) → n ≤ same → take same rows ≡ take same other → take n rows ≡ take n other
-take_less rows other n same h e = sym (take_take rows n same h) ∙ ap (take n) e ∙ take_take other n same h
-  where
-    take_take : (rs : List Row) (n m : ℕ) → n ≤ m → take n (take m rs) ≡ take n rs
-    take_take rs zero m h = refl
-    take_take [] (suc n) zero h = absurd (omega arith)
-    take_take [] (suc n) (suc m) h = refl
-    take_take (r ∷ rs) (suc n) zero h = absurd (omega arith)
-    take_take (r ∷ rs) (suc n) (suc m) h = ap (λ (xs : List Row). r ∷ xs) (take_take rs n m (omega arith))
-
 standing_rows : {D K : Type 0} (tableau : D → Tableau) (ks : List KeptPivot) (rows other : List Row) (count most same : ℕ) (os : List (Standing D K)) → take same rows ≡ take same other → most ≤ same → AreStanding tableau ks rows count most os → AreStanding tableau ks other count most os
 standing_rows tableau ks rows other count most same [] e h s = tt
 standing_rows tableau ks rows other count most same (o ∷ os) e h s =
     let r = s.1 in
-    (s.0, r, subst (λ (rs : List Row). StandsOn tableau ks rs o) (take_less rows other o.rows same (omega arith) e) s.2, standing_rows tableau ks rows other o.pivots o.rows same os e (omega arith) s.3)
+    (s.0, r, subst (λ (rs : List Row). StandsOn tableau ks rs o) (fewer_alike o.rows same rows other (omega arith) e) s.2, standing_rows tableau ks rows other o.pivots o.rows same os e (omega arith) s.3)
 
 pub standing_shared : {D K : Type 0} (tableau : D → Tableau) (ks : List KeptPivot) (rows other : List Row) (count unknowns same : ℕ) (os : List (Standing D K)) → take same rows ≡ take same other → same ≤ length other → LastFits unknowns same os → AreStanding tableau ks rows count (length rows) os →
     AreStanding tableau ks other count (length other) os
@@ -86,7 +76,6 @@ may_begin s l ks count t b f =
     let size = size_reached s count t (follows_reached (slack_tableau s) ks count t f) in
     let columns = size.columns in
     let rows = size.rows in
-    let unknowns = b.unknowns in
     let all = ap (λ (rs : List Row). length rs) b.rows ∙ length-append s.rows (drop (length s.rows) l.rows) in
     record {
       columns = omega arith;
@@ -102,8 +91,6 @@ are_kept s ks t f j h =
     let k = kept_at ks j in
     let size = size_reached s (length ks) t (follows_reached (slack_tableau s) ks (length ks) t f) in
     let there = size_reached s j u (reached_after (slack_tableau s) ks (length ks) f.made j (omega arith)) in
-    let a = size.columns in
-    let b = there.columns in
     let long = made.long in
     record {
       long = omega arith;

@@ -1,7 +1,5 @@
 -- a pivot of a tableau that is extended by columns and rows
-use Rattle.ta_simplex.proofs.Common.{◌≡◌, ◌⊎◌, inl, inr, ℕ, suc, ◌+◌, ◌-◌, ◌<◌, ◌≤◌, List, [], ◌∷◌, ◌++◌, length, map, set, get_or, arith, refl, sym, ap, ◌∙◌, subst, ℤ, pos, replicate, range_with_len, ints, cases_lt, lt-ltb, le-ltb, append_assoc, map-append, map-set, length-map, length-append, length-replicate, set-append_left, get_or_append_left, get_or-append_right, get_or-map, replicate-append-replicate, length-range_with_len, InRange, TableauRow, Tableau, cell_of, no_row, row_of, basic_of, non_basic_of, merged, turned, pivoted, MergesInRange, MergesByInRange, CombinesInRange, RowsMergeBelow, FirstRefused, FirstOverflow, Enters, KeptPivot, chosen_row, after_pivot, widened, raised, record_same, tableau_same, MakesPivot}
-use Rattle.std.specs.Prelude.{◌*ℤ◌, ◌-ℤ◌, ◌<ℤ◌, ◌≤ℤ◌}
-use Rattle.ta_dense.specs.Leaving.{Leaves}
+use Rattle.ta_simplex.proofs.Common.{◌≡◌, ◌⊎◌, inl, inr, ℕ, suc, ◌+◌, ◌-◌, ◌<◌, ◌≤◌, List, [], ◌∷◌, ◌++◌, length, map, set, get_or, arith, refl, sym, ap, ◌∙◌, subst, ℤ, pos, replicate, range_with_len, ints, cases_lt, lt-ltb, le-ltb, append_assoc, map-append, map-set, length-map, length-append, length-replicate, set-append_left, get_or_append_left, get_or-append_right, get_or-map, replicate-append-replicate, length-range_with_len, InRange, TableauRow, Tableau, cell_of, no_row, row_of, basic_of, non_basic_of, merged, turned, pivoted, MergesInRange, MergesByInRange, CombinesInRange, RowsMergeBelow, FirstRefused, FirstOverflow, Enters, KeptPivot, chosen_row, after_pivot, widened, raised, record_same, tableau_same, MakesPivot, ◌*ℤ◌, ◌-ℤ◌, ◌<ℤ◌, ◌≤ℤ◌, Leaves}
 use Rattle.ta_simplex.proofs.Widening.{zeros, cell_inside, cell_beyond, merged_widened, merged_chosen, turned_widened}
 
 -- a tableau of n columns with e more, and with more rows
@@ -152,7 +150,6 @@ pub leaves_more : (n m e : ℕ) (t : Tableau) (rows : List TableauRow) (row : �
 leaves_more n m e t rows row size new leaves =
     let at = old_row n e t rows row leaves.below in
     let total = row_total n e t rows in
-    let h = leaves.below in
     let here : basic_of (with_more n e t rows) row ≡ raised n e (basic_of t row) = ap (λ (r : TableauRow). r.basic) at in
     let most = raised_most n e m (basic_of t row) (size.basic_below row leaves.below) in
     record {
@@ -177,7 +174,6 @@ enters_more n m e t rows row column size below enters =
     let at = old_row n e t rows row below in
     let total = column_total n e t rows in
     let wide = size.long row below in
-    let columns = size.columns in
     let h = enters.below in
     let here = old_column n e t rows column h in
     record {
@@ -235,10 +231,8 @@ makes_more n m e t rows k size new makes below =
     let chosen = chosen_more n e t k size.columns makes in
     let total = row_total n e t rows in
     let wide = column_total n e t rows in
-    let columns = size.columns in
     let long = size.long k.row makes.leaves.below in
     let inside = makes.enters.below in
-    let kept = makes.long in
     let sum : length t.non_basic + e ≡ n + e = omega arith in
     let all : length (with_more n e t rows).non_basic ≡ n + e = wide ∙ sum in
     record {
@@ -266,9 +260,6 @@ overflows_more n m e t rows k new size makes first =
     let total = row_total n e t rows in
     let long = size.long k.row makes.leaves.below in
     let below = makes.leaves.below in
-    let inside = makes.enters.below in
-    let columns = size.columns in
-    let less = first.below in
     let same : (length t.rows + new) - length t.rows ≡ new = omega arith in
     let there : row_of (with_more n e t rows) (length t.rows + new) ≡ get_or rows new no_row = new_row n e t rows (length t.rows + new) (omega arith) ∙ ap (λ (i : ℕ). get_or rows i no_row) same in
     record {

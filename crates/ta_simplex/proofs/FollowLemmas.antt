@@ -1,6 +1,5 @@
 -- lists of pivots that a run makes: cut, and longer by one
-use Rattle.ta_simplex.proofs.Common.{◌≡◌, inl, inr, ℕ, zero, suc, ◌-◌, ◌<◌, ◌≤◌, List, [], ◌∷◌, ◌++◌, length, take, arith, refl, sym, ap, ◌∙◌, subst, pos, replicate, cases_lt, append-nil, length-append, length-take-le, get_or_append_left, get_or_push, Tableau, row_of, pivoted, Enters, AllMergeInRange, KeptPivot, no_pivot, kept_at, pivot_in, System, slack_tableau, Reached, tableau_after, MakesPivot, Follows}
-use Rattle.ta_dense.specs.Leaving.{Leaves}
+use Rattle.ta_simplex.proofs.Common.{◌≡◌, inl, inr, ℕ, zero, suc, ◌-◌, ◌<◌, ◌≤◌, List, [], ◌∷◌, ◌++◌, length, take, arith, refl, sym, ap, ◌∙◌, subst, pos, replicate, cases_lt, append-nil, length-append, length-take-le, get_or_append_left, get_or_push, Tableau, row_of, pivoted, Enters, AllMergeInRange, KeptPivot, no_pivot, kept_at, pivot_in, System, slack_tableau, Reached, tableau_after, MakesPivot, Follows, Leaves}
 use Rattle.ta_simplex.proofs.RunLemmas.{reached_dictionary}
 use Rattle.ta_simplex.proofs.Prefixes.{reached_after}
 
@@ -32,7 +31,6 @@ follows_take start ks count n t h less f =
 pub follows_append : (start : Tableau) (ks more : List KeptPivot) (count : ℕ) (t : Tableau) → Follows start ks count t → Follows start (ks ++ more) count t
 follows_append start ks more count t f =
     let l = length-append ks more in
-    let w = f.within in
     follows_same start ks (ks ++ more) count t (λ j below. sym (get_or_append_left ks more no_pivot j (omega arith))) (omega arith) f
 
 -- the run of a list of pivots

@@ -1,4 +1,4 @@
-use Rattle.ta_simplex.proofs.Common.{◌≡◌, inl, inr, ℕ, suc, ◌+◌, ◌<◌, List, [], ◌∷◌, length, get_or, cond, eqb, arith, refl, sym, ap, ◌∙◌, ℤ, pos, ◌+ℤ◌, ◌*ℤ◌, ◌-ℤ◌, neg_ℤ, ◌<ℤ◌, ◌≤ℤ◌, cases_eq, eqb_tells, ints, *ℤ_comm, expand, single, single-at, single-elsewhere, single-le, sum_between, sum-add, sum-same, sum-single, sum-split, sum-sub, sum-upto, sum-zero, TableauRow, dot, EquationHolds, terms_value, coefficient, slack_at, SlacksFollow, Row, AllBelow, terms_value-same, slacks_follow, extended-unknown, extended-slack}
+use Rattle.ta_simplex.proofs.Common.{◌≡◌, inl, inr, ℕ, suc, ◌+◌, ◌<◌, List, [], ◌∷◌, length, get_or, cond, eqb, arith, refl, sym, ap, ◌∙◌, ℤ, pos, ◌+ℤ◌, ◌*ℤ◌, ◌-ℤ◌, neg_ℤ, ◌<ℤ◌, ◌≤ℤ◌, cases_eq, eqb_tells, ints, *ℤ_comm, expand, single, single-at, single-elsewhere, single-le, sum_between, sum-add, sum-single, sum-split, sum-sub, sum-upto, sum-zero, TableauRow, dot, EquationHolds, terms_value, coefficient, slack_at, SlacksFollow, Row, AllBelow, terms_value-same, slacks_follow, extended-unknown, extended-slack}
 use Rattle.ta_dense.proofs.SlackDictionary.{extended}
 
 -- the cells of a variable, added up: at most one, where the variables differ
@@ -10,10 +10,10 @@ cells_at (c ∷ cs) (u ∷ us) w = single u c w +ℤ cells_at cs us w
 -- a dot as a sum over all variables
 sum-cells : (n : ℕ) (cs : List ℤ) (us : List ℕ) (f : ℕ → ℤ) → ((j : ℕ) → j < length us → get_or us j 0 < n) → sum_between 0 n (λ w. cells_at cs us w *ℤ f w) ≡ dot cs us f
 unfolding cells_at
-sum-cells n [] us f below = sum-same 0 n (λ w. pos 0 *ℤ f w) (λ _. pos 0) (λ w. omega (arith, ints)) ∙ sum-zero 0 n
-sum-cells n (c ∷ cs) [] f below = sum-same 0 n (λ w. pos 0 *ℤ f w) (λ _. pos 0) (λ w. omega (arith, ints)) ∙ sum-zero 0 n
+sum-cells n [] us f below = sum-upto 0 n (λ w. pos 0 *ℤ f w) (λ _. pos 0) (λ w h. omega (arith, ints)) ∙ sum-zero 0 n
+sum-cells n (c ∷ cs) [] f below = sum-upto 0 n (λ w. pos 0 *ℤ f w) (λ _. pos 0) (λ w h. omega (arith, ints)) ∙ sum-zero 0 n
 sum-cells n (c ∷ cs) (u ∷ us) f below =
-    sum-same 0 n (λ w. (single u c w +ℤ cells_at cs us w) *ℤ f w) (λ w. single u c w *ℤ f w +ℤ cells_at cs us w *ℤ f w) (λ w. simp expand (omega (arith, ints)))
+    sum-upto 0 n (λ w. (single u c w +ℤ cells_at cs us w) *ℤ f w) (λ w. single u c w *ℤ f w +ℤ cells_at cs us w *ℤ f w) (λ w h. simp expand (omega (arith, ints)))
     ∙ sum-add 0 n (λ w. single u c w *ℤ f w) (λ w. cells_at cs us w *ℤ f w)
     ∙ (rw (sum-single 0 n u c f (omega arith) (let h = below 0 (omega arith) in omega arith), sum-cells n cs us f (λ j h. below (suc j) (omega arith))) refl)
 
@@ -28,7 +28,7 @@ weight_product r us value w = simp expand (omega (arith, ints))
 pub weights-sum : (n : ℕ) (r : TableauRow) (us : List ℕ) (scale : ℤ) (value : ℕ → ℤ) → r.basic < n → ((j : ℕ) → j < length us → get_or us j 0 < n) → EquationHolds us r scale value →
     sum_between 0 n (λ w. weight r us w *ℤ value w) ≡ scale *ℤ r.constant
 weights-sum n r us scale value below inside holds =
-    sum-same 0 n (λ w. weight r us w *ℤ value w) (λ w. single r.basic r.denominator w *ℤ value w -ℤ cells_at r.cells us w *ℤ value w) (weight_product r us value)
+    sum-upto 0 n (λ w. weight r us w *ℤ value w) (λ w. single r.basic r.denominator w *ℤ value w -ℤ cells_at r.cells us w *ℤ value w) (λ w h. (weight_product r us value) w)
     ∙ sum-sub 0 n (λ w. single r.basic r.denominator w *ℤ value w) (λ w. cells_at r.cells us w *ℤ value w)
     ∙ (rw (sum-single 0 n r.basic r.denominator value (omega arith) (omega arith), sum-cells n r.cells us value inside) (omega (arith, ints, holds)))
 
@@ -93,7 +93,7 @@ pub leaf_constant : (u : ℕ) (rs : List Row) (r : TableauRow) (us : List ℕ) �
     ((s : ℤ) (value : ℕ → ℤ) → SlacksFollow rs u s value → EquationHolds us r s value) → slack_weighted (weight r us) u rs (λ q. q.form.constant) ≡ r.constant
 leaf_constant u rs r us known below inside holds =
     let e = at_choice u rs r us (pos 1) (λ _. pos 0) (λ q. q.form.constant) known below inside holds (λ q. ap (λ (z : ℤ). z +ℤ pos 1 *ℤ q.form.constant) (terms_value-zero q.form.terms) ∙ one q.form.constant) in
-    let z = sum-same 0 u (λ w. weight r us w *ℤ pos 0) (λ _. pos 0) (λ w. omega (arith, ints)) ∙ sum-zero 0 u in
+    let z = sum-upto 0 u (λ w. weight r us w *ℤ pos 0) (λ _. pos 0) (λ w h. omega (arith, ints)) ∙ sum-zero 0 u in
     omega (arith, ints, e, z)
   where
     one : (z : ℤ) → pos 0 +ℤ pos 1 *ℤ z ≡ z
@@ -104,7 +104,7 @@ pub leaf_column : (u : ℕ) (rs : List Row) (r : TableauRow) (us : List ℕ) (k 
     ((s : ℤ) (value : ℕ → ℤ) → SlacksFollow rs u s value → EquationHolds us r s value) → slack_weighted (weight r us) u rs (λ q. coefficient q.form.terms k) ≡ neg_ℤ (weight r us k)
 leaf_column u rs r us k h known below inside holds =
     let e = at_choice u rs r us (pos 0) (single k (pos 1)) (λ q. coefficient q.form.terms k) known below inside holds (λ q. ap (λ (z : ℤ). z +ℤ pos 0 *ℤ q.form.constant) (terms_value-single q.form.terms k) ∙ nought (coefficient q.form.terms k) q.form.constant) in
-    let z = sum-same 0 u (λ w. weight r us w *ℤ single k (pos 1) w) (λ w. single k (pos 1) w *ℤ weight r us w) (λ w. *ℤ_comm (weight r us w) (single k (pos 1) w)) ∙ sum-single 0 u k (pos 1) (weight r us) (omega arith) (omega arith) in
+    let z = sum-upto 0 u (λ w. weight r us w *ℤ single k (pos 1) w) (λ w. single k (pos 1) w *ℤ weight r us w) (λ w h. *ℤ_comm (weight r us w) (single k (pos 1) w)) ∙ sum-single 0 u k (pos 1) (weight r us) (omega arith) (omega arith) in
     finish (weight r us k) (slack_weighted (weight r us) u rs (λ q. coefficient q.form.terms k)) (sum_between 0 u (λ w. weight r us w *ℤ single k (pos 1) w)) r.constant e z
   where
     nought : (x c : ℤ) → x +ℤ pos 0 *ℤ c ≡ x

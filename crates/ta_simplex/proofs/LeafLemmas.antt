@@ -20,8 +20,6 @@ cells_at-one (c ∷ cs) (u ∷ us) w (suc j) e h is once = rw (single-elsewhere 
 multiplier_is : (s : System) (t : Tableau) (row k : ℕ) (multiplier : ℕ → ℤ) → DictionaryOf s t → row < length t.rows → k < length s.rows → GivesMultipliers s.unknowns (length s.rows) t row multiplier →
     multiplier k ≡ weight (row_of t row) t.non_basic (s.unknowns + k)
 multiplier_is s t row k multiplier d h inside g =
-    let w = s.unknowns + k in
-    let r = row_of t row in
     elim (d.basis.cover (s.unknowns + k) (omega arith)) [
       | inl b ↦
           let none = cells_at-none (row_of t row).cells t.non_basic (s.unknowns + k) (λ j below same. d.basis.apart b.0 j b.1 below (b.2 ∙ sym same)) in

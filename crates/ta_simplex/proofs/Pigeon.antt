@@ -1,4 +1,4 @@
-use Rattle.ta_simplex.proofs.Common.{◌≡◌, inl, inr, ℕ, zero, suc, ◌+◌, ◌^◌, ◌<◌, Bool, true, false, cond, arith, refl, sym, ◌∙◌, cases_eq, double}
+use Rattle.ta_simplex.proofs.Common.{◌≡◌, inl, inr, ℕ, zero, suc, ◌+◌, ◌^◌, ◌<◌, Bool, true, false, cond, arith, refl, sym, ◌∙◌, cases_eq, two-pow-succ}
 
 -- the tests below n as one number
 unfoldable pub mask : (ℕ → Bool) → ℕ → ℕ
@@ -11,8 +11,8 @@ mask-below f zero = omega arith
 mask-below f (suc n) = go (f n) (mask-below f n)
   where
     go : (b : Bool) → mask f n < 2 ^ n → cond b (2 ^ n) 0 + mask f n < 2 ^ suc n
-    go true h = omega (arith, double n)
-    go false h = omega (arith, double n)
+    go true h = omega (arith, two-pow-succ n)
+    go false h = omega (arith, two-pow-succ n)
 
 pub mask-same : (f g : ℕ → Bool) (n : ℕ) → mask f n ≡ mask g n → (v : ℕ) → v < n → f v ≡ g v
 unfolding mask

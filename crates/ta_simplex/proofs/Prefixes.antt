@@ -1,5 +1,5 @@
 -- the pivots of a system are the first pivots of a longer one
-use Rattle.ta_simplex.proofs.Common.{◌≡◌, inl, inr, ℕ, zero, suc, ◌+◌, ◌-◌, ◌<◌, ◌≤◌, List, [], ◌∷◌, ◌++◌, length, map, get_or, drop, arith, refl, sym, ap, ◌∙◌, subst, ℤ, range_with_len, map-append, length-map, length-range_with_len, range_split, length-slack_rows, coefficient, IsNormal, AllBelow, Row, System, coefficient-above, TableauRow, Tableau, no_row, merged, pivoted, coefficients, slack_row_of, slack_rows, slack_tableau, MergesInRange, FirstRefused, KeptPivot, kept_at, chosen_row, after_pivot, carried, StayInRange, widened, raised, extended, new_rows, FirstLeaving, record_same, slack_tableau-is, row_count, column_count, merged_basic, Reached, OverflowsAt, IsCount, tableau_after, MakesPivot, Follows, BeginsSystem}
+use Rattle.ta_simplex.proofs.Common.{◌≡◌, inl, inr, ℕ, zero, suc, ◌+◌, ◌-◌, ◌<◌, ◌≤◌, List, [], ◌∷◌, ◌++◌, length, map, get_or, drop, arith, refl, sym, ap, ◌∙◌, subst, ℤ, range_with_len, map-append, length-range_with_len, range_split, length-carried, length-slack_rows, coefficient, IsNormal, AllBelow, Row, System, coefficient-above, TableauRow, Tableau, no_row, merged, pivoted, coefficients, slack_row_of, slack_rows, slack_tableau, MergesInRange, FirstRefused, KeptPivot, kept_at, chosen_row, after_pivot, carried, StayInRange, widened, raised, extended, new_rows, FirstLeaving, record_same, slack_tableau-is, row_count, column_count, merged_basic, Reached, OverflowsAt, IsCount, tableau_after, MakesPivot, Follows, BeginsSystem}
 use Rattle.ta_simplex.proofs.RunLemmas.{reached_dictionary}
 use Rattle.ta_simplex.proofs.Widening.{zeros}
 use Rattle.ta_simplex.proofs.Extended.{with_more, OfSize, AreNewRows, raised_at, pivoted_more, leaves_more, enters_more, makes_more, overflows_more}
@@ -65,7 +65,6 @@ unfolding slack_tableau
 start_more s l b =
     let n = s.unknowns in
     let e = added s l in
-    let u = b.unknowns in
     let sum : n + e ≡ l.unknowns = omega arith in
     let z : 0 + n ≡ n = omega arith in
     let columns : map (raised n e) (range_with_len 0 n) ++ range_with_len n e ≡ range_with_len 0 l.unknowns =
@@ -106,10 +105,6 @@ basic_map column chosen [] i = refl
 basic_map column chosen (r ∷ rows) zero = merged_basic column chosen r
 basic_map column chosen (r ∷ rows) (suc i) = basic_map column chosen rows i
 
-pub count_carried : (columns : ℕ) (ks : List KeptPivot) (j : ℕ) (rows : List TableauRow) → length (carried columns ks j rows) ≡ length rows
-count_carried columns ks zero rows = refl
-count_carried columns ks (suc j) rows = length-map (carried columns ks j rows) (merged (kept_at ks j).column (chosen_row columns (kept_at ks j))) ∙ count_carried columns ks j rows
-
 basic_carried : (columns : ℕ) (ks : List KeptPivot) (j : ℕ) (rows : List TableauRow) (i : ℕ) → (get_or (carried columns ks j rows) i no_row).basic ≡ (get_or rows i no_row).basic
 basic_carried columns ks zero rows i = refl
 basic_carried columns ks (suc j) rows i = basic_map (kept_at ks j).column (chosen_row columns (kept_at ks j)) (carried columns ks j rows) i ∙ basic_carried columns ks j rows i
@@ -117,7 +112,7 @@ basic_carried columns ks (suc j) rows i = basic_map (kept_at ks j).column (chose
 new_carried : (s l : System) (ks : List KeptPivot) (j : ℕ) → AreNewRows (l.unknowns + length s.rows) (carried l.unknowns ks j (added_rows s l))
 new_carried s l ks j i h =
     let low = l.unknowns + length s.rows in
-    let c = count_carried l.unknowns ks j (added_rows s l) in
+    let c = length-carried l.unknowns j ks (added_rows s l) in
     let n = length-slack_rows l.unknowns low (drop (length s.rows) l.rows) in
     let b = basic_carried l.unknowns ks j (added_rows s l) i in
     let v = slack_basic l.unknowns low (drop (length s.rows) l.rows) i (omega arith) in
@@ -133,7 +128,6 @@ after_more s l b ks count made (suc j) h =
     let rows = carried l.unknowns ks j (added_rows s l) in
     let n = s.unknowns in
     let e = added s l in
-    let u = b.unknowns in
     let sum : n + e ≡ l.unknowns = omega arith in
     let size = size_reached s j t (reached_after (slack_tableau s) ks count made j (omega arith)) in
     ap (λ (x : Tableau). pivoted x k.row k.column) (after_more s l b ks count made j (omega arith))
@@ -149,10 +143,9 @@ made_more s l b ks count made upto within stay j h =
     let rows = carried l.unknowns ks j (added_rows s l) in
     let n = s.unknowns in
     let e = added s l in
-    let u = b.unknowns in
     let sum : n + e ≡ l.unknowns = omega arith in
     let size = size_reached s j t (reached_after (slack_tableau s) ks count made j (omega arith)) in
-    let long = count_carried l.unknowns ks j (added_rows s l) in
+    let long = length-carried l.unknowns j ks (added_rows s l) in
     subst (λ (x : Tableau). MakesPivot x k) (sym (after_more s l b ks count made j (omega arith)))
     (makes_more n (length s.rows) e t rows k size
     (subst (λ (c : ℕ). AreNewRows (c + length s.rows) rows) (sym sum) (new_carried s l ks j))
@@ -198,7 +191,6 @@ overflow_extended s l b ks t f pivot row count first counted =
     let u = tableau_after (slack_tableau s) ks pivot in
     let n = s.unknowns in
     let e = added s l in
-    let less = b.unknowns in
     let sum : n + e ≡ l.unknowns = omega arith in
     let rows = carried l.unknowns ks pivot (added_rows s l) in
     let made = made_more s l b ks (length ks) f.made pivot (omega arith) before in

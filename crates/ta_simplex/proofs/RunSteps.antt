@@ -1,6 +1,5 @@
 -- a run that keeps its pivots, step by step
-use Rattle.ta_simplex.proofs.Common.{◌≡◌, ℕ, ◌^◌, ◌<◌, List, [], ◌∷◌, ◌++◌, length, map, arith, refl, sym, ap, ◌∙◌, subst, append_assoc, map-append, length-map, length-append, System, Tableau, pivoted, Enters, AllMergeInRange, FirstOverflow, slack_tableau, variables, IsAssignment, DictionaryOf, KeptPivot, pivot_in, OverflowsAt, Follows, AddsPivots}
-use Rattle.ta_dense.specs.Leaving.{Leaves}
+use Rattle.ta_simplex.proofs.Common.{◌≡◌, ℕ, ◌^◌, ◌<◌, List, [], ◌∷◌, ◌++◌, length, map, arith, refl, sym, ap, ◌∙◌, subst, append_assoc, map-append, length-map, length-append, System, Tableau, pivoted, Enters, AllMergeInRange, FirstOverflow, slack_tableau, variables, IsAssignment, DictionaryOf, KeptPivot, pivot_in, OverflowsAt, Follows, AddsPivots, Leaves}
 use Rattle.ta_simplex.proofs.RunLemmas.{reached_dictionary}
 use Rattle.ta_simplex.proofs.Ends.{measure, measure_falls}
 use Rattle.ta_simplex.proofs.FollowLemmas.{follows_reached, follows_push}

@@ -1,6 +1,5 @@
 -- filling the places of the rows, and listing those that are not 0
-use Rattle.ta_simplex.proofs.Common.{◌≡◌, ◌≢◌, ◌⊎◌, inl, inr, ℕ, zero, suc, ◌+◌, ◌-◌, ◌<◌, ◌≤◌, List, [], ◌∷◌, ◌++◌, length, set, Bool, true, false, cond, nat_lt, arith, refl, sym, ap, ◌∙◌, ℤ, pos, ◌≤ℤ◌, neg_ℤ, get_or-set_same, get_or-set_other, cases_lt, cases_eq, nat_tests, eqb_tells, ints, length-set, at_least_one, length-zeros, unsigned_abs-neg, InRange, coefficient, AreMultipliers, IsNormal-push, IsNormal-higher, coefficient-append, coefficient-above, Tableau, row_of, cell_of, basic_of, non_basic_of, NoneEnters, IsBasis, slot, put, AreNatural, FillSlots, ListsSlots}
-use Rattle.std.proofs.Common.{replicate}
+use Rattle.ta_simplex.proofs.Common.{◌≡◌, ◌≢◌, ◌⊎◌, inl, inr, ℕ, zero, suc, ◌+◌, ◌-◌, ◌<◌, ◌≤◌, List, [], ◌∷◌, ◌++◌, length, set, Bool, true, false, cond, nat_lt, arith, refl, sym, ap, ◌∙◌, ℤ, pos, ◌≤ℤ◌, neg_ℤ, get_or-set_same, get_or-set_other, cases_lt, cases_eq, nat_tests, eqb_tells, ints, length-set, at_least_one, unsigned_abs-neg, InRange, coefficient, AreMultipliers, IsNormal-push, IsNormal-higher, coefficient-append, coefficient-above, Tableau, row_of, cell_of, basic_of, non_basic_of, NoneEnters, IsBasis, slot, put, AreNatural, FillSlots, ListsSlots, replicate, length-replicate}
 
 -- what a place holds after a number is put
 after_set : (ms : List ℤ) (p k : ℕ) (m : ℤ) → p < length ms → ((k ≡ p) × (slot (set ms p m) k ≡ m)) ⊎ ((k ≢ p) × (slot (set ms p m) k ≡ slot ms k))
@@ -62,7 +61,7 @@ zeros (suc n) (suc k) = zeros n k
 pub fill-first : (n u count : ℕ) (t : Tableau) (row : ℕ) (ms : List ℤ) → IsBasis n t → n ≡ u + count → row < length t.rows → ms ≡ replicate count (pos 0) → pos 0 ≤ℤ (row_of t row).denominator → InRange (row_of t row).denominator →
     Filled u count t row 0 (put u ms (basic_of t row) (row_of t row).denominator)
 fill-first n u count t row ms b room h e low fits =
-    let long : length ms ≡ count = ap length e ∙ length-zeros count in
+    let long : length ms ≡ count = ap length e ∙ length-replicate count (pos 0) in
     let below = b.basic_below row h in
     let inside : basic_of t row < u + length ms = omega arith in
     let none = λ (k : ℕ). ap (λ (xs : List ℤ). slot xs k) e ∙ zeros count k in
@@ -146,7 +145,6 @@ list-more ms at ts n l ne = record {
             let here = ap (slot ms) same.1 in
             omega (arith, ints, all, none, last, here)
         | inr other ↦
-            let apart = other.1 in
             let last : coefficient ((at, slot ms at) ∷ []) k ≡ pos 0 = rw (other.0) (omega (arith, ints)) in
             let before : k < at = omega arith in
             omega (arith, ints, all, last, l.coefficients k before)

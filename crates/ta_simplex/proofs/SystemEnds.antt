@@ -1,6 +1,5 @@
 -- The end of a system whose run ends: multipliers of a row for which nothing can enter, or the values of a vertex.
-use Rattle.ta_simplex.proofs.Common.{◌≡◌, ◌≢◌, ℕ, zero, suc, ◌+◌, ◌<◌, ℤ, pos, ◌<ℤ◌, List, [], ◌∷◌, ◌++◌, length, get_or, set, map, inl, inr, ⊎_elim, refl, sym, subst, ◌∙◌, arith, ints, length-map, length-set, length-range_with_len, zero_or_not, InRange, AllBelow, Row, System, Tableau, row_of, cell_of, basic_of, non_basic_of, no_row, merged, pivoted, IsProper, slack_rows, slack_tableau, variables, DictionaryOf, Reached, LeastStep, Stuck, RuleEnds, AreLeafMultipliers, AreZeros, GivesValues, slot, AreNatural, FillSlots, ListsSlots, HasEnd, Fraction}
-use Rattle.std.proofs.Common.{replicate}
+use Rattle.ta_simplex.proofs.Common.{◌≡◌, ◌≢◌, ℕ, zero, suc, ◌+◌, ◌<◌, ℤ, pos, ◌<ℤ◌, List, [], ◌∷◌, ◌++◌, length, get_or, set, map, inl, inr, ⊎_elim, refl, sym, subst, ◌∙◌, arith, ints, length-map, length-set, length-range_with_len, zero_or_not, InRange, AllBelow, Row, System, Tableau, row_of, cell_of, basic_of, non_basic_of, no_row, merged, pivoted, IsProper, slack_rows, slack_tableau, variables, DictionaryOf, Reached, LeastStep, Stuck, RuleEnds, AreLeafMultipliers, AreZeros, GivesValues, slot, AreNatural, FillSlots, ListsSlots, HasEnd, Fraction, replicate}
 use Rattle.ta_dense.proofs.DenseFacts.{IsProper-slack}
 use Rattle.ta_dense.proofs.ProperFacts.{proper_pivoted}
 use Rattle.ta_simplex.specs.declared.End.TheVariants.{Refuted, Vertex}

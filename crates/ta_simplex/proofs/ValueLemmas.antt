@@ -1,5 +1,5 @@
 -- the values of a vertex, row by row
-use Rattle.ta_simplex.proofs.Common.{◌≡◌, ◌≢◌, inl, inr, ℕ, zero, ◌+◌, ◌<◌, ◌≤◌, List, [], ◌∷◌, ◌++◌, length, set, arith, sym, ap, ◌∙◌, subst, ℤ, pos, Option, IsSomeAnd, cases_eq, cases_lt, length-set, length-append, get-push_before, get-push_last, get-set_other, get-set_same, Tableau, row_of, basic_of, non_basic_of, IsBasis, ValueIs, AreZeros, GivesValues, Fraction}
+use Rattle.ta_simplex.proofs.Common.{◌≡◌, ◌≢◌, inl, inr, ℕ, zero, ◌+◌, ◌<◌, ◌≤◌, List, [], ◌∷◌, ◌++◌, length, set, arith, sym, ap, ◌∙◌, subst, ℤ, pos, Option, IsSomeAnd, cases_eq, cases_lt, length-set, length-append, get-set_other, get-set_same, Tableau, row_of, basic_of, non_basic_of, IsBasis, ValueIs, AreZeros, GivesValues, Fraction, get_end, slice_get_before}
 
 -- the basic unknowns of the rows before one have their values, and every other unknown is 0
 pub record ValuesSoFar (t : Tableau) (unknowns row : ℕ) (values : List Fraction) : Type 0 where
@@ -19,7 +19,6 @@ values-first t unknowns values z = record { count = z.count; basic = λ i h belo
 pub values-next : (n : ℕ) (t : Tableau) (unknowns row : ℕ) (values : List Fraction) (f : Fraction) → IsBasis n t → row < length t.rows → f.top ≡ (row_of t row).constant → f.bottom ≡ (row_of t row).denominator →
     ValuesSoFar t unknowns row values → ValuesSoFar t unknowns (row + 1) (set values (basic_of t row) f)
 values-next n t unknowns row values f b h top bottom v =
-    let long = v.count in
     record {
       count = length-set values (basic_of t row) f ∙ v.count;
       basic = λ i below inside. (elim (cases_eq i row) [
@@ -43,12 +42,10 @@ values-last n t unknowns row values b h v top = record {
 
 pub zeros-next : (unknowns : ℕ) (values : List Fraction) (f : Fraction) → f.top ≡ pos 0 → f.bottom ≡ pos 1 → AreZeros unknowns values → AreZeros (unknowns + 1) (values ++ f ∷ [])
 zeros-next unknowns values f top bottom z =
-    let long = z.count in
-    let P = λ (o : Option Fraction). IsSomeAnd o (λ g. (g.top ≡ pos 0) × (g.bottom ≡ pos 1)) in
     record {
       count = length-append values (f ∷ []) ∙ (omega arith);
       zero = λ x h. (elim (cases_lt x unknowns) [
-        | inl before ↦ subst (λ (o : Option Fraction). IsSomeAnd o (λ g. (g.top ≡ pos 0) × (g.bottom ≡ pos 1))) (sym (get-push_before values x f (omega arith))) (z.zero x before)
-        | inr last ↦ subst (λ (o : Option Fraction). IsSomeAnd o (λ g. (g.top ≡ pos 0) × (g.bottom ≡ pos 1))) (sym (get-push_last values x f (omega arith))) (top, bottom)
+        | inl before ↦ subst (λ (o : Option Fraction). IsSomeAnd o (λ g. (g.top ≡ pos 0) × (g.bottom ≡ pos 1))) (sym (slice_get_before values (f ∷ []) x (omega arith))) (z.zero x before)
+        | inr last ↦ subst (λ (o : Option Fraction). IsSomeAnd o (λ g. (g.top ≡ pos 0) × (g.bottom ≡ pos 1))) (sym (get_end values f x (omega arith))) (top, bottom)
       ]);
     }

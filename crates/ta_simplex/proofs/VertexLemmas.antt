@@ -53,13 +53,11 @@ values_meet_rows s t values d ended gives =
       some = c.some;
       over_scale = λ x below. (elim (d.basis.cover x (omega arith)) [
         | inl b ↦
-            let e = b.2 in
             let h = gives.basic b.0 b.1 (omega arith) in
             subst (λ (u : ℕ). IsSomeAnd (slice_get values u) (λ f. c.value u *ℤ f.bottom ≡ pos c.scale *ℤ f.top)) b.2
             (is_some-map (slice_get values (basic_of t b.0)) (λ f. (f.top ≡ (row_of t b.0).constant) × (f.bottom ≡ (row_of t b.0).denominator)) (λ f. c.value (basic_of t b.0) *ℤ f.bottom ≡ pos c.scale *ℤ f.top)
             (λ f is. ap (λ (z : ℤ). c.value (basic_of t b.0) *ℤ z) is.1 ∙ *ℤ_comm (c.value (basic_of t b.0)) (row_of t b.0).denominator ∙ alone s t d c b.0 b.1 ∙ ap (λ (z : ℤ). pos c.scale *ℤ z) (sym is.0)) h)
         | inr j ↦
-            let e = j.2 in
             let h = gives.non_basic j.0 j.1 (omega arith) in
             let zero_value = c.zeros j.0 j.1 in
             subst (λ (u : ℕ). IsSomeAnd (slice_get values u) (λ f. c.value u *ℤ f.bottom ≡ pos c.scale *ℤ f.top)) j.2
@@ -69,11 +67,9 @@ values_meet_rows s t values d ended gives =
       natural = λ x below. natural x (omega arith);
       not_negative = λ x below. (elim (d.basis.cover x (omega arith)) [
         | inl b ↦
-            let e = b.2 in
             subst (λ (u : ℕ). IsSomeAnd (slice_get values u) (λ f. pos 0 ≤ℤ f.top)) b.2
             (is_some-map (slice_get values (basic_of t b.0)) (λ f. (f.top ≡ (row_of t b.0).constant) × (f.bottom ≡ (row_of t b.0).denominator)) (λ f. pos 0 ≤ℤ f.top) (λ f is. rw (is.0) (ended b.0 b.1)) (gives.basic b.0 b.1 (omega arith)))
         | inr j ↦
-            let e = j.2 in
             subst (λ (u : ℕ). IsSomeAnd (slice_get values u) (λ f. pos 0 ≤ℤ f.top)) j.2
             (is_some-map (slice_get values (non_basic_of t j.0)) (λ f. (f.top ≡ pos 0) × (f.bottom ≡ pos 1)) (λ f. pos 0 ≤ℤ f.top) (λ f is. rw (is.0) (omega (arith, ints))) (gives.non_basic j.0 j.1 (omega arith)))
       ]);

@@ -1,8 +1,7 @@
 -- The laws of the least-index rule
-use Rattle.std.specs.Prelude.{ℕ, suc, ◌+◌, ◌-◌, ◌^◌, ◌<◌, ◌≤◌, ◌≡◌, List, [], ◌∷◌, ℤ, pos, ◌*ℤ◌, length, min, slice_get, slice_index, IsSomeAnd}
-use Rattle.ta_linear.specs.Terms.{coefficient}
+use Rattle.std.specs.Prelude.{ℕ, suc, ◌+◌, ◌-◌, ◌^◌, ◌<◌, ◌≤◌, ◌≡◌, List, ℤ, pos, ◌*ℤ◌, length, min, slice_get, slice_index, IsSomeAnd}
+use Rattle.ta_linear.specs.SameNumbers.{SameNumbers}
 use Rattle.ta_linear.specs.Values.{Solves}
-use Rattle.ta_linear.specs.declared.row.Row.{Row}
 use Rattle.ta_linear.specs.declared.row.System.{System}
 use Rattle.ta_dense.specs.Tableau.{Tableau}
 use Rattle.ta_dense.specs.Slack.{slack_tableau}
@@ -21,24 +20,7 @@ pub record RunsAreDetermined : Type 0 where
   pub same : (s : System) (k : ℕ) (t t' : Tableau) → Reached (slack_tableau s) k t → Reached (slack_tableau s) k t' → t ≡ t'
   pub once : (s : System) (j k : ℕ) (t t' : Tableau) → Reached (slack_tableau s) j t → RuleEnds t → Reached (slack_tableau s) k t' → RuleEnds t' → j ≡ k
 
--- the same constant, and the same coefficient of each unknown
-pub record SameRow (r q : Row) : Type 0 where
-  pub constant : r.form.constant ≡ q.form.constant
-  pub coefficients : (u : ℕ) → coefficient r.form.terms u ≡ coefficient q.form.terms u
-
--- row for row
-abbrev pub RowsAlike : List Row → List Row → Type 0
-RowsAlike [] [] = Unit {0}
-RowsAlike (r ∷ rs) (q ∷ qs) = SameRow r q × RowsAlike rs qs
-RowsAlike [] (q ∷ qs) = ⊥
-RowsAlike (r ∷ rs) [] = ⊥
-
--- two systems of the same numbers, however each of them is written
-pub record SameNumbers (s z : System) : Type 0 where
-  pub unknowns : s.unknowns ≡ z.unknowns
-  pub rows : RowsAlike s.rows z.rows
-
--- such systems have one end, which is one list of multipliers or one of values; none where a pivot leaves the range; and the pivot
+-- systems of the same numbers have one end, which is one list of multipliers or one of values; none where a pivot leaves the range; and the pivot
 -- that does is of one number
 pub record EndsAreDetermined : Type 0 where
   pub one : (s z : System) → SameNumbers s z → (e f : End) → IsEnd s e → IsEnd z f → e ≡ f

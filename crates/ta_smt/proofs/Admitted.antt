@@ -1,8 +1,6 @@
 -- Values that are admitted, and why values aren't.
-use Rattle.ta_smt.proofs.Common.{◌≡◌, ◌≢◌, ℕ, zero, suc, ◌≤◌, ◌^◌, ℤ, pos, Bool, true, false, List, [], ◌∷◌, length, map, reverse, slice_get, get_or, unsigned_abs, Some, arith, refl, sym, ap, subst, ◌∙◌, length-append, All, AllByRecursion, slice_index, false≢true, length-map, all_at, PassedTo, same_pattern, AllBelow, StaysInRange, RowHolds, Solves, point_of, Row, System, File, Pattern, RowFails, RowOutOfRange, RowPasses, RowsOver, Value, Element, LegalWord, is_complete, AreRowsOf, SystemOf, pattern_search, LinearRow, bound_row, system_rows, word_rows, rows_count, solution_back, unbounded, AdmitFault, AdmitFaultOf, Admits, AdmitsAreExact, AskedWord, IsCompleteWord, IsIncomplete, SystemStays, SystemAsked, asked, IsValuesText, BadRow, CheckFault, IsChecked, PassesCheck, RowFault, RowStops, RunFault, IsRunOfValues, WordFault, LineFault}
+use Rattle.ta_smt.proofs.Common.{◌≡◌, ◌≢◌, ℕ, zero, suc, ◌≤◌, ◌^◌, ℤ, pos, Bool, true, false, List, [], ◌∷◌, length, map, reverse, slice_get, get_or, unsigned_abs, Some, arith, refl, sym, ap, subst, ◌∙◌, length-append, All, AllByRecursion, slice_index, false≢true, length-map, all_at, PassedTo, same_pattern, AllBelow, StaysInRange, RowHolds, Solves, point_of, Row, System, File, Pattern, RowFails, RowOutOfRange, RowPasses, RowsOver, Value, Element, LegalWord, is_complete, AreRowsOf, SystemOf, pattern_search, LinearRow, bound_row, system_rows, word_rows, rows_count, solution_back, unbounded, AdmitFault, AdmitFaultOf, Admits, AdmitsAreExact, AskedWord, IsCompleteWord, IsIncomplete, SystemStays, SystemAsked, asked, IsValuesText, BadRow, CheckFault, IsChecked, PassesCheck, RowFault, RowStops, RunFault, IsRunOfValues, WordFault, LineFault, solution_of as solves_of, Automaton}
 use Rattle.ta_encode.specs.Search.{Pending}
-use Rattle.ta_encode.proofs.CodeRows.{solution_of as solves_of}
-use Rattle.ta_automaton.specs.declared.automaton.Automaton.{Automaton}
 use Rattle.ta_words.specs.declared.task.Task.{Task}
 use Rattle.ta_cursor.proofs.RowCounts.{few_rows}
 use Rattle.ta_replay.specs.declared.run.Run.{Run}
@@ -94,9 +92,7 @@ word_fault file word bytes values fault.Memory complete spelled bad = tt
 word_fault file word bytes values (fault.Count n) complete spelled bad = record { of = record { system = bad.system; is = bad.is; complete = complete }; values = values; spelled = spelled; counted = bad.fault.0; other = bad.fault.1 }
 word_fault file word bytes values (fault.Row k) complete spelled bad = record { of = record { system = bad.system; is = bad.is; complete = complete }; values = values; spelled = spelled; counted = bad.fault.0; stops = bad.fault.1 }
 word_fault file word bytes values (fault.Overflow k) complete spelled bad = record { of = record { system = bad.system; is = bad.is; complete = complete }; values = values; spelled = spelled; counted = bad.fault.0; stops = bad.fault.1 }
-word_fault file word bytes values fault.Incomplete complete spelled bad = absurd bad.fault
-word_fault file word bytes values (fault.Line n) complete spelled bad = absurd bad.fault
-word_fault file word bytes values fault.Run complete spelled bad = absurd bad.fault
+word_fault file word bytes values _ complete spelled bad = absurd bad.fault
 
 pub run_fault : (file : File) (word : AskedWord) (bytes : List ℕ) (values : List ℤ) (found : AdmitFault) → IsCompleteWord file word → IsValuesText values bytes → PassesCheck file word values → IsSolution file (solution_of word values) → RunFault file word values found → AdmitFaultOf file word bytes found
 run_fault file word bytes values fault.Run complete spelled passes solution bad = record { of = record { system = passes.system; is = passes.is; complete = complete }; values = values; spelled = spelled; pass = passes.checked.pass; solution = solution; leaves = bad }
@@ -174,9 +170,7 @@ word_stops file word values s fault.Memory is bad = tt
 word_stops file word values s (fault.Count n) is bad = record { system = s; is = is; fault = bad }
 word_stops file word values s (fault.Row k) is bad = record { system = s; is = is; fault = bad }
 word_stops file word values s (fault.Overflow k) is bad = record { system = s; is = is; fault = bad }
-word_stops file word values s fault.Incomplete is bad = absurd bad
-word_stops file word values s (fault.Line n) is bad = absurd bad
-word_stops file word values s fault.Run is bad = absurd bad
+word_stops file word values s _ is bad = absurd bad
 
 -- whether a word is complete
 pub complete_is : (file : File) (word : AskedWord) (t : Task) (r : Bool) → slice_get file.patterns word.pattern ≡ Some t.pattern.now → r ≡ is_complete t.pattern.now (reverse word.elements) → r ≡ true → IsCompleteWord file word

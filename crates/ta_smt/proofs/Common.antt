@@ -4,22 +4,23 @@ pub use Rattle.std.proofs.lemmas.Bool.{cases_lt, cases_order, false≢true}
 pub use Rattle.std.proofs.lemmas.Int.{ints, to_z-of_z}
 pub use Rattle.std.proofs.lemmas.Iterator.Splits.{YieldsList-from_str_split}
 pub use Rattle.std.proofs.lemmas.List.{append_cancel_left, at_drop_all, at_drop_more, length-map, length-reverse, map-append, take-take}
-pub use Rattle.std.proofs.lemmas.Option.{same_Some, slice_get-get_or}
-pub use Rattle.std.proofs.lemmas.Result.{err_from_is_err_and}
+pub use Rattle.std.proofs.lemmas.Option.{same_Some, slice_get-get_or, slice_get_within}
+pub use Rattle.std.proofs.result.Match.{err_is}
 pub use Rattle.std.specs.Fmt.{signed_decimal}
 pub use Rattle.std.specs.Int.{w128}
-pub use Rattle.std.specs.List.{All, AllByRecursion, flat_map, list_all, slice_split}
+pub use Rattle.std.specs.List.{All, AllByRecursion, flat_map, list_all, slice_split, range_with_len}
 pub use Rattle.std.specs.Prelude.{IsTrue, MatchOption, option_and_then, option_map, slice_index, ◌↔◌}
 pub use Rattle.std.specs.Str.{bytes_eq}
-pub use Rattle.ta_automaton.proofs.Numbered.{same_pattern}
+pub use Rattle.ta_automaton.proofs.Numbered.{of_pattern, same_pattern}
 pub use Rattle.ta_automaton.specs.Numbered.{OfPattern}
+pub use Rattle.ta_automaton.specs.declared.automaton.Automaton.{Automaton}
 pub use Rattle.ta_automaton.specs.declared.file.File.{File}
 pub use Rattle.ta_automaton.specs.declared.pattern.Pattern.{Pattern}
 pub use Rattle.ta_base.proofs.DecimalDigits.{decimal_digits, digits_unique, found_here, none_here, numeral_same, zero_text}
 pub use Rattle.ta_base.proofs.Each.{all_at, distinct_map_at, each_append, each_back, each_front, each_push}
 pub use Rattle.ta_base.proofs.Lists.{PassedTo, all_passed, append_nothing, first_byte, front_get, heads, not_empty, not_parted, one_passed, piece_written, read_same, take_next}
-pub use Rattle.ta_base.proofs.Naturals.{below_by, beyond_by, small_is_wide}
-pub use Rattle.ta_base.specs.Masks.{In, numbers_from}
+pub use Rattle.ta_base.proofs.Naturals.{below_by, beyond_by, shifted, small_is_wide}
+pub use Rattle.ta_base.specs.Masks.{In}
 pub use Rattle.ta_counter.specs.Checks.{RowFails, RowOutOfRange, RowPasses, RowsOver, RowsPass}
 pub use Rattle.ta_counter.specs.Values.{Value}
 pub use Rattle.ta_encode.proofs.CodeRows.{rows_count, solution_back, solution_of, unbounded}
@@ -49,7 +50,8 @@ pub use Rattle.ta_smt.specs.Values.{FirstBadLine, IsNoNumber, IsUnfinished, IsVa
 pub use Rattle.ta_smt.specs.WordText.{each_element, element_of, elements_in, elements_of}
 unfoldable pub use Rattle.ta_smt.specs.WordText.{number_up_to}
 pub use Rattle.ta_smt.specs.declared.fault.AdmitFault.{AdmitFault}
-pub use Rattle.ta_smt.specs.declared.side.Side.TheVariants.{Left, Right}
 pub use Rattle.ta_smt.specs.declared.side.Side.{Side}
+pub use Rattle.ta_smt.specs.declared.side.Side.TheVariants.{Left, Right}
+pub use Rattle.ta_words.proofs.Tasks.{of_task, to_task}
 pub use Rattle.ta_words.specs.Words.{LegalWord, children, is_complete}
 pub use Rattle.ta_words.specs.declared.element.Element.{Element}

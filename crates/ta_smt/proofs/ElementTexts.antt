@@ -1,7 +1,6 @@
 -- Numbers and elements of words, from their texts.
 use Rattle.ta_smt.proofs.Common.{◌≡◌, ◌≢◌, ◌≤◌, ◌<◌, ◌^◌, ◌&&◌, ◌||◌, ◌∙◌, ◌≤ℤ◌, ℕ, zero, suc, ℤ, pos, List, [], ◌∷◌, ◌++◌, Bool, true, false, nat_eq, cond, Bor, map, append-nil, Option, None, Some, is_some, refl, sym, ap, subst, arith, rules, decimal, codes, option_map, option_and_then, MatchOption, list_all, slice_split, bytes_eq, signed_decimal, ints, found_here, none_here, InRange, Value, number_same, Element, those_elements, with_element, each_element, element_of, elements_in, elements_of, number_up_to}
 use Rattle.std.specs.Option.{unwrap_or}
-use Rattle.ta_base.proofs.Booleans.{elements_or}
 use Rattle.ta_replay.specs.Reading.{IsNumber}
 
 -- a text that is written as a number
@@ -67,7 +66,7 @@ pub elements_some : (text : List ℕ) → is_some (elements_of text) ≡ (bytes_
 elements_some text = elements_by (bytes_eq text (codes "-")) (each_element (slice_split (λ c. nat_eq c 44) text)) ∙ ap (λ b. bytes_eq text (codes "-") || b) (each_some (slice_split (λ c. nat_eq c 44) text))
 
 pub elements_else : (text : List ℕ) → bytes_eq text (codes "-") ≡ false → list_all (λ part. is_some (element_of part)) (slice_split (λ c. nat_eq c 44) text) ≡ is_some (elements_of text)
-elements_else text other = elements_or (bytes_eq text (codes "-")) (is_some (elements_of text)) (list_all (λ part. is_some (element_of part)) (slice_split (λ c. nat_eq c 44) text)) other (elements_some text)
+elements_else text other = sym ((elements_some text) ∙ ap (λ b. b || (list_all (λ part. is_some (element_of part)) (slice_split (λ c. nat_eq c 44) text))) other)
 
 -- where there are, they are those that some texts have
 those_more : (o : Option Element) (more : Option (List Element)) (rest : List Element) → is_some (option_and_then (λ (e : Element). option_map (λ es. e ∷ es) more) o) ≡ true → (is_some more ≡ true → unwrap_or more [] ≡ rest) → unwrap_or (option_and_then (λ (e : Element). option_map (λ es. e ∷ es) more) o) [] ≡ with_element o rest

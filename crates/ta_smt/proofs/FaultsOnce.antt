@@ -1,6 +1,5 @@
 -- A word and its values have one fault.
-use Rattle.ta_smt.proofs.Common.{◌≡◌, ℕ, ℤ, true, List, length, reverse, arith, refl, sym, ap, subst, ◌∙◌, false≢true, same_pattern, point_of, Row, File, Pattern, RowFails, RowOutOfRange, RowPasses, RowsPass, is_complete, AdmitFault, AdmitFaultOf, AskedWord, FirstBadRow, IsCompleteWord, IsIncomplete, AdmittedRunOutOfRange, WrongCount, RowStops, NoChild, NoWhole, Spelling, WholeFaultOf, WordFaultOf, FirstStranger}
-use Rattle.std.specs.Prelude.{◌≢◌}
+use Rattle.ta_smt.proofs.Common.{◌≡◌, ℕ, ℤ, true, List, length, reverse, arith, refl, sym, ap, subst, ◌∙◌, false≢true, same_pattern, point_of, Row, File, Pattern, RowFails, RowOutOfRange, RowPasses, RowsPass, is_complete, AdmitFault, AdmitFaultOf, AskedWord, FirstBadRow, IsCompleteWord, IsIncomplete, AdmittedRunOutOfRange, WrongCount, RowStops, NoChild, NoWhole, Spelling, WholeFaultOf, WordFaultOf, FirstStranger, ◌≢◌}
 use Rattle.ta_replay.proofs.FirstBad.{BothBad, RowClash, fails_clash, leaves_clash, meets, no_stop_at, not_both_bad}
 use Rattle.ta_smt.specs.declared.fault.AdmitFault.TheVariants as fault
 use Rattle.ta_smt.specs.declared.fault.WordFault.{WordFault}
@@ -75,47 +74,30 @@ module _ (file : File) (word : AskedWord) (bytes : List ℕ) where
   one_fault : (e f : AdmitFault) → e ≢ fault.Memory → f ≢ fault.Memory → AdmitFaultOf file word bytes e → AdmitFaultOf file word bytes f → e ≡ f
   one_fault fault.Incomplete fault.Incomplete some other a b = refl
   one_fault fault.Incomplete (fault.Line n) some other a b = absurd (not_complete a b.complete)
-  one_fault fault.Incomplete (fault.Count n) some other a b = absurd (not_complete a b.of.complete)
-  one_fault fault.Incomplete (fault.Row k) some other a b = absurd (not_complete a b.of.complete)
-  one_fault fault.Incomplete (fault.Overflow k) some other a b = absurd (not_complete a b.of.complete)
-  one_fault fault.Incomplete fault.Run some other a b = absurd (not_complete a b.of.complete)
   one_fault (fault.Line n) fault.Incomplete some other a b = absurd (not_complete b a.complete)
   one_fault (fault.Line m) (fault.Line n) some other a b = ap fault.Line (bad_line_once bytes m n a.first b.first)
-  one_fault (fault.Line m) (fault.Count n) some other a b = absurd (not_both b.values bytes m b.spelled a.first)
-  one_fault (fault.Line m) (fault.Row k) some other a b = absurd (not_both b.values bytes m b.spelled a.first)
-  one_fault (fault.Line m) (fault.Overflow k) some other a b = absurd (not_both b.values bytes m b.spelled a.first)
-  one_fault (fault.Line m) fault.Run some other a b = absurd (not_both b.values bytes m b.spelled a.first)
-  one_fault (fault.Count n) fault.Incomplete some other a b = absurd (not_complete b a.of.complete)
-  one_fault (fault.Count n) (fault.Line m) some other a b = absurd (not_both a.values bytes m a.spelled b.first)
   one_fault (fault.Count m) (fault.Count n) some other a b = ap fault.Count (a.counted ∙ ap length (values_once a.values b.values bytes a.spelled b.spelled) ∙ sym b.counted)
   one_fault (fault.Count n) (fault.Row k) some other a b = absurd (count_or_row n k RowFails a b)
   one_fault (fault.Count n) (fault.Overflow k) some other a b = absurd (count_or_row n k RowOutOfRange a b)
   one_fault (fault.Count n) fault.Run some other a b = absurd (count_or_run n a b)
-  one_fault (fault.Row k) fault.Incomplete some other a b = absurd (not_complete b a.of.complete)
-  one_fault (fault.Row k) (fault.Line m) some other a b = absurd (not_both a.values bytes m a.spelled b.first)
   one_fault (fault.Row k) (fault.Count n) some other a b = absurd (count_or_row n k RowFails b a)
   one_fault (fault.Row j) (fault.Row k) some other a b = ap fault.Row (one_row j k RowFails RowFails failing failing a b).0
   one_fault (fault.Row j) (fault.Overflow k) some other a b = absurd (fails_or_leaves j k a b)
   one_fault (fault.Row k) fault.Run some other a b = absurd (row_or_run k RowFails failing a b)
-  one_fault (fault.Overflow k) fault.Incomplete some other a b = absurd (not_complete b a.of.complete)
-  one_fault (fault.Overflow k) (fault.Line m) some other a b = absurd (not_both a.values bytes m a.spelled b.first)
   one_fault (fault.Overflow k) (fault.Count n) some other a b = absurd (count_or_row n k RowOutOfRange b a)
   one_fault (fault.Overflow j) (fault.Row k) some other a b = absurd (fails_or_leaves k j b a)
   one_fault (fault.Overflow j) (fault.Overflow k) some other a b = ap fault.Overflow (one_row j k RowOutOfRange RowOutOfRange leaving leaving a b).0
   one_fault (fault.Overflow k) fault.Run some other a b = absurd (row_or_run k RowOutOfRange leaving a b)
-  one_fault fault.Run fault.Incomplete some other a b = absurd (not_complete b a.of.complete)
-  one_fault fault.Run (fault.Line m) some other a b = absurd (not_both a.values bytes m a.spelled b.first)
   one_fault fault.Run (fault.Count n) some other a b = absurd (count_or_run n b a)
   one_fault fault.Run (fault.Row k) some other a b = absurd (row_or_run k RowFails failing b a)
   one_fault fault.Run (fault.Overflow k) some other a b = absurd (row_or_run k RowOutOfRange leaving b a)
   one_fault fault.Run fault.Run some other a b = refl
   one_fault fault.Memory f some other a b = absurd (some refl)
-  one_fault fault.Incomplete fault.Memory some other a b = absurd (other refl)
-  one_fault (fault.Line n) fault.Memory some other a b = absurd (other refl)
-  one_fault (fault.Count n) fault.Memory some other a b = absurd (other refl)
-  one_fault (fault.Row n) fault.Memory some other a b = absurd (other refl)
-  one_fault (fault.Overflow n) fault.Memory some other a b = absurd (other refl)
-  one_fault fault.Run fault.Memory some other a b = absurd (other refl)
+  one_fault e fault.Memory some other a b = absurd (other refl)
+  one_fault fault.Incomplete _ some other a b = absurd (not_complete a b.of.complete)
+  one_fault (fault.Line m) _ some other a b = absurd (not_both b.values bytes m b.spelled a.first)
+  one_fault _ fault.Incomplete some other a b = absurd (not_complete b a.of.complete)
+  one_fault _ (fault.Line m) some other a b = absurd (not_both a.values bytes m a.spelled b.first)
 
 pub admit_faults_once : AdmitFaultsAreDetermined
 admit_faults_once = one_fault
@@ -140,9 +122,7 @@ word_faults_once file spelled (word_fault.Element k) word_fault.Pattern a b = ab
 word_faults_once file spelled (word_fault.Element k) word_fault.Start a b = absurd (beyond_or_within file spelled k b a)
 word_faults_once file spelled (word_fault.Element j) (word_fault.Element k) a b = ap word_fault.Element (one_child file spelled j k a b)
 word_faults_once file spelled word_fault.Incomplete f a b = absurd a
-word_faults_once file spelled word_fault.Pattern word_fault.Incomplete a b = absurd b
-word_faults_once file spelled word_fault.Start word_fault.Incomplete a b = absurd b
-word_faults_once file spelled (word_fault.Element k) word_fault.Incomplete a b = absurd b
+word_faults_once file spelled _ word_fault.Incomplete a b = absurd b
 
 -- why a file hasn't a complete word: it hasn't the word, or the word isn't complete
 data Lacks (file : File) (spelled : Spelling) (e : WordFault) : Type 0 where
@@ -151,9 +131,7 @@ data Lacks (file : File) (spelled : Spelling) (e : WordFault) : Type 0 where
 
 lacks : (file : File) (spelled : Spelling) (e : WordFault) → WholeFaultOf file spelled e → Lacks file spelled e
 lacks file spelled word_fault.Incomplete h = NotWhole refl h
-lacks file spelled word_fault.Pattern h = NoWord h
-lacks file spelled word_fault.Start h = NoWord h
-lacks file spelled (word_fault.Element k) h = NoWord h
+lacks file spelled _ h = NoWord h
 
 lacks_once : (file : File) (spelled : Spelling) (e f : WordFault) → Lacks file spelled e → Lacks file spelled f → e ≡ f
 lacks_once file spelled e f (NoWord a) (NoWord b) = word_faults_once file spelled e f a b

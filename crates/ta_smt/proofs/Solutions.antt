@@ -1,16 +1,17 @@
 -- The text of a system denotes its natural solutions.
-use Rattle.ta_smt.proofs.Common.{ℕ, ℤ, zero, suc, pos, negsuc, ◌+◌, ◌<◌, ◌≤◌, ◌^◌, ◌≡◌, ◌+ℤ◌, ◌*ℤ◌, ◌≤ℤ◌, Bool, true, false, cond, eqb, List, [], ◌∷◌, ◌++◌, length, map, unsigned_abs, inl, inr, refl, sym, ap, subst, ◌∙◌, arith, lit<, eqb-true, All, flat_map, AllByRecursion, slice_index, cases_lt, ints, length-map, each_append, each_back, each_front, InRange, AllBelow, RowHolds, point_of, terms_value, value_of, Form, Row, System, numbers_from, Value, Side, Left, Right, AtLeast, Script, ScriptFits, Summand, SummandFits, Numeral, Unknown, Product, TermFits, DenotesSolutions, IsNaturalSolution, constant, multiple, natural_claim, on_side, part, row_claim, script_of, summed_term, summands, system_text}
-use Rattle.ta_base.proofs.Integers.{distributes_right, no_times, one_times, order_back, order_is, zero_right}
+use Rattle.ta_smt.proofs.Common.{ℕ, ℤ, zero, suc, pos, negsuc, ◌+◌, ◌<◌, ◌≤◌, ◌^◌, ◌≡◌, ◌+ℤ◌, ◌*ℤ◌, ◌≤ℤ◌, Bool, true, false, cond, eqb, List, [], ◌∷◌, ◌++◌, length, map, unsigned_abs, inl, inr, refl, sym, ap, subst, ◌∙◌, arith, lit<, eqb-true, All, flat_map, AllByRecursion, slice_index, cases_lt, ints, length-map, each_append, each_back, each_front, InRange, AllBelow, RowHolds, point_of, terms_value, value_of, Form, Row, System, range_with_len, Value, Side, Left, Right, AtLeast, Script, ScriptFits, Summand, SummandFits, Numeral, Unknown, Product, TermFits, DenotesSolutions, IsNaturalSolution, constant, multiple, natural_claim, on_side, part, row_claim, script_of, summed_term, summands, system_text}
+use Rattle.ta_base.proofs.Integers.{distributes_right, one_times, order_back, order_is}
 use Rattle.ta_linear.specs.Terms.{IsNormal}
 use Rattle.ta_linear.proofs.TermLemmas.{IsNormal-le}
 use Rattle.ta_smt.specs.Denotes.{Denotes, AtLeastHolds, summand_value, summands_value, term_value}
 use Rattle.ta_smt.proofs.Texts.{script_same}
+use Rattle.std.proofs.Math.IntN.{+ℤ_idr, zero-*ℤ}
 
 -- a term's parts on both sides differ by it
 parts_differ : (z v : ℤ) → (pos (part Left z) *ℤ v) ≡ ((pos (part Right z) *ℤ v) +ℤ (z *ℤ v))
-parts_differ (pos n) v = let none = no_times v in omega (arith, ints)
+parts_differ (pos n) v = let none = zero-*ℤ v in omega (arith, ints)
 parts_differ (negsuc n) v =
-    let none = no_times v in
+    let none = zero-*ℤ v in
     let cancel : (pos (suc n) +ℤ negsuc n) ≡ pos 0 = omega (arith, ints) in
     sym (ap (λ z. z *ℤ v) cancel) ∙ distributes_right (pos (suc n)) (negsuc n) v
 
@@ -24,23 +25,23 @@ value-append point [] ts = omega (arith, ints)
 value-append point (s ∷ ss) ts = omega (arith, ints, value-append point ss ts)
 
 multiple_by : (point : ℕ → ℤ) (b c : Bool) (f k : ℕ) → (b ≡ true → f ≡ 0) → (c ≡ true → f ≡ 1) → summands_value point (cond b [] (cond c (Unknown k ∷ []) (Product f k ∷ []))) ≡ (pos f *ℤ point k)
-multiple_by point true c f k none one = sym (ap (λ n. pos n *ℤ point k) (none refl) ∙ no_times (point k))
-multiple_by point false true f k none one = zero_right (point k) ∙ sym (ap (λ n. pos n *ℤ point k) (one refl) ∙ one_times (point k))
-multiple_by point false false f k none one = zero_right (pos f *ℤ point k)
+multiple_by point true c f k none one = sym (ap (λ n. pos n *ℤ point k) (none refl) ∙ zero-*ℤ (point k))
+multiple_by point false true f k none one = +ℤ_idr (point k) ∙ sym (ap (λ n. pos n *ℤ point k) (one refl) ∙ one_times (point k))
+multiple_by point false false f k none one = +ℤ_idr (pos f *ℤ point k)
 
 multiple_value : (point : ℕ → ℤ) (f k : ℕ) → summands_value point (multiple f k) ≡ (pos f *ℤ point k)
 multiple_value point f k = multiple_by point (eqb f 0) (eqb f 1) f k (eqb-true f 0) (eqb-true f 1)
 
 constant_by : (point : ℕ → ℤ) (b : Bool) (v : ℕ) → (b ≡ true → v ≡ 0) → summands_value point (cond b [] (Numeral v ∷ [])) ≡ pos v
 constant_by point true v none = sym (ap pos (none refl))
-constant_by point false v none = zero_right (pos v)
+constant_by point false v none = +ℤ_idr (pos v)
 
 constant_value : (point : ℕ → ℤ) (v : ℕ) → summands_value point (constant v) ≡ pos v
 constant_value point v = constant_by point (eqb v 0) v (eqb-true v 0)
 
 sum_value : (point : ℕ → ℤ) (ss : List Summand) → term_value point (summed_term ss) ≡ summands_value point ss
 sum_value point [] = refl
-sum_value point (s ∷ []) = sym (zero_right (summand_value point s))
+sum_value point (s ∷ []) = sym (+ℤ_idr (summand_value point s))
 sum_value point (s ∷ t ∷ ss) = refl
 
 -- the two sides of a form differ by its value
@@ -95,7 +96,7 @@ rows_claim f g same [] all = tt
 rows_claim f g same (r ∷ rs) all = (row_claims g r (holds_same f g same r (all 0 r (omega arith))), rows_claim f g same rs (λ k d b. all (suc k) d (omega arith)))
 
 -- unknowns that are natural
-naturals_hold : (point : ℕ → ℤ) (k n : ℕ) → AllByRecursion (AtLeastHolds point) (map natural_claim (numbers_from k n)) → (x : ℕ) → k ≤ x → x < k + n → pos 0 ≤ℤ point x
+naturals_hold : (point : ℕ → ℤ) (k n : ℕ) → AllByRecursion (AtLeastHolds point) (map natural_claim (range_with_len k n)) → (x : ℕ) → k ≤ x → x < k + n → pos 0 ≤ℤ point x
 naturals_hold point k zero each x low high = absurd (omega arith)
 naturals_hold point k (suc n) each x low high =
     elim (cases_lt k x) [
@@ -103,7 +104,7 @@ naturals_hold point k (suc n) each x low high =
       | inr below ↦ (let same : k ≡ x = omega arith in subst (λ y. pos 0 ≤ℤ point y) same each.0)
     ]
 
-naturals_claim : (point : ℕ → ℤ) (k n : ℕ) → ((x : ℕ) → pos 0 ≤ℤ point x) → AllByRecursion (AtLeastHolds point) (map natural_claim (numbers_from k n))
+naturals_claim : (point : ℕ → ℤ) (k n : ℕ) → ((x : ℕ) → pos 0 ≤ℤ point x) → AllByRecursion (AtLeastHolds point) (map natural_claim (range_with_len k n))
 naturals_claim point k zero all = tt
 naturals_claim point k (suc n) all = (all k, naturals_claim point (k + 1) n all)
 
@@ -163,7 +164,7 @@ rows_fit : (n : ℕ) (rows : List Row) → n ≤ 2 ^ 32 → AllBelow n rows → 
 rows_fit n [] few below = tt
 rows_fit n (r ∷ rs) few below = ((side_fits Left n r.form few below.0, side_fits Right n r.form few below.0), rows_fit n rs few below.1)
 
-naturals_fit : (k n : ℕ) → k + n ≤ 2 ^ 32 → AllByRecursion (λ (c : AtLeast). TermFits c.left × TermFits c.right) (map natural_claim (numbers_from k n))
+naturals_fit : (k n : ℕ) → k + n ≤ 2 ^ 32 → AllByRecursion (λ (c : AtLeast). TermFits c.left × TermFits c.right) (map natural_claim (range_with_len k n))
 naturals_fit k zero few = tt
 naturals_fit k (suc n) few =
     let small : 2 ^ 32 < 2 ^ 127 = lit< tt in
@@ -172,13 +173,13 @@ naturals_fit k (suc n) few =
 
 script_fits : (system : System) → system.unknowns ≤ 2 ^ 32 → ScriptFits (script_of system)
 script_fits system few =
-    each_append (λ (c : AtLeast). TermFits c.left × TermFits c.right) (map natural_claim (numbers_from 0 system.unknowns)) (map row_claim system.rows) (naturals_fit 0 system.unknowns (omega arith)) (rows_fit system.unknowns system.rows few system.within)
+    each_append (λ (c : AtLeast). TermFits c.left × TermFits c.right) (map natural_claim (range_with_len 0 system.unknowns)) (map row_claim system.rows) (naturals_fit 0 system.unknowns (omega arith)) (rows_fit system.unknowns system.rows few system.within)
 
 -- what a system's script says of values that it counts
 solution_is : (system : System) (values : List ℤ) → length values ≡ system.unknowns → AllByRecursion (AtLeastHolds (point_of values)) (script_of system).asserted → IsNaturalSolution system values
 solution_is system values count each =
-    let first = each_front (AtLeastHolds (point_of values)) (map natural_claim (numbers_from 0 system.unknowns)) (map row_claim system.rows) each in
-    let rest = each_back (AtLeastHolds (point_of values)) (map natural_claim (numbers_from 0 system.unknowns)) (map row_claim system.rows) each in
+    let first = each_front (AtLeastHolds (point_of values)) (map natural_claim (range_with_len 0 system.unknowns)) (map row_claim system.rows) each in
+    let rest = each_back (AtLeastHolds (point_of values)) (map natural_claim (range_with_len 0 system.unknowns)) (map row_claim system.rows) each in
     let naturals = map unsigned_abs values in
     let are : values ≡ map pos naturals = naturals_of values (λ x b. naturals_hold (point_of values) 0 system.unknowns first x (omega arith) (omega arith)) in
     let same : (x : ℕ) → point_of values x ≡ pos (slice_index naturals x) = λ x. ap (λ zs. point_of zs x) are ∙ points naturals x in
@@ -193,7 +194,7 @@ solution_says system values is =
     let same : (x : ℕ) → pos (slice_index is.naturals x) ≡ point_of values x = λ x. sym (ap (λ zs. point_of zs x) is.are ∙ points is.naturals x) in
     let low : (x : ℕ) → pos 0 ≤ℤ point_of values x = λ x. subst (λ z. pos 0 ≤ℤ z) (same x) (omega (arith, ints)) in (
       ap length is.are ∙ length-map is.naturals pos ∙ is.solve.count,
-      each_append (AtLeastHolds (point_of values)) (map natural_claim (numbers_from 0 system.unknowns)) (map row_claim system.rows) (naturals_claim (point_of values) 0 system.unknowns low) (rows_claim (λ x. pos (slice_index is.naturals x)) (point_of values) same system.rows is.solve.rows_hold),
+      each_append (AtLeastHolds (point_of values)) (map natural_claim (range_with_len 0 system.unknowns)) (map row_claim system.rows) (naturals_claim (point_of values) 0 system.unknowns low) (rows_claim (λ x. pos (slice_index is.naturals x)) (point_of values) same system.rows is.solve.rows_hold),
     )
 
 -- the text of a system denotes just its natural solutions

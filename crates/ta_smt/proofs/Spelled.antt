@@ -1,6 +1,5 @@
 -- Elements that make a word, one by one.
-use Rattle.ta_smt.proofs.Common.{◌≡◌, ◌<◌, ◌≤◌, ℕ, zero, suc, ◌+◌, Bool, false, List, [], ◌∷◌, length, reverse, take, slice_get, get_or, Some, arith, inl, inr, refl, sym, ap, subst, ◌∙◌, ◌↔◌, IsTrue, cases_order, false≢true, take-take, slice_get-get_or, front_get, take_next, Pattern, In, Element, LegalWord, children, FirstStranger}
-use Rattle.ta_automaton.specs.declared.automaton.Automaton.{Automaton}
+use Rattle.ta_smt.proofs.Common.{◌≡◌, ◌<◌, ◌≤◌, ℕ, zero, suc, ◌+◌, Bool, false, List, [], ◌∷◌, length, reverse, take, slice_get, get_or, Some, arith, inl, inr, refl, sym, ap, subst, ◌∙◌, ◌↔◌, IsTrue, cases_order, false≢true, take-take, slice_get-get_or, front_get, take_next, Pattern, In, Element, LegalWord, children, FirstStranger, Automaton}
 use Rattle.ta_encode.proofs.InOrder.{past_push, prefix_is_legal}
 
 -- a legal word so far

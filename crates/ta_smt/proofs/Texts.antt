@@ -1,5 +1,5 @@
 -- The text of a script determines it.
-use Rattle.ta_smt.proofs.Common.{ℕ, zero, suc, ◌+◌, ◌<◌, ◌^◌, ◌≡◌, List, [], ◌∷◌, ◌++◌, map, codes, decimal, refl, sym, ap, ◌∙◌, append_assoc, arith, false≢true, append_cancel_left, AllByRecursion, numbers_from, decimal_digits, digits_unique, numeral_same, heads, small_is_wide, lines_text, AtLeast, Script, ScriptFits, Summand, SummandFits, Numeral, Unknown, Product, Term, TermFits, Lone, Sum, assert_line, declare_line, script_text, summand_text, summands_text, term_text, unknown_text}
+use Rattle.ta_smt.proofs.Common.{ℕ, zero, suc, ◌+◌, ◌<◌, ◌^◌, ◌≡◌, List, [], ◌∷◌, ◌++◌, map, codes, decimal, refl, sym, ap, ◌∙◌, append_assoc, arith, false≢true, append_cancel_left, AllByRecursion, range_with_len, decimal_digits, digits_unique, numeral_same, heads, small_is_wide, lines_text, AtLeast, Script, ScriptFits, Summand, SummandFits, Numeral, Unknown, Product, Term, TermFits, Lone, Sum, assert_line, declare_line, script_text, summand_text, summands_text, term_text, unknown_text}
 use Rattle.ta_base.specs.Decimals.{BeginsNoDigit, is_padded}
 use Rattle.ta_base.proofs.Digits.{decimal_plain}
 
@@ -156,7 +156,7 @@ claims_same (c ∷ cs) (d ∷ ds) fits fit e =
 
 -- declarations and what stands behind them
 body : ℕ → ℕ → List AtLeast → List ℕ
-body k n cs = lines_text (map declare_line (numbers_from k n) ++ ending cs)
+body k n cs = lines_text (map declare_line (range_with_len k n) ++ ending cs)
 
 -- behind the declarations comes no other one
 no_declaration : (cs : List AtLeast) (x : List ℕ) → lines_text (ending cs) ≡ 40 ∷ 100 ∷ x → ⊥

@@ -1,5 +1,5 @@
 -- Words of a file by the name of their pattern, and the text of their systems.
-use Rattle.ta_smt.proofs.Common.{◌≡◌, ◌≢◌, ◌+◌, ◌<◌, ◌≤◌, ◌^◌, ℕ, zero, suc, ℤ, Bool, true, false, List, [], ◌∷◌, length, reverse, slice_get, Some, arith, below_more, refl, sym, ap, subst, ◌∙◌, false≢true, same_Some, System, File, Pattern, distinct_map_at, Element, OfPattern, LegalWord, is_complete, pattern_search, SolvesWord, solution_back, solution_of, unbounded, AskedWord, SystemAsked, asked, DenotesSolutions, IsNaturalSolution, system_text, IsLegalWord, IsNamed, IsWholeWordOf, IsWordOf, IsWordText, NoWhole, SolvesAsked, Spelling, WholeWordsAreExact, WordFaultOf, WordsAreExact, FirstStranger}
+use Rattle.ta_smt.proofs.Common.{◌≡◌, ◌≢◌, ◌+◌, ◌<◌, ◌≤◌, ◌^◌, ℕ, ℤ, Bool, true, false, List, [], length, reverse, slice_get, Some, arith, below_more, refl, sym, ap, subst, ◌∙◌, false≢true, same_Some, System, File, Pattern, distinct_map_at, Element, OfPattern, LegalWord, is_complete, pattern_search, SolvesWord, solution_back, solution_of, unbounded, AskedWord, SystemAsked, asked, DenotesSolutions, IsNaturalSolution, system_text, IsLegalWord, IsNamed, IsWholeWordOf, IsWordOf, IsWordText, NoWhole, SolvesAsked, Spelling, WholeWordsAreExact, WordFaultOf, WordsAreExact, FirstStranger, slice_get_within}
 use Rattle.ta_automaton.specs.Patterns.{pattern_name}
 use Rattle.ta_smt.specs.declared.fault.WordFault.{WordFault}
 use Rattle.ta_smt.specs.declared.fault.WordFault.TheVariants as fault
@@ -94,13 +94,8 @@ legal_word file spelled word is = record {
   legal = rw (is.start, is.elements) is.legal;
 }
 
-pub get_within : (ps : List Pattern) (i : ℕ) (p : Pattern) → slice_get ps i ≡ Some p → i < length ps
-get_within [] i p at = absurd (cc)
-get_within (q ∷ ps) zero p at = omega arith
-get_within (q ∷ ps) (suc i) p at = let more = get_within ps i p at in omega arith
-
 pub legal_exists : (file : File) (word : AskedWord) → IsLegalWord file word → word.pattern < length file.patterns
-legal_exists file word is = get_within file.patterns word.pattern is.pattern is.named
+legal_exists file word is = slice_get_within file.patterns word.pattern is.pattern is.named
 
 pub legal_of : (file : File) (word : AskedWord) → IsLegalWord file word → OfPattern file word.pattern (λ p. LegalWord file.automaton p word.start (reverse word.elements))
 legal_of file word is p at = subst (λ (q : Pattern). LegalWord file.automaton q word.start (reverse word.elements)) (same_Some is.pattern p (sym is.named ∙ at)) is.legal
@@ -113,7 +108,7 @@ pub none_more : (ps : List Pattern) (name : List ℕ) (i : ℕ) (item : Pattern)
 none_more ps name i item at other before = below_more _ _ before (λ p is e. other (ap pattern_name (same_Some item p (sym at ∙ is)) ∙ e))
 
 pub none_at_all : (ps : List Pattern) (name : List ℕ) (i : ℕ) → length ps ≤ i → NoneSoFar ps name i → (number : ℕ) (pattern : Pattern) → ¬ IsNamed ps name number pattern
-none_at_all ps name i all before number pattern is = let within = get_within ps number pattern is.at in before number (omega arith) pattern is.at is.named
+none_at_all ps name i all before number pattern is = let within = slice_get_within ps number pattern is.at in before number (omega arith) pattern is.at is.named
 
 -- a word that is complete, and one that isn't
 pub whole_found : (file : File) (spelled : Spelling) (word : AskedWord) (r : Bool) → IsWordOf file spelled word → OfPattern file word.pattern (λ p. r ≡ is_complete p (reverse word.elements)) → r ≡ true → IsWholeWordOf file spelled word

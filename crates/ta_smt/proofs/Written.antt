@@ -1,21 +1,21 @@
 -- The text of a system, as it is written.
-use Rattle.ta_smt.proofs.Common.{ℕ, ℤ, zero, suc, pos, ◌+◌, ◌-◌, ◌<◌, ◌≤◌, ◌≡◌, Bool, true, false, cond, eqb, List, [], ◌∷◌, ◌++◌, length, map, drop, get_or, codes, decimal, refl, sym, ap, ◌∙◌, append_assoc, append-nil, arith, length-append, flat_map, at_drop_all, at_drop_more, map-append, append_nothing, piece_written, Form, Row, System, numbers_from, zero_text, lines_text, lines_text-append, Side, Summand, Numeral, Unknown, Product, assert_line, declare_line, summand_text, summands_text, term_text, constant, multiple, natural_claim, on_side, part, row_claim, summed_term, summands, system_text, led_text}
+use Rattle.ta_smt.proofs.Common.{ℕ, ℤ, zero, suc, pos, ◌+◌, ◌-◌, ◌<◌, ◌≤◌, ◌≡◌, Bool, true, false, cond, eqb, List, [], ◌∷◌, ◌++◌, length, map, drop, get_or, codes, decimal, refl, sym, ap, ◌∙◌, append_assoc, append-nil, arith, length-append, flat_map, at_drop_all, at_drop_more, map-append, append_nothing, piece_written, Form, Row, System, range_with_len, zero_text, lines_text, lines_text-append, Side, Summand, Numeral, Unknown, Product, assert_line, declare_line, summand_text, summands_text, term_text, constant, multiple, natural_claim, on_side, part, row_claim, summed_term, summands, system_text, led_text}
 
 -- the lines of the numbers that are left
-pub next_line : (f : ℕ → List ℕ) (k n : ℕ) → k < n → lines_text (map f (numbers_from k (n - k))) ≡ f k ++ (10 ∷ lines_text (map f (numbers_from (k + 1) (n - (k + 1)))))
-next_line f k n below = let e : n - k ≡ suc (n - (k + 1)) = omega arith in ap (λ m. lines_text (map f (numbers_from k m))) e
+pub next_line : (f : ℕ → List ℕ) (k n : ℕ) → k < n → lines_text (map f (range_with_len k (n - k))) ≡ f k ++ (10 ∷ lines_text (map f (range_with_len (k + 1) (n - (k + 1)))))
+next_line f k n below = let e : n - k ≡ suc (n - (k + 1)) = omega arith in ap (λ m. lines_text (map f (range_with_len k m))) e
 
-pub no_lines : (f : ℕ → List ℕ) (k n : ℕ) → n ≤ k → lines_text (map f (numbers_from k (n - k))) ≡ []
-no_lines f k n above = let e : n - k ≡ 0 = omega arith in ap (λ m. lines_text (map f (numbers_from k m))) e
+pub no_lines : (f : ℕ → List ℕ) (k n : ℕ) → n ≤ k → lines_text (map f (range_with_len k (n - k))) ≡ []
+no_lines f k n above = let e : n - k ≡ 0 = omega arith in ap (λ m. lines_text (map f (range_with_len k m))) e
 
 -- the line of a number is written
-pub line_written : (f : ℕ → List ℕ) (k n : ℕ) (old new bytes all : List ℕ) → k < n → bytes ≡ f k ++ (10 ∷ []) → new ≡ old ++ bytes → old ++ lines_text (map f (numbers_from k (n - k))) ≡ all → new ++ lines_text (map f (numbers_from (k + 1) (n - (k + 1)))) ≡ all
+pub line_written : (f : ℕ → List ℕ) (k n : ℕ) (old new bytes all : List ℕ) → k < n → bytes ≡ f k ++ (10 ∷ []) → new ≡ old ++ bytes → old ++ lines_text (map f (range_with_len k (n - k))) ≡ all → new ++ lines_text (map f (range_with_len (k + 1) (n - (k + 1)))) ≡ all
 line_written f k n old new bytes all below is written so_far =
-    let rest = lines_text (map f (numbers_from (k + 1) (n - (k + 1)))) in
-    piece_written old new bytes (lines_text (map f (numbers_from k (n - k)))) rest all written (next_line f k n below ∙ sym (ap (λ xs. xs ++ rest) is ∙ append_assoc (f k) (10 ∷ []) rest)) so_far
+    let rest = lines_text (map f (range_with_len (k + 1) (n - (k + 1)))) in
+    piece_written old new bytes (lines_text (map f (range_with_len k (n - k)))) rest all written (next_line f k n below ∙ sym (ap (λ xs. xs ++ rest) is ∙ append_assoc (f k) (10 ∷ []) rest)) so_far
 
-pub lines_written : (f : ℕ → List ℕ) (k n : ℕ) (old all : List ℕ) → n ≤ k → old ++ lines_text (map f (numbers_from k (n - k))) ≡ all → old ≡ all
-lines_written f k n old all above so_far = append_nothing old (lines_text (map f (numbers_from k (n - k)))) all (no_lines f k n above) so_far
+pub lines_written : (f : ℕ → List ℕ) (k n : ℕ) (old all : List ℕ) → n ≤ k → old ++ lines_text (map f (range_with_len k (n - k))) ≡ all → old ≡ all
+lines_written f k n old all above so_far = append_nothing old (lines_text (map f (range_with_len k (n - k)))) all (no_lines f k n above) so_far
 
 pub declared : (k : ℕ) → codes "(declare-fun u" ++ (decimal k ++ codes " () Int)\n") ≡ declare_line k ++ (10 ∷ [])
 declared k = ap (λ xs. codes "(declare-fun u" ++ xs) (sym (append_assoc (decimal k) (codes " () Int)") (10 ∷ [])))
@@ -28,7 +28,7 @@ claimed k =
     ap (λ xs. codes "(assert (>= u" ++ xs) (sym (append_assoc (decimal k) (codes " 0))") (10 ∷ [])))
     ∙ ap (λ zs. codes "(assert (>= u" ++ ((decimal k ++ (32 ∷ (zs ++ codes "))"))) ++ (10 ∷ []))) zero_text
 
-pub maps_once : (k n : ℕ) → map natural_line (numbers_from k n) ≡ map assert_line (map natural_claim (numbers_from k n))
+pub maps_once : (k n : ℕ) → map natural_line (range_with_len k n) ≡ map assert_line (map natural_claim (range_with_len k n))
 maps_once k zero = refl
 maps_once k (suc n) = ap (λ (ls : List (List ℕ)). natural_line k ∷ ls) (maps_once (k + 1) n)
 
@@ -147,10 +147,10 @@ sum_written middle t0 t1 t2 t3 e1 e2 e3 =
     joined ∙ append_assoc (t0 ++ codes "(+") middle (codes ")") ∙ append_assoc t0 (codes "(+") (middle ++ codes ")")
 
 -- the whole text of a system
-pub system_written : (system : System) (t1 t2 t3 t4 t5 : List ℕ) → t1 ≡ codes "(set-logic QF_LIA)\n" → t2 ≡ t1 ++ lines_text (map declare_line (numbers_from 0 system.unknowns)) → t3 ≡ t2 ++ lines_text (map assert_line (map natural_claim (numbers_from 0 system.unknowns))) → t4 ≡ t3 ++ rows_text system.rows → t5 ≡ t4 ++ codes "(check-sat)\n" → t5 ≡ system_text system
+pub system_written : (system : System) (t1 t2 t3 t4 t5 : List ℕ) → t1 ≡ codes "(set-logic QF_LIA)\n" → t2 ≡ t1 ++ lines_text (map declare_line (range_with_len 0 system.unknowns)) → t3 ≡ t2 ++ lines_text (map assert_line (map natural_claim (range_with_len 0 system.unknowns))) → t4 ≡ t3 ++ rows_text system.rows → t5 ≡ t4 ++ codes "(check-sat)\n" → t5 ≡ system_text system
 system_written system t1 t2 t3 t4 t5 e1 e2 e3 e4 e5 =
-    let declares = map declare_line (numbers_from 0 system.unknowns) in
-    let naturals = map natural_claim (numbers_from 0 system.unknowns) in
+    let declares = map declare_line (range_with_len 0 system.unknowns) in
+    let naturals = map natural_claim (range_with_len 0 system.unknowns) in
     let claims = map row_claim system.rows in
     let head = codes "(set-logic QF_LIA)\n" in
     let question : List (List ℕ) = codes "(check-sat)" ∷ [] in

@@ -4,7 +4,7 @@ use Rattle.ta_linear.specs.declared.form.Form.{Form}
 use Rattle.ta_linear.specs.declared.row.Row.{Row}
 use Rattle.ta_linear.specs.declared.row.System.{System}
 use Rattle.ta_linear.specs.Values.{Solves}
-use Rattle.ta_base.specs.Masks.{numbers_from}
+use Rattle.std.specs.List.{range_with_len}
 use Rattle.ta_smt.specs.declared.side.Side.{Side}
 use Rattle.ta_smt.specs.declared.side.Side.TheVariants.{Left, Right}
 use Rattle.ta_smt.specs.Denotes.{Denotes}
@@ -49,7 +49,7 @@ natural_claim number = record { left = Lone (Unknown number); right = Lone (Nume
 
 -- each unknown is at least 0, and each row holds
 abbrev pub script_of : System → Script
-script_of system = record { unknowns = system.unknowns; asserted = map natural_claim (numbers_from 0 system.unknowns) ++ map row_claim system.rows }
+script_of system = record { unknowns = system.unknowns; asserted = map natural_claim (range_with_len 0 system.unknowns) ++ map row_claim system.rows }
 
 -- the text of a system
 abbrev pub system_text : System → List ℕ

@@ -1,8 +1,7 @@
 -- Scripts of SMT-LIB 2.6 in the logic QF_LIA, as far as systems of rows need them, and their texts (SMT-LIB 2.6; the layout is
 -- this project's profile)
 use Rattle.std.specs.Prelude.{ℕ, ◌<◌, ◌^◌, List, [], ◌∷◌, ◌++◌, codes, decimal, map}
-use Rattle.std.specs.List.{AllByRecursion}
-use Rattle.ta_base.specs.Masks.{numbers_from}
+use Rattle.std.specs.List.{AllByRecursion, range_with_len}
 use Rattle.ta_replay.specs.RunText.{lines_text}
 
 -- a numeral, an unknown by its number, or a numeral times an unknown
@@ -56,7 +55,7 @@ assert_line claim = codes "(assert (>= " ++ (term_text claim.left ++ (codes " " 
 
 -- the logic, a line for each unknown in order, a line for each assertion in order, and the question
 abbrev pub script_lines : Script → List (List ℕ)
-script_lines script = codes "(set-logic QF_LIA)" ∷ (map declare_line (numbers_from 0 script.unknowns) ++ (map assert_line script.asserted ++ codes "(check-sat)" ∷ []))
+script_lines script = codes "(set-logic QF_LIA)" ∷ (map declare_line (range_with_len 0 script.unknowns) ++ (map assert_line script.asserted ++ codes "(check-sat)" ∷ []))
 
 -- the text of a script: each line with its line feed
 abbrev pub script_text : Script → List ℕ

@@ -2,7 +2,7 @@
 #![tactic(auto)]
 
 ghost use Rattle.std.specs.Prelude.{◌≡◌, ◌==◌, ◌≤◌, ◌++◌, ◌∷◌, [], flat_map, if◌then◌else◌, length, map, string_bytes, IfOk, OnOk};
-ghost use Rattle.ta_base.specs.Masks.{numbers_from};
+ghost use Rattle.std.specs.List.{range_with_len};
 ghost use Rattle.ta_replay.specs.RunText.{lines_text};
 ghost use Rattle.ta_smt.specs.Export.{DenotesSolutions, constant, multiple, natural_claim, on_side, part, row_claim, summed_term, summands, system_text};
 ghost use Rattle.ta_smt.specs.Script.{assert_line, declare_line, term_text};
@@ -30,7 +30,7 @@ pub fn smt_text(alloc: Global, system: &System) -> Result<Text, AllocError>
 
 /// Adds a line that declares each unknown.
 fn push_declarations(text: &mut String, unknowns: u32) -> Result<(), AllocError>
-    ensures { OnOk result (string_bytes text.new ≡ string_bytes text.old ++ lines_text (map declare_line (numbers_from 0 unknowns))) }
+    ensures { OnOk result (string_bytes text.new ≡ string_bytes text.old ++ lines_text (map declare_line (range_with_len 0 unknowns))) }
 {
     for number in 0..unknowns {
         write!(text, "(declare-fun u{} () Int)\n", number)?;
@@ -40,7 +40,7 @@ fn push_declarations(text: &mut String, unknowns: u32) -> Result<(), AllocError>
 
 /// Adds a line that says that each unknown is at least 0.
 fn push_naturals(text: &mut String, unknowns: u32) -> Result<(), AllocError>
-    ensures { OnOk result (string_bytes text.new ≡ string_bytes text.old ++ lines_text (map assert_line (map natural_claim (numbers_from 0 unknowns)))) }
+    ensures { OnOk result (string_bytes text.new ≡ string_bytes text.old ++ lines_text (map assert_line (map natural_claim (range_with_len 0 unknowns)))) }
 {
     for number in 0..unknowns {
         write!(text, "(assert (>= u{} 0))\n", number)?;

@@ -8,7 +8,7 @@ use Rattle.ta_syntax.specs.declared.sums.Sign.TheVariants as sign
 use Rattle.ta_syntax.proofs.SumSteps.{plain_sum_roll, plain_number, plain_times, plain_alone, plain_named, plain_nested, stated_number, stated_times, stated_alone, stated_named, stated_nested, stated_sum_roll, pairs}
 
 -- a list of the program with these items; where it lies in memory doesn't matter
-abbrev vec_of : {A : Type 0} (xs : List A) → length xs < 2 ^ 63 → Vec A
+abbrev pub vec_of : {A : Type 0} (xs : List A) → length xs < 2 ^ 63 → Vec A
 vec_of xs small = record { ptr = null_ptr; len = length xs; cap = length xs; alloc = record { memory = record { seal = tt } }; items = xs; ok = (refl, omega arith); small = small }
 
 -- ---- tokens in two parts

@@ -1,10 +1,10 @@
 -- A text of the grammar within the limits has a tree of the program.
-use Rattle.ta_syntax.proofs.Common.{◌≡◌, ℕ, ◌+◌, ◌≤◌, Bool, true, false, List, [], ◌∷◌, ◌++◌, length, map, refl, sym, ap, ap₂, subst, ◌∙◌, arith, length-append, AllByRecursion, length_of_map, IsNameText, kind_bytes, PlainComparison, PlainRule, PlainEvent, PlainPattern, PlainTree, sum_kinds, relation_kind, listed, further, led, ended, each, name_kinds, initial_kinds, location_kinds, comparison_kinds, update_kinds, rule_kinds, event_kinds, pattern_kinds, file_kinds, IsSum, IsSome, IsComparison, IsUpdate, IsRule, IsEvent, IsPattern, IsTree, plain_sum, sum_depth, plain_name, plain_comparison, plain_location, plain_update, plain_rule, plain_event, plain_pattern, plain_tree, Offsets, IsPlaced, at_first, unplaced, sum_stated, name_stated, initial_stated, location_stated, comparison_stated, update_stated, rule_stated, event_stated, pattern_stated, tree_stated, IsShallow, IsRuleWithin, IsEventWithin, IsPatternWithin, IsTreeWithin, kinds, offset_of, ScansTo, IsLastGap, IsTextOf, IsTreeOf, Kind, Mark, Token, Spelled, Digits, TreeSum, TreeComparison, TreeLocation, TreeUpdate, TreeRule, TreeEvent, TreePattern, Tree}
+use Rattle.ta_syntax.proofs.Common.{◌≡◌, ℕ, ◌+◌, ◌≤◌, Bool, true, false, List, [], ◌∷◌, ◌++◌, length, map, refl, sym, ap, ap₂, subst, ◌∙◌, arith, length-append, AllByRecursion, all_both, length_of_map, IsNameText, kind_bytes, PlainComparison, PlainRule, PlainEvent, PlainPattern, PlainTree, sum_kinds, relation_kind, listed, further, led, ended, each, name_kinds, initial_kinds, location_kinds, comparison_kinds, update_kinds, rule_kinds, event_kinds, pattern_kinds, file_kinds, IsSum, IsSome, IsComparison, IsUpdate, IsRule, IsEvent, IsPattern, IsTree, plain_sum, sum_depth, plain_name, plain_comparison, plain_location, plain_update, plain_rule, plain_event, plain_pattern, plain_tree, Offsets, IsPlaced, at_first, unplaced, sum_stated, name_stated, initial_stated, location_stated, comparison_stated, update_stated, rule_stated, event_stated, pattern_stated, tree_stated, IsShallow, IsRuleWithin, IsEventWithin, IsPatternWithin, IsTreeWithin, kinds, offset_of, ScansTo, IsLastGap, IsTextOf, IsTreeOf, Kind, Mark, Token, Spelled, Digits, TreeSum, TreeComparison, TreeLocation, TreeUpdate, TreeRule, TreeEvent, TreePattern, Tree}
 use Rattle.ta_syntax.specs.declared.tokens.Kind.TheVariants as kind
 use Rattle.ta_syntax.specs.declared.tokens.Mark.TheVariants as mark
 use Rattle.ta_syntax.proofs.BuiltSums.{tail, before, behind, Small, small_tail, small_before, small_behind, kinds_tail, kinds_before, kinds_behind, placed_mark, placed_name, placed_last, placed_none, placed_first, placed_both, sum_built}
 use Rattle.ta_syntax.proofs.Scans.{kind_some}
-use Rattle.ta_syntax.proofs.TreeLimits.{behind_rules, behind_processes, behind_locations, behind_shared, behind_parameters}
+use Rattle.ta_syntax.proofs.FileTexts.{blocks_kinds, resilience_kinds, processes_kinds, locations_kinds, shared_kinds, parameters_kinds}
 
 abbrev fixed : Mark → Kind
 fixed m = kind.Fixed m
@@ -109,15 +109,14 @@ locations_built l is front e small = record {
 
 updates_built : Builds plain_update update_stated update_kinds IsUpdate
 updates_built u is front e small =
-    let number = kind.Number u.amount in
-    let e1 = kinds_tail (kind.Name u.name) (fixed mark.PlusEquals ∷ number ∷ []) front e in
-    let e2 = kinds_tail (fixed mark.PlusEquals) (number ∷ []) (tail front) e1 in
+    let e1 = kinds_tail _ _ front e in
+    let e2 = kinds_tail _ _ (tail front) e1 in
     let behind_sign = tail (tail front) in
     let amount : Digits = record { text = u.amount; at = offset_of 0 behind_sign; legal = is.amount } in
     record {
       value = record { name = spelled_at u.name is.name front; amount = amount };
       same = refl;
-      placed = placed_name (kind.Name u.name) (fixed mark.PlusEquals ∷ number ∷ []) front ([] ∷ (amount.at ∷ []) ∷ []) e (placed_mark (fixed mark.PlusEquals) (number ∷ []) (tail front) ((amount.at ∷ []) ∷ []) e1 (placed_name number [] behind_sign [] e2 (placed_none (tail behind_sign) (kinds_tail number [] behind_sign e2))));
+      placed = placed_name _ _ front ([] ∷ (amount.at ∷ []) ∷ []) e (placed_mark _ _ (tail front) ((amount.at ∷ []) ∷ []) e1 (placed_name _ _ behind_sign [] e2 (placed_none (tail behind_sign) (kinds_tail _ _ behind_sign e2))));
     }
 
 record GoodComparison (c : PlainComparison) : Type 0 where
@@ -150,8 +149,7 @@ comparisons_built c good front e small =
 
 -- both facts of each item
 all_good : (cs : List PlainComparison) → AllByRecursion IsComparison cs → AllByRecursion IsShallow cs → AllByRecursion GoodComparison cs
-all_good [] p q = tt
-all_good (c ∷ cs) p q = (record { legal = p.0; shallow = q.0 }, all_good cs p.1 q.1)
+all_good = all_both IsComparison IsShallow GoodComparison (λ c l s. record { legal = l; shallow = s })
 
 -- ---- rules, events and patterns
 record GoodRule (r : PlainRule) : Type 0 where
@@ -192,24 +190,18 @@ module _ (r : PlainRule) where
 
 rules_built : Builds plain_rule rule_stated rule_kinds GoodRule
 rules_built r good front e small =
-    let body = rule_guards r ++ (rule_updates r ++ semicolon r) in
-    let k5 = kind.Name r.to ∷ body in
-    let k4 = fixed mark.Arrow ∷ k5 in
-    let k3 = kind.Name r.from ∷ k4 in
-    let k2 = fixed mark.Colon ∷ k3 in
-    let k1 = kind.Name r.name ∷ k2 in
     let f1 = tail front in
     let f2 = tail f1 in
     let f3 = tail f2 in
     let f4 = tail f3 in
     let f5 = tail f4 in
-    let e1 = kinds_tail (fixed mark.Rule) k1 front e in
-    let e2 = kinds_tail (kind.Name r.name) k2 f1 e1 in
-    let e3 = kinds_tail (fixed mark.Colon) k3 f2 e2 in
-    let e4 = kinds_tail (kind.Name r.from) k4 f3 e3 in
-    let e5 = kinds_tail (fixed mark.Arrow) k5 f4 e4 in
+    let e1 = kinds_tail _ _ front e in
+    let e2 = kinds_tail _ _ f1 e1 in
+    let e3 = kinds_tail _ _ f2 e2 in
+    let e4 = kinds_tail _ _ f3 e3 in
+    let e5 = kinds_tail _ _ f4 e4 in
     let small5 = small_tail f4 (small_tail f3 (small_tail f2 (small_tail f1 (small_tail front small)))) in
-    let b = body_built r good (tail f5) (kinds_tail (kind.Name r.to) body f5 e5) (small_tail f5 small5) in
+    let b = body_built r good (tail f5) (kinds_tail _ _ f5 e5) (small_tail f5 small5) in
     let s6 = led unplaced mark.When comparison_stated b.guards ++ (led unplaced mark.Do update_stated b.updates ++ [] ∷ []) in
     let s5 = (offset_of 0 f5 ∷ []) ∷ s6 in
     let s4 = [] ∷ s5 in
@@ -227,12 +219,12 @@ rules_built r good front e small =
         few_updates = subst (λ n. n ≤ 16) (sym (length_of_map plain_update b.updates r.updates b.same_updates)) good.within.updates;
       };
       same = ap₂ (λ gs us. let p : PlainRule = record { name = r.name; from = r.from; to = r.to; guards = gs; updates = us } in p) b.same_guards b.same_updates;
-      placed = placed_mark (fixed mark.Rule) k1 front s1 e (placed_name (kind.Name r.name) k2 f1 s2 e1 (placed_mark (fixed mark.Colon) k3 f2 s3 e2 (placed_name (kind.Name r.from) k4 f3 s4 e3 (placed_mark (fixed mark.Arrow) k5 f4 s5 e4 (placed_name (kind.Name r.to) body f5 s6 e5 b.placed)))));
+      placed = placed_mark _ _ front s1 e (placed_name _ _ f1 s2 e1 (placed_mark _ _ f2 s3 e2 (placed_name _ _ f3 s4 e3 (placed_mark _ _ f4 s5 e4 (placed_name _ _ f5 s6 e5 b.placed)))));
     }
 
-record GoodEvent (e : PlainEvent) : Type 0 where
-  legal : IsEvent e
-  within : IsEventWithin e
+pub record GoodEvent (e : PlainEvent) : Type 0 where
+  pub legal : IsEvent e
+  pub within : IsEventWithin e
 
 pub some_length : {A : Type 0} (xs : List A) → IsSome xs → 1 ≤ length xs
 some_length [] some = absurd some
@@ -243,13 +235,11 @@ events_built v good front e small =
     let end = fixed mark.Semicolon ∷ [] in
     let names = led kind.Fixed mark.After name_kinds v.after in
     let condition = listed kind.Fixed comparison_kinds v.condition ++ end in
-    let k2 = names ++ (fixed mark.Colon ∷ condition) in
-    let k1 = kind.Name v.name ∷ k2 in
     let f1 = tail front in
     let f2 = tail f1 in
     let back = behind names f2 in
-    let e1 = kinds_tail (fixed mark.Event) k1 front e in
-    let e2 = kinds_tail (kind.Name v.name) k2 f1 e1 in
+    let e1 = kinds_tail _ _ front e in
+    let e2 = kinds_tail _ _ f1 e1 in
     let e3 = kinds_behind names (fixed mark.Colon ∷ condition) f2 e2 in
     let small2 = small_tail f1 (small_tail front small) in
     let a = led_built plain_name name_stated name_kinds IsNameText names_built mark.After v.after good.legal.after (before names f2) (kinds_before names (fixed mark.Colon ∷ condition) f2 e2) (small_before names f2 small2) in
@@ -268,16 +258,15 @@ events_built v good front e small =
         few = subst (λ n. n ≤ 16) (sym (length_of_map plain_comparison c.value v.condition c.same)) good.within.condition;
       };
       same = ap₂ (λ ns cs. let p : PlainEvent = record { name = v.name; after = ns; condition = cs } in p) a.same c.same;
-      placed = placed_mark (fixed mark.Event) k1 front s1 e (placed_name (kind.Name v.name) k2 f1 s2 e1 (placed_both names (fixed mark.Colon ∷ condition) f2 s3 ([] ∷ s4) e2 a.placed (placed_mark (fixed mark.Colon) condition back s4 e3 c.placed)));
+      placed = placed_mark _ _ front s1 e (placed_name _ _ f1 s2 e1 (placed_both names (fixed mark.Colon ∷ condition) f2 s3 ([] ∷ s4) e2 a.placed (placed_mark _ _ back s4 e3 c.placed)));
     }
 
-all_events : (vs : List PlainEvent) → AllByRecursion IsEvent vs → AllByRecursion IsEventWithin vs → AllByRecursion GoodEvent vs
-all_events [] p q = tt
-all_events (v ∷ vs) p q = (record { legal = p.0; within = q.0 }, all_events vs p.1 q.1)
+pub all_events : (vs : List PlainEvent) → AllByRecursion IsEvent vs → AllByRecursion IsEventWithin vs → AllByRecursion GoodEvent vs
+all_events = all_both IsEvent IsEventWithin GoodEvent (λ v l w. record { legal = l; within = w })
 
-record GoodPattern (p : PlainPattern) : Type 0 where
-  legal : IsPattern p
-  within : IsPatternWithin p
+pub record GoodPattern (p : PlainPattern) : Type 0 where
+  pub legal : IsPattern p
+  pub within : IsPatternWithin p
 
 module _ (p : PlainPattern) where
   abbrev start_kinds : List Kind
@@ -324,14 +313,11 @@ module _ (p : PlainPattern) where
 
 patterns_built : Builds plain_pattern pattern_stated pattern_kinds GoodPattern
 patterns_built p good front e small =
-    let body = start_kinds p ++ (empty_kinds p ++ (events_kinds p ++ brace p)) in
-    let k2 = fixed mark.OpenBrace ∷ body in
-    let k1 = kind.Name p.name ∷ k2 in
     let f1 = tail front in
     let f2 = tail f1 in
-    let e1 = kinds_tail (fixed mark.Pattern) k1 front e in
-    let e2 = kinds_tail (kind.Name p.name) k2 f1 e1 in
-    let b = parts_built p good (tail f2) (kinds_tail (fixed mark.OpenBrace) body f2 e2) (small_tail f2 (small_tail f1 (small_tail front small))) in
+    let e1 = kinds_tail _ _ front e in
+    let e2 = kinds_tail _ _ f1 e1 in
+    let b = parts_built p good (tail f2) (kinds_tail _ _ f2 e2) (small_tail f2 (small_tail f1 (small_tail front small))) in
     let s3 = ended unplaced mark.Start comparison_stated b.start ++ (ended unplaced mark.Empty name_stated b.empty ++ (each event_stated b.events ++ [] ∷ [])) in
     let s2 = [] ∷ s3 in
     let s1 = (offset_of 0 f1 ∷ []) ∷ s2 in
@@ -346,7 +332,7 @@ patterns_built p good front e small =
         few_events = subst (λ n. n ≤ 8) (sym (length_of_map plain_event b.events p.events b.same_events)) good.within.events;
       };
       same = λ i. let q : PlainPattern = record { name = p.name; start = b.same_start i; empty = b.same_empty i; events = b.same_events i } in q;
-      placed = placed_mark (fixed mark.Pattern) k1 front s1 e (placed_name (kind.Name p.name) k2 f1 s2 e1 (placed_mark (fixed mark.OpenBrace) body f2 s3 e2 b.placed));
+      placed = placed_mark _ _ front s1 e (placed_name _ _ f1 s2 e1 (placed_mark _ _ f2 s3 e2 b.placed));
     }
 
 -- ---- files
@@ -355,12 +341,10 @@ record GoodTree (t : PlainTree) : Type 0 where
   within : IsTreeWithin t
 
 all_rules : (rs : List PlainRule) → AllByRecursion IsRule rs → AllByRecursion IsRuleWithin rs → AllByRecursion GoodRule rs
-all_rules [] p q = tt
-all_rules (r ∷ rs) p q = (record { legal = p.0; within = q.0 }, all_rules rs p.1 q.1)
+all_rules = all_both IsRule IsRuleWithin GoodRule (λ r l w. record { legal = l; within = w })
 
-all_patterns : (ps : List PlainPattern) → AllByRecursion IsPattern ps → AllByRecursion IsPatternWithin ps → AllByRecursion GoodPattern ps
-all_patterns [] p q = tt
-all_patterns (r ∷ rs) p q = (record { legal = p.0; within = q.0 }, all_patterns rs p.1 q.1)
+pub all_patterns : (ps : List PlainPattern) → AllByRecursion IsPattern ps → AllByRecursion IsPatternWithin ps → AllByRecursion GoodPattern ps
+all_patterns = all_both IsPattern IsPatternWithin GoodPattern (λ p l w. record { legal = l; within = w })
 
 -- a keyword, a list and a semicolon, before the rest
 record BuiltClause {A P : Type 0} (plain : A → P) (stated : A → List Offsets) (ps : List P) (ahead : List Offsets) (front : List Token) : Type 0 where
@@ -394,7 +378,7 @@ module _ (t : PlainTree) (good : GoodTree t) where
     same_patterns : map plain_pattern patterns ≡ t.patterns
     placed : IsPlaced (each rule_stated rules ++ each pattern_stated patterns) front
 
-  blocks_built : (front : List Token) → kinds front ≡ behind_rules t → Small front → BuiltBlocks front
+  blocks_built : (front : List Token) → kinds front ≡ blocks_kinds t → Small front → BuiltBlocks front
   blocks_built front e small =
       let rules = each rule_kinds t.rules in
       let patterns = each pattern_kinds t.patterns in
@@ -411,16 +395,16 @@ module _ (t : PlainTree) (good : GoodTree t) where
     same_patterns : map plain_pattern patterns ≡ t.patterns
     placed : IsPlaced ([] ∷ (listed unplaced comparison_stated resilience ++ [] ∷ (each rule_stated rules ++ each pattern_stated patterns))) front
 
-  conditions_built : (front : List Token) → kinds front ≡ behind_processes t → Small front → BuiltConditions front
+  conditions_built : (front : List Token) → kinds front ≡ resilience_kinds t → Small front → BuiltConditions front
   conditions_built front e small =
       let list = listed kind.Fixed comparison_kinds t.resilience in
-      let rest = list ++ fixed mark.Semicolon ∷ behind_rules t in
+      let rest = list ++ fixed mark.Semicolon ∷ blocks_kinds t in
       let f1 = tail front in
       let e1 = kinds_tail (fixed mark.Resilience) rest front e in
       let small1 = small_tail front small in
-      let b = blocks_built (past_clause list f1) (past_kinds list (behind_rules t) f1 e1) (small_past list f1 small1) in
+      let b = blocks_built (past_clause list f1) (past_kinds list (blocks_kinds t) f1 e1) (small_past list f1 small1) in
       let ahead = each rule_stated b.rules ++ each pattern_stated b.patterns in
-      let c = clause_built plain_comparison comparison_stated comparison_kinds GoodComparison comparisons_built t.resilience (behind_rules t) ahead (all_good t.resilience good.legal.resilience good.within.shallow) f1 e1 small1 b.placed in
+      let c = clause_built plain_comparison comparison_stated comparison_kinds GoodComparison comparisons_built t.resilience (blocks_kinds t) ahead (all_good t.resilience good.legal.resilience good.within.shallow) f1 e1 small1 b.placed in
       record {
         resilience = c.items;
         rules = b.rules;
@@ -439,15 +423,15 @@ module _ (t : PlainTree) (good : GoodTree t) where
     later : BuiltConditions back
     placed : IsPlaced ([] ∷ (at_first at (sum_stated processes) ++ [] ∷ ([] ∷ (listed unplaced comparison_stated later.resilience ++ [] ∷ (each rule_stated later.rules ++ each pattern_stated later.patterns))))) front
 
-  processes_built : (front : List Token) → kinds front ≡ behind_locations t → Small front → BuiltProcesses front
+  processes_built : (front : List Token) → kinds front ≡ processes_kinds t → Small front → BuiltProcesses front
   processes_built front e small =
       let list = sum_kinds t.processes in
-      let end = fixed mark.Semicolon ∷ behind_processes t in
+      let end = fixed mark.Semicolon ∷ resilience_kinds t in
       let f1 = tail front in
       let e1 = kinds_tail (fixed mark.Processes) (list ++ end) front e in
       let small1 = small_tail front small in
       let back = past_clause list f1 in
-      let c = conditions_built back (past_kinds list (behind_processes t) f1 e1) (small_past list f1 small1) in
+      let c = conditions_built back (past_kinds list (resilience_kinds t) f1 e1) (small_past list f1 small1) in
       let s = sum_built t.processes good.legal.processes (before list f1) (kinds_before list end f1 e1) (small_before list f1 small1) in
       let at = offset_of 0 (before list f1) in
       let ahead = [] ∷ (listed unplaced comparison_stated c.resilience ++ [] ∷ (each rule_stated c.rules ++ each pattern_stated c.patterns)) in
@@ -457,7 +441,7 @@ module _ (t : PlainTree) (good : GoodTree t) where
         same_processes = s.plain;
         back = back;
         later = c;
-        placed = placed_mark (fixed mark.Processes) (list ++ end) front (at_first at (sum_stated s.value) ++ [] ∷ ahead) e (placed_both list end f1 (at_first at (sum_stated s.value)) ([] ∷ ahead) e1 (placed_first (sum_stated s.value) (before list f1) s.placed) (placed_mark (fixed mark.Semicolon) (behind_processes t) (behind list f1) ahead (kinds_behind list end f1 e1) c.placed));
+        placed = placed_mark (fixed mark.Processes) (list ++ end) front (at_first at (sum_stated s.value) ++ [] ∷ ahead) e (placed_both list end f1 (at_first at (sum_stated s.value)) ([] ∷ ahead) e1 (placed_first (sum_stated s.value) (before list f1) s.placed) (placed_mark (fixed mark.Semicolon) (resilience_kinds t) (behind list f1) ahead (kinds_behind list end f1 e1) c.placed));
       }
 
   record BuiltLocations (front : List Token) : Type 0 where
@@ -468,17 +452,17 @@ module _ (t : PlainTree) (good : GoodTree t) where
     later : BuiltProcesses back
     placed : IsPlaced ((at ∷ []) ∷ (listed unplaced location_stated locations ++ [] ∷ ([] ∷ (at_first later.at (sum_stated later.processes) ++ [] ∷ ([] ∷ (listed unplaced comparison_stated later.later.resilience ++ [] ∷ (each rule_stated later.later.rules ++ each pattern_stated later.later.patterns))))))) front
 
-  locations_clause : (front : List Token) → kinds front ≡ behind_shared t → Small front → BuiltLocations front
+  locations_clause : (front : List Token) → kinds front ≡ locations_kinds t → Small front → BuiltLocations front
   locations_clause front e small =
       let list = listed kind.Fixed location_kinds t.locations in
-      let rest = list ++ fixed mark.Semicolon ∷ behind_locations t in
+      let rest = list ++ fixed mark.Semicolon ∷ processes_kinds t in
       let f1 = tail front in
       let e1 = kinds_tail (fixed mark.Locations) rest front e in
       let small1 = small_tail front small in
       let back = past_clause list f1 in
-      let p = processes_built back (past_kinds list (behind_locations t) f1 e1) (small_past list f1 small1) in
+      let p = processes_built back (past_kinds list (processes_kinds t) f1 e1) (small_past list f1 small1) in
       let ahead = [] ∷ (at_first p.at (sum_stated p.processes) ++ [] ∷ ([] ∷ (listed unplaced comparison_stated p.later.resilience ++ [] ∷ (each rule_stated p.later.rules ++ each pattern_stated p.later.patterns)))) in
-      let c = clause_built plain_location location_stated location_kinds (λ l. IsNameText l.name) locations_built t.locations (behind_locations t) ahead good.legal.locations f1 e1 small1 p.placed in
+      let c = clause_built plain_location location_stated location_kinds (λ l. IsNameText l.name) locations_built t.locations (processes_kinds t) ahead good.legal.locations f1 e1 small1 p.placed in
       record { at = offset_of 0 front; locations = c.items; same_locations = c.same; back = back; later = p; placed = placed_name (fixed mark.Locations) rest front (listed unplaced location_stated c.items ++ [] ∷ ahead) e c.placed }
 
   abbrev located : {front : List Token} → BuiltLocations front → List Offsets
@@ -493,26 +477,26 @@ module _ (t : PlainTree) (good : GoodTree t) where
     later : BuiltLocations back
     placed : IsPlaced ([] ∷ (listed unplaced name_stated parameters ++ [] ∷ ([] ∷ (listed unplaced name_stated shared ++ [] ∷ located later)))) front
 
-  file_built : (front : List Token) → kinds front ≡ fixed mark.Parameters ∷ (listed kind.Fixed name_kinds t.parameters ++ fixed mark.Semicolon ∷ behind_parameters t) → Small front → BuiltFile front
+  file_built : (front : List Token) → kinds front ≡ parameters_kinds t → Small front → BuiltFile front
   file_built front e small =
       let ps = listed kind.Fixed name_kinds t.parameters in
       let ss = listed kind.Fixed name_kinds t.shared in
-      let rest1 = ps ++ fixed mark.Semicolon ∷ behind_parameters t in
-      let rest2 = ss ++ fixed mark.Semicolon ∷ behind_shared t in
+      let rest1 = ps ++ fixed mark.Semicolon ∷ shared_kinds t in
+      let rest2 = ss ++ fixed mark.Semicolon ∷ locations_kinds t in
       let f1 = tail front in
       let e1 = kinds_tail (fixed mark.Parameters) rest1 front e in
       let small1 = small_tail front small in
       let f2 = past_clause ps f1 in
-      let e2 = past_kinds ps (behind_parameters t) f1 e1 in
+      let e2 = past_kinds ps (shared_kinds t) f1 e1 in
       let small2 = small_past ps f1 small1 in
       let f3 = tail f2 in
       let e3 = kinds_tail (fixed mark.Shared) rest2 f2 e2 in
       let small3 = small_tail f2 small2 in
       let back = past_clause ss f3 in
-      let l = locations_clause back (past_kinds ss (behind_shared t) f3 e3) (small_past ss f3 small3) in
-      let s = clause_built plain_name name_stated name_kinds IsNameText names_built t.shared (behind_shared t) (located l) good.legal.shared f3 e3 small3 l.placed in
+      let l = locations_clause back (past_kinds ss (locations_kinds t) f3 e3) (small_past ss f3 small3) in
+      let s = clause_built plain_name name_stated name_kinds IsNameText names_built t.shared (locations_kinds t) (located l) good.legal.shared f3 e3 small3 l.placed in
       let ahead = [] ∷ (listed unplaced name_stated s.items ++ [] ∷ located l) in
-      let p = clause_built plain_name name_stated name_kinds IsNameText names_built t.parameters (behind_parameters t) ahead good.legal.parameters f1 e1 small1 (placed_mark (fixed mark.Shared) rest2 f2 (listed unplaced name_stated s.items ++ [] ∷ located l) e2 s.placed) in
+      let p = clause_built plain_name name_stated name_kinds IsNameText names_built t.parameters (shared_kinds t) ahead good.legal.parameters f1 e1 small1 (placed_mark (fixed mark.Shared) rest2 f2 (listed unplaced name_stated s.items ++ [] ∷ located l) e2 s.placed) in
       record { parameters = p.items; shared = s.items; same_parameters = p.same; same_shared = s.same; back = back; later = l; placed = placed_mark (fixed mark.Parameters) rest1 front (listed unplaced name_stated p.items ++ [] ∷ ahead) e p.placed }
 
   record BuiltTree (front : List Token) : Type 0 where
@@ -522,15 +506,12 @@ module _ (t : PlainTree) (good : GoodTree t) where
 
   tree_built : (front : List Token) → kinds front ≡ file_kinds t → Small front → BuiltTree front
   tree_built front e small =
-      let rest = fixed mark.Parameters ∷ (listed kind.Fixed name_kinds t.parameters ++ fixed mark.Semicolon ∷ behind_parameters t) in
-      let k2 = fixed mark.Semicolon ∷ rest in
-      let k1 = kind.Name t.name ∷ k2 in
       let f1 = tail front in
       let f2 = tail f1 in
       let f3 = tail f2 in
-      let e1 = kinds_tail (fixed mark.Automaton) k1 front e in
-      let e2 = kinds_tail (kind.Name t.name) k2 f1 e1 in
-      let b = file_built f3 (kinds_tail (fixed mark.Semicolon) rest f2 e2) (small_tail f2 (small_tail f1 (small_tail front small))) in
+      let e1 = kinds_tail _ _ front e in
+      let e2 = kinds_tail _ _ f1 e1 in
+      let b = file_built f3 (kinds_tail _ _ f2 e2) (small_tail f2 (small_tail f1 (small_tail front small))) in
       let l = b.later in
       let p = l.later in
       let c = p.later in
@@ -561,7 +542,7 @@ module _ (t : PlainTree) (good : GoodTree t) where
       record {
         tree = tree;
         same = λ i. let q : PlainTree = record { name = t.name; parameters = b.same_parameters i; shared = b.same_shared i; locations = l.same_locations i; processes = p.same_processes i; resilience = c.same_resilience i; rules = c.same_rules i; patterns = c.same_patterns i } in q;
-        placed = placed_mark (fixed mark.Automaton) k1 front s1 e (placed_name (kind.Name t.name) k2 f1 s2 e1 (placed_mark (fixed mark.Semicolon) rest f2 s3 e2 b.placed));
+        placed = placed_mark _ _ front s1 e (placed_name _ _ f1 s2 e1 (placed_mark _ _ f2 s3 e2 b.placed));
       }
 
 -- a text has no more tokens than bytes

@@ -9,8 +9,12 @@ use Rattle.ta_syntax.proofs.ListSteps.{mark_avoids}
 pub kept_then : (c d e : Counts) → IsBetweenParts c d → IsBetweenParts d e → IsBetweenParts c e
 kept_then c d e a b = record { closed = b.closed; room = b.room; rules = b.rules ∙ a.rules; patterns = b.patterns ∙ a.patterns; events = b.events ∙ a.events }
 
-pub kept_ready : (c d : Counts) → IsBetweenParts c d → IsReady d
-kept_ready c d k = record { closed = k.closed; room = k.room }
+pub kept_ready : {c d : Counts} → IsBetweenParts c d → IsReady d
+kept_ready k = record { closed = k.closed; room = k.room }
+
+-- from behind the keyword of a list
+pub kept_begun : (n : ℕ) (c d : Counts) → IsBetweenParts (begin_list n c) d → IsBetweenParts c d
+kept_begun n c d k = record { closed = k.closed; room = k.room; rules = k.rules; patterns = k.patterns; events = k.events }
 
 pub kept_same : (c : Counts) → IsReady c → IsBetweenParts c c
 kept_same c r = record { closed = r.closed; room = r.room; rules = refl; patterns = refl; events = refl }
@@ -98,15 +102,12 @@ module _ {A : Type 0} (p : GrammarPart) (spelled : A → List Kind) (stated : A 
     shorter = omega (arith, took.shorter, ap length b.split);
     reads = λ K c fresh.
         let a = list_step items tokens rest (both (a_mark mark.Semicolon) K) c took (semicolon_avoids K) fresh in
-        then_kept a (same_counts (kept_ready c a.counts a.kept) (take_mark mark.Semicolon b (let k : IsBetweenParts c a.counts = a.kept in k.room) tt));
+        then_kept a (same_counts (kept_ready a.kept) (take_mark mark.Semicolon b (let k : IsBetweenParts c a.counts = a.kept in k.room) tt));
   }
 
   -- behind the keyword
-  kept_list : (c d : Counts) → IsBetweenParts (begin_list limit c) d → IsBetweenParts c d
-  kept_list c d k = record { closed = k.closed; room = k.room; rules = k.rules; patterns = k.patterns; events = k.events }
-
   behind : {L M N : GrammarPart} {tokens mid rest : List Token} {text more : List Kind} {x y : List Offsets} (c : Counts) → ReadsPart L c tokens mid M (begin_list limit c) text x → ReadsKept M (begin_list limit c) mid rest N more y → ReadsKept L c tokens rest N (text ++ more) (x ++ y)
-  behind c a b = record { counts = b.counts; kept = kept_list c b.counts b.kept; reads = then a b.reads }
+  behind c a b = record { counts = b.counts; kept = kept_begun limit c b.counts b.kept; reads = then a b.reads }
 
   led_some : {B : Type 0} (fixed : Mark → B) (m : Mark) (item : A → List B) (items : List A) → 1 ≤ length items → fixed m ∷ listed fixed item items ≡ led fixed m item items
   led_some fixed m item [] some = absurd (omega arith)

@@ -2,16 +2,16 @@
 pub use Rattle.std.proofs.Common.{Bool, List, MatchOption, None, Option, Some, [], ap, append_assoc, ap₂, arith, bytes_eq, cond, drop, eqb-true, false, false-eqb, inl, inr, length, length-append, lit<, map, refl, rules, subst, suc, sym, take, take-append-drop, tests, true, zero, ℕ, ⊎_elim, ◌++◌, ◌+◌, ◌-◌, ◌<◌, ◌^◌, ◌∙◌, ◌∷◌, ◌≡◌, ◌≤◌}
 pub use Rattle.std.proofs.Math.ListN.{drop_of_length-le}
 pub use Rattle.std.proofs.lemmas.Bool.Decides.{nat_tests}
-pub use Rattle.std.proofs.lemmas.List.{append-nil, drop_more, nil_from_length}
+pub use Rattle.std.proofs.lemmas.List.{append-nil, append_cancel_left, drop_more, nil_from_length}
 pub use Rattle.std.proofs.lemmas.List.Sums.{prefix_len-le-length}
-pub use Rattle.std.proofs.lemmas.Result.{err_from_is_err_and}
+pub use Rattle.std.proofs.result.Match.{err_is}
 pub use Rattle.std.specs.Char.{is_ascii_digit}
 pub use Rattle.std.specs.List.{AllByRecursion, find, prefix_len}
 pub use Rattle.std.specs.Prelude.{IfSome, IsTrue, codes, ◌&&◌, ◌==◌, ◌⊎◌}
 pub use Rattle.std.specs.String.{string_bytes}
 pub use Rattle.ta_base.proofs.DecimalDigits.{digits_ascii, letter_no_digit}
-pub use Rattle.ta_base.proofs.Each.{all_both, all_front, all_map}
-pub use Rattle.ta_base.proofs.Lists.{after_same, begins_word, front_is, left_nested, length_of_map, regroup, short_map, tails, unlike}
+pub use Rattle.ta_base.proofs.Each.{all_both, all_front, each_map_all}
+pub use Rattle.ta_base.proofs.Lists.{begins_word, front_is, left_nested, length_of_map, regroup, short_map, tails, unlike}
 pub use Rattle.ta_base.proofs.Options.{if_ok_then}
 pub use Rattle.ta_base.specs.Bytes.{Avoids, BeginsByLetter, is_letter, is_word}
 pub use Rattle.ta_syntax.specs.AnswerLaws.{Either, HasGrammarFault, HasTree, StopsReading}

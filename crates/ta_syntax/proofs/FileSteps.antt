@@ -1,11 +1,12 @@
 -- Reading the parts of a file.
-use Rattle.ta_syntax.proofs.Common.{◌≡◌, ℕ, List, [], ◌∷◌, ◌++◌, lit<, map, refl, sym, ap, subst, ◌∙◌, arith, append-nil, left_nested, regroup, listed, further, led, ended, each, sum_kinds, file_kinds, rule_kinds, event_kinds, pattern_kinds, name_kinds, location_kinds, comparison_kinds, update_kinds, plain_sum, plain_name, plain_location, plain_comparison, plain_update, plain_rule, plain_event, plain_pattern, Offsets, unplaced, at_first, sum_stated, name_stated, location_stated, comparison_stated, rule_stated, pattern_stated, IsPlaced, Counts, at_start, begin_list, GrammarPart, Text, nothing, a_mark, a_name, a_sum, both, many, list_part, comparison_part, location_part, rule_part, pattern_part, file_part, kinds, SameStart, IsStopped, IsWrong, offset_of, ReadsPart, NeverBegins, BeginsWithKind, IsUnexpected, MayOpen, is_operator, TookSum, SumStops, IsReady, IsFresh, AvoidsMark, IsBetweenParts, ReadsKept, TookNameThen, NameThenStops, TookEnd, EndStops, declared_part, TookDeclared, DeclaredStops, KeptOthers, with_mark, TookBlocks, BlocksStop, spell_name, spell_comparison, spell_update, spell_location, rule_body, rule_body_stated, event_body, pattern_body, pattern_body_stated, locations_part, TookLocations, LocationsStop, processes_part, TookProcesses, ProcessesStop, Kind, Mark, Spelled, Token, FileFault, TreeSum, TreeLocation, TreeComparison, TreeRule, TreeEvent, TreePattern}
+use Rattle.ta_syntax.proofs.Common.{◌≡◌, ℕ, List, [], ◌∷◌, ◌++◌, lit<, map, refl, sym, ap, subst, ◌∙◌, arith, append-nil, left_nested, regroup, listed, each, sum_kinds, file_kinds, rule_kinds, event_kinds, pattern_kinds, name_kinds, location_kinds, comparison_kinds, update_kinds, plain_sum, plain_name, plain_location, plain_comparison, plain_update, plain_rule, plain_event, plain_pattern, Offsets, unplaced, at_first, sum_stated, name_stated, location_stated, comparison_stated, rule_stated, pattern_stated, IsPlaced, Counts, at_start, begin_list, GrammarPart, Text, nothing, a_mark, a_name, a_sum, both, many, list_part, comparison_part, location_part, rule_part, pattern_part, file_part, kinds, SameStart, IsStopped, IsWrong, offset_of, ReadsPart, NeverBegins, BeginsWithKind, IsUnexpected, MayOpen, is_operator, TookSum, SumStops, IsReady, IsFresh, AvoidsMark, ReadsKept, TookNameThen, NameThenStops, TookEnd, EndStops, declared_part, TookDeclared, DeclaredStops, KeptOthers, with_mark, TookBlocks, BlocksStop, spell_name, spell_comparison, spell_location, rule_body, rule_body_stated, event_body, pattern_body, pattern_body_stated, locations_part, TookLocations, LocationsStop, processes_part, TookProcesses, ProcessesStop, Kind, Mark, Spelled, Token, FileFault, TreeSum, TreeLocation, TreeComparison, TreeRule, TreeEvent, TreePattern}
 use Rattle.ta_syntax.specs.declared.tokens.Kind.TheVariants as kind
 use Rattle.ta_syntax.specs.declared.tokens.Mark.TheVariants as mark
 use Rattle.ta_syntax.specs.declared.fault.FileFault.TheVariants as fault
 use Rattle.ta_syntax.proofs.Steps.{then, also_at, stops, take_mark, take_mark_at, mark_stops, opened, wrong_here}
 use Rattle.ta_syntax.proofs.ListSteps.{mark_avoids, many_avoids_mark}
-use Rattle.ta_syntax.proofs.ClauseSteps.{kept_ready, same_counts, then_kept, name_then}
+use Rattle.ta_syntax.proofs.PrintSteps.{listed-map, led-map, ended-map, each-map}
+use Rattle.ta_syntax.proofs.ClauseSteps.{kept_ready, kept_begun, same_counts, then_kept, name_then}
 
 -- ---- locations
 abbrev listing : Counts → Counts
@@ -30,8 +31,7 @@ module _ (end at : ℕ) (tokens rest : List Token) (b : BeginsWithKind tokens (k
     few = took.few;
     reads = λ K c r.
         let t = took.reads K (listing c) (fresh_locations c r) in
-        let k : IsBetweenParts (listing c) t.counts = t.kept in
-        record { counts = t.counts; kept = record { closed = k.closed; room = k.room; rules = k.rules; patterns = k.patterns; events = k.events }; reads = then (locations_begun K c r) t.reads };
+        record { counts = t.counts; kept = kept_begun 32 c t.counts t.kept; reads = then (locations_begun K c r) t.reads };
   }
 
 -- ---- processes
@@ -65,43 +65,18 @@ module _ (end : ℕ) (tokens r1 : List Token) (b : BeginsWithKind tokens (kind.F
       reads = λ K c r. same_counts r (then (processes_begun K c r) (then (also_at end at at_is (summed K c r)) (take_mark mark.Semicolon b3 r.room tt)));
     }
 
--- ---- the tokens of lists without offsets
-further_map : {A B C : Type 0} (fixed : Mark → C) (f : B → List C) (g : A → B) (xs : List A) → further fixed (λ x. f (g x)) xs ≡ further fixed f (map g xs)
-further_map fixed f g [] = refl
-further_map fixed f g (x ∷ xs) = ap (λ z. fixed mark.Comma ∷ (f (g x) ++ z)) (further_map fixed f g xs)
-
-pub listed_map : {A B C : Type 0} (fixed : Mark → C) (f : B → List C) (g : A → B) (xs : List A) → listed fixed (λ x. f (g x)) xs ≡ listed fixed f (map g xs)
-listed_map fixed f g [] = refl
-listed_map fixed f g (x ∷ xs) = ap (λ z. f (g x) ++ z) (further_map fixed f g xs)
-
-led_map : {A B C : Type 0} (fixed : Mark → C) (m : Mark) (f : B → List C) (g : A → B) (xs : List A) → led fixed m (λ x. f (g x)) xs ≡ led fixed m f (map g xs)
-led_map fixed m f g [] = refl
-led_map fixed m f g (x ∷ xs) = ap (λ z. fixed m ∷ z) (listed_map fixed f g (x ∷ xs))
-
-ended_map : {A B C : Type 0} (fixed : Mark → C) (m : Mark) (f : B → List C) (g : A → B) (xs : List A) → ended fixed m (λ x. f (g x)) xs ≡ ended fixed m f (map g xs)
-ended_map fixed m f g [] = refl
-ended_map fixed m f g (x ∷ xs) = ap (λ z. fixed m ∷ (z ++ fixed mark.Semicolon ∷ [])) (listed_map fixed f g (x ∷ xs))
-
--- items that are spelled alike
-each_map : {A B C : Type 0} (h : A → List C) (f : B → List C) (g : A → B) → ((x : A) → h x ≡ f (g x)) → (xs : List A) → each h xs ≡ each f (map g xs)
-each_map h f g same [] = refl
-each_map h f g same (x ∷ xs) = ap (λ z. z ++ each h xs) (same x) ∙ ap (λ z. f (g x) ++ z) (each_map h f g same xs)
-
+-- ---- the tokens of blocks without offsets
 pub rule_spelled : (r : TreeRule) → with_mark (kind.Fixed mark.Rule) rule_body r ≡ rule_kinds (plain_rule r)
 rule_spelled r =
-    ap (λ (z : List Kind). kind.Fixed mark.Rule ∷ kind.Name r.name.name ∷ kind.Fixed mark.Colon ∷ kind.Name r.from.name ∷ kind.Fixed mark.Arrow ∷ kind.Name r.to.name ∷ (z ++ (led kind.Fixed mark.Do spell_update r.updates ++ kind.Fixed mark.Semicolon ∷ []))) (led_map kind.Fixed mark.When comparison_kinds plain_comparison r.guards)
-    ∙ ap (λ (z : List Kind). kind.Fixed mark.Rule ∷ kind.Name r.name.name ∷ kind.Fixed mark.Colon ∷ kind.Name r.from.name ∷ kind.Fixed mark.Arrow ∷ kind.Name r.to.name ∷ (led kind.Fixed mark.When comparison_kinds (map plain_comparison r.guards) ++ (z ++ kind.Fixed mark.Semicolon ∷ []))) (led_map kind.Fixed mark.Do update_kinds plain_update r.updates)
+    λ i. kind.Fixed mark.Rule ∷ kind.Name r.name.name ∷ kind.Fixed mark.Colon ∷ kind.Name r.from.name ∷ kind.Fixed mark.Arrow ∷ kind.Name r.to.name ∷ (led-map plain_comparison comparison_kinds kind.Fixed mark.When r.guards i ++ (led-map plain_update update_kinds kind.Fixed mark.Do r.updates i ++ kind.Fixed mark.Semicolon ∷ []))
 
 event_spelled : (e : TreeEvent) → with_mark (kind.Fixed mark.Event) event_body e ≡ event_kinds (plain_event e)
 event_spelled e =
-    ap (λ (z : List Kind). kind.Fixed mark.Event ∷ kind.Name e.name.name ∷ (z ++ kind.Fixed mark.Colon ∷ (listed kind.Fixed spell_comparison e.condition ++ kind.Fixed mark.Semicolon ∷ []))) (led_map kind.Fixed mark.After name_kinds plain_name e.after)
-    ∙ ap (λ (z : List Kind). kind.Fixed mark.Event ∷ kind.Name e.name.name ∷ (led kind.Fixed mark.After name_kinds (map plain_name e.after) ++ kind.Fixed mark.Colon ∷ (z ++ kind.Fixed mark.Semicolon ∷ []))) (listed_map kind.Fixed comparison_kinds plain_comparison e.condition)
+    λ i. kind.Fixed mark.Event ∷ kind.Name e.name.name ∷ (led-map plain_name name_kinds kind.Fixed mark.After e.after i ++ kind.Fixed mark.Colon ∷ (listed-map plain_comparison comparison_kinds kind.Fixed e.condition i ++ kind.Fixed mark.Semicolon ∷ []))
 
 pub pattern_spelled : (p : TreePattern) → with_mark (kind.Fixed mark.Pattern) pattern_body p ≡ pattern_kinds (plain_pattern p)
 pattern_spelled p =
-    ap (λ (z : List Kind). kind.Fixed mark.Pattern ∷ kind.Name p.name.name ∷ kind.Fixed mark.OpenBrace ∷ (z ++ (ended kind.Fixed mark.Empty spell_name p.empty ++ (each (with_mark (kind.Fixed mark.Event) event_body) p.events ++ kind.Fixed mark.CloseBrace ∷ [])))) (ended_map kind.Fixed mark.Start comparison_kinds plain_comparison p.start)
-    ∙ ap (λ (z : List Kind). kind.Fixed mark.Pattern ∷ kind.Name p.name.name ∷ kind.Fixed mark.OpenBrace ∷ (ended kind.Fixed mark.Start comparison_kinds (map plain_comparison p.start) ++ (z ++ (each (with_mark (kind.Fixed mark.Event) event_body) p.events ++ kind.Fixed mark.CloseBrace ∷ [])))) (ended_map kind.Fixed mark.Empty name_kinds plain_name p.empty)
-    ∙ ap (λ (z : List Kind). kind.Fixed mark.Pattern ∷ kind.Name p.name.name ∷ kind.Fixed mark.OpenBrace ∷ (ended kind.Fixed mark.Start comparison_kinds (map plain_comparison p.start) ++ (ended kind.Fixed mark.Empty name_kinds (map plain_name p.empty) ++ (z ++ kind.Fixed mark.CloseBrace ∷ [])))) (each_map (with_mark (kind.Fixed mark.Event) event_body) event_kinds plain_event event_spelled p.events)
+    λ i. kind.Fixed mark.Pattern ∷ kind.Name p.name.name ∷ kind.Fixed mark.OpenBrace ∷ (ended-map plain_comparison comparison_kinds kind.Fixed mark.Start p.start i ++ (ended-map plain_name name_kinds kind.Fixed mark.Empty p.empty i ++ (each-map (with_mark (kind.Fixed mark.Event) event_body) plain_event event_kinds event_spelled p.events i ++ kind.Fixed mark.CloseBrace ∷ [])))
 
 -- ---- a file
 abbrev patterns_rest : GrammarPart
@@ -147,9 +122,6 @@ WholeStops end tokens e = IsStopped (Text whole_file) at_start end tokens e
 abbrev So : List Token → List Token → GrammarPart → List Kind → List Offsets → Type 0
 So tokens rest M text x = ReadsKept whole_file at_start tokens rest M text x
 
-so_ready : {tokens rest : List Token} {M : GrammarPart} {text : List Kind} {x : List Offsets} (a : So tokens rest M text x) → IsReady a.counts
-so_ready a = kept_ready at_start a.counts a.kept
-
 so_stops : {tokens rest : List Token} {M : GrammarPart} {text : List Kind} {x : List Offsets} (end : ℕ) (a : So tokens rest M text x) (e : FileFault) → IsStopped (Text M) a.counts end rest e → WholeStops end tokens e
 so_stops end a e h = stops end a.reads e h
 
@@ -176,7 +148,7 @@ tail_kinds p s l n c r q =
 plain_lists : (parameters shared : List Spelled) (locations : List TreeLocation) (processes : TreeSum) (resilience : List TreeComparison) (rules : List TreeRule) (patterns : List TreePattern)
     → tail_kinds (listed kind.Fixed spell_name parameters) (listed kind.Fixed spell_name shared) (listed kind.Fixed spell_location locations) (sum_kinds (plain_sum processes)) (listed kind.Fixed spell_comparison resilience) (each (with_mark (kind.Fixed mark.Rule) rule_body) rules) (each (with_mark (kind.Fixed mark.Pattern) pattern_body) patterns)
     ≡ tail_kinds (listed kind.Fixed name_kinds (map plain_name parameters)) (listed kind.Fixed name_kinds (map plain_name shared)) (listed kind.Fixed location_kinds (map plain_location locations)) (sum_kinds (plain_sum processes)) (listed kind.Fixed comparison_kinds (map plain_comparison resilience)) (each rule_kinds (map plain_rule rules)) (each pattern_kinds (map plain_pattern patterns))
-plain_lists parameters shared locations processes resilience rules patterns = same _ _ _ _ _ _ _ _ _ _ _ _ _ (listed_map kind.Fixed name_kinds plain_name parameters) (listed_map kind.Fixed name_kinds plain_name shared) (listed_map kind.Fixed location_kinds plain_location locations) (listed_map kind.Fixed comparison_kinds plain_comparison resilience) (each_map (with_mark (kind.Fixed mark.Rule) rule_body) rule_kinds plain_rule rule_spelled rules) (each_map (with_mark (kind.Fixed mark.Pattern) pattern_body) pattern_kinds plain_pattern pattern_spelled patterns)
+plain_lists parameters shared locations processes resilience rules patterns = same _ _ _ _ _ _ _ _ _ _ _ _ _ (listed-map plain_name name_kinds kind.Fixed parameters) (listed-map plain_name name_kinds kind.Fixed shared) (listed-map plain_location location_kinds kind.Fixed locations) (listed-map plain_comparison comparison_kinds kind.Fixed resilience) (each-map (with_mark (kind.Fixed mark.Rule) rule_body) plain_rule rule_kinds rule_spelled rules) (each-map (with_mark (kind.Fixed mark.Pattern) pattern_body) plain_pattern pattern_kinds pattern_spelled patterns)
   where
     same : (p p' s s' l l' n c c' r r' q q' : List Kind) → p ≡ p' → s ≡ s' → l ≡ l' → c ≡ c' → r ≡ r' → q ≡ q' → tail_kinds p s l n c r q ≡ tail_kinds p' s' l' n c' r' q'
     same p p' s s' l l' n c c' r r' q q' e1 e2 e3 e4 e5 e6 = cc
@@ -196,24 +168,24 @@ module _ (end : ℕ) (tokens r1 : List Token) (b1 : BeginsWithKind tokens (kind.
     head_x = [] ∷ (name.at ∷ []) ∷ [] ∷ []
 
     so2 : So tokens r2 parameters_rest head head_x
-    so2 = then_kept begun (same_counts (so_ready begun) (name_then mark.Semicolon end r1 r2 name begun.counts b2 begun.kept.room tt))
+    so2 = then_kept begun (same_counts (kept_ready begun.kept) (name_then mark.Semicolon end r1 r2 name begun.counts b2 begun.kept.room tt))
 
     pub file_parameters_stop : (e : FileFault) → DeclaredStops mark.Parameters a_name end r2 e → WholeStops end tokens e
-    file_parameters_stop e h = so_stops end so2 e (h shared_rest so2.counts (so_ready so2))
+    file_parameters_stop e h = so_stops end so2 e (h shared_rest so2.counts (kept_ready so2.kept))
 
     module _ (r3 : List Token) (parameters : List Spelled) (b3 : TookDeclared mark.Parameters a_name spell_name name_stated 16 parameters r2 r3) where
       so3 : So tokens r3 shared_rest (head ++ clause mark.Parameters spell_name parameters) (head_x ++ clause_stated [] name_stated parameters)
-      so3 = then_kept so2 (b3.reads shared_rest so2.counts (so_ready so2))
+      so3 = then_kept so2 (b3.reads shared_rest so2.counts (kept_ready so2.kept))
 
       pub file_shared_stop : (e : FileFault) → DeclaredStops mark.Shared a_name end r3 e → WholeStops end tokens e
-      file_shared_stop e h = so_stops end so3 e (h locations_rest so3.counts (so_ready so3))
+      file_shared_stop e h = so_stops end so3 e (h locations_rest so3.counts (kept_ready so3.kept))
 
       module _ (r4 : List Token) (shared : List Spelled) (b4 : TookDeclared mark.Shared a_name spell_name name_stated 16 shared r3 r4) where
         so4 : So tokens r4 locations_rest ((head ++ clause mark.Parameters spell_name parameters) ++ clause mark.Shared spell_name shared) ((head_x ++ clause_stated [] name_stated parameters) ++ clause_stated [] name_stated shared)
-        so4 = then_kept so3 (b4.reads locations_rest so3.counts (so_ready so3))
+        so4 = then_kept so3 (b4.reads locations_rest so3.counts (kept_ready so3.kept))
 
         pub file_locations_stop : (e : FileFault) → LocationsStop end r4 e → WholeStops end tokens e
-        file_locations_stop e h = so_stops end so4 e (h processes_rest so4.counts (so_ready so4))
+        file_locations_stop e h = so_stops end so4 e (h processes_rest so4.counts (kept_ready so4.kept))
 
         module _ (r5 : List Token) (locations_at : ℕ) (locations : List TreeLocation) (b5 : TookLocations locations_at locations r4 r5) where
           abbrev head5 : List Kind
@@ -223,10 +195,10 @@ module _ (end : ℕ) (tokens r1 : List Token) (b1 : BeginsWithKind tokens (kind.
           head5_x = ((head_x ++ clause_stated [] name_stated parameters) ++ clause_stated [] name_stated shared) ++ clause_stated (locations_at ∷ []) location_stated locations
 
           so5 : So tokens r5 processes_rest head5 head5_x
-          so5 = then_kept so4 (b5.reads processes_rest so4.counts (so_ready so4))
+          so5 = then_kept so4 (b5.reads processes_rest so4.counts (kept_ready so4.kept))
 
           pub file_processes_stop : (e : FileFault) → ProcessesStop end r5 e → WholeStops end tokens e
-          file_processes_stop e h = so_stops end so5 e (h resilience_rest so5.counts (so_ready so5))
+          file_processes_stop e h = so_stops end so5 e (h resilience_rest so5.counts (kept_ready so5.kept))
 
           module _ (r6 : List Token) (processes_at : ℕ) (processes : TreeSum) (b6 : TookProcesses processes_at processes r5 r6) where
             abbrev head6 : List Kind
@@ -236,21 +208,21 @@ module _ (end : ℕ) (tokens r1 : List Token) (b1 : BeginsWithKind tokens (kind.
             head6_x = head5_x ++ ([] ∷ (at_first processes_at (sum_stated processes) ++ [] ∷ []))
 
             so6 : So tokens r6 resilience_rest head6 head6_x
-            so6 = then_kept so5 (b6.reads resilience_rest so5.counts (so_ready so5))
+            so6 = then_kept so5 (b6.reads resilience_rest so5.counts (kept_ready so5.kept))
 
             pub file_resilience_stop : (e : FileFault) → DeclaredStops mark.Resilience comparison_part end r6 e → WholeStops end tokens e
-            file_resilience_stop e h = so_stops end so6 e (h rules_rest so6.counts (so_ready so6))
+            file_resilience_stop e h = so_stops end so6 e (h rules_rest so6.counts (kept_ready so6.kept))
 
             module _ (r7 : List Token) (resilience : List TreeComparison) (b7 : TookDeclared mark.Resilience comparison_part spell_comparison comparison_stated 16 resilience r6 r7) where
               so7 : So tokens r7 rules_rest (head6 ++ clause mark.Resilience spell_comparison resilience) (head6_x ++ clause_stated [] comparison_stated resilience)
-              so7 = then_kept so6 (b7.reads rules_rest so6.counts (so_ready so6))
+              so7 = then_kept so6 (b7.reads rules_rest so6.counts (kept_ready so6.kept))
 
               pub file_rules_stop : (e : FileFault) → BlocksStop mark.Rule rule_part end r7 e → WholeStops end tokens e
-              file_rules_stop e h = so_stops end so7 e (h patterns_rest so7.counts no_rule (so_ready so7) so7.kept.rules)
+              file_rules_stop e h = so_stops end so7 e (h patterns_rest so7.counts no_rule (kept_ready so7.kept) so7.kept.rules)
 
               module _ (r8 : List Token) (rules : List TreeRule) (b8 : TookBlocks mark.Rule rule_part rule_body rule_body_stated 128 rules r7 r8) where
                 step8 : (d : Counts) × KeptOthers mark.Rule so7.counts d × ReadsPart rules_rest so7.counts r7 r8 patterns_rest d (each (with_mark (kind.Fixed mark.Rule) rule_body) rules) (each (with_mark [] rule_body_stated) rules)
-                step8 = b8.reads patterns_rest so7.counts no_rule (so_ready so7) so7.kept.rules
+                step8 = b8.reads patterns_rest so7.counts no_rule (kept_ready so7.kept) so7.kept.rules
 
                 so8 : ReadsPart whole_file at_start tokens r8 patterns_rest step8.0 ((head6 ++ clause mark.Resilience spell_comparison resilience) ++ each (with_mark (kind.Fixed mark.Rule) rule_body) rules) ((head6_x ++ clause_stated [] comparison_stated resilience) ++ each (with_mark [] rule_body_stated) rules)
                 so8 = then so7.reads step8.2

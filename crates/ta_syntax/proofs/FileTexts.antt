@@ -243,22 +243,23 @@ upto_first p q l ks t u = (l ++ kind.Fixed mark.Semicolon ∷ [], ks, t, u, sym 
 upto_after : (ks a b l c : List Kind) → ks ≡ a ++ b → a ≡ l ++ kind.Fixed mark.Semicolon ∷ [] → b ≡ c → ks ≡ l ++ kind.Fixed mark.Semicolon ∷ c
 upto_after ks a b l c e f g = piece ks a b (l ++ kind.Fixed mark.Semicolon ∷ []) c e f g ∙ append_assoc l (kind.Fixed mark.Semicolon ∷ []) c
 
-abbrev blocks_kinds : PlainTree → List Kind
+-- the tokens from each keyword on
+abbrev pub blocks_kinds : PlainTree → List Kind
 blocks_kinds t = each rule_kinds t.rules ++ each pattern_kinds t.patterns
 
-abbrev resilience_kinds : PlainTree → List Kind
+abbrev pub resilience_kinds : PlainTree → List Kind
 resilience_kinds t = kind.Fixed mark.Resilience ∷ (listed kind.Fixed comparison_kinds t.resilience ++ kind.Fixed mark.Semicolon ∷ blocks_kinds t)
 
-abbrev processes_kinds : PlainTree → List Kind
+abbrev pub processes_kinds : PlainTree → List Kind
 processes_kinds t = kind.Fixed mark.Processes ∷ (sum_kinds t.processes ++ kind.Fixed mark.Semicolon ∷ resilience_kinds t)
 
-abbrev locations_kinds : PlainTree → List Kind
+abbrev pub locations_kinds : PlainTree → List Kind
 locations_kinds t = kind.Fixed mark.Locations ∷ (listed kind.Fixed location_kinds t.locations ++ kind.Fixed mark.Semicolon ∷ processes_kinds t)
 
-abbrev shared_kinds : PlainTree → List Kind
+abbrev pub shared_kinds : PlainTree → List Kind
 shared_kinds t = kind.Fixed mark.Shared ∷ (listed kind.Fixed name_kinds t.shared ++ kind.Fixed mark.Semicolon ∷ locations_kinds t)
 
-abbrev parameters_kinds : PlainTree → List Kind
+abbrev pub parameters_kinds : PlainTree → List Kind
 parameters_kinds t = kind.Fixed mark.Parameters ∷ (listed kind.Fixed name_kinds t.parameters ++ kind.Fixed mark.Semicolon ∷ shared_kinds t)
 
 abbrev resilience_rest : GrammarPart

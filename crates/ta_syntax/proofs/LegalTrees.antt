@@ -1,5 +1,5 @@
 -- What the type of a tree keeps, in the words of the grammar and of the limits.
-use Rattle.ta_syntax.proofs.Common.{ℕ, ◌≤◌, List, [], ◌∷◌, length, map, arith, all_map, short_map, IsNameText, IsSome, IsComparison, IsUpdate, IsRule, IsEvent, IsPattern, IsTree, plain_name, plain_comparison, plain_location, plain_update, plain_rule, plain_event, plain_pattern, plain_tree, at_start, IsShallow, IsRuleWithin, IsEventWithin, IsPatternWithin, IsTreeWithin, AreTokens, ScanStops, FileText, IsStopped, FirstGrammarFault, IsSpelled, IsTreeOf, Spelled, TreeComparison, TreeUpdate, TreeRule, TreeEvent, TreePattern, Tree, Token, FileFault}
+use Rattle.ta_syntax.proofs.Common.{ℕ, ◌≤◌, List, [], ◌∷◌, length, map, arith, short_map, IsNameText, IsSome, IsComparison, IsUpdate, IsRule, IsEvent, IsPattern, IsTree, plain_name, plain_comparison, plain_location, plain_update, plain_rule, plain_event, plain_pattern, plain_tree, at_start, IsShallow, IsRuleWithin, IsEventWithin, IsPatternWithin, IsTreeWithin, AreTokens, ScanStops, FileText, IsStopped, FirstGrammarFault, IsSpelled, IsTreeOf, Spelled, TreeComparison, TreeUpdate, TreeRule, TreeEvent, TreePattern, Tree, Token, FileFault, each_map_all}
 use Rattle.ta_syntax.specs.declared.fault.FileFault.TheVariants as fault
 
 some_map : {A B : Type 0} (g : A → B) (xs : List A) → 1 ≤ length xs → IsSome (map g xs)
@@ -19,34 +19,34 @@ update_legal : (u : TreeUpdate) → IsUpdate (plain_update u)
 update_legal u = record { name = u.name.legal; amount = u.amount.legal }
 
 rule_legal : (r : TreeRule) → IsRule (plain_rule r)
-rule_legal r = record { name = r.name.legal; from = r.from.legal; to = r.to.legal; guards = all_map IsComparison plain_comparison comparison_legal r.guards; updates = all_map IsUpdate plain_update update_legal r.updates }
+rule_legal r = record { name = r.name.legal; from = r.from.legal; to = r.to.legal; guards = each_map_all IsComparison plain_comparison r.guards comparison_legal; updates = each_map_all IsUpdate plain_update r.updates update_legal }
 
 rule_within : (r : TreeRule) → IsRuleWithin (plain_rule r)
-rule_within r = record { guards = short_map plain_comparison r.guards 16 r.few_guards; shallow = all_map IsShallow plain_comparison comparison_shallow r.guards; updates = short_map plain_update r.updates 16 r.few_updates }
+rule_within r = record { guards = short_map plain_comparison r.guards 16 r.few_guards; shallow = each_map_all IsShallow plain_comparison r.guards comparison_shallow; updates = short_map plain_update r.updates 16 r.few_updates }
 
 event_legal : (e : TreeEvent) → IsEvent (plain_event e)
-event_legal e = record { name = e.name.legal; after = all_map IsNameText plain_name name_legal e.after; some = some_map plain_comparison e.condition e.some; condition = all_map IsComparison plain_comparison comparison_legal e.condition }
+event_legal e = record { name = e.name.legal; after = each_map_all IsNameText plain_name e.after name_legal; some = some_map plain_comparison e.condition e.some; condition = each_map_all IsComparison plain_comparison e.condition comparison_legal }
 
 event_within : (e : TreeEvent) → IsEventWithin (plain_event e)
-event_within e = record { after = short_map plain_name e.after 8 e.few_after; condition = short_map plain_comparison e.condition 16 e.few; shallow = all_map IsShallow plain_comparison comparison_shallow e.condition }
+event_within e = record { after = short_map plain_name e.after 8 e.few_after; condition = short_map plain_comparison e.condition 16 e.few; shallow = each_map_all IsShallow plain_comparison e.condition comparison_shallow }
 
 pattern_legal : (p : TreePattern) → IsPattern (plain_pattern p)
-pattern_legal p = record { name = p.name.legal; start = all_map IsComparison plain_comparison comparison_legal p.start; empty = all_map IsNameText plain_name name_legal p.empty; events = all_map IsEvent plain_event event_legal p.events }
+pattern_legal p = record { name = p.name.legal; start = each_map_all IsComparison plain_comparison p.start comparison_legal; empty = each_map_all IsNameText plain_name p.empty name_legal; events = each_map_all IsEvent plain_event p.events event_legal }
 
 pattern_within : (p : TreePattern) → IsPatternWithin (plain_pattern p)
-pattern_within p = record { start = short_map plain_comparison p.start 16 p.few_start; shallow = all_map IsShallow plain_comparison comparison_shallow p.start; empty = short_map plain_name p.empty 32 p.few_empty; events = short_map plain_event p.events 8 p.few_events; each_event = all_map IsEventWithin plain_event event_within p.events }
+pattern_within p = record { start = short_map plain_comparison p.start 16 p.few_start; shallow = each_map_all IsShallow plain_comparison p.start comparison_shallow; empty = short_map plain_name p.empty 32 p.few_empty; events = short_map plain_event p.events 8 p.few_events; each_event = each_map_all IsEventWithin plain_event p.events event_within }
 
 pub tree_legal : (t : Tree) → IsTree (plain_tree t)
 tree_legal t = record {
   name = t.name.legal;
-  parameters = all_map IsNameText plain_name name_legal t.parameters;
-  shared = all_map IsNameText plain_name name_legal t.shared;
+  parameters = each_map_all IsNameText plain_name t.parameters name_legal;
+  shared = each_map_all IsNameText plain_name t.shared name_legal;
   some = some_map plain_location t.locations t.some_locations;
-  locations = all_map (λ l. IsNameText l.name) plain_location (λ l. l.name.legal) t.locations;
+  locations = each_map_all (λ l. IsNameText l.name) plain_location t.locations (λ l. l.name.legal);
   processes = t.is_processes;
-  resilience = all_map IsComparison plain_comparison comparison_legal t.resilience;
-  rules = all_map IsRule plain_rule rule_legal t.rules;
-  patterns = all_map IsPattern plain_pattern pattern_legal t.patterns;
+  resilience = each_map_all IsComparison plain_comparison t.resilience comparison_legal;
+  rules = each_map_all IsRule plain_rule t.rules rule_legal;
+  patterns = each_map_all IsPattern plain_pattern t.patterns pattern_legal;
 }
 
 pub tree_within : (t : Tree) → IsTreeWithin (plain_tree t)
@@ -56,11 +56,11 @@ tree_within t = record {
   locations = short_map plain_location t.locations 32 t.few_locations;
   processes = t.shallow_processes;
   resilience = short_map plain_comparison t.resilience 16 t.few_resilience;
-  shallow = all_map IsShallow plain_comparison comparison_shallow t.resilience;
+  shallow = each_map_all IsShallow plain_comparison t.resilience comparison_shallow;
   rules = short_map plain_rule t.rules 128 t.few_rules;
-  each_rule = all_map IsRuleWithin plain_rule rule_within t.rules;
+  each_rule = each_map_all IsRuleWithin plain_rule t.rules rule_within;
   patterns = short_map plain_pattern t.patterns 16 t.few_patterns;
-  each_pattern = all_map IsPatternWithin plain_pattern pattern_within t.patterns;
+  each_pattern = each_map_all IsPatternWithin plain_pattern t.patterns pattern_within;
 }
 
 -- ---- reading bytes

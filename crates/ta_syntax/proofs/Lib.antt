@@ -24,7 +24,7 @@ mod UniqueTrees
 mod TextTokens
 mod FirstTokens
 mod TreeLimits
-mod BuiltSums
+pub mod BuiltSums
 mod BuiltTrees
 pub mod TextTrees
 mod Common

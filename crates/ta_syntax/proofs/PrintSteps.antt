@@ -41,25 +41,26 @@ signed_all ((sign.Plus, t) ∷ ts) = ap (λ (x : List Kind). term_kinds (plain_t
 signed_all ((sign.Minus, t) ∷ ts) = ap (λ (x : List Kind). sign_before zero sign.Minus ++ (term_kinds (plain_term t) ++ x)) (signed_more zero ts)
 
 -- Lists of parts whose items are seen without offsets.
-further-map : {A B : Type 0} (f : A → B) (item : B → List Kind) (fixed : Mark → Kind) (xs : List A) → further fixed (λ x. item (f x)) xs ≡ further fixed item (map f xs)
+further-map : {A B C : Type 0} (f : A → B) (item : B → List C) (fixed : Mark → C) (xs : List A) → further fixed (λ x. item (f x)) xs ≡ further fixed item (map f xs)
 further-map f item fixed [] = refl
-further-map f item fixed (x ∷ xs) = ap (λ (ks : List Kind). fixed mark.Comma ∷ (item (f x) ++ ks)) (further-map f item fixed xs)
+further-map f item fixed (x ∷ xs) = ap (λ ks. fixed mark.Comma ∷ (item (f x) ++ ks)) (further-map f item fixed xs)
 
-pub listed-map : {A B : Type 0} (f : A → B) (item : B → List Kind) (fixed : Mark → Kind) (xs : List A) → listed fixed (λ x. item (f x)) xs ≡ listed fixed item (map f xs)
+pub listed-map : {A B C : Type 0} (f : A → B) (item : B → List C) (fixed : Mark → C) (xs : List A) → listed fixed (λ x. item (f x)) xs ≡ listed fixed item (map f xs)
 listed-map f item fixed [] = refl
-listed-map f item fixed (x ∷ xs) = ap (λ (ks : List Kind). item (f x) ++ ks) (further-map f item fixed xs)
+listed-map f item fixed (x ∷ xs) = ap (λ ks. item (f x) ++ ks) (further-map f item fixed xs)
 
-pub led-map : {A B : Type 0} (f : A → B) (item : B → List Kind) (fixed : Mark → Kind) (m : Mark) (xs : List A) → led fixed m (λ x. item (f x)) xs ≡ led fixed m item (map f xs)
+pub led-map : {A B C : Type 0} (f : A → B) (item : B → List C) (fixed : Mark → C) (m : Mark) (xs : List A) → led fixed m (λ x. item (f x)) xs ≡ led fixed m item (map f xs)
 led-map f item fixed m [] = refl
-led-map f item fixed m (x ∷ xs) = ap (λ (ks : List Kind). fixed m ∷ ks) (listed-map f item fixed (x ∷ xs))
+led-map f item fixed m (x ∷ xs) = ap (λ ks. fixed m ∷ ks) (listed-map f item fixed (x ∷ xs))
 
-pub ended-map : {A B : Type 0} (f : A → B) (item : B → List Kind) (fixed : Mark → Kind) (m : Mark) (xs : List A) → ended fixed m (λ x. item (f x)) xs ≡ ended fixed m item (map f xs)
+pub ended-map : {A B C : Type 0} (f : A → B) (item : B → List C) (fixed : Mark → C) (m : Mark) (xs : List A) → ended fixed m (λ x. item (f x)) xs ≡ ended fixed m item (map f xs)
 ended-map f item fixed m [] = refl
-ended-map f item fixed m (x ∷ xs) = ap (λ (ks : List Kind). fixed m ∷ (ks ++ fixed mark.Semicolon ∷ [])) (listed-map f item fixed (x ∷ xs))
+ended-map f item fixed m (x ∷ xs) = ap (λ ks. fixed m ∷ (ks ++ fixed mark.Semicolon ∷ [])) (listed-map f item fixed (x ∷ xs))
 
-pub each-map : {A B : Type 0} (f : A → B) (item : B → List Kind) (xs : List A) → each (λ x. item (f x)) xs ≡ each item (map f xs)
-each-map f item [] = refl
-each-map f item (x ∷ xs) = ap (λ (ks : List Kind). item (f x) ++ ks) (each-map f item xs)
+-- items that are spelled alike
+pub each-map : {A B C : Type 0} (spell : A → List C) (f : A → B) (item : B → List C) → ((x : A) → spell x ≡ item (f x)) → (xs : List A) → each spell xs ≡ each item (map f xs)
+each-map spell f item same [] = refl
+each-map spell f item same (x ∷ xs) = ap (λ ks. ks ++ each spell xs) (same x) ∙ ap (λ ks. item (f x) ++ ks) (each-map spell f item same xs)
 
 -- the same for what stands in a list of the program
 pub listed_of : {A B : Type 0} (a b : List ℕ) (f : A → B) (item : B → List Kind) (xs ys : List A) → xs ≡ ys → Prints a b (listed kind.Fixed (λ x. item (f x)) xs) → Prints a b (listed kind.Fixed item (map f ys))
@@ -72,7 +73,7 @@ pub ended_of : {A B : Type 0} (a b : List ℕ) (m : Mark) (f : A → B) (item : 
 ended_of {A = A} a b m f item xs ys e p = p ∙ ap (λ (zs : List A). a ++ printed (ended kind.Fixed m (λ x. item (f x)) zs)) e ∙ ap (λ (ks : List Kind). a ++ printed ks) (ended-map f item kind.Fixed m ys)
 
 pub each_of : {A B : Type 0} (a b : List ℕ) (f : A → B) (item : B → List Kind) (xs ys : List A) → xs ≡ ys → Prints a b (each (λ x. item (f x)) xs) → Prints a b (each item (map f ys))
-each_of {A = A} a b f item xs ys e p = p ∙ ap (λ (zs : List A). a ++ printed (each (λ x. item (f x)) zs)) e ∙ ap (λ (ks : List Kind). a ++ printed ks) (each-map f item ys)
+each_of {A = A} a b f item xs ys e p = p ∙ ap (λ (zs : List A). a ++ printed (each (λ x. item (f x)) zs)) e ∙ ap (λ (ks : List Kind). a ++ printed ks) (each-map (λ x. item (f x)) f item (λ x. refl) ys)
 
 pub declared_of : {A B : Type 0} (a b : List ℕ) (m : Mark) (f : A → B) (item : B → List Kind) (xs ys : List A) → xs ≡ ys → Prints a b (kind.Fixed m ∷ (listed kind.Fixed (λ x. item (f x)) xs ++ kind.Fixed mark.Semicolon ∷ [])) → Prints a b (kind.Fixed m ∷ (listed kind.Fixed item (map f ys) ++ kind.Fixed mark.Semicolon ∷ []))
 declared_of {A = A} a b m f item xs ys e p =

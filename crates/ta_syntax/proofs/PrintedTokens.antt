@@ -4,6 +4,7 @@ use Rattle.ta_syntax.specs.declared.tokens.Kind.TheVariants as kind
 use Rattle.ta_syntax.specs.declared.tokens.Mark.TheVariants as mark
 use Rattle.ta_syntax.specs.declared.tokens.Relation.TheVariants as relation
 use Rattle.ta_syntax.specs.declared.sums.Sign.TheVariants as sign
+use Rattle.ta_syntax.proofs.FileTexts.{blocks_kinds, resilience_kinds, processes_kinds, locations_kinds, shared_kinds}
 
 -- ---- what stands behind a token
 behind_mark : (m : Mark) → lengthens (kind.Fixed m) (separator (kind.Fixed m)) ≡ false
@@ -188,13 +189,9 @@ declared_legal ks ls h g = legal-append ks (kind.Fixed mark.Semicolon ∷ ls) h 
 pub file_legal : (t : PlainTree) → IsTree t → Legal (file_kinds t)
 file_legal t h =
     let blocks = legal-append (each rule_kinds t.rules) (each pattern_kinds t.patterns) (each_legal IsRule rule_kinds rule_legal t.rules h.rules) (each_legal IsPattern pattern_kinds pattern_legal t.patterns h.patterns) in
-    let resilience = declared_legal (listed kind.Fixed comparison_kinds t.resilience) (each rule_kinds t.rules ++ each pattern_kinds t.patterns) (listed_legal IsComparison comparison_kinds comparison_legal t.resilience h.resilience) blocks in
-    let behind_sum = kind.Fixed mark.Resilience ∷ (listed kind.Fixed comparison_kinds t.resilience ++ kind.Fixed mark.Semicolon ∷ (each rule_kinds t.rules ++ each pattern_kinds t.patterns)) in
-    let processes = declared_legal (sum_kinds t.processes) behind_sum (sum_legal t.processes h.processes) (tt, resilience) in
-    let behind_locations = kind.Fixed mark.Processes ∷ (sum_kinds t.processes ++ kind.Fixed mark.Semicolon ∷ behind_sum) in
-    let locations = declared_legal (listed kind.Fixed location_kinds t.locations) behind_locations (listed_legal (λ (l : PlainLocation). IsNameText l.name) location_kinds location_legal t.locations h.locations) (tt, processes) in
-    let behind_shared = kind.Fixed mark.Locations ∷ (listed kind.Fixed location_kinds t.locations ++ kind.Fixed mark.Semicolon ∷ behind_locations) in
-    let shared = declared_legal (listed kind.Fixed name_kinds t.shared) behind_shared (listed_legal IsNameText name_kinds name_legal t.shared h.shared) (tt, locations) in
-    let behind_parameters = kind.Fixed mark.Shared ∷ (listed kind.Fixed name_kinds t.shared ++ kind.Fixed mark.Semicolon ∷ behind_shared) in
-    let parameters = declared_legal (listed kind.Fixed name_kinds t.parameters) behind_parameters (listed_legal IsNameText name_kinds name_legal t.parameters h.parameters) (tt, shared) in
+    let resilience = declared_legal (listed kind.Fixed comparison_kinds t.resilience) (blocks_kinds t) (listed_legal IsComparison comparison_kinds comparison_legal t.resilience h.resilience) blocks in
+    let processes = declared_legal (sum_kinds t.processes) (resilience_kinds t) (sum_legal t.processes h.processes) (tt, resilience) in
+    let locations = declared_legal (listed kind.Fixed location_kinds t.locations) (processes_kinds t) (listed_legal (λ (l : PlainLocation). IsNameText l.name) location_kinds location_legal t.locations h.locations) (tt, processes) in
+    let shared = declared_legal (listed kind.Fixed name_kinds t.shared) (locations_kinds t) (listed_legal IsNameText name_kinds name_legal t.shared h.shared) (tt, locations) in
+    let parameters = declared_legal (listed kind.Fixed name_kinds t.parameters) (shared_kinds t) (listed_legal IsNameText name_kinds name_legal t.parameters h.parameters) (tt, shared) in
     (tt, (h.name, (tt, (tt, parameters))))

@@ -4,20 +4,20 @@ use Rattle.ta_syntax.specs.declared.tokens.Kind.TheVariants as kind
 use Rattle.ta_syntax.specs.declared.tokens.Mark.TheVariants as mark
 use Rattle.ta_syntax.proofs.Steps.{then, respell, stops, take_mark, take_name, mark_stops, name_stops, opened}
 use Rattle.ta_syntax.proofs.ListSteps.{mark_avoids, maybe_avoids, mark_avoids_mark, maybe_avoids_mark, many_avoids_mark}
-use Rattle.ta_syntax.proofs.ClauseSteps.{kept_ready, then_kept, name_then}
+use Rattle.ta_syntax.proofs.ClauseSteps.{kept_ready, kept_begun, then_kept, name_then}
 
 name_then_shorter : (m : Mark) (end : ℕ) (tokens rest : List Token) (n : Spelled) → TookNameThen m end n tokens rest → length rest ≤ length tokens
 name_then_shorter m end tokens rest n t = omega (arith, ap length t.named.split, ap length t.marked.split)
 
 -- a list of at most 16 begins: the colon of a rule or of an event
-abbrev colon : Counts → Counts
+abbrev pub colon : Counts → Counts
 colon c = begin_list 16 c
 
 pub colon_ready : (m : Mark) (c : Counts) → IsEntered m c → IsReady (colon c)
 colon_ready m c r = record { closed = r.closed; room = omega arith }
 
-colon_kept : (m : Mark) (c d : Counts) → IsBetweenParts (colon c) d → KeptBlock m c d
-colon_kept m c d k = record { closed = k.closed; room = k.room; rules = k.rules; patterns = k.patterns; events = λ other. k.events }
+pub kept_block : (m : Mark) (c d : Counts) → IsBetweenParts c d → KeptBlock m c d
+kept_block m c d k = record { closed = k.closed; room = k.room; rules = k.rules; patterns = k.patterns; events = λ other. k.events }
 
 -- ---- rules
 abbrev rule_updates : GrammarPart → GrammarPart
@@ -72,11 +72,11 @@ module _ (end : ℕ) (tokens r1 : List Token) (name : Spelled) (b1 : TookNameThe
         pub rule_updates_stop : (e : FileFault) → LedStops mark.Do update_part end r4 e → BlockStops mark.Rule rule_part end tokens e
         rule_updates_stop e h = λ K c r.
             let g = guarded K c r in
-            stops end (then (rule_head K c r) g.reads) e (h (both (a_mark mark.Semicolon) K) g.counts (end_avoids K) (end_avoids_do K) (kept_ready (colon c) g.counts g.kept))
+            stops end (then (rule_head K c r) g.reads) e (h (both (a_mark mark.Semicolon) K) g.counts (end_avoids K) (end_avoids_do K) (kept_ready g.kept))
 
         module _ (r5 : List Token) (updates : List TreeUpdate) (b5 : TookLed mark.Do update_part spell_update update_stated 16 updates r4 r5) where
           updated : (K : GrammarPart) (c : Counts) → IsEntered mark.Rule c → ReadsKept (rule_guards K) (colon c) r3 r5 (both (a_mark mark.Semicolon) K) (led kind.Fixed mark.When spell_comparison guards ++ led kind.Fixed mark.Do spell_update updates) (led unplaced mark.When comparison_stated guards ++ led unplaced mark.Do update_stated updates)
-          updated K c r = let g = guarded K c r in then_kept g (b5.reads (both (a_mark mark.Semicolon) K) g.counts (end_avoids K) (end_avoids_do K) (kept_ready (colon c) g.counts g.kept))
+          updated K c r = let g = guarded K c r in then_kept g (b5.reads (both (a_mark mark.Semicolon) K) g.counts (end_avoids K) (end_avoids_do K) (kept_ready g.kept))
 
           pub rule_end_stops : (e : FileFault) → IsUnexpected end r5 mark.Semicolon e → BlockStops mark.Rule rule_part end tokens e
           rule_end_stops e h = λ K c r. let u = updated K c r in stops end (then (rule_head K c r) u.reads) e (mark_stops K u.counts end r5 mark.Semicolon e h)
@@ -89,7 +89,7 @@ module _ (end : ℕ) (tokens r1 : List Token) (name : Spelled) (b1 : TookNameThe
                 let u = updated K c r in
                 let room : HasRoom u.counts = u.kept.room in (
                   u.counts,
-                  colon_kept mark.Rule c u.counts u.kept,
+                  kept_block mark.Rule c u.counts (kept_begun 16 c u.counts u.kept),
                   then (rule_head K c r) (respell (then u.reads (take_mark mark.Semicolon b6 room tt)) (append_assoc (led kind.Fixed mark.When spell_comparison guards) (led kind.Fixed mark.Do spell_update updates) (kind.Fixed mark.Semicolon ∷ [])) (append_assoc (led unplaced mark.When comparison_stated guards) (led unplaced mark.Do update_stated updates) ([] ∷ []))),
                 );
           }
@@ -199,18 +199,18 @@ module _ (end : ℕ) (tokens r1 : List Token) (name : Spelled) (b1 : TookNameThe
     started K c r = b2.reads (pattern_empty K) c (empty_avoids_start K) (ready_in mark.Pattern c r)
 
     pub pattern_empty_stops : (e : FileFault) → EndedStops mark.Empty a_name end r2 e → BlockStops mark.Pattern pattern_part end tokens e
-    pattern_empty_stops e h = λ K c r. let s = started K c r in stops end (then (pattern_head K c r) s.reads) e (h (pattern_events K) s.counts (events_avoid_empty K) (kept_ready c s.counts s.kept))
+    pattern_empty_stops e h = λ K c r. let s = started K c r in stops end (then (pattern_head K c r) s.reads) e (h (pattern_events K) s.counts (events_avoid_empty K) (kept_ready s.kept))
 
     module _ (r3 : List Token) (empty : List Spelled) (b3 : TookEnded mark.Empty a_name spell_name name_stated 32 empty r2 r3) where
       emptied : (K : GrammarPart) (c : Counts) → IsEntered mark.Pattern c → ReadsKept (pattern_start K) c r1 r3 (pattern_events K) (ended kind.Fixed mark.Start spell_comparison start ++ ended kind.Fixed mark.Empty spell_name empty) (ended unplaced mark.Start comparison_stated start ++ ended unplaced mark.Empty name_stated empty)
-      emptied K c r = let s = started K c r in then_kept s (b3.reads (pattern_events K) s.counts (events_avoid_empty K) (kept_ready c s.counts s.kept))
+      emptied K c r = let s = started K c r in then_kept s (b3.reads (pattern_events K) s.counts (events_avoid_empty K) (kept_ready s.kept))
 
       pub pattern_events_stop : (e : FileFault) → BlocksStop mark.Event event_part end r3 e → BlockStops mark.Pattern pattern_part end tokens e
-      pattern_events_stop e h = λ K c r. let s = emptied K c r in stops end (then (pattern_head K c r) s.reads) e (h (pattern_close K) s.counts (close_avoids_event K) (kept_ready c s.counts s.kept) (s.kept.events ∙ r.events refl))
+      pattern_events_stop e h = λ K c r. let s = emptied K c r in stops end (then (pattern_head K c r) s.reads) e (h (pattern_close K) s.counts (close_avoids_event K) (kept_ready s.kept) (s.kept.events ∙ r.events refl))
 
       module _ (r4 : List Token) (events : List TreeEvent) (b4 : TookBlocks mark.Event event_part event_body event_body_stated 8 events r3 r4) where
         full : (K : GrammarPart) (c : Counts) (r : IsEntered mark.Pattern c) → (d : Counts) × KeptOthers mark.Event (let s = emptied K c r in s.counts) d × ReadsPart (pattern_events K) (let s = emptied K c r in s.counts) r3 r4 (pattern_close K) d (each (with_mark (kind.Fixed mark.Event) event_body) events) (each (with_mark [] event_body_stated) events)
-        full K c r = let s = emptied K c r in b4.reads (pattern_close K) s.counts (close_avoids_event K) (kept_ready c s.counts s.kept) (s.kept.events ∙ r.events refl)
+        full K c r = let s = emptied K c r in b4.reads (pattern_close K) s.counts (close_avoids_event K) (kept_ready s.kept) (s.kept.events ∙ r.events refl)
 
         pub pattern_end_stops : (e : FileFault) → IsUnexpected end r4 mark.CloseBrace e → BlockStops mark.Pattern pattern_part end tokens e
         pattern_end_stops e h = λ K c r. let s = emptied K c r in let f = full K c r in stops end (then (then (pattern_head K c r) s.reads) f.2) e (mark_stops K f.0 end r4 mark.CloseBrace e h)

@@ -1,6 +1,5 @@
 -- Each text has tokens, or a first refused byte.
-use Rattle.ta_syntax.proofs.Common.{Option, Some, None, MatchOption, ◌≡◌, ℕ, zero, suc, ◌-◌, ◌<◌, Bool, true, false, List, [], ◌∷◌, ◌++◌, length, take, drop, inl, inr, ⊎_elim, refl, sym, ap, ◌∙◌, arith, eqb-true, take-append-drop, ◌==◌, is_ascii_digit, prefix_len, nat_tests, begins_word, is_white, is_lone, mark_bytes, is_letter, is_word, BeginsByLetter, lengthens, IsLongest, IsSpace, AreTokens, begins_mark, IsRefused, MarkAt, BeginsNoGap, TokenFrom, NoToken, SkipsGap, Kind, Mark, Token}
-use Rattle.std.proofs.Common.{◌⊎◌}
+use Rattle.ta_syntax.proofs.Common.{Option, Some, None, MatchOption, ◌≡◌, ℕ, zero, suc, ◌-◌, ◌<◌, Bool, true, false, List, [], ◌∷◌, ◌++◌, length, take, drop, inl, inr, ⊎_elim, refl, sym, ap, ◌∙◌, arith, eqb-true, take-append-drop, ◌==◌, is_ascii_digit, prefix_len, nat_tests, begins_word, is_white, is_lone, mark_bytes, is_letter, is_word, BeginsByLetter, lengthens, IsLongest, IsSpace, AreTokens, begins_mark, IsRefused, MarkAt, BeginsNoGap, TokenFrom, NoToken, SkipsGap, Kind, Mark, Token, ◌⊎◌}
 use Rattle.std.proofs.lemmas.Bool.{cases_Bool, cases_eq}
 use Rattle.ta_syntax.specs.declared.tokens.Kind.TheVariants as kind
 use Rattle.ta_syntax.specs.declared.tokens.Mark.TheVariants as mark

@@ -6,6 +6,7 @@ use Rattle.ta_syntax.specs.declared.sums.Sign.TheVariants as sign
 use Rattle.ta_syntax.proofs.Steps.{run-append, after_relation}
 use Rattle.ta_syntax.proofs.SumExits.{inside, closed_again}
 use Rattle.ta_syntax.proofs.ClauseSteps.{leads_list}
+use Rattle.ta_syntax.proofs.FileTexts.{blocks_kinds, resilience_kinds, processes_kinds, locations_kinds, shared_kinds}
 
 within-split : (c : Counts) (a b : List Kind) → StaysWithin c (a ++ b) → StaysWithin c a × StaysWithin (run c a) b
 within-split c [] b w = (tt, w)
@@ -254,27 +255,11 @@ pattern_left p c rest closed w =
 
 -- ---- files
 
--- the tokens behind each keyword
-abbrev pub behind_rules : PlainTree → List Kind
-behind_rules t = each rule_kinds t.rules ++ each pattern_kinds t.patterns
-
-abbrev pub behind_processes : PlainTree → List Kind
-behind_processes t = kind.Fixed mark.Resilience ∷ (listed kind.Fixed comparison_kinds t.resilience ++ kind.Fixed mark.Semicolon ∷ behind_rules t)
-
-abbrev pub behind_locations : PlainTree → List Kind
-behind_locations t = kind.Fixed mark.Processes ∷ (sum_kinds t.processes ++ kind.Fixed mark.Semicolon ∷ behind_processes t)
-
-abbrev pub behind_shared : PlainTree → List Kind
-behind_shared t = kind.Fixed mark.Locations ∷ (listed kind.Fixed location_kinds t.locations ++ kind.Fixed mark.Semicolon ∷ behind_locations t)
-
-abbrev pub behind_parameters : PlainTree → List Kind
-behind_parameters t = kind.Fixed mark.Shared ∷ (listed kind.Fixed name_kinds t.shared ++ kind.Fixed mark.Semicolon ∷ behind_shared t)
-
 -- what stands before the rules
 record Head (t : PlainTree) : Type 0 where
   counts : Counts
   same : Same at_start counts
-  within : StaysWithin counts (behind_rules t)
+  within : StaysWithin counts (blocks_kinds t)
   parameters : length t.parameters ≤ 16
   shared : length t.shared ≤ 16
   locations : length t.locations ≤ 32
@@ -284,13 +269,13 @@ record Head (t : PlainTree) : Type 0 where
 
 head_left : (t : PlainTree) → StaysWithin at_start (file_kinds t) → Head t
 head_left t w =
-    let p = semicolon_left AnyItem name_kinds name_run (any_good name_kinds) 16 t.parameters at_start (behind_parameters t) refl w.2.2.2.2 in
-    let s = semicolon_left AnyItem name_kinds name_run (any_good name_kinds) 16 t.shared p.counts (behind_shared t) p.same.open_now p.within.2 in
+    let p = semicolon_left AnyItem name_kinds name_run (any_good name_kinds) 16 t.parameters at_start (shared_kinds t) refl w.2.2.2.2 in
+    let s = semicolon_left AnyItem name_kinds name_run (any_good name_kinds) 16 t.shared p.counts (locations_kinds t) p.same.open_now p.within.2 in
     let k = same_then p.same s.same in
-    let l = semicolon_left AnyItem location_kinds location_run (any_good location_kinds) 32 t.locations s.counts (behind_locations t) k.open_now s.within.2 in
+    let l = semicolon_left AnyItem location_kinds location_run (any_good location_kinds) 32 t.locations s.counts (processes_kinds t) k.open_now s.within.2 in
     let j = same_then k l.same in
-    let r = within_then l.counts (sum_kinds t.processes) (kind.Fixed mark.Semicolon ∷ behind_processes t) (sum_run t.processes l.counts) l.within.2 in
-    let q = semicolon_left IsShallow comparison_kinds comparison_run comparison_shallow 16 t.resilience l.counts (behind_rules t) j.open_now r.1.2.2 in
+    let r = within_then l.counts (sum_kinds t.processes) (kind.Fixed mark.Semicolon ∷ resilience_kinds t) (sum_run t.processes l.counts) l.within.2 in
+    let q = semicolon_left IsShallow comparison_kinds comparison_run comparison_shallow 16 t.resilience l.counts (blocks_kinds t) j.open_now r.1.2.2 in
     record { counts = q.counts; same = same_then j q.same; within = q.within; parameters = p.fine.0; shared = s.fine.0; locations = l.fine.0; processes = sum_shallow t.processes l.counts j.open_now r.0; resilience = q.fine.0; shallow = q.fine.1 }
 
 pub tree_limits : (t : PlainTree) → StaysWithin at_start (file_kinds t) → IsTreeWithin t

@@ -1,6 +1,5 @@
 -- A text has its tokens in one way, or one first refused byte.
-use Rattle.ta_syntax.proofs.Common.{◌≡◌, ℕ, Option, Some, None, bytes_eq, Bool, true, false, cond, List, [], ◌∷◌, ◌++◌, length, inl, inr, ⊎_elim, refl, sym, ap, subst, ◌∙◌, arith, ◌+◌, IsTrue, ◌&&◌, ◌==◌, ◌⊎◌, IfSome, is_ascii_digit, AllByRecursion, find, nat_tests, letter_no_digit, after_same, unlike, is_white, is_lone, mark_bytes, kind_bytes, IsDigits, IsNameText, IsKind, IsKind-prop, is_letter, is_word, BeginsByLetter, lengthens, IsLongest, IsSpace, IsGap, IsLastGap, ScansTo, AreTokens, begins_mark, IsRefusedHere, IsRefused, NoToken, Kind, Mark, KEYWORDS, Token}
-use Rattle.std.specs.Prelude.{MatchOption}
+use Rattle.ta_syntax.proofs.Common.{◌≡◌, ℕ, Option, Some, None, bytes_eq, Bool, true, false, cond, List, [], ◌∷◌, ◌++◌, length, inl, inr, ⊎_elim, refl, sym, ap, subst, ◌∙◌, arith, ◌+◌, IsTrue, ◌&&◌, ◌==◌, ◌⊎◌, IfSome, is_ascii_digit, AllByRecursion, find, nat_tests, letter_no_digit, unlike, is_white, is_lone, mark_bytes, kind_bytes, IsDigits, IsNameText, IsKind, IsKind-prop, is_letter, is_word, BeginsByLetter, lengthens, IsLongest, IsSpace, IsGap, IsLastGap, ScansTo, AreTokens, begins_mark, IsRefusedHere, IsRefused, NoToken, Kind, Mark, KEYWORDS, Token, MatchOption, append_cancel_left}
 use Rattle.std.proofs.lemmas.Slice.Eq.{bytes_eq-Decides}
 use Rattle.ta_syntax.specs.declared.tokens.Kind.TheVariants as kind
 use Rattle.ta_syntax.specs.declared.tokens.Mark.TheVariants as mark
@@ -222,7 +221,7 @@ kind_unique (kind.Fixed m) x (kind.Name n) y is is' long long' e = absurd (name_
 kind_unique (kind.Fixed m) x (kind.Number d) y is is' long long' e = absurd (number_mark d y m x is' (sym e))
 kind_unique (kind.Fixed m) x (kind.Fixed m') y is is' long long' e =
     let same = marks_same m x m' y long long' e in
-    (ap kind.Fixed same, after_same (mark_bytes m') x y (ap (λ (z : Mark). mark_bytes z ++ x) (sym same) ∙ e))
+    (ap kind.Fixed same, append_cancel_left (mark_bytes m') x y (ap (λ (z : Mark). mark_bytes z ++ x) (sym same) ∙ e))
 
 -- ---- gaps
 white_no_comment : (b : ℕ) → IsTrue (is_white b) → b ≡ 35 → ⊥

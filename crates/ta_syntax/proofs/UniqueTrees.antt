@@ -1,5 +1,5 @@
 -- No two trees of the grammar have the same tokens: a token of lookahead decides.
-use Rattle.ta_syntax.proofs.Common.{◌≡◌, ℕ, Bool, true, false, List, [], ◌∷◌, ◌++◌, refl, sym, ap, subst, ◌∙◌, append_assoc, AllByRecursion, append-nil, tails, IsNameText, Terms, Term, Factor, done, term, number, times, alone, blank, named, nested, sum_kinds, more_kinds, term_kinds, factor_kinds, relation_kind, IsSum, AreTerms, IsTerm, IsFactor, PlainComparison, PlainLocation, PlainUpdate, PlainRule, PlainEvent, PlainPattern, PlainTree, listed, further, led, ended, each, name_kinds, initial_kinds, location_kinds, comparison_kinds, update_kinds, rule_kinds, event_kinds, pattern_kinds, file_kinds, IsSome, IsComparison, IsUpdate, IsRule, IsEvent, IsPattern, IsTree, begins_by, is_star, is_operator, extends_item, extends_list, Kind, Mark, Relation}
+use Rattle.ta_syntax.proofs.Common.{◌≡◌, ℕ, Bool, true, false, List, [], ◌∷◌, ◌++◌, refl, sym, ap, subst, ◌∙◌, append_assoc, AllByRecursion, append-nil, tails, IsNameText, Terms, Term, Factor, done, term, number, times, alone, blank, named, nested, sum_kinds, more_kinds, term_kinds, factor_kinds, relation_kind, IsSum, AreTerms, IsTerm, IsFactor, PlainComparison, PlainLocation, PlainUpdate, PlainRule, PlainEvent, PlainPattern, PlainTree, listed, further, led, ended, each, name_kinds, initial_kinds, location_kinds, comparison_kinds, update_kinds, rule_kinds, event_kinds, pattern_kinds, file_kinds, IsSome, IsComparison, IsUpdate, IsRule, IsEvent, IsPattern, IsTree, begins_by, is_star, is_operator, extends_item, extends_list, Kind, Mark, Relation, Sign}
 use Rattle.ta_syntax.specs.declared.tokens.Kind.TheVariants as kind
 use Rattle.ta_syntax.specs.declared.tokens.Mark.TheVariants as mark
 use Rattle.ta_syntax.specs.declared.tokens.Relation.TheVariants as relation
@@ -18,6 +18,16 @@ no_star done (kind.Fixed _ ∷ x) h = refl
 no_star (term sign.Plus t ts) x h = refl
 no_star (term sign.Minus t ts) x h = refl
 
+-- a term and those behind it are determined if each is
+same_terms : (s : Sign) (t u : Term) (ts us : Terms) (x y : List Kind) → begins_by is_operator x ≡ false → begins_by is_operator y ≡ false
+    → (begins_by is_star (more_kinds ts ++ x) ≡ false → begins_by is_star (more_kinds us ++ y) ≡ false → term_kinds t ++ (more_kinds ts ++ x) ≡ term_kinds u ++ (more_kinds us ++ y) → (t ≡ u) × (more_kinds ts ++ x ≡ more_kinds us ++ y))
+    → (more_kinds ts ++ x ≡ more_kinds us ++ y → (ts ≡ us) × (x ≡ y))
+    → (term_kinds t ++ more_kinds ts) ++ x ≡ (term_kinds u ++ more_kinds us) ++ y → (term s t ts ≡ term s u us) × (x ≡ y)
+same_terms s t u ts us x y p q first later e =
+    let a = first (no_star ts x p) (no_star us y q) (sym (append_assoc (term_kinds t) (more_kinds ts) x) ∙ e ∙ append_assoc (term_kinds u) (more_kinds us) y) in
+    let b = later a.1 in
+    (cc (a.0, b.0), b.1)
+
 mutual
   sum_unique : (ts us : Terms) (x y : List Kind) → IsSum ts → IsSum us → begins_by is_operator x ≡ false → begins_by is_operator y ≡ false → sum_kinds ts ++ x ≡ sum_kinds us ++ y → (ts ≡ us) × (x ≡ y)
   sum_unique done us x y is is' p q e = absurd is
@@ -26,15 +36,8 @@ mutual
       absurd (term_not mark.Minus t (more_kinds ts ++ x) ((term_kinds u ++ more_kinds us) ++ y) (λ h. h) is.0 (sym (append_assoc (term_kinds t) (more_kinds ts) x) ∙ e))
   sum_unique (term sign.Minus t ts) (term sign.Plus u us) x y is is' p q e =
       absurd (term_not mark.Minus u (more_kinds us ++ y) ((term_kinds t ++ more_kinds ts) ++ x) (λ h. h) is'.0 (sym (append_assoc (term_kinds u) (more_kinds us) y) ∙ sym e))
-  sum_unique (term sign.Plus t ts) (term sign.Plus u us) x y is is' p q e =
-      let a = term_unique t u (more_kinds ts ++ x) (more_kinds us ++ y) is.0 is'.0 (no_star ts x p) (no_star us y q) (sym (append_assoc (term_kinds t) (more_kinds ts) x) ∙ e ∙ append_assoc (term_kinds u) (more_kinds us) y) in
-      let b = more_unique ts us x y is.1 is'.1 p q a.1 in
-      (cc (a.0, b.0), b.1)
-  sum_unique (term sign.Minus t ts) (term sign.Minus u us) x y is is' p q e =
-      let inner : (term_kinds t ++ more_kinds ts) ++ x ≡ (term_kinds u ++ more_kinds us) ++ y = cc in
-      let a = term_unique t u (more_kinds ts ++ x) (more_kinds us ++ y) is.0 is'.0 (no_star ts x p) (no_star us y q) (sym (append_assoc (term_kinds t) (more_kinds ts) x) ∙ inner ∙ append_assoc (term_kinds u) (more_kinds us) y) in
-      let b = more_unique ts us x y is.1 is'.1 p q a.1 in
-      (cc (a.0, b.0), b.1)
+  sum_unique (term sign.Plus t ts) (term sign.Plus u us) x y is is' p q e = same_terms sign.Plus t u ts us x y p q (term_unique t u (more_kinds ts ++ x) (more_kinds us ++ y) is.0 is'.0) (more_unique ts us x y is.1 is'.1 p q) e
+  sum_unique (term sign.Minus t ts) (term sign.Minus u us) x y is is' p q e = same_terms sign.Minus t u ts us x y p q (term_unique t u (more_kinds ts ++ x) (more_kinds us ++ y) is.0 is'.0) (more_unique ts us x y is.1 is'.1 p q) (cc)
 
   more_unique : (ts us : Terms) (x y : List Kind) → AreTerms ts → AreTerms us → begins_by is_operator x ≡ false → begins_by is_operator y ≡ false → more_kinds ts ++ x ≡ more_kinds us ++ y → (ts ≡ us) × (x ≡ y)
   more_unique done done x y is is' p q e = (refl, e)
@@ -44,16 +47,8 @@ mutual
   more_unique (term sign.Minus t ts) done x y is is' p q e = absurd (let h = subst (λ (z : List Kind). begins_by is_operator z ≡ false) (sym e) q in cc)
   more_unique (term sign.Plus t ts) (term sign.Minus u us) x y is is' p q e = absurd cc
   more_unique (term sign.Minus t ts) (term sign.Plus u us) x y is is' p q e = absurd cc
-  more_unique (term sign.Plus t ts) (term sign.Plus u us) x y is is' p q e =
-      let inner : (term_kinds t ++ more_kinds ts) ++ x ≡ (term_kinds u ++ more_kinds us) ++ y = cc in
-      let a = term_unique t u (more_kinds ts ++ x) (more_kinds us ++ y) is.0 is'.0 (no_star ts x p) (no_star us y q) (sym (append_assoc (term_kinds t) (more_kinds ts) x) ∙ inner ∙ append_assoc (term_kinds u) (more_kinds us) y) in
-      let b = more_unique ts us x y is.1 is'.1 p q a.1 in
-      (cc (a.0, b.0), b.1)
-  more_unique (term sign.Minus t ts) (term sign.Minus u us) x y is is' p q e =
-      let inner : (term_kinds t ++ more_kinds ts) ++ x ≡ (term_kinds u ++ more_kinds us) ++ y = cc in
-      let a = term_unique t u (more_kinds ts ++ x) (more_kinds us ++ y) is.0 is'.0 (no_star ts x p) (no_star us y q) (sym (append_assoc (term_kinds t) (more_kinds ts) x) ∙ inner ∙ append_assoc (term_kinds u) (more_kinds us) y) in
-      let b = more_unique ts us x y is.1 is'.1 p q a.1 in
-      (cc (a.0, b.0), b.1)
+  more_unique (term sign.Plus t ts) (term sign.Plus u us) x y is is' p q e = same_terms sign.Plus t u ts us x y p q (term_unique t u (more_kinds ts ++ x) (more_kinds us ++ y) is.0 is'.0) (more_unique ts us x y is.1 is'.1 p q) (cc)
+  more_unique (term sign.Minus t ts) (term sign.Minus u us) x y is is' p q e = same_terms sign.Minus t u ts us x y p q (term_unique t u (more_kinds ts ++ x) (more_kinds us ++ y) is.0 is'.0) (more_unique ts us x y is.1 is'.1 p q) (cc)
 
   term_unique : (t u : Term) (x y : List Kind) → IsTerm t → IsTerm u → begins_by is_star x ≡ false → begins_by is_star y ≡ false → term_kinds t ++ x ≡ term_kinds u ++ y → (t ≡ u) × (x ≡ y)
   term_unique blank u x y is is' p q e = absurd is
@@ -371,18 +366,4 @@ file_unique t u is is' e =
     let r = declared_same IsComparison comparison_kinds comparisons_determined t.resilience u.resilience _ _ comparison_not_end is.resilience is'.resilience (tails (kind.Fixed mark.Resilience) (kind.Fixed mark.Resilience) _ _ (tails (kind.Fixed mark.Semicolon) (kind.Fixed mark.Semicolon) _ _ c.1)) in
     let k = each_same mark.Rule IsRule rule_kinds rule_first rule_same t.rules u.rules (each pattern_kinds t.patterns) (each pattern_kinds u.patterns) is.rules is'.rules (no_rule_first t.patterns) (no_rule_first u.patterns) r.1 in
     let v = each_same mark.Pattern IsPattern pattern_kinds pattern_first pattern_same t.patterns u.patterns [] [] is.patterns is'.patterns (λ h. let z = h.1 in cc) (λ h. let z = h.1 in cc) (append-nil (each pattern_kinds t.patterns) ∙ k.1 ∙ sym (append-nil (each pattern_kinds u.patterns))) in
-    made n.0 p.0 s.0 l.0 c.0 r.0 k.0 v.0
-  where
-    with_fields : List ℕ → List (List ℕ) → List (List ℕ) → List PlainLocation → Terms → List PlainComparison → List PlainRule → List PlainPattern → PlainTree
-    with_fields n p s l c r k v = record { name = n; parameters = p; shared = s; locations = l; processes = c; resilience = r; rules = k; patterns = v }
-
-    made : t.name ≡ u.name → t.parameters ≡ u.parameters → t.shared ≡ u.shared → t.locations ≡ u.locations → t.processes ≡ u.processes → t.resilience ≡ u.resilience → t.rules ≡ u.rules → t.patterns ≡ u.patterns → t ≡ u
-    made n p s l c r k v =
-        ap (λ z. with_fields z t.parameters t.shared t.locations t.processes t.resilience t.rules t.patterns) n
-        ∙ ap (λ z. with_fields u.name z t.shared t.locations t.processes t.resilience t.rules t.patterns) p
-        ∙ ap (λ z. with_fields u.name u.parameters z t.locations t.processes t.resilience t.rules t.patterns) s
-        ∙ ap (λ z. with_fields u.name u.parameters u.shared z t.processes t.resilience t.rules t.patterns) l
-        ∙ ap (λ z. with_fields u.name u.parameters u.shared u.locations z t.resilience t.rules t.patterns) c
-        ∙ ap (λ z. with_fields u.name u.parameters u.shared u.locations u.processes z t.rules t.patterns) r
-        ∙ ap (λ z. with_fields u.name u.parameters u.shared u.locations u.processes u.resilience z t.patterns) k
-        ∙ ap (with_fields u.name u.parameters u.shared u.locations u.processes u.resilience u.rules) v
+    λ i. record { name = n.0 i; parameters = p.0 i; shared = s.0 i; locations = l.0 i; processes = c.0 i; resilience = r.0 i; rules = k.0 i; patterns = v.0 i }

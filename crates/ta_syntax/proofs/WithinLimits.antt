@@ -1,17 +1,17 @@
 -- A tree within the limits, in plain words, has tokens within the limits.
-use Rattle.ta_syntax.proofs.Common.{◌≡◌, ℕ, suc, ◌+◌, ◌-◌, ◌<◌, ◌≤◌, Bool, true, false, List, [], ◌∷◌, ◌++◌, length, lit<, refl, sym, ap, subst, ◌∙◌, append_assoc, arith, AllByRecursion, all_both, regroup, Terms, Term, Factor, done, term, number, times, alone, blank, named, nested, sum_kinds, more_kinds, term_kinds, factor_kinds, relation_kind, PlainComparison, PlainRule, PlainEvent, PlainPattern, PlainTree, listed, further, led, ended, each, name_kinds, initial_kinds, location_kinds, comparison_kinds, update_kinds, rule_kinds, event_kinds, pattern_kinds, file_kinds, IsSome, IsEvent, IsPattern, IsTree, sum_depth, term_depth, factor_depth, Counts, at_start, begin_list, after_mark, counted_after, run, StaysWithin, IsShallow, IsRuleWithin, IsEventWithin, IsPatternWithin, IsTreeWithin, HasRoom, MayOpen, IsReady, IsFresh, with_commas, IsEntered, KeptBlock, IsBetweenParts, BeginsListOf, block_count, IsBlock, KeptOthers, with_mark, Kind, Mark}
+use Rattle.ta_syntax.proofs.Common.{◌≡◌, ℕ, suc, ◌+◌, ◌-◌, ◌<◌, ◌≤◌, Bool, true, false, List, [], ◌∷◌, ◌++◌, length, lit<, refl, sym, ap, subst, ◌∙◌, append_assoc, arith, AllByRecursion, regroup, Terms, Term, Factor, done, term, number, times, alone, blank, named, nested, sum_kinds, more_kinds, term_kinds, factor_kinds, relation_kind, PlainComparison, PlainRule, PlainEvent, PlainPattern, PlainTree, listed, further, led, ended, each, name_kinds, initial_kinds, location_kinds, comparison_kinds, update_kinds, rule_kinds, event_kinds, pattern_kinds, file_kinds, IsTree, sum_depth, term_depth, factor_depth, Counts, at_start, begin_list, after_mark, counted_after, run, StaysWithin, IsShallow, IsRuleWithin, IsTreeWithin, HasRoom, MayOpen, IsReady, IsFresh, with_commas, IsEntered, KeptBlock, IsBetweenParts, BeginsListOf, block_count, IsBlock, KeptOthers, with_mark, Kind, Mark}
 use Rattle.ta_base.proofs.Naturals.{left_less}
-use Rattle.ta_syntax.proofs.BuiltTrees.{some_length}
+use Rattle.ta_syntax.proofs.BuiltTrees.{GoodEvent, GoodPattern, all_events, all_patterns, some_length}
 use Rattle.ta_syntax.proofs.ItemSteps.{may_open}
 use Rattle.ta_syntax.specs.declared.tokens.Kind.TheVariants as kind
 use Rattle.ta_syntax.specs.declared.tokens.Mark.TheVariants as mark
 use Rattle.ta_syntax.specs.declared.sums.Sign.TheVariants as sign
 use Rattle.ta_syntax.proofs.Steps.{run-append, within-append, Fits, room_fits, room_fits_name, room_fits_number, relation_fits, after_relation, IsPlainMark}
 use Rattle.ta_syntax.proofs.SumExits.{inside, open_fits, may_inside, closed_again}
-use Rattle.ta_syntax.proofs.ClauseSteps.{kept_then, kept_ready, kept_same, leads_list, leads_plain, list_kept, fresh_list}
+use Rattle.ta_syntax.proofs.ClauseSteps.{kept_then, kept_ready, kept_begun, kept_same, leads_list, leads_plain, list_kept, fresh_list}
 use Rattle.ta_syntax.proofs.BlockSteps.{block_fits, entered, others_kept, one_more}
 use Rattle.ta_syntax.proofs.FileTexts.{behind_rule, behind_event, behind_pattern}
-use Rattle.ta_syntax.proofs.RuleSteps.{colon_ready}
+use Rattle.ta_syntax.proofs.RuleSteps.{colon, colon_ready, kept_block}
 
 -- The tokens take the counts from c to d, and none goes past a limit.
 record Scan (c : Counts) (ks : List Kind) (d : Counts) : Type 0 where
@@ -118,9 +118,6 @@ record KeptScan (c : Counts) (ks : List Kind) : Type 0 where
 kept_scan_then : {c : Counts} {a b : List Kind} (p : KeptScan c a) → KeptScan p.counts b → KeptScan c (a ++ b)
 kept_scan_then {c = c} p q = record { counts = q.counts; kept = kept_then c p.counts q.counts p.kept q.kept; scan = scan_then p.scan q.scan }
 
-scan_ready : {c : Counts} {a : List Kind} (p : KeptScan c a) → IsReady p.counts
-scan_ready {c = c} p = kept_ready c p.counts p.kept
-
 end_scan : (c : Counts) → IsReady c → KeptScan c (kind.Fixed mark.Semicolon ∷ [])
 end_scan c r = record { counts = c; kept = kept_same c r; scan = scan_mark mark.Semicolon r.room tt (scan_none c) }
 
@@ -131,7 +128,7 @@ fresh_ready limit c some fresh = record { closed = fresh.closed; room = let a : 
 lead_scan : (m : Mark) (limit : ℕ) (c : Counts) (b : List Kind) → BeginsListOf m limit → IsReady c → KeptScan (begin_list limit c) b → KeptScan c (kind.Fixed m ∷ b)
 lead_scan m limit c b leads r p = record {
   counts = p.counts;
-  kept = let k : IsBetweenParts (begin_list limit c) p.counts = p.kept in record { closed = k.closed; room = k.room; rules = k.rules; patterns = k.patterns; events = k.events };
+  kept = kept_begun limit c p.counts p.kept;
   scan = scan_mark m r.room (leads_plain m limit leads) (subst (λ (d : Counts). Scan d b p.counts) (sym (leads_list m limit c leads)) p.scan);
 }
 
@@ -140,7 +137,7 @@ module _ {A : Type 0} (Good : A → Type 0) (f : A → List Kind) (item : ScansI
   list_scan xs c fresh all some few = record { counts = with_commas (length xs - 1) c; kept = list_kept limit (length xs) c some few fresh; scan = listed_scan Good f item limit xs c fresh all some few }
 
   list_end_scan : (xs : List A) (c : Counts) → IsFresh limit c → AllByRecursion Good xs → 1 ≤ length xs → length xs ≤ limit → KeptScan c (listed kind.Fixed f xs ++ kind.Fixed mark.Semicolon ∷ [])
-  list_end_scan xs c fresh all some few = let p = list_scan xs c fresh all some few in kept_scan_then p (end_scan p.counts (scan_ready p))
+  list_end_scan xs c fresh all some few = let p = list_scan xs c fresh all some few in kept_scan_then p (end_scan p.counts (kept_ready p.kept))
 
   led_scan : (m : Mark) (xs : List A) (c : Counts) → BeginsListOf m limit → IsReady c → AllByRecursion Good xs → length xs ≤ limit → KeptScan c (led kind.Fixed m f xs)
   led_scan m [] c leads r all few = record { counts = c; kept = kept_same c r; scan = scan_none c }
@@ -160,19 +157,15 @@ record BlockScan (m : Mark) (c : Counts) (ks : List Kind) : Type 0 where
   kept : KeptBlock m c counts
   scan : Scan c ks counts
 
-abbrev colon : Counts → Counts
-colon c = begin_list 16 c
-
 rule_scan : (r : PlainRule) (c : Counts) → IsRuleWithin r → IsEntered mark.Rule c → BlockScan mark.Rule c (behind_rule r)
 rule_scan r c fine e =
     let q = colon_ready mark.Rule c e in
     let guards = led_scan IsShallow comparison_kinds comparison_scan 16 mark.When r.guards (colon c) refl q fine.shallow fine.guards in
-    let updates = led_scan Fine update_kinds update_scan 16 mark.Do r.updates guards.counts refl (scan_ready guards) (all_fine r.updates) fine.updates in
-    let rest = kept_scan_then guards (kept_scan_then updates (end_scan updates.counts (scan_ready updates))) in
-    let k : IsBetweenParts (colon c) rest.counts = rest.kept in
+    let updates = led_scan Fine update_kinds update_scan 16 mark.Do r.updates guards.counts refl (kept_ready guards.kept) (all_fine r.updates) fine.updates in
+    let rest = kept_scan_then guards (kept_scan_then updates (end_scan updates.counts (kept_ready updates.kept))) in
     record {
       counts = rest.counts;
-      kept = record { closed = k.closed; room = k.room; rules = k.rules; patterns = k.patterns; events = λ other. k.events };
+      kept = kept_block mark.Rule c rest.counts (kept_begun 16 c rest.counts rest.kept);
       scan = scan_name r.name e.room (scan_mark mark.Colon e.room tt (scan_name r.from q.room (scan_mark mark.Arrow q.room tt (scan_name r.to q.room rest.scan))));
     }
 
@@ -180,24 +173,14 @@ rule_scan r c fine e =
 colon_scan : (xs : List PlainComparison) (c : Counts) → IsReady c → AllByRecursion IsShallow xs → 1 ≤ length xs → length xs ≤ 16 → KeptScan c (kind.Fixed mark.Colon ∷ (listed kind.Fixed comparison_kinds xs ++ kind.Fixed mark.Semicolon ∷ []))
 colon_scan xs c r all some few =
     let p = list_end_scan IsShallow comparison_kinds comparison_scan 16 xs (colon c) (fresh_list 16 c r) all some few in
-    let k : IsBetweenParts (colon c) p.counts = p.kept in
-    record { counts = p.counts; kept = record { closed = k.closed; room = k.room; rules = k.rules; patterns = k.patterns; events = k.events }; scan = scan_mark mark.Colon r.room tt p.scan }
+    record { counts = p.counts; kept = kept_begun 16 c p.counts p.kept; scan = scan_mark mark.Colon r.room tt p.scan }
 
-record IsFineEvent (e : PlainEvent) : Type 0 where
-  within : IsEventWithin e
-  some : IsSome e.condition
-
-event_scan : (e : PlainEvent) (c : Counts) → IsFineEvent e → IsEntered mark.Event c → BlockScan mark.Event c (behind_event e)
+event_scan : (e : PlainEvent) (c : Counts) → GoodEvent e → IsEntered mark.Event c → BlockScan mark.Event c (behind_event e)
 event_scan e c fine i =
     let r : IsReady c = record { closed = i.closed; room = i.room } in
     let names = led_scan Fine name_kinds name_scan 8 mark.After e.after c refl r (all_fine e.after) fine.within.after in
-    let rest = kept_scan_then names (colon_scan e.condition names.counts (scan_ready names) fine.within.shallow (some_length e.condition fine.some) fine.within.condition) in
-    let k : IsBetweenParts c rest.counts = rest.kept in
-    record {
-      counts = rest.counts;
-      kept = record { closed = k.closed; room = k.room; rules = k.rules; patterns = k.patterns; events = λ other. k.events };
-      scan = scan_name e.name i.room rest.scan;
-    }
+    let rest = kept_scan_then names (colon_scan e.condition names.counts (kept_ready names.kept) fine.within.shallow (some_length e.condition fine.legal.some) fine.within.condition) in
+    record { counts = rest.counts; kept = kept_block mark.Event c rest.counts rest.kept; scan = scan_name e.name i.room rest.scan }
 
 record BlocksScan (m : Mark) (c : Counts) (n : ℕ) (ks : List Kind) : Type 0 where
   counts : Counts
@@ -226,16 +209,12 @@ module _ {A : Type 0} (Good : A → Type 0) (m : Mark) (limit : ℕ) (block : Is
         scan = scan_first (kind.Fixed m) (block_fits m limit c block r.room (omega arith)) (scan_then p.scan rest.scan);
       }
 
-record IsFinePattern (p : PlainPattern) : Type 0 where
-  within : IsPatternWithin p
-  legal : IsPattern p
-
-pattern_scan : (p : PlainPattern) (c : Counts) → IsFinePattern p → IsEntered mark.Pattern c → BlockScan mark.Pattern c (behind_pattern p)
+pattern_scan : (p : PlainPattern) (c : Counts) → GoodPattern p → IsEntered mark.Pattern c → BlockScan mark.Pattern c (behind_pattern p)
 pattern_scan p c fine i =
     let r : IsReady c = record { closed = i.closed; room = i.room } in
     let start = ended_scan IsShallow comparison_kinds comparison_scan 16 mark.Start p.start c refl r fine.within.shallow fine.within.start in
-    let empty = kept_scan_then start (ended_scan Fine name_kinds name_scan 32 mark.Empty p.empty start.counts refl (scan_ready start) (all_fine p.empty) fine.within.empty) in
-    let events = blocks_scan IsFineEvent mark.Event 8 refl behind_event event_scan p.events 0 empty.counts (scan_ready empty) (let k : IsBetweenParts c empty.counts = empty.kept in k.events ∙ i.events refl) (all_both IsEventWithin IsEvent IsFineEvent (λ e w l. record { within = w; some = l.some }) p.events fine.within.each_event fine.legal.events) (omega (arith, fine.within.events)) in
+    let empty = kept_scan_then start (ended_scan Fine name_kinds name_scan 32 mark.Empty p.empty start.counts refl (kept_ready start.kept) (all_fine p.empty) fine.within.empty) in
+    let events = blocks_scan GoodEvent mark.Event 8 refl behind_event event_scan p.events 0 empty.counts (kept_ready empty.kept) (let k : IsBetweenParts c empty.counts = empty.kept in k.events ∙ i.events refl) (all_events p.events fine.legal.events fine.within.each_event) (omega (arith, fine.within.events)) in
     let k : IsBetweenParts c empty.counts = empty.kept in
     let j : KeptOthers mark.Event empty.counts events.counts = events.kept in
     record {
@@ -257,14 +236,14 @@ tree_scan t legal fine =
     let name_end : KeptScan at_start (kind.Name t.name ∷ kind.Fixed mark.Semicolon ∷ []) = record { counts = at_start; kept = kept_same at_start r; scan = scan_name t.name r.room (scan_mark mark.Semicolon r.room tt (scan_none at_start)) } in
     let title : KeptScan at_start (kind.Fixed mark.Automaton ∷ kind.Name t.name ∷ kind.Fixed mark.Semicolon ∷ []) = record { counts = at_start; kept = kept_same at_start r; scan = scan_mark mark.Automaton r.room tt name_end.scan } in
     let parameters = declared_scan Fine name_kinds name_scan 16 mark.Parameters t.parameters at_start (omega arith) refl r (all_fine t.parameters) fine.parameters in
-    let shared = declared_scan Fine name_kinds name_scan 16 mark.Shared t.shared parameters.counts (omega arith) refl (scan_ready parameters) (all_fine t.shared) fine.shared in
-    let locations = declared_scan Fine location_kinds location_scan 32 mark.Locations t.locations shared.counts (omega arith) refl (scan_ready shared) (all_fine t.locations) fine.locations in
-    let ready5 = scan_ready locations in
+    let shared = declared_scan Fine name_kinds name_scan 16 mark.Shared t.shared parameters.counts (omega arith) refl (kept_ready parameters.kept) (all_fine t.shared) fine.shared in
+    let locations = declared_scan Fine location_kinds location_scan 32 mark.Locations t.locations shared.counts (omega arith) refl (kept_ready shared.kept) (all_fine t.locations) fine.locations in
+    let ready5 = kept_ready locations.kept in
     let sum : KeptScan locations.counts (kind.Fixed mark.Processes ∷ (sum_kinds t.processes ++ kind.Fixed mark.Semicolon ∷ [])) = record { counts = locations.counts; kept = kept_same locations.counts ready5; scan = scan_mark mark.Processes ready5.room tt (scan_then (sum_scan t.processes 32 locations.counts fine.processes (may_open locations.counts ready5)) (scan_mark mark.Semicolon ready5.room tt (scan_none locations.counts))) } in
     let resilience = declared_scan IsShallow comparison_kinds comparison_scan 16 mark.Resilience t.resilience sum.counts (omega arith) refl ready5 fine.shallow fine.resilience in
     let k7 : IsBetweenParts at_start resilience.counts = kept_then at_start parameters.counts resilience.counts parameters.kept (kept_then parameters.counts shared.counts resilience.counts shared.kept (kept_then shared.counts locations.counts resilience.counts locations.kept resilience.kept)) in
-    let rules = blocks_scan IsRuleWithin mark.Rule 128 refl behind_rule rule_scan t.rules 0 resilience.counts (scan_ready resilience) k7.rules fine.each_rule (omega (arith, fine.rules)) in
+    let rules = blocks_scan IsRuleWithin mark.Rule 128 refl behind_rule rule_scan t.rules 0 resilience.counts (kept_ready resilience.kept) k7.rules fine.each_rule (omega (arith, fine.rules)) in
     let k8 : KeptOthers mark.Rule resilience.counts rules.counts = rules.kept in
-    let patterns = blocks_scan IsFinePattern mark.Pattern 16 refl behind_pattern pattern_scan t.patterns 0 rules.counts (record { closed = k8.closed; room = k8.room }) (k8.patterns (λ e. cc) ∙ k7.patterns) (all_both IsPatternWithin IsPattern IsFinePattern (λ p w l. record { within = w; legal = l }) t.patterns fine.each_pattern legal.patterns) (omega (arith, fine.patterns)) in
+    let patterns = blocks_scan GoodPattern mark.Pattern 16 refl behind_pattern pattern_scan t.patterns 0 rules.counts (record { closed = k8.closed; room = k8.room }) (k8.patterns (λ e. cc) ∙ k7.patterns) (all_patterns t.patterns legal.patterns fine.each_pattern) (omega (arith, fine.patterns)) in
     let whole = scan_then title.scan (scan_then parameters.scan (scan_then shared.scan (scan_then locations.scan (scan_then sum.scan (scan_then resilience.scan (scan_then rules.scan patterns.scan)))))) in
     subst (StaysWithin at_start) (ap (λ (z : List Kind). kind.Fixed mark.Automaton ∷ kind.Name t.name ∷ kind.Fixed mark.Semicolon ∷ z) (regroup (kind.Fixed mark.Parameters) (kind.Fixed mark.Shared) (kind.Fixed mark.Locations) (kind.Fixed mark.Processes) (kind.Fixed mark.Resilience) (kind.Fixed mark.Semicolon) (kind.Fixed mark.Semicolon) (kind.Fixed mark.Semicolon) (kind.Fixed mark.Semicolon) (kind.Fixed mark.Semicolon) (listed kind.Fixed name_kinds t.parameters) (listed kind.Fixed name_kinds t.shared) (listed kind.Fixed location_kinds t.locations) (sum_kinds t.processes) (listed kind.Fixed comparison_kinds t.resilience) (each rule_kinds t.rules ++ each pattern_kinds t.patterns))) whole.within

@@ -1,6 +1,5 @@
 -- The longest run of bytes that pass a test.
-use Rattle.ta_syntax.proofs.Common.{◌≡◌, ℕ, suc, Bool, true, false, cond, List, [], ◌∷◌, take, drop, refl, sym, arith, ◌+◌, is_ascii_digit, prefix_len, all_front, begins_word, front_is, IsLongest, BeginsByDigit, TokenFrom, IsDigits, mark_bytes, is_word, BeginsByLetter, Mark}
-use Rattle.std.proofs.lemmas.List.{take-append-drop}
+use Rattle.ta_syntax.proofs.Common.{◌≡◌, ℕ, suc, Bool, true, false, cond, List, [], ◌∷◌, take, drop, refl, sym, arith, ◌+◌, is_ascii_digit, prefix_len, all_front, begins_word, front_is, IsLongest, BeginsByDigit, TokenFrom, IsDigits, mark_bytes, is_word, BeginsByLetter, Mark, take-append-drop}
 use Rattle.ta_syntax.specs.declared.tokens.Kind.TheVariants as kind
 
 abbrev pub Fails : (ℕ → Bool) → List ℕ → Type 0

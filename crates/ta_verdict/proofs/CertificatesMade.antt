@@ -1,7 +1,6 @@
 -- the text of the trees of safe patterns is a certificate that a judge accepts
-use Rattle.ta_verdict.proofs.Common.{◌≡◌, ◌∙◌, ℕ, ◌+◌, ◌<◌, ◌≤◌, ◌^◌, suc, List, [], ◌∷◌, ◌++◌, length, map, Option, Some, None, slice_get, refl, sym, ap, subst, append_assoc, arith, codes, decimal, lit≤, lit<, AllByRecursion, slice_get_within, File, Pattern, LoopsPure, AreWritable, cert_lines, cert_text, head_text, order_lines, pair_of, proof_lines, proof_of, proofs_of, proofs_text, version_of, IsNode, line_text, Node, Order, Proof, RefutedInOrder, Verdict, refuted_hold, orders_once, orders_sound, IsShort, TreeIs, FoundOrders, pattern_search, AreTrees, AreTreesOf, CertificateOf, SafeOne, safe_numbers, safe_ones, tree_size, tree_under, with_safe, ended_line}
+use Rattle.ta_verdict.proofs.Common.{◌≡◌, ◌∙◌, ℕ, ◌+◌, ◌<◌, ◌≤◌, ◌^◌, suc, List, [], ◌∷◌, ◌++◌, length, map, Option, Some, None, slice_get, refl, sym, ap, subst, append_assoc, arith, codes, decimal, lit≤, lit<, AllByRecursion, slice_get_within, File, Pattern, LoopsPure, AreWritable, cert_lines, cert_text, head_text, order_lines, pair_of, proof_lines, proof_of, proofs_of, proofs_text, version_of, line_text, Node, Order, Proof, Verdict, refuted_hold, orders_once, orders_sound, IsShort, TreeIs, FoundOrders, pattern_search, AreTrees, AreTreesOf, CertificateOf, SafeOne, safe_numbers, safe_ones, tree_size, tree_under, with_safe, ended_line, Safe, above_apart, each_append, each_map, weaker, IsProof}
 use Rattle.ta_base.proofs.DecimalDigits.{row_short}
-use Rattle.ta_base.proofs.Each.{above_apart, all_of, weaker}
 use Rattle.ta_base.specs.Lists.{Distinct}
 use Rattle.ta_cert.proofs.Writing.{cert_parts}
 use Rattle.ta_cert.specs.Laws.{AreShort}
@@ -10,12 +9,10 @@ use Rattle.ta_cert.specs.Tree.{Tree, all_preorder}
 use Rattle.ta_cert.specs.declared.line.Line.{Line}
 use Rattle.ta_cert.specs.declared.line.Line.TheVariants as line
 use Rattle.ta_claim.specs.Claims.{search_for}
-use Rattle.ta_claim.specs.declared.claim.Claim.TheVariants.{Safe}
 use Rattle.ta_check.specs.Certificate.{Certificate, ProvesClaim, proof_number}
 use Rattle.ta_check.specs.Subjects.{Subject, claiming}
 use Rattle.ta_check.proofs.Searches.{search_named}
 use Rattle.ta_cursor.specs.Range.{IsJudged}
-use Rattle.ta_encode.specs.Search.{Search}
 use Rattle.ta_encode.proofs.Preorders.{in_order}
 
 -- the numbers of those that are safe
@@ -57,8 +54,7 @@ pattern_short : (k : ℕ) → k < 2 ^ 32 → length (codes "pattern " ++ decimal
 pattern_short k below = let digits = row_short k below in omega arith
 
 lines_short : (ns : List Node) (ls : List Line) → AllByRecursion IsShort ns → AreShort ls → AreShort (map line.Tree ns ++ ls)
-lines_short [] ls short rest = rest
-lines_short (n ∷ ns) ls short rest = (short.0, lines_short ns ls short.1 rest)
+lines_short ns ls short rest = each_append _ (map line.Tree ns) ls (each_map line.Tree IsShort _ ns (λ n is. is) short) rest
 
 -- so is the first line
 version_short : (k : ℕ) → k < 2 ^ 32 → length (codes "threshold-certificate " ++ decimal k) ≤ line_limit
@@ -67,10 +63,6 @@ version_short k below = let digits = row_short k below in omega arith
 head_short : (os : List Order) → length (line_text (line.Header (version_of os))) ≤ line_limit
 head_short [] = version_short 1 (lit< tt)
 head_short (o ∷ os) = version_short 2 (lit< tt)
-
-both_short : (ls ms : List Line) → AreShort ls → AreShort ms → AreShort (ls ++ ms)
-both_short [] ms short rest = rest
-both_short (l ∷ ls) ms short rest = (short.0, both_short ls ms short.1 rest)
 
 -- proofs of what is claimed of such patterns, whose nodes are these
 pub record Made (subject : Subject) (pairs : List (ℕ × ℕ)) (ones : List SafeOne) (trees : List Proof) : Type 0 where
@@ -81,13 +73,7 @@ pub record Made (subject : Subject) (pairs : List (ℕ × ℕ)) (ones : List Saf
   pub writable : AreWritable trees
   pub short : AreShort (proof_lines trees)
 
--- nodes that a judge accepts as refuting a search, and that can be written
-pub record Judgeable (s : Search) (nodes : List Node) : Type 0 where
-  pub refutes : RefutedInOrder s (IsJudged s) s.roots nodes
-  pub writable : AllByRecursion IsNode nodes
-  pub short : AllByRecursion IsShort nodes
-
-pub made : (subject : Subject) (pairs : List (ℕ × ℕ)) (Of : Pattern → List Node → ℕ → Type 0) → ((number : ℕ) (p : Pattern) → slice_get subject.file.patterns number ≡ Some p → (nodes : List Node) (count : ℕ) → Of p nodes count → Judgeable (search_for subject.claim subject.file.automaton p pairs) nodes) → (ones : List SafeOne) (trees : List Proof) → AllByRecursion (λ one. slice_get subject.file.patterns one.number ≡ Some one.pattern) ones → AreTreesOf Of ones trees → Made subject pairs ones trees
+pub made : (subject : Subject) (pairs : List (ℕ × ℕ)) (Of : Pattern → List Node → ℕ → Type 0) → ((number : ℕ) (p : Pattern) → slice_get subject.file.patterns number ≡ Some p → (nodes : List Node) (count : ℕ) → Of p nodes count → IsProof (search_for subject.claim subject.file.automaton p pairs) nodes) → (ones : List SafeOne) (trees : List Proof) → AllByRecursion (λ one. slice_get subject.file.patterns one.number ≡ Some one.pattern) ones → AreTreesOf Of ones trees → Made subject pairs ones trees
 made subject pairs Of judgeable [] [] named are = record { proofs = []; are = refl; prove = tt; named = refl; writable = tt; short = (lit≤ tt, tt) }
 made subject pairs Of judgeable [] (t ∷ ts) named are = absurd are
 made subject pairs Of judgeable (one ∷ ones) [] named are = absurd are
@@ -110,18 +96,17 @@ made subject pairs Of judgeable (one ∷ ones) (t ∷ ts) named are =
       are = ap (λ (p : Proof). p ∷ proofs_of rest.proofs) same ∙ ap (λ (ps : List Proof). t ∷ ps) rest.are;
       prove = (record { search = search; searched = search_named subject pairs one.number one.pattern named.0; proves = trees.1 }, rest.prove);
       named = ap (λ (ks : List ℕ). one.number ∷ ks) rest.named;
-      writable = (record { pattern = below; nodes = all_of IsNode t.nodes proof.writable }, rest.writable);
+      writable = (record { pattern = below; nodes = proof.writable }, rest.writable);
       short = (pattern_short t.pattern below, lines_short t.nodes (proof_lines ts) proof.short rest.short);
     }
 
 -- the nodes of trees under the orders that are found
-judgeable_under : (file : File) (orders : List Order) → FoundOrders file.automaton orders → (budget : ℕ) → LoopsPure file.automaton → budget ≤ 1000000000 → (number : ℕ) (p : Pattern) → slice_get file.patterns number ≡ Some p → (nodes : List Node) (count : ℕ) → tree_under file budget p nodes count → Judgeable (pattern_search file.automaton p (map pair_of orders)) nodes
+judgeable_under : (file : File) (orders : List Order) → FoundOrders file.automaton orders → (budget : ℕ) → LoopsPure file.automaton → budget ≤ 1000000000 → (number : ℕ) (p : Pattern) → slice_get file.patterns number ≡ Some p → (nodes : List Node) (count : ℕ) → tree_under file budget p nodes count → IsProof (pattern_search file.automaton p (map pair_of orders)) nodes
 judgeable_under file orders found budget loops within number p at nodes count is =
     let pairs = map pair_of orders in
     let same_orders = orders_once file.automaton is.orders orders is.found found in
     let tree = subst (λ (os : List Order). TreeIs (pattern_search file.automaton p (map pair_of os)) budget nodes count) same_orders is.holds in
-    let proof = (refuted_hold Safe file number p at tt loops pairs (orders_sound file.automaton orders found).good budget within nodes count tree).0 in
-    record { refutes = proof.refutes; writable = proof.writable; short = proof.short }
+    (refuted_hold Safe file number p at tt loops pairs (orders_sound file.automaton orders found).good budget within nodes count tree).0
 
 -- the numbers of those of a file that are safe are distinct and name their patterns
 pub safe_named : (file : File) (vs : List Verdict) → AllByRecursion (λ one. slice_get file.patterns one.number ≡ Some one.pattern) (safe_ones 0 file.patterns vs)
@@ -129,7 +114,7 @@ safe_named file vs = ones_named file 0 file.patterns vs (λ k p given. let here 
 
 -- the lines of a certificate with such proofs are short
 pub all_short : (orders : List Order) (trees : List Proof) → AreShort (order_lines orders) → AreShort (proof_lines trees) → AreShort (cert_lines orders trees)
-all_short orders trees before behind = (head_short orders, both_short (order_lines orders) (proof_lines trees) before behind)
+all_short orders trees before behind = (head_short orders, each_append _ (order_lines orders) (proof_lines trees) before behind)
 
 pub certificate_accepted : (file : File) (budget : ℕ) → LoopsPure file.automaton → budget ≤ 1000000000 → (vs : List Verdict) (text : List ℕ) → CertificateOf file budget vs text → Certificate file text (safe_numbers file vs)
 certificate_accepted file budget loops within vs text c =

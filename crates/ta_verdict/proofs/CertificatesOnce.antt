@@ -1,35 +1,41 @@
 -- a file has one certificate for a budget
-use Rattle.ta_verdict.proofs.Common.{◌≡◌, ◌∙◌, List, [], ◌∷◌, ℕ, map, refl, sym, ap, subst, File, cert_text, pair_of, Node, Order, Proof, pattern_search, WalkEnd, TreeIs, ends_once, orders_once, AreTrees, CertificatesAreDetermined, IsProofTree, SafeOne, safe_ones}
-use Rattle.ta_walk.specs.declared.end.WalkEnd.TheVariants as walk
+use Rattle.ta_verdict.proofs.Common.{◌≡◌, ◌∙◌, List, [], ◌∷◌, ℕ, map, refl, sym, ap, subst, File, Pattern, cert_text, pair_of, Node, Order, Proof, pattern_search, TreeIs, orders_once, AreTrees, AreTreesOf, CertificatesAreDetermined, SafeOne, safe_ones, tree_under, endings_once, Ending, Left, Solved, Stopped, Whole}
+use Rattle.ta_encode.specs.Search.{Search}
 use Rattle.ta_verdict.proofs.VerdictsOnce.{verdicts_once}
 
--- a pattern has one tree
-abbrev tree_of : WalkEnd → List Node
-tree_of (walk.Refuted nodes count) = nodes
-tree_of (walk.Found count solution) = []
-tree_of (walk.Spent count) = []
-tree_of (walk.Overflow node kind) = []
+-- a search has one tree
+nodes_of : Ending → List Node
+nodes_of (Whole nodes count) = nodes
+nodes_of (Solved count w values) = []
+nodes_of (Stopped count) = []
+nodes_of (Left node kind) = []
 
-one_tree : (file : File) (budget : ℕ) (one : SafeOne) (p q : Proof) → IsProofTree file budget one p → IsProofTree file budget one q → p ≡ q
-one_tree file budget one p q h k =
-    let numbers : p.pattern ≡ q.pattern = h.numbered ∙ sym k.numbered in
-    let orders = orders_once file.automaton h.is.orders k.is.orders h.is.found k.is.found in
-    let first = subst (λ (os : List Order). TreeIs (pattern_search file.automaton one.pattern (map pair_of os)) budget p.nodes one.nodes) orders h.is.holds in
-    let nodes : p.nodes ≡ q.nodes = ap tree_of (ends_once (pattern_search file.automaton one.pattern (map pair_of k.is.orders)) one.number budget (walk.Refuted p.nodes one.nodes) (walk.Refuted q.nodes one.nodes) first k.is.holds) in
-    λ i. record { pattern = numbers i; nodes = nodes i }
+pub tree_once : (s : Search) (budget : ℕ) (nodes others : List Node) (count : ℕ) → TreeIs s budget nodes count → TreeIs s budget others count → nodes ≡ others
+unfolding nodes_of
+tree_once s budget nodes others count is are = ap nodes_of (endings_once s budget (Whole nodes count) (Whole others count) is are)
 
-trees_once : (file : File) (budget : ℕ) (ones : List SafeOne) (ps qs : List Proof) → AreTrees file budget ones ps → AreTrees file budget ones qs → ps ≡ qs
-trees_once file budget [] [] [] h k = refl
-trees_once file budget [] [] (q ∷ qs) h k = absurd k
-trees_once file budget [] (p ∷ ps) qs h k = absurd h
-trees_once file budget (one ∷ ones) [] qs h k = absurd h
-trees_once file budget (one ∷ ones) (p ∷ ps) [] h k = absurd k
-trees_once file budget (one ∷ ones) (p ∷ ps) (q ∷ qs) h k =
-    ap (λ (r : Proof). r ∷ ps) (one_tree file budget one p q h.0 k.0) ∙ ap (λ (rs : List Proof). q ∷ rs) (trees_once file budget ones ps qs h.1 k.1)
+-- where each pattern has one tree, those that are safe have one list of trees
+pub trees_once : (Tree : Pattern → List Node → ℕ → Type 0) → ((p : Pattern) (nodes others : List Node) (count : ℕ) → Tree p nodes count → Tree p others count → nodes ≡ others) → (ones : List SafeOne) (ps qs : List Proof) → AreTreesOf Tree ones ps → AreTreesOf Tree ones qs → ps ≡ qs
+trees_once Tree once [] [] [] h k = refl
+trees_once Tree once [] [] (q ∷ qs) h k = absurd k
+trees_once Tree once [] (p ∷ ps) qs h k = absurd h
+trees_once Tree once (one ∷ ones) [] qs h k = absurd h
+trees_once Tree once (one ∷ ones) (p ∷ ps) [] h k = absurd k
+trees_once Tree once (one ∷ ones) (p ∷ ps) (q ∷ qs) h k =
+    let numbers : p.pattern ≡ q.pattern = h.0.numbered ∙ sym k.0.numbered in
+    let nodes = once one.pattern p.nodes q.nodes one.nodes h.0.is k.0.is in
+    let first : p ≡ q = λ i. record { pattern = numbers i; nodes = nodes i } in
+    ap (λ (r : Proof). r ∷ ps) first ∙ ap (λ (rs : List Proof). q ∷ rs) (trees_once Tree once ones ps qs h.1 k.1)
+
+one_tree : (file : File) (budget : ℕ) (p : Pattern) (nodes others : List Node) (count : ℕ) → tree_under file budget p nodes count → tree_under file budget p others count → nodes ≡ others
+one_tree file budget p nodes others count h k =
+    let orders = orders_once file.automaton h.orders k.orders h.found k.found in
+    let first = subst (λ (os : List Order). TreeIs (pattern_search file.automaton p (map pair_of os)) budget nodes count) orders h.holds in
+    tree_once (pattern_search file.automaton p (map pair_of k.orders)) budget nodes others count first k.holds
 
 pub certificates_once : CertificatesAreDetermined
 certificates_once file budget vs ws text other h k c d =
     let ones = ap (safe_ones 0 file.patterns) (verdicts_once file budget vs ws h k) in
-    let trees = trees_once file budget (safe_ones 0 file.patterns ws) c.trees d.trees (subst (λ (xs : List SafeOne). AreTrees file budget xs c.trees) ones c.are) d.are in
+    let trees = trees_once (tree_under file budget) (one_tree file budget) (safe_ones 0 file.patterns ws) c.trees d.trees (subst (λ (xs : List SafeOne). AreTrees file budget xs c.trees) ones c.are) d.are in
     let orders = orders_once file.automaton c.orders d.orders c.found d.found in
     c.written ∙ ap (λ (os : List Order). cert_text os c.trees) orders ∙ ap (cert_text d.orders) trees ∙ sym d.written

@@ -1,10 +1,8 @@
 -- a certificate as it is written
-use Rattle.ta_verdict.proofs.Common.{◌≡◌, ◌∙◌, ℕ, ◌+◌, ◌<◌, true, List, [], ◌∷◌, ◌++◌, length, take, Option, Some, None, get_or, refl, sym, ap, subst, arith, append_assoc, append-nil, length-take-le, take_more, get_or_from_slice_get, some_at, File, Pattern, nodes_text, proof_text, proofs_text, line_text, node_text, Node, Proof, Verdict, OfPattern, AreTreesOf, SafeOne, safe_ones, tree_size, with_safe, AddsTree, DraftBegins, DraftKeeps, DraftHasTree, HasProofs, HasText, HasTrees, ended_line, pieces_text}
+use Rattle.ta_verdict.proofs.Common.{◌≡◌, ◌∙◌, ℕ, ◌+◌, ◌<◌, true, List, [], ◌∷◌, ◌++◌, length, take, Option, Some, None, refl, sym, ap, subst, arith, append_assoc, append-nil, length-take-le, take_next, some_at, File, Pattern, nodes_text, proof_text, proofs_text, line_text, node_text, Node, Proof, Verdict, OfPattern, AreTreesOf, SafeOne, safe_ones, tree_size, with_safe, AddsTree, DraftBegins, DraftKeeps, DraftHasTree, HasProofs, HasText, HasTrees, ended_line, pieces_text, AllocError, Draft}
 use Rattle.std.specs.Prelude.{is_some, OnOk, Result, Ok, Err}
-use Rattle.std.specs.declared.alloc.AllocError.{AllocError}
 use Rattle.std.proofs.lemmas.Bool.{false≢true}
 use Rattle.ta_cert.specs.declared.line.Line.TheVariants as line
-use Rattle.ta_verdict.specs.declared.draft.Draft.{Draft}
 use Rattle.ta_verdict.specs.declared.pieces.Pieces.{Pieces}
 
 nodes_joined : (ns ms : List Node) → nodes_text (ns ++ ms) ≡ nodes_text ns ++ nodes_text ms
@@ -108,8 +106,7 @@ trees_more file Tree head done vs v draft next within counted has adds =
     let ps = file.patterns in
     let at = some_at ps done within in
     let p = at.0 in
-    let same : get_or ps done p ≡ p = get_or_from_slice_get ps done p p at.1 in
-    let more : take done ps ++ p ∷ [] ≡ take (done + 1) ps = sym (take_more ps done p within ∙ ap (λ (q : Pattern). take done ps ++ q ∷ []) same) in
+    let more = sym (take_next ps done p at.1) in
     let long : length (take done ps) ≡ done = length-take-le done ps (omega arith) in
     let number : 0 + length (take done ps) ≡ done = omega arith in
     let added = adds p at.1 head has.0 has.2 in

@@ -3,6 +3,7 @@ pub mod VerdictsMade
 pub mod VerdictsOnce
 mod PiecesMade
 pub mod DraftsMade
+pub mod JudgedSoFar
 pub mod CertificatesMade
 pub mod CertificatesOnce
 pub mod SamplesMade

@@ -10,7 +10,7 @@ use Rattle.ta_cert.specs.declared.line.Node.{Node}
 use Rattle.ta_cert.specs.declared.line.Order.{Order}
 use Rattle.ta_encode.specs.Sample.{HasStart}
 use Rattle.ta_encode.specs.declared.encoded.Solution.{Solution}
-use Rattle.ta_encode.specs.InPreorder.{Pending}
+use Rattle.ta_encode.specs.Search.{Pending, Search}
 use Rattle.ta_replay.specs.declared.run.Run.{Run}
 use Rattle.ta_replay.specs.Replays.{ReplayStays}
 use Rattle.ta_replay.specs.Shows.{Shows}
@@ -19,7 +19,7 @@ use Rattle.ta_walk.specs.declared.end.SampleEnd.TheVariants as samples
 use Rattle.ta_walk.specs.declared.end.PlaceKind.{PlaceKind}
 use Rattle.ta_walk.specs.declared.end.PlaceKind.TheVariants as place
 use Rattle.ta_walk.specs.Visit.{IsOutOfRangeAt}
-use Rattle.ta_walk.specs.Ends.{IsSpent, NodeOf, SolutionAt, TreeIs, leaf_count}
+use Rattle.ta_walk.specs.Ends.{IsProof, IsSpent, NodeOf, SolutionAt, TreeIs, leaf_count}
 use Rattle.ta_walk.specs.FoundOrders.{FoundOrders}
 use Rattle.ta_walk.specs.Splits.{HasAtMost, WasSplit}
 use Rattle.ta_report.specs.declared.verdict.ReportKind.{ReportKind}
@@ -44,40 +44,80 @@ pub record UnderOrders (file : File) (fact : List (ℕ × ℕ) → Type 0) : Typ
   pub found : FoundOrders file.automaton orders
   pub holds : fact (map pair_of orders)
 
--- the pattern is safe; its tree has so many nodes, within the budget, and so many of them are leaves
-pub record SafeHolds (file : File) (pairs : List (ℕ × ℕ)) (p : Pattern) (budget nodes leaves : ℕ) : Type 0 where
-  pub safe : runs.Safe file.automaton p
-  pub tree : List Node
-  pub is : TreeIs (pattern_search file.automaton p pairs) budget tree nodes
-  pub counted : leaves ≡ leaf_count tree
+-- what is asked of a pattern: which words are searched, what is so where all are refuted, the run of a solution, when a number of that run's
+-- replay leaves the range, and when there are no more pairs of a start set and a legal word than some number
+pub record Question : Type 1 where
+  pub search : Search
+  pub claim : Type 0
+  pub shown : Solution → Run → Type 0
+  pub leaves : Solution → Type 0
+  pub few : ℕ → Type 0
 
--- the run shows the pattern of a number in a replay that stays in range, and has at most (guards + events) * (rules + 1) steps; it
--- is the run of the first whole node, which is the node of this number, within the budget
-pub record UnsafeHolds (file : File) (pairs : List (ℕ × ℕ)) (number : ℕ) (p : Pattern) (budget nodes : ℕ) (run : Run) : Type 0 where
+-- it is so; the tree has so many nodes, within the budget, of which so many are leaves; and they are a proof that a judge accepts
+pub record SafeHolds (q : Question) (budget nodes leaves : ℕ) : Type 0 where
+  pub safe : q.claim
+  pub tree : List Node
+  pub is : TreeIs q.search budget tree nodes
+  pub counted : leaves ≡ leaf_count tree
+  pub proof : IsProof q.search tree
+
+-- the run is that of the solution of the first whole node, which is the node of this number, within the budget; the pattern of the
+-- search has this number in its file
+pub record UnsafeHolds (q : Question) (number budget nodes : ℕ) (run : Run) : Type 0 where
   pub solution : Solution
-  pub node : NodeOf (pattern_search file.automaton p pairs) budget nodes (SolutionAt (pattern_search file.automaton p pairs) number solution)
-  pub is : WitnessOf file solution run
+  pub node : NodeOf q.search budget nodes (SolutionAt q.search number solution)
+  pub is : q.shown solution run
+
+-- as many nodes as the budget allows are visited, and a word is left; where there are no more pairs of a start set and a legal word than
+-- nodes, one of these was split
+pub record SpentHolds (q : Question) (budget nodes : ℕ) : Type 0 where
+  pub is : IsSpent q.search budget nodes
+  pub split : q.few budget → WasSplit q.search budget
+
+-- the word is that of a whole node, and a number of the replay of its run leaves the range
+pub record RunOutOfRange (q : Question) (number : ℕ) (w : Pending) : Type 0 where
+  pub solution : Solution
+  pub whole : SolutionAt q.search number solution w
+  pub run : q.leaves solution
+
+-- where a number of a node leaves the range: in a pivot, in the check of the leaf that it is, or in the replay of its run
+abbrev pub IsOutOfRangeIn : Question → ℕ → ReportKind → Pending → Type 0
+IsOutOfRangeIn q number (kind.Pivot pivot) w = IsOutOfRangeAt q.search w (place.Pivot pivot)
+IsOutOfRangeIn q number kind.Leaf w = IsOutOfRangeAt q.search w place.Leaf
+IsOutOfRangeIn q number kind.Run w = RunOutOfRange q number w
+
+-- a verdict on the pattern of a number answers a question, for a budget of nodes. Each node before the one that is named was a leaf, an extension or
+-- a split, and no number of it left the range
+abbrev pub VerdictAnswers : Question → ℕ → ℕ → Verdict → Type 0
+VerdictAnswers q budget number (Safe nodes leaves) = SafeHolds q budget nodes leaves
+VerdictAnswers q budget number (Unsafe nodes run) = UnsafeHolds q number budget nodes run
+VerdictAnswers q budget number (Spent nodes) = SpentHolds q budget nodes
+VerdictAnswers q budget number (Overflow node kind) = NodeOf q.search budget node (IsOutOfRangeIn q number kind)
+
+-- a verdict for each of the patterns, of which the first has this number, and of each a fact holds
+abbrev pub EachHolds : (ℕ → Pattern → Verdict → Type 0) → ℕ → List Pattern → List Verdict → Type 0
+EachHolds Fact number [] [] = Unit {0}
+EachHolds Fact number [] (v ∷ vs) = ⊥
+EachHolds Fact number (p ∷ ps) [] = ⊥
+EachHolds Fact number (p ∷ ps) (v ∷ vs) = Fact number p v × EachHolds Fact (number + 1) ps vs
+
+-- the run of a solution, which shows the pattern of its number in a replay that stays in range, and has at most
+-- (guards + events) * (rules + 1) steps
+pub record ShownWitness (file : File) (solution : Solution) (run : Run) : Type 0 where
+  pub witness : WitnessOf file solution run
   pub shows : Shows file run
   pub stays : ReplayStays file run
   pub short : IsShortRun file run
 
--- as many nodes as the budget allows are visited, and a word is left; where there are no more pairs of a start set and a legal word than
--- nodes, one of these was split
-pub record SpentHolds (file : File) (pairs : List (ℕ × ℕ)) (p : Pattern) (budget nodes : ℕ) : Type 0 where
-  pub is : IsSpent (pattern_search file.automaton p pairs) budget nodes
-  pub split : HasAtMost file.automaton p pairs budget → WasSplit (pattern_search file.automaton p pairs) budget
-
--- the word is that of a whole node, and a number of the replay of its run leaves the range
-pub record RunOutOfRange (file : File) (pairs : List (ℕ × ℕ)) (number : ℕ) (p : Pattern) (w : Pending) : Type 0 where
-  pub solution : Solution
-  pub whole : SolutionAt (pattern_search file.automaton p pairs) number solution w
-  pub run : WitnessOutOfRange file solution
-
--- where a number of a node leaves the range: in a pivot, in the check of the leaf that it is, or in the replay of its run
-abbrev pub IsOutOfRangeIn : File → List (ℕ × ℕ) → ℕ → Pattern → ReportKind → Pending → Type 0
-IsOutOfRangeIn file pairs number p (kind.Pivot pivot) w = IsOutOfRangeAt (pattern_search file.automaton p pairs) w (place.Pivot pivot)
-IsOutOfRangeIn file pairs number p kind.Leaf w = IsOutOfRangeAt (pattern_search file.automaton p pairs) w place.Leaf
-IsOutOfRangeIn file pairs number p kind.Run w = RunOutOfRange file pairs number p w
+-- whether a pattern of a file is safe, with words ordered by pairs of guards
+abbrev pub safety_question : File → List (ℕ × ℕ) → Pattern → Question
+safety_question file pairs p = record {
+  search = pattern_search file.automaton p pairs;
+  claim = runs.Safe file.automaton p;
+  shown = ShownWitness file;
+  leaves = WitnessOutOfRange file;
+  few = HasAtMost file.automaton p pairs;
+}
 
 -- the values are a sample of the parameters: natural numbers that meet the resilience condition and have an initial configuration; and
 -- the search for a sample ends with them within a budget of nodes
@@ -108,24 +148,13 @@ pub record IsSample (file : File) (budget : ℕ) (s : ReportSample) : Type 0 whe
 abbrev pub SamplesAreDetermined : Type 0
 SamplesAreDetermined = (file : File) (budget : ℕ) (s t : ReportSample) → IsSample file budget s → IsSample file budget t → s ≡ t
 
--- a verdict on the pattern of a number holds under pairs of guards, for a budget of nodes. Each node before the one that is named was
--- a leaf, an extension or a split, and no number of it left the range
-abbrev pub HoldsUnder : File → List (ℕ × ℕ) → ℕ → ℕ → Pattern → Verdict → Type 0
-HoldsUnder file pairs budget number p (Safe nodes leaves) = SafeHolds file pairs p budget nodes leaves
-HoldsUnder file pairs budget number p (Unsafe nodes run) = UnsafeHolds file pairs number p budget nodes run
-HoldsUnder file pairs budget number p (Spent nodes) = SpentHolds file pairs p budget nodes
-HoldsUnder file pairs budget number p (Overflow node kind) = NodeOf (pattern_search file.automaton p pairs) budget node (IsOutOfRangeIn file pairs number p kind)
-
--- it holds under the pairs of the orders that are found
+-- a verdict on the pattern of a number holds under the pairs of the orders that are found
 abbrev pub VerdictHolds : File → ℕ → ℕ → Pattern → Verdict → Type 0
-VerdictHolds file budget number p v = UnderOrders file (λ pairs. HoldsUnder file pairs budget number p v)
+VerdictHolds file budget number p v = UnderOrders file (λ pairs. VerdictAnswers (safety_question file pairs p) budget number v)
 
--- a verdict for each of the patterns, of which the first has this number, and each holds
+-- so does a verdict for each of the patterns, of which the first has this number
 abbrev pub VerdictsHold : File → ℕ → ℕ → List Pattern → List Verdict → Type 0
-VerdictsHold file budget number [] [] = Unit {0}
-VerdictsHold file budget number [] (v ∷ vs) = ⊥
-VerdictsHold file budget number (p ∷ ps) [] = ⊥
-VerdictsHold file budget number (p ∷ ps) (v ∷ vs) = VerdictHolds file budget number p v × VerdictsHold file budget (number + 1) ps vs
+VerdictsHold file budget number ps vs = EachHolds (VerdictHolds file budget) number ps vs
 
 abbrev pub is_unsafe : Verdict → Bool
 is_unsafe (Safe nodes leaves) = false

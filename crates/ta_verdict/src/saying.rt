@@ -1,7 +1,7 @@
 //! What a verdict says of a pattern.
 #![tactic(auto)]
 
-ghost use Rattle.std.specs.Prelude.{◌≡◌, IfOk, is_some};
+ghost use Rattle.std.specs.Prelude.{◌≡◌, IfErr, IfOk, is_some};
 ghost use Rattle.ta_report.specs.declared.verdict.ReportKind.TheVariants.{Run};
 ghost use Rattle.ta_report.specs.declared.verdict.Verdict.TheVariants.{Overflow};
 ghost use Rattle.ta_verdict.specs.Certificates.{tree_size};
@@ -36,7 +36,8 @@ pub fn is_unknown(verdict: &Verdict) -> bool
 /// The verdict where the node of a number is the first whole one and its solution has no run: a number
 /// of the run's replay left the range.
 pub fn unwitnessed(node: u64, fault: WitnessFault) -> Result<Verdict, AllocError>
-    ensures { IfOk result (λ verdict. (fault ≡ why.Overflow) × (verdict ≡ Overflow node Run)) }
+    ensures overflow { IfOk result (λ verdict. (fault ≡ why.Overflow) × (verdict ≡ Overflow node Run)) }
+    ensures memory { IfErr result (λ none. fault ≡ why.Memory) }
 {
     match fault {
         WitnessFault::Overflow => Ok(Verdict::Overflow {

@@ -1,24 +1,23 @@
 -- the children of a word are distinct
-use Rattle.ta_walk.proofs.Common.{◌≡◌, inl, inr, ℕ, zero, suc, ◌+◌, ◌-◌, ◌^◌, ◌≤◌, Bool, true, false, cond, List, [], ◌∷◌, ◌++◌, length, map, arith, ◌∙◌, filter, distinct_append, each_from_in, in_append, in_filter, in_map, in_numbers, Automaton, Pattern, Distinct, In, numbers_from, Element, children, is_complete, is_ready, is_standing, may_rise}
+use Rattle.ta_walk.proofs.Common.{◌≡◌, inl, inr, ℕ, zero, suc, ◌+◌, ◌-◌, ◌^◌, ◌≤◌, Bool, true, false, cond, List, [], ◌∷◌, ◌++◌, length, map, arith, ◌∙◌, filter, distinct_append, each_from_in, in_append, in_filter, in_map, in_numbers, Automaton, Pattern, Distinct, In, range_with_len, Element, children, is_complete, is_ready, is_standing, may_rise}
 use Rattle.ta_words.specs.declared.element.Element.TheVariants.{Event, Rise, Fall}
 
 -- those of some numbers that pass
 abbrev passed : (ℕ → Element) → (ℕ → Bool) → ℕ → ℕ → List Element
-passed f test k n = map f (filter test (numbers_from k n))
+passed f test k n = map f (filter test (range_with_len k n))
 
 in_passed : (f : ℕ → Element) (test : ℕ → Bool) (k n : ℕ) (e : Element) → In e (passed f test k n) → (x : ℕ) × (e ≡ f x) × (k ≤ x)
 in_passed f test k n e h =
-    let mapped = in_map f e (filter test (numbers_from k n)) h in
-    let kept = in_filter test mapped.0 (numbers_from k n) mapped.1 in
+    let mapped = in_map f e (filter test (range_with_len k n)) h in
+    let kept = in_filter test mapped.0 (range_with_len k n) mapped.1 in
     (mapped.0, mapped.2, (in_numbers mapped.0 k n kept.1).0)
 
-kept_once : (f : ℕ → Element) (test : ℕ → Bool) (k n : ℕ) (b : Bool) → ((x y : ℕ) → f x ≡ f y → x ≡ y) → Distinct (passed f test (k + 1) n) → Distinct (map f (cond b (k ∷ filter test (numbers_from (k + 1) n)) (filter test (numbers_from (k + 1) n))))
+kept_once : (f : ℕ → Element) (test : ℕ → Bool) (k n : ℕ) (b : Bool) → ((x y : ℕ) → f x ≡ f y → x ≡ y) → Distinct (passed f test (k + 1) n) → Distinct (map f (cond b (k ∷ filter test (range_with_len (k + 1) n)) (filter test (range_with_len (k + 1) n))))
 kept_once f test k n false one d = d
 kept_once f test k n true one d = (
   each_from_in (λ e. f k ≡ e → ⊥) (passed f test (k + 1) n) (λ e h same.
       let at = in_passed f test (k + 1) n e h in
       let is : k ≡ at.0 = one k at.0 (same ∙ at.1) in
-      let above = at.2 in
       absurd (omega arith)
       ),
   d,

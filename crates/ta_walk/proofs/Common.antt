@@ -1,30 +1,35 @@
 -- The names that the proofs of this crate cite, passed on from one place. Declares nothing.
 pub use Rattle.std.proofs.Common.{Bool, FitsSigned, IfOk, List, None, Ok, Option, Some, [], ap, append-nil, append_assoc, arith, codes, cond, decimal, drop, false, get_or, inl, inr, length, length-append, lit<, map, nat_lt, negsuc, pos, refl, reverse, rules, slice_get, subst, suc, sym, take, true, zero, ℕ, ℤ, ◌*ℤ◌, ◌*◌, ◌++◌, ◌+ℤ◌, ◌+◌, ◌-◌, ◌<ℤ◌, ◌<◌, ◌^◌, ◌∙◌, ◌∷◌, ◌≡◌, ◌≤ℤ◌, ◌≤◌, ◌⊎◌}
 pub use Rattle.std.proofs.Math.IntN.{*ℤ_comm}
+pub use Rattle.std.proofs.lemmas.Bool.{cases_eq, cases_order, cond_both, true≢false}
 pub use Rattle.std.proofs.lemmas.Bool.Decides.{nat_tests}
-pub use Rattle.std.proofs.lemmas.Bool.{cases_eq, cases_order, true≢false}
 pub use Rattle.std.proofs.lemmas.Int.{by_lt_z, ints, to_z-of_z}
 pub use Rattle.std.proofs.lemmas.List.{length-map, map-append, reverse-reverse, take-append-drop, take_more}
 pub use Rattle.std.specs.Int.{int_div_euclid, int_rem_euclid, w128}
-pub use Rattle.std.specs.List.{AllByRecursion, take-map}
+pub use Rattle.std.specs.List.{AllByRecursion, take-map, range_with_len}
 pub use Rattle.std.specs.Prelude.{IsSomeAnd, filter, if◌then◌else◌, slice_index, unsigned_abs}
+pub use Rattle.ta_automaton.proofs.Thresholds.{pattern_within}
+pub use Rattle.ta_automaton.specs.Patterns.{PatternOver}
 pub use Rattle.ta_automaton.specs.declared.automaton.Automaton.{Automaton}
 pub use Rattle.ta_automaton.specs.declared.file.File.{File}
 pub use Rattle.ta_automaton.specs.declared.pattern.Pattern.{Pattern}
 pub use Rattle.ta_base.proofs.DecimalDigits.{row_short}
-pub use Rattle.ta_base.proofs.Each.{distinct_append, each_append, each_back, each_from_in, each_front, each_in, each_push, first_ones, no_more}
+pub use Rattle.ta_base.proofs.Each.{distinct_append, each_append, each_back, each_from_in, each_front, each_in, each_push, each_take, no_more}
 pub use Rattle.ta_base.proofs.Integers.{below_limit, cancel_positive, euclid, factor_below, floor_high, floor_low, floor_natural, floor_once, ge-zero_of_mul, number_short, twice_most, unsigned_abs-neg}
 pub use Rattle.ta_base.proofs.Lists.{next_dropped, none_dropped, some_within}
 pub use Rattle.ta_base.proofs.Members.{In-left, In-map, In-right, in_append, in_at, in_filter, in_map}
 pub use Rattle.ta_base.proofs.Ranges.{In-numbers, in_numbers}
 pub use Rattle.ta_base.specs.Lists.{Distinct}
-pub use Rattle.ta_base.specs.Masks.{In, numbers_from}
+pub use Rattle.ta_base.specs.Masks.{In}
 pub use Rattle.ta_cert.specs.Certificates.{IsOrder, order_lines, pair_of}
 pub use Rattle.ta_cert.specs.Lines.{ArePairs, IsMultiplierPair, IsNode, IsSplit, line_text, pair_text, pairs_text, split_text}
 pub use Rattle.ta_cert.specs.declared.line.Node.{Node}
 pub use Rattle.ta_cert.specs.declared.line.Order.{Order}
+pub use Rattle.ta_claim.proofs.ClaimWords.{claim_legal, claim_roots, claim_small, claim_unknowns}
 pub use Rattle.ta_claim.proofs.PatternWords.{comes_legal}
+pub use Rattle.ta_claim.specs.Claims.{search_for}
 pub use Rattle.ta_claim.specs.Trees.{search_of_claim}
+pub use Rattle.ta_claim.specs.declared.claim.Claim.{Claim}
 pub use Rattle.ta_cursor.proofs.Beginning.{at_word, comes_first}
 pub use Rattle.ta_cursor.proofs.Ranges.{check_stays, leaf_stays, stays_same}
 pub use Rattle.ta_cursor.proofs.RowCounts.{condition_few, few_unknowns}
@@ -33,8 +38,8 @@ pub use Rattle.ta_cursor.specs.InTrees.{AllGoOn, AllWithin, here_at}
 pub use Rattle.ta_cursor.specs.Range.{IsJudged, LeafStays}
 pub use Rattle.ta_cursor.specs.TreeCalls.{IsSmall, RootIs}
 pub use Rattle.ta_cursor.specs.declared.cursor.Cursor.{Cursor}
-unfoldable pub use Rattle.ta_dense.specs.Slack.{slack_tableau}
 pub use Rattle.ta_dense.specs.Slack.{variables}
+unfoldable pub use Rattle.ta_dense.specs.Slack.{slack_tableau}
 pub use Rattle.ta_dense.specs.Tableau.{Tableau, basic_of, cell_of, non_basic_of, row_of}
 pub use Rattle.ta_encode.proofs.CodeRows.{leaf_of, rows_count, solution_of, unbounded}
 pub use Rattle.ta_encode.proofs.Samples.{none_starts, sample_count, sample_few, samples_start}
@@ -51,6 +56,7 @@ pub use Rattle.ta_implied.specs.Implied.{AreCopies, ChainLeads, Good, ImplySyste
 pub use Rattle.ta_implied.specs.Orders.{IsShown, MayJoin, is_earlier, with_pair}
 pub use Rattle.ta_linear.specs.Leaf.{AreMultipliers, LeafOf}
 pub use Rattle.ta_linear.specs.Numbers.{InRange}
+pub use Rattle.ta_linear.specs.SameNumbers.{RowsAlike, SameNumbers, SameRow}
 pub use Rattle.ta_linear.specs.Terms.{coefficient}
 pub use Rattle.ta_linear.specs.declared.row.Row.{Row}
 pub use Rattle.ta_linear.specs.declared.row.System.{System}
@@ -60,13 +66,12 @@ pub use Rattle.ta_simplex.proofs.RunLemmas.{reached_dictionary}
 pub use Rattle.ta_simplex.proofs.SystemEnds.{end_exists, slack_proper}
 pub use Rattle.ta_simplex.proofs.WholeLemmas.{some_both, whole_vertex_solves}
 pub use Rattle.ta_simplex.specs.Branch.{IsBranch}
-pub use Rattle.ta_simplex.specs.Laws.{RowsAlike, SameNumbers, SameRow}
 pub use Rattle.ta_simplex.specs.LeastIndex.{LeastStep, OverflowsAt, Reached}
 pub use Rattle.ta_simplex.specs.Refuted.{GivesMultipliers, IsRefuted}
 pub use Rattle.ta_simplex.specs.Vertex.{IsVertex}
 pub use Rattle.ta_simplex.specs.declared.fraction.Fraction.{Fraction}
 pub use Rattle.ta_walk.specs.Answers.{HasEnding, HasSystems, SearchesHaveEnds, WalksHaveEnds, WordsHaveSystems}
-pub use Rattle.ta_walk.specs.Ends.{Ending, EndingsAreDetermined, FoundWordsAreSolved, HasFewPairs, IsProof, IsShort, IsSpent, IsTreeEnd, IsUnbounded, IsVisitEnding, IsVisited, IsWalkEnd, Left, NodeOf, RefutedClaimsHold, SolutionAt, Solved, Stopped, TreeIs, TreeKept, WalksAreDetermined, Whole, WholeNodesSolve, WholeWord, leaf_count}
+pub use Rattle.ta_walk.specs.Ends.{Ending, EndingsAreDetermined, FoundWordsAreSolved, HasFewPairs, IsProof, IsShort, IsSpent, IsTreeEnd, IsUnbounded, IsVisitEnd, IsVisitEnding, IsVisited, IsWalkEnd, Left, NodeOf, RefutedClaimsHold, SolutionAt, Solved, Stopped, TreeIs, TreeKept, WalksAreDetermined, Whole, WholeNodesSolve, WholeWord, leaf_count}
 pub use Rattle.ta_walk.specs.FoundOrders.{AreSoundOrders, FoundAfter, FoundBefore, FoundOrdersAreDetermined, FoundOrdersAreSound, IsTaken, RefutedPair, TryAnswers}
 pub use Rattle.ta_walk.specs.Inside.Parts.{ComesTo, HasFewBounds, HasFewLeft, IsLaterKeeper, IsNotRefuted, IsWholeEnd, LeadsToBoth, PartEnds, PartVisited, SharesBudget, beginning, behind, root_word}
 pub use Rattle.ta_walk.specs.Inside.Sought.{ComesFirst, GuardTried, MasksAgree, PairTried}

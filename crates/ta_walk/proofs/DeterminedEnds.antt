@@ -25,7 +25,6 @@ not_before_spent s budget c i F bars spent f =
 tree_is_not_spent : (s : Search) (budget c d : ℕ) (ns : List Node) → TreeIs s budget ns c → IsSpent s budget d → ⊥
 tree_is_not_spent s budget c d ns t spent =
     let less = (word_of_tree s budget ns c budget spent.word t spent.visited).0 in
-    let within = t.within in
     absurd (omega arith)
 
 -- two such nodes are one, at one word
@@ -38,7 +37,6 @@ record SamePlace (i j : ℕ) (F G : Pending → Type 0) : Type 0 where
 place_once : (s : Search) (budget i j : ℕ) (F G : Pending → Type 0) → BarsNodes s F → BarsNodes s G → NodeOf s budget i F → NodeOf s budget j G → SamePlace i j F G
 place_once s budget i j F G bars bar f g =
     let number = f.number_is in
-    let numbered = g.number_is in
     elim (cases_order f.before g.before) [
       | inl same ↦ record {
         number = omega arith;

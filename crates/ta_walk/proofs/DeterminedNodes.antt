@@ -1,6 +1,5 @@
 -- at a word stands one node, or it is whole, or a number leaves the range
-use Rattle.ta_walk.proofs.Common.{◌≡◌, ℕ, List, ap, ◌∙◌, refl, subst, ℤ, Node, LeafStays, Fraction, PlaceKind, SplitsAt, AreNumbers, NodeAt, WholeAt, IsOutOfRangeAt, SplitVertex, Pending, Search, bounded_rows}
-use Rattle.ta_base.proofs.Booleans.{not_open}
+use Rattle.ta_walk.proofs.Common.{◌≡◌, ℕ, List, ap, ◌∙◌, refl, subst, ℤ, Node, LeafStays, Fraction, PlaceKind, SplitsAt, AreNumbers, NodeAt, WholeAt, IsOutOfRangeAt, SplitVertex, Pending, Search, bounded_rows, sym, true≢false}
 use Rattle.ta_cert.specs.declared.line.Node.TheVariants as node
 use Rattle.ta_walk.specs.declared.end.PlaceKind.TheVariants as kind
 use Rattle.ta_walk.proofs.DeterminedOutcomes.{multipliers_at, values_at, no_vertex, counts_at, no_overflow_refuted, no_overflow_vertex}
@@ -17,9 +16,9 @@ node_once s w (node.Leaf ts) node.Extend h g = absurd (no_vertex s w ts g.values
 node_once s w (node.Leaf ts) (node.Split y n) h g = absurd (no_vertex s w ts g.values h.refuted g.vertex)
 node_once s w node.Extend (node.Leaf us) h g = absurd (no_vertex s w us h.values g.refuted h.vertex)
 node_once s w node.Extend node.Extend h g = refl
-node_once s w node.Extend (node.Split y n) h g = absurd (not_open (s.complete w.start w.past) g.complete h.going_on)
+node_once s w node.Extend (node.Split y n) h g = absurd (true≢false (sym g.complete ∙ h.going_on))
 node_once s w (node.Split x k) (node.Leaf us) h g = absurd (no_vertex s w us h.values g.refuted h.vertex)
-node_once s w (node.Split x k) node.Extend h g = absurd (not_open (s.complete w.start w.past) h.complete g.going_on)
+node_once s w (node.Split x k) node.Extend h g = absurd (true≢false (sym h.complete ∙ g.going_on))
 node_once s w (node.Split x k) (node.Split y n) h g =
     let same = split_same s w x y k n h g in
     ap (λ (z : ℕ). node.Split z k) same.unknown ∙ ap (λ (f : ℤ). node.Split y f) same.floor
@@ -32,7 +31,7 @@ whole_once s w ks ns h g =
 -- a whole node is no node of the tree
 pub whole_is_no_node : (s : Search) (w : Pending) (ks : List ℤ) (n : Node) → WholeAt s w ks → NodeAt s w n → ⊥
 whole_is_no_node s w ks (node.Leaf ts) h g = no_vertex s w ts h.values g.refuted h.vertex
-whole_is_no_node s w ks node.Extend h g = not_open (s.complete w.start w.past) h.complete g.going_on
+whole_is_no_node s w ks node.Extend h g = true≢false (sym h.complete ∙ g.going_on)
 whole_is_no_node s w ks (node.Split x k) h g =
     let values = values_at s w g.values h.values g.vertex h.vertex in
     whole_has_no_split h.values ks x k h.whole (subst (λ (fs : List Fraction). SplitsAt fs x k) values g.splits)

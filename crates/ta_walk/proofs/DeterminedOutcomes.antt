@@ -1,21 +1,7 @@
 -- a word's system has one outcome: multipliers, values, or the count of a pivot that leaves the range
-use Rattle.ta_walk.proofs.Common.{◌≡◌, ℕ, List, [], ◌∷◌, sym, ◌∙◌, ℤ, Row, System, IsRowOf, AreRowsOf, SystemAt, LinearRow, Pending, Search, bounded_rows, slack_tableau, SameRow, RowsAlike, SameNumbers, OverflowsAt, Fraction, end_once, none_beside, first_once, OfSystem, RefutedAt, VertexAt}
+use Rattle.ta_walk.proofs.Common.{◌≡◌, ℕ, List, ℤ, Pending, Search, slack_tableau, OverflowsAt, Fraction, end_once, none_beside, first_once, OfSystem, RefutedAt, VertexAt}
+use Rattle.ta_encode.proofs.SameSystems.{same_numbers}
 use Rattle.ta_simplex.specs.declared.End.TheVariants as end
-
-row_same : (l : LinearRow) (r q : Row) → IsRowOf l r → IsRowOf l q → SameRow r q
-row_same l r q is are = record { constant = is.constant ∙ sym are.constant; coefficients = λ u. is.coefficients u ∙ sym (are.coefficients u) }
-
-rows_same : (ls : List LinearRow) (rs qs : List Row) → AreRowsOf ls rs → AreRowsOf ls qs → RowsAlike rs qs
-rows_same [] [] [] is are = tt
-rows_same [] [] (q ∷ qs) is are = absurd are
-rows_same [] (r ∷ rs) qs is are = absurd is
-rows_same (l ∷ ls) [] qs is are = absurd is
-rows_same (l ∷ ls) (r ∷ rs) [] is are = absurd are
-rows_same (l ∷ ls) (r ∷ rs) (q ∷ qs) is are = (row_same l r q is.0 are.0, rows_same ls rs qs is.1 are.1)
-
--- two systems that are one word's have the same numbers
-same_numbers : (s : Search) (w : Pending) (y z : System) → SystemAt s w y → SystemAt s w z → SameNumbers y z
-same_numbers s w y z is are = record { unknowns = is.unknowns ∙ sym are.unknowns; rows = rows_same (bounded_rows s w) y.rows z.rows is.rows are.rows }
 
 pub multipliers_of : (ts us : List (ℕ × ℤ)) → end.Refuted ts ≡ end.Refuted us → ts ≡ us
 multipliers_of ts us e = cc

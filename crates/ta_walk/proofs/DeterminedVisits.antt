@@ -85,6 +85,4 @@ word_once s before after w x e v u =
 -- where more are visited, a node stands at the word
 pub node_at_word : (s : Search) (before after : ℕ) (w x : Pending) → before < after → IsVisited s before w → IsVisited s after x → (n : Node) × NodeAt s w n
 node_at_word s before after w x h v u =
-    let many = v.counted in
-    let others = u.counted in
     node_there s s.roots w v.nodes u.nodes v.words (x ∷ u.words) (omega arith) v.visits u.visits

@@ -1,12 +1,8 @@
 -- the end of a visit behind nodes that lead to the words with which another begins
-use Rattle.ta_walk.proofs.Common.{nat_tests, ◌≡◌, ℕ, ◌+◌, ◌-◌, ◌<◌, ◌≤◌, nat_lt, Bool, true, false, cond, List, [], ◌++◌, length, length-append, arith, refl, subst, Node, Pending, Search, IsOutOfRangeAt, Visits, IsSpent, NodeOf, TreeKept, IsVisited, WholeWord, leaf_count, TreeEnd, PartEnds, beginning, behind}
+use Rattle.ta_walk.proofs.Common.{nat_tests, ◌≡◌, ℕ, ◌+◌, ◌-◌, ◌<◌, ◌≤◌, cond_both, nat_lt, List, [], ◌++◌, length, length-append, arith, refl, subst, Node, Pending, Search, IsOutOfRangeAt, Visits, IsSpent, NodeOf, TreeKept, IsVisited, WholeWord, leaf_count, TreeEnd, PartEnds, beginning, behind}
 use Rattle.ta_walk.specs.declared.end.TreeEnd.TheVariants as tree
 use Rattle.ta_walk.proofs.SearchesMoved.{moved_out_of_range, moved_visits, moved_whole}
 use Rattle.ta_walk.proofs.VisitsJoined.{LeftBefore, leaves_added, left_before, left_in_tree, visited_behind, visits_on}
-
-chosen : (P : TreeEnd → Type 0) (b : Bool) (x y : TreeEnd) → (b ≡ true → P x) → (b ≡ false → P y) → P (cond b x y)
-chosen P true x y f g = f refl
-chosen P false x y f g = g refl
 
 -- some nodes lead to words
 pub record LeadsTo (s : Search) (ws us : List Pending) (ns : List Node) (count leaves : ℕ) : Type 0 where
@@ -29,8 +25,6 @@ spent_behind s ws us ns count leaves budget before to is left =
 node_behind : (s : Search) (ws us : List Pending) (ns : List Node) (count leaves budget later number : ℕ) (F G : Pending → Type 0) → LeadsTo s ws us ns count leaves → count + number ≤ budget → ((w : Pending) → F w → G w)
     → NodeOf (beginning s us) later number F → NodeOf (beginning s ws) budget (count + number) G
 node_behind s ws us ns count leaves budget later number F G to within on of =
-    let counted = to.counted in
-    let is = of.number_is in
     record {
       before = length ns + of.before;
       number_is = omega arith;
@@ -44,16 +38,12 @@ node_behind s ws us ns count leaves budget later number F G to within on of =
 spent_at : (s : Search) (ws us : List Pending) (ns : List Node) (count leaves budget later number : ℕ) (F : Pending → Type 0) → LeadsTo s ws us ns count leaves → count ≤ budget → budget - count < number
     → NodeOf (beginning s us) later number F → IsSpent (beginning s ws) budget budget
 spent_at s ws us ns count leaves budget later number F to within many of =
-    let is = of.number_is in
     spent_behind s ws us ns count leaves budget (budget - count) to (omega arith) (left_before (beginning s us) (budget - count) of.before of.word (omega arith) of.visited)
 
 tree_behind : (s : Search) (ws us : List Pending) (ns : List Node) (count leaves budget later more others : ℕ) (Keeps Kept : List Node → Type 0) → LeadsTo s ws us ns count leaves → count + more ≤ budget → ((ms : List Node) → Keeps ms → Kept (ns ++ ms))
     → TreeKept (beginning s us) later Keeps more others → TreeKept (beginning s ws) budget Kept (count + more) (leaves + others)
 tree_behind s ws us ns count leaves budget later more others Keeps Kept to within on kept =
     let counted = to.counted in
-    let few = to.leaves_are in
-    let many = kept.is.counted in
-    let rest = kept.counted in
     record {
       nodes = ns ++ kept.nodes;
       is = record {
@@ -68,26 +58,25 @@ tree_behind s ws us ns count leaves budget later more others Keeps Kept to withi
 spent_in : (s : Search) (ws us : List Pending) (ns : List Node) (count leaves budget later more others : ℕ) (Keeps : List Node → Type 0) → LeadsTo s ws us ns count leaves → count ≤ budget → budget - count < more
     → TreeKept (beginning s us) later Keeps more others → IsSpent (beginning s ws) budget budget
 spent_in s ws us ns count leaves budget later more others Keeps to within many kept =
-    let is = kept.is.counted in
     spent_behind s ws us ns count leaves budget (budget - count) to (omega arith) (left_in_tree (beginning s us) kept.nodes [] (budget - count) (omega arith) kept.is.visits)
 
 pub end_behind : (s : Search) (ws us : List Pending) (ns : List Node) (count leaves budget later : ℕ) (Keeps Kept : List Node → Type 0) (end : TreeEnd) → LeadsTo s ws us ns count leaves → count ≤ budget
     → ((ms : List Node) → Keeps ms → Kept (ns ++ ms)) → PartEnds (beginning s us) later Keeps end → PartEnds (beginning s ws) budget Kept (behind budget count leaves end)
 end_behind s ws us ns count leaves budget later Keeps Kept (tree.Refuted more others) to within on is =
-    chosen (PartEnds (beginning s ws) budget Kept) (nat_lt (budget - count) more) (tree.Spent budget) (tree.Refuted (count + more) (leaves + others))
+    cond_both (nat_lt (budget - count) more) (tree.Spent budget) (tree.Refuted (count + more) (leaves + others)) (PartEnds (beginning s ws) budget Kept)
     (λ yes'. spent_in s ws us ns count leaves budget later more others Keeps to within (grind (arith, nat_tests)) is)
     (λ no'. tree_behind s ws us ns count leaves budget later more others Keeps Kept to (let fits : more ≤ budget - count = grind (arith, nat_tests) in omega arith) on is)
 end_behind s ws us ns count leaves budget later Keeps Kept (tree.Found more start word values) to within on is =
-    chosen (PartEnds (beginning s ws) budget Kept) (nat_lt (budget - count) more) (tree.Spent budget) (tree.Found (count + more) start word values)
+    cond_both (nat_lt (budget - count) more) (tree.Spent budget) (tree.Found (count + more) start word values) (PartEnds (beginning s ws) budget Kept)
     (λ yes'. spent_at s ws us ns count leaves budget later more (WholeWord (beginning s us) start word values) to within (grind (arith, nat_tests)) is)
     (λ no'. node_behind s ws us ns count leaves budget later more (WholeWord (beginning s us) start word values) (WholeWord (beginning s ws) start word values) to (let fits : more ≤ budget - count = grind (arith, nat_tests) in omega arith)
     (λ w at. record { start_is = at.start_is; word_is = at.word_is; whole = moved_whole s us ws w values at.whole }) is)
 end_behind s ws us ns count leaves budget later Keeps Kept (tree.Spent more) to within on is =
-    chosen (PartEnds (beginning s ws) budget Kept) (nat_lt (budget - count) more) (tree.Spent budget) (tree.Spent (count + more))
+    cond_both (nat_lt (budget - count) more) (tree.Spent budget) (tree.Spent (count + more)) (PartEnds (beginning s ws) budget Kept)
     (λ yes'. let many : budget - count < more = grind (arith, nat_tests) in spent_behind s ws us ns count leaves budget (budget - count) to (omega arith) (left_before (beginning s us) (budget - count) more is.word (omega arith) is.visited))
     (λ no'. spent_behind s ws us ns count leaves (count + more) more to refl (record { word = is.word; visited = is.visited }))
 end_behind s ws us ns count leaves budget later Keeps Kept (tree.Overflow more kind) to within on is =
-    chosen (PartEnds (beginning s ws) budget Kept) (nat_lt (budget - count) more) (tree.Spent budget) (tree.Overflow (count + more) kind)
+    cond_both (nat_lt (budget - count) more) (tree.Spent budget) (tree.Overflow (count + more) kind) (PartEnds (beginning s ws) budget Kept)
     (λ yes'. spent_at s ws us ns count leaves budget later more (λ w. IsOutOfRangeAt (beginning s us) w kind) to within (grind (arith, nat_tests)) is)
     (λ no'. node_behind s ws us ns count leaves budget later more (λ w. IsOutOfRangeAt (beginning s us) w kind) (λ w. IsOutOfRangeAt (beginning s ws) w kind) to (let fits : more ≤ budget - count = grind (arith, nat_tests) in omega arith)
     (λ w at. moved_out_of_range s us ws w kind at) is)

@@ -1,11 +1,7 @@
 -- the nodes of a walk are short
-use Rattle.ta_walk.proofs.Common.{ℕ, ◌+◌, ◌*◌, ◌<◌, ◌≤◌, ◌^◌, ℤ, List, [], ◌∷◌, ◌++◌, length, arith, length-append, codes, decimal, lit<, ints, AllByRecursion, row_short, number_short, Automaton, Pattern, LegalWord, Node, pair_text, pairs_text, split_text, IsMultiplierPair, ArePairs, IsSplit, IsNode, few_multipliers, NodeAt, Visits, HasFewPairs, IsShort, Pending, parts, few_unknowns}
+use Rattle.ta_walk.proofs.Common.{ℕ, ◌+◌, ◌*◌, ◌<◌, ◌≤◌, ◌^◌, ℤ, List, [], ◌∷◌, ◌++◌, length, arith, length-append, codes, decimal, lit<, ints, AllByRecursion, row_short, number_short, Automaton, Pattern, LegalWord, Node, pair_text, pairs_text, split_text, IsMultiplierPair, ArePairs, IsSplit, IsNode, few_multipliers, NodeAt, Visits, HasFewPairs, IsShort, Pending, parts, few_unknowns, PatternOver, claim_legal, claim_unknowns, search_for, Claim}
 use Rattle.std.specs.Fmt.{signed_decimal}
 use Rattle.ta_cert.specs.declared.line.Node.TheVariants as node
-use Rattle.ta_automaton.specs.Patterns.{PatternOver}
-use Rattle.ta_claim.proofs.ClaimWords.{claim_legal, claim_unknowns}
-use Rattle.ta_claim.specs.Claims.{search_for}
-use Rattle.ta_claim.specs.declared.claim.Claim.{Claim}
 use Rattle.ta_walk.proofs.WordsVisited.{Waits, next_wait}
 
 -- a pair has at most 51 bytes

@@ -23,7 +23,6 @@ guard_fits a guard below = let few = a.shape.limits.rise_limit in omega arith
 leaf_pairs : (a : Automaton) (o : Order) → RefutedPair a o.before o.after o.multipliers → ArePairs 0 o.multipliers
 leaf_pairs a o r =
     let few = few_of_pair a o.before o.after r.system r.is in
-    let rows = few.rows in
     are_pairs 0 (length r.system.rows) o.multipliers (omega arith) r.refuted.multipliers.leaf.multipliers (λ k from inside. multipliers_fit r.system o.multipliers r.refuted k inside)
 
 order_of : (a : Automaton) (o : Order) → IsPair a (pair_of o) → RefutedPair a o.before o.after o.multipliers → IsOrder o
@@ -40,7 +39,6 @@ guards_short o is = omega (arith, length-append (decimal o.before) (codes " " ++
 leaf_short : (a : Automaton) (o : Order) → RefutedPair a o.before o.after o.multipliers → length (line_text (line.Tree (node.Leaf o.multipliers))) ≤ line_limit
 leaf_short a o r =
     let few = few_of_pair a o.before o.after r.system r.is in
-    let unknowns = few.unknowns in
     omega (arith, pairs_short 0 o.multipliers (leaf_pairs a o r), few_multipliers r.system o.multipliers r.refuted)
 
 short_push : (os : List Order) (o : Order) → AreShort (order_lines os) → length (line_text (line.Order o.before o.after)) ≤ line_limit → length (line_text (line.Tree (node.Leaf o.multipliers))) ≤ line_limit → AreShort (order_lines (os ++ o ∷ []))

@@ -9,15 +9,10 @@
 -- visited refute what has been left out. When no word is left, they refute all, in the order in which the judge reads.
 -- Words have at most as many bounds as nodes have been visited, so a budget below 2 ^ 32 keeps each number of a node in
 -- its range and each line short; and the walk ends, since each node takes one from the budget.
-use Rattle.ta_walk.proofs.Common.{ℕ, ◌+◌, ◌≤◌, List, [], ◌∷◌, ◌++◌, length, arith, sym, AllByRecursion, Node, IsNode, leaf_of, NodeAt, Visits, IsProof, RefutedClaimsHold, Automaton, TreeIs, Pattern, Pending, Search, parts, IsJudged}
+use Rattle.ta_walk.proofs.Common.{ℕ, ◌+◌, ◌≤◌, List, [], ◌∷◌, ◌++◌, length, arith, sym, AllByRecursion, Node, IsNode, leaf_of, NodeAt, Visits, IsProof, RefutedClaimsHold, Automaton, TreeIs, Pattern, Pending, Search, parts, IsJudged, claim_legal, claim_small, search_for, Claim, pattern_within, PatternOver}
 use Rattle.ta_cert.specs.declared.line.Node.TheVariants as node
 use Rattle.ta_encode.proofs.Preorders.{in_order, weaker_proof}
 use Rattle.ta_claim.proofs.ClaimsShown.{proofs_show}
-use Rattle.ta_claim.proofs.ClaimWords.{claim_legal, claim_small}
-use Rattle.ta_claim.specs.Claims.{search_for}
-use Rattle.ta_claim.specs.declared.claim.Claim.{Claim}
-use Rattle.ta_automaton.proofs.Thresholds.{pattern_within}
-use Rattle.ta_automaton.specs.Patterns.{PatternOver}
 use Rattle.ta_walk.proofs.WordsVisited.{Waits, starts_wait, next_wait}
 use Rattle.ta_walk.proofs.NodesWritten.{node_written}
 use Rattle.ta_walk.proofs.SplitsFit.{split_within}
@@ -54,8 +49,6 @@ nodes_written claim a p pairs over most (w ∷ ws) (n ∷ ns) rest budget all v 
 pub proof_made : (claim : Claim) (a : Automaton) (p : Pattern) (pairs : List (ℕ × ℕ)) → PatternOver a p → (budget : ℕ) → budget ≤ 1000000000 → (nodes : List Node) (count : ℕ) → TreeIs (search_for claim a p pairs) budget nodes count → IsProof (search_for claim a p pairs) nodes
 proof_made claim a p pairs over budget within nodes count tree =
     let s = search_for claim a p pairs in
-    let counted = tree.counted in
-    let inside = tree.within in
     let starts = starts_wait claim a p pairs in
     let writable = nodes_written claim a p pairs over 0 s.roots nodes [] (omega arith) starts tree.visits in
     let few = nodes_few claim a p pairs over 0 s.roots nodes [] starts tree.visits in

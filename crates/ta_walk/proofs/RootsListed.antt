@@ -1,6 +1,5 @@
 -- lists of words with which trees begin
-use Rattle.ta_walk.proofs.Common.{map-append, take-append-drop, ◌≡◌, ℕ, ◌<◌, ◌≤◌, ◌^◌, List, [], ◌∷◌, ◌++◌, length, length-append, map, drop, take, reverse, slice_get, Some, None, arith, refl, sym, ap, ◌∙◌, subst, AllByRecursion, each_push, next_dropped, none_dropped, in_at, Pending, Search, RootIs, IsAtRoot, Within, left_at, Cursor, at_word, comes_first, ComesTo, HasFewBounds, HasFewLeft, root_word}
-use Rattle.std.proofs.lemmas.List.{append_assoc, append-nil}
+use Rattle.ta_walk.proofs.Common.{map-append, take-append-drop, ◌≡◌, ℕ, ◌<◌, ◌≤◌, ◌^◌, List, [], ◌∷◌, ◌++◌, length, length-append, map, drop, take, reverse, slice_get, Some, None, arith, refl, sym, ap, ◌∙◌, subst, AllByRecursion, each_push, next_dropped, none_dropped, in_at, Pending, Search, RootIs, IsAtRoot, Within, left_at, Cursor, at_word, comes_first, ComesTo, HasFewBounds, HasFewLeft, root_word, append_assoc, append-nil}
 use Rattle.ta_cursor.specs.declared.root.Root.{Root}
 use Rattle.ta_walk.proofs.WordSoFar.{pending_is}
 

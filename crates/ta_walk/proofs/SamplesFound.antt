@@ -1,5 +1,5 @@
 -- what the ends of the search for a sample say
-use Rattle.ta_walk.proofs.Common.{◌≡◌, ℕ, zero, suc, ◌+◌, ◌*◌, ◌^◌, ◌<◌, ◌≤◌, ℤ, pos, negsuc, ◌*ℤ◌, ◌<ℤ◌, List, [], ◌∷◌, map, take, length, length-append, refl, sym, ap, ◌∙◌, subst, arith, slice_get, IsSomeAnd, unsigned_abs, ints, length-map, take-map, AllByRecursion, first_ones, InRange, System, Automaton, SystemAt, HasStart, sample_meanings, sample_rows, sample_search, sampled, Pending, SolvesAt, bounded_rows, Bound, bound_row, condition_rows, opposite, processes_row, rows_count, none_starts, sample_few, samples_start, condition_few, IsJudged, Fraction, SampleEnd, Ending, IsVisitEnding, IsSampleEnd, SampleAt, SampleEndsAreDetermined, SampleFound, SampleRefuted, SamplesAreReal, AreNumbers, IsWholeNumber, WholeAt}
+use Rattle.ta_walk.proofs.Common.{◌≡◌, ℕ, zero, suc, ◌+◌, ◌*◌, ◌^◌, ◌<◌, ◌≤◌, ℤ, pos, negsuc, ◌*ℤ◌, ◌<ℤ◌, List, [], ◌∷◌, map, take, length, length-append, refl, sym, ap, ◌∙◌, subst, arith, slice_get, IsSomeAnd, unsigned_abs, ints, length-map, take-map, AllByRecursion, InRange, System, Automaton, SystemAt, HasStart, sample_meanings, sample_rows, sample_search, sampled, Pending, SolvesAt, bounded_rows, Bound, bound_row, condition_rows, opposite, processes_row, rows_count, none_starts, sample_few, samples_start, condition_few, IsJudged, Fraction, SampleEnd, Ending, IsVisitEnding, IsSampleEnd, SampleAt, SampleEndsAreDetermined, SampleFound, SampleRefuted, SamplesAreReal, AreNumbers, IsWholeNumber, WholeAt, each_take}
 use Rattle.ta_encode.proofs.Moments.{AllHold-append, AllHold-left}
 use Rattle.ta_walk.specs.declared.end.SampleEnd.TheVariants.{Sample, Empty, Spent, Overflow}
 use Rattle.ta_walk.specs.Ends.Ending.{Whole, Solved, Stopped, Left}
@@ -67,8 +67,7 @@ found_small a budget parameters found =
     let vertex = at.whole.vertex in
     let solved = whole_solves (sample_search a) found.node.word at.values at.whole in
     let count = vertex.holds.gives.count in
-    first_ones (length a.parameters) (λ n. n < 2 ^ 127) solved.0
-    (all_small at.whole.values solved.0 (subst (AreNumbers at.whole.values) solved.1 at.whole.whole) (λ x b. vertex_in_range vertex.system at.whole.values vertex.holds x (omega arith)))
+    each_take (λ n. n < 2 ^ 127) (length a.parameters) solved.0 (all_small at.whole.values solved.0 (subst (AreNumbers at.whole.values) solved.1 at.whole.whole) (λ x b. vertex_in_range vertex.system at.whole.values vertex.holds x (omega arith)))
 
 pub samples_real : SamplesAreReal
 samples_real = record { found = found_starts; none = refuted_starts }

@@ -1,7 +1,6 @@
 -- a budget that is large enough for the words is spent only where a node was split
-use Rattle.ta_walk.proofs.Common.{◌≡◌, inl, inr, ℕ, zero, suc, ◌+◌, ◌<◌, ◌≤◌, ◌^◌, Bool, List, [], ◌∷◌, ◌++◌, length, map, slice_get, Some, arith, refl, sym, ap, ◌∙◌, subst, length-map, AllByRecursion, each_from_in, each_in, no_more, In-left, In-map, In-right, in_map, In-numbers, in_numbers, Automaton, File, Pattern, Distinct, In, numbers_from, Node, Element, LegalUnder, children, all_starts, empty_word, pattern_search, Comes, Pending, Search, parts, LinearRow, comes_legal, IsSpent, IsVisited, HasAtMost, HasSplit, SpentNeedsSplits, WasSplit, Visits}
+use Rattle.ta_walk.proofs.Common.{◌≡◌, inl, inr, ℕ, zero, suc, ◌+◌, ◌<◌, ◌≤◌, ◌^◌, Bool, List, [], ◌∷◌, ◌++◌, length, map, slice_get, Some, arith, refl, sym, ap, ◌∙◌, subst, length-map, AllByRecursion, each_from_in, each_in, no_more, In-left, In-map, In-right, in_map, In-numbers, in_numbers, Automaton, File, Pattern, Distinct, In, range_with_len, Node, Element, LegalUnder, children, all_starts, empty_word, pattern_search, Comes, Pending, Search, parts, LinearRow, comes_legal, IsSpent, IsVisited, HasAtMost, HasSplit, SpentNeedsSplits, WasSplit, Visits, pattern_within}
 use Rattle.ta_words.proofs.Counts.{legal_length, legal_under}
-use Rattle.ta_automaton.proofs.Thresholds.{pattern_within}
 use Rattle.ta_walk.proofs.ChildrenOnce.{children_once}
 use Rattle.ta_walk.proofs.DeterminedVisits.{word_once}
 use Rattle.ta_walk.proofs.SubtreesApart.{AllApart, Branches, IsPlain, UnderSome, mark, marks, not_again, parts_apart, split_or_plain, under_before, under_here, under_start}
@@ -51,11 +50,11 @@ marks_come s most [] (n ∷ ns) all t h = absurd h
 marks_come s most (w ∷ ws) (n ∷ ns) all t (inl e) = subst (λ (m : ℕ × List Element). Comes s m.0 m.1) (sym e) all.0.comes
 marks_come s most (w ∷ ws) (n ∷ ns) all t (inr h) = marks_come s (most + 1) (parts s w n ++ ws) ns (next_wait s most w ws n all) t h
 
-starts_from : (k n : ℕ) → AllApart (map empty_word (numbers_from k n))
+starts_from : (k n : ℕ) → AllApart (map empty_word (range_with_len k n))
 starts_from k zero = tt
 starts_from k (suc n) = (
   λ v h start past u t.
-      let at = in_map empty_word v (numbers_from (k + 1) n) h in
+      let at = in_map empty_word v (range_with_len (k + 1) n) h in
       let above = in_numbers at.0 (k + 1) n at.1 in
       let is : v.start ≡ at.0 = ap (λ (w : Pending). w.start) at.2 in
       let low = above.0 in
@@ -154,7 +153,7 @@ longer_words a p pairs (t ∷ ts) = map (λ e. (t.0, e ∷ t.1)) (children a p p
 
 -- the words of at most so many elements
 unfoldable words_within : Automaton → Pattern → List (ℕ × ℕ) → ℕ → List (ℕ × List Element)
-words_within a p pairs zero = map (λ k. (k, [])) (numbers_from 0 (2 ^ length a.fall))
+words_within a p pairs zero = map (λ k. (k, [])) (range_with_len 0 (2 ^ length a.fall))
 words_within a p pairs (suc size) = words_within a p pairs size ++ longer_words a p pairs (words_within a p pairs size)
 
 in_longer : (a : Automaton) (p : Pattern) (pairs : List (ℕ × ℕ)) (start : ℕ) (past : List Element) (e : Element) (ts : List (ℕ × List Element)) → In (start, past) ts → In e (children a p pairs start past) → In (start, e ∷ past) (longer_words a p pairs ts)
@@ -167,7 +166,7 @@ in_longer a p pairs start past e (t ∷ ts) (inr h) child =
 
 in_within : (a : Automaton) (p : Pattern) (pairs : List (ℕ × ℕ)) (size start : ℕ) (past : List Element) → start < 2 ^ length a.fall → length past ≤ size → LegalUnder a p pairs start past → In (start, past) (words_within a p pairs size)
 unfolding words_within
-in_within a p pairs zero start [] below short legal = In-map (λ k. (k, [])) start (numbers_from 0 (2 ^ length a.fall)) (In-numbers start 0 (2 ^ length a.fall) (omega arith) (omega arith))
+in_within a p pairs zero start [] below short legal = In-map (λ k. (k, [])) start (range_with_len 0 (2 ^ length a.fall)) (In-numbers start 0 (2 ^ length a.fall) (omega arith) (omega arith))
 in_within a p pairs (suc size) start [] below short legal =
     In-left (start, []) (words_within a p pairs size) (longer_words a p pairs (words_within a p pairs size)) (in_within a p pairs size start [] below (omega arith) tt)
 in_within a p pairs zero start (e ∷ past) below short legal = absurd (omega arith)

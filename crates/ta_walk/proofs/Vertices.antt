@@ -1,6 +1,5 @@
 -- whole fractions, and the whole numbers below the others
-use Rattle.ta_walk.proofs.Common.{◌≡◌, ℕ, ◌+◌, ◌<◌, List, [], ◌∷◌, ◌++◌, length, get_or, slice_get, take, arith, ℤ, pos, ◌≤ℤ◌, ◌<ℤ◌, ◌*ℤ◌, ◌+ℤ◌, ap, refl, sym, subst, ◌∙◌, int_div_euclid, int_rem_euclid, ints, by_lt_z, take_more, euclid, floor_high, floor_low, floor_once, Fraction, AreNumbers, IsWholeNumber, IsWhole, IsAbove, SplitsAt}
-use Rattle.std.proofs.Common.{IsSomeAnd}
+use Rattle.ta_walk.proofs.Common.{◌≡◌, ℕ, ◌+◌, ◌<◌, List, [], ◌∷◌, ◌++◌, length, get_or, slice_get, take, arith, ℤ, pos, ◌≤ℤ◌, ◌<ℤ◌, ◌*ℤ◌, ◌+ℤ◌, ap, refl, sym, subst, ◌∙◌, int_div_euclid, int_rem_euclid, ints, by_lt_z, take_more, euclid, floor_high, floor_low, floor_once, Fraction, AreNumbers, IsWholeNumber, IsWhole, IsAbove, SplitsAt, IsSomeAnd}
 use Rattle.std.proofs.lemmas.Option.{slice_get_read}
 use borrow.Author.Count.{below_more}
 

@@ -34,7 +34,6 @@ at_here s place done found so = record {
 pub walk_few : (s : Search) (place : Place) (done : ℕ) (found : List Node) → AllByRecursion IsUnbounded s.roots → WalkSoFar s place done found → length place.cursor.bounds.items ≤ done
 walk_few s place done found none so =
     let at = at_here s place done found so in
-    let counted = so.counted in
     let few = (left_wait s 0 s.roots found (here_at place ∷ at.words) (roots_wait s none) at.visits).0.few in
     omega arith
 

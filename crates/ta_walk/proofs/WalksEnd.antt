@@ -1,6 +1,5 @@
 -- The walks of patterns, and the searches for samples, end.
-use Rattle.ta_walk.proofs.Common.{◌≡◌, ℕ, ◌^◌, ◌≤◌, ℤ, List, length, reverse, slice_get, take, Some, arith, refl, sym, ap, ◌∙◌, reverse-reverse, Automaton, File, Pattern, pattern_search, sample_search, Pending, Search, comes_legal, few_unknowns, SampleEnd, WalkEnd, HasSystems, WalksHaveEnds, WordsHaveSystems, Ending, IsWalkEnd, IsVisitEnding, Left, NodeOf, SolutionAt, Solved, Stopped, Whole, IsSampleEnd, SampleAt, WholeAt}
-use Rattle.ta_automaton.proofs.Thresholds.{pattern_within}
+use Rattle.ta_walk.proofs.Common.{◌≡◌, ℕ, ◌^◌, ◌≤◌, ℤ, List, length, reverse, slice_get, take, Some, arith, refl, sym, ap, ◌∙◌, reverse-reverse, Automaton, File, Pattern, pattern_search, sample_search, Pending, Search, comes_legal, few_unknowns, SampleEnd, WalkEnd, HasSystems, WalksHaveEnds, WordsHaveSystems, Ending, IsWalkEnd, IsVisitEnding, Left, NodeOf, SolutionAt, Solved, Stopped, Whole, IsSampleEnd, SampleAt, WholeAt, pattern_within}
 use Rattle.ta_encode.specs.Unknowns.{meanings}
 use Rattle.ta_encode.proofs.SystemsExist.{sample_system, word_system}
 use Rattle.ta_walk.specs.declared.end.SampleEnd.TheVariants as sampled

@@ -120,7 +120,6 @@ pub both_stand : (s : Search) (begun : List Pending) (c new later : Cursor) (don
 both_stand s begun c new later done nodes most leaves found few room so shared some within leaves_are =
     let all = subst (AllByRecursion (HasFewBounds (most + done))) shared.words (word_few s begun c done most found few so) in
     let fits : (most + done) + (nodes - done) ≤ 1000000000 = omega arith in
-    let counted = so.counted in
     let less = leaves_few found in
     record {
       some = some;

@@ -1,9 +1,6 @@
 -- what is known of each word that a visit leaves
-use Rattle.ta_walk.proofs.Common.{◌≡◌, inl, inr, ℕ, zero, suc, ◌+◌, ◌≤◌, ◌^◌, List, [], ◌∷◌, ◌++◌, map, length, length-append, arith, refl, sym, ap, subst, AllByRecursion, each_append, Automaton, Pattern, In, numbers_from, Node, Element, Bound, Low, High, Visits, Pending, Search, Comes, bound_at, bounded, longer, parts, all_starts, empty_word, comes_first, IsUnbounded}
+use Rattle.ta_walk.proofs.Common.{◌≡◌, inl, inr, ℕ, zero, suc, ◌+◌, ◌≤◌, ◌^◌, List, [], ◌∷◌, ◌++◌, map, length, length-append, arith, refl, sym, ap, subst, AllByRecursion, each_append, Automaton, Pattern, In, range_with_len, Node, Element, Bound, Low, High, Visits, Pending, Search, Comes, bound_at, bounded, longer, parts, all_starts, empty_word, comes_first, IsUnbounded, claim_roots, search_for, Claim}
 use Rattle.ta_cert.specs.declared.line.Node.TheVariants as node
-use Rattle.ta_claim.proofs.ClaimWords.{claim_roots}
-use Rattle.ta_claim.specs.Claims.{search_for}
-use Rattle.ta_claim.specs.declared.claim.Claim.{Claim}
 
 -- a word to which the search comes, with so many bounds at most
 pub record Waits (s : Search) (most : ℕ) (w : Pending) : Type 0 where
@@ -44,7 +41,7 @@ roots_from s (w ∷ ws) inside all =
 pub roots_wait : (s : Search) → AllByRecursion IsUnbounded s.roots → AllByRecursion (Waits s 0) s.roots
 roots_wait s all = roots_from s s.roots (λ w is. is) all
 
-numbers_unbounded : (k n : ℕ) → AllByRecursion IsUnbounded (map empty_word (numbers_from k n))
+numbers_unbounded : (k n : ℕ) → AllByRecursion IsUnbounded (map empty_word (range_with_len k n))
 numbers_unbounded k zero = tt
 numbers_unbounded k (suc n) = (refl, numbers_unbounded (k + 1) n)
 

@@ -1,10 +1,11 @@
 -- the pieces of a word, the newest first, and their firings
-use Rattle.ta_witness.proofs.Common.{◌≡◌, inl, inr, ℕ, zero, suc, ◌+◌, ◌<◌, ◌≤◌, ℤ, pos, ◌*ℤ◌, ◌≤ℤ◌, List, [], ◌∷◌, ◌++◌, map, length, drop, reverse, true, Option, Some, None, slice_get, arith, refl, sym, ap, ◌∙◌, subst, append-nil, ints, cases_lt, cases_Bool, length-map, slice_get_within, each_from_in, map-map, reverse_onto, same_items, filter_passes, item_at, length_numbers, no_item, Automaton, Pattern, numbers_from, In, InScope, total, AreRuleCounts, ArrangedOf, count_at, Element, Event, Rise, Fall, allowed_rules, may_fire, Meaning, Count, Single, meanings, place_coefficient, sum_of_products, FiresBefore, WordFires, Piece, unknown_value, same_meaning, PieceOf, PiecesOf, EndsPiece, counts_before}
+use Rattle.ta_witness.proofs.Common.{◌≡◌, inl, inr, ℕ, zero, suc, ◌+◌, ◌<◌, ◌≤◌, ℤ, pos, ◌*ℤ◌, ◌≤ℤ◌, List, [], ◌∷◌, ◌++◌, map, length, drop, reverse, true, Option, Some, None, slice_get, arith, refl, sym, ap, ◌∙◌, subst, append-nil, ints, cases_lt, cases_Bool, length-map, slice_get_within, each_from_in, reverse_onto, item_at, no_item, Automaton, Pattern, range_with_len, In, InScope, total, AreRuleCounts, ArrangedOf, count_at, Element, Event, Rise, Fall, allowed_rules, may_fire, Meaning, Count, Single, meanings, place_coefficient, sum_of_products, FiresBefore, WordFires, Piece, unknown_value, same_meaning, PieceOf, PiecesOf, EndsPiece, counts_before, map_same, in_filter, length-range_with_len}
 use Rattle.ta_automaton.specs.Places.{rule_change}
 use Rattle.ta_scope.specs.Legal.{arranged_steps}
 use Rattle.ta_scope.proofs.ArrangedLaws.{FromCounts, from_counts}
 use Rattle.ta_encode.proofs.Forward.{forward_of}
 use Rattle.ta_witness.proofs.Lookups.{newer, count_value, value_for, value_in_list, value_sum, one_found}
+use Rattle.std.proofs.lemmas.Simd.{map-map}
 
 -- the last step of a piece
 abbrev pub last_rules : Option ℕ → List ℕ
@@ -44,7 +45,7 @@ same_ends v w k (Fall mask) piece h ends = ((ends.0.0, ends.0.1, sym (h ends.0.0
 
 same_piece : (a : Automaton) (v w : Meaning → ℤ) (k : ℕ) (element : Element) (piece : Piece) → ((r : ℕ) → v (Count k r) ≡ w (Count k r)) → ((r : ℕ) → v (Single k r) ≡ w (Single k r)) → PieceOf a v k element piece → PieceOf a w k element piece
 same_piece a v w k element piece h g piece_of = record {
-  steps = subst (λ (counts : List ℤ). ArrangedOf a counts piece.steps) (same_items (λ r. v (Count k r)) (λ r. w (Count k r)) (numbers_from 0 (length a.rules)) h) piece_of.steps;
+  steps = subst (λ (counts : List ℤ). ArrangedOf a counts piece.steps) (map_same (λ r. v (Count k r)) (λ r. w (Count k r)) (range_with_len 0 (length a.rules)) h) piece_of.steps;
   ends = same_ends v w k element piece g piece_of.ends;
 }
 
@@ -79,19 +80,19 @@ natural_value (n ∷ ms) (v ∷ vs) m = elim (cases_Bool (same_meaning n m)) [
 
 pub are_counts : (a : Automaton) (p : Pattern) (start : ℕ) (past : List Element) (vs : List ℕ) (k : ℕ) → AreRuleCounts a (counts_before a (values_of a p start past vs) k)
 are_counts a p start past vs k = record {
-  each_rule = length-map (numbers_from 0 (length a.rules)) (λ q. values_of a p start past vs (Count k q)) ∙ length_numbers 0 (length a.rules);
+  each_rule = length-map (range_with_len 0 (length a.rules)) (λ q. values_of a p start past vs (Count k q)) ∙ length-range_with_len 0 (length a.rules);
   natural = λ r. elim (cases_lt r (length a.rules)) [
     | inl b ↦ (let n = natural_value (meanings a p start past) vs (Count k r) in omega (arith, ints, item_at (λ q. values_of a p start past vs (Count k q)) (length a.rules) r b, n))
     | inr b ↦ omega (arith, ints, no_item (λ q. values_of a p start past vs (Count k q)) 0 (length a.rules) r b)
   ];
 }
 
-total_within : (f g : ℕ → ℤ) (k n : ℕ) → ((r : ℕ) → k ≤ r → r < k + n → f r ≡ g r) → total f (numbers_from k n) ≡ total g (numbers_from k n)
+total_within : (f g : ℕ → ℤ) (k n : ℕ) → ((r : ℕ) → k ≤ r → r < k + n → f r ≡ g r) → total f (range_with_len k n) ≡ total g (range_with_len k n)
 unfolding total
 total_within f g k zero h = refl
 total_within f g k (suc n) h = omega (arith, ints, h k (omega arith) (omega arith), total_within f g (k + 1) n (λ r low high. h r (omega arith) (omega arith)))
 
-total_below : (f g : ℕ → ℤ) (n : ℕ) → ((r : ℕ) → r < n → f r ≡ g r) → total f (numbers_from 0 n) ≡ total g (numbers_from 0 n)
+total_below : (f g : ℕ → ℤ) (n : ℕ) → ((r : ℕ) → r < n → f r ≡ g r) → total f (range_with_len 0 n) ≡ total g (range_with_len 0 n)
 total_below f g n h = total_within f g 0 n (λ r low high. h r (omega arith))
 
 plain : (piece : Piece) → piece.last ≡ None → arranged_steps piece.steps ≡ piece_rules piece
@@ -106,14 +107,14 @@ arranged_fire a scope p start x past vs steps h =
     let al = allowed_rules a p start past in
     let ws = drop (length (meanings a p start past)) vs in
     let f : FromCounts a counts (arranged_steps steps) = from_counts a scope counts (are_counts a p start (x ∷ past) vs (length past)) steps h in
-    let may : (r : ℕ) → In r al → may_fire a p start past (slice_get a.rules r) ≡ true = (λ r i. filter_passes (λ q. may_fire a p start past (slice_get a.rules q)) r (numbers_from 0 n) i) in
+    let may : (r : ℕ) → In r al → may_fire a p start past (slice_get a.rules r) ≡ true = (λ r i. (in_filter (λ q. may_fire a p start past (slice_get a.rules q)) r (range_with_len 0 n) i).0) in
     record {
       allowed = each_from_in (λ r. may_fire a p start past (slice_get a.rules r) ≡ true) (arranged_steps steps) (λ r i.
           let named = f.named r i in
           let b = slice_get_within a.rules r named.0 named.1 in
           may r (value_in_list al ws r (omega (arith, ints, f.above r i, counts_are a p start x past vs r b))));
       forward = forward_of a (arranged_steps steps) f.onward;
-      adds = λ place. f.sums place ∙ total_below (λ r. rule_change a (slice_get a.rules r) place *ℤ count_at counts r) (λ r. rule_change a (slice_get a.rules r) place *ℤ pos (value_for al ws r)) n (λ r b. ap (λ z. rule_change a (slice_get a.rules r) place *ℤ z) (counts_are a p start x past vs r b)) ∙ value_sum (λ r. rule_change a (slice_get a.rules r) place) (λ r. may_fire a p start past (slice_get a.rules r)) 0 n ws ∙ ap (λ cs. sum_of_products cs ws) (sym (map-map (Count (length past)) (λ m. place_coefficient a m place) al));
+      adds = λ place. f.sums place ∙ total_below (λ r. rule_change a (slice_get a.rules r) place *ℤ count_at counts r) (λ r. rule_change a (slice_get a.rules r) place *ℤ pos (value_for al ws r)) n (λ r b. ap (λ z. rule_change a (slice_get a.rules r) place *ℤ z) (counts_are a p start x past vs r b)) ∙ value_sum (λ r. rule_change a (slice_get a.rules r) place) (λ r. may_fire a p start past (slice_get a.rules r)) 0 n ws ∙ ap (λ cs. sum_of_products cs ws) (sym (map-map (λ m. place_coefficient a m place) (Count (length past)) al));
     }
 
 -- the pieces of a word fire as its solution says

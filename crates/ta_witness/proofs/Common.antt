@@ -1,13 +1,15 @@
 -- The names that the proofs of this crate cite, passed on from one place. Declares nothing.
 pub use Rattle.std.proofs.Common.{Bool, FitsSigned, IsBitSet, List, None, Option, Some, [], ap, append-nil, append_assoc, arith, cond, drop, drop-cons, eqb, false, get_or, inl, inr, length, length-append, map, not, pos, refl, replicate, reverse, rules, slice_get, subst, suc, sym, take, true, unsigned_abs, zero, ℕ, ℤ, ◌*ℤ◌, ◌*◌, ◌++◌, ◌+◌, ◌<ℤ◌, ◌<◌, ◌^◌, ◌∙◌, ◌∷◌, ◌≡◌, ◌≢◌, ◌≤ℤ◌, ◌≤◌, ◌⊎◌}
-pub use Rattle.std.proofs.lemmas.Bool.Decides.{eqb_tells, nat_tests}
 pub use Rattle.std.proofs.lemmas.Bool.{and_parts, cases_Bool, cases_lt, eqb-true, false≢true, not-true, not_from_false, or_parts, or_right, true≢false}
+pub use Rattle.std.proofs.lemmas.Bool.Decides.{eqb_tells, nat_tests}
 pub use Rattle.std.proofs.lemmas.Int.{ints, to_z-of_z}
-pub use Rattle.std.proofs.lemmas.List.{drop_all, length-map, length-reverse, length-take, map-append, reverse-reverse, take_all, take_more}
+pub use Rattle.std.proofs.lemmas.List.{drop-map, drop_all, drop_at, length-map, length-reverse, length-take, map-append, reverse-reverse, take-map, take_all, take_more}
+pub use Rattle.std.proofs.lemmas.List.FromFn.{length-range_with_len}
 pub use Rattle.std.proofs.lemmas.Option.{get_or_from_slice_get, slice_get_within}
+pub use Rattle.std.proofs.lemmas.Result.{IfOk-weaker}
 pub use Rattle.std.specs.Int.{w128}
-pub use Rattle.std.specs.List.{AllByRecursion}
-pub use Rattle.std.specs.Prelude.{filter, slice_index, slice_index_or}
+pub use Rattle.std.specs.List.{AllByRecursion, range_with_len}
+pub use Rattle.std.specs.Prelude.{Err, IfOk, Ok, Result, filter, slice_index, slice_index_or}
 pub use Rattle.ta_automaton.proofs.Thresholds.{after_earlier, pattern_within}
 pub use Rattle.ta_automaton.specs.Runs.{Config, HappensAt, InScope}
 unfoldable pub use Rattle.ta_automaton.specs.Sums.{times_in, total}
@@ -17,13 +19,13 @@ pub use Rattle.ta_automaton.specs.declared.pattern.Pattern.{Pattern}
 pub use Rattle.ta_automaton.specs.declared.rule.Rule.{Rule}
 pub use Rattle.ta_base.proofs.Bits.{all_below-at, bit_set, bit_true}
 pub use Rattle.ta_base.proofs.Each.{each_append, each_from, each_from_in, each_push, known_naturals}
-pub use Rattle.ta_base.proofs.Lists.{drop_front, drop_map, filter_false, filter_true, get_map, get_parts, last_item, map-map, map_append, natural_at, naturals_back, only_item, only_one, reverse_onto, same_items, slice_get_left, some_at, take_map}
-pub use Rattle.ta_base.proofs.Members.{In-filter, filter_passes, in_at}
-pub use Rattle.ta_base.proofs.Naturals.{count_most, other_number, same_number, times_le_right}
-pub use Rattle.ta_base.proofs.Ranges.{item_at, length_numbers, map_from, no_item, number_here, numbers_suc}
-pub use Rattle.ta_base.specs.Masks.{In, all_below, has_bit, implies, numbers_from}
+pub use Rattle.ta_base.proofs.Lists.{filter_false, filter_true, get_map, get_parts, last_item, map_same, natural_at, naturals_back, only_item, range_more, reverse_onto, slice_get_left, some_at}
+pub use Rattle.ta_base.proofs.Members.{In-filter, in_at, in_filter}
+pub use Rattle.ta_base.proofs.Naturals.{count_most, other_number, same_number}
+pub use Rattle.ta_base.proofs.Ranges.{item_at, map_from, no_item, number_here}
+pub use Rattle.ta_base.specs.Masks.{In, all_below, has_bit, implies}
 pub use Rattle.ta_encode.proofs.Moments.{AllHold-left}
-pub use Rattle.ta_encode.proofs.Singles.{NumberBelow, numbers_below, one_single, only_single, singles_hold}
+pub use Rattle.ta_encode.proofs.Singles.{NumberBelow, numbers_below, one_single, only_single, repeat_none, singles_hold}
 pub use Rattle.ta_encode.proofs.Values.{AllHold-right, allowed_may, event_ready, repeat, unfolded, unfolded-may}
 pub use Rattle.ta_encode.specs.Laws.{FiresBefore, SolvedWord, WordFires, position_in, start_values, steps_of}
 pub use Rattle.ta_encode.specs.System.{AllHold, fall_rows}
@@ -31,8 +33,8 @@ unfoldable pub use Rattle.ta_encode.specs.System.{sum_of_products, word_rows}
 pub use Rattle.ta_encode.specs.Unknowns.{counts_after, place_coefficient, singles_after, start_locations}
 unfoldable pub use Rattle.ta_encode.specs.Unknowns.{meanings, start_meanings}
 pub use Rattle.ta_encode.specs.declared.encoded.Solution.{Solution}
-pub use Rattle.ta_encode.specs.declared.meaning.Meaning.TheVariants.{Count, Parameter, Single, Start}
 pub use Rattle.ta_encode.specs.declared.meaning.Meaning.{Meaning}
+pub use Rattle.ta_encode.specs.declared.meaning.Meaning.TheVariants.{Count, Parameter, Single, Start}
 pub use Rattle.ta_replay.proofs.PieceLines.{are_short, no_steps, show, some_index}
 pub use Rattle.ta_replay.specs.Pieces.{HasFewSteps, MarksInOrder, OncePerRule, Piece, PiecesHappen, last_lines, piece_lines, pieces_lines, pieces_marks, step_line, steps_count, steps_until}
 pub use Rattle.ta_replay.specs.Shows.{ShowsPattern, unit_steps}
@@ -47,5 +49,5 @@ pub use Rattle.ta_witness.specs.Witness.{EndsPiece, IsSolution, PieceOf, PiecesO
 pub use Rattle.ta_words.proofs.Counts.{in_children, legal_length, legal_weight}
 pub use Rattle.ta_words.specs.Words.{LegalWord, children, follows, has_fallen, has_rise, may_fire}
 unfoldable pub use Rattle.ta_words.specs.Words.{allowed_rules, has_event}
-pub use Rattle.ta_words.specs.declared.element.Element.TheVariants.{Event, Fall, Rise}
 pub use Rattle.ta_words.specs.declared.element.Element.{Element}
+pub use Rattle.ta_words.specs.declared.element.Element.TheVariants.{Event, Fall, Rise}

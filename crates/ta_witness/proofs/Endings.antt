@@ -1,5 +1,5 @@
 -- the elements of a word with a solution may end: their events exist, and one rule is the single step of a Fall
-use Rattle.ta_witness.proofs.Common.{◌≡◌, ◌⊎◌, inl, inr, ℕ, zero, suc, ◌+◌, ◌<◌, ◌≤◌, pos, List, [], ◌∷◌, ◌++◌, map, length, drop, reverse, eqb, true, Some, slice_get, arith, refl, sym, ap, ◌∙◌, subst, append-nil, nat_tests, eqb_tells, slice_get_within, only_item, reverse_onto, AllHold-left, Automaton, Pattern, In, times_in, Element, Event, Rise, Fall, LegalWord, allowed_rules, children, may_fire, in_children, Meaning, Single, meanings, counts_after, AllHold, fall_rows, word_rows, one_single, singles_hold, AllHold-right, unfolded, repeat, unfolded-may, allowed_may, EachMayEnd, IsSingle, MayEnd}
+use Rattle.ta_witness.proofs.Common.{◌≡◌, ◌⊎◌, inl, inr, ℕ, zero, suc, ◌+◌, ◌<◌, ◌≤◌, pos, List, [], ◌∷◌, ◌++◌, map, length, drop, reverse, eqb, true, Some, slice_get, arith, refl, sym, ap, ◌∙◌, subst, append-nil, nat_tests, eqb_tells, slice_get_within, only_item, reverse_onto, AllHold-left, Automaton, Pattern, In, times_in, Element, Event, Rise, Fall, LegalWord, allowed_rules, children, may_fire, in_children, Meaning, Single, meanings, counts_after, AllHold, fall_rows, word_rows, one_single, singles_hold, AllHold-right, unfolded, repeat, unfolded-may, allowed_may, EachMayEnd, IsSingle, MayEnd, repeat_none}
 use Rattle.ta_automaton.proofs.Fired.{once}
 use Rattle.ta_encode.proofs.Segment.{EachMay, may_exists}
 use Rattle.ta_witness.proofs.Backward.{values_of}
@@ -20,10 +20,6 @@ unfolding times_in
 in_times [] x h = absurd h
 in_times (y ∷ xs) x (inl e) = let s : eqb y x ≡ true = grind (arith, nat_tests) in rw s (omega arith)
 in_times (y ∷ xs) x (inr h) = omega (arith, in_times xs x h)
-
-repeat_none : (n q : ℕ) (xs : List ℕ) → repeat n q xs ≡ [] → n ≡ 0
-repeat_none zero q xs e = refl
-repeat_none (suc n) q xs e = absurd (cc)
 
 -- where the unfolded list is one rule, which is once in the list, its value is 1
 one_value : (al ws : List ℕ) (r : ℕ) → unfolded al ws ≡ r ∷ [] → times_in r al ≤ 1 → value_for al ws r ≡ 1

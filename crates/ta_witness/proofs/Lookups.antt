@@ -1,5 +1,5 @@
 -- the value of an unknown, by what it stands for
-use Rattle.ta_witness.proofs.Common.{◌≡◌, ◌≢◌, inl, inr, ℕ, zero, suc, ◌+◌, ◌<◌, ◌≤◌, ℤ, pos, ◌*ℤ◌, List, [], ◌∷◌, ◌++◌, map, length, drop, eqb, cond, Bool, true, false, arith, refl, sym, ap, ◌∙◌, subst, slice_get, Some, filter, ints, cases_Bool, and_parts, eqb-true, true≢false, nat_tests, eqb_tells, AllByRecursion, drop_map, filter_false, filter_true, other_number, same_number, Automaton, Pattern, numbers_from, In, total, Element, Event, Rise, Fall, allowed_rules, Meaning, Parameter, Start, Count, Single, meanings, counts_after, singles_after, sum_of_products, NumberBelow, numbers_below, same_meaning, unknown_value}
+use Rattle.ta_witness.proofs.Common.{◌≡◌, ◌≢◌, inl, inr, ℕ, zero, suc, ◌+◌, ◌<◌, ◌≤◌, ℤ, pos, ◌*ℤ◌, List, [], ◌∷◌, ◌++◌, map, length, drop, eqb, cond, Bool, true, false, arith, refl, sym, ap, ◌∙◌, subst, slice_get, Some, filter, ints, cases_Bool, and_parts, eqb-true, true≢false, nat_tests, eqb_tells, AllByRecursion, filter_false, filter_true, other_number, same_number, Automaton, Pattern, range_with_len, In, total, Element, Event, Rise, Fall, allowed_rules, Meaning, Parameter, Start, Count, Single, meanings, counts_after, singles_after, sum_of_products, NumberBelow, numbers_below, same_meaning, unknown_value, drop-map}
 use Rattle.std.proofs.Math.IntN.{*ℤ-zero}
 use Rattle.ta_base.proofs.Integers.{pos_cond}
 use Rattle.ta_automaton.proofs.Sums.{total-zero}
@@ -36,16 +36,12 @@ lacks_map m f [] h = tt
 lacks_map m f (x ∷ xs) h = (h x, lacks_map m f xs h)
 
 below_count : (k r : ℕ) (n : Meaning) → NumberBelow k n → same_meaning n (Count k r) ≡ false
-below_count k r (Parameter i) h = refl
-below_count k r (Start l) h = refl
 below_count k r (Count j q) h = other_number j k q r (λ e. omega arith)
-below_count k r (Single j q) h = refl
+below_count k r _ h = refl
 
 below_single : (k r : ℕ) (n : Meaning) → NumberBelow k n → same_meaning n (Single k r) ≡ false
-below_single k r (Parameter i) h = refl
-below_single k r (Start l) h = refl
-below_single k r (Count j q) h = refl
 below_single k r (Single j q) h = other_number j k q r (λ e. omega arith)
+below_single k r _ h = refl
 
 each_lacks : (k : ℕ) (m : Meaning) (ms : List Meaning) → ((n : Meaning) → NumberBelow k n → same_meaning n m ≡ false) → AllByRecursion (NumberBelow k) ms → Lacks m ms
 each_lacks k m [] h b = tt
@@ -59,16 +55,12 @@ OtherElement n (Count k r) = n ≢ k
 OtherElement n (Single k r) = n ≢ k
 
 other_count : (n q : ℕ) (m : Meaning) → OtherElement n m → same_meaning (Count n q) m ≡ false
-other_count n q (Parameter i) h = refl
-other_count n q (Start l) h = refl
 other_count n q (Count k r) h = other_number n k q r h
-other_count n q (Single k r) h = refl
+other_count n q _ h = refl
 
 other_single : (n q : ℕ) (m : Meaning) → OtherElement n m → same_meaning (Single n q) m ≡ false
-other_single n q (Parameter i) h = refl
-other_single n q (Start l) h = refl
-other_single n q (Count k r) h = refl
 other_single n q (Single k r) h = other_number n k q r h
+other_single n q _ h = refl
 
 -- the unknowns of an element change no value of the others
 pub newer : (a : Automaton) (p : Pattern) (start : ℕ) (e : Element) (past : List Element) (vs : List ℤ) (m : Meaning) → OtherElement (length past) m → unknown_value (meanings a p start (e ∷ past)) vs m ≡ unknown_value (meanings a p start past) vs m
@@ -102,7 +94,7 @@ behind_counts a p start past vs r =
     let k = length past in
     let ms = meanings a p start past in
     skip ms (counts_after a p start past) (map pos vs) (Count k r) (each_lacks k (Count k r) ms (below_count k r) (numbers_below a p start past))
-    ∙ ap (λ (ws : List ℤ). unknown_value (counts_after a p start past) ws (Count k r)) (drop_map (length ms) vs)
+    ∙ ap (λ (ws : List ℤ). unknown_value (counts_after a p start past) ws (Count k r)) (drop-map pos (length ms) vs)
     ∙ counts_found k r (allowed_rules a p start past) (drop (length ms) vs)
 
 -- the value of a Count of the newest element
@@ -122,7 +114,7 @@ single_value a p start mask past vs r =
     let ms = meanings a p start past ++ counts_after a p start past in
     let lacks = lacks_append (Single k r) (meanings a p start past) (counts_after a p start past) (each_lacks k (Single k r) (meanings a p start past) (below_single k r) (numbers_below a p start past)) (lacks_map (Single k r) (Count k) (allowed_rules a p start past) (λ q. refl)) in
     skip ms (singles_after a p start past) (map pos vs) (Single k r) lacks
-    ∙ ap (λ (ws : List ℤ). unknown_value (singles_after a p start past) ws (Single k r)) (drop_map (length ms) vs)
+    ∙ ap (λ (ws : List ℤ). unknown_value (singles_after a p start past) ws (Single k r)) (drop-map pos (length ms) vs)
     ∙ singles_found k r (allowed_rules a p start past) (drop (length ms) vs)
 
 -- a rule with a value above 0 is in the list
@@ -141,18 +133,7 @@ same_means (Parameter i) (Parameter j) e = ap Parameter (eqb-true i j e)
 same_means (Start l) (Start k) e = ap Start (eqb-true l k e)
 same_means (Count j q) (Count k r) e = let w = and_parts (eqb j k) (eqb q r) e in let s = eqb-true j k w.0 in let t = eqb-true q r w.1 in cc
 same_means (Single j q) (Single k r) e = let w = and_parts (eqb j k) (eqb q r) e in let s = eqb-true j k w.0 in let t = eqb-true q r w.1 in cc
-same_means (Parameter i) (Start l) e = absurd (true≢false (sym e))
-same_means (Parameter i) (Count k r) e = absurd (true≢false (sym e))
-same_means (Parameter i) (Single k r) e = absurd (true≢false (sym e))
-same_means (Start l) (Parameter i) e = absurd (true≢false (sym e))
-same_means (Start l) (Count k r) e = absurd (true≢false (sym e))
-same_means (Start l) (Single k r) e = absurd (true≢false (sym e))
-same_means (Count j q) (Parameter i) e = absurd (true≢false (sym e))
-same_means (Count j q) (Start l) e = absurd (true≢false (sym e))
-same_means (Count j q) (Single k r) e = absurd (true≢false (sym e))
-same_means (Single j q) (Parameter i) e = absurd (true≢false (sym e))
-same_means (Single j q) (Start l) e = absurd (true≢false (sym e))
-same_means (Single j q) (Count k r) e = absurd (true≢false (sym e))
+same_means _ _ e = absurd (true≢false (sym e))
 
 pub one_found : (ms : List Meaning) (vs : List ℕ) (m : Meaning) → unknown_value ms (map pos vs) m ≡ pos 1 → (i : ℕ) × (slice_get ms i ≡ Some m) × (slice_get vs i ≡ Some 1)
 unfolding unknown_value
@@ -167,7 +148,7 @@ one_found (n ∷ ms) (v ∷ vs) m e = elim (cases_Bool (same_meaning n m)) [
 ]
 
 -- sums over the rules that pass a test, by the values that stand with them
-total_from : (f g : ℕ → ℤ) (low n : ℕ) → ((r : ℕ) → low ≤ r → f r ≡ g r) → total f (numbers_from low n) ≡ total g (numbers_from low n)
+total_from : (f g : ℕ → ℤ) (low n : ℕ) → ((r : ℕ) → low ≤ r → f r ≡ g r) → total f (range_with_len low n) ≡ total g (range_with_len low n)
 unfolding total
 total_from f g low zero h = refl
 total_from f g low (suc n) h = omega (arith, ints, h low (omega arith), total_from f g (low + 1) n (λ r b. h r (omega arith)))
@@ -177,21 +158,21 @@ unfolding value_for
 skip_value q rs [] r ne h = refl
 skip_value q rs (w ∷ ws) r ne h = let s : eqb q r ≡ false = grind (arith, nat_tests) in rw s (h ws)
 
-none_low : (test : ℕ → Bool) (low n : ℕ) (ws : List ℕ) (r : ℕ) → r < low → value_for (filter test (numbers_from low n)) ws r ≡ 0
+none_low : (test : ℕ → Bool) (low n : ℕ) (ws : List ℕ) (r : ℕ) → r < low → value_for (filter test (range_with_len low n)) ws r ≡ 0
 unfolding value_for
 none_low test low zero ws r b = refl
 none_low test low (suc n) ws r b = elim (cases_Bool (test low)) [
-  | inl e ↦ ap (λ (rs : List ℕ). value_for rs ws r) (filter_true test low (numbers_from (low + 1) n) e) ∙ skip_value low (filter test (numbers_from (low + 1) n)) ws r (λ q. omega arith) (λ vs. none_low test (low + 1) n vs r (omega arith))
-  | inr e ↦ ap (λ (rs : List ℕ). value_for rs ws r) (filter_false test low (numbers_from (low + 1) n) e) ∙ none_low test (low + 1) n ws r (omega arith)
+  | inl e ↦ ap (λ (rs : List ℕ). value_for rs ws r) (filter_true test low (range_with_len (low + 1) n) e) ∙ skip_value low (filter test (range_with_len (low + 1) n)) ws r (λ q. omega arith) (λ vs. none_low test (low + 1) n vs r (omega arith))
+  | inr e ↦ ap (λ (rs : List ℕ). value_for rs ws r) (filter_false test low (range_with_len (low + 1) n) e) ∙ none_low test (low + 1) n ws r (omega arith)
 ]
 
 -- what the rules add, each as often as the value that stands with it
 abbrev Adds : (ℕ → ℤ) → ℕ → ℕ → List ℕ → List ℕ → Type 0
-Adds g low n rs ws = total (λ r. g r *ℤ pos (value_for rs ws r)) (numbers_from low n) ≡ sum_of_products (map g rs) ws
+Adds g low n rs ws = total (λ r. g r *ℤ pos (value_for rs ws r)) (range_with_len low n) ≡ sum_of_products (map g rs) ws
 
 first_adds : (g : ℕ → ℤ) (low n : ℕ) (rs ws : List ℕ) → ((vs : List ℕ) → Adds g (low + 1) n rs vs) → Adds g low (suc n) (low ∷ rs) ws
 unfolding total sum_of_products value_for
-first_adds g low n rs [] h = total-zero (λ r. g r *ℤ pos 0) (low ∷ numbers_from (low + 1) n) (λ r. *ℤ-zero (g r))
+first_adds g low n rs [] h = total-zero (λ r. g r *ℤ pos 0) (low ∷ range_with_len (low + 1) n) (λ r. *ℤ-zero (g r))
 first_adds g low n rs (w ∷ ws) h =
     let here : cond (eqb low low) w (value_for rs ws low) ≡ w = (let s : eqb low low ≡ true = grind (arith, nat_tests) in rw s refl) in
     let rest = total_from (λ r. g r *ℤ pos (cond (eqb low r) w (value_for rs ws r))) (λ r. g r *ℤ pos (value_for rs ws r)) (low + 1) n (λ r b. (let s : eqb low r ≡ false = grind (arith, nat_tests) in rw s refl)) in
@@ -201,10 +182,10 @@ other_adds : (g : ℕ → ℤ) (low n : ℕ) (rs ws : List ℕ) → value_for rs
 unfolding total
 other_adds g low n rs ws none h = omega (arith, ints, ap (λ (k : ℕ). g low *ℤ pos k) none, *ℤ-zero (g low), h)
 
-pub value_sum : (g : ℕ → ℤ) (test : ℕ → Bool) (low n : ℕ) (ws : List ℕ) → total (λ r. g r *ℤ pos (value_for (filter test (numbers_from low n)) ws r)) (numbers_from low n) ≡ sum_of_products (map g (filter test (numbers_from low n))) ws
+pub value_sum : (g : ℕ → ℤ) (test : ℕ → Bool) (low n : ℕ) (ws : List ℕ) → total (λ r. g r *ℤ pos (value_for (filter test (range_with_len low n)) ws r)) (range_with_len low n) ≡ sum_of_products (map g (filter test (range_with_len low n))) ws
 unfolding total sum_of_products
 value_sum g test low zero ws = refl
 value_sum g test low (suc n) ws = elim (cases_Bool (test low)) [
-  | inl e ↦ subst (λ (rs : List ℕ). Adds g low (suc n) rs ws) (sym (filter_true test low (numbers_from (low + 1) n) e)) (first_adds g low n (filter test (numbers_from (low + 1) n)) ws (λ vs. value_sum g test (low + 1) n vs))
-  | inr e ↦ subst (λ (rs : List ℕ). Adds g low (suc n) rs ws) (sym (filter_false test low (numbers_from (low + 1) n) e)) (other_adds g low n (filter test (numbers_from (low + 1) n)) ws (none_low test (low + 1) n ws low (omega arith)) (value_sum g test (low + 1) n ws))
+  | inl e ↦ subst (λ (rs : List ℕ). Adds g low (suc n) rs ws) (sym (filter_true test low (range_with_len (low + 1) n) e)) (first_adds g low n (filter test (range_with_len (low + 1) n)) ws (λ vs. value_sum g test (low + 1) n vs))
+  | inr e ↦ subst (λ (rs : List ℕ). Adds g low (suc n) rs ws) (sym (filter_false test low (range_with_len (low + 1) n) e)) (other_adds g low n (filter test (range_with_len (low + 1) n)) ws (none_low test (low + 1) n ws low (omega arith)) (value_sum g test (low + 1) n ws))
 ]

@@ -1,5 +1,5 @@
 -- making the lists and lines of a run
-use Rattle.ta_witness.proofs.Common.{◌≡◌, inl, inr, ℕ, zero, suc, ◌+◌, ◌^◌, ◌<◌, ◌≤◌, ℤ, pos, ◌≤ℤ◌, ◌<ℤ◌, List, [], ◌∷◌, ◌++◌, map, length, take, drop, reverse, get_or, cond, true, false, Some, None, slice_get, arith, refl, sym, ap, ◌∙◌, subst, append_assoc, append-nil, length-append, drop-cons, ints, slice_index_or, drop_all, take_more, map-append, length-map, length-take, length-reverse, slice_get_within, AllByRecursion, each_append, each_push, known_naturals, get_parts, last_item, length_numbers, numbers_suc, AllHold-left, Automaton, Pattern, File, numbers_from, InScope, pattern_within, AreRuleCounts, ArrangedOf, count_at, arranged_within, Element, Event, Fall, Meaning, Parameter, Start, legal_length, Solution, meanings, word_rows, Run, Step, Mark, Piece, step_line, last_lines, piece_lines, pieces_lines, same_meaning, unknown_value, PieceOf, PiecesOf, WitnessOf, counts_before, AreNaturals, AreValues, IsSingle, EachMayEnd, AddsPieceEnd, AddsPiece, AddsPieces, IsMadeFrom, RunOf}
+use Rattle.ta_witness.proofs.Common.{◌≡◌, inl, inr, ℕ, zero, suc, ◌+◌, ◌^◌, ◌<◌, ◌≤◌, ℤ, pos, ◌≤ℤ◌, ◌<ℤ◌, List, [], ◌∷◌, ◌++◌, map, length, take, drop, reverse, get_or, cond, true, false, Some, None, slice_get, arith, refl, sym, ap, ◌∙◌, subst, append_assoc, append-nil, length-append, drop-cons, ints, slice_index_or, drop_all, take_more, map-append, length-map, length-take, length-reverse, slice_get_within, AllByRecursion, each_append, each_push, known_naturals, get_parts, last_item, AllHold-left, Automaton, Pattern, File, range_with_len, InScope, pattern_within, AreRuleCounts, ArrangedOf, count_at, arranged_within, Element, Event, Fall, Meaning, Parameter, Start, legal_length, Solution, meanings, word_rows, Run, Step, Mark, Piece, step_line, last_lines, piece_lines, pieces_lines, same_meaning, unknown_value, PieceOf, PiecesOf, WitnessOf, counts_before, AreNaturals, AreValues, IsSingle, EachMayEnd, AddsPieceEnd, AddsPiece, AddsPieces, IsMadeFrom, RunOf, range_more, length-range_with_len}
 use Rattle.ta_linear.specs.Numbers.{InRange}
 use Rattle.ta_counter.specs.Values.{Value}
 use Rattle.ta_replay.specs.declared.run.RunLine.{RunLine}
@@ -24,11 +24,11 @@ pub look_end : (ms : List Meaning) (vs : List ℤ) (m : Meaning) (i : ℕ) (u : 
 unfolding unknown_value
 look_end ms vs m i u b is = sym (ap (λ (ns : List Meaning). unknown_value ns (drop i vs) m) (drop_all i ms b)) ∙ is
 
-pub values_more : (f : ℕ → ℤ) (i : ℕ) (xs : List ℤ) (z : ℤ) → AreValues (map f (numbers_from 0 i)) xs → z ≡ f i → Value z → AreValues (map f (numbers_from 0 (i + 1))) (xs ++ z ∷ [])
+pub values_more : (f : ℕ → ℤ) (i : ℕ) (xs : List ℤ) (z : ℤ) → AreValues (map f (range_with_len 0 i)) xs → z ≡ f i → Value z → AreValues (map f (range_with_len 0 (i + 1))) (xs ++ z ∷ [])
 values_more f i xs z h e v =
-    let more : numbers_from 0 (i + 1) ≡ numbers_from 0 i ++ i ∷ [] = ap (numbers_from 0) (let q : i + 1 ≡ suc i = omega arith in q) ∙ numbers_suc 0 i ∙ ap (λ (x : ℕ). numbers_from 0 i ++ x ∷ []) (let q : 0 + i ≡ i = omega arith in q) in
+    let more : range_with_len 0 (i + 1) ≡ range_with_len 0 i ++ i ∷ [] = ap (range_with_len 0) (let q : i + 1 ≡ suc i = omega arith in q) ∙ range_more 0 i ∙ ap (λ (x : ℕ). range_with_len 0 i ++ x ∷ []) (let q : 0 + i ≡ i = omega arith in q) in
     record {
-      are = ap (λ (ys : List ℤ). ys ++ z ∷ []) h.are ∙ ap (λ (y : ℤ). map f (numbers_from 0 i) ++ y ∷ []) e ∙ sym (map-append f (numbers_from 0 i) (i ∷ [])) ∙ ap (map f) (sym more);
+      are = ap (λ (ys : List ℤ). ys ++ z ∷ []) h.are ∙ ap (λ (y : ℤ). map f (range_with_len 0 i) ++ y ∷ []) e ∙ sym (map-append f (range_with_len 0 i) (i ∷ [])) ∙ ap (map f) (sym more);
       natural = each_push Value xs z h.natural v;
     }
 
@@ -64,9 +64,9 @@ natural_at [] r h = omega (arith, ints)
 natural_at (x ∷ xs) zero h = h.0.natural
 natural_at (x ∷ xs) (suc r) h = natural_at xs r h.1
 
-pub counts_from : (a : Automaton) (f : ℕ → ℤ) (n : ℕ) (xs : List ℤ) → n ≡ length a.rules → AreValues (map f (numbers_from 0 n)) xs → AreRuleCounts a xs
+pub counts_from : (a : Automaton) (f : ℕ → ℤ) (n : ℕ) (xs : List ℤ) → n ≡ length a.rules → AreValues (map f (range_with_len 0 n)) xs → AreRuleCounts a xs
 counts_from a f n xs size h = record {
-  each_rule = ap (λ (ys : List ℤ). length ys) h.are ∙ length-map (numbers_from 0 n) f ∙ length_numbers 0 n ∙ size;
+  each_rule = ap (λ (ys : List ℤ). length ys) h.are ∙ length-map (range_with_len 0 n) f ∙ length-range_with_len 0 n ∙ size;
   natural = λ r. natural_at xs r h.natural;
 }
 
@@ -155,7 +155,7 @@ run_witness file p ms solution run r =
       pattern = p;
       named = h.named;
       same_pattern = r.same_pattern;
-      parameters = r.parameters.are ∙ ap (λ (ns : List Meaning). map (λ i. value ns (Parameter i)) (numbers_from 0 (length a.parameters))) h.unknowns;
+      parameters = r.parameters.are ∙ ap (λ (ns : List Meaning). map (λ i. value ns (Parameter i)) (range_with_len 0 (length a.parameters))) h.unknowns;
       counts = r.counts.are ∙ ap (λ (ns : List Meaning). map (λ l. value ns (Start l)) a.initial) h.unknowns;
       pieces = r.lined.pieces;
       are = subst (λ (ns : List Meaning). PiecesOf a (value ns) solution.word r.lined.pieces) h.unknowns r.lined.are;
@@ -166,7 +166,7 @@ pub run_fits : (file : File) (p : Pattern) (ms : List Meaning) (solution : Solut
 run_fits file p ms solution run r = record {
   pattern = p;
   named = ap (slice_get file.patterns) r.same_pattern ∙ r.asked.named;
-  parameters = ap (λ (xs : List ℤ). length xs) r.parameters.are ∙ length-map (numbers_from 0 (length file.automaton.parameters)) _ ∙ length_numbers 0 (length file.automaton.parameters);
+  parameters = ap (λ (xs : List ℤ). length xs) r.parameters.are ∙ length-map (range_with_len 0 (length file.automaton.parameters)) _ ∙ length-range_with_len 0 (length file.automaton.parameters);
   parameters_natural = r.parameters.natural;
   counts = ap (λ (xs : List ℤ). length xs) r.counts.are ∙ length-map file.automaton.initial _;
   counts_natural = r.counts.natural;

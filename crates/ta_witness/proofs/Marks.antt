@@ -1,5 +1,5 @@
 -- the marks of a word's pieces: where they stand, and in which order
-use Rattle.ta_witness.proofs.Common.{◌≡◌, inl, inr, ℕ, zero, suc, ◌+◌, ◌<◌, ℤ, List, [], ◌∷◌, ◌++◌, map, length, take, replicate, reverse, unsigned_abs, eqb, cond, true, false, not, Option, Some, None, slice_get, IsBitSet, arith, refl, sym, ap, ◌∙◌, subst, append_assoc, append-nil, false≢true, and_parts, not-true, or_parts, or_right, nat_tests, eqb_tells, map-append, length-reverse, length-map, slice_get_within, all_below-at, bit_true, get_parts, only_one, reverse_onto, slice_get_left, times-append, Automaton, Pattern, has_bit, all_below, implies, In, times_in, Element, Event, Rise, Fall, has_event, follows, children, LegalWord, Meaning, position_in, steps_of, event_ready, Mark, unit_steps, Piece, MarksInOrder, pieces_lines, pieces_marks, piece_lines, step_line, last_lines, steps_until, some_index, no_steps}
+use Rattle.ta_witness.proofs.Common.{◌≡◌, inl, inr, ℕ, zero, suc, ◌+◌, ◌<◌, ℤ, List, [], ◌∷◌, ◌++◌, map, length, take, replicate, reverse, unsigned_abs, eqb, cond, true, false, not, Option, Some, None, slice_get, IsBitSet, arith, refl, sym, ap, ◌∙◌, subst, append_assoc, append-nil, false≢true, and_parts, not-true, or_parts, or_right, nat_tests, eqb_tells, map-append, length-reverse, length-map, slice_get_within, all_below-at, bit_true, get_parts, reverse_onto, slice_get_left, times-append, Automaton, Pattern, has_bit, all_below, implies, In, times_in, Element, Event, Rise, Fall, has_event, follows, children, LegalWord, Meaning, position_in, steps_of, event_ready, Mark, unit_steps, Piece, MarksInOrder, pieces_lines, pieces_marks, piece_lines, step_line, last_lines, steps_until, some_index, no_steps, last_item}
 use Rattle.ta_base.proofs.Booleans.{implies-at}
 use Rattle.ta_automaton.specs.declared.pattern.Event.{Event as PatternEvent}
 use Rattle.ta_scope.specs.Legal as scope
@@ -147,7 +147,7 @@ marks_before a p start value earlier (Event g ∷ past) (piece ∷ back) legal h
     elim (get_parts old (g ∷ []) i e here) [
       | inl w ↦ (let v = marks_before a p start value earlier past back legal.1 h.1 e f i event at bit w in (v.0, v.1, slice_get_left old piece.marks v.0 f v.2))
       | inr w ↦ (
-          let same : g ≡ e = only_one g e w.0 w.2 in
+          let same : g ≡ e = (last_item g e w.0 w.2).1 in
           let ready = and_parts (not (has_event past g)) (follows p past (slice_get p.events g)) (event_ready a p [] start past g legal.0) in
           let b : f < length p.events = (let less = earlier e event at f bit in let c = slice_get_within p.events e event at in omega arith) in
           let follow : follows p past (Some event) ≡ true = ap (follows p past) (sym at ∙ ap (slice_get p.events) (sym same)) ∙ ready.1 in

@@ -1,5 +1,5 @@
 -- the parameters and start counts of a solution's run are those of the configuration that it begins with
-use Rattle.ta_witness.proofs.Common.{◌≡◌, inl, inr, ℕ, ◌+◌, ℤ, pos, List, [], ◌∷◌, ◌++◌, map, length, take, drop, eqb, cond, true, false, not, Some, slice_get, arith, refl, sym, ap, ◌∙◌, subst, unsigned_abs, slice_index, cases_Bool, not_from_false, nat_tests, eqb_tells, length-map, drop_front, map_append, natural_at, naturals_back, same_items, take_map, In-filter, in_at, length_numbers, map_from, Automaton, Pattern, has_bit, numbers_from, In, Config, Element, Meaning, Parameter, Start, meanings, start_locations, start_meanings, start_values, same_meaning, unknown_value}
+use Rattle.ta_witness.proofs.Common.{◌≡◌, inl, inr, ℕ, ◌+◌, ℤ, pos, List, [], ◌∷◌, ◌++◌, map, length, take, drop, eqb, cond, true, false, not, Some, slice_get, arith, refl, sym, ap, ◌∙◌, subst, unsigned_abs, slice_index, cases_Bool, not_from_false, nat_tests, eqb_tells, length-map, natural_at, naturals_back, In-filter, in_at, map_from, Automaton, Pattern, has_bit, range_with_len, In, Config, Element, Meaning, Parameter, Start, meanings, start_locations, start_meanings, start_values, same_meaning, unknown_value, map-append, drop_at, take-map, map_same, length-range_with_len}
 use Rattle.ta_witness.proofs.Lookups.{OtherElement, newer, skip, lacks_map}
 
 -- unknowns that aren't of an element have their values at the start
@@ -18,26 +18,26 @@ value_at_start : (a : Automaton) (p : Pattern) (start : ℕ) (past : List Elemen
 value_at_start a p start past vs sv m h e =
     at_start a p start past (map pos vs) m h
     ∙ front_values (start_meanings a p) (map pos vs) m
-    ∙ ap (λ (ws : List ℤ). unknown_value (start_meanings a p) ws m) (take_map (length (start_meanings a p)) vs ∙ ap (map pos) (sym e))
+    ∙ ap (λ (ws : List ℤ). unknown_value (start_meanings a p) ws m) (take-map pos (length (start_meanings a p)) vs ∙ ap (map pos) (sym e))
 
-parameters_found : (low : ℕ) (xs ys : List ℕ) (more : List Meaning) → map (λ i. unknown_value (map Parameter (numbers_from low (length xs)) ++ more) (map pos (xs ++ ys)) (Parameter i)) (numbers_from low (length xs)) ≡ map pos xs
+parameters_found : (low : ℕ) (xs ys : List ℕ) (more : List Meaning) → map (λ i. unknown_value (map Parameter (range_with_len low (length xs)) ++ more) (map pos (xs ++ ys)) (Parameter i)) (range_with_len low (length xs)) ≡ map pos xs
 unfolding unknown_value
 parameters_found low [] ys more = refl
 parameters_found low (x ∷ xs) ys more =
-    let rest : ℕ → ℤ = λ i. unknown_value (map Parameter (numbers_from (low + 1) (length xs)) ++ more) (map pos (xs ++ ys)) (Parameter i) in
+    let rest : ℕ → ℤ = λ i. unknown_value (map Parameter (range_with_len (low + 1) (length xs)) ++ more) (map pos (xs ++ ys)) (Parameter i) in
     let head : cond (eqb low low) (pos x) (rest low) ≡ pos x = (let s : eqb low low ≡ true = grind (arith, nat_tests) in rw s refl) in
     let tail = map_from (λ i. cond (eqb low i) (pos x) (rest i)) rest (low + 1) (length xs) (λ i b. (let s : eqb low i ≡ false = grind (arith, nat_tests) in rw s refl)) ∙ parameters_found (low + 1) xs ys more in
     cc
 
 -- the run's parameters
-pub parameters_are : (a : Automaton) (p : Pattern) (start : ℕ) (past : List Element) (vs : List ℕ) (first : Config) → length first.parameters ≡ length a.parameters → start_values a p first ≡ take (length (start_meanings a p)) vs → map unsigned_abs (map (λ i. unknown_value (meanings a p start past) (map pos vs) (Parameter i)) (numbers_from 0 (length a.parameters))) ≡ first.parameters
+pub parameters_are : (a : Automaton) (p : Pattern) (start : ℕ) (past : List Element) (vs : List ℕ) (first : Config) → length first.parameters ≡ length a.parameters → start_values a p first ≡ take (length (start_meanings a p)) vs → map unsigned_abs (map (λ i. unknown_value (meanings a p start past) (map pos vs) (Parameter i)) (range_with_len 0 (length a.parameters))) ≡ first.parameters
 unfolding start_meanings
 parameters_are a p start past vs first count begins =
     let n = length a.parameters in
     let cs = map (slice_index first.counters) (start_locations a p) in
-    let each : (i : ℕ) → unknown_value (meanings a p start past) (map pos vs) (Parameter i) ≡ unknown_value (map Parameter (numbers_from 0 n) ++ map Start (start_locations a p)) (map pos (first.parameters ++ cs)) (Parameter i) = (λ i. value_at_start a p start past vs (start_values a p first) (Parameter i) (λ k. tt) begins) in
-    ap (λ (zs : List ℤ). map unsigned_abs zs) (same_items _ _ (numbers_from 0 n) each
-    ∙ subst (λ (k : ℕ). map (λ i. unknown_value (map Parameter (numbers_from 0 k) ++ map Start (start_locations a p)) (map pos (first.parameters ++ cs)) (Parameter i)) (numbers_from 0 k) ≡ map pos first.parameters) count (parameters_found 0 first.parameters cs (map Start (start_locations a p))))
+    let each : (i : ℕ) → unknown_value (meanings a p start past) (map pos vs) (Parameter i) ≡ unknown_value (map Parameter (range_with_len 0 n) ++ map Start (start_locations a p)) (map pos (first.parameters ++ cs)) (Parameter i) = (λ i. value_at_start a p start past vs (start_values a p first) (Parameter i) (λ k. tt) begins) in
+    ap (λ (zs : List ℤ). map unsigned_abs zs) (map_same _ _ (range_with_len 0 n) each
+    ∙ subst (λ (k : ℕ). map (λ i. unknown_value (map Parameter (range_with_len 0 k) ++ map Start (start_locations a p)) (map pos (first.parameters ++ cs)) (Parameter i)) (range_with_len 0 k) ≡ map pos first.parameters) count (parameters_found 0 first.parameters cs (map Start (start_locations a p))))
     ∙ naturals_back first.parameters
 
 start_in : (f : ℕ → ℕ) (ls : List ℕ) (l : ℕ) → In l ls → unknown_value (map Start ls) (map pos (map f ls)) (Start l) ≡ pos (f l)
@@ -61,11 +61,11 @@ unfolding start_meanings
 start_value a p start past vs first count begins l =
     let n = length a.parameters in
     let cs = map (slice_index first.counters) (start_locations a p) in
-    let ps = map Parameter (numbers_from 0 n) in
-    let size : length (map pos first.parameters) ≡ length ps = length-map first.parameters pos ∙ count ∙ sym (length-map (numbers_from 0 n) Parameter ∙ length_numbers 0 n) in
+    let ps = map Parameter (range_with_len 0 n) in
+    let size : length (map pos first.parameters) ≡ length ps = length-map first.parameters pos ∙ count ∙ sym (length-map (range_with_len 0 n) Parameter ∙ length-range_with_len 0 n) in
     value_at_start a p start past vs (start_values a p first) (Start l) (λ k. tt) begins
-    ∙ skip ps (map Start (start_locations a p)) (map pos (first.parameters ++ cs)) (Start l) (lacks_map (Start l) Parameter (numbers_from 0 n) (λ i. refl))
-    ∙ ap (λ (ws : List ℤ). unknown_value (map Start (start_locations a p)) ws (Start l)) (ap (drop (length ps)) (map_append first.parameters cs) ∙ drop_front (length ps) (map pos first.parameters) (map pos cs) size)
+    ∙ skip ps (map Start (start_locations a p)) (map pos (first.parameters ++ cs)) (Start l) (lacks_map (Start l) Parameter (range_with_len 0 n) (λ i. refl))
+    ∙ ap (λ (ws : List ℤ). unknown_value (map Start (start_locations a p)) ws (Start l)) (ap (drop (length ps)) (map-append pos first.parameters cs) ∙ drop_at (map pos first.parameters) (map pos cs) (length ps) size)
 
 -- the run's start counts
 start_count : (a : Automaton) (p : Pattern) (start : ℕ) (past : List Element) (vs : List ℕ) (first : Config) → length first.parameters ≡ length a.parameters → start_values a p first ≡ take (length (start_meanings a p)) vs → ((l : ℕ) → has_bit p.empty l ≡ true → slice_index first.counters l ≡ 0) → (l : ℕ) → In l a.initial → unknown_value (meanings a p start past) (map pos vs) (Start l) ≡ pos (slice_index first.counters l)

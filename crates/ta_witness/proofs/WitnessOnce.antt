@@ -1,5 +1,5 @@
 -- A solution has one run.
-use Rattle.ta_witness.proofs.Common.{◌≡◌, ℕ, ℤ, pos, List, [], ◌∷◌, ◌++◌, map, length, reverse, Some, slice_get, sym, ap, ◌∙◌, refl, subst, reverse-reverse, AllHold-left, Automaton, Pattern, File, numbers_from, Element, Event, Rise, Fall, allowed_rules, Solution, Parameter, Start, Single, AllHold, word_rows, counts_after, meanings, one_single, only_single, singles_hold, AllHold-right, Run, Piece, pieces_lines, unknown_value, EndsPiece, PieceOf, PiecesOf, WitnessOf, WitnessesAreDetermined, counts_before, solution_value}
+use Rattle.ta_witness.proofs.Common.{◌≡◌, ℕ, ℤ, pos, List, [], ◌∷◌, ◌++◌, map, length, reverse, Some, slice_get, sym, ap, ◌∙◌, refl, subst, reverse-reverse, AllHold-left, Automaton, Pattern, File, range_with_len, Element, Event, Rise, Fall, allowed_rules, Solution, Parameter, Start, Single, AllHold, word_rows, counts_after, meanings, one_single, only_single, singles_hold, AllHold-right, Run, Piece, pieces_lines, unknown_value, EndsPiece, PieceOf, PiecesOf, WitnessOf, WitnessesAreDetermined, counts_before, solution_value}
 use Rattle.ta_encode.proofs.Safety.{first_rows}
 use Rattle.ta_replay.proofs.OneRun.{run_same}
 use Rattle.ta_scope.proofs.ArrangedOnce.{arranged_once}
@@ -48,7 +48,7 @@ back_once a p start (x ∷ past) vs (u ∷ us) (w ∷ ws) rows first second =
 
 -- the run of a solution, for the pattern that it names
 record WitnessAt (a : Automaton) (p : Pattern) (solution : Solution) (run : Run) : Type 0 where
-  parameters : run.parameters ≡ map (λ i. solution_value a p solution (Parameter i)) (numbers_from 0 (length a.parameters))
+  parameters : run.parameters ≡ map (λ i. solution_value a p solution (Parameter i)) (range_with_len 0 (length a.parameters))
   counts : run.counts ≡ map (λ l. solution_value a p solution (Start l)) a.initial
   pieces : List Piece
   are : PiecesOf a (solution_value a p solution) solution.word pieces
@@ -56,7 +56,7 @@ record WitnessAt (a : Automaton) (p : Pattern) (solution : Solution) (run : Run)
 
 at_pattern : (file : File) (solution : Solution) (run : Run) (p : Pattern) (w : WitnessOf file solution run) → w.pattern ≡ p → WitnessAt file.automaton p solution run
 at_pattern file solution run p w same = record {
-  parameters = subst (λ (q : Pattern). run.parameters ≡ map (λ i. solution_value file.automaton q solution (Parameter i)) (numbers_from 0 (length file.automaton.parameters))) same w.parameters;
+  parameters = subst (λ (q : Pattern). run.parameters ≡ map (λ i. solution_value file.automaton q solution (Parameter i)) (range_with_len 0 (length file.automaton.parameters))) same w.parameters;
   counts = subst (λ (q : Pattern). run.counts ≡ map (λ l. solution_value file.automaton q solution (Start l)) file.automaton.initial) same w.counts;
   pieces = w.pieces;
   are = subst (λ (q : Pattern). PiecesOf file.automaton (solution_value file.automaton q solution) solution.word w.pieces) same w.are;

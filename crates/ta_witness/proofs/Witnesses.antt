@@ -1,16 +1,17 @@
 -- the run of a solution shows the pattern, and is short
-use Rattle.ta_witness.proofs.Common.{◌≡◌, inl, inr, ℕ, ◌+◌, ◌*◌, ◌≤◌, ℤ, List, ◌∷◌, map, length, reverse, true, Some, slice_get, unsigned_abs, arith, sym, ap, ◌∙◌, subst, slice_index, length-reverse, slice_get_within, get_or_from_slice_get, bit_set, each_from, get_map, some_at, count_most, times_le_right, number_here, Automaton, Pattern, File, has_bit, numbers_from, In, Config, HappensAt, InScope, pattern_within, after_earlier, arranged_within, Element, Event, Rise, Fall, has_event, has_rise, has_fallen, legal_weight, Solution, Meaning, Parameter, Start, meanings, SolvedWord, position_in, steps_of, Run, unit_steps, ShowsPattern, Piece, OncePerRule, HasFewSteps, PiecesHappen, pieces_lines, steps_count, are_short, show, unknown_value, IsSolution, PiecesOf, EndsPiece, WitnessOf, WitnessesShow, solution_value}
+use Rattle.ta_witness.proofs.Common.{◌≡◌, inl, inr, ℕ, ◌+◌, ◌*◌, ◌≤◌, ℤ, List, ◌∷◌, map, length, reverse, true, Some, slice_get, unsigned_abs, arith, sym, ap, ◌∙◌, subst, slice_index, length-reverse, slice_get_within, get_or_from_slice_get, bit_set, each_from, get_map, some_at, count_most, number_here, Automaton, Pattern, File, has_bit, range_with_len, In, Config, HappensAt, InScope, pattern_within, after_earlier, arranged_within, Element, Event, Rise, Fall, has_event, has_rise, has_fallen, legal_weight, Solution, Meaning, Parameter, Start, meanings, SolvedWord, position_in, steps_of, Run, unit_steps, ShowsPattern, Piece, OncePerRule, HasFewSteps, PiecesHappen, pieces_lines, steps_count, are_short, show, unknown_value, IsSolution, PiecesOf, EndsPiece, WitnessOf, WitnessesShow, solution_value}
 use Rattle.ta_automaton.specs.Runs as runs
 use Rattle.ta_encode.proofs.Theorems.{these_run}
 use Rattle.ta_witness.proofs.Backward.{pieces_back, pieces_fire, piece_rules, values_of, are_counts}
 use Rattle.ta_witness.proofs.Marks.{all_steps, position_at, marks_in_order}
 use Rattle.ta_witness.proofs.Starts.{parameters_are, counts_are}
+use Rattle.std.proofs.Math.Nat.{mul-le-mul_right}
 
 -- a run of pieces whose events and steps are those of a solution
 pub record Parts (a : Automaton) (p : Pattern) (start : ℕ) (word : List Element) (vs : List ℕ) (run : Run) : Type 0 where
   pub pieces : List Piece
   pub are : PiecesOf a (values_of a p start (reverse word) vs) word pieces
-  pub parameters : run.parameters ≡ map (λ i. values_of a p start (reverse word) vs (Parameter i)) (numbers_from 0 (length a.parameters))
+  pub parameters : run.parameters ≡ map (λ i. values_of a p start (reverse word) vs (Parameter i)) (range_with_len 0 (length a.parameters))
   pub counts : run.counts ≡ map (λ l. values_of a p start (reverse word) vs (Start l)) a.initial
   pub lines : run.lines ≡ pieces_lines pieces
 
@@ -50,7 +51,7 @@ shows_parts file n p at scope start word vs solved run h =
           let is = marked_event value k x.0 piece e (h.are.each k x.0 piece x.1 there).ends i in
           let here = position_at a p start word h.pieces k e h.are.count solved.legal (x.1 ∙ ap Some is) in
           let b = slice_get_within p.events e event named in
-          let place : slice_get o.positions e ≡ Some (position_in past firings e) = ap (λ (ps : List ℕ). slice_get ps e) r.there ∙ get_map (position_in past firings) (numbers_from 0 (length p.events)) e e (number_here e (length p.events) b) in
+          let place : slice_get o.positions e ≡ Some (position_in past firings e) = ap (λ (ps : List ℕ). slice_get ps e) r.there ∙ get_map (position_in past firings) (range_with_len 0 (length p.events)) e e (number_here e (length p.events) b) in
           subst (HappensAt r.first o.later event) here (o.happens e event (position_in past firings e) named place);
     } in
     show a p run h.pieces happen (marks_in_order a p start value earlier past h.pieces solved.legal solved.complete back)
@@ -70,7 +71,7 @@ short_parts file n p scope start word vs solved run h =
     let lines = ap steps_count h.lines in
     fewer (length h.pieces) (length a.rise + length a.fall + length p.events) (length a.rules + 1) (steps_count run.lines) few (omega (arith, lines, short)) where
       fewer : (m n k s : ℕ) → m ≤ n → s ≤ m * k → s ≤ n * k
-      fewer m n k s b c = let d = times_le_right m n k b in omega arith
+      fewer m n k s b c = let d = mul-le-mul_right k b in omega arith
 
 -- the parts of a solution's run
 pub parts_of : (file : File) (solution : Solution) (s : IsSolution file solution) (run : Run) (w : WitnessOf file solution run) → Parts file.automaton s.pattern solution.start_mask solution.word s.values run
@@ -84,7 +85,7 @@ parts_of file solution s run w =
     record {
       pieces = w.pieces;
       are = subst (λ (v : Meaning → ℤ). PiecesOf a v solution.word w.pieces) both w.are;
-      parameters = w.parameters ∙ ap (λ (v : Meaning → ℤ). map (λ i. v (Parameter i)) (numbers_from 0 (length a.parameters))) both;
+      parameters = w.parameters ∙ ap (λ (v : Meaning → ℤ). map (λ i. v (Parameter i)) (range_with_len 0 (length a.parameters))) both;
       counts = w.counts ∙ ap (λ (v : Meaning → ℤ). map (λ l. v (Start l)) a.initial) both;
       lines = w.lines;
     } where

@@ -3,7 +3,7 @@ use Rattle.std.specs.Prelude.{ℕ, ℤ, pos, ◌≡◌, List, [], ◌∷◌, len
 use Rattle.ta_automaton.specs.declared.automaton.Automaton.{Automaton}
 use Rattle.ta_automaton.specs.declared.pattern.Pattern.{Pattern}
 use Rattle.ta_automaton.specs.declared.file.File.{File}
-use Rattle.ta_base.specs.Masks.{numbers_from}
+use Rattle.std.specs.List.{range_with_len}
 use Rattle.ta_automaton.specs.Runs.{InScope}
 use Rattle.ta_scope.specs.Arranged.{ArrangedOf}
 use Rattle.ta_words.specs.declared.element.Element.{Element}
@@ -37,7 +37,7 @@ solution_value a p solution m = unknown_value (meanings a p solution.start_mask 
 
 -- how often each rule fires before element k, where unknowns have these values
 abbrev pub counts_before : Automaton → (Meaning → ℤ) → ℕ → List ℤ
-counts_before a value k = map (λ r. value (Count k r)) (numbers_from 0 (length a.rules))
+counts_before a value k = map (λ r. value (Count k r)) (range_with_len 0 (length a.rules))
 
 -- how the piece of element k ends: an event is marked; nothing happens at a rise; at a fall the rule whose Single is 1 fires once
 abbrev pub EndsPiece : (Meaning → ℤ) → ℕ → Element → Piece → Type 0
@@ -61,7 +61,7 @@ pub record WitnessOf (file : File) (solution : Solution) (run : Run) : Type 0 wh
   pub pattern : Pattern
   pub named : slice_get file.patterns solution.pattern ≡ Some pattern
   pub same_pattern : run.pattern ≡ solution.pattern
-  pub parameters : run.parameters ≡ map (λ i. solution_value file.automaton pattern solution (Parameter i)) (numbers_from 0 (length file.automaton.parameters))
+  pub parameters : run.parameters ≡ map (λ i. solution_value file.automaton pattern solution (Parameter i)) (range_with_len 0 (length file.automaton.parameters))
   pub counts : run.counts ≡ map (λ l. solution_value file.automaton pattern solution (Start l)) file.automaton.initial
   pub pieces : List Piece
   pub are : PiecesOf file.automaton (solution_value file.automaton pattern solution) solution.word pieces

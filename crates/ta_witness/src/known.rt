@@ -2,7 +2,7 @@
 #![tactic(auto)]
 
 ghost use Rattle.std.specs.Prelude.{ℕ, pos, ◌<◌, ◌≤◌, ◌≡◌, IfOk, map};
-ghost use Rattle.ta_base.specs.Masks.{numbers_from};
+ghost use Rattle.std.specs.List.{range_with_len};
 ghost use Rattle.ta_counter.specs.Values.{Value};
 ghost use Rattle.ta_encode.specs.declared.meaning.Meaning.TheVariants.{Parameter, Start, Count, Single};
 ghost use Rattle.ta_witness.specs.Values.{same_meaning, unknown_value};
@@ -41,7 +41,7 @@ pub(crate) fn parameters_of(
 ) -> Result<Vec<i128>, AllocError>
     requires few { count ≤ 16 }
     requires known { AreNaturals meanings.now values.now }
-    ensures { IfOk result (λ numbers. AreValues (map (λ i. unknown_value meanings.now values.now (Parameter i)) (numbers_from 0 count)) numbers.items) }
+    ensures { IfOk result (λ numbers. AreValues (map (λ i. unknown_value meanings.now values.now (Parameter i)) (range_with_len 0 count)) numbers.items) }
 {
     let mut numbers = Vec::new(alloc);
     for parameter in 0..count {
@@ -79,7 +79,7 @@ pub(crate) fn counts_of(
 ) -> Result<Vec<i128>, AllocError>
     requires few { rules ≤ 128 }
     requires known { AreNaturals meanings.now values.now }
-    ensures { IfOk result (λ numbers. AreValues (map (λ r. unknown_value meanings.now values.now (Count element r)) (numbers_from 0 rules)) numbers.items) }
+    ensures { IfOk result (λ numbers. AreValues (map (λ r. unknown_value meanings.now values.now (Count element r)) (range_with_len 0 rules)) numbers.items) }
 {
     let mut numbers = Vec::new(alloc);
     for rule in 0..rules {

@@ -1,8 +1,9 @@
 -- what follows a word, and how long words and lists of children get
-use Rattle.ta_words.proofs.Common.{◌≡◌, ℕ, ◌+◌, ◌-◌, ◌^◌, ◌<◌, ◌≤◌, List, [], ◌++◌, length, map, Bool, true, false, arith, sym, ap, ◌∙◌, append_assoc, length-append, filter, length-map, slice_get_within, numbers_from, cond_false, cond_true, filter_shorter, length_numbers, Automaton, Pattern, EventsNamed, is_complete, is_ready, is_standing, may_rise, children, Element, Event, Rise, Fall}
+use Rattle.ta_words.proofs.Common.{◌≡◌, ℕ, ◌+◌, ◌-◌, ◌^◌, ◌<◌, ◌≤◌, List, [], ◌++◌, length, map, Bool, true, false, arith, sym, ap, ◌∙◌, append_assoc, length-append, filter, length-map, slice_get_within, range_with_len, filter_shorter, Automaton, Pattern, EventsNamed, is_complete, is_ready, is_standing, may_rise, children, Element, Event, Rise, Fall, cond-false, cond-true}
 use Rattle.std.proofs.Math.Nat.{pow-le-pow_right}
 use Rattle.ta_base.proofs.Each.{each_from_at}
 use Rattle.ta_automaton.specs.Patterns.{EventWithin, PatternOver}
+use Rattle.std.proofs.lemmas.List.FromFn.{length-range_with_len}
 
 pub events_named : (a : Automaton) (p : Pattern) → PatternOver a p → EventsNamed p
 events_named a p over =
@@ -19,27 +20,27 @@ events_named a p over =
           omega arith;
     }
 
-pub passed_length : (f : ℕ → Element) (test : ℕ → Bool) (k n : ℕ) → length (map f (filter test (numbers_from k n))) ≤ n
-passed_length f test k n = omega (arith, length-map (filter test (numbers_from k n)) f, filter_shorter test (numbers_from k n), length_numbers k n)
+pub passed_length : (f : ℕ → Element) (test : ℕ → Bool) (k n : ℕ) → length (map f (filter test (range_with_len k n))) ≤ n
+passed_length f test k n = omega (arith, length-map (filter test (range_with_len k n)) f, filter_shorter test (range_with_len k n), length-range_with_len k n)
 
-pub passed_most : (f : ℕ → Element) (test : ℕ → Bool) (before now : List Element) (k n : ℕ) → now ≡ before ++ map f (filter test (numbers_from k n)) → length now ≤ length before + n
-passed_most f test before now k n e = omega (arith, ap length e, length-append before (map f (filter test (numbers_from k n))), passed_length f test k n)
+pub passed_most : (f : ℕ → Element) (test : ℕ → Bool) (before now : List Element) (k n : ℕ) → now ≡ before ++ map f (filter test (range_with_len k n)) → length now ≤ length before + n
+passed_most f test before now k n e = omega (arith, ap length e, length-append before (map f (filter test (range_with_len k n))), passed_length f test k n)
 
 abbrev event_children : Pattern → List Element → List Element
-event_children p past = map Event (filter (is_ready p past) (numbers_from 0 (length p.events)))
+event_children p past = map Event (filter (is_ready p past) (range_with_len 0 (length p.events)))
 
 abbrev rise_children : Automaton → List (ℕ × ℕ) → List Element → List Element
-rise_children a pairs past = map Rise (filter (may_rise pairs past) (numbers_from 0 (length a.rise)))
+rise_children a pairs past = map Rise (filter (may_rise pairs past) (range_with_len 0 (length a.rise)))
 
 abbrev fall_children : Automaton → ℕ → List Element → List Element
-fall_children a start past = map Fall (filter (is_standing a start past) (numbers_from 1 (2 ^ length a.fall - 1)))
+fall_children a start past = map Fall (filter (is_standing a start past) (range_with_len 1 (2 ^ length a.fall - 1)))
 
 pub children_listed : (a : Automaton) (p : Pattern) (pairs : List (ℕ × ℕ)) (start : ℕ) (past first second third fourth : List Element) → is_complete p past ≡ false → first ≡ [] → second ≡ first ++ event_children p past → third ≡ second ++ rise_children a pairs past → fourth ≡ third ++ fall_children a start past → fourth ≡ children a p pairs start past
 unfolding children
 children_listed a p pairs start past first second third fourth more e f g h =
     h ∙ ap (λ xs. xs ++ fall_children a start past) (g ∙ ap (λ xs. xs ++ rise_children a pairs past) (f ∙ ap (λ xs. xs ++ event_children p past) e))
-    ∙ append_assoc (event_children p past) (rise_children a pairs past) (fall_children a start past) ∙ sym (cond_false (is_complete p past) [] (event_children p past ++ (rise_children a pairs past ++ fall_children a start past)) more)
+    ∙ append_assoc (event_children p past) (rise_children a pairs past) (fall_children a start past) ∙ sym (cond-false (is_complete p past) [] (event_children p past ++ (rise_children a pairs past ++ fall_children a start past)) more)
 
 pub no_children : (a : Automaton) (p : Pattern) (pairs : List (ℕ × ℕ)) (start : ℕ) (past none : List Element) → is_complete p past ≡ true → none ≡ [] → none ≡ children a p pairs start past
 unfolding children
-no_children a p pairs start past none done e = e ∙ sym (cond_true (is_complete p past) [] (event_children p past ++ (rise_children a pairs past ++ fall_children a start past)) done)
+no_children a p pairs start past none done e = e ∙ sym (cond-true (is_complete p past) [] (event_children p past ++ (rise_children a pairs past ++ fall_children a start past)) done)

@@ -1,5 +1,5 @@
 -- rise guards that come after others
-use Rattle.ta_words.proofs.Common.{◌≡◌, ◌↔◌, inl, inr, ℕ, ◌-◌, ◌^◌, ◌<◌, ◌≤◌, List, [], ◌∷◌, ◌++◌, length, map, cond, Bool, true, false, not, ◌&&◌, arith, sym, ap, ◌∙◌, refl, filter, ◌==◌, true≢false, and_from, and_parts, eq-eqb, eqb-true, all_below, has_bit, implies, numbers_from, In, all_below-at, all_below-from, has_above, and_right, both_ways, implies-at, implies-from, in_or_above, Automaton, Pattern, IsSeen, NamesBefore, has_rise, is_complete, is_due, is_ready, is_standing, may_rise, children, Element, Event, Rise, Fall, Seen}
+use Rattle.ta_words.proofs.Common.{◌≡◌, ◌↔◌, inl, inr, ℕ, ◌-◌, ◌^◌, ◌<◌, ◌≤◌, List, [], ◌∷◌, ◌++◌, length, map, cond, Bool, true, false, not, ◌&&◌, arith, sym, ap, ◌∙◌, refl, filter, ◌==◌, true≢false, and_from, and_parts, eq-eqb, eqb-true, all_below, has_bit, implies, range_with_len, In, all_below-at, all_below-from, has_above, and_right, both_ways, implies-at, implies-from, Automaton, Pattern, IsSeen, NamesBefore, has_rise, is_complete, is_due, is_ready, is_standing, may_rise, children, Element, Event, Rise, Fall, Seen, cases_lt}
 use Rattle.std.proofs.Math.Path.{fun_ext}
 
 -- a guard that is due has those before it in the word
@@ -30,7 +30,7 @@ same_due xs ys past i same =
 pub same_children : (a : Automaton) (p : Pattern) (xs ys : List (ℕ × ℕ)) (start : ℕ) (past : List Element) → SameMembers xs ys → children a p xs start past ≡ children a p ys start past
 unfolding children
 same_children a p xs ys start past same =
-    ap (λ (test : ℕ → Bool). cond (is_complete p past) [] (map Event (filter (is_ready p past) (numbers_from 0 (length p.events))) ++ (map Rise (filter test (numbers_from 0 (length a.rise))) ++ map Fall (filter (is_standing a start past) (numbers_from 1 (2 ^ length a.fall - 1))))))
+    ap (λ (test : ℕ → Bool). cond (is_complete p past) [] (map Event (filter (is_ready p past) (range_with_len 0 (length p.events))) ++ (map Rise (filter test (range_with_len 0 (length a.rise))) ++ map Fall (filter (is_standing a start past) (range_with_len 1 (2 ^ length a.fall - 1))))))
     (fun_ext (λ i. ap (λ b. b && not (has_rise past i)) (same_due xs ys past i same)))
 
 -- the mask of the guards before one tells whether it is due
@@ -40,7 +40,7 @@ due_by_mask pairs rise mask n seen start past within few names is =
     both_ways _ _
     (λ t. due_from pairs past rise (λ j m.
     let bit = (names j).1 m in
-    elim (in_or_above n j) [
+    elim (cases_lt j n) [
       | inl b ↦ sym (is.rises j (omega arith)) ∙ implies-at (has_bit mask j) (has_bit seen.rises j) (all_below-at n (λ k. implies (has_bit mask k) (has_bit seen.rises k)) t j b) bit
       | inr b ↦ absurd (true≢false (sym bit ∙ has_above mask n j within b))
     ]))

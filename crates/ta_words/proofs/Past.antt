@@ -1,5 +1,6 @@
 -- the masks of a word, element by element
-use Rattle.ta_words.proofs.Common.{◌≡◌, ℕ, ◌-◌, ◌*◌, ◌%◌, ◌<◌, ◌≤◌, ◌^◌, List, [], ◌∷◌, length, Bool, true, false, not, ◌&&◌, ◌||◌, Some, arith, sym, ap, ◌∙◌, refl, ◌==◌, all_below-same, first_numbers, has_none, and_else, and_group, and_then, first_bits_below, Automaton, Pattern, Rule, has_bit, all_below, implies, IsSeen, has_event, has_rise, has_fallen, is_complete, may_fire, Element, Event, Rise, Fall, Seen}
+use Rattle.ta_words.proofs.Common.{◌≡◌, ℕ, ◌-◌, ◌*◌, ◌%◌, ◌<◌, ◌≤◌, ◌^◌, List, [], ◌∷◌, length, Bool, true, false, not, ◌&&◌, ◌||◌, Some, arith, sym, ap, ◌∙◌, refl, ◌==◌, all_below-same, first_numbers, has_none, and_then, first_bits_below, Automaton, Pattern, Rule, has_bit, all_below, implies, IsSeen, has_event, has_rise, has_fallen, is_complete, may_fire, Element, Event, Rise, Fall, Seen}
+use mathlib.Core.Bool.{and_assoc}
 
 pub none_seen : (start : ℕ) → IsSeen (record { events = 0; rises = 0; fallen = start }) start []
 unfolding has_event has_rise has_fallen
@@ -50,7 +51,7 @@ allowed a p start past rule x y e f =
     let to_outside = not (has_bit p.empty rule.to) in
     let risen = all_below (length a.rise) (λ i. implies (has_bit rule.rise i) (has_rise past i)) in
     let standing = all_below (length a.fall) (λ j. implies (has_bit rule.fall j) (not (has_fallen start past j))) in
-    ap (λ b. b && y) e ∙ ap (λ b. (moves && (from_outside && to_outside)) && b) f ∙ and_group moves from_outside to_outside (risen && standing)
+    ap (λ b. b && y) e ∙ ap (λ b. (moves && (from_outside && to_outside)) && b) f ∙ (and_assoc moves (from_outside && to_outside) (risen && standing) ∙ ap (λ b. moves && b) (and_assoc from_outside to_outside (risen && standing)))
 
 pub ready : (seen : Seen) (event after from n start : ℕ) (past : List Element) (r : Bool) → IsSeen seen start past → event < 32 → from ≡ after → after < 2 ^ n → n ≤ 32 → has_bit seen.events event ≡ false
     → ((k : ℕ) → from < 2 ^ k → r ≡ all_below k (λ f. implies (has_bit from f) (has_bit seen.events f)))
@@ -76,7 +77,7 @@ pub locked : (seen : Seen) (rises rise from start : ℕ) (past : List Element) (
     → x ≡ (all_below rises (λ i. implies (has_bit rise i) (has_rise past i)) && z)
 locked seen rises rise from start past x z is few same within t told =
     let bound : from < 2 ^ rises = rw same within in
-    t ∙ and_else _ z (sym (sym t ∙ told rises bound ∙ named_rises rises from seen start past few is ∙ ap (λ m. all_below rises (λ i. implies (has_bit m i) (has_rise past i))) same))
+    t ∙ ap (λ b. b && z) (sym (sym (sym t ∙ told rises bound ∙ named_rises rises from seen start past few is ∙ ap (λ m. all_below rises (λ i. implies (has_bit m i) (has_rise past i))) same)))
 
 pub complete : (seen : Seen) (p : Pattern) (n start : ℕ) (past : List Element) (r : Bool) → IsSeen seen start past → n ≡ length p.events → length p.events ≤ 8
     → ((k : ℕ) → ((1 * 2 ^ n) % 4294967296) - 1 < 2 ^ k → r ≡ all_below k (λ f. implies (has_bit ((1 * 2 ^ n) % 4294967296 - 1) f) (has_bit seen.events f)))

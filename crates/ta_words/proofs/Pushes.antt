@@ -1,20 +1,20 @@
 -- numbers that pass a test, one after another
-use Rattle.ta_words.proofs.Common.{◌≡◌, ℕ, ◌+◌, ◌<◌, ◌≤◌, List, [], ◌∷◌, ◌++◌, length, map, get_or, Bool, true, false, not, ◌&&◌, Some, slice_get, arith, sym, ap, ◌∙◌, refl, subst, append_assoc, filter, map-append, slice_get_read, cond_false, cond_true, append_nil, one_longer, filter_more, Pattern, has_bit, all_below, implies, numbers_from, IsSeen, Seen, has_event, is_ready, Element}
+use Rattle.ta_words.proofs.Common.{◌≡◌, ℕ, ◌+◌, ◌<◌, ◌≤◌, List, [], ◌∷◌, ◌++◌, length, map, get_or, Bool, true, false, not, ◌&&◌, Some, slice_get, arith, sym, ap, ◌∙◌, refl, subst, append_assoc, filter, map-append, slice_get_read, one_longer, filter_more, Pattern, has_bit, all_below, implies, range_with_len, IsSeen, Seen, has_event, is_ready, Element, append-nil, cond-false, cond-true}
 use Rattle.ta_automaton.specs.declared.pattern.Event.{Event as PatternEvent}
 
 -- a list with what passes among n numbers from k on
 abbrev pub with_passed : (ℕ → Element) → (ℕ → Bool) → List Element → ℕ → ℕ → List Element
-with_passed f test before k n = before ++ map f (filter test (numbers_from k n))
+with_passed f test before k n = before ++ map f (filter test (range_with_len k n))
 
 pub pushed_more : (f : ℕ → Element) (test : ℕ → Bool) (before now after : List Element) (k n : ℕ) → test (k + n) ≡ true → now ≡ with_passed f test before k n → after ≡ now ++ f (k + n) ∷ [] → after ≡ with_passed f test before k (n + 1)
 pushed_more f test before now after k n t e g =
-    let more : filter test (numbers_from k (n + 1)) ≡ filter test (numbers_from k n) ++ (k + n) ∷ [] = filter_more test k n ∙ ap (λ ms. filter test (numbers_from k n) ++ ms) (cond_true (test (k + n)) ((k + n) ∷ []) [] t) in
-    g ∙ ap (λ ns. ns ++ f (k + n) ∷ []) e ∙ append_assoc before (map f (filter test (numbers_from k n))) (f (k + n) ∷ [])
-    ∙ ap (λ ns. before ++ ns) (sym (map-append f (filter test (numbers_from k n)) ((k + n) ∷ []))) ∙ ap (λ ms. before ++ map f ms) (sym more)
+    let more : filter test (range_with_len k (n + 1)) ≡ filter test (range_with_len k n) ++ (k + n) ∷ [] = filter_more test k n ∙ ap (λ ms. filter test (range_with_len k n) ++ ms) (cond-true (test (k + n)) ((k + n) ∷ []) [] t) in
+    g ∙ ap (λ ns. ns ++ f (k + n) ∷ []) e ∙ append_assoc before (map f (filter test (range_with_len k n))) (f (k + n) ∷ [])
+    ∙ ap (λ ns. before ++ ns) (sym (map-append f (filter test (range_with_len k n)) ((k + n) ∷ []))) ∙ ap (λ ms. before ++ map f ms) (sym more)
 
 pub left_out : (f : ℕ → Element) (test : ℕ → Bool) (before now after : List Element) (k n : ℕ) → test (k + n) ≡ false → now ≡ with_passed f test before k n → after ≡ now → after ≡ with_passed f test before k (n + 1)
 left_out f test before now after k n t e g =
-    let more : filter test (numbers_from k (n + 1)) ≡ filter test (numbers_from k n) = filter_more test k n ∙ ap (λ ms. filter test (numbers_from k n) ++ ms) (cond_false (test (k + n)) ((k + n) ∷ []) [] t) ∙ append_nil (filter test (numbers_from k n)) in
+    let more : filter test (range_with_len k (n + 1)) ≡ filter test (range_with_len k n) = filter_more test k n ∙ ap (λ ms. filter test (range_with_len k n) ++ ms) (cond-false (test (k + n)) ((k + n) ∷ []) [] t) ∙ append-nil (filter test (range_with_len k n)) in
     g ∙ e ∙ ap (λ ms. before ++ map f ms) (sym more)
 
 -- a list that is longer by what passes among n numbers from k on, whatever word has these masks
@@ -23,7 +23,7 @@ pub record Pushed (f : ℕ → Element) (test : ℕ → List Element → ℕ →
   pub room : length now ≤ length before + n
 
 pub none_pushed : (f : ℕ → Element) (test : ℕ → List Element → ℕ → Bool) (seen : Seen) (before : List Element) (k : ℕ) → Pushed f test seen before before k 0
-none_pushed f test seen before k = record { passed = λ start past is. sym (append_nil before); room = omega arith }
+none_pushed f test seen before k = record { passed = λ start past is. sym (append-nil before); room = omega arith }
 
 pub push_passed : (f : ℕ → Element) (test : ℕ → List Element → ℕ → Bool) (seen : Seen) (before now after : List Element) (k n x : ℕ) (r : Bool) → Pushed f test seen before now k n → x ≡ k + n
     → ((start : ℕ) (past : List Element) → IsSeen seen start past → r ≡ test start past x) → r ≡ true → after ≡ now ++ f x ∷ [] → Pushed f test seen before after k (n + 1)

@@ -1,9 +1,7 @@
 -- what holds of a pattern that was looked up holds of the file's pattern of its number
-use Rattle.ta_words.proofs.Common.{◌≡◌, ℕ, slice_get, Some, sym, subst, Automaton, Pattern}
-use Rattle.ta_automaton.proofs.Numbered.{of_pattern}
+use Rattle.ta_words.proofs.Common.{◌≡◌, ℕ, slice_get, Some, sym, subst, Automaton, Pattern, of_pattern, Task}
 use Rattle.ta_automaton.specs.Numbered.{OfPattern}
 use Rattle.ta_automaton.specs.declared.file.File.{File}
-use Rattle.ta_words.specs.declared.task.Task.{Task}
 
 pub of_task : (file : File) (k : ℕ) (t : Task) (P : Automaton → Pattern → Type 0) → t.automaton.now ≡ file.automaton → slice_get file.patterns k ≡ Some t.pattern.now → P t.automaton.now t.pattern.now → OfPattern file k (λ p. P file.automaton p)
 of_task file k t P same named h = of_pattern file k t.pattern.now (P file.automaton) named (subst (λ (a : Automaton). P a t.pattern.now) same h)

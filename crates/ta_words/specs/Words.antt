@@ -4,7 +4,8 @@ use Rattle.ta_automaton.specs.declared.rule.Rule.{Rule}
 use Rattle.ta_automaton.specs.declared.automaton.Automaton.{Automaton}
 use Rattle.ta_automaton.specs.declared.pattern.Event.{Event as PatternEvent}
 use Rattle.ta_automaton.specs.declared.pattern.Pattern.{Pattern}
-use Rattle.ta_base.specs.Masks.{has_bit, all_below, implies, numbers_from, In}
+use Rattle.ta_base.specs.Masks.{has_bit, all_below, implies, In}
+use Rattle.std.specs.List.{range_with_len}
 use Rattle.ta_words.specs.declared.element.Element.{Element}
 use Rattle.ta_words.specs.declared.element.Element.TheVariants.{Event, Rise, Fall}
 
@@ -58,9 +59,9 @@ may_rise pairs past i = is_due pairs past i && not (has_rise past i)
 unfoldable pub children : Automaton → Pattern → List (ℕ × ℕ) → ℕ → List Element → List Element
 children a p pairs start past =
     cond (is_complete p past) []
-    (map Event (filter (is_ready p past) (numbers_from 0 (length p.events)))
-    ++ (map Rise (filter (may_rise pairs past) (numbers_from 0 (length a.rise)))
-    ++ map Fall (filter (is_standing a start past) (numbers_from 1 (2 ^ length a.fall - 1)))))
+    (map Event (filter (is_ready p past) (range_with_len 0 (length p.events)))
+    ++ (map Rise (filter (may_rise pairs past) (range_with_len 0 (length a.rise)))
+    ++ map Fall (filter (is_standing a start past) (range_with_len 1 (2 ^ length a.fall - 1)))))
 
 -- each element may follow the elements before it, under pairs
 abbrev pub LegalUnder : Automaton → Pattern → List (ℕ × ℕ) → ℕ → List Element → Type 0
@@ -83,4 +84,4 @@ may_fire a p start past (Some rule) =
 
 -- the allowed rules, in order
 unfoldable pub allowed_rules : Automaton → Pattern → ℕ → List Element → List ℕ
-allowed_rules a p start past = filter (λ r. may_fire a p start past (slice_get a.rules r)) (numbers_from 0 (length a.rules))
+allowed_rules a p start past = filter (λ r. may_fire a p start past (slice_get a.rules r)) (range_with_len 0 (length a.rules))

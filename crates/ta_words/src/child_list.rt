@@ -3,7 +3,8 @@
 
 ghost use Rattle.std.specs.Prelude.{ℕ, ◌+◌, ◌-◌, ◌≡◌, ◌≤◌, ◌<◌, ◌^◌, ◌++◌, ◌∷◌, ◌↔◌, IsTrue, List, [], filter, length, map};
 ghost use Rattle.ta_words.specs.declared.element.Element.TheVariants.{Event, Fall, Rise};
-ghost use Rattle.ta_base.specs.Masks.{In, numbers_from};
+ghost use Rattle.ta_base.specs.Masks.{In};
+ghost use Rattle.std.specs.List.{range_with_len};
 ghost use Rattle.ta_words.specs.Seen.{EventsNamed, IsSeen};
 ghost use Rattle.ta_words.specs.Words.{is_ready, is_standing, may_rise};
 
@@ -69,7 +70,7 @@ impl Children {
         requires named { EventsNamed pattern.now }
         requires room { length self.old + MOST_EVENTS ≤ MOST_CHILDREN }
         ensures { (start : ℕ) (past : List Element) → IsSeen seen start past
-            → self.new ≡ self.old ++ map Event (filter (is_ready pattern.now past) (numbers_from 0 (length pattern.now.events))) }
+            → self.new ≡ self.old ++ map Event (filter (is_ready pattern.now past) (range_with_len 0 (length pattern.now.events))) }
     {
         for (number, event) in pattern.events.as_slice().iter().enumerate() {
             if seen.is_ready(number as u32, event.after) {
@@ -81,7 +82,7 @@ impl Children {
     pub(crate) fn push_rises(&mut self, automaton: &Automaton, orders: &Orders, seen: Seen)
         requires { length self.old + MOST_RISES ≤ MOST_CHILDREN }
         ensures { (start : ℕ) (past : List Element) → IsSeen seen start past
-            → self.new ≡ self.old ++ map Rise (filter (may_rise orders.now past) (numbers_from 0 (length automaton.now.rise))) }
+            → self.new ≡ self.old ++ map Rise (filter (may_rise orders.now past) (range_with_len 0 (length automaton.now.rise))) }
     {
         for rise in 0..automaton.rise.as_slice().len() {
             if seen.may_rise(rise as u32, orders.mask(rise as u32)) {
@@ -93,7 +94,7 @@ impl Children {
     pub(crate) fn push_falls(&mut self, automaton: &Automaton, seen: Seen)
         requires { length self.old + MOST_FALL_SETS ≤ MOST_CHILDREN }
         ensures { (start : ℕ) (past : List Element) → IsSeen seen start past
-            → self.new ≡ self.old ++ map Fall (filter (is_standing automaton.now start past) (numbers_from 1 (2 ^ length automaton.now.fall - 1))) }
+            → self.new ≡ self.old ++ map Fall (filter (is_standing automaton.now start past) (range_with_len 1 (2 ^ length automaton.now.fall - 1))) }
     {
         for falls in 1..1u8 << automaton.fall.as_slice().len() {
             if seen.is_standing(automaton, falls) {

@@ -1,11 +1,11 @@
 -- Rows written from terms over places
 use Rattle.std.specs.Prelude.{ℕ, ℤ, pos, ◌-◌, ◌≤◌, ◌-ℤ◌, unsigned_abs, Bool, true, false, List, ◌++◌, length, map, filter, not, slice_get, Some, ◌≡◌}
-use Rattle.std.specs.List.{AllByRecursion}
+use Rattle.std.specs.List.{AllByRecursion, range_with_len}
 use Rattle.ta_base.specs.declared.limits.TheConstants.{LARGEST_NUMBER}
 use Rattle.ta_linear.specs.Rows.{AllBelow}
 use Rattle.ta_linear.specs.declared.form.Form.{Form}
 use Rattle.ta_linear.specs.declared.row.Row.{Row}
-use Rattle.ta_base.specs.Masks.{has_bit, numbers_from}
+use Rattle.ta_base.specs.Masks.{has_bit}
 use Rattle.ta_automaton.specs.declared.pattern.Event.{Event}
 use Rattle.ta_automaton.specs.declared.pattern.Pattern.{Pattern}
 use Rattle.ta_automaton.specs.declared.automaton.Automaton.{Automaton}
@@ -63,7 +63,7 @@ start_sense false = Plain
 
 -- a constant, and the sum of the unknowns from one number to another, written in a sense
 abbrev pub block_row : ℤ → ℕ → ℕ → Sense → LinearRow
-block_row constant from to sense = record { constant = constant; coefficients = map (λ k. pos 0) (numbers_from 0 from) ++ map (λ k. coefficient_in_sense sense (pos 1)) (numbers_from from (to - from)) }
+block_row constant from to sense = record { constant = constant; coefficients = map (λ k. pos 0) (range_with_len 0 from) ++ map (λ k. coefficient_in_sense sense (pos 1)) (range_with_len from (to - from)) }
 
 -- the row of a bound, as a block of one unknown
 abbrev pub bound_constant : Side → ℤ → ℤ
@@ -76,7 +76,7 @@ bound_sense High = Plain
 
 -- the counters of the locations outside a set
 abbrev pub counters_outside : Automaton → List Meaning → ℕ → List LinearRow
-counters_outside a ms empty = map (counter_row a ms) (filter (λ l. not (has_bit empty l)) (numbers_from 0 (length a.locations)))
+counters_outside a ms empty = map (counter_row a ms) (filter (λ l. not (has_bit empty l)) (range_with_len 0 (length a.locations)))
 
 -- the conditions of a pattern's events have small numbers
 pub record SmallEvents (p : Pattern) : Type 0 where

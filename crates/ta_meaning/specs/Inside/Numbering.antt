@@ -1,13 +1,12 @@
 -- Rules and guards while they are read: the guards so far, and what a comparison and a rule add to them (this project's profile)
 use Rattle.std.specs.Prelude.{ℕ, ℤ, ◌<◌, ◌≤◌, ◌≡◌, ◌⊎◌, ◌↔◌, ◌&&◌, ◌||◌, Bool, true, false, nat_le, List, [], ◌∷◌, ◌++◌, length, map, slice_get, Some, Result, Ok, Err, IsBitSet, IsTrue, if◌then◌else◌}
-use Rattle.std.specs.List.{AllByRecursion}
+use Rattle.std.specs.List.{AllByRecursion, range_with_len}
 use Rattle.ta_linear.specs.Terms.{coefficient}
 use Rattle.ta_linear.specs.declared.row.Row.{Row}
 use Rattle.ta_syntax.specs.Grammar.{PlainComparison}
 use Rattle.ta_syntax.specs.declared.fault.FileFault.{FileFault}
 use Rattle.ta_syntax.specs.declared.fault.FileFault.TheVariants as fault
 use Rattle.ta_base.specs.Lists.{Distinct}
-use Rattle.ta_base.specs.Masks.{numbers_from}
 use Rattle.ta_automaton.specs.Forms.{RiseRow, FallRow}
 use Rattle.ta_meaning.specs.Names.{Names, guard_names}
 use Rattle.ta_meaning.specs.Linear.{Linear, comparison_rows, UsesNames}
@@ -64,7 +63,7 @@ RowAnswers rows row limit at after (Err e) = (e ≡ fault.Memory) ⊎ ((e ≡ fa
 
 -- a row's numbers over the first places
 abbrev pub linear_of : ℕ → Row → Linear
-linear_of places row = record { constant = row.form.constant; coefficients = map (coefficient row.form.terms) (numbers_from 0 places) }
+linear_of places row = record { constant = row.form.constant; coefficients = map (coefficient row.form.terms) (range_with_len 0 places) }
 
 -- the numbers of the guards so far
 abbrev pub guards_so_far : Names → GuardList → Guards

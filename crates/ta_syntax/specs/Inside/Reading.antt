@@ -38,11 +38,6 @@ is_operator (kind.Fixed mark.Minus) = true
 is_operator (kind.Fixed mark.Star) = true
 is_operator _ = false
 
--- whether a token is a comma
-abbrev pub is_comma : Kind → Bool
-is_comma (kind.Fixed mark.Comma) = true
-is_comma _ = false
-
 -- left parentheses may still be opened
 pub record MayOpen (left : ℕ) (c : Counts) : Type 0 where
   pub left_open : c.open_now + left ≡ 32

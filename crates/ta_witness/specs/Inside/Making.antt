@@ -1,10 +1,9 @@
 -- How far the making of a run has come
 use Rattle.std.specs.Prelude.{ℕ, ℤ, pos, ◌<◌, ◌≤ℤ◌, ◌≡◌, List, ◌++◌, length, map, reverse, slice_get, Option, Some}
-use Rattle.std.specs.List.{AllByRecursion}
+use Rattle.std.specs.List.{AllByRecursion, range_with_len}
 use Rattle.ta_automaton.specs.declared.automaton.Automaton.{Automaton}
 use Rattle.ta_automaton.specs.declared.pattern.Pattern.{Pattern}
 use Rattle.ta_automaton.specs.declared.file.File.{File}
-use Rattle.ta_base.specs.Masks.{numbers_from}
 use Rattle.ta_counter.specs.Values.{Value}
 use Rattle.ta_words.specs.declared.element.Element.{Element}
 use Rattle.ta_words.specs.declared.element.Element.TheVariants.{Event, Rise, Fall}
@@ -80,6 +79,6 @@ pub record IsMadeFrom (file : File) (p : Pattern) (ms : List Meaning) (solution 
 pub record RunOf (file : File) (p : Pattern) (ms : List Meaning) (solution : Solution) (run : Run) : Type 0 where
   pub asked : IsMadeFrom file p ms solution
   pub same_pattern : run.pattern ≡ solution.pattern
-  pub parameters : AreValues (map (λ i. unknown_value ms solution.values (Parameter i)) (numbers_from 0 (length file.automaton.parameters))) run.parameters
+  pub parameters : AreValues (map (λ i. unknown_value ms solution.values (Parameter i)) (range_with_len 0 (length file.automaton.parameters))) run.parameters
   pub counts : AreValues (map (λ l. unknown_value ms solution.values (Start l)) file.automaton.initial) run.counts
   pub lined : AddsPieces file.automaton p (unknown_value ms solution.values) solution.word run.lines

@@ -1,4 +1,4 @@
-use Rattle.ta_cert.proofs.Common.{◌≡◌, ◌++◌, [], List, ℕ, length, take, drop, sym, ap, subst, ◌∙◌, take-append-drop, eqb-true, Ok, nil_from_length, err_from_is_err_and, FeedAnswers, Line, Reader}
+use Rattle.ta_cert.proofs.Common.{◌≡◌, ◌++◌, [], List, ℕ, length, take, drop, sym, ap, subst, ◌∙◌, take-append-drop, eqb-true, Ok, nil_from_length, err_is, FeedAnswers, Line, Reader}
 use Rattle.ta_cert.proofs.Reading.{ReadSoFar, goes_on_reading, stops_reading, ends_reading, cut_reading}
 use Rattle.ta_cert.proofs.law.read_text.Goals as goal
 
@@ -10,9 +10,8 @@ at_end text rest reader lines so empty = subst (λ r. ReadSoFar text r reader li
 
 pub returns-in_err-feed : goal.returns-in_err-feed
 returns-in_err-feed c =
-    let p = err_from_is_err_and c.from_residual.result c.from_residual.ensures.1 in
     let cut = halves c.pieces.rest.now c.split_at.result.0.now c.split_at.result.1.now c.min.result c.split_at.ensures.front c.split_at.ensures.back in
-    rw (p.1, p.2) (stops_reading c.args.text.now c.pieces.rest.now c.split_at.result.0.now c.split_at.result.1.now c.pieces.reader c.feed.new.self c.pieces.lines.items c.in_err-feed.field-0.0 c.pieces.invariant cut c.in_err-feed.ensures.answer)
+    rw (err_is c.from_residual.result _ c.from_residual.ensures.1) (stops_reading c.args.text.now c.pieces.rest.now c.split_at.result.0.now c.split_at.result.1.now c.pieces.reader c.feed.new.self c.pieces.lines.items c.in_err-feed.field-0.0 c.pieces.invariant cut c.in_err-feed.ensures.answer)
 
 pub pieces-preserved : goal.pieces-preserved
 pieces-preserved c =
@@ -22,9 +21,8 @@ pieces-preserved c =
 
 pub returns-in_err-finish : goal.returns-in_err-finish
 returns-in_err-finish c =
-    let p = err_from_is_err_and c.from_residual-in_err-finish.result c.from_residual-in_err-finish.ensures.1 in
     let empty = eqb-true (length c.pieces.rest.now) 0 (sym c.pieces-test.ensures) in
-    rw (p.1, p.2) (cut_reading c.args.text.now c.pieces.reader c.pieces.lines.items c.in_err-finish.field-0.0 (at_end c.args.text.now c.pieces.rest.now c.pieces.reader c.pieces.lines.items c.pieces.invariant empty) c.in_err-finish.ensures.answer)
+    rw (err_is c.from_residual-in_err-finish.result _ c.from_residual-in_err-finish.ensures.1) (cut_reading c.args.text.now c.pieces.reader c.pieces.lines.items c.in_err-finish.field-0.0 (at_end c.args.text.now c.pieces.rest.now c.pieces.reader c.pieces.lines.items c.pieces.invariant empty) c.in_err-finish.ensures.answer)
 
 pub returns : goal.returns
 returns c =

@@ -1,5 +1,4 @@
-use Rattle.ta_check.proofs.Common.{List, ℕ, IfErr, subst, IsErrOrMemory, CertFault, CertificateFor, IsFirstFaultFor, Subject}
-use Rattle.std.specs.Prelude.{◌≢◌}
+use Rattle.ta_check.proofs.Common.{List, ℕ, IfErr, subst, IsErrOrMemory, CertFault, CertificateFor, IsFirstFaultFor, Subject, ◌≢◌}
 use Rattle.ta_cert.specs.declared.fault.CertFault.TheVariants as fault
 use Rattle.ta_check.proofs.checking.check.Goals as goal
 

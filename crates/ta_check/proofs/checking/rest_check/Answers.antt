@@ -1,5 +1,4 @@
-use Rattle.ta_check.proofs.Common.{List, ℕ, Ok, Err, Result, IfOk, IfErr, subst, File, IsErrOrMemory, CertFault, EndingsOf, AllClaimsHold, AllRestSafe, CertificateFor, IsFirstFaultFor, Subject, Accepted}
-use Rattle.std.specs.Prelude.{◌≢◌}
+use Rattle.ta_check.proofs.Common.{List, ℕ, Ok, Err, Result, IfOk, IfErr, subst, File, IsErrOrMemory, CertFault, EndingsOf, AllClaimsHold, AllRestSafe, CertificateFor, IsFirstFaultFor, Subject, Accepted, ◌≢◌}
 use Rattle.ta_cert.specs.declared.fault.CertFault.TheVariants as fault
 use Rattle.ta_check.proofs.OwnPatterns.{all_own}
 use Rattle.ta_check.proofs.checking.rest_check.Goals as goal

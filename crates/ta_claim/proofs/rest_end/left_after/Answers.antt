@@ -1,5 +1,4 @@
-use Rattle.ta_claim.proofs.Common.{◌≡◌, ◌||◌, ℕ, length, reverse, slice_get, Option, Some, Bool, List, arith, sym, ap, ◌∙◌, refl, subst, has_none, Rule, leads_out, some_below}
-use Rattle.std.proofs.lemmas.Option.{slice_get_read}
+use Rattle.ta_claim.proofs.Common.{◌≡◌, ◌||◌, ℕ, length, reverse, slice_get, Option, Some, Bool, List, arith, sym, ap, ◌∙◌, refl, subst, has_none, Rule, leads_out, some_below, slice_get_read}
 use Rattle.ta_claim.proofs.RestMasks.{some_more, some_none}
 use Rattle.ta_claim.proofs.rest_end.left_after.Goals as goal
 

@@ -1,4 +1,4 @@
-use Rattle.ta_compress.proofs.Common.{sym, subst, List, err_from_is_err_and, File, RunLine, CompressFaultOf, IsSmallReplay, CompressOf, CutOf}
+use Rattle.ta_compress.proofs.Common.{sym, subst, List, err_is, File, RunLine, CompressFaultOf, IsSmallReplay, CompressOf, CutOf}
 use Rattle.ta_compress.proofs.Excluding.{only_memory}
 use Rattle.ta_compress.proofs.Finishing.{same_tale, short_shows, is_short, short_fits}
 use Rattle.ta_compress.proofs.compressing.compress.Goals as goal
@@ -34,10 +34,8 @@ pub returns-in_err-admit-clause-only : goal.returns-in_err-admit-clause-only
 returns-in_err-admit-clause-only c = λ able.
     let file = c.args.scoped.now.file in
     let found = subst (λ (f : File). CompressFaultOf f c.args.run.now c.in_err-admit.field-0.0) c.file.ensures c.in_err-admit.ensures.fault in
-    let p = err_from_is_err_and c.from_residual.result c.from_residual.ensures.1 in
-    rw (p.1, p.2) (only_memory file c.args.run.now _ c.requires able found)
+    rw (err_is c.from_residual.result _ c.from_residual.ensures.1) (only_memory file c.args.run.now _ c.requires able found)
 
 pub returns-in_err-lines-clause-only : goal.returns-in_err-lines-clause-only
 returns-in_err-lines-clause-only c = λ able.
-    let p = err_from_is_err_and c.from_residual-in_err-lines.result c.from_residual-in_err-lines.ensures.1 in
-    rw (p.1, p.2) (only_memory c.args.scoped.now.file c.args.run.now _ c.requires able c.in_err-lines.ensures.fault)
+    rw (err_is c.from_residual-in_err-lines.result _ c.from_residual-in_err-lines.ensures.1) (only_memory c.args.scoped.now.file c.args.run.now _ c.requires able c.in_err-lines.ensures.fault)

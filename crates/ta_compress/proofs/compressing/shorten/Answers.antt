@@ -1,4 +1,4 @@
-use Rattle.ta_compress.proofs.Common.{◌≡◌, ◌<◌, ℕ, pos, List, length, arith, ap, subst, slice_get, get_or, Some, slice_get-get_or, err_from_is_err_and, Run, RunLine, Step, EndsAtLastMark}
+use Rattle.ta_compress.proofs.Common.{◌≡◌, ◌<◌, ℕ, pos, List, length, arith, ap, subst, slice_get, get_or, Some, slice_get-get_or, err_is, Run, RunLine, Step, EndsAtLastMark}
 use Rattle.ta_compress.proofs.Shortening.{Going, may_follow, going_next, going_stops, gone, gone_stayed}
 use Rattle.ta_compress.proofs.compressing.shorten.Goals as goal
 
@@ -25,8 +25,7 @@ returns-in_err-follow-clause-fault c =
     let at = line_at lines run c.loop-number.number n c.as_slice-lines.ensures c.loop-number-test.true c.last_mark-number-end.ensures in
     let parameters = ap (λ (xs : List (List ℕ)). length xs) c.as_slice.ensures in
     let initial = ap (λ (xs : List ℕ). length xs) c.as_slice-2.ensures in
-    let p = err_from_is_err_and c.from_residual-in_err-follow.result c.from_residual-in_err-follow.ensures.1 in
-    rw (p.1, p.2)
+    rw (err_is c.from_residual-in_err-follow.result _ c.from_residual-in_err-follow.ensures.1)
     (going_stops c.args.scoped.now.file run c.loop-number.number n c.loop-number.draft _ _ c.in_err-follow.field-0.0 c.requires.fits c.requires.admitted c.loop-number.invariant (last_of lines run n c.as_slice-lines.ensures c.last_mark-number-end.ensures) c.loop-number-test.true at (omega arith) c.in_err-follow.ensures.stops)
 
 pub loop-number-preserved : goal.loop-number-preserved

@@ -1,4 +1,4 @@
-use Rattle.ta_counter.proofs.Common.{◌≡◌, rules, arith, ℕ, ℤ, pos, ◌+◌, ◌<◌, List, length, ap, refl, subst, get_or, slice_get, Some, FitsSigned, to_z-of_z, length-set, slice_get-get_or, w128, each_point, location_place, Value, Filling}
+use Rattle.ta_counter.proofs.Common.{◌≡◌, rules, arith, ℕ, ℤ, pos, ◌+◌, ◌<◌, List, length, ap, refl, subst, get_or, slice_get, Some, FitsSigned, to_z-of_z, length-set, slice_get-get_or, w128, location_place, Value, Filling, each_get_or}
 use Rattle.ta_counter.proofs.Filling.{fill_next, location_exists}
 use Rattle.ta_counter.proofs.start.fill_counts.Goals as goal
 
@@ -26,7 +26,7 @@ loop-number-preserved c =
     record {
       places = omega (arith, c.loop-number.invariant.places, length-set {A = ℤ});
       filling = λ parameters h. simp to_z-of_z
-          (fill_next a parameters c.args.counts.now c.loop-number.values c.loop-number.number l (length c.as_slice.result.now + length c.as_slice-2.result.now + l) (get_or c.args.counts.now c.loop-number.number (pos 0)) (c.loop-number.invariant.filling parameters h) at at_place refl (each_point Value c.args.counts.now c.requires.counts_natural c.loop-number.number within));
+          (fill_next a parameters c.args.counts.now c.loop-number.values c.loop-number.number l (length c.as_slice.result.now + length c.as_slice-2.result.now + l) (get_or c.args.counts.now c.loop-number.number (pos 0)) (c.loop-number.invariant.filling parameters h) at at_place refl (each_get_or Value c.args.counts.now c.loop-number.number (pos 0) c.requires.counts_natural within));
     }
 
 pub returns : goal.returns

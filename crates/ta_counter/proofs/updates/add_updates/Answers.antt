@@ -1,4 +1,4 @@
-use Rattle.ta_counter.proofs.Common.{◌≡◌, ◌≤◌, ◌<◌, rules, arith, ℕ, ℤ, pos, ◌+◌, List, length, ap, refl, subst, get_or, slice_get, Some, FitsSigned, to_z-of_z, slice_get-get_or, w128, each_point, Value}
+use Rattle.ta_counter.proofs.Common.{◌≡◌, ◌≤◌, ◌<◌, rules, arith, ℕ, ℤ, pos, ◌+◌, List, length, ap, refl, subst, get_or, slice_get, Some, FitsSigned, to_z-of_z, slice_get-get_or, w128, Value, each_get_or}
 use Rattle.ta_counter.proofs.Moving.{value_fits}
 use Rattle.ta_counter.proofs.Updating.{update_start, update_next, update_leaves, update_place, update_all, update_end}
 use Rattle.ta_counter.proofs.updates.add_updates.Goals as goal
@@ -23,7 +23,7 @@ loop-variable-preserved c =
     let here : place ≡ length a.parameters + u.0 = omega arith in
     let exists = update_place a rule i u c.requires.within at in
     let within : place < length c.loop-variable.values = omega (arith, inv.places) in
-    let number : FitsSigned w128 (get_or c.loop-variable.values place (pos 0)) = value_fits (get_or c.loop-variable.values place (pos 0)) (each_point Value c.loop-variable.values inv.natural place within) in
+    let number : FitsSigned w128 (get_or c.loop-variable.values place (pos 0)) = value_fits (get_or c.loop-variable.values place (pos 0)) (each_get_or Value c.loop-variable.values place (pos 0) inv.natural within) in
     let sum : FitsSigned w128 c.in-Some.sum = search rules in
     let told = simp to_z-of_z at c.in-Some.ensures in
     simp to_z-of_z (update_next a rule c.args.times c.args.values.now c.loop-variable.values i place u c.in-Some.sum c.requires.within c.requires.times inv at here (told.0).0 (told.0).1 told.1)
@@ -43,7 +43,7 @@ returns-in_default-clause-leaves c =
     let here : place ≡ length a.parameters + u.0 = omega arith in
     let exists = update_place a rule i u c.requires.within at in
     let within : place < length c.loop-variable.values = omega (arith, inv.places) in
-    let number : FitsSigned w128 (get_or c.loop-variable.values place (pos 0)) = value_fits (get_or c.loop-variable.values place (pos 0)) (each_point Value c.loop-variable.values inv.natural place within) in
+    let number : FitsSigned w128 (get_or c.loop-variable.values place (pos 0)) = value_fits (get_or c.loop-variable.values place (pos 0)) (each_get_or Value c.loop-variable.values place (pos 0) inv.natural within) in
     (place, refl, update_leaves a rule c.args.times c.args.values.now c.loop-variable.values i place u c.requires.within inv at here (simp to_z-of_z at c.in_default.ensures))
 
 pub returns-clause-grow : goal.returns-clause-grow

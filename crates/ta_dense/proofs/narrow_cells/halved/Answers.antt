@@ -13,6 +13,5 @@ returns-else-unsigned_abs-eq1-clause-value c =
     let fx = c.ranges.cell in
     let u = simp to_z-of_z at c.unsigned_abs.ensures.value in
     let below = mod_below c.unsigned_abs.result 2 (omega arith) in
-    let odd = c.if-unsigned_abs-eq1.false in
     let zero : c.unsigned_abs.result % 2 ≡ 0 = omega arith in
     halved_even c.args.divisor (unsigned_abs c.args.cell) c.requires.some c.requires.few (subst (λ (n : ℕ). n % 2 ≡ 0) u zero)

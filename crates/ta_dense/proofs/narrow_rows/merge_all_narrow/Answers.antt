@@ -10,7 +10,6 @@ loop-at-preserved c =
     let old = narrow_views c.args.rows.now in
     let at = c.loop-at.at in
     let l1 = length-map c.loop-at.rows narrow_view in
-    let inside = c.loop-at-test.true in
     let read : narrow_view (get_or c.loop-at.rows c.loop-at.at c.index-rows-at.result) ≡ get_or (narrow_views c.args.rows.now) c.loop-at.at no_row =
     ap narrow_view (inv.rest at c.index-rows-at.result (omega arith)) ∙ sym (get_or-map narrow_view c.args.rows.now at c.index-rows-at.result no_row (omega arith)) in
     let value : narrow_view c.merge_narrow.new.row ≡ merged c.args.column (narrow_view c.args.chosen.now) (get_or (narrow_views c.args.rows.now) c.loop-at.at no_row) = c.merge_narrow.ensures.value ∙ ap (merged c.args.column chosen) read in

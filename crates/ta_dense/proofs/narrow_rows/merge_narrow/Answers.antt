@@ -13,8 +13,6 @@ ours c =
     let fp : SFits w32 c.narrow_factors-p.result.0 = search rules in
     let fq : SFits w32 c.narrow_factors-p.result.1 = search rules in
     let e = simp to_z-of_z at c.narrow_factors-p.ensures in
-    let long = c.requires.row.proper.long in
-    let inside = c.requires.column in
     factored c.args.column (narrow_view c.args.chosen.now) (narrow_view c.args.row.now) c.index-a.result.now c.index.result.now c.narrow_factors-p.result.0 c.narrow_factors-p.result.1
     (get_or_read c.args.row.now.cells.items c.args.column c.index-a.result.now (omega arith) c.index-a.ensures (pos 0))
     (get_or_read c.args.chosen.now.cells.items c.args.column c.index.result.now (omega arith) c.index.ensures (pos 0))
@@ -49,23 +47,21 @@ reduce_narrow-requires c =
     let places = goal.at.reduce_narrow-requires c in
     narrow_itself (length c.args.chosen.now.cells.items) c.merge_narrow_by.new.row (narrowed places.After-merge_narrow_by (ours places.After-narrow_factors-p) (small places.After-narrow_factors-p))
 
-pub returns-then-a-ne0-clause-value : goal.returns-then-a-ne0-clause-value
-returns-then-a-ne0-clause-value c =
+pub returns-then-a-ne0 : goal.returns-then-a-ne0
+returns-then-a-ne0 c =
+    let places = goal.at.returns-then-a-ne0 c in
     let fp : SFits w32 c.narrow_factors-p.result.0 = search rules in
     let fq : SFits w32 c.narrow_factors-p.result.1 = search rules in
     let m = simp to_z-of_z at c.merge_narrow_by.ensures in
-    c.reduce_narrow.ensures.value ∙ ap reduced m.value ∙ merged_from c.args.column (narrow_view c.args.chosen.now) (narrow_view c.args.row.now) c.narrow_factors-p.result.0 c.narrow_factors-p.result.1 (ours (goal.at.returns-then-a-ne0-clause-value c).After-narrow_factors-p)
-
-pub returns-then-a-ne0-clause-narrow : goal.returns-then-a-ne0-clause-narrow
-returns-then-a-ne0-clause-narrow c =
-    let places = goal.at.returns-then-a-ne0-clause-narrow c in
-    narrow_reduced (length c.args.chosen.now.cells.items) c.merge_narrow_by.new.row c.reduce_narrow.new.row (narrowed places.After-merge_narrow_by (ours places.After-narrow_factors-p) (small places.After-narrow_factors-p)) c.reduce_narrow.ensures.value c.reduce_narrow.ensures.bound
+    let f = ours places.After-narrow_factors-p in
+    record {
+      value = c.reduce_narrow.ensures.value ∙ ap reduced m.value ∙ merged_from c.args.column (narrow_view c.args.chosen.now) (narrow_view c.args.row.now) c.narrow_factors-p.result.0 c.narrow_factors-p.result.1 f;
+      narrow = narrow_reduced (length c.args.chosen.now.cells.items) c.merge_narrow_by.new.row c.reduce_narrow.new.row (narrowed places.After-merge_narrow_by f (small places.After-narrow_factors-p)) c.reduce_narrow.ensures.value c.reduce_narrow.ensures.bound;
+    }
 
 pub returns-else-a-ne0-clause-value : goal.returns-else-a-ne0-clause-value
 returns-else-a-ne0-clause-value c =
     let f1 : SFits w32 c.index-a.result.now = search rules in
-    let long = c.requires.row.proper.long in
-    let inside = c.requires.column in
     let e = get_or_read c.args.row.now.cells.items c.args.column c.index-a.result.now (omega arith) c.index-a.ensures (pos 0) in
     let zero = sym (to_z-of_z w32 c.index-a.result.now f1) ∙ ap (to_z w32) c.if-a-ne0.false in
     sym (merged-zero c.args.column (narrow_view c.args.chosen.now) (narrow_view c.args.row.now) (sym e ∙ zero))

@@ -1,38 +1,34 @@
-use Rattle.ta_dense.proofs.Common.{refl, ap, ◌∙◌, rules, length, set, List, ℤ, ◌*ℤ◌, ◌+◌, ◌*◌, unsigned_abs, to_z-of_z, with_items_is, SFits, w32}
+use Rattle.ta_dense.proofs.Common.{refl, ap, ◌∙◌, rules, length, set, List, ℤ, ◌*ℤ◌, to_z-of_z, with_items_is, SFits, w32}
 use Rattle.ta_dense.proofs.RowFacts.{row_same}
-use Rattle.ta_dense.proofs.Bounded.{combines_below, in32, cells_in32}
+use Rattle.ta_dense.proofs.Bounded.{combine_in32, cells_in32}
 use Rattle.ta_dense.proofs.narrow_rows.merge_narrow_by.Goals as goal
 
 pub overflow_mul-turned : goal.overflow_mul-turned
 overflow_mul-turned c =
     let fq = c.ranges.q in
     let f3 : SFits w32 c.args.chosen.now.denominator = search rules in
-    let t = unsigned_abs c.args.p * c.args.row.now.bound + unsigned_abs c.args.q * c.args.chosen.now.bound in
-    let d = in32 c.args.p c.args.row.now.denominator c.args.q c.args.chosen.now.denominator t (combines_below c.args.p c.args.row.now.denominator c.args.q c.args.chosen.now.denominator c.args.row.now.bound c.args.chosen.now.bound c.requires.row.denominator c.requires.chosen.denominator) c.requires.within in
+    let d = combine_in32 c.args.p c.args.row.now.denominator c.args.q c.args.chosen.now.denominator c.args.row.now.bound c.args.chosen.now.bound c.requires.row.denominator c.requires.chosen.denominator c.requires.within in
     simp to_z-of_z d.right
 
 pub overflow_mul-row : goal.overflow_mul-row
 overflow_mul-row c =
     let fp = c.ranges.p in
     let f1 : SFits w32 c.args.row.now.denominator = search rules in
-    let t = unsigned_abs c.args.p * c.args.row.now.bound + unsigned_abs c.args.q * c.args.chosen.now.bound in
-    let d = in32 c.args.p c.args.row.now.denominator c.args.q c.args.chosen.now.denominator t (combines_below c.args.p c.args.row.now.denominator c.args.q c.args.chosen.now.denominator c.args.row.now.bound c.args.chosen.now.bound c.requires.row.denominator c.requires.chosen.denominator) c.requires.within in
+    let d = combine_in32 c.args.p c.args.row.now.denominator c.args.q c.args.chosen.now.denominator c.args.row.now.bound c.args.chosen.now.bound c.requires.row.denominator c.requires.chosen.denominator c.requires.within in
     simp to_z-of_z d.left
 
 pub overflow_mul-row-2 : goal.overflow_mul-row-2
 overflow_mul-row-2 c =
     let fp = c.ranges.p in
     let f2 : SFits w32 c.args.row.now.constant = search rules in
-    let t = unsigned_abs c.args.p * c.args.row.now.bound + unsigned_abs c.args.q * c.args.chosen.now.bound in
-    let k = in32 c.args.p c.args.row.now.constant c.args.q c.args.chosen.now.constant t (combines_below c.args.p c.args.row.now.constant c.args.q c.args.chosen.now.constant c.args.row.now.bound c.args.chosen.now.bound c.requires.row.constant c.requires.chosen.constant) c.requires.within in
+    let k = combine_in32 c.args.p c.args.row.now.constant c.args.q c.args.chosen.now.constant c.args.row.now.bound c.args.chosen.now.bound c.requires.row.constant c.requires.chosen.constant c.requires.within in
     simp to_z-of_z k.left
 
 pub overflow_mul-row-3 : goal.overflow_mul-row-3
 overflow_mul-row-3 c =
     let fq = c.ranges.q in
     let f4 : SFits w32 c.args.chosen.now.constant = search rules in
-    let t = unsigned_abs c.args.p * c.args.row.now.bound + unsigned_abs c.args.q * c.args.chosen.now.bound in
-    let k = in32 c.args.p c.args.row.now.constant c.args.q c.args.chosen.now.constant t (combines_below c.args.p c.args.row.now.constant c.args.q c.args.chosen.now.constant c.args.row.now.bound c.args.chosen.now.bound c.requires.row.constant c.requires.chosen.constant) c.requires.within in
+    let k = combine_in32 c.args.p c.args.row.now.constant c.args.q c.args.chosen.now.constant c.args.row.now.bound c.args.chosen.now.bound c.requires.row.constant c.requires.chosen.constant c.requires.within in
     simp to_z-of_z k.right
 
 pub overflow_sub-row : goal.overflow_sub-row
@@ -41,8 +37,7 @@ overflow_sub-row c =
     let fq = c.ranges.q in
     let f2 : SFits w32 c.args.row.now.constant = search rules in
     let f4 : SFits w32 c.args.chosen.now.constant = search rules in
-    let t = unsigned_abs c.args.p * c.args.row.now.bound + unsigned_abs c.args.q * c.args.chosen.now.bound in
-    let k = in32 c.args.p c.args.row.now.constant c.args.q c.args.chosen.now.constant t (combines_below c.args.p c.args.row.now.constant c.args.q c.args.chosen.now.constant c.args.row.now.bound c.args.chosen.now.bound c.requires.row.constant c.requires.chosen.constant) c.requires.within in
+    let k = combine_in32 c.args.p c.args.row.now.constant c.args.q c.args.chosen.now.constant c.args.row.now.bound c.args.chosen.now.bound c.requires.row.constant c.requires.chosen.constant c.requires.within in
     let kl = k.left in
     let kr = k.right in
     simp to_z-of_z k.difference
@@ -61,9 +56,8 @@ returns-clause-value c =
     let f2 : SFits w32 c.args.row.now.constant = search rules in
     let f3 : SFits w32 c.args.chosen.now.denominator = search rules in
     let f4 : SFits w32 c.args.chosen.now.constant = search rules in
-    let t = unsigned_abs c.args.p * c.args.row.now.bound + unsigned_abs c.args.q * c.args.chosen.now.bound in
-    let d = in32 c.args.p c.args.row.now.denominator c.args.q c.args.chosen.now.denominator t (combines_below c.args.p c.args.row.now.denominator c.args.q c.args.chosen.now.denominator c.args.row.now.bound c.args.chosen.now.bound c.requires.row.denominator c.requires.chosen.denominator) c.requires.within in
-    let k = in32 c.args.p c.args.row.now.constant c.args.q c.args.chosen.now.constant t (combines_below c.args.p c.args.row.now.constant c.args.q c.args.chosen.now.constant c.args.row.now.bound c.args.chosen.now.bound c.requires.row.constant c.requires.chosen.constant) c.requires.within in
+    let d = combine_in32 c.args.p c.args.row.now.denominator c.args.q c.args.chosen.now.denominator c.args.row.now.bound c.args.chosen.now.bound c.requires.row.denominator c.requires.chosen.denominator c.requires.within in
+    let k = combine_in32 c.args.p c.args.row.now.constant c.args.q c.args.chosen.now.constant c.args.row.now.bound c.args.chosen.now.bound c.requires.row.constant c.requires.chosen.constant c.requires.within in
     let dl = d.left in
     let dr = d.right in
     let kl = k.left in

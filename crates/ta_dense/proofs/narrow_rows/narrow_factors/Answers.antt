@@ -1,4 +1,4 @@
-use Rattle.ta_dense.proofs.Common.{◌≡◌, ap, arith, pos, ◌<ℤ◌, sym, ◌∙◌, ℕ, int_div, to_z-of_z, to_z_pos, quot_fits, ints, fits_signed_from_abs, SFits, to_z, w32, div-one, gcd_of_is, factor_divisor}
+use Rattle.ta_dense.proofs.Common.{◌≡◌, ◌<◌, ◌^◌, ap, arith, pos, ◌<ℤ◌, sym, ◌∙◌, ℕ, int_div, to_z-of_z, to_z_pos, quot_fits, ints, fits_signed_from_abs, SFits, to_z, w32, div-one, gcd_of_is, factor_divisor}
 use Rattle.ta_dense.proofs.Bounded.{factor_small, first_one, second_one}
 use Rattle.ta_dense.proofs.narrow_rows.narrow_factors.Goals as goal
 use Rattle.ta_dense.proofs.narrow_rows.narrow_factors.Goals.{After-gcd_narrow-divisor}
@@ -19,78 +19,54 @@ returns-then-c-eq1-clause-second c =
     let fa = c.ranges.a in
     simp to_z-of_z (second_one c.args.c c.args.a (sym (to_z-of_z w32 c.args.c c.ranges.c) ∙ ap (to_z w32) c.if-c-eq1.true))
 
+-- it is positive, and fits
+small : (c : After-gcd_narrow-divisor) → (0 < c.gcd_narrow-divisor.result) × (c.gcd_narrow-divisor.result < 2 ^ 31)
+small c = factor_small c.args.c c.args.a c.gcd_narrow-divisor.result (is_divisor c) c.requires.positive c.ranges.c
+
 pub overflow_cast-divisor : goal.overflow_cast-divisor
-overflow_cast-divisor c =
-    let fc = c.ranges.c in
-    let fa = c.ranges.a in
-    let d = is_divisor (goal.at.overflow_cast-divisor c).After-gcd_narrow-divisor in
-    let s = factor_small c.args.c c.args.a c.gcd_narrow-divisor.result d c.requires.positive fc in
-    let below = s.1 in
-    let some = s.0 in
-    fits_signed_from_abs w32 (pos c.gcd_narrow-divisor.result) below
+overflow_cast-divisor c = fits_signed_from_abs w32 (pos c.gcd_narrow-divisor.result) (small (goal.at.overflow_cast-divisor c).After-gcd_narrow-divisor).1
 
 pub nonzero_div-result : goal.nonzero_div-result
 nonzero_div-result c =
     let fc = c.ranges.c in
-    let fa = c.ranges.a in
-    let d = is_divisor (goal.at.nonzero_div-result c).After-gcd_narrow-divisor in
-    let s = factor_small c.args.c c.args.a c.gcd_narrow-divisor.result d c.requires.positive fc in
-    let below = s.1 in
+    let s = small (goal.at.nonzero_div-result c).After-gcd_narrow-divisor in
     let some = s.0 in
-    let z = to_z_pos w32 c.gcd_narrow-divisor.result below in
+    let z = to_z_pos w32 c.gcd_narrow-divisor.result s.1 in
     let above : pos 0 <ℤ pos c.gcd_narrow-divisor.result = omega (arith, ints, some) in
     (some, simp to_z-of_z (rw z (quot_fits w32 c.args.c (pos c.gcd_narrow-divisor.result) fc above)))
 
 pub nonzero_div-result-2 : goal.nonzero_div-result-2
 nonzero_div-result-2 c =
-    let fc = c.ranges.c in
     let fa = c.ranges.a in
-    let d = is_divisor (goal.at.nonzero_div-result-2 c).After-gcd_narrow-divisor in
-    let s = factor_small c.args.c c.args.a c.gcd_narrow-divisor.result d c.requires.positive fc in
-    let below = s.1 in
+    let s = small (goal.at.nonzero_div-result-2 c).After-gcd_narrow-divisor in
     let some = s.0 in
-    let z = to_z_pos w32 c.gcd_narrow-divisor.result below in
+    let z = to_z_pos w32 c.gcd_narrow-divisor.result s.1 in
     let above : pos 0 <ℤ pos c.gcd_narrow-divisor.result = omega (arith, ints, some) in
     (some, simp to_z-of_z (rw z (quot_fits w32 c.args.a (pos c.gcd_narrow-divisor.result) fa above)))
 
-pub returns-clause-first : goal.returns-clause-first
-returns-clause-first c =
+pub returns : goal.returns
+returns c =
     let fc = c.ranges.c in
     let fa = c.ranges.a in
-    let d = is_divisor (goal.at.returns-clause-first c).After-gcd_narrow-divisor in
-    let s = factor_small c.args.c c.args.a c.gcd_narrow-divisor.result d c.requires.positive fc in
-    let below = s.1 in
+    let d = is_divisor (goal.at.returns c).After-gcd_narrow-divisor in
+    let s = small (goal.at.returns c).After-gcd_narrow-divisor in
     let some = s.0 in
-    let z = to_z_pos w32 c.gcd_narrow-divisor.result below in
+    let z = to_z_pos w32 c.gcd_narrow-divisor.result s.1 in
     let above : pos 0 <ℤ pos c.gcd_narrow-divisor.result = omega (arith, ints, some) in
-    let fq : SFits w32 (int_div c.args.c (pos c.gcd_narrow-divisor.result)) = quot_fits w32 c.args.c (pos c.gcd_narrow-divisor.result) fc above in
-    rw z (simp to_z-of_z (ap (λ (n : ℕ). int_div c.args.c (pos n)) d))
+    let f1 : SFits w32 (int_div c.args.c (pos c.gcd_narrow-divisor.result)) = quot_fits w32 c.args.c (pos c.gcd_narrow-divisor.result) fc above in
+    let f2 : SFits w32 (int_div c.args.a (pos c.gcd_narrow-divisor.result)) = quot_fits w32 c.args.a (pos c.gcd_narrow-divisor.result) fa above in
+    record {
+      first = rw z (simp to_z-of_z (ap (λ (n : ℕ). int_div c.args.c (pos n)) d));
+      second = rw z (simp to_z-of_z (ap (λ (n : ℕ). int_div c.args.a (pos n)) d));
+    }
 
-pub returns-clause-second : goal.returns-clause-second
-returns-clause-second c =
+pub returns-then-divisor-eq1 : goal.returns-then-divisor-eq1
+returns-then-divisor-eq1 c =
     let fc = c.ranges.c in
     let fa = c.ranges.a in
-    let d = is_divisor (goal.at.returns-clause-second c).After-gcd_narrow-divisor in
-    let s = factor_small c.args.c c.args.a c.gcd_narrow-divisor.result d c.requires.positive fc in
-    let below = s.1 in
-    let some = s.0 in
-    let z = to_z_pos w32 c.gcd_narrow-divisor.result below in
-    let above : pos 0 <ℤ pos c.gcd_narrow-divisor.result = omega (arith, ints, some) in
-    let fq : SFits w32 (int_div c.args.a (pos c.gcd_narrow-divisor.result)) = quot_fits w32 c.args.a (pos c.gcd_narrow-divisor.result) fa above in
-    rw z (simp to_z-of_z (ap (λ (n : ℕ). int_div c.args.a (pos n)) d))
-
-pub returns-then-divisor-eq1-clause-first : goal.returns-then-divisor-eq1-clause-first
-returns-then-divisor-eq1-clause-first c =
-    let fc = c.ranges.c in
-    let fa = c.ranges.a in
-    let d = is_divisor (goal.at.returns-then-divisor-eq1-clause-first c).After-gcd_narrow-divisor in
+    let d = is_divisor (goal.at.returns-then-divisor-eq1 c).After-gcd_narrow-divisor in
     let one : factor_divisor c.args.c c.args.a ≡ 1 = sym d ∙ c.if-divisor-eq1.true in
-    simp to_z-of_z (sym (ap (λ (n : ℕ). int_div c.args.c (pos n)) one ∙ div-one c.args.c))
-
-pub returns-then-divisor-eq1-clause-second : goal.returns-then-divisor-eq1-clause-second
-returns-then-divisor-eq1-clause-second c =
-    let fc = c.ranges.c in
-    let fa = c.ranges.a in
-    let d = is_divisor (goal.at.returns-then-divisor-eq1-clause-second c).After-gcd_narrow-divisor in
-    let one : factor_divisor c.args.c c.args.a ≡ 1 = sym d ∙ c.if-divisor-eq1.true in
-    simp to_z-of_z (sym (ap (λ (n : ℕ). int_div c.args.a (pos n)) one ∙ div-one c.args.a))
+    record {
+      first = simp to_z-of_z (sym (ap (λ (n : ℕ). int_div c.args.c (pos n)) one ∙ div-one c.args.c));
+      second = simp to_z-of_z (sym (ap (λ (n : ℕ). int_div c.args.a (pos n)) one ∙ div-one c.args.a));
+    }

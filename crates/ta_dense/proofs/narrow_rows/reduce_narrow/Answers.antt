@@ -1,41 +1,32 @@
-use Rattle.ta_dense.proofs.Common.{◌≡◌, arith, ap, ◌∙◌, sym, ℕ, pos, ◌<◌, ◌^◌, ints, to_z_pos, fits_signed_from_abs, narrow_view, divided}
-use Rattle.std.specs.Prelude.{unsigned_abs}
+use Rattle.ta_dense.proofs.Common.{◌≡◌, arith, ap, ◌∙◌, sym, ℕ, pos, ◌<◌, ◌^◌, ints, to_z_pos, fits_signed_from_abs, narrow_view, divided, unsigned_abs}
 use Rattle.std.specs.Int.{w32}
 use Rattle.ta_dense.proofs.Bounded.{divisor_le}
 use Rattle.ta_dense.proofs.ReduceFacts.{divided-one}
 use Rattle.ta_dense.proofs.narrow_rows.reduce_narrow.Goals as goal
+use Rattle.ta_dense.proofs.narrow_rows.reduce_narrow.Goals.{After-divisor_of_narrow-divisor}
 
-pub overflow_cast-divisor : goal.overflow_cast-divisor
-overflow_cast-divisor c =
+-- the divisor is below the bound
+below : (c : After-divisor_of_narrow-divisor) → c.divisor_of_narrow-divisor.result < 2 ^ 31
+below c =
     let le = divisor_le (narrow_view c.args.row.now) c.requires.proper.positive in
     let e = c.divisor_of_narrow-divisor.ensures.value in
-    let d = c.requires.bounded.denominator in
-    let f = c.requires.fits in
-    let b : c.divisor_of_narrow-divisor.result < 2 ^ 31 = omega (arith, e) in
-    fits_signed_from_abs w32 (pos c.divisor_of_narrow-divisor.result) b
+    omega (arith, e)
+
+pub overflow_cast-divisor : goal.overflow_cast-divisor
+overflow_cast-divisor c = fits_signed_from_abs w32 (pos c.divisor_of_narrow-divisor.result) (below (goal.at.overflow_cast-divisor c).After-divisor_of_narrow-divisor)
 
 pub divide_narrow_row-requires : goal.divide_narrow_row-requires
 divide_narrow_row-requires c =
-    let le = divisor_le (narrow_view c.args.row.now) c.requires.proper.positive in
-    let e = c.divisor_of_narrow-divisor.ensures.value in
-    let d = c.requires.bounded.denominator in
-    let f = c.requires.fits in
-    let b : c.divisor_of_narrow-divisor.result < 2 ^ 31 = omega (arith, e) in
     let p = c.divisor_of_narrow-divisor.ensures.positive in
-    rw (to_z_pos w32 c.divisor_of_narrow-divisor.result b) (omega (arith, ints, p))
+    rw (to_z_pos w32 c.divisor_of_narrow-divisor.result (below (goal.at.divide_narrow_row-requires c).After-divisor_of_narrow-divisor)) (omega (arith, ints, p))
 
 pub returns-else-divisor-gt1-clause-value : goal.returns-else-divisor-gt1-clause-value
 returns-else-divisor-gt1-clause-value c =
     let v = c.divisor_of_narrow-divisor.ensures.value in
-    let p = c.divisor_of_narrow-divisor.ensures.positive in
     let one : 1 ≡ c.divisor_of_narrow-divisor.result = omega arith in
     sym (divided-one (narrow_view c.args.row.now)) ∙ ap (λ (g : ℕ). divided g (narrow_view c.args.row.now)) (one ∙ v)
 
 pub returns-then-divisor-gt1-clause-value : goal.returns-then-divisor-gt1-clause-value
 returns-then-divisor-gt1-clause-value c =
-    let le = divisor_le (narrow_view c.args.row.now) c.requires.proper.positive in
-    let e = c.divisor_of_narrow-divisor.ensures.value in
-    let d = c.requires.bounded.denominator in
-    let f = c.requires.fits in
-    let b : c.divisor_of_narrow-divisor.result < 2 ^ 31 = omega (arith, e) in
+    let b = below (goal.at.returns-then-divisor-gt1-clause-value c).After-divisor_of_narrow-divisor in
     c.divide_narrow_row.ensures.value ∙ ap (λ (g : ℕ). divided g (narrow_view c.args.row.now)) (ap unsigned_abs (to_z_pos w32 c.divisor_of_narrow-divisor.result b) ∙ c.divisor_of_narrow-divisor.ensures.value)

@@ -16,7 +16,6 @@ loop-row-preserved c =
     let old = c.loop-row.rows.items in
     let l = length-append old (new ∷ []) in
     let long = ap (λ (xs : List NarrowRow). length xs) items in
-    let before = inv.long in
     let slack = inv.slack in
     let more = slack_rows-more u (u + c.args.first) list c.loop-row.row-index c.loop-row.slack c.row-item.result c.loop-row-test.true inv.slack in
     let value = rw c.in-Some.is at c.in_ok-narrow.ensures.value in

@@ -11,8 +11,6 @@ ours c =
     let fp : SFits w128 c.factors-p.result.0 = search rules in
     let fq : SFits w128 c.factors-p.result.1 = search rules in
     let e = simp to_z-of_z at c.factors-p.ensures in
-    let long = c.requires.row.long in
-    let inside = c.requires.column in
     factored c.args.column (row_view c.args.chosen.now) (row_view c.args.row.now) c.index-a.result.now c.index.result.now c.factors-p.result.0 c.factors-p.result.1
     (get_or_read c.args.row.now.cells.items c.args.column c.index-a.result.now (omega arith) c.index-a.ensures (pos 0))
     (get_or_read c.args.chosen.now.cells.items c.args.column c.index.result.now (omega arith) c.index.ensures (pos 0))
@@ -28,29 +26,21 @@ proper c within =
     let e = simp to_z-of_z at c.factors-p.ensures in
     IsProper-merged_by (length c.args.chosen.now.cells.items) c.factors-p.result.0 c.factors-p.result.1 c.args.column (row_view c.args.chosen.now) (row_view c.args.row.now) c.requires.column e.positive c.requires.chosen c.requires.row within
 
-pub returns-clause-value : goal.returns-clause-value
-returns-clause-value c =
+pub returns : goal.returns
+returns c =
+    let at = (goal.at.returns c).After-factors-p in
     let fp : SFits w128 c.factors-p.result.0 = search rules in
     let fq : SFits w128 c.factors-p.result.1 = search rules in
-    let m = simp to_z-of_z at c.if-not-merge_by.ensures in
-    c.reduce.ensures ∙ ap reduced m.value ∙ merged_from c.args.column (row_view c.args.chosen.now) (row_view c.args.row.now) c.factors-p.result.0 c.factors-p.result.1 (ours (goal.at.returns-clause-value c).After-factors-p)
-
-pub returns-clause-proper : goal.returns-clause-proper
-returns-clause-proper c =
-    let fp : SFits w128 c.factors-p.result.0 = search rules in
-    let fq : SFits w128 c.factors-p.result.1 = search rules in
-    let m = simp to_z-of_z at c.if-not-merge_by.ensures in
-    let P : TableauRow → Type 0 = IsProper (length c.args.chosen.now.cells.items) in
-    subst P (sym (c.reduce.ensures ∙ ap reduced m.value)) (IsProper-reduced (length c.args.chosen.now.cells.items) (merged_by c.factors-p.result.0 c.factors-p.result.1 c.args.column (row_view c.args.chosen.now) (row_view c.args.row.now)) (proper (goal.at.returns-clause-proper c).After-factors-p (m.within.0 refl)))
-
-pub returns-clause-within : goal.returns-clause-within
-returns-clause-within c =
-    let fp : SFits w128 c.factors-p.result.0 = search rules in
-    let fq : SFits w128 c.factors-p.result.1 = search rules in
-    let f = ours (goal.at.returns-clause-within c).After-factors-p in
+    let f = ours at in
     let m = simp to_z-of_z at c.if-not-merge_by.ensures in
     let within = m.within.0 refl in
-    (λ t apart. rw (← f.first, ← f.second) within, λ h. refl)
+    let value = c.reduce.ensures ∙ ap reduced m.value in
+    let P : TableauRow → Type 0 = IsProper (length c.args.chosen.now.cells.items) in
+    record {
+      within = (λ t apart. rw (← f.first, ← f.second) within, λ h. refl);
+      value = value ∙ merged_from c.args.column (row_view c.args.chosen.now) (row_view c.args.row.now) c.factors-p.result.0 c.factors-p.result.1 f;
+      proper = subst P (sym value) (IsProper-reduced (length c.args.chosen.now.cells.items) (merged_by c.factors-p.result.0 c.factors-p.result.1 c.args.column (row_view c.args.chosen.now) (row_view c.args.row.now)) (proper at within));
+    }
 
 pub reduce-requires : goal.reduce-requires
 reduce-requires c =
@@ -68,18 +58,13 @@ returns-then-not-merge_by-clause-within c =
     let m = simp to_z-of_z at c.if-not-merge_by.ensures in
     (λ t. absurd (let k : false ≡ true = t in cc), λ all. m.within.1 (rw (f.first, f.second) (all f.apart)))
 
-pub returns-then-a-eq0-clause-value : goal.returns-then-a-eq0-clause-value
-returns-then-a-eq0-clause-value c =
+pub returns-then-a-eq0 : goal.returns-then-a-eq0
+returns-then-a-eq0 c =
     let f1 : SFits w128 c.index-a.result.now = search rules in
-    let long = c.requires.row.long in
-    let inside = c.requires.column in
     let e = get_or_read c.args.row.now.cells.items c.args.column c.index-a.result.now (omega arith) c.index-a.ensures (pos 0) in
-    sym (merged-zero c.args.column (row_view c.args.chosen.now) (row_view c.args.row.now) (sym e ∙ zero_from_bits c.index-a.result.now f1 c.if-a-eq0.true))
-
-pub returns-then-a-eq0-clause-within : goal.returns-then-a-eq0-clause-within
-returns-then-a-eq0-clause-within c =
-    let f1 : SFits w128 c.index-a.result.now = search rules in
-    let long = c.requires.row.long in
-    let inside = c.requires.column in
-    let e = get_or_read c.args.row.now.cells.items c.args.column c.index-a.result.now (omega arith) c.index-a.ensures (pos 0) in
-    (λ t apart. absurd (apart (sym e ∙ zero_from_bits c.index-a.result.now f1 c.if-a-eq0.true)), λ h. refl)
+    let zero = sym e ∙ zero_from_bits c.index-a.result.now f1 c.if-a-eq0.true in
+    record {
+      within = (λ t apart. absurd (apart zero), λ h. refl);
+      value = sym (merged-zero c.args.column (row_view c.args.chosen.now) (row_view c.args.row.now) zero);
+      proper = search rules;
+    }

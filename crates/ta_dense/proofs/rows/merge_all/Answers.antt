@@ -10,7 +10,6 @@ loop-at-preserved c =
     let at = c.loop-at.at in
     let l1 = length-map c.loop-at.rows row_view in
     let l2 = length-map c.args.rows.now row_view in
-    let inside = c.loop-at-test.true in
     let read : row_view (get_or c.loop-at.rows c.loop-at.at c.index-rows-at.result) ≡ get_or (views c.args.rows.now) c.loop-at.at no_row =
     sym (get_or-map row_view c.loop-at.rows at c.index-rows-at.result no_row (omega arith)) ∙ inv.rest at (omega arith) in
     let value : row_view c.merge.new.row ≡ merged c.args.column (row_view c.args.chosen.now) (get_or (views c.args.rows.now) c.loop-at.at no_row) = c.if-not-merge.ensures.value ∙ ap (merged c.args.column chosen) read in

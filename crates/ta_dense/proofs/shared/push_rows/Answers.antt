@@ -1,4 +1,4 @@
-use Rattle.ta_dense.proofs.Common.{◌≡◌, ◌∙◌, List, [], ◌∷◌, ◌++◌, length, ap, sym, subst, arith, refl, append_assoc, append-nil, into_iter_items, All-head, All-tail, TableauRow, narrow_view, narrow_views, IsNarrow, AreNarrow, shared_views, NarrowRow}
+use Rattle.ta_dense.proofs.Common.{◌≡◌, ◌∙◌, List, [], ◌∷◌, ◌++◌, length, ap, sym, subst, arith, append_assoc, into_iter_items, All-head, All-tail, TableauRow, narrow_view, narrow_views, IsNarrow, AreNarrow, shared_views, NarrowRow}
 use Rattle.ta_dense.proofs.shared.push_rows.Goals as goal
 
 pub loop-row-preserved : goal.loop-row-preserved
@@ -12,8 +12,6 @@ loop-row-preserved c =
     let P : List NarrowRow → Type 0 = AreNarrow n in
     let all : AreNarrow c.args.columns (c.in-Some.row ∷ into_iter_items c.next.new.self) = subst P steps inv.narrow in
     let short = ap (λ (xs : List NarrowRow). length xs) steps in
-    let was = inv.long in
-    let gone = c.in-Some.ensures.steps.1 in
     record {
       value = ap (λ (rs : List TableauRow). rs ++ narrow_views rest) c.in_ok-push_row.ensures.value ∙ append_assoc so_far (narrow_view x ∷ []) (narrow_views rest) ∙ ap (λ (xs : List NarrowRow). so_far ++ narrow_views xs) (sym steps) ∙ inv.value;
       shared = record {

@@ -1,5 +1,4 @@
-use Rattle.ta_encode.proofs.Common.{◌≡◌, ℕ, List, length, reverse, take, ap, arith, sym, ◌∙◌, subst, take-length, reverse_more, Element, IsDraft, IsDraftOf, Mark}
-use Rattle.std.proofs.lemmas.List.{length-append}
+use Rattle.ta_encode.proofs.Common.{◌≡◌, ℕ, List, length, reverse, take, ap, arith, sym, ◌∙◌, subst, take-length, reverse_more, Element, IsDraft, IsDraftOf, Mark, length-append}
 use Rattle.ta_encode.proofs.Adding.{behind_join}
 use Rattle.ta_encode.proofs.Marking.{marks_push}
 use Rattle.ta_encode.proofs.growing.push_from.Goals as goal

@@ -1,5 +1,4 @@
-use Rattle.ta_encode.proofs.Common.{◌≡◌, ap, ◌∙◌, sym, refl, subst, ℕ, ℤ, pos, ◌+ℤ◌, ◌-ℤ◌, ◌*ℤ◌, List, [], ◌∷◌, get_or, Bool, inl, inr, ◌⊎◌, if◌then◌else◌, to_z_range, InRange, terms_value, rule_change, Automaton, Meaning, Count, Single, place_coefficient, line_coefficient, coefficient_in_sense, Sense}
-use Rattle.std.specs.Prelude.{slice_get}
+use Rattle.ta_encode.proofs.Common.{◌≡◌, ap, ◌∙◌, sym, refl, subst, ℕ, ℤ, pos, ◌+ℤ◌, ◌-ℤ◌, ◌*ℤ◌, List, [], ◌∷◌, get_or, Bool, inl, inr, ◌⊎◌, if◌then◌else◌, to_z_range, InRange, terms_value, rule_change, Automaton, Meaning, Count, Single, place_coefficient, line_coefficient, coefficient_in_sense, Sense, slice_get}
 use Rattle.ta_encode.proofs.line.coefficient_of.Goals as goal
 
 -- the firings of a rule change a place alike, whenever they come

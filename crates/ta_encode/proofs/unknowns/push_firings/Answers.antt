@@ -1,5 +1,4 @@
-use Rattle.ta_encode.proofs.Common.{◌≡◌, ℕ, ◌+◌, ◌≤◌, Bool, List, length, ◌<◌, ◌++◌, ◌∷◌, [], map, arith, ap, ◌∙◌, append_assoc, filter, has_bit, numbers_from, bit_off, bit_on, length-map, filter_shorter, length_numbers, passed_none, passed_one, Meaning, firing}
-use Rattle.std.proofs.lemmas.List.{length-append}
+use Rattle.ta_encode.proofs.Common.{◌≡◌, ℕ, ◌+◌, ◌≤◌, Bool, List, length, ◌<◌, ◌++◌, ◌∷◌, [], map, arith, ap, ◌∙◌, append_assoc, filter, has_bit, range_with_len, bit_off, bit_on, length-map, filter_shorter, passed_none, passed_one, Meaning, firing, length-append, length-range_with_len}
 use Rattle.ta_encode.proofs.unknowns.push_firings.Goals as goal
 use Rattle.ta_encode.proofs.unknowns.push_firings.Goals.{then-allowed-rule-ne0+in_ok-push, else-allowed-rule-ne0}
 
@@ -8,7 +7,7 @@ loop-rule-preserved c =
     let r = c.loop-rule.rule in
     let f = firing c.args.single c.args.element in
     let before = c.args.meanings.now.items in
-    let done = map f (filter (has_bit c.args.allowed) (numbers_from 0 r)) in
+    let done = map f (filter (has_bit c.args.allowed) (range_with_len 0 r)) in
     let within : r < 128 = (let b = c.loop-rule-test.true in let most = c.requires in omega arith) in
     elim c.if-allowed-rule-ne0.branch [
       | then-allowed-rule-ne0+in_ok-push w ↦
@@ -19,8 +18,8 @@ loop-rule-preserved c =
     ]
 
 -- the unknowns so far
-most_so_far : (f : ℕ → Meaning) (test : ℕ → Bool) (before now : List Meaning) (r rules : ℕ) → r ≤ rules → now ≡ before ++ map f (filter test (numbers_from 0 r)) → length now ≤ length before + rules
-most_so_far f test before now r rules b e = omega (arith, b, ap length e, length-append before (map f (filter test (numbers_from 0 r))), length-map (filter test (numbers_from 0 r)) f, filter_shorter test (numbers_from 0 r), length_numbers 0 r)
+most_so_far : (f : ℕ → Meaning) (test : ℕ → Bool) (before now : List Meaning) (r rules : ℕ) → r ≤ rules → now ≡ before ++ map f (filter test (range_with_len 0 r)) → length now ≤ length before + rules
+most_so_far f test before now r rules b e = omega (arith, b, ap length e, length-append before (map f (filter test (range_with_len 0 r))), length-map (filter test (range_with_len 0 r)) f, filter_shorter test (range_with_len 0 r), length-range_with_len 0 r)
 
 pub returns-in_err-push-clause-most : goal.returns-in_err-push-clause-most
 returns-in_err-push-clause-most c =

@@ -1,5 +1,5 @@
-use Rattle.ta_encode.proofs.Common.{◌≡◌, ◌++◌, map, numbers_from, Parameter}
+use Rattle.ta_encode.proofs.Common.{◌≡◌, ◌++◌, map, range_with_len, Parameter}
 use Rattle.ta_encode.proofs.unknowns.push_parameters.Given as goal
 
 abbrev pub invariant-loop-parameter : goal.invariant-loop-parameter
-invariant-loop-parameter l = l.meanings.items ≡ l.fn.meanings.items ++ map Parameter (numbers_from 0 l.parameter)
+invariant-loop-parameter l = l.meanings.items ≡ l.fn.meanings.items ++ map Parameter (range_with_len 0 l.parameter)

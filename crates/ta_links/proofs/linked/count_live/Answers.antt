@@ -5,7 +5,6 @@ use Rattle.ta_links.proofs.linked.count_live.Goals as goal
 pub returns : goal.returns
 returns c =
     let none : drop c.loop-cell.cell-index c.args.cells.now ≡ [] = drop_of_length-le c.args.cells.now (omega arith) in
-    let all = c.loop-cell.invariant.all in
     let e = ap live_count none in
     let few = live_few c.args.cells.now in
     record { value = omega arith; few = omega arith }

@@ -5,8 +5,6 @@ use Rattle.ta_links.proofs.merging_all.merge_others.Goals as goal
 pub merge_one-requires : goal.merge_one-requires
 merge_one-requires c =
     let next = next_met c.args.first c.args.columns c.args.row c.args.column c.args.heads.now.items c.args.links.now c.args.met.now c.loop-at.at-index (0, pos 0) c.loop-at.heads.items c.loop-at.links c.requires.column c.loop-at.invariant c.loop-at-test.true in
-    let inside = next.inside in
-    let long = c.loop-at.invariant.below.long in
     let at : (get_or c.args.met.now c.loop-at.at-index (0, pos 0)).0 < length c.loop-at.heads.items = omega arith in
     search rules
 

@@ -1,5 +1,4 @@
-use Rattle.ta_links.proofs.Common.{◌≡◌, ◌∙◌, ap, sym, subst, rules, List, ℤ, pos, ◌*ℤ◌, ◌-ℤ◌, ◌<ℤ◌, get_or, set, arith, int_div, to_z-of_z, to_z_pos, ints, SFits, to_z, w128, MergesInRange, RowHead, table_row, no_head, IsProperHead, gcd_of_is, gcd_of, value_in, MergedHead, merged_cell, gcd_below}
-use Rattle.std.proofs.Common.{unsigned_abs}
+use Rattle.ta_links.proofs.Common.{◌≡◌, ◌∙◌, ap, sym, subst, rules, List, ℤ, pos, ◌*ℤ◌, ◌-ℤ◌, ◌<ℤ◌, get_or, set, arith, int_div, to_z-of_z, to_z_pos, ints, SFits, to_z, w128, MergesInRange, RowHead, table_row, no_head, IsProperHead, gcd_of_is, gcd_of, value_in, MergedHead, merged_cell, gcd_below, unsigned_abs}
 use Rattle.ta_links.proofs.RowMerging.{Begun, RowWritten, new_head, refused_heads, refused_cells, divisor_from, divisor_above, row_done}
 use Rattle.ta_links.proofs.merging_rows.merge_row.Goals as goal
 use Rattle.ta_links.proofs.merging_rows.merge_row.Goals.{After-head_of-head, In-Some-divisor_of_merged}

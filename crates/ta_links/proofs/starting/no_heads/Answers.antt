@@ -7,7 +7,6 @@ loop-line-preserved c =
     let items = c.in_ok-push.ensures.items in
     let long = ap (λ (hs : List (Option ℕ)). length hs) items in
     let l = length-append c.loop-line.heads.items (None ∷ []) in
-    let was = c.loop-line.invariant.long in
     record {
       empty = heads_pushed c.loop-line.heads.items c.push.new.self.items items c.loop-line.invariant.empty;
       long = omega arith;

@@ -1,19 +1,16 @@
-use Rattle.ta_meaning.proofs.Common.{◌≡◌, inr, List, sym, ap, subst, ◌∙◌, err_from_is_err_and, FileFault, First, first_places}
+use Rattle.ta_meaning.proofs.Common.{◌≡◌, inr, List, sym, ap, subst, ◌∙◌, err_is, FileFault, First, first_places}
 use Rattle.ta_meaning.proofs.ComparedForms.{comparison_answers, last_of_comparison, left_first}
 use Rattle.ta_meaning.proofs.conditions.resolve_comparison.Goals as goal
 
 pub returns-in_err-left : goal.returns-in_err-left
-returns-in_err-left c =
-    let p = err_from_is_err_and c.from_residual.result c.from_residual.ensures.1 in
-    rw (p.1, p.2) (left_first (first_places c.args.places.now.names c.args.allowed) c.args.comparison.now c.in_err-left.field-0.0 c.in_err-left.ensures)
+returns-in_err-left c = rw (err_is c.from_residual.result _ c.from_residual.ensures.1) (left_first (first_places c.args.places.now.names c.args.allowed) c.args.comparison.now c.in_err-left.field-0.0 c.in_err-left.ensures)
 
 pub returns-in_err-small : goal.returns-in_err-small
 returns-in_err-small c =
-    let p = err_from_is_err_and c.from_residual-in_err-small.result c.from_residual-in_err-small.ensures.1 in
     let s = first_places c.args.places.now.names c.args.allowed in
     let answers = comparison_answers s c.args.comparison.now c.in_ok-left.left c.in_ok-right.right c.in_ok-rows.rows.items c.in_ok-left.ensures.0 c.in_ok-right.ensures.0 c.in_ok-left.ensures.1 c.in_ok-right.ensures.1 c.in_ok-rows.ensures in
     let last = last_of_comparison s c.args.comparison.now c.in_ok-left.ensures.0 c.in_ok-right.ensures.0 in
-    rw (p.1, p.2) (inr (subst (λ (fs : List FileFault). First fs c.in_err-small.field-0.0) (answers.0 ∙ sym last) c.in_err-small.ensures))
+    rw (err_is c.from_residual-in_err-small.result _ c.from_residual-in_err-small.ensures.1) (inr (subst (λ (fs : List FileFault). First fs c.in_err-small.field-0.0) (answers.0 ∙ sym last) c.in_err-small.ensures))
 
 pub returns : goal.returns
 returns c =

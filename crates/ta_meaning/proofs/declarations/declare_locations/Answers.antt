@@ -1,4 +1,4 @@
-use Rattle.ta_meaning.proofs.Common.{◌≡◌, ◌+◌, List, ◌∷◌, drop, map, subst, arith, err_from_is_err_and, drop_of_length-le, next_item, TreeLocation, location_spelled}
+use Rattle.ta_meaning.proofs.Common.{◌≡◌, ◌+◌, List, ◌∷◌, drop, map, subst, arith, err_is, drop_of_length-le, next_item, TreeLocation, location_spelled}
 use Rattle.ta_meaning.proofs.DeclaredSteps.{DeclaredTo, declaring_begins, declaring_goes_on, declaring_stops, declaring_ends}
 use Rattle.ta_meaning.proofs.declarations.declare_locations.Goals as goal
 
@@ -13,8 +13,7 @@ returns-in_err-declare c =
     let start = c.args.names.now in
     let all = map location_spelled xs in
     let here : drop i xs ≡ x ∷ drop (i + 1) xs = next_item xs i x (omega arith) c.location-item.is in
-    let p = err_from_is_err_and c.from_residual.result c.from_residual.ensures.1 in
-    rw (p.1, p.2) (declaring_stops start all c.loop-location.names x.name (map location_spelled (drop (i + 1) xs)) c.in_err-declare.field-0.0 (subst (λ (ys : List TreeLocation). DeclaredTo start all c.loop-location.names (map location_spelled ys)) here c.loop-location.invariant) c.in_err-declare.ensures.faults)
+    rw (err_is c.from_residual.result _ c.from_residual.ensures.1) (declaring_stops start all c.loop-location.names x.name (map location_spelled (drop (i + 1) xs)) c.in_err-declare.field-0.0 (subst (λ (ys : List TreeLocation). DeclaredTo start all c.loop-location.names (map location_spelled ys)) here c.loop-location.invariant) c.in_err-declare.ensures.faults)
 
 pub loop-location-preserved : goal.loop-location-preserved
 loop-location-preserved c =

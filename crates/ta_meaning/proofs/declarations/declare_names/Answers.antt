@@ -1,4 +1,4 @@
-use Rattle.ta_meaning.proofs.Common.{◌≡◌, ◌+◌, List, ◌∷◌, drop, subst, arith, err_from_is_err_and, drop_of_length-le, next_item, Spelled}
+use Rattle.ta_meaning.proofs.Common.{◌≡◌, ◌+◌, List, ◌∷◌, drop, subst, arith, err_is, drop_of_length-le, next_item, Spelled}
 use Rattle.ta_meaning.proofs.DeclaredSteps.{DeclaredTo, declaring_begins, declaring_goes_on, declaring_stops, declaring_ends}
 use Rattle.ta_meaning.proofs.declarations.declare_names.Goals as goal
 
@@ -12,8 +12,7 @@ returns-in_err-declare c =
     let x = c.name-item.result in
     let start = c.args.names.now in
     let here : drop i xs ≡ x ∷ drop (i + 1) xs = next_item xs i x (omega arith) c.name-item.is in
-    let p = err_from_is_err_and c.from_residual.result c.from_residual.ensures.1 in
-    rw (p.1, p.2) (declaring_stops start xs c.loop-name.names x (drop (i + 1) xs) c.in_err-declare.field-0.0 (subst (λ (ys : List Spelled). DeclaredTo start xs c.loop-name.names ys) here c.loop-name.invariant) c.in_err-declare.ensures.faults)
+    rw (err_is c.from_residual.result _ c.from_residual.ensures.1) (declaring_stops start xs c.loop-name.names x (drop (i + 1) xs) c.in_err-declare.field-0.0 (subst (λ (ys : List Spelled). DeclaredTo start xs c.loop-name.names ys) here c.loop-name.invariant) c.in_err-declare.ensures.faults)
 
 pub loop-name-preserved : goal.loop-name-preserved
 loop-name-preserved c =

@@ -1,48 +1,42 @@
-use Rattle.ta_meaning.proofs.Common.{Ok, Err, refl, err_from_is_err_and}
+use Rattle.ta_meaning.proofs.Common.{Ok, Err, refl, err_is}
 use Rattle.ta_meaning.proofs.Whole.{HeadClean, processes-answer, resilience-answer, rules-answer, patterns-answer, at-names, at-processes, at-resilience, at-rules, at-patterns, all-clean, patterns_shape-of, means_automaton}
 use Rattle.ta_meaning.proofs.Shapes.{automaton_shape-along}
 use Rattle.ta_meaning.proofs.file.resolve.Goals as goal
 
 pub returns-in_err-places : goal.returns-in_err-places
-returns-in_err-places c =
-    let p = err_from_is_err_and c.from_residual.result c.from_residual.ensures.1 in
-    rw (p.1, p.2) (at-names c.args.tree c.in_err-places.field-0.0 c.in_err-places.ensures)
+returns-in_err-places c = rw (err_is c.from_residual.result _ c.from_residual.ensures.1) (at-names c.args.tree c.in_err-places.field-0.0 c.in_err-places.ensures)
 
 pub returns-in_err-processes : goal.returns-in_err-processes
 returns-in_err-processes c =
-    let p = err_from_is_err_and c.from_residual-in_err-processes.result c.from_residual-in_err-processes.ensures.1 in
     let names = c.in_ok-places.ensures in
     let processes = processes-answer c.in_ok-places.places c.args.tree (Err c.in_err-processes.field-0.0) names.1 c.in_err-processes.ensures in
-    rw (p.1, p.2) (at-processes c.args.tree c.in_err-processes.field-0.0 names.0 processes)
+    rw (err_is c.from_residual-in_err-processes.result _ c.from_residual-in_err-processes.ensures.1) (at-processes c.args.tree c.in_err-processes.field-0.0 names.0 processes)
 
 pub returns-in_err-resilience : goal.returns-in_err-resilience
 returns-in_err-resilience c =
-    let p = err_from_is_err_and c.from_residual-in_err-resilience.result c.from_residual-in_err-resilience.ensures.1 in
     let names = c.in_ok-places.ensures in
     let processes = processes-answer c.in_ok-places.places c.args.tree (Ok c.in_ok-processes.processes) names.1 c.in_ok-processes.ensures in
     let resilience = resilience-answer c.in_ok-places.places c.args.tree (Err c.in_err-resilience.field-0.0) names.1 (rw c.as_slice.ensures at c.in_err-resilience.ensures) in
-    rw (p.1, p.2) (at-resilience c.args.tree c.in_err-resilience.field-0.0 names.0 processes.0 resilience)
+    rw (err_is c.from_residual-in_err-resilience.result _ c.from_residual-in_err-resilience.ensures.1) (at-resilience c.args.tree c.in_err-resilience.field-0.0 names.0 processes.0 resilience)
 
 pub returns-in_err-rules : goal.returns-in_err-rules
 returns-in_err-rules c =
-    let p = err_from_is_err_and c.from_residual-in_err-rules.result c.from_residual-in_err-rules.ensures.1 in
     let names = c.in_ok-places.ensures in
     let processes = processes-answer c.in_ok-places.places c.args.tree (Ok c.in_ok-processes.processes) names.1 c.in_ok-processes.ensures in
     let resilience = resilience-answer c.in_ok-places.places c.args.tree (Ok c.in_ok-resilience.resilience) names.1 (rw c.as_slice.ensures at c.in_ok-resilience.ensures) in
     let head : HeadClean c.args.tree = record { names = names.0; processes = processes.0; resilience = resilience.0 } in
     let all = rules-answer c.in_ok-places.places c.args.tree (Err c.in_err-rules.field-0.0) names.1 (rw c.into_vec.ensures at c.in_err-rules.ensures) in
-    rw (p.1, p.2) (at-rules c.args.tree c.in_err-rules.field-0.0 head all)
+    rw (err_is c.from_residual-in_err-rules.result _ c.from_residual-in_err-rules.ensures.1) (at-rules c.args.tree c.in_err-rules.field-0.0 head all)
 
 pub returns-in_err-patterns : goal.returns-in_err-patterns
 returns-in_err-patterns c =
-    let p = err_from_is_err_and c.from_residual-in_err-patterns.result c.from_residual-in_err-patterns.ensures.1 in
     let names = c.in_ok-places.ensures in
     let processes = processes-answer c.in_ok-places.places c.args.tree (Ok c.in_ok-processes.processes) names.1 c.in_ok-processes.ensures in
     let resilience = resilience-answer c.in_ok-places.places c.args.tree (Ok c.in_ok-resilience.resilience) names.1 (rw c.as_slice.ensures at c.in_ok-resilience.ensures) in
     let head : HeadClean c.args.tree = record { names = names.0; processes = processes.0; resilience = resilience.0 } in
     let all = rules-answer c.in_ok-places.places c.args.tree (Ok c.in_ok-rules.rules) names.1 (rw c.into_vec.ensures at c.in_ok-rules.ensures) in
     let patterns = patterns-answer c.in_ok-places.places c.args.tree (Err c.in_err-patterns.field-0.0) names.1 (rw c.into_vec-2.ensures at c.in_err-patterns.ensures) in
-    rw (p.1, p.2) (at-patterns c.args.tree c.in_err-patterns.field-0.0 head all.0 patterns)
+    rw (err_is c.from_residual-in_err-patterns.result _ c.from_residual-in_err-patterns.ensures.1) (at-patterns c.args.tree c.in_err-patterns.field-0.0 head all.0 patterns)
 
 pub invariant_of-automaton : goal.invariant_of-automaton
 invariant_of-automaton c =

@@ -1,5 +1,4 @@
-use Rattle.ta_meaning.proofs.Common.{◌+◌, List, drop, subst, err_from_is_err_and, drop_of_length-le, next_item, plain_comparison, TreeComparison, kinds_of}
-use Rattle.ta_meaning.proofs.Exits.{exit-first}
+use Rattle.ta_meaning.proofs.Common.{◌+◌, List, drop, subst, err_is, drop_of_length-le, next_item, plain_comparison, TreeComparison, kinds_of}
 use Rattle.ta_meaning.proofs.GuardReading.{GuardsReading, number_fits, reading_more, reading_stops, reading_ends}
 use Rattle.ta_meaning.proofs.guards.number_guards.Goals as goal
 
@@ -9,7 +8,7 @@ returns-in_err-number c =
     let all = c.args.comparisons.now in
     let i = c.loop-comparison.comparison-index in
     let here = subst (λ (cs : List TreeComparison). GuardsReading ns c.args.guards.now c.loop-comparison.guards all cs c.loop-comparison.masks) (next_item all i c.comparison-item.result c.loop-comparison-test.true c.comparison-item.is) c.loop-comparison.invariant in
-    exit-first _ _ _ c.in_err-number.field-0.0 (err_from_is_err_and _ c.from_residual.ensures.1)
+    rw (err_is c.from_residual.result _ c.from_residual.ensures.1)
     (reading_stops ns c.args.guards.now c.loop-comparison.guards all (drop (i + 1) all) c.comparison-item.result c.loop-comparison.masks c.in_err-number.field-0.0 here c.in_err-number.ensures)
 
 pub with_number-masks-requires : goal.with_number-masks-requires

@@ -1,4 +1,4 @@
-use Rattle.ta_meaning.proofs.Common.{◌≡◌, ◌+◌, List, ◌∷◌, drop, refl, subst, arith, false≢true, slice_get_within, err_from_is_err_and, drop_of_length-le, next_item, Spelled, between}
+use Rattle.ta_meaning.proofs.Common.{◌≡◌, ◌+◌, List, ◌∷◌, drop, refl, subst, arith, false≢true, slice_get_within, err_is, drop_of_length-le, next_item, Spelled, between}
 use Rattle.ta_meaning.proofs.ListedSteps.{ListedTo, listing_begins, listing_stops, listing_repeats, listing_goes_on, listing_ends, between-distinct, between-within, between-length}
 use Rattle.ta_meaning.proofs.masks.listed_mask.Goals as goal
 
@@ -13,8 +13,7 @@ returns-in_err-number c =
     let names = c.args.names.now in
     let allowed = between c.args.from c.args.to names in
     let here : drop i xs ≡ x ∷ drop (i + 1) xs = next_item xs i x (omega arith) c.name-item.is in
-    let p = err_from_is_err_and c.from_residual.result c.from_residual.ensures.1 in
-    rw (p.1, p.2) (listing_stops names allowed xs x (drop (i + 1) xs) c.loop-name.mask (subst (λ (ys : List Spelled). ListedTo names allowed xs ys c.loop-name.mask) here c.loop-name.invariant) c.in_err-number.field-0.0 (between-within c.args.from c.args.to names) c.in_err-number.ensures)
+    rw (err_is c.from_residual.result _ c.from_residual.ensures.1) (listing_stops names allowed xs x (drop (i + 1) xs) c.loop-name.mask (subst (λ (ys : List Spelled). ListedTo names allowed xs ys c.loop-name.mask) here c.loop-name.invariant) c.in_err-number.field-0.0 (between-within c.args.from c.args.to names) c.in_err-number.ensures)
 
 pub contains-requires : goal.contains-requires
 contains-requires c =

@@ -1,12 +1,11 @@
-use Rattle.ta_meaning.proofs.Common.{Ok, Err, refl, err_from_is_err_and, between}
+use Rattle.ta_meaning.proofs.Common.{Ok, Err, refl, err_is, between}
 use Rattle.ta_meaning.proofs.PlaceScopes.{listed_along, between-end}
 use Rattle.ta_meaning.proofs.patterns.after_mask.Goals as goal
 
 pub returns-in_err-mask : goal.returns-in_err-mask
 returns-in_err-mask c =
     let names = c.args.earlier.now in
-    let p = err_from_is_err_and c.from_residual.result c.from_residual.ensures.1 in
-    rw (p.1, p.2) (listed_along names names (between 0 c.len.result names) names c.args.listed.now (Err c.in_err-mask.field-0.0) refl (between-end 0 c.len.result names c.len.ensures) c.in_err-mask.ensures)
+    rw (err_is c.from_residual.result _ c.from_residual.ensures.1) (listed_along names names (between 0 c.len.result names) names c.args.listed.now (Err c.in_err-mask.field-0.0) refl (between-end 0 c.len.result names c.len.ensures) c.in_err-mask.ensures)
 
 pub returns : goal.returns
 returns c =

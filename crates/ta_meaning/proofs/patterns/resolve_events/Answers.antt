@@ -1,4 +1,4 @@
-use Rattle.ta_meaning.proofs.Common.{List, length, ap, sym, subst, ◌∙◌, arith, into_iter_items, nil_from_length, err_from_is_err_and, TreeEvent, kinds_of}
+use Rattle.ta_meaning.proofs.Common.{List, length, ap, sym, subst, ◌∙◌, arith, into_iter_items, nil_from_length, err_is, TreeEvent, kinds_of}
 use Rattle.ta_meaning.proofs.PatternSteps.{EventsTo, events_begin, few_events, events_stop, events_go_on, events_end}
 use Rattle.ta_meaning.proofs.patterns.resolve_events.Goals as goal
 
@@ -26,8 +26,7 @@ returns-in_err-resolve_event c =
     let xs = c.args.events.items in
     let ns = kinds_of c.args.places.now in
     let here = subst (λ (ys : List TreeEvent). EventsTo ns xs ys c.loop-event.names c.loop-event.resolved.items) c.in-Some.ensures.steps.0 c.loop-event.invariant.so_far in
-    let p = err_from_is_err_and c.from_residual.result c.from_residual.ensures.1 in
-    rw (p.1, p.2) (events_stop ns xs c.in-Some.event (into_iter_items c.next.new.self) c.loop-event.names c.loop-event.resolved.items here c.in_err-resolve_event.field-0.0 c.in_err-resolve_event.ensures)
+    rw (err_is c.from_residual.result _ c.from_residual.ensures.1) (events_stop ns xs c.in-Some.event (into_iter_items c.next.new.self) c.loop-event.names c.loop-event.resolved.items here c.in_err-resolve_event.field-0.0 c.in_err-resolve_event.ensures)
 
 pub loop-event-preserved : goal.loop-event-preserved
 loop-event-preserved c =

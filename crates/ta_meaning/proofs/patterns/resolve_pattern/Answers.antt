@@ -1,30 +1,25 @@
-use Rattle.ta_meaning.proofs.Common.{inr, List, [], ◌∷◌, ◌++◌, map, refl, sym, subst, err_from_is_err_and, plain_event, Event, pattern_name, ResolvedEvents, kinds_of}
+use Rattle.ta_meaning.proofs.Common.{inr, List, [], ◌∷◌, ◌++◌, map, refl, sym, subst, err_is, plain_event, Event, pattern_name, ResolvedEvents, kinds_of}
 use Rattle.ta_meaning.proofs.Answering.{append-left-first}
 use Rattle.ta_meaning.proofs.PatternSteps.{pattern_stops_at_start, pattern_stops_at_empty, pattern_stops_at_events, pattern_has_none, pattern_resolved}
 use Rattle.ta_meaning.proofs.patterns.resolve_pattern.Goals as goal
 
 pub returns-in_err-check_declared : goal.returns-in_err-check_declared
-returns-in_err-check_declared c =
-    let p = err_from_is_err_and c.from_residual.result c.from_residual.ensures.1 in
-    rw (p.1, p.2) (append-left-first _ _ c.in_err-check_declared.field-0.0 (inr c.in_err-check_declared.ensures))
+returns-in_err-check_declared c = rw (err_is c.from_residual.result _ c.from_residual.ensures.1) (append-left-first _ _ c.in_err-check_declared.field-0.0 (inr c.in_err-check_declared.ensures))
 
 pub returns-in_err-start : goal.returns-in_err-start
 returns-in_err-start c =
     let t = c.args.pattern in
-    let p = err_from_is_err_and c.from_residual-in_err-start.result c.from_residual-in_err-start.ensures.1 in
-    rw (p.1, p.2) (pattern_stops_at_start (kinds_of c.args.places.now) (map pattern_name c.args.before.now) t c.as_slice.result.now c.as_slice.ensures t.empty refl t.events refl c.in_err-start.field-0.0 c.in_ok-check_declared.ensures.0 c.in_err-start.ensures)
+    rw (err_is c.from_residual-in_err-start.result _ c.from_residual-in_err-start.ensures.1) (pattern_stops_at_start (kinds_of c.args.places.now) (map pattern_name c.args.before.now) t c.as_slice.result.now c.as_slice.ensures t.empty refl t.events refl c.in_err-start.field-0.0 c.in_ok-check_declared.ensures.0 c.in_err-start.ensures)
 
 pub returns-in_err-empty : goal.returns-in_err-empty
 returns-in_err-empty c =
     let t = c.args.pattern in
-    let p = err_from_is_err_and c.from_residual-in_err-empty.result c.from_residual-in_err-empty.ensures.1 in
-    rw (p.1, p.2) (pattern_stops_at_empty (kinds_of c.args.places.now) (map pattern_name c.args.before.now) t c.as_slice.result.now c.as_slice.ensures c.as_slice-2.result.now c.as_slice-2.ensures t.events refl c.in_err-empty.field-0.0 c.in_ok-check_declared.ensures.0 c.in_ok-start.ensures.0 (inr c.in_err-empty.ensures))
+    rw (err_is c.from_residual-in_err-empty.result _ c.from_residual-in_err-empty.ensures.1) (pattern_stops_at_empty (kinds_of c.args.places.now) (map pattern_name c.args.before.now) t c.as_slice.result.now c.as_slice.ensures c.as_slice-2.result.now c.as_slice-2.ensures t.events refl c.in_err-empty.field-0.0 c.in_ok-check_declared.ensures.0 c.in_ok-start.ensures.0 (inr c.in_err-empty.ensures))
 
 pub returns-in_err-events : goal.returns-in_err-events
 returns-in_err-events c =
     let t = c.args.pattern in
-    let p = err_from_is_err_and c.from_residual-in_err-events.result c.from_residual-in_err-events.ensures.1 in
-    rw (p.1, p.2) (pattern_stops_at_events (kinds_of c.args.places.now) (map pattern_name c.args.before.now) t c.as_slice.result.now c.as_slice.ensures c.as_slice-2.result.now c.as_slice-2.ensures c.into_vec.result.items c.into_vec.ensures c.in_err-events.field-0.0 c.in_ok-check_declared.ensures.0 c.in_ok-start.ensures.0 c.in_ok-empty.ensures.0 c.in_err-events.ensures)
+    rw (err_is c.from_residual-in_err-events.result _ c.from_residual-in_err-events.ensures.1) (pattern_stops_at_events (kinds_of c.args.places.now) (map pattern_name c.args.before.now) t c.as_slice.result.now c.as_slice.ensures c.as_slice-2.result.now c.as_slice-2.ensures c.into_vec.result.items c.into_vec.ensures c.in_err-events.field-0.0 c.in_ok-check_declared.ensures.0 c.in_ok-start.ensures.0 c.in_ok-empty.ensures.0 c.in_err-events.ensures)
 
 pub returns : goal.returns
 returns c =

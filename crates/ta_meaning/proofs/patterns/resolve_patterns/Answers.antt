@@ -1,4 +1,4 @@
-use Rattle.ta_meaning.proofs.Common.{◌≡◌, ℕ, List, [], ◌∷◌, ◌++◌, map, length, ap, sym, subst, ◌∙◌, arith, into_iter_items, nil_from_length, err_from_is_err_and, Distinct, pattern_name, Pattern, plain_pattern, TreePattern, FirstOrMemory, pattern_faults, ResolvedPattern, kinds_of}
+use Rattle.ta_meaning.proofs.Common.{◌≡◌, ℕ, List, [], ◌∷◌, ◌++◌, map, length, ap, sym, subst, ◌∙◌, arith, into_iter_items, nil_from_length, err_is, Distinct, pattern_name, Pattern, plain_pattern, TreePattern, FirstOrMemory, pattern_faults, ResolvedPattern, kinds_of}
 use Rattle.ta_meaning.proofs.PatternSteps.{PatternsTo, patterns_begin, patterns_stop, patterns_go_on, patterns_end}
 use Rattle.ta_meaning.proofs.patterns.resolve_patterns.Goals as goal
 
@@ -25,8 +25,7 @@ returns-in_err-one c =
     let e = c.in_err-one.field-0.0 in
     let here = subst (λ (ys : List TreePattern). PatternsTo ns xs ys (map pattern_name resolved) resolved) c.in-Some.ensures.steps.0 c.loop-pattern.invariant.so_far in
     let told = subst (λ (before : List Pattern). FirstOrMemory (pattern_faults ns (map pattern_name before) c.in-Some.pattern) e) c.as_slice.ensures.value c.in_err-one.ensures in
-    let p = err_from_is_err_and c.from_residual.result c.from_residual.ensures.1 in
-    rw (p.1, p.2) (patterns_stop ns xs c.in-Some.pattern (into_iter_items c.next.new.self) (map pattern_name resolved) resolved here e told)
+    rw (err_is c.from_residual.result _ c.from_residual.ensures.1) (patterns_stop ns xs c.in-Some.pattern (into_iter_items c.next.new.self) (map pattern_name resolved) resolved here e told)
 
 pub loop-pattern-preserved : goal.loop-pattern-preserved
 loop-pattern-preserved c =

@@ -1,5 +1,4 @@
-use Rattle.ta_meaning.proofs.Common.{◌≡◌, ℕ, List, [], ◌∷◌, ◌++◌, map, length, ap, sym, subst, ◌∙◌, arith, into_iter_items, nil_from_length, err_from_is_err_and, name_of, Rule, TreeRule, FirstOrMemory, rule_faults, guards_so_far, kinds_of, RuleRead}
-use Rattle.ta_meaning.proofs.Exits.{exit-first}
+use Rattle.ta_meaning.proofs.Common.{◌≡◌, ℕ, List, [], ◌∷◌, ◌++◌, map, length, ap, sym, subst, ◌∙◌, arith, into_iter_items, nil_from_length, err_is, name_of, Rule, TreeRule, FirstOrMemory, rule_faults, guards_so_far, kinds_of, RuleRead}
 use Rattle.ta_meaning.proofs.RuleSequence.{RulesReading, rules_begin, rules_more, rules_stop, rules_end}
 use Rattle.ta_meaning.proofs.rules.resolve_rules.Goals as goal
 
@@ -23,7 +22,7 @@ returns-in_err-one c =
     let e = c.in_err-one.field-0.0 in
     let here = subst (λ (rs : List TreeRule). RulesReading ns all rs (map name_of resolved) c.loop-rule.guards resolved) c.in-Some.ensures.steps.0 c.loop-rule.invariant.so_far in
     let told = subst (λ (before : List Rule). FirstOrMemory (rule_faults ns (map name_of before) (guards_so_far ns c.loop-rule.guards) c.in-Some.rule) e) c.as_slice.ensures.value c.in_err-one.ensures in
-    exit-first _ _ _ e (err_from_is_err_and _ c.from_residual.ensures.1)
+    rw (err_is c.from_residual.result _ c.from_residual.ensures.1)
     (rules_stop ns all (into_iter_items c.next.new.self) c.in-Some.rule (map name_of resolved) c.loop-rule.guards resolved e here told)
 
 pub loop-rule-preserved : goal.loop-rule-preserved

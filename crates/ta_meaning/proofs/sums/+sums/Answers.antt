@@ -1,4 +1,4 @@
-use Rattle.ta_meaning.proofs.Common.{◌≡◌, inr, ◌+◌, ◌^◌, ◌∷◌, List, drop, sym, ap, subst, ◌∙◌, rules, arith, pos, FitsSigned, w128, to_z-of_z, err_from_is_err_and, drop_more, drop_of_length-le, Terms, plain_sum, plain_terms, Sign, TreeTerm, FileFault, sum_uses, linear_sum, FirstOrMemory, sum_faults, first_places, PartOf}
+use Rattle.ta_meaning.proofs.Common.{◌≡◌, inr, ◌+◌, ◌^◌, ◌∷◌, List, drop, sym, ap, subst, ◌∙◌, rules, arith, pos, FitsSigned, w128, to_z-of_z, err_is, drop_more, drop_of_length-le, Terms, plain_sum, plain_terms, Sign, TreeTerm, FileFault, sum_uses, linear_sum, FirstOrMemory, sum_faults, first_places, PartOf}
 use Rattle.ta_syntax.proofs.PrintSteps.{plain_sum_out}
 use Rattle.ta_meaning.proofs.Answering.{judges-answer}
 use Rattle.ta_meaning.proofs.TreeSums.{terms_faults, sum_faults_out}
@@ -10,7 +10,6 @@ sum_form-terms-init t c = sum_begins (first_places c.args.places.now.names c.arg
 
 pub sum_form-returns-in_err-next : goal.sum_form-returns-in_err-next
 sum_form-returns-in_err-next t c =
-    let p = err_from_is_err_and c.from_residual.result c.from_residual.ensures.1 in
     let s = first_places c.args.places.now.names c.args.allowed in
     let xs = c.deref-term-items.result.now in
     let i = c.terms.term-index in
@@ -19,7 +18,7 @@ sum_form-returns-in_err-next t c =
     let had = subst (λ (ys : List (Sign × TreeTerm)). Summing s xs ys i c.terms.form) here c.terms.invariant in
     let first = sum_fails s xs (drop (i + 1) xs) x i c.terms.form c.in_err-next.field-0.0 had c.in_err-next.ensures in
     let all : terms_faults s xs ≡ sum_faults s c.args.sum.now = ap (λ (ys : List (Sign × TreeTerm)). terms_faults s ys) c.deref-term-items.ensures.value ∙ sym (sum_faults_out s c.args.sum.now) in
-    rw (p.1, p.2) (subst (λ (fs : List FileFault). FirstOrMemory fs c.in_err-next.field-0.0) all first)
+    rw (err_is c.from_residual.result _ c.from_residual.ensures.1) (subst (λ (fs : List FileFault). FirstOrMemory fs c.in_err-next.field-0.0) all first)
 
 pub sum_form-plus_signed-requires-clause-a : goal.sum_form-plus_signed-requires-clause-a
 sum_form-plus_signed-requires-clause-a t c =
@@ -50,8 +49,7 @@ sum_form-returns t c =
 
 pub term_form-returns-in_err-number-in-Some : goal.term_form-returns-in_err-number-in-Some
 term_form-returns-in_err-number-in-Some t c =
-    let p = err_from_is_err_and c.from_residual-in_err-number-in-Some.result c.from_residual-in_err-number-in-Some.ensures.1 in
-    rw (p.1, p.2) (number_first (first_places c.args.places.now.names c.args.allowed) c.args.term.now c.in-Some.body c.in_err-number-in-Some.field-0.0 c.in-Some.is (inr c.in_err-number-in-Some.ensures))
+    rw (err_is c.from_residual-in_err-number-in-Some.result _ c.from_residual-in_err-number-in-Some.ensures.1) (number_first (first_places c.args.places.now.names c.args.allowed) c.args.term.now c.in-Some.body c.in_err-number-in-Some.field-0.0 c.in-Some.is (inr c.in_err-number-in-Some.ensures))
 
 pub term_form-returns-in_ok-number-in-None : goal.term_form-returns-in_ok-number-in-None
 term_form-returns-in_ok-number-in-None t c =

@@ -1,5 +1,4 @@
-use Rattle.ta_meaning.proofs.Common.{◌≡◌, ◌∙◌, sym, ℕ, List, Some, slice_get, subst, arith, err_from_is_err_and, eqb-true, eqb-false, FileFault, First}
-use Rattle.ta_meaning.proofs.Exits.{exit-leads}
+use Rattle.ta_meaning.proofs.Common.{◌≡◌, ◌∙◌, sym, ℕ, List, Some, slice_get, subst, arith, err_is, eqb-true, eqb-false, FileFault, First}
 use Rattle.ta_meaning.proofs.ListedPlaces.{shared_part_is, used_in, variable_first, variable_again, variable_new}
 use Rattle.ta_meaning.proofs.updates.variable_in.Goals as goal
 
@@ -8,7 +7,7 @@ returns-in_err-variable c =
     let places = c.args.places.now in
     let name = c.args.name.now in
     let e = c.in_err-variable.field-0.0 in
-    exit-leads _ _ _ e (err_from_is_err_and _ c.from_residual.ensures.1)
+    rw (err_is c.from_residual.result _ c.from_residual.ensures.1)
     (variable_first places c.args.seen.now name e c.requires (subst (λ (fs : List FileFault). First fs e) (used_in places _ _ name (shared_part_is places)) c.in_err-variable.ensures))
 
 pub returns-then-contains : goal.returns-then-contains

@@ -1,5 +1,4 @@
-use Rattle.ta_pattern.proofs.Common.{◌<◌, ◌∙◌, sym, ap, subst, length, List, ℤ, arith, Ok, point_of, FirstFalse, EventAnswer}
-use Rattle.std.proofs.lemmas.Option.{same_Some}
+use Rattle.ta_pattern.proofs.Common.{◌<◌, ◌∙◌, sym, ap, subst, length, List, ℤ, arith, Ok, point_of, FirstFalse, EventAnswer, same_Some}
 use Rattle.ta_base.proofs.Lists.{read_same}
 use Rattle.ta_automaton.specs.declared.pattern.Event.{Event}
 use Rattle.ta_pattern.proofs.Agreeing.{event_answer, tells_event}

@@ -1,18 +1,10 @@
-use Rattle.ta_program.proofs.Common.{◌≡◌, ◌∙◌, ◌≤◌, ℕ, List, [], Option, Ok, Some, ap, arith, refl, slice_get, get_or_from_slice_get, File, Pattern, Run, shown_of, shown_line, Told, Answer, Says, Writes, replies, SaysShown}
+use Rattle.ta_program.proofs.Common.{◌≡◌, ◌∙◌, ℕ, List, [], Option, Ok, Some, ap, refl, slice_get, get_or_from_slice_get, File, Pattern, Run, shown_of, shown_line, Told, Answer, Says, Writes, replies, SaysShown}
+use Rattle.ta_program.proofs.Replied.{replied}
 use Rattle.ta_program.proofs.replay.answer_shown.Goals as goal
 
 shown_says : (file : File) (run : Run) (files : Option Told) (answer : Answer) (pattern : Pattern) (text : List ℕ) → slice_get file.patterns run.pattern ≡ Some pattern → Writes 0 text answer → text ≡ shown_line pattern.name (shown_of run) → Says (replies [] (SaysShown file run)) files (Ok answer) []
 shown_says file run files answer pattern text named writes is =
-    let zero = writes.numbered in
-    let low : answer.number ≤ 2 = omega arith in
-    record {
-      opened = refl;
-      judges = record {
-        low = low;
-        holds = record { pattern = pattern; named = named; writes = record { numbered = zero; written = writes.written ∙ is; no_put = writes.no_put } };
-        within = rw writes.no_put tt;
-      };
-    }
+    replied (SaysShown file run) files answer text writes (record { pattern = pattern; named = named; writes = record { numbered = writes.numbered; written = writes.written ∙ is; no_put = writes.no_put } })
 
 pub returns-in-Ok-clause-says : goal.returns-in-Ok-clause-says
 returns-in-Ok-clause-says c files =

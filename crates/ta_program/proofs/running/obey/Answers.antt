@@ -1,5 +1,4 @@
-use Rattle.ta_program.proofs.Common.{codes, bytes_eq, ℕ, List, ◌∷◌, ◌≡◌, ◌≢◌, false, refl, false_from_ne_true, NoCommand, request_of}
-use Rattle.std.specs.Prelude.{map}
+use Rattle.ta_program.proofs.Common.{codes, bytes_eq, ℕ, List, ◌∷◌, ◌≡◌, ◌≢◌, false, refl, false_from_ne_true, NoCommand, request_of, map}
 use Rattle.std.proofs.lemmas.Slice.Eq.{bytes_eq-Decides}
 use Rattle.ta_program.proofs.running.obey.Goals as goal
 

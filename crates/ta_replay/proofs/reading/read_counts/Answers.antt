@@ -1,4 +1,4 @@
-use Rattle.ta_replay.proofs.Common.{◌≡◌, ◌<◌, ◌+◌, length, get_or, ap, subst, ◌∙◌, arith, length_push, get_or_default, err_from_is_err_and, rises_at, start_slot, start_slots}
+use Rattle.ta_replay.proofs.Common.{◌≡◌, ◌<◌, ◌+◌, length, get_or, ap, subst, ◌∙◌, arith, length_push, get_or_default, err_is, rises_at, start_slot, start_slots}
 use Rattle.ta_replay.proofs.Decimals.{stored}
 use Rattle.ta_replay.proofs.ValueLines.{values_none, value_step, value_stop}
 use Rattle.ta_replay.proofs.reading.read_counts.Goals as goal
@@ -17,12 +17,11 @@ pub returns-in_err-value-clause-fault : goal.returns-in_err-value-clause-fault
 returns-in_err-value-clause-fault c =
     let a = c.args.automaton.now in
     let inv = c.loop-location.invariant in
-    let p = err_from_is_err_and c.from_residual.result c.from_residual.ensures.1 in
     let items = c.as_slice-location-items.result.now in
     let i = c.loop-location.location-index in
     let x = get_or items i 0 in
     let place : c.args.first + c.len.result ≡ c.args.first + length c.loop-location.values.items = omega (arith, c.len.ensures, c.loop-location.values.ok.0) in
-    rw (p.1, p.2)
+    rw (err_is c.from_residual.result _ c.from_residual.ensures.1)
     (value_stop (start_slot a) a.initial items i x c.args.bytes.now c.loop-location.rest.now c.as_bytes.result.now c.loop-location.values.items c.args.first (c.args.first + c.len.result) c.in_err-value.field-0.0 inv.begun c.as_slice-location-items.ensures inv.count c.loop-location-test.true (get_or_default items i 0 x c.loop-location-test.true) (c.as_bytes.ensures.value ∙ c.location_name-name.ensures) place c.in_err-value.ensures.fault)
 
 pub loop-location-preserved : goal.loop-location-preserved

@@ -1,4 +1,4 @@
-use Rattle.ta_replay.proofs.Common.{◌≡◌, ◌+◌, length, ap, ◌∙◌, arith, length_push, err_from_is_err_and, parameter_slot, parameter_slots}
+use Rattle.ta_replay.proofs.Common.{◌≡◌, ◌+◌, length, ap, ◌∙◌, arith, length_push, err_is, parameter_slot, parameter_slots}
 use Rattle.ta_replay.proofs.Decimals.{stored}
 use Rattle.ta_replay.proofs.ValueLines.{values_none, value_step, value_stop}
 use Rattle.ta_replay.proofs.reading.read_parameters.Goals as goal
@@ -9,9 +9,8 @@ loop-name-init c = rw c.new-values.ensures.items (record { begun = values_none (
 pub returns-in_err-value-clause-fault : goal.returns-in_err-value-clause-fault
 returns-in_err-value-clause-fault c =
     let inv = c.loop-name.invariant in
-    let p = err_from_is_err_and c.from_residual.result c.from_residual.ensures.1 in
     let place : 2 + c.len.result ≡ 2 + length c.loop-name.values.items = omega (arith, c.len.ensures, c.loop-name.values.ok.0) in
-    rw (p.1, p.2)
+    rw (err_is c.from_residual.result _ c.from_residual.ensures.1)
     (value_stop parameter_slot c.args.automaton.now.parameters c.as_slice-name-items.result.now c.loop-name.name-index c.name-item.result c.args.bytes.now c.loop-name.rest.now c.as_bytes.result.now c.loop-name.values.items 2 (2 + c.len.result) c.in_err-value.field-0.0 inv.begun c.as_slice-name-items.ensures inv.count c.loop-name-test.true c.name-item.is (c.as_bytes.ensures.value ∙ c.as_str.ensures) place c.in_err-value.ensures.fault)
 
 pub loop-name-preserved : goal.loop-name-preserved

@@ -1,10 +1,8 @@
-use Rattle.ta_replay.proofs.Common.{◌++◌, ◌∷◌, refl, ap, subst, sym, ◌∙◌, false≢true, err_from_is_err_and, IsStatement, Refused, Trailing}
+use Rattle.ta_replay.proofs.Common.{◌++◌, ◌∷◌, refl, ap, subst, sym, ◌∙◌, false≢true, err_is, IsStatement, Refused, Trailing}
 use Rattle.ta_replay.proofs.reading.read_step.Goals as goal
 
 pub returns-in_err-step-clause-fault : goal.returns-in_err-step-clause-fault
-returns-in_err-step-clause-fault c =
-    let p = err_from_is_err_and c.from_residual.result c.from_residual.ensures.1 in
-    rw (p.1, p.2) (Refused c.in-Some.line.now c.in-Some.behind.now c.in-Some.ensures c.in_err-step.ensures.fault)
+returns-in_err-step-clause-fault c = rw (err_is c.from_residual.result _ c.from_residual.ensures.1) (Refused c.in-Some.line.now c.in-Some.behind.now c.in-Some.ensures c.in_err-step.ensures.fault)
 
 pub returns-in-None-2-clause-fault : goal.returns-in-None-2-clause-fault
 returns-in-None-2-clause-fault c =

@@ -1,4 +1,4 @@
-use Rattle.ta_replay.proofs.Common.{◌≡◌, ℕ, List, Some, pos, ap, arith, get_or, length, slice_get, subst, slice_get-get_or, err_from_is_err_and, RunLine, Step, Following}
+use Rattle.ta_replay.proofs.Common.{◌≡◌, ℕ, List, Some, pos, ap, arith, get_or, length, slice_get, subst, slice_get-get_or, err_is, RunLine, Step, Following}
 use Rattle.ta_replay.proofs.Along.{following_next, following_stops}
 use Rattle.ta_replay.proofs.replaying.follow.Goals as goal
 
@@ -15,7 +15,6 @@ returns c =
 
 pub returns-in_err-marks-clause-refuses : goal.returns-in_err-marks-clause-refuses
 returns-in_err-marks-clause-refuses c =
-    let p = err_from_is_err_and c.from_residual.result c.from_residual.ensures.1 in
     let a = c.args.automaton.now in
     let run = c.args.run.now in
     let i = c.loop-number.number in
@@ -23,7 +22,7 @@ returns-in_err-marks-clause-refuses c =
     let at = subst (λ (lines : List RunLine). slice_get lines i ≡ Some line) c.as_slice-line-items.ensures (slice_get-get_or c.as_slice-line-items.result.now i (Step 0 (pos 0)) c.loop-number-test.true) in
     let parameters = ap (λ (xs : List (List ℕ)). length xs) c.as_slice.ensures in
     let initial = ap (λ (xs : List ℕ). length xs) c.as_slice-2.ensures in
-    rw (p.1, p.2)
+    rw (err_is c.from_residual.result _ c.from_residual.ensures.1)
     (following_stops a c.args.pattern.now run i c.loop-number.config c.loop-number.marks line _ c.in_err-marks.field-0.0 at c.loop-number.invariant (omega arith) c.in_err-marks.ensures.refuses)
 
 pub loop-number-preserved : goal.loop-number-preserved

@@ -1,4 +1,4 @@
-use Rattle.ta_replay.proofs.Common.{◌-◌, ◌^◌, ◌≤◌, ◌∙◌, ℕ, List, length, min, ap, sym, subst, arith, same_Some, err_from_is_err_and, Event, Pattern, pattern_within, RunLine, NumbersStay, factors_sum}
+use Rattle.ta_replay.proofs.Common.{◌-◌, ◌^◌, ◌≤◌, ◌∙◌, ℕ, List, length, min, ap, sym, subst, arith, same_Some, err_is, Event, Pattern, pattern_within, RunLine, NumbersStay, factors_sum}
 use Rattle.ta_replay.specs.declared.run.Shown.{Shown}
 use Rattle.ta_replay.proofs.Counting.{marks_are_events}
 use Rattle.ta_replay.proofs.Naming.{named_read, fits_read, shows_read}
@@ -11,8 +11,7 @@ returns-in_err-replay_pattern-clause-only c = λ shown stays.
     let run = c.args.run.now in
     let pattern = c.index-as_slice-run.result in
     let named = named_read file run c.as_slice.result.now pattern c.requires c.as_slice.ensures c.index-as_slice-run.is in
-    let p = err_from_is_err_and c.from_residual.result c.from_residual.ensures.1 in
-    rw (p.1, p.2)
+    rw (err_is c.from_residual.result _ c.from_residual.ensures.1)
     (only_memory file.automaton pattern run (stays pattern named) c.in_err-replay_pattern.field-0.0 (denied file.automaton pattern run (fits_read file run pattern c.requires named) (shows_read file run pattern shown named) c.in_err-replay_pattern.field-0.0 c.in_err-replay_pattern.ensures.refuses))
 
 pub returns-in_err-replay_pattern-clause-shown : goal.returns-in_err-replay_pattern-clause-shown
@@ -21,8 +20,7 @@ returns-in_err-replay_pattern-clause-shown c = λ shown.
     let run = c.args.run.now in
     let pattern = c.index-as_slice-run.result in
     let named = named_read file run c.as_slice.result.now pattern c.requires c.as_slice.ensures c.index-as_slice-run.is in
-    let p = err_from_is_err_and c.from_residual.result c.from_residual.ensures.1 in
-    rw (p.1, p.2)
+    rw (err_is c.from_residual.result _ c.from_residual.ensures.1)
     (refused_though file pattern run named c.in_err-replay_pattern.field-0.0 (denied file.automaton pattern run (fits_read file run pattern c.requires named) (shows_read file run pattern shown named) c.in_err-replay_pattern.field-0.0 c.in_err-replay_pattern.ensures.refuses))
 
 pub overflow_cast-result : goal.overflow_cast-result

@@ -1,10 +1,8 @@
-use Rattle.ta_rest_verdict.specs.Verdicts.{OwnVerdict}
-use Rattle.ta_verdict.proofs.VerdictsMade.{said_of}
-use Rattle.ta_rest.specs.RestSearch.{rest_search}
+use Rattle.ta_rest_verdict.proofs.Common.{OwnVerdict, rest_question, rest_search, overflow_holds, said_of}
 use Rattle.ta_claim.specs.Trees.{search_of_claim}
 use Rattle.ta_walk.proofs.ClaimsVisited.{visit_of}
 use Rattle.ta_walk.specs.declared.end.VisitEnd.TheVariants as visit
-use Rattle.ta_rest_verdict.proofs.VerdictsTold.{nothing_kept, overflow_verdict, safe_verdict, solution_found, spent_verdict}
+use Rattle.ta_rest_verdict.proofs.VerdictsTold.{nothing_kept, safe_verdict, solution_found, spent_verdict}
 use Rattle.ta_rest_verdict.proofs.verdict.rest_verdict.Goals as goal
 
 pub verdict_of-requires : goal.verdict_of-requires
@@ -18,8 +16,9 @@ returns-in-Refuted-clause-holds g c = λ p at.
     (visit_of (search_of_claim c.new-tree.result) (rest_search c.args.rest.now.ending.file.automaton p) c.new-tree.result.number c.args.pattern c.args.nodes _ (visit.Refuted c.in-Refuted.count c.in-Refuted.leaves) (c.new-tree.ensures.search p at) c.new-tree.ensures.number (rw c.in-Refuted.is at c.in_ok-count.ensures))
 
 pub returns-in-Overflow-clause-holds : goal.returns-in-Overflow-clause-holds
-returns-in-Overflow-clause-holds g c = λ p at.
-    overflow_verdict c.args.rest.now c.args.nodes c.args.pattern p c.in-Overflow.node c.in-Overflow.kind c.report_kind.result c.report_kind.ensures
+returns-in-Overflow-clause-holds g c = λ p at file ends own named.
+    let rest = c.args.rest.now in
+    overflow_holds (rest_question file rest.ending.file rest.added own p) c.args.pattern c.args.nodes c.in-Overflow.node c.in-Overflow.kind c.report_kind.result c.report_kind.ensures
     (visit_of (search_of_claim c.new-tree.result) (rest_search c.args.rest.now.ending.file.automaton p) c.new-tree.result.number c.args.pattern c.args.nodes (λ ns. Unit {0}) (visit.Overflow c.in-Overflow.node c.in-Overflow.kind) (c.new-tree.ensures.search p at) c.new-tree.ensures.number (rw c.in-Overflow.is at c.in_ok-count.ensures))
 
 pub returns-in-Found-clause-kept : goal.returns-in-Found-clause-kept

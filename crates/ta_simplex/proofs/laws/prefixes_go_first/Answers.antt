@@ -1,5 +1,4 @@
-use Rattle.ta_simplex.proofs.Common.{refl, slack_tableau, extended}
-use Rattle.std.specs.Prelude.{length}
+use Rattle.ta_simplex.proofs.Common.{refl, slack_tableau, extended, length}
 use Rattle.ta_simplex.proofs.FollowLemmas.{follows_reached, pivots_listed}
 use Rattle.ta_simplex.proofs.Prefixes.{follows_extended, overflow_extended}
 use Rattle.ta_simplex.proofs.laws.prefixes_go_first.Goals as goal

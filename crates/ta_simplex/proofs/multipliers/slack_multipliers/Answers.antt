@@ -1,5 +1,4 @@
-use Rattle.ta_simplex.proofs.Common.{◌≡◌, ◌<◌, ◌+◌, length, pos, neg_ℤ, ◌-ℤ◌, arith, rules, sym, ap, ◌∙◌, refl, subst, to_z-of_z, ints, with_items_is, SFits, w128, zero_minus, InRange, variables}
-use Rattle.std.proofs.Common.{replicate}
+use Rattle.ta_simplex.proofs.Common.{◌≡◌, ◌<◌, ◌+◌, length, pos, neg_ℤ, ◌-ℤ◌, arith, rules, sym, ap, ◌∙◌, refl, subst, to_z-of_z, ints, with_items_is, SFits, w128, zero_minus, InRange, variables, replicate}
 use Rattle.ta_dense.proofs.ReduceFacts.{fits_minus}
 use Rattle.ta_simplex.proofs.SlotLemmas.{Filled, fill-first, fill-next}
 use Rattle.ta_simplex.proofs.multipliers.slack_multipliers.Goals as goal

@@ -22,6 +22,5 @@ pub returns-in-Err-Overflow-clause-fault : goal.returns-in-Err-Overflow-clause-f
 returns-in-Err-Overflow-clause-fault g c =
     let inv = c.loop-row.invariant in
     let fault = rw c.in-Err-Overflow.field-0-is at c.in-Err-Overflow.ensures.fault in
-    let len = c.len.ensures in
     step_overflows g.D.Dictionary.pivot_of c.args.system.now c.loop-row.kept.items c.push.new.self.items c.in_ok-pivot.pivot (g.D.Dictionary.tableau c.loop-row.dictionary) c.in-Some.row c.in-Some-entering.column c.in-Err-Overflow.field-0-0 c.len.result
     inv.follows c.in_ok-push.ensures.items c.in-Some.ensures.found c.in-Some-entering.ensures.found fault (omega arith) (omega arith)

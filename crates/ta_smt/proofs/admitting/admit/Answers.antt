@@ -1,4 +1,4 @@
-use Rattle.ta_smt.proofs.Common.{subst, err_from_is_err_and, asked, PassesCheck, WordFault}
+use Rattle.ta_smt.proofs.Common.{subst, err_is, asked, PassesCheck, WordFault}
 use Rattle.ta_smt.proofs.Admitted.{admits, complete_is, incomplete_is, line_fault, run_fault, solution_from, word_fault}
 use Rattle.ta_smt.proofs.admitting.admit.Goals as goal
 
@@ -11,8 +11,7 @@ returns-in_err-values-clause-fault c =
     let file = c.args.scoped.now.file in
     let word = asked c.args.pattern c.args.start_mask c.args.word.now in
     let complete = complete_is file word c.of.result c.is_complete.result c.of.ensures.pattern c.is_complete.ensures c.if-not-is_complete.false in
-    let p = err_from_is_err_and c.from_residual.result c.from_residual.ensures.1 in
-    rw (p.1, p.2) (line_fault file word c.args.bytes.now c.in_err-values.field-0.0 complete c.in_err-values.ensures.fault)
+    rw (err_is c.from_residual.result _ c.from_residual.ensures.1) (line_fault file word c.args.bytes.now c.in_err-values.field-0.0 complete c.in_err-values.ensures.fault)
 
 pub returns-in_err-check_word-clause-fault : goal.returns-in_err-check_word-clause-fault
 returns-in_err-check_word-clause-fault c =
@@ -20,8 +19,7 @@ returns-in_err-check_word-clause-fault c =
     let word = asked c.args.pattern c.args.start_mask c.args.word.now in
     let complete = complete_is file word c.of.result c.is_complete.result c.of.ensures.pattern c.is_complete.ensures c.if-not-is_complete.false in
     let bad = subst (λ vs. WordFault file word vs c.in_err-check_word.field-0.0) c.as_slice.ensures.value c.in_err-check_word.ensures.fault in
-    let p = err_from_is_err_and c.from_residual-in_err-check_word.result c.from_residual-in_err-check_word.ensures.1 in
-    rw (p.1, p.2) (word_fault file word c.args.bytes.now c.in_ok-values.values.items c.in_err-check_word.field-0.0 complete c.in_ok-values.ensures.values bad)
+    rw (err_is c.from_residual-in_err-check_word.result _ c.from_residual-in_err-check_word.ensures.1) (word_fault file word c.args.bytes.now c.in_ok-values.values.items c.in_err-check_word.field-0.0 complete c.in_ok-values.ensures.values bad)
 
 pub run_of-requires-clause-solves : goal.run_of-requires-clause-solves
 run_of-requires-clause-solves c =
@@ -38,8 +36,7 @@ returns-in_err-run-clause-fault c =
     let complete = complete_is file word c.of.result c.is_complete.result c.of.ensures.pattern c.is_complete.ensures c.if-not-is_complete.false in
     let passes = subst (PassesCheck file word) c.as_slice.ensures.value c.in_ok-check_word.ensures.passes in
     let solution = solution_from file word c.in_ok-values.values.items complete c.requires.legal c.in_ok-values.ensures.values.numbers passes in
-    let p = err_from_is_err_and c.from_residual-in_err-run.result c.from_residual-in_err-run.ensures.1 in
-    rw (p.1, p.2) (run_fault file word c.args.bytes.now c.in_ok-values.values.items c.in_err-run.field-0.0 complete c.in_ok-values.ensures.values passes solution c.in_err-run.ensures.fault)
+    rw (err_is c.from_residual-in_err-run.result _ c.from_residual-in_err-run.ensures.1) (run_fault file word c.args.bytes.now c.in_ok-values.values.items c.in_err-run.field-0.0 complete c.in_ok-values.ensures.values passes solution c.in_err-run.ensures.fault)
 
 pub returns-clause-run : goal.returns-clause-run
 returns-clause-run c =

@@ -1,4 +1,4 @@
-use Rattle.ta_smt.proofs.Common.{refl, err_from_is_err_and, all_passed, one_passed, read_same, point_of, Row, RowPasses}
+use Rattle.ta_smt.proofs.Common.{refl, err_is, all_passed, one_passed, read_same, point_of, Row, RowPasses}
 use Rattle.ta_smt.proofs.Admitted.{row_stops}
 use Rattle.ta_smt.proofs.admitting.check_rows.Goals as goal
 
@@ -7,8 +7,7 @@ returns-in_err-check_row-clause-fault c =
     let rows = c.args.rows.now in
     let row = c.index-rows-number.result in
     let named = read_same rows rows c.loop-number.number row refl c.loop-number-test.true c.index-rows-number.is in
-    let p = err_from_is_err_and c.from_residual.result c.from_residual.ensures.1 in
-    rw (p.1, p.2) (row_stops (point_of c.args.values.now) rows c.loop-number.number row c.in_err-check_row.field-0.0 named c.loop-number.invariant c.in_err-check_row.ensures.fault)
+    rw (err_is c.from_residual.result _ c.from_residual.ensures.1) (row_stops (point_of c.args.values.now) rows c.loop-number.number row c.in_err-check_row.field-0.0 named c.loop-number.invariant c.in_err-check_row.ensures.fault)
 
 pub loop-number-preserved : goal.loop-number-preserved
 loop-number-preserved c =

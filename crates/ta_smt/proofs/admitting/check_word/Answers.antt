@@ -1,5 +1,4 @@
-use Rattle.ta_smt.proofs.Common.{reverse, err_from_is_err_and, asked, LegalWord}
-use Rattle.ta_words.proofs.Tasks.{to_task}
+use Rattle.ta_smt.proofs.Common.{reverse, err_is, asked, LegalWord, to_task}
 use Rattle.ta_smt.proofs.Admitted.{few_in_word, system_asked, word_stops}
 use Rattle.ta_smt.proofs.admitting.check_word.Goals as goal
 
@@ -16,8 +15,7 @@ check_values-requires c =
 pub returns-in_err-check_values-clause-fault : goal.returns-in_err-check_values-clause-fault
 returns-in_err-check_values-clause-fault c =
     let is = system_asked c.args.file.now c.args.pattern c.args.start_mask c.args.word.now c.in_ok-encoded.encoded.system c.of-task.result c.of-task.ensures.automaton c.of-task.ensures.pattern c.in_ok-encoded.ensures.system in
-    let p = err_from_is_err_and c.from_residual-in_err-check_values.result c.from_residual-in_err-check_values.ensures.1 in
-    rw (p.1, p.2) (word_stops c.args.file.now (asked c.args.pattern c.args.start_mask c.args.word.now) c.args.values.now c.in_ok-encoded.encoded.system c.in_err-check_values.field-0.0 is c.in_err-check_values.ensures.fault)
+    rw (err_is c.from_residual-in_err-check_values.result _ c.from_residual-in_err-check_values.ensures.1) (word_stops c.args.file.now (asked c.args.pattern c.args.start_mask c.args.word.now) c.args.values.now c.in_ok-encoded.encoded.system c.in_err-check_values.field-0.0 is c.in_err-check_values.ensures.fault)
 
 pub returns-clause-passes : goal.returns-clause-passes
 returns-clause-passes c = record {

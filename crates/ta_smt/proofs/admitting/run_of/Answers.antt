@@ -1,5 +1,4 @@
-use Rattle.ta_smt.proofs.Common.{subst, FirstStranger}
-use Rattle.ta_words.proofs.Tasks.{of_task}
+use Rattle.ta_smt.proofs.Common.{subst, FirstStranger, of_task}
 use Rattle.ta_smt.proofs.Spelled.{no_stranger}
 use Rattle.ta_smt.proofs.admitting.run_of.Goals as goal
 

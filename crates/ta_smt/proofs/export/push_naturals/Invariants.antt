@@ -1,6 +1,6 @@
-use Rattle.ta_smt.proofs.Common.{◌≡◌, ◌-◌, ◌++◌, map, string_bytes, numbers_from, lines_text}
+use Rattle.ta_smt.proofs.Common.{◌≡◌, ◌-◌, ◌++◌, map, string_bytes, range_with_len, lines_text}
 use Rattle.ta_smt.proofs.Written.{natural_line}
 use Rattle.ta_smt.proofs.export.push_naturals.Given as goal
 
 abbrev pub invariant-loop-number : goal.invariant-loop-number
-invariant-loop-number l = string_bytes l.text ++ lines_text (map natural_line (numbers_from l.number-counter (l.unknowns - l.number-counter))) ≡ string_bytes l.initial.text ++ lines_text (map natural_line (numbers_from 0 l.unknowns))
+invariant-loop-number l = string_bytes l.text ++ lines_text (map natural_line (range_with_len l.number-counter (l.unknowns - l.number-counter))) ≡ string_bytes l.initial.text ++ lines_text (map natural_line (range_with_len 0 l.unknowns))

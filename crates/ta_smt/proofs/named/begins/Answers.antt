@@ -1,5 +1,4 @@
-use Rattle.std.proofs.Common.{length, refl}
-use Rattle.ta_base.proofs.Naturals.{shifted}
+use Rattle.ta_smt.proofs.Common.{length, refl, shifted}
 use Rattle.ta_smt.proofs.named.begins.Goals as goal
 
 pub returns : goal.returns

@@ -1,6 +1,5 @@
-use Rattle.ta_smt.proofs.Common.{◌^◌, length, reverse, below_by, beyond_by, FirstStranger, LegalWord}
-use Rattle.ta_words.proofs.Tasks.{of_task}
-use Rattle.ta_smt.proofs.WordsNamed.{get_within, no_child, no_start, word_found}
+use Rattle.ta_smt.proofs.Common.{◌^◌, length, reverse, below_by, beyond_by, FirstStranger, LegalWord, of_task, slice_get_within}
+use Rattle.ta_smt.proofs.WordsNamed.{no_child, no_start, word_found}
 use Rattle.ta_smt.proofs.named.named_word.Goals as goal
 
 pub returns-then-not-begins-clause-fault : goal.returns-then-not-begins-clause-fault
@@ -12,7 +11,7 @@ returns-then-not-begins-clause-fault c =
 pub of-requires : goal.of-requires
 of-requires c =
     let named = rw c.as_slice.ensures at c.in-Some.ensures in
-    get_within c.args.file.now.patterns c.in-Some.pattern named.0 named.1.at
+    slice_get_within c.args.file.now.patterns c.in-Some.pattern named.0 named.1.at
 
 pub returns-in-Ok-clause-word : goal.returns-in-Ok-clause-word
 returns-in-Ok-clause-word c =

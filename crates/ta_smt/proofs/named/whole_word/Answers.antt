@@ -1,5 +1,4 @@
-use Rattle.ta_smt.proofs.Common.{◌≡◌, reverse, asked, is_complete, spelling}
-use Rattle.ta_automaton.proofs.Numbered.{of_pattern}
+use Rattle.ta_smt.proofs.Common.{◌≡◌, reverse, asked, is_complete, spelling, of_pattern}
 use Rattle.ta_smt.proofs.WordsNamed.{no_whole, whole_found}
 use Rattle.ta_smt.proofs.named.whole_word.Goals as goal
 

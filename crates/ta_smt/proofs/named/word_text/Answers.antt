@@ -1,5 +1,4 @@
-use Rattle.ta_smt.proofs.Common.{reverse, asked, LegalWord}
-use Rattle.ta_words.proofs.Tasks.{to_task}
+use Rattle.ta_smt.proofs.Common.{reverse, asked, LegalWord, to_task}
 use Rattle.ta_smt.proofs.Admitted.{system_asked}
 use Rattle.ta_smt.proofs.WordsNamed.{legal_exists, legal_of, word_text_is}
 use Rattle.ta_smt.proofs.named.word_text.Goals as goal

@@ -1,4 +1,4 @@
-use Rattle.ta_syntax.proofs.Common.{arith, ◌≡◌, ◌<◌, length, ap, sym, subst, err_from_is_err_and, TookBlock, BlockStops, Mark}
+use Rattle.ta_syntax.proofs.Common.{arith, ◌≡◌, ◌<◌, length, ap, sym, subst, err_is, TookBlock, BlockStops, Mark}
 use Rattle.ta_syntax.proofs.BlockSteps.{blocks_begin, blocks_past, blocks_stop, blocks_go_on, blocks_end}
 use Rattle.ta_syntax.proofs.blocks.read_blocks.Goals as goal
 
@@ -13,9 +13,8 @@ returns-then-len-limit g c =
 pub returns-in_err-block : goal.returns-in_err-block
 returns-in_err-block g c =
     let more : length c.turns.items.items < c.args.limit = omega (arith, c.turns.invariant.few) in
-    let p = err_from_is_err_and c.from_residual.result c.from_residual.ensures.1 in
     let own = subst (λ (m : Mark). BlockStops m g.T.Block.part c.args.end c.in-Some.inner.now c.in_err-block.field-0.0) (sym c.requires.own) c.in_err-block.ensures in
-    rw (p.1, p.2) (blocks_stop c.args.mark g.T.Block.part g.T.Block.spelled g.T.Block.stated c.args.limit c.args.tokens.now c.requires.block c.args.end c.turns.items.items c.turns.rest.now c.in-Some.inner.now c.in_err-block.field-0.0 more c.turns.invariant c.in-Some.ensures own)
+    rw (err_is c.from_residual.result _ c.from_residual.ensures.1) (blocks_stop c.args.mark g.T.Block.part g.T.Block.spelled g.T.Block.stated c.args.limit c.args.tokens.now c.requires.block c.args.end c.turns.items.items c.turns.rest.now c.in-Some.inner.now c.in_err-block.field-0.0 more c.turns.invariant c.in-Some.ensures own)
 
 pub turns-preserved : goal.turns-preserved
 turns-preserved g c =

@@ -1,4 +1,4 @@
-use Rattle.ta_syntax.proofs.Common.{refl, sym, ap, ◌∙◌, ◌≡◌, [], List, err_from_is_err_and, nil_from_length, list_part, comparison_part, offset_of, is_sum_start, Token}
+use Rattle.ta_syntax.proofs.Common.{refl, sym, ap, ◌∙◌, ◌≡◌, [], List, err_is, nil_from_length, list_part, comparison_part, offset_of, is_sum_start, Token}
 use Rattle.ta_syntax.specs.declared.tokens.Mark.TheVariants as mark
 use Rattle.ta_syntax.specs.declared.fault.FileFault.TheVariants as fault
 use Rattle.ta_syntax.proofs.ItemSteps.{begins_other, list_begins_by, comparison_begins}
@@ -10,30 +10,25 @@ pub read_declared-requires-clause-other : goal.read_declared-requires-clause-oth
 read_declared-requires-clause-other c = begins_other is_sum_start (list_part comparison_part) mark.Semicolon (list_begins_by is_sum_start comparison_part comparison_begins) refl
 
 pub returns-in_err-head : goal.returns-in_err-head
-returns-in_err-head c =
-    let p = err_from_is_err_and c.from_residual.result c.from_residual.ensures.1 in
-    rw (p.1, p.2) c.in_err-head.ensures
+returns-in_err-head c = rw (err_is c.from_residual.result _ c.from_residual.ensures.1) c.in_err-head.ensures
 
 pub returns-in_err-resilience : goal.returns-in_err-resilience
 returns-in_err-resilience c =
     let head = c.in_ok-head.head in
     let h = c.in_ok-head.ensures in
-    let p = err_from_is_err_and c.from_residual-in_err-resilience.result c.from_residual-in_err-resilience.ensures.1 in
-    rw (p.1, p.2) (whole_stops c.args.end c.args.tokens.now c.in_err-resilience.field-0.0 (file_resilience_stop c.args.end c.args.tokens.now h.begun h.keyword h.after_name head.name h.name h.after_parameters head.parameters h.parameters h.after_shared head.shared h.shared h.after_locations head.locations_at head.locations h.locations c.in_ok-head.after_processes.now head.processes_at head.processes h.processes c.in_err-resilience.field-0.0 c.in_err-resilience.ensures))
+    rw (err_is c.from_residual-in_err-resilience.result _ c.from_residual-in_err-resilience.ensures.1) (whole_stops c.args.end c.args.tokens.now c.in_err-resilience.field-0.0 (file_resilience_stop c.args.end c.args.tokens.now h.begun h.keyword h.after_name head.name h.name h.after_parameters head.parameters h.parameters h.after_shared head.shared h.shared h.after_locations head.locations_at head.locations h.locations c.in_ok-head.after_processes.now head.processes_at head.processes h.processes c.in_err-resilience.field-0.0 c.in_err-resilience.ensures))
 
 pub returns-in_err-rules : goal.returns-in_err-rules
 returns-in_err-rules c =
     let head = c.in_ok-head.head in
     let h = c.in_ok-head.ensures in
-    let p = err_from_is_err_and c.from_residual-in_err-rules.result c.from_residual-in_err-rules.ensures.1 in
-    rw (p.1, p.2) (whole_stops c.args.end c.args.tokens.now c.in_err-rules.field-0.0 (file_rules_stop c.args.end c.args.tokens.now h.begun h.keyword h.after_name head.name h.name h.after_parameters head.parameters h.parameters h.after_shared head.shared h.shared h.after_locations head.locations_at head.locations h.locations c.in_ok-head.after_processes.now head.processes_at head.processes h.processes c.in_ok-resilience.after_resilience.now c.in_ok-resilience.resilience c.in_ok-resilience.ensures c.in_err-rules.field-0.0 c.in_err-rules.ensures))
+    rw (err_is c.from_residual-in_err-rules.result _ c.from_residual-in_err-rules.ensures.1) (whole_stops c.args.end c.args.tokens.now c.in_err-rules.field-0.0 (file_rules_stop c.args.end c.args.tokens.now h.begun h.keyword h.after_name head.name h.name h.after_parameters head.parameters h.parameters h.after_shared head.shared h.shared h.after_locations head.locations_at head.locations h.locations c.in_ok-head.after_processes.now head.processes_at head.processes h.processes c.in_ok-resilience.after_resilience.now c.in_ok-resilience.resilience c.in_ok-resilience.ensures c.in_err-rules.field-0.0 c.in_err-rules.ensures))
 
 pub returns-in_err-patterns : goal.returns-in_err-patterns
 returns-in_err-patterns c =
     let head = c.in_ok-head.head in
     let h = c.in_ok-head.ensures in
-    let p = err_from_is_err_and c.from_residual-in_err-patterns.result c.from_residual-in_err-patterns.ensures.1 in
-    rw (p.1, p.2) (whole_stops c.args.end c.args.tokens.now c.in_err-patterns.field-0.0 (file_patterns_stop c.args.end c.args.tokens.now h.begun h.keyword h.after_name head.name h.name h.after_parameters head.parameters h.parameters h.after_shared head.shared h.shared h.after_locations head.locations_at head.locations h.locations c.in_ok-head.after_processes.now head.processes_at head.processes h.processes c.in_ok-resilience.after_resilience.now c.in_ok-resilience.resilience c.in_ok-resilience.ensures c.in_ok-rules.after_rules.now c.in_ok-rules.rules.items c.in_ok-rules.ensures c.in_err-patterns.field-0.0 c.in_err-patterns.ensures))
+    rw (err_is c.from_residual-in_err-patterns.result _ c.from_residual-in_err-patterns.ensures.1) (whole_stops c.args.end c.args.tokens.now c.in_err-patterns.field-0.0 (file_patterns_stop c.args.end c.args.tokens.now h.begun h.keyword h.after_name head.name h.name h.after_parameters head.parameters h.parameters h.after_shared head.shared h.shared h.after_locations head.locations_at head.locations h.locations c.in_ok-head.after_processes.now head.processes_at head.processes h.processes c.in_ok-resilience.after_resilience.now c.in_ok-resilience.resilience c.in_ok-resilience.ensures c.in_ok-rules.after_rules.now c.in_ok-rules.rules.items c.in_ok-rules.ensures c.in_err-patterns.field-0.0 c.in_err-patterns.ensures))
 
 pub returns-in-Some : goal.returns-in-Some
 returns-in-Some c =

@@ -1,19 +1,17 @@
-use Rattle.ta_syntax.proofs.Common.{subst, length, List, err_from_is_err_and, FileText, at_start, IsStopped, IsSpelled, Token}
+use Rattle.ta_syntax.proofs.Common.{subst, length, List, err_is, FileText, at_start, IsStopped, IsSpelled, Token}
 use Rattle.ta_syntax.proofs.LegalTrees.{tree_read, scan_fault, file_fault}
 use Rattle.ta_syntax.proofs.NoFault.{no_fault, tree_alone}
 use Rattle.ta_syntax.proofs.file.read_tree.Goals as goal
 
 pub returns-in_err-tokens : goal.returns-in_err-tokens
 returns-in_err-tokens c =
-    let p = err_from_is_err_and c.from_residual.result c.from_residual.ensures.1 in
     let f = scan_fault c.args.bytes.now c.in_err-tokens.field-0.0 c.in_err-tokens.ensures in
-    rw (p.1, p.2) (record { exact = f; alone = tt; only = λ t text within. no_fault c.args.bytes.now t c.in_err-tokens.field-0.0 text within f })
+    rw (err_is c.from_residual.result _ c.from_residual.ensures.1) (record { exact = f; alone = tt; only = λ t text within. no_fault c.args.bytes.now t c.in_err-tokens.field-0.0 text within f })
 
 pub returns-in_err-tree : goal.returns-in_err-tree
 returns-in_err-tree c =
-    let p = err_from_is_err_and c.from_residual-in_err-tree.result c.from_residual-in_err-tree.ensures.1 in
     let f = (file_fault c.args.bytes.now c.in_ok-tokens.tokens.items c.in_err-tree.field-0.0 c.in_ok-tokens.ensures (subst (λ (z : List Token). IsStopped FileText at_start (length c.args.bytes.now) z c.in_err-tree.field-0.0) c.as_slice.ensures.value c.in_err-tree.ensures)) in
-    rw (p.1, p.2) (record { exact = f; alone = tt; only = λ t text within. no_fault c.args.bytes.now t c.in_err-tree.field-0.0 text within f })
+    rw (err_is c.from_residual-in_err-tree.result _ c.from_residual-in_err-tree.ensures.1) (record { exact = f; alone = tt; only = λ t text within. no_fault c.args.bytes.now t c.in_err-tree.field-0.0 text within f })
 
 pub returns : goal.returns
 returns c =

@@ -1,4 +1,4 @@
-use Rattle.ta_syntax.proofs.Common.{arith, ◌≡◌, ◌<◌, length, ap, err_from_is_err_and}
+use Rattle.ta_syntax.proofs.Common.{arith, ◌≡◌, ◌<◌, length, ap, err_is}
 use Rattle.ta_syntax.proofs.ListSteps.{list_begins, list_past, list_stops, list_goes_on, list_ends}
 use Rattle.ta_syntax.proofs.lists.read_list.Goals as goal
 
@@ -13,8 +13,7 @@ returns-then-len-limit g c =
 pub returns-in_err-item : goal.returns-in_err-item
 returns-in_err-item g c =
     let more : length c.items.items.items < c.args.limit = omega (arith, c.items.invariant.few) in
-    let p = err_from_is_err_and c.from_residual.result c.from_residual.ensures.1 in
-    rw (p.1, p.2) (list_stops g.T.Item.part g.T.Item.spelled g.T.Item.stated c.args.limit c.args.tokens.now c.args.end c.items.items.items c.items.rest.now c.in_err-item.field-0.0 more c.items.invariant c.in_err-item.ensures)
+    rw (err_is c.from_residual.result _ c.from_residual.ensures.1) (list_stops g.T.Item.part g.T.Item.spelled g.T.Item.stated c.args.limit c.args.tokens.now c.args.end c.items.items.items c.items.rest.now c.in_err-item.field-0.0 more c.items.invariant c.in_err-item.ensures)
 
 pub returns-in_default : goal.returns-in_default
 returns-in_default g c =

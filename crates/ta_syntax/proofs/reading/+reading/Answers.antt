@@ -1,11 +1,9 @@
-use Rattle.ta_syntax.proofs.Common.{arith, ◌<◌, ap, length, err_from_is_err_and}
+use Rattle.ta_syntax.proofs.Common.{arith, ◌<◌, ap, length, err_is}
 use Rattle.ta_syntax.proofs.SumExits.{sum_begins, sum_stops, sum_goes_on, sum_ends, took_named, took_nested, nested_stops, close_stops, unnamed_stops, too_deep, took_number, took_times, times_stops, took_alone, alone_stops}
 use Rattle.ta_syntax.proofs.reading.+reading.Goals as goal
 
 pub read_factor-returns-in_err-name : goal.read_factor-returns-in_err-name
-read_factor-returns-in_err-name t c =
-    let p = err_from_is_err_and c.from_residual.result c.from_residual.ensures.1 in
-    rw (p.1, p.2) (unnamed_stops c.args.left c.args.end c.args.tokens.now c.in_err-name.field-0.0 c.in_default.ensures c.in_err-name.ensures)
+read_factor-returns-in_err-name t c = rw (err_is c.from_residual.result _ c.from_residual.ensures.1) (unnamed_stops c.args.left c.args.end c.args.tokens.now c.in_err-name.field-0.0 c.in_default.ensures c.in_err-name.ensures)
 
 pub read_factor-returns-in_default : goal.read_factor-returns-in_default
 read_factor-returns-in_default t c = took_named c.args.left c.args.end c.args.tokens.now c.in_ok-name.rest.now c.in_ok-name.name c.in_default.ensures c.in_ok-name.ensures.0 c.in_ok-name.ensures.1
@@ -16,14 +14,12 @@ read_factor-returns-then-left-eq0 t c = too_deep c.args.left c.args.end c.first_
 pub read_factor-returns-in_err-sum : goal.read_factor-returns-in_err-sum
 read_factor-returns-in_err-sum t c =
     let some : 0 < c.args.left = omega arith in
-    let p = err_from_is_err_and c.from_residual-in_err-sum.result c.from_residual-in_err-sum.ensures.1 in
-    rw (p.1, p.2) (nested_stops c.args.left c.args.end c.args.tokens.now c.in-Some.inner.now c.in_err-sum.field-0.0 some c.in-Some.ensures c.in_err-sum.ensures)
+    rw (err_is c.from_residual-in_err-sum.result _ c.from_residual-in_err-sum.ensures.1) (nested_stops c.args.left c.args.end c.args.tokens.now c.in-Some.inner.now c.in_err-sum.field-0.0 some c.in-Some.ensures c.in_err-sum.ensures)
 
 pub read_factor-returns-in_err-rest : goal.read_factor-returns-in_err-rest
 read_factor-returns-in_err-rest t c =
     let some : 0 < c.args.left = omega arith in
-    let p = err_from_is_err_and c.from_residual-in_err-rest.result c.from_residual-in_err-rest.ensures.1 in
-    rw (p.1, p.2) (close_stops c.args.left c.args.end c.args.tokens.now c.in-Some.inner.now c.in_ok-sum.after.now c.in_ok-sum.sum c.in_err-rest.field-0.0 some c.in-Some.ensures c.in_ok-sum.ensures c.in_err-rest.ensures)
+    rw (err_is c.from_residual-in_err-rest.result _ c.from_residual-in_err-rest.ensures.1) (close_stops c.args.left c.args.end c.args.tokens.now c.in-Some.inner.now c.in_ok-sum.after.now c.in_ok-sum.sum c.in_err-rest.field-0.0 some c.in-Some.ensures c.in_ok-sum.ensures c.in_err-rest.ensures)
 
 pub read_factor-returns : goal.read_factor-returns
 read_factor-returns t c =
@@ -35,8 +31,7 @@ read_sum-loop-terms-init t c = rw c.new-terms.ensures.items (sum_begins c.args.l
 
 pub read_sum-returns-in_err-term : goal.read_sum-returns-in_err-term
 read_sum-returns-in_err-term t c =
-    let p = err_from_is_err_and c.from_residual.result c.from_residual.ensures.1 in
-    rw (p.1, p.2) (sum_stops c.args.left c.args.end c.args.tokens.now c.loop-terms.rest.now c.loop-terms.sign c.loop-terms.terms.items c.in_err-term.field-0.0 c.loop-terms.invariant c.in_err-term.ensures)
+    rw (err_is c.from_residual.result _ c.from_residual.ensures.1) (sum_stops c.args.left c.args.end c.args.tokens.now c.loop-terms.rest.now c.loop-terms.sign c.loop-terms.terms.items c.in_err-term.field-0.0 c.loop-terms.invariant c.in_err-term.ensures)
 
 pub read_sum-loop-terms-preserved : goal.read_sum-loop-terms-preserved
 read_sum-loop-terms-preserved t c =
@@ -51,9 +46,8 @@ read_sum-returns-in_default t c =
 
 pub read_term-returns-in_err-alone : goal.read_term-returns-in_err-alone
 read_term-returns-in_err-alone t c =
-    let p = err_from_is_err_and c.from_residual-in_err-alone.result c.from_residual-in_err-alone.ensures.1 in
     let free = rw c.in_default.is at c.in_ok-factor.ensures in
-    rw (p.1, p.2) (alone_stops c.args.left c.args.end c.args.tokens.now c.in_err-alone.field-0.0 free c.in_err-alone.ensures)
+    rw (err_is c.from_residual-in_err-alone.result _ c.from_residual-in_err-alone.ensures.1) (alone_stops c.args.left c.args.end c.args.tokens.now c.in_err-alone.field-0.0 free c.in_err-alone.ensures)
 
 pub read_term-returns-in_default : goal.read_term-returns-in_default
 read_term-returns-in_default t c =
@@ -68,8 +62,7 @@ read_term-returns-in_default-skip t c =
 pub read_term-returns-in_err-body : goal.read_term-returns-in_err-body
 read_term-returns-in_err-body t c =
     let b = rw c.in-Some.is at c.in_ok-factor.ensures in
-    let p = err_from_is_err_and c.from_residual-in_err-body.result c.from_residual-in_err-body.ensures.1 in
-    rw (p.1, p.2) (times_stops c.args.left c.args.end c.args.tokens.now c.in-Some.rest.now c.in-Some-skip.after.now c.in-Some.factor c.in_err-body.field-0.0 b.0 (b.1 c.args.end) c.in-Some-skip.ensures c.in_err-body.ensures)
+    rw (err_is c.from_residual-in_err-body.result _ c.from_residual-in_err-body.ensures.1) (times_stops c.args.left c.args.end c.args.tokens.now c.in-Some.rest.now c.in-Some-skip.after.now c.in-Some.factor c.in_err-body.field-0.0 b.0 (b.1 c.args.end) c.in-Some-skip.ensures c.in_err-body.ensures)
 
 pub read_term-returns : goal.read_term-returns
 read_term-returns t c =

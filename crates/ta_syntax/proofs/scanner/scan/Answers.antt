@@ -1,4 +1,4 @@
-use Rattle.ta_syntax.proofs.Common.{arith, refl, sym, ◌<◌, ◌-◌, length, false-eqb, eqb-true, err_from_is_err_and, nil_from_length}
+use Rattle.ta_syntax.proofs.Common.{arith, refl, sym, ◌<◌, ◌-◌, length, false-eqb, eqb-true, err_is, nil_from_length}
 use Rattle.ta_syntax.proofs.Scans.{scan_goes_on, scan_ends, scan_stops}
 use Rattle.ta_syntax.proofs.scanner.scan.Goals as goal
 
@@ -9,8 +9,7 @@ pub returns-in_err-kind : goal.returns-in_err-kind
 returns-in_err-kind c =
     let start = c.skip_gap-start.result.now in
     let some : 0 < length start = omega (arith, false-eqb (length start) 0 c.if-is_empty.ensures) in
-    let p = err_from_is_err_and c.from_residual.result c.from_residual.ensures.1 in
-    rw (p.1, p.2) (scan_stops c.args.bytes.now c.tokens.rest.now start c.tokens.tokens.items (length c.args.bytes.now - length start) c.in_err-kind.field-0.0 c.tokens.invariant c.skip_gap-start.ensures.skips c.skip_gap-start.ensures.ends some refl c.in_err-kind.ensures)
+    rw (err_is c.from_residual.result _ c.from_residual.ensures.1) (scan_stops c.args.bytes.now c.tokens.rest.now start c.tokens.tokens.items (length c.args.bytes.now - length start) c.in_err-kind.field-0.0 c.tokens.invariant c.skip_gap-start.ensures.skips c.skip_gap-start.ensures.ends some refl c.in_err-kind.ensures)
 
 pub tokens-preserved : goal.tokens-preserved
 tokens-preserved c =

@@ -1,4 +1,4 @@
-use Rattle.ta_verdict.proofs.Common.{◌≡◌, List, subst, ℕ, pattern_search, loops_pure, NodeOf, SolutionAt, TreeIs, IsOutOfRangeIn, SpentHolds, VerdictHolds}
+use Rattle.ta_verdict.proofs.Common.{◌≡◌, List, subst, ℕ, pattern_search, loops_pure, NodeOf, SolutionAt, TreeIs, Overflow, SpentHolds, VerdictAnswers, VerdictHolds, safety_question}
 use Rattle.ta_claim.specs.Trees.{search_of_claim}
 use Rattle.ta_walk.proofs.ClaimsVisited.{visit_of}
 use Rattle.ta_walk.specs.declared.end.VisitEnd.TheVariants as visit
@@ -34,15 +34,15 @@ returns-in-Spent-clause-holds g c = λ p at.
     let file = c.args.scoped.now.file in
     let budget = c.args.nodes in
     let spent = visit_of (search_of_claim c.new-tree.result) (pattern_search file.automaton p c.args.found.now.orders) c.new-tree.result.number c.args.pattern c.args.nodes (λ ns. Unit {0}) (visit.Spent c.in-Spent.count) (c.new-tree.ensures.search p at) c.new-tree.ensures.number (rw c.in-Spent.is at c.in_ok-count.ensures) in
-    under file (λ pairs. SpentHolds file pairs p budget c.in-Spent.count) c.args.found.now.list c.args.found.now.orders c.requires.found c.requires.same (spent_holds file c.args.found.now.orders p budget c.in-Spent.count spent)
+    under file (λ pairs. SpentHolds (safety_question file pairs p) budget c.in-Spent.count) c.args.found.now.list c.args.found.now.orders c.requires.found c.requires.same (spent_holds file c.args.found.now.orders p budget c.in-Spent.count spent)
 
 pub returns-in-Overflow-clause-holds : goal.returns-in-Overflow-clause-holds
 returns-in-Overflow-clause-holds g c = λ p at.
     let file = c.args.scoped.now.file in
     let budget = c.args.nodes in
     let left = visit_of (search_of_claim c.new-tree.result) (pattern_search file.automaton p c.args.found.now.orders) c.new-tree.result.number c.args.pattern c.args.nodes (λ ns. Unit {0}) (visit.Overflow c.in-Overflow.node c.in-Overflow.kind) (c.new-tree.ensures.search p at) c.new-tree.ensures.number (rw c.in-Overflow.is at c.in_ok-count.ensures) in
-    under file (λ pairs. NodeOf (pattern_search file.automaton p pairs) budget c.in-Overflow.node (IsOutOfRangeIn file pairs c.args.pattern p c.report_kind.result)) c.args.found.now.list c.args.found.now.orders c.requires.found c.requires.same
-    (overflow_holds file c.args.found.now.orders c.args.pattern p budget c.in-Overflow.node c.in-Overflow.kind c.report_kind.result c.report_kind.ensures left)
+    under file (λ pairs. VerdictAnswers (safety_question file pairs p) budget c.args.pattern (Overflow c.in-Overflow.node c.report_kind.result)) c.args.found.now.list c.args.found.now.orders c.requires.found c.requires.same
+    (overflow_holds (safety_question file c.args.found.now.orders p) c.args.pattern budget c.in-Overflow.node c.in-Overflow.kind c.report_kind.result c.report_kind.ensures left)
 
 pub returns-in-Found-clause-holds : goal.returns-in-Found-clause-holds
 returns-in-Found-clause-holds g c =

@@ -1,5 +1,4 @@
-use Rattle.ta_walk.proofs.Common.{ℕ, ◌<◌, slice_get, IsWhole}
-use Rattle.std.proofs.Common.{IsSomeAnd}
+use Rattle.ta_walk.proofs.Common.{ℕ, ◌<◌, slice_get, IsWhole, IsSomeAnd}
 use Rattle.ta_walk.proofs.vertex.first_split.Given as goal
 
 -- the values so far are whole

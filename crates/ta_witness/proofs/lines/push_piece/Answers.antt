@@ -1,4 +1,4 @@
-use Rattle.ta_witness.proofs.Common.{◌≡◌, ℕ, ℤ, List, length, map, sym, ap, ◌∙◌, subst, Rule, numbers_from, AreRuleCounts, Meaning, Count, unknown_value, counts_before}
+use Rattle.ta_witness.proofs.Common.{◌≡◌, ℕ, ℤ, List, length, map, sym, ap, ◌∙◌, subst, Rule, range_with_len, AreRuleCounts, Meaning, Count, unknown_value, counts_before}
 use Rattle.ta_witness.proofs.Making.{StepsPushed, counts_from, piece_added}
 use Rattle.ta_witness.proofs.lines.push_piece.Goals as goal
 
@@ -17,7 +17,7 @@ returns c =
     let rules = ap (λ (rs : List Rule). length rs) c.as_slice-rules.ensures in
     let f : ℕ → ℤ = λ r. value (Count c.args.number r) in
     let counts = c.as_slice.result.now in
-    let are : counts ≡ counts_before a value c.args.number = c.as_slice.ensures.value ∙ c.in_ok-counts.ensures.are ∙ ap (λ n. map f (numbers_from 0 n)) rules in
+    let are : counts ≡ counts_before a value c.args.number = c.as_slice.ensures.value ∙ c.in_ok-counts.ensures.are ∙ ap (λ n. map f (range_with_len 0 n)) rules in
     let natural = subst (AreRuleCounts a) (sym c.as_slice.ensures.value) (counts_from a f (length c.as_slice-rules.result.now) c.in_ok-counts.counts.items rules c.in_ok-counts.ensures) in
     let steps = c.in_ok-arranged.arranged.steps in
     let pushed : StepsPushed steps c.args.lines.now.items c.push_steps.new.lines.items = subst (λ xs. StepsPushed xs c.args.lines.now.items c.push_steps.new.lines.items) c.as_slice-2.ensures (c.in_ok-push_steps.ensures.added, c.in_ok-push_steps.ensures.fit) in

@@ -1,16 +1,9 @@
-use Rattle.std.specs.Prelude.{Result, Ok, Err, IfOk}
-use Rattle.ta_witness.proofs.Common.{ap, reverse, subst, ◌∙◌, slice_get_within, Automaton, Pattern, meanings}
+use Rattle.ta_witness.proofs.Common.{ap, reverse, subst, ◌∙◌, slice_get_within, Automaton, Pattern, meanings, SolvedWord, LegalWord, IfOk-weaker}
 use Rattle.ta_automaton.proofs.Numbered.{of_pattern, same_pattern}
-use Rattle.ta_encode.specs.Laws.{SolvedWord}
 use Rattle.ta_words.proofs.Tasks.{to_task}
-use Rattle.ta_words.specs.Words.{LegalWord}
 use Rattle.ta_witness.proofs.Making.{run_witness, run_fits}
 use Rattle.ta_witness.proofs.Witnesses.{witnesses_show}
 use Rattle.ta_witness.proofs.witnessing.run_of.Goals as goal
-
-ok_more : {X E : Type 0} (r : Result X E) (P Q : X → Type 0) → ((x : X) → P x → Q x) → IfOk r P → IfOk r Q
-ok_more (Ok x) P Q f h = f x h
-ok_more (Err e) P Q f h = tt
 
 pub of-task-requires : goal.of-task-requires
 of-task-requires c = slice_get_within c.args.scoped.now.file.patterns c.args.solution.now.pattern c.requires.pattern c.requires.named
@@ -36,13 +29,13 @@ run_for-requires c =
     }
 
 pub returns-clause-witness : goal.returns-clause-witness
-returns-clause-witness c = ok_more c.run_for.result _ _ (λ run r. run_witness c.args.scoped.now.file _ _ c.args.solution.now run r) c.run_for.ensures
+returns-clause-witness c = IfOk-weaker c.run_for.result _ _ (λ run r. run_witness c.args.scoped.now.file _ _ c.args.solution.now run r) c.run_for.ensures
 
 pub returns-clause-fits : goal.returns-clause-fits
-returns-clause-fits c = ok_more c.run_for.result _ _ (λ run r. run_fits c.args.scoped.now.file _ _ c.args.solution.now run r) c.run_for.ensures
+returns-clause-fits c = IfOk-weaker c.run_for.result _ _ (λ run r. run_fits c.args.scoped.now.file _ _ c.args.solution.now run r) c.run_for.ensures
 
 pub returns-clause-shows : goal.returns-clause-shows
-returns-clause-shows c = ok_more c.run_for.result _ _ (λ run r. (witnesses_show c.args.scoped.now.file c.args.scoped.now.in_scope c.args.solution.now c.requires run (run_witness c.args.scoped.now.file _ _ c.args.solution.now run r)).0) c.run_for.ensures
+returns-clause-shows c = IfOk-weaker c.run_for.result _ _ (λ run r. (witnesses_show c.args.scoped.now.file c.args.scoped.now.in_scope c.args.solution.now c.requires run (run_witness c.args.scoped.now.file _ _ c.args.solution.now run r)).0) c.run_for.ensures
 
 pub returns-clause-short : goal.returns-clause-short
-returns-clause-short c = ok_more c.run_for.result _ _ (λ run r. (witnesses_show c.args.scoped.now.file c.args.scoped.now.in_scope c.args.solution.now c.requires run (run_witness c.args.scoped.now.file _ _ c.args.solution.now run r)).1) c.run_for.ensures
+returns-clause-short c = IfOk-weaker c.run_for.result _ _ (λ run r. (witnesses_show c.args.scoped.now.file c.args.scoped.now.in_scope c.args.solution.now c.requires run (run_witness c.args.scoped.now.file _ _ c.args.solution.now run r)).1) c.run_for.ensures

@@ -1,4 +1,4 @@
-use Rattle.ta_words.proofs.Common.{◌≡◌, inl, inr, ℕ, ◌+◌, ◌<◌, List, refl, Bool, length, reverse, slice_get, Some, arith, sym, ap, ◌∙◌, subst, slice_get_read, slice_get_past, Told, none_told, not_told, one_told, in_or_above, Rule, may_fire}
+use Rattle.ta_words.proofs.Common.{◌≡◌, inl, inr, ℕ, ◌+◌, ◌<◌, List, refl, Bool, length, reverse, slice_get, Some, arith, sym, ap, ◌∙◌, subst, slice_get_read, slice_get_past, Told, none_told, not_told, one_told, Rule, may_fire, cases_lt}
 use Rattle.ta_words.proofs.following.allowed_after.Goals as goal
 use Rattle.ta_words.proofs.following.allowed_after.Goals.{then-may_fire, else-may_fire}
 
@@ -26,7 +26,7 @@ returns c = λ r.
     let a = c.args.task.automaton.now in
     let p = c.args.task.pattern.now in
     let all : length a.rules ≡ c.loop-number.number = (let same = ap length c.as_slice-rule-items.ensures in let low = c.loop-number-test.false in let high = c.loop-number.auto.number-end in omega arith) in
-    elim (in_or_above (length a.rules) r) [
+    elim (cases_lt r (length a.rules)) [
       | inl below ↦ c.loop-number.invariant.below r (omega arith)
       | inr above ↦ c.loop-number.invariant.above r (omega arith) ∙ sym (ap (may_fire a p c.args.start_mask (reverse c.args.elements.now)) (slice_get_past a.rules r above))
     ]

@@ -1,4 +1,4 @@
-use Rattle.ta_cert.proofs.Common.{arith, length-append, ◌++◌, ◌∷◌, [], refl, err_from_is_err_and}
+use Rattle.ta_cert.proofs.Common.{arith, length-append, ◌++◌, ◌∷◌, [], refl, err_is}
 use Rattle.ta_cert.proofs.Standing.{trailing, fault_more, no_line, wrong_place, ended_line}
 use Rattle.ta_cert.proofs.reader.Reader.end_line.Goals as goal
 
@@ -6,9 +6,7 @@ pub returns-then-self : goal.returns-then-self
 returns-then-self c = trailing c.args.self.now (c.args.front.now ++ (10 ∷ [])) c.if-self.true (omega (arith, length-append c.args.front.now (10 ∷ [])))
 
 pub returns-in_err-keep : goal.returns-in_err-keep
-returns-in_err-keep c =
-    let p = err_from_is_err_and c.from_residual.result c.from_residual.ensures.1 in
-    rw (p.1, p.2) (fault_more c.args.self.now c.args.front.now (10 ∷ []) c.in_err-keep.field-0.0 c.in_err-keep.ensures)
+returns-in_err-keep c = rw (err_is c.from_residual.result _ c.from_residual.ensures.1) (fault_more c.args.self.now c.args.front.now (10 ∷ []) c.in_err-keep.field-0.0 c.in_err-keep.ensures)
 
 pub returns-in_default : goal.returns-in_default
 returns-in_default c =

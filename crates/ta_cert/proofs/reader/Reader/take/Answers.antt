@@ -1,4 +1,4 @@
-use Rattle.ta_cert.proofs.Common.{err_from_is_err_and, next_shorter}
+use Rattle.ta_cert.proofs.Common.{err_is, next_shorter}
 use Rattle.ta_cert.proofs.Standing.{begins_taking, goes_on_taking, faults_taking, faults_behind, ends_taking}
 use Rattle.ta_cert.proofs.reader.Reader.take.Goals as goal
 
@@ -7,8 +7,7 @@ lines-init c = rw c.new-lines.ensures.items (begins_taking c.args.self.now c.arg
 
 pub returns-in_err-line : goal.returns-in_err-line
 returns-in_err-line c =
-    let p = err_from_is_err_and c.from_residual.result c.from_residual.ensures.1 in
-    rw (p.1, p.2) (faults_taking c.args.self.now c.lines.self c.args.piece.now c.lines.rest.now c.in-Some.front.now c.in-Some.behind.now c.lines.lines.items c.in_err-line.field-0.0 c.lines.invariant c.in-Some.ensures c.in_err-line.ensures)
+    rw (err_is c.from_residual.result _ c.from_residual.ensures.1) (faults_taking c.args.self.now c.lines.self c.args.piece.now c.lines.rest.now c.in-Some.front.now c.in-Some.behind.now c.lines.lines.items c.in_err-line.field-0.0 c.lines.invariant c.in-Some.ensures c.in_err-line.ensures)
 
 pub lines-preserved : goal.lines-preserved
 lines-preserved c =
@@ -20,8 +19,7 @@ lines-smaller c = next_shorter c.lines.rest.now c.in-Some.front.now c.in-Some.be
 
 pub returns-in_err-keep : goal.returns-in_err-keep
 returns-in_err-keep c =
-    let p = err_from_is_err_and c.from_residual-in_err-keep.result c.from_residual-in_err-keep.ensures.1 in
-    rw (p.1, p.2) (faults_behind c.args.self.now c.lines.self c.args.piece.now c.lines.rest.now c.lines.lines.items c.in_err-keep.field-0.0 c.lines.invariant c.in_err-keep.ensures)
+    rw (err_is c.from_residual-in_err-keep.result _ c.from_residual-in_err-keep.ensures.1) (faults_behind c.args.self.now c.lines.self c.args.piece.now c.lines.rest.now c.lines.lines.items c.in_err-keep.field-0.0 c.lines.invariant c.in_err-keep.ensures)
 
 pub returns : goal.returns
 returns c =

@@ -1,6 +1,5 @@
-use Rattle.ta_check.proofs.Common.{◌≡◌, true, false, sym, ap, ◌∙◌, refl, Cursor, search_for, claiming}
+use Rattle.ta_check.proofs.Common.{◌≡◌, true, false, sym, ◌∙◌, refl, search_for, claiming, Search}
 use Rattle.ta_cert.specs.declared.line.Node.TheVariants as node
-use Rattle.ta_encode.specs.Search.{Search}
 use Rattle.ta_check.proofs.JudgingNodes.{some_newest, pattern_there, tree_within, told_at, went_on, first_within, later, at_some_word, node_taken}
 use Rattle.ta_check.proofs.position.Position.take_extend.Goals as goal
 
@@ -15,9 +14,7 @@ returns-then-is_complete c = λ at is.
     let s = c.args.self.now in
     let subject = claiming c.args.claim c.args.file.now in
     let n = some_newest subject s at c.args.pattern c.requires.none c.requires.current is in
-    let start = c.start_mask-start_mask.ensures ∙ ap (λ (e : Cursor). e.start_mask) c.cursor.ensures in
-    let word = c.word.ensures ∙ ap (λ (e : Cursor). e.word) c.cursor-2.ensures in
-    let told = told_at (λ (q : Search). q.complete) _ (search_for c.args.claim c.args.file.now.automaton n.0 s.orders) c.is_complete.result _ s.place.cursor.start_mask _ s.place.cursor.word (c.new-tree.ensures.search n.0 n.1.named) start word c.is_complete.ensures in
+    let told = told_at (λ (q : Search). q.complete) _ (search_for c.args.claim c.args.file.now.automaton n.0 s.orders) c.is_complete.result _ _ _ _ s.place.cursor (c.new-tree.ensures.search n.0 n.1.named) c.start_mask-start_mask.ensures c.cursor.ensures c.word.ensures c.cursor-2.ensures c.is_complete.ensures in
     (refl, refl, at_some_word subject s at c.args.pattern n.0 (λ search w. search.complete w.start w.past ≡ true) n.1 (sym told ∙ c.if-is_complete.true))
 
 pub returns-then-not-branch : goal.returns-then-not-branch
@@ -27,8 +24,7 @@ returns-then-not-branch c = λ at is.
     let n = some_newest subject s at c.args.pattern c.requires.none c.requires.current is in
     let same = c.new-tree.ensures.search n.0 n.1.named in
     let search = search_for c.args.claim c.args.file.now.automaton n.0 s.orders in
-    let start = c.start_mask-start_mask.ensures ∙ ap (λ (e : Cursor). e.start_mask) c.cursor.ensures in
-    let told = told_at (λ (q : Search). q.complete) _ search c.is_complete.result _ s.place.cursor.start_mask _ s.place.cursor.word same start (c.word.ensures ∙ ap (λ (e : Cursor). e.word) c.cursor-2.ensures) c.is_complete.ensures in
+    let told = told_at (λ (q : Search). q.complete) _ search c.is_complete.result _ _ _ _ s.place.cursor same c.start_mask-start_mask.ensures c.cursor.ensures c.word.ensures c.cursor-2.ensures c.is_complete.ensures in
     let more = rw c.if-not-branch.true at c.in_ok-extend.ensures in
     let went = went_on _ search s.place _ node.Extend false (later subject s at c.args.pattern n.0 n.1) same more (first_within subject s at c.args.pattern n.0 n.1) in
     node_taken subject s _ at c.args.pattern c.args.number n.0 node.Extend false n.1 is (record { version = refl; orders = refl; waiting = refl }) (sym told ∙ c.if-is_complete.false) refl refl n.1.kept went
@@ -40,8 +36,7 @@ returns-else-not-branch c = λ at is.
     let n = some_newest subject s at c.args.pattern c.requires.none c.requires.current is in
     let same = c.new-tree.ensures.search n.0 n.1.named in
     let search = search_for c.args.claim c.args.file.now.automaton n.0 s.orders in
-    let start = c.start_mask-start_mask.ensures ∙ ap (λ (e : Cursor). e.start_mask) c.cursor.ensures in
-    let told = told_at (λ (q : Search). q.complete) _ search c.is_complete.result _ s.place.cursor.start_mask _ s.place.cursor.word same start (c.word.ensures ∙ ap (λ (e : Cursor). e.word) c.cursor-2.ensures) c.is_complete.ensures in
+    let told = told_at (λ (q : Search). q.complete) _ search c.is_complete.result _ _ _ _ s.place.cursor same c.start_mask-start_mask.ensures c.cursor.ensures c.word.ensures c.cursor-2.ensures c.is_complete.ensures in
     let more = rw c.if-not-branch.false at c.in_ok-extend.ensures in
     let went = went_on _ search s.place _ node.Extend true (later subject s at c.args.pattern n.0 n.1) same more (first_within subject s at c.args.pattern n.0 n.1) in
     node_taken subject s _ at c.args.pattern c.args.number n.0 node.Extend true n.1 is (record { version = refl; orders = refl; waiting = refl }) (sym told ∙ c.if-is_complete.false) refl c.requires.current n.1.kept went

@@ -1,7 +1,4 @@
-use Rattle.ta_claim.proofs.Common.{sym, subst, IfOk-weaker, word_at}
-use Rattle.ta_encode.specs.Code.{SystemAt}
-use Rattle.ta_claim.specs.Claims.{search_for}
-use Rattle.ta_claim.specs.declared.claim.Claim.{Claim}
+use Rattle.ta_claim.proofs.Common.{sym, subst, IfOk-weaker, word_at, SystemAt, search_for, Claim}
 use Rattle.ta_claim.proofs.RestRows.{rest_system}
 use Rattle.ta_claim.proofs.claim_tree.ClaimTree.grown.Goals as goal
 

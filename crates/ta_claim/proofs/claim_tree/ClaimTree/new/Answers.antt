@@ -1,9 +1,7 @@
 use Rattle.ta_words.proofs.Tasks.{of_task}
 use Rattle.ta_encode.specs.Marks.{IsEncoding}
 use Rattle.ta_encode.specs.declared.growing.Encoding.{Encoding}
-use Rattle.std.specs.Prelude.{◌↔◌}
-use Rattle.ta_claim.proofs.Common.{◌≡◌}
-use Rattle.ta_claim.specs.Claims.{search_for}
+use Rattle.ta_claim.proofs.Common.{◌≡◌, ◌↔◌, search_for}
 use Rattle.ta_claim.proofs.claim_tree.ClaimTree.new.Goals as goal
 
 pub returns-clause-search : goal.returns-clause-search

@@ -1,6 +1,4 @@
-use Rattle.ta_claim.proofs.Common.{ℕ, List, reverse, sym, subst, pattern_search, Comes, PushAnswers}
-use Rattle.ta_claim.specs.Claims.{search_for}
-use Rattle.ta_claim.specs.declared.claim.Claim.{Claim}
+use Rattle.ta_claim.proofs.Common.{ℕ, List, reverse, sym, subst, pattern_search, Comes, PushAnswers, search_for, Claim}
 use Rattle.ta_claim.proofs.RestRows.{rest_comes, rest_pushed}
 use Rattle.ta_claim.proofs.claim_words.ClaimTreeTree.push_child.Goals as goal
 

@@ -1,5 +1,4 @@
-use Rattle.ta_claim.proofs.Common.{◌≡◌, ◌<◌, ◌^◌, List, [], length, arith, sym, ap, ◌∙◌, subst, Some, slice_get, lit<, Element, Pending, shifted, word_at}
-use Rattle.ta_encode.specs.PatternSearch.{all_starts}
+use Rattle.ta_claim.proofs.Common.{◌≡◌, ◌<◌, ◌^◌, List, [], length, arith, sym, ap, ◌∙◌, subst, Some, slice_get, lit<, Element, Pending, shifted, word_at, all_starts}
 use Rattle.ta_claim.proofs.ClaimWords.{claim_roots}
 use Rattle.ta_claim.proofs.PatternWords.{start_at, start_none}
 use Rattle.ta_claim.proofs.claim_words.ClaimTreeTree.root.Goals as goal

@@ -1,4 +1,4 @@
-use Rattle.ta_compress.proofs.Common.{arith, err_from_is_err_and}
+use Rattle.ta_compress.proofs.Common.{arith, err_is}
 use Rattle.ta_compress.proofs.Counted.{going_none, going_more, going_may, going_room, going_stops, gone_room}
 use Rattle.ta_compress.proofs.draft.Draft.repeat.Goals as goal
 
@@ -19,8 +19,7 @@ loop-preserved c = going_more c.args.scoped.now.file.automaton c.args.rule c.arg
 
 pub returns-in_err-step-clause-stops : goal.returns-in_err-step-clause-stops
 returns-in_err-step-clause-stops c =
-    let p = err_from_is_err_and c.from_residual.result c.from_residual.ensures.1 in
-    rw (p.1, p.2)
+    rw (err_is c.from_residual.result _ c.from_residual.ensures.1)
     (going_stops c.args.scoped.now.file.automaton c.args.rule c.args.factor c.loop.counter c.args.line c.args.self.now c.loop.self c.in_err-step.field-0.0 c.loop-test.true c.loop.invariant c.in_err-step.ensures.stops)
 
 pub returns-clause-stayed : goal.returns-clause-stayed

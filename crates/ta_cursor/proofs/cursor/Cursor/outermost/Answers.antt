@@ -1,4 +1,4 @@
-use Rattle.ta_cursor.proofs.Common.{◌≡◌, ◌≤◌, ◌∙◌, List, ap, refl, sym, subst, length, take, slice_get, Some, arith, slice_get_read, ltb-false, take_whole, Frame}
+use Rattle.ta_cursor.proofs.Common.{◌≡◌, ◌≤◌, ◌∙◌, List, ap, refl, sym, subst, length, take, slice_get, Some, arith, slice_get_read, ltb-false, Frame, take_all}
 use Rattle.ta_cursor.proofs.FramesShared.{all_inside, frame_short, stands_inside}
 use Rattle.ta_cursor.proofs.cursor.Cursor.outermost.Goals as goal
 use Rattle.ta_cursor.proofs.cursor.Cursor.outermost.Goals.{in-Some, in_default}
@@ -34,6 +34,6 @@ returns c = λ s within. elim c.match-get.branch [
         start = refl;
         word = w.word-is ∙ c.again-word.ensures;
         bounds = ap (λ v. v.items) w.bounds-is ∙ c.in_ok-bounds.ensures.items ∙ c.as_slice.ensures.value;
-        frames = c.in_ok-frames.ensures.items ∙ ap (take c.args.outer) c.deref-2.ensures.value ∙ take_whole c.args.outer c.args.self.now.frames.items most;
+        frames = c.in_ok-frames.ensures.items ∙ ap (take c.args.outer) c.deref-2.ensures.value ∙ take_all c.args.outer c.args.self.now.frames.items most;
       }) most
 ]

@@ -1,5 +1,5 @@
-use Rattle.ta_dense.proofs.Common.{◌≡◌, ◌+◌, ◌-◌, ◌++◌, map, arith, sym, ◌∙◌, ap, subst, length, List, ℕ, rules, length-map, length-append, map-id, with_items_is, length-range_with_len, range_with_len, Tableau, TableauRow, row_view, views, AreProper, StayInRange, raised, widened, DenseRow}
-use Rattle.ta_dense.proofs.ExtendFacts.{length-carried, kept_more, new_rows_are, leaving_from, proper_joined}
+use Rattle.ta_dense.proofs.Common.{◌≡◌, ◌+◌, ◌-◌, ◌++◌, arith, sym, ◌∙◌, ap, subst, length, List, ℕ, rules, length-map, length-append, map-id, with_items_is, Tableau, TableauRow, row_view, views, AreProper, StayInRange, widened, DenseRow}
+use Rattle.ta_dense.proofs.ExtendFacts.{length-carried, names_long, kept_more, new_rows_are, leaving_from, proper_joined}
 use Rattle.ta_dense.proofs.dense.DenseDictionaryDictionary.extend.Goals as goal
 
 pub carry_rows-requires-clause-kept : goal.carry_rows-requires-clause-kept
@@ -58,13 +58,8 @@ invariant_of-result c =
     let old = subst (λ (m : ℕ). AreProper m c.in_ok-rows.rows.items) all c.in_ok-rows.ensures.proper in
     let view_columns = ap (λ (t : Tableau). length t.non_basic) c.self.view_is in
     let view_rows = ap (λ (t : Tableau). length t.rows) c.self.view_is in
-    let names = map (raised c.columns-columns.result new) c.deref-2.result.now in
-    let l1 = length-append names (range_with_len c.columns-columns.result new) in
-    let l2 = length-map c.deref-2.result.now (raised c.columns-columns.result new) in
-    let l3 = length-range_with_len c.columns-columns.result new in
-    let l4 = ap (λ (xs : List ℕ). length xs) c.deref-2.ensures.value in
-    let l5 = ap (λ (xs : List ℕ). length xs) c.in_ok-non_basic.ensures in
-    let wide : length c.in_ok-non_basic.non_basic.items ≡ c.args.longer.now.unknowns = omega arith in
+    let names = ap (λ (xs : List ℕ). length xs) c.deref-2.ensures.value in
+    let wide = names_long c.deref-2.result.now c.in_ok-non_basic.non_basic.items c.columns-columns.result c.args.longer.now.unknowns (omega arith) (omega arith) c.in_ok-non_basic.ensures in
     let P : ℕ → List DenseRow → Type 0 = AreProper in
     let r1 = length-append c.in_ok-rows.rows.items c.carry_rows.new.rows in
     let r2 = ap (λ (xs : List TableauRow). length xs) c.in_ok-rows.ensures.value in

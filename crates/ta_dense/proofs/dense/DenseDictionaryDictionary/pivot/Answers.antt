@@ -8,8 +8,6 @@ invariant_of-result c =
     let rows = ap (λ (t : Tableau). length t.rows) c.self.view_is in
     let columns = ap (λ (t : Tableau). length t.non_basic) c.self.view_is in
     let l = length-map c.self.inside.rows.items row_view in
-    let r = c.requires.row in
-    let k = c.requires.column in
     let P : Tableau → Type 0 = λ t. pos 0 <ℤ cell_of (row_of t c.args.row) c.args.column in
     let positive = subst P (sym c.self.view_is) c.requires.positive in
     let value = rw c.deref_mut.ensures.value at c.in_default.ensures.value in
@@ -18,7 +16,6 @@ invariant_of-result c =
     let items = with_items_is c.self.inside.rows c.pivot_rows.new.rows (auto ∙ search rules) in
     let proper = proper_after_pivot (length c.self.inside.non_basic.items) c.args.row c.args.column c.index-entering.result.now c.self.inside.rows.items c.pivot_rows.new.rows c.self.invariant.proper (omega arith) (omega arith) positive others value auto in
     let wide = length-set c.self.inside.non_basic.items c.args.column c.index.result.now.basic in
-    let fit = c.self.invariant.rows_fit in
     let Q : ℕ → List DenseRow → Type 0 = AreProper in
     let long = ap (λ (xs : List DenseRow). length xs) items in
     record {

@@ -7,7 +7,6 @@ invariant_of-result c =
     let n = length-range_with_len 0 c.args.system.now.unknowns in
     let e = ap (λ (xs : List ℕ). length xs) c.in_ok-non_basic.ensures in
     let columns : length c.in_ok-non_basic.non_basic.items ≡ c.args.system.now.unknowns = omega arith in
-    let room = c.requires in
     let long = rw c.in-Some.is at c.in_ok-rows.ensures.long in
     let value = c.in_ok-push_rows.ensures.value ∙ ap (λ (rs : List TableauRow). rs ++ narrow_views c.in-Some.rows.items) c.no_rows-shared.ensures.value in
     let l1 = ap (λ (rs : List TableauRow). length rs) value in

@@ -1,5 +1,4 @@
-use Rattle.ta_encode.proofs.Common.{true, false, ◌<◌, ◌^◌, ◌+◌, ◌≤◌, ◌∷◌, length, reverse, arith, sym, ap, ◌∙◌, subst, length-reverse, Element, counts_after, AddsUnknowns, Continues}
-use Rattle.std.proofs.lemmas.List.{length-append}
+use Rattle.ta_encode.proofs.Common.{true, false, ◌<◌, ◌^◌, ◌+◌, ◌≤◌, ◌∷◌, length, reverse, arith, sym, ap, ◌∙◌, subst, length-reverse, Element, counts_after, AddsUnknowns, Continues, length-append}
 use Rattle.ta_encode.proofs.Drafts.{fired_after, counts_few, draft_few, event_drafted, events_small, fall_drafted, fallen_more, rise_drafted}
 use Rattle.ta_encode.proofs.draft.Draft.push_element.Goals as goal
 use Rattle.ta_encode.proofs.draft.Draft.push_element.Goals.{In_ok-push_firings}

@@ -5,7 +5,6 @@ use Rattle.ta_links.proofs.linked.LinkedDictionaryDictionary.cell.Goals as goal
 pub number-requires-clause-row : goal.number-requires-clause-row
 number-requires-clause-row c =
     let b = row_below c.self.inside c.args.self.now c.args.row c.self.view_is c.requires.row in
-    let long = c.self.invariant.rows_long in
     omega arith
 
 pub returns-clause-value : goal.returns-clause-value

@@ -1,7 +1,7 @@
-use Rattle.ta_links.proofs.Common.{◌≡◌, ◌≤◌, ◌+◌, ◌-◌, ◌++◌, ◌∙◌, ap, sym, subst, arith, length, map, get_or, List, ℕ, map-id, range_with_len, Row, Tableau, StayInRange, raised, extended, new_rows, FirstLeaving, RowHead, Linked, table_rows, no_head}
+use Rattle.ta_links.proofs.Common.{◌≡◌, ◌≤◌, ◌+◌, ◌-◌, ◌++◌, ◌∙◌, ap, sym, subst, arith, length, map, get_or, List, ℕ, map-id, names_long, range_with_len, Row, Tableau, StayInRange, raised, extended, new_rows, FirstLeaving, RowHead, Linked, table_rows, no_head}
 use Rattle.ta_links.proofs.LinkedFacts.{length-table_rows}
 use Rattle.ta_links.proofs.ExtendedRows.{Lengthened}
-use Rattle.ta_links.proofs.ExtendedTable.{basic_is, lengthen, room_for, extend_is, extend_within, extend_refused, names_long, taken_long, taken_proper}
+use Rattle.ta_links.proofs.ExtendedTable.{basic_is, lengthen, room_for, extend_is, extend_within, extend_refused, taken_long, taken_proper}
 use Rattle.ta_links.proofs.linked.LinkedDictionaryDictionary.extend.Goals as goal
 use Rattle.ta_links.proofs.linked.LinkedDictionaryDictionary.extend.Goals.{After-deref, In_ok-links}
 
@@ -11,6 +11,10 @@ long c = c.rows-first.ensures ∙ ap (λ (e : Linked). length e.tableau.rows) (s
 
 wide : (c : After-deref) → c.columns-old.result ≡ length c.self.inside.non_basic.items
 wide c = c.columns-old.ensures ∙ ap (λ (e : Linked). length e.tableau.non_basic) (sym c.self.view_is)
+
+-- the heads that are read are the rows'
+read : (c : After-deref) → length c.deref.result.now ≡ c.rows-first.result
+read c = ap (λ (xs : List RowHead). length xs) c.deref.ensures.value ∙ sym (long c)
 
 -- the longer system has as many unknowns at least, and as many rows
 few : (c : In_ok-links) → c.columns-old.result ≤ c.args.longer.now.unknowns
@@ -28,25 +32,15 @@ longer c is = lengthen c.columns-old.result c.args.longer.now.unknowns c.rows-fi
 
 pub begun_heads-requires-clause-rows : goal.begun_heads-requires-clause-rows
 begun_heads-requires-clause-rows c =
-    let l = c.self.inside.links in
-    let at = goal.at.begun_heads-requires-clause-rows c in
-    let is_long = long at.After-deref in
-    let d = ap (λ (xs : List RowHead). length xs) c.deref.ensures.value in
-    let first = c.rows-first.ensures in
-    let rows_ = c.requires.longer.rows in
+    let d = read (goal.at.begun_heads-requires-clause-rows c).After-deref in
     omega arith
 
 pub begun_heads-requires-clause-basic : goal.begun_heads-requires-clause-basic
 begun_heads-requires-clause-basic c i b =
-    let l = c.self.inside.links in
-    let at = goal.at.begun_heads-requires-clause-basic c in
-    let is_long = long at.After-deref in
-    let d = ap (λ (xs : List RowHead). length xs) c.deref.ensures.value in
-    let first = c.rows-first.ensures in
-    let old = c.columns-old.ensures in
+    let d = read (goal.at.begun_heads-requires-clause-basic c).After-deref in
     let below = c.requires.longer.basic_below i (omega arith) in
-    let is = basic_is c.self.inside c.args.self.now i c.self.view_is (omega arith) in
-    let read : (get_or c.deref.result.now i no_head).basic ≡ (get_or c.self.inside.rows.items i no_head).basic = ap (λ (xs : List RowHead). (get_or xs i no_head).basic) c.deref.ensures.value in
+    let is = basic_is c.self.inside c.args.self.now i c.self.view_is (let l = long (goal.at.begun_heads-requires-clause-basic c).After-deref in omega arith) in
+    let same = ap (λ (xs : List RowHead). (get_or xs i no_head).basic) c.deref.ensures.value in
     omega arith
 
 pub begun_cells-requires-clause-first : goal.begun_cells-requires-clause-first
@@ -56,81 +50,46 @@ begun_cells-requires-clause-first c =
 
 pub carry_rows-requires-clause-room : goal.carry_rows-requires-clause-room
 carry_rows-requires-clause-room c =
-    let l = c.self.inside.links in
-    let us = c.self.inside.non_basic.items in
-    let hs = c.self.inside.rows.items in
-    let s = c.args.longer.now in
-    let ks = c.args.kept.now in
-    let u = c.columns-old.result in
-    let m = c.args.longer.now.unknowns in
-    let first = c.rows-first.result in
-    let last = length c.as_slice.result.now in
     let at = goal.at.carry_rows-requires-clause-room c in
-    let is_long = long at.After-deref in
-    let cols = wide at.After-deref in
-    let is_few = few at.In_ok-links in
-    let is_all = all at.In_ok-links in
-    let is_low = low at.In_ok-links in
-    let w = longer at.In_ok-links is_long in
-    room_for u m first last hs l s.rows c.in_ok-rows.rows.items c.in_ok-links.links is_few w c.self.invariant.proper c.in_ok-links.ensures.sound c.in_ok-links.ensures.rows c.in_ok-links.ensures.columns
+    let w = longer at.In_ok-links (long at.After-deref) in
+    room_for c.args.longer.now.unknowns (length c.as_slice.result.now) (few at.In_ok-links) w c.self.invariant.proper c.in_ok-links.ensures.sound c.in_ok-links.ensures.rows c.in_ok-links.ensures.columns
 
 pub carry_rows-requires-clause-kept : goal.carry_rows-requires-clause-kept
 carry_rows-requires-clause-kept c j b =
     let itself = map-id c.args.kept.now in
     let k = (rw itself at c.requires.kept) j b in
     let long = k.long in
-    let columns = c.requires.longer.columns in
     record { long = omega arith; column = k.column; positive = k.positive }
 
 pub returns-in-Some-clause-fault : goal.returns-in-Some-clause-fault
 returns-in-Some-clause-fault c =
-    let l = c.self.inside.links in
-    let us = c.self.inside.non_basic.items in
-    let hs = c.self.inside.rows.items in
     let s = c.args.longer.now in
     let ks = c.args.kept.now in
-    let u = c.columns-old.result in
-    let m = c.args.longer.now.unknowns in
-    let first = c.rows-first.result in
-    let last = length c.as_slice.result.now in
     let at = goal.at.returns-in-Some-clause-fault c in
-    let is_long = long at.After-deref in
-    let cols = wide at.After-deref in
-    let is_few = few at.In_ok-links in
-    let is_all = all at.In_ok-links in
-    let is_low = low at.In_ok-links in
-    let w = longer at.In_ok-links is_long in
-    let itself = map-id c.args.kept.now in
+    let w = longer at.In_ok-links (long at.After-deref) in
+    let itself = map-id ks in
     let below = rw c.in-Some.is at c.in_ok-refusal.ensures.below in
     let refused = rw c.in-Some.is at c.in_ok-refusal.ensures.refused in
     rw itself (subst (λ (t : Tableau). FirstLeaving t ks s c.in-Some.field-0.pivot c.in-Some.field-0.row) (ap (λ (e : Linked). e.tableau) c.self.view_is)
-    (extend_refused us hs c.in_ok-rows.rows.items l c.in_ok-links.links s ks u first last c.in-Some.field-0.pivot c.in-Some.field-0.row is_long is_few w below refused))
+    (extend_refused c.self.inside.non_basic.items s ks (length c.as_slice.result.now) c.in-Some.field-0.pivot c.in-Some.field-0.row (few at.In_ok-links) w below refused))
 
 pub invariant_of-result : goal.invariant_of-result
 invariant_of-result c =
-    let l = c.self.inside.links in
     let us = c.self.inside.non_basic.items in
-    let hs = c.self.inside.rows.items in
-    let s = c.args.longer.now in
-    let ks = c.args.kept.now in
     let u = c.columns-old.result in
     let m = c.args.longer.now.unknowns in
-    let first = c.rows-first.result in
     let last = length c.as_slice.result.now in
     let at = goal.at.invariant_of-result c in
-    let is_long = long at.After-deref in
     let cols = wide at.After-deref in
     let is_few = few at.In_ok-links in
     let is_all = all at.In_ok-links in
     let is_low = low at.In_ok-links in
-    let w = longer at.In_ok-links is_long in
     let a = rw c.in_default.is at c.in_ok-refusal.ensures.done in
     let names = c.in_ok-non_basic.ensures ∙ ap (λ (xs : List ℕ). map (raised u (m - u)) xs ++ range_with_len u (m - u)) c.deref-2.ensures.value in
-    let whole : c.rows-first.result + (length c.as_slice.result.now - c.rows-first.result) ≡ length c.as_slice.result.now = omega arith in
-    let high : length c.carry_rows.new.heads.items ≡ length c.as_slice.result.now + 1 = a.room.long ∙ ap (λ (k : ℕ). k + 1) whole in
+    let whole : c.rows-first.result + (last - c.rows-first.result) ≡ last = omega arith in
+    let high : length c.carry_rows.new.heads.items ≡ last + 1 = a.room.long ∙ ap (λ (k : ℕ). k + 1) whole in
     let short = taken_long last c.carry_rows.new.heads.items c.drop_last.new.heads.items c.drop_last.ensures.heads high in
     let wide = names_long us c.in_ok-non_basic.non_basic.items u m is_few cols names in
-    let room = c.requires.room in
     record {
       linked = c.drop_last.ensures.sound;
       rows_long = c.drop_last.ensures.rows ∙ sym short;
@@ -142,49 +101,28 @@ invariant_of-result c =
 
 pub returns-clause-ok : goal.returns-clause-ok
 returns-clause-ok c =
-    let l = c.self.inside.links in
-    let us = c.self.inside.non_basic.items in
-    let hs = c.self.inside.rows.items in
     let s = c.args.longer.now in
     let ks = c.args.kept.now in
     let u = c.columns-old.result in
-    let m = c.args.longer.now.unknowns in
-    let first = c.rows-first.result in
-    let last = length c.as_slice.result.now in
+    let m = s.unknowns in
     let at = goal.at.returns-clause-ok c in
-    let is_long = long at.After-deref in
     let cols = wide at.After-deref in
-    let is_few = few at.In_ok-links in
-    let is_all = all at.In_ok-links in
-    let is_low = low at.In_ok-links in
-    let w = longer at.In_ok-links is_long in
+    let w = longer at.In_ok-links (long at.After-deref) in
     let a = rw c.in_default.is at c.in_ok-refusal.ensures.done in
     let names = c.in_ok-non_basic.ensures ∙ ap (λ (xs : List ℕ). map (raised u (m - u)) xs ++ range_with_len u (m - u)) c.deref-2.ensures.value in
-    let itself = map-id c.args.kept.now in
+    let itself = map-id ks in
     let nb = c.in_ok-non_basic.non_basic.items in
     rw itself (subst (λ (t : Tableau). record { non_basic = nb; rows = table_rows c.drop_last.new.links.cells.items (length nb) 0 c.drop_last.new.heads.items } ≡ extended t ks s) (ap (λ (e : Linked). e.tableau) c.self.view_is)
-    (extend_is us nb hs c.in_ok-rows.rows.items c.carry_rows.new.heads.items c.drop_last.new.heads.items l c.in_ok-links.links c.carry_rows.new.links c.drop_last.new.links.cells.items s ks u first last cols is_long is_few is_low w c.self.invariant.linked (c.self.invariant.columns_long ∙ sym cols) a
+    (extend_is c.self.inside.non_basic.items nb c.drop_last.new.heads.items c.drop_last.new.links.cells.items s ks (length c.as_slice.result.now) cols (few at.In_ok-links) (low at.In_ok-links) w c.self.invariant.linked (c.self.invariant.columns_long ∙ sym cols) a
     c.drop_last.ensures.heads c.drop_last.ensures.cells names))
 
 pub returns-clause-in_range : goal.returns-clause-in_range
 returns-clause-in_range c =
-    let l = c.self.inside.links in
-    let us = c.self.inside.non_basic.items in
-    let hs = c.self.inside.rows.items in
     let s = c.args.longer.now in
     let ks = c.args.kept.now in
-    let u = c.columns-old.result in
-    let m = c.args.longer.now.unknowns in
-    let first = c.rows-first.result in
-    let last = length c.as_slice.result.now in
     let at = goal.at.returns-clause-in_range c in
-    let is_long = long at.After-deref in
-    let cols = wide at.After-deref in
-    let is_few = few at.In_ok-links in
-    let is_all = all at.In_ok-links in
-    let is_low = low at.In_ok-links in
-    let w = longer at.In_ok-links is_long in
+    let w = longer at.In_ok-links (long at.After-deref) in
     let a = rw c.in_default.is at c.in_ok-refusal.ensures.done in
-    let itself = map-id c.args.kept.now in
-    rw itself (subst (λ (t : Tableau). StayInRange m ks (length ks) (new_rows t s)) (ap (λ (e : Linked). e.tableau) c.self.view_is)
-    (extend_within us hs c.in_ok-rows.rows.items c.carry_rows.new.heads.items l c.in_ok-links.links c.carry_rows.new.links s ks u first last is_long is_few w a))
+    let itself = map-id ks in
+    rw itself (subst (λ (t : Tableau). StayInRange s.unknowns ks (length ks) (new_rows t s)) (ap (λ (e : Linked). e.tableau) c.self.view_is)
+    (extend_within c.self.inside.non_basic.items s ks (length c.as_slice.result.now) (few at.In_ok-links) w a))

@@ -20,7 +20,6 @@ invariant_of-result c =
     let none : c.args.system.now.unknowns + 0 ≡ c.args.system.now.unknowns = omega arith in
     let is : c.push_heads.new.heads.items ≡ slack_heads s.unknowns s.rows = c.in_ok-push_heads.ensures ∙ ap (λ (xs : List RowHead). xs ++ slack_heads (s.unknowns + 0) s.rows) empty ∙ ap (λ (m : ℕ). slack_heads m s.rows) none in
     let rows : length c.push_heads.new.heads.items ≡ length c.args.system.now.rows = ap (λ (hs : List RowHead). length hs) is ∙ length-slack_heads s.unknowns s.rows in
-    let room = c.requires in
     record {
       linked = c.in_ok-links.ensures.sound;
       rows_long = c.in_ok-links.ensures.rows ∙ sym rows;

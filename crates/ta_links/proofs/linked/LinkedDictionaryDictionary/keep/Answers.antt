@@ -11,7 +11,6 @@ head_of-head-requires c =
 pub list_line-requires-clause-line : goal.list_line-requires-clause-line
 list_line-requires-clause-line c =
     let b = row_below c.self.inside c.args.self.now c.args.row c.self.view_is c.requires.row in
-    let long = c.self.invariant.rows_long in
     let r : c.args.row < length c.self.inside.links.row_heads.items = omega arith in
     r
 

@@ -1,5 +1,4 @@
-use Rattle.ta_meaning.proofs.Common.{List, true, false, map, sym, ap, ◌∙◌, String, Global, string_bytes, err_from_is_err_and}
-use Rattle.ta_meaning.proofs.Exits.{exit-first}
+use Rattle.ta_meaning.proofs.Common.{List, true, false, map, sym, ap, ◌∙◌, String, Global, string_bytes, err_is}
 use Rattle.ta_meaning.proofs.ListedNames.{has_key, has_name-along, inserted}
 use Rattle.ta_meaning.proofs.UsedNames.{declared_twice, declared_too_long, declared_rightly}
 use Rattle.ta_meaning.proofs.names.NameList.declare.Goals as goal
@@ -15,7 +14,7 @@ returns-in_err-check_length c =
     let keys = c.self.inside.names.keys in
     let e = c.in_err-check_length.field-0.0 in
     let new = has_name-along (map string_bytes keys) c.args.self.now c.as_str.result.now c.args.name.now.name false c.self.view_is c.as_str.ensures (sym (has_key c.as_str.result.now keys) ∙ sym c.contains.ensures ∙ c.if-contains.false) in
-    record { faults = exit-first _ _ _ e (err_from_is_err_and _ c.from_residual.ensures.1) (declared_too_long c.args.self.now c.args.name.now e new c.in_err-check_length.ensures) }
+    record { faults = rw (err_is c.from_residual.result _ c.from_residual.ensures.1) (declared_too_long c.args.self.now c.args.name.now e new c.in_err-check_length.ensures) }
 
 pub returns : goal.returns
 returns c =

@@ -1,4 +1,4 @@
-use Rattle.ta_meaning.proofs.Common.{◌-◌, ◌≤◌, false, map, take, drop, sym, ap, ◌∙◌, arith, is_some, string_bytes, distinct_names, distinct-along, place-along, within_part}
+use Rattle.ta_meaning.proofs.Common.{◌-◌, ◌≤◌, false, map, take, drop, sym, ap, ◌∙◌, arith, is_some, string_bytes, distinct_names, place-along, within_part, subst, List, ℕ, Distinct}
 use Rattle.ta_meaning.proofs.ListedNames.{outside_part, has_name-at, has_key, key_at, has_name-along}
 use Rattle.ta_meaning.proofs.UsedNames.{unknown, wrong_kind, rightly_used}
 use Rattle.ta_meaning.proofs.names.NameList.number_in.Goals as goal
@@ -17,7 +17,7 @@ returns-then-number-from c =
     let names = c.args.self.now in
     let allowed = take (c.args.to - c.args.from) (drop c.args.from names) in
     let i = c.in-Some.number in
-    let apart = distinct-along (map string_bytes keys) names c.self.view_is (distinct_names keys c.len-count.ensures.unique) in
+    let apart = subst (λ (names : List (List ℕ)). Distinct names) c.self.view_is (distinct_names keys c.len-count.ensures.unique) in
     let here = place-along (map string_bytes keys) names c.as_str.result.now c.args.name.now.name i c.self.view_is c.as_str.ensures (key_at c.as_str.result.now keys i (sym c.get_index_of.ensures.index ∙ c.in-Some.is)) in
     let out : c.args.from ≤ i → c.args.to ≤ i =
     elim c.then-number-from.branch [ then-number-from-via-then-number-from w ↦ (λ h. omega (arith, h, w.if-number-from.true)) | then-number-from-via-else-number-from+then-to-number w ↦ (λ h. w.if-to-number.true) ]

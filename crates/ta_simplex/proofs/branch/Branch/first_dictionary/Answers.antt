@@ -35,5 +35,4 @@ returns-in-Err-Overflow-clause-fault g c =
     let e = sym c.as_slice.ensures.value ∙ c.in-Some.ensures.cases.0 in
     let cut = cut_last g.D.Dictionary.tableau g.D.Dictionary.pivot_of c.args.self.now.kept.items c.truncate-in-Some.new.self.items c.args.self.now.systems.items c.in-Some.field-0-1.now c.in-Some.last.now c.args.system.now c.requires.fits.0 e c.requires.branch c.requires.fits.1 c.truncate-in-Some.ensures.items in
     let fault = rw (c.in-Err-Overflow.field-0-is, c.as_slice-in-Some.ensures.value) at c.in-Err-Overflow.ensures.fault in
-    let add = c.saturating_add.ensures in
     cut_overflows g.D.Dictionary.tableau g.D.Dictionary.pivot_of c.truncate-in-Some.new.self.items c.args.self.now.systems.items c.in-Some.last.now c.args.system.now cut c.in-Err-Overflow.pivot _ c.saturating_add.result fault (omega arith)
