@@ -1,6 +1,7 @@
 -- firing a rule
-use Rattle.ta_automaton.proofs.Common.{◌≡◌, inl, inr, ℕ, ◌+◌, ◌≤◌, pos, ◌+ℤ◌, ◌-ℤ◌, map, length, eqb, cond, false, arith, sym, ap, ◌∙◌, refl, slice_get, get_or, Some, List, ints, cases_lt, nat_tests, eqb_tells, length-map, get_or_past, natural, pos_natural, coefficient, Rule, Automaton, Config, Step, MaskedHold, range_with_len, one_if, Whole}
+use Rattle.ta_automaton.proofs.Common.{◌≡◌, inl, inr, ℕ, ◌+◌, ◌≤◌, pos, ◌+ℤ◌, ◌-ℤ◌, map, length, eqb, cond, false, arith, sym, ap, ◌∙◌, refl, slice_get, get_or, Some, List, ints, cases_lt, nat_tests, length-map, get_or_past, natural, pos_natural, coefficient, Rule, Automaton, Config, Step, MaskedHold, range_with_len, one_if}
 use Rattle.ta_base.proofs.Ranges.{at_index, past_numbers}
+use Rattle.ta_base.proofs.Totals.{natural-moved}
 pub use Rattle.ta_automaton.specs.Places.{Whole}
 use Rattle.ta_automaton.proofs.Thresholds.{updates_natural, updates_within, from_within, to_within}
 use Rattle.ta_automaton.proofs.Moves.{Fits}
@@ -20,15 +21,6 @@ fire_whole a rule c w = record {
   counters = length-map (range_with_len 0 (length a.locations)) _ ∙ length-range_with_len 0 (length a.locations);
 }
 
-count_after : (b from to l n : ℕ) → 1 ≤ n → (l ≡ from → b ≡ n) → natural ((pos b +ℤ one_if to l) -ℤ one_if from l) + cond (eqb l from) 1 0 ≡ b + cond (eqb l to) 1 0
-count_after b from to l n some h =
-    let e : pos (natural ((pos b +ℤ one_if to l) -ℤ one_if from l)) ≡ ((pos b +ℤ one_if to l) -ℤ one_if from l) = pos_natural _ (elim (eqb_tells from l) [
-      | inl s ↦ (let q = h (sym s.1) in elim (eqb_tells to l) [ inl t ↦ rw (s.0, t.0) (omega (arith, ints)) | inr t ↦ rw (s.0, t.0) (omega (arith, ints)) ])
-      | inr s ↦ elim (eqb_tells to l) [ inl t ↦ rw (s.0, t.0) (omega (arith, ints)) | inr t ↦ rw (s.0, t.0) (omega (arith, ints)) ]
-    ]) in
-    let same : (x y : ℕ) → one_if x y ≡ pos (cond (eqb y x) 1 0) = (λ x y. elim (eqb_tells x y) [ inl s ↦ grind (arith, nat_tests) | inr s ↦ grind (arith, nat_tests) ]) in
-    omega (arith, ints, e, same to l, same from l)
-
 pub fire_step : (a : Automaton) (r : ℕ) (rule : Rule) (c : Config) → slice_get a.rules r ≡ Some rule → Whole a c → MaskedHold rule.rise a.rise c → MaskedHold rule.fall a.fall c → 1 ≤ get_or c.counters rule.from 0 → Step a r c (fire a rule c)
 fire_step a r rule c named w rise fall some = record {
   rule = rule;
@@ -38,7 +30,7 @@ fire_step a r rule c named w rise fall some = record {
     fall = fall;
     some = some;
     moved = λ l. elim (cases_lt l (length a.locations)) [
-      | inl b ↦ ap (λ n. n + cond (eqb l rule.from) 1 0) (at_index (λ k. natural ((pos (get_or c.counters k 0) +ℤ one_if rule.to k) -ℤ one_if rule.from k)) (length a.locations) l b) ∙ count_after (get_or c.counters l 0) rule.from rule.to l (get_or c.counters rule.from 0) some (λ e. ap (λ k. get_or c.counters k 0) e)
+      | inl b ↦ ap (λ n. n + cond (eqb l rule.from) 1 0) (at_index (λ k. natural ((pos (get_or c.counters k 0) +ℤ one_if rule.to k) -ℤ one_if rule.from k)) (length a.locations) l b) ∙ natural-moved (get_or c.counters l 0) rule.from rule.to l (get_or c.counters rule.from 0) some (λ e. ap (λ k. get_or c.counters k 0) e)
       | inr b ↦ (
           let here = from_within a r rule named in
           let there = to_within a r rule named in

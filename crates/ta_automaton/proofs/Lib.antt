@@ -1,6 +1,4 @@
 -- lemmas for the crates above
-pub mod Sums
-pub mod Fired
 pub mod Thresholds
 pub mod Numbered
 pub mod Moves

@@ -1,5 +1,6 @@
 -- what a unit step does at each place
-use Rattle.ta_automaton.proofs.Common.{◌≡◌, ◌≢◌, ◌⊎◌, inl, inr, ℕ, ◌+◌, ◌-◌, ◌<◌, pos, ◌+ℤ◌, List, length, eqb, ltb, cond, true, false, arith, sym, ap, ◌∙◌, refl, slice_get, get_or, Option, ℤ, ◌≤ℤ◌, ints, nat_tests, eqb_tells, cases_lt, left_place, middle_place, right_place, coefficient, Rule, Automaton, Config, value_at, Step, one_if, shared_change, rule_change, location_place}
+use Rattle.ta_automaton.proofs.Common.{◌≡◌, ◌⊎◌, inl, inr, ℕ, ◌+◌, ◌-◌, ◌<◌, pos, ◌+ℤ◌, List, length, ltb, true, false, arith, sym, ap, ◌∙◌, refl, slice_get, get_or, Option, ints, nat_tests, cases_lt, left_place, middle_place, right_place, coefficient, Rule, Automaton, Config, value_at, Step, one_if, shared_change, rule_change, location_place}
+use Rattle.ta_base.proofs.Totals.{one_if-ne, one_if-number, one_if-shift, one_if-turned}
 use Rattle.ta_automaton.proofs.Thresholds.{Later, updates_natural}
 
 -- a configuration has one value for each parameter, shared variable and location
@@ -25,18 +26,6 @@ place_cases a i = elim (cases_lt i (length a.parameters)) [
     | inr g ↦ inr (inr (i - (length a.parameters + length a.shared), omega arith))
   ]
 ]
-
-pub one_if-shift : (n x y : ℕ) → one_if (n + x) (n + y) ≡ one_if x y
-one_if-shift n x y = elim (eqb_tells x y) [
-  | inl e ↦ grind (arith, nat_tests)
-  | inr ne ↦ grind (arith, nat_tests)
-]
-
-pub one_if-ne : (x y : ℕ) → x ≢ y → one_if x y ≡ pos 0
-one_if-ne x y h = elim (eqb_tells x y) [ inl e ↦ absurd (h e.1) | inr ne ↦ rw ne.0 refl ]
-
-pos_cond : (x y : ℕ) → pos (cond (eqb x y) 1 0) ≡ one_if y x
-pos_cond x y = elim (eqb_tells x y) [ inl e ↦ grind (arith, nat_tests) | inr ne ↦ grind (arith, nat_tests) ]
 
 pub shared_change-parameter : (a : Automaton) (rule : Rule) (i : ℕ) → i < length a.parameters → shared_change a rule i ≡ pos 0
 unfolding shared_change
@@ -74,7 +63,7 @@ move_at a r before after f g step i =
           let n = length a.parameters + length a.shared in
           let to = one_if-shift n step.rule.to w.0 in
           let from = one_if-shift n step.rule.from w.0 in
-          omega (arith, ints, to, from, step.move.moved w.0, shared_change-location a step.rule w.0, pos_cond w.0 step.rule.to, pos_cond w.0 step.rule.from, value_at-location a before w.0 f, value_at-location a after w.0 g))
+          omega (arith, ints, to, from, step.move.moved w.0, shared_change-location a step.rule w.0, one_if-number w.0 step.rule.to, one_if-turned w.0 step.rule.to, one_if-number w.0 step.rule.from, one_if-turned w.0 step.rule.from, value_at-location a before w.0 f, value_at-location a after w.0 g))
     ])
 
 pub fits_after : (a : Automaton) (r : ℕ) (before after : Config) → Fits a before → Step a r before after → Fits a after
@@ -108,6 +97,3 @@ step_later a r before after f g step = record {
       let there = ap (value_at after) e ∙ value_at-shared a after x g b in
       omega (arith, ints, here, there, step.move.added x, updates_natural a r step.rule step.named x);
 }
-
-pub one_if-natural : (x y : ℕ) → pos 0 ≤ℤ one_if x y
-one_if-natural x y = elim (eqb_tells x y) [ inl e ↦ rw e.0 (omega (arith, ints)) | inr e ↦ rw e.0 (omega (arith, ints)) ]

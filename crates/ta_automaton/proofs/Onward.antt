@@ -1,7 +1,8 @@
 -- firings in an order in which nobody arrives any more where one leaves are legal as they stand, if their end is natural
 use Rattle.ta_automaton.proofs.Common.{◌≡◌, ◌≢◌, inl, inr, ℕ, ◌+◌, ◌-◌, ◌<◌, ◌≤◌, ℤ, pos, ◌+ℤ◌, ◌-ℤ◌, ◌≤ℤ◌, List, [], ◌∷◌, length, arith, ap, ◌∙◌, refl, slice_get, get_or, Some, Option, IsBitSet, ints, eqb_tells, without_last, coefficient, RowHolds, Row, Rule, Automaton, At, Config, value_at, Steps, MaskedHold, In, one_if, shared_change, rule_change, location_place, total}
-use Rattle.ta_automaton.proofs.Sums.{terms_value-same}
-use Rattle.ta_automaton.proofs.Moves.{Fits, move_at, value_at-location, one_if-shift, one_if-ne, shared_change-location, shared_change-parameter, shared_change-shared}
+use Rattle.ta_base.proofs.Totals.{one_if-shift, one_if-ne}
+use Rattle.ta_linear.proofs.TermLemmas.{terms_value-same}
+use Rattle.ta_automaton.proofs.Moves.{Fits, move_at, value_at-location, shared_change-location, shared_change-parameter, shared_change-shared}
 use Rattle.ta_automaton.proofs.Thresholds.{Later, falls as falls_rows, fall_back, stays_true, updates_natural, from_within}
 use Rattle.ta_automaton.proofs.Fire.{Whole, fire, fire_whole, fire_step}
 

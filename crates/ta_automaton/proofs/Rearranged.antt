@@ -1,7 +1,8 @@
 -- firings from which the circuits are taken out stand in an order in which nobody arrives any more where one leaves
-use Rattle.ta_automaton.proofs.Common.{◌≡◌, ◌≢◌, ◌⊎◌, inl, inr, ℕ, zero, suc, ◌≤◌, ℤ, pos, ◌≤ℤ◌, List, [], ◌∷◌, ◌++◌, length, arith, sym, ap, ◌∙◌, refl, subst, slice_get, Some, append_assoc, ints, eqb_tells, coefficient, Rule, Automaton, Walk, InScope, In, total, length-append}
+use Rattle.ta_automaton.proofs.Common.{◌≡◌, ◌≢◌, ◌⊎◌, inl, inr, ℕ, zero, suc, ◌≤◌, ℤ, pos, List, [], ◌∷◌, ◌++◌, length, arith, sym, ap, ◌∙◌, refl, subst, slice_get, Some, append_assoc, ints, eqb_tells, coefficient, Rule, Automaton, Walk, InScope, In, total, length-append}
+use Rattle.ta_base.proofs.Integers.{zero_or_more}
 use Rattle.ta_base.proofs.Members.{In-left, In-right, in_append}
-use Rattle.ta_automaton.proofs.Sums.{total-append}
+use Rattle.ta_base.proofs.Totals.{total-append}
 use Rattle.ta_automaton.proofs.Thresholds.{updates_natural}
 use Rattle.ta_automaton.proofs.Onward.{change_of, NoneInto, Onward, EachRule}
 use Rattle.ta_automaton.proofs.Circuits.{EachPure, circuit_total}
@@ -12,14 +13,10 @@ walk_append a x (r ∷ rs) y qs z v w = (v.0, v.1, v.2, walk_append a (v.0).to r
 
 -- a rule with a walk from its target back to its source has no update
 pub pure_rule : (a : Automaton) → InScope a → (r : ℕ) (rule : Rule) → slice_get a.rules r ≡ Some rule → (rs : List ℕ) → Walk a rule.to rs rule.from → (x : ℕ) → coefficient rule.updates x ≡ pos 0
-pure_rule a scope r rule named rs back x = elim (none_or (coefficient rule.updates x) (updates_natural a r rule named x)) [
+pure_rule a scope r rule named rs back x = elim (zero_or_more (coefficient rule.updates x) (updates_natural a r rule named x)) [
   | inl e ↦ e
   | inr some ↦ absurd (scope r rule named (x, some) rs back)
-] where
-  none_or : (z : ℤ) → pos 0 ≤ℤ z → (z ≡ pos 0) ⊎ (pos 1 ≤ℤ z)
-  none_or (pos zero) h = inl refl
-  none_or (pos (suc n)) h = inr (omega (arith, ints))
-  none_or z h = absurd (omega (arith, ints))
+]
 
 pure_behind : (a : Automaton) → InScope a → (x : ℕ) (before : List ℕ) (c : ℕ) (behind : List ℕ) → Walk a x before c → Walk a c behind x → EachPure a behind
 pure_behind a scope x before c [] v w = tt

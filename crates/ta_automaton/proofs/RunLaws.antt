@@ -1,10 +1,10 @@
 -- the laws of runs
-use Rattle.ta_automaton.proofs.Common.{◌≡◌, inl, inr, ℕ, zero, suc, ◌+◌, ◌<◌, ◌≤◌, ℤ, pos, ◌+ℤ◌, ◌≤ℤ◌, ◌<ℤ◌, List, [], ◌∷◌, length, take, sum, count_by, eqb, cond, true, false, arith, sym, ap, ◌∙◌, refl, subst, slice_get, get_or, Some, ints, nat_tests, eqb_tells, not_held, filter_all, one_if_turned, coefficient, value_of, Rule, Automaton, Config, Initial, Step, Steps, Run, At, value_at, number_at, range_with_len, total, times_in, CountersAddUp, ParametersStay, SharedNeverFalls, RiseGuardsStayTrue, FallGuardsStayFalse, CountersByFirings, SharedByFirings, leads_into, leads_out_of, update_of, slice_get_within, same_Some}
-use Rattle.ta_base.proofs.Sums.{count-cons}
-use Rattle.std.proofs.lemmas.List.Sums.{sum_by-cons}
+use Rattle.ta_automaton.proofs.Common.{◌≡◌, ℕ, zero, suc, ◌+◌, ◌≤◌, ℤ, pos, ◌+ℤ◌, ◌≤ℤ◌, ◌<ℤ◌, List, [], ◌∷◌, length, take, sum, count_by, eqb, cond, arith, sym, ap, ◌∙◌, refl, subst, slice_get, get_or, Some, ints, not_held, coefficient, value_of, Rule, Automaton, Config, Initial, Step, Steps, Run, At, value_at, number_at, range_with_len, total, CountersAddUp, ParametersStay, SharedNeverFalls, RiseGuardsStayTrue, FallGuardsStayFalse, CountersByFirings, SharedByFirings, leads_into, leads_out_of, update_of, slice_get_within, same_Some}
+use Rattle.ta_base.proofs.Bits.{eqb_turned}
+use Rattle.ta_base.proofs.Sums.{count-cons, weighted_sum-moved, weighted_sum-ones}
+use Rattle.ta_base.proofs.Times.{EachOnce, total-by_times, times-numbers}
 use Rattle.ta_automaton.proofs.Thresholds.{Later, updates_natural, stays_true, stays_below, from_within, to_within}
 use Rattle.ta_automaton.proofs.Moves.{Fits, fits_after, step_later}
-use Rattle.ta_automaton.proofs.Fired.{EachOnce, firings, once}
 
 -- a relation between configurations that each further step at the front keeps holds between the first and each later one
 pub along : (a : Automaton) (R : List ℕ → Config → Config → Type 0) → ((c : Config) → R [] c c) → ((r : ℕ) (rs : List ℕ) (b c d : Config) → Step a r b c → R rs c d → R (r ∷ rs) b d) → (c : Config) (rules : List ℕ) (later : List Config) → Steps a c rules later → (k : ℕ) (d : Config) → slice_get (c ∷ later) k ≡ Some d → R (take k rules) c d
@@ -77,8 +77,8 @@ counters_by_firings a first rules later run k c at l =
     (λ r rs b x d step h.
     let out = count-cons (λ q. leads_out_of l (slice_get a.rules q)) r rs in
     let into = count-cons (λ q. leads_into l (slice_get a.rules q)) r rs in
-    let from = ap (λ t. cond t 1 0) (out_named a l r step.rule step.named) ∙ one_if_turned step.rule.from l in
-    let to = ap (λ t. cond t 1 0) (into_named a l r step.rule step.named) ∙ one_if_turned step.rule.to l in
+    let from = ap {B = ℕ} (λ t. cond t 1 0) (out_named a l r step.rule step.named ∙ eqb_turned step.rule.from l) in
+    let to = ap {B = ℕ} (λ t. cond t 1 0) (into_named a l r step.rule step.named ∙ eqb_turned step.rule.to l) in
     omega (arith, out, into, from, to, step.move.moved l, h))
     first rules later run.steps k c at
 
@@ -99,7 +99,7 @@ each_once : (a : Automaton) (c : Config) (rules : List ℕ) (later : List Config
 each_once a c rules later steps k d at =
     along a (λ rs b e. EachOnce rs (range_with_len 0 (length a.rules))) (λ b. tt)
     (λ r rs b e f step h. (
-      ap (times_in r) (sym (filter_all (range_with_len 0 (length a.rules)))) ∙ once (λ q. true) r 0 (length a.rules) refl (omega arith) (omega (arith, slice_get_within a.rules r step.rule step.named)),
+      times-numbers r 0 (length a.rules) (omega arith) (omega (arith, slice_get_within a.rules r step.rule step.named)),
       h,
     ))
     c rules later steps k d at
@@ -108,46 +108,13 @@ pub shared_by_firings : SharedByFirings
 shared_by_firings a first rules later run k c at x =
     let sum = added a x first rules later run.steps k c at in
     let none = run.initial.shared_zero x in
-    let counts = firings (λ r. update_of x (slice_get a.rules r)) (range_with_len 0 (length a.rules)) (take k rules) (each_once a first rules later run.steps k c at) in
+    let counts = total-by_times (λ r. update_of x (slice_get a.rules r)) (range_with_len 0 (length a.rules)) (take k rules) (each_once a first rules later run.steps k c at) in
     omega (arith, ints, sum, none, counts)
-
--- how often a number is among n numbers from k on
-ones : ℕ → ℕ → ℕ → ℕ
-ones i k zero = 0
-ones i k (suc n) = cond (eqb k i) 1 0 + ones i (k + 1) n
-
-ones-below : (i k n : ℕ) → i < k → ones i k n ≡ 0
-unfolding ones
-ones-below i k zero h = refl
-ones-below i k (suc n) h =
-    let ne : eqb k i ≡ false = grind (arith, nat_tests) in
-    rw ne (omega (arith, ones-below i (k + 1) n (omega arith)))
-
-ones-once : (i k n : ℕ) → k ≤ i → i < k + n → ones i k n ≡ 1
-unfolding ones
-ones-once i k zero h g = absurd (omega arith)
-ones-once i k (suc n) h g = elim (eqb_tells k i) [
-  | inl e ↦ rw e.0 (omega (arith, ones-below i (k + 1) n (let p = e.1 in omega arith)))
-  | inr ne ↦ rw ne.0 (omega (arith, ones-once i (k + 1) n (let p = ne.1 in omega arith) (omega arith)))
-]
-
--- lists that differ by one taken at one number and added at another
-moved_sum : (xs ys : List ℕ) (k from to : ℕ) → length ys ≡ length xs → ((l : ℕ) → get_or ys l 0 + cond (eqb (k + l) from) 1 0 ≡ get_or xs l 0 + cond (eqb (k + l) to) 1 0) → sum ys + ones from k (length xs) ≡ sum xs + ones to k (length xs)
-unfolding ones
-moved_sum [] [] k from to same h = refl
-moved_sum [] (y ∷ ys) k from to same h = absurd (omega arith)
-moved_sum (x ∷ xs) [] k from to same h = absurd (omega arith)
-moved_sum (x ∷ xs) (y ∷ ys) k from to same h =
-    let first : y + cond (eqb k from) 1 0 ≡ x + cond (eqb k to) 1 0 = let e : k + 0 ≡ k = omega arith in subst (λ n. y + cond (eqb n from) 1 0 ≡ x + cond (eqb n to) 1 0) e (h 0) in
-    let rest = moved_sum xs ys (k + 1) from to (omega arith) (λ l. let e : k + suc l ≡ k + 1 + l = omega arith in subst (λ n. get_or ys l 0 + cond (eqb n from) 1 0 ≡ get_or xs l 0 + cond (eqb n to) 1 0) e (h (suc l))) in
-    omega (arith, first, rest, sum_by-cons (λ n. n) x xs, sum_by-cons (λ n. n) y ys)
 
 same_sum : (a : Automaton) (r : ℕ) (before after : Config) → length before.counters ≡ length a.locations → Step a r before after → sum after.counters ≡ sum before.counters
 same_sum a r before after count step =
-    let moved = moved_sum before.counters after.counters 0 step.rule.from step.rule.to step.move.counters_count (λ l. let e : l ≡ 0 + l = omega arith in subst (λ n. get_or after.counters l 0 + cond (eqb n step.rule.from) 1 0 ≡ get_or before.counters l 0 + cond (eqb n step.rule.to) 1 0) e (step.move.moved l)) in
-    let from = ones-once step.rule.from 0 (length before.counters) (omega arith) (omega (arith, from_within a r step.rule step.named)) in
-    let to = ones-once step.rule.to 0 (length before.counters) (omega arith) (omega (arith, to_within a r step.rule step.named)) in
-    omega (arith, moved, from, to)
+    let moved = weighted_sum-moved (λ _. 1) step.rule.from step.rule.to before.counters after.counters (omega (arith, from_within a r step.rule step.named)) (omega (arith, to_within a r step.rule step.named)) step.move.counters_count step.move.moved in
+    omega (arith, moved, weighted_sum-ones 0 before.counters, weighted_sum-ones 0 after.counters)
 
 pub counters_add_up : CountersAddUp
 counters_add_up a first rules later run k c at =

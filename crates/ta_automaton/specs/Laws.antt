@@ -1,5 +1,6 @@
 -- What holds along every run (POPL 2017 for guards that stay true or false; the others are this project's own)
 use Rattle.std.specs.Prelude.{ℕ, ℤ, pos, ◌+◌, ◌*ℤ◌, ◌≤◌, ◌≡◌, ◌==◌, Bool, false, List, length, take, sum, count_by, slice_get, slice_index, Option, Some, None}
+use Rattle.ta_base.specs.Sums.{total, times_in}
 use Rattle.ta_linear.specs.Terms.{coefficient}
 use Rattle.ta_linear.specs.Values.{value_of, RowHolds}
 use Rattle.ta_linear.specs.declared.row.Row.{Row}
@@ -8,7 +9,6 @@ use Rattle.ta_automaton.specs.declared.automaton.Automaton.{Automaton}
 use Rattle.ta_automaton.specs.declared.pattern.Pattern.{Pattern}
 use Rattle.ta_automaton.specs.Runs.{Config, Run, At, Safe, value_at, number_at}
 use Rattle.std.specs.List.{range_with_len}
-use Rattle.ta_automaton.specs.Sums.{total, times_in}
 
 -- at every moment the counters add up to the number of processes
 abbrev pub CountersAddUp : Type 0

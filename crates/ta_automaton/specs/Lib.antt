@@ -4,6 +4,5 @@ pub mod Shape
 pub mod Patterns
 pub mod Numbered
 pub mod Runs
-pub mod Sums
 pub mod Places
 pub mod Laws

@@ -1,6 +1,8 @@
 -- sets of numbers as masks and as tests
 use Rattle.ta_base.proofs.Common.{ℕ, ◌<◌, eqb, max, ◌≡◌, ◌||◌, zero, refl, suc, arith, min, ◌&&◌, true≢false, bit_or, ap, ◌∙◌, bit_and, ◌^◌, ◌==◌, inl, sym, inr, false, ◌≤◌, ◌-◌, true, Bool, not, eqb-true, eq-eqb, ◌*◌, ◌%◌, pow_pos, ◌+◌, ◌⊎◌, IsBitSet, ◌/◌, cond, ◌↔◌, List, filter, [], ◌∷◌, get_or, ◌≢◌, w32, false≢true, cases_lt, and_cases, bit_at, bit_not, eqb_tells, one_shl, and_le_r, AllByRecursion, has_bit, implies, all_below, nat_tests, cases_Bool, Decides-eqb, same_from_decides, ne_eqb, and_parts, subst, cases_eq, not-false, not-true, not-not, and_comm, bit_set_by_shift, Decides-below_and, Decides, filter_agree}
+use Rattle.std.proofs.Math.Pow.{pow-lt}
 use Rattle.std.proofs.lemmas.Nat.Bits.{bit_at_or, bit_at-lt, bit_at_and, same_from_bits, bit_at-pow_same, bit_at-pow_other, bit_at-zero, bit_at_above, bit_at_ones, bit_at_lowest, bit_at-suc, bit_at_cat_low, bit_at_not, shr_and_one}
+use Rattle.std.proofs.lemmas.Nat.{or_lt}
 use Rattle.ta_base.proofs.Naturals.{mask_of, bit_small}
 use Rattle.ta_base.proofs.Booleans.{both_ways, implies-from, and_false}
 use Rattle.ta_base.proofs.Lists.{filter_all}
@@ -220,7 +222,7 @@ bit_on w mask k b h = sym (set_test w mask k b) ∙ elim (eqb_tells (bit_and mas
 pub bit_off : (w mask k : ℕ) → k < w → bit_and mask ((1 * 2 ^ k) % 2 ^ w) ≡ 0 → has_bit mask k ≡ false
 bit_off w mask k b h = sym (set_test w mask k b) ∙ ap not (eq-eqb (bit_and mask ((1 * 2 ^ k) % 2 ^ w)) 0 h)
 
-eqb_turned : (x y : ℕ) → (x == y) ≡ (y == x)
+pub eqb_turned : (x y : ℕ) → (x == y) ≡ (y == x)
 eqb_turned x y = same_from_decides (x == y) (y == x) (Decides-eqb x y) (λ e. sym ((Decides-eqb y x).0 e), λ e. (Decides-eqb y x).1 (sym e))
 
 pub only_bit : (n k : ℕ) → n < 32 → has_bit ((1 * 2 ^ n) % 4294967296) k ≡ (k == n)
@@ -248,3 +250,25 @@ left_bit empty left l e f h =
     ∙ not-not (has_bit (bit_and (bit_not w32 empty) left) l)
     ∙ has_and (bit_not w32 empty) left l
     ∙ ap (λ (c : Bool). c && has_bit left l) (standing_bit empty l e h)
+
+-- the mask of one number has no other number
+pub lone_bit : (k l : ℕ) → k < 32 → IsBitSet (1 * 2 ^ k % 4294967296) l → l ≡ k
+lone_bit k l within b = eqb-true l k (sym (only_bit k l within) ∙ bit_true _ l b)
+
+-- a mask fits that many bits with one of them more
+pub with_bit_fits : (w mask k : ℕ) → mask < 2 ^ w → k < w → bit_or mask ((1 * 2 ^ k) % 2 ^ w) < 2 ^ w
+with_bit_fits w mask k fits below = or_lt w mask ((1 * 2 ^ k) % 2 ^ w) fits (subst (λ n. n < 2 ^ w) (sym (one_shl k w below)) (pow-lt below))
+
+-- tests with one mask agree
+pub mask_of-same : (f g : ℕ → Bool) (n : ℕ) → mask_of f n ≡ mask_of g n → (k : ℕ) → k < n → f k ≡ g k
+mask_of-same f g n same k below = sym (mask_of-bit f n k below) ∙ ap (λ m. has_bit m k) same ∙ mask_of-bit g n k below
+
+-- a mask with one more number
+abbrev pub IsWith : ℕ → ℕ → ℕ → Type 0
+IsWith more mask j = (x : ℕ) → has_bit more x ≡ (eqb j x || has_bit mask x)
+
+pub other_bit : (more mask j x : ℕ) → IsWith more mask j → j ≢ x → has_bit more x ≡ has_bit mask x
+other_bit more mask j x is ne = is x ∙ ap (λ b. b || has_bit mask x) (ne_eqb j x ne)
+
+pub own_bit : (more mask j : ℕ) → IsWith more mask j → has_bit more j ≡ true
+own_bit more mask j is = is j ∙ ap (λ b. b || has_bit mask j) (eq-eqb j j refl)

@@ -1,5 +1,6 @@
 -- truth values: and, or, not, and choices by a test
-use Rattle.ta_base.proofs.Common.{Bool, ◌&&◌, ◌≡◌, true, false, refl, ◌||◌, not, sym, ap, ◌∙◌, true≢false, ◌⊎◌, inl, inr, false≢true, implies, cases_Bool, same_from_decides, beq, or-false, or-true, and-true, not-not, OnTrue, true_from_ne_false, OnTrue_at, OnTrue_from}
+use Rattle.ta_base.proofs.Common.{Bool, ◌&&◌, ◌≡◌, true, false, refl, ◌||◌, not, sym, ap, ◌∙◌, true≢false, ◌⊎◌, inl, inr, false≢true, implies, cases_Bool, same_from_decides, beq, or-false, or-true, and-true, not-not, OnTrue, true_from_ne_false, OnTrue_at, OnTrue_from, cond, Decides}
+use Rattle.std.proofs.lemmas.Bool.Decides.{Decides-and, Decides-like}
 
 pub implies-from : (x y : Bool) → (x ≡ true → y ≡ true) → implies x y ≡ true
 implies-from true y h = h refl
@@ -49,3 +50,21 @@ OnTrue-weaker b P Q f p = OnTrue_from b Q (λ e. f (OnTrue_at {P = P} e p))
 pub same_or_not : (a b : Bool) → (a ≡ b) ⊎ (a ≡ b → ⊥)
 same_or_not a true = elim (cases_Bool a) [ inl t ↦ inl t | inr f ↦ inr (λ t. true≢false (sym t ∙ f)) ]
 same_or_not a false = elim (cases_Bool a) [ inl t ↦ inr (λ f. true≢false (sym t ∙ f)) | inr f ↦ inl f ]
+
+-- a choice that isn't its other value
+pub chosen : {X : Type 0} (b : Bool) (x y z : X) → cond b x y ≡ z → (y ≡ z → ⊥) → (b ≡ true) × (x ≡ z)
+chosen true x y z e other = (refl, e)
+chosen false x y z e other = absurd (other e)
+
+pub not_chosen : {X : Type 0} (b : Bool) (x y z : X) → cond b x y ≡ z → (x ≡ z → ⊥) → (b ≡ false) × (y ≡ z)
+not_chosen true x y z e other = absurd (other e)
+not_chosen false x y z e other = (refl, e)
+
+-- the first of two tests passed, by the value that was chosen
+pub first_passed : {X : Type 0} (a b : Bool) (x y z : X) → cond a x (cond b y z) ≡ x → (y ≡ x → ⊥) → (z ≡ x → ⊥) → a ≡ true
+first_passed a b x y z e second none = (chosen a x (cond b y z) x e (λ w. none (not_chosen b y z x w second).1)).0
+
+-- a test of pairs, by tests of their parts
+pub Decides-pair : {X Y : Type 0} (f : X → X → Bool) (g : Y → Y → Bool) → ((x y : X) → Decides (f x y) (x ≡ y)) → ((x y : Y) → Decides (g x y) (x ≡ y)) → (p q : X × Y) → Decides (f p.0 q.0 && g p.1 q.1) (p ≡ q)
+Decides-pair f g first second (x, c) (y, d) =
+    Decides-like (f x y && g c d) (λ w. let e = w.0 in let h = w.1 in cc) (λ e. (ap (λ t. t.0) e, ap (λ t. t.1) e)) (Decides-and (f x y) (g c d) (first x y) (second c d))

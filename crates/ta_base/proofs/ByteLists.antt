@@ -1,6 +1,9 @@
 -- bytes and texts
-use Rattle.ta_base.proofs.Common.{ℕ, IsTrue, ◌<◌, arith, List, IsAscii, [], ◌∷◌, bytes_eq, ◌≡◌, true, refl, ◌≢◌, false, String, Global, string_eq, string_bytes, map, sym, ◌∙◌, nat_tests, same_from_decides, AllByRecursion, IsDistinct, IsAscii-nil, IsAscii-cons, bytes_eq-Decides, false_from_ne_true, false≢true, is_word, Distinct, IsDistinct-head, IsDistinct-tail}
+use Rattle.ta_base.proofs.Common.{ℕ, IsTrue, ◌<◌, arith, List, IsAscii, [], ◌∷◌, bytes_eq, ◌≡◌, true, refl, ◌≢◌, false, String, Global, string_eq, string_bytes, map, sym, ◌∙◌, nat_tests, same_from_decides, AllByRecursion, IsDistinct, IsAscii-nil, IsAscii-cons, bytes_eq-Decides, false_from_ne_true, false≢true, is_word, Distinct, IsDistinct-head, IsDistinct-tail, ◌⊎◌, inl, inr, ap, cases_eq, Avoids, SplitAt, Some, slice_get, slice_get-get_or, get_or, option_map, Bool}
 use Rattle.ta_base.proofs.Each.{each_map}
+use Rattle.std.proofs.lemmas.List.Quantifiers.{position-Some}
+use Rattle.std.proofs.lemmas.Option.{slice_get-map}
+use Rattle.std.proofs.Common.{position}
 
 -- the bytes of words are ASCII
 word_ascii : (b : ℕ) → IsTrue (is_word b) → b < 128
@@ -32,3 +35,24 @@ bytes_eq_turned m n = same_from_decides (bytes_eq m n) (bytes_eq n m) (bytes_eq-
 -- a name that none of these holes has differs from each of their names
 pub differs : (n m : List ℕ) → bytes_eq n m ≡ false → m ≡ n → ⊥
 differs n m e same = false≢true (sym e ∙ (bytes_eq-Decides n m).1 (sym same))
+
+-- bytes avoid a byte, or are parted at the first such
+pub split_or : (byte : ℕ) (bytes : List ℕ) → Avoids byte bytes ⊎ ((front : List ℕ) × (behind : List ℕ) × SplitAt byte bytes front behind)
+split_or byte [] = inl tt
+split_or byte (b ∷ bytes) = by (cases_eq b byte) (split_or byte bytes)
+  where
+    by : (b ≡ byte) ⊎ (b ≢ byte) → Avoids byte bytes ⊎ ((front : List ℕ) × (behind : List ℕ) × SplitAt byte bytes front behind) → Avoids byte (b ∷ bytes) ⊎ ((front : List ℕ) × (behind : List ℕ) × SplitAt byte (b ∷ bytes) front behind)
+    by (inl e) rest = inr ([], bytes, record { split = ap (λ x. x ∷ bytes) e; first = tt })
+    by (inr ne) (inl none) = inl (ne, none)
+    by (inr ne) (inr s) = inr (b ∷ s.0, s.1, record { split = ap (λ (xs : List ℕ). b ∷ xs) s.2.split; first = (ne, s.2.first) })
+
+-- the test by which a set looks a name up
+abbrev pub is_key : List ℕ → String Global → Bool
+is_key n k = bytes_eq n (string_bytes k)
+
+-- a key that is found stands at its place
+pub key_at : (n : List ℕ) (keys : List (String Global)) (i : ℕ) → position (is_key n) keys ≡ Some i → slice_get (map string_bytes keys) i ≡ Some n
+key_at n [] i e = cc
+key_at n (k ∷ ks) i e =
+    let p = position-Some (is_key n) (k ∷ ks) i k e in
+    slice_get-map string_bytes (k ∷ ks) i ∙ ap (option_map string_bytes) (slice_get-get_or (k ∷ ks) i k p.0) ∙ ap Some (sym ((bytes_eq-Decides n (string_bytes (get_or (k ∷ ks) i k))).0 p.1))

@@ -214,3 +214,6 @@ digits_model = numerals_by_value _ (search rules)
 
 pub zero_text : codes "0" ≡ decimal 0
 zero_text = sym (decimal_digit 0 (omega arith))
+
+pub digit_no_letter : (b : ℕ) → IsTrue (is_ascii_digit b) → is_letter b ≡ false
+digit_no_letter b h = grind (arith, nat_tests)

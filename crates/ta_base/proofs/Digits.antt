@@ -1,7 +1,7 @@
 -- Numbers in decimal: the digits of each, and the number of digits
-use Rattle.ta_base.proofs.Common.{ℕ, ◌+◌, ◌/◌, ◌%◌, ◌^◌, ◌<◌, ◌≤◌, ◌≡◌, ◌≢◌, true, false, List, [], ◌∷◌, ◌++◌, length, get_or, refl, sym, ap, ◌∙◌, decimal, arith, rules, tests, IsTrue, ◌-◌, false≢true, decimal_by_steps_wide, is_ascii_digit, digit_value, AllByRecursion, nat_tests, DigitsAt, NoDecimalAt, is_padded, All-get_or, All-from_recursion}
-use Rattle.ta_base.proofs.DecimalDigits.{digits_are}
-use Rattle.ta_base.proofs.Naturals.{wide}
+use Rattle.ta_base.proofs.Common.{ℕ, ◌+◌, ◌/◌, ◌%◌, ◌^◌, ◌<◌, ◌≤◌, ◌≡◌, ◌≢◌, true, false, List, [], ◌∷◌, ◌++◌, length, get_or, refl, sym, ap, ◌∙◌, decimal, arith, rules, tests, IsTrue, ◌-◌, false≢true, decimal_by_steps_wide, is_ascii_digit, digit_value, AllByRecursion, nat_tests, DigitsAt, NoDecimalAt, is_padded, All-get_or, All-from_recursion, BeginsNoDigit}
+use Rattle.ta_base.proofs.DecimalDigits.{digits_are, decimal_digits, digits_unique}
+use Rattle.ta_base.proofs.Naturals.{wide, small_is_wide}
 
 -- what a number's digits begin with
 Begins : ℕ → List ℕ → Type 0
@@ -35,3 +35,9 @@ digit_at ds i all h = All-get_or (λ c. IsTrue (is_ascii_digit c)) ds i 0 h (All
 
 pub value_of_digit : (c : ℕ) → is_ascii_digit c ≡ true → digit_value c ≡ c - 48
 value_of_digit c h = grind (arith, nat_tests)
+
+-- a numeral begins by a digit
+pub no_numeral : (m : ℕ) (x y : List ℕ) → m < 2 ^ 127 → BeginsNoDigit x → BeginsNoDigit y → decimal m ++ x ≡ y → ⊥
+no_numeral m x y low ends stops e =
+    let none = (digits_unique (decimal m) [] x y (decimal_digits m (small_is_wide m low)) tt ends stops e).0 in
+    false≢true (sym (decimal_plain m (small_is_wide m low)) ∙ ap is_padded none)

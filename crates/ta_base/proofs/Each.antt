@@ -1,5 +1,5 @@
 -- facts about each item of a list
-use Rattle.ta_base.proofs.Common.{ℕ, Bool, List, ◌≡◌, true, IsTrue, [], ◌∷◌, refl, ◌≤◌, length, get_or, arith, sym, ◌∙◌, map, take, ◌+◌, suc, false, All, slice_get, Some, zero, subst, ℤ, filter, inl, inr, ◌⊎◌, ◌++◌, Contains, ◌<◌, ap, drop, take-append-drop, set, pos, ◌^◌, unsigned_abs, ◌-ℤ◌, replicate, ◌≤ℤ◌, length-append, list_all, AllByRecursion, prefix_len, false≢true, same_Some, slice_get-get_or, get_or_from_slice_get, slice_get_within, ints, is_letter, is_word, IsWord, Avoids, EachFrom, Distinct, In, range_with_len, get_or-take, All-take, All-drop, All-replicate, All-from_recursion, recursion_from_All, All-set, All-append, Contains-append_right, length-prefix_len, AllPass-from_list_all, list_all-from_AllPass, prefix_len_passes, length-range_with_len, get_or-range_with_len}
+use Rattle.ta_base.proofs.Common.{ℕ, Bool, List, ◌≡◌, true, IsTrue, [], ◌∷◌, refl, ◌≤◌, length, get_or, arith, sym, ◌∙◌, map, take, ◌+◌, suc, false, All, slice_get, Some, zero, subst, ℤ, filter, inl, inr, ◌⊎◌, ◌++◌, Contains, ◌<◌, ap, drop, take-append-drop, set, pos, ◌^◌, unsigned_abs, ◌-ℤ◌, replicate, ◌≤ℤ◌, length-append, list_all, AllByRecursion, prefix_len, false≢true, same_Some, slice_get-get_or, get_or_from_slice_get, slice_get_within, ints, is_letter, is_word, IsWord, Avoids, EachFrom, Distinct, In, range_with_len, get_or-take, All-take, All-drop, All-replicate, All-from_recursion, recursion_from_All, All-set, All-append, Contains-append_right, length-prefix_len, AllPass-from_list_all, list_all-from_AllPass, prefix_len_passes, length-range_with_len, get_or-range_with_len, cond, slice_range, ◌-◌}
 use Rattle.ta_base.proofs.Lists.{get_map, cut_at}
 use Rattle.ta_base.proofs.Members.{contains_here, in_get_or, in_append, In-right, In-left, in_at, in_map, in_filter, in_or, place_of, in-here, In-map}
 use Rattle.ta_base.proofs.Integers.{less_small}
@@ -20,7 +20,7 @@ pub each_from_in : {X : Type 0} (P : X → Type 0) (xs : List X) → ((x : X) �
 each_from_in P xs h = each_from P xs (λ i x e. h x (in_at xs i x e))
 
 -- each item of a list differs from what isn't in it
-not_in : {X : Type 0} (x : X) (xs : List X) → (In x xs → ⊥) → AllByRecursion (λ y. x ≡ y → ⊥) xs
+pub not_in : {X : Type 0} (x : X) (xs : List X) → (In x xs → ⊥) → AllByRecursion (λ y. x ≡ y → ⊥) xs
 not_in x xs none = each_from_in (λ y. x ≡ y → ⊥) xs (λ y is same. none (subst (λ z. In z xs) (sym same) is))
 
 -- a name begins by a letter
@@ -145,6 +145,9 @@ distinct_take {X = X} k xs d = distinct_left (take k xs) (drop k xs) (subst (λ 
 pub distinct_drop : {X : Type 0} (k : ℕ) (xs : List X) → Distinct xs → Distinct (drop k xs)
 distinct_drop {X = X} k xs d = distinct_right (take k xs) (drop k xs) (subst (λ (z : List X). Distinct z) (sym (take-append-drop k xs)) d)
 
+pub distinct_range : {X : Type 0} (xs : List X) (from to : ℕ) → Distinct xs → Distinct (slice_range xs from to)
+distinct_range xs from to d = distinct_take (to - from) (drop from xs) (distinct_drop from xs d)
+
 -- ---- one more item
 
 pub distinct_append : {X : Type 0} (xs ys : List X) → Distinct xs → Distinct ys → ((x : X) → In x xs → In x ys → ⊥) → Distinct (xs ++ ys)
@@ -238,3 +241,38 @@ above_apart number ks low = each_weaker (λ k. number + 1 ≤ k) (λ k. number �
 -- items with distinct images, each at one place
 pub distinct_map_at : {X Y : Type 0} (f : X → Y) (xs : List X) (i j : ℕ) (x y : X) → Distinct (map f xs) → slice_get xs i ≡ Some x → slice_get xs j ≡ Some y → f x ≡ f y → i ≡ j
 distinct_map_at f xs i j x y distinct at there same = distinct_at (map f xs) i j (f x) distinct (get_map f xs i x at) (get_map f xs j y there ∙ ap Some (sym same))
+
+-- ---- an item of a list, with the items before it and behind it
+pub record Cut {X : Type 0} (x : X) (xs : List X) : Type 0 where
+  pub front : List X
+  pub behind : List X
+  pub cut : xs ≡ front ++ x ∷ behind
+
+pub cut_of : {X : Type 0} (x : X) (xs : List X) → In x xs → Cut x xs
+cut_of x xs is = let at = place_of x xs is in record { front = take at.0 xs; behind = drop (suc at.0) xs; cut = cut_at xs at.0 x at.1 }
+
+pub cut_or : (x : ℕ) (xs : List ℕ) → Cut x xs ⊎ AllByRecursion (λ y. x ≡ y → ⊥) xs
+cut_or x xs = elim (in_or x xs) [ inl is ↦ inl (cut_of x xs is) | inr none ↦ inr (not_in x xs none) ]
+
+-- the longest run of bytes that pass a test: none stands behind them, or one that fails
+abbrev pub Fails : (ℕ → Bool) → List ℕ → Type 0
+Fails p [] = Unit {0}
+Fails p (b ∷ bs) = p b ≡ false
+
+pub fails_after : (p : ℕ → Bool) (xs : List ℕ) → Fails p (drop (prefix_len p xs) xs)
+fails_after p [] = tt
+fails_after p (x ∷ xs) = step (p x) refl (fails_after p xs)
+  where
+    step : (b : Bool) → p x ≡ b → Fails p (drop (prefix_len p xs) xs) → Fails p (drop (cond b (1 + prefix_len p xs) 0) (x ∷ xs))
+    step true e h = let s : 1 + prefix_len p xs ≡ suc (prefix_len p xs) = omega arith in rw s h
+    step false e h = e
+
+pub longest_unique : (p : ℕ → Bool) (a x b y : List ℕ) → AllByRecursion (λ c. IsTrue (p c)) a → Fails p x → AllByRecursion (λ c. IsTrue (p c)) b → Fails p y → a ++ x ≡ b ++ y → (a ≡ b) × (x ≡ y)
+longest_unique p [] x [] y all fails all' fails' e = (refl, e)
+longest_unique p [] x (c ∷ b) y all fails all' fails' e = absurd (let h : p c ≡ false = subst (Fails p) e fails in let g : p c ≡ true = all'.0 in cc)
+longest_unique p (c ∷ a) x [] y all fails all' fails' e = absurd (let h : p c ≡ false = subst (Fails p) (sym e) fails' in let g : p c ≡ true = all.0 in cc)
+longest_unique p (c ∷ a) x (d ∷ b) y all fails all' fails' e =
+    let same : c ≡ d = cc in
+    let rest : a ++ x ≡ b ++ y = cc in
+    let r = longest_unique p a x b y all.1 fails all'.1 fails' rest in
+    (ap (λ (z : ℕ). z ∷ a) same ∙ ap (λ (z : List ℕ). d ∷ z) r.0, r.1)

@@ -1,9 +1,9 @@
 -- whole numbers: signs, sizes, products, and a ruleset that writes polynomials as sums of sorted products
-use Rattle.ta_base.proofs.Common.{ℕ, eq-eqb, ne_eqb, ◌<◌, ◌*◌, ◌≡◌, sym, ◌∙◌, ap, ◌/◌, ℤ, pos, ◌*ℤ◌, arith, unsigned_abs, int_div, negsuc, suc, neg_ℤ, ◌≤ℤ◌, ◌<ℤ◌, ◌+ℤ◌, div-add-mod', ◌-ℤ◌, ◌≢◌, zero, refl, cond, eqb, FitsSigned, w64, ◌≤◌, ◌^◌, true, false, ◌⊎◌, inl, inr, int_lt, Bool, ◌+◌, to_z, of_z, to_z-of_z, subst, mul-le-mul, true≢false, if◌then◌else◌, mul-le-mul_left, div-le_self, mul-le-mul_right, length, replicate, get_or, mul-div_cancel', mul-dvd-mul_left, dvd-mul_right, ◌∣◌, int_div_euclid, IsGcd, int_min, w128, int_rem_euclid, mod_below, ints, fits_signed_from_abs, unsigned_abs-mul, by_lt_z, *ℤ_comm, *ℤ-zero, ◌-◌, nat_tests, cases_Bool, false≢true, cases_eq, props, signed_decimal, length-decimal-le_wide, cases_lt, get_or-replicate, get_or_past, length-replicate, w32, +ℤ_idl, +ℤ_idr, +ℤ_invr, mul-pos, lt_of_mul-lt-mul_left, lt_of_mul-lt-mul_right, cond_both, cond-true, cond-false}
+use Rattle.ta_base.proofs.Common.{ℕ, ◌<◌, ◌*◌, ◌≡◌, sym, ◌∙◌, ap, ◌/◌, ℤ, pos, ◌*ℤ◌, arith, unsigned_abs, int_div, negsuc, suc, neg_ℤ, ◌≤ℤ◌, ◌<ℤ◌, ◌+ℤ◌, div-add-mod', ◌-ℤ◌, ◌≢◌, refl, cond, eqb, FitsSigned, w64, ◌≤◌, ◌^◌, true, false, ◌⊎◌, inl, inr, int_lt, Bool, ◌+◌, to_z, of_z, to_z-of_z, subst, mul-le-mul, true≢false, if◌then◌else◌, mul-le-mul_left, div-le_self, mul-le-mul_right, length, replicate, get_or, mul-div_cancel', mul-dvd-mul_left, dvd-mul_right, ◌∣◌, int_div_euclid, IsGcd, int_min, w128, int_rem_euclid, mod_below, ints, fits_signed_from_abs, unsigned_abs-mul, by_lt_z, *ℤ_comm, *ℤ-zero, ◌-◌, nat_tests, cases_Bool, false≢true, cases_eq, props, signed_decimal, length-decimal-le_wide, cases_lt, get_or-replicate, get_or_past, length-replicate, w32, +ℤ_idl, +ℤ_idr, +ℤ_invr, mul-pos, lt_of_mul-lt-mul_left, lt_of_mul-lt-mul_right, cond_both}
 use borrow.Author.Differences.{product_is, up, down, same_in, sum_is_lem}
-use Rattle.ta_base.proofs.Naturals.{small_is_wide}
-use mir.Val.{SFits}
-use mir.Syntax.{w16}
+use Rattle.ta_base.proofs.Naturals.{cond_apart, cond_same, small_is_wide}
+use mir.Val.{SFits, hbits}
+use mir.Syntax.{w16, Width}
 
 -- a number is its quotient's product and its remainder
 pub euclid : (a b : ℤ) → pos 0 <ℤ b → a ≡ ((int_div_euclid a b *ℤ b) +ℤ int_rem_euclid a b)
@@ -82,11 +82,6 @@ mul_cancel g x y h e = cancel_positive (pos g) x y (omega (arith, ints)) e
 pub add_cond : (a b x : ℕ) (p q : ℤ) → a ≡ b → cond (eqb a x) (p +ℤ q) (pos 0) ≡ (cond (eqb a x) p (pos 0) +ℤ cond (eqb b x) q (pos 0))
 add_cond a b x p q e = grind (arith, ints, nat_tests)
 
--- the sum of a function's values at the numbers below another
-unfoldable pub range_sum : (ℕ → ℤ) → ℕ → ℤ
-range_sum f zero = pos 0
-range_sum f (suc n) = range_sum f n +ℤ f n
-
 pub mul-ge-zero : (a b : ℤ) → pos 0 ≤ℤ a → pos 0 ≤ℤ b → pos 0 ≤ℤ (a *ℤ b)
 mul-ge-zero (pos m) (pos n) h k = omega (arith, ints)
 mul-ge-zero (pos m) (negsuc n) h k = absurd (omega (arith, ints, k))
@@ -123,9 +118,6 @@ if_zero a x z e = grind (arith, ints, nat_tests)
 
 pub times_if : (factor z product : ℤ) (a x : ℕ) → product ≡ (factor *ℤ z) → cond (eqb a x) product (pos 0) ≡ (factor *ℤ cond (eqb a x) z (pos 0))
 times_if factor z product a x is = grind (arith, ints, nat_tests, *ℤ-zero)
-
-pub if_same : (a x : ℕ) (z : ℤ) → a ≡ x → cond (eqb a x) z (pos 0) ≡ z
-if_same a x z h = cond-true (eqb a x) z (pos 0) (eq-eqb a x h)
 
 -- a floor is natural
 pub floor_is : (f : ℤ) → pos 0 ≤ℤ f → f <ℤ pos (2 ^ 126) → (k : ℕ) × (f ≡ pos k) × (k < 2 ^ 126)
@@ -269,9 +261,6 @@ negative_false (negsuc n) e = absurd (true≢false e)
 pub choose_small : (b : Bool) (x y : ℤ) (n : ℕ) → unsigned_abs x ≤ n → unsigned_abs y ≤ n → unsigned_abs (if b then x else y) ≤ n
 choose_small b x y n h g = cond_both b x y (λ z. unsigned_abs z ≤ n) (λ _. h) (λ _. g)
 
-pub times_next : (z : ℤ) (n : ℕ) → (z *ℤ pos (suc n)) ≡ (z +ℤ (z *ℤ pos n))
-times_next z n = omega (arith, ints)
-
 pub product_le : (p x : ℤ) (b : ℕ) → unsigned_abs x ≤ b → unsigned_abs (p *ℤ x) ≤ unsigned_abs p * b
 product_le p x b h = rw (unsigned_abs-mul p x) (mul-le-mul_left (unsigned_abs p) h)
 
@@ -355,11 +344,11 @@ single u y w = cond (eqb u w) y (pos 0)
 
 pub single-at : (u w : ℕ) (y : ℤ) → u ≡ w → single u y w ≡ y
 unfolding single
-single-at u w y e = cond-true (eqb u w) y (pos 0) (eq-eqb u w e)
+single-at u w y e = cond_same u w y (pos 0) e
 
 pub single-elsewhere : (u w : ℕ) (y : ℤ) → u ≢ w → single u y w ≡ pos 0
 unfolding single
-single-elsewhere u w y ne = cond-false (eqb u w) y (pos 0) (ne_eqb u w ne)
+single-elsewhere u w y ne = cond_apart u w y (pos 0) ne
 
 pub cross_arith : (d d' v m q b b' s s' : ℤ) → d *ℤ v ≡ (m *ℤ q) *ℤ b +ℤ m *ℤ s → d' *ℤ v ≡ (m *ℤ q) *ℤ b' +ℤ m *ℤ s' → m *ℤ (d' *ℤ (q *ℤ b +ℤ s)) ≡ m *ℤ (d *ℤ (q *ℤ b' +ℤ s'))
 cross_arith d d' v m q b b' s s' h k =
@@ -383,11 +372,6 @@ minus_one_negates z = omega (arith, ints)
 
 pub positive_prop : (z : ℤ) → IsProp (pos 0 <ℤ z)
 positive_prop z = hlevel props
-
--- the sum of f from a on, over n numbers
-unfoldable pub sum_between : ℕ → ℕ → (ℕ → ℤ) → ℤ
-sum_between a zero f = pos 0
-sum_between a (suc n) f = f a +ℤ sum_between (suc a) n f
 
 pub single-le : (u w : ℕ) (y : ℤ) → y ≤ℤ pos 0 → single u y w ≤ℤ pos 0
 single-le u w y h = elim (cases_eq u w) [ inl same ↦ rw (single-at u w y same) h | inr other ↦ rw (single-elsewhere u w y other) (omega (arith, ints)) ]
@@ -469,3 +453,30 @@ fits_more z f = omega (arith, ints, f)
 
 pub zero_from_bits : (z : ℤ) → SFits w128 z → of_z w128 z ≡ 0 → z ≡ pos 0
 zero_from_bits z f e = omega (arith, ints, f)
+
+-- 1 where a number is natural, else 0
+unfoldable pub natural_one : ℤ → ℕ
+natural_one (pos n) = 1
+natural_one (negsuc n) = 0
+
+pub natural_one-holds : (z : ℤ) → pos 0 ≤ℤ z → natural_one z ≡ 1
+unfolding natural_one
+natural_one-holds (pos n) h = refl
+natural_one-holds (negsuc n) h = absurd (omega (arith, ints))
+
+pub natural_one-fails : (z : ℤ) → (pos 0 ≤ℤ z → ⊥) → natural_one z ≡ 0
+unfolding natural_one
+natural_one-fails (pos n) h = absurd (h (omega (arith, ints)))
+natural_one-fails (negsuc n) h = refl
+
+pub natural_one-most : (z : ℤ) → natural_one z ≤ 1
+unfolding natural_one
+natural_one-most (pos n) = omega arith
+natural_one-most (negsuc n) = omega arith
+
+pub single-natural : (u w : ℕ) (y : ℤ) → pos 0 ≤ℤ y → pos 0 ≤ℤ single u y w
+single-natural u w y h = elim (cases_eq u w) [ inl same ↦ rw (single-at u w y same) h | inr other ↦ rw (single-elsewhere u w y other) (omega (arith, ints)) ]
+
+-- what fits by its absolute value fits with its sign turned
+pub minus_fits : (w : Width) (z : ℤ) → unsigned_abs z < 2 ^ hbits w → SFits w (pos 0 -ℤ z)
+minus_fits w z h = fits_signed_from_abs w (pos 0 -ℤ z) (omega (arith, ap unsigned_abs (zero_minus z) ∙ unsigned_abs-neg z))

@@ -8,8 +8,11 @@ pub mod Members
 pub mod Each
 pub mod Ranges
 pub mod Sums
+pub mod Totals
+pub mod Times
 pub mod Bits
 pub mod ByteLists
 pub mod DecimalDigits
 pub mod Digits
+pub mod Searches
 mod Common

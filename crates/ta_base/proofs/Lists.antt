@@ -1,6 +1,8 @@
 -- lists: items by number, parts, maps, filters
-use Rattle.ta_base.proofs.Common.{ℕ, List, [], ◌∙◌, sym, append-nil, decimal, ◌<◌, get_or, ◌≡◌, take, zero, suc, ◌∷◌, arith, length, ◌≤◌, subst, ◌-◌, ◌+◌, drop, length-drop, ap, ◌++◌, refl, not, eqb, true, rules, tests, ℤ, Bool, Option, if◌then◌else◌, Some, None, false, length-take-le, map, append_assoc, IsTrue, pos, ◌≤ℤ◌, ◌<ℤ◌, ◌^◌, negsuc, length-append, false-eqb, filter, get_or-append-add, eq-eqb, slice_get, ◌⊎◌, inr, inl, cond, take_at, drop_at, replicate, drop-drop, take-append-drop, ext_get_or, reverse, set, ◌+ℤ◌, get_or-set_same, get_or-set_other, ◌≢◌, neg_ℤ, int_div, IsSomeAnd, unsigned_abs, slice_index, ◌==◌, Result, is_ok, OnOk, Ok, Err, split_at, take-append-add, take-length, list_all, prefix_len, list_any, range_with_len, slice_split, onto_first, and_parts, false≢true, or_cases, cases_lt, cases_eq, none-some, same_Some, slice_get_read, slice_get_within, take-append-le, length-map, get_or_append_left, drop_more, get_or-append_right, get_or-replicate, length-replicate, take_more, reverse-append, map-append, nat_tests, eqb_tells, signed_decimal, ints, filter-append, IsDecimal, DecimalAt, Avoids, SplitAt, is_letter, is_word, BeginsByLetter, take_all as take_all_of_Common, get_or_past as get_or_past_of_List, take-take, length-filter, count_by-le-length, get_or_from_slice_get}
+use Rattle.ta_base.proofs.Common.{ℕ, List, [], ◌∙◌, sym, append-nil, decimal, ◌<◌, get_or, ◌≡◌, take, zero, suc, ◌∷◌, arith, length, ◌≤◌, subst, ◌-◌, ◌+◌, drop, length-drop, ap, ◌++◌, refl, not, eqb, true, rules, tests, ℤ, Bool, Option, if◌then◌else◌, Some, None, false, length-take-le, map, append_assoc, IsTrue, pos, ◌≤ℤ◌, ◌<ℤ◌, ◌^◌, negsuc, length-append, false-eqb, filter, get_or-append-add, eq-eqb, slice_get, ◌⊎◌, inr, inl, cond, take_at, drop_at, replicate, drop-drop, take-append-drop, ext_get_or, reverse, set, ◌+ℤ◌, get_or-set_same, get_or-set_other, ◌≢◌, neg_ℤ, int_div, IsSomeAnd, unsigned_abs, slice_index, ◌==◌, Result, is_ok, OnOk, Ok, Err, split_at, take-append-add, take-length, list_all, prefix_len, list_any, range_with_len, slice_split, onto_first, and_parts, false≢true, or_cases, cases_lt, cases_eq, none-some, same_Some, slice_get_read, slice_get_within, take-append-le, length-map, get_or_append_left, drop_more, get_or-append_right, get_or-replicate, length-replicate, take_more, reverse-append, map-append, nat_tests, eqb_tells, signed_decimal, ints, filter-append, IsDecimal, DecimalAt, Avoids, SplitAt, is_letter, is_word, BeginsByLetter, take_all as take_all_of_Common, get_or_past as get_or_past_of_List, take-take, length-filter, count_by-le-length, get_or_from_slice_get, slice_range}
 use Rattle.std.proofs.Math.ListN.{get_or-map as get_or-map_of_ListN}
+use Rattle.std.proofs.lemmas.List.{replicate-append-replicate}
+use Rattle.std.proofs.lemmas.List.{take_rest}
 use Rattle.std.proofs.lemmas.List.Edits.{fill_by_more}
 use Rattle.std.proofs.lemmas.List.Splits.{slice_split-cons_yes, slice_split-cons_no}
 use Rattle.ta_base.proofs.Integers.{pos_same, div-one}
@@ -390,9 +392,6 @@ items_none test xs i d b t =
     let f : ℕ → ℕ = λ k. k in
     omega (arith, ap length (item_none f test xs i d b t), length-map (filter test (take i xs)) f, length-map (filter test (take (i + 1) xs)) f)
 
-pub longer : {X : Type 0} (xs ys zs : List X) → zs ≡ xs ++ ys → length xs ≤ length zs
-longer xs ys zs e = omega (arith, ap length e, length-append xs ys)
-
 pub map_constant : {X Y : Type 0} (z : ℤ) (xs : List X) (ys : List Y) → length xs ≡ length ys → map (λ x. z) xs ≡ map (λ y. z) ys
 map_constant z [] [] e = refl
 map_constant z (x ∷ xs) (y ∷ ys) e = ap (λ zs. z ∷ zs) (map_constant z xs ys (let q = e in omega arith))
@@ -639,3 +638,36 @@ piece_size text piece at place = omega (arith, place, length-append text piece)
 pub cond_append : (pair other : ℕ × ℕ) (others rest ys : List (ℕ × ℕ)) (b : Bool) → cond b (pair ∷ other ∷ (others ++ ys)) (other ∷ (rest ++ ys)) ≡ cond b (pair ∷ other ∷ others) (other ∷ rest) ++ ys
 cond_append pair other others rest ys true = refl
 cond_append pair other others rest ys false = refl
+
+-- numbers, each with its count, are those numbers
+pub firsts : (count : ℕ → ℤ) (ns : List ℕ) → map (λ (pair : ℕ × ℤ). pair.0) (map {B = ℕ × ℤ} (λ n. (n, count n)) ns) ≡ ns
+firsts count [] = refl
+firsts count (n ∷ ns) = ap (λ (ms : List ℕ). n ∷ ms) (firsts count ns)
+
+-- nothing is repeated in an empty list
+pub none_repeated : {X : Type 0} (n : ℕ) (x : X) (xs : List X) → replicate n x ++ xs ≡ [] → n ≡ 0
+none_repeated n x xs e = omega (arith, ap length e, length-append (replicate n x) xs, length-replicate n x)
+
+pub map-replicate : {X Y : Type 0} (f : X → Y) (n : ℕ) (x : X) → map f (replicate n x) ≡ replicate n (f x)
+map-replicate f zero x = refl
+map-replicate f (suc n) x = ap (λ ys. f x ∷ ys) (map-replicate f n x)
+
+-- copies behind a list that is filled up with them
+pub filled_up_more : {X : Type 0} (xs front : List X) (n k : ℕ) (x : X) → length front ≤ n → xs ≡ front ++ replicate (n - length front) x → xs ++ replicate k x ≡ front ++ replicate ((n + k) - length front) x
+filled_up_more xs front n k x within is =
+    let sum : (n - length front) + k ≡ (n + k) - length front = omega arith in
+    ap (λ ys. ys ++ replicate k x) is ∙ append_assoc front (replicate (n - length front) x) (replicate k x)
+    ∙ ap (λ ys. front ++ ys) (replicate-append-replicate (n - length front) k x ∙ ap (λ (i : ℕ). replicate i x) sum)
+
+-- what is cut from a list gives it again
+pub put_together : {X : Type 0} (xs front behind : List X) (n : ℕ) → front ≡ take n xs → behind ≡ drop n xs → xs ≡ front ++ behind
+put_together xs front behind n first rest = sym (ap (λ ys. ys ++ behind) first ∙ ap (λ ys. take n xs ++ ys) rest ∙ take-append-drop n xs)
+
+-- the last part, if it was written
+pub ended : {E : Type 0} (r : Result (Unit {0}) E) (old new w a b c : List ℕ) → w ≡ (old ++ a) ++ b → new ≡ (if is_ok r then w ++ c else w) → OnOk r (new ≡ old ++ (a ++ (b ++ c)))
+ended (Ok x) old new w a b c first last = last ∙ ap (λ (text : List ℕ). text ++ c) first ∙ three_behind old a b c
+ended (Err e) old new w a b c first last = tt
+
+-- what is listed from a number on, up to the end
+pub slice_range-end : {X : Type 0} (xs : List X) (from n : ℕ) → n ≡ length xs → slice_range xs from n ≡ drop from xs
+slice_range-end xs from n e = ap (λ k. take (k - from) (drop from xs)) e ∙ take_rest xs from

@@ -1,5 +1,6 @@
 -- members of lists
-use Rattle.ta_base.proofs.Common.{List, ◌++◌, [], ◌∷◌, inl, inr, map, ap, Bool, ◌≡◌, true, ◌⊎◌, cond, false, filter, sym, ◌∙◌, ℕ, refl, arith, replicate, zero, suc, Contains, subst, slice_get, length, Some, take, ◌<◌, get_or, ◌+◌, reverse, nat_eq, eqb-true, eq-eqb, IsTrue, ◌↔◌, false≢true, slice_get_within, get_or_from_slice_get, take_more, take-length, list_any, AllByRecursion, In, cases_eq, get_or-replicate, length-replicate, or_cases, cond_both, reverse-reverse, All-contains, All-from_recursion, list_any_at}
+use Rattle.ta_base.proofs.Common.{List, ◌++◌, [], ◌∷◌, inl, inr, map, ap, Bool, ◌≡◌, true, ◌⊎◌, cond, false, filter, sym, ◌∙◌, ℕ, refl, arith, replicate, zero, suc, Contains, subst, slice_get, length, Some, take, ◌<◌, get_or, ◌+◌, reverse, nat_eq, eqb-true, eq-eqb, IsTrue, ◌↔◌, false≢true, slice_get_within, get_or_from_slice_get, take_more, take-length, list_any, AllByRecursion, In, cases_eq, get_or-replicate, length-replicate, or_cases, cond_both, reverse-reverse, All-contains, All-from_recursion, list_any_at, slice_range, ◌-◌, drop, take-append-drop, Contains-append_right}
+use Rattle.std.proofs.lemmas.List.Elements.{Contains-append_left}
 use Rattle.ta_base.proofs.Lists.{without_last, only_item, slice_get_left, get_right, get_map, get_parts, get_of_map}
 use mathlib.Core.List.{reverse-cons}
 
@@ -60,10 +61,10 @@ in_replicate q k n i =
     let w = contains_of (replicate k n) q i in
     sym w.2 ∙ get_or-replicate k w.0 n q (omega (arith, w.1, length-replicate k n))
 
-pub contains_here : (x : ℕ) (xs : List ℕ) → Contains (x ∷ xs) x
+pub contains_here : {X : Type 0} (x : X) (xs : List X) → Contains (x ∷ xs) x
 contains_here x xs = (0, omega arith, refl)
 
-pub contains_cases : (x y : ℕ) (xs : List ℕ) → Contains (y ∷ xs) x → (y ≡ x) ⊎ Contains xs x
+pub contains_cases : {X : Type 0} (x y : X) (xs : List X) → Contains (y ∷ xs) x → (y ≡ x) ⊎ Contains xs x
 contains_cases x y xs (zero, b, e) = inl e
 contains_cases x y xs (suc k, b, e) = inr (k, omega arith, e)
 
@@ -154,3 +155,14 @@ known_first n k limit ks below known (inr old) = known k old
 -- what each item has, one that a test finds has
 pub listed : (P : ℕ → Type 0) (x : ℕ) (xs : List ℕ) → AllByRecursion P xs → list_any (λ y. nat_eq y x) xs ≡ true → P x
 listed P x xs each among = All-contains P xs x (All-from_recursion P xs each) (contains_of xs x (found x xs among))
+
+-- an item is the first of a list or stands behind it
+pub contains_from : {X : Type 0} (x y : X) (xs : List X) → (y ≡ x) ⊎ Contains xs x → Contains (y ∷ xs) x
+contains_from x y xs (inl e) = (0, omega arith, e)
+contains_from x y xs (inr c) = (suc c.0, (let b = c.1 in omega arith), c.2)
+
+-- what a part of a list contains, the list contains
+pub contains_in_range : {X : Type 0} (xs : List X) (from to : ℕ) (x : X) → Contains (slice_range xs from to) x → Contains xs x
+contains_in_range {X = X} xs from to x c =
+    let rest : Contains (drop from xs) x = subst (λ (z : List X). Contains z x) (take-append-drop (to - from) (drop from xs)) (Contains-append_left (slice_range xs from to) (drop (to - from) (drop from xs)) x c) in
+    subst (λ (z : List X). Contains z x) (take-append-drop from xs) (Contains-append_right (take from xs) (drop from xs) x rest)

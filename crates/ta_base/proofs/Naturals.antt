@@ -1,5 +1,5 @@
 -- natural numbers: orders, products, powers
-use Rattle.ta_base.proofs.Common.{ℕ, eq-eqb, add-one, ◌<◌, ◌⊎◌, ◌≤◌, zero, inl, inr, arith, suc, ◌*◌, ◌^◌, ◌%◌, ◌-◌, pow_pos, lit<, Bool, cond, ◌+◌, true, false, ◌≡◌, eqb, IsTrue, refl, ◌∙◌, ap, sym, ◌≢◌, not, Option, Some, None, min, ◌&&◌, nat_lt, ◌/◌, mod-lt, ◌==◌, eqb_tells, nat_tests, one_shl, props, cases_eq, cases_lt, pow-le-pow_right, is_letter, is_word, map, length, get_or, ne_eqb, eqb-true, range_with_len, list_any, IsDistinct, IsDistinct-from_apart, length-le_from_distinct_below, le_of_suc-le-suc, lt_of_not-le, lt_of_mul-lt-mul_left, cond_both, cond-true, cond-false, and_left, ltb-true, ltb-false, eqb-false, not-true, div_below, get_or-map-range_with_len, length-map-range_with_len}
+use Rattle.ta_base.proofs.Common.{ℕ, eq-eqb, add-one, ◌<◌, ◌⊎◌, ◌≤◌, zero, inl, inr, arith, suc, ◌*◌, ◌^◌, ◌%◌, ◌-◌, pow_pos, lit<, Bool, cond, ◌+◌, true, false, ◌≡◌, eqb, IsTrue, refl, ◌∙◌, ap, sym, ◌≢◌, not, Option, Some, None, max, min, ◌&&◌, nat_lt, ◌/◌, mod-lt, ◌==◌, nat_tests, one_shl, props, cases_eq, cases_lt, pow-le-pow_right, is_letter, is_word, map, length, get_or, ne_eqb, eqb-true, range_with_len, list_any, IsDistinct, IsDistinct-from_apart, length-le_from_distinct_below, le_of_suc-le-suc, lt_of_not-le, lt_of_mul-lt-mul_left, cond_both, cond-true, cond-false, and_left, ltb-true, ltb-false, eqb-false, not-true, div_below, get_or-map-range_with_len, length-map-range_with_len}
 use Rattle.std.proofs.lemmas.Map.Views.{Contains-from_any}
 
 pub first_bits_below : (n : ℕ) → n < 32 → (1 * 2 ^ n) % 4294967296 - 1 < 2 ^ n
@@ -31,9 +31,6 @@ mask_of-some test (suc n) (suc j) h t = omega (arith, mask_of-some (λ j. test (
 -- ---- sums
 pub left_less : (left : ℕ) (d : ℕ) → suc d ≤ left → d ≤ left - 1
 left_less left d h = omega arith
-
-pub one_if_turned : (x y : ℕ) → cond {A = ℕ} (eqb x y) 1 0 ≡ cond {A = ℕ} (eqb y x) 1 0
-one_if_turned x y = elim (eqb_tells x y) [ inl e ↦ grind (arith, nat_tests) | inr ne ↦ grind (arith, nat_tests) ]
 
 pub word_letter : (b : ℕ) → IsTrue (is_letter b) → IsTrue (is_word b)
 word_letter b l = rw l refl
@@ -98,11 +95,12 @@ below_or_last u n b = elim (cases_eq u n) [ inl e ↦ inr e | inr ne ↦ inl (om
 pub arrives : (from to b c : ℕ) → from ≢ to → b + cond (eqb to from) 1 0 ≡ c + cond (eqb to to) 1 0 → 1 ≤ b
 arrives from to b c ne e = grind (arith, nat_tests)
 
-pub position_here : (x e n m : ℕ) → x ≡ e → cond (eqb x e) n m ≡ n
-position_here x e n m q = cond-true (eqb x e) n m (eq-eqb x e q)
+-- a choice by whether two numbers are equal
+pub cond_same : {A : Type 0} (x y : ℕ) (m n : A) → x ≡ y → cond (eqb x y) m n ≡ m
+cond_same x y m n e = cond-true (eqb x y) m n (eq-eqb x y e)
 
-pub position_other : (x e n m : ℕ) → x ≢ e → cond (eqb x e) n m ≡ m
-position_other x e n m q = cond-false (eqb x e) n m (ne_eqb x e q)
+pub cond_apart : {A : Type 0} (x y : ℕ) (m n : A) → x ≢ y → cond (eqb x y) m n ≡ n
+cond_apart x y m n e = cond-false (eqb x y) m n (ne_eqb x y e)
 
 pub not_same : (x y : ℕ) → not (eqb x y) ≡ true → x ≢ y
 not_same x y t = eqb-false x y (not-true (eqb x y) t)
@@ -195,3 +193,19 @@ rest_below a m n h = (positive a m n h, mod-lt n (positive a m n h))
 
 pub eqb_same : (c : ℕ) → (c == c) ≡ true
 eqb_same c = eq-eqb c c refl
+
+pub max_left : (m n : ℕ) → m ≤ max m n
+max_left m n = grind (arith, nat_tests)
+
+pub max_right : (m n : ℕ) → n ≤ max m n
+max_right m n = grind (arith, nat_tests)
+
+pub max_is : (m n : ℕ) → (max m n ≡ m) ⊎ (max m n ≡ n)
+max_is m n = elim (cases_lt m n) [ inl less ↦ inr (grind (arith, nat_tests)) | inr most ↦ inl (grind (arith, nat_tests)) ]
+
+-- what stands still at a limit, and then at a lower one
+pub capped_again : (r s f low high : ℕ) → low ≤ high → r ≡ min s low → s ≡ min f high → r ≡ min f low
+capped_again r s f low high h a b = grind (arith, nat_tests)
+
+pub capped_below : (r f low : ℕ) → r ≡ min f low → r ≤ low
+capped_below r f low a = grind (arith, nat_tests)

@@ -1,5 +1,5 @@
 -- numbers in a row, and lists of numbers that rise
-use Rattle.ta_base.proofs.Common.{ℕ, ◌≤◌, ◌<◌, ◌+◌, zero, arith, suc, get_or, map, ◌≡◌, ap, ◌∙◌, length, refl, List, [], ◌∷◌, ℤ, slice_get, Some, ◌++◌, Bool, filter, cond, pos, true, sym, length-append, false, subst, None, slice_index_or, get_or_past, length-map, map-append, filter-append, AllByRecursion, In, range_with_len, Rises, get_or_from_slice_get, add-one, ◌-◌, get_or_append_left, get_or-append-add, append-nil, same_Some, cond_both, slice_get_past, fill_by_all, get_or-map-range_with_len, get_or-range_with_len, length-map-range_with_len, length-range_with_len, slice_get-get_or}
+use Rattle.ta_base.proofs.Common.{ℕ, ◌≤◌, ◌<◌, ◌+◌, zero, arith, suc, get_or, map, ◌≡◌, ap, ◌∙◌, length, refl, List, [], ◌∷◌, ℤ, slice_get, Some, ◌++◌, Bool, filter, cond, pos, true, sym, length-append, false, subst, None, slice_index_or, get_or_past, length-map, map-append, filter-append, AllByRecursion, Distinct, In, range_with_len, Rises, get_or_from_slice_get, add-one, ◌-◌, get_or_append_left, get_or-append-add, append-nil, same_Some, cond_both, slice_get_past, fill_by_all, get_or-map-range_with_len, get_or-range_with_len, length-map-range_with_len, length-range_with_len, slice_get-get_or}
 use Rattle.ta_base.proofs.Lists.{filter_shorter, range_more}
 use Rattle.ta_base.proofs.Each.{each_in, each_from, each_from_in, each_get_or}
 use Rattle.ta_base.proofs.Members.{place_of, in_at}
@@ -142,3 +142,8 @@ numbers_get_or k n i h = get_or_from_slice_get (range_with_len k n) i (k + i) 0 
 
 pub each_number : (k n : ℕ) → AllByRecursion (λ x. (k ≤ x) × (x < k + n)) (range_with_len k n)
 each_number k n = each_from_in (λ x. (k ≤ x) × (x < k + n)) (range_with_len k n) (λ x is. in_numbers x k n is)
+
+-- numbers that rise are distinct
+pub rises_distinct : (low high : ℕ) (xs : List ℕ) → Rises low high xs → Distinct xs
+rises_distinct low high [] r = tt
+rises_distinct low high (x ∷ xs) r = (each_from (λ y. x ≡ y → ⊥) xs (λ i y at same. omega (arith, (rises_within (x + 1) high xs r.2 i y at).0)), rises_distinct (x + 1) high xs r.2)

@@ -1,5 +1,6 @@
 pub mod Lists
 pub mod Masks
+pub mod Sums
 pub mod Lending
 pub mod Bytes
 pub mod Decimals

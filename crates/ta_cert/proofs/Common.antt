@@ -1,5 +1,5 @@
 -- The names that the proofs of this crate cite, passed on from one place. Declares nothing.
-pub use Rattle.std.proofs.Common.{Bool, Err, List, MatchOption, MatchResult, None, Ok, Option, Result, Some, [], ap, append-nil, append_assoc, arith, codes, decimal, drop, eqb, eqb-true, false, false-eqb, get_or, inl, inr, is_err, length, length-append, lit<, lit≤, map, min, not, pos, refl, string_bytes, subst, suc, sym, take, take-append-drop, true, zero, ℕ, ℤ, ⊎_elim, ◌++◌, ◌+◌, ◌-◌, ◌<◌, ◌^◌, ◌||◌, ◌∙◌, ◌∷◌, ◌≡◌, ◌≢◌, ◌≤◌, ◌⊎◌}
+pub use Rattle.std.proofs.Common.{Bool, Err, List, MatchOption, MatchResult, None, Ok, Option, Result, Some, [], ap, append-nil, append_assoc, arith, codes, decimal, drop, eqb, eqb-true, false, false-eqb, get_or, inl, inr, is_err, length, length-append, lit<, lit≤, map, min, not, pos, refl, string_bytes, subst, suc, sym, take, true, zero, ℕ, ℤ, ⊎_elim, ◌++◌, ◌+◌, ◌-◌, ◌<◌, ◌^◌, ◌||◌, ◌∙◌, ◌∷◌, ◌≡◌, ◌≢◌, ◌≤◌, ◌⊎◌}
 pub use Rattle.std.proofs.lemmas.Bool.{cases_eq, cases_lt, false_from_ne_true, false≢true, or_from, or_parts}
 pub use Rattle.std.proofs.lemmas.List.{append_cancel_left, at_drop_all, nil_from_length, take-append-le}
 pub use Rattle.std.proofs.result.Match.{err_is}

@@ -1,5 +1,6 @@
 -- A whole text, read piece by piece.
 use Rattle.ta_cert.proofs.Common.{ℕ, ◌+◌, ◌≡◌, List, [], ◌∷◌, ◌++◌, length, Result, Ok, Err, refl, sym, ap, subst, ◌∙◌, append_assoc, append-nil, arith, MatchResult, false≢true, has_end, ReadsLines, IsRefusedText, IsComplete, line_number, numbered_lines, StandsAt, StandsFor, FeedAnswers, FinishAnswers, WasRead, AreGiven, joined, OneReadingByPieces, Line, CertFault, Reader}
+use Rattle.std.proofs.Math.Nat.{zero-add}
 use Rattle.ta_cert.specs.declared.fault.CertFault.TheVariants as fault
 use Rattle.ta_cert.proofs.Standing.{refused_more}
 use Rattle.ta_cert.proofs.Unique.{reads_unique, reads_malformed, reads_trailing}
@@ -32,11 +33,8 @@ goes_on_reading text rest piece behind reader new lines found so cut feeds =
       ls = so.ls ++ completes.new;
       split = so.split ∙ ap (λ xs. so.front ++ xs) cut ∙ sym (append_assoc so.front piece behind);
       stands = subst (StandsAt new (so.front ++ piece)) now gave.0.1;
-      numbers = ap (λ xs. xs ++ found) so.numbers ∙ ap (λ xs. numbered_lines 0 so.ls ++ xs) (completes.numbers ∙ ap (λ ms. numbered_lines (length ms) completes.new) before) ∙ ap (λ k. numbered_lines 0 so.ls ++ numbered_lines k completes.new) (zero_add (length so.ls)) ∙ sym (numbered-append 0 so.ls completes.new);
+      numbers = ap (λ xs. xs ++ found) so.numbers ∙ ap (λ xs. numbered_lines 0 so.ls ++ xs) (completes.numbers ∙ ap (λ ms. numbered_lines (length ms) completes.new) before) ∙ ap (λ k. numbered_lines 0 so.ls ++ numbered_lines k completes.new) (sym (zero-add (length so.ls))) ∙ sym (numbered-append 0 so.ls completes.new);
     }
-  where
-    zero_add : (n : ℕ) → n ≡ 0 + n
-    zero_add n = omega arith
 
 -- a refusal is that of the text
 was_refused : (text : List ℕ) (e : CertFault) → IsRefusedText text e → WasRead text (Err e)
@@ -96,13 +94,10 @@ given_behind text before rest (piece ∷ pieces) lines ls end was given whole =
     let later = given.1 in
     let completes = given.2 in
     let same = (reads_unique text completes.before before completes.old_rest rest completes.was was).0 in
-    let numbers : now ≡ numbered_lines (0 + length before) completes.new = completes.numbers ∙ ap (λ ms. numbered_lines (length ms) completes.new) same ∙ ap (λ k. numbered_lines k completes.new) (from_zero (length before)) in
+    let numbers : now ≡ numbered_lines (0 + length before) completes.new = completes.numbers ∙ ap (λ ms. numbered_lines (length ms) completes.new) same ∙ ap (λ k. numbered_lines k completes.new) (sym (zero-add (length before))) in
     let more : numbered_lines 0 before ++ now ≡ numbered_lines 0 (completes.before ++ completes.new) = ap (λ xs. numbered_lines 0 before ++ xs) numbers ∙ sym (numbered-append 0 before completes.new) ∙ ap (λ ms. numbered_lines 0 (ms ++ completes.new)) (sym same) in
     ap (λ xs. numbered_lines 0 before ++ xs) given.4 ∙ sym (append_assoc (numbered_lines 0 before) now later) ∙ ap (λ xs. xs ++ later) more
     ∙ given_behind (text ++ piece) (completes.before ++ completes.new) completes.rest pieces later ls end completes.reads given.3 (subst (λ t. ReadsLines t ls end) (sym (append_assoc text piece (joined pieces))) whole)
-  where
-    from_zero : (n : ℕ) → n ≡ 0 + n
-    from_zero n = omega arith
 
 pub one_reading_by_pieces : OneReadingByPieces
 one_reading_by_pieces pieces ls lines complete given = given_behind [] [] [] pieces lines ls [] nothing_read given complete.reads

@@ -1,10 +1,10 @@
 -- The names that the proofs of this crate cite, passed on from one place. Declares nothing.
-pub use Rattle.std.proofs.Common.{Bool, Err, FitsSigned, IfErr, IfOk, IsErrOf, List, None, Ok, Option, Result, Some, [], ap, append-nil, append_assoc, arith, codes, cond, drop, false, get_or, inl, inr, is_err, length, length-drop, lit<, lit≤, map, nat_lt, neg_ℤ, of_z, pos, refl, reverse, rules, slice_get, subst, suc, sym, take, take-append-drop, to_z, true, unsigned_abs, zero, ℕ, ℤ, ◌*ℤ◌, ◌++◌, ◌+ℤ◌, ◌+◌, ◌-ℤ◌, ◌<ℤ◌, ◌<◌, ◌^◌, ◌∙◌, ◌∷◌, ◌≡◌, ◌≢◌, ◌≤ℤ◌, ◌≤◌, ◌⊎◌}
+pub use Rattle.std.proofs.Common.{Bool, Err, FitsSigned, IfErr, IfOk, IsErrOf, List, None, Ok, Option, Result, Some, [], ap, append-nil, append_assoc, arith, codes, cond, drop, false, get_or, inl, inr, is_err, length, length-drop, lit<, lit≤, map, nat_lt, of_z, pos, refl, reverse, rules, slice_get, subst, suc, sym, take, take-append-drop, to_z, true, unsigned_abs, zero, ℕ, ℤ, ◌*ℤ◌, ◌++◌, ◌+ℤ◌, ◌+◌, ◌<ℤ◌, ◌<◌, ◌^◌, ◌∙◌, ◌∷◌, ◌≡◌, ◌≢◌, ◌≤ℤ◌, ◌≤◌, ◌⊎◌}
 pub use Rattle.std.proofs.lemmas.Bool.{cases_lt, false_from_ne_true, false≢true, not-true, not_from_false}
 pub use Rattle.std.proofs.lemmas.Int.{fits_signed_from_abs, ints, to_z-of_z}
 pub use Rattle.std.proofs.lemmas.List.{reverse-append, reverse-reverse}
 pub use Rattle.std.proofs.lemmas.Option.{none-some, slice_get_cases, slice_get_within}
-pub use Rattle.std.proofs.lemmas.Result.{err_from_is_err_and}
+pub use Rattle.std.proofs.result.Match.{err_is}
 pub use Rattle.std.specs.Int.{w128}
 pub use Rattle.std.specs.List.{AllByRecursion}
 pub use Rattle.ta_automaton.specs.declared.automaton.Automaton.{Automaton}
@@ -51,7 +51,7 @@ pub use Rattle.ta_cursor.specs.InTrees.{AllGoOn, AllWithin, IsAllWithin, here_at
 pub use Rattle.ta_cursor.specs.Range.{IsJudged}
 pub use Rattle.ta_cursor.specs.declared.cursor.Cursor.{Cursor}
 pub use Rattle.ta_cursor.specs.declared.place.Place.{Place}
-pub use Rattle.ta_encode.proofs.CodeRows.{coefficient_same, constant_same, leaf_back, leaf_of, rows_count, weighted_same}
+pub use Rattle.ta_encode.proofs.CodeRows.{leaf_back, leaf_of, rows_count, weighted_same}
 pub use Rattle.ta_encode.proofs.Preorders.{in_order, weaker_proof}
 pub use Rattle.ta_encode.proofs.Whole.{unbounded_rows, whole_system}
 pub use Rattle.ta_encode.specs.Code.{AreRowsOf, IsRowOf, SystemAt}
@@ -66,7 +66,7 @@ pub use Rattle.ta_farkas.specs.Faults.{FineBefore, FirstMissing, IsFirstFaultOfL
 pub use Rattle.ta_farkas.specs.declared.LeafFault.{LeafFault}
 pub use Rattle.ta_farkas.specs.declared.LeafFault.TheVariants.{NotNegative, Overflow, Positive, RowNumber}
 pub use Rattle.ta_implied.proofs.Chains.{leads_along}
-pub use Rattle.ta_implied.specs.Implied.{AreCopies, Good, ImplySystem, IsCopy, IsPair, resilience_rows}
+pub use Rattle.ta_implied.specs.Implied.{Good, IsPair}
 pub use Rattle.ta_implied.specs.Orders.{IsShown, JoinsPair, MayJoin, with_pair}
 pub use Rattle.ta_implied.specs.Refused.{FailsToShow, IsOrderFault}
 pub use Rattle.ta_linear.specs.Leaf.{AreMultipliers, LeafOf, coefficient_in, constant_in}

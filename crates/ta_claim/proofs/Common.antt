@@ -4,7 +4,6 @@ pub use Rattle.std.proofs.lemmas.Option.{slice_get-map, slice_get_read, slice_ge
 pub use Rattle.std.proofs.lemmas.Result.{IfOk-weaker}
 pub use Rattle.std.specs.List.{range_with_len}
 pub use Rattle.std.specs.Prelude.{filter, if◌then◌else◌, ◌==◌, ◌↔◌}
-pub use Rattle.ta_automaton.proofs.Numbered.{same_pattern}
 pub use Rattle.ta_automaton.specs.Patterns.{PatternOver}
 pub use Rattle.ta_automaton.specs.declared.automaton.Automaton.{Automaton}
 pub use Rattle.ta_automaton.specs.declared.file.File.{File}

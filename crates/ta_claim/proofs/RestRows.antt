@@ -5,7 +5,6 @@ use Rattle.ta_encode.specs.declared.ending.WordEnd.{WordEnd}
 use Rattle.ta_encode.specs.Ends.{EndedSystem, ended_rows}
 use Rattle.ta_encode.specs.System.{LinearRow, bound_row, counter_row, guard_rows, negated, opposite, word_rows}
 use Rattle.ta_encode.proofs.Ended.{guards_same}
-use Rattle.ta_claim.proofs.PatternWords.{comes_legal}
 use Rattle.ta_claim.specs.RestEnds.{IsRestEnd}
 
 -- the search of rest comes to the words of the pattern under no pairs

@@ -1,6 +1,7 @@
 -- what a unit step does to counts and lines
-use Rattle.ta_compress.proofs.Common.{◌≡◌, inl, inr, ℕ, zero, suc, ◌+◌, ◌-◌, ◌<◌, ◌≤◌, ℤ, pos, ◌+ℤ◌, ◌*ℤ◌, ◌≤ℤ◌, List, [], ◌∷◌, ◌++◌, length, map, set, replicate, arith, sym, ap, ◌∙◌, refl, subst, slice_get, append_assoc, append-nil, fun_ext, ints, cases_lt, eqb_tells, get_or-set_same, get_or-set_other, length-set, next_value, point_of, zero-*ℤ, Automaton, one_if, rule_change, one_if-ne, one_if-natural, Guards, IsOf, GuardsAre, GuardsStay, ArrangedOf, AreRuleCounts, count_at, RunFault, RunLine, step_line, Draft, CompressFault, Replay, TooManySteps, Memory, unit, Advances, Closes, CountsStep, DraftAt, HasFallen, GuardsOutOfRangeWithin, MayRepeat, MayStep, OneMore, DraftIsReady, RepeatsRule, RepeatStops, Room, SameGuards, repeated, zeros}
-use Rattle.ta_counter.proofs.Moving.{one_if-one}
+use Rattle.ta_compress.proofs.Common.{◌≡◌, inl, inr, ℕ, ◌+◌, ◌-◌, ◌<◌, ◌≤◌, ℤ, pos, ◌+ℤ◌, ◌*ℤ◌, List, [], ◌∷◌, ◌++◌, length, map, set, replicate, arith, sym, ap, ◌∙◌, refl, subst, slice_get, append_assoc, append-nil, fun_ext, ints, cases_lt, eqb_tells, get_or-set_same, get_or-set_other, length-set, next_value, point_of, zero-*ℤ, Automaton, one_if, rule_change, one_if-ne, one_if-natural, Guards, IsOf, GuardsAre, GuardsStay, ArrangedOf, AreRuleCounts, count_at, RunFault, RunLine, step_line, Draft, CompressFault, Replay, TooManySteps, Memory, unit, Advances, Closes, CountsStep, DraftAt, HasFallen, GuardsOutOfRangeWithin, MayRepeat, MayStep, OneMore, DraftIsReady, RepeatsRule, RepeatStops, Room, SameGuards, repeated, zeros}
+use Rattle.std.proofs.lemmas.List.{replicate_more}
+use Rattle.ta_base.proofs.Totals.{one_if-one, one_if-most}
 use Rattle.ta_counter.specs.declared.config.Config.{Config}
 use Rattle.ta_replay.specs.declared.fault.RunFault.TheVariants as runs
 use Rattle.ta_compress.proofs.Drafting.{advance, no_counts, zero_counts}
@@ -22,9 +23,6 @@ one_more_set r counts z b is = record {
         omega (arith, ints))
   ];
 }
-
-one_most : (r q : ℕ) → one_if r q ≤ℤ pos 1
-one_most r q = elim (eqb_tells r q) [ inl e ↦ rw e.0 (omega (arith, ints)) | inr ne ↦ rw ne.0 (omega (arith, ints)) ]
 
 pub one_more_counts : (a : Automaton) (r : ℕ) (counts more : List ℤ) → AreRuleCounts a counts → OneMore r counts more → AreRuleCounts a more
 one_more_counts a r counts more c one = record {
@@ -78,7 +76,7 @@ advances a r old new config ready is moved guards same counts counted =
 
 -- one unit step more takes its part of the room
 room_after : (a : Automaton) (r : ℕ) (f g : ℕ → ℤ) (old new : Draft) (more : ℕ) → AreRuleCounts a old.counts.items → CountsStep a r f g old new → Room (1 + more) old.counts.items → Room more new.counts.items
-room_after a r f g old new more c (inl s) room q = omega (arith, ints, s.counted.counted q, one_most r q, room q)
+room_after a r f g old new more c (inl s) room q = omega (arith, ints, s.counted.counted q, one_if-most r q, room q)
 room_after a r f g old new more c (inr (inl s)) room q = omega (arith, ints, no_counts a new.counts.items s.closes.none_left q, c.natural q, room q)
 room_after a r f g old new more c (inr (inr s)) room q = omega (arith, ints, no_counts a new.counts.items s.closes.none_left q, c.natural q, room q)
 
@@ -99,17 +97,13 @@ going_none a r factor old ready = record {
   room = λ more room. (let e : factor + more ≡ (factor - 0) + more = omega arith in subst (λ n. Room n old.counts.items) e room);
 }
 
-replicate_more : (k r : ℕ) → replicate (k + 1) (unit r) ≡ replicate k (unit r) ++ unit r ∷ []
-replicate_more zero r = refl
-replicate_more (suc k) r = (let e : suc k + 1 ≡ suc (k + 1) = omega arith in ap (λ n. replicate n (unit r)) e ∙ ap (λ (ls : List RunLine). unit r ∷ ls) (replicate_more k r))
-
 pub going_more : (a : Automaton) (r factor times : ℕ) (old now new : Draft) → times < factor → Going a r factor times old now → Advances a r now new → Going a r factor (times + 1) old new
 going_more a r factor times old now new less g step =
     let moved : RepeatsRule a r old.config.values.items (times + 1) new.config.values.items = (λ place. (let c = rule_change a (slice_get a.rules r) place in step.moved place ∙ ap (λ z. z +ℤ (pos 1 *ℤ c)) (g.moved place) ∙ next_value times (point_of old.config.values.items place) c)) in
     record {
       ready = step.ready;
       moved = moved;
-      goes = λ first done d. subst (λ (ls : List RunLine). DraftAt a first ls new) (append_assoc done (replicate times (unit r)) (unit r ∷ []) ∙ ap (λ (ls : List RunLine). done ++ ls) (sym (replicate_more times r))) (advance a first (done ++ replicate times (unit r)) r now new (g.goes first done d) step);
+      goes = λ first done d. subst (λ (ls : List RunLine). DraftAt a first ls new) (append_assoc done (replicate times (unit r)) (unit r ∷ []) ∙ ap (λ (ls : List RunLine). done ++ ls) (replicate_more times (unit r))) (advance a first (done ++ replicate times (unit r)) r now new (g.goes first done d) step);
       stayed = λ t some most. elim (cases_lt times t) [
         | inl more ↦ (
             let same : times + 1 ≡ t = omega arith in

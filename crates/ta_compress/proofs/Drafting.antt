@@ -1,17 +1,11 @@
 -- a draft grows line by line
-use Rattle.ta_compress.proofs.Common.{◌≡◌, inl, inr, ℕ, ◌+◌, ◌<◌, ℤ, pos, ◌+ℤ◌, List, [], ◌∷◌, ◌++◌, length, map, eqb, cond, arith, sym, ap, ◌∙◌, refl, subst, slice_get, append_assoc, append-nil, fun_ext, ints, eqb_tells, ext_get_or, length-replicate, one_times, replicate_zeros, split_last, point_of, Automaton, one_if, rule_change, total, times_in, total-append, IsOf, GuardsAre, StartsAt, ArrangedOf, AreRuleCounts, count_at, Run, RunLine, Mark, line_change, Draft, unit, value_after, Switches, Drops, step_line, CutPiece, AreCut, IsPiece, IsShortened, Still, SwitchesAt, DropsAt, units, lines_in, counts_of, Advances, IsFirstDraft, Closes, CountsStep, DraftAt, OneMore, DraftIsReady, RepeatsRule, zeros}
+use Rattle.ta_compress.proofs.Common.{◌≡◌, inl, inr, ℕ, ◌+◌, ◌<◌, ℤ, pos, ◌+ℤ◌, List, [], ◌∷◌, ◌++◌, length, map, arith, sym, ap, ◌∙◌, refl, subst, slice_get, append_assoc, append-nil, fun_ext, ints, ext_get_or, length-replicate, one_times, replicate_zeros, split_last, point_of, Automaton, rule_change, total, times_in, total-append, IsOf, GuardsAre, StartsAt, ArrangedOf, AreRuleCounts, count_at, Run, RunLine, Mark, line_change, Draft, unit, value_after, Switches, Drops, step_line, CutPiece, AreCut, IsPiece, IsShortened, Still, SwitchesAt, DropsAt, units, lines_in, counts_of, Advances, IsFirstDraft, Closes, CountsStep, DraftAt, OneMore, DraftIsReady, RepeatsRule, zeros, length-append}
+use Rattle.ta_base.proofs.Times.{times-push}
+use Rattle.ta_base.proofs.Totals.{one_if-number}
 use Rattle.ta_counter.specs.declared.config.Config.{Config}
 use Rattle.ta_compress.proofs.Cutting.{mark-value}
 use Rattle.ta_compress.proofs.Rearranging.{count_in, counts_length}
 use Rattle.ta_compress.proofs.Steady.{units-append}
-
-pub times_push : (q : ℕ) (xs : List ℕ) (r : ℕ) → times_in q (xs ++ r ∷ []) ≡ times_in q xs + cond (eqb r q) 1 0
-unfolding times_in
-times_push q [] r = omega arith
-times_push q (x ∷ xs) r = omega (arith, times_push q xs r)
-
-one_cond : (r q : ℕ) → one_if r q ≡ pos (cond (eqb r q) 1 0)
-one_cond r q = elim (eqb_tells r q) [ inl e ↦ rw e.0 refl | inr ne ↦ rw ne.0 refl ]
 
 -- counts that say how often each rule is in a list
 pub counts_are : (a : Automaton) (xs : List ℕ) (counts : List ℤ) → length counts ≡ length a.rules → ((r : ℕ) → r < length a.rules → count_at counts r ≡ pos (times_in r xs)) → counts ≡ counts_of a xs
@@ -90,15 +84,12 @@ closed a first done piece counts old new d ready whole reached is p c same = rec
   open_ = [];
   done_is = is ∙ sym (append-nil (d.written ++ lines_in piece));
   cut = subst (λ (ls : List RunLine). AreCut a first [] (d.written ++ lines_in piece) (d.pieces ++ piece ∷ []) ls) (sym c.lines) (cut_push a first piece (map step_line c.steps ++ piece.kept) d.pieces [] d.written old.lines.items d.cut p (closed_short a piece counts old new c same));
-  still = λ front r behind e switches. nothing front r behind e;
+  still = λ front r behind e switches. omega (arith, ap length e, length-append front (r ∷ behind));
   counted = λ r b. no_counts a new.counts.items c.none_left r;
-} where
-  nothing : (front : List ℕ) (r : ℕ) (behind : List ℕ) → [] ≡ front ++ r ∷ behind → ⊥
-  nothing [] r behind e = absurd (cc)
-  nothing (f ∷ fs) r behind e = absurd (cc)
+}
 
 counted_push : (a : Automaton) (r : ℕ) (xs : List ℕ) (counts more : List ℤ) → ((q : ℕ) → q < length a.rules → count_at counts q ≡ pos (times_in q xs)) → OneMore r counts more → (q : ℕ) → q < length a.rules → count_at more q ≡ pos (times_in q (xs ++ r ∷ []))
-counted_push a r xs counts more each one q b = omega (arith, ints, one.counted q, each q b, times_push q xs r, one_cond r q)
+counted_push a r xs counts more each one q b = omega (arith, ints, one.counted q, each q b, times-push q xs r, one_if-number r q)
 
 -- a unit step more
 pub advance : (a : Automaton) (first : List ℤ) (done : List RunLine) (r : ℕ) (old new : Draft) → DraftAt a first done old → Advances a r old new → DraftAt a first (done ++ unit r ∷ []) new
@@ -171,11 +162,8 @@ begun a run draft starts is guards none empty = record {
     open_ = [];
     done_is = refl;
     cut = (refl, empty);
-    still = λ front r behind e switches. no_items front r behind e;
+    still = λ front r behind e switches. omega (arith, ap length e, length-append front (r ∷ behind));
     counted = λ r b. no_counts a draft.counts.items none r;
   };
   room = λ r. omega (arith, ints, no_counts a draft.counts.items none r);
-} where
-  no_items : (front : List ℕ) (r : ℕ) (behind : List ℕ) → [] ≡ front ++ r ∷ behind → ⊥
-  no_items [] r behind e = absurd (cc)
-  no_items (f ∷ fs) r behind e = absurd (cc)
+}

@@ -1,65 +1,25 @@
 -- how many pieces there are
-use Rattle.ta_compress.proofs.Common.{◌≡◌, inl, inr, ℕ, zero, suc, ◌+◌, ◌-◌, ◌<◌, ◌≤◌, ℤ, pos, negsuc, ◌≤ℤ◌, List, [], ◌∷◌, ◌++◌, length, arith, sym, ap, ◌∙◌, refl, subst, slice_get, Some, append_assoc, append-nil, fun_ext, ints, AllByRecursion, each_back, each_front, some_at, value_of, RowHolds, Row, Automaton, Pattern, EachRule, later_after, Later, falls, fall_back, stays_true, RunLine, Step, Mark, LineFits, marks_count, unit, value_after, Switches, Drops, CutPiece, AreCut, IsPiece, units, lines_in}
+use Rattle.ta_compress.proofs.Common.{◌≡◌, inl, inr, ℕ, ◌+◌, ◌-◌, ◌<◌, ◌≤◌, ℤ, List, [], ◌∷◌, ◌++◌, length, arith, sym, ap, ◌∙◌, refl, subst, slice_get, Some, append_assoc, append-nil, fun_ext, ints, AllByRecursion, each_back, each_front, some_at, value_of, RowHolds, Row, Automaton, Pattern, EachRule, later_after, Later, falls, fall_back, stays_true, RunLine, Step, Mark, LineFits, marks_count, unit, value_after, Switches, Drops, CutPiece, AreCut, IsPiece, units, lines_in}
+use Rattle.ta_base.proofs.Integers.{natural_one-fails, natural_one-holds, natural_one-most}
+unfoldable use Rattle.ta_base.proofs.Integers.{natural_one}
+use Rattle.std.proofs.Common.{sum_by}
+use Rattle.ta_base.proofs.Sums.{sum_by-less, sum_by-most, sum_by-no_more}
 use Rattle.ta_compress.proofs.Steady.{holds_or, units-value, units-append, done_append}
 use Rattle.ta_compress.proofs.Cutting.{mark-value}
 
--- 1 where a value is natural
-one_or : ℤ → ℕ
-one_or (pos n) = 1
-one_or (negsuc n) = 0
-
-one_holds : (z : ℤ) → pos 0 ≤ℤ z → one_or z ≡ 1
-unfolding one_or
-one_holds (pos n) h = refl
-one_holds (negsuc n) h = absurd (omega (arith, ints))
-
-one_fails : (z : ℤ) → (pos 0 ≤ℤ z → ⊥) → one_or z ≡ 0
-unfolding one_or
-one_fails (pos n) h = absurd (h (omega (arith, ints)))
-one_fails (negsuc n) h = refl
-
-one_most : (z : ℤ) → one_or z ≤ 1
-unfolding one_or
-one_most (pos n) = omega arith
-one_most (negsuc n) = omega arith
-
--- a sum over rows
-sum_rows : (Row → ℕ) → List Row → ℕ
-sum_rows f [] = 0
-sum_rows f (row ∷ rows) = f row + sum_rows f rows
-
-sum_no_more : (f g : Row → ℕ) (rows : List Row) → ((i : ℕ) (row : Row) → slice_get rows i ≡ Some row → g row ≤ f row) → sum_rows g rows ≤ sum_rows f rows
-unfolding sum_rows
-sum_no_more f g [] h = omega arith
-sum_no_more f g (row ∷ rows) h = omega (arith, h 0 row refl, sum_no_more f g rows (λ i r at. h (suc i) r at))
-
-sum_less : (f g : Row → ℕ) (rows : List Row) → ((i : ℕ) (row : Row) → slice_get rows i ≡ Some row → g row ≤ f row) → (j : ℕ) (this : Row) → slice_get rows j ≡ Some this → g this < f this → sum_rows g rows < sum_rows f rows
-unfolding sum_rows
-sum_less f g [] h j this at less = absurd (cc)
-sum_less f g (row ∷ rows) h zero this at less =
-    let same : row ≡ this = cc in
-    let here : g row < f row = subst (λ (r : Row). g r < f r) (sym same) less in
-    omega (arith, sum_no_more f g rows (λ i r there. h (suc i) r there))
-sum_less f g (row ∷ rows) h (suc j) this at less = omega (arith, h 0 row refl, sum_less f g rows (λ i r there. h (suc i) r there) j this at less)
-
-sum_most : (f : Row → ℕ) (rows : List Row) → ((row : Row) → f row ≤ 1) → sum_rows f rows ≤ length rows
-unfolding sum_rows
-sum_most f [] h = omega arith
-sum_most f (row ∷ rows) h = omega (arith, h row, sum_most f rows h)
-
 closed : (ℕ → ℤ) → Row → ℕ
-closed f row = 1 - one_or (value_of f row.form)
+closed f row = 1 - natural_one (value_of f row.form)
 
 open_ : (ℕ → ℤ) → Row → ℕ
-open_ f row = one_or (value_of f row.form)
+open_ f row = natural_one (value_of f row.form)
 
 -- how many guards can still switch
 pub left : Automaton → (ℕ → ℤ) → ℕ
-left a f = sum_rows (closed f) a.rise + sum_rows (open_ f) a.fall
+left a f = sum_by (closed f) a.rise + sum_by (open_ f) a.fall
 
 pub left_most : (a : Automaton) (f : ℕ → ℤ) → left a f ≤ length a.rise + length a.fall
 unfolding left closed open_
-left_most a f = omega (arith, sum_most (closed f) a.rise (λ row. omega arith), sum_most (open_ f) a.fall (λ row. one_most (value_of f row.form)))
+left_most a f = omega (arith, sum_by-most (closed f) a.rise (λ row. omega arith), sum_by-most (open_ f) a.fall (λ row. natural_one-most (value_of f row.form)))
 
 fall_later : (a : Automaton) (f g : ℕ → ℤ) → Later a f g → (j : ℕ) (row : Row) → slice_get a.fall j ≡ Some row → RowHolds g row → RowHolds f row
 fall_later a f g later j row at h = omega (arith, ints, h, fall_back a f g later row.form.terms (falls a j row at))
@@ -67,30 +27,30 @@ fall_later a f g later j row at h = omega (arith, ints, h, fall_back a f g later
 closed_less : (a : Automaton) (f g : ℕ → ℤ) → Later a f g → (i : ℕ) (row : Row) → slice_get a.rise i ≡ Some row → closed g row ≤ closed f row
 unfolding closed
 closed_less a f g later i row at = elim (holds_or f row) [
-  | inl holds ↦ omega (arith, one_holds (value_of f row.form) holds, one_holds (value_of g row.form) (stays_true a f g later i row at holds))
-  | inr fails ↦ omega (arith, one_fails (value_of f row.form) fails)
+  | inl holds ↦ omega (arith, natural_one-holds (value_of f row.form) holds, natural_one-holds (value_of g row.form) (stays_true a f g later i row at holds))
+  | inr fails ↦ omega (arith, natural_one-fails (value_of f row.form) fails)
 ]
 
 open_less : (a : Automaton) (f g : ℕ → ℤ) → Later a f g → (j : ℕ) (row : Row) → slice_get a.fall j ≡ Some row → open_ g row ≤ open_ f row
 unfolding open_
 open_less a f g later j row at = elim (holds_or g row) [
-  | inl holds ↦ omega (arith, one_holds (value_of g row.form) holds, one_holds (value_of f row.form) (fall_later a f g later j row at holds))
-  | inr fails ↦ omega (arith, one_fails (value_of g row.form) fails)
+  | inl holds ↦ omega (arith, natural_one-holds (value_of g row.form) holds, natural_one-holds (value_of f row.form) (fall_later a f g later j row at holds))
+  | inr fails ↦ omega (arith, natural_one-fails (value_of g row.form) fails)
 ]
 
 pub left_less : (a : Automaton) (f g : ℕ → ℤ) → Later a f g → left a g ≤ left a f
 unfolding left
-left_less a f g later = omega (arith, sum_no_more (closed f) (closed g) a.rise (closed_less a f g later), sum_no_more (open_ f) (open_ g) a.fall (open_less a f g later))
+left_less a f g later = omega (arith, sum_by-no_more (closed f) (closed g) a.rise (closed_less a f g later), sum_by-no_more (open_ f) (open_ g) a.fall (open_less a f g later))
 
 -- a switch leaves less
 pub left_fewer : (a : Automaton) (f g : ℕ → ℤ) → Later a f g → Switches a f g → left a g < left a f
 unfolding left closed open_
 left_fewer a f g later (inl s) = elim s.differs [
   | inl d ↦ absurd (d.1 (stays_true a f g later s.number s.row s.named d.0))
-  | inr d ↦ omega (arith, sum_less (closed f) (closed g) a.rise (closed_less a f g later) s.number s.row s.named (omega (arith, one_fails (value_of f s.row.form) d.0, one_holds (value_of g s.row.form) d.1)), sum_no_more (open_ f) (open_ g) a.fall (open_less a f g later))
+  | inr d ↦ omega (arith, sum_by-less (closed f) (closed g) a.rise (closed_less a f g later) s.number s.row s.named (omega (arith, natural_one-fails (value_of f s.row.form) d.0, natural_one-holds (value_of g s.row.form) d.1)), sum_by-no_more (open_ f) (open_ g) a.fall (open_less a f g later))
 ]
 left_fewer a f g later (inr s) = elim s.differs [
-  | inl d ↦ omega (arith, sum_no_more (closed f) (closed g) a.rise (closed_less a f g later), sum_less (open_ f) (open_ g) a.fall (open_less a f g later) s.number s.row s.named (omega (arith, one_holds (value_of f s.row.form) d.0, one_fails (value_of g s.row.form) d.1)))
+  | inl d ↦ omega (arith, sum_by-no_more (closed f) (closed g) a.rise (closed_less a f g later), sum_by-less (open_ f) (open_ g) a.fall (open_less a f g later) s.number s.row s.named (omega (arith, natural_one-holds (value_of f s.row.form) d.0, natural_one-fails (value_of g s.row.form) d.1)))
   | inr d ↦ absurd (d.0 (fall_later a f g later s.number s.row s.named d.1))
 ]
 

@@ -1,5 +1,6 @@
 -- the compressed run
-use Rattle.ta_compress.proofs.Common.{◌≡◌, inl, inr, ℕ, suc, ◌+◌, ◌<◌, ◌≤◌, ℤ, pos, negsuc, ◌≤ℤ◌, List, [], ◌∷◌, ◌++◌, length, map, take, arith, sym, ap, ◌∙◌, refl, subst, slice_get, get_or, Some, None, Option, append_assoc, length-append, ints, eqb_tells, length-map, same_Some, AllByRecursion, each_append, each_back, each_front, each_take, InRange, Automaton, File, Pattern, Config, InScope, total, times_in, pattern_within, naturals, Value, count_at, StepsWithin, Run, RunLine, Mark, Fits, LineFits, OncePerRule, step_line, last_lines, piece_lines, pieces_lines, steps_count, IsFirstConfig, Shows, ShowsPattern, marks_count, shown_first, IsSmallReplay, IsShortRun, unit, unfolded, value_after, CutPiece, CompressOf, AreCut, IsPiece, IsShortened, counts_of, lines_in, units, SameTale, LinesTell, first_whole}
+use Rattle.ta_compress.proofs.Common.{◌≡◌, inl, inr, ℕ, suc, ◌+◌, ◌<◌, ◌≤◌, ℤ, pos, negsuc, ◌≤ℤ◌, List, [], ◌∷◌, ◌++◌, length, map, take, arith, sym, ap, ◌∙◌, refl, subst, slice_get, get_or, Some, None, Option, append_assoc, length-append, ints, length-map, same_Some, AllByRecursion, each_append, each_back, each_front, each_take, InRange, Automaton, File, Pattern, Config, InScope, total, times_in, pattern_within, naturals, Value, count_at, StepsWithin, Run, RunLine, Mark, Fits, LineFits, OncePerRule, step_line, last_lines, piece_lines, pieces_lines, steps_count, IsFirstConfig, Shows, ShowsPattern, marks_count, shown_first, IsSmallReplay, IsShortRun, unit, unfolded, value_after, CutPiece, CompressOf, AreCut, IsPiece, IsShortened, counts_of, lines_in, units, SameTale, LinesTell, first_whole}
+use Rattle.ta_base.proofs.Times.{times-most}
 use Rattle.std.proofs.lemmas.Nat.{mul-le}
 use Rattle.ta_scope.proofs.Arranging.{arranged_within}
 use Rattle.ta_replay.specs.Pieces as pieces
@@ -145,14 +146,6 @@ is_short file run short scope fits admitted c p named =
     let product = mul-le (length parts.parts) (length a.rules + 1) (length a.rise + length a.fall + length p.events) (length a.rules + 1) count (omega arith) in
     omega (arith, most, short_ones, product)
 
-times_most : (r : ℕ) (xs : List ℕ) → times_in r xs ≤ length xs
-unfolding times_in
-times_most r [] = omega arith
-times_most r (x ∷ xs) = elim (eqb_tells x r) [
-  | inl e ↦ rw e.0 (omega (arith, times_most r xs))
-  | inr ne ↦ rw ne.0 (omega (arith, times_most r xs))
-]
-
 small_fits : (z : ℤ) (n : ℕ) → pos 1 ≤ℤ z → z ≤ℤ pos n → n ≤ 2000000 → InRange z
 small_fits (pos m) n low high small = omega (arith, ints)
 small_fits (negsuc m) n low high small = absurd (omega (arith, ints))
@@ -162,7 +155,7 @@ steps_fit : (a : Automaton) (p : Pattern) (body : List ℕ) (steps : List (ℕ �
 steps_fit a p body [] small exist factors = tt
 steps_fit a p body (step ∷ steps) small exist factors =
     let count = count_in a body step.0 exist.0 in
-    let most = times_most step.0 body in
+    let most = times-most step.0 body in
     let low = factors.0.0 in
     let high = factors.0.1 in (
       (exist.0, low, small_fits step.1 (times_in step.0 body) low (omega (arith, ints)) (omega arith)),

@@ -1,29 +1,15 @@
 -- the arranged steps of a piece lead where the piece leads
-use Rattle.ta_compress.proofs.Common.{◌≡◌, inl, inr, ℕ, zero, suc, ◌+◌, ◌<◌, ◌≤◌, ℤ, pos, ◌*ℤ◌, ◌≤ℤ◌, List, [], ◌∷◌, ◌++◌, length, true, arith, sym, ap, ◌∙◌, refl, subst, slice_get, get_or, Some, IsBitSet, fun_ext, ints, cases_lt, eqb_tells, length-map, get_or_past, same_Some, slice_get_within, filter_all, RowHolds, Row, Automaton, Pattern, Rule, Whole, location_place, Config, InScope, Steps, At, value_at, total, times_in, change_of, same_model, KeepsEmpty, ArrangedOf, AreRuleCounts, count_at, GuardsHold, LeadsToEnd, rise_mask, fall_mask, value_at_end, RunLine, value_after, units, counts_of, StepsLead, at_number, range_with_len}
+use Rattle.ta_compress.proofs.Common.{◌≡◌, inl, inr, ℕ, zero, suc, ◌+◌, ◌<◌, ◌≤◌, ℤ, pos, ◌*ℤ◌, ◌≤ℤ◌, List, [], ◌∷◌, ◌++◌, length, arith, sym, ap, ◌∙◌, refl, subst, slice_get, get_or, Some, IsBitSet, fun_ext, ints, cases_lt, eqb_tells, length-map, get_or_past, same_Some, slice_get_within, RowHolds, Row, Automaton, Pattern, Rule, Whole, location_place, Config, InScope, Steps, At, value_at, times_in, change_of, same_model, KeepsEmpty, ArrangedOf, AreRuleCounts, count_at, GuardsHold, LeadsToEnd, rise_mask, fall_mask, value_at_end, RunLine, value_after, units, counts_of, StepsLead, at_number, range_with_len}
+use Rattle.ta_base.proofs.Totals.{total-within}
+use Rattle.ta_base.proofs.Each.{Cut, cut_of}
 use Rattle.ta_base.specs.Masks.{In}
+use Rattle.ta_base.proofs.Times.{EachOnce, total-by_times, times-in, times-numbers}
 use Rattle.ta_automaton.specs.Runs.{Step}
-use Rattle.ta_automaton.proofs.Fired.{EachOnce, firings, once}
 use Rattle.ta_scope.specs.Legal as legal
 use Rattle.ta_scope.proofs.ArrangedLaws.{FromCounts, from_counts, arranged_end}
 use Rattle.ta_compress.proofs.Leading.{leads_first, leads_split, leads_value, leads_whole}
 use Rattle.ta_compress.proofs.Steady.{Steady, units-value}
 use Rattle.std.proofs.lemmas.List.FromFn.{length-range_with_len}
-
--- an item of a list, with what is before it and behind it
-pub record Occurs (r : ℕ) (xs : List ℕ) : Type 0 where
-  pub front : List ℕ
-  pub behind : List ℕ
-  pub is : xs ≡ front ++ r ∷ behind
-
-pub occurs : (r : ℕ) (xs : List ℕ) → 1 ≤ times_in r xs → Occurs r xs
-unfolding times_in
-occurs r [] h = absurd (omega arith)
-occurs r (x ∷ xs) h = elim (eqb_tells x r) [
-  | inl e ↦ record { front = []; behind = xs; is = ap (λ (y : ℕ). y ∷ xs) e.1 }
-  | inr ne ↦ (
-      let o = occurs r xs (let t = rw ne.0 at h in omega arith) in
-      record { front = x ∷ o.front; behind = o.behind; is = ap (λ (ys : List ℕ). x ∷ ys) o.is })
-]
 
 pub count_in : (a : Automaton) (body : List ℕ) (r : ℕ) → r < length a.rules → count_at (counts_of a body) r ≡ pos (times_in r body)
 count_in a body r b = at_number (λ q. pos (times_in q body)) 0 (length a.rules) r (pos 0) b ∙ (let e : 0 + r ≡ r = omega arith in ap (λ q. pos (times_in q body)) e)
@@ -41,19 +27,14 @@ counts_natural a body = record {
 }
 
 -- a rule with a count is in the body
-pub counted_occurs : (a : Automaton) (body : List ℕ) (r : ℕ) (rule : Rule) → slice_get a.rules r ≡ Some rule → pos 1 ≤ℤ count_at (counts_of a body) r → Occurs r body
-counted_occurs a body r rule named h = occurs r body (omega (arith, ints, count_in a body r (slice_get_within a.rules r rule named)))
-
-total_below : (f g : ℕ → ℤ) (k n : ℕ) → ((r : ℕ) → r < k + n → f r ≡ g r) → total f (range_with_len k n) ≡ total g (range_with_len k n)
-unfolding total
-total_below f g k zero h = refl
-total_below f g k (suc n) h = omega (arith, ints, h k (omega arith), total_below f g (k + 1) n (λ r b. h r (omega arith)))
+pub counted_occurs : (a : Automaton) (body : List ℕ) (r : ℕ) (rule : Rule) → slice_get a.rules r ≡ Some rule → pos 1 ≤ℤ count_at (counts_of a body) r → Cut r body
+counted_occurs a body r rule named h = cut_of r body (times-in r body (omega (arith, ints, count_in a body r (slice_get_within a.rules r rule named))))
 
 each_once : (a : Automaton) (p : Pattern) (c : Config) (rules : List ℕ) (d : Config) → StepsLead a p c rules d → EachOnce rules (range_with_len 0 (length a.rules))
 each_once a p c [] d l = tt
 each_once a p c (r ∷ rs) d l =
     let f = leads_first a p c r rs d l in (
-      ap (times_in r) (sym (filter_all (range_with_len 0 (length a.rules)))) ∙ once (λ q. true) r 0 (length a.rules) refl (omega arith) (let b = slice_get_within a.rules r f.step.rule f.step.named in omega arith),
+      times-numbers r 0 (length a.rules) (omega arith) (let b = slice_get_within a.rules r f.step.rule f.step.named in omega arith),
       each_once a p f.next rs d f.rest,
     )
 
@@ -61,8 +42,8 @@ each_once a p c (r ∷ rs) d l =
 end_value : (a : Automaton) (p : Pattern) (c : Config) (body : List ℕ) (d : Config) → Whole a c → StepsLead a p c body d → (i : ℕ) → value_at_end a c (counts_of a body) i ≡ value_at d i
 end_value a p c body d w l i =
     let n = length a.rules in
-    let counts = total_below (λ r. change_of a i r *ℤ count_at (counts_of a body) r) (λ r. change_of a i r *ℤ pos (times_in r body)) 0 n (λ r b. ap (λ z. change_of a i r *ℤ z) (count_in a body r (omega arith))) in
-    omega (arith, ints, counts, firings (change_of a i) (range_with_len 0 n) body (each_once a p c body d l), leads_value a p c body d w l i)
+    let counts = total-within (λ r. change_of a i r *ℤ count_at (counts_of a body) r) (λ r. change_of a i r *ℤ pos (times_in r body)) 0 n (λ r _ b. ap (λ z. change_of a i r *ℤ z) (count_in a body r (omega arith))) in
+    omega (arith, ints, counts, total-by_times (change_of a i) (range_with_len 0 n) body (each_once a p c body d l), leads_value a p c body d w l i)
 
 -- a unit step of the body, and where it is taken
 pub record Taken (a : Automaton) (p : Pattern) (c : Config) (body : List ℕ) (r : ℕ) (rule : Rule) : Type 0 where
@@ -80,12 +61,12 @@ pub record Taken (a : Automaton) (p : Pattern) (c : Config) (body : List ℕ) (r
 taken : (a : Automaton) (p : Pattern) (c : Config) (body : List ℕ) (d : Config) → StepsLead a p c body d → (r : ℕ) (rule : Rule) → slice_get a.rules r ≡ Some rule → pos 1 ≤ℤ count_at (counts_of a body) r → Taken a p c body r rule
 taken a p c body d l r rule named h =
     let o = counted_occurs a body r rule named h in
-    let parts = leads_split a p c o.front (r ∷ o.behind) d (subst (λ (xs : List ℕ). StepsLead a p c xs d) o.is l) in
+    let parts = leads_split a p c o.front (r ∷ o.behind) d (subst (λ (xs : List ℕ). StepsLead a p c xs d) o.cut l) in
     let f = leads_first a p parts.middle r o.behind d parts.right in
     record {
       front = o.front;
       behind = o.behind;
-      is = o.is;
+      is = o.cut;
       before = parts.middle;
       after = f.next;
       leads = parts.left;

@@ -1,5 +1,5 @@
 -- a run unfolded
-use Rattle.ta_compress.proofs.Common.{◌≡◌, inl, inr, ℕ, zero, suc, ◌+◌, ◌≤◌, ℤ, pos, ◌+ℤ◌, ◌*ℤ◌, List, [], ◌∷◌, ◌++◌, length, take, drop, replicate, unsigned_abs, arith, sym, ap, ◌∙◌, refl, slice_get, Some, append_assoc, length-append, length-replicate, ints, zero-*ℤ, AllByRecursion, each_append, each_copies, abs_natural, distributes_right, one_times, take_next, Automaton, Pattern, rule_change, total, total-append, RunLine, Step, Mark, LineFits, line_change, factor_of, factors_sum, marks_count, InRange, unit, unfolded, value_after, EndsAtLastMark, units}
+use Rattle.ta_compress.proofs.Common.{◌≡◌, inl, inr, ℕ, zero, suc, ◌+◌, ◌≤◌, ℤ, pos, ◌*ℤ◌, List, [], ◌∷◌, ◌++◌, length, take, drop, replicate, unsigned_abs, arith, sym, ap, ◌∙◌, refl, slice_get, Some, append_assoc, length-append, length-replicate, ints, AllByRecursion, each_append, each_copies, abs_natural, one_times, take_next, Automaton, Pattern, rule_change, total, total-append, RunLine, Step, Mark, LineFits, line_change, factor_of, factors_sum, marks_count, InRange, unit, unfolded, value_after, EndsAtLastMark, units, total-replicate}
 
 pub unfold-append : (xs ys : List RunLine) → unfolded (xs ++ ys) ≡ unfolded xs ++ unfolded ys
 unfold-append [] ys = refl
@@ -9,14 +9,6 @@ unfold-append (Mark e ∷ xs) ys = ap (λ (ls : List RunLine). Mark e ∷ ls) (u
 pub unfold-next : (lines : List RunLine) (i : ℕ) (line : RunLine) → slice_get lines i ≡ Some line → unfolded (take (i + 1) lines) ≡ unfolded (take i lines) ++ unfolded (line ∷ [])
 unfold-next lines i line at = ap unfolded (take_next lines i line at) ∙ unfold-append (take i lines) (line ∷ [])
 
-total-copies : (a : Automaton) (i k r : ℕ) → total (line_change a i) (replicate k (unit r)) ≡ (pos k *ℤ rule_change a (slice_get a.rules r) i)
-unfolding total
-total-copies a i zero r = sym (zero-*ℤ (rule_change a (slice_get a.rules r) i))
-total-copies a i (suc k) r =
-    let c = rule_change a (slice_get a.rules r) i in
-    let e : pos (suc k) ≡ (pos 1 +ℤ pos k) = omega (arith, ints) in
-    omega (arith, ints, total-copies a i k r, ap (λ z. z *ℤ c) e, distributes_right (pos 1) (pos k) c, one_times c)
-
 -- unfolding changes no value
 pub unfold-total : (a : Automaton) (p : Pattern) (i : ℕ) (lines : List RunLine) → AllByRecursion (LineFits a p) lines → total (line_change a i) (unfolded lines) ≡ total (line_change a i) lines
 unfolding total
@@ -24,7 +16,7 @@ unfold-total a p i [] fits = refl
 unfold-total a p i (Step r k ∷ lines) fits =
     let some = fits.0.1 in
     let natural : pos (unsigned_abs k) ≡ k = abs_natural k (omega (arith, ints)) in
-    omega (arith, ints, total-append (line_change a i) (replicate (unsigned_abs k) (unit r)) (unfolded lines), total-copies a i (unsigned_abs k) r, ap (λ z. z *ℤ rule_change a (slice_get a.rules r) i) natural, unfold-total a p i lines fits.1)
+    omega (arith, ints, total-append (line_change a i) (replicate (unsigned_abs k) (unit r)) (unfolded lines), total-replicate (line_change a i) (unsigned_abs k) (unit r), ap (λ z. pos (unsigned_abs k) *ℤ z) (one_times (rule_change a (slice_get a.rules r) i)), ap (λ z. z *ℤ rule_change a (slice_get a.rules r) i) natural, unfold-total a p i lines fits.1)
 unfold-total a p i (Mark e ∷ lines) fits = omega (arith, ints, unfold-total a p i lines fits.1)
 
 pub unfold-value : (a : Automaton) (p : Pattern) (first : List ℤ) (lines : List RunLine) → AllByRecursion (LineFits a p) lines → (i : ℕ) → value_after a first (unfolded lines) i ≡ value_after a first lines i

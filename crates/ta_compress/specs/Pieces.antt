@@ -1,9 +1,9 @@
 -- The pieces of a run, and the compressed run (this project's profile)
 use Rattle.std.specs.Prelude.{ℕ, ℤ, pos, ◌≡◌, ◌⊎◌, List, [], ◌∷◌, ◌++◌, length, map, take}
+use Rattle.ta_base.specs.Sums.{times_in}
 use Rattle.ta_automaton.specs.declared.automaton.Automaton.{Automaton}
 use Rattle.ta_automaton.specs.declared.file.File.{File}
 use Rattle.std.specs.List.{range_with_len}
-use Rattle.ta_automaton.specs.Sums.{times_in}
 use Rattle.ta_counter.specs.Starts.{StartsAt}
 use Rattle.ta_scope.specs.Arranged.{ArrangedOf}
 use Rattle.ta_replay.specs.declared.run.Run.{Run}

@@ -1,9 +1,9 @@
 -- A run step by step up to its last mark, and the guards along it (this project's profile)
 use Rattle.std.specs.Prelude.{ℕ, ℤ, pos, ◌+◌, ◌≤◌, ◌≡◌, ◌⊎◌, ◌+ℤ◌, List, [], ◌∷◌, ◌++◌, length, replicate, unsigned_abs, slice_get, Some}
+use Rattle.ta_base.specs.Sums.{total}
 use Rattle.ta_linear.specs.Values.{point_of, RowHolds}
 use Rattle.ta_linear.specs.declared.row.Row.{Row}
 use Rattle.ta_automaton.specs.declared.automaton.Automaton.{Automaton}
-use Rattle.ta_automaton.specs.Sums.{total}
 use Rattle.ta_replay.specs.declared.run.RunLine.{RunLine}
 use Rattle.ta_replay.specs.declared.run.RunLine.TheVariants.{Step, Mark}
 use Rattle.ta_replay.specs.Replays.{line_change}

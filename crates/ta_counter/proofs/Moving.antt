@@ -1,11 +1,9 @@
 -- the move of processes
-use Rattle.ta_counter.proofs.Common.{◌≡◌, ◌≢◌, inl, inr, ℕ, ◌+◌, ◌<◌, ℤ, pos, negsuc, ◌+ℤ◌, ◌-ℤ◌, ◌*ℤ◌, ◌≤ℤ◌, List, length, set, arith, sym, ap, ◌∙◌, subst, FitsSigned, ints, fits_signed_from_abs, w128, nat_tests, eqb_tells, get_or-set_same, get_or-set_other, length-set, *ℤ-zero, AllByRecursion, each_drop, each_set, by_one, times_minus_one, InRange, point_of, Rule, Automaton, one_if, location_place, one_if-ne, Value, places_of, counters_of, sum_of, Enough, each_get_or}
+use Rattle.ta_counter.proofs.Common.{◌≡◌, ◌≢◌, inl, inr, ℕ, ◌+◌, ◌<◌, ℤ, pos, negsuc, ◌+ℤ◌, ◌-ℤ◌, ◌*ℤ◌, ◌≤ℤ◌, List, length, set, arith, sym, ap, ◌∙◌, subst, FitsSigned, ints, fits_signed_from_abs, w128, eqb_tells, get_or-set_same, get_or-set_other, length-set, *ℤ-zero, AllByRecursion, each_drop, each_set, by_one, times_minus_one, InRange, point_of, Rule, Automaton, one_if, location_place, one_if-ne, Value, places_of, counters_of, sum_of, Enough, each_get_or}
+use Rattle.ta_base.proofs.Totals.{one_if-one}
 use Rattle.ta_counter.proofs.Starting.{counter_at}
 use Rattle.ta_counter.proofs.Adding.{range_below, item_below}
 use Rattle.ta_counter.proofs.Updating.{Within, moved_values, counters-set-sum}
-
-pub one_if-one : (x : ℕ) → one_if x x ≡ pos 1
-one_if-one x = grind (arith, nat_tests)
 
 -- what stays of the counter of the source fits, and so does what the counter of the target becomes
 pub record MayMove (a : Automaton) (from to : ℕ) (k : ℤ) (values : List ℤ) : Type 0 where

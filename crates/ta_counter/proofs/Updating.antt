@@ -1,5 +1,6 @@
 -- updates one after another, and the move of processes
-use Rattle.ta_counter.proofs.Common.{◌≡◌, ◌≢◌, inl, inr, ℕ, zero, suc, ◌+◌, ◌<◌, ◌≤◌, ℤ, pos, ◌+ℤ◌, ◌-ℤ◌, ◌*ℤ◌, ◌≤ℤ◌, List, [], ◌∷◌, ◌++◌, length, map, take, set, eqb, cond, arith, sym, ap, ◌∙◌, refl, subst, get_or, slice_get, Some, length-drop, ints, eqb_tells, get_or-set_same, get_or-set_other, length-set, take_more, take_all, drop-set-add, get_or_from_slice_get, slice_get_within, *ℤ-zero, AllByRecursion, each_at, each_set, mul-ge-zero, PassedTo, all_passed, none_passed, one_passed, InRange, coefficient, point_of, Rule, Automaton, Distinct, Update, RuleWithin, variable_of, location_place, shared_change, total, place_cases, shared_change-parameter, shared_change-shared, shared_change-location, Value, places_of, counters_of, sum_of, Grows, AllGrow, UpdateOutOfRange, shifted, each_get_or}
+use Rattle.ta_base.proofs.Totals.{total-set}
+use Rattle.ta_counter.proofs.Common.{◌≡◌, ◌≢◌, inl, inr, ℕ, zero, suc, ◌+◌, ◌<◌, ◌≤◌, ℤ, pos, ◌+ℤ◌, ◌-ℤ◌, ◌*ℤ◌, ◌≤ℤ◌, List, [], ◌∷◌, ◌++◌, length, map, take, set, eqb, cond, arith, sym, ap, ◌∙◌, refl, subst, get_or, slice_get, Some, length-drop, ints, eqb_tells, get_or-set_same, get_or-set_other, length-set, take_more, take_all, drop-set-add, get_or_from_slice_get, slice_get_within, *ℤ-zero, AllByRecursion, each_at, each_set, mul-ge-zero, PassedTo, all_passed, none_passed, one_passed, InRange, coefficient, point_of, Rule, Automaton, Distinct, Update, RuleWithin, variable_of, location_place, shared_change, place_cases, shared_change-parameter, shared_change-shared, shared_change-location, Value, places_of, counters_of, sum_of, Grows, AllGrow, UpdateOutOfRange, shifted, each_get_or}
 use Rattle.ta_counter.proofs.Starting.{counter_at}
 
 -- the rule's parts exist in the automaton
@@ -127,12 +128,6 @@ update_end a rule times old values i h past place = elim (place_cases a place) [
       omega (arith, ints, v, o, h.locations x.0, ap (λ z. times *ℤ z) c, *ℤ-zero times))
 ]
 
-pub sum-set : (xs : List ℤ) (i : ℕ) (v : ℤ) → i < length xs → sum_of (set xs i v) ≡ ((sum_of xs +ℤ v) -ℤ get_or xs i (pos 0))
-unfolding total
-sum-set [] i v b = absurd (omega arith)
-sum-set (x ∷ xs) zero v b = omega (arith, ints)
-sum-set (x ∷ xs) (suc i) v b = omega (arith, ints, sum-set xs i v (omega arith))
-
 -- the values where k processes left one location for another
 abbrev pub moved_values : Automaton → ℕ → ℕ → ℤ → List ℤ → List ℤ
 moved_values a from to k values =
@@ -144,4 +139,4 @@ counters-set a values l v = drop-set-add (length a.parameters + length a.shared)
 pub counters-set-sum : (a : Automaton) (values : List ℤ) (l : ℕ) (v : ℤ) → length values ≡ places_of a → l < length a.locations → sum_of (counters_of a (set values (location_place a l) v)) ≡ ((sum_of (counters_of a values) +ℤ v) -ℤ point_of values (location_place a l))
 counters-set-sum a values l v places b =
     let within : l < length (counters_of a values) = omega (arith, length-drop (length a.parameters + length a.shared) values) in
-    ap sum_of (counters-set a values l v) ∙ sum-set (counters_of a values) l v within ∙ ap (λ z. (sum_of (counters_of a values) +ℤ v) -ℤ z) (counter_at a values l)
+    ap sum_of (counters-set a values l v) ∙ total-set (λ z. z) (counters_of a values) l v (pos 0) within ∙ ap (λ z. (sum_of (counters_of a values) +ℤ v) -ℤ z) (counter_at a values l)

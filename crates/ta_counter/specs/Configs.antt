@@ -1,10 +1,10 @@
 -- Configurations in 128 bits, and the model's (this project's profile)
 use Rattle.std.specs.Prelude.{ℕ, ℤ, ◌+◌, ◌≡◌, List, length, take, drop, map, unsigned_abs}
+use Rattle.ta_base.specs.Sums.{total}
 use Rattle.ta_linear.specs.Numbers.{InRange}
 use Rattle.ta_linear.specs.Values.{point_of, value_of}
 use Rattle.ta_automaton.specs.declared.automaton.Automaton.{Automaton}
 use Rattle.ta_automaton.specs.Runs as runs
-use Rattle.ta_automaton.specs.Sums.{total}
 use Rattle.ta_counter.specs.declared.config.Config.{Config}
 
 -- how many places an automaton has

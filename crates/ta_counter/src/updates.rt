@@ -5,7 +5,8 @@ ghost use Rattle.std.specs.Prelude.{ℕ, ◌≡◌, ◌+◌, ◌<◌, ◌≤◌,
 ghost use Rattle.std.specs.List.{AllByRecursion};
 ghost use Rattle.ta_linear.specs.Numbers.{InRange};
 ghost use Rattle.ta_linear.specs.Values.{point_of};
-ghost use Rattle.ta_automaton.specs.Places.{location_place, one_if};
+ghost use Rattle.ta_automaton.specs.Places.{location_place};
+ghost use Rattle.ta_base.specs.Sums.{one_if};
 ghost use Rattle.ta_automaton.specs.Shape.{RuleWithin};
 ghost use Rattle.ta_counter.specs.Values.{Value};
 ghost use Rattle.ta_counter.specs.Configs.{AreOf, counters_of, places_of, sum_of};

@@ -1,5 +1,5 @@
 -- bounds of rows, and what they keep
-use Rattle.ta_dense.proofs.Common.{◌≡◌, inl, inr, ℕ, ◌<◌, ◌≤◌, ◌+◌, ◌*◌, ◌^◌, List, ◌∷◌, length, map, set, get_or, arith, sym, refl, ap, ◌∙◌, ℤ, pos, neg_ℤ, ◌-ℤ◌, ◌*ℤ◌, ◌<ℤ◌, unsigned_abs, get_or-set_same, get_or-set_other, int_div, cases_eq, fits_signed_from_abs, length-set, All-from_get_or, All-map, All-set, le_of_dvd, dvd_antisymm, one-dvd, SFits, abs_minus, abs_positive, div-one, product_le, quotient_le, unsigned_abs-neg, zero_minus, fits32, small_positive, InRange, TableauRow, combine, merged_by, divided, turned, divisor_of, factor_divisor, CombinesInRange, MergesByInRange, AreBounded, IsBound, CombinesIn32, AllCombineIn32, IsGcd-gcd_of}
+use Rattle.ta_dense.proofs.Common.{◌≡◌, inl, inr, ℕ, ◌<◌, ◌≤◌, ◌+◌, ◌*◌, ◌^◌, List, ◌∷◌, length, map, set, get_or, arith, sym, refl, ℤ, pos, neg_ℤ, ◌-ℤ◌, ◌*ℤ◌, ◌<ℤ◌, unsigned_abs, get_or-set_same, get_or-set_other, int_div, cases_eq, length-set, All-from_get_or, All-map, All-set, le_of_dvd, dvd_antisymm, one-dvd, SFits, abs_minus, abs_positive, div-one, product_le, quotient_le, unsigned_abs-neg, fits32, small_positive, InRange, TableauRow, combine, merged_by, divided, turned, divisor_of, factor_divisor, CombinesInRange, MergesByInRange, AreBounded, IsBound, CombinesIn32, AllCombineIn32, IsGcd-gcd_of}
 use Rattle.std.specs.Int.{w32}
 use Rattle.ta_dense.proofs.Divide.{gcd_with_divides}
 use Rattle.ta_dense.proofs.PivotLaws.{length-combine, get_or-combine}
@@ -7,11 +7,6 @@ use Rattle.ta_dense.proofs.ReduceFacts.{factors_positive}
 
 abbrev pub IsSmall : ℤ → Type 0
 IsSmall z = unsigned_abs z < 2 ^ 31
-
-pub fits_minus32 : (z : ℤ) → IsSmall z → SFits w32 (pos 0 -ℤ z)
-fits_minus32 z h =
-    let same : unsigned_abs (pos 0 -ℤ z) ≡ unsigned_abs z = ap unsigned_abs (zero_minus z) ∙ unsigned_abs-neg z in
-    fits_signed_from_abs w32 (pos 0 -ℤ z) (omega arith)
 
 -- the bound of a place after a merge
 pub record CombinesBelow (p a q c : ℤ) (t : ℕ) : Type 0 where

@@ -1,4 +1,4 @@
-use Rattle.ta_dense.proofs.Common.{◌≡◌, ◌≢◌, ℕ, ◌<◌, ◌≤◌, List, length, set, get_or, arith, sym, ◌∙◌, ℤ, pos, ◌-ℤ◌, ◌*ℤ◌, neg_ℤ, map, get_or-set_other, get_or-set_same, ext_get_or, length-map, length-set, combine}
+use Rattle.ta_dense.proofs.Common.{◌≡◌, ◌≢◌, ℕ, ◌<◌, ◌≤◌, List, length, set, get_or, arith, sym, ◌∙◌, ℤ, pos, ◌-ℤ◌, ◌*ℤ◌, get_or-set_other, get_or-set_same, ext_get_or, length-set, combine}
 use Rattle.ta_dense.proofs.PivotLaws.{get_or-combine, length-combine}
 
 pub target_at_column : (p q : ℤ) (xs cs : List ℤ) (column j : ℕ) (turned : ℤ) → length xs ≡ length cs → j < length xs → j ≡ column →
@@ -18,7 +18,3 @@ target_done p q xs cs cells column j turned e long h done =
     let n = length-combine p q xs cs e in
     let m = length-set (combine p q xs cs) column turned in
     ext_get_or (pos 0) cells (set (combine p q xs cs) column turned) (omega arith) (λ i below. done i (omega arith))
-
--- cells of which each is the negative of the one in its place
-pub all_negated : (old new : List ℤ) → length new ≡ length old → ((i : ℕ) → i < length new → get_or new i (pos 0) ≡ get_or (map neg_ℤ old) i (pos 0)) → new ≡ map neg_ℤ old
-all_negated old new long done = let same = length-map old neg_ℤ in ext_get_or (pos 0) new (map neg_ℤ old) (omega arith) done

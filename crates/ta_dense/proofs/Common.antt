@@ -1,5 +1,5 @@
 -- The names that the proofs of this crate cite, passed on from one place. Declares nothing.
-pub use Rattle.std.proofs.Common.{FitsSigned, List, [], ap, append-nil, append_assoc, arith, below_more, drop, false, get_or, get_or-set_other, get_or-set_same, inl, inr, length, map, neg_ℤ, negsuc, pos, refl, replicate, rules, set, subst, suc, sym, take, true, unsigned_abs, zero, ℕ, ℤ, ◌%◌, ◌*ℤ◌, ◌*◌, ◌++◌, ◌+ℤ◌, ◌+◌, ◌-ℤ◌, ◌-◌, ◌/◌, ◌<ℤ◌, ◌<◌, ◌^◌, ◌∙◌, ◌∷◌, ◌≡◌, ◌≢◌, ◌≤ℤ◌, ◌≤◌, ◌⊎◌}
+pub use Rattle.std.proofs.Common.{FitsSigned, List, [], ap, append_assoc, arith, below_more, drop, false, get_or, get_or-set_other, get_or-set_same, inl, inr, length, map, neg_ℤ, negsuc, pos, refl, replicate, rules, set, subst, suc, sym, take, true, unsigned_abs, zero, ℕ, ℤ, ◌%◌, ◌*ℤ◌, ◌*◌, ◌++◌, ◌+ℤ◌, ◌+◌, ◌-ℤ◌, ◌-◌, ◌/◌, ◌<ℤ◌, ◌<◌, ◌^◌, ◌∙◌, ◌∷◌, ◌≡◌, ◌≢◌, ◌≤ℤ◌, ◌≤◌, ◌⊎◌}
 pub use Rattle.std.proofs.Math.Nat.{div-le_self, dvd-add_iff_right, dvd-mul_right_of_dvd, dvd_of_mul-dvd-mul_left, eq-one_of_dvd-one, one-dvd}
 pub use Rattle.std.proofs.lemmas.Bool.{cases_eq, cases_lt, cases_order}
 pub use Rattle.std.proofs.lemmas.Int.{fits_signed_from_abs, ints, quot_fits, to_z-of_z, to_z_pos}

@@ -1,4 +1,6 @@
 use Rattle.ta_dense.proofs.Common.{◌≡◌, ◌≢◌, ◌⊎◌, inl, inr, ℕ, suc, ◌+◌, ◌*◌, ◌<◌, length, map, arith, refl, sym, ap, ◌∙◌, subst, ℤ, pos, ◌+ℤ◌, ◌*ℤ◌, ◌-ℤ◌, neg_ℤ, ◌<ℤ◌, get_or-set_same, get_or-set_other, cases_eq, length-map, length-set, get_or-map, cancel_positive, leaving_arith, pos_out, product_positive, times_assoc, factor_divisor, TableauRow, Tableau, cell_of, turned, merged, row_of, no_row, pivoted, basic_of, non_basic_of, IsPrimitive, dot, IsDictionary, int_div}
+use Rattle.std.proofs.Common.{cond, eq-eqb, eqb}
+use Rattle.std.proofs.lemmas.Bool.{cond-false, cond-true, ne_eqb}
 use Rattle.ta_dense.proofs.Dot.{dot-change, dot-scaled}
 use Rattle.ta_dense.proofs.PivotLaws.{Holds-turned}
 use Rattle.ta_dense.proofs.MergedRow.{Good, Good-merged, merged_cases, merged_with}
@@ -69,28 +71,16 @@ primitive_after A n t row column d h k positive i below =
     ]
 
 -- the choice for the old non-basic variables
-unfoldable pick_by : (v e : ℕ) (entering other : ℤ) → (v ≡ e) ⊎ (v ≡ e → ⊥) → ℤ
-pick_by v e entering other (inl same) = entering
-pick_by v e entering other (inr apart) = other
-
 unfoldable pick : ℕ → ℤ → ℤ → (ℕ → ℤ) → ℕ → ℤ
-pick e entering c want v = pick_by v e entering (c *ℤ want v) (cases_eq v e)
+pick e entering c want v = cond (eqb v e) entering (c *ℤ want v)
 
 pick-at : (e : ℕ) (entering c : ℤ) (want : ℕ → ℤ) (v : ℕ) → v ≡ e → pick e entering c want v ≡ entering
-unfolding pick pick_by
-pick-at e entering c want v h = go (cases_eq v e)
-  where
-    go : (x : (v ≡ e) ⊎ (v ≡ e → ⊥)) → pick_by v e entering (c *ℤ want v) x ≡ entering
-    go (inl same) = refl
-    go (inr apart) = absurd (apart h)
+unfolding pick
+pick-at e entering c want v h = cond-true (eqb v e) entering (c *ℤ want v) (eq-eqb v e h)
 
 pick-elsewhere : (e : ℕ) (entering c : ℤ) (want : ℕ → ℤ) (v : ℕ) → v ≢ e → pick e entering c want v ≡ c *ℤ want v
-unfolding pick pick_by
-pick-elsewhere e entering c want v h = go (cases_eq v e)
-  where
-    go : (x : (v ≡ e) ⊎ (v ≡ e → ⊥)) → pick_by v e entering (c *ℤ want v) x ≡ c *ℤ want v
-    go (inl same) = absurd (h same)
-    go (inr apart) = refl
+unfolding pick
+pick-elsewhere e entering c want v h = cond-false (eqb v e) entering (c *ℤ want v) (ne_eqb v e h)
 
 free_after : (A : ℤ → (ℕ → ℤ) → Type 0) (n : ℕ) (t : Tableau) (row column : ℕ) → IsDictionary A n t → row < length t.rows → column < length t.non_basic → pos 0 <ℤ cell_of (row_of t row) column →
     (scale : ℤ) (want : ℕ → ℤ) → (m : ℕ) × (value : (ℕ → ℤ)) × (0 < m) × A (pos m *ℤ scale) value ×

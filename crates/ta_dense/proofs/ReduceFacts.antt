@@ -1,4 +1,4 @@
-use Rattle.ta_dense.proofs.Common.{◌≡◌, zero, suc, ◌<◌, ◌∷◌, map, arith, sym, ap, ◌∙◌, ℤ, pos, negsuc, ◌-ℤ◌, ◌<ℤ◌, ◌≤ℤ◌, int_div, SFits, w128, abs_natural, div-one, div_exact, factor_positive, zero_minus, map-div-one, InRange, TableauRow, divided, divisor_of, factor_divisor, IsGcd, IsGcd-gcd_of, gcd_of_is, unsigned_abs}
+use Rattle.ta_dense.proofs.Common.{◌≡◌, ◌<◌, ◌∷◌, map, sym, ap, ◌∙◌, ℤ, pos, ◌<ℤ◌, ◌≤ℤ◌, int_div, abs_natural, div-one, div_exact, factor_positive, map-div-one, TableauRow, divided, divisor_of, factor_divisor, IsGcd, IsGcd-gcd_of, gcd_of_is, unsigned_abs}
 use Rattle.ta_dense.proofs.Divide.{gcd_with_divides}
 use Rattle.ta_dense.proofs.RowFacts.{row_same}
 
@@ -16,8 +16,3 @@ factor_divisor-is c a r g h = sym (abs_natural r h) ∙ ap pos (gcd_of_is (unsig
 
 pub factors_positive : (c a : ℤ) → pos 0 <ℤ c → (0 < factor_divisor c a) × (pos 0 <ℤ int_div c (pos (factor_divisor c a)))
 factors_positive c a h = factor_positive (factor_divisor c a) (int_div c (pos (factor_divisor c a))) c (div_exact (factor_divisor c a) c (IsGcd-gcd_of (unsigned_abs c) (unsigned_abs a)).0) h
-
-pub fits_minus : (z : ℤ) → InRange z → SFits w128 (pos 0 -ℤ z)
-fits_minus (pos zero) h = record { sfits = omega arith }
-fits_minus (pos (suc n)) h = rw (zero_minus (pos (suc n))) record { sfits = omega arith }
-fits_minus (negsuc n) h = rw (zero_minus (negsuc n)) record { sfits = omega arith }

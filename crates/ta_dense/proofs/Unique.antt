@@ -64,16 +64,13 @@ dvd_denominator : (A : ℤ → (ℕ → ℤ) → Type 0) (n : ℕ) (t : Tableau)
     unsigned_abs r.denominator ∣ unsigned_abs r'.denominator
 dvd_denominator A n t r r' d p p' same =
     let all = dvd-gcd_with (unsigned_abs r.denominator) (unsigned_abs r'.denominator) (unsigned_abs r.denominator) (r.constant ∷ r.cells)
-    (dvd_cross r.denominator r'.denominator r.denominator r'.denominator (swapped r'.denominator r.denominator))
+    (dvd_cross r.denominator r'.denominator r.denominator r'.denominator (*ℤ_comm r'.denominator r.denominator))
     (each (constant_cross A n t r r' d p p' same) (λ j h. cell_cross A n t r r' d p p' same j (let e = p.long in omega arith))) in
     let P : ℕ → Type 0 = λ m. unsigned_abs r.denominator ∣ unsigned_abs r'.denominator * m in
     let one = subst P (primitive_divisor r p.primitive) all in
     let e : unsigned_abs r'.denominator * 1 ≡ unsigned_abs r'.denominator = omega arith in
     subst (λ (m : ℕ). unsigned_abs r.denominator ∣ m) e one
   where
-    swapped : (a b : ℤ) → a *ℤ b ≡ b *ℤ a
-    swapped a b = *ℤ_comm a b
-
     each : r'.denominator *ℤ r.constant ≡ r.denominator *ℤ r'.constant → ((j : ℕ) → j < length r.cells → r'.denominator *ℤ get_or r.cells j (pos 0) ≡ r.denominator *ℤ get_or r'.cells j (pos 0)) →
         (i : ℕ) → i < length (r.constant ∷ r.cells) → unsigned_abs r.denominator ∣ unsigned_abs r'.denominator * unsigned_abs (get_or (r.constant ∷ r.cells) i (pos 0))
     each first cells zero h = dvd_cross r.denominator r'.denominator r.constant r'.constant first

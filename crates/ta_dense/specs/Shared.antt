@@ -1,7 +1,7 @@
 -- Rows that are stored once where their numbers are equal
 use Rattle.std.specs.Prelude.{ℕ, List, ◌<◌, ◌≤◌, ◌≡◌, ◌≢◌, map, length, get_or, All}
 use Rattle.ta_dense.specs.Tableau.{TableauRow, no_row}
-use Rattle.ta_dense.specs.Narrow.{narrow_view, narrow_at, IsNarrow, AreNarrow}
+use Rattle.ta_dense.specs.Narrow.{narrow_view, narrow_at, AreNarrow}
 use Rattle.ta_dense.specs.Extending.{raised}
 use Rattle.ta_dense.specs.declared.narrow_rows.NarrowRow.{NarrowRow}
 use Rattle.ta_dense.specs.declared.shared.Place.{Place}

@@ -1,8 +1,9 @@
 -- the first configuration of a solution is initial, and its values are those of the empty word
 use Rattle.ta_encode.proofs.Common.{◌≡◌, ◌≢◌, ◌⊎◌, inl, inr, ℕ, ◌+◌, ◌<◌, ℤ, pos, ◌*ℤ◌, ◌≤ℤ◌, List, [], ◌∷◌, ◌++◌, map, length, not, arith, sym, ap, ◌∙◌, refl, subst, get_or, sum, length-map, ints, false≢true, cases_lt, not-true, zero-*ℤ, by_one, mul-ge-zero, natural, pos_natural, contains_of, in_append, in_map, at_index, in_numbers, past_numbers, rises_below, terms_value, Automaton, Pattern, Config, value_at, Initial, has_bit, range_with_len, In, Element, has_event, has_rise, Meaning, Parameter, Start, start_locations, start_meanings, meanings, place_coefficient, one_if, location_place, opposite, processes_row, start_coefficient, condition_rows, start_guard_rows, start_rows, word_rows, sum_of_products, AllHold, total, total-zero, total-same, one_inside, terms_value-same, place_cases, value_at-parameter, value_at-shared, value_at-location, one_if-ne, one_if-shift, one_if-natural, Whole, fits_whole, resilience_at, processes_value as processes_at, in_filter, length-range_with_len}
+use Rattle.ta_base.proofs.Totals.{one_if-turned, total-items, total-naturals}
 use Rattle.ta_encode.proofs.Combine.{combine-zero, combine-add, combine-minus, combine-terms}
 use Rattle.ta_encode.proofs.Moments.{opposite_value, AllHold-left}
-use Rattle.ta_encode.proofs.Start.{sum_total, one_if_comm, start_rises}
+use Rattle.ta_encode.proofs.Start.{start_rises}
 use Rattle.ta_encode.proofs.Switch.{KeptEmpty}
 use Rattle.ta_encode.proofs.Appending.{trail_begun}
 use Rattle.ta_encode.proofs.Values.{place_value, AllHold-right, condition_back}
@@ -107,14 +108,14 @@ counters_sum a p vs =
     let fits = fits_whole a c (first_whole a p vs) in
     let sm = start_meanings a p in
     let nums = range_with_len 0 (length a.locations) in
-    let all = subst (λ (k : ℕ). total (λ l. pos (get_or c.counters l 0)) (range_with_len 0 k) ≡ pos (sum c.counters)) (first_whole a p vs).counters (sum_total c.counters) in
+    let all = subst (λ (k : ℕ). total (λ l. pos (get_or c.counters l 0)) (range_with_len 0 k) ≡ pos (sum c.counters)) (first_whole a p vs).counters (total-items pos 0 c.counters ∙ total-naturals c.counters) in
     let each = total-same (λ l. pos (get_or c.counters l 0)) (λ l. sum_of_products (map (λ m. place_coefficient a m (location_place a l)) sm) vs) nums (λ l. sym (value_at-location a c l fits) ∙ first_values a p vs (location_place a l)) in
     let swap = total-combine (λ m l. place_coefficient a m (location_place a l)) nums sm vs in
     let n = length a.parameters + length a.shared in
     let same = combine-on_same (λ m. total (λ l. place_coefficient a m (location_place a l)) nums) start_coefficient sm vs (λ m h. elim (in_start a p m h) [
       | inl w ↦ (let b = w.1 in subst (λ (k : Meaning). total (λ l. place_coefficient a k (location_place a l)) nums ≡ start_coefficient k) (sym w.2) (total-zero (λ l. one_if w.0 (location_place a l)) nums (λ l. one_if-ne w.0 (location_place a l) (omega arith))))
       | inr w ↦ subst (λ (k : Meaning). total (λ l. place_coefficient a k (location_place a l)) nums ≡ start_coefficient k) (sym w.2)
-          (total-same (λ l. one_if (location_place a w.0) (location_place a l)) (λ l. one_if l w.0 *ℤ pos 1) nums (λ l. one_if-shift n w.0 l ∙ one_if_comm w.0 l ∙ sym (by_one (one_if l w.0)))
+          (total-same (λ l. one_if (location_place a w.0) (location_place a l)) (λ l. one_if l w.0 *ℤ pos 1) nums (λ l. one_if-shift n w.0 l ∙ one_if-turned w.0 l ∙ sym (by_one (one_if l w.0)))
           ∙ one_inside (λ _. pos 1) 0 (length a.locations) w.0 (omega arith) (omega (arith, start_below a p w.0 w.1)))
     ]) in
     omega (arith, ints, all, each, swap, same)

@@ -1,5 +1,5 @@
 -- what a rule adds at a place, by the kind of the place
-use Rattle.ta_encode.proofs.Common.{◌≡◌, ◌≢◌, ℕ, ℤ, pos, ◌+◌, ◌-◌, ◌<◌, ◌≤◌, ◌-ℤ◌, unsigned_abs, List, [], ◌∷◌, length, Some, Bool, true, false, arith, sym, ap, ◌∙◌, subst, to_z, of_z, w128, ◌==◌, if◌then◌else◌, ints, AllByRecursion, abs_minus, to_z_abs, coefficient, Automaton, Rule, one_if, location_place, shared_change, rule_change, one_if-shift, one_if-ne, shared_change-parameter, shared_change-shared, shared_change-location}
+use Rattle.ta_encode.proofs.Common.{◌≡◌, ◌≢◌, ℕ, ℤ, pos, ◌+◌, ◌-◌, ◌<◌, ◌≤◌, ◌-ℤ◌, List, [], ◌∷◌, length, Some, arith, sym, ap, ◌∙◌, subst, ints, AllByRecursion, coefficient, Automaton, Rule, one_if, location_place, shared_change, rule_change, one_if-shift, one_if-ne, shared_change-parameter, shared_change-shared, shared_change-location}
 use Rattle.ta_automaton.specs.Shape.{Update}
 use Rattle.ta_encode.proofs.Running.{Small}
 
@@ -29,18 +29,3 @@ change_location a rule place first is low =
 pub small_updates : (shared : ℕ) (updates : List (ℕ × ℤ)) → AllByRecursion (Update shared) updates → AllByRecursion Small updates
 small_updates shared [] h = tt
 small_updates shared (u ∷ us) h = ((let low = h.0.least in let high = h.0.most in omega (arith, ints)), small_updates shared us h.1)
-
-pub one_if-small : (x y : ℕ) → unsigned_abs (one_if x y) ≤ 1
-one_if-small x y = choose (x == y)
-  where
-    choose : (b : Bool) → unsigned_abs (if b then pos 1 else pos 0) ≤ 1
-    choose true = omega arith
-    choose false = omega arith
-
-pub clean_move : (x y z n : ℕ) (a b : ℤ) → a ≡ one_if x z → b ≡ one_if y n → to_z w128 (of_z w128 (to_z w128 (of_z w128 a) -ℤ to_z w128 (of_z w128 b))) ≡ (one_if x z -ℤ one_if y n)
-clean_move x y z n a b e f =
-    let first = one_if-small x z in
-    let second = one_if-small y n in
-    let plain_a : to_z w128 (of_z w128 a) ≡ one_if x z = ap (λ k. to_z w128 (of_z w128 k)) e ∙ to_z_abs (one_if x z) 1 first (omega arith) in
-    let plain_b : to_z w128 (of_z w128 b) ≡ one_if y n = ap (λ k. to_z w128 (of_z w128 k)) f ∙ to_z_abs (one_if y n) 1 second (omega arith) in
-    ap (λ k. to_z w128 (of_z w128 (k -ℤ to_z w128 (of_z w128 b)))) plain_a ∙ ap (λ k. to_z w128 (of_z w128 (one_if x z -ℤ k))) plain_b ∙ to_z_abs (one_if x z -ℤ one_if y n) 2 (abs_minus (one_if x z) (one_if y n) 1 1 first second) (omega arith)

@@ -15,17 +15,13 @@ pub use Rattle.std.specs.Int.{bit_not, w128, w32}
 pub use Rattle.std.specs.List.{All, AllByRecursion, range_with_len}
 pub use Rattle.std.specs.Prelude.{filter, flat_map, if◌then◌else◌, nat_lt, slice_index, slice_index_or, ◌==◌}
 pub use Rattle.ta_automaton.proofs.Fire.{Whole, fire, fire_step, fire_whole, fits_whole}
-pub use Rattle.ta_automaton.proofs.Fired.{EachOnce, firings, once}
-pub use Rattle.ta_automaton.proofs.Moves.{Fits, fits_after, loop_at, move_at, one_if-natural, one_if-ne, one_if-shift, place_cases, shared_change-location, shared_change-parameter, shared_change-shared, step_later, value_at-location, value_at-parameter, value_at-shared}
+pub use Rattle.ta_automaton.proofs.Moves.{Fits, fits_after, loop_at, move_at, place_cases, shared_change-location, shared_change-parameter, shared_change-shared, step_later, value_at-location, value_at-parameter, value_at-shared}
 pub use Rattle.ta_automaton.proofs.Onward.{EachRule, NoneInto, Onward, Piece, change_location, change_of, fire_in_order, holds_before_last, later_after}
-pub use Rattle.ta_automaton.proofs.Sums.{one_if-other, one_if-same, one_inside, one_outside, terms_value-same, total-same, total-swap, total-zero}
 pub use Rattle.ta_automaton.proofs.Thresholds.{Later, after_earlier, fall_back, falls, from_within, pattern_within, processes_value, resilience_at, resilience_holds, rise_on, rises, rule_within, stays_below, stays_true}
 pub use Rattle.ta_automaton.proofs.Trails.{Grows, Trail, run_length}
-pub use Rattle.ta_automaton.specs.Places.{location_place, one_if, rule_change}
+pub use Rattle.ta_automaton.specs.Places.{location_place, rule_change}
 unfoldable pub use Rattle.ta_automaton.specs.Places.{shared_change}
 pub use Rattle.ta_automaton.specs.Runs.{Admissible, Config, Holds, InScope, Initial, LoopsPure, MaskedHold, Occurs, Safe, Step, Steps, value_at}
-pub use Rattle.ta_automaton.specs.Sums.{times_in}
-unfoldable pub use Rattle.ta_automaton.specs.Sums.{total}
 pub use Rattle.ta_automaton.specs.declared.automaton.Automaton.{Automaton}
 pub use Rattle.ta_automaton.specs.declared.condition.Comparison.{Comparison}
 pub use Rattle.ta_automaton.specs.declared.file.File.{File}
@@ -34,15 +30,19 @@ pub use Rattle.ta_automaton.specs.declared.rule.Rule.{Rule}
 pub use Rattle.ta_base.proofs.Bits.{all_below-at, all_below-false, all_below-from, bit_off, bit_on, bit_set, bit_true, has_none, has_or, mask_of-bit, none_kept_empty, standing_bit}
 pub use Rattle.ta_base.proofs.Booleans.{and_false, implies-at, implies-from}
 pub use Rattle.ta_base.proofs.Each.{coefficients_turned, each_append, each_at, each_from_at, each_get_or, each_in, each_map, each_map_all, each_weaker}
-pub use Rattle.ta_base.proofs.Integers.{abs_minus, abs_product, abs_sum, by_one, choose_small, distributes, distributes_right, fits_sum, is_negative, is_none, less_none, less_small, minus_times, mul-ge-zero, natural, negative_false, negative_true, not_none, one_term_value, one_times, pos_natural, times_assoc, times_next, to_z_abs, to_z_range, zero_or_not}
-unfoldable pub use Rattle.ta_base.proofs.Integers.{range_sum}
+pub use Rattle.ta_base.proofs.Integers.{abs_minus, abs_product, abs_sum, by_one, choose_small, distributes, distributes_right, fits_sum, is_negative, is_none, less_none, less_small, minus_times, mul-ge-zero, natural, negative_false, negative_true, not_none, one_term_value, one_times, pos_natural, times_assoc, to_z_abs, to_z_range, zero_or_not}
 pub use Rattle.ta_base.proofs.Lists.{filter_shorter, get_drop, get_map, get_of_drop, get_of_map, get_parts, get_past, get_right, item_none, item_one, items_none, items_one, map_constant, map_same, maps_length, only_item, reverse_more, slice_get_left, some_at, fewer_alike}
 pub use Rattle.ta_base.proofs.Members.{In-filter, contains_of, in_append, in_filter, in_map, in_more, in_of, only_in}
-pub use Rattle.ta_base.proofs.Naturals.{arrives, below_or_last, cases_start, mask_of, mask_of-below, mask_of-some, position_here, position_other, untouched}
+pub use Rattle.ta_base.proofs.Naturals.{arrives, below_or_last, cases_start, mask_of, mask_of-below, mask_of-some, cond_apart, cond_same, untouched}
 pub use Rattle.ta_base.proofs.Ranges.{In-numbers, after_zeros, alike, at_index, at_number, before_block, count_few, count_none, count_one, each_index, in_numbers, numbers_more, numbers_rise, passed_none, passed_one, past_numbers, rises_at, rises_below, rises_filter, rises_length}
 pub use Rattle.ta_base.proofs.Sums.{range_sum-front, range_sum-same, range_sum-zero}
 pub use Rattle.ta_base.specs.Lists.{Rises}
 pub use Rattle.ta_base.specs.Masks.{In, all_below, has_bit, implies}
+pub use Rattle.ta_base.proofs.Times.{EachOnce, total-by_times, times-passed}
+pub use Rattle.ta_base.proofs.Totals.{one_if-natural, one_if-ne, one_if-shift, one_if-same, one_inside, one_outside, total-same, total-zero}
+pub use Rattle.ta_base.specs.Sums.{one_if, times_in}
+unfoldable pub use Rattle.ta_base.specs.Sums.{total}
+unfoldable pub use Rattle.ta_base.proofs.Sums.{range_sum}
 pub use Rattle.ta_cert.specs.Tree.{Done, Extend, Forest, Leaf, More, Split, Tree, all_preorder, forest_preorder, preorder}
 pub use Rattle.ta_cert.specs.declared.line.Node.{Node}
 pub use Rattle.ta_encode.specs.Code.{AreRowsOf, IsRowOf, SystemAt, SystemOf}
@@ -73,7 +73,7 @@ pub use Rattle.ta_encode.specs.declared.line.Sense.TheVariants.{Negated, Opposit
 pub use Rattle.ta_encode.specs.declared.origin.Origin.{Origin}
 pub use Rattle.ta_implied.proofs.Copying.{below_append}
 pub use Rattle.ta_implied.specs.Implied.{Good, IsPair, RiseHolds}
-pub use Rattle.ta_linear.proofs.TermLemmas.{IsNormal-higher, IsNormal-lower, IsNormal-push, coefficient-above, coefficient-append, coefficient-below}
+pub use Rattle.ta_linear.proofs.TermLemmas.{IsNormal-higher, IsNormal-lower, IsNormal-push, coefficient-above, coefficient-append, coefficient-below, terms_value-same}
 pub use Rattle.ta_linear.specs.Numbers.{InRange}
 pub use Rattle.ta_linear.specs.Rows.{AllBelow}
 pub use Rattle.ta_linear.specs.Terms.{IsNormal, coefficient}

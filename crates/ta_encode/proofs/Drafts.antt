@@ -1,6 +1,6 @@
 -- the unknowns and rows of a word, element by element
 use Rattle.ta_encode.proofs.Common.{Bool, ◌≡◌, ℕ, pos, negsuc, ◌+◌, ◌-◌, ◌*◌, ◌≤◌, ◌-ℤ◌, List, [], ◌∷◌, ◌++◌, length, map, reverse, not, ◌||◌, bit_or, slice_get, arith, sym, ap, ◌∙◌, refl, subst, append_assoc, length-append, filter, ◌==◌, map-append, length-map, length-reverse, has_or, each_from_at, filter_shorter, map_constant, rises_length, AllBelow, Row, IsNormal-higher, has_bit, range_with_len, Automaton, Pattern, Element, Event, Rise, Fall, LegalWord, may_fire, allowed_rules, has_fallen, legal_length, Meaning, Count, Single, Start, Parameter, meanings, start_meanings, start_locations, counts_after, singles_after, LinearRow, opposite, negated, singles_row, start_rows, event_rows, guard_rows, standing_rows, rise_rows, happening_rows, fall_rows, word_rows, condition_rows, processes_row, start_guard_rows, AreWritten, IsBehind, SmallCondition, SmallEvents, block_row, counters_outside, firing, Adds, AddsUnknowns, Continues, IsDraft, Draft, Origin, Plain, Opposite, map-map, filter_agree, length-range_with_len}
-use Rattle.ta_base.proofs.Lists.{longer}
+use Rattle.std.proofs.lemmas.List.Prefix.{front_fits}
 use Rattle.ta_automaton.specs.Patterns.{EventWithin, PatternOver}
 use Rattle.ta_words.specs.declared.task.Task.{Task}
 use Rattle.ta_encode.proofs.Adding.{adds_at, adds_behind, adds_both, behind_join, guards_same, nothing_written}
@@ -89,7 +89,7 @@ adds_drafted o past done {after = after} e g w same h =
 -- rows stay written where unknowns come behind
 written_on : {more : List Meaning} {before grown : Draft} (ls : List LinearRow) → AddsUnknowns more before grown → AreWritten ls (length before.meanings.items) before.rows.items → AreWritten ls (length grown.meanings.items) grown.rows.items
 written_on {more = more} {before = before} {grown = grown} ls h w =
-    subst (AreWritten ls (length grown.meanings.items)) (sym h.rows) (widen ls (length before.meanings.items) (length grown.meanings.items) before.rows.items (longer before.meanings.items more grown.meanings.items h.unknowns) w)
+    subst (AreWritten ls (length grown.meanings.items)) (sym h.rows) (widen ls (length before.meanings.items) (length grown.meanings.items) before.rows.items (front_fits grown.meanings.items before.meanings.items more h.unknowns) w)
 
 -- an element whose only unknowns are its Counts
 step_drafted : (o : Origin) (past : List Element) (element : Element) {f : Automaton → List Meaning → List LinearRow} {before grown after : Draft} → IsDraft o past before → AddsUnknowns (counts_after o.task.automaton.now o.task.pattern.now o.start_mask past) before grown

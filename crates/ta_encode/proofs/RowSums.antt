@@ -1,5 +1,5 @@
 -- a row's value as a sum over the unknowns, and Farkas' lemma for rows of words
-use Rattle.ta_encode.proofs.Common.{◌≡◌, ℕ, zero, suc, ℤ, pos, ◌+ℤ◌, ◌*ℤ◌, ◌≤ℤ◌, List, [], ◌∷◌, length, slice_get, get_or, Some, None, Option, arith, sym, ap, refl, ints, zero-*ℤ, range_sum, range_sum-front, range_sum-zero, LinearRow, sum_of_products, row_value, AllHold, linear_coefficient_in, linear_constant_in, LeafOfRows}
+use Rattle.ta_encode.proofs.Common.{◌≡◌, ℕ, zero, suc, ℤ, pos, ◌+ℤ◌, ◌*ℤ◌, ◌≤ℤ◌, List, [], ◌∷◌, length, slice_get, get_or, Some, None, Option, arith, sym, ap, refl, ints, zero-*ℤ, range_sum, range_sum-front, range_sum-zero, LinearRow, sum_of_products, row_value, AllHold, linear_coefficient_in, linear_constant_in, LeafOfRows, total}
 use Rattle.ta_linear.proofs.Farkas.{leaf_refutes}
 
 -- the values of a list, 0 past its end
@@ -7,7 +7,7 @@ abbrev pub value_at : List ℕ → ℕ → ℤ
 value_at vs u = pos (get_or vs u 0)
 
 pub combine-range : (cs : List ℤ) (vs : List ℕ) → sum_of_products cs vs ≡ range_sum (λ u. get_or cs u (pos 0) *ℤ value_at vs u) (length vs)
-unfolding sum_of_products range_sum
+unfolding sum_of_products range_sum total
 combine-range [] vs = sym (range_sum-zero (λ u. pos 0 *ℤ value_at vs u) (length vs) (λ u _. zero-*ℤ (value_at vs u)))
 combine-range (c ∷ cs) [] = refl
 combine-range (c ∷ cs) (v ∷ vs) =

@@ -1,38 +1,19 @@
 -- sums over the first terms of a list
-use Rattle.ta_encode.proofs.Common.{◌≡◌, ◌≢◌, inl, inr, ℕ, ℤ, pos, ◌+◌, ◌*◌, ◌<◌, ◌≤◌, ◌+ℤ◌, ◌*ℤ◌, unsigned_abs, List, [], ◌∷◌, ◌++◌, length, take, get_or, Bool, true, false, arith, sym, ap, ◌∙◌, refl, subst, ◌==◌, if◌then◌else◌, FitsSigned, to_z, of_z, w128, ints, fits_signed_mul, false≢true, true≢false, eq-eqb, eqb_tells, take_more, take-length, AllByRecursion, each_get_or, abs_product, abs_sum, fits_sum, to_z_abs, coefficient, terms_value, coefficient-append}
+use Rattle.ta_encode.proofs.Common.{◌≡◌, ◌≢◌, ℕ, ℤ, pos, ◌+◌, ◌*◌, ◌<◌, ◌≤◌, ◌+ℤ◌, ◌*ℤ◌, unsigned_abs, List, [], ◌∷◌, ◌++◌, length, take, get_or, arith, sym, ap, ◌∙◌, subst, ◌==◌, if◌then◌else◌, FitsSigned, to_z, of_z, w128, ints, fits_signed_mul, take_more, take-length, AllByRecursion, each_get_or, abs_product, abs_sum, fits_sum, to_z_abs, coefficient, terms_value, coefficient-append, cond_apart, cond_same}
+use Rattle.std.proofs.Math.IntN.{+ℤ_idr}
 
 abbrev pub at_variable : (ℕ × ℤ) → ℕ → ℤ
 at_variable t x = if t.0 == x then t.1 else pos 0
 
 pub coefficient_more : (ts : List (ℕ × ℤ)) (i x : ℕ) (d : ℕ × ℤ) → i < length ts → coefficient (take (i + 1) ts) x ≡ (coefficient (take i ts) x +ℤ at_variable (get_or ts i d) x)
-coefficient_more ts i x d b = ap (λ us. coefficient us x) (take_more ts i d b) ∙ coefficient-append (take i ts) (get_or ts i d ∷ []) x ∙ last (coefficient (take i ts) x) (at_variable (get_or ts i d) x)
-  where
-    last : (a b : ℤ) → (a +ℤ (b +ℤ pos 0)) ≡ (a +ℤ b)
-    last a b = omega (arith, ints)
+coefficient_more ts i x d b = ap (λ us. coefficient us x) (take_more ts i d b) ∙ coefficient-append (take i ts) (get_or ts i d ∷ []) x ∙ ap (λ z. coefficient (take i ts) x +ℤ z) (+ℤ_idr (at_variable (get_or ts i d) x))
 
 terms_value-append : (f : ℕ → ℤ) (xs ys : List (ℕ × ℤ)) → terms_value f (xs ++ ys) ≡ (terms_value f xs +ℤ terms_value f ys)
 terms_value-append f [] ys = omega (arith, ints)
 terms_value-append f (t ∷ xs) ys = omega (arith, ints, terms_value-append f xs ys)
 
 pub terms_value_more : (f : ℕ → ℤ) (ts : List (ℕ × ℤ)) (i : ℕ) (d : ℕ × ℤ) → i < length ts → terms_value f (take (i + 1) ts) ≡ (terms_value f (take i ts) +ℤ ((get_or ts i d).1 *ℤ f (get_or ts i d).0))
-terms_value_more f ts i d b = ap (terms_value f) (take_more ts i d b) ∙ terms_value-append f (take i ts) (get_or ts i d ∷ []) ∙ last (terms_value f (take i ts)) ((get_or ts i d).1 *ℤ f (get_or ts i d).0)
-  where
-    last : (a b : ℤ) → (a +ℤ (b +ℤ pos 0)) ≡ (a +ℤ b)
-    last a b = omega (arith, ints)
-
-pub if_same : (t : ℕ × ℤ) (x : ℕ) → t.0 ≡ x → at_variable t x ≡ t.1
-if_same t x e = choose (t.0 == x) (eq-eqb t.0 x e)
-  where
-    choose : (b : Bool) → b ≡ true → (if b then t.1 else pos 0) ≡ t.1
-    choose true h = refl
-    choose false h = absurd (false≢true h)
-
-pub if_other : (t : ℕ × ℤ) (x : ℕ) → t.0 ≢ x → at_variable t x ≡ pos 0
-if_other t x e = choose (t.0 == x) (elim (eqb_tells t.0 x) [ inl q ↦ absurd (e q.1) | inr q ↦ q.0 ])
-  where
-    choose : (b : Bool) → b ≡ false → (if b then t.1 else pos 0) ≡ pos 0
-    choose true h = absurd (true≢false h)
-    choose false h = refl
+terms_value_more f ts i d b = ap (terms_value f) (take_more ts i d b) ∙ terms_value-append f (take i ts) (get_or ts i d ∷ []) ∙ ap (λ z. terms_value f (take i ts) +ℤ z) (+ℤ_idr ((get_or ts i d).1 *ℤ f (get_or ts i d).0))
 
 abbrev pub Small : ℕ × ℤ → Type 0
 Small t = unsigned_abs t.1 ≤ 1000000000
@@ -57,7 +38,7 @@ count_more ts i x sum next each few b h same e =
     let most = abs_sum sum item.1 (i * 1000000000) 1000000000 h.small small in
     let is : next ≡ (sum +ℤ item.1) = e ∙ ap (λ z. to_z w128 (of_z w128 (sum +ℤ z))) plain ∙ to_z_abs (sum +ℤ item.1) (i * 1000000000 + 1000000000) most (omega arith) in
     record {
-      value = is ∙ ap (λ z. z +ℤ item.1) h.value ∙ ap (λ z. coefficient (take i ts) x +ℤ z) (sym (if_same item x same)) ∙ sym (coefficient_more ts i x (0, pos 0) b);
+      value = is ∙ ap (λ z. z +ℤ item.1) h.value ∙ ap (λ z. coefficient (take i ts) x +ℤ z) (sym (cond_same item.0 x item.1 (pos 0) same)) ∙ sym (coefficient_more ts i x (0, pos 0) b);
       small = subst (λ z. unsigned_abs z ≤ (i + 1) * 1000000000) (sym is) (omega arith);
     }
 
@@ -65,12 +46,9 @@ pub count_past : (ts : List (ℕ × ℤ)) (i x : ℕ) (sum next : ℤ) → i < l
 count_past ts i x sum next b h other e =
     let item = get_or ts i (0, pos 0) in
     record {
-      value = e ∙ h.value ∙ plus_zero (coefficient (take i ts) x) ∙ ap (λ z. coefficient (take i ts) x +ℤ z) (sym (if_other item x other)) ∙ sym (coefficient_more ts i x (0, pos 0) b);
+      value = e ∙ h.value ∙ sym (+ℤ_idr (coefficient (take i ts) x)) ∙ ap (λ z. coefficient (take i ts) x +ℤ z) (sym (cond_apart item.0 x item.1 (pos 0) other)) ∙ sym (coefficient_more ts i x (0, pos 0) b);
       small = subst (λ z. unsigned_abs z ≤ (i + 1) * 1000000000) (sym e) (omega (arith, h.small));
     }
-  where
-    plus_zero : (a : ℤ) → a ≡ (a +ℤ pos 0)
-    plus_zero a = omega (arith, ints)
 
 pub counted_all : (ts : List (ℕ × ℤ)) (i x : ℕ) (sum : ℤ) → i ≡ length ts → Counted ts i x sum → sum ≡ coefficient ts x
 counted_all ts i x sum e h = h.value ∙ ap (λ n. coefficient (take n ts) x) e ∙ ap (λ us. coefficient us x) (take-length ts)

@@ -1,8 +1,11 @@
 -- the unknowns of an element stand behind those of the elements before it, and one of the Singles of a Fall is 1
-use Rattle.ta_encode.proofs.Common.{◌≡◌, inl, inr, ℕ, zero, suc, ◌+◌, ◌<◌, ℤ, pos, ◌+ℤ◌, List, [], ◌∷◌, ◌++◌, map, length, drop, arith, sym, ap, ◌∙◌, refl, subst, slice_get, Some, length-map, ints, AllByRecursion, each_append, each_at, each_map_all, get_drop, get_of_drop, get_of_map, get_parts, get_right, only_in, Automaton, Pattern, has_bit, range_with_len, In, Element, Event, Rise, Fall, allowed_rules, Meaning, Parameter, Start, Count, Single, meanings, counts_after, singles_after, start_locations, start_meanings, opposite, counter_rows, guard_rows, singles_row, fall_rows, sum_of_products, AllHold, IsOne, get_map as map_get}
+use Rattle.ta_encode.proofs.Common.{◌≡◌, inl, inr, ℕ, zero, suc, ◌+◌, ◌<◌, ℤ, pos, ◌+ℤ◌, List, [], ◌∷◌, ◌++◌, map, length, drop, arith, sym, ap, ◌∙◌, subst, slice_get, Some, length-map, ints, AllByRecursion, each_append, each_at, each_map_all, get_drop, get_of_drop, get_of_map, get_parts, get_right, only_in, Automaton, Pattern, has_bit, range_with_len, In, Element, Event, Rise, Fall, allowed_rules, Meaning, Parameter, Start, Count, Single, meanings, counts_after, singles_after, start_locations, start_meanings, opposite, counter_rows, guard_rows, singles_row, fall_rows, sum_of_products, AllHold, IsOne, get_map as map_get}
+use Rattle.std.proofs.Common.{replicate}
+use Rattle.ta_base.proofs.Lists.{none_repeated}
+use Rattle.ta_base.proofs.Members.{In-right}
 use Rattle.ta_encode.proofs.Combine.{combine-zero}
 use Rattle.ta_encode.proofs.Moments.{opposite_value, AllHold-left}
-use Rattle.ta_encode.proofs.Values.{unfolded, repeat, unfolded-count, AllHold-right}
+use Rattle.ta_encode.proofs.Values.{unfolded, unfolded-count, AllHold-right}
 
 combine-cut : (cs ds : List ℤ) (vs : List ℕ) → sum_of_products (cs ++ ds) vs ≡ (sum_of_products cs vs +ℤ sum_of_products ds (drop (length cs) vs))
 unfolding sum_of_products
@@ -69,15 +72,11 @@ not_single a p start past i r at = elim (get_parts (meanings a p start past) (co
   no_single n (x ∷ rs) (suc j) q e = no_single n rs j q e
 
 -- a list of one item that has a rule with the value 1 is that rule
-in_repeat : (v r x : ℕ) (xs : List ℕ) → In x xs → In x (repeat v r xs)
-in_repeat zero r x xs h = h
-in_repeat (suc v) r x xs h = inr (in_repeat v r x xs h)
-
 in_unfolded : (al ws : List ℕ) (j r : ℕ) → slice_get al j ≡ Some r → slice_get ws j ≡ Some 1 → In r (unfolded al ws)
 in_unfolded [] ws j r at one = absurd (cc)
 in_unfolded (q ∷ al) [] j r at one = absurd (cc)
-in_unfolded (q ∷ al) (v ∷ ws) zero r at one = let e : q ≡ r = cc in let f : v ≡ 1 = cc in subst (λ (n : ℕ). In r (repeat n q (unfolded al ws))) (sym f) (inl (sym e))
-in_unfolded (q ∷ al) (v ∷ ws) (suc j) r at one = in_repeat v q r (unfolded al ws) (in_unfolded al ws j r at one)
+in_unfolded (q ∷ al) (v ∷ ws) zero r at one = let e : q ≡ r = cc in let f : v ≡ 1 = cc in subst (λ (n : ℕ). In r (replicate n q ++ unfolded al ws)) (sym f) (inl (sym e))
+in_unfolded (q ∷ al) (v ∷ ws) (suc j) r at one = In-right r (replicate v q) (unfolded al ws) (in_unfolded al ws j r at one)
 
 -- the rule whose Single is 1 is the only one
 pub only_single : (a : Automaton) (p : Pattern) (start : ℕ) (past : List Element) (mask : ℕ) (vs : List ℕ) (r : ℕ) → IsOne (meanings a p start (Fall mask ∷ past)) vs (Single (length past) r) → length (unfolded (allowed_rules a p start past) (drop (length (meanings a p start past ++ counts_after a p start past)) vs)) ≡ 1 → unfolded (allowed_rules a p start past) (drop (length (meanings a p start past ++ counts_after a p start past)) vs) ≡ r ∷ []
@@ -96,10 +95,6 @@ only_single a p start past mask vs r one size =
       same_rule : (k x y : ℕ) → Single k x ≡ Single k y → x ≡ y
       same_rule k x y e = cc
 
-pub repeat_none : (n q : ℕ) (xs : List ℕ) → repeat n q xs ≡ [] → n ≡ 0
-repeat_none zero q xs e = refl
-repeat_none (suc n) q xs e = absurd (cc)
-
 -- where the unfolded list is one rule, its value is 1
 one_at : (al ws : List ℕ) (r : ℕ) → unfolded al ws ≡ r ∷ [] → (j : ℕ) × (slice_get al j ≡ Some r) × (slice_get ws j ≡ Some 1)
 one_at [] ws r e = absurd (cc)
@@ -107,8 +102,8 @@ one_at (q ∷ al) [] r e = absurd (cc)
 one_at (q ∷ al) (zero ∷ ws) r e = let w = one_at al ws r e in (suc w.0, w.1, w.2)
 one_at (q ∷ al) (suc n ∷ ws) r e =
     let first : q ≡ r = cc in
-    let rest : repeat n q (unfolded al ws) ≡ [] = cc in
-    (0, ap Some first, ap (λ k. Some (suc k)) (repeat_none n q (unfolded al ws) rest))
+    let rest : replicate n q ++ unfolded al ws ≡ [] = cc in
+    (0, ap Some first, ap (λ k. Some (suc k)) (none_repeated n q (unfolded al ws) rest))
 
 -- the only rule is the one whose Single is 1
 pub single_one : (a : Automaton) (p : Pattern) (start : ℕ) (past : List Element) (mask : ℕ) (vs : List ℕ) (r : ℕ) → unfolded (allowed_rules a p start past) (drop (length (meanings a p start past ++ counts_after a p start past)) vs) ≡ r ∷ [] → IsOne (meanings a p start (Fall mask ∷ past)) vs (Single (length past) r)

@@ -1,6 +1,6 @@
 -- the empty word at the start of a run
-use Rattle.ta_encode.proofs.Common.{◌≡◌, inl, inr, ℕ, zero, suc, ◌+◌, ◌<◌, ◌≤◌, ℤ, pos, ◌+ℤ◌, ◌-ℤ◌, ◌*ℤ◌, List, [], ◌∷◌, ◌++◌, map, length, Bool, true, false, not, arith, sym, ap, ◌∙◌, refl, subst, slice_get, get_or, Some, None, Option, length-append, zero-add, sum, ints, cases_Bool, not_from_false, nat_tests, eqb_tells, slice_get_within, zero-*ℤ, mask_of-bit, is_negative, negative_false, negative_true, one_times, maps_length, In-filter, in_of, mask_of, rises_filter, terms_value, value_of, RowHolds, Row, Automaton, Pattern, Config, value_at, Holds, Initial, Rises, has_bit, range_with_len, In, has_fallen, Meaning, Parameter, Start, start_locations, start_meanings, meanings, place_coefficient, one_if, location_place, opposite, processes_row, start_coefficient, condition_rows, start_guard_rows, start_rows, word_rows, sum_of_products, row_value, AllHold, total, total-zero, total-same, total-swap, one_inside, one_outside, one_if-same, one_if-other, terms_value-same, Fits, place_cases, value_at-parameter, value_at-shared, value_at-location, one_if-ne, one_if-shift, resilience_holds, processes_value as processes_at}
-use Rattle.std.proofs.lemmas.List.Sums.{sum_by-cons}
+use Rattle.ta_encode.proofs.Common.{◌≡◌, inl, inr, ℕ, ◌+◌, ℤ, pos, ◌-ℤ◌, ◌*ℤ◌, List, [], ◌∷◌, ◌++◌, map, length, Bool, true, false, not, arith, sym, ap, ◌∙◌, slice_get, get_or, Some, None, Option, length-append, zero-add, sum, ints, cases_Bool, not_from_false, slice_get_within, zero-*ℤ, mask_of-bit, is_negative, negative_false, negative_true, one_times, maps_length, In-filter, in_of, mask_of, rises_filter, terms_value, value_of, RowHolds, Row, Automaton, Pattern, Config, value_at, Holds, Initial, Rises, has_bit, range_with_len, In, has_fallen, Meaning, Parameter, Start, start_locations, start_meanings, meanings, place_coefficient, one_if, location_place, opposite, processes_row, start_coefficient, condition_rows, start_guard_rows, start_rows, word_rows, sum_of_products, row_value, AllHold, total, total-zero, total-same, one_inside, one_outside, terms_value-same, Fits, place_cases, value_at-parameter, value_at-shared, value_at-location, one_if-ne, one_if-shift, resilience_holds, processes_value as processes_at}
+use Rattle.ta_base.proofs.Totals.{one_among, total-items, total-naturals, total-rising}
 use Rattle.ta_encode.proofs.Combine.{combine-append, combine-extra, combine-map, combine-minus, combine-terms}
 use Rattle.ta_encode.proofs.Moments.{Moment, RowFails, AllHold-append, condition_holds, start_guards, opposite_value}
 use Rattle.ta_encode.proofs.State.{State}
@@ -9,45 +9,6 @@ use Rattle.ta_encode.proofs.State.{State}
 abbrev pub row_fails : Config → Option Row → Bool
 row_fails c None = false
 row_fails c (Some row) = is_negative (value_of (value_at c) row.form)
-
-sum_above : (f : ℕ → ℤ) (low high : ℕ) (xs : List ℕ) (l : ℕ) → Rises low high xs → l < low → total (λ j. one_if j l *ℤ f j) xs ≡ pos 0
-unfolding total
-sum_above f low high [] l h b = refl
-sum_above f low high (x ∷ xs) l h b =
-    let least : low ≤ x = h.0 in
-    omega (arith, ints, one_if-other x l (f x) (λ e. omega arith), sum_above f (x + 1) high xs l h.2 (omega arith))
-
--- a sum over rising numbers, all of whose parts but one are 0
-start_sum : (f : ℕ → ℤ) (low high : ℕ) (xs : List ℕ) (l : ℕ) → Rises low high xs → ((In l xs → ⊥) → f l ≡ pos 0) → total (λ j. one_if j l *ℤ f j) xs ≡ f l
-unfolding total
-start_sum f low high [] l h out = sym (out (λ w. w))
-start_sum f low high (x ∷ xs) l h out = elim (eqb_tells x l) [
-  | inl e ↦ omega (arith, ints, sum_above f (x + 1) high xs l h.2 (let p = e.1 in omega arith), ap (λ z. one_if x z *ℤ f x) (sym e.1), one_if-same x (f x), ap f e.1)
-  | inr ne ↦ omega (arith, ints, one_if-other x l (f x) ne.1, start_sum f (x + 1) high xs l h.2 (λ w. out (λ v. elim v [ inl e ↦ ne.1 (sym e) | inr g ↦ w g ])))
-]
-
-shift : (f : ℕ → ℤ) (k n : ℕ) → total f (range_with_len (k + 1) n) ≡ total (λ x. f (x + 1)) (range_with_len k n)
-unfolding total
-shift f k zero = refl
-shift f k (suc n) = ap (λ z. f (k + 1) +ℤ z) (shift f (k + 1) n)
-
-pub sum_total : (xs : List ℕ) → total (λ l. pos (get_or xs l 0)) (range_with_len 0 (length xs)) ≡ pos (sum xs)
-unfolding total
-sum_total [] = refl
-sum_total (x ∷ xs) =
-    let more = shift (λ l. pos (get_or (x ∷ xs) l 0)) 0 (length xs) in
-    let same = total-same (λ l. pos (get_or (x ∷ xs) (l + 1) 0)) (λ l. pos (get_or xs l 0)) (range_with_len 0 (length xs)) (λ l. grind arith) in
-    omega (arith, ints, sum_total xs, more, same, sum_by-cons (λ y. y) x xs)
-
-pub one_if_comm : (x y : ℕ) → one_if x y ≡ one_if y x
-one_if_comm x y = elim (eqb_tells x y) [ inl e ↦ rw e.1 refl | inr ne ↦ grind (arith, nat_tests) ]
-
-each_once : (f : ℕ → ℤ) (low high : ℕ) (xs : List ℕ) → Rises low high xs → total (λ j. total (λ l. one_if j l *ℤ f j) (range_with_len 0 high)) xs ≡ total f xs
-unfolding total
-each_once f low high [] h = refl
-each_once f low high (x ∷ xs) h =
-    let flip = total-same (λ l. one_if x l *ℤ f x) (λ l. one_if l x *ℤ f x) (range_with_len 0 high) (λ l. ap (λ z. z *ℤ f x) (one_if_comm x l)) in
-    omega (arith, ints, flip, one_inside (λ _. f x) 0 high x (omega arith) (omega (arith, h.1)), each_once f (x + 1) high xs h.2)
 
 -- the locations that are kept empty have no process at the start
 abbrev pub StartsEmpty : Pattern → Config → Type 0
@@ -67,11 +28,8 @@ starts_total : (a : Automaton) (p : Pattern) (c : Config) → Initial a c → St
 starts_total a p c start empty =
     let f : ℕ → ℤ = λ l. pos (get_or c.counters l 0) in
     let n = length a.locations in
-    let once = each_once f 0 n (start_locations a p) (start_rises a p) in
-    let swap = total-swap (λ j l. one_if j l *ℤ f j) (start_locations a p) (range_with_len 0 n) in
-    let each = total-same (λ l. total (λ j. one_if j l *ℤ f j) (start_locations a p)) f (range_with_len 0 n) (λ l. start_sum f 0 n (start_locations a p) l (start_rises a p) (out_of_start a p c start empty l)) in
-    let all = subst (λ (k : ℕ). total f (range_with_len 0 k) ≡ pos (sum c.counters)) start.locations_count (sum_total c.counters) in
-    omega (arith, ints, once, swap, each, all)
+    let all = ap (λ (k : ℕ). total f (range_with_len 0 k)) (sym start.locations_count) ∙ total-items pos 0 c.counters ∙ total-naturals c.counters in
+    total-rising f n (start_locations a p) (start_rises a p) (out_of_start a p c start empty) ∙ all
 
 abbrev pub parameter_values : Automaton → Config → List ℕ
 parameter_values a c = map (λ j. get_or c.parameters j 0) (range_with_len 0 (length a.parameters))
@@ -107,7 +65,7 @@ start_moment a p c fits start empty =
                 let n = length a.parameters + length a.shared in
                 let mine = one_outside (λ j. pos (get_or c.parameters j 0)) 0 (length a.parameters) i (inr (let q = w.1 in omega arith)) in
                 let moved = total-same (λ l. one_if (location_place a l) i *ℤ pos (get_or c.counters l 0)) (λ l. one_if l w.0 *ℤ pos (get_or c.counters l 0)) locs (λ l. rw w.1 (ap (λ z. z *ℤ pos (get_or c.counters l 0)) (one_if-shift n l w.0))) in
-                let starts = start_sum (λ l. pos (get_or c.counters l 0)) 0 (length a.locations) locs w.0 (start_rises a p) (out_of_start a p c start empty w.0) in
+                let starts = one_among (λ l. pos (get_or c.counters l 0)) 0 (length a.locations) locs w.0 (start_rises a p) (out_of_start a p c start empty w.0) in
                 let here = ap (value_at c) w.1 ∙ value_at-location a c w.0 fits in
                 omega (arith, ints, both, ps, ls, mine, moved, starts, here))
           ];

@@ -1,5 +1,5 @@
 -- a word that describes the first steps of a run, and the steps since its last element
-use Rattle.ta_encode.proofs.Common.{◌≡◌, inl, inr, ℕ, ◌+◌, ◌^◌, ◌<◌, ◌≤◌, pos, ◌+ℤ◌, ◌≤ℤ◌, ◌<ℤ◌, List, [], ◌∷◌, ◌++◌, map, length, eqb, true, false, not, arith, sym, ap, ◌∙◌, refl, subst, slice_get, Some, Option, append_assoc, length-append, zero-add, length-map, ints, eqb-true, or_cases, and_from, not-true, not_from_false, or_parts, slice_get_within, all_below-at, implies-at, value_of, RowHolds, Row, Automaton, terms_value-same, Pattern, Config, value_at, Holds, has_bit, implies, range_with_len, Element, Event, Rise, Fall, has_rise, has_fallen, is_complete, is_due, is_ready, is_standing, LegalUnder, allowed_rules, Meaning, Count, Single, meanings, counts_after, singles_after, place_coefficient, LinearRow, opposite, negated, counter_rows, guard_rows, standing_rows, singles_row, event_rows, rise_rows, happening_rows, fall_rows, word_rows, sum_of_products, row_value, AllHold, total, times_in, EachOnce, firings, Fits}
+use Rattle.ta_encode.proofs.Common.{◌≡◌, inl, inr, ℕ, ◌+◌, ◌^◌, ◌<◌, ◌≤◌, pos, ◌+ℤ◌, ◌≤ℤ◌, ◌<ℤ◌, List, [], ◌∷◌, ◌++◌, map, length, eqb, true, false, not, arith, sym, ap, ◌∙◌, refl, subst, slice_get, Some, Option, append_assoc, length-append, zero-add, length-map, ints, eqb-true, or_cases, and_from, not-true, not_from_false, or_parts, slice_get_within, all_below-at, implies-at, value_of, RowHolds, Row, Automaton, terms_value-same, Pattern, Config, value_at, Holds, has_bit, implies, range_with_len, Element, Event, Rise, Fall, has_rise, has_fallen, is_complete, is_due, is_ready, is_standing, LegalUnder, allowed_rules, Meaning, Count, Single, meanings, counts_after, singles_after, place_coefficient, LinearRow, opposite, negated, counter_rows, guard_rows, standing_rows, singles_row, event_rows, rise_rows, happening_rows, fall_rows, word_rows, sum_of_products, row_value, AllHold, total, times_in, EachOnce, total-by_times, Fits}
 use Rattle.std.specs.List.{filter}
 pub use Rattle.ta_automaton.proofs.Onward.{change_of}
 use Rattle.ta_automaton.specs.declared.pattern.Event.{Event as PatternEvent}
@@ -27,7 +27,7 @@ closed a p pairs start past vs fired d s =
     let al = allowed_rules a p start past in
     record {
       count = omega (arith, s.count, length-append vs (counts_of a p start past fired), length-append ms (counts_after a p start past), length-map al (λ r. times_in r fired), length-map al (Count (length past)));
-      places = λ i. omega (arith, ints, combine-append (λ m. place_coefficient a m i) ms (counts_after a p start past) vs (counts_of a p start past fired) s.count, combine-map (λ m. place_coefficient a m i) (Count (length past)) (λ r. times_in r fired) al, firings (change_of a i) al fired s.once, s.places i);
+      places = λ i. omega (arith, ints, combine-append (λ m. place_coefficient a m i) ms (counts_after a p start past) vs (counts_of a p start past fired) s.count, combine-map (λ m. place_coefficient a m i) (Count (length past)) (λ r. times_in r fired) al, total-by_times (change_of a i) al fired s.once, s.places i);
     }
 
 old_rows : (vs new more : List ℕ) (rows : List LinearRow) → ((m : List ℕ) → AllHold (vs ++ m) rows) → AllHold ((vs ++ new) ++ more) rows
@@ -92,7 +92,7 @@ unfolding total
 single_sum before al vs extra r e one =
     let t : ℕ → ℕ = λ x. times_in x (r ∷ []) in
     let zeros : length vs ≡ length (map (λ (m : Meaning). pos 0) before) = e ∙ sym (length-map before (λ m. pos 0)) in
-    let own = firings (λ x. pos 1) al (r ∷ []) (one, tt) in
+    let own = total-by_times (λ x. pos 1) al (r ∷ []) (one, tt) in
     let sums = combine-concat (map (λ (m : Meaning). pos 0) before) (map (λ (x : ℕ). pos 1) al) vs (map t al ++ extra) zeros in
     let inner = combine-extra (λ (x : ℕ). pos 1) al (map t al) extra (length-map al t) in
     rw (append_assoc vs (map t al) extra) (omega (arith, ints, sums, inner, combine-zero before vs, combine-own (λ (x : ℕ). pos 1) t al, own))
@@ -107,7 +107,7 @@ push_fall a p pairs start past vs fired d s r next mask more low high stands one
     let ws = vs ++ counts_of a p start past fired in
     let end : Moment a (before ++ singles_after a p start past) (ws ++ counts_of a p start past (r ∷ [])) next = record {
       count = omega (arith, m.count, length-append ws (counts_of a p start past (r ∷ [])), length-append before (singles_after a p start past), length-map al (λ x. times_in x (r ∷ [])), length-map al (Single n));
-      places = λ i. omega (arith, ints, combine-append (λ k. place_coefficient a k i) before (singles_after a p start past) ws (counts_of a p start past (r ∷ [])) m.count, combine-map (λ k. place_coefficient a k i) (Single n) (λ x. times_in x (r ∷ [])) al, firings (change_of a i) al (r ∷ []) (one, tt), m.places i, moved i);
+      places = λ i. omega (arith, ints, combine-append (λ k. place_coefficient a k i) before (singles_after a p start past) ws (counts_of a p start past (r ∷ [])) m.count, combine-map (λ k. place_coefficient a k i) (Single n) (λ x. times_in x (r ∷ [])) al, total-by_times (change_of a i) al (r ∷ []) (one, tt), m.places i, moved i);
     } in
     let stand : (j : ℕ) (row : Row) → slice_get a.fall j ≡ Some row → has_fallen start (Fall mask ∷ past) j ≡ false → RowHolds (value_at next) row = (λ j row at f. let q = or_parts (has_bit mask j) (has_fallen start past j) f in falls.rest j row at q.0 q.1) in
     record {

@@ -1,5 +1,5 @@
 -- one step of a run: a self-loop, a step that switches no fall guard, or one that does
-use Rattle.ta_encode.proofs.Common.{◌≡◌, ◌≢◌, inl, inr, ℕ, ◌<◌, ◌≤◌, pos, ◌≤ℤ◌, ◌<ℤ◌, List, [], ◌∷◌, ◌++◌, map, length, Bool, true, false, not, ◌&&◌, arith, sym, ap, ◌∙◌, subst, slice_get, get_or, Some, append_assoc, ◌⊎◌, ints, cases_Bool, and_parts, and_from, ne_eqb, not-false, not-true, not_from_false, eqb_tells, slice_get_within, all_below-at, all_below-false, all_below-from, bit_set, mask_of-bit, and_false, implies-from, negative_false, negative_true, some_at, arrives, mask_of, mask_of-below, mask_of-some, value_of, Row, Automaton, Pattern, Admissible, Config, value_at, Step, LoopsPure, has_bit, all_below, implies, In, RiseHolds, Element, Fall, has_event, has_rise, has_fallen, is_complete, may_fire, allowed_rules, times_in, Fits, move_at, fits_after, loop_at, step_later, stays_below, stays_true, once}
+use Rattle.ta_encode.proofs.Common.{◌≡◌, ◌≢◌, inl, inr, ℕ, ◌<◌, ◌≤◌, pos, ◌≤ℤ◌, ◌<ℤ◌, List, [], ◌∷◌, ◌++◌, map, length, Bool, true, false, not, ◌&&◌, arith, sym, ap, ◌∙◌, subst, slice_get, get_or, Some, append_assoc, ◌⊎◌, ints, cases_Bool, and_parts, and_from, ne_eqb, not-false, not-true, not_from_false, eqb_tells, slice_get_within, all_below-at, all_below-false, all_below-from, bit_set, mask_of-bit, and_false, implies-from, negative_false, negative_true, some_at, arrives, mask_of, mask_of-below, mask_of-some, value_of, Row, Automaton, Pattern, Admissible, Config, value_at, Step, LoopsPure, has_bit, all_below, implies, In, RiseHolds, Element, Fall, has_event, has_rise, has_fallen, is_complete, may_fire, allowed_rules, times_in, Fits, move_at, fits_after, loop_at, step_later, stays_below, stays_true, times-passed}
 use Rattle.ta_encode.proofs.Moments.{RowFails}
 use Rattle.ta_encode.proofs.State.{State, add_step, skip_step, push_fall}
 use Rattle.ta_encode.proofs.Start.{row_fails}
@@ -30,7 +30,7 @@ step_allowed a p pairs start past vs fired d next r s seen empty later step ne =
     let holds : pos 0 ≤ℤ value_of (value_at d) (w.0).form = step.move.fall j w.0 w.1 (bit_set rule.fall j t) in
     not_from_false _ (elim (cases_Bool (has_fallen start past j)) [ inl y ↦ absurd (let fails : value_of (value_at d) (w.0).form <ℤ pos 0 = s.fallen j w.0 w.1 y in omega (arith, ints)) | inr f ↦ f ]))) in
     let may : may_fire a p start past (Some rule) ≡ true = and_from _ _ (not_from_false _ (ne_eqb rule.from rule.to ne)) (and_from _ _ (not_from_false _ from) (and_from _ _ (not_from_false _ to) (and_from _ _ rises falls))) in
-    once (λ k. may_fire a p start past (slice_get a.rules k)) r 0 (length a.rules) (ap (may_fire a p start past) step.named ∙ may) (omega arith) (omega (arith, slice_get_within a.rules r rule step.named))
+    times-passed (λ k. may_fire a p start past (slice_get a.rules k)) r 0 (length a.rules) (ap (may_fire a p start past) step.named ∙ may) (omega arith) (omega (arith, slice_get_within a.rules r rule step.named))
 
 -- values that begin with others
 abbrev pub Begins : List ℕ → List ℕ → Type 0

@@ -1,10 +1,12 @@
 -- The numbers of a word's rows are in range, so each word has a system.
-use Rattle.ta_encode.proofs.Common.{◌≡◌, ◌≢◌, ⊎_elim, ℕ, zero, suc, ℤ, pos, negsuc, ◌+◌, ◌-◌, ◌*◌, ◌^◌, ◌<◌, ◌≤◌, ◌+ℤ◌, ◌-ℤ◌, ◌*ℤ◌, ◌≤ℤ◌, ◌<ℤ◌, unsigned_abs, Bool, true, false, not, eqb, cond, List, [], ◌∷◌, ◌++◌, length, length-append, map, get_or, slice_get, Option, Some, None, arith, refl, sym, ap, subst, ◌∙◌, AllByRecursion, ◌==◌, if◌then◌else◌, nat_lt, ints, length-map, coefficients_turned, each_append, each_map_all, each_weaker, abs_minus, abs_product, abs_sum, choose_small, less_small, zero_or_not, InRange, AllBelow, coefficient, IsNormal, terms_value, Form, Row, System, IsNormal-higher, IsNormal-lower, coefficient-below, Automaton, Comparison, File, Pattern, Rule, has_bit, range_with_len, one_if, location_place, shared_change, rule_change, rule_within, pattern_within, Element, Event, Rise, Fall, allowed_rules, has_fallen, IsRowOf, AreRowsOf, SystemAt, BoundsWithin, pattern_search, sample_meanings, sample_rows, sample_search, Pending, Search, bounded_rows, Meaning, Parameter, Start, Count, Single, place_coefficient, start_meanings, meanings, counts_after, singles_after, LinearRow, Bound, Side, Low, High, bound_row, only_at, side_row, opposite, negated, form_row, counter_row, counter_rows, condition_rows, guard_rows, start_guard_rows, start_coefficient, processes_row, singles_row, event_rows, standing_rows, start_rows, rise_rows, happening_rows, fall_rows, word_rows, SmallForm, SmallRows, SmallCondition, SmallEvents, cond_both, each_map}
+use Rattle.ta_encode.proofs.Common.{◌≡◌, ◌≢◌, ⊎_elim, ℕ, zero, suc, ℤ, pos, negsuc, ◌+◌, ◌-◌, ◌*◌, ◌^◌, ◌<◌, ◌≤◌, ◌+ℤ◌, ◌-ℤ◌, ◌*ℤ◌, ◌≤ℤ◌, ◌<ℤ◌, unsigned_abs, Bool, true, false, not, eqb, cond, List, [], ◌∷◌, ◌++◌, length, length-append, map, get_or, slice_get, Option, Some, None, arith, refl, sym, ap, subst, ◌∙◌, AllByRecursion, ◌==◌, if◌then◌else◌, nat_lt, ints, length-map, coefficients_turned, each_append, each_map_all, each_weaker, abs_minus, abs_product, abs_sum, choose_small, less_small, zero_or_not, InRange, AllBelow, coefficient, IsNormal, terms_value, Form, Row, System, IsNormal-higher, IsNormal-lower, coefficient-below, Automaton, Comparison, File, Pattern, Rule, has_bit, range_with_len, one_if, location_place, shared_change, rule_change, rule_within, pattern_within, Element, Event, Rise, Fall, allowed_rules, has_fallen, IsRowOf, AreRowsOf, SystemAt, BoundsWithin, pattern_search, sample_meanings, sample_rows, sample_search, Pending, Search, bounded_rows, Meaning, Parameter, Start, Count, Single, place_coefficient, start_meanings, meanings, counts_after, singles_after, LinearRow, Bound, Side, Low, High, bound_row, only_at, side_row, opposite, negated, form_row, counter_row, counter_rows, condition_rows, guard_rows, start_guard_rows, start_coefficient, processes_row, singles_row, event_rows, standing_rows, start_rows, rise_rows, happening_rows, fall_rows, word_rows, SmallForm, SmallRows, SmallCondition, SmallEvents, cond_both, each_map, cond_apart, cond_same}
+use Rattle.std.proofs.Math.IntN.{+ℤ_idl}
+use Rattle.ta_base.proofs.Totals.{one_if-small}
 use Rattle.std.specs.List.{filter}
 use Rattle.ta_automaton.specs.declared.pattern.Event.{Event as PatternEvent}
-use Rattle.ta_encode.proofs.Changes.{small_updates, one_if-small}
+use Rattle.ta_encode.proofs.Changes.{small_updates}
 use Rattle.ta_encode.proofs.Drafts.{events_small, start_small as small_at_start}
-use Rattle.ta_encode.proofs.Running.{Small, if_other, if_same}
+use Rattle.ta_encode.proofs.Running.{Small}
 use Rattle.ta_encode.proofs.Samples.{sample_few}
 use Rattle.ta_encode.proofs.Smallness.{fall_rows_small, processes_small, resilience_small, rise_rows_small}
 
@@ -255,13 +257,10 @@ record Terms (k : ℕ) (cs : List ℤ) : Type 0 where
   there : (i : ℕ) → coefficient terms (k + i) ≡ get_or cs i (pos 0)
 
 at_own : (k : ℕ) (c : ℤ) (ts : List (ℕ × ℤ)) → coefficient ((k, c) ∷ ts) k ≡ (c +ℤ coefficient ts k)
-at_own k c ts = ap (λ z. z +ℤ coefficient ts k) (if_same (k, c) k refl)
+at_own k c ts = ap (λ z. z +ℤ coefficient ts k) (cond_same k k c (pos 0) refl)
 
 at_other : (k x : ℕ) (c : ℤ) (ts : List (ℕ × ℤ)) → k ≢ x → coefficient ((k, c) ∷ ts) x ≡ coefficient ts x
-at_other k x c ts ne = ap (λ z. z +ℤ coefficient ts x) (if_other (k, c) x ne) ∙ nothing (coefficient ts x)
-  where
-    nothing : (z : ℤ) → (pos 0 +ℤ z) ≡ z
-    nothing z = omega (arith, ints)
+at_other k x c ts ne = ap (λ z. z +ℤ coefficient ts x) (cond_apart k x c (pos 0) ne) ∙ +ℤ_idl (coefficient ts x)
 
 IsNormal-from : (low low' high high' : ℕ) (ts : List (ℕ × ℤ)) → low' ≤ low → high ≡ high' → IsNormal low high ts → IsNormal low' high' ts
 IsNormal-from low low' high high' ts less same normal = subst (λ h. IsNormal low' h ts) same (IsNormal-lower low low' high ts less normal)

@@ -1,5 +1,5 @@
 -- the run of a word's solution, element by element
-use Rattle.ta_encode.proofs.Common.{◌≡◌, ◌≢◌, ◌⊎◌, inl, inr, ℕ, ◌+◌, ◌<◌, ◌≤◌, pos, ◌+ℤ◌, ◌≤ℤ◌, List, [], ◌∷◌, ◌++◌, map, length, drop, eqb, cond, true, false, not, ◌||◌, arith, sym, ap, ◌∙◌, refl, subst, slice_get, get_or, Some, Option, IsBitSet, zero-add, append_assoc, ints, false≢true, cases_Bool, and_parts, eqb-true, or_cases, not-true, not_from_false, or_right, nat_tests, eqb_tells, all_below-at, bit_true, implies-at, position_here, position_other, value_of, RowHolds, Row, Rule, Automaton, terms_value-same, Pattern, Config, value_at, Holds, has_bit, implies, In, Element, Event, Rise, Fall, has_event, has_rise, has_fallen, follows, children, LegalWord, allowed_rules, may_fire, one_if, location_place, Meaning, Single, meanings, counts_after, singles_after, place_coefficient, opposite, negated, counter_rows, guard_rows, standing_rows, singles_row, event_rows, rise_rows, happening_rows, fall_rows, word_rows, AllHold, total, value_at-location, one_if-ne, from_within, Whole, fits_whole, Trail, FiresBefore, FiresFall, WordFires, steps_of, position_in, later_after, change_location, fall_back, rise_on, falls as falls_rows, rises as rises_rows}
+use Rattle.ta_encode.proofs.Common.{◌≡◌, ◌≢◌, ◌⊎◌, inl, inr, ℕ, ◌+◌, ◌<◌, ◌≤◌, pos, ◌+ℤ◌, ◌≤ℤ◌, List, [], ◌∷◌, ◌++◌, map, length, drop, eqb, cond, true, false, not, ◌||◌, arith, sym, ap, ◌∙◌, refl, subst, slice_get, get_or, Some, Option, IsBitSet, zero-add, append_assoc, ints, false≢true, cases_Bool, and_parts, eqb-true, or_cases, not-true, not_from_false, or_right, nat_tests, eqb_tells, all_below-at, bit_true, implies-at, cond_same, cond_apart, value_of, RowHolds, Row, Rule, Automaton, terms_value-same, Pattern, Config, value_at, Holds, has_bit, implies, In, Element, Event, Rise, Fall, has_event, has_rise, has_fallen, follows, children, LegalWord, allowed_rules, may_fire, one_if, location_place, Meaning, Single, meanings, counts_after, singles_after, place_coefficient, opposite, negated, counter_rows, guard_rows, standing_rows, singles_row, event_rows, rise_rows, happening_rows, fall_rows, word_rows, AllHold, total, value_at-location, one_if-ne, from_within, Whole, fits_whole, Trail, FiresBefore, FiresFall, WordFires, steps_of, position_in, later_after, change_location, fall_back, rise_on, falls as falls_rows, rises as rises_rows}
 use Rattle.ta_encode.proofs.Moments.{AllHold-left}
 use Rattle.ta_automaton.specs.declared.pattern.Event.{Event as PatternEvent}
 use Rattle.ta_encode.proofs.State.{change_of}
@@ -122,22 +122,22 @@ do_event a p start past vs first earlier position os e w child t h =
       happened = λ x event y at. elim (old_or x y) [
         | inl q ↦ (
           u.config,
-          subst (λ (k : ℕ). slice_get (first ∷ u.trail.later) k ≡ Some u.config) {y = place x} (all ∙ sym {a = place x} (position_here x e n (position x) q)) u.trail.last,
+          subst (λ (k : ℕ). slice_get (first ∷ u.trail.later) k ≡ Some u.config) {y = place x} (all ∙ sym {a = place x} (cond_same x e n (position x) q)) u.trail.last,
           condition_back a ms vs u.config u.values event.condition.comparisons (subst (λ (o : Option PatternEvent). AllHold vs (event_rows a ms o)) (ap (slice_get p.events) (sym q) ∙ at) mine),
         )
-        | inr q ↦ (let v = u.happened x event q at in (v.0, subst (λ (k : ℕ). slice_get (first ∷ u.trail.later) k ≡ Some v.0) {y = place x} (sym {a = place x} (position_other x e n (position x) (old_not x q))) v.1, v.2))
+        | inr q ↦ (let v = u.happened x event q at in (v.0, subst (λ (k : ℕ). slice_get (first ∷ u.trail.later) k ≡ Some v.0) {y = place x} (sym {a = place x} (cond_apart x e n (position x) (old_not x q))) v.1, v.2))
       ];
       bounded = λ x y. elim (old_or x y) [
-        | inl q ↦ omega (arith, all, position_here x e n (position x) q)
-        | inr q ↦ omega (arith, position_other x e n (position x) (old_not x q), u.bounded x q)
+        | inl q ↦ omega (arith, all, cond_same x e n (position x) q)
+        | inr q ↦ omega (arith, cond_apart x e n (position x) (old_not x q), u.bounded x q)
       ];
       ordered = λ x f event y at set b. elim (old_or x y) [
         | inl q ↦ (
             let done : has_event past f ≡ true = implies-at (has_bit event.after f) (has_event past f) (all_below-at (length p.events) (λ k. implies (has_bit event.after k) (has_event past k)) (ap (follows p past) (sym at ∙ ap (slice_get p.events) q) ∙ ready.1) f b) (bit_true event.after f set) in
-            (or_right (eqb e f) (has_event past f) done, omega (arith, position_here x e n (position x) q, position_other f e n (position f) (old_not f done), all, u.bounded f done)))
+            (or_right (eqb e f) (has_event past f) done, omega (arith, cond_same x e n (position x) q, cond_apart f e n (position f) (old_not f done), all, u.bounded f done)))
         | inr q ↦ (
             let v = u.ordered x f event q at set b in
-            (or_right (eqb e f) (has_event past f) v.0, (let z = v.1 in omega (arith, position_other x e n (position x) (old_not x q), position_other f e n (position f) (old_not f v.0)))))
+            (or_right (eqb e f) (has_event past f) v.0, (let z = v.1 in omega (arith, cond_apart x e n (position x) (old_not x q), cond_apart f e n (position f) (old_not f v.0)))))
       ];
     }
 

@@ -1,5 +1,10 @@
 -- what a solution says at a moment
-use Rattle.ta_encode.proofs.Common.{◌≡◌, inl, inr, ℕ, zero, suc, ◌+◌, ◌-◌, ◌^◌, ◌<◌, ℤ, pos, ◌+ℤ◌, ◌*ℤ◌, ◌≤ℤ◌, List, [], ◌∷◌, ◌++◌, map, length, drop, cond, Bool, true, false, not, arith, sym, ap, ◌∙◌, refl, subst, slice_get, Some, All, ints, false≢true, not_from_false, *ℤ-zero, one_times, times_next, In-filter, in_append, in_more, In-numbers, value_of, RowHolds, Form, Row, Comparison, Automaton, Pattern, Config, value_at, has_bit, range_with_len, In, Element, Event, Rise, Fall, may_fire, allowed_rules, children, is_complete, is_ready, is_standing, may_rise, Meaning, place_coefficient, location_place, LinearRow, form_row, counter_row, counter_rows, condition_rows, guard_rows, sum_of_products, row_value, AllHold, total, terms_value-same, in_filter}
+use Rattle.ta_encode.proofs.Common.{◌≡◌, inl, inr, ℕ, zero, suc, ◌+◌, ◌-◌, ◌^◌, ◌<◌, ℤ, pos, ◌+ℤ◌, ◌*ℤ◌, ◌≤ℤ◌, List, [], ◌∷◌, ◌++◌, map, length, drop, cond, Bool, true, false, not, arith, sym, ap, ◌∙◌, refl, subst, slice_get, Some, All, ints, false≢true, not_from_false, one_times, In-filter, in_append, in_more, In-numbers, value_of, RowHolds, Form, Row, Comparison, Automaton, Pattern, Config, value_at, has_bit, range_with_len, In, Element, Event, Rise, Fall, may_fire, allowed_rules, children, is_complete, is_ready, is_standing, may_rise, Meaning, place_coefficient, location_place, LinearRow, form_row, counter_row, counter_rows, condition_rows, guard_rows, sum_of_products, row_value, AllHold, total, terms_value-same, in_filter, each_append, length-append}
+use Rattle.std.proofs.Common.{replicate}
+use Rattle.ta_base.proofs.Totals.{total-append, total-replicate}
+use Rattle.std.proofs.lemmas.List.{length-replicate}
+use Rattle.ta_base.proofs.Each.{each_copies}
+use Rattle.std.proofs.Math.IntN.{*ℤ_comm}
 use Rattle.std.specs.List.{filter}
 use Rattle.ta_encode.proofs.Moments.{AllHold-left}
 use Rattle.ta_encode.proofs.Combine.{combine-terms}
@@ -63,45 +68,28 @@ combine-split g (m ∷ ms) [] [] = omega (arith, ints)
 combine-split g (m ∷ ms) (n ∷ ns) [] = omega (arith, ints)
 combine-split g (m ∷ ms) ns (v ∷ vs) = omega (arith, ints, combine-split g ms ns vs)
 
--- a rule some times
-abbrev pub repeat : ℕ → ℕ → List ℕ → List ℕ
-repeat zero r xs = xs
-repeat (suc n) r xs = r ∷ repeat n r xs
-
+-- each rule as often as its value says
 abbrev pub unfolded : List ℕ → List ℕ → List ℕ
 unfolded [] vs = []
 unfolded (r ∷ rs) [] = []
-unfolded (r ∷ rs) (v ∷ vs) = repeat v r (unfolded rs vs)
-
-repeat-length : (n r : ℕ) (xs : List ℕ) → length (repeat n r xs) ≡ n + length xs
-repeat-length zero r xs = omega arith
-repeat-length (suc n) r xs = omega (arith, repeat-length n r xs)
-
-repeat-total : (g : ℕ → ℤ) (n r : ℕ) (xs : List ℕ) → total g (repeat n r xs) ≡ ((g r *ℤ pos n) +ℤ total g xs)
-unfolding total
-repeat-total g zero r xs = omega (arith, ints, *ℤ-zero (g r))
-repeat-total g (suc n) r xs = omega (arith, ints, repeat-total g n r xs, times_next (g r) n)
+unfolded (r ∷ rs) (v ∷ vs) = replicate v r ++ unfolded rs vs
 
 pub unfolded-total : {X : Type 0} (g : X → ℤ) (k : ℕ → X) (rs vs : List ℕ) → total (λ r. g (k r)) (unfolded rs vs) ≡ sum_of_products (map g (map k rs)) vs
 unfolding total sum_of_products
 unfolded-total g k [] vs = refl
 unfolded-total g k (r ∷ rs) [] = refl
-unfolded-total g k (r ∷ rs) (v ∷ vs) = omega (arith, ints, repeat-total (λ x. g (k x)) v r (unfolded rs vs), unfolded-total g k rs vs)
+unfolded-total g k (r ∷ rs) (v ∷ vs) = omega (arith, ints, total-append (λ x. g (k x)) (replicate v r) (unfolded rs vs), total-replicate (λ x. g (k x)) v r, *ℤ_comm (pos v) (g (k r)), unfolded-total g k rs vs)
 
 pub unfolded-count : (rs vs : List ℕ) → pos (length (unfolded rs vs)) ≡ sum_of_products (map (λ r. pos 1) rs) vs
 unfolding total sum_of_products
 unfolded-count [] vs = refl
 unfolded-count (r ∷ rs) [] = refl
-unfolded-count (r ∷ rs) (v ∷ vs) = omega (arith, ints, repeat-length v r (unfolded rs vs), unfolded-count rs vs, one_times (pos v))
-
-repeat-may : (a : Automaton) (p : Pattern) (start : ℕ) (past : List Element) (n r : ℕ) (xs : List ℕ) → may_fire a p start past (slice_get a.rules r) ≡ true → EachMay a p start past xs → EachMay a p start past (repeat n r xs)
-repeat-may a p start past zero r xs h g = g
-repeat-may a p start past (suc n) r xs h g = (h, repeat-may a p start past n r xs h g)
+unfolded-count (r ∷ rs) (v ∷ vs) = omega (arith, ints, length-append (replicate v r) (unfolded rs vs), length-replicate v r, unfolded-count rs vs, one_times (pos v))
 
 pub unfolded-may : (a : Automaton) (p : Pattern) (start : ℕ) (past : List Element) (rs vs : List ℕ) → EachMay a p start past rs → EachMay a p start past (unfolded rs vs)
 unfolded-may a p start past [] vs h = tt
 unfolded-may a p start past (r ∷ rs) [] h = tt
-unfolded-may a p start past (r ∷ rs) (v ∷ vs) h = repeat-may a p start past v r (unfolded rs vs) h.0 (unfolded-may a p start past rs vs h.1)
+unfolded-may a p start past (r ∷ rs) (v ∷ vs) h = each_append (λ o. may_fire a p start past (slice_get a.rules o) ≡ true) (replicate v r) (unfolded rs vs) (each_copies (λ o. may_fire a p start past (slice_get a.rules o) ≡ true) v r h.0) (unfolded-may a p start past rs vs h.1)
 
 kept_may : (a : Automaton) (p : Pattern) (start : ℕ) (past : List Element) (r : ℕ) (xs : List ℕ) (b : Bool) → may_fire a p start past (slice_get a.rules r) ≡ b → EachMay a p start past xs → EachMay a p start past (cond b (r ∷ xs) xs)
 kept_may a p start past r xs true e h = (e, h)

@@ -1,6 +1,6 @@
 -- the system of a word with bounds, from that without
-use Rattle.ta_encode.proofs.Common.{◌≡◌, ◌≢◌, ℕ, zero, suc, ◌<◌, ◌≤◌, ◌^◌, ℤ, pos, negsuc, ◌+ℤ◌, ◌-ℤ◌, List, [], ◌∷◌, ◌++◌, map, get_or, arith, sym, ap, ◌∙◌, refl, subst, inl, inr, ints, below_append, InRange, IsNormal, coefficient, AllBelow, Form, Row, System, Element, LinearRow, Bound, Side, Low, High, only_at, bound_row, IsRowOf, AreRowsOf, SystemAt, Search, BoundWithin, BoundsWithin, append-nil, cases_eq}
-use Rattle.ta_encode.proofs.Running.{at_variable, if_same, if_other}
+use Rattle.ta_encode.proofs.Common.{◌≡◌, ◌≢◌, ℕ, zero, suc, ◌<◌, ◌≤◌, ◌^◌, ℤ, pos, negsuc, ◌+ℤ◌, ◌-ℤ◌, List, [], ◌∷◌, ◌++◌, map, get_or, arith, sym, ap, ◌∙◌, refl, subst, inl, inr, ints, below_append, InRange, IsNormal, coefficient, AllBelow, Form, Row, System, Element, LinearRow, Bound, Side, Low, High, only_at, bound_row, IsRowOf, AreRowsOf, SystemAt, Search, BoundWithin, BoundsWithin, append-nil, cases_eq, cond_apart, cond_same}
+use Rattle.ta_encode.proofs.Running.{at_variable}
 use Rattle.ta_encode.proofs.Adding.{RowsOf-append}
 
 -- the coefficient of an unknown alone
@@ -18,8 +18,8 @@ same_or_not : (x u : ℕ) (z : ℤ) → coefficient ((x, z) ∷ []) u ≡ get_or
 same_or_not x u z =
     let alone : (at_variable (x, z) u +ℤ pos 0) ≡ at_variable (x, z) u = omega (arith, ints) in
     elim (cases_eq x u) [
-      | inl same ↦ alone ∙ if_same (x, z) u same ∙ sym (ap (λ k. get_or (only_at x z) k (pos 0)) (sym same) ∙ only_here x z)
-      | inr other ↦ alone ∙ if_other (x, z) u other ∙ sym (only_there x u z other)
+      | inl same ↦ alone ∙ cond_same x u z (pos 0) same ∙ sym (ap (λ k. get_or (only_at x z) k (pos 0)) (sym same) ∙ only_here x z)
+      | inr other ↦ alone ∙ cond_apart x u z (pos 0) other ∙ sym (only_there x u z other)
     ]
 
 -- a row of the code for a bound

@@ -1,6 +1,7 @@
 -- What words, their systems and their refutations say of runs (the reordering theorem after POPL 2017, with start sets
 -- and joint falls as this project's own)
 use Rattle.std.specs.Prelude.{ℕ, ℤ, ◌<◌, ◌≤◌, ◌^◌, ◌≡◌, ◌≢◌, ◌==◌, ◌↔◌, false, if◌then◌else◌, true, List, [], ◌∷◌, ◌++◌, length, map, reverse, take, drop, slice_get, slice_index, Some}
+use Rattle.ta_base.specs.Sums.{total}
 use Rattle.std.specs.List.{AllByRecursion, range_with_len}
 use Rattle.ta_linear.specs.Values.{RowHolds}
 use Rattle.ta_linear.specs.declared.row.Row.{Row}
@@ -10,7 +11,6 @@ use Rattle.ta_automaton.specs.declared.pattern.Pattern.{Pattern}
 use Rattle.ta_automaton.specs.declared.file.File.{File}
 use Rattle.ta_automaton.specs.Places.{rule_change}
 use Rattle.ta_automaton.specs.Runs.{Config, InScope, LoopsPure, Occurs, Safe, value_at}
-use Rattle.ta_automaton.specs.Sums.{total}
 use Rattle.ta_cert.specs.Tree.{Tree}
 use Rattle.ta_implied.specs.Implied.{Good}
 use Rattle.ta_words.specs.declared.element.Element.{Element}

@@ -4,8 +4,9 @@ use Rattle.std.specs.Prelude.{ℕ, ℤ, not, List, [], ◌∷◌, ◌++◌, leng
 use Rattle.ta_automaton.specs.declared.automaton.Automaton.{Automaton}
 use Rattle.ta_automaton.specs.declared.pattern.Pattern.{Pattern}
 use Rattle.ta_base.specs.Masks.{has_bit}
+use Rattle.ta_base.specs.Sums.{one_if}
 use Rattle.std.specs.List.{range_with_len}
-use Rattle.ta_automaton.specs.Places.{one_if, location_place, rule_change}
+use Rattle.ta_automaton.specs.Places.{location_place, rule_change}
 use Rattle.ta_words.specs.declared.element.Element.{Element}
 use Rattle.ta_words.specs.declared.element.Element.TheVariants.{Event, Rise, Fall}
 use Rattle.ta_words.specs.Words.{allowed_rules}

@@ -4,7 +4,8 @@
 ghost use Rattle.std.specs.Prelude.{ℕ, ℤ, ◌+◌, ◌≡◌, ◌≤◌, ◌<◌, Some, length, slice_get, unsigned_abs};
 ghost use Rattle.std.specs.List.{AllByRecursion};
 ghost use Rattle.ta_linear.specs.Terms.{coefficient};
-ghost use Rattle.ta_automaton.specs.Places.{one_if, rule_change};
+ghost use Rattle.ta_automaton.specs.Places.{rule_change};
+ghost use Rattle.ta_base.specs.Sums.{one_if};
 ghost use Rattle.ta_automaton.specs.Shape.{Update};
 ghost use Rattle.ta_encode.specs.Unknowns.{place_coefficient};
 

@@ -1,9 +1,9 @@
 -- The names that the proofs of this crate cite, passed on from one place. Declares nothing.
 pub use Rattle.std.proofs.Common.{Bool, List, Some, [], ap, append_assoc, arith, bit_or, cond, eqb, false, get_or, inl, inr, length, length-append, lit<, map, neg_ℤ, pos, refl, set, slice_get, subst, suc, sym, take, true, zero, ℕ, ℤ, ◌%◌, ◌&&◌, ◌*◌, ◌++◌, ◌+ℤ◌, ◌+◌, ◌-◌, ◌<◌, ◌^◌, ◌||◌, ◌↔◌, ◌∙◌, ◌∷◌, ◌≡◌, ◌≢◌, ◌≤ℤ◌, ◌≤◌, ◌⊎◌}
-pub use Rattle.std.proofs.lemmas.Bool.{cases_Bool, cases_lt, cond-false, cond-true, false≢true, lt-ltb, ne_eqb, or_cases, or_left, or_right}
+pub use Rattle.std.proofs.lemmas.Bool.{cases_Bool, cases_lt, cond-false, cond-true, false≢true, lt-ltb, or_cases, or_left, or_right}
 pub use Rattle.std.proofs.lemmas.Bool.Decides.{Decides-eqb, eqb_tells, nat_tests}
 pub use Rattle.std.proofs.lemmas.List.{append-nil, get_or_append_left, get_or_past}
-pub use Rattle.std.proofs.lemmas.Nat.{le_or_l, one_shl, or_lt}
+pub use Rattle.std.proofs.lemmas.Nat.{le_or_l}
 pub use Rattle.std.proofs.lemmas.Option.{same_Some, slice_get_read}
 pub use Rattle.std.specs.List.{AllByRecursion, range_with_len}
 pub use Rattle.std.specs.Prelude.{All, filter, flat_map, nat_lt, replicate}

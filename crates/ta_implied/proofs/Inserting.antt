@@ -1,7 +1,7 @@
 -- masks with one more pair
-use Rattle.ta_implied.proofs.Common.{◌≡◌, inl, inr, ℕ, ◌*◌, ◌%◌, ◌^◌, ◌<◌, List, ◌∷◌, length, set, get_or, false, bit_or, arith, sym, ap, ◌∙◌, subst, or_lt, one_shl, cases_Bool, with_bit, Automaton, has_bit, In, AreOrderMasks, HasNoCircle, MayJoin, pairs_from, with_pair, each_set}
+use Rattle.ta_implied.proofs.Common.{◌≡◌, inl, inr, ℕ, ◌*◌, ◌%◌, ◌^◌, ◌<◌, List, ◌∷◌, length, set, get_or, false, bit_or, arith, sym, ap, ◌∙◌, subst, cases_Bool, with_bit, Automaton, has_bit, In, AreOrderMasks, HasNoCircle, MayJoin, pairs_from, with_pair, each_set}
+use Rattle.ta_base.proofs.Bits.{with_bit_fits}
 use Rattle.ta_base.proofs.Each.{each_get_or}
-use Rattle.std.proofs.Math.Pow.{pow-lt}
 use Rattle.ta_implied.proofs.Pairs.{pair_of_bit}
 use Rattle.ta_implied.proofs.Placing.{placed_pair, in_placed}
 use Rattle.ta_implied.proofs.Chains.{leads_along, still_no_circle}
@@ -9,9 +9,6 @@ use Rattle.ta_implied.proofs.Chains.{leads_along, still_no_circle}
 -- the mask with a number
 abbrev pub with_number : ℕ → ℕ → ℕ
 with_number mask j = bit_or mask ((1 * 2 ^ j) % 65536)
-
-with_fits : (mask j : ℕ) → mask < 2 ^ 16 → j < 16 → with_number mask j < 2 ^ 16
-with_fits mask j fits below = or_lt 16 mask ((1 * 2 ^ j) % 65536) fits (subst (λ n. n < 2 ^ 16) (sym (one_shl j 16 below)) (pow-lt below))
 
 -- the pair that joins is the one whose number is new in the mask
 pub inserted_pairs : (a : Automaton) (pairs : List (ℕ × ℕ)) (j i : ℕ) (masks : List ℕ) → AreOrderMasks masks → pairs_from 0 masks ≡ pairs → length masks ≡ 16 → length a.rise < 17 → MayJoin a pairs (j, i) → pairs_from 0 (set masks i (with_number (get_or masks i 0) j)) ≡ with_pair (j, i) pairs
@@ -32,6 +29,6 @@ inserted_orders a pairs j i masks are view count limit may =
     let first : j < length a.rise = may.is.before in
     let second : i < length a.rise = may.is.after in
     record {
-      fit = each_set (λ m. m < 2 ^ 16) masks i (with_number (get_or masks i 0) j) are.fit (with_fits (get_or masks i 0) j (each_get_or (λ m. m < 2 ^ 16) masks i 0 are.fit (omega arith)) (omega arith));
+      fit = each_set (λ m. m < 2 ^ 16) masks i (with_number (get_or masks i 0) j) are.fit (with_bit_fits 16 (get_or masks i 0) j (each_get_or (λ m. m < 2 ^ 16) masks i 0 are.fit (omega arith)) (omega arith));
       no_circle = subst HasNoCircle (sym (inserted_pairs a pairs j i masks are view count limit may)) (joined_no_circle a pairs (j, i) (subst HasNoCircle view are.no_circle) may);
     }

@@ -1,5 +1,5 @@
 -- the pairs of masks: which they are, their order, and one more at its place
-use Rattle.ta_implied.proofs.Common.{length, ◌≡◌, inl, inr, ℕ, zero, suc, ◌+◌, ◌-◌, ◌^◌, ◌<◌, ◌≤◌, List, [], ◌∷◌, ◌++◌, map, get_or, true, arith, sym, ap, ◌∙◌, refl, subst, lit<, filter, replicate, false≢true, AllByRecursion, has_bit, range_with_len, In, bit_in_masks_below, has_none, no_numbers, some_bit, append_empty, In-filter, In-left, In-map, In-right, in_append, in_filter, in_map, In-numbers, pairs_at, pairs_from}
+use Rattle.ta_implied.proofs.Common.{length, ◌≡◌, inl, inr, ℕ, zero, suc, ◌+◌, ◌-◌, ◌^◌, ◌<◌, ◌≤◌, List, [], ◌∷◌, ◌++◌, map, get_or, true, arith, sym, ap, ◌∙◌, refl, subst, filter, replicate, false≢true, AllByRecursion, has_bit, range_with_len, In, bit_in_masks_below, has_none, no_numbers, some_bit, append_empty, In-filter, In-left, In-map, In-right, in_append, in_filter, in_map, In-numbers, pairs_at, pairs_from}
 
 -- a pair of the guards of a mask
 in_pairs_at : (j i guard mask : ℕ) → In (j, i) (pairs_at guard mask) → (i ≡ guard) × (has_bit mask j ≡ true)
@@ -29,24 +29,12 @@ pairs_in j k (suc d) (m ∷ ms) below has =
     In-right (j, k + suc d) (pairs_at k m) (pairs_from (k + 1) ms) (subst (λ i. In (j, i) (pairs_from (k + 1) ms)) (sym same) (pairs_in j (k + 1) d ms below has))
 
 -- masks of no guards have no pairs
-abbrev pub AreEmpty : List ℕ → Type 0
-AreEmpty [] = Unit {0}
-AreEmpty (m ∷ ms) = (m ≡ 0) × AreEmpty ms
-
 no_pairs_at : (k : ℕ) → pairs_at k 0 ≡ []
 no_pairs_at k = ap (map (λ j. (j, k))) (no_numbers (range_with_len 0 16))
 
-pub no_pairs : (k : ℕ) (masks : List ℕ) → AreEmpty masks → pairs_from k masks ≡ []
-no_pairs k [] h = refl
-no_pairs k (m ∷ ms) h = ap (λ n. pairs_at k n ++ pairs_from (k + 1) ms) h.0 ∙ ap (λ xs. xs ++ pairs_from (k + 1) ms) (no_pairs_at k) ∙ no_pairs (k + 1) ms h.1
-
-pub AreEmpty-replicate : (n : ℕ) → AreEmpty (replicate n 0)
-AreEmpty-replicate zero = tt
-AreEmpty-replicate (suc n) = (refl, AreEmpty-replicate n)
-
-pub empty_fit : (masks : List ℕ) → AreEmpty masks → AllByRecursion (λ m. m < 2 ^ 16) masks
-empty_fit [] h = tt
-empty_fit (m ∷ ms) h = (rw h.0 (let small : 0 < 2 ^ 16 = lit< tt in small), empty_fit ms h.1)
+pub no_pairs : (k n : ℕ) → pairs_from k (replicate n 0) ≡ []
+no_pairs k zero = refl
+no_pairs k (suc n) = ap (λ xs. xs ++ pairs_from (k + 1) (replicate n 0)) (no_pairs_at k) ∙ no_pairs (k + 1) n
 
 -- a pair is one of the masks where its guard before is in the mask of its guard after
 pub pair_of_bit : (masks : List ℕ) (j i : ℕ) → AllByRecursion (λ m. m < 2 ^ 16) masks → has_bit (get_or masks i 0) j ≡ true → In (j, i) (pairs_from 0 masks)

@@ -1,5 +1,7 @@
 -- one more pair at its place in a list
-use Rattle.ta_implied.proofs.Common.{◌≡◌, ◌⊎◌, inl, inr, ℕ, zero, suc, ◌+◌, ◌<◌, ◌≤◌, List, [], ◌∷◌, ◌++◌, map, length, set, get_or, eqb, cond, Bool, true, false, ◌&&◌, ◌||◌, arith, sym, ap, ◌∙◌, refl, subst, filter, nat_lt, lt-ltb, ne_eqb, nat_tests, eqb_tells, has_bit, range_with_len, In, cond_append, back, either, in_append, in_filter, in_map, in_numbers, pairs_at, pairs_from, is_earlier, with_pair, cond-false, cond-true}
+use Rattle.ta_implied.proofs.Common.{◌≡◌, inl, inr, ℕ, zero, suc, ◌+◌, ◌<◌, ◌≤◌, List, [], ◌∷◌, ◌++◌, map, length, set, get_or, eqb, cond, Bool, true, false, ◌&&◌, ◌||◌, arith, sym, ap, ◌∙◌, refl, subst, filter, nat_lt, lt-ltb, nat_tests, cases_Bool, eqb_tells, has_bit, range_with_len, In, cond_append, back, either, in_append, in_filter, in_map, in_numbers, pairs_at, pairs_from, is_earlier, with_pair, cond-false, cond-true}
+use Rattle.ta_base.proofs.Bits.{IsWith, other_bit, own_bit}
+use Rattle.ta_base.proofs.Lists.{filter_false, filter_true}
 
 pub in_placed : (pair : ℕ × ℕ) (pairs : List (ℕ × ℕ)) (q : ℕ × ℕ) → In q (with_pair pair pairs) → In q (pair ∷ pairs)
 in_placed pair [] q h = h
@@ -41,40 +43,22 @@ placed_before pair (x ∷ xs) ys h =
 abbrev listed : ℕ → ℕ → List ℕ → List (ℕ × ℕ)
 listed guard mask xs = map (λ j. (j, guard)) (filter (has_bit mask) xs)
 
--- a first number where it passes
-abbrev headed : ℕ → Bool → ℕ → List ℕ → List (ℕ × ℕ)
-headed guard b x xs = map (λ j. (j, guard)) (cond b (x ∷ xs) xs)
-
 listed_true : (guard mask x : ℕ) (xs : List ℕ) → has_bit mask x ≡ true → listed guard mask (x ∷ xs) ≡ (x, guard) ∷ listed guard mask xs
-listed_true guard mask x xs e = ap (λ b. headed guard b x (filter (has_bit mask) xs)) e
+listed_true guard mask x xs e = ap (map (λ j. (j, guard))) (filter_true (has_bit mask) x xs e)
 
 listed_false : (guard mask x : ℕ) (xs : List ℕ) → has_bit mask x ≡ false → listed guard mask (x ∷ xs) ≡ listed guard mask xs
-listed_false guard mask x xs e = ap (λ b. headed guard b x (filter (has_bit mask) xs)) e
-
--- a mask with one more number
-abbrev pub IsWith : ℕ → ℕ → ℕ → Type 0
-IsWith more mask j = (x : ℕ) → has_bit more x ≡ (eqb j x || has_bit mask x)
-
-other_bit : (more mask j x : ℕ) → IsWith more mask j → (j ≡ x → ⊥) → has_bit more x ≡ has_bit mask x
-other_bit more mask j x is ne = is x ∙ ap (λ b. b || has_bit mask x) (ne_eqb j x ne)
-
-own_bit : (more mask j : ℕ) → IsWith more mask j → has_bit more j ≡ true
-own_bit more mask j is = is j ∙ ap (λ b. b || has_bit mask j) (own (eqb_tells j j))
-  where
-    own : ((eqb j j ≡ true) × (j ≡ j)) ⊎ ((eqb j j ≡ false) × (j ≡ j → ⊥)) → eqb j j ≡ true
-    own (inl e) = e.0
-    own (inr ne) = absurd (ne.1 refl)
+listed_false guard mask x xs e = ap (map (λ j. (j, guard))) (filter_false (has_bit mask) x xs e)
 
 listed_later : (guard more mask j low n : ℕ) → IsWith more mask j → j < low → listed guard mask (range_with_len low n) ≡ listed guard more (range_with_len low n)
 listed_later guard more mask j low zero is h = refl
 listed_later guard more mask j low (suc n) is h =
     let same = other_bit more mask j low is (λ e. omega arith) in
-    ap (λ b. headed guard b low (filter (has_bit mask) (range_with_len (low + 1) n))) (sym same)
-    ∙ with_head (has_bit more low) (listed_later guard more mask j (low + 1) n is (omega arith))
-  where
-    with_head : (b : Bool) → listed guard mask (range_with_len (low + 1) n) ≡ listed guard more (range_with_len (low + 1) n) → headed guard b low (filter (has_bit mask) (range_with_len (low + 1) n)) ≡ headed guard b low (filter (has_bit more) (range_with_len (low + 1) n))
-    with_head true e = ap (λ zs. (low, guard) ∷ zs) e
-    with_head false e = e
+    let rest = range_with_len (low + 1) n in
+    let later = listed_later guard more mask j (low + 1) n is (omega arith) in
+    elim (cases_Bool (has_bit mask low)) [
+      | inl t ↦ listed_true guard mask low rest t ∙ ap (λ zs. (low, guard) ∷ zs) later ∙ sym (listed_true guard more low rest (same ∙ t))
+      | inr f ↦ listed_false guard mask low rest f ∙ later ∙ sym (listed_false guard more low rest (same ∙ f))
+    ]
 
 in_listed : (guard mask low n : ℕ) (q : ℕ × ℕ) → In q (listed guard mask (range_with_len low n)) → (q.1 ≡ guard) × (low ≤ q.0)
 in_listed guard mask low n q h =

@@ -8,9 +8,9 @@ pub use Rattle.std.proofs.lemmas.List.{drop_more}
 pub use Rattle.std.proofs.lemmas.Nat.{mod_below}
 pub use Rattle.std.proofs.lemmas.Nat.Gcd.{IsGcd-from_mod, IsGcd-from_zero, same_from_IsGcd}
 pub use Rattle.std.specs.Int.{IsGcd, int_div_euclid, w128, w64}
-pub use Rattle.ta_base.proofs.Integers.{IsGcd-whole, add_cond, distributes, distributes_right, fits_64_abs, floor_high, floor_low, if_same, if_zero, mul-ge-zero, mul-le-zero, neg-mul, range_sum, times_assoc, times_if, times_not_zero, turned_negative}
+pub use Rattle.ta_base.proofs.Integers.{IsGcd-whole, add_cond, distributes, distributes_right, fits_64_abs, floor_high, floor_low, if_zero, mul-ge-zero, mul-le-zero, neg-mul, times_assoc, times_if, times_not_zero, turned_negative}
 pub use Rattle.ta_base.proofs.Lists.{same_cons}
-pub use Rattle.ta_base.proofs.Sums.{one_term, range_sum-add, range_sum-nonpositive, range_sum-same, range_sum-times, range_sum-zero}
+pub use Rattle.ta_base.proofs.Sums.{one_term, range_sum-add, range_sum-nonpositive, range_sum-same, range_sum-times, range_sum-zero, range_sum}
 pub use Rattle.ta_linear.specs.Forms.{IsLeastTerm, IsMultiple, IsNegation, IsSum, MultipleOutOfRange, SomeSumOutOfRange, SumOutOfRange}
 pub use Rattle.ta_linear.specs.Numbers.{InRange}
 pub use Rattle.ta_linear.specs.Terms.{IsNormal, IsTerm, coefficient}

@@ -1,5 +1,6 @@
 -- terms in order of their variables: their coefficients, and that these determine them
 use Rattle.ta_linear.proofs.Common.{◌≡◌, ℕ, ℤ, ◌+◌, List, ◌∷◌, arith, ◌≢◌, inl, inr, [], sym, ap, ◌∙◌, refl, subst, pos, ◌<◌, ◌≤◌, ints, nat_tests, coefficient, IsNormal, same_cons}
+use Rattle.std.proofs.Math.Nat.{lt_of_not-le}
 use Rattle.std.proofs.lemmas.Bool.{cases_eq, cases_order}
 use Rattle.ta_linear.proofs.TermLemmas.{coefficient-below}
 
@@ -37,8 +38,5 @@ pub normal_narrow : (low high places : ℕ) (ts : List (ℕ × ℤ)) → low ≤
 normal_narrow low high places [] h n none = h
 normal_narrow low high places (t ∷ ts) h n none =
     let first = coefficient-first high t ts n.2 in
-    let below : t.0 < places = by_contradiction t.0 places (λ k. n.1.not_zero (sym first ∙ none t.0 k)) in
+    let below : t.0 < places = lt_of_not-le (λ k. n.1.not_zero (sym first ∙ none t.0 k)) in
     (n.0, n.1, normal_narrow (t.0 + 1) high places ts (omega (arith, below)) n.2 (λ x k. sym (coefficient-other t ts x (omega (arith, below))) ∙ none x k))
-  where
-    by_contradiction : (a b : ℕ) → (b ≤ a → ⊥) → a < b
-    by_contradiction a b f = omega (arith, f)

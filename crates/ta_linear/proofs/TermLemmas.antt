@@ -1,4 +1,5 @@
-use Rattle.ta_linear.proofs.Common.{length, drop, get_or, ◌≡◌, ◌≢◌, ℕ, ℤ, pos, negsuc, neg_ℤ, ◌-ℤ◌, inl, inr, ◌+◌, ◌<◌, ◌≤◌, ◌^◌, ◌+ℤ◌, ◌*ℤ◌, List, [], ◌∷◌, ◌++◌, eqb, cond, refl, arith, sym, ap, ◌∙◌, ints, unsigned_abs-mul, nat_tests, eqb_tells, distributes, if_same, if_zero, times_if, times_not_zero, InRange, coefficient, IsTerm, IsNormal, IsLeastTerm, SomeSumOutOfRange, IsSum, SumOutOfRange, IsMultiple, MultipleOutOfRange, IsNegation, Form, *ℤ-zero, drop_more}
+use Rattle.ta_linear.proofs.Common.{terms_value, length, drop, get_or, ◌≡◌, ◌≢◌, ℕ, ℤ, pos, negsuc, neg_ℤ, ◌-ℤ◌, inl, inr, ◌+◌, ◌<◌, ◌≤◌, ◌^◌, ◌+ℤ◌, ◌*ℤ◌, List, [], ◌∷◌, ◌++◌, eqb, cond, refl, arith, sym, ap, ◌∙◌, ints, unsigned_abs-mul, nat_tests, eqb_tells, distributes, if_zero, times_if, times_not_zero, InRange, coefficient, IsTerm, IsNormal, IsLeastTerm, SomeSumOutOfRange, IsSum, SumOutOfRange, IsMultiple, MultipleOutOfRange, IsNegation, Form, *ℤ-zero, drop_more}
+use Rattle.ta_base.proofs.Naturals.{cond_same}
 use Rattle.std.proofs.Math.ListN.{drop_of_length-le}
 
 pub IsNormal-le : (low high : ℕ) (ts : List (ℕ × ℤ)) → IsNormal low high ts → low ≤ high
@@ -127,7 +128,7 @@ look-found all xs i x d l h e =
     let m = rw (drop_more xs i d h) at l in
     let t = get_or xs i d in
     let rest = coefficient-below (t.0 + 1) (2 ^ 32) (drop (i + 1) xs) x m.normal.2 (omega arith) in
-    (omega (arith, ints, m.same, rest, if_same t.0 x t.1 e), m.normal.1.in_range)
+    (omega (arith, ints, m.same, rest, cond_same t.0 x t.1 (pos 0) e), m.normal.1.in_range)
 
 -- each coefficient of normal terms is in range
 pub coefficient-fits : (low high : ℕ) (ts : List (ℕ × ℤ)) (x : ℕ) → IsNormal low high ts → InRange (coefficient ts x)
@@ -157,3 +158,7 @@ multiple-stays multiple a factor h (inr leaves) = leaves.1 (rw (← h.coefficien
 
 pub negation-stays : (negation a : Form) → IsNegation negation a → InRange (neg_ℤ a.constant -ℤ pos 1)
 negation-stays negation a h = rw (← h.constant) negation.constant_fits
+
+pub terms_value-same : (ts : List (ℕ × ℤ)) (f g : ℕ → ℤ) → ((i : ℕ) → f i ≡ g i) → terms_value f ts ≡ terms_value g ts
+terms_value-same [] f g h = refl
+terms_value-same (t ∷ ts) f g h = omega (arith, ints, ap (λ z. t.1 *ℤ z) (h t.0), terms_value-same ts f g h)

@@ -4,7 +4,7 @@ pub use Rattle.std.proofs.lemmas.Bool.{cases_eq, cases_lt}
 pub use Rattle.std.proofs.lemmas.Bool.Decides.{eqb_tells}
 pub use Rattle.std.proofs.lemmas.Int.{ints, quot_fits, to_z-of_z, to_z_pos}
 pub use Rattle.std.proofs.lemmas.List.{drop_more, ext_get_or, get_or-append_right, get_or-drop, get_or-map, get_or-replicate, get_or-set_other, get_or-set_same, get_or-take, get_or_append_left, get_or_at, get_or_past, get_or_read, length-append, length-drop, length-map, length-replicate, length-set, length-take, map-append, map-id}
-pub use Rattle.std.proofs.lemmas.List.FromFn.{get_or-map-range_with_len, get_or-range_with_len, length-map-range_with_len, length-range_with_len}
+pub use Rattle.std.proofs.lemmas.List.FromFn.{get_or-map-range_with_len, length-map-range_with_len, length-range_with_len}
 pub use Rattle.std.proofs.lemmas.Option.{none-some, same_Some}
 pub use Rattle.std.specs.List.{range_with_len}
 pub use Rattle.std.specs.Prelude.{MatchOption, int_div, unsigned_abs}
@@ -14,7 +14,7 @@ pub use Rattle.ta_base.proofs.Naturals.{at_or_not, some_or_not}
 pub use Rattle.ta_base.proofs.Options.{none_or_some, some_below}
 pub use Rattle.ta_dense.proofs.ExtendFacts.{names_long}
 pub use Rattle.ta_dense.proofs.ProperFacts.{Factored, IsProper-merged, IsProper-turned, factored, in_range-div, merged-zero, merged_from}
-pub use Rattle.ta_dense.proofs.ReduceFacts.{divisor_positive, fits_minus}
+pub use Rattle.ta_dense.proofs.ReduceFacts.{divisor_positive}
 pub use Rattle.ta_dense.proofs.RowFacts.{record_same}
 pub use Rattle.ta_dense.specs.Entering.{Enters, NoneEnters}
 pub use Rattle.ta_dense.specs.Extending.{FirstLeaving, extended, new_rows, raised, widened}

@@ -47,7 +47,7 @@ pub use Rattle.ta_meaning.specs.Inside.RuleReading.{RuleRead, RuleSoFar}
 pub use Rattle.ta_meaning.specs.Inside.Resolved.{ResolvedComparison, ResolvedCondition, ResolvedForm, ResolvedGuards, ResolvedPatterns, ResolvedRules, first_places, kinds_of}
 pub use Rattle.ta_meaning.specs.Inside.PatternParts.{DeclaredNext, ResolvedEvent, ResolvedEvents, ResolvedPattern}
 pub use Rattle.ta_meaning.specs.Inside.Numbering.{AmongGuards, GuardNumbered, GuardsKept, GuardsNumbered, Has, HasSameTerms, IsGuardNumber, NumberFits, RowAnswers, SameAt, WithBit, WithNumber, any_shared, guards_so_far, is_no_guard, linear_of}
-pub use Rattle.ta_meaning.specs.Inside.Listed.{ListedMask, between}
+pub use Rattle.ta_meaning.specs.Inside.Listed.{ListedMask}
 pub use Rattle.ta_meaning.specs.Guards.{Guards, NamesGuards, falls, guards_after, has_row, is_negative, is_no_threshold, is_one_more, is_past_limit, is_positive, no_guards, rows_of, same_row, with_guard, with_guards, with_row}
 pub use Rattle.ta_meaning.specs.FirstFault.{FirstFault, OfMeaning, OfScope, OfText}
 pub use Rattle.ta_meaning.specs.Faults.{Answers, First, FirstOrMemory, Judges, Scope, WithFaults, any_initial, comparison_faults, condition_faults, counted, declarations_faults, declared_faults, digits_faults, else_, event_faults, events_faults, factor_judged, guard_faults, guards_faults, guards_then, guards_with, in_conditions, in_guards, in_parameters, is_long, judged_sum, judged_terms, linear_term, listed_faults, location_spelled, meaning_faults, names_faults, number_faults, pattern_faults, patterns_faults, processes_faults, rule_faults, rules_faults, sum_faults, sum_judged, term_judged, updates_faults, used_faults, where_}
@@ -83,19 +83,18 @@ pub use Rattle.ta_automaton.specs.Forms.{FallRow, FormOver, RiseRow, RowOver}
 pub use Rattle.std.specs.Vec.Iter.{into_iter_items, into_iter_len}
 pub use Rattle.std.specs.String.{string_bytes, string_eq}
 pub use Rattle.std.specs.Str.{bytes_eq}
-pub use Rattle.std.specs.Prelude.{MatchResult, flat_map}
+pub use Rattle.std.specs.Prelude.{MatchResult, flat_map, slice_range}
 pub use Rattle.std.specs.List.{AllByRecursion, list_any, range_with_len}
 pub use Rattle.std.specs.Int.{bit_at, w128}
 pub use Rattle.std.specs.Global.{Vec}
 pub use Rattle.std.proofs.result.Match.{err_is}
 pub use Rattle.std.proofs.lemmas.Slice.Eq.{bytes_eq-Decides, slice_eq-Decides}
-pub use Rattle.std.proofs.lemmas.Result.{err_from_is_err_and}
-pub use Rattle.std.proofs.lemmas.Option.{get_or_from_slice_get, same_Some, slice_get-get_or, slice_get-map, slice_get_read, slice_get_within}
+pub use Rattle.std.proofs.lemmas.Option.{get_or_from_slice_get, same_Some, slice_get-get_or, slice_get_read, slice_get_within}
 pub use Rattle.std.proofs.lemmas.Nat.Bits.{bit_at_set_other, bit_at_set_same}
 pub use Rattle.std.proofs.lemmas.List.Recursion.{or_at, same_from_clauses}
 pub use Rattle.std.proofs.lemmas.List.FromFn.{length-map-range_with_len}
 pub use Rattle.std.proofs.lemmas.List.Elements.{Contains-append_left, Contains-append_right, Contains-push, Contains-push_cases, All-contains, All-from_recursion}
-pub use Rattle.std.proofs.lemmas.List.{append-nil, drop_more, ext_get_or, get_or-drop, get_or_past, length-drop, length-map, length-take-le, length_push, map-append, map_push, nil_from_length, take-append-drop, take_all, take_rest}
+pub use Rattle.std.proofs.lemmas.List.{append-nil, drop_more, ext_get_or, get_or-drop, get_or_past, length-drop, length-map, length-take-le, length_push, map-append, map_push, nil_from_length, take-append-drop, take_all}
 pub use Rattle.std.proofs.lemmas.Iterator.Search.{any_from_yields_List}
 pub use Rattle.std.proofs.lemmas.Iterator.{YieldsList-from_slice}
 pub use Rattle.std.proofs.lemmas.Int.{ints, to_z-of_z, unsigned_abs-mul}
@@ -104,4 +103,4 @@ pub use Rattle.std.proofs.lemmas.Bool.{and_cases, and_from, and_left, and_parts,
 pub use Rattle.std.proofs.Math.Seq.{take-add, take-length}
 pub use Rattle.std.proofs.Math.Nat.{mod-eq_of_lt, mul-le-mul}
 pub use Rattle.std.proofs.Math.ListN.{drop_of_length-le}
-pub use Rattle.std.proofs.Common.{Bool, Contains, Decides, Err, FitsSigned, Global, IsBitSet, IsTrue, List, None, Ok, Option, Result, Some, String, [], ap, append_assoc, arith, below_more, bit_or, cond, drop, eqb, false, get_or, if◌then◌else◌, inl, inr, int_eq, is_some, leb, length, length-append, ltb, map, negsuc, not, pos, position, refl, rules, slice_get, subst, suc, sym, take, tests, true, unsigned_abs, w16, w32, w8, zero, ℕ, ℤ, ⊎_elim, ◌%◌, ◌&&◌, ◌*ℤ◌, ◌*◌, ◌++◌, ◌+ℤ◌, ◌+◌, ◌-ℤ◌, ◌-◌, ◌<◌, ◌^◌, ◌||◌, ◌∙◌, ◌∷◌, ◌≡◌, ◌≢◌, ◌≤ℤ◌, ◌≤◌, ◌⊎◌}
+pub use Rattle.std.proofs.Common.{Bool, Contains, Decides, Err, FitsSigned, Global, IsBitSet, IsTrue, List, None, Ok, Option, Result, Some, String, [], ap, append_assoc, arith, below_more, bit_or, cond, drop, eqb, false, get_or, if◌then◌else◌, inl, inr, int_eq, is_some, leb, length, length-append, ltb, map, negsuc, not, pos, refl, rules, slice_get, subst, suc, sym, take, tests, true, unsigned_abs, w16, w32, w8, zero, ℕ, ℤ, ⊎_elim, ◌%◌, ◌&&◌, ◌*ℤ◌, ◌*◌, ◌++◌, ◌+ℤ◌, ◌+◌, ◌-ℤ◌, ◌-◌, ◌<◌, ◌^◌, ◌||◌, ◌∙◌, ◌∷◌, ◌≡◌, ◌≢◌, ◌≤ℤ◌, ◌≤◌, ◌⊎◌}

@@ -1,7 +1,6 @@
 -- Names in a list: which are there, and where.
-use Rattle.ta_meaning.proofs.Common.{◌≡◌, ℕ, zero, suc, ◌+◌, ◌-◌, ◌<◌, ◌≤◌, Bool, true, false, ◌||◌, List, [], ◌∷◌, ◌++◌, map, take, drop, slice_get, get_or, position, if◌then◌else◌, Some, refl, sym, ap, subst, ◌∙◌, arith, String, Global, string_bytes, string_eq, bytes_eq-Decides, slice_get-get_or, slice_get-map, map-append, list_any, bytes_eq, Distinct, bytes_eq_turned, distinct_at, slice_get-drop, slice_get-take, slice_get-take_within, has_name}
-use Rattle.std.proofs.lemmas.List.Quantifiers.{position-Some}
-use Rattle.std.specs.Option.{option_map}
+use Rattle.ta_meaning.proofs.Common.{◌≡◌, ℕ, zero, suc, ◌+◌, ◌-◌, ◌<◌, ◌≤◌, Bool, true, false, ◌||◌, List, [], ◌∷◌, ◌++◌, map, take, drop, slice_get, if◌then◌else◌, Some, refl, sym, ap, subst, ◌∙◌, arith, String, Global, string_bytes, string_eq, bytes_eq-Decides, map-append, list_any, bytes_eq, Distinct, bytes_eq_turned, distinct_at, slice_get-drop, slice_get-take, slice_get-take_within, has_name}
+use Rattle.ta_base.proofs.ByteLists.{is_key}
 
 -- ---- a name among names
 
@@ -34,17 +33,6 @@ outside_part names n from to i d e out = by (has_name (take (to - from) (drop fr
         let there : slice_get names (from + k) ≡ Some n = sym (slice_get-drop names from k) ∙ sym (slice_get-take (drop from names) (to - from) k within) ∙ w.1 in
         let same : from + k ≡ i = distinct_at names (from + k) i n d there e in
         absurd (omega (arith, out))
-
--- the test by which a set looks a name up
-abbrev pub is_key : List ℕ → String Global → Bool
-is_key n k = bytes_eq n (string_bytes k)
-
--- a key that is found stands at its place
-pub key_at : (n : List ℕ) (keys : List (String Global)) (i : ℕ) → position (is_key n) keys ≡ Some i → slice_get (map string_bytes keys) i ≡ Some n
-key_at n [] i e = cc
-key_at n (k ∷ ks) i e =
-    let p = position-Some (is_key n) (k ∷ ks) i k e in
-    slice_get-map string_bytes (k ∷ ks) i ∙ ap (option_map string_bytes) (slice_get-get_or (k ∷ ks) i k p.0) ∙ ap Some (sym ((bytes_eq-Decides n (string_bytes (get_or (k ∷ ks) i k))).0 p.1))
 
 pub has_key : (n : List ℕ) (keys : List (String Global)) → list_any (is_key n) keys ≡ has_name (map string_bytes keys) n
 has_key n [] = refl

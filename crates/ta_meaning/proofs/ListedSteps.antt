@@ -1,36 +1,17 @@
 -- Listing names one after another: the mask so far, and what is left.
-use Rattle.ta_meaning.proofs.Common.{◌≡◌, ℕ, zero, suc, ◌-◌, ◌*◌, ◌%◌, ◌^◌, ◌<◌, ◌≤◌, ◌⊎◌, inl, inr, false, ◌||◌, List, [], ◌∷◌, ◌++◌, length, map, take, drop, Decides, Contains, slice_get, Some, IsBitSet, bit_or, w32, refl, sym, ap, subst, ◌∙◌, arith, bytes_eq, mod-eq_of_lt, false≢true, false_from_ne_true, eqb_tells, Decides-like, Decides-or, bit_at_set_same, bit_at_set_other, append-nil, take-append-drop, length-take-le, length-drop, Contains-append_left, Contains-append_right, Contains-push, Contains-push_cases, slice_get_within, same_Some, bytes_eq-Decides, at_set, no_bit, set_at, distinct_at, distinct_drop, distinct_take, each_append, contains_at, plain_name, Spelled, FileFault, Distinct, has_name, between, ListedMask, where_, else_, First, used_faults, listed_faults, append_assoc, All-from_recursion, All-contains}
+use Rattle.ta_meaning.proofs.Common.{◌≡◌, ℕ, ◌-◌, ◌*◌, ◌%◌, ◌^◌, ◌<◌, ◌≤◌, inl, inr, false, ◌||◌, List, [], ◌∷◌, ◌++◌, length, map, Decides, Contains, slice_get, Some, IsBitSet, bit_or, w32, refl, sym, ap, subst, ◌∙◌, arith, bytes_eq, mod-eq_of_lt, false≢true, false_from_ne_true, eqb_tells, Decides-like, Decides-or, bit_at_set_same, bit_at_set_other, append-nil, Contains-append_left, Contains-push, Contains-push_cases, slice_get_within, same_Some, bytes_eq-Decides, at_set, no_bit, set_at, distinct_at, each_append, contains_at, plain_name, Spelled, FileFault, Distinct, has_name, ListedMask, where_, else_, First, used_faults, listed_faults, append_assoc, All-from_recursion, All-contains}
 use Rattle.std.proofs.lemmas.Nat.{or_lt, pow_below, pow_pos}
 use Rattle.ta_scope.proofs.Reaching.{bit_of}
 use Rattle.ta_syntax.specs.declared.fault.FileFault.TheVariants as fault
 use Rattle.ta_meaning.proofs.Answering.{where-false, append-left-none, append-left-leads, else-left-leads, else-right-leads, else-none, where-leads}
 use Rattle.ta_meaning.proofs.UsedNames.{rightly_used}
+use Rattle.ta_base.proofs.Members.{contains_cases, contains_from}
 
 -- the test decides the relation
 pub has_name-Decides : (names : List (List ℕ)) (n : List ℕ) → Decides (has_name names n) (Contains names n)
 has_name-Decides [] n = ((λ e. absurd (false≢true e)), λ c. absurd (let b = c.1 in omega arith))
 has_name-Decides (m ∷ names) n =
-    Decides-like (bytes_eq m n || has_name names n) (here_or_later m n names) (cases m n names) (Decides-or (bytes_eq m n) (has_name names n) (bytes_eq-Decides m n) (has_name-Decides names n))
-  where
-    here_or_later : (m n : List ℕ) (names : List (List ℕ)) → (m ≡ n) ⊎ Contains names n → Contains (m ∷ names) n
-    here_or_later m n names (inl e) = (0, omega arith, e)
-    here_or_later m n names (inr c) = Contains-append_right (m ∷ []) names n c
-
-    cases : (m n : List ℕ) (names : List (List ℕ)) → Contains (m ∷ names) n → (m ≡ n) ⊎ Contains names n
-    cases m n names (zero, b, e) = inl e
-    cases m n names (suc k, b, e) = inr (k, omega arith, e)
-
--- ---- the names between two numbers
-pub between-distinct : (from to : ℕ) (names : List (List ℕ)) → Distinct names → Distinct (between from to names)
-between-distinct from to names d = distinct_take (to - from) (drop from names) (distinct_drop from names d)
-
-pub between-within : (from to : ℕ) (names : List (List ℕ)) (n : List ℕ) → Contains (between from to names) n → Contains names n
-between-within from to names n c =
-    let rest : Contains (drop from names) n = subst (λ (z : List (List ℕ)). Contains z n) (take-append-drop (to - from) (drop from names)) (Contains-append_left (between from to names) _ n c) in
-    subst (λ (z : List (List ℕ)). Contains z n) (take-append-drop from names) (Contains-append_right (take from names) _ n rest)
-
-pub between-length : (from to : ℕ) (names : List (List ℕ)) → to ≤ length names → length (between from to names) ≡ to - from
-between-length from to names within = length-take-le (to - from) (drop from names) (let e = length-drop from names in omega arith)
+    Decides-like (bytes_eq m n || has_name names n) (contains_from n m names) (contains_cases n m names) (Decides-or (bytes_eq m n) (has_name names n) (bytes_eq-Decides m n) (has_name-Decides names n))
 
 -- ---- masks
 

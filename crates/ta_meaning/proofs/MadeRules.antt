@@ -1,5 +1,5 @@
 -- Rules without a fault mean rules and guards.
-use Rattle.ta_meaning.proofs.Common.{◌≡◌, ◌⊎◌, inl, inr, ⊎_elim, ℕ, ℤ, pos, ◌*◌, ◌%◌, ◌^◌, ◌<◌, ◌≤◌, Bool, true, false, not, ltb, ◌&&◌, cond, eqb, bit_or, List, [], ◌∷◌, ◌++◌, map, length, Ok, Contains, refl, sym, ap, ◌∙◌, arith, w8, w16, cases_Bool, nat_tests, length-map, bit_at_set_same, bit_at_set_other, IsNormal, Row, plain_comparison, plain_update, plain_rule, TreeComparison, TreeUpdate, TreeRule, Rule, Names, all_names, guard_names, has_name, number_of, no_guards, is_negative, is_positive, falls, has_row, is_no_threshold, is_one_more, is_past_limit, Linear, comparison_rows, where_, else_, in_guards, comparison_faults, guard_faults, guards_faults, guards_with, declared_faults, used_faults, digits_faults, updates_faults, rule_faults, rules_faults, guards_then, any_shared, is_no_guard, Has, RowAnswers, linear_of, guards_so_far, GuardsKept, GuardNumbered, GuardsNumbered, NumberFits, WithNumber, names_at, UpdatesRead, RuleRead, ResolvedRules, GuardList, GuardMasks, GuardNumber, length-append, and_false}
+use Rattle.ta_meaning.proofs.Common.{◌≡◌, ◌⊎◌, inl, inr, ⊎_elim, ℕ, ℤ, pos, ◌*◌, ◌%◌, ◌^◌, ◌<◌, ◌≤◌, Bool, true, false, not, ltb, ◌&&◌, cond, eqb, bit_or, List, [], ◌∷◌, ◌++◌, map, length, Ok, Contains, refl, sym, ap, ◌∙◌, arith, w8, w16, cases_Bool, length-map, bit_at_set_same, bit_at_set_other, IsNormal, Row, plain_comparison, plain_update, plain_rule, TreeComparison, TreeUpdate, TreeRule, Rule, Names, all_names, guard_names, has_name, number_of, no_guards, is_negative, is_positive, falls, has_row, is_no_threshold, is_one_more, is_past_limit, Linear, comparison_rows, where_, else_, in_guards, comparison_faults, guard_faults, guards_faults, guards_with, declared_faults, used_faults, digits_faults, updates_faults, rule_faults, rules_faults, guards_then, any_shared, is_no_guard, Has, RowAnswers, linear_of, guards_so_far, GuardsKept, GuardNumbered, GuardsNumbered, NumberFits, WithNumber, names_at, UpdatesRead, RuleRead, ResolvedRules, GuardList, GuardMasks, GuardNumber, length-append, and_false, not-false}
 use Rattle.ta_syntax.specs.declared.fault.FileFault.TheVariants as fault
 use Rattle.ta_meaning.specs.declared.guards.GuardNumber.TheVariants as number
 use Rattle.ta_meaning.proofs.Answering.{not-where, none-else-left, none-else-right, none-append-left, none-append-right}
@@ -16,6 +16,7 @@ use Rattle.ta_meaning.proofs.RuleSequence.{RulesReading, rules_begin, rules_more
 use Rattle.ta_meaning.proofs.MadeForms.{comparison_exists}
 use Rattle.ta_meaning.proofs.MadePatterns.{FineNames}
 use Rattle.ta_syntax.proofs.BuiltSums.{vec_of}
+use Rattle.std.proofs.lemmas.Bool.{ltb-true}
 
 -- ---- updates
 module _ (ns : Names) where
@@ -64,11 +65,8 @@ there_or_room places limit rows row there no_more =
     (λ (h : has_row (map (linear_of places) rows) (linear_of places row) ≡ false).
     let none : ¬ Has rows row = λ has. let told = has_linear places rows row has in absurd cc in
     let room : not (ltb (length (map (linear_of places) rows)) limit) ≡ false = rw h at no_more in
-    inr (none, has_room (length (map (linear_of places) rows)) (length rows) limit count room))
+    let low : length (map (linear_of places) rows) < limit = ltb-true _ limit (not-false _ room) in inr (none, omega arith))
     (cases_Bool (has_row (map (linear_of places) rows) (linear_of places row)))
-  where
-    has_room : (m n limit : ℕ) → m ≡ n → not (ltb m limit) ≡ false → n < limit
-    has_room m n limit e h = grind (arith, nat_tests)
 
 -- the only row of a comparison that is a guard
 only_row : (parameters : ℕ) (rows : List Row) → is_no_guard parameters rows ≡ false → (row : Row) × (rows ≡ row ∷ []) × ((any_shared is_negative parameters row.form.terms && any_shared is_positive parameters row.form.terms) ≡ false)

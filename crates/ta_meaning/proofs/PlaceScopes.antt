@@ -1,5 +1,5 @@
 -- Where all places may stand, and where the locations alone may.
-use Rattle.ta_meaning.proofs.Common.{◌≡◌, ℕ, ◌-◌, List, [], length, map, take, drop, Result, sym, ap, subst, ◌∙◌, arith, take_all, take_rest, plain_name, plain_comparison, Spelled, TreeComparison, FileFault, Condition, Scope, Answers, condition_faults, listed_faults, Judges, between, ListedMask, first_places, ResolvedCondition}
+use Rattle.ta_meaning.proofs.Common.{◌≡◌, ℕ, ◌-◌, List, [], length, map, take, Result, sym, subst, ◌∙◌, arith, take_all, plain_name, plain_comparison, Spelled, TreeComparison, FileFault, Condition, Scope, Answers, condition_faults, listed_faults, Judges, ListedMask, first_places, ResolvedCondition}
 
 abbrev scope : List (List ℕ) → List (List ℕ) → Scope
 scope places allowed = record { places = places; allowed = allowed }
@@ -16,7 +16,3 @@ pub listed_along : (declared all some allowed : List (List ℕ)) (listed : List 
 listed_along declared all some allowed listed r e f h =
     let Over : List (List ℕ) → List (List ℕ) → Type 0 = λ z w. Judges (listed_faults z w [] listed) (λ mask. ListedMask w (map plain_name listed) mask) r in
     subst (λ w. Over all w) f (subst (λ z. Over z some) e h)
-
--- the names from a number on
-pub between-end : (from n : ℕ) (names : List (List ℕ)) → n ≡ length names → between from n names ≡ drop from names
-between-end from n names e = ap (λ k. take (k - from) (drop from names)) e ∙ take_rest names from

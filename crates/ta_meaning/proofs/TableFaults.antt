@@ -1,5 +1,5 @@
 -- AllByRecursion fault in the list of a tree's faults is a fault of the table.
-use Rattle.ta_meaning.proofs.Common.{◌≡◌, inl, inr, ℕ, ◌≤◌, Bool, true, false, not, ltb, ◌&&◌, List, [], ◌∷◌, ◌++◌, length, map, refl, sym, ap, subst, ◌∙◌, arith, append_assoc, flat_map, bytes_eq, false≢true, true≢false, or_cases, not-false, cases_Bool, cond-true, cond-false, not-true, nat_tests, Decides-ltb, append-nil, map-append, map_push, bytes_eq-Decides, AllByRecursion, distinct_push_apart, each_append, each_push, each_weaker, push-split, In-left, In-map, In-right, in-here, plain_sum, plain_name, plain_comparison, Terms, Term, Factor, term, number, times, alone, blank, nested, Spelled, Digits, TreeSum, TreeComparison, TreeUpdate, TreeRule, TreeEvent, TreePattern, Tree, FileFault, Distinct, In, number_of, has_name, Linear, linear_sum, comparison_rows, is_large_linear, any_large, guard_names, all_names, names_of, Guards, no_guards, falls, same_row, has_row, with_row, with_guards, is_no_threshold, is_past_limit, is_one_more, Scope, WithFaults, where_, else_, is_long, declared_faults, declarations_faults, used_faults, listed_faults, digits_faults, linear_term, sum_faults, comparison_faults, condition_faults, counted, guards_then, guard_faults, guards_faults, guards_with, in_parameters, in_guards, in_conditions, updates_faults, rule_faults, rules_faults, event_faults, events_faults, pattern_faults, patterns_faults, location_spelled, any_initial, processes_faults, names_faults, meaning_faults, SeenTerms, SeenTerm, SeenFactor, seen_none, seen_more, seen_number, seen_times, seen_alone, seen_blank, seen_named, seen_nested, seen_sum, plain_of_terms, plain_of_term, plain_of_factor, names_of_terms, names_of_term, names_of_factor, numbers_of_terms, numbers_of_term, numbers_of_factor, PlacedTerm, placed, terms_of_terms, terms_of_term, terms_of_factor, and_parts, or_parts}
+use Rattle.ta_meaning.proofs.Common.{◌≡◌, inl, inr, ℕ, Bool, true, false, not, ltb, ◌&&◌, List, [], ◌∷◌, ◌++◌, length, map, refl, sym, ap, subst, ◌∙◌, append_assoc, flat_map, bytes_eq, false≢true, true≢false, or_cases, not-false, cases_Bool, cond-true, cond-false, not-true, Decides-ltb, append-nil, map-append, map_push, bytes_eq-Decides, AllByRecursion, distinct_push_apart, each_append, each_push, each_weaker, push-split, In-left, In-map, In-right, in-here, plain_sum, plain_name, plain_comparison, Terms, Term, Factor, term, number, times, alone, blank, nested, Spelled, Digits, TreeSum, TreeComparison, TreeUpdate, TreeRule, TreeEvent, TreePattern, Tree, FileFault, Distinct, In, number_of, has_name, Linear, linear_sum, comparison_rows, is_large_linear, any_large, guard_names, all_names, names_of, Guards, no_guards, falls, same_row, has_row, with_row, with_guards, is_no_threshold, is_past_limit, is_one_more, Scope, WithFaults, where_, else_, is_long, declared_faults, declarations_faults, used_faults, listed_faults, digits_faults, linear_term, sum_faults, comparison_faults, condition_faults, counted, guards_then, guard_faults, guards_faults, guards_with, in_parameters, in_guards, in_conditions, updates_faults, rule_faults, rules_faults, event_faults, events_faults, pattern_faults, patterns_faults, location_spelled, any_initial, processes_faults, names_faults, meaning_faults, SeenTerms, SeenTerm, SeenFactor, seen_none, seen_more, seen_number, seen_times, seen_alone, seen_blank, seen_named, seen_nested, seen_sum, plain_of_terms, plain_of_term, plain_of_factor, names_of_terms, names_of_term, names_of_factor, numbers_of_terms, numbers_of_term, numbers_of_factor, PlacedTerm, placed, terms_of_terms, terms_of_term, terms_of_factor, and_parts, or_parts, ltb-false}
 use Rattle.std.proofs.lemmas.Grind.{flat_map-append}
 use Rattle.ta_syntax.specs.declared.fault.FileFault.TheVariants as fault
 use Rattle.ta_meaning.specs.Table.{Repeats, rule_name, tree_pattern_name, tree_event_name, updated_name, place_names, AreApart, apart_places, apart_rules, apart_patterns, apart_events, apart_updates, apart_empty, apart_after, IsDeclared, declared_file, declared_place, declared_rule, declared_pattern, declared_event, HasComparison, in_resilience, in_guard, in_start, in_event, HasSum, sum_of_processes, sum_at_left, sum_at_right, at_locations, at_shared, at_events, IsUsed, used_from, used_to, used_update, used_empty, used_after, used_sum, IsNumberOf, number_of_update, number_in_sum, guards_of_rule, tree_guards, tree_guard_rows, IsRowAmong, IsOneMore, IsFaultOf, repeated, unknown, wrong_kind, long, large_number, large_term, large_row, large_sum, one_more, no_threshold, no_initial, FaultsAreOfTheTable}
@@ -254,9 +254,6 @@ module _ (t : Tree) where
       counted-either (cs ++ c ∷ []) (guard_faults count scope g c) g (with_guards count g (tree_guard_rows t c))
       (λ none. counted-row (cs ++ c ∷ []) g c (tree_guard_rows t c) refl (is-threshold g c none) (in-here cs [] c) more) more
 
-  not-less : (n m : ℕ) → not (ltb n m) ≡ true → m ≤ n
-  not-less n m e = let f : ltb n m ≡ false = not-true (ltb n m) e in grind (arith, nat_tests)
-
   -- a row past the limit
   past-limit : (cs later : List TreeComparison) (g : Guards) (c : TreeComparison) (r : Linear) → tree_guards t ≡ cs ++ c ∷ later → tree_guard_rows t c ≡ r ∷ [] → is_no_threshold count (r ∷ []) ≡ false → is_past_limit count g r ≡ true → Counted cs g → IsOneMore t c
   past-limit cs later g c r place is threshold past h = elim (cases_Bool (falls count r)) [
@@ -272,7 +269,7 @@ module _ (t : Tree) where
           others = g.fall;
           distinct = h.fall_distinct;
           before = h.fall;
-          full = not-less (length g.fall) 6 ((and_parts (not (has_row g.fall r)) (not (ltb (length g.fall) 6)) e).1);
+          full = ltb-false (length g.fall) 6 (not-true (ltb (length g.fall) 6) (and_parts (not (has_row g.fall r)) (not (ltb (length g.fall) 6)) e).1);
           new = apart-rows g.fall r (not-true (has_row g.fall r) ((and_parts (not (has_row g.fall r)) (not (ltb (length g.fall) 6)) e).0));
         })
     | inr f ↦ (
@@ -287,7 +284,7 @@ module _ (t : Tree) where
           others = g.rise;
           distinct = h.rise_distinct;
           before = h.rise;
-          full = not-less (length g.rise) 16 ((and_parts (not (has_row g.rise r)) (not (ltb (length g.rise) 16)) e).1);
+          full = ltb-false (length g.rise) 16 (not-true (ltb (length g.rise) 16) (and_parts (not (has_row g.rise r)) (not (ltb (length g.rise) 16)) e).1);
           new = apart-rows g.rise r (not-true (has_row g.rise r) ((and_parts (not (has_row g.rise r)) (not (ltb (length g.rise) 16)) e).0));
         })
   ]

@@ -1,11 +1,11 @@
 //! Lists of names as masks.
 #![tactic(auto)]
 
-ghost use Rattle.std.specs.Prelude.{◌-◌, ◌<◌, ◌≤◌, ◌↔◌, [], length, map, IsTrue, IsBitSet};
+ghost use Rattle.std.specs.Prelude.{◌-◌, ◌<◌, ◌≤◌, ◌↔◌, [], length, map, slice_range, IsTrue, IsBitSet};
 ghost use Rattle.ta_syntax.specs.PlainTrees.{plain_name};
 ghost use Rattle.ta_base.specs.Lists.{Distinct};
 ghost use Rattle.ta_meaning.specs.Faults.{Judges, listed_faults};
-ghost use Rattle.ta_meaning.specs.Inside.Listed.{between, ListedMask};
+ghost use Rattle.ta_meaning.specs.Inside.Listed.{ListedMask};
 
 use crate::names::NameList;
 use ta_base::masks::contains;
@@ -24,7 +24,7 @@ pub fn listed_mask(
     requires within { to ≤ length names.now }
     requires few { to - from ≤ 32 }
     requires distinct { Distinct names.now }
-    ensures { Judges (listed_faults names.now (between from to names.now) [] listed.now) (ListedMask (between from to names.now) (map plain_name listed.now)) result }
+    ensures { Judges (listed_faults names.now (slice_range names.now from to) [] listed.now) (ListedMask (slice_range names.now from to) (map plain_name listed.now)) result }
 {
     let mut mask: u32 = 0;
     for name in listed {

@@ -1,5 +1,5 @@
 -- from how a run ends to its clauses
-use Rattle.ta_program.proofs.Common.{◌≡◌, ◌≢◌, ◌≤◌, ◌+◌, ℕ, zero, Bool, true, false, List, [], ◌∷◌, Option, None, Some, refl, sym, ap, subst, ◌∙◌, inl, arith, rules, codes, if◌then◌else◌, list_any, AllByRecursion, bytes_eq, or_parts, File, Pattern, PatternSafe, one_legal, printed_proved, printed_rest_proved, printed_rest_safe, told_safe, check_text, rest_check_text, report_of, Verdict, Safe, Unsafe, Spent, Overflow, filled_text, Grew, OthersStay, Told, WhereTold, with_text, answered, hindered, kept_refused, never_five, whole_one, Decides, Meaning, IsAnswered, Performs, Quiet, ShelfState, SinkState, State, HoldsPut, HoldsText, KeptBut, Stand, put_bytes, View, in_files, seen, run_text, unit_steps, Answer, Put, plain_tree, Asked, LegalFile, Runs, ask, ask_where, Command, NoCommand, BenchHolds, bench_meaning, bench_of, bench_status, bench_words, CheckHolds, check_meaning, check_of, IsFile, file_kind, EachPrintedUnsafe, EachToldSafe, rest_telling, verify_telling, AdmitAsked, AdmitHolds, admit_meaning, admit_of, admit_words, ExportHolds, export_meaning, export_of, export_words, Admitting, Benches, CertificateWritten, CheckProves, ExactlySo, Exports, KeepsFiles, PassesLegal, PrintedHolds, ReplayShows, RestProves, RestsReport, RunShortens, Searches, VerifyReports, put_by, CompressHolds, compress_meaning, compress_of, ReplayHolds, replay_meaning, replay_of, request_of, ClaimHolds, claiming, rest_text, RestOccurs, RestSafe, RestCertificateStands, RestReportHolds, rest_meaning, RestCheckHolds, rest_check_meaning, LegalAtRest, rest_check_of, rest_of, rest_words, CertificateStands, ReportHolds, verify_meaning, VerdictHolds, VerdictsHold, is_unsafe, is_unknown, LegalTemplate, SearchHolds, end_number, leaves_unknown, search_meaning, SearchWords, search_of, search_words, TwoNames, two_names, VerifyWords, verify_of, verify_words, WordAsked, behind_name, map, pair_of, held, held_by}
+use Rattle.ta_program.proofs.Common.{◌≡◌, ◌≢◌, ◌≤◌, ◌+◌, ℕ, zero, Bool, true, false, List, [], ◌∷◌, Option, None, Some, refl, sym, ap, subst, ◌∙◌, inl, arith, rules, codes, if◌then◌else◌, list_any, AllByRecursion, bytes_eq, or_parts, File, Pattern, PatternSafe, one_legal, printed_proved, printed_rest_proved, printed_rest_safe, told_safe, check_text, rest_check_text, report_of, Verdict, Safe, Unsafe, Spent, Overflow, filled_text, Grew, OthersStay, Told, WhereTold, with_text, answered, hindered, kept_refused, never_five, whole_one, Decides, Meaning, IsAnswered, Performs, Quiet, ShelfState, SinkState, State, HoldsPut, HoldsText, KeptBut, Stand, put_bytes, View, in_files, seen, run_text, unit_steps, Answer, Put, plain_tree, Asked, LegalFile, Runs, ask, ask_where, Command, NoCommand, BenchHolds, bench_meaning, bench_of, bench_status, bench_words, CheckHolds, check_meaning, check_of, IsFile, file_kind, EachPrintedUnsafe, EachToldSafe, rest_telling, verify_telling, AdmitAsked, AdmitHolds, admit_meaning, admit_of, admit_words, ExportHolds, export_meaning, export_of, export_words, Admitting, Benches, CertificateWritten, CheckProves, ExactlySo, Exports, KeepsFiles, PassesLegal, PrintedHolds, ReplayShows, RestProves, RestsReport, RunShortens, Searches, VerifyReports, put_by, CompressHolds, compress_meaning, compress_of, ReplayHolds, replay_meaning, replay_of, request_of, ClaimHolds, claiming, rest_text, RestOccurs, RestSafe, RestCertificateStands, RestReportHolds, rest_meaning, RestCheckHolds, rest_check_meaning, LegalAtRest, rest_check_of, rest_of, rest_words, CertificateStands, ReportHolds, verify_meaning, VerdictHolds, VerdictsHold, is_unsafe, is_unknown, LegalTemplate, SearchHolds, end_number, leaves_unknown, search_meaning, SearchWords, search_of, search_words, TwoNames, two_names, VerifyWords, verify_of, verify_words, WordAsked, behind_name, map, pair_of, held, held_by, false_from_ne_true}
 use Rattle.ta_automaton.specs.Runs as runs
 use Rattle.ta_program.specs.Headline.{EachPatternSafe, EachPrinted, HoldsFile, SomePatternOccurs, StatusTells}
 use Rattle.ta_check.proofs.OwnPatterns.{all_own}
@@ -10,6 +10,7 @@ use Rattle.ta_program.proofs.WordsDiffer.{Apart, names_apart}
 use Rattle.ta_program.proofs.UnsafePrinted.{run_within, unsafe_occurs, unsafe_printed, unsafe_there}
 use Rattle.ta_program.proofs.WordMeanings.{admit_decides}
 use Rattle.ta_base.proofs.Members.{listed}
+use Rattle.ta_base.proofs.Booleans.{first_passed}
 
 -- the number of a report is 0 only where nothing is unsafe and nothing unknown, 1 only where something is unsafe, and 2 only where
 -- something is unknown
@@ -29,19 +30,6 @@ pub kinds_of_two : (found unknown : Bool) → number_by found unknown ≡ 2 → 
 kinds_of_two true unknown e = absurd (omega (arith, e))
 kinds_of_two false true e = refl
 kinds_of_two false false e = absurd (omega (arith, e))
-
--- the number of a search's end is 0 where values were found, and only there
-abbrev end_by : Bool → Bool → ℕ
-end_by found unknown = if found then 0 else (if unknown then 2 else 1)
-
-found_by : (found unknown : Bool) → end_by found unknown ≡ 0 → found ≡ true
-found_by true unknown e = refl
-found_by false true e = absurd (omega (arith, e))
-found_by false false e = absurd (omega (arith, e))
-
-lost_by : (found unknown : Bool) → end_by found unknown ≢ 0 → found ≡ false
-lost_by true unknown e = absurd (e refl)
-lost_by false unknown e = refl
 
 -- a verdict that holds and is neither unsafe nor unknown says safe
 safe_of : (file : File) (budget number : ℕ) (p : Pattern) (v : Verdict) → is_unsafe v ≡ false → is_unknown v ≡ false → VerdictHolds file budget number p v → runs.Safe file.automaton p
@@ -309,10 +297,10 @@ module _ (words : List (List ℕ)) (number : ℕ) (before after : State) (h : Ru
         numbered = numbered;
         wrote = a.written ∙ ap (with_text before.out.written) finds.written;
         found = λ zero.
-            let put = finds.found (found_by end.found unknown (numbered ∙ zero)) in
+            let put = finds.found (first_passed end.found unknown 0 2 1 (numbered ∙ zero) (λ h. omega (arith, h)) (λ h. omega (arith, h))) in
             record { last = put.last; stands = found_stands (filled_text t put.last.last.values) put.last.certificate asked.filled asked.out apart a.answer.puts put.are before.shelf.files after.shelf.files a.stand; within = put.within };
         kept = λ other.
-            let none = finds.nothing (lost_by end.found unknown (λ zero. other (sym numbered ∙ zero))) in
+            let none = finds.nothing (false_from_ne_true end.found (λ found. other (sym numbered ∙ ap (λ (b : Bool). if b then 0 else (if unknown then 2 else 1)) found))) in
             subst (λ (ps : List Put). Stand ps before.shelf.files after.shelf.files) none a.stand;
       }
 

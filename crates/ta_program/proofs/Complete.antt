@@ -1,5 +1,5 @@
 -- what a report of verdicts ends with where told files hold a legal FILE
-use Rattle.ta_program.proofs.Common.{◌≡◌, ◌≢◌, ◌≤◌, ℕ, suc, Bool, true, false, List, [], ◌∷◌, Option, None, Some, slice_get, refl, sym, subst, ◌∙◌, inl, inr, arith, IsSome, list_any, File, Verdict, Told, answered, Decides, Meaning, Performs, State, in_files, seen, Answer, IsKnown, is_unknown, is_unsafe, Runs, HindersCertificate, LongCertificate, long_line, IsFile, Completes, EndsSo, Reports, verify_meaning, request_of, HindersRest, IsKnownAtRest, LongAtRest, LongRest, RestReports, rest_meaning, FileEndings, IsEnds, verdicts_number, EndingVerdictHolds, VerdictHolds, endings_count, held_by, some_at, slice_get_within}
+use Rattle.ta_program.proofs.Common.{◌≡◌, ◌≢◌, ◌≤◌, ℕ, suc, Bool, true, false, List, [], ◌∷◌, Option, None, Some, slice_get, refl, sym, subst, ◌∙◌, inl, inr, arith, IsSome, list_any, File, Verdict, Told, answered, Decides, Meaning, Performs, State, in_files, seen, Answer, IsKnown, is_unknown, is_unsafe, Runs, HindersCertificate, LongCertificate, long_line, IsFile, Completes, EndsSo, Reports, verify_meaning, request_of, HindersRest, IsKnownAtRest, LongAtRest, LongRest, RestReports, rest_meaning, FileEndings, IsEnds, verdicts_number, EndingVerdictHolds, VerdictHolds, endings_count, held_by, some_at, slice_get_within, false_from_ne_true}
 use Rattle.ta_program.proofs.Clauses.{as_rest, as_verify, hinders_told, kinds_of_two, passes_legal, quiet, same_file}
 use Rattle.ta_program.proofs.Meanings.{hinders_long, verify_decides}
 use Rattle.ta_program.proofs.RestMeanings.{hinders_rest, rest_decides}
@@ -8,13 +8,9 @@ use Rattle.ta_program.proofs.RestMeanings.{hinders_rest, rest_decides}
 none_unknown : (vs : List Verdict) → ((k : ℕ) (v : Verdict) → slice_get vs k ≡ Some v → is_unknown v ≡ true → ⊥) → list_any is_unknown vs ≡ false
 none_unknown [] never = refl
 none_unknown (v ∷ vs) never =
-    let head = not_true (is_unknown v) (never 0 v refl) in
+    let head = false_from_ne_true (is_unknown v) (never 0 v refl) in
     let tail = none_unknown vs (λ k w given. never (suc k) w given) in
     rw (head, tail) refl
-  where
-    not_true : (b : Bool) → ¬ (b ≡ true) → b ≡ false
-    not_true true never = absurd (never refl)
-    not_true false never = refl
 
 -- so their number isn't 2
 never_two : (vs : List Verdict) → verdicts_number vs ≡ 2 → ((k : ℕ) (v : Verdict) → slice_get vs k ≡ Some v → is_unknown v ≡ true → ⊥) → ⊥

@@ -1,5 +1,5 @@
 -- a certificate that is judged while it is read
-use Rattle.ta_program.proofs.Common.{◌≡◌, ◌∙◌, ◌+◌, ◌-◌, ◌<◌, ◌≤◌, ◌⊎◌, ℕ, Bool, true, false, List, [], ◌∷◌, ◌++◌, length, take, drop, min, Option, None, Some, Result, Ok, Err, refl, sym, ap, subst, inl, inr, arith, append_assoc, length-append, ltb-false, ltb-true, take-append-add, append-nil, length-drop, length-take-le, take-append-drop, Subject, CertFault, Accepted, Checker, AllClaimsHold, CheckerFeedAnswers, CheckerFinishAnswers, IsExactCheck, IsExactFeed, CheckerStandsFor, subject_of, IsFirstFaultFor, IsLastingFor, no_longer_certificate, Call, Grew, PieceBy, ReadsFirst, Spells, Told, Refusal, Refused, ReadFailed, PutFailed, Memory, longer_than, IsReading, ReadCause, SaysOfFile, UnreadBy, Begins, seen, where_told, Stage, CERTIFICATE, IsAllowed, Breaks, JudgedTo, JudgedWhole, PassesLimit, PieceFed, RefusedBy, Turn, IsUnproved, certificate_kind}
+use Rattle.ta_program.proofs.Common.{◌≡◌, ◌∙◌, ◌+◌, ◌-◌, ◌<◌, ◌≤◌, ◌⊎◌, ℕ, Bool, true, false, List, [], ◌++◌, length, take, drop, min, Option, None, Some, Result, Ok, Err, refl, sym, ap, subst, inl, inr, arith, append_assoc, length-append, ltb-false, ltb-true, take-append-add, append-nil, length-drop, length-take-le, take-append-drop, Subject, CertFault, Accepted, Checker, AllClaimsHold, CheckerFeedAnswers, CheckerFinishAnswers, IsExactCheck, IsExactFeed, CheckerStandsFor, subject_of, IsFirstFaultFor, IsLastingFor, no_longer_certificate, Call, Grew, PieceBy, ReadsFirst, Spells, Told, Refusal, Refused, ReadFailed, PutFailed, Memory, longer_than, IsReading, ReadCause, SaysOfFile, UnreadBy, Begins, seen, where_told, Stage, CERTIFICATE, IsAllowed, Breaks, JudgedTo, JudgedWhole, PassesLimit, PieceFed, RefusedBy, Turn, IsUnproved, certificate_kind}
 use Rattle.std.specs.Option.{IfSome}
 use Rattle.std.specs.Result.{IsOk}
 use Rattle.ta_cert.specs.declared.fault.CertFault.TheVariants as fault
@@ -8,6 +8,7 @@ use Rattle.ta_report.specs.Faults.{cert_fault_text}
 use Rattle.ta_shelf.specs.ReadPiece.{ReadsPiece}
 use Rattle.ta_shelf.specs.declared.fault.ShelfFault.{ShelfFault}
 use Rattle.ta_shell.proofs.PiecesSeen.{first_seen, first_spelled, piece_read, piece_refused, stage_faulty, stage_memory, stage_too_long, stage_unread, told_absent, told_front, told_more, told_whole, whole_spelled}
+use Rattle.std.proofs.lemmas.List.{nil_from_length}
 
 -- the first line at fault lasts, or there was no memory
 fault_lasts : (subject : Subject) (name text piece : List ℕ) (new : Checker) (f : CertFault) (refusal : Refusal) → (subject_of new) ≡ subject → CheckerFeedAnswers text piece new (Err f) → RefusedBy name f refusal → (refusal ≡ Memory) ⊎ (IsLastingFor subject (text ++ piece) f × SaysOfFile CERTIFICATE name (cert_fault_text f) refusal)
@@ -28,12 +29,8 @@ module _ (subject : Subject) (name text piece : List ℕ) (at allowed : ℕ) (ne
   -- all of it is allowed
   pub piece_allowed : length piece ≤ allowed → CheckerStandsFor new (text ++ take allowed piece) → IsAllowed new (text ++ piece)
   piece_allowed all stands =
-      let whole : take allowed piece ≡ piece = (let none : length (drop allowed piece) ≡ 0 = omega (arith, length-drop allowed piece) in sym (append-nil (take allowed piece)) ∙ ap (λ (xs : List ℕ). take allowed piece ++ xs) (sym (nothing (drop allowed piece) none)) ∙ take-append-drop allowed piece) in
+      let whole : take allowed piece ≡ piece = (let none : length (drop allowed piece) ≡ 0 = omega (arith, length-drop allowed piece) in sym (append-nil (take allowed piece)) ∙ ap (λ (xs : List ℕ). take allowed piece ++ xs) (sym (nil_from_length (drop allowed piece) none)) ∙ take-append-drop allowed piece) in
       record { stands = subst (λ (xs : List ℕ). CheckerStandsFor new (text ++ xs)) whole stands; within = omega (arith, all_size, part) }
-    where
-      nothing : (xs : List ℕ) → length xs ≡ 0 → xs ≡ []
-      nothing [] none = refl
-      nothing (x ∷ xs) none = absurd (omega arith)
 
   -- some of it isn't
   pub passes_limit : (refusal : Refusal) → allowed < length piece → IsExactFeed subject (text ++ take allowed piece) (Ok tt) → SaysOfFile CERTIFICATE name (longer_than CERTIFICATE.bytes) refusal → PassesLimit subject name (text ++ piece) refusal

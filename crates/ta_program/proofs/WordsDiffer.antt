@@ -1,5 +1,7 @@
 -- the files that a command puts are not its FILE, and not each other
 use Rattle.ta_program.proofs.Common.{◌≡◌, ◌≢◌, ◌∙◌, ℕ, Bool, true, false, ◌&&◌, not, List, [], ◌∷◌, length, Option, None, Some, refl, sym, subst, rules, option_and_then_some, option_and_then, if◌then◌else◌, bytes_eq, rest_form, rest_of, rest_taken, rest_words, SearchWords, search_form, search_of, search_taken, search_words, are_same, budget_of, filled_of, file_name_of, out_of, VerifyWords, verify_form, verify_of, verify_taken, verify_words, Taken, behind_name, plain_of, taken_by, option_value, codes, is_some, nat_lt, option_map}
+use Rattle.std.proofs.lemmas.Option.{cond_some, none-some}
+use Rattle.ta_base.proofs.Booleans.{not_chosen}
 
 -- two names that are both given differ
 abbrev pub Apart : Option (List ℕ) → Option (List ℕ) → Type 0
@@ -22,16 +24,6 @@ file_apart file (Some given) result is = by_test (nat_lt 0 (length given)) (not 
 by_name : {W : Type 0} (Such : W → Type 0) (read : List (List ℕ) → Option W) → ((words : List (List ℕ)) (asked : W) → read words ≡ Some asked → Such asked) → (named : Bool) (words : List (List ℕ)) (asked : W) → (if named then read words else None) ≡ Some asked → Such asked
 by_name Such read such true words asked is = such words asked is
 by_name Such read such false words asked is = absurd (cc)
-
--- OUT and OUT2 of `search` are not the same
-by_same : (same : Bool) (answer : Option (Option (List ℕ))) (result : Option (List ℕ)) → (if same then None else answer) ≡ Some result → (same ≡ false) × (answer ≡ Some result)
-by_same true answer result is = absurd (cc)
-by_same false answer result is = (refl, is)
-
--- a name that is taken is the one that was given
-given_by : (test : Bool) (given : List ℕ) (result : Option (List ℕ)) → (if test then Some (Some given) else None) ≡ Some result → result ≡ Some given
-given_by true given result is = cc
-given_by false given result is = absurd (cc)
 
 behind : {W : Type 0} (Such : W → Type 0) (name : List ℕ) (read : List (List ℕ) → Option W) → ((words : List (List ℕ)) (asked : W) → read words ≡ Some asked → Such asked) → (words : List (List ℕ)) (asked : W) → behind_name name read words ≡ Some asked → Such asked
 behind Such name read such [] asked is = absurd (cc)
@@ -78,7 +70,7 @@ differ (Some out) (Some given) differs = λ name other first second equal.
 
 out_given : (file : List ℕ) (given result : Option (List ℕ)) → out_of file given ≡ Some result → result ≡ given
 out_given file None result is = cc
-out_given file (Some given) result is = given_by (nat_lt 0 (length given) && not (bytes_eq given file)) given result is
+out_given file (Some given) result is = sym (cond_some (nat_lt 0 (length given) && not (bytes_eq given file)) (Some given) result is).1
 
 -- the names of FILE, OUT and OUT2, as far as they are given
 pub record AllApart (asked : SearchWords) : Type 0 where
@@ -91,7 +83,7 @@ by_filled file nodes first out given took None from asked is = absurd (cc)
 by_filled file nodes first out given took (Some filled) from asked is =
     let words : SearchWords = record { file = file; nodes = nodes; out = out; filled = filled } in
     let same : words ≡ asked = cc in
-    let by = by_same (are_same out given) (out_of file given) filled from in
+    let by = not_chosen (are_same out given) None (out_of file given) (Some filled) from (none-some filled) in
     subst AllApart same (record {
       puts = subst (λ (o : Option (List ℕ)). Apart o out) (sym (out_given file given filled by.1)) (differ out given by.0);
       out = file_apart file first out took;

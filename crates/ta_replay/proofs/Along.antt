@@ -1,15 +1,12 @@
 -- a replay from line to line
-use Rattle.ta_replay.proofs.Common.{◌≡◌, inl, inr, ℕ, ◌+◌, ◌<◌, ◌↔◌, ℤ, ◌+ℤ◌, ◌*ℤ◌, List, [], ◌∷◌, ◌++◌, length, take, arith, sym, ap, ◌∙◌, subst, slice_get, Some, Option, IsBitSet, ints, cases_lt, same_Some, each_at, some_at, take_next, point_of, Automaton, Rule, Pattern, rule_change, total, total-append, Config, config_of, IsOf, Run, RunLine, Step, Mark, RunFault, NotEmpty, Guard, Count, Overflow, Order, LineFits, IsMarked, steps_before, ValuesAfter, Takes, LineTakes, LinePasses, InOrder, line_change, LineRefuses, LineStops, FirstRefusal, run_line_number, FitsPattern, Following, MarksAfter}
+use Rattle.ta_replay.proofs.Common.{◌≡◌, inl, inr, ℕ, ◌+◌, ◌<◌, ◌↔◌, ℤ, ◌+ℤ◌, ◌*ℤ◌, List, [], ◌∷◌, length, take, arith, sym, ap, ◌∙◌, subst, slice_get, Some, Option, IsBitSet, ints, cases_lt, same_Some, each_at, some_at, take_next, point_of, Automaton, Rule, Pattern, rule_change, total, total-append, Config, config_of, IsOf, Run, RunLine, Step, Mark, RunFault, NotEmpty, Guard, Count, Overflow, Order, LineFits, IsMarked, steps_before, ValuesAfter, Takes, LineTakes, LinePasses, InOrder, line_change, LineRefuses, LineStops, FirstRefusal, run_line_number, FitsPattern, Following, MarksAfter}
 use Rattle.ta_replay.specs.declared.fault.RunFault.TheVariants.{Event}
 use Rattle.ta_replay.proofs.Lines.{marked-next}
 use Rattle.ta_replay.proofs.Paths.{line_moves, path_next}
 
-total-push : {X : Type 0} (f : X → ℤ) (xs : List X) (x : X) → total f (xs ++ x ∷ []) ≡ (total f xs +ℤ f x)
-unfolding total
-total-push f xs x = omega (arith, ints, total-append f xs (x ∷ []))
-
 total-next : (a : Automaton) (place i : ℕ) (lines : List RunLine) (line : RunLine) → slice_get lines i ≡ Some line → total (line_change a place) (take (i + 1) lines) ≡ (total (line_change a place) (take i lines) +ℤ line_change a place line)
-total-next a place i lines line at = ap (total (line_change a place)) (take_next lines i line at) ∙ total-push (line_change a place) (take i lines) line
+unfolding total
+total-next a place i lines line at = omega (arith, ints, ap (total (line_change a place)) (take_next lines i line at), total-append (line_change a place) (take i lines) (line ∷ []))
 
 -- the values after a step more
 pub step_values : (a : Automaton) (run : Run) (i r : ℕ) (factor : ℤ) (values after : List ℤ) → r < length a.rules → slice_get run.lines i ≡ Some (Step r factor) → ValuesAfter a run (take i run.lines) values → Takes a r factor values after → ValuesAfter a run (take (i + 1) run.lines) after

@@ -1,5 +1,8 @@
 -- the lines of pieces: how many steps they have, and where their marks stand
-use Rattle.ta_replay.proofs.Common.{◌≡◌, inl, inr, ℕ, zero, suc, ◌+◌, ◌*◌, ◌<◌, ◌≤◌, ℤ, List, [], ◌∷◌, ◌++◌, map, length, take, replicate, unsigned_abs, Option, Some, None, slice_get, arith, refl, sym, ap, ◌∙◌, subst, length-append, append_assoc, append-nil, cases_lt, cases_order, eqb_tells, slice_get_within, AllByRecursion, get_parts, sum_below, sum_most, Automaton, HappensAt, times_in, RunLine, Step, Mark, unit_steps, steps_before, MarksAt, Piece, OncePerRule, PiecesAreShort, PiecesShow, step_line, last_lines, piece_lines, pieces_lines, pieces_marks, steps_count, steps_until, rule_of}
+use Rattle.ta_replay.proofs.Common.{◌≡◌, inl, inr, ℕ, zero, suc, ◌+◌, ◌*◌, ◌<◌, ◌≤◌, ℤ, List, [], ◌∷◌, ◌++◌, map, length, take, replicate, unsigned_abs, Option, Some, None, slice_get, arith, refl, sym, ap, ◌∙◌, subst, length-append, append_assoc, append-nil, cases_lt, cases_order, slice_get_within, get_parts, Automaton, HappensAt, RunLine, Step, Mark, unit_steps, steps_before, MarksAt, Piece, OncePerRule, PiecesAreShort, PiecesShow, step_line, last_lines, piece_lines, pieces_lines, pieces_marks, steps_count, steps_until, rule_of, length-map}
+use Rattle.ta_base.proofs.Members.{place_of}
+use Rattle.ta_base.proofs.Each.{distinct_length, each_map_of}
+use Rattle.ta_base.proofs.Times.{distinct-times, once_at, times-in}
 use Rattle.ta_base.specs.Masks.{In}
 use Rattle.ta_replay.proofs.Lines.{unit_steps-append}
 
@@ -20,39 +23,12 @@ count_marks : (es : List ℕ) → steps_count (map Mark es) ≡ 0
 count_marks [] = refl
 count_marks (e ∷ es) = count_marks es
 
--- a list of numbers below n, none of them twice, has at most n items
-sum_none : (n : ℕ) → sum_below (λ r. times_in r []) n ≡ 0
-unfolding sum_below times_in
-sum_none zero = refl
-sum_none (suc n) = omega (arith, sum_none n)
-
-sum_past : (x : ℕ) (xs : List ℕ) (n : ℕ) → n ≤ x → sum_below (λ r. times_in r (x ∷ xs)) n ≡ sum_below (λ r. times_in r xs) n
-unfolding sum_below times_in
-sum_past x xs zero b = refl
-sum_past x xs (suc n) b = elim (eqb_tells x n) [
-  | inl same ↦ absurd (let s = same.1 in omega arith)
-  | inr other ↦ rw other.0 (omega (arith, sum_past x xs n (omega arith)))
-]
-
-sum_more : (x : ℕ) (xs : List ℕ) (n : ℕ) → x < n → sum_below (λ r. times_in r (x ∷ xs)) n ≡ 1 + sum_below (λ r. times_in r xs) n
-unfolding sum_below times_in
-sum_more x xs zero b = absurd (omega arith)
-sum_more x xs (suc n) b = elim (eqb_tells x n) [
-  | inl same ↦ rw same.0 (omega (arith, sum_past x xs n (let s = same.1 in omega arith)))
-  | inr other ↦ rw other.0 (omega (arith, sum_more x xs n (let s = other.1 in omega arith)))
-]
-
-sum_all : (n : ℕ) (steps : List (ℕ × ℤ)) → AllByRecursion (λ (step : ℕ × ℤ). step.0 < n) steps → sum_below (λ r. times_in r (map rule_of steps)) n ≡ length steps
-sum_all n [] h = sum_none n
-sum_all n (step ∷ steps) h = omega (arith, sum_more step.0 (map rule_of steps) n h.0, sum_all n steps h.1)
-
 piece_count : (a : Automaton) (piece : Piece) → OncePerRule a piece → steps_count (piece_lines piece) ≤ length a.rules + 1
 piece_count a piece h =
-    let all = sum_all (length a.rules) piece.steps h.exist in
-    let most = sum_most (λ r. times_in r (map rule_of piece.steps)) (length a.rules) h.once in
+    let few = distinct_length (length a.rules) (map rule_of piece.steps) (distinct-times (map rule_of piece.steps) h.once) (each_map_of rule_of (λ r. r < length a.rules) piece.steps h.exist) in
     let left = steps_count-append (map step_line piece.steps) (last_lines piece.last ++ map Mark piece.marks) in
     let right = steps_count-append (last_lines piece.last) (map Mark piece.marks) in
-    omega (arith, left, right, count_steps piece.steps, count_last piece.last, count_marks piece.marks, all, most)
+    omega (arith, left, right, count_steps piece.steps, count_last piece.last, count_marks piece.marks, few, length-map piece.steps rule_of)
 
 pub are_short : PiecesAreShort
 are_short a [] h = omega arith
@@ -147,38 +123,6 @@ place_less (Mark x ∷ lines) zero zero e at b = absurd (omega arith)
 place_less (Mark x ∷ lines) zero (suc j) e at b = omega arith
 place_less (Mark x ∷ lines) (suc i) zero e at b = absurd (omega arith)
 place_less (Mark x ∷ lines) (suc i) (suc j) e at b = let rest = place_less lines i j e at (omega arith) in omega arith
-
--- a number that is once in a list
-some_times : (xs : List ℕ) (e i : ℕ) → slice_get xs i ≡ Some e → 1 ≤ times_in e xs
-unfolding times_in
-some_times [] e i at = absurd (cc)
-some_times (x ∷ xs) e zero at = elim (eqb_tells x e) [ inl same ↦ rw same.0 (omega arith) | inr other ↦ absurd (other.1 (let q : x ≡ e = cc in q)) ]
-some_times (x ∷ xs) e (suc i) at = omega (arith, some_times xs e i at)
-
-at_once : (xs : List ℕ) (e i j : ℕ) → times_in e xs ≡ 1 → slice_get xs i ≡ Some e → slice_get xs j ≡ Some e → i ≡ j
-unfolding times_in
-at_once [] e i j one at bt = absurd (cc)
-at_once (x ∷ xs) e zero zero one at bt = refl
-at_once (x ∷ xs) e zero (suc j) one at bt = elim (eqb_tells x e) [
-  | inl same ↦ absurd (let more = some_times xs e j bt in let q : 1 + times_in e xs ≡ 1 = rw same.0 at one in omega arith)
-  | inr other ↦ absurd (other.1 (let q : x ≡ e = cc in q))
-]
-at_once (x ∷ xs) e (suc i) zero one at bt = elim (eqb_tells x e) [
-  | inl same ↦ absurd (let more = some_times xs e i at in let q : 1 + times_in e xs ≡ 1 = rw same.0 at one in omega arith)
-  | inr other ↦ absurd (other.1 (let q : x ≡ e = cc in q))
-]
-at_once (x ∷ xs) e (suc i) (suc j) one at bt = elim (eqb_tells x e) [
-  | inl same ↦ absurd (let more = some_times xs e i at in let q : 1 + times_in e xs ≡ 1 = rw same.0 at one in omega arith)
-  | inr other ↦ ap suc (at_once xs e i j (let q : 0 + times_in e xs ≡ 1 = rw other.0 at one in omega arith) at bt)
-]
-
-pub some_index : (xs : List ℕ) (e : ℕ) → 1 ≤ times_in e xs → (i : ℕ) × (slice_get xs i ≡ Some e)
-unfolding times_in
-some_index [] e h = absurd (omega arith)
-some_index (x ∷ xs) e h = elim (eqb_tells x e) [
-  | inl same ↦ (0, ap (λ (y : ℕ). Some y) same.1)
-  | inr other ↦ (let w = some_index xs e (let q : 1 ≤ 0 + times_in e xs = rw other.0 at h in omega arith) in (suc w.0, w.1))
-]
 
 -- the steps before a line behind a front, and before a mark of a piece
 steps_behind : (front rest : List RunLine) (i : ℕ) → steps_before (front ++ rest) (length front + i) ≡ length (unit_steps front) + steps_before rest i
@@ -285,13 +229,13 @@ show a p run pieces h order =
       marked = λ e event at.
           let b = slice_get_within p.events e event at in
           let one = order.once e b in
-          let w = some_index (pieces_marks pieces) e (omega (arith, one)) in
+          let w = place_of e (pieces_marks pieces) (times-in e (pieces_marks pieces) (omega (arith, one))) in
           let m = place_mark lines w.0 e (ap (λ (es : List ℕ). slice_get es w.0) marks ∙ w.1) in
           let piece = piece_of pieces m.0 e (subst (λ (ls : List RunLine). MarksAt ls m.0 e) h.lines m.1) in
           record {
             line = m.0;
             marked = m.1;
-            once = λ i there. same_line lines e i m.0 there m.1 (at_once (pieces_marks pieces) e (place lines i) (place lines m.0) one (at_mark i e there) (at_mark m.0 e m.1));
+            once = λ i there. same_line lines e i m.0 there m.1 (once_at (pieces_marks pieces) e (place lines i) (place lines m.0) one (at_mark i e there) (at_mark m.0 e m.1));
             happens = subst (HappensAt h.first h.later event) (sym (ap (λ (ls : List RunLine). steps_before ls m.0) h.lines ∙ piece.steps)) (h.happens piece.number e piece.piece event piece.at piece.member at);
           };
       in_order = λ e f i event at bit there.

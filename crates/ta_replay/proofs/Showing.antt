@@ -1,6 +1,6 @@
 -- the configurations of a run that shows a pattern, and their values
-use Rattle.ta_replay.proofs.Common.{◌≡◌, ℕ, zero, suc, ◌+◌, ◌<◌, ◌≤◌, ℤ, pos, ◌+ℤ◌, ◌*ℤ◌, List, [], ◌∷◌, ◌++◌, length, take, drop, map, replicate, unsigned_abs, arith, sym, ap, ◌∙◌, refl, subst, slice_get, get_or, Some, length-append, append_assoc, ints, ext_get_or, get_or-take, length-map, length-replicate, same_Some, AllByRecursion, each_take, abs_natural, distributes_right, one_times, get_or-pos, slice_get_left, some_at, take_next, point_of, Automaton, Pattern, location_place, rule_change, At, Initial, Steps, value_at, total, Whole, fits_after, move_at, value_at-parameter, value_at-shared, value_at-location, total-append, run_length, model_of, places_of, StartsAt, Fires, naturals_at, model_at, model_whole, same_model, starts_natural, Run, RunLine, Step, Mark, LineFits, unit_steps, steps_before, ShowsPattern, ValuesAfter, line_change, FitsPattern, length-take-le, take-append-drop, append-nil, take-append_seam, take-length}
-use Rattle.std.proofs.Math.IntN.{zero-*ℤ}
+use Rattle.ta_replay.proofs.Common.{◌≡◌, ℕ, ◌+◌, ◌<◌, ◌≤◌, ℤ, pos, ◌+ℤ◌, ◌*ℤ◌, List, [], ◌∷◌, ◌++◌, length, take, drop, map, replicate, unsigned_abs, arith, sym, ap, ◌∙◌, refl, subst, slice_get, get_or, Some, length-append, append_assoc, ints, ext_get_or, get_or-take, length-map, length-replicate, same_Some, AllByRecursion, each_take, abs_natural, get_or-pos, slice_get_left, some_at, take_next, point_of, Automaton, Pattern, location_place, rule_change, At, Initial, Steps, value_at, total, Whole, fits_after, move_at, value_at-parameter, value_at-shared, value_at-location, total-append, run_length, model_of, places_of, StartsAt, Fires, naturals_at, model_at, model_whole, same_model, starts_natural, Run, RunLine, Step, Mark, LineFits, unit_steps, steps_before, ShowsPattern, ValuesAfter, line_change, FitsPattern, length-take-le, take-append-drop, append-nil, take-append_seam, take-length}
+use Rattle.ta_base.proofs.Totals.{total-replicate}
 use Rattle.ta_automaton.specs.Runs as runs
 use Rattle.ta_automaton.proofs.Moves.{Fits}
 use Rattle.ta_automaton.proofs.RunLaws.{along, first_fits, fits_at}
@@ -55,13 +55,6 @@ changed a c rules later steps fits k d at place =
     let g = fits_after a r b x f step in
     omega (arith, ints, h g, move_at a r b x f g step place))
     c rules later steps k d at fits
-
-pub total-replicate : (f : ℕ → ℤ) (k r : ℕ) → total f (replicate k r) ≡ (pos k *ℤ f r)
-unfolding total
-total-replicate f zero r = sym (zero-*ℤ (f r))
-total-replicate f (suc k) r =
-    let e : pos (suc k) ≡ (pos 1 +ℤ pos k) = omega (arith, ints) in
-    omega (arith, ints, total-replicate f k r, ap (λ z. z *ℤ f r) e, distributes_right (pos 1) (pos k) (f r), one_times (f r))
 
 -- what lines change
 pub lines-change : (a : Automaton) (p : Pattern) (place : ℕ) (lines : List RunLine) → AllByRecursion (LineFits a p) lines → total (λ r. rule_change a (slice_get a.rules r) place) (unit_steps lines) ≡ total (line_change a place) lines

@@ -1,23 +1,8 @@
 -- A text is that of a run, or has a first fault at a line.
-use Rattle.ta_replay.proofs.Common.{◌≡◌, ◌≢◌, ◌⊎◌, ℕ, zero, suc, ◌+◌, ◌<◌, List, [], ◌∷◌, ◌++◌, length, inl, inr, ⊎_elim, refl, sym, ap, ◌∙◌, append_assoc, append-nil, length-append, arith, cases_eq, File, Run, Fits, run_lines, lines_text, LinesGoOn, IsTrailingRun, IsUnfinishedRun, IsMisformed, Avoids}
+use Rattle.ta_replay.proofs.Common.{◌≡◌, ◌⊎◌, ℕ, zero, suc, ◌+◌, ◌<◌, List, [], ◌∷◌, ◌++◌, length, inl, inr, ⊎_elim, refl, sym, ap, ◌∙◌, append_assoc, append-nil, length-append, arith, File, Run, Fits, run_lines, lines_text, LinesGoOn, IsTrailingRun, IsUnfinishedRun, IsMisformed, Avoids, SplitAt}
+use Rattle.ta_base.proofs.ByteLists.{split_or}
 use Rattle.ta_replay.specs.declared.fault.RunFault.TheVariants as fault
 use Rattle.ta_replay.specs.Answers.{HasRunText, HasTextFault}
-
--- the bytes before the first line feed, and what stands behind it
-record Cut (bytes : List ℕ) : Type 0 where
-  line : List ℕ
-  no_feed : Avoids 10 line
-  behind : List ℕ
-  split : bytes ≡ line ++ (10 ∷ behind)
-
-cut : (bytes : List ℕ) → Avoids 10 bytes ⊎ Cut bytes
-cut [] = inl tt
-cut (b ∷ bytes) = by (cases_eq b 10) (cut bytes)
-  where
-    by : (b ≡ 10) ⊎ (b ≢ 10) → Avoids 10 bytes ⊎ Cut bytes → Avoids 10 (b ∷ bytes) ⊎ Cut (b ∷ bytes)
-    by (inl e) c = inr (record { line = []; no_feed = tt; behind = bytes; split = ap (λ (x : ℕ). x ∷ bytes) e })
-    by (inr ne) (inl none) = inl (ne, none)
-    by (inr ne) (inr c) = inr (record { line = b ∷ c.line; no_feed = (ne, c.no_feed); behind = c.behind; split = ap (λ (x : List ℕ). b ∷ x) c.split })
 
 lines_push : (ls : List (List ℕ)) (line behind : List ℕ) → lines_text ls ++ (line ++ (10 ∷ behind)) ≡ lines_text (ls ++ line ∷ []) ++ behind
 lines_push [] line behind = sym (append_assoc line (10 ∷ []) behind)
@@ -43,34 +28,34 @@ module _ (file : File) (bytes : List ℕ) (no_run : ¬ HasRunText file bytes) (n
   going (suc n) ls left few text begun =
       ⊎_elim
       (λ (none : Avoids 10 left). malformed ls left text (inr (inl (record { begun = begun; no_feed = none }))))
-      (λ (c : Cut left).
-      let here : bytes ≡ lines_text ls ++ (c.line ++ (10 ∷ c.behind)) = text ∙ ap (λ (x : List ℕ). lines_text ls ++ x) c.split in
-      let after : bytes ≡ lines_text (ls ++ c.line ∷ []) ++ c.behind = here ∙ lines_push ls c.line c.behind in
-      let shorter : length c.behind < n = omega (arith, ap length c.split, length-append c.line (10 ∷ c.behind)) in
+      (λ (c : (line : List ℕ) × (behind : List ℕ) × SplitAt 10 left line behind).
+      let here : bytes ≡ lines_text ls ++ (c.0 ++ (10 ∷ c.1)) = text ∙ ap (λ (x : List ℕ). lines_text ls ++ x) c.2.split in
+      let after : bytes ≡ lines_text (ls ++ c.0 ∷ []) ++ c.1 = here ∙ lines_push ls c.0 c.1 in
+      let shorter : length c.1 < n = omega (arith, ap length c.2.split, length-append c.0 (10 ∷ c.1)) in
       malformed ls left text (inr (inr (record {
-        line = c.line;
-        behind = c.behind;
+        line = c.0;
+        behind = c.1;
         begun = begun;
-        next = c.split;
-        no_feed = c.no_feed;
+        next = c.2.split;
+        no_feed = c.2.first;
         other = λ form.
             no_fault (
               fault.Name (length ls + 1),
               (λ e. cc),
               record {
                 ls = ls;
-                line = c.line;
-                behind = c.behind;
+                line = c.0;
+                behind = c.1;
                 text = here;
                 begun = begun;
                 form = form;
                 unnamed = λ run later fits lines.
-                    named (ls ++ c.line ∷ []) c.behind run later fits (lines ∙ sym (append_assoc ls (c.line ∷ []) later)) after (λ on. going n (ls ++ c.line ∷ []) c.behind shorter after on);
+                    named (ls ++ c.0 ∷ []) c.1 run later fits (lines ∙ sym (append_assoc ls (c.0 ∷ []) later)) after (λ on. going n (ls ++ c.0 ∷ []) c.1 shorter after on);
                 place = refl;
               },
             );
       }))))
-      (cut left)
+      (split_or 10 left)
 
   pub text_answers : ⊥
   text_answers = going (suc (length bytes)) [] bytes (omega arith) refl (inl refl)

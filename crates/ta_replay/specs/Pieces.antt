@@ -5,9 +5,9 @@ use Rattle.ta_automaton.specs.declared.automaton.Automaton.{Automaton}
 use Rattle.ta_automaton.specs.declared.pattern.Event.{Event}
 use Rattle.ta_automaton.specs.declared.pattern.Pattern.{Pattern}
 use Rattle.ta_base.specs.Masks.{In}
+use Rattle.ta_base.specs.Sums.{times_in}
 use Rattle.ta_automaton.specs.Runs as runs
 use Rattle.ta_automaton.specs.Runs.{At, HappensAt, Holds}
-use Rattle.ta_automaton.specs.Sums.{times_in}
 use Rattle.ta_pattern.specs.Empty.{KeepsEmpty}
 use Rattle.ta_replay.specs.declared.run.Run.{Run}
 use Rattle.ta_replay.specs.declared.run.RunLine.{RunLine}

@@ -1,5 +1,6 @@
 -- The numbers of a replay, and its lines' checks (this project's profile)
 use Rattle.std.specs.Prelude.{ℕ, ℤ, pos, ◌<◌, ◌≡◌, ◌+ℤ◌, ◌*ℤ◌, List, length, take, slice_get, Some, IsBitSet}
+use Rattle.ta_base.specs.Sums.{total}
 use Rattle.ta_linear.specs.Numbers.{InRange}
 use Rattle.ta_linear.specs.Sums.{StaysInRange}
 use Rattle.ta_linear.specs.Values.{point_of}
@@ -12,7 +13,6 @@ use Rattle.ta_automaton.specs.declared.pattern.Event.{Event}
 use Rattle.ta_automaton.specs.declared.pattern.Pattern.{Pattern}
 use Rattle.ta_automaton.specs.declared.file.File.{File}
 use Rattle.ta_automaton.specs.Places.{location_place, rule_change}
-use Rattle.ta_automaton.specs.Sums.{total}
 use Rattle.ta_counter.specs.Checks.{AllPass, ConditionPasses}
 use Rattle.ta_counter.specs.Configs.{sum_of}
 use Rattle.ta_counter.specs.Starts.{StartsAt, MayStart, ProcessesStay}

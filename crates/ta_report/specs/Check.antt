@@ -18,9 +18,6 @@ abbrev pub proofs_told : Bool → List ℕ → ℕ → List Pattern → List ℕ
 proofs_told rest numbers number [] = []
 proofs_told rest numbers number (p ∷ ps) = (codes "pattern " ++ (p.name ++ (codes ": " ++ (word_told rest numbers number ++ codes "\n")))) ++ proofs_told rest numbers (number + 1) ps
 
-abbrev pub proof_lines : List ℕ → ℕ → List Pattern → List ℕ
-proof_lines numbers number ps = proofs_told false numbers number ps
-
 -- the text that says which patterns of a file are proved
 abbrev pub proofs_text : Bool → File → List ℕ → List ℕ
 proofs_text rest file numbers = (codes "automaton " ++ (file.automaton.name ++ codes "\n")) ++ proofs_told rest numbers 0 file.patterns

@@ -1,5 +1,5 @@
 -- The names that the proofs of this crate cite, passed on from one place. Declares nothing.
-pub use Rattle.std.proofs.Common.{All, Bool, IsBitSet, List, None, Option, Some, [], add-mul, ap, append_assoc, arith, cond, drop, eqb, eqb-true, false, get_or, inl, inr, length, length-append, map, not, pos, refl, reverse, slice_get, subst, suc, sum, sym, take, true, zero, ℕ, ℤ, ◌&&◌, ◌*ℤ◌, ◌*◌, ◌++◌, ◌+◌, ◌-◌, ◌<◌, ◌^◌, ◌↔◌, ◌∙◌, ◌∷◌, ◌≡◌, ◌≢◌, ◌≤ℤ◌, ◌≤◌, ◌⊎◌}
+pub use Rattle.std.proofs.Common.{All, Bool, IsBitSet, List, None, Option, Some, [], ap, append_assoc, arith, cond, drop, eqb, eqb-true, false, get_or, inl, inr, length, length-append, map, not, pos, refl, reverse, slice_get, subst, suc, sum, sym, take, true, zero, ℕ, ℤ, ◌&&◌, ◌*ℤ◌, ◌*◌, ◌++◌, ◌+◌, ◌-◌, ◌<◌, ◌^◌, ◌↔◌, ◌∙◌, ◌∷◌, ◌≡◌, ◌≢◌, ◌≤ℤ◌, ◌≤◌, ◌⊎◌}
 pub use Rattle.std.proofs.lemmas.Bool.{and_from, and_parts, cases_Bool, cases_lt, eq-eqb, false≢true, not-false, not-true, not_from_false, true≢false}
 pub use Rattle.std.proofs.lemmas.Bool.Decides.{eqb_tells, nat_tests}
 pub use Rattle.std.proofs.lemmas.Int.{ints}
@@ -22,7 +22,7 @@ pub use Rattle.ta_base.proofs.Bits.{all_below-at, all_below-false, all_below-fro
 pub use Rattle.ta_base.proofs.Booleans.{implies-at, implies-from}
 pub use Rattle.ta_base.proofs.Lists.{at_most_first, get_end, push_cases, slice_get_left, some_at}
 pub use Rattle.ta_base.proofs.Members.{In-filter, cond_child, in_filter}
-pub use Rattle.ta_base.proofs.Naturals.{item_moves, not_same}
+pub use Rattle.ta_base.proofs.Naturals.{not_same}
 pub use Rattle.ta_base.specs.Lists.{Distinct, EachFrom}
 pub use Rattle.ta_base.specs.Masks.{In, all_below, has_bit, implies}
 pub use Rattle.ta_encode.proofs.Moments.{AllHold-append, AllHold-left, Moment, RowFails, guards_fail, opposite_value}

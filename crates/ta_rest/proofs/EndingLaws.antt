@@ -1,5 +1,6 @@
 -- a run comes to rest for a pattern as it does for the pattern's ending
 use Rattle.ta_rest.proofs.Common.{◌≡◌, ◌⊎◌, inl, inr, ℕ, zero, suc, ◌+◌, ◌^◌, ◌<◌, ◌≤◌, List, [], ◌∷◌, ◌++◌, length, length-append, arith, sym, ap, ◌∙◌, refl, subst, slice_get, get_or, Some, IsBitSet, All, cases_lt, pow_pos, slice_get_within, slice_get-get_or, same_Some, bit_below, no_bit, at_most_first, get_end, push_cases, slice_get_left, some_at, Comparison, Condition, Automaton, Event, Pattern, Config, Holds, Occurs, value_at, RowHolds, run_length, IsEnding, LastMoved, RestAdded, events_below, EndingsRestAlike, ComeAfterEarlier, RestOccurs}
+use Rattle.std.proofs.lemmas.List.{get_or_past}
 
 -- patterns whose events have the same conditions and, but for the last, come after the same events
 record Alike (p q : Pattern) : Type 0 where
@@ -17,12 +18,8 @@ positions_within a p first rules o f = elim (cases_lt f (length o.positions)) [
       let h = o.happens f event.0 (get_or o.positions f 0) event.1 at in
       let within = slice_get_within (first ∷ o.later) (get_or o.positions f 0) h.0 h.1 in
       omega (arith, run_length a first rules o.later o.run.steps))
-  | inr c ↦ omega (arith, beyond o.positions f c)
-] where
-  beyond : (xs : List ℕ) (f : ℕ) → length xs ≤ f → get_or xs f 0 ≡ 0
-  beyond [] f c = refl
-  beyond (x ∷ xs) zero c = absurd (omega arith)
-  beyond (x ∷ xs) (suc f) c = beyond xs f (omega arith)
+  | inr c ↦ omega (arith, get_or_past o.positions f 0 c)
+]
 
 alike_rests : (a : Automaton) (p q : Pattern) → Alike p q → (first : Config) (rules : List ℕ) → RestOccurs a p first rules → RestOccurs a q first rules
 alike_rests a p q h first rules o =

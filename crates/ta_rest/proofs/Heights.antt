@@ -1,5 +1,7 @@
 -- where every cycle is a self-loop, each location has a height: the most rules that lead on from it, one after another, to other locations
-use Rattle.ta_rest.proofs.Common.{◌≡◌, ◌≢◌, ◌⊎◌, inl, inr, ℕ, zero, suc, ◌+◌, ◌<◌, ◌≤◌, List, [], ◌∷◌, length, eqb, cond, not, ◌&&◌, Bool, true, false, arith, sym, ap, ◌∙◌, refl, subst, slice_get, Some, eqb-true, cases_Bool, and_parts, nat_tests, AllByRecursion, not_same, Rule, Automaton, Distinct, In, Walk, from_within, to_within, LoopsAlone}
+use Rattle.ta_rest.proofs.Common.{◌≡◌, ◌≢◌, inl, inr, ℕ, zero, suc, ◌+◌, ◌<◌, ◌≤◌, List, [], ◌∷◌, length, eqb, cond, not, ◌&&◌, Bool, true, false, arith, sym, ap, ◌∙◌, refl, subst, slice_get, Some, eqb-true, cases_Bool, and_parts, nat_tests, AllByRecursion, not_same, Rule, Automaton, Distinct, In, Walk, from_within, to_within, LoopsAlone}
+use Rattle.std.proofs.Common.{max}
+use Rattle.ta_base.proofs.Naturals.{max_is, max_left, max_right}
 use Rattle.ta_base.proofs.Each.{distinct_length, each_from_in}
 
 -- rules that lead on, one after another, each to another location
@@ -42,27 +44,6 @@ few_lead_on a alone x rs m b =
     let short = distinct_length (length a.locations) (visited a x rs m) (visited_distinct a alone x rs m) (visited_below a x rs m b) in
     omega (arith, visited_length a x rs m)
 
--- the greater of two numbers
-abbrev pub greater : ℕ → ℕ → ℕ
-greater zero n = n
-greater (suc m) zero = suc m
-greater (suc m) (suc n) = suc (greater m n)
-
-greater_left : (m n : ℕ) → m ≤ greater m n
-greater_left zero n = omega arith
-greater_left (suc m) zero = omega arith
-greater_left (suc m) (suc n) = let h = greater_left m n in omega arith
-
-greater_right : (m n : ℕ) → n ≤ greater m n
-greater_right zero n = omega arith
-greater_right (suc m) zero = omega arith
-greater_right (suc m) (suc n) = let h = greater_right m n in omega arith
-
-greater_is : (m n : ℕ) → (greater m n ≡ m) ⊎ (greater m n ≡ n)
-greater_is zero n = inr refl
-greater_is (suc m) zero = inl refl
-greater_is (suc m) (suc n) = elim (greater_is m n) [ inl e ↦ inl (ap suc e) | inr e ↦ inr (ap suc e) ]
-
 -- whether a rule leads from a location to another
 abbrev pub leads_on : ℕ → Rule → Bool
 leads_on l rule = eqb rule.from l && not (eqb rule.from rule.to)
@@ -70,7 +51,7 @@ leads_on l rule = eqb rule.from l && not (eqb rule.from rule.to)
 -- one more than the greatest height to which one of some rules leads on, 0 if none does
 unfoldable pub best : (ℕ → ℕ) → ℕ → List Rule → ℕ
 best h l [] = 0
-best h l (rule ∷ rules) = greater (cond (leads_on l rule) (suc (h rule.to)) 0) (best h l rules)
+best h l (rule ∷ rules) = max (cond (leads_on l rule) (suc (h rule.to)) 0) (best h l rules)
 
 -- the most rules that lead on from a location, up to a number of them
 unfoldable pub height : Automaton → ℕ → ℕ → ℕ
@@ -86,9 +67,9 @@ best_over h l [] r rule named here apart = absurd (cc)
 best_over h l (first ∷ rules) zero rule named here apart =
     let same : first ≡ rule = cc in
     let mine : cond (leads_on l first) (suc (h first.to)) 0 ≡ suc (h rule.to) = ap (λ (q : Rule). cond (leads_on l q) (suc (h q.to)) 0) same ∙ ap (λ b. cond b (suc (h rule.to)) 0) (leads_true l rule here apart) in
-    omega (arith, mine, greater_left (cond (leads_on l first) (suc (h first.to)) 0) (best h l rules))
+    omega (arith, mine, max_left (cond (leads_on l first) (suc (h first.to)) 0) (best h l rules))
 best_over h l (first ∷ rules) (suc r) rule named here apart =
-    omega (arith, best_over h l rules r rule named here apart, greater_right (cond (leads_on l first) (suc (h first.to)) 0) (best h l rules))
+    omega (arith, best_over h l rules r rule named here apart, max_right (cond (leads_on l first) (suc (h first.to)) 0) (best h l rules))
 
 -- as many rules lead on
 abbrev pub Attained : Automaton → ℕ → ℕ → Type 0
@@ -105,11 +86,13 @@ best_attained a h each l k (rule ∷ rules) named =
           let on = each rule.to in
           let at : slice_get a.rules k ≡ Some rule = subst (λ n. slice_get a.rules n ≡ Some rule) (let e : k + 0 ≡ k = omega arith in e) (named 0 rule refl) in
           let longer : Attained a l (suc (h rule.to)) = (k ∷ on.0, (rule, at, eqb-true rule.from l parts.0, not_same rule.from rule.to parts.1, on.1), ap suc on.2) in
-          elim (greater_is (suc (h rule.to)) (best h l rules)) [
-            | inl e ↦ subst (Attained a l) (sym (ap (λ b. greater (cond b (suc (h rule.to)) 0) (best h l rules)) t ∙ e)) longer
-            | inr e ↦ subst (Attained a l) (sym (ap (λ b. greater (cond b (suc (h rule.to)) 0) (best h l rules)) t ∙ e)) others
+          elim (max_is (suc (h rule.to)) (best h l rules)) [
+            | inl e ↦ subst (Attained a l) (sym (ap (λ b. max (cond b (suc (h rule.to)) 0) (best h l rules)) t ∙ e)) longer
+            | inr e ↦ subst (Attained a l) (sym (ap (λ b. max (cond b (suc (h rule.to)) 0) (best h l rules)) t ∙ e)) others
           ])
-      | inr f ↦ subst (Attained a l) (sym (ap (λ b. greater (cond b (suc (h rule.to)) 0) (best h l rules)) f)) others
+      | inr f ↦
+          let none : max 0 (best h l rules) ≡ best h l rules = grind (arith, nat_tests) in
+          subst (Attained a l) (sym (ap (λ b. max (cond b (suc (h rule.to)) 0) (best h l rules)) f ∙ none)) others
     ]
 
 height_attained : (a : Automaton) (fuel l : ℕ) → Attained a l (height a fuel l)

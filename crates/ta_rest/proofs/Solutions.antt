@@ -2,7 +2,7 @@
 use Rattle.ta_rest.proofs.Common.{◌≡◌, ◌≢◌, inl, inr, ℕ, ◌+◌, ◌<◌, ◌≤◌, ℤ, pos, ◌≤ℤ◌, List, [], ◌∷◌, ◌++◌, map, length, eqb, cond, Bool, true, false, not, arith, sym, ap, ◌∙◌, refl, subst, slice_get, get_or, Some, None, Option, IsBitSet, filter, ints, false≢true, true≢false, cases_Bool, and_parts, and_from, not-true, not_from_false, eqb_tells, slice_get_within, same_Some, all_below-at, all_below-from, at_set, bit_set, implies-from, some_at, In-filter, value_of, RowHolds, Row, Rule, Automaton, Pattern, has_bit, all_below, implies, range_with_len, In, Whole, location_place, Config, Move, value_at, Fits, value_at-location, from_within, Element, LegalWord, children, follows, has_event, has_fallen, has_rise, is_complete, RunsThrough, WordFires, position_in, steps_of, AllHold, counter_row, guard_rows, negated, opposite, row_value, word_rows, meanings, start_meanings, AllHold-left, RowFails, opposite_value, take_apart, ComesLast, events_below, EndsOfSolutionsRest, SolutionsComeToRest, StepsOfSolutionsRest, AtRest, end_rows, leads_out, must_be_left, rest_rows, some_below, Event as PatternEvent}
 use Rattle.std.proofs.lemmas.Nat.Bits.{bit_at_ones}
 use Rattle.ta_base.proofs.Ranges.{In-numbers, at_index}
-use Rattle.ta_automaton.proofs.Sums.{terms_value-same}
+use Rattle.ta_linear.proofs.TermLemmas.{terms_value-same}
 use Rattle.ta_words.specs.declared.element.Element.TheVariants.{Event, Rise, Fall}
 use Rattle.ta_encode.proofs.Fallen.{fallen_fail, guard_fails}
 use Rattle.ta_encode.proofs.Prefixes.{prefix_fewer}

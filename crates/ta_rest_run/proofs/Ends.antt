@@ -1,10 +1,10 @@
 -- runs with the same start and the same steps have the same end
 use Rattle.ta_rest_run.proofs.Common.{◌≡◌, inl, inr, ℕ, List, arith, sym, ap, ◌∙◌, get_or, ext_get_or, Automaton, At, Config, Initial, Run, IsFirstConfig}
+use Rattle.ta_base.proofs.Members.{contains_or, in_of, place_of}
 use Rattle.ta_base.proofs.Integers.{pos_same}
 use Rattle.ta_automaton.specs.Places.{Whole}
 use Rattle.ta_automaton.specs.Runs as runs
 use Rattle.ta_automaton.proofs.RunLaws.{counters_by_firings, parameters_stay, shared_by_firings}
-use Rattle.ta_counter.proofs.Starting.{in_or_not, not_contained}
 use Rattle.ta_replay.proofs.Showing.{first_whole}
 use Rattle.ta_rest.proofs.Resting.{whole_at}
 
@@ -16,9 +16,9 @@ pub record SameStart (c d : Config) : Type 0 where
 pub begins_same : (a : Automaton) (run : Run) (c d : Config) → Initial a c → Initial a d → IsFirstConfig a run c → IsFirstConfig a run d → SameStart c d
 begins_same a run c d i j b e = record {
   parameters = b.parameters ∙ sym e.parameters;
-  counters = λ l. elim (in_or_not a.initial l) [
-    | inl w ↦ b.counts w.0 l w.1 ∙ sym (e.counts w.0 l w.1)
-    | inr none ↦ i.others_empty l (not_contained a.initial l none) ∙ sym (j.others_empty l (not_contained a.initial l none))
+  counters = λ l. elim (contains_or l a.initial) [
+    | inl is ↦ let w = place_of l a.initial (in_of a.initial l is) in b.counts w.0 l w.1 ∙ sym (e.counts w.0 l w.1)
+    | inr none ↦ i.others_empty l none ∙ sym (j.others_empty l none)
   ];
 }
 

@@ -1,43 +1,14 @@
 -- arranged steps are of existing rules, each at most once, and no rule fires more often than its count
-use Rattle.ta_scope.proofs.Common.{◌≡◌, ◌⊎◌, inl, inr, ℕ, ◌+◌, ◌<◌, ◌≤◌, ℤ, pos, ◌≤ℤ◌, List, [], ◌∷◌, ◌++◌, map, length, Bool, true, arith, sym, ap, ◌∙◌, refl, subst, slice_get, Some, filter, cases_Bool, eqb_tells, map-append, slice_get_within, same_Some, AllByRecursion, each_append, each_listed, filter_false, filter_true, Rule, Automaton, In, range_with_len, times_in, from_within, count_at, is_step_from, steps_along, ArrangedStepsAreWithin, StepsWithin, steps_from}
-use Rattle.ta_scope.proofs.Circulations.{Rest, rest_same, rest_all, numbers_once}
+use Rattle.ta_scope.proofs.Common.{◌≡◌, inl, inr, ℕ, ◌<◌, ◌≤◌, ℤ, pos, ◌≤ℤ◌, List, [], ◌∷◌, map, length, arith, sym, ap, ◌∙◌, subst, slice_get, Some, filter, eqb_tells, map-append, slice_get_within, same_Some, AllByRecursion, each_append, each_listed, Rule, Automaton, In, in_or, range_with_len, times_in, from_within, count_at, is_step_from, steps_along, ArrangedStepsAreWithin, StepsWithin, steps_from}
+use Rattle.ta_base.proofs.Lists.{firsts}
+use Rattle.ta_base.proofs.Members.{in_filter}
+use Rattle.ta_base.proofs.Times.{times-append, times-filter, times-none, times-numbers}
+use Rattle.ta_scope.proofs.Circulations.{Rest, rest_same, rest_all}
 use Rattle.ta_scope.proofs.Listing.{StepFrom, step_from}
 
 -- the rule of a step
 abbrev rule_of : (ℕ × ℤ) → ℕ
 rule_of step = step.0
-
-pub times-append : (r : ℕ) (xs ys : List ℕ) → times_in r (xs ++ ys) ≡ times_in r xs + times_in r ys
-unfolding times_in
-times-append r [] ys = omega arith
-times-append r (x ∷ xs) ys = omega (arith, times-append r xs ys)
-
-none_or : (r : ℕ) (xs : List ℕ) → (times_in r xs ≡ 0) ⊎ In r xs
-unfolding times_in
-none_or r [] = inl refl
-none_or r (x ∷ xs) = elim (eqb_tells x r) [
-  | inl e ↦ inr (inl (sym e.1))
-  | inr ne ↦ elim (none_or r xs) [ inl h ↦ inl (rw ne.0 (omega (arith, h))) | inr h ↦ inr (inr h) ]
-]
-
--- the rules of a list that pass a test, with their counts
-in_listed : (t : ℕ → Bool) (count : ℕ → ℤ) (ns : List ℕ) (r : ℕ) → In r (map rule_of (map {B = ℕ × ℤ} (λ q. (q, count q)) (filter t ns))) → t r ≡ true
-in_listed t count [] r i = absurd i
-in_listed t count (n ∷ ns) r i = elim (cases_Bool (t n)) [
-  | inl e ↦ elim (subst (λ (xs : List ℕ). In r (map rule_of (map {B = ℕ × ℤ} (λ q. (q, count q)) xs))) (filter_true t n ns e) i) [
-    | inl s ↦ ap t s ∙ e
-    | inr j ↦ in_listed t count ns r j
-  ]
-  | inr e ↦ in_listed t count ns r (subst (λ (xs : List ℕ). In r (map rule_of (map {B = ℕ × ℤ} (λ q. (q, count q)) xs))) (filter_false t n ns e) i)
-]
-
-fewer_listed : (t : ℕ → Bool) (count : ℕ → ℤ) (ns : List ℕ) (r : ℕ) → times_in r (map rule_of (map {B = ℕ × ℤ} (λ q. (q, count q)) (filter t ns))) ≤ times_in r ns
-unfolding times_in
-fewer_listed t count [] r = omega arith
-fewer_listed t count (n ∷ ns) r = elim (cases_Bool (t n)) [
-  | inl e ↦ rw (filter_true t n ns e) (omega (arith, fewer_listed t count ns r))
-  | inr e ↦ rw (filter_false t n ns e) (omega (arith, fewer_listed t count ns r))
-]
 
 -- what holds of each rule that leaves a location with a count above 0 holds of each step along an order
 each_along : (P : (ℕ × ℤ) → Type 0) (a : Automaton) (counts : List ℤ) (ls : List ℕ) → ((l r : ℕ) → StepFrom a counts l r → P (r, count_at counts r)) → AllByRecursion P (steps_along a counts ls)
@@ -53,14 +24,15 @@ unfolding times_in
 from_source a counts r rule named l =
     let t = is_step_from a counts l in
     let ns = range_with_len 0 (length a.rules) in
-    let most = fewer_listed t (count_at counts) ns r in
-    let once = numbers_once r 0 (length a.rules) (omega arith) (let b = slice_get_within a.rules r rule named in omega arith) in
-    elim (none_or r (map rule_of (steps_from a counts l (length a.rules)))) [
-      | inl none ↦ omega (arith, none)
-      | inr i ↦ (
-          let s = step_from a counts l r (in_listed t (count_at counts) ns r i) in
+    let listed = firsts (count_at counts) (filter t ns) in
+    let same = ap (times_in r) listed in
+    let once = times-numbers r 0 (length a.rules) (omega arith) (let b = slice_get_within a.rules r rule named in omega arith) in
+    elim (in_or r (map rule_of (steps_from a counts l (length a.rules)))) [
+      | inr none ↦ omega (arith, times-none r (map rule_of (steps_from a counts l (length a.rules))) none)
+      | inl i ↦ (
+          let s = step_from a counts l r (in_filter t r ns (subst (In r) listed i)).0 in
           let from : rule.from ≡ l = ap (λ (x : Rule). x.from) (same_Some rule s.rule (sym named ∙ s.named)) ∙ s.from in
-          elim (eqb_tells l rule.from) [ inl e ↦ rw e.0 (omega (arith, most, once)) | inr ne ↦ absurd (ne.1 (sym from)) ])
+          elim (eqb_tells l rule.from) [ inl e ↦ rw e.0 (omega (arith, same, times-filter t r ns, once)) | inr ne ↦ absurd (ne.1 (sym from)) ])
     ]
 
 along_once : (a : Automaton) (counts : List ℤ) (r : ℕ) (rule : Rule) → slice_get a.rules r ≡ Some rule → (ls : List ℕ) → times_in r (map rule_of (steps_along a counts ls)) ≤ times_in rule.from ls
@@ -83,9 +55,9 @@ arranged_within a scope counts natural steps s =
     let rules = each_along (λ (step : ℕ × ℤ). (rule : Rule) × (slice_get a.rules step.0 ≡ Some rule)) a s.rest s.order (λ l r f. (f.rule, f.named)) in
     let along : StepsWithin a counts (steps_along a s.rest s.order) = record {
       exist = each_along (λ (step : ℕ × ℤ). step.0 < length a.rules) a s.rest s.order (λ l r f. slice_get_within a.rules r f.rule f.named);
-      once = λ r. elim (none_or r (map rule_of (steps_along a s.rest s.order))) [
-        | inl none ↦ omega (arith, none)
-        | inr i ↦ (
+      once = λ r. elim (in_or r (map rule_of (steps_along a s.rest s.order))) [
+        | inr none ↦ omega (arith, times-none r (map rule_of (steps_along a s.rest s.order)) none)
+        | inl i ↦ (
             let w = in_steps a s.rest r (steps_along a s.rest s.order) rules i in
             omega (arith, along_once a s.rest r w.0 w.1 s.order, s.ordered.each_once (w.0).from (from_within a r w.0 w.1)))
       ];

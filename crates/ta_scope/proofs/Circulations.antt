@@ -1,43 +1,13 @@
 -- taking circulations out leaves natural counts with the same end
-use Rattle.ta_scope.proofs.Common.{◌≡◌, ◌⊎◌, inl, inr, ℕ, zero, suc, ◌+◌, ◌<◌, ◌≤◌, ℤ, pos, ◌+ℤ◌, ◌*ℤ◌, ◌≤ℤ◌, List, [], ◌∷◌, length, arith, sym, ap, ◌∙◌, refl, subst, IsBitSet, ints, eqb_tells, slice_get_within, *ℤ-zero, AllByRecursion, each_in, each_weaker, by_one, distributes, mul_left_comm, Automaton, Distinct, In, range_with_len, Walk, InScope, total, times_in, total-same, total-add, total-times, change_of, circuit_pure, NoCycle, IsLeastCycle, count_at, AreRuleCounts, Support, LeastCount, SubtractsFrom, TakenOut, AllTakenOut}
-use Rattle.ta_automaton.proofs.Fired.{EachOnce, firings}
+use Rattle.ta_scope.proofs.Common.{◌≡◌, inl, inr, ℕ, ◌+◌, ◌<◌, ◌≤◌, ℤ, pos, ◌+ℤ◌, ◌*ℤ◌, ◌≤ℤ◌, List, [], ◌∷◌, length, arith, sym, ap, ◌∙◌, refl, subst, IsBitSet, ints, slice_get_within, *ℤ-zero, AllByRecursion, each_in, each_weaker, by_one, distributes, mul_left_comm, Automaton, Distinct, in_or, range_with_len, Walk, InScope, total, times_in, total-same, total-add, total-times, change_of, circuit_pure, NoCycle, IsLeastCycle, count_at, AreRuleCounts, Support, LeastCount, SubtractsFrom, TakenOut, AllTakenOut}
+use Rattle.ta_base.proofs.Times.{EachOnce, times-distinct, times-none, times-numbers, total-by_times}
 use Rattle.ta_automaton.proofs.Circuits.{circuit_total}
 use Rattle.ta_scope.proofs.Taken.{sum_of, sum_less, counted}
 use Rattle.ta_scope.proofs.FirstPaths.{cycle_distinct, cycle_walk}
 
-pub none_times : (r : ℕ) (xs : List ℕ) → AllByRecursion (λ y. r ≡ y → ⊥) xs → times_in r xs ≡ 0
-unfolding times_in
-none_times r [] h = refl
-none_times r (y ∷ ys) h = elim (eqb_tells y r) [ inl e ↦ absurd (h.0 (sym e.1)) | inr ne ↦ rw ne.0 (omega (arith, none_times r ys h.1)) ]
-
--- a number is once in a list of distinct ones, or not at all
-pub in_times : (r : ℕ) (xs : List ℕ) → Distinct xs → (In r xs × (times_in r xs ≡ 1)) ⊎ ((In r xs → ⊥) × (times_in r xs ≡ 0))
-unfolding times_in
-in_times r [] d = inr ((λ i. i), refl)
-in_times r (x ∷ xs) d = elim (eqb_tells x r) [
-  | inl e ↦ inl (inl (sym e.1), rw e.0 (omega (arith, none_times r xs (subst (λ z. AllByRecursion (λ y. z ≡ y → ⊥) xs) e.1 d.0))))
-  | inr ne ↦ elim (in_times r xs d.1) [
-    | inl w ↦ inl (inr w.0, rw ne.0 (let t = w.1 in omega arith))
-    | inr w ↦ inr ((λ i. elim i [ inl e ↦ ne.1 (sym e) | inr j ↦ w.0 j ]), rw ne.0 (let t = w.1 in omega arith))
-  ]
-]
-
-numbers_before : (r k n : ℕ) → r < k → times_in r (range_with_len k n) ≡ 0
-unfolding times_in
-numbers_before r k zero h = refl
-numbers_before r k (suc n) h = elim (eqb_tells k r) [ inl e ↦ absurd (let s = e.1 in omega arith) | inr ne ↦ rw ne.0 (omega (arith, numbers_before r (k + 1) n (omega arith))) ]
-
-pub numbers_once : (r k n : ℕ) → k ≤ r → r < k + n → times_in r (range_with_len k n) ≡ 1
-unfolding times_in
-numbers_once r k zero low high = absurd (omega arith)
-numbers_once r k (suc n) low high = elim (eqb_tells k r) [
-  | inl e ↦ rw e.0 (omega (arith, numbers_before r (k + 1) n (let s = e.1 in omega arith)))
-  | inr ne ↦ rw ne.0 (omega (arith, numbers_once r (k + 1) n (let s = ne.1 in omega arith) (omega arith)))
-]
-
 walk_once : (a : Automaton) (x : ℕ) (rs : List ℕ) (y : ℕ) → Walk a x rs y → EachOnce rs (range_with_len 0 (length a.rules))
 walk_once a x [] y w = tt
-walk_once a x (r ∷ rs) y w = (numbers_once r 0 (length a.rules) (omega arith) (let b = slice_get_within a.rules r w.0 w.1 in omega arith), walk_once a (w.0).to rs y w.3)
+walk_once a x (r ∷ rs) y w = (times-numbers r 0 (length a.rules) (omega arith) (let b = slice_get_within a.rules r w.0 w.1 in omega arith), walk_once a (w.0).to rs y w.3)
 
 -- what counts add at a place
 abbrev pub weighted : Automaton → List ℤ → ℕ → ℤ
@@ -45,9 +15,9 @@ weighted a counts i = total (λ r. change_of a i r *ℤ count_at counts r) (rang
 
 -- the counts before are those after and the amount for each rule of the cycle
 split_count : (a : Automaton) (before after : List ℤ) (t : TakenOut a before after) (r : ℕ) → count_at before r ≡ (count_at after r +ℤ (t.amount *ℤ pos (times_in r (t.number ∷ t.back))))
-split_count a before after t r = elim (in_times r (t.number ∷ t.back) (cycle_distinct a t.rules t.number t.back t.cycle)) [
-  | inl w ↦ rw w.1 (omega (arith, ints, t.subtracted.these r w.0, by_one t.amount))
-  | inr w ↦ rw w.1 (omega (arith, ints, t.subtracted.others r w.0, *ℤ-zero t.amount))
+split_count a before after t r = elim (in_or r (t.number ∷ t.back)) [
+  | inl is ↦ rw (times-distinct r (t.number ∷ t.back) (cycle_distinct a t.rules t.number t.back t.cycle) is) (omega (arith, ints, t.subtracted.these r is, by_one t.amount))
+  | inr none ↦ rw (times-none r (t.number ∷ t.back) none) (omega (arith, ints, t.subtracted.others r none, *ℤ-zero t.amount))
 ]
 
 -- a circulation changes nothing
@@ -57,7 +27,7 @@ taken_total a scope before after t i =
     let circuit = t.number ∷ t.back in
     let walk = cycle_walk a t.rules t.number t.back t.cycle in
     let none : total (change_of a i) circuit ≡ pos 0 = circuit_total a t.cycle.rule.from circuit walk (circuit_pure a scope t.cycle.rule.from circuit walk) i in
-    let times : total (λ r. change_of a i r *ℤ pos (times_in r circuit)) n ≡ pos 0 = firings (change_of a i) n circuit (walk_once a t.cycle.rule.from circuit t.cycle.rule.from walk) ∙ none in
+    let times : total (λ r. change_of a i r *ℤ pos (times_in r circuit)) n ≡ pos 0 = total-by_times (change_of a i) n circuit (walk_once a t.cycle.rule.from circuit t.cycle.rule.from walk) ∙ none in
     let scaled : total (λ r. change_of a i r *ℤ (t.amount *ℤ pos (times_in r circuit))) n ≡ pos 0 =
     total-same (λ r. change_of a i r *ℤ (t.amount *ℤ pos (times_in r circuit))) (λ r. t.amount *ℤ (change_of a i r *ℤ pos (times_in r circuit))) n (λ r. mul_left_comm (change_of a i r) t.amount (pos (times_in r circuit)))
     ∙ total-times t.amount (λ r. change_of a i r *ℤ pos (times_in r circuit)) n ∙ ap (λ z. t.amount *ℤ z) times ∙ *ℤ-zero t.amount in
@@ -75,14 +45,14 @@ amount_above a before after t =
     omega (arith, ints, t.least.is)
 
 taken_natural : (a : Automaton) (before after : List ℤ) → TakenOut a before after → ((r : ℕ) → pos 0 ≤ℤ count_at before r) → (r : ℕ) → (pos 0 ≤ℤ count_at after r) × (count_at after r ≤ℤ count_at before r)
-taken_natural a before after t natural r = elim (in_times r (t.number ∷ t.back) (cycle_distinct a t.rules t.number t.back t.cycle)) [
-  | inl w ↦ (
-      let these = t.subtracted.these r w.0 in
-      let least = t.least.least r w.0 in
+taken_natural a before after t natural r = elim (in_or r (t.number ∷ t.back)) [
+  | inl is ↦ (
+      let these = t.subtracted.these r is in
+      let least = t.least.least r is in
       let above = amount_above a before after t in
       (omega (arith, ints), omega (arith, ints)))
-  | inr w ↦ (
-      let others = t.subtracted.others r w.0 in
+  | inr none ↦ (
+      let others = t.subtracted.others r none in
       let was = natural r in
       (omega (arith, ints), omega (arith, ints)))
 ]

@@ -5,7 +5,7 @@ pub use Rattle.std.proofs.lemmas.Bool.{and_parts, cases_Bool, cases_lt, cases_or
 pub use Rattle.std.proofs.lemmas.Bool.Decides.{eqb_tells}
 pub use Rattle.std.proofs.lemmas.Int.{ints}
 pub use Rattle.std.proofs.lemmas.List.{get_or-set_other, get_or-set_same, get_or_append_left, get_or_past, get_or_push, map-append, take-append-le, take_all, take_at, take_more}
-pub use Rattle.std.proofs.lemmas.List.Elements.{Contains-append_left, Contains-append_right, filter-append}
+pub use Rattle.std.proofs.lemmas.List.Elements.{Contains-append_left, filter-append}
 pub use Rattle.std.proofs.lemmas.Nat.{le_or_l, one_shl, pow_pos}
 pub use Rattle.std.proofs.lemmas.Nat.Bits.{bit_at-pow_other, bit_at-pow_same, bit_at_ones, bit_at_set_other, bit_at_set_same}
 pub use Rattle.std.proofs.lemmas.Option.{same_Some, slice_get_within}
@@ -14,20 +14,21 @@ pub use Rattle.std.specs.List.{AllByRecursion, range_with_len}
 pub use Rattle.std.specs.Prelude.{filter, int_lt, unsigned_abs}
 pub use Rattle.ta_automaton.proofs.Onward.{NoneInto, Onward, Piece, after, change_of, fire_in_order, later_after}
 pub use Rattle.ta_automaton.proofs.Rearranged.{circuit_pure, each_rule_from, none_from}
-pub use Rattle.ta_automaton.proofs.Sums.{terms_value-same, total-add, total-append, total-same, total-swap, total-times, total-zero}
 pub use Rattle.ta_automaton.proofs.Thresholds.{fall_back, falls, from_within, natural_terms, rule_within, to_within, updates_natural}
 pub use Rattle.ta_automaton.specs.Places.{location_place, rule_change}
 pub use Rattle.ta_automaton.specs.Runs.{Config, InScope, LoopsPure, Walk, value_at}
-unfoldable pub use Rattle.ta_automaton.specs.Sums.{times_in, total}
 pub use Rattle.ta_automaton.specs.declared.automaton.Automaton.{Automaton}
 pub use Rattle.ta_automaton.specs.declared.rule.Rule.{Rule}
 pub use Rattle.ta_base.proofs.Bits.{at_set, set_at, set_or}
 pub use Rattle.ta_base.proofs.Each.{distinct_from, distinct_length, each_append, each_back, each_from, each_get_or, each_in, each_listed, each_push, each_weaker, find_or, not_before}
 pub use Rattle.ta_base.proofs.Integers.{above_zero, abs_less, abs_less_than, abs_natural, by_one, distributes, min_cases, mul_left_comm, not_above_zero, zero_or_more}
 pub use Rattle.ta_base.proofs.Lists.{filter_false, filter_true, get_middle, longer_front, one_step, push_cases, read_same, without_last}
-pub use Rattle.ta_base.proofs.Members.{In-left, In-right, contains_cases, contains_here, contains_or, in_append, in_get_or, in_or, in_replicate, last_of}
+pub use Rattle.ta_base.proofs.Members.{In-left, In-right, contains_or, in_append, in_get_or, in_or, in_replicate, last_of}
 pub use Rattle.ta_base.specs.Lists.{Distinct}
 pub use Rattle.ta_base.specs.Masks.{In}
+pub use Rattle.ta_base.proofs.Totals.{total-add, total-append, total-same, total-swap, total-times, total-zero}
+unfoldable pub use Rattle.ta_base.specs.Sums.{times_in, total}
+pub use Rattle.ta_linear.proofs.TermLemmas.{terms_value-same}
 pub use Rattle.ta_scope.specs.Arranged.{AllTakenOut, AreRuleCounts, ArrangedOf, FirstPath, LeastCount, LeastCycle, NoLater, NotAbove, SubtractsFrom, Support, TakenOut, count_at, is_step_from, steps_along}
 pub use Rattle.ta_scope.specs.Cycles.{IsReachTable, NoCycle, OnCycle, Reaches, every_rule}
 pub use Rattle.ta_scope.specs.Faults.{AtFault, FirstRuleFault}

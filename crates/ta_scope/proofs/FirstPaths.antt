@@ -1,21 +1,6 @@
 -- first paths have no rule twice
-use Rattle.ta_scope.proofs.Common.{◌≡◌, ◌⊎◌, inl, inr, ℕ, ◌<◌, List, [], ◌∷◌, ◌++◌, length, arith, sym, ap, ◌∙◌, refl, subst, slice_get, Some, IsBitSet, eqb_tells, AllByRecursion, same_Some, longer_front, Rule, Automaton, Distinct, Walk, NotAbove, NoLater, FirstPath, LeastCycle, each_back}
-
--- an item of a list with the items before it and behind it
-pub record Cut (q : ℕ) (rs : List ℕ) : Type 0 where
-  pub front : List ℕ
-  pub behind : List ℕ
-  pub cut : rs ≡ front ++ q ∷ behind
-
-pub cut_or : (q : ℕ) (rs : List ℕ) → Cut q rs ⊎ AllByRecursion (λ r. q ≡ r → ⊥) rs
-cut_or q [] = inr tt
-cut_or q (r ∷ rs) = elim (eqb_tells q r) [
-  | inl e ↦ inl (record { front = []; behind = rs; cut = ap (λ x. x ∷ rs) (sym e.1) })
-  | inr ne ↦ elim (cut_or q rs) [
-    | inl w ↦ inl (record { front = r ∷ w.front; behind = w.behind; cut = ap (λ (xs : List ℕ). r ∷ xs) w.cut })
-    | inr none ↦ inr (ne.1, none)
-  ]
-]
+use Rattle.ta_scope.proofs.Common.{◌≡◌, ◌⊎◌, inl, inr, ℕ, ◌<◌, List, [], ◌∷◌, ◌++◌, length, arith, sym, ap, ◌∙◌, refl, subst, slice_get, Some, IsBitSet, AllByRecursion, same_Some, longer_front, Rule, Automaton, Distinct, Walk, NotAbove, NoLater, FirstPath, LeastCycle, each_back}
+use Rattle.ta_base.proofs.Each.{Cut, cut_or}
 
 -- what a walk goes on with behind one of its rules
 walk_behind : (a : Automaton) (x : ℕ) (front : List ℕ) (q : ℕ) (behind : List ℕ) (y : ℕ) (rule : Rule) → slice_get a.rules q ≡ Some rule → Walk a x (front ++ q ∷ behind) y → Walk a rule.to behind y

@@ -5,7 +5,6 @@ pub mod Judging
 pub mod ArrangedOnce
 pub mod Arranging
 pub mod ArrangedLaws
-pub mod Places
 mod Cycles
 mod LongerCycles
 pub mod OrderLaws

@@ -1,7 +1,11 @@
 -- steps along an order of the locations go forward, and have the end of the counts
-use Rattle.ta_scope.proofs.Common.{◌≡◌, ◌≢◌, inl, inr, ℕ, zero, suc, ◌+◌, ◌<◌, ℤ, pos, ◌+ℤ◌, ◌*ℤ◌, ◌≤ℤ◌, List, [], ◌∷◌, ◌++◌, map, length, replicate, eqb, cond, Bool, true, false, ◌&&◌, arith, sym, ap, ◌∙◌, refl, subst, slice_get, Option, Some, None, IsBitSet, Contains, append_assoc, append-nil, zero-add, filter, int_lt, unsigned_abs, ints, cases_Bool, and_parts, false≢true, eqb-true, eqb_tells, map-append, *ℤ-zero, zero-*ℤ, same_Some, above_zero, abs_natural, by_one, distributes, not_above_zero, filter_false, filter_true, get_middle, one_step, in_append, in_replicate, Rule, Automaton, In, range_with_len, rule_change, total, times_in, total-append, total-same, total-zero, total-swap, from_within, change_of, NoneInto, Onward, none_from, NoCycle, Next, IsBuilt, IsLocationOrder, count_at, Support, is_step_from, steps_along, arranged_steps, steps_from, take_at, filter-append, Contains-append_left}
+use Rattle.ta_scope.proofs.Common.{◌≡◌, ◌≢◌, inl, inr, ℕ, ◌+◌, ◌<◌, ℤ, pos, ◌*ℤ◌, ◌≤ℤ◌, List, [], ◌∷◌, ◌++◌, map, length, replicate, eqb, cond, Bool, true, false, ◌&&◌, arith, sym, ap, ◌∙◌, refl, subst, slice_get, Option, Some, None, IsBitSet, Contains, append_assoc, append-nil, zero-add, filter, int_lt, unsigned_abs, ints, cases_Bool, and_parts, false≢true, eqb-true, eqb_tells, map-append, *ℤ-zero, zero-*ℤ, same_Some, above_zero, abs_natural, by_one, not_above_zero, filter_false, filter_true, get_middle, one_step, in_append, in_replicate, Rule, Automaton, In, range_with_len, rule_change, total, times_in, total-append, total-same, total-zero, total-swap, from_within, change_of, NoneInto, Onward, none_from, NoCycle, Next, IsBuilt, IsLocationOrder, count_at, Support, is_step_from, steps_along, arranged_steps, steps_from, take_at, filter-append, Contains-append_left}
 use Rattle.std.proofs.lemmas.Grind.{flat_map-append}
+use Rattle.std.proofs.Math.IntN.{*ℤ_comm}
+use Rattle.ta_base.specs.Sums.{one_if}
 use Rattle.ta_base.proofs.Ranges.{numbers_more}
+use Rattle.ta_base.proofs.Times.{times-total}
+use Rattle.ta_base.proofs.Totals.{one_if-other, one_if-same, total-replicate}
 use Rattle.ta_automaton.specs.Laws.{leads_out_of}
 use Rattle.ta_scope.proofs.Circulations.{weighted}
 
@@ -98,20 +102,13 @@ pub along_onward : (a : Automaton) (counts : List ℤ) (rules : ℕ) → Support
 along_onward a counts rules support acyclic order is = onward_along a counts rules support acyclic [] order (after_from a rules [] order is.built)
 
 -- sums over the unit steps
-replicate_total : (g : ℕ → ℤ) (n r : ℕ) → total g (replicate n r) ≡ (g r *ℤ pos n)
-unfolding total
-replicate_total g zero r = sym (*ℤ-zero (g r))
-replicate_total g (suc n) r =
-    let next : pos (suc n) ≡ (pos n +ℤ pos 1) = omega (arith, ints) in
-    omega (arith, ints, replicate_total g n r, ap (λ z. g r *ℤ z) next, distributes (g r) (pos n) (pos 1), by_one (g r))
-
 passed_total : (g : ℕ → ℤ) (test : ℕ → Bool) (count : ℕ → ℤ) → ((r : ℕ) → pos 0 ≤ℤ count r) → (ns : List ℕ) → total g (passed test count ns) ≡ total (λ r. cond (test r) (g r *ℤ count r) (pos 0)) ns
 unfolding total
 passed_total g test count natural [] = refl
 passed_total g test count natural (n ∷ ns) = elim (cases_Bool (test n)) [
   | inl e ↦ rw e (
       let size = ap (λ z. g n *ℤ z) (abs_natural (count n) (natural n)) in
-      omega (arith, ints, total-append g (replicate (unsigned_abs (count n)) n) (passed test count ns), replicate_total g (unsigned_abs (count n)) n, size, passed_total g test count natural ns))
+      omega (arith, ints, total-append g (replicate (unsigned_abs (count n)) n) (passed test count ns), total-replicate g (unsigned_abs (count n)) n, *ℤ_comm (pos (unsigned_abs (count n))) (g n), size, passed_total g test count natural ns))
   | inr e ↦ rw e (omega (arith, ints, passed_total g test count natural ns))
 ]
 
@@ -121,23 +118,6 @@ along_parts a counts natural g [] = refl
 along_parts a counts natural g (l ∷ ls) =
     let ns = range_with_len 0 (length a.rules) in
     omega (arith, ints, ap (total g) (steps_cons a counts l ls), total-append g (passed (is_step_from a counts l) (count_at counts) ns) (arranged_steps (steps_along a counts ls)), passed_total g (is_step_from a counts l) (count_at counts) natural ns, along_parts a counts natural g ls)
-
--- a sum whose parts but those of one number are 0
-picked : (z : ℤ) (f : ℕ) (ls : List ℕ) → total (λ l. cond (eqb f l && true) z (pos 0)) ls ≡ (z *ℤ pos (times_in f ls))
-unfolding total times_in
-picked z f [] = sym (*ℤ-zero z)
-picked z f (l ∷ ls) = elim (eqb_tells l f) [
-  | inl e ↦ elim (eqb_tells f l) [
-    | inl d ↦ rw (e.0, d.0) (
-        let next : pos (1 + times_in f ls) ≡ (pos (times_in f ls) +ℤ pos 1) = omega (arith, ints) in
-        omega (arith, ints, picked z f ls, ap (λ y. z *ℤ y) next, distributes z (pos (times_in f ls)) (pos 1), by_one z))
-    | inr ne ↦ absurd (ne.1 (sym e.1))
-  ]
-  | inr ne ↦ elim (eqb_tells f l) [
-    | inl d ↦ absurd (ne.1 (sym d.1))
-    | inr d ↦ rw (ne.0, d.0) (let next : pos (0 + times_in f ls) ≡ pos (times_in f ls) = omega (arith, ints) in omega (arith, ints, picked z f ls, ap (λ y. z *ℤ y) next))
-  ]
-]
 
 no_test : (o : Option Rule) (z : ℤ) (ls : List ℕ) (b : Bool) → b ≡ false → total (λ l. cond (leads_out_of l o && b) z (pos 0)) ls ≡ pos 0
 no_test o z ls b e = total-zero (λ l. cond (leads_out_of l o && b) z (pos 0)) ls (λ l. rw e (off (leads_out_of l o) z)) where
@@ -149,12 +129,17 @@ no_test o z ls b e = total-zero (λ l. cond (leads_out_of l o && b) z (pos 0)) l
 one_source : (a : Automaton) (order : List ℕ) → ((l : ℕ) → l < length a.locations → times_in l order ≡ 1) → (o : Option Rule) → ((rule : Rule) → o ≡ Some rule → rule.from < length a.locations) → (z : ℤ) → pos 0 ≤ℤ z → (i : ℕ) → total (λ l. cond (leads_out_of l o && int_lt (pos 0) z) (rule_change a o i *ℤ z) (pos 0)) order ≡ (rule_change a o i *ℤ z)
 one_source a order once None within z natural i = total-zero _ order (λ l. refl) ∙ sym (zero-*ℤ z)
 one_source a order once (Some rule) within z natural i = elim (cases_Bool (int_lt (pos 0) z)) [
-  | inl e ↦ rw e (picked (rule_change a (Some rule) i *ℤ z) rule.from order ∙ ap (λ (n : ℕ). (rule_change a (Some rule) i *ℤ z) *ℤ pos n) (once rule.from (within rule refl)) ∙ by_one (rule_change a (Some rule) i *ℤ z))
+  | inl e ↦ rw e (total-same (λ l. cond (eqb rule.from l && true) (rule_change a (Some rule) i *ℤ z) (pos 0)) (λ l. one_if l rule.from *ℤ (rule_change a (Some rule) i *ℤ z)) order (from_only rule.from (rule_change a (Some rule) i *ℤ z)) ∙ times-total (λ _. rule_change a (Some rule) i *ℤ z) rule.from order ∙ ap (λ (n : ℕ). (rule_change a (Some rule) i *ℤ z) *ℤ pos n) (once rule.from (within rule refl)) ∙ by_one (rule_change a (Some rule) i *ℤ z))
   | inr e ↦ (
       let below = not_above_zero z e in
       let none : z ≡ pos 0 = omega (arith, ints) in
       no_test (Some rule) (rule_change a (Some rule) i *ℤ z) order (int_lt (pos 0) z) e ∙ sym (ap (λ y. rule_change a (Some rule) i *ℤ y) none ∙ *ℤ-zero (rule_change a (Some rule) i)))
-]
+] where
+  from_only : (from : ℕ) (y : ℤ) (l : ℕ) → cond (eqb from l && true) y (pos 0) ≡ (one_if l from *ℤ y)
+  from_only from y l = elim (eqb_tells from l) [
+    | inl same ↦ rw same.0 (sym (ap (λ k. one_if k from *ℤ y) (sym same.1) ∙ one_if-same from y))
+    | inr other ↦ rw other.0 (sym (one_if-other l from y (λ q. other.1 (sym q))))
+  ]
 
 -- the unit steps along an order have the end of the counts
 pub along_total : (a : Automaton) (counts : List ℤ) → ((r : ℕ) → pos 0 ≤ℤ count_at counts r) → (order : List ℕ) → ((l : ℕ) → l < length a.locations → times_in l order ≡ 1) → (i : ℕ) → total (change_of a i) (arranged_steps (steps_along a counts order)) ≡ weighted a counts i

@@ -1,6 +1,7 @@
 -- what an order of the locations says
 use Rattle.ta_scope.proofs.Common.{◌≡◌, inl, inr, ℕ, ◌<◌, ◌≤◌, List, [], ◌∷◌, ◌++◌, length, take, arith, sym, ap, ◌∙◌, subst, Contains, take-append-le, distinct_from, distinct_length, each_from, push_cases, Automaton, Distinct, NoCycle, Next, IsBuilt, IsLocationOrder}
-use Rattle.ta_scope.proofs.Places.{times_once, times_contains}
+use Rattle.ta_base.proofs.Members.{contains_of, in_of}
+use Rattle.ta_base.proofs.Times.{times-distinct, times-in}
 use Rattle.ta_scope.proofs.Cycles.{NoneReady, none_remains}
 use Rattle.std.proofs.Math.Seq.{take-length}
 
@@ -21,9 +22,9 @@ built_length a rules order built =
 
 pub order_done : (a : Automaton) (rules : ℕ) (order : List ℕ) → NoCycle a rules → IsBuilt a rules order → NoneReady a rules order → IsLocationOrder a rules order
 order_done a rules order acyclic built none = record {
-  each_once = λ l b. times_once l order (built_distinct a rules order built) (none_remains a rules order acyclic none l b);
+  each_once = λ l b. times-distinct l order (built_distinct a rules order built) (in_of order l (none_remains a rules order acyclic none l b));
   built = built;
 }
 
 pub placed : (a : Automaton) (rules : ℕ) (order : List ℕ) → IsLocationOrder a rules order → (l : ℕ) → l < length a.locations → Contains order l
-placed a rules order is l b = times_contains l order (omega (arith, is.each_once l b))
+placed a rules order is l b = contains_of order l (times-in l order (omega (arith, is.each_once l b)))

@@ -1,5 +1,6 @@
 -- distances by masks of locations that grow step by step
-use Rattle.ta_scope.proofs.Common.{◌≡◌, ◌⊎◌, inl, inr, ℕ, suc, ◌+◌, ◌<◌, ◌≤◌, ◌^◌, List, [], ◌∷◌, ◌++◌, length, arith, sym, ap, ◌∙◌, refl, subst, slice_get, Some, IsBitSet, ◌↔◌, length-append, append_assoc, append-nil, ◌*◌, ◌%◌, cases_order, eqb_tells, pow_pos, bit_at-pow_other, slice_get_within, same_Some, bit_at, AllByRecursion, set_at, each_push, Rule, Automaton, Walk, Reaches, IsClosed, FirstPath, NotAbove, NoLater, Distance, LeadsTo, AddsNextLocations, IsStep, FirstStep, one_shl}
+use Rattle.ta_scope.proofs.Common.{◌≡◌, ◌⊎◌, inl, inr, ℕ, suc, ◌+◌, ◌<◌, ◌≤◌, ◌^◌, List, [], ◌∷◌, ◌++◌, length, arith, sym, ap, ◌∙◌, refl, subst, slice_get, Some, IsBitSet, ◌↔◌, length-append, append_assoc, append-nil, ◌*◌, ◌%◌, cases_order, eqb_tells, pow_pos, slice_get_within, same_Some, AllByRecursion, each_push, Rule, Automaton, Walk, Reaches, IsClosed, FirstPath, NotAbove, NoLater, Distance, LeadsTo, AddsNextLocations, IsStep, FirstStep, one_shl}
+use Rattle.ta_base.proofs.Bits.{lone_bit}
 use Rattle.ta_scope.proofs.Reaching.{walk_push, walk_stays, reached_first, bit_of}
 
 -- one of the first rules leads from a mask to a location
@@ -61,12 +62,6 @@ pub record Layer (a : Automaton) (rules from to count mask : ℕ) : Type 0 where
   pub nearer : (other : List ℕ) → Walk a from other to → AllByRecursion (IsBitSet rules) other → count ≤ length other
   pub below : count < mask
 
-first_only : (first l : ℕ) → first < 32 → IsBitSet (bit_of first) l → l ≡ first
-first_only first l within b = elim (eqb_tells l first) [
-  | inl e ↦ e.1
-  | inr ne ↦ absurd (let none = bit_at-pow_other first l ne.1 in let one = set_at _ l b in let m = ap (λ n. bit_at n l) (one_shl first 32 within) in omega arith)
-]
-
 no_path : (a : Automaton) (x : ℕ) (rs : List ℕ) (y : ℕ) → length rs ≤ 0 → Walk a x rs y → x ≡ y
 no_path a x [] y short w = w
 no_path a x (r ∷ rs) y short w = absurd (omega arith)
@@ -76,7 +71,7 @@ layer_first a rules from to fits =
     let first = reached_first a rules from fits in
     record {
       within = λ l. (
-        λ b. record { path = []; walk = sym (first_only from l fits b); members = tt; short = omega arith },
+        λ b. record { path = []; walk = sym (lone_bit from l fits b); members = tt; short = omega arith },
         λ n. subst (IsBitSet (bit_of from)) (no_path a from n.path l n.short n.walk) first.has_first,
       );
       nearer = λ other w m. omega arith;

@@ -1,5 +1,8 @@
 -- counts from which an amount is subtracted
-use Rattle.ta_scope.proofs.Common.{◌≡◌, ◌≢◌, ◌⊎◌, inl, inr, ℕ, zero, suc, ◌+◌, ◌<◌, ◌≤◌, ℤ, pos, ◌+ℤ◌, ◌-ℤ◌, ◌≤ℤ◌, List, [], ◌∷◌, ◌++◌, length, take, get_or, set, arith, sym, ap, ◌∙◌, refl, subst, IsBitSet, ◌↔◌, length-set, unsigned_abs, int_min, bit_at, ints, cases_lt, eqb_tells, get_or_past, take_more, take_all, get_or-set_same, get_or-set_other, set_at, not_before, abs_less, abs_less_than, min_cases, In-left, In-right, in_append, in_get_or, Automaton, Distinct, In, count_at, Support, LeastCount, SubtractsFrom, TakenOut, AllTakenOut}
+use Rattle.ta_scope.proofs.Common.{◌≡◌, ◌≢◌, ◌⊎◌, inl, inr, ℕ, ◌+◌, ◌<◌, ◌≤◌, ℤ, pos, ◌+ℤ◌, ◌-ℤ◌, ◌≤ℤ◌, List, [], ◌∷◌, ◌++◌, length, take, get_or, set, arith, sym, ap, ◌∙◌, refl, subst, IsBitSet, ◌↔◌, length-set, unsigned_abs, int_min, bit_at, ints, cases_lt, eqb_tells, get_or_past, take_more, take_all, get_or-set_same, get_or-set_other, set_at, not_before, abs_less, abs_less_than, min_cases, In-left, In-right, in_append, in_get_or, Automaton, Distinct, In, count_at, Support, LeastCount, SubtractsFrom, TakenOut, AllTakenOut, range_with_len}
+use Rattle.ta_base.proofs.Sums.{sum_by-less}
+use Rattle.std.proofs.Common.{sum_by}
+use Rattle.ta_base.proofs.Ranges.{number_here}
 
 -- the support of the first counts
 abbrev pub SupportBefore : List ℤ → ℕ → ℕ → Type 0
@@ -106,16 +109,12 @@ taken_more a counts (next ∷ later) before after all t = (all.0, taken_more a n
 
 -- the sum of counts
 abbrev pub sum_of : List ℤ → ℕ
-sum_of [] = 0
-sum_of (z ∷ zs) = unsigned_abs z + sum_of zs
-
-sum_no_more : (xs ys : List ℤ) → length xs ≡ length ys → ((r : ℕ) → (pos 0 ≤ℤ count_at xs r) × (count_at xs r ≤ℤ count_at ys r)) → sum_of xs ≤ sum_of ys
-sum_no_more [] ys e h = omega arith
-sum_no_more (x ∷ xs) [] e h = absurd (omega arith)
-sum_no_more (x ∷ xs) (y ∷ ys) e h = let here = h 0 in omega (arith, abs_less x y here.0 here.1, sum_no_more xs ys (omega arith) (λ r. h (suc r)))
+sum_of counts = sum_by (λ r. unsigned_abs (count_at counts r)) (range_with_len 0 (length counts))
 
 pub sum_less : (xs ys : List ℤ) → length xs ≡ length ys → ((r : ℕ) → (pos 0 ≤ℤ count_at xs r) × (count_at xs r ≤ℤ count_at ys r)) → (q : ℕ) → q < length ys → (count_at xs q +ℤ pos 1) ≤ℤ count_at ys q → sum_of xs < sum_of ys
-sum_less xs [] e h q b less = absurd (omega arith)
-sum_less [] (y ∷ ys) e h q b less = absurd (omega arith)
-sum_less (x ∷ xs) (y ∷ ys) e h zero b less = let here = h 0 in omega (arith, abs_less_than x y here.0 less, sum_no_more xs ys (omega arith) (λ r. h (suc r)))
-sum_less (x ∷ xs) (y ∷ ys) e h (suc q) b less = let here = h 0 in omega (arith, abs_less x y here.0 here.1, sum_less xs ys (omega arith) (λ r. h (suc r)) q (omega arith) less)
+sum_less xs ys e h q b less =
+    let f : ℕ → ℕ = λ r. unsigned_abs (count_at ys r) in
+    let g : ℕ → ℕ = λ r. unsigned_abs (count_at xs r) in
+    let numbers = range_with_len 0 (length ys) in
+    subst (λ n. sum_by g (range_with_len 0 n) < sum_by f numbers) (sym e)
+    (sum_by-less f g numbers (λ i r at. abs_less (count_at xs r) (count_at ys r) (h r).0 (h r).1) q q (number_here q (length ys) b) (abs_less_than (count_at xs q) (count_at ys q) (h q).0 less))

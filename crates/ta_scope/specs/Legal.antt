@@ -1,5 +1,6 @@
 -- Arranged steps are legal (this project's profile)
 use Rattle.std.specs.Prelude.{ℕ, ℤ, pos, ◌<◌, ◌≡◌, ◌≤ℤ◌, ◌+ℤ◌, ◌*ℤ◌, ◌≤◌, List, [], ◌∷◌, ◌++◌, length, map, flat_map, replicate, unsigned_abs, slice_get, Some, IsBitSet}
+use Rattle.ta_base.specs.Sums.{total, times_in}
 use Rattle.std.specs.List.{AllByRecursion, range_with_len}
 use Rattle.ta_linear.specs.Values.{RowHolds}
 use Rattle.ta_linear.specs.declared.row.Row.{Row}
@@ -7,7 +8,6 @@ use Rattle.ta_automaton.specs.declared.rule.Rule.{Rule}
 use Rattle.ta_automaton.specs.declared.automaton.Automaton.{Automaton}
 use Rattle.ta_automaton.specs.Places.{Whole, rule_change, location_place}
 use Rattle.ta_automaton.specs.Runs.{Config, value_at, Steps, At, InScope}
-use Rattle.ta_automaton.specs.Sums.{total, times_in}
 use Rattle.ta_scope.specs.Arranged.{AreRuleCounts, ArrangedOf, count_at}
 
 -- the unit steps of a list: each rule as often as its factor says

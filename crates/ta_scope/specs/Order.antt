@@ -1,9 +1,9 @@
 -- The order of an automaton's locations by some of its rules (this project's profile). A mask says which rules: bit r
 -- names rule r
-use Rattle.std.specs.Prelude.{ℕ, ◌<◌, ◌≡◌, ◌≢◌, ◌==◌, List, length, take, Contains, slice_get, take_while, not, Some, IsBitSet}
+use Rattle.std.specs.Prelude.{ℕ, ◌<◌, ◌≡◌, ◌≢◌, List, length, take, Contains, slice_get, Some, IsBitSet}
+use Rattle.ta_base.specs.Sums.{times_in}
 use Rattle.ta_automaton.specs.declared.rule.Rule.{Rule}
 use Rattle.ta_automaton.specs.declared.automaton.Automaton.{Automaton}
-use Rattle.ta_automaton.specs.Sums.{times_in}
 
 -- a rule leads to a location from another one that isn't placed yet
 pub record Blocks (placed : List ℕ) (location : ℕ) (rule : Rule) : Type 0 where
@@ -30,13 +30,3 @@ IsBuilt a rules order = (k l : ℕ) → slice_get order k ≡ Some l → Next a 
 pub record IsLocationOrder (a : Automaton) (rules : ℕ) (order : List ℕ) : Type 0 where
   pub each_once : (l : ℕ) → l < length a.locations → times_in l order ≡ 1
   pub built : IsBuilt a rules order
-
--- the number of locations before a location in the order
-abbrev pub rank_of : List ℕ → ℕ → ℕ
-rank_of order location = length (take_while (λ l. not (l == location)) order)
-
--- every rule of the mask between two locations goes forward in the order
-abbrev pub Forward : Automaton → ℕ → List ℕ → Type 0
-Forward a rules order =
-    (r : ℕ) (rule : Rule) → slice_get a.rules r ≡ Some rule → IsBitSet rules r → rule.from ≢ rule.to
-    → rank_of order rule.from < rank_of order rule.to

@@ -1,5 +1,5 @@
 -- The names that the proofs of this crate cite, passed on from one place. Declares nothing.
-pub use Rattle.std.proofs.Common.{Bool, Err, IfOk, List, None, Ok, OnOk, Option, Result, Some, [], ap, append-nil, append_assoc, arith, codes, decimal, drop, eqb, false, get_or, if◌then◌else◌, inl, inr, length, length-append, lit<, map, nat_lt, not, refl, slice_get, string_bytes, subst, suc, sym, take, true, zero, ℕ, ℤ, ◌%◌, ◌&&◌, ◌*◌, ◌++◌, ◌+◌, ◌/◌, ◌<◌, ◌^◌, ◌||◌, ◌∙◌, ◌∷◌, ◌≡◌, ◌≢◌, ◌≤◌, ◌⊎◌}
+pub use Rattle.std.proofs.Common.{Bool, IfOk, List, None, Option, Result, Some, [], ap, append-nil, append_assoc, arith, codes, decimal, drop, eqb, false, get_or, inl, inr, length, length-append, lit<, map, nat_lt, not, refl, slice_get, string_bytes, subst, suc, sym, take, true, zero, ℕ, ℤ, ◌%◌, ◌&&◌, ◌*◌, ◌++◌, ◌+◌, ◌/◌, ◌<◌, ◌^◌, ◌∙◌, ◌∷◌, ◌≡◌, ◌≢◌, ◌≤◌, ◌⊎◌}
 pub use Rattle.std.proofs.lemmas.Bool.{and_parts, cases_Bool, cases_eq, cases_lt, false≢true, or_parts}
 pub use Rattle.std.proofs.lemmas.List.{append_cancel_left, drop_all, drop_more, get_or-append-add, get_or-map, get_or_append_left, length-map, map-append, take_more}
 pub use Rattle.std.proofs.lemmas.Nat.{div-add-mod', mul-le}
@@ -12,7 +12,7 @@ pub use Rattle.ta_automaton.specs.declared.file.File.{File}
 pub use Rattle.ta_automaton.specs.declared.pattern.Pattern.{Pattern}
 pub use Rattle.ta_base.proofs.ByteLists.{differs, words_ascii}
 pub use Rattle.ta_base.proofs.Each.{each_all, each_append, each_at, each_back, each_map, each_push, each_weaker, word_avoids, word_tells}
-pub use Rattle.ta_base.proofs.Lists.{avoids-append, first_byte, heads, named_ended, not_long, not_parted, some_at, three_behind}
+pub use Rattle.ta_base.proofs.Lists.{avoids-append, first_byte, heads, named_ended, not_long, not_parted, some_at}
 pub use Rattle.ta_base.proofs.Naturals.{at_most, quotient_below, rest_below}
 pub use Rattle.ta_base.proofs.Options.{below_if, none_behind}
 pub use Rattle.ta_base.proofs.Ranges.{In-numbers, each_number, numbers_get_or}

@@ -1,22 +1,20 @@
 -- A text is that of one template at most, or has one first fault.
-use Rattle.ta_search.proofs.Common.{ℕ, ◌+◌, ◌≤◌, ◌≡◌, ◌⊎◌, ◌||◌, ◌++◌, inl, inr, Bool, true, false, List, [], ◌∷◌, length, codes, None, Some, refl, sym, ap, subst, ◌∙◌, length-append, append_assoc, arith, bytes_eq, false≢true, mul-le, same_Some, bytes_eq-Decides, AllByRecursion, Distinct, Avoids, each_back, first_byte, not_parted, Hole, Template, TemplateFault, AreHoles, HoleInRange, IsSpelledHole, head_text, hole_line, hole_lines, hole_names, is_among, unknown_place, value_count, vector_count, FirstTemplateFault, HasHole, IsOtherLine, AddsHole, HoleRefused}
+use Rattle.ta_search.proofs.Common.{ℕ, ◌+◌, ◌≤◌, ◌≡◌, ◌⊎◌, ◌++◌, inl, inr, false, List, [], ◌∷◌, length, codes, None, Some, refl, sym, ap, subst, ◌∙◌, length-append, append_assoc, arith, bytes_eq, false≢true, mul-le, same_Some, AllByRecursion, Distinct, Avoids, each_back, first_byte, not_parted, Hole, Template, TemplateFault, AreHoles, HoleInRange, IsSpelledHole, head_text, hole_line, hole_lines, hole_names, is_among, unknown_place, value_count, vector_count, FirstTemplateFault, HasHole, IsOtherLine, AddsHole, HoleRefused}
 use Rattle.ta_search.specs.declared.fault.TemplateFault.TheVariants as fault
 use Rattle.ta_search.specs.Templates.{template_text}
 use Rattle.ta_search.proofs.HoleLines.{line_avoids, no_begin, one_hole}
+use Rattle.ta_base.proofs.ByteLists.{other_name}
+use Rattle.std.proofs.lemmas.Bool.{or_from}
 
 -- ---- the next hole of legal ones
 name_at : (P : List ℕ → Type 0) (hs : List Hole) (g : Hole) (later : List Hole) → AllByRecursion P (hole_names (hs ++ (g ∷ later))) → P g.name
 name_at P [] g later each = each.0
 name_at P (h ∷ hs) g later each = name_at P hs g later each.1
 
-fresh_if : (n m : List ℕ) (b c : Bool) → (b ≡ true → n ≡ m) → (m ≡ n → ⊥) → c ≡ false → b || c ≡ false
-fresh_if n m true c same other e = absurd (other (sym (same refl)))
-fresh_if n m false c same other e = e
-
 fresh_front : (hs : List Hole) (g : Hole) (later : List Hole) → Distinct (hole_names (hs ++ (g ∷ later))) → is_among hs g.name ≡ false
 fresh_front [] g later d = refl
 fresh_front (h ∷ hs) g later d =
-    fresh_if g.name h.name (bytes_eq g.name h.name) (is_among hs g.name) (bytes_eq-Decides g.name h.name).0 (name_at (λ n. h.name ≡ n → ⊥) hs g later d.0) (fresh_front hs g later d.1)
+    or_from (bytes_eq g.name h.name) (is_among hs g.name) (other_name g.name h.name (λ same. name_at (λ n. h.name ≡ n → ⊥) hs g later d.0 (sym same))) (fresh_front hs g later d.1)
 
 some_value : (h : Hole) → HoleInRange h → 1 ≤ value_count h
 some_value h range = let some = range.some in omega arith

@@ -6,22 +6,19 @@ use Rattle.std.proofs.lemmas.List.FromFn.{length-range_with_len}
 abbrev begun : ℕ → List (List ℕ) → List (List ℕ)
 begun value vs = map (λ (vector : List ℕ). value ∷ vector) vs
 
-begun_count : (value : ℕ) (vs : List (List ℕ)) → length (begun value vs) ≡ length vs
-begun_count value vs = length-map vs (λ (vector : List ℕ). value ∷ vector)
-
 each_count : (values : List ℕ) (vs : List (List ℕ)) → length (each_before values vs) ≡ length values * length vs
 each_count [] vs = omega arith
-each_count (x ∷ xs) vs = let more = each_count xs vs in let here = begun_count x vs in length-append (begun x vs) (each_before xs vs) ∙ omega arith
+each_count (x ∷ xs) vs = let more = each_count xs vs in let here : length (begun x vs) ≡ length vs = length-map vs (λ (vector : List ℕ). x ∷ vector) in length-append (begun x vs) (each_before xs vs) ∙ omega arith
 
 each_at : (values : List ℕ) (vs : List (List ℕ)) (m k r : ℕ) → m ≡ length vs → k < length values → r < m → get_or (each_before values vs) (k * m + r) [] ≡ get_or values k 0 ∷ get_or vs r []
 each_at [] vs m k r same h g = absurd (omega arith)
 each_at (x ∷ xs) vs m zero r same h g =
     let e : 0 * m + r ≡ r = omega arith in
-    let count = begun_count x vs in
+    let count : length (begun x vs) ≡ length vs = length-map vs (λ (vector : List ℕ). x ∷ vector) in
     let within : r < length vs = omega arith in
     ap (λ n. get_or (begun x vs ++ each_before xs vs) n []) e ∙ get_or_append_left (begun x vs) (each_before xs vs) [] r (omega arith) ∙ get_or-map (λ (vector : List ℕ). x ∷ vector) vs r [] [] within
 each_at (x ∷ xs) vs m (suc k) r same h g =
-    let count = begun_count x vs in
+    let count : length (begun x vs) ≡ length vs = length-map vs (λ (vector : List ℕ). x ∷ vector) in
     let e : suc k * m + r ≡ length (begun x vs) + (k * m + r) = omega arith in
     ap (λ n. get_or (begun x vs ++ each_before xs vs) n []) e ∙ get_or-append-add (begun x vs) (each_before xs vs) (k * m + r) [] ∙ each_at xs vs m k r same (omega arith) g
 

@@ -14,27 +14,15 @@ pub use Rattle.ta_base.proofs.Lists.{filled_more, passed_over}
 pub use Rattle.ta_shelf.specs.Calls.{Call, ReadsOn, bytes_given, bytes_of, filled}
 pub use Rattle.ta_shelf.specs.Files.{AreDistinct, file_named, with_file}
 pub use Rattle.ta_shelf.specs.Put.{bytes_held}
-pub use base.Logic.{SProp, ent}
-pub use contract.Monad.{Fun}
-pub use contract.Running.{tables}
-unfoldable pub use contract.Running.{tables_of}
 pub use denote.RattleType.{RattleType, Valss, owns}
 pub use denote.Signature.{named_lft, plain, types_at}
 pub use denote.Steps.{nothing}
-pub use denote.Triple.Clauses.{Clauses, Ended, closing}
 pub use denote.Triple.Entry.{alive}
-pub use denote.Triple.Spec.{Meets, triple_of}
-pub use denote.Triple.Table.{entered}
-pub use denote.Triple.Walked.{Goes-dropped, Stays, ends_at, says, stay_dropped, walk_Meets, walk_of}
-pub use mir.Syntax.{Fn}
-pub use mir.Val.{Val, vnil, vptr, vstruct}
-pub use prog.Memory.{Memory}
-pub use prog.Routine.{Routine}
-pub use prog.Wp.{Calls, Loops, Tables, WpFn}
+pub use denote.Triple.Walked.{Goes-dropped, Stays, ends_at, says, stay_dropped, walk_of}
+pub use mir.Val.{Val, vnil, vstruct}
 pub use seplogic.Ra.Ura.{Ura}
-pub use sound.WpLaws.{WpFn-mono}
 pub use types.ByLocal.{alloc_all, free_all, look_at, pass_all, sets}
-pub use types.Kit.{ !, Goal, Item, Step, done, feq_i, feq_l, fjoin, fpack, fsplit, keep, move, prop, qed, raw, regoal, split, step, suffices, ‵, ◌$◌, ◌∵◌, ◌⊛◌}
+pub use types.Kit.{ !, Goal, Item, Step, done, feq_i, fjoin, fpack, keep, move, qed, raw, split, step, suffices, ‵, ◌$◌, ◌∵◌, ◌⊛◌}
 pub use types.Logic.{Logic}
 pub use types.Part.{agg}
 pub use types.Run.{enter, no_more, returns}

@@ -11,10 +11,12 @@
 -- the right stand a negative constant; x, which is negative, times its cell, which is positive, for x enters; smaller
 -- variables, which are natural, times cells that are at most 0, or the least of them had entered; and greater ones, which
 -- don't change, so that they are outside the basis at k too, and are 0. So it is negative, and the two sides differ.
--- There are at most 2 ^ n bases, so the rule ends before as many steps (`Pigeon`, `Ends`).
-use Rattle.ta_simplex.proofs.Common.{◌≡◌, ◌≢◌, ◌⊎◌, inl, inr, ℕ, suc, ◌+◌, ◌*◌, ◌<◌, ◌≤◌, List, [], ◌∷◌, length, get_or, Bool, true, false, arith, refl, sym, ap, ◌∙◌, subst, ℤ, pos, ◌*ℤ◌, ◌<ℤ◌, ◌≤ℤ◌, cases_eq, cases_order, cases_Bool, ints, ge-zero_of_mul, lt-zero_of_mul, mul-ge-zero, mul-le-zero, mul-le-zero_turned, mul-lt-zero, switches, Tableau, row_of, basic_of, non_basic_of, dot, IsDictionary, Leaves, Enters}
+-- There are at most 2 ^ n bases, so the rule ends before as many steps (`Ends`).
+use Rattle.ta_simplex.proofs.Common.{◌≡◌, ◌≢◌, ◌⊎◌, inl, inr, ℕ, suc, ◌+◌, ◌*◌, ◌<◌, ◌≤◌, List, [], ◌∷◌, length, get_or, Bool, true, false, arith, refl, sym, ap, ◌∙◌, subst, ℤ, pos, ◌*ℤ◌, ◌<ℤ◌, ◌≤ℤ◌, cases_eq, cases_order, cases_Bool, ints, ge-zero_of_mul, lt-zero_of_mul, mul-ge-zero, mul-le-zero, mul-le-zero_turned, mul-lt-zero, switches, Tableau, row_of, basic_of, non_basic_of, dot, IsDictionary, Leaves, Enters, *ℤ-zero}
+use Rattle.std.proofs.Common.{true≢false}
+use Rattle.std.proofs.lemmas.Bool.{false≢true}
 use Rattle.ta_simplex.proofs.Basic.{is_basic}
-use Rattle.ta_simplex.proofs.Search.{Moves, Stays, moves_or_stays, greatest_or_none}
+use Rattle.ta_base.proofs.Searches.{Moves, Stays, moves_or_stays, greatest_or_none}
 
 -- a sum of numbers that are at most 0
 dot-le-zero : (cs : List ℤ) (us : List ℕ) (value : ℕ → ℤ) → ((j : ℕ) → j < length cs → (get_or cs j (pos 0) *ℤ value (get_or us j 0)) ≤ℤ pos 0) → dot cs us value ≤ℤ pos 0
@@ -88,7 +90,7 @@ witness : (A : ℤ → (ℕ → ℤ) → Type 0) (n : ℕ) (t t' : Tableau) (m :
     (scale : ℕ) × (value : (ℕ → ℤ)) × A (pos scale) value × Witness n (basic_of t m.row) (is_basic t) scale value
 witness A n t t' m =
     let f = m.dictionary.free (pos 1) (λ _. pos 0) in
-    let zeros = λ (j : ℕ) (h : j < length t.non_basic). f.4 j h ∙ zero_product f.0 in
+    let zeros = λ (j : ℕ) (h : j < length t.non_basic). f.4 j h ∙ *ℤ-zero (pos f.0) in
     let alone = row_alone A n t m.dictionary (f.0 * 1) f.1 f.3 zeros in (
       f.0 * 1,
       f.1,
@@ -112,9 +114,6 @@ witness A n t t' m =
             ];
       },
     )
-  where
-    zero_product : (m : ℕ) → pos m *ℤ pos 0 ≡ pos 0
-    zero_product m = omega (arith, ints)
 
 -- x leaves at the moment k and enters at the moment j, and no greater variable changes between s and t
 core : (A : ℤ → (ℕ → ℤ) → Type 0) (n : ℕ) (at : ℕ → Tableau) (s t x k j : ℕ) → x < n →
@@ -186,25 +185,19 @@ no_basis_repeats A n at s t h moments same =
           elim (cases_Bool (f s)) [
             | inl yes_s ↦
                 let no_i = other_of (f i) (f s) true false g.2.3 yes_s (either i) in
-                let fall = switches f true false s i true_false either g.2.1 yes_s no_i in
-                let rise = switches f false true i t false_true (λ k. swap (either k)) g.2.2 no_i (sym ends ∙ yes_s) in
+                let fall = switches f true false s i true≢false either g.2.1 yes_s no_i in
+                let rise = switches f false true i t false≢true (λ k. swap (either k)) g.2.2 no_i (sym ends ∙ yes_s) in
                 core A n at s t g.0 fall.0 rise.0 g.1 g.3 fall.1 (let e = fall.2 in let e' = g.2.2 in omega arith) (moments fall.0 fall.1 (let e = fall.2 in let e' = g.2.2 in omega arith)) fall.3 fall.4
                 (let e = rise.1 in let e' = g.2.1 in omega arith) rise.2 (moments rise.0 (let e = rise.1 in let e' = g.2.1 in omega arith) rise.2) rise.3 rise.4
             | inr no_s ↦
                 let yes_i = other_of (f i) (f s) false true g.2.3 no_s (swap (either i)) in
-                let rise = switches f false true s i false_true (λ k. swap (either k)) g.2.1 no_s yes_i in
-                let fall = switches f true false i t true_false either g.2.2 yes_i (sym ends ∙ no_s) in
+                let rise = switches f false true s i false≢true (λ k. swap (either k)) g.2.1 no_s yes_i in
+                let fall = switches f true false i t true≢false either g.2.2 yes_i (sym ends ∙ no_s) in
                 core A n at s t g.0 fall.0 rise.0 g.1 g.3 (let e = fall.1 in let e' = g.2.1 in omega arith) fall.2 (moments fall.0 (let e = fall.1 in let e' = g.2.1 in omega arith) fall.2) fall.3 fall.4
                 rise.1 (let e = rise.2 in let e' = g.2.2 in omega arith) (moments rise.0 rise.1 (let e = rise.2 in let e' = g.2.2 in omega arith)) rise.3 rise.4
           ]
     ]
   where
-    true_false : true ≡ false → ⊥
-    true_false e = cc
-
-    false_true : false ≡ true → ⊥
-    false_true e = cc
-
     swap : {P Q : Type 0} → P ⊎ Q → Q ⊎ P
     swap (inl p) = inr p
     swap (inr q) = inl q

@@ -1,57 +1,5 @@
-use Rattle.ta_simplex.proofs.Common.{◌≡◌, ◌⊎◌, inl, inr, ℕ, zero, suc, ◌<◌, length, arith, sym, ap, subst, ℤ, pos, ◌<ℤ◌, ◌≤ℤ◌, cases_lt, cases_eq, cases_order, ints, Tableau, row_of, cell_of, basic_of, non_basic_of, IsDictionary, Leaves, RuleEnds, Enters, by_lt_z}
-
--- among the first k places, the one of least name at which P holds, or it holds at none
-abbrev pub LeastAmong : (ℕ → ℕ) → (ℕ → Type 0) → (ℕ → Type 0) → ℕ → Type 0
-LeastAmong name P Q k = (i : ℕ) × (i < k) × P i × ((j : ℕ) → j < k → name j < name i → Q j)
-
-pub least_or_none : (name : ℕ → ℕ) (P Q : ℕ → Type 0) (k : ℕ) → ((i : ℕ) → P i ⊎ Q i) → LeastAmong name P Q k ⊎ ((j : ℕ) → j < k → Q j)
-least_or_none name P Q zero either = inr (λ j h. absurd (omega arith))
-least_or_none name P Q (suc k) either =
-    elim (least_or_none name P Q k either) [
-      | inl g ↦ elim (either k) [
-        | inl here ↦ elim (cases_lt (name k) (name g.0)) [
-          | inl smaller ↦ inl (
-            k,
-            omega arith,
-            here,
-            λ j h less. elim (cases_eq j k) [
-              | inl same ↦ absurd (let e = ap name same in omega arith)
-              | inr other ↦ g.3 j (omega arith) (omega arith)
-            ],
-          )
-          | inr larger ↦ inl (
-            g.0,
-            (let h = g.1 in omega arith),
-            g.2,
-            λ j h less. elim (cases_eq j k) [
-              | inl same ↦ absurd (let e = ap name same in omega arith)
-              | inr other ↦ g.3 j (omega arith) less
-            ],
-          )
-        ]
-        | inr not_here ↦ inl (
-          g.0,
-          (let h = g.1 in omega arith),
-          g.2,
-          λ j h less. elim (cases_eq j k) [
-            | inl same ↦ subst Q (sym same) not_here
-            | inr other ↦ g.3 j (omega arith) less
-          ],
-        )
-      ]
-      | inr none ↦ elim (either k) [
-        | inl here ↦ inl (
-          k,
-          omega arith,
-          here,
-          λ j h less. elim (cases_eq j k) [
-            | inl same ↦ absurd (let e = ap name same in omega arith)
-            | inr other ↦ none j (omega arith)
-          ],
-        )
-        | inr not_here ↦ inr (λ j h. elim (cases_eq j k) [ inl same ↦ subst Q (sym same) not_here | inr other ↦ none j (omega arith) ])
-      ]
-    ]
+use Rattle.ta_simplex.proofs.Common.{◌≡◌, ◌⊎◌, inl, inr, ℕ, ◌<◌, length, arith, ℤ, pos, ◌<ℤ◌, ◌≤ℤ◌, cases_order, ints, Tableau, row_of, cell_of, basic_of, non_basic_of, IsDictionary, Leaves, RuleEnds, Enters, by_lt_z}
+use Rattle.ta_base.proofs.Searches.{least_or_none}
 
 leaving_or_none : (t : Tableau) → ((row : ℕ) × Leaves t row) ⊎ ((i : ℕ) → i < length t.rows → pos 0 ≤ℤ (row_of t i).constant)
 leaving_or_none t =

@@ -1,20 +1,20 @@
 -- The names that the proofs of this crate cite, passed on from one place. Declares nothing.
 pub use Rattle.std.proofs.Common.{Bool, Global, List, None, Option, Some, Vec, [], ap, arith, cond, drop, eq-eqb, eqb, false, get_or, get_or-set_other, get_or-set_same, inl, inr, length, map, min, nat_lt, neg_ℤ, negsuc, pos, refl, reverse, rules, set, slice_get, subst, suc, sym, take, true, vec_len, zero, ℕ, ℤ, ⊎_elim, ◌*ℤ◌, ◌*◌, ◌++◌, ◌+ℤ◌, ◌+◌, ◌-ℤ◌, ◌-◌, ◌<ℤ◌, ◌<◌, ◌^◌, ◌||◌, ◌∙◌, ◌∷◌, ◌≡◌, ◌≢◌, ◌≤ℤ◌, ◌≤◌, ◌⊎◌}
 pub use Rattle.std.proofs.Math.IntN.{*ℤ-zero, *ℤ_comm}
-pub use Rattle.std.proofs.Math.Nat.{two-pow-succ, zero-div}
+pub use Rattle.std.proofs.Math.Nat.{zero-div}
 pub use Rattle.std.proofs.lemmas.Bool.{cases_Bool, cases_eq, cases_lt, cases_order, le-ltb, lt-ltb}
 pub use Rattle.std.proofs.lemmas.Bool.Decides.{eqb_tells, nat_tests}
 pub use Rattle.std.proofs.lemmas.Int.{by_lt_z, ints, to_z-of_z}
-pub use Rattle.std.proofs.lemmas.List.{append-nil, append_assoc, get_or-append_right, get_or-map, get_or_append_left, get_or_push, length-append, length-map, length-replicate, length-set, length-take-le, map-append, map-set, replicate-append-replicate, reverse-append, set-append_left, take-append-drop, take-map, with_items_is}
+pub use Rattle.std.proofs.lemmas.List.{append-nil, append_assoc, get_or-append_right, get_or-map, get_or_append_left, get_or_push, length-append, length-map, length-replicate, length-set, length-take-le, map-append, map-set, reverse-append, set-append_left, take-append-drop, take-map, with_items_is}
 pub use Rattle.std.proofs.lemmas.List.FromFn.{length-range_with_len}
 pub use Rattle.std.specs.List.{range_with_len}
 pub use Rattle.std.specs.Prelude.{All, IsSomeAnd, int_div, option_to_list, remove, replicate, slice_index, unsigned_abs}
-pub use Rattle.ta_base.proofs.Booleans.{both_ways, same_or_not}
+pub use Rattle.ta_base.proofs.Booleans.{both_ways}
 pub use Rattle.ta_base.proofs.Integers.{at_least_one, expand, ge-zero_of_mul, lt-zero_of_mul, mul-ge-zero, mul-le-zero, mul-le-zero_turned, mul-lt-zero, positive_prop, quotient_whole, single, single-at, single-elsewhere, single-le, times_zero, unsigned_abs-neg, zero_from_bits, zero_minus, zero_or_not}
-unfoldable pub use Rattle.ta_base.proofs.Integers.{range_sum, sum_between}
 pub use Rattle.ta_base.proofs.Lists.{get-set_other, get-set_same, get_end, map_same, range_split, slice_get_before, fewer_alike}
 pub use Rattle.ta_base.proofs.Naturals.{pigeon, switches}
 pub use Rattle.ta_base.proofs.Sums.{range_sum-front, range_sum-same, sum-add, sum-single, sum-split, sum-sub, sum-upto, sum-zero}
+unfoldable pub use Rattle.ta_base.proofs.Sums.{range_sum, sum_between}
 pub use Rattle.ta_dense.proofs.ExtendFacts.{length-carried}
 pub use Rattle.ta_dense.proofs.Keeps.{IsDictionary-pivoted, basic_at, basic_elsewhere, column_count, merged_basic, non_basic_at, row_count}
 pub use Rattle.ta_dense.proofs.RowFacts.{record_same}

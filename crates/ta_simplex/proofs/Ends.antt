@@ -3,7 +3,8 @@ use Rattle.ta_simplex.proofs.Basic.{is_basic}
 use Rattle.ta_simplex.proofs.Bland.{Moment, no_basis_repeats}
 use Rattle.ta_simplex.proofs.Moments.{moment}
 use Rattle.ta_simplex.proofs.Choose.{Chosen, choose, same_row, same_column, not_ended}
-use Rattle.ta_simplex.proofs.Pigeon.{mask, mask-below, mask-same}
+use Rattle.ta_base.proofs.Bits.{mask_of-same}
+use Rattle.ta_base.proofs.Naturals.{mask_of, mask_of-below}
 
 -- how many steps of the rule follow, counted up to a bound
 unfoldable pub steps_left : ℕ → Tableau → ℕ
@@ -78,9 +79,9 @@ full_run A n (suc b) t d e =
 -- a run of the rule has fewer steps than there are sets of variables
 run_is_short : (A : ℤ → (ℕ → ℤ) → Type 0) (n b : ℕ) (t : Tableau) → Run A n b t → b < 2 ^ n
 run_is_short A n b t r =
-    pigeon (2 ^ n) (λ i. mask (is_basic (r.at i)) n) (suc b)
-    (λ i h. mask-below (is_basic (r.at i)) n)
-    (λ i j h k same. no_basis_repeats A n r.at i j h (λ m low high. r.moments m (omega arith)) (mask-same (is_basic (r.at i)) (is_basic (r.at j)) n same))
+    pigeon (2 ^ n) (λ i. mask_of (is_basic (r.at i)) n) (suc b)
+    (λ i h. mask_of-below (is_basic (r.at i)) n)
+    (λ i j h k same. no_basis_repeats A n r.at i j h (λ m low high. r.moments m (omega arith)) (mask_of-same (is_basic (r.at i)) (is_basic (r.at j)) n same))
 
 -- the measure of a run: the steps that are left
 unfoldable pub measure : ℕ → Tableau → ℕ

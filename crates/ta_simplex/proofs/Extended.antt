@@ -1,6 +1,7 @@
 -- a pivot of a tableau that is extended by columns and rows
-use Rattle.ta_simplex.proofs.Common.{◌≡◌, ◌⊎◌, inl, inr, ℕ, suc, ◌+◌, ◌-◌, ◌<◌, ◌≤◌, List, [], ◌∷◌, ◌++◌, length, map, set, get_or, arith, refl, sym, ap, ◌∙◌, subst, ℤ, pos, replicate, range_with_len, ints, cases_lt, lt-ltb, le-ltb, append_assoc, map-append, map-set, length-map, length-append, length-replicate, set-append_left, get_or_append_left, get_or-append_right, get_or-map, replicate-append-replicate, length-range_with_len, InRange, TableauRow, Tableau, cell_of, no_row, row_of, basic_of, non_basic_of, merged, turned, pivoted, MergesInRange, MergesByInRange, CombinesInRange, RowsMergeBelow, FirstRefused, FirstOverflow, Enters, KeptPivot, chosen_row, after_pivot, widened, raised, record_same, tableau_same, MakesPivot, ◌*ℤ◌, ◌-ℤ◌, ◌<ℤ◌, ◌≤ℤ◌, Leaves}
-use Rattle.ta_simplex.proofs.Widening.{zeros, cell_inside, cell_beyond, merged_widened, merged_chosen, turned_widened}
+use Rattle.ta_simplex.proofs.Common.{◌≡◌, ◌⊎◌, inl, inr, ℕ, suc, ◌+◌, ◌-◌, ◌<◌, ◌≤◌, List, [], ◌∷◌, ◌++◌, length, map, set, get_or, arith, refl, sym, ap, ◌∙◌, subst, ℤ, pos, replicate, range_with_len, ints, cases_lt, lt-ltb, le-ltb, map-append, map-set, length-map, length-append, set-append_left, get_or_append_left, get_or-append_right, get_or-map, length-range_with_len, InRange, TableauRow, Tableau, cell_of, no_row, row_of, basic_of, non_basic_of, merged, turned, pivoted, MergesInRange, MergesByInRange, CombinesInRange, RowsMergeBelow, FirstRefused, FirstOverflow, Enters, KeptPivot, chosen_row, after_pivot, widened, raised, record_same, tableau_same, MakesPivot, ◌*ℤ◌, ◌-ℤ◌, ◌<ℤ◌, ◌≤ℤ◌, Leaves}
+use Rattle.ta_base.proofs.Lists.{filled_up_more}
+use Rattle.ta_simplex.proofs.Widening.{cell_inside, cell_beyond, merged_widened, merged_chosen, turned_widened}
 
 -- a tableau of n columns with e more, and with more rows
 abbrev pub with_more : ℕ → ℕ → Tableau → List TableauRow → Tableau
@@ -88,17 +89,11 @@ pub record IsChosen (columns : ℕ) (c : TableauRow) (k : KeptPivot) : Type 0 wh
   pub constant : c.constant ≡ k.constant
   pub cells : c.cells ≡ k.cells ++ replicate (columns - length k.cells) (pos 0)
 
-padded_more : (cells kept : List ℤ) (n e : ℕ) → length kept ≤ n → cells ≡ kept ++ replicate (n - length kept) (pos 0) → cells ++ zeros e ≡ kept ++ replicate ((n + e) - length kept) (pos 0)
-padded_more cells kept n e h is =
-    let sum : (n - length kept) + e ≡ (n + e) - length kept = omega arith in
-    ap (λ (xs : List ℤ). xs ++ zeros e) is ∙ append_assoc kept (replicate (n - length kept) (pos 0)) (zeros e)
-    ∙ ap (λ (xs : List ℤ). kept ++ xs) (replicate-append-replicate (n - length kept) e (pos 0) ∙ ap (λ (i : ℕ). replicate i (pos 0)) sum)
-
 pub chosen_more : (n e : ℕ) (t : Tableau) (k : KeptPivot) → length t.non_basic ≡ n → MakesPivot t k → IsChosen (n + e) (widened n e (row_of t k.row)) k
 chosen_more n e t k columns makes = record {
   denominator = makes.denominator;
   constant = makes.constant;
-  cells = padded_more (row_of t k.row).cells k.cells n e (let h = makes.long in omega arith) (subst (λ (c : ℕ). (row_of t k.row).cells ≡ k.cells ++ replicate (c - length k.cells) (pos 0)) columns makes.cells);
+  cells = filled_up_more (row_of t k.row).cells k.cells n e (pos 0) (let h = makes.long in omega arith) (subst (λ (c : ℕ). (row_of t k.row).cells ≡ k.cells ++ replicate (c - length k.cells) (pos 0)) columns makes.cells);
 }
 
 new_rows_merged : (columns : ℕ) (c : TableauRow) (k : KeptPivot) (rows : List TableauRow) → IsChosen columns c k → map (merged k.column c) rows ≡ after_pivot columns k rows
@@ -183,7 +178,7 @@ enters_more n m e t rows row column size below enters =
         | inl old ↦
             let there = old_column n e t rows j old in
             rw (at, cell_inside n e (row_of t row) j (omega arith)) (enters.least j old (raised_less n e (non_basic_of t j) (non_basic_of t column) (omega arith)))
-        | inr later ↦ rw (at, cell_beyond n e (row_of t row) j (omega arith) (omega arith)) (omega (arith, ints))
+        | inr later ↦ rw (at, cell_beyond n e (row_of t row) j (omega arith)) (omega (arith, ints))
       ];
     }
 
@@ -206,9 +201,7 @@ merges_by_more n e p q column chosen r long h = record {
   cells = λ j inside apart. elim (cases_lt j (length r.cells)) [
     | inl old ↦ rw (cell_inside n e r j old, cell_inside n e chosen j (omega arith)) (h.cells j old apart)
     | inr later ↦
-        let l = length-append r.cells (zeros e) in
-        let k = length-replicate e (pos 0) in
-        zeros_combine p (cell_of (widened n e r) j) q (cell_of (widened n e chosen) j) (cell_beyond n e r j later (omega arith)) (cell_beyond n e chosen j (omega arith) (omega arith))
+        zeros_combine p (cell_of (widened n e r) j) q (cell_of (widened n e chosen) j) (cell_beyond n e r j later) (cell_beyond n e chosen j (omega arith))
   ];
 }
 

@@ -1,43 +1,15 @@
 -- a refutation has multipliers for the stuck row's own slack and for non-basic slacks alone: at most one more than there are columns
-use Rattle.ta_simplex.proofs.Common.{◌≡◌, ◌⊎◌, inl, inr, ℕ, zero, suc, ◌+◌, ◌<◌, ◌≤◌, List, [], ◌∷◌, length, get_or, cond, eqb, arith, refl, sym, ap, ◌∙◌, ℤ, pos, ◌≤ℤ◌, cases_lt, cases_eq, eqb_tells, ints, length-set, length-range_with_len, pigeon, coefficient, AreMultipliers, System, Tableau, basic_of, non_basic_of, slack_tableau, DictionaryOf, Reached, GivesMultipliers, MultipliersAreFew}
+use Rattle.ta_simplex.proofs.Common.{◌≡◌, ◌⊎◌, inl, inr, ℕ, zero, suc, ◌+◌, ◌<◌, ◌≤◌, List, [], ◌∷◌, length, get_or, eqb, arith, refl, sym, ap, ◌∙◌, ℤ, pos, ◌≤ℤ◌, cases_lt, cases_eq, ints, length-set, length-range_with_len, pigeon, coefficient, AreMultipliers, System, Tableau, basic_of, non_basic_of, slack_tableau, DictionaryOf, Reached, GivesMultipliers, MultipliersAreFew}
+use Rattle.std.proofs.Common.{eqb-true, not}
+use Rattle.std.specs.List.{position_or_len}
+use Rattle.std.proofs.lemmas.Bool.{eqb-false}
+use Rattle.std.proofs.lemmas.List.Sums.{fails_before_first, passes_at_first, prefix_len-le-length}
+use Rattle.ta_base.proofs.Integers.{single, single-at, single-natural}
 use Rattle.ta_simplex.proofs.RunLemmas.{reached_dictionary}
 
 -- the first place of a number in a list, and the length where it is in none
-unfoldable place : List ℕ → ℕ → ℕ
-place [] v = 0
-place (u ∷ us) v = cond (eqb u v) 0 (suc (place us v))
-
-place-le : (us : List ℕ) (v : ℕ) → place us v ≤ length us
-unfolding place
-place-le [] v = omega arith
-place-le (u ∷ us) v =
-    elim (eqb_tells u v) [
-      | inl here ↦ rw here.0 (omega arith)
-      | inr other ↦ rw other.0 (let h = place-le us v in omega arith)
-    ]
-
-get_or-place : (us : List ℕ) (v : ℕ) → place us v < length us → get_or us (place us v) 0 ≡ v
-unfolding place
-get_or-place [] v = λ h. absurd (omega arith)
-get_or-place (u ∷ us) v =
-    elim (eqb_tells u v) [
-      | inl here ↦ rw here.0 (λ h. here.1)
-      | inr other ↦ rw other.0 (λ h. get_or-place us v (omega arith))
-    ]
-
-place-lt : (us : List ℕ) (v j : ℕ) → j < length us → get_or us j 0 ≡ v → place us v < length us
-unfolding place
-place-lt [] v j h is = absurd (omega arith)
-place-lt (u ∷ us) v zero h is =
-    elim (eqb_tells u v) [
-      | inl here ↦ rw here.0 (omega arith)
-      | inr other ↦ absurd (other.1 is)
-    ]
-place-lt (u ∷ us) v (suc j) h is =
-    elim (eqb_tells u v) [
-      | inl here ↦ rw here.0 (omega arith)
-      | inr other ↦ rw other.0 (let k = place-lt us v j (omega arith) is in omega arith)
-    ]
+abbrev place : List ℕ → ℕ → ℕ
+place us v = position_or_len (λ u. eqb u v) us
 
 -- the row that a term multiplies
 abbrev multiplied : List (ℕ × ℤ) → ℕ → ℕ
@@ -59,32 +31,16 @@ multiplied-rises low count (t ∷ ts) i zero m h k = absurd (omega arith)
 multiplied-rises low count (t ∷ ts) zero (suc j) m h k = let l = multiplied-le (t.0 + 1) count ts j m.3 (omega arith) in omega arith
 multiplied-rises low count (t ∷ ts) (suc i) (suc j) m h k = multiplied-rises (t.0 + 1) count ts i j m.3 (omega arith) (omega arith)
 
--- one term's part of a coefficient
-abbrev part : ℕ × ℤ → ℕ → ℤ
-part t k = cond (eqb t.0 k) t.1 (pos 0)
-
-part-natural : (t : ℕ × ℤ) (k : ℕ) → pos 1 ≤ℤ t.1 → pos 0 ≤ℤ part t k
-part-natural t k h =
-    elim (eqb_tells t.0 k) [
-      | inl same ↦ rw same.0 (omega (arith, ints, h))
-      | inr other ↦ rw other.0 (omega (arith, ints))
-    ]
-
-part-own : (t : ℕ × ℤ) → part t t.0 ≡ t.1
-part-own t =
-    elim (eqb_tells t.0 t.0) [
-      | inl same ↦ rw same.0 refl
-      | inr other ↦ absurd (other.1 refl)
-    ]
-
 coefficient-natural : (low count : ℕ) (ts : List (ℕ × ℤ)) (k : ℕ) → AreMultipliers low count ts → pos 0 ≤ℤ coefficient ts k
+unfolding single
 coefficient-natural low count [] k m = omega (arith, ints)
-coefficient-natural low count (t ∷ ts) k m = omega (arith, ints, part-natural t k m.2, coefficient-natural (t.0 + 1) count ts k m.3)
+coefficient-natural low count (t ∷ ts) k m = omega (arith, ints, single-natural t.0 k t.1 (omega (arith, ints, m.2)), coefficient-natural (t.0 + 1) count ts k m.3)
 
 coefficient-positive : (low count : ℕ) (ts : List (ℕ × ℤ)) (i : ℕ) → AreMultipliers low count ts → i < length ts → pos 1 ≤ℤ coefficient ts (multiplied ts i)
+unfolding single
 coefficient-positive low count [] i m h = absurd (omega arith)
-coefficient-positive low count (t ∷ ts) zero m h = omega (arith, ints, part-own t, m.2, coefficient-natural (t.0 + 1) count ts t.0 m.3)
-coefficient-positive low count (t ∷ ts) (suc i) m h = omega (arith, ints, part-natural t (multiplied ts i) m.2, coefficient-positive (t.0 + 1) count ts i m.3 (omega arith))
+coefficient-positive low count (t ∷ ts) zero m h = omega (arith, ints, single-at t.0 t.0 t.1 refl, m.2, coefficient-natural (t.0 + 1) count ts t.0 m.3)
+coefficient-positive low count (t ∷ ts) (suc i) m h = omega (arith, ints, single-natural t.0 (multiplied ts i) t.1 (omega (arith, ints, m.2)), coefficient-positive (t.0 + 1) count ts i m.3 (omega arith))
 
 -- a pivot keeps the number of columns
 reached_columns : (s : System) (k : ℕ) (t : Tableau) → Reached (slack_tableau s) k t → length t.non_basic ≡ s.unknowns
@@ -103,7 +59,10 @@ own_or_column s t row k multiplier d g inside positive =
         | inl own ↦ inl (ap (basic_of t) (sym own) ∙ b.2)
         | inr other ↦ let none = g.others b.0 k b.1 other inside b.2 in absurd (omega (arith, ints, none, positive))
       ]
-      | inr c ↦ inr (place-lt t.non_basic (s.unknowns + k) c.0 c.1 c.2)
+      | inr c ↦ inr (elim (cases_lt (place t.non_basic (s.unknowns + k)) (length t.non_basic)) [
+        | inl found ↦ found
+        | inr none ↦ absurd (eqb-false (non_basic_of t c.0) (s.unknowns + k) (fails_before_first (λ u. eqb u (s.unknowns + k)) t.non_basic c.0 0 (let below = c.1 in omega arith)) c.2)
+      ])
     ]
 
 -- no two rows that are multiplied have their slacks at one place
@@ -112,8 +71,8 @@ same_place : (s : System) (t : Tableau) (row k l : ℕ) (multiplier : ℕ → �
 same_place s t row k l multiplier d g inside inside' positive positive' same =
     elim (cases_lt (place t.non_basic (s.unknowns + k)) (length t.non_basic)) [
       | inl here ↦
-          let e = get_or-place t.non_basic (s.unknowns + k) here in
-          let e' = get_or-place t.non_basic (s.unknowns + l) (omega arith) in
+          let e = eqb-true _ _ (passes_at_first (λ u. eqb u (s.unknowns + k)) t.non_basic 0 here) in
+          let e' = eqb-true _ _ (passes_at_first (λ u. eqb u (s.unknowns + l)) t.non_basic 0 (omega arith)) in
           let e'' = ap (non_basic_of t) same in
           omega arith
       | inr past ↦ elim (own_or_column s t row k multiplier d g inside positive) [
@@ -132,7 +91,7 @@ few_multipliers s ts r =
     let m = r.multipliers.leaf.multipliers in
     let columns = reached_columns s r.steps r.tableau r.reached in
     pigeon (s.unknowns + 1) (λ i. place r.tableau.non_basic (s.unknowns + multiplied ts i)) (length ts)
-    (λ i h. let k = place-le r.tableau.non_basic (s.unknowns + multiplied ts i) in omega arith)
+    (λ i h. let k = prefix_len-le-length (λ u. not (eqb u (s.unknowns + multiplied ts i))) r.tableau.non_basic in omega arith)
     (λ i j h h' same.
     let rises = multiplied-rises 0 (length s.rows) ts i j m h h' in
     let inside = multiplied-lt 0 (length s.rows) ts i m (omega arith) in

@@ -1,4 +1,5 @@
 use Rattle.ta_simplex.proofs.Common.{◌≡◌, inl, inr, ℕ, suc, ◌+◌, ◌<◌, List, [], ◌∷◌, length, get_or, cond, eqb, arith, refl, sym, ap, ◌∙◌, ℤ, pos, ◌+ℤ◌, ◌*ℤ◌, ◌-ℤ◌, neg_ℤ, ◌<ℤ◌, ◌≤ℤ◌, cases_eq, eqb_tells, ints, *ℤ_comm, expand, single, single-at, single-elsewhere, single-le, sum_between, sum-add, sum-single, sum-split, sum-sub, sum-upto, sum-zero, TableauRow, dot, EquationHolds, terms_value, coefficient, slack_at, SlacksFollow, Row, AllBelow, terms_value-same, slacks_follow, extended-unknown, extended-slack}
+use Rattle.ta_base.proofs.Sums.{sum_between-next, sum_between-none}
 use Rattle.ta_dense.proofs.SlackDictionary.{extended}
 
 -- the cells of a variable, added up: at most one, where the variables differ
@@ -44,10 +45,10 @@ Numbers (r ∷ rs) scale value number = (slack_at r scale value ≡ number r) ×
 
 slacks-weighted : (weights : ℕ → ℤ) (v : ℕ) (rs : List Row) (scale : ℤ) (value : ℕ → ℤ) (number : Row → ℤ) → SlacksFollow rs v scale value → Numbers rs scale value number →
     sum_between v (length rs) (λ w. weights w *ℤ value w) ≡ slack_weighted weights v rs number
-unfolding sum_between slack_weighted
-slacks-weighted weights v [] scale value number follow same = refl
+unfolding slack_weighted
+slacks-weighted weights v [] scale value number follow same = sum_between-none v (λ w. weights w *ℤ value w)
 slacks-weighted weights v (r ∷ rs) scale value number follow same =
-    rw (follow.0, same.0, slacks-weighted weights (suc v) rs scale value number follow.1 same.1) refl
+    sum_between-next v (length rs) (λ w. weights w *ℤ value w) ∙ rw (follow.0, same.0, slacks-weighted weights (suc v) rs scale value number follow.1 same.1) refl
 
 -- the weights of the slacks make up what the weights of the unknowns leave of the row's constant
 balance : (u : ℕ) (rs : List Row) (r : TableauRow) (us : List ℕ) (scale : ℤ) (value : ℕ → ℤ) (number : Row → ℤ) → r.basic < u + length rs → ((j : ℕ) → j < length us → get_or us j 0 < u + length rs) →

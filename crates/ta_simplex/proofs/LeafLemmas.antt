@@ -1,5 +1,6 @@
 -- the multipliers of a refuted row are a leaf
 use Rattle.ta_simplex.proofs.Common.{◌≡◌, ◌≢◌, inl, inr, ℕ, zero, suc, ◌+◌, ◌<◌, ◌≤◌, List, [], ◌∷◌, length, get_or, arith, refl, sym, ap, ◌∙◌, subst, ℤ, pos, ◌+ℤ◌, ◌*ℤ◌, Option, Some, slice_get, cases_lt, cases_eq, ints, *ℤ-zero, range_sum, single-at, single-elsewhere, range_sum-front, range_sum-same, coefficient, IsNormal, terms_value, AllBelow, weighted, coefficient_in, constant_in, AreMultipliers, LeafOf, Row, System, coefficient-above, Tableau, row_of, basic_of, DictionaryOf, Stuck, GivesMultipliers, AreLeafMultipliers, FillSlots, ListsSlots}
+use Rattle.ta_base.proofs.Sums.{range_sum-zero}
 use Rattle.ta_linear.proofs.RangeSum.{terms_value-sum}
 use Rattle.ta_simplex.proofs.LeafLaws.{cells_at, weight, slack_weighted, refuted_is_leaf}
 
@@ -47,8 +48,8 @@ weighted-terms part rows [] = refl
 weighted-terms part rows (t ∷ ts) = ap (λ (z : ℤ). (t.1 *ℤ part (slice_get rows t.0)) +ℤ z) (weighted-terms part rows ts)
 
 slack-sum : (weights : ℕ → ℤ) (u : ℕ) (rs : List Row) (part : Option Row → ℤ) → range_sum (λ k. weights (u + k) *ℤ part (slice_get rs k)) (length rs) ≡ slack_weighted weights u rs (λ r. part (Some r))
-unfolding range_sum slack_weighted
-slack-sum weights u [] part = refl
+unfolding slack_weighted
+slack-sum weights u [] part = range_sum-zero (λ k. weights (u + k) *ℤ part (slice_get [] k)) 0 (λ k low. absurd (omega arith))
 slack-sum weights u (r ∷ rs) part =
     let front = range_sum-front (λ k. weights (u + k) *ℤ part (slice_get (r ∷ rs) k)) (length rs) in
     let rest = range_sum-same (λ k. weights (u + suc k) *ℤ part (slice_get rs k)) (λ k. weights (suc u + k) *ℤ part (slice_get rs k)) (length rs) (λ k h. ap (λ (v : ℕ). weights v *ℤ part (slice_get rs k)) (omega arith)) in

@@ -6,9 +6,7 @@ pub mod FewMultipliers
 pub mod MultiplierCoefficients
 pub mod DeterminedEnds
 mod Basic
-mod Search
 mod Bland
-mod Pigeon
 mod Moments
 mod Ends
 mod LeafLaws

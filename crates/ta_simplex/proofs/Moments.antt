@@ -1,4 +1,6 @@
-use Rattle.ta_simplex.proofs.Common.{◌≡◌, ◌≢◌, ◌⊎◌, inl, inr, ℕ, zero, suc, ◌<◌, List, [], ◌∷◌, length, get_or, Bool, true, false, ◌||◌, eqb, arith, refl, sym, ap, ◌∙◌, ℤ, eq-eqb, cases_eq, eqb_tells, both_ways, TableauRow, Tableau, no_row, pivoted, basic_of, non_basic_of, IsDictionary, IsDictionary-pivoted, basic_at, basic_elsewhere, non_basic_at, row_count, column_count, Leaves, Enters}
+use Rattle.ta_simplex.proofs.Common.{◌≡◌, ◌≢◌, ◌⊎◌, inl, inr, ℕ, zero, suc, ◌<◌, List, [], ◌∷◌, length, get_or, true, false, eqb, arith, refl, sym, ap, ◌∙◌, ℤ, eq-eqb, cases_eq, both_ways, TableauRow, Tableau, no_row, pivoted, basic_of, non_basic_of, IsDictionary, IsDictionary-pivoted, basic_at, basic_elsewhere, non_basic_at, row_count, column_count, Leaves, Enters}
+use mathlib.Core.Bool.{or-false, or-true}
+use Rattle.std.proofs.Common.{ne_eqb}
 use Rattle.ta_simplex.proofs.Basic.{is_basic, is_basic_in}
 use Rattle.ta_simplex.proofs.Bland.{Moment}
 
@@ -6,11 +8,7 @@ use Rattle.ta_simplex.proofs.Bland.{Moment}
 is_basic_in-true : (rs : List TableauRow) (v i : ℕ) → i < length rs → (get_or rs i no_row).basic ≡ v → is_basic_in rs v ≡ true
 is_basic_in-true [] v i h e = absurd (omega arith)
 is_basic_in-true (r ∷ rs) v zero h e = rw (eq-eqb r.basic v e) refl
-is_basic_in-true (r ∷ rs) v (suc i) h e = rw (is_basic_in-true rs v i (omega arith) e) (or_true (eqb r.basic v))
-  where
-    or_true : (b : Bool) → (b || true) ≡ true
-    or_true true = refl
-    or_true false = refl
+is_basic_in-true (r ∷ rs) v (suc i) h e = rw (is_basic_in-true rs v i (omega arith) e) (or-true (eqb r.basic v))
 
 is_basic_in-found : (rs : List TableauRow) (v : ℕ) → ((i : ℕ) × (i < length rs) × ((get_or rs i no_row).basic ≡ v)) ⊎ (is_basic_in rs v ≡ false)
 is_basic_in-found [] v = inr refl
@@ -19,12 +17,9 @@ is_basic_in-found (r ∷ rs) v =
       | inl e ↦ inl (0, omega arith, e)
       | inr ne ↦ elim (is_basic_in-found rs v) [
         | inl f ↦ inl (suc f.0, (let h = f.1 in omega arith), f.2)
-        | inr none ↦ inr (rw none (test_false r.basic v ne))
+        | inr none ↦ inr (rw none (or-false (eqb r.basic v) ∙ ne_eqb r.basic v ne))
       ]
     ]
-  where
-    test_false : (a b : ℕ) → a ≢ b → (eqb a b || false) ≡ false
-    test_false a b ne = elim (eqb_tells a b) [ inl same ↦ absurd (ne same.1) | inr other ↦ rw other.0 refl ]
 
 -- the tests of a dictionary
 tests : (t : Tableau) (i : ℕ) → i < length t.rows → is_basic t (basic_of t i) ≡ true

@@ -1,7 +1,6 @@
 -- the pivots of a system are the first pivots of a longer one
-use Rattle.ta_simplex.proofs.Common.{◌≡◌, inl, inr, ℕ, zero, suc, ◌+◌, ◌-◌, ◌<◌, ◌≤◌, List, [], ◌∷◌, ◌++◌, length, map, get_or, drop, arith, refl, sym, ap, ◌∙◌, subst, ℤ, range_with_len, map-append, length-range_with_len, range_split, length-carried, length-slack_rows, coefficient, IsNormal, AllBelow, Row, System, coefficient-above, TableauRow, Tableau, no_row, merged, pivoted, coefficients, slack_row_of, slack_rows, slack_tableau, MergesInRange, FirstRefused, KeptPivot, kept_at, chosen_row, after_pivot, carried, StayInRange, widened, raised, extended, new_rows, FirstLeaving, record_same, slack_tableau-is, row_count, column_count, merged_basic, Reached, OverflowsAt, IsCount, tableau_after, MakesPivot, Follows, BeginsSystem}
+use Rattle.ta_simplex.proofs.Common.{◌≡◌, inl, inr, ℕ, zero, suc, ◌+◌, ◌-◌, ◌<◌, ◌≤◌, List, [], ◌∷◌, ◌++◌, length, map, get_or, drop, arith, refl, sym, ap, ◌∙◌, subst, ℤ, pos, replicate, range_with_len, map-append, length-range_with_len, range_split, length-carried, length-slack_rows, coefficient, IsNormal, AllBelow, Row, System, coefficient-above, TableauRow, Tableau, no_row, merged, pivoted, coefficients, slack_row_of, slack_rows, slack_tableau, MergesInRange, FirstRefused, KeptPivot, kept_at, chosen_row, after_pivot, carried, StayInRange, widened, raised, extended, new_rows, FirstLeaving, record_same, slack_tableau-is, row_count, column_count, merged_basic, Reached, OverflowsAt, IsCount, tableau_after, MakesPivot, Follows, BeginsSystem}
 use Rattle.ta_simplex.proofs.RunLemmas.{reached_dictionary}
-use Rattle.ta_simplex.proofs.Widening.{zeros}
 use Rattle.ta_simplex.proofs.Extended.{with_more, OfSize, AreNewRows, raised_at, pivoted_more, leaves_more, enters_more, makes_more, overflows_more}
 
 -- the run that makes these pivots
@@ -19,14 +18,14 @@ raised_range n e a (suc k) h =
     let rest = raised_range n e (a + 1) k (omega arith) in
     cc
 
-beyond_zeros : (n : ℕ) (ts : List (ℕ × ℤ)) → IsNormal 0 n ts → (a e : ℕ) → n ≤ a → map (coefficient ts) (range_with_len a e) ≡ zeros e
+beyond_zeros : (n : ℕ) (ts : List (ℕ × ℤ)) → IsNormal 0 n ts → (a e : ℕ) → n ≤ a → map (coefficient ts) (range_with_len a e) ≡ replicate e (pos 0)
 beyond_zeros n ts normal a zero h = refl
 beyond_zeros n ts normal a (suc e) h =
     let first = coefficient-above 0 n ts a normal h in
     let rest = beyond_zeros n ts normal (a + 1) e (omega arith) in
     cc
 
-coefficients_more : (n e : ℕ) (ts : List (ℕ × ℤ)) → IsNormal 0 n ts → coefficients (n + e) ts ≡ coefficients n ts ++ zeros e
+coefficients_more : (n e : ℕ) (ts : List (ℕ × ℤ)) → IsNormal 0 n ts → coefficients (n + e) ts ≡ coefficients n ts ++ replicate e (pos 0)
 coefficients_more n e ts normal =
     let z : 0 + n ≡ n = omega arith in
     ap (map (coefficient ts)) (range_split 0 n e) ∙ map-append (coefficient ts) (range_with_len 0 n) (range_with_len (0 + n) e)

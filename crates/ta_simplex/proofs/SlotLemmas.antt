@@ -1,5 +1,6 @@
 -- filling the places of the rows, and listing those that are not 0
-use Rattle.ta_simplex.proofs.Common.{◌≡◌, ◌≢◌, ◌⊎◌, inl, inr, ℕ, zero, suc, ◌+◌, ◌-◌, ◌<◌, ◌≤◌, List, [], ◌∷◌, ◌++◌, length, set, Bool, true, false, cond, nat_lt, arith, refl, sym, ap, ◌∙◌, ℤ, pos, ◌≤ℤ◌, neg_ℤ, get_or-set_same, get_or-set_other, cases_lt, cases_eq, nat_tests, eqb_tells, ints, length-set, at_least_one, unsigned_abs-neg, InRange, coefficient, AreMultipliers, IsNormal-push, IsNormal-higher, coefficient-append, coefficient-above, Tableau, row_of, cell_of, basic_of, non_basic_of, NoneEnters, IsBasis, slot, put, AreNatural, FillSlots, ListsSlots, replicate, length-replicate}
+use Rattle.ta_simplex.proofs.Common.{◌≡◌, ◌≢◌, ◌⊎◌, inl, inr, ℕ, ◌+◌, ◌-◌, ◌<◌, ◌≤◌, List, [], ◌∷◌, ◌++◌, length, set, Bool, true, false, cond, nat_lt, arith, sym, ap, ◌∙◌, ℤ, pos, ◌≤ℤ◌, neg_ℤ, get_or-set_same, get_or-set_other, cases_lt, cases_eq, nat_tests, eqb_tells, ints, length-set, at_least_one, unsigned_abs-neg, InRange, coefficient, AreMultipliers, IsNormal-push, IsNormal-higher, coefficient-append, coefficient-above, Tableau, row_of, cell_of, basic_of, non_basic_of, NoneEnters, IsBasis, slot, put, AreNatural, FillSlots, ListsSlots, replicate, length-replicate}
+use Rattle.ta_base.proofs.Lists.{zeros_past}
 
 -- what a place holds after a number is put
 after_set : (ms : List ℤ) (p k : ℕ) (m : ℤ) → p < length ms → ((k ≡ p) × (slot (set ms p m) k ≡ m)) ⊎ ((k ≢ p) × (slot (set ms p m) k ≡ slot ms k))
@@ -53,18 +54,13 @@ put_natural u ms v m h n low fits = record {
   fits = λ k. (elim (after_put u ms v k m h) [ inl here ↦ rw here.1 fits | inr there ↦ rw there.1 (n.fits k) ]);
 }
 
-zeros : (n k : ℕ) → slot (replicate n (pos 0)) k ≡ pos 0
-zeros zero k = refl
-zeros (suc n) zero = refl
-zeros (suc n) (suc k) = zeros n k
-
 pub fill-first : (n u count : ℕ) (t : Tableau) (row : ℕ) (ms : List ℤ) → IsBasis n t → n ≡ u + count → row < length t.rows → ms ≡ replicate count (pos 0) → pos 0 ≤ℤ (row_of t row).denominator → InRange (row_of t row).denominator →
     Filled u count t row 0 (put u ms (basic_of t row) (row_of t row).denominator)
 fill-first n u count t row ms b room h e low fits =
     let long : length ms ≡ count = ap length e ∙ length-replicate count (pos 0) in
     let below = b.basic_below row h in
     let inside : basic_of t row < u + length ms = omega arith in
-    let none = λ (k : ℕ). ap (λ (xs : List ℤ). slot xs k) e ∙ zeros count k in
+    let none = λ (k : ℕ). ap (λ (xs : List ℤ). slot xs k) e ∙ zeros_past [] count k (omega arith) in
     record {
       long = length-put u ms (basic_of t row) (row_of t row).denominator ∙ long;
       natural = put_natural u ms (basic_of t row) (row_of t row).denominator inside (record {

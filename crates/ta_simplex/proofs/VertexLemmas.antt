@@ -1,5 +1,5 @@
 -- the values of a vertex meet every row
-use Rattle.ta_simplex.proofs.Common.{◌≡◌, inl, inr, ℕ, zero, suc, ◌+◌, ◌*◌, ◌<◌, ◌≤◌, List, [], ◌∷◌, length, arith, sym, ap, ◌∙◌, subst, ℤ, pos, ◌*ℤ◌, ◌≤ℤ◌, slice_get, All, IsSomeAnd, ints, *ℤ_comm, ge-zero_of_mul, mul-ge-zero, Row, System, Tableau, row_of, basic_of, non_basic_of, IsAssignment, SlacksFollow, slack_at, variables, DictionaryOf, NoneLeaves, GivesValues, MeetRows, Fraction}
+use Rattle.ta_simplex.proofs.Common.{◌≡◌, inl, inr, ℕ, zero, suc, ◌+◌, ◌*◌, ◌<◌, ◌≤◌, List, [], ◌∷◌, length, arith, sym, ap, ◌∙◌, subst, ℤ, pos, ◌*ℤ◌, ◌≤ℤ◌, slice_get, All, IsSomeAnd, ints, *ℤ_comm, ge-zero_of_mul, mul-ge-zero, Row, System, Tableau, row_of, basic_of, non_basic_of, IsAssignment, SlacksFollow, slack_at, variables, DictionaryOf, NoneLeaves, GivesValues, MeetRows, Fraction, *ℤ-zero}
 use Rattle.ta_base.proofs.Options.{is_some-map}
 use Rattle.ta_simplex.proofs.Bland.{row_alone}
 
@@ -19,11 +19,8 @@ corner s t d =
       value = f.1;
       some = (let some = f.2 in omega arith);
       assigned = f.3;
-      zeros = λ j h. (f.4 j h ∙ zero_product f.0);
+      zeros = λ j h. (f.4 j h ∙ *ℤ-zero (pos f.0));
     }
-  where
-    zero_product : (m : ℕ) → pos m *ℤ pos 0 ≡ pos 0
-    zero_product m = omega (arith, ints)
 
 alone : (s : System) (t : Tableau) → DictionaryOf s t → (c : Corner s t) → (i : ℕ) → i < length t.rows → (row_of t i).denominator *ℤ c.value (basic_of t i) ≡ pos c.scale *ℤ (row_of t i).constant
 alone s t d c = row_alone (IsAssignment s) (variables s) t d c.scale c.value c.assigned c.zeros

@@ -1,38 +1,32 @@
 -- rows with cells of 0 behind their own: what a pivot makes of them
-use Rattle.ta_simplex.proofs.Common.{◌≡◌, ℕ, zero, suc, ◌+◌, ◌-◌, ◌<◌, ◌≤◌, List, [], ◌∷◌, ◌++◌, length, map, set, get_or, arith, refl, ap, ◌∙◌, ℤ, pos, negsuc, ◌*ℤ◌, ◌-ℤ◌, unsigned_abs, int_div, replicate, map-append, length-map, set-append_left, get_or_append_left, get_or-append_right, times_zero, TableauRow, combine, cell_of, gcd_with, merged, merged_at, merged_by, reduced, divided, divisor_of, factor_divisor, turned, widened, raised, record_same, neg_ℤ, zero-div}
+use Rattle.ta_simplex.proofs.Common.{◌≡◌, ℕ, zero, suc, ◌+◌, ◌-◌, ◌<◌, ◌≤◌, List, [], ◌∷◌, ◌++◌, length, map, set, arith, refl, ap, ◌∙◌, ℤ, pos, negsuc, ◌*ℤ◌, ◌-ℤ◌, unsigned_abs, int_div, replicate, map-append, length-map, set-append_left, get_or_append_left, times_zero, TableauRow, combine, cell_of, gcd_with, merged, merged_at, merged_by, reduced, divided, divisor_of, factor_divisor, turned, widened, raised, record_same, neg_ℤ, zero-div}
+use Rattle.ta_base.proofs.Lists.{map-replicate, zeros_past}
 use Rattle.ta_linear.specs.Gcd.{gcd_of}
 use Rattle.ta_linear.proofs.GcdLemmas.{gcd_of-zero}
 use Rattle.ta_dense.proofs.PivotLaws.{length-combine}
 
-abbrev pub zeros : ℕ → List ℤ
-zeros e = replicate e (pos 0)
-
-map_zeros : (f : ℤ → ℤ) → f (pos 0) ≡ pos 0 → (e : ℕ) → map f (zeros e) ≡ zeros e
-map_zeros f h zero = refl
-map_zeros f h (suc e) = let rest = map_zeros f h e in cc
-
-combine_nothing : (p q : ℤ) (e : ℕ) → combine p q (zeros e) (zeros e) ≡ zeros e
+combine_nothing : (p q : ℤ) (e : ℕ) → combine p q (replicate e (pos 0)) (replicate e (pos 0)) ≡ replicate e (pos 0)
 combine_nothing p q zero = refl
 combine_nothing p q (suc e) = let rest = combine_nothing p q e in let first = times_zero p q in cc
 
-combine_zeros : (p q : ℤ) (xs cs : List ℤ) (e : ℕ) → length xs ≡ length cs → combine p q (xs ++ zeros e) (cs ++ zeros e) ≡ combine p q xs cs ++ zeros e
+combine_zeros : (p q : ℤ) (xs cs : List ℤ) (e : ℕ) → length xs ≡ length cs → combine p q (xs ++ replicate e (pos 0)) (cs ++ replicate e (pos 0)) ≡ combine p q xs cs ++ replicate e (pos 0)
 combine_zeros p q [] [] e h = combine_nothing p q e
 combine_zeros p q [] (c ∷ cs) e h = absurd (omega arith)
 combine_zeros p q (x ∷ xs) [] e h = absurd (omega arith)
 combine_zeros p q (x ∷ xs) (c ∷ cs) e h = ap (λ (ys : List ℤ). (p *ℤ x -ℤ q *ℤ c) ∷ ys) (combine_zeros p q xs cs e (omega arith))
 
-gcd_nothing : (g e : ℕ) → gcd_with g (zeros e) ≡ g
+gcd_nothing : (g e : ℕ) → gcd_with g (replicate e (pos 0)) ≡ g
 gcd_nothing g zero = refl
-gcd_nothing g (suc e) = ap (λ (k : ℕ). gcd_with k (zeros e)) (gcd_of-zero g 0 refl) ∙ gcd_nothing g e
+gcd_nothing g (suc e) = ap (λ (k : ℕ). gcd_with k (replicate e (pos 0))) (gcd_of-zero g 0 refl) ∙ gcd_nothing g e
 
-gcd_zeros : (g : ℕ) (xs : List ℤ) (e : ℕ) → gcd_with g (xs ++ zeros e) ≡ gcd_with g xs
+gcd_zeros : (g : ℕ) (xs : List ℤ) (e : ℕ) → gcd_with g (xs ++ replicate e (pos 0)) ≡ gcd_with g xs
 gcd_zeros g [] e = gcd_nothing g e
 gcd_zeros g (x ∷ xs) e = gcd_zeros (gcd_of g (unsigned_abs x)) xs e
 
 divided_zeros : (n e g : ℕ) (r : TableauRow) → divided g (widened n e r) ≡ widened n e (divided g r)
 divided_zeros n e g r =
     record_same (divided g (widened n e r)) (widened n e (divided g r)) refl refl refl
-    (map-append (λ (z : ℤ). int_div z (pos g)) r.cells (zeros e) ∙ ap (λ (ys : List ℤ). map (λ (z : ℤ). int_div z (pos g)) r.cells ++ ys) (map_zeros (λ (z : ℤ). int_div z (pos g)) (ap pos (zero-div g)) e))
+    (map-append (λ (z : ℤ). int_div z (pos g)) r.cells (replicate e (pos 0)) ∙ ap (λ (ys : List ℤ). map (λ (z : ℤ). int_div z (pos g)) r.cells ++ ys) (map-replicate (λ (z : ℤ). int_div z (pos g)) e (pos 0) ∙ ap (λ n. replicate e (pos n)) (zero-div g)))
 
 reduced_zeros : (n e : ℕ) (r : TableauRow) → reduced (widened n e r) ≡ widened n e (reduced r)
 reduced_zeros n e r =
@@ -44,18 +38,13 @@ merged_by_zeros n e p q column chosen r long inside =
     let l = length-combine p q r.cells chosen.cells long in
     record_same (merged_by p q column (widened n e chosen) (widened n e r)) (widened n e (merged_by p q column chosen r)) refl refl refl
     (ap (λ (xs : List ℤ). set xs column (q *ℤ chosen.denominator)) (combine_zeros p q r.cells chosen.cells e long)
-    ∙ set-append_left (combine p q r.cells chosen.cells) (zeros e) column (q *ℤ chosen.denominator) (omega arith))
+    ∙ set-append_left (combine p q r.cells chosen.cells) (replicate e (pos 0)) column (q *ℤ chosen.denominator) (omega arith))
 
 pub cell_inside : (n e : ℕ) (r : TableauRow) (column : ℕ) → column < length r.cells → cell_of (widened n e r) column ≡ cell_of r column
-cell_inside n e r column h = get_or_append_left r.cells (zeros e) (pos 0) column h
+cell_inside n e r column h = get_or_append_left r.cells (replicate e (pos 0)) (pos 0) column h
 
-pub cell_beyond : (n e : ℕ) (r : TableauRow) (j : ℕ) → length r.cells ≤ j → j < length r.cells + e → cell_of (widened n e r) j ≡ pos 0
-cell_beyond n e r j h k = get_or-append_right r.cells (zeros e) (length r.cells) j (pos 0) refl h ∙ zero_at e (j - length r.cells)
-  where
-    zero_at : (e i : ℕ) → get_or (zeros e) i (pos 0) ≡ pos 0
-    zero_at zero i = refl
-    zero_at (suc e) zero = refl
-    zero_at (suc e) (suc i) = zero_at e i
+pub cell_beyond : (n e : ℕ) (r : TableauRow) (j : ℕ) → length r.cells ≤ j → cell_of (widened n e r) j ≡ pos 0
+cell_beyond n e r j h = zeros_past r.cells e j h
 
 -- a pivot makes the same of a widened row
 pub merged_widened : (n e column : ℕ) (chosen r : TableauRow) → length r.cells ≡ length chosen.cells → column < length r.cells →
@@ -96,5 +85,5 @@ pub turned_widened : (n e column entering : ℕ) (c : TableauRow) → column < l
 turned_widened n e column entering c inside =
     let l = length-map c.cells neg_ℤ in
     record_same (turned (raised n e entering) column (widened n e c)) (widened n e (turned entering column c)) refl (cell_inside n e c column inside) refl
-    (ap (λ (xs : List ℤ). set xs column c.denominator) (map-append neg_ℤ c.cells (zeros e) ∙ ap (λ (ys : List ℤ). map neg_ℤ c.cells ++ ys) (map_zeros neg_ℤ refl e))
-    ∙ set-append_left (map neg_ℤ c.cells) (zeros e) column c.denominator (omega arith))
+    (ap (λ (xs : List ℤ). set xs column c.denominator) (map-append neg_ℤ c.cells (replicate e (pos 0)) ∙ ap (λ (ys : List ℤ). map neg_ℤ c.cells ++ ys) (map-replicate neg_ℤ e (pos 0)))
+    ∙ set-append_left (map neg_ℤ c.cells) (replicate e (pos 0)) column c.denominator (omega arith))

@@ -16,10 +16,10 @@ pub use Rattle.ta_automaton.specs.Numbered.{OfPattern}
 pub use Rattle.ta_automaton.specs.declared.automaton.Automaton.{Automaton}
 pub use Rattle.ta_automaton.specs.declared.file.File.{File}
 pub use Rattle.ta_automaton.specs.declared.pattern.Pattern.{Pattern}
-pub use Rattle.ta_base.proofs.DecimalDigits.{decimal_digits, digits_unique, found_here, none_here, numeral_same, zero_text}
+pub use Rattle.ta_base.proofs.DecimalDigits.{found_here, none_here, numeral_same, zero_text}
 pub use Rattle.ta_base.proofs.Each.{all_at, distinct_map_at, each_append, each_back, each_front, each_push}
 pub use Rattle.ta_base.proofs.Lists.{PassedTo, all_passed, append_nothing, first_byte, front_get, heads, not_empty, not_parted, one_passed, piece_written, read_same, take_next}
-pub use Rattle.ta_base.proofs.Naturals.{below_by, beyond_by, shifted, small_is_wide}
+pub use Rattle.ta_base.proofs.Naturals.{below_by, beyond_by, shifted}
 pub use Rattle.ta_base.specs.Masks.{In}
 pub use Rattle.ta_counter.specs.Checks.{RowFails, RowOutOfRange, RowPasses, RowsOver, RowsPass}
 pub use Rattle.ta_counter.specs.Values.{Value}

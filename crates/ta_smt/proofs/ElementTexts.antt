@@ -1,5 +1,5 @@
 -- Numbers and elements of words, from their texts.
-use Rattle.ta_smt.proofs.Common.{◌≡◌, ◌≢◌, ◌≤◌, ◌<◌, ◌^◌, ◌&&◌, ◌||◌, ◌∙◌, ◌≤ℤ◌, ℕ, zero, suc, ℤ, pos, List, [], ◌∷◌, ◌++◌, Bool, true, false, nat_eq, cond, Bor, map, append-nil, Option, None, Some, is_some, refl, sym, ap, subst, arith, rules, decimal, codes, option_map, option_and_then, MatchOption, list_all, slice_split, bytes_eq, signed_decimal, ints, found_here, none_here, InRange, Value, number_same, Element, those_elements, with_element, each_element, element_of, elements_in, elements_of, number_up_to}
+use Rattle.ta_smt.proofs.Common.{◌≡◌, ◌≢◌, ◌≤◌, ◌<◌, ◌^◌, ◌&&◌, ◌||◌, ◌∙◌, ◌≤ℤ◌, ℕ, zero, suc, ℤ, pos, List, [], ◌∷◌, ◌++◌, Bool, true, false, nat_eq, cond, Bor, map, append-nil, Option, None, Some, is_some, refl, sym, ap, subst, arith, rules, decimal, codes, option_map, option_and_then, MatchOption, list_all, slice_split, bytes_eq, signed_decimal, ints, found_here, none_here, InRange, Value, number_same, Element, those_elements, with_element, each_element, element_of, elements_in, elements_of, number_up_to, map-append}
 use Rattle.std.specs.Option.{unwrap_or}
 use Rattle.ta_replay.specs.Reading.{IsNumber}
 
@@ -99,11 +99,7 @@ those_next parts part items o so is =
     ap (λ xs. xs ++ with_element o []) so
     ∙ ap (λ p. those_elements (map (λ y. y.now) parts) ++ with_element p []) (sym is)
     ∙ sym (those_last (map (λ y. y.now) parts) part.now)
-    ∙ ap those_elements (sym (mapped parts part))
-  where
-    mapped : (xs : List (Bor (List ℕ))) (x : Bor (List ℕ)) → map (λ y. y.now) (xs ++ x ∷ []) ≡ map (λ y. y.now) xs ++ x.now ∷ []
-    mapped [] x = refl
-    mapped (y ∷ ys) x = ap (λ zs. y.now ∷ zs) (mapped ys x)
+    ∙ ap those_elements (sym (map-append (λ (y : Bor (List ℕ)). y.now) parts (part ∷ [])))
 
 pub those_skip : (parts : List (Bor (List ℕ))) (part : Bor (List ℕ)) (items : List Element) → items ≡ those_elements (map (λ y. y.now) parts) → element_of part.now ≡ None → items ≡ those_elements (map (λ y. y.now) (parts ++ part ∷ []))
 those_skip parts part items so is = sym (append-nil items) ∙ those_next parts part items None so is

@@ -1,13 +1,7 @@
 -- The text of a script determines it.
-use Rattle.ta_smt.proofs.Common.{ℕ, zero, suc, ◌+◌, ◌<◌, ◌^◌, ◌≡◌, List, [], ◌∷◌, ◌++◌, map, codes, decimal, refl, sym, ap, ◌∙◌, append_assoc, arith, false≢true, append_cancel_left, AllByRecursion, range_with_len, decimal_digits, digits_unique, numeral_same, heads, small_is_wide, lines_text, AtLeast, Script, ScriptFits, Summand, SummandFits, Numeral, Unknown, Product, Term, TermFits, Lone, Sum, assert_line, declare_line, script_text, summand_text, summands_text, term_text, unknown_text}
-use Rattle.ta_base.specs.Decimals.{BeginsNoDigit, is_padded}
-use Rattle.ta_base.proofs.Digits.{decimal_plain}
-
--- a numeral begins by a digit
-no_numeral : (m : ℕ) (x y : List ℕ) → m < 2 ^ 127 → BeginsNoDigit x → BeginsNoDigit y → decimal m ++ x ≡ y → ⊥
-no_numeral m x y low ends stops e =
-    let none = (digits_unique (decimal m) [] x y (decimal_digits m (small_is_wide m low)) tt ends stops e).0 in
-    false≢true (sym (decimal_plain m (small_is_wide m low)) ∙ ap is_padded none)
+use Rattle.ta_smt.proofs.Common.{ℕ, zero, suc, ◌+◌, ◌<◌, ◌^◌, ◌≡◌, List, [], ◌∷◌, ◌++◌, map, codes, decimal, refl, sym, ap, ◌∙◌, append_assoc, arith, append_cancel_left, AllByRecursion, range_with_len, numeral_same, heads, lines_text, AtLeast, Script, ScriptFits, Summand, SummandFits, Numeral, Unknown, Product, Term, TermFits, Lone, Sum, assert_line, declare_line, script_text, summand_text, summands_text, term_text, unknown_text}
+use Rattle.ta_base.specs.Decimals.{BeginsNoDigit}
+use Rattle.ta_base.proofs.Digits.{no_numeral}
 
 -- `N uK)` and what stands behind it
 product_behind : ℕ → ℕ → List ℕ → List ℕ

@@ -126,26 +126,6 @@ side_counted side form value terms more is count one =
     let same = ap one_of is in
     omega arith
 
--- the line of a row, part by part
-pub claim_written : (left right t0 t1 t2 t3 t4 t5 : List ℕ) → t1 ≡ t0 ++ codes "(assert (>= " → t2 ≡ t1 ++ left → t3 ≡ t2 ++ codes " " → t4 ≡ t3 ++ right → t5 ≡ t4 ++ codes "))\n" → t5 ≡ t0 ++ ((codes "(assert (>= " ++ (left ++ (codes " " ++ (right ++ codes "))")))) ++ (10 ∷ []))
-claim_written left right t0 t1 t2 t3 t4 t5 e1 e2 e3 e4 e5 =
-    let joined : t5 ≡ ((((t0 ++ codes "(assert (>= ") ++ left) ++ codes " ") ++ right) ++ codes "))\n" = e5 ∙ ap (λ t. t ++ codes "))\n") (e4 ∙ ap (λ t. t ++ right) (e3 ∙ ap (λ t. t ++ codes " ") (e2 ∙ ap (λ t. t ++ left) e1))) in
-    let head = codes "(assert (>= " in
-    let end = codes "))\n" in
-    let a = append_assoc (((t0 ++ head) ++ left) ++ codes " ") right end in
-    let b = append_assoc ((t0 ++ head) ++ left) (codes " ") (right ++ end) in
-    let c = append_assoc (t0 ++ head) left (codes " " ++ (right ++ end)) in
-    let d = append_assoc t0 head (left ++ (codes " " ++ (right ++ end))) in
-    let f : right ++ end ≡ (right ++ codes "))") ++ (10 ∷ []) = sym (append_assoc right (codes "))") (10 ∷ [])) in
-    let g : left ++ (codes " " ++ (right ++ end)) ≡ (left ++ (codes " " ++ (right ++ codes "))"))) ++ (10 ∷ []) = ap (λ xs. left ++ (codes " " ++ xs)) f ∙ sym (append_assoc left (codes " " ++ (right ++ codes "))")) (10 ∷ [])) in
-    joined ∙ a ∙ b ∙ c ∙ d ∙ ap (λ xs. t0 ++ (head ++ xs)) g
-
--- a term in parentheses, part by part
-pub sum_written : (middle t0 t1 t2 t3 : List ℕ) → t1 ≡ t0 ++ codes "(+" → t2 ≡ t1 ++ middle → t3 ≡ t2 ++ codes ")" → t3 ≡ t0 ++ (codes "(+" ++ (middle ++ codes ")"))
-sum_written middle t0 t1 t2 t3 e1 e2 e3 =
-    let joined : t3 ≡ ((t0 ++ codes "(+") ++ middle) ++ codes ")" = e3 ∙ ap (λ t. t ++ codes ")") (e2 ∙ ap (λ t. t ++ middle) e1) in
-    joined ∙ append_assoc (t0 ++ codes "(+") middle (codes ")") ∙ append_assoc t0 (codes "(+") (middle ++ codes ")")
-
 -- the whole text of a system
 pub system_written : (system : System) (t1 t2 t3 t4 t5 : List ℕ) → t1 ≡ codes "(set-logic QF_LIA)\n" → t2 ≡ t1 ++ lines_text (map declare_line (range_with_len 0 system.unknowns)) → t3 ≡ t2 ++ lines_text (map assert_line (map natural_claim (range_with_len 0 system.unknowns))) → t4 ≡ t3 ++ rows_text system.rows → t5 ≡ t4 ++ codes "(check-sat)\n" → t5 ≡ system_text system
 system_written system t1 t2 t3 t4 t5 e1 e2 e3 e4 e5 =

@@ -7,7 +7,7 @@ pub use Rattle.std.proofs.lemmas.List.Sums.{prefix_len-le-length}
 pub use Rattle.std.proofs.result.Match.{err_is}
 pub use Rattle.std.specs.Char.{is_ascii_digit}
 pub use Rattle.std.specs.List.{AllByRecursion, find, prefix_len}
-pub use Rattle.std.specs.Prelude.{IfSome, IsTrue, codes, ◌&&◌, ◌==◌, ◌⊎◌}
+pub use Rattle.std.specs.Prelude.{IfSome, IsTrue, codes, ◌==◌, ◌⊎◌}
 pub use Rattle.std.specs.String.{string_bytes}
 pub use Rattle.ta_base.proofs.DecimalDigits.{digits_ascii, letter_no_digit}
 pub use Rattle.ta_base.proofs.Each.{all_both, all_front, each_map_all}

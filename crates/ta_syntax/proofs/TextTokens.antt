@@ -4,7 +4,8 @@ use Rattle.std.proofs.lemmas.Bool.{cases_Bool, cases_eq}
 use Rattle.ta_syntax.specs.declared.tokens.Kind.TheVariants as kind
 use Rattle.ta_syntax.specs.declared.tokens.Mark.TheVariants as mark
 use Rattle.ta_syntax.specs.declared.fault.FileFault.TheVariants as fault
-use Rattle.ta_syntax.proofs.Words.{Fails, fails_after, name_from, number_from}
+use Rattle.ta_base.proofs.Each.{Fails, fails_after}
+use Rattle.ta_syntax.proofs.Words.{name_from, number_from}
 use Rattle.ta_syntax.proofs.UniqueTokens.{keyword_of, keyword_is, of_word, IsWordMark}
 use Rattle.ta_syntax.proofs.Scans.{ScanSoFar, scan_begins, scan_goes_on, scan_ends, scan_stops, after_shorter, kind_some}
 

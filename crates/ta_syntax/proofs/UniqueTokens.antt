@@ -1,20 +1,12 @@
 -- A text has its tokens in one way, or one first refused byte.
-use Rattle.ta_syntax.proofs.Common.{◌≡◌, ℕ, Option, Some, None, bytes_eq, Bool, true, false, cond, List, [], ◌∷◌, ◌++◌, length, inl, inr, ⊎_elim, refl, sym, ap, subst, ◌∙◌, arith, ◌+◌, IsTrue, ◌&&◌, ◌==◌, ◌⊎◌, IfSome, is_ascii_digit, AllByRecursion, find, nat_tests, letter_no_digit, unlike, is_white, is_lone, mark_bytes, kind_bytes, IsDigits, IsNameText, IsKind, IsKind-prop, is_letter, is_word, BeginsByLetter, lengthens, IsLongest, IsSpace, IsGap, IsLastGap, ScansTo, AreTokens, begins_mark, IsRefusedHere, IsRefused, NoToken, Kind, Mark, KEYWORDS, Token, MatchOption, append_cancel_left}
+use Rattle.ta_syntax.proofs.Common.{◌≡◌, ℕ, Option, Some, None, bytes_eq, Bool, true, false, cond, List, [], ◌∷◌, ◌++◌, length, inl, inr, ⊎_elim, refl, sym, ap, subst, ◌∙◌, arith, ◌+◌, IsTrue, ◌==◌, ◌⊎◌, IfSome, is_ascii_digit, AllByRecursion, find, nat_tests, letter_no_digit, unlike, is_white, is_lone, mark_bytes, kind_bytes, IsDigits, IsNameText, IsKind, IsKind-prop, is_letter, is_word, BeginsByLetter, lengthens, IsLongest, IsSpace, IsGap, IsLastGap, ScansTo, AreTokens, begins_mark, IsRefusedHere, IsRefused, NoToken, Kind, Mark, KEYWORDS, Token, MatchOption, append_cancel_left}
 use Rattle.std.proofs.lemmas.Slice.Eq.{bytes_eq-Decides}
 use Rattle.ta_syntax.specs.declared.tokens.Kind.TheVariants as kind
 use Rattle.ta_syntax.specs.declared.tokens.Mark.TheVariants as mark
-use Rattle.ta_syntax.proofs.Words.{Fails}
-
--- ---- the longest run of bytes that pass a test
-longest_unique : (p : ℕ → Bool) (a x b y : List ℕ) → AllByRecursion (λ c. IsTrue (p c)) a → Fails p x → AllByRecursion (λ c. IsTrue (p c)) b → Fails p y → a ++ x ≡ b ++ y → (a ≡ b) × (x ≡ y)
-longest_unique p [] x [] y all fails all' fails' e = (refl, e)
-longest_unique p [] x (c ∷ b) y all fails all' fails' e = absurd (let h : p c ≡ false = subst (Fails p) e fails in let g : p c ≡ true = all'.0 in cc)
-longest_unique p (c ∷ a) x [] y all fails all' fails' e = absurd (let h : p c ≡ false = subst (Fails p) (sym e) fails' in let g : p c ≡ true = all.0 in cc)
-longest_unique p (c ∷ a) x (d ∷ b) y all fails all' fails' e =
-    let same : c ≡ d = cc in
-    let rest : a ++ x ≡ b ++ y = cc in
-    let r = longest_unique p a x b y all.1 fails all'.1 fails' rest in
-    (ap (λ (z : ℕ). z ∷ a) same ∙ ap (λ (z : List ℕ). d ∷ z) r.0, r.1)
+use Rattle.ta_base.proofs.Each.{Fails, longest_unique}
+use Rattle.std.proofs.lemmas.List.Elements.{recursion_from_All}
+use Rattle.std.proofs.lemmas.List.Sums.{AllPass-from_list_all}
+use Rattle.ta_base.proofs.DecimalDigits.{digit_no_letter}
 
 -- ---- which sign stands first
 abbrev next_is : ℕ → List ℕ → Bool
@@ -30,18 +22,6 @@ sign_of (b ∷ bs) =
     (cond (b == 60) (cond (next_is 61 bs) mark.AtMost mark.Less)
     (cond (b == 62) (cond (next_is 61 bs) mark.AtLeast mark.More)
     mark.Equal)))))))))))
-
-abbrev all_test : (ℕ → Bool) → List ℕ → Bool
-all_test p [] = true
-all_test p (x ∷ xs) = p x && all_test p xs
-
-all_passed : (p : ℕ → Bool) (xs : List ℕ) → all_test p xs ≡ true → AllByRecursion (λ c. IsTrue (p c)) xs
-all_passed p [] e = tt
-all_passed p (x ∷ xs) e = step (p x) refl (λ h. all_passed p xs h) e
-  where
-    step : (b : Bool) → p x ≡ b → (all_test p xs ≡ true → AllByRecursion (λ c. IsTrue (p c)) xs) → b && all_test p xs ≡ true → IsTrue (p x) × AllByRecursion (λ c. IsTrue (p c)) xs
-    step true h f e = (h, f e)
-    step false h f e = absurd cc
 
 -- the keyword that a word is
 abbrev pub keyword_of : List ℕ → Option Mark
@@ -90,7 +70,7 @@ mark_is mark.Arrow = inr (record { first = (refl, refl, refl, λ e. omega arith)
 mark_is mark.AtMost = inr (record { first = (refl, refl, refl, λ e. omega arith); known = λ bs h. refl; begins = λ bs. lone_begins 60 (61 ∷ bs) refl })
 mark_is mark.Equal = inr (record { first = (refl, refl, refl, λ e. omega arith); known = λ bs h. refl; begins = λ bs. refl })
 mark_is mark.AtLeast = inr (record { first = (refl, refl, refl, λ e. omega arith); known = λ bs h. refl; begins = λ bs. lone_begins 62 (61 ∷ bs) refl })
-mark_is m = inl (record { each = all_passed is_word (mark_bytes m) refl; first = refl; longest = λ b. refl; known = refl })
+mark_is m = inl (record { each = recursion_from_All (λ b. IsTrue (is_word b)) (mark_bytes m) (AllPass-from_list_all is_word (mark_bytes m) refl); first = refl; longest = λ b. refl; known = refl })
 
 -- a sign has no letter in front
 sign_no_letter : (n : List ℕ) → StartsSign n → BeginsByLetter n → ⊥
@@ -159,9 +139,6 @@ letter_first (b ∷ n) x h = (h, letter_no_digit b h)
 digit_first : (d x : List ℕ) → IsDigits d → (FirstLetter (d ++ x) ≡ false) × (FirstDigit (d ++ x) ≡ true)
 digit_first [] x h = absurd h
 digit_first (b ∷ d) x h = (digit_no_letter b h.0, h.0)
-  where
-    digit_no_letter : (b : ℕ) → IsTrue (is_ascii_digit b) → is_letter b ≡ false
-    digit_no_letter b h = grind (arith, nat_tests)
 
 sign_first : (n x : List ℕ) → StartsSign n → (FirstLetter (n ++ x) ≡ false) × (FirstDigit (n ++ x) ≡ false)
 sign_first [] x h = absurd h

@@ -12,6 +12,7 @@ use Rattle.ta_syntax.proofs.ClauseSteps.{kept_then, kept_ready, kept_begun, kept
 use Rattle.ta_syntax.proofs.BlockSteps.{block_fits, entered, others_kept, one_more}
 use Rattle.ta_syntax.proofs.FileTexts.{behind_rule, behind_event, behind_pattern}
 use Rattle.ta_syntax.proofs.RuleSteps.{colon, colon_ready, kept_block}
+use Rattle.ta_base.proofs.Each.{each_all}
 
 -- The tokens take the counts from c to d, and none goes past a limit.
 record Scan (c : Counts) (ks : List Kind) (d : Counts) : Type 0 where
@@ -89,10 +90,6 @@ comparison_scan x c fine r =
     (scan_first (relation_kind x.relation) (relation_fits c x.relation r.room) (subst (λ (d : Counts). Scan d (sum_kinds x.right) c) (sym (after_relation c x.relation)) (sum_scan x.right 32 c fine.right (may_open c r))))
 
 -- ---- lists
-all_fine : {A : Type 0} (xs : List A) → AllByRecursion Fine xs
-all_fine [] = tt
-all_fine (x ∷ xs) = (tt, all_fine xs)
-
 module _ {A : Type 0} (Good : A → Type 0) (f : A → List Kind) (item : ScansItem Good f) where
   further_scan : (limit n : ℕ) (xs : List A) (c : Counts) → IsFresh limit c → AllByRecursion Good xs → n + length xs < limit → Scan (with_commas n c) (further kind.Fixed f xs) (with_commas (n + length xs) c)
   further_scan limit n [] c fresh all le = scan_as (scan_none (with_commas n c)) (ap (λ (k : ℕ). with_commas k c) (omega arith))
@@ -161,7 +158,7 @@ rule_scan : (r : PlainRule) (c : Counts) → IsRuleWithin r → IsEntered mark.R
 rule_scan r c fine e =
     let q = colon_ready mark.Rule c e in
     let guards = led_scan IsShallow comparison_kinds comparison_scan 16 mark.When r.guards (colon c) refl q fine.shallow fine.guards in
-    let updates = led_scan Fine update_kinds update_scan 16 mark.Do r.updates guards.counts refl (kept_ready guards.kept) (all_fine r.updates) fine.updates in
+    let updates = led_scan Fine update_kinds update_scan 16 mark.Do r.updates guards.counts refl (kept_ready guards.kept) (each_all Fine r.updates (λ _. tt)) fine.updates in
     let rest = kept_scan_then guards (kept_scan_then updates (end_scan updates.counts (kept_ready updates.kept))) in
     record {
       counts = rest.counts;
@@ -178,7 +175,7 @@ colon_scan xs c r all some few =
 event_scan : (e : PlainEvent) (c : Counts) → GoodEvent e → IsEntered mark.Event c → BlockScan mark.Event c (behind_event e)
 event_scan e c fine i =
     let r : IsReady c = record { closed = i.closed; room = i.room } in
-    let names = led_scan Fine name_kinds name_scan 8 mark.After e.after c refl r (all_fine e.after) fine.within.after in
+    let names = led_scan Fine name_kinds name_scan 8 mark.After e.after c refl r (each_all Fine e.after (λ _. tt)) fine.within.after in
     let rest = kept_scan_then names (colon_scan e.condition names.counts (kept_ready names.kept) fine.within.shallow (some_length e.condition fine.legal.some) fine.within.condition) in
     record { counts = rest.counts; kept = kept_block mark.Event c rest.counts rest.kept; scan = scan_name e.name i.room rest.scan }
 
@@ -213,7 +210,7 @@ pattern_scan : (p : PlainPattern) (c : Counts) → GoodPattern p → IsEntered m
 pattern_scan p c fine i =
     let r : IsReady c = record { closed = i.closed; room = i.room } in
     let start = ended_scan IsShallow comparison_kinds comparison_scan 16 mark.Start p.start c refl r fine.within.shallow fine.within.start in
-    let empty = kept_scan_then start (ended_scan Fine name_kinds name_scan 32 mark.Empty p.empty start.counts refl (kept_ready start.kept) (all_fine p.empty) fine.within.empty) in
+    let empty = kept_scan_then start (ended_scan Fine name_kinds name_scan 32 mark.Empty p.empty start.counts refl (kept_ready start.kept) (each_all Fine p.empty (λ _. tt)) fine.within.empty) in
     let events = blocks_scan GoodEvent mark.Event 8 refl behind_event event_scan p.events 0 empty.counts (kept_ready empty.kept) (let k : IsBetweenParts c empty.counts = empty.kept in k.events ∙ i.events refl) (all_events p.events fine.legal.events fine.within.each_event) (omega (arith, fine.within.events)) in
     let k : IsBetweenParts c empty.counts = empty.kept in
     let j : KeptOthers mark.Event empty.counts events.counts = events.kept in
@@ -235,9 +232,9 @@ tree_scan t legal fine =
     let r : IsReady at_start = record { closed = refl; room = lit< tt } in
     let name_end : KeptScan at_start (kind.Name t.name ∷ kind.Fixed mark.Semicolon ∷ []) = record { counts = at_start; kept = kept_same at_start r; scan = scan_name t.name r.room (scan_mark mark.Semicolon r.room tt (scan_none at_start)) } in
     let title : KeptScan at_start (kind.Fixed mark.Automaton ∷ kind.Name t.name ∷ kind.Fixed mark.Semicolon ∷ []) = record { counts = at_start; kept = kept_same at_start r; scan = scan_mark mark.Automaton r.room tt name_end.scan } in
-    let parameters = declared_scan Fine name_kinds name_scan 16 mark.Parameters t.parameters at_start (omega arith) refl r (all_fine t.parameters) fine.parameters in
-    let shared = declared_scan Fine name_kinds name_scan 16 mark.Shared t.shared parameters.counts (omega arith) refl (kept_ready parameters.kept) (all_fine t.shared) fine.shared in
-    let locations = declared_scan Fine location_kinds location_scan 32 mark.Locations t.locations shared.counts (omega arith) refl (kept_ready shared.kept) (all_fine t.locations) fine.locations in
+    let parameters = declared_scan Fine name_kinds name_scan 16 mark.Parameters t.parameters at_start (omega arith) refl r (each_all Fine t.parameters (λ _. tt)) fine.parameters in
+    let shared = declared_scan Fine name_kinds name_scan 16 mark.Shared t.shared parameters.counts (omega arith) refl (kept_ready parameters.kept) (each_all Fine t.shared (λ _. tt)) fine.shared in
+    let locations = declared_scan Fine location_kinds location_scan 32 mark.Locations t.locations shared.counts (omega arith) refl (kept_ready shared.kept) (each_all Fine t.locations (λ _. tt)) fine.locations in
     let ready5 = kept_ready locations.kept in
     let sum : KeptScan locations.counts (kind.Fixed mark.Processes ∷ (sum_kinds t.processes ++ kind.Fixed mark.Semicolon ∷ [])) = record { counts = locations.counts; kept = kept_same locations.counts ready5; scan = scan_mark mark.Processes ready5.room tt (scan_then (sum_scan t.processes 32 locations.counts fine.processes (may_open locations.counts ready5)) (scan_mark mark.Semicolon ready5.room tt (scan_none locations.counts))) } in
     let resilience = declared_scan IsShallow comparison_kinds comparison_scan 16 mark.Resilience t.resilience sum.counts (omega arith) refl ready5 fine.shallow fine.resilience in

@@ -1,18 +1,7 @@
 -- The longest run of bytes that pass a test.
-use Rattle.ta_syntax.proofs.Common.{◌≡◌, ℕ, suc, Bool, true, false, cond, List, [], ◌∷◌, take, drop, refl, sym, arith, ◌+◌, is_ascii_digit, prefix_len, all_front, begins_word, front_is, IsLongest, BeginsByDigit, TokenFrom, IsDigits, mark_bytes, is_word, BeginsByLetter, Mark, take-append-drop}
+use Rattle.ta_syntax.proofs.Common.{◌≡◌, ℕ, List, [], ◌∷◌, take, drop, sym, is_ascii_digit, prefix_len, all_front, begins_word, front_is, IsLongest, BeginsByDigit, TokenFrom, IsDigits, mark_bytes, is_word, BeginsByLetter, Mark, take-append-drop}
 use Rattle.ta_syntax.specs.declared.tokens.Kind.TheVariants as kind
-
-abbrev pub Fails : (ℕ → Bool) → List ℕ → Type 0
-Fails p [] = Unit {0}
-Fails p (b ∷ bs) = p b ≡ false
-
-pub fails_after : (p : ℕ → Bool) (xs : List ℕ) → Fails p (drop (prefix_len p xs) xs)
-fails_after p [] = tt
-fails_after p (x ∷ xs) = step (p x) refl (fails_after p xs)
-  where
-    step : (b : Bool) → p x ≡ b → Fails p (drop (prefix_len p xs) xs) → Fails p (drop (cond b (1 + prefix_len p xs) 0) (x ∷ xs))
-    step true e h = let s : 1 + prefix_len p xs ≡ suc (prefix_len p xs) = omega arith in rw s h
-    step false e h = e
+use Rattle.ta_base.proofs.Each.{Fails, fails_after}
 
 pub longest_name : (n : List ℕ) (xs : List ℕ) → Fails is_word xs → IsLongest (kind.Name n) xs
 longest_name n [] h = tt

@@ -17,7 +17,7 @@ safe_holds file number p at loops orders pairs found same budget within tree nod
     let good = subst (Good file.automaton) (sym same) (orders_sound file.automaton orders found).good in
     let holds = refuted_hold ClaimSafe file number p at tt loops pairs good budget within tree nodes is in
     under file (λ ps. SafeHolds (safety_question file ps p) budget nodes leaves) orders pairs found same
-    (record { safe = holds.1; tree = tree; is = is; counted = counted; proof = holds.0 })
+    (record { safe = holds.1; tree = tree; is = is; counted = counted; proof = λ _. holds.0 })
 
 -- a budget that is spent
 pub spent_holds : (file : File) (pairs : List (ℕ × ℕ)) (p : Pattern) (budget nodes : ℕ) → IsSpent (pattern_search file.automaton p pairs) budget nodes → SpentHolds (safety_question file pairs p) budget nodes

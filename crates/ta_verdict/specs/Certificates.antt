@@ -56,9 +56,6 @@ AreTreesOf Tree (one ∷ ones) (proof ∷ proofs) = HasNodes Tree one proof × A
 abbrev pub tree_under : File → ℕ → Pattern → List Node → ℕ → Type 0
 tree_under file budget p nodes count = UnderOrders file (λ pairs. TreeIs (pattern_search file.automaton p pairs) budget nodes count)
 
-abbrev pub IsProofTree : File → ℕ → SafeOne → Proof → Type 0
-IsProofTree file budget one proof = HasNodes (tree_under file budget) one proof
-
 -- a tree for each, in order, and no other
 abbrev pub AreTrees : File → ℕ → List SafeOne → List Proof → Type 0
 AreTrees file budget ones proofs = AreTreesOf (tree_under file budget) ones proofs

@@ -1,6 +1,7 @@
 -- What is said of the patterns and of the parameters of a file, and when it holds (this project's profile)
-use Rattle.std.specs.Prelude.{ℕ, ◌+◌, ◌≡◌, Bool, true, false, List, [], ◌∷◌, slice_get, Some, ℤ, pos, map}
+use Rattle.std.specs.Prelude.{ℕ, ◌+◌, ◌≤◌, ◌≡◌, Bool, true, false, List, [], ◌∷◌, slice_get, Some, ℤ, pos, map}
 use Rattle.std.specs.List.{AllByRecursion}
+use Rattle.ta_base.specs.declared.limits.TheConstants.{MOST_NODES}
 use Rattle.ta_automaton.specs.declared.automaton.Automaton.{Automaton}
 use Rattle.ta_automaton.specs.declared.file.File.{File}
 use Rattle.ta_automaton.specs.declared.pattern.Pattern.{Pattern}
@@ -53,13 +54,13 @@ pub record Question : Type 1 where
   pub leaves : Solution → Type 0
   pub few : ℕ → Type 0
 
--- it is so; the tree has so many nodes, within the budget, of which so many are leaves; and they are a proof that a judge accepts
+-- it is so; the tree has so many nodes, within the budget, of which so many are leaves; and within a judge's limit they are a proof that it accepts
 pub record SafeHolds (q : Question) (budget nodes leaves : ℕ) : Type 0 where
   pub safe : q.claim
   pub tree : List Node
   pub is : TreeIs q.search budget tree nodes
   pub counted : leaves ≡ leaf_count tree
-  pub proof : IsProof q.search tree
+  pub proof : budget ≤ MOST_NODES → IsProof q.search tree
 
 -- the run is that of the solution of the first whole node, which is the node of this number, within the budget; the pattern of the
 -- search has this number in its file

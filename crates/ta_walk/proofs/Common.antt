@@ -43,7 +43,7 @@ unfoldable pub use Rattle.ta_dense.specs.Slack.{slack_tableau}
 pub use Rattle.ta_dense.specs.Tableau.{Tableau, basic_of, cell_of, non_basic_of, row_of}
 pub use Rattle.ta_encode.proofs.CodeRows.{leaf_of, rows_count, solution_of, unbounded}
 pub use Rattle.ta_encode.proofs.Samples.{none_starts, sample_count, sample_few, samples_start}
-pub use Rattle.ta_encode.specs.Code.{AreRowsOf, IsRowOf, SystemAt}
+pub use Rattle.ta_encode.specs.Code.{SystemAt}
 pub use Rattle.ta_encode.specs.PatternSearch.{all_starts, empty_word, pattern_search}
 pub use Rattle.ta_encode.specs.Sample.{HasStart, sample_meanings, sample_search, sampled}
 unfoldable pub use Rattle.ta_encode.specs.Sample.{sample_rows}
@@ -51,12 +51,12 @@ pub use Rattle.ta_encode.specs.Search.{Comes, Pending, Search, SolvesAt, bound_a
 pub use Rattle.ta_encode.specs.System.{LinearRow, SolvesWord, bound_row, condition_rows, opposite, processes_row}
 pub use Rattle.ta_encode.specs.declared.meaning.Bound.{Bound}
 pub use Rattle.ta_encode.specs.declared.meaning.Side.TheVariants.{High, Low}
-pub use Rattle.ta_farkas.specs.Columns.{CheckStays, entry, part_in}
-pub use Rattle.ta_implied.specs.Implied.{AreCopies, ChainLeads, Good, ImplySystem, IsCopy, IsImplied, IsPair, resilience_rows}
+pub use Rattle.ta_farkas.specs.Columns.{CheckStays, entry}
+pub use Rattle.ta_implied.specs.Implied.{AreCopies, ChainLeads, Good, ImplySystem, IsImplied, IsPair, resilience_rows}
 pub use Rattle.ta_implied.specs.Orders.{IsShown, MayJoin, is_earlier, with_pair}
 pub use Rattle.ta_linear.specs.Leaf.{AreMultipliers, LeafOf}
 pub use Rattle.ta_linear.specs.Numbers.{InRange}
-pub use Rattle.ta_linear.specs.SameNumbers.{RowsAlike, SameNumbers, SameRow}
+pub use Rattle.ta_linear.specs.SameNumbers.{SameNumbers}
 pub use Rattle.ta_linear.specs.Terms.{coefficient}
 pub use Rattle.ta_linear.specs.declared.row.Row.{Row}
 pub use Rattle.ta_linear.specs.declared.row.System.{System}

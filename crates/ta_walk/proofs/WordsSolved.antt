@@ -1,5 +1,6 @@
 -- the values of a whole node solve its word
-use Rattle.ta_walk.proofs.Common.{◌≡◌, ℕ, zero, suc, ◌<◌, ◌^◌, ℤ, pos, negsuc, ◌*ℤ◌, ◌≤ℤ◌, List, [], ◌∷◌, map, length, reverse, slice_get, arith, refl, sym, ap, ◌∙◌, subst, IsSomeAnd, slice_index, ints, *ℤ_comm, ge-zero_of_mul, Element, LegalUnder, is_complete, SolvesWord, solution_of, unbounded, Fraction, whole_vertex_solves, pattern_search, comes_legal, IsWholeNumber, AreNumbers, FoundWordsAreSolved, WholeNodesSolve}
+use Rattle.ta_walk.proofs.Common.{◌≡◌, ℕ, zero, suc, ◌<◌, ◌^◌, ℤ, pos, ◌*ℤ◌, ◌≤ℤ◌, List, [], ◌∷◌, map, length, reverse, slice_get, arith, refl, sym, ap, ◌∙◌, subst, IsSomeAnd, slice_index, *ℤ_comm, ge-zero_of_mul, Element, LegalUnder, is_complete, SolvesWord, solution_of, unbounded, Fraction, whole_vertex_solves, pattern_search, comes_legal, IsWholeNumber, AreNumbers, FoundWordsAreSolved, WholeNodesSolve, unsigned_abs}
+use Rattle.ta_base.proofs.Integers.{abs_natural}
 use Rattle.ta_claim.specs.declared.claim.Claim.TheVariants.{Safe}
 use Rattle.ta_walk.proofs.WordsVisited.{starts_wait, left_wait}
 
@@ -12,11 +13,7 @@ record Naturals (values : List Fraction) (numbers : List ℤ) : Type 0 where
 
 -- a whole number whose fraction isn't negative is natural
 natural : (k : ℤ) (f : Fraction) → IsWholeNumber k f → pos 0 ≤ℤ f.top → (n : ℕ) × (k ≡ pos n)
-natural k f is low = of_sign k (ge-zero_of_mul f.bottom k f.positive (subst (λ (z : ℤ). pos 0 ≤ℤ z) (is ∙ *ℤ_comm k f.bottom) low))
-  where
-    of_sign : (z : ℤ) → pos 0 ≤ℤ z → (n : ℕ) × (z ≡ pos n)
-    of_sign (pos n) h = (n, refl)
-    of_sign (negsuc n) h = absurd (omega (arith, ints, h))
+natural k f is low = (unsigned_abs k, sym (abs_natural k (ge-zero_of_mul f.bottom k f.positive (subst (λ (z : ℤ). pos 0 ≤ℤ z) (is ∙ *ℤ_comm k f.bottom) low))))
 
 naturals : (values : List Fraction) (numbers : List ℤ) → AreNumbers values numbers → ((x : ℕ) → x < length values → IsSomeAnd (slice_get values x) (λ f. pos 0 ≤ℤ f.top)) → Naturals values numbers
 naturals [] [] are low = record { naturals = []; same = refl; count = refl; are = λ x h. absurd (omega arith) }

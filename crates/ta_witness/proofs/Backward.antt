@@ -1,5 +1,6 @@
 -- the pieces of a word, the newest first, and their firings
-use Rattle.ta_witness.proofs.Common.{◌≡◌, inl, inr, ℕ, zero, suc, ◌+◌, ◌<◌, ◌≤◌, ℤ, pos, ◌*ℤ◌, ◌≤ℤ◌, List, [], ◌∷◌, ◌++◌, map, length, drop, reverse, true, Option, Some, None, slice_get, arith, refl, sym, ap, ◌∙◌, subst, append-nil, ints, cases_lt, cases_Bool, length-map, slice_get_within, each_from_in, reverse_onto, item_at, no_item, Automaton, Pattern, range_with_len, In, InScope, total, AreRuleCounts, ArrangedOf, count_at, Element, Event, Rise, Fall, allowed_rules, may_fire, Meaning, Count, Single, meanings, place_coefficient, sum_of_products, FiresBefore, WordFires, Piece, unknown_value, same_meaning, PieceOf, PiecesOf, EndsPiece, counts_before, map_same, in_filter, length-range_with_len}
+use Rattle.ta_witness.proofs.Common.{◌≡◌, inl, inr, ℕ, suc, ◌+◌, ◌<◌, ◌≤◌, ℤ, pos, ◌*ℤ◌, ◌≤ℤ◌, List, [], ◌∷◌, ◌++◌, map, length, drop, reverse, true, Option, Some, None, slice_get, arith, refl, sym, ap, ◌∙◌, subst, append-nil, ints, cases_lt, cases_Bool, length-map, slice_get_within, each_from_in, reverse_onto, item_at, no_item, Automaton, Pattern, range_with_len, In, InScope, AreRuleCounts, ArrangedOf, count_at, Element, Event, Rise, Fall, allowed_rules, may_fire, Meaning, Count, Single, meanings, place_coefficient, sum_of_products, FiresBefore, WordFires, Piece, unknown_value, same_meaning, PieceOf, PiecesOf, EndsPiece, counts_before, map_same, in_filter, length-range_with_len}
+use Rattle.ta_base.proofs.Totals.{total-within}
 use Rattle.ta_automaton.specs.Places.{rule_change}
 use Rattle.ta_scope.specs.Legal.{arranged_steps}
 use Rattle.ta_scope.proofs.ArrangedLaws.{FromCounts, from_counts}
@@ -87,14 +88,6 @@ are_counts a p start past vs k = record {
   ];
 }
 
-total_within : (f g : ℕ → ℤ) (k n : ℕ) → ((r : ℕ) → k ≤ r → r < k + n → f r ≡ g r) → total f (range_with_len k n) ≡ total g (range_with_len k n)
-unfolding total
-total_within f g k zero h = refl
-total_within f g k (suc n) h = omega (arith, ints, h k (omega arith) (omega arith), total_within f g (k + 1) n (λ r low high. h r (omega arith) (omega arith)))
-
-total_below : (f g : ℕ → ℤ) (n : ℕ) → ((r : ℕ) → r < n → f r ≡ g r) → total f (range_with_len 0 n) ≡ total g (range_with_len 0 n)
-total_below f g n h = total_within f g 0 n (λ r low high. h r (omega arith))
-
 plain : (piece : Piece) → piece.last ≡ None → arranged_steps piece.steps ≡ piece_rules piece
 plain piece e = sym (append-nil (arranged_steps piece.steps)) ∙ ap (λ (l : Option ℕ). arranged_steps piece.steps ++ last_rules l) (sym e)
 
@@ -114,7 +107,7 @@ arranged_fire a scope p start x past vs steps h =
           let b = slice_get_within a.rules r named.0 named.1 in
           may r (value_in_list al ws r (omega (arith, ints, f.above r i, counts_are a p start x past vs r b))));
       forward = forward_of a (arranged_steps steps) f.onward;
-      adds = λ place. f.sums place ∙ total_below (λ r. rule_change a (slice_get a.rules r) place *ℤ count_at counts r) (λ r. rule_change a (slice_get a.rules r) place *ℤ pos (value_for al ws r)) n (λ r b. ap (λ z. rule_change a (slice_get a.rules r) place *ℤ z) (counts_are a p start x past vs r b)) ∙ value_sum (λ r. rule_change a (slice_get a.rules r) place) (λ r. may_fire a p start past (slice_get a.rules r)) 0 n ws ∙ ap (λ cs. sum_of_products cs ws) (sym (map-map (λ m. place_coefficient a m place) (Count (length past)) al));
+      adds = λ place. f.sums place ∙ total-within (λ r. rule_change a (slice_get a.rules r) place *ℤ count_at counts r) (λ r. rule_change a (slice_get a.rules r) place *ℤ pos (value_for al ws r)) 0 n (λ r _ b. ap (λ z. rule_change a (slice_get a.rules r) place *ℤ z) (counts_are a p start x past vs r (omega arith))) ∙ value_sum (λ r. rule_change a (slice_get a.rules r) place) (λ r. may_fire a p start past (slice_get a.rules r)) 0 n ws ∙ ap (λ cs. sum_of_products cs ws) (sym (map-map (λ m. place_coefficient a m place) (Count (length past)) al));
     }
 
 -- the pieces of a word fire as its solution says

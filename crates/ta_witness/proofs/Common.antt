@@ -1,5 +1,5 @@
 -- The names that the proofs of this crate cite, passed on from one place. Declares nothing.
-pub use Rattle.std.proofs.Common.{Bool, FitsSigned, IsBitSet, List, None, Option, Some, [], ap, append-nil, append_assoc, arith, cond, drop, drop-cons, eqb, false, get_or, inl, inr, length, length-append, map, not, pos, refl, replicate, reverse, rules, slice_get, subst, suc, sym, take, true, unsigned_abs, zero, ℕ, ℤ, ◌*ℤ◌, ◌*◌, ◌++◌, ◌+◌, ◌<ℤ◌, ◌<◌, ◌^◌, ◌∙◌, ◌∷◌, ◌≡◌, ◌≢◌, ◌≤ℤ◌, ◌≤◌, ◌⊎◌}
+pub use Rattle.std.proofs.Common.{Bool, FitsSigned, IsBitSet, List, None, Option, Some, [], ap, append-nil, append_assoc, arith, cond, drop, drop-cons, eqb, false, get_or, inl, inr, length, length-append, map, not, pos, refl, replicate, reverse, rules, slice_get, subst, suc, sym, take, true, unsigned_abs, zero, ℕ, ℤ, ◌*ℤ◌, ◌*◌, ◌++◌, ◌+◌, ◌<ℤ◌, ◌<◌, ◌^◌, ◌∙◌, ◌∷◌, ◌≡◌, ◌≢◌, ◌≤ℤ◌, ◌≤◌}
 pub use Rattle.std.proofs.lemmas.Bool.{and_parts, cases_Bool, cases_lt, eqb-true, false≢true, not-true, not_from_false, or_parts, or_right, true≢false}
 pub use Rattle.std.proofs.lemmas.Bool.Decides.{eqb_tells, nat_tests}
 pub use Rattle.std.proofs.lemmas.Int.{ints, to_z-of_z}
@@ -9,10 +9,9 @@ pub use Rattle.std.proofs.lemmas.Option.{get_or_from_slice_get, slice_get_within
 pub use Rattle.std.proofs.lemmas.Result.{IfOk-weaker}
 pub use Rattle.std.specs.Int.{w128}
 pub use Rattle.std.specs.List.{AllByRecursion, range_with_len}
-pub use Rattle.std.specs.Prelude.{Err, IfOk, Ok, Result, filter, slice_index, slice_index_or}
+pub use Rattle.std.specs.Prelude.{filter, slice_index, slice_index_or}
 pub use Rattle.ta_automaton.proofs.Thresholds.{after_earlier, pattern_within}
 pub use Rattle.ta_automaton.specs.Runs.{Config, HappensAt, InScope}
-unfoldable pub use Rattle.ta_automaton.specs.Sums.{times_in, total}
 pub use Rattle.ta_automaton.specs.declared.automaton.Automaton.{Automaton}
 pub use Rattle.ta_automaton.specs.declared.file.File.{File}
 pub use Rattle.ta_automaton.specs.declared.pattern.Pattern.{Pattern}
@@ -24,9 +23,11 @@ pub use Rattle.ta_base.proofs.Members.{In-filter, in_at, in_filter}
 pub use Rattle.ta_base.proofs.Naturals.{count_most, other_number, same_number}
 pub use Rattle.ta_base.proofs.Ranges.{item_at, map_from, no_item, number_here}
 pub use Rattle.ta_base.specs.Masks.{In, all_below, has_bit, implies}
+unfoldable pub use Rattle.ta_base.specs.Sums.{times_in, total}
+pub use Rattle.ta_base.proofs.Times.{times-append}
 pub use Rattle.ta_encode.proofs.Moments.{AllHold-left}
-pub use Rattle.ta_encode.proofs.Singles.{NumberBelow, numbers_below, one_single, only_single, repeat_none, singles_hold}
-pub use Rattle.ta_encode.proofs.Values.{AllHold-right, allowed_may, event_ready, repeat, unfolded, unfolded-may}
+pub use Rattle.ta_encode.proofs.Singles.{NumberBelow, numbers_below, one_single, only_single, singles_hold}
+pub use Rattle.ta_encode.proofs.Values.{AllHold-right, allowed_may, event_ready, unfolded, unfolded-may}
 pub use Rattle.ta_encode.specs.Laws.{FiresBefore, SolvedWord, WordFires, position_in, start_values, steps_of}
 pub use Rattle.ta_encode.specs.System.{AllHold, fall_rows}
 unfoldable pub use Rattle.ta_encode.specs.System.{sum_of_products, word_rows}
@@ -35,12 +36,12 @@ unfoldable pub use Rattle.ta_encode.specs.Unknowns.{meanings, start_meanings}
 pub use Rattle.ta_encode.specs.declared.encoded.Solution.{Solution}
 pub use Rattle.ta_encode.specs.declared.meaning.Meaning.{Meaning}
 pub use Rattle.ta_encode.specs.declared.meaning.Meaning.TheVariants.{Count, Parameter, Single, Start}
-pub use Rattle.ta_replay.proofs.PieceLines.{are_short, no_steps, show, some_index}
+pub use Rattle.ta_replay.proofs.PieceLines.{are_short, no_steps, show}
 pub use Rattle.ta_replay.specs.Pieces.{HasFewSteps, MarksInOrder, OncePerRule, Piece, PiecesHappen, last_lines, piece_lines, pieces_lines, pieces_marks, step_line, steps_count, steps_until}
 pub use Rattle.ta_replay.specs.Shows.{ShowsPattern, unit_steps}
 pub use Rattle.ta_replay.specs.declared.run.Run.{Run}
 pub use Rattle.ta_replay.specs.declared.run.RunLine.TheVariants.{Mark, Step}
-pub use Rattle.ta_scope.proofs.Arranging.{arranged_within, times-append}
+pub use Rattle.ta_scope.proofs.Arranging.{arranged_within}
 pub use Rattle.ta_scope.specs.Arranged.{AreRuleCounts, ArrangedOf, count_at}
 pub use Rattle.ta_witness.specs.Inside.Making.{AddsPiece, AddsPieceEnd, AddsPieces, AreNaturals, AreValues, EachMayEnd, IsMadeFrom, IsSingle, MayEnd, RunOf}
 pub use Rattle.ta_witness.specs.Values.{same_meaning}

@@ -1,25 +1,16 @@
 -- the elements of a word with a solution may end: their events exist, and one rule is the single step of a Fall
-use Rattle.ta_witness.proofs.Common.{◌≡◌, ◌⊎◌, inl, inr, ℕ, zero, suc, ◌+◌, ◌<◌, ◌≤◌, pos, List, [], ◌∷◌, ◌++◌, map, length, drop, reverse, eqb, true, Some, slice_get, arith, refl, sym, ap, ◌∙◌, subst, append-nil, nat_tests, eqb_tells, slice_get_within, only_item, reverse_onto, AllHold-left, Automaton, Pattern, In, times_in, Element, Event, Rise, Fall, LegalWord, allowed_rules, children, may_fire, in_children, Meaning, Single, meanings, counts_after, AllHold, fall_rows, word_rows, one_single, singles_hold, AllHold-right, unfolded, repeat, unfolded-may, allowed_may, EachMayEnd, IsSingle, MayEnd, repeat_none}
-use Rattle.ta_automaton.proofs.Fired.{once}
+use Rattle.ta_witness.proofs.Common.{◌≡◌, inl, inr, ℕ, zero, suc, ◌+◌, ◌<◌, ◌≤◌, pos, List, [], ◌∷◌, ◌++◌, map, length, drop, reverse, eqb, true, Some, slice_get, arith, refl, sym, ap, ◌∙◌, subst, append-nil, nat_tests, eqb_tells, slice_get_within, only_item, reverse_onto, AllHold-left, Automaton, Pattern, In, times_in, Element, Event, Rise, Fall, LegalWord, allowed_rules, children, may_fire, in_children, Meaning, Single, meanings, counts_after, AllHold, fall_rows, word_rows, one_single, singles_hold, AllHold-right, unfolded, unfolded-may, allowed_may, EachMayEnd, IsSingle, MayEnd, length-append, replicate}
+use Rattle.ta_base.proofs.Lists.{none_repeated}
+use Rattle.ta_base.proofs.Members.{in_append, in_replicate}
+use Rattle.ta_base.proofs.Times.{times-passed, times-some}
 use Rattle.ta_encode.proofs.Segment.{EachMay, may_exists}
 use Rattle.ta_witness.proofs.Backward.{values_of}
 use Rattle.ta_witness.proofs.Lookups.{OtherElement, newer, single_value, value_for}
 
-in_repeat : (n q x : ℕ) (xs : List ℕ) → In x (repeat n q xs) → (x ≡ q) ⊎ In x xs
-in_repeat zero q x xs h = inr h
-in_repeat (suc n) q x xs (inl e) = inl e
-in_repeat (suc n) q x xs (inr h) = in_repeat n q x xs h
-
 in_list : (al ws : List ℕ) (x : ℕ) → In x (unfolded al ws) → In x al
 in_list [] ws x h = absurd h
 in_list (q ∷ al) [] x h = absurd h
-in_list (q ∷ al) (w ∷ ws) x h = elim (in_repeat w q x (unfolded al ws) h) [ inl e ↦ inl e | inr i ↦ inr (in_list al ws x i) ]
-
-in_times : (xs : List ℕ) (x : ℕ) → In x xs → 1 ≤ times_in x xs
-unfolding times_in
-in_times [] x h = absurd h
-in_times (y ∷ xs) x (inl e) = let s : eqb y x ≡ true = grind (arith, nat_tests) in rw s (omega arith)
-in_times (y ∷ xs) x (inr h) = omega (arith, in_times xs x h)
+in_list (q ∷ al) (w ∷ ws) x h = elim (in_append x (replicate w q) (unfolded al ws) h) [ inl i ↦ inl (in_replicate x w q i) | inr i ↦ inr (in_list al ws x i) ]
 
 -- where the unfolded list is one rule, which is once in the list, its value is 1
 one_value : (al ws : List ℕ) (r : ℕ) → unfolded al ws ≡ r ∷ [] → times_in r al ≤ 1 → value_for al ws r ≡ 1
@@ -27,13 +18,13 @@ unfolding value_for times_in
 one_value [] ws r e most = absurd (cc)
 one_value (q ∷ al) [] r e most = absurd (cc)
 one_value (q ∷ al) (zero ∷ ws) r e most = elim (eqb_tells q r) [
-  | inl s ↦ absurd (let more = in_times al r (in_list al ws r (subst (In r) (sym e) (inl refl))) in let b : 1 + times_in r al ≤ 1 = (rw s.0 at most) in omega arith)
+  | inl s ↦ absurd (let more = times-some r al (in_list al ws r (subst (In r) (sym e) (inl refl))) in let b : 1 + times_in r al ≤ 1 = (rw s.0 at most) in omega arith)
   | inr ne ↦ rw ne.0 (one_value al ws r e (let b : 0 + times_in r al ≤ 1 = (rw ne.0 at most) in omega arith))
 ]
 one_value (q ∷ al) (suc n ∷ ws) r e most =
     let first : q ≡ r = cc in
-    let rest : repeat n q (unfolded al ws) ≡ [] = cc in
-    let none = repeat_none n q (unfolded al ws) rest in
+    let rest : replicate n q ++ unfolded al ws ≡ [] = cc in
+    let none = none_repeated n q (unfolded al ws) rest in
     let s : eqb q r ≡ true = grind (arith, nat_tests) in
     rw s (ap suc none)
 
@@ -49,16 +40,13 @@ has_single a p start mask past vs h =
     let may : may_fire a p start past (slice_get a.rules r) ≡ true = (subst (EachMay a p start past) one.1 (unfolded-may a p start past al ws (allowed_may a p start past))).0 in
     let rule = may_exists a p start past r may in
     let exists = slice_get_within a.rules r rule.0 rule.1 in
-    let most : times_in r al ≡ 1 = once (λ q. may_fire a p start past (slice_get a.rules q)) r 0 (length a.rules) may (omega arith) (omega arith) in
+    let most : times_in r al ≡ 1 = times-passed (λ q. may_fire a p start past (slice_get a.rules q)) r 0 (length a.rules) may (omega arith) (omega arith) in
     (r, record { exists = exists; one = single_value a p start mask past vs r ∙ ap pos (one_value al ws r one.1 (omega (arith, most))) })
 
 -- newer elements change no value of an older one's unknowns
 newer_all : (a : Automaton) (p : Pattern) (start : ℕ) (more past : List Element) (vs : List ℕ) (m : Meaning) → ((n : ℕ) → length past ≤ n → OtherElement n m) → values_of a p start (more ++ past) vs m ≡ values_of a p start past vs m
 newer_all a p start [] past vs m h = refl
-newer_all a p start (x ∷ more) past vs m h = newer a p start x (more ++ past) (map pos vs) m (h (length (more ++ past)) (longer more past)) ∙ newer_all a p start more past vs m h where
-  longer : (xs ys : List Element) → length ys ≤ length (xs ++ ys)
-  longer [] ys = omega arith
-  longer (x ∷ xs) ys = let rest = longer xs ys in omega arith
+newer_all a p start (x ∷ more) past vs m h = newer a p start x (more ++ past) (map pos vs) m (h (length (more ++ past)) (omega (arith, length-append more past))) ∙ newer_all a p start more past vs m h
 
 older_rows : (a : Automaton) (p : Pattern) (start : ℕ) (more past : List Element) (vs : List ℕ) → AllHold vs (word_rows a p start (more ++ past)) → AllHold vs (word_rows a p start past)
 unfolding word_rows

@@ -2,7 +2,7 @@
 use Rattle.ta_witness.proofs.Common.{◌≡◌, ◌≢◌, inl, inr, ℕ, zero, suc, ◌+◌, ◌<◌, ◌≤◌, ℤ, pos, ◌*ℤ◌, List, [], ◌∷◌, ◌++◌, map, length, drop, eqb, cond, Bool, true, false, arith, refl, sym, ap, ◌∙◌, subst, slice_get, Some, filter, ints, cases_Bool, and_parts, eqb-true, true≢false, nat_tests, eqb_tells, AllByRecursion, filter_false, filter_true, other_number, same_number, Automaton, Pattern, range_with_len, In, total, Element, Event, Rise, Fall, allowed_rules, Meaning, Parameter, Start, Count, Single, meanings, counts_after, singles_after, sum_of_products, NumberBelow, numbers_below, same_meaning, unknown_value, drop-map}
 use Rattle.std.proofs.Math.IntN.{*ℤ-zero}
 use Rattle.ta_base.proofs.Integers.{pos_cond}
-use Rattle.ta_automaton.proofs.Sums.{total-zero}
+use Rattle.ta_base.proofs.Totals.{total-zero, total-within}
 
 -- no unknown of a list stands for this
 abbrev pub Lacks : Meaning → List Meaning → Type 0
@@ -148,11 +148,6 @@ one_found (n ∷ ms) (v ∷ vs) m e = elim (cases_Bool (same_meaning n m)) [
 ]
 
 -- sums over the rules that pass a test, by the values that stand with them
-total_from : (f g : ℕ → ℤ) (low n : ℕ) → ((r : ℕ) → low ≤ r → f r ≡ g r) → total f (range_with_len low n) ≡ total g (range_with_len low n)
-unfolding total
-total_from f g low zero h = refl
-total_from f g low (suc n) h = omega (arith, ints, h low (omega arith), total_from f g (low + 1) n (λ r b. h r (omega arith)))
-
 skip_value : (q : ℕ) (rs ws : List ℕ) (r : ℕ) → q ≢ r → ((vs : List ℕ) → value_for rs vs r ≡ 0) → value_for (q ∷ rs) ws r ≡ 0
 unfolding value_for
 skip_value q rs [] r ne h = refl
@@ -175,7 +170,7 @@ unfolding total sum_of_products value_for
 first_adds g low n rs [] h = total-zero (λ r. g r *ℤ pos 0) (low ∷ range_with_len (low + 1) n) (λ r. *ℤ-zero (g r))
 first_adds g low n rs (w ∷ ws) h =
     let here : cond (eqb low low) w (value_for rs ws low) ≡ w = (let s : eqb low low ≡ true = grind (arith, nat_tests) in rw s refl) in
-    let rest = total_from (λ r. g r *ℤ pos (cond (eqb low r) w (value_for rs ws r))) (λ r. g r *ℤ pos (value_for rs ws r)) (low + 1) n (λ r b. (let s : eqb low r ≡ false = grind (arith, nat_tests) in rw s refl)) in
+    let rest = total-within (λ r. g r *ℤ pos (cond (eqb low r) w (value_for rs ws r))) (λ r. g r *ℤ pos (value_for rs ws r)) (low + 1) n (λ r b _. (let s : eqb low r ≡ false = grind (arith, nat_tests) in rw s refl)) in
     omega (arith, ints, ap (λ (k : ℕ). g low *ℤ pos k) here, rest, h ws)
 
 other_adds : (g : ℕ → ℤ) (low n : ℕ) (rs ws : List ℕ) → value_for rs ws low ≡ 0 → Adds g (low + 1) n rs ws → Adds g low (suc n) rs ws

@@ -1,5 +1,7 @@
 -- the marks of a word's pieces: where they stand, and in which order
-use Rattle.ta_witness.proofs.Common.{◌≡◌, inl, inr, ℕ, zero, suc, ◌+◌, ◌<◌, ℤ, List, [], ◌∷◌, ◌++◌, map, length, take, replicate, reverse, unsigned_abs, eqb, cond, true, false, not, Option, Some, None, slice_get, IsBitSet, arith, refl, sym, ap, ◌∙◌, subst, append_assoc, append-nil, false≢true, and_parts, not-true, or_parts, or_right, nat_tests, eqb_tells, map-append, length-reverse, length-map, slice_get_within, all_below-at, bit_true, get_parts, reverse_onto, slice_get_left, times-append, Automaton, Pattern, has_bit, all_below, implies, In, times_in, Element, Event, Rise, Fall, has_event, follows, children, LegalWord, Meaning, position_in, steps_of, event_ready, Mark, unit_steps, Piece, MarksInOrder, pieces_lines, pieces_marks, piece_lines, step_line, last_lines, steps_until, some_index, no_steps, last_item}
+use Rattle.ta_witness.proofs.Common.{◌≡◌, inl, inr, ℕ, zero, suc, ◌+◌, ◌<◌, ℤ, List, [], ◌∷◌, ◌++◌, map, length, take, replicate, reverse, unsigned_abs, eqb, cond, true, false, not, Option, Some, None, slice_get, IsBitSet, arith, refl, sym, ap, ◌∙◌, subst, append_assoc, append-nil, false≢true, and_parts, not-true, or_parts, or_right, nat_tests, eqb_tells, map-append, length-reverse, length-map, slice_get_within, all_below-at, bit_true, get_parts, reverse_onto, slice_get_left, times-append, Automaton, Pattern, has_bit, all_below, implies, In, times_in, Element, Event, Rise, Fall, has_event, follows, children, LegalWord, Meaning, position_in, steps_of, event_ready, Mark, unit_steps, Piece, MarksInOrder, pieces_lines, pieces_marks, piece_lines, step_line, last_lines, steps_until, no_steps, last_item}
+use Rattle.ta_base.proofs.Times.{times-in}
+use Rattle.ta_base.proofs.Members.{place_of}
 use Rattle.ta_base.proofs.Booleans.{implies-at}
 use Rattle.ta_automaton.specs.declared.pattern.Event.{Event as PatternEvent}
 use Rattle.ta_scope.specs.Legal as scope
@@ -153,7 +155,7 @@ marks_before a p start value earlier (Event g ∷ past) (piece ∷ back) legal h
           let follow : follows p past (Some event) ≡ true = ap (follows p past) (sym at ∙ ap (slice_get p.events) (sym same)) ∙ ready.1 in
           let done : has_event past f ≡ true = implies-at (has_bit event.after f) (has_event past f) (all_below-at (length p.events) (λ k. implies (has_bit event.after k) (has_event past k)) follow f b) (bit_true event.after f bit) in
           let one : times_in f old ≡ 1 = marks_once a p start value past back f legal.1 h.1 ∙ ap (λ t. cond t 1 0) done in
-          let v = some_index old f (omega (arith, one)) in
+          let v = place_of f old (times-in f old (omega (arith, one))) in
           let within = slice_get_within old v.0 f v.1 in
           (v.0, (let q = w.1 in omega arith), slice_get_left old piece.marks v.0 f v.1))
     ]

@@ -1,10 +1,10 @@
 -- A compressed run in the making (this project's profile)
 use Rattle.std.specs.Prelude.{ℕ, ℤ, pos, ◌<◌, ◌≤◌, ◌≡◌, ◌⊎◌, ◌+ℤ◌, ◌*ℤ◌, ◌≤ℤ◌, List, [], ◌∷◌, ◌++◌, length, map, replicate, unsigned_abs, slice_get, Some, IsBitSet}
+use Rattle.ta_base.specs.Sums.{one_if, times_in}
 use Rattle.ta_linear.specs.Values.{point_of}
 use Rattle.ta_automaton.specs.declared.automaton.Automaton.{Automaton}
 use Rattle.ta_automaton.specs.declared.rule.Rule.{Rule}
-use Rattle.ta_automaton.specs.Places.{one_if, rule_change}
-use Rattle.ta_automaton.specs.Sums.{times_in}
+use Rattle.ta_automaton.specs.Places.{rule_change}
 use Rattle.ta_counter.specs.declared.fault.StepFault.{StepFault}
 use Rattle.ta_counter.specs.declared.holding.Guards.{Guards}
 use Rattle.ta_counter.specs.declared.config.Config.{Config}

@@ -1,10 +1,6 @@
 -- Lists of names as masks (this project's profile)
-use Rattle.std.specs.Prelude.{ℕ, ◌-◌, ◌^◌, ◌<◌, List, length, take, drop}
+use Rattle.std.specs.Prelude.{ℕ, ◌^◌, ◌<◌, List, length}
 use Rattle.ta_meaning.specs.Meaning.{NamesBits}
-
--- the names from one number on and below another
-abbrev pub between : ℕ → ℕ → List (List ℕ) → List (List ℕ)
-between from to names = take (to - from) (drop from names)
 
 -- a mask with a bit for each of the names that is listed, and none beyond the names
 pub record ListedMask (names listed : List (List ℕ)) (mask : ℕ) : Type 0 where

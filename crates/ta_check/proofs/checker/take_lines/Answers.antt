@@ -1,4 +1,4 @@
-use Rattle.ta_check.proofs.Common.{length, arith, ap, length-drop, err_from_is_err_and, claiming}
+use Rattle.ta_check.proofs.Common.{length, arith, ap, length-drop, err_is, claiming}
 use Rattle.ta_check.proofs.Pieces.{somewhere, goes_on, goes_within, goes_wrong}
 use Rattle.ta_check.proofs.checker.take_lines.Goals as goal
 
@@ -7,8 +7,7 @@ take_next-requires c = somewhere (claiming c.args.claim c.args.file.now) c.args.
 
 pub returns-in_err-taken : goal.returns-in_err-taken
 returns-in_err-taken c =
-    let p = err_from_is_err_and c.from_residual.result c.from_residual.ensures.1 in
-    rw (p.1, p.2) (goes_wrong (claiming c.args.claim c.args.file.now) c.args.reader.now c.lines.reader c.take_next.new.reader c.args.position.now c.lines.position c.take_next.new.position c.args.piece.now c.lines.rest.now c.in_err-taken.field-0.0 c.lines.invariant c.in_err-taken.ensures)
+    rw (err_is c.from_residual.result _ c.from_residual.ensures.1) (goes_wrong (claiming c.args.claim c.args.file.now) c.args.reader.now c.lines.reader c.take_next.new.reader c.args.position.now c.lines.position c.take_next.new.position c.args.piece.now c.lines.rest.now c.in_err-taken.field-0.0 c.lines.invariant c.in_err-taken.ensures)
 
 pub split_at-requires : goal.split_at-requires
 split_at-requires c =

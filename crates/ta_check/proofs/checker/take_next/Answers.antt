@@ -1,11 +1,10 @@
-use Rattle.ta_check.proofs.Common.{err_from_is_err_and, claiming}
+use Rattle.ta_check.proofs.Common.{err_is, claiming}
 use Rattle.ta_check.proofs.Pieces.{next_refused, next_some, next_fails, line_is}
 use Rattle.ta_check.proofs.checker.take_next.Goals as goal
 
 pub returns-in_err-feed_line : goal.returns-in_err-feed_line
 returns-in_err-feed_line c =
-    let p = err_from_is_err_and c.from_residual.result c.from_residual.ensures.1 in
-    rw (p.1, p.2) (next_refused (claiming c.args.claim c.args.file.now) c.args.reader.now c.feed_line.new.self c.args.position.now c.args.bytes.now c.in_err-feed_line.field-0.0 c.in_err-feed_line.ensures.answer)
+    rw (err_is c.from_residual.result _ c.from_residual.ensures.1) (next_refused (claiming c.args.claim c.args.file.now) c.args.reader.now c.feed_line.new.self c.args.position.now c.args.bytes.now c.in_err-feed_line.field-0.0 c.in_err-feed_line.ensures.answer)
 
 pub take_line-requires-clause-form : goal.take_line-requires-clause-form
 take_line-requires-clause-form c =
@@ -14,9 +13,8 @@ take_line-requires-clause-form c =
 
 pub returns-in_err-take_line-in-Some : goal.returns-in_err-take_line-in-Some
 returns-in_err-take_line-in-Some c =
-    let p = err_from_is_err_and c.from_residual-in_err-take_line-in-Some.result c.from_residual-in_err-take_line-in-Some.ensures.1 in
     let feeds = rw c.in-Some.is at c.in_ok-feed_line.ensures.answer in
-    rw (p.1, p.2) (next_fails (claiming c.args.claim c.args.file.now) c.args.reader.now c.feed_line.new.self c.args.position.now c.take_line.new.self c.args.bytes.now c.in-Some.field-0 c.in_err-take_line-in-Some.field-0.0 feeds c.in_err-take_line-in-Some.ensures)
+    rw (err_is c.from_residual-in_err-take_line-in-Some.result _ c.from_residual-in_err-take_line-in-Some.ensures.1) (next_fails (claiming c.args.claim c.args.file.now) c.args.reader.now c.feed_line.new.self c.args.position.now c.take_line.new.self c.args.bytes.now c.in-Some.field-0 c.in_err-take_line-in-Some.field-0.0 feeds c.in_err-take_line-in-Some.ensures)
 
 pub returns-in_ok-take_line-in-Some : goal.returns-in_ok-take_line-in-Some
 returns-in_ok-take_line-in-Some c =

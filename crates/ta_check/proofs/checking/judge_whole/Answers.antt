@@ -1,20 +1,18 @@
-use Rattle.ta_check.proofs.Common.{[], subst, err_from_is_err_and, CheckerFinishAnswers, subject_of, Subject}
+use Rattle.ta_check.proofs.Common.{[], subst, err_is, CheckerFinishAnswers, subject_of, Subject}
 use Rattle.ta_check.proofs.Answering.{exact_answer, refused_answer, finished_accepts, finished_faults, fed_faults}
 use Rattle.ta_check.proofs.checking.judge_whole.Goals as goal
 
 pub returns-in_err-feed-clause-fault : goal.returns-in_err-feed-clause-fault
 returns-in_err-feed-clause-fault c =
-    let p = err_from_is_err_and c.from_residual.result c.from_residual.ensures.1 in
     let same = c.feed.ensures.subject in
-    rw (p.1, p.2) (fed_faults c.feed.new.self (subject_of c.args.checker) c.args.text.now c.in_err-feed.field-0.0 same (c.in_err-feed.ensures.answer [] c.requires))
+    rw (err_is c.from_residual.result _ c.from_residual.ensures.1) (fed_faults c.feed.new.self (subject_of c.args.checker) c.args.text.now c.in_err-feed.field-0.0 same (c.in_err-feed.ensures.answer [] c.requires))
 
 pub returns-in_err-feed-clause-refused : goal.returns-in_err-feed-clause-refused
 returns-in_err-feed-clause-refused c = refused_answer (subject_of c.args.checker) c.args.text.now c.from_residual.result (returns-in_err-feed-clause-fault c)
 
 pub returns-in_err-feed-clause-exact : goal.returns-in_err-feed-clause-exact
 returns-in_err-feed-clause-exact c =
-    let p = err_from_is_err_and c.from_residual.result c.from_residual.ensures.1 in
-    exact_answer (subject_of c.args.checker) c.args.text.now c.from_residual.result (rw (p.1) tt) (returns-in_err-feed-clause-fault c)
+    exact_answer (subject_of c.args.checker) c.args.text.now c.from_residual.result (rw (err_is c.from_residual.result _ c.from_residual.ensures.1) tt) (returns-in_err-feed-clause-fault c)
 
 pub returns-clause-accepted : goal.returns-clause-accepted
 returns-clause-accepted c =

@@ -1,4 +1,5 @@
 use Rattle.ta_compress.proofs.Common.{◌≡◌, ◌<◌, ◌-◌, ◌^◌, ◌∙◌, ap, sym, take, min, pos, get_or, arith, ℕ, nat_tests, ints, take_all, slice_get-get_or, w128, to_z, capped, Step, factor_of, factors_sum, factors_sum-next}
+use Rattle.ta_base.proofs.Naturals.{capped_again, capped_below}
 use Rattle.ta_compress.proofs.compressing.steps_of.Goals as goal
 
 pub loop-line-preserved : goal.loop-line-preserved
@@ -13,17 +14,11 @@ loop-line-preserved c =
     small : (f : ℕ) {r : ℕ} → r ≡ f → r < 2 ^ 128 → f ≡ min f (2 ^ 128 - 1)
     small f same below = grind (arith, nat_tests)
 
-least : (r s f : ℕ) → r ≡ min s (2 ^ 127 - 1) → s ≡ min f (2 ^ 128 - 1) → r ≡ min f (2 ^ 127 - 1)
-least r s f a b = grind (arith, nat_tests)
-
-below : (r f : ℕ) → r ≡ min f (2 ^ 127 - 1) → r < 2 ^ 127
-below r f a = grind (arith, nat_tests)
-
 pub returns : goal.returns
 returns c =
     let lines = c.args.lines.now in
     let all = ap factors_sum (take_all c.loop-line.line-index lines c.loop-line-test.false) in
-    let r = least c.min.result c.loop-line.steps (factors_sum (take c.loop-line.line-index lines)) c.min.ensures c.loop-line.invariant in
-    let small = below c.min.result (factors_sum (take c.loop-line.line-index lines)) r in
+    let r = capped_again c.min.result c.loop-line.steps (factors_sum (take c.loop-line.line-index lines)) (2 ^ 127 - 1) (2 ^ 128 - 1) (omega arith) c.min.ensures c.loop-line.invariant in
+    let small = capped_below c.min.result (factors_sum (take c.loop-line.line-index lines)) (2 ^ 127 - 1) r in
     let whole : to_z w128 c.min.result ≡ pos c.min.result = omega (arith, ints) in
     whole ∙ ap pos (r ∙ ap (λ n. min n (2 ^ 127 - 1)) all)

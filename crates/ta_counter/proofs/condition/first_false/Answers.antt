@@ -1,4 +1,4 @@
-use Rattle.ta_counter.proofs.Common.{◌≤◌, ap, arith, length, subst, List, err_from_is_err_and, all_passed, one_passed, read_same, point_of, Comparison, RowFails, RowOutOfRange, RowsPass, RowsStop}
+use Rattle.ta_counter.proofs.Common.{◌≤◌, ap, arith, length, subst, List, err_is, all_passed, one_passed, read_same, point_of, Comparison, RowFails, RowOutOfRange, RowsPass, RowsStop}
 use Rattle.ta_counter.proofs.Rows.{rows_pass, rows_fail, holds_from, fails_from}
 use Rattle.ta_counter.proofs.condition.first_false.Goals as goal
 
@@ -13,9 +13,8 @@ pub returns-in_err-rows_hold-clause-answer : goal.returns-in_err-rows_hold-claus
 returns-in_err-rows_hold-clause-answer c =
     let point = point_of c.args.values.now in
     let named = read_same c.args.condition.now.comparisons c.as_slice-comparison-items.result.now c.loop-number.number c.comparison-item.result c.as_slice-comparison-items.ensures c.loop-number-test.true c.comparison-item.is in
-    let p = err_from_is_err_and c.from_residual.result c.from_residual.ensures.1 in
     let stops : RowsStop point (RowOutOfRange point) c.comparison-item.result.rows = subst (RowsStop point (RowOutOfRange point)) c.as_slice.ensures c.in_err-rows_hold.ensures in
-    rw p.1 (c.loop-number.number, record { item = c.comparison-item.result; at = named; before = c.loop-number.invariant; bad = stops })
+    rw (err_is c.from_residual.result _ c.from_residual.ensures.1) (c.loop-number.number, record { item = c.comparison-item.result; at = named; before = c.loop-number.invariant; bad = stops })
 
 pub returns-then-not-branch-clause-answer : goal.returns-then-not-branch-clause-answer
 returns-then-not-branch-clause-answer c =

@@ -1,4 +1,4 @@
-use Rattle.ta_counter.proofs.Common.{refl, err_from_is_err_and, each_at, all_passed, one_passed, read_same, IsNormal, point_of, Row, length, RowPasses}
+use Rattle.ta_counter.proofs.Common.{refl, err_is, each_at, all_passed, one_passed, read_same, IsNormal, point_of, Row, length, RowPasses}
 use Rattle.ta_counter.proofs.Rows.{row_passes, row_fails}
 use Rattle.ta_counter.proofs.condition.rows_hold.Goals as goal
 
@@ -18,8 +18,7 @@ pub returns-in_err-row_holds : goal.returns-in_err-row_holds
 returns-in_err-row_holds c =
     let rows = c.args.rows.now in
     let named = read_same rows rows c.loop-row.row-index c.row-item.result refl c.loop-row-test.true c.row-item.is in
-    let p = err_from_is_err_and c.from_residual.result c.from_residual.ensures.1 in
-    rw p.1 (c.loop-row.row-index, record { item = c.row-item.result; at = named; before = c.loop-row.invariant; bad = c.in_err-row_holds.ensures })
+    rw (err_is c.from_residual.result _ c.from_residual.ensures.1) (c.loop-row.row-index, record { item = c.row-item.result; at = named; before = c.loop-row.invariant; bad = c.in_err-row_holds.ensures })
 
 pub returns-then-not-branch : goal.returns-then-not-branch
 returns-then-not-branch c =

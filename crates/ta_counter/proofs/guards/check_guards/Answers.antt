@@ -1,4 +1,4 @@
-use Rattle.ta_counter.proofs.Common.{List, length, ap, sym, subst, err_from_is_err_and, IfErr-weaker, on_ok_weaker, point_of, Row, RowsOver}
+use Rattle.ta_counter.proofs.Common.{List, length, ap, sym, subst, err_is, IfErr-weaker, on_ok_weaker, point_of, Row, RowsOver}
 use Rattle.ta_counter.proofs.Guarding.{rise_rows_over, fall_rows_over, rise_fault, fall_fault}
 use Rattle.ta_counter.proofs.guards.check_guards.Goals as goal
 
@@ -12,9 +12,8 @@ check_rows-requires-2-clause-over c =
 
 pub returns-in_err-check_rows-clause-fails : goal.returns-in_err-check_rows-clause-fails
 returns-in_err-check_rows-clause-fails c =
-    let p = err_from_is_err_and c.from_residual.result c.from_residual.ensures.1 in
     let told = rw (c.from.ensures, c.as_slice-rise.ensures) at c.in_err-check_rows.ensures.fails in
-    rw (p.1, p.2)
+    rw (err_is c.from_residual.result _ c.from_residual.ensures.1)
     (rise_fault c.args.automaton.now c.args.rule.now (point_of c.args.values.now) (point_of c.args.before_last.now) (length c.args.values.now) _ c.requires.places told)
 
 pub returns-clause-rise : goal.returns-clause-rise

@@ -1,4 +1,4 @@
-use Rattle.ta_counter.proofs.Common.{◌≡◌, ℕ, ℤ, pos, ◌-ℤ◌, List, length, drop, ap, ◌∙◌, sym, subst, FitsSigned, to_z-of_z, err_from_is_err_and, w128, fun_ext, refill, less_fits, front_back, twice_back, InRange, point_of, sum_of, AllGrow, Enough, UpdateOutOfRange, shifted, before_last}
+use Rattle.ta_counter.proofs.Common.{◌≡◌, ℕ, ℤ, pos, ◌-ℤ◌, List, length, drop, ap, ◌∙◌, sym, subst, FitsSigned, to_z-of_z, err_is, w128, fun_ext, refill, less_fits, front_back, twice_back, InRange, point_of, sum_of, AllGrow, Enough, UpdateOutOfRange, shifted, before_last}
 use Rattle.ta_counter.proofs.Stepping.{no_leave, updates_fail, guards_fail, enough_after, counters_after, taken, of_after}
 use Rattle.ta_counter.proofs.updates.values_after.Goals as goal
 use Rattle.ta_counter.proofs.updates.values_after.Goals.{After-as_mut_slice, After-as_mut_slice-2, After-as_mut_slice-3, After-as_slice, In_ok-add_updates}
@@ -56,8 +56,7 @@ returns-in_err-add_updates-clause-fails c =
     let at = (goal.at.returns-in_err-add_updates-clause-fails c).After-as_mut_slice in
     let factor : FitsSigned w128 c.args.factor = c.ranges.factor in
     let leaves = simp to_z-of_z at c.in_err-add_updates.ensures.leaves in
-    let p = err_from_is_err_and c.from_residual.result c.from_residual.ensures.1 in
-    rw (p.1, p.2)
+    rw (err_is c.from_residual.result _ c.from_residual.ensures.1)
     (updates_fail a rule c.args.factor c.args.values.now _ (many_enough at) (leaves.0, leaves.1, subst (λ vs. UpdateOutOfRange a rule c.args.factor vs leaves.0) (old at) leaves.2))
 
 pub returns-in_err-add_updates-2-clause-fails : goal.returns-in_err-add_updates-2-clause-fails
@@ -76,8 +75,7 @@ returns-in_err-check_guards-clause-fails c =
     let at = goal.at.returns-in_err-check_guards-clause-fails c in
     let grow = all_grow at.In_ok-add_updates (old at.After-as_mut_slice) in
     let last = last_before at.After-as_slice (also at.After-as_mut_slice-2) in
-    let p = err_from_is_err_and c.from_residual-in_err-check_guards.result c.from_residual-in_err-check_guards.ensures.1 in
-    rw (p.1, p.2)
+    rw (err_is c.from_residual-in_err-check_guards.result _ c.from_residual-in_err-check_guards.ensures.1)
     (guards_fail c.args.automaton.now c.args.rule.now c.args.factor c.args.values.now (point_of c.as_slice.result.now) _ (many_enough at.After-as_mut_slice) grow last c.in_err-check_guards.ensures.fails)
 
 pub move_processes-requires-clause-enough : goal.move_processes-requires-clause-enough

@@ -1,4 +1,4 @@
-use Rattle.ta_dense.proofs.Common.{◌≡◌, arith, sym, ◌∙◌, ap, subst, ◌+◌, ◌++◌, ◌∷◌, [], List, map-append, All-push, TableauRow, zero_filled, narrow_view, narrow_views, IsNarrow, AreNarrow, NarrowRow}
+use Rattle.ta_dense.proofs.Common.{sym, ◌∙◌, ap, subst, ◌+◌, ◌++◌, ◌∷◌, [], List, map-append, All-push, TableauRow, zero_filled, narrow_view, narrow_views, IsNarrow, AreNarrow, NarrowRow}
 use Rattle.ta_dense.proofs.ExtendFacts.{padded_filled, map_take_more}
 use Rattle.ta_dense.proofs.narrow_extending.filled_rows.Goals as goal
 

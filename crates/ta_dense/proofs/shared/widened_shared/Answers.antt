@@ -1,4 +1,4 @@
-use Rattle.ta_dense.proofs.Common.{◌≡◌, ◌∙◌, ◌+◌, ℕ, List, length, get_or, map, ap, sym, subst, arith, length-map, TableauRow, zero_filled, narrow_view, narrow_views, row_at_place, rows_at_places, widened_place, ArePlaced, no_place, NarrowRow, Place}
+use Rattle.ta_dense.proofs.Common.{◌∙◌, List, length, get_or, map, ap, sym, subst, arith, length-map, TableauRow, zero_filled, narrow_view, narrow_views, row_at_place, rows_at_places, widened_place, ArePlaced, no_place, NarrowRow, Place}
 use Rattle.ta_dense.proofs.SharedFacts.{at_number, placed_longer, widened_value, widened_inside}
 use Rattle.ta_dense.proofs.shared.widened_shared.Goals as goal
 

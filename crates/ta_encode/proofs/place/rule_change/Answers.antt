@@ -1,5 +1,6 @@
 use Rattle.ta_encode.proofs.Common.{◌-◌, length, arith, ap, ◌∙◌, to_z_abs, coefficient, one_if}
-use Rattle.ta_encode.proofs.Changes.{change_parameter, change_shared, change_location, clean_move}
+use Rattle.ta_base.proofs.Totals.{one_if-difference}
+use Rattle.ta_encode.proofs.Changes.{change_parameter, change_shared, change_location}
 use Rattle.ta_encode.proofs.place.rule_change.Goals as goal
 
 pub returns-then-place-first_shared-clause-value : goal.returns-then-place-first_shared-clause-value
@@ -23,7 +24,7 @@ returns-else-place-first_location-clause-value c =
     let first = c.first_location-first_location.result in
     let at = c.from-location.ensures in
     let low = c.if-place-first_location.false in
-    clean_move rule.to rule.from (c.args.place - first) (c.args.place - first) c.one_if.result c.one_if-else-place-first_location.result
+    one_if-difference rule.to rule.from (c.args.place - first) (c.args.place - first) c.one_if.result c.one_if-else-place-first_location.result
     (c.one_if.ensures ∙ ap (λ n. one_if n c.from-location.result) c.from.ensures ∙ ap (one_if rule.to) at)
     (c.one_if-else-place-first_location.ensures ∙ ap (λ n. one_if n c.from-location.result) c.from-else-place-first_location.ensures ∙ ap (one_if rule.from) at)
     ∙ change_location c.args.automaton.now rule c.args.place first c.first_location-first_location.ensures low

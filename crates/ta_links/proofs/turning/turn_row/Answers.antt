@@ -1,4 +1,5 @@
-use Rattle.ta_links.proofs.Common.{◌≡◌, ◌∙◌, ap, sym, subst, rules, List, ℤ, pos, neg_ℤ, ◌-ℤ◌, get_or, set, to_z-of_z, SFits, w128, zero_minus, RowHead, no_head, IsProperHead, fits_minus}
+use Rattle.ta_links.proofs.Common.{◌≡◌, ◌∙◌, ap, sym, subst, rules, List, ℤ, pos, neg_ℤ, ◌-ℤ◌, get_or, set, to_z-of_z, SFits, w128, zero_minus, RowHead, no_head, IsProperHead}
+use Rattle.ta_base.proofs.Integers.{minus_fits}
 use Rattle.ta_links.proofs.TurnedRow.{turns_within, turn_done}
 use Rattle.ta_links.proofs.turning.turn_row.Goals as goal
 
@@ -21,7 +22,7 @@ returns c =
     let hp : IsProperHead c.head_of-head.result = subst IsProperHead (sym eh) (c.requires.proper c.args.row c.requires.row) in
     let fd : SFits w128 c.head_of-head.result.denominator = search rules in
     let fk : SFits w128 c.head_of-head.result.constant = search rules in
-    let fm : SFits w128 (pos 0 -ℤ c.head_of-head.result.constant) = fits_minus c.head_of-head.result.constant hp.constant in
+    let fm : SFits w128 (pos 0 -ℤ c.head_of-head.result.constant) = minus_fits w128 c.head_of-head.result.constant hp.constant in
     let fn : SFits w128 c.number-denominator.result = search rules in
     let wm = simp to_z-of_z at c.in_ok-write_merged.ensures in
     let nh : RowHead = record { basic = c.args.entering; denominator = c.number-denominator.result; constant = pos 0 -ℤ c.head_of-head.result.constant } in

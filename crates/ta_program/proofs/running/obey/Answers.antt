@@ -1,10 +1,6 @@
-use Rattle.ta_program.proofs.Common.{codes, bytes_eq, ℕ, List, ◌∷◌, ◌≡◌, ◌≢◌, false, refl, false_from_ne_true, NoCommand, request_of, map}
-use Rattle.std.proofs.lemmas.Slice.Eq.{bytes_eq-Decides}
+use Rattle.ta_program.proofs.Common.{codes, ℕ, List, ◌∷◌, ◌≡◌, ◌≢◌, refl, NoCommand, request_of, map}
+use Rattle.ta_base.proofs.ByteLists.{other_name}
 use Rattle.ta_program.proofs.running.obey.Goals as goal
-
--- another word than a row's name
-apart : (word name : List ℕ) → word ≢ name → bytes_eq word name ≡ false
-apart word name other = false_from_ne_true (bytes_eq word name) (λ e. other ((bytes_eq-Decides word name).0 e))
 
 -- the name of no row is no command's
 no_row :
@@ -13,7 +9,7 @@ no_row :
     → word ≢ codes "replay" → word ≢ codes "rest" → word ≢ codes "rest-check" → word ≢ codes "search" → word ≢ codes "verify"
     → request_of (word ∷ words) ≡ NoCommand
 no_row word words admit bench check compress export replay rest text search verify =
-    rw (apart word (codes "admit") admit, apart word (codes "bench") bench, apart word (codes "check") check, apart word (codes "compress") compress, apart word (codes "export") export, apart word (codes "replay") replay, apart word (codes "rest") rest, apart word (codes "rest-check") text, apart word (codes "search") search, apart word (codes "verify") verify) refl
+    rw (other_name word (codes "admit") admit, other_name word (codes "bench") bench, other_name word (codes "check") check, other_name word (codes "compress") compress, other_name word (codes "export") export, other_name word (codes "replay") replay, other_name word (codes "rest") rest, other_name word (codes "rest-check") text, other_name word (codes "search") search, other_name word (codes "verify") verify) refl
 
 pub returns-in_default-name : goal.returns-in_default-name
 returns-in_default-name g c =

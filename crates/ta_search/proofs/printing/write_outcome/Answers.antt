@@ -1,6 +1,6 @@
 use Rattle.ta_search.proofs.Common.{◌≡◌, ◌∙◌, ◌++◌, List, ℕ, ap, codes, named_ended, sample_words, verdict_words}
 use Rattle.std.specs.String.{string_bytes}
-use Rattle.ta_search.proofs.SearchTexts.{ended}
+use Rattle.ta_base.proofs.Lists.{ended}
 use Rattle.ta_search.proofs.printing.write_outcome.Goals as goal
 
 pub returns-in_ok-write_sample-in-SampleUnknown : goal.returns-in_ok-write_sample-in-SampleUnknown

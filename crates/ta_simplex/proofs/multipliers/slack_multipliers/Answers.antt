@@ -1,5 +1,5 @@
 use Rattle.ta_simplex.proofs.Common.{◌≡◌, ◌<◌, ◌+◌, length, pos, neg_ℤ, ◌-ℤ◌, arith, rules, sym, ap, ◌∙◌, refl, subst, to_z-of_z, ints, with_items_is, SFits, w128, zero_minus, InRange, variables, replicate}
-use Rattle.ta_dense.proofs.ReduceFacts.{fits_minus}
+use Rattle.ta_base.proofs.Integers.{minus_fits}
 use Rattle.ta_simplex.proofs.SlotLemmas.{Filled, fill-first, fill-next}
 use Rattle.ta_simplex.proofs.multipliers.slack_multipliers.Goals as goal
 
@@ -30,7 +30,7 @@ loop-column-preserved g c =
     let inside : c.loop-column.column < length (g.D.Dictionary.tableau c.args.dictionary.now).non_basic = (let e = c.columns-column-end.ensures in let b = c.loop-column-test.true in omega arith) in
     let fc : SFits w128 c.cell-multiplier.result = search rules in
     let range = c.cell-multiplier.ensures.fits in
-    let fm : SFits w128 (pos 0 -ℤ c.cell-multiplier.result) = fits_minus c.cell-multiplier.result range in
+    let fm : SFits w128 (pos 0 -ℤ c.cell-multiplier.result) = minus_fits w128 c.cell-multiplier.result range in
     let told = simp to_z-of_z at c.put_slack-in-loop-column.ensures in
     let value = zero_minus c.cell-multiplier.result ∙ ap neg_ℤ c.cell-multiplier.ensures.value in
     let is = with_items_is c.loop-column.multipliers c.put_slack-in-loop-column.new.multipliers (c.put_slack-in-loop-column.auto.multipliers ∙ ap length c.deref_mut-in-loop-column.ensures.value ∙ search rules)

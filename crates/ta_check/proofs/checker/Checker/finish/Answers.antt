@@ -1,4 +1,4 @@
-use Rattle.ta_check.proofs.Common.{sym, subst, Ok, err_from_is_err_and, Claim, Certificate, CertificateFor, subject_of, claiming}
+use Rattle.ta_check.proofs.Common.{sym, subst, Ok, err_is, Claim, Certificate, CertificateFor, subject_of, claiming}
 use Rattle.ta_scope.proofs.Judging.{loops_pure}
 use Rattle.ta_check.proofs.Accepting.{certificate_unsolved, claims_hold}
 use Rattle.ta_check.proofs.Answering.{end_refused, exact_end, stands_somewhere}
@@ -7,9 +7,8 @@ use Rattle.ta_check.proofs.checker.Checker.finish.Goals as goal
 
 pub returns-in_err-finish-clause-answer : goal.returns-in_err-finish-clause-answer
 returns-in_err-finish-clause-answer c =
-    let p = err_from_is_err_and c.from_residual.result c.from_residual.ensures.1 in
     let s = c.args.self in
-    rw (p.1, p.2) (λ text stands. end_refused (subject_of s) s.reader s.position text c.in_err-finish.field-0.0 stands.stand (c.in_err-finish.ensures.answer text (stands.stand.ls, stands.stand.read)))
+    rw (err_is c.from_residual.result _ c.from_residual.ensures.1) (λ text stands. end_refused (subject_of s) s.reader s.position text c.in_err-finish.field-0.0 stands.stand (c.in_err-finish.ensures.answer text (stands.stand.ls, stands.stand.read)))
 
 pub returns-in_err-finish-clause-exact : goal.returns-in_err-finish-clause-exact
 returns-in_err-finish-clause-exact c = λ text stands. exact_end (subject_of c.args.self) text c.from_residual.result (returns-in_err-finish-clause-answer c text stands)

@@ -1,4 +1,4 @@
-use Rattle.ta_check.proofs.Common.{Ok, Err, true, false, sym, ◌∙◌, ap, subst, refl, err_from_is_err_and, IsWord, here, Cursor, search_for, search_of_claim, LineAnswers, claiming}
+use Rattle.ta_check.proofs.Common.{Ok, Err, true, false, sym, subst, refl, err_is, IsWord, here, Cursor, search_for, search_of_claim, LineAnswers, claiming}
 use Rattle.ta_cert.specs.declared.line.Line.TheVariants as line
 use Rattle.ta_cert.specs.declared.line.Node.TheVariants as node
 use Rattle.ta_check.proofs.JudgingNodes.{some_newest, pattern_there, tree_within, tree_word, went_on, first_within, later, leaf_refused, leaf_told, node_taken}
@@ -28,11 +28,10 @@ returns-in_err-judge_leaf c = λ at is.
     let subject = claiming c.args.claim c.args.file.now in
     let ts = c.args.multipliers.now in
     let n = some_newest subject s at c.args.pattern c.requires.none c.requires.current is in
-    let q = err_from_is_err_and c.from_residual.result c.from_residual.ensures.1 in
     let f = c.in_err-judge_leaf.field-0.0 in
     let new = record s { encoding = c.judge_leaf.new.kept } in
     let refused = leaf_told _ (search_for c.args.claim c.args.file.now.automaton n.0 s.orders) _ s.place.cursor c.args.number ts (Err f) (c.new-tree.ensures.search n.0 n.1.named) c.cursor.ensures c.in_err-judge_leaf.ensures.taken in
-    subst (LineAnswers subject at c.args.number (line.Tree (node.Leaf ts)) new) (sym (q.1 ∙ ap Err q.2)) (leaf_refused subject s new at c.args.pattern c.args.number n.0 ts f n.1 refused)
+    subst (LineAnswers subject at c.args.number (line.Tree (node.Leaf ts)) new) (sym (err_is c.from_residual.result _ c.from_residual.ensures.1)) (leaf_refused subject s new at c.args.pattern c.args.number n.0 ts f n.1 refused)
 
 pub returns-then-not-branch : goal.returns-then-not-branch
 returns-then-not-branch c = λ at is.

@@ -1,15 +1,13 @@
-use Rattle.ta_compress.proofs.Common.{◌≡◌, ◌≤◌, ◌+◌, ◌++◌, ◌∷◌, [], unsigned_abs, arith, sym, ap, ◌∙◌, subst, ℤ, pos, ◌≤ℤ◌, ints, w128, to_z, of_z, on_ok_weaker, abs_natural, RunLine, factor_of, DraftAt, LineKeeps, MayRepeat, Room, unfolded}
+use Rattle.ta_compress.proofs.Common.{◌≡◌, ◌+◌, ◌++◌, ◌∷◌, [], unsigned_abs, arith, sym, ap, ◌∙◌, subst, on_ok_weaker, RunLine, factor_of, DraftAt, LineKeeps, MayRepeat, Room, unfolded}
+use Rattle.ta_base.proofs.Integers.{to_z_abs}
 use Rattle.ta_compress.proofs.Counted.{mark_ready, mark_room}
 use Rattle.ta_compress.proofs.Drafting.{marked}
 use Rattle.ta_compress.proofs.draft.Draft.follow.Goals as goal
 
-plain : (z : ℤ) → pos 1 ≤ℤ z → unsigned_abs z ≤ 1000000 → to_z w128 (of_z w128 z) ≡ z
-plain z low few = (let same = abs_natural z (omega (arith, ints)) in omega (arith, ints))
-
 pub repeat-requires-clause-may : goal.repeat-requires-clause-may
 repeat-requires-clause-may c =
     let may = rw c.in-Step.is at c.requires.may in
-    let count : c.unsigned_abs.result ≡ unsigned_abs c.in-Step.factor = c.unsigned_abs.ensures.value ∙ ap unsigned_abs (plain c.in-Step.factor may.1 may.2) in
+    let count : c.unsigned_abs.result ≡ unsigned_abs c.in-Step.factor = c.unsigned_abs.ensures.value ∙ ap unsigned_abs (to_z_abs c.in-Step.factor 1000000 may.2 (omega arith)) in
     subst (λ n. MayRepeat c.args.scoped.now.file.automaton c.in-Step.rule n c.args.self.now.config.values.items) (sym count) may.3
 
 pub returns-in-Step-clause-keeps : goal.returns-in-Step-clause-keeps
@@ -17,7 +15,7 @@ returns-in-Step-clause-keeps c =
     let a = c.args.scoped.now.file.automaton in
     let values = c.args.self.now.config.values.items in
     let may = rw c.in-Step.is at c.requires.may in
-    let count : c.unsigned_abs.result ≡ unsigned_abs c.in-Step.factor = c.unsigned_abs.ensures.value ∙ ap unsigned_abs (plain c.in-Step.factor may.1 may.2) in
+    let count : c.unsigned_abs.result ≡ unsigned_abs c.in-Step.factor = c.unsigned_abs.ensures.value ∙ ap unsigned_abs (to_z_abs c.in-Step.factor 1000000 may.2 (omega arith)) in
     on_ok_weaker c.repeat.result (λ stayed. subst (LineKeeps a values) (sym c.in-Step.is) (λ times some most. stayed times some (omega arith))) c.repeat.ensures.stayed
 
 pub returns-in_ok-mark-in-Mark-clause-goes : goal.returns-in_ok-mark-in-Mark-clause-goes

@@ -1,4 +1,4 @@
-use Rattle.ta_counter.proofs.Common.{◌≡◌, ◌<◌, ◌∙◌, Some, slice_get, sym, ap, subst, length, List, arith, FitsSigned, to_z-of_z, same_Some, err_from_is_err_and, w128, read_same, Rule, StepFails, StepIsTaken}
+use Rattle.ta_counter.proofs.Common.{◌≡◌, ◌<◌, ◌∙◌, Some, slice_get, sym, ap, subst, length, List, arith, FitsSigned, to_z-of_z, same_Some, err_is, w128, read_same, Rule, StepFails, StepIsTaken}
 use Rattle.ta_counter.proofs.Stepping.{taken_fires, no_steps}
 use Rattle.ta_counter.proofs.config.Config.accelerated_step.Goals as goal
 use Rattle.ta_counter.proofs.config.Config.accelerated_step.Goals.{After-index-as_slice-rule}
@@ -17,8 +17,7 @@ returns-in_err-after-clause-no_steps c =
     let named = rule_named (goal.at.returns-in_err-after-clause-no_steps c).After-index-as_slice-rule in
     let factor : FitsSigned w128 c.args.factor = c.ranges.factor in
     let fails = simp to_z-of_z at c.in_err-after.ensures.fails in
-    let p = err_from_is_err_and c.from_residual.result c.from_residual.ensures.1 in
-    rw (p.1, p.2)
+    rw (err_is c.from_residual.result _ c.from_residual.ensures.1)
     (no_steps a c.args.rule rule c.args.factor c.args.self.now _ named c.requires.factor c.requires.is_of (subst (λ vs. StepFails a rule c.args.factor vs c.in_err-after.field-0.0) c.as_slice-2.ensures.value fails))
 
 pub returns-clause-answer : goal.returns-clause-answer

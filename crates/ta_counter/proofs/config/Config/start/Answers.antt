@@ -1,4 +1,4 @@
-use Rattle.ta_counter.proofs.Common.{ℤ, List, length, arith, err_from_is_err_and, Automaton, StartsAt, Filling}
+use Rattle.ta_counter.proofs.Common.{ℤ, List, length, arith, err_is, Automaton, StartsAt, Filling}
 use Rattle.ta_counter.proofs.Filling.{fill_end}
 use Rattle.ta_counter.proofs.Starting.{starts_initial, starts_of, no_start}
 use Rattle.ta_counter.proofs.config.Config.start.Goals as goal
@@ -8,8 +8,7 @@ whole a parameters counts values f = fill_end a parameters counts values (length
 
 pub returns-in_err-check_start-clause-no_start : goal.returns-in_err-check_start-clause-no_start
 returns-in_err-check_start-clause-no_start c =
-    let p = err_from_is_err_and c.from_residual.result c.from_residual.ensures.1 in
-    rw (p.1, p.2)
+    rw (err_is c.from_residual.result _ c.from_residual.ensures.1)
     (no_start c.args.automaton.now c.args.parameters.now c.args.counts.now _ c.requires.parameters c.requires.counts c.requires.parameters_natural c.requires.counts_natural c.in_err-check_start.ensures)
 
 pub returns-clause-initial : goal.returns-clause-initial

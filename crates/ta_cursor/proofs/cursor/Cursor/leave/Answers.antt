@@ -1,5 +1,5 @@
 use Rattle.ta_cursor.proofs.Common.{◌+◌, ◌∷◌, refl, ap, arith, length, drop, sym, subst, parts, Cursor, Within, here, node_of}
-use Rattle.std.proofs.lemmas.Result.{err_from_is_err_and}
+use Rattle.std.proofs.result.Match.{err_is}
 use Rattle.ta_cursor.proofs.FramesParts.{one_comes, none_comes, no_memory}
 use Rattle.ta_cursor.proofs.FramesLeft.{inside_moved, passed_over}
 use Rattle.ta_cursor.proofs.cursor.Cursor.leave.Goals as goal
@@ -21,9 +21,7 @@ enter_next-requires-clause-split g c =
     back.3
 
 pub returns-in_err-enter_next : goal.returns-in_err-enter_next
-returns-in_err-enter_next g c = λ words inside.
-    let q = err_from_is_err_and c.from_residual.result c.from_residual.ensures.1 in
-    rw (q.1) (no_memory (g.T.Tree.search c.args.tree.now) c.enter_next.new.self words q.0)
+returns-in_err-enter_next g c = λ words inside. rw (err_is c.from_residual.result _ c.from_residual.ensures.1) (no_memory (g.T.Tree.search c.args.tree.now) c.enter_next.new.self words _)
 
 pub returns-then-branch : goal.returns-then-branch
 returns-then-branch g c = λ words inside.

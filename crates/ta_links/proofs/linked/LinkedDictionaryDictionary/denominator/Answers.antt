@@ -1,4 +1,4 @@
-use Rattle.ta_links.proofs.Common.{◌∙◌, ap, sym, List, length, get_or, arith, rules, to_z-of_z, SFits, w128, TableauRow, RowHead, no_head}
+use Rattle.ta_links.proofs.Common.{◌∙◌, ap, sym, List, get_or, rules, to_z-of_z, SFits, w128, TableauRow, RowHead, no_head}
 use Rattle.ta_links.proofs.LinkedFacts.{head_below, head_is}
 use Rattle.ta_links.proofs.linked.LinkedDictionaryDictionary.denominator.Goals as goal
 

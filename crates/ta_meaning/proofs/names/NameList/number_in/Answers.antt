@@ -1,6 +1,7 @@
 use Rattle.ta_meaning.proofs.Common.{◌-◌, ◌≤◌, false, map, take, drop, sym, ap, ◌∙◌, arith, is_some, string_bytes, distinct_names, place-along, within_part, subst, List, ℕ, Distinct}
-use Rattle.ta_meaning.proofs.ListedNames.{outside_part, has_name-at, has_key, key_at, has_name-along}
+use Rattle.ta_meaning.proofs.ListedNames.{outside_part, has_name-at, has_key, has_name-along}
 use Rattle.ta_meaning.proofs.UsedNames.{unknown, wrong_kind, rightly_used}
+use Rattle.ta_base.proofs.ByteLists.{key_at}
 use Rattle.ta_meaning.proofs.names.NameList.number_in.Goals as goal
 use Rattle.ta_meaning.proofs.names.NameList.number_in.Goals.{then-number-from-via-then-number-from, then-number-from-via-else-number-from+then-to-number}
 

@@ -10,3 +10,7 @@ total f (x ∷ xs) = f x +ℤ total f xs
 unfoldable pub times_in : ℕ → List ℕ → ℕ
 times_in r [] = 0
 times_in r (x ∷ xs) = (if x == r then 1 else 0) + times_in r xs
+
+-- 1 where two numbers are equal, else 0
+abbrev pub one_if : ℕ → ℕ → ℤ
+one_if x y = if x == y then pos 1 else pos 0
