@@ -6,6 +6,7 @@ use Rattle.ta_base.proofs.Totals.{total-append}
 use Rattle.ta_automaton.proofs.Thresholds.{updates_natural}
 use Rattle.ta_automaton.proofs.Onward.{change_of, NoneInto, Onward, EachRule}
 use Rattle.ta_automaton.proofs.Circuits.{EachPure, circuit_total}
+use Rattle.std.proofs.lemmas.Option.{same_Some}
 
 pub walk_append : (a : Automaton) (x : ℕ) (rs : List ℕ) (y : ℕ) (qs : List ℕ) (z : ℕ) → Walk a x rs y → Walk a y qs z → Walk a x (rs ++ qs) z
 walk_append a x [] y qs z v w = subst (λ (l : ℕ). Walk a l qs z) (sym v) w
@@ -24,11 +25,9 @@ pure_behind a scope x before c (r ∷ rs) v w =
     let rule = w.0 in
     let round : Walk a rule.to (rs ++ before) rule.from = walk_append a rule.to rs x before rule.from w.3 (subst (Walk a x before) (sym w.2) v) in
     let step : Walk a c (r ∷ []) rule.to = (rule, w.1, w.2, refl) in (
-      λ other named. pure_rule a scope r other named (rs ++ before) (let same : rule ≡ other = same_rule rule other (sym w.1 ∙ named) in subst (λ (q : Rule). Walk a q.to (rs ++ before) q.from) same round),
+      λ other named. pure_rule a scope r other named (rs ++ before) (let same : rule ≡ other = same_Some rule other (sym w.1 ∙ named) in subst (λ (q : Rule). Walk a q.to (rs ++ before) q.from) same round),
       pure_behind a scope x (before ++ r ∷ []) rule.to rs (walk_append a x before c (r ∷ []) rule.to v step) w.3,
-    ) where
-      same_rule : (x y : Rule) → Some x ≡ Some y → x ≡ y
-      same_rule x y e = cc
+    )
 
 -- the rules of a circuit have no updates
 pub circuit_pure : (a : Automaton) → InScope a → (x : ℕ) (rs : List ℕ) → Walk a x rs x → EachPure a rs
@@ -228,7 +227,7 @@ rearrange a scope (suc fuel) (o ∷ os) h short = elim (free_or_circuit a o os h
       record {
         firings = f.firing ∷ more.firings;
         onward = (
-          (λ rule named. let same : f.rule ≡ rule = same_rule f.rule rule (sym f.named ∙ named) in
+          (λ rule named. let same : f.rule ≡ rule = same_Some f.rule rule (sym f.named ∙ named) in
               subst (λ (x : Rule). NoneInto a x.from (f.firing ∷ more.firings)) same
               (f.none.0, none_from a f.rule.from more.firings (λ q i. none_at a f.rule.from f.rest q f.none.1 (more.among q i)))),
           more.onward,
@@ -245,6 +244,4 @@ rearrange a scope (suc fuel) (o ∷ os) h short = elim (free_or_circuit a o os h
         among = λ q i. c.same.back q (In-right q c.circuit c.rest (more.among q i));
         sums = λ i. omega (arith, ints, more.sums i, c.same.sums (change_of a i), total-append (change_of a i) c.circuit c.rest, circuit_total a c.place c.circuit c.walk (circuit_pure a scope c.place c.circuit c.walk) i);
       })
-] where
-  same_rule : (x y : Rule) → Some x ≡ Some y → x ≡ y
-  same_rule x y e = cc
+]

@@ -1,10 +1,10 @@
 -- sets of numbers as masks and as tests
-use Rattle.ta_base.proofs.Common.{ℕ, ◌<◌, eqb, max, ◌≡◌, ◌||◌, zero, refl, suc, arith, min, ◌&&◌, true≢false, bit_or, ap, ◌∙◌, bit_and, ◌^◌, ◌==◌, inl, sym, inr, false, ◌≤◌, ◌-◌, true, Bool, not, eqb-true, eq-eqb, ◌*◌, ◌%◌, pow_pos, ◌+◌, ◌⊎◌, IsBitSet, ◌/◌, cond, ◌↔◌, List, filter, [], ◌∷◌, get_or, ◌≢◌, w32, false≢true, cases_lt, and_cases, bit_at, bit_not, eqb_tells, one_shl, and_le_r, AllByRecursion, has_bit, implies, all_below, nat_tests, cases_Bool, Decides-eqb, same_from_decides, ne_eqb, and_parts, subst, cases_eq, not-false, not-true, not-not, and_comm, bit_set_by_shift, Decides-below_and, Decides, filter_agree}
+use Rattle.ta_base.proofs.Common.{ℕ, ◌<◌, eqb, max, ◌≡◌, ◌||◌, zero, refl, suc, arith, min, ◌&&◌, true≢false, bit_or, ap, ◌∙◌, bit_and, ◌^◌, ◌==◌, inl, sym, inr, false, ◌≤◌, ◌-◌, true, Bool, not, eqb-true, eq-eqb, ◌*◌, ◌%◌, pow_pos, ◌+◌, ◌⊎◌, IsBitSet, ◌/◌, cond, ◌↔◌, List, filter, [], ◌∷◌, get_or, ◌≢◌, w32, false≢true, cases_lt, and_cases, bit_at, bit_not, eqb_tells, one_shl, and_le_r, AllByRecursion, has_bit, implies, all_below, nat_tests, cases_Bool, Decides-eqb, same_from_decides, ne_eqb, and_parts, subst, cases_eq, not-false, not-true, not-not, and_comm, bit_set_by_shift, Decides-below_and, Decides, filter_agree, any_below, add-one}
 use Rattle.std.proofs.Math.Pow.{pow-lt}
 use Rattle.std.proofs.lemmas.Nat.Bits.{bit_at_or, bit_at-lt, bit_at_and, same_from_bits, bit_at-pow_same, bit_at-pow_other, bit_at-zero, bit_at_above, bit_at_ones, bit_at_lowest, bit_at-suc, bit_at_cat_low, bit_at_not, shr_and_one}
 use Rattle.std.proofs.lemmas.Nat.{or_lt}
 use Rattle.ta_base.proofs.Naturals.{mask_of, bit_small}
-use Rattle.ta_base.proofs.Booleans.{both_ways, implies-from, and_false}
+use Rattle.ta_base.proofs.Booleans.{both_ways, implies-from, and_false, either_way}
 use Rattle.ta_base.proofs.Lists.{filter_all}
 
 or_max : (x y : ℕ) → x < 2 → y < 2 → eqb (max x y) 1 ≡ (eqb y 1 || eqb x 1)
@@ -272,3 +272,46 @@ other_bit more mask j x is ne = is x ∙ ap (λ b. b || has_bit mask x) (ne_eqb 
 
 pub own_bit : (more mask j : ℕ) → IsWith more mask j → has_bit more j ≡ true
 own_bit more mask j is = is j ∙ ap (λ b. b || has_bit mask j) (eq-eqb j j refl)
+
+-- some number below another passes
+pub any_below-at : (n : ℕ) (test : ℕ → Bool) (k : ℕ) → k < n → test k ≡ true → any_below n test ≡ true
+any_below-at n test k b t = elim (cases_Bool (all_below n (λ j. not (test j)))) [
+  | inl all ↦ absurd (true≢false (sym t ∙ not-true (test k) (all_below-at n (λ j. not (test j)) all k b)))
+  | inr f ↦ ap not f
+]
+
+-- one number more is tried
+any_below-suc : (n : ℕ) (test : ℕ → Bool) → any_below (suc n) test ≡ (test n || any_below n test)
+unfolding all_below
+any_below-suc n test = either_way (all_below n (λ k. not (test k))) (test n)
+
+pub any_below-next : (n : ℕ) (test : ℕ → Bool) → any_below (n + 1) test ≡ (test n || any_below n test)
+any_below-next n test = ap (λ (m : ℕ). any_below m test) (add-one n) ∙ any_below-suc n test
+
+-- no number is below 0
+pub any_below-none : (test : ℕ → Bool) → any_below 0 test ≡ false
+unfolding all_below
+any_below-none test = refl
+
+-- the mask of the numbers below another
+pub ones_below : (n : ℕ) → 2 ^ n - 1 < 2 ^ n
+ones_below n = omega (arith, pow_pos n)
+
+pub ones_bit : (n k : ℕ) → IsBitSet (2 ^ n - 1) k → k < n
+ones_bit n k set = bit_below (2 ^ n - 1) n k (ones_below n) set
+
+-- a mask that differs at one bit, which is set
+pub one_bit_more : (mask n more : ℕ) → bit_at more n ≡ 1 → ((i : ℕ) → i ≢ n → bit_at more i ≡ bit_at mask i) → (i : ℕ) → IsBitSet more i ↔ (IsBitSet mask i ⊎ (i ≡ n))
+one_bit_more mask n more set kept i = (
+  λ b. elim (eqb_tells i n) [
+    | inl e ↦ inr e.1
+    | inr ne ↦ inl (at_set mask i (sym (kept i ne.1) ∙ set_at more i b))
+  ],
+  λ h. elim (eqb_tells i n) [
+    | inl e ↦ at_set more i (ap (bit_at more) e.1 ∙ set)
+    | inr ne ↦ elim h [
+      | inl b ↦ at_set more i (kept i ne.1 ∙ set_at mask i b)
+      | inr e ↦ absurd (ne.1 e)
+    ]
+  ],
+)

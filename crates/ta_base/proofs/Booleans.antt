@@ -68,3 +68,8 @@ first_passed a b x y z e second none = (chosen a x (cond b y z) x e (λ w. none 
 pub Decides-pair : {X Y : Type 0} (f : X → X → Bool) (g : Y → Y → Bool) → ((x y : X) → Decides (f x y) (x ≡ y)) → ((x y : Y) → Decides (g x y) (x ≡ y)) → (p q : X × Y) → Decides (f p.0 q.0 && g p.1 q.1) (p ≡ q)
 Decides-pair f g first second (x, c) (y, d) =
     Decides-like (f x y && g c d) (λ w. let e = w.0 in let h = w.1 in cc) (λ e. (ap (λ t. t.0) e, ap (λ t. t.1) e)) (Decides-and (f x y) (g c d) (first x y) (second c d))
+
+-- a test that isn't one value is the other
+pub other_of : (a b v w : Bool) → (a ≡ b → ⊥) → b ≡ v → (a ≡ v) ⊎ (a ≡ w) → a ≡ w
+other_of a b v w ne e (inl p) = absurd (ne (p ∙ sym e))
+other_of a b v w ne e (inr q) = q

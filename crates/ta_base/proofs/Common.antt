@@ -30,7 +30,7 @@ pub use Rattle.std.specs.Str.Parse.{AllDigits, digits_value, digits_value_after}
 pub use Rattle.ta_base.specs.Bytes.{Avoids, BeginsByLetter, IsWord, SplitAt, is_letter, is_word}
 pub use Rattle.ta_base.specs.Decimals.{BeginsNoDigit, DecimalAt, DigitsAt, IsDecimal, NoDecimalAt, is_padded}
 pub use Rattle.ta_base.specs.Lists.{Distinct, EachFrom, Rises}
-pub use Rattle.ta_base.specs.Masks.{In, implies}
+pub use Rattle.ta_base.specs.Masks.{In, any_below, implies}
 pub use Rattle.ta_base.specs.Sums.{one_if}
 unfoldable pub use Rattle.ta_base.specs.Sums.{times_in, total}
 unfoldable pub use Rattle.ta_base.specs.Masks.{all_below, has_bit}

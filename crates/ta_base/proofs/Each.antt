@@ -154,6 +154,10 @@ pub distinct_append : {X : Type 0} (xs ys : List X) → Distinct xs → Distinct
 distinct_append [] ys d e apart = e
 distinct_append (x ∷ xs) ys d e apart = (each_append (λ y. x ≡ y → ⊥) xs ys d.0 (not_in x ys (apart x (inl refl))), distinct_append xs ys d.1 e (λ z h. apart z (inr h)))
 
+pub distinct_unless : {X : Type 0} (b : Bool) (xs : List X) → Distinct xs → Distinct (cond b [] xs)
+distinct_unless true xs d = tt
+distinct_unless false xs d = d
+
 -- one more item, from which each of the others differs
 pub distinct_push_apart : {X : Type 0} (xs : List X) (x : X) → Distinct xs → AllByRecursion (λ y. y ≡ x → ⊥) xs → Distinct (xs ++ x ∷ [])
 distinct_push_apart xs x d h = distinct_append xs (x ∷ []) d (tt, tt) (λ y is at. elim at [ inl same ↦ each_in (λ z. z ≡ x → ⊥) xs y h is same | inr none ↦ none ])

@@ -480,3 +480,16 @@ single-natural u w y h = elim (cases_eq u w) [ inl same ↦ rw (single-at u w y 
 -- what fits by its absolute value fits with its sign turned
 pub minus_fits : (w : Width) (z : ℤ) → unsigned_abs z < 2 ^ hbits w → SFits w (pos 0 -ℤ z)
 minus_fits w z h = fits_signed_from_abs w (pos 0 -ℤ z) (omega (arith, ap unsigned_abs (zero_minus z) ∙ unsigned_abs-neg z))
+
+-- sums of a product by one or by nothing
+pub once_and_nothing : (z : ℤ) → z ≡ pos 1 *ℤ z +ℤ pos 0
+once_and_nothing z = omega (arith, ints)
+
+pub none_and_once : (b z : ℤ) → z ≡ pos 0 *ℤ b +ℤ z
+none_and_once b z = omega (arith, ints)
+
+pub and_none : (z b : ℤ) → z +ℤ pos 0 *ℤ b ≡ z
+and_none z b = omega (arith, ints)
+
+pub balance_of_one : (w s t c : ℤ) → t +ℤ s ≡ pos 0 *ℤ c → t ≡ pos 1 *ℤ w → s ≡ neg_ℤ w
+balance_of_one w s t c e z = omega (arith, ints, e, z)

@@ -5,6 +5,7 @@ pub mod Naturals
 pub mod Integers
 pub mod Lists
 pub mod Members
+pub mod Pairwise
 pub mod Each
 pub mod Ranges
 pub mod Sums

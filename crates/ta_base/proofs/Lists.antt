@@ -1,11 +1,12 @@
 -- lists: items by number, parts, maps, filters
-use Rattle.ta_base.proofs.Common.{ℕ, List, [], ◌∙◌, sym, append-nil, decimal, ◌<◌, get_or, ◌≡◌, take, zero, suc, ◌∷◌, arith, length, ◌≤◌, subst, ◌-◌, ◌+◌, drop, length-drop, ap, ◌++◌, refl, not, eqb, true, rules, tests, ℤ, Bool, Option, if◌then◌else◌, Some, None, false, length-take-le, map, append_assoc, IsTrue, pos, ◌≤ℤ◌, ◌<ℤ◌, ◌^◌, negsuc, length-append, false-eqb, filter, get_or-append-add, eq-eqb, slice_get, ◌⊎◌, inr, inl, cond, take_at, drop_at, replicate, drop-drop, take-append-drop, ext_get_or, reverse, set, ◌+ℤ◌, get_or-set_same, get_or-set_other, ◌≢◌, neg_ℤ, int_div, IsSomeAnd, unsigned_abs, slice_index, ◌==◌, Result, is_ok, OnOk, Ok, Err, split_at, take-append-add, take-length, list_all, prefix_len, list_any, range_with_len, slice_split, onto_first, and_parts, false≢true, or_cases, cases_lt, cases_eq, none-some, same_Some, slice_get_read, slice_get_within, take-append-le, length-map, get_or_append_left, drop_more, get_or-append_right, get_or-replicate, length-replicate, take_more, reverse-append, map-append, nat_tests, eqb_tells, signed_decimal, ints, filter-append, IsDecimal, DecimalAt, Avoids, SplitAt, is_letter, is_word, BeginsByLetter, take_all as take_all_of_Common, get_or_past as get_or_past_of_List, take-take, length-filter, count_by-le-length, get_or_from_slice_get, slice_range}
+use Rattle.ta_base.proofs.Common.{ℕ, List, [], ◌∙◌, sym, append-nil, decimal, ◌<◌, get_or, ◌≡◌, take, zero, suc, ◌∷◌, arith, length, ◌≤◌, subst, ◌-◌, ◌+◌, drop, length-drop, ap, ◌++◌, refl, not, eqb, true, rules, tests, ℤ, Bool, Option, if◌then◌else◌, Some, None, false, length-take-le, map, append_assoc, IsTrue, pos, ◌≤ℤ◌, ◌<ℤ◌, ◌^◌, negsuc, length-append, false-eqb, filter, get_or-append-add, eq-eqb, slice_get, ◌⊎◌, inr, inl, cond, take_at, drop_at, replicate, drop-drop, take-append-drop, ext_get_or, reverse, set, ◌+ℤ◌, get_or-set_same, get_or-set_other, ◌≢◌, neg_ℤ, int_div, IsSomeAnd, unsigned_abs, slice_index, ◌==◌, Result, is_ok, OnOk, Ok, Err, split_at, take-append-add, take-length, list_all, prefix_len, list_any, range_with_len, slice_split, onto_first, and_parts, false≢true, or_cases, cases_lt, cases_eq, none-some, same_Some, slice_get_read, slice_get_within, take-append-le, length-map, get_or_append_left, drop_more, get_or-append_right, get_or-replicate, length-replicate, take_more, reverse-append, map-append, nat_tests, eqb_tells, signed_decimal, ints, filter-append, IsDecimal, DecimalAt, Avoids, SplitAt, is_letter, is_word, BeginsByLetter, take_all as take_all_of_Common, get_or_past as get_or_past_of_List, take-take, length-filter, count_by-le-length, get_or_from_slice_get, slice_range, reverse-reverse}
 use Rattle.std.proofs.Math.ListN.{get_or-map as get_or-map_of_ListN}
-use Rattle.std.proofs.lemmas.List.{replicate-append-replicate}
-use Rattle.std.proofs.lemmas.List.{take_rest}
+use Rattle.std.proofs.lemmas.List.{replicate-append-replicate, append_cancel_left, take_rest}
 use Rattle.std.proofs.lemmas.List.Edits.{fill_by_more}
 use Rattle.std.proofs.lemmas.List.Splits.{slice_split-cons_yes, slice_split-cons_no}
 use Rattle.ta_base.proofs.Integers.{pos_same, div-one}
+use Rattle.std.specs.List.{concat}
+use Rattle.std.proofs.lemmas.List.Folds.{concat-append}
 
 -- a number that the bytes are stands first in them
 pub whole_at : (limit n : ℕ) (bytes : List ℕ) → IsDecimal limit bytes n → DecimalAt limit bytes n []
@@ -319,8 +320,19 @@ pub same_numbers : (xs ys : List ℕ) → length xs ≡ length ys → ((i : ℕ)
 same_numbers xs ys same h = ext_get_or 0 xs ys same (λ i b. pos_same (get_or xs i 0) (get_or ys i 0) (h i b))
 
 -- an item that a loop reads is one of the list
+pub read_within : {X : Type 0} (xs ys : List X) (i : ℕ) (x : X) → ys ≡ xs → i < length xs → x ≡ get_or ys i x → slice_get xs i ≡ Some x
+read_within xs ys i x same within is = slice_get_read xs (length xs) i x refl within (is ∙ ap (λ zs. get_or zs i x) same)
+
 pub read_same : {X : Type 0} (xs ys : List X) (i : ℕ) (x : X) → ys ≡ xs → i < length ys → x ≡ get_or ys i x → slice_get xs i ≡ Some x
-read_same {X} xs ys i x same below is = subst (λ (zs : List X). slice_get zs i ≡ Some x) same (slice_get_read ys (length ys) i x refl below is)
+read_same xs ys i x same below is = read_within xs ys i x same (omega (arith, ap length same)) is
+
+-- what is read at a place has a fact that the value has
+pub has_read : {X : Type 0} (xs : List X) (i : ℕ) (x : X) (fact : X → Type 0) → i < length xs → x ≡ get_or xs i x → fact x → IsSomeAnd (slice_get xs i) fact
+has_read xs i x fact below is holds = subst (λ o. IsSomeAnd o fact) (sym (read_within xs xs i x refl below is)) holds
+
+-- and the value has the fact of what is read
+pub of_read : {X : Type 0} (xs : List X) (i : ℕ) (x : X) (fact : X → Type 0) → i < length xs → x ≡ get_or xs i x → IsSomeAnd (slice_get xs i) fact → fact x
+of_read xs i x fact below is holds = subst (λ o. IsSomeAnd o fact) (read_within xs xs i x refl below is) holds
 
 -- each item before one passes
 abbrev pub PassedTo : {X : Type 0} → (ℕ → X → Type 0) → List X → ℕ → Type 0
@@ -352,9 +364,34 @@ twice_back old new newer rest same also =
 pub take_next_read : {X : Type 0} (k : ℕ) (xs : List X) (x : X) → k < length xs → x ≡ get_or xs k x → take (k + 1) xs ≡ take k xs ++ x ∷ []
 take_next_read k xs x below is = take_more xs k x below ∙ ap (λ y. take k xs ++ y ∷ []) (sym is)
 
-pub append_empty : (xs ys : List (ℕ × ℕ)) → xs ++ ys ≡ [] → (xs ≡ []) × (ys ≡ [])
-append_empty [] ys e = (refl, e)
-append_empty (x ∷ xs) ys e = absurd (let n = ap (λ (zs : List (ℕ × ℕ)). length zs) e in omega arith)
+-- a list of two parts is empty where both are
+pub empty_before : {X : Type 0} (xs ys : List X) → xs ≡ [] → xs ++ ys ≡ ys
+empty_before xs ys e = ap (λ zs. zs ++ ys) e
+
+pub empty_both : {X : Type 0} (xs ys : List X) → xs ≡ [] → ys ≡ [] → xs ++ ys ≡ []
+empty_both xs ys e f = empty_before xs ys e ∙ f
+
+pub empty_left : {X : Type 0} (xs ys : List X) → xs ++ ys ≡ [] → xs ≡ []
+empty_left [] ys e = refl
+empty_left (x ∷ xs) ys e = cc
+
+pub empty_right : {X : Type 0} (xs ys : List X) → xs ++ ys ≡ [] → ys ≡ []
+empty_right [] ys e = e
+empty_right (x ∷ xs) ys e = cc
+
+-- an empty list has no item, and no end
+pub none_of_empty : {X : Type 0} (xs : List X) → xs ≡ [] → (i : ℕ) (x : X) → slice_get xs i ≡ Some x → ⊥
+none_of_empty xs e i x at = none-some x (ap (λ ys. slice_get ys i) (sym e) ∙ at)
+
+pub no_end : {X : Type 0} (xs : List X) (x : X) → [] ≡ xs ++ x ∷ [] → ⊥
+no_end [] x e = absurd (cc)
+no_end (y ∷ xs) x e = absurd (cc)
+
+pub same_end : {X : Type 0} (xs ys : List X) (x y : X) → xs ++ x ∷ [] ≡ ys ++ y ∷ [] → x ≡ y
+same_end [] [] x y e = cc
+same_end [] (b ∷ ys) x y e = absurd (no_end ys y (cc))
+same_end (a ∷ xs) [] x y e = absurd (no_end xs x (cc))
+same_end (a ∷ xs) (b ∷ ys) x y e = same_end xs ys x y (cc)
 
 pub filter_shorter : (test : ℕ → Bool) (xs : List ℕ) → length (filter test xs) ≤ length xs
 filter_shorter test xs = omega (arith, length-filter test xs, count_by-le-length test xs)
@@ -671,3 +708,106 @@ ended (Err e) old new w a b c first last = tt
 -- what is listed from a number on, up to the end
 pub slice_range-end : {X : Type 0} (xs : List X) (from n : ℕ) → n ≡ length xs → slice_range xs from n ≡ drop from xs
 slice_range-end xs from n e = ap (λ k. take (k - from) (drop from xs)) e ∙ take_rest xs from
+
+-- a list whose first item was taken out
+pub first_removed : {X : Type 0} (xs ys : List X) (x : X) → x ≡ get_or xs 0 x → ys ≡ take 0 xs ++ drop 1 xs → 0 < length xs → xs ≡ x ∷ ys
+first_removed [] ys x first others some = absurd (omega arith)
+first_removed (z ∷ zs) ys x first others some = ap (λ y. y ∷ zs) (sym first) ∙ ap (λ ws. x ∷ ws) (sym others)
+
+-- a list in the reverse order, cut
+pub reversed_parts : {X : Type 0} (k : ℕ) (xs : List X) → reverse xs ≡ reverse (drop k xs) ++ reverse (take k xs)
+reversed_parts k xs = ap reverse (sym (take-append-drop k xs)) ∙ reverse-append (take k xs) (drop k xs)
+
+pub reversed_at : {X : Type 0} (k : ℕ) (xs : List X) (x : X) → slice_get xs k ≡ Some x → reverse xs ≡ reverse (drop (k + 1) xs) ++ x ∷ reverse (take k xs)
+reversed_at k xs x at =
+    reversed_parts k xs
+    ∙ ap (λ ys. reverse ys ++ reverse (take k xs)) (next_dropped xs k x at)
+    ∙ ap (λ ys. ys ++ reverse (take k xs)) (reverse-append (x ∷ []) (drop (k + 1) xs))
+    ∙ append_assoc (reverse (drop (k + 1) xs)) (x ∷ []) (reverse (take k xs))
+
+pub reversed_same : {X : Type 0} (xs ys zs : List X) → reverse xs ≡ zs → reverse ys ≡ zs → xs ≡ ys
+reversed_same xs ys zs is are = sym (reverse-reverse xs) ∙ ap reverse (is ∙ sym are) ∙ reverse-reverse ys
+
+-- lists in parts
+pub joined : {X : Type 0} (all xs middle ys rest : List X) → all ≡ xs ++ middle → middle ≡ ys ++ rest → all ≡ (xs ++ ys) ++ rest
+joined all xs middle ys rest e f = e ∙ ap (λ zs. xs ++ zs) f ∙ sym (append_assoc xs ys rest)
+
+pub regrouped : {X : Type 0} (xs ys rest xs' ys' rest' : List X) → (xs ++ ys) ++ rest ≡ (xs' ++ ys') ++ rest' → xs ++ (ys ++ rest) ≡ xs' ++ (ys' ++ rest')
+regrouped xs ys rest xs' ys' rest' e = sym (append_assoc xs ys rest) ∙ e ∙ append_assoc xs' ys' rest'
+
+pub five_parts : {X : Type 0} (a b c d e rest : List X) → a ++ (b ++ (c ++ (d ++ (e ++ rest)))) ≡ (a ++ (b ++ (c ++ (d ++ e)))) ++ rest
+five_parts a b c d e rest = simp append_assoc
+
+-- a piece and what follows it
+pub piece : {X : Type 0} (all a b x c : List X) → all ≡ a ++ b → a ≡ x → b ≡ c → all ≡ x ++ c
+piece all a b x c e f g = e ∙ ap (λ z. z ++ b) f ∙ ap (λ z. x ++ z) g
+
+pub one_piece : {X : Type 0} (all a b c : List X) (x : X) → all ≡ a ++ b → a ≡ x ∷ [] → b ≡ c → all ≡ x ∷ c
+one_piece all a b c x e f g = piece all a b (x ∷ []) c e f g
+
+-- lists that are no longer than another, by a test or by what was taken
+pub unless_most : {X : Type 0} (b : Bool) (xs : List X) (n : ℕ) → length xs ≤ n → length (cond b [] xs) ≤ n
+unless_most true xs n h = omega arith
+unless_most false xs n h = h
+
+pub taken_long : {X : Type 0} (last : ℕ) (xs ys : List X) → ys ≡ take last xs → length xs ≡ last + 1 → length ys ≡ last
+taken_long last xs ys e long = omega (arith, ap length e, length-take-le last xs (omega arith))
+
+-- lists with the same items are the same
+pub same_items : {X : Type 0} (xs ys : List X) → length xs ≡ length ys → ((i : ℕ) → i < length xs → slice_get xs i ≡ slice_get ys i) → xs ≡ ys
+same_items [] [] e same = refl
+same_items [] (y ∷ ys) e same = absurd (omega arith)
+same_items (x ∷ xs) [] e same = absurd (omega arith)
+same_items (x ∷ xs) (y ∷ ys) e same =
+    let first = same 0 (omega arith) in
+    let rest = same_items xs ys (omega arith) (λ i h. same (suc i) (omega arith)) in
+    cc
+
+-- a place counted from nothing
+pub get_from_none : {X : Type 0} (xs : List X) (k : ℕ) (x : X) → slice_get xs k ≡ Some x → slice_get xs (0 + k) ≡ Some x
+get_from_none xs k x at = let here : k ≡ 0 + k = omega arith in ap (slice_get xs) (sym here) ∙ at
+
+-- the images of images
+pub map-map : {X Y Z : Type 0} (f : Y → Z) (g : X → Y) (xs : List X) → map (λ x. f (g x)) xs ≡ map f (map g xs)
+map-map f g [] = refl
+map-map f g (x ∷ xs) = ap (λ ys. f (g x) ∷ ys) (map-map f g xs)
+
+-- behind three parts that are the same
+pub behind_three : {X : Type 0} (a b c x y m n t u : List X) → (a ++ (b ++ (c ++ (x ++ m)))) ++ t ≡ (a ++ (b ++ (c ++ (y ++ n)))) ++ u → x ++ (m ++ t) ≡ y ++ (n ++ u)
+behind_three a b c x y m n t u e = append_cancel_left c _ _ (append_cancel_left b _ _ (append_cancel_left a _ _ (five_parts a b c x m t ∙ e ∙ sym (five_parts a b c y n u))))
+
+-- of two texts the first was chosen
+pub first_chosen : {X : Type 0} (b : Bool) (x y rest behind : List X) → (if b then x else y) ++ rest ≡ x ++ behind → (y ++ rest ≡ x ++ behind → ⊥) → b ≡ true
+first_chosen true x y rest behind e other = refl
+first_chosen false x y rest behind e other = absurd (other e)
+
+pub map_three : {X Y : Type 0} (f : X → Y) (a b c : List X) → map f a ++ map f b ++ map f c ≡ map f (a ++ b ++ c)
+map_three f a b c = ap (λ r. r ++ map f c) (sym (map-append f a b)) ∙ sym (map-append f (a ++ b) c)
+
+-- ---- lists one behind the other
+pub concat_more : (ts : List (List ℕ)) (t : List ℕ) → concat (ts ++ t ∷ []) ≡ concat ts ++ t
+concat_more ts t = concat-append ts (t ∷ []) ∙ ap (λ xs. concat ts ++ xs) (append-nil t)
+
+pub concat_next : (ts : List (List ℕ)) (k : ℕ) (t : List ℕ) → k < length ts → get_or ts k t ≡ t → concat (take (k + 1) ts) ≡ concat (take k ts) ++ t
+concat_next ts k t below is = ap concat (take_next_read k ts t below (sym is)) ∙ concat_more (take k ts) t
+
+pub concat_length : (ts : List (List ℕ)) (k : ℕ) (t : List ℕ) → k < length ts → get_or ts k t ≡ t → length (concat (take (k + 1) ts)) ≡ length (concat (take k ts)) + length t
+concat_length ts k t below is = ap length (concat_next ts k t below is) ∙ length-append (concat (take k ts)) t
+
+-- the first are no longer than all
+pub concat_within : (ts : List (List ℕ)) (k : ℕ) → length (concat (take k ts)) ≤ length (concat ts)
+concat_within ts k = omega (arith, ap length (ap concat (sym (take-append-drop k ts)) ∙ concat-append (take k ts) (drop k ts)), length-append (concat (take k ts)) (concat (drop k ts)))
+
+-- an open piece behind whole ones was ended, or is empty, or others came between
+pub concat_ended : (whole new : List (List ℕ)) (last : List ℕ) → new ≡ whole ++ last ∷ [] → concat new ≡ concat whole ++ last
+concat_ended whole new last e = ap concat e ∙ concat_more whole last
+
+pub concat_begun : (whole : List (List ℕ)) (text last : List ℕ) → concat whole ≡ text → last ≡ [] → concat whole ++ last ≡ text
+concat_begun whole text last e none = ap (λ xs. concat whole ++ xs) none ∙ append-nil (concat whole) ∙ e
+
+pub concat_added : (whole new more : List (List ℕ)) (text last : List ℕ) → concat whole ≡ text → new ≡ whole ++ more → concat new ++ last ≡ text ++ (concat more ++ last)
+concat_added whole new more text last e added =
+    ap (λ ts. concat ts ++ last) added
+    ∙ ap (λ xs. xs ++ last) (concat-append whole more)
+    ∙ append_assoc (concat whole) (concat more) last
+    ∙ ap (λ xs. xs ++ (concat more ++ last)) e

@@ -3,6 +3,7 @@ use Rattle.ta_base.proofs.Common.{List, ◌++◌, [], ◌∷◌, inl, inr, map, 
 use Rattle.std.proofs.lemmas.List.Elements.{Contains-append_left}
 use Rattle.ta_base.proofs.Lists.{without_last, only_item, slice_get_left, get_right, get_map, get_parts, get_of_map}
 use mathlib.Core.List.{reverse-cons}
+use Rattle.ta_base.specs.Lists.{SameMembers}
 
 -- an item of a list has a place in it, and what has a place is an item
 pub place_of : {X : Type 0} (x : X) (xs : List X) → In x xs → (i : ℕ) × (slice_get xs i ≡ Some x)
@@ -166,3 +167,11 @@ pub contains_in_range : {X : Type 0} (xs : List X) (from to : ℕ) (x : X) → C
 contains_in_range {X = X} xs from to x c =
     let rest : Contains (drop from xs) x = subst (λ (z : List X). Contains z x) (take-append-drop (to - from) (drop from xs)) (Contains-append_left (slice_range xs from to) (drop (to - from) (drop from xs)) x c) in
     subst (λ (z : List X). Contains z x) (take-append-drop from xs) (Contains-append_right (take from xs) (drop from xs) x rest)
+
+-- ---- lists with the same members
+pub same_members_back : {X : Type 0} (xs ys : List X) → SameMembers xs ys → SameMembers ys xs
+same_members_back xs ys same = λ x. ((same x).1, (same x).0)
+
+pub no_members : {X : Type 0} (xs ys : List X) → xs ≡ [] → SameMembers xs ys → ys ≡ []
+no_members xs [] none same = refl
+no_members xs (y ∷ ys) none same = absurd (subst (In y) none ((same y).1 (inl refl)))

@@ -1,5 +1,5 @@
 -- natural numbers: orders, products, powers
-use Rattle.ta_base.proofs.Common.{ℕ, eq-eqb, add-one, ◌<◌, ◌⊎◌, ◌≤◌, zero, inl, inr, arith, suc, ◌*◌, ◌^◌, ◌%◌, ◌-◌, pow_pos, lit<, Bool, cond, ◌+◌, true, false, ◌≡◌, eqb, IsTrue, refl, ◌∙◌, ap, sym, ◌≢◌, not, Option, Some, None, max, min, ◌&&◌, nat_lt, ◌/◌, mod-lt, ◌==◌, nat_tests, one_shl, props, cases_eq, cases_lt, pow-le-pow_right, is_letter, is_word, map, length, get_or, ne_eqb, eqb-true, range_with_len, list_any, IsDistinct, IsDistinct-from_apart, length-le_from_distinct_below, le_of_suc-le-suc, lt_of_not-le, lt_of_mul-lt-mul_left, cond_both, cond-true, cond-false, and_left, ltb-true, ltb-false, eqb-false, not-true, div_below, get_or-map-range_with_len, length-map-range_with_len}
+use Rattle.ta_base.proofs.Common.{ℕ, eq-eqb, add-one, ◌<◌, ◌⊎◌, ◌≤◌, zero, inl, inr, arith, suc, ◌*◌, ◌^◌, ◌%◌, ◌-◌, pow_pos, lit<, Bool, cond, ◌+◌, true, false, ◌≡◌, eqb, IsTrue, refl, ◌∙◌, ap, sym, ◌≢◌, not, Option, Some, None, max, min, ◌&&◌, nat_lt, ◌/◌, mod-lt, ◌==◌, nat_tests, one_shl, props, cases_eq, cases_lt, pow-le-pow_right, is_letter, is_word, map, length, get_or, ne_eqb, eqb-true, range_with_len, list_any, IsDistinct, IsDistinct-from_apart, length-le_from_distinct_below, le_of_suc-le-suc, lt_of_not-le, lt_of_mul-lt-mul_left, cond_both, cond-true, cond-false, and_left, ltb-true, ltb-false, eqb-false, not-true, div_below, get_or-map-range_with_len, length-map-range_with_len, mul-le-mul_right}
 use Rattle.std.proofs.lemmas.Map.Views.{Contains-from_any}
 
 pub first_bits_below : (n : ℕ) → n < 32 → (1 * 2 ^ n) % 4294967296 - 1 < 2 ^ n
@@ -209,3 +209,13 @@ capped_again r s f low high h a b = grind (arith, nat_tests)
 
 pub capped_below : (r f low : ℕ) → r ≡ min f low → r ≤ low
 capped_below r f low a = grind (arith, nat_tests)
+
+pub below_cap : (f r cap : ℕ) → r ≡ f → r ≤ cap → f ≡ min f cap
+below_cap f r cap same below = grind (arith, nat_tests)
+
+-- products that grow with a factor
+pub product_most : (m n k s : ℕ) → m ≤ n → s ≤ m * k → s ≤ n * k
+product_most m n k s less within = let more = mul-le-mul_right k less in omega arith
+
+pub product_next : (m n all first rest : ℕ) → all ≡ first + rest → first ≤ m → rest ≤ n * m → all ≤ suc n * m
+product_next m n all first rest e f g = let next : suc n * m ≡ m + n * m = omega arith in omega arith

@@ -1,8 +1,8 @@
 -- numbers in a row, and lists of numbers that rise
-use Rattle.ta_base.proofs.Common.{ℕ, ◌≤◌, ◌<◌, ◌+◌, zero, arith, suc, get_or, map, ◌≡◌, ap, ◌∙◌, length, refl, List, [], ◌∷◌, ℤ, slice_get, Some, ◌++◌, Bool, filter, cond, pos, true, sym, length-append, false, subst, None, slice_index_or, get_or_past, length-map, map-append, filter-append, AllByRecursion, Distinct, In, range_with_len, Rises, get_or_from_slice_get, add-one, ◌-◌, get_or_append_left, get_or-append-add, append-nil, same_Some, cond_both, slice_get_past, fill_by_all, get_or-map-range_with_len, get_or-range_with_len, length-map-range_with_len, length-range_with_len, slice_get-get_or}
+use Rattle.ta_base.proofs.Common.{ℕ, ◌≤◌, ◌<◌, ◌+◌, zero, arith, suc, get_or, map, ◌≡◌, ap, ◌∙◌, length, refl, List, [], ◌∷◌, ℤ, slice_get, Some, ◌++◌, Bool, filter, cond, pos, true, sym, length-append, false, subst, None, slice_index_or, get_or_past, length-map, map-append, filter-append, AllByRecursion, Distinct, In, range_with_len, Rises, get_or_from_slice_get, add-one, ◌-◌, get_or_append_left, get_or-append-add, append-nil, same_Some, cond_both, slice_get_past, fill_by_all, get_or-map-range_with_len, get_or-range_with_len, length-map-range_with_len, length-range_with_len, slice_get-get_or, cond-true, cond-false, append_assoc}
 use Rattle.ta_base.proofs.Lists.{filter_shorter, range_more}
 use Rattle.ta_base.proofs.Each.{each_in, each_from, each_from_in, each_get_or}
-use Rattle.ta_base.proofs.Members.{place_of, in_at}
+use Rattle.ta_base.proofs.Members.{place_of, in_at, in_map, in_filter, In-map, In-filter}
 
 pub slice_numbers : (k n i : ℕ) → i < n → slice_get (range_with_len k n) i ≡ Some (k + i)
 slice_numbers k n i h = slice_get-get_or (range_with_len k n) i 0 (omega (arith, length-range_with_len k n)) ∙ ap Some (get_or-range_with_len k n i 0 h)
@@ -147,3 +147,68 @@ each_number k n = each_from_in (λ x. (k ≤ x) × (x < k + n)) (range_with_len 
 pub rises_distinct : (low high : ℕ) (xs : List ℕ) → Rises low high xs → Distinct xs
 rises_distinct low high [] r = tt
 rises_distinct low high (x ∷ xs) r = (each_from (λ y. x ≡ y → ⊥) xs (λ i y at same. omega (arith, (rises_within (x + 1) high xs r.2 i y at).0)), rises_distinct (x + 1) high xs r.2)
+
+-- what a function gives for the numbers in a row that pass a test
+pub passed_length : {X : Type 0} (f : ℕ → X) (test : ℕ → Bool) (k n : ℕ) → length (map f (filter test (range_with_len k n))) ≤ n
+passed_length f test k n = omega (arith, length-map (filter test (range_with_len k n)) f, filter_shorter test (range_with_len k n), length-range_with_len k n)
+
+pub passed_most : {X : Type 0} (f : ℕ → X) (test : ℕ → Bool) (before now : List X) (k n : ℕ) → now ≡ before ++ map f (filter test (range_with_len k n)) → length now ≤ length before + n
+passed_most f test before now k n e = omega (arith, ap length e, length-append before (map f (filter test (range_with_len k n))), passed_length f test k n)
+
+pub in_passed : {X : Type 0} (f : ℕ → X) (test : ℕ → Bool) (k n : ℕ) (x : X) → In x (map f (filter test (range_with_len k n))) → (i : ℕ) × (x ≡ f i) × (test i ≡ true) × (k ≤ i) × (i < k + n)
+in_passed f test k n x h =
+    let mapped = in_map f x (filter test (range_with_len k n)) h in
+    let kept = in_filter test mapped.0 (range_with_len k n) mapped.1 in
+    let within = in_numbers mapped.0 k n kept.1 in
+    (mapped.0, mapped.2, kept.0, within.0, within.1)
+
+pub passed_more : {X : Type 0} (f : ℕ → X) (test other : ℕ → Bool) (k n : ℕ) (x : X) → ((i : ℕ) → test i ≡ true → other i ≡ true) → In x (map f (filter test (range_with_len k n))) → In x (map f (filter other (range_with_len k n)))
+passed_more f test other k n x more h =
+    let c = in_passed f test k n x h in
+    subst (λ y. In y (map f (filter other (range_with_len k n)))) (sym c.1) (In-map f c.0 _ (In-filter other c.0 _ (more c.0 c.2) (In-numbers c.0 k n c.3 c.4)))
+
+-- a list with what passes among numbers in a row, and one number more
+pub pushed_passed : {X : Type 0} (f : ℕ → X) (test : ℕ → Bool) (before now after : List X) (k n : ℕ) → test (k + n) ≡ true → now ≡ before ++ map f (filter test (range_with_len k n)) → after ≡ now ++ f (k + n) ∷ [] → after ≡ before ++ map f (filter test (range_with_len k (n + 1)))
+pushed_passed f test before now after k n t e g =
+    let more : filter test (range_with_len k (n + 1)) ≡ filter test (range_with_len k n) ++ (k + n) ∷ [] = filter_more test k n ∙ ap (λ ms. filter test (range_with_len k n) ++ ms) (cond-true (test (k + n)) ((k + n) ∷ []) [] t) in
+    g ∙ ap (λ ns. ns ++ f (k + n) ∷ []) e ∙ append_assoc before (map f (filter test (range_with_len k n))) (f (k + n) ∷ [])
+    ∙ ap (λ ns. before ++ ns) (sym (map-append f (filter test (range_with_len k n)) ((k + n) ∷ []))) ∙ ap (λ ms. before ++ map f ms) (sym more)
+
+pub left_unpassed : {X : Type 0} (f : ℕ → X) (test : ℕ → Bool) (before now after : List X) (k n : ℕ) → test (k + n) ≡ false → now ≡ before ++ map f (filter test (range_with_len k n)) → after ≡ now → after ≡ before ++ map f (filter test (range_with_len k (n + 1)))
+left_unpassed f test before now after k n t e g =
+    let more : filter test (range_with_len k (n + 1)) ≡ filter test (range_with_len k n) = filter_more test k n ∙ ap (λ ms. filter test (range_with_len k n) ++ ms) (cond-false (test (k + n)) ((k + n) ∷ []) [] t) ∙ append-nil (filter test (range_with_len k n)) in
+    g ∙ e ∙ ap (λ ms. before ++ map f ms) (sym more)
+
+-- what different numbers give differently has no item twice
+one_passed_once : {X : Type 0} (f : ℕ → X) (test : ℕ → Bool) (k n : ℕ) (b : Bool) → ((x y : ℕ) → f x ≡ f y → x ≡ y) → Distinct (map f (filter test (range_with_len (k + 1) n))) → Distinct (map f (cond b (k ∷ filter test (range_with_len (k + 1) n)) (filter test (range_with_len (k + 1) n))))
+one_passed_once f test k n false one d = d
+one_passed_once f test k n true one d = (
+  each_from_in (λ x. f k ≡ x → ⊥) (map f (filter test (range_with_len (k + 1) n))) (λ x h same.
+      let at = in_passed f test (k + 1) n x h in
+      let is : k ≡ at.0 = one k at.0 (same ∙ at.1) in
+      let low = at.3 in
+      absurd (omega arith)
+      ),
+  d,
+)
+
+pub passed_distinct : {X : Type 0} (f : ℕ → X) (test : ℕ → Bool) (k n : ℕ) → ((x y : ℕ) → f x ≡ f y → x ≡ y) → Distinct (map f (filter test (range_with_len k n)))
+passed_distinct f test k zero one = tt
+passed_distinct f test k (suc n) one = one_passed_once f test k n (test k) one (passed_distinct f test (k + 1) n one)
+
+-- the numbers from one to another, of which one more is used
+pub counted_on : (i k : ℕ) → i ≤ k → range_with_len i (k + 1 - i) ≡ i ∷ range_with_len (i + 1) (k + 1 - (i + 1))
+counted_on i k within =
+    let one : k + 1 - i ≡ suc (k + 1 - (i + 1)) = omega (arith, within) in
+    ap (range_with_len i) one
+
+pub next_counted : {X T : Type 0} (plain : T → X) (of : ℕ → X) (items : List T) (item : T) (i k : ℕ) (all : List X) → i ≤ k → plain item ≡ of i → map plain items ++ map of (range_with_len i (k + 1 - i)) ≡ all → map plain (items ++ item ∷ []) ++ map of (range_with_len (i + 1) (k + 1 - (i + 1))) ≡ all
+next_counted plain of items item i k all within is h =
+    ap (λ xs. xs ++ map of (range_with_len (i + 1) (k + 1 - (i + 1)))) (map-append plain items (item ∷ []))
+    ∙ append_assoc (map plain items) (plain item ∷ []) (map of (range_with_len (i + 1) (k + 1 - (i + 1))))
+    ∙ ap (λ x. map plain items ++ (x ∷ map of (range_with_len (i + 1) (k + 1 - (i + 1))))) is
+    ∙ ap (λ ns. map plain items ++ map of ns) (sym (counted_on i k within))
+    ∙ h
+
+pub few_counted : {X T : Type 0} (plain : T → X) (of : ℕ → X) (items : List T) (k most : ℕ) → k ≤ most → map plain items ≡ map of (range_with_len 1 k) → length items ≤ most
+few_counted plain of items k most small is = omega (arith, small, length-map items plain, ap length is, length-map (range_with_len 1 k) of, length-range_with_len 1 k)

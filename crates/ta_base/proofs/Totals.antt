@@ -1,5 +1,5 @@
 -- sums of whole numbers over lists, and the numbers that are 1 where two others are equal, else 0
-use Rattle.ta_base.proofs.Common.{◌≡◌, ◌≢◌, ◌⊎◌, inl, inr, ℕ, zero, suc, ◌+◌, ◌<◌, ◌≤◌, ℤ, to_z, of_z, w128, pos, ◌+ℤ◌, ◌-ℤ◌, ◌*ℤ◌, ◌≤ℤ◌, List, [], ◌∷◌, ◌++◌, length, get_or, set, slice_get, Some, eqb, cond, replicate, sum, unsigned_abs, add-one, arith, sym, ap, ◌∙◌, refl, ints, nat_tests, eqb_tells, zero-*ℤ, *ℤ-zero, sum_by-cons, range_with_len, In, Rises, total, one_if}
+use Rattle.ta_base.proofs.Common.{◌≡◌, ◌≢◌, ◌⊎◌, inl, inr, ℕ, zero, suc, ◌+◌, ◌<◌, ◌≤◌, ℤ, to_z, of_z, w128, pos, ◌+ℤ◌, ◌-ℤ◌, ◌*ℤ◌, ◌≤ℤ◌, List, [], ◌∷◌, ◌++◌, length, get_or, set, slice_get, Some, eqb, cond, replicate, sum, unsigned_abs, add-one, arith, sym, ap, ◌∙◌, refl, ints, nat_tests, eqb_tells, zero-*ℤ, *ℤ-zero, sum_by-cons, range_with_len, In, Rises, total, one_if, ◌&&◌, true}
 use Rattle.ta_base.proofs.Integers.{abs_minus, to_z_abs, distributes, distributes_right, natural, one_times, pos_natural}
 
 -- ---- 1 where two numbers are equal
@@ -177,3 +177,10 @@ total-listed f [] [] same h = refl
 total-listed f [] (z ∷ zs) same h = absurd (omega arith)
 total-listed f (l ∷ ls) [] same h = absurd (omega arith)
 total-listed f (l ∷ ls) (z ∷ zs) same h = omega (arith, ints, h 0 l refl, total-listed f ls zs (omega arith) (λ j k at. h (suc j) k at))
+
+-- a value by whether two numbers are equal
+pub one_if-test : (k : ℕ) (y : ℤ) (n : ℕ) → cond (eqb k n && true) y (pos 0) ≡ (one_if n k *ℤ y)
+one_if-test k y n = elim (eqb_tells k n) [
+  | inl same ↦ rw same.0 (sym (ap (λ j. one_if j k *ℤ y) (sym same.1) ∙ one_if-same k y))
+  | inr other ↦ rw other.0 (sym (one_if-other n k y (λ q. other.1 (sym q))))
+]

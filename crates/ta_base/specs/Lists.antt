@@ -1,7 +1,8 @@
 -- Facts about each item of a list, by recursion, so that a type can keep them (this project's profile)
 use Rattle.std.specs.List.{AllByRecursion, AllByRecursion-prop}
-use Rattle.std.specs.Prelude.{ℕ, ◌+◌, ◌<◌, ◌≤◌, ◌≡◌, List, [], ◌∷◌}
+use Rattle.std.specs.Prelude.{ℕ, ◌+◌, ◌<◌, ◌≤◌, ◌≡◌, ◌↔◌, List, [], ◌∷◌}
 use Rattle.std.proofs.Props.{props}
+use Rattle.ta_base.specs.Masks.{In}
 
 -- each item has a property of its number, the first having number k
 abbrev pub EachFrom : {X : Type 0} → (ℕ → X → Type 0) → ℕ → List X → Type 0
@@ -29,3 +30,14 @@ Rises low high (x ∷ xs) = (low ≤ x) × (x < high) × Rises (x + 1) high xs
 pub Rises-prop : (low high : ℕ) (xs : List ℕ) → IsProp (Rises low high xs)
 Rises-prop low high [] = hlevel props
 Rises-prop low high (x ∷ xs) = hlevel (props, Rises-prop (x + 1) high xs)
+
+-- items of two lists, pair by pair
+abbrev pub Pairwise : {A B : Type 0} → (A → B → Type 0) → List A → List B → Type 0
+Pairwise R [] [] = Unit {0}
+Pairwise R (a ∷ more) (b ∷ others) = R a b × Pairwise R more others
+Pairwise R [] (b ∷ others) = ⊥
+Pairwise R (a ∷ more) [] = ⊥
+
+-- only which items there are counts
+abbrev pub SameMembers : {X : Type 0} → List X → List X → Type 0
+SameMembers {X} xs ys = (x : X) → In x xs ↔ In x ys

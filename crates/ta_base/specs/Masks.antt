@@ -1,5 +1,5 @@
 -- Sets of numbers as tests, as masks and as lists (this project's profile)
-use Rattle.std.specs.Prelude.{ℕ, zero, suc, ◌/◌, ◌%◌, ◌^◌, ◌≡◌, ◌==◌, ◌⊎◌, Bool, true, false, ◌&&◌, List, [], ◌∷◌}
+use Rattle.std.specs.Prelude.{ℕ, zero, suc, ◌/◌, ◌%◌, ◌^◌, ◌≡◌, ◌==◌, ◌⊎◌, not, Bool, true, false, ◌&&◌, List, [], ◌∷◌}
 
 -- whether bit i of a mask is 1
 unfoldable pub has_bit : ℕ → ℕ → Bool
@@ -19,3 +19,7 @@ implies false b = true
 abbrev pub In : {X : Type 0} → X → List X → Type 0
 In x [] = ⊥
 In x (y ∷ ys) = (x ≡ y) ⊎ In x ys
+
+-- whether some number below another passes
+abbrev pub any_below : ℕ → (ℕ → Bool) → Bool
+any_below n test = not (all_below n (λ k. not (test k)))

@@ -1,5 +1,5 @@
 -- A whole text, read piece by piece.
-use Rattle.ta_cert.proofs.Common.{ℕ, ◌+◌, ◌≡◌, List, [], ◌∷◌, ◌++◌, length, Result, Ok, Err, refl, sym, ap, subst, ◌∙◌, append_assoc, append-nil, arith, MatchResult, false≢true, has_end, ReadsLines, IsRefusedText, IsComplete, line_number, numbered_lines, StandsAt, StandsFor, FeedAnswers, FinishAnswers, WasRead, AreGiven, joined, OneReadingByPieces, Line, CertFault, Reader}
+use Rattle.ta_cert.proofs.Common.{ℕ, ◌+◌, ◌≡◌, List, [], ◌∷◌, ◌++◌, length, Result, Ok, Err, refl, sym, ap, subst, ◌∙◌, append_assoc, append-nil, arith, MatchResult, false≢true, has_end, ReadsLines, IsRefusedText, IsComplete, line_number, numbered_lines, StandsAt, StandsFor, FeedAnswers, FinishAnswers, WasRead, AreGiven, concat, OneReadingByPieces, Line, CertFault, Reader}
 use Rattle.std.proofs.Math.Nat.{zero-add}
 use Rattle.ta_cert.specs.declared.fault.CertFault.TheVariants as fault
 use Rattle.ta_cert.proofs.Standing.{refused_more}
@@ -85,7 +85,7 @@ read_complete text ls (Err _) c w = absurd w
 nothing_read : ReadsLines [] [] []
 nothing_read = record { whole = refl; legal = tt; unbroken = tt; short = omega arith; ended = λ e. refl }
 
-given_behind : (text : List ℕ) (before : List Line) (rest : List ℕ) (pieces : List (List ℕ)) (lines : List (ℕ × Line)) (ls : List Line) (end : List ℕ) → ReadsLines text before rest → AreGiven text pieces lines → ReadsLines (text ++ joined pieces) ls end → numbered_lines 0 before ++ lines ≡ numbered_lines 0 ls
+given_behind : (text : List ℕ) (before : List Line) (rest : List ℕ) (pieces : List (List ℕ)) (lines : List (ℕ × Line)) (ls : List Line) (end : List ℕ) → ReadsLines text before rest → AreGiven text pieces lines → ReadsLines (text ++ concat pieces) ls end → numbered_lines 0 before ++ lines ≡ numbered_lines 0 ls
 given_behind text before rest [] lines ls end was given whole =
     let same = (reads_unique text before ls rest end was (subst (λ t. ReadsLines t ls end) (append-nil text) whole)).0 in
     ap (λ xs. numbered_lines 0 before ++ xs) given ∙ append-nil (numbered_lines 0 before) ∙ ap (numbered_lines 0) same
@@ -97,7 +97,7 @@ given_behind text before rest (piece ∷ pieces) lines ls end was given whole =
     let numbers : now ≡ numbered_lines (0 + length before) completes.new = completes.numbers ∙ ap (λ ms. numbered_lines (length ms) completes.new) same ∙ ap (λ k. numbered_lines k completes.new) (sym (zero-add (length before))) in
     let more : numbered_lines 0 before ++ now ≡ numbered_lines 0 (completes.before ++ completes.new) = ap (λ xs. numbered_lines 0 before ++ xs) numbers ∙ sym (numbered-append 0 before completes.new) ∙ ap (λ ms. numbered_lines 0 (ms ++ completes.new)) (sym same) in
     ap (λ xs. numbered_lines 0 before ++ xs) given.4 ∙ sym (append_assoc (numbered_lines 0 before) now later) ∙ ap (λ xs. xs ++ later) more
-    ∙ given_behind (text ++ piece) (completes.before ++ completes.new) completes.rest pieces later ls end completes.reads given.3 (subst (λ t. ReadsLines t ls end) (sym (append_assoc text piece (joined pieces))) whole)
+    ∙ given_behind (text ++ piece) (completes.before ++ completes.new) completes.rest pieces later ls end completes.reads given.3 (subst (λ t. ReadsLines t ls end) (sym (append_assoc text piece (concat pieces))) whole)
 
 pub one_reading_by_pieces : OneReadingByPieces
 one_reading_by_pieces pieces ls lines complete given = given_behind [] [] [] pieces lines ls [] nothing_read given complete.reads

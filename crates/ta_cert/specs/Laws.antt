@@ -1,6 +1,6 @@
 -- What texts and lines determine of each other.
 use Rattle.std.specs.Prelude.{ℕ, ◌≤◌, ◌≡◌, ◌⊎◌, List, [], ◌∷◌, ◌++◌, length, Result, Ok, Err, IsOk, IsErrOf}
-use Rattle.std.specs.List.{AllByRecursion}
+use Rattle.std.specs.List.{AllByRecursion, concat}
 use Rattle.ta_cert.specs.Lines.{line_text}
 use Rattle.ta_cert.specs.Streams.{line_limit, ReadsLines, IsMalformed, IsTrailing, IsTruncated, IsComplete, IsRefusedText, CompletesLines, numbered_lines}
 use Rattle.ta_cert.specs.Certificates.{AreOrders, AreWritable, cert_text}
@@ -35,14 +35,9 @@ AreGiven text [] lines = lines ≡ []
 AreGiven text (piece ∷ pieces) lines =
     (now later : List (ℕ × Line)) × CompletesLines text piece now × AreGiven (text ++ piece) pieces later × (lines ≡ now ++ later)
 
--- pieces as one text
-abbrev pub joined : List (List ℕ) → List ℕ
-joined [] = []
-joined (piece ∷ pieces) = piece ++ joined pieces
-
 -- however a whole text is cut into pieces, they give its lines
 abbrev pub OneReadingByPieces : Type 0
-OneReadingByPieces = (pieces : List (List ℕ)) (ls : List Line) (lines : List (ℕ × Line)) → IsComplete (joined pieces) ls → AreGiven [] pieces lines → lines ≡ numbered_lines 0 ls
+OneReadingByPieces = (pieces : List (List ℕ)) (ls : List Line) (lines : List (ℕ × Line)) → IsComplete (concat pieces) ls → AreGiven [] pieces lines → lines ≡ numbered_lines 0 ls
 
 -- no line is longer than a reader takes
 abbrev pub AreShort : List Line → Type 0

@@ -14,7 +14,7 @@ pub use Rattle.ta_base.proofs.Each.{apart_before, each_all, each_back, older_new
 pub use Rattle.ta_base.proofs.Lists.{first_byte, reverse_onto, some_at}
 pub use Rattle.ta_base.proofs.Members.{In-left, In-right, in_append, known_first}
 pub use Rattle.ta_base.proofs.Options.{none_of}
-pub use Rattle.ta_base.specs.Lists.{Distinct}
+pub use Rattle.ta_base.specs.Lists.{Distinct, SameMembers}
 pub use Rattle.ta_base.specs.Masks.{In}
 pub use Rattle.ta_cert.proofs.Standing.{legal_last, lines_text-append}
 pub use Rattle.ta_cert.proofs.Unique.{compare, legal_forms, legal_prefix, line_unbroken, line_unique, malformed_place, malformed_stuck, malformed_trailing, reads_malformed, reads_stuck, reads_trailing, reads_unique, trailing_place, trailing_stuck}
@@ -35,7 +35,7 @@ pub use Rattle.ta_check.specs.Faults.{AtSomeWord, FirstLeafFault, IsAtFault, IsF
 pub use Rattle.ta_check.specs.Inside.Leaves.{WithoutBounds, renumbered}
 pub use Rattle.ta_check.specs.Inside.Pieces.{NextTaken, StandSomewhere, TakenTo}
 pub use Rattle.ta_check.specs.Lines.{AtWord, BeginsProof, EndsCertificate, LeadThrough, Leads, MayFollow, NothingIsLeft, OpensCertificate, ShowsWaiting, Standing, Stands, TakesOrder, Waits, first_standing}
-pub use Rattle.ta_check.specs.Positions.{Between, InNewest, IsPositionAt, IsSomewhere, LeafTaken, LineAnswers, SamePairs, fault_at}
+pub use Rattle.ta_check.specs.Positions.{Between, InNewest, IsPositionAt, IsSomewhere, LeafTaken, LineAnswers, fault_at}
 pub use Rattle.ta_check.specs.Subjects.{HasVersion, Subject, claiming, search_at, search_in}
 pub use Rattle.ta_check.specs.declared.accepted.Accepted.{Accepted}
 pub use Rattle.ta_check.specs.declared.position.Position.{Position}

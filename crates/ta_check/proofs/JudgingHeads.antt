@@ -1,9 +1,10 @@
 -- a position before the proofs: the first line, the pairs and their leaves
-use Rattle.ta_check.proofs.Common.{◌≡◌, ◌≢◌, inl, inr, ℕ, ℤ, List, [], ◌∷◌, ◌++◌, None, Some, Ok, Err, sym, ◌∙◌, subst, refl, In-left, In-right, in_append, Automaton, In, JoinsPair, MayJoin, with_pair, leads_along, here_is, search_for, HasVersion, Subject, Position, Standing, NothingIsLeft, ShowsWaiting, TakesOrder, Waits, Between, IsPositionAt, SamePairs, LineAnswers}
+use Rattle.ta_check.proofs.Common.{◌≡◌, ◌≢◌, inl, inr, ℕ, ℤ, List, [], ◌∷◌, ◌++◌, None, Some, Ok, Err, sym, ◌∙◌, subst, refl, In-left, In-right, in_append, Automaton, In, JoinsPair, MayJoin, with_pair, leads_along, here_is, search_for, HasVersion, Subject, Position, Standing, NothingIsLeft, ShowsWaiting, TakesOrder, Waits, Between, IsPositionAt, SameMembers, LineAnswers}
 use Rattle.ta_cert.specs.declared.line.Line.TheVariants as line
 use Rattle.ta_cert.specs.declared.line.Node.TheVariants as node
 use Rattle.ta_cert.specs.declared.fault.CertFault.TheVariants as fault
 use Rattle.ta_implied.proofs.Placing.{in_placed, placed_in}
+use Rattle.ta_base.proofs.Members.{no_members, same_members_back}
 
 -- the first line
 pub header_taken : (subject : Subject) (s : Position) (at : Standing) (number version : ℕ) → HasVersion subject.claim version → IsPositionAt subject s at → LineAnswers subject at number (line.Header version) (record s { version = version }) (Ok tt)
@@ -30,18 +31,11 @@ before_proofs subject s at none is = elim is.place [
   | inr inside ↦ absurd (let some : [] ≡ (inside.number ∷ inside.older) = sym none ∙ inside.begun in cc)
 ]
 
-none_same : (xs ys : List (ℕ × ℕ)) → xs ≡ [] → SamePairs xs ys → ys ≡ []
-none_same xs [] none same = refl
-none_same xs (y ∷ ys) none same = absurd (subst (In y) none ((same y).1 (inl refl)))
-
-back : (xs ys : List (ℕ × ℕ)) → SamePairs xs ys → SamePairs ys xs
-back xs ys same = λ pair. ((same pair).1, (same pair).0)
-
 -- what is free by a position's fields
 pub free_from : (subject : Subject) (s : Position) (at : Standing) → IsPositionAt subject s at → s.waiting ≡ None → s.current ≡ None → (s.version ≡ 2 → s.orders ≢ []) → NothingIsLeft at
 free_from subject s at is none nowhere some = record {
   none = is.waiting ∙ none;
-  some = λ two empty. some (sym is.version ∙ two) (none_same at.pairs s.orders empty is.pairs);
+  some = λ two empty. some (sym is.version ∙ two) (no_members at.pairs s.orders empty is.pairs);
   done = elim is.place [
     | inl between ↦ between.left
     | inr inside ↦ absurd (let both : None ≡ Some inside.number = sym nowhere ∙ inside.current in cc)
@@ -60,11 +54,11 @@ free_back subject s at is free = record {
     | inl between ↦ between.current
     | inr inside ↦ absurd (let left = here_is (search_for subject.claim subject.file.automaton inside.pattern s.orders) s.place at.pending inside.within in let gone = sym free.done ∙ left in cc)
   ];
-  some = λ two empty. free.some (is.version ∙ two) (none_same s.orders at.pairs empty (back at.pairs s.orders is.pairs));
+  some = λ two empty. free.some (is.version ∙ two) (no_members s.orders at.pairs empty (same_members_back at.pairs s.orders is.pairs));
 }
 
 -- only which pairs there are counts
-pub join_same : (a : Automaton) (xs ys : List (ℕ × ℕ)) (pair : ℕ × ℕ) → SamePairs xs ys → MayJoin a xs pair → MayJoin a ys pair
+pub join_same : (a : Automaton) (xs ys : List (ℕ × ℕ)) (pair : ℕ × ℕ) → SameMembers xs ys → MayJoin a xs pair → MayJoin a ys pair
 join_same a xs ys pair same may = record {
   is = may.is;
   fresh = λ there. may.fresh ((same pair).1 there);
@@ -74,7 +68,7 @@ join_same a xs ys pair same may = record {
 -- a pair that may come waits for its leaf
 pub order_taken : (subject : Subject) (s : Position) (at : Standing) (number before later : ℕ) → IsPositionAt subject s at → TakesOrder at → MayJoin subject.file.automaton s.orders (before, later) → LineAnswers subject at number (line.Order before later) (record s { waiting = Some (before, later) }) (Ok tt)
 order_taken subject s at number before later is takes may =
-    let join = join_same subject.file.automaton s.orders at.pairs (before, later) (back at.pairs s.orders is.pairs) may in
+    let join = join_same subject.file.automaton s.orders at.pairs (before, later) (same_members_back at.pairs s.orders is.pairs) may in
     let between = before_proofs subject s at takes.early is in
     let waits : Waits subject at (before, later) (record at { waiting = Some (before, later) }) = record { takes = takes; may = join; leads = refl } in (
       record at { waiting = Some (before, later) },
@@ -102,7 +96,7 @@ order_bad subject s at number before later new is takes bad = (
 )
 
 -- a pair behind others
-same_placed : (xs ys new : List (ℕ × ℕ)) (pair : ℕ × ℕ) → SamePairs xs ys → new ≡ with_pair pair ys → SamePairs (xs ++ pair ∷ []) new
+same_placed : (xs ys new : List (ℕ × ℕ)) (pair : ℕ × ℕ) → SameMembers xs ys → new ≡ with_pair pair ys → SameMembers (xs ++ pair ∷ []) new
 same_placed xs ys new pair same whole = λ q. (
   λ there. subst (In q) (sym whole) (placed_in pair ys q (elim (in_append q xs (pair ∷ []) there) [
     | inl old ↦ inr ((same q).0 old)

@@ -1,5 +1,5 @@
 -- a position that takes a node
-use Rattle.ta_check.proofs.Common.{◌≡◌, ◌⊎◌, ◌<◌, length, slice_get, inl, inr, ℕ, ℤ, Bool, true, false, List, [], ◌∷◌, ◌++◌, reverse, Option, None, Some, Result, Ok, Err, sym, ap, ◌∙◌, subst, refl, slice_get_within, Pattern, Line, Node, CertFault, Element, Pending, Search, parts, MayStand, IsEncoding, Place, IsWord, here, Cursor, AllGoOn, AllWithin, IsAllWithin, here_at, here_first, here_is, later_words, LeafFault, search_for, Subject, Position, IsJudged, Standing, AtWord, Stands, AtSomeWord, FirstLeafFault, LeafFails, Between, InNewest, IsPositionAt, IsSomewhere, LeafTaken, SamePairs, LineAnswers, fault_at, none-some}
+use Rattle.ta_check.proofs.Common.{◌≡◌, ◌⊎◌, ◌<◌, length, slice_get, inl, inr, ℕ, ℤ, Bool, true, false, List, [], ◌∷◌, ◌++◌, reverse, Option, None, Some, Result, Ok, Err, sym, ap, ◌∙◌, subst, refl, slice_get_within, Pattern, Line, Node, CertFault, Element, Pending, Search, parts, MayStand, IsEncoding, Place, IsWord, here, Cursor, AllGoOn, AllWithin, IsAllWithin, here_at, here_first, here_is, later_words, LeafFault, search_for, Subject, Position, IsJudged, Standing, AtWord, Stands, AtSomeWord, FirstLeafFault, LeafFails, Between, InNewest, IsPositionAt, IsSomewhere, LeafTaken, SameMembers, LineAnswers, fault_at, none-some}
 use Rattle.ta_cert.specs.declared.line.Line.TheVariants as line
 use Rattle.ta_cert.specs.declared.line.Node.TheVariants as node
 use Rattle.ta_farkas.specs.declared.LeafFault.TheVariants as leaf
@@ -8,7 +8,7 @@ use Rattle.ta_check.proofs.Searches.{search_same}
 -- what a position keeps of the first line and the pairs, where no pair waits
 pub record Head (s : Position) (at : Standing) : Type 0 where
   pub version : at.version ≡ s.version
-  pub pairs : SamePairs at.pairs s.orders
+  pub pairs : SameMembers at.pairs s.orders
   pub waiting : at.waiting ≡ s.waiting
   pub none : at.waiting ≡ None
 
@@ -21,7 +21,7 @@ pub record SameHead (old new : Position) : Type 0 where
 pub head_kept : (old new : Position) (at : Standing) → SameHead old new → Head old at → Head new at
 head_kept old new at same head = record {
   version = head.version ∙ sym same.version;
-  pairs = subst (λ (xs : List (ℕ × ℕ)). SamePairs at.pairs xs) (sym same.orders) head.pairs;
+  pairs = subst (λ (xs : List (ℕ × ℕ)). SameMembers at.pairs xs) (sym same.orders) head.pairs;
   waiting = head.waiting ∙ sym same.waiting;
   none = head.none;
 }

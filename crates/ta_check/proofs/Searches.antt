@@ -1,12 +1,12 @@
 -- the search for a claim on a pattern, by its number, under pairs in whatever order
-use Rattle.ta_check.proofs.Common.{◌≡◌, ℕ, List, length, Option, None, Some, slice_get, ap, ◌∙◌, refl, Automaton, Pattern, Element, Search, all_starts, word_rows, search_for, Claim, Safe, RestSafe, Subject, search_in, search_at, SamePairs}
+use Rattle.ta_check.proofs.Common.{◌≡◌, ℕ, List, length, Option, None, Some, slice_get, ap, ◌∙◌, refl, Automaton, Pattern, Element, Search, all_starts, word_rows, search_for, Claim, Safe, RestSafe, Subject, search_in, search_at, SameMembers}
 use Rattle.std.proofs.Math.Path.{fun_ext}
 use Rattle.ta_words.specs.Words.{is_complete}
 use Rattle.ta_words.proofs.Pairs.{same_children}
 use Rattle.ta_encode.specs.Unknowns.{meanings}
 
 -- the same pairs make one search
-pub same_search : (claim : Claim) (a : Automaton) (p : Pattern) (xs ys : List (ℕ × ℕ)) → SamePairs xs ys → search_for claim a p xs ≡ search_for claim a p ys
+pub same_search : (claim : Claim) (a : Automaton) (p : Pattern) (xs ys : List (ℕ × ℕ)) → SameMembers xs ys → search_for claim a p xs ≡ search_for claim a p ys
 same_search Safe a p xs ys same =
     let with : (ℕ → List Element → List Element) → Search = λ f. record { roots = all_starts a; following = f; complete = λ start past. is_complete p past; unknowns = λ start past. length (meanings a p start past); rows = word_rows a p } in
     ap with (fun_ext (λ start. fun_ext (λ past. same_children a p xs ys start past same)))
@@ -32,5 +32,5 @@ pub search_named : (subject : Subject) (pairs : List (ℕ × ℕ)) (number : ℕ
 search_named subject pairs number p named = ap (search_in subject.claim subject.file.automaton pairs) named
 
 -- also under the same pairs in another order
-pub search_same : (subject : Subject) (xs ys : List (ℕ × ℕ)) (number : ℕ) (p : Pattern) → slice_get subject.file.patterns number ≡ Some p → SamePairs xs ys → search_at subject xs number ≡ Some (search_for subject.claim subject.file.automaton p ys)
+pub search_same : (subject : Subject) (xs ys : List (ℕ × ℕ)) (number : ℕ) (p : Pattern) → slice_get subject.file.patterns number ≡ Some p → SameMembers xs ys → search_at subject xs number ≡ Some (search_for subject.claim subject.file.automaton p ys)
 search_same subject xs ys number p named same = search_named subject xs number p named ∙ ap (λ (s : Search). Some s) (same_search subject.claim subject.file.automaton p xs ys same)

@@ -1,7 +1,8 @@
 -- A text stops behind one list of lines: no line that may follow them comes next
-use Rattle.ta_check.proofs.Common.{◌≡◌, ℕ, List, [], ◌∷◌, ◌++◌, inl, inr, refl, sym, ap, subst, ◌∙◌, append_assoc, append-nil, first_byte, Line, CertFault, line_text, cert_lines_text, AreLater, AreLines, ReadsLines, lines_text-append, legal_last, line_unique, line_unbroken, legal_forms, legal_prefix, GoesOn, compare, Stuck, reads_stuck, malformed_stuck, trailing_stuck, Subject, Standing, first_standing, Leads, LeadThrough, MayFollow, LineAtFault, TextAtFault}
+use Rattle.ta_check.proofs.Common.{◌≡◌, ℕ, List, [], ◌∷◌, ◌++◌, inl, inr, sym, ap, subst, ◌∙◌, append_assoc, append-nil, first_byte, Line, CertFault, line_text, cert_lines_text, AreLater, AreLines, ReadsLines, lines_text-append, legal_last, line_unique, line_unbroken, legal_forms, legal_prefix, GoesOn, compare, Stuck, reads_stuck, malformed_stuck, trailing_stuck, Subject, Standing, first_standing, Leads, LeadThrough, MayFollow, LineAtFault, TextAtFault}
 use Rattle.ta_cert.specs.declared.fault.CertFault.TheVariants as fault
 use Rattle.ta_check.proofs.Following.{leads_through_once, through_parts, not_both}
+use Rattle.ta_base.proofs.Lists.{empty_left}
 
 -- lines each of which may follow, and bytes that begin with no further one
 pub record Stops (subject : Subject) (text : List ℕ) (ls : List Line) (x : List ℕ) : Type 0 where
@@ -32,11 +33,7 @@ stops_once subject text ls ms x y a b =
 -- the first of legal lines
 later_front : (ls ms : List Line) → AreLater (ls ++ ms) → AreLater ls
 later_front [] ms later = tt
-later_front (l ∷ ls) ms later = (later.0, later.1, later.2, λ e. none_before ls ms (later.3 e), later_front ls ms later.4)
-  where
-    none_before : (ls ms : List Line) → ls ++ ms ≡ [] → ls ≡ []
-    none_before [] ms e = refl
-    none_before (l ∷ ls) ms e = cc
+later_front (l ∷ ls) ms later = (later.0, later.1, later.2, λ e. empty_left ls ms (later.3 e), later_front ls ms later.4)
 
 legal_front : (ls ms : List Line) → AreLines (ls ++ ms) → AreLines ls
 legal_front [] ms legal = tt

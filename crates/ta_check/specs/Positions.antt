@@ -1,7 +1,6 @@
 -- What the fields of a position stand for
-use Rattle.std.specs.Prelude.{ℕ, ◌≡◌, ◌⊎◌, ◌↔◌, List, [], ◌∷◌, reverse, slice_get, ℤ, Some, None, Result, Ok, Err}
+use Rattle.std.specs.Prelude.{ℕ, ◌≡◌, ◌⊎◌, List, [], ◌∷◌, reverse, slice_get, ℤ, Some, None, Result, Ok, Err}
 use Rattle.ta_automaton.specs.declared.pattern.Pattern.{Pattern}
-use Rattle.ta_base.specs.Masks.{In}
 use Rattle.ta_cert.specs.declared.line.Line.{Line}
 use Rattle.ta_cert.specs.declared.fault.CertFault.{CertFault}
 use Rattle.ta_cert.specs.declared.fault.CertFault.TheVariants as fault
@@ -17,6 +16,7 @@ use Rattle.ta_check.specs.declared.position.Position.{Position}
 use Rattle.ta_check.specs.Lines.{Standing, Leads}
 use Rattle.ta_cursor.specs.Range.{IsJudged}
 use Rattle.ta_check.specs.Faults.{IsAtFault, FirstLeafFault}
+use Rattle.ta_base.specs.Lists.{SameMembers}
 
 -- behind a proof, or before any
 pub record Between (s : Position) (pending : List Pending) : Type 0 where
@@ -34,10 +34,6 @@ pub record InNewest (subject : Subject) (s : Position) (at : Standing) : Type 0 
   pub within : AllWithin (search_for subject.claim subject.file.automaton pattern s.orders) s.place at.pending
   pub kept : IsEncoding subject.file.automaton pattern s.encoding
 
--- the same pairs, in whatever order
-abbrev pub SamePairs : List (ℕ × ℕ) → List (ℕ × ℕ) → Type 0
-SamePairs xs ys = (pair : ℕ × ℕ) → In pair xs ↔ In pair ys
-
 -- a pair that waits may join those before it, and no proof began
 pub record MayWait (subject : Subject) (at : Standing) (pair : ℕ × ℕ) : Type 0 where
   pub join : MayJoin subject.file.automaton at.pairs pair
@@ -46,7 +42,7 @@ pub record MayWait (subject : Subject) (at : Standing) (pair : ℕ × ℕ) : Typ
 -- the position's fields are those of a standing
 pub record IsPositionAt (subject : Subject) (s : Position) (at : Standing) : Type 0 where
   pub version : at.version ≡ s.version
-  pub pairs : SamePairs at.pairs s.orders
+  pub pairs : SameMembers at.pairs s.orders
   pub waiting : at.waiting ≡ s.waiting
   pub may : (pair : ℕ × ℕ) → at.waiting ≡ Some pair → MayWait subject at pair
   pub begun : at.begun ≡ reverse s.proved.items

@@ -1,5 +1,8 @@
 -- the words of a claim, whichever claim it is
-use Rattle.ta_claim.proofs.Common.{◌≡◌, ℕ, ◌≤◌, List, [], length, arith, refl, Automaton, Pattern, Element, LegalWord, is_complete, Comes, Pending, IsSmall, System, PatternOver, SystemAt, all_starts, meanings, few_rows, few_unknowns, small_of, search_for, Claim, Safe, RestSafe}
+use Rattle.ta_claim.proofs.Common.{◌≡◌, ℕ, ◌^◌, ◌≤◌, List, [], length, slice_get, Some, arith, refl, Automaton, File, Pattern, Element, LegalWord, is_complete, Comes, Pending, IsSmall, System, PatternOver, SystemAt, all_starts, meanings, few_rows, few_unknowns, small_of, search_for, Claim, Safe, RestSafe}
+use Rattle.ta_encode.specs.Lines.{BoundsWithin}
+use Rattle.ta_encode.proofs.SystemsExist.{word_system}
+use Rattle.ta_rest.proofs.RestSystems.{rest_word_system}
 use Rattle.ta_claim.proofs.PatternWords.{comes_legal}
 use Rattle.ta_claim.proofs.RestRows.{rest_comes, rest_few}
 
@@ -29,3 +32,8 @@ rows_few RestSafe a p pairs start past over legal = rest_few a p start past over
 pub claim_small : (claim : Claim) (a : Automaton) (p : Pattern) (pairs : List (ℕ × ℕ)) (w : Pending) (s : System) → PatternOver a p → LegalWord a p w.start w.past → SystemAt (search_for claim a p pairs) w s → IsSmall w.bounds s
 claim_small claim a p pairs w s over legal is =
     small_of (search_for claim a p pairs) w s (omega (arith, claim_unknowns claim a p pairs w.start w.past, few_unknowns a p w.start w.past over legal)) (rows_few claim a p pairs w.start w.past over legal) is
+
+-- each word of a pattern of a file, with few enough unknowns, has a system
+pub claim_system : (claim : Claim) (file : File) (number : ℕ) (p : Pattern) (pairs : List (ℕ × ℕ)) (w : Pending) → slice_get file.patterns number ≡ Some p → length (meanings file.automaton p w.start w.past) ≤ 2 ^ 32 → BoundsWithin ((search_for claim file.automaton p pairs).unknowns w.start w.past) w.bounds → (system : System) × SystemAt (search_for claim file.automaton p pairs) w system
+claim_system Safe file number p pairs w at few bounds = word_system file number p pairs w at few bounds
+claim_system RestSafe file number p pairs w at few bounds = rest_word_system file number p w at few bounds

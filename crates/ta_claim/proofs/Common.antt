@@ -12,8 +12,8 @@ pub use Rattle.ta_automaton.specs.declared.rule.Rule.{Rule}
 pub use Rattle.ta_base.proofs.Bits.{has_none, left_bit, standing_bit, with_bit}
 pub use Rattle.ta_base.proofs.Members.{in_at}
 pub use Rattle.ta_base.proofs.Naturals.{shifted}
-pub use Rattle.ta_base.proofs.Ranges.{count_few, filter_numbers_same, numbers_end, slice_numbers}
-pub use Rattle.ta_base.specs.Masks.{In, has_bit, implies}
+pub use Rattle.ta_base.proofs.Ranges.{count_few, filter_numbers_same, numbers_end, passed_length, slice_numbers}
+pub use Rattle.ta_base.specs.Masks.{In, has_bit, implies, any_below}
 unfoldable pub use Rattle.ta_base.specs.Masks.{all_below}
 pub use Rattle.ta_claim.specs.Claims.{ProofsShowClaims, search_for}
 pub use Rattle.ta_claim.specs.declared.claim.Claim.{Claim}
@@ -26,10 +26,9 @@ pub use Rattle.ta_encode.specs.PatternSearch.{all_starts, empty_word, pattern_se
 pub use Rattle.ta_encode.specs.Search.{BeginsAtWord, Comes, Pending}
 pub use Rattle.ta_encode.specs.Unknowns.{meanings}
 pub use Rattle.ta_linear.specs.declared.row.System.{System}
-pub use Rattle.ta_rest.specs.RestSearch.{leads_out, must_be_left, rest_search, some_below}
+pub use Rattle.ta_rest.specs.RestSearch.{leads_out, must_be_left, rest_search}
 unfoldable pub use Rattle.ta_rest.specs.RestSearch.{end_rows, rest_rows}
 pub use Rattle.ta_words.proofs.Counts.{under_none}
-pub use Rattle.ta_words.proofs.Lists.{passed_length}
 pub use Rattle.ta_words.specs.Words.{LegalUnder, LegalWord, has_fallen, has_rise, is_complete, is_ready, is_standing, may_rise}
 unfoldable pub use Rattle.ta_words.specs.Words.{children}
 pub use Rattle.ta_words.specs.declared.element.Element.{Element}

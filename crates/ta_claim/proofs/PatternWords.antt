@@ -1,11 +1,8 @@
 -- the words of a pattern
-use Rattle.ta_claim.proofs.Common.{◌≡◌, inl, inr, ℕ, zero, suc, ◌+◌, ◌-◌, ◌^◌, ◌<◌, ◌≤◌, List, [], ◌∷◌, ◌++◌, length, map, reverse, slice_get, Some, None, cond, Bool, true, false, arith, sym, ap, ◌∙◌, refl, subst, length-append, lit<, filter, if◌then◌else◌, slice_get-map, slice_get_within, In, range_with_len, numbers_end, slice_numbers, Automaton, Pattern, Element, Event, Rise, Fall, LegalWord, LegalUnder, children, is_complete, is_ready, is_standing, may_rise, under_none, passed_length, Pending, BeginsAtWord, Comes, all_starts, empty_word, pattern_search, IsPushed, PushAnswers, PatternOver}
+use Rattle.ta_claim.proofs.Common.{◌≡◌, inl, inr, ℕ, zero, suc, ◌+◌, ◌-◌, ◌^◌, ◌<◌, ◌≤◌, List, [], ◌∷◌, ◌++◌, length, map, reverse, slice_get, Some, None, Bool, true, arith, sym, ap, ◌∙◌, refl, subst, length-append, lit<, filter, if◌then◌else◌, slice_get-map, slice_get_within, In, range_with_len, numbers_end, slice_numbers, Automaton, Pattern, Element, Event, Rise, Fall, LegalWord, LegalUnder, children, is_complete, is_ready, is_standing, may_rise, under_none, passed_length, Pending, BeginsAtWord, Comes, all_starts, empty_word, pattern_search, IsPushed, PushAnswers, PatternOver}
 use Rattle.std.proofs.Math.Nat.{pow-le-pow_right}
 use Rattle.ta_encode.proofs.Prefixes.{prefix_fewer}
-
-either_most : (b : Bool) (xs : List Element) → length xs ≤ 87 → length (cond b [] xs) ≤ 87
-either_most true xs h = omega arith
-either_most false xs h = h
+use Rattle.ta_base.proofs.Lists.{unless_most}
 
 -- a word has few children
 children_most : (a : Automaton) (p : Pattern) (pairs : List (ℕ × ℕ)) (start : ℕ) (past : List Element) → PatternOver a p → length (children a p pairs start past) ≤ 87
@@ -22,7 +19,7 @@ children_most a p pairs start past over =
     let most : length events ≤ 8 = omega (arith, over.events_limit) in
     let more : length rises ≤ 16 = omega (arith, a.shape.limits.rise_limit) in
     let last : length falls ≤ 63 = omega arith in
-    either_most (is_complete p past) (events ++ (rises ++ falls)) (omega (arith, length-append events (rises ++ falls), length-append rises falls))
+    unless_most (is_complete p past) (events ++ (rises ++ falls)) 87 (omega (arith, length-append events (rises ++ falls), length-append rises falls))
 
 -- the number of a child is small
 child_below : (a : Automaton) (p : Pattern) (pairs : List (ℕ × ℕ)) (start : ℕ) (past : List Element) (k : ℕ) (e : Element) → PatternOver a p → slice_get (children a p pairs start past) k ≡ Some e → k < 87

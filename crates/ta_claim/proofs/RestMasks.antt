@@ -1,19 +1,6 @@
 -- masks of what is asked at a word's end
-use Rattle.ta_claim.proofs.Common.{◌≡◌, ℕ, suc, ◌+◌, ◌*◌, ◌%◌, ◌<◌, ◌^◌, List, length, Bool, true, false, not, ◌&&◌, ◌||◌, Some, bit_or, arith, sym, ap, ◌∙◌, refl, ◌==◌, has_bit, all_below, implies, with_bit, Automaton, Rule, leads_out, some_below, Element, has_fallen, has_rise}
-use Rattle.ta_base.proofs.Booleans.{and_right, either_way}
-
-some_next : (n : ℕ) (test : ℕ → Bool) → some_below (suc n) test ≡ (test n || some_below n test)
-unfolding all_below
-some_next n test = either_way (all_below n (λ k. not (test k))) (test n)
-
--- one number more is tried
-pub some_more : (n : ℕ) (test : ℕ → Bool) → some_below (n + 1) test ≡ (test n || some_below n test)
-some_more n test = ap (λ (m : ℕ). some_below m test) (let e : n + 1 ≡ suc n = omega arith in e) ∙ some_next n test
-
--- no number is below 0
-pub some_none : (test : ℕ → Bool) → some_below 0 test ≡ false
-unfolding all_below
-some_none test = refl
+use Rattle.ta_claim.proofs.Common.{◌≡◌, ℕ, ◌*◌, ◌%◌, ◌<◌, ◌^◌, List, length, Bool, true, false, not, ◌&&◌, ◌||◌, Some, bit_or, sym, ap, ◌∙◌, ◌==◌, has_bit, all_below, implies, with_bit, Automaton, Rule, leads_out, Element, has_fallen, has_rise}
+use Rattle.ta_base.proofs.Booleans.{and_right}
 
 -- whether a rule's guards hold after some elements, as leads_out says it
 abbrev pub unlocked : Automaton → ℕ → List Element → Rule → Bool

@@ -2,9 +2,9 @@
 #![tactic(auto)]
 
 ghost use Rattle.std.specs.Prelude.{ℕ, ◌≡◌, ◌||◌, Some, length, reverse, slice_get};
-ghost use Rattle.ta_base.specs.Masks.{has_bit};
+ghost use Rattle.ta_base.specs.Masks.{has_bit, any_below};
 ghost use Rattle.ta_automaton.specs.Shape.{RuleWithin};
-ghost use Rattle.ta_rest.specs.RestSearch.{leads_out, some_below};
+ghost use Rattle.ta_rest.specs.RestSearch.{leads_out};
 ghost use Rattle.ta_claim.specs.RestEnds.{IsEndOf, IsRestEnd};
 
 use ta_automaton::{Automaton, Rule};
@@ -36,7 +36,7 @@ fn end_of(task: Task<'_>, start_mask: u8, elements: &[Element]) -> WordEnd
 /// The locations out of which a rule leads to another, with guards that hold after some elements:
 /// bit l for location l.
 fn left_after(automaton: &Automaton, start_mask: u8, elements: &[Element]) -> u32
-    ensures { (l : ℕ) → has_bit result l ≡ some_below (length automaton.now.rules) (λ r. leads_out automaton.now start_mask (reverse elements.now) l (slice_get automaton.now.rules r)) }
+    ensures { (l : ℕ) → has_bit result l ≡ any_below (length automaton.now.rules) (λ r. leads_out automaton.now start_mask (reverse elements.now) l (slice_get automaton.now.rules r)) }
 {
     let mut left = 0u32;
     for rule in automaton.rules.as_slice() {

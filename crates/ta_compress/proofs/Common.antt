@@ -2,7 +2,7 @@
 pub use Rattle.std.proofs.Common.{IsBitSet, List, None, Option, Some, [], ap, append-nil, append_assoc, arith, drop, get_or, inl, inr, length, length-append, map, min, negsuc, pos, refl, replicate, rules, set, slice_get, subst, suc, sym, take, take-append-drop, unsigned_abs, zero, ℕ, ℤ, ◌*ℤ◌, ◌++◌, ◌+ℤ◌, ◌+◌, ◌-ℤ◌, ◌-◌, ◌<◌, ◌^◌, ◌∙◌, ◌∷◌, ◌≡◌, ◌≢◌, ◌≤ℤ◌, ◌≤◌, ◌⊎◌}
 pub use Rattle.std.proofs.Math.IntN.{zero-*ℤ}
 pub use Rattle.std.proofs.lemmas.Bool.{cases_lt, cases_order, false≢true}
-pub use Rattle.std.proofs.lemmas.Bool.Decides.{eqb_tells, nat_tests}
+pub use Rattle.std.proofs.lemmas.Bool.Decides.{eqb_tells}
 pub use Rattle.std.proofs.lemmas.Int.{ints}
 pub use Rattle.std.proofs.lemmas.List.{ext_get_or, get_or-set_other, get_or-set_same, get_or_past, length-map, length-replicate, length-set, map_push, take_all, take_more}
 pub use Rattle.std.proofs.lemmas.Option.{same_Some, slice_get-get_or, slice_get_within}

@@ -33,16 +33,13 @@ one_more_counts a r counts more c one = record {
 pub goes_on : (a : Automaton) (r : ℕ) (f g : ℕ → ℤ) (old new : Draft) (now : Guards) → GuardsAre a f old.guards → GuardsAre a g now → SameGuards old.guards now → OneMore r old.counts.items new.counts.items → new.lines.items ≡ old.lines.items → CountsStep a r f g old new
 goes_on a r f g old new now at there same one lines = inl (record { still = same_still a f g old.guards now at there same; counted = one; lines = lines })
 
-kept_lines : (old steps kept : List RunLine) → (old ++ (steps ++ [])) ++ kept ≡ old ++ (steps ++ kept)
-kept_lines old steps kept = ap (λ (ls : List RunLine). (old ++ ls) ++ kept) (append-nil steps) ∙ append_assoc old steps kept
-
 pub falls : (a : Automaton) (r : ℕ) (f g : ℕ → ℤ) (old middle closed new : Draft) (now : Guards) → GuardsAre a f old.guards → GuardsAre a g now → HasFallen old.guards.fall now.fall → Closes a old.counts.items [] middle closed → middle.lines.items ≡ old.lines.items → new.counts.items ≡ closed.counts.items → new.lines.items ≡ closed.lines.items ++ unit r ∷ [] → CountsStep a r f g old new
 falls a r f g old middle closed new now at there fallen c same counts lines = inr (inl (record {
   drops = fallen_drops a f g old.guards now at there fallen;
   closes = record {
     steps = c.steps;
     arranged = c.arranged;
-    lines = lines ∙ ap (λ (ls : List RunLine). ls ++ unit r ∷ []) (c.lines ∙ ap (λ (ls : List RunLine). ls ++ (map step_line c.steps ++ [])) same) ∙ kept_lines old.lines.items (map step_line c.steps) (unit r ∷ []);
+    lines = lines ∙ ap (λ (ls : List RunLine). ls ++ unit r ∷ []) (c.lines ∙ ap (λ (ls : List RunLine). ls ++ (map step_line c.steps ++ [])) same ∙ ap (λ (ls : List RunLine). old.lines.items ++ ls) (append-nil (map step_line c.steps))) ∙ append_assoc old.lines.items (map step_line c.steps) (unit r ∷ []);
     none_left = counts ∙ c.none_left;
   };
 }))

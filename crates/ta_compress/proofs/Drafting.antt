@@ -1,11 +1,13 @@
 -- a draft grows line by line
-use Rattle.ta_compress.proofs.Common.{◌≡◌, inl, inr, ℕ, ◌+◌, ◌<◌, ℤ, pos, ◌+ℤ◌, List, [], ◌∷◌, ◌++◌, length, map, arith, sym, ap, ◌∙◌, refl, subst, slice_get, append_assoc, append-nil, fun_ext, ints, ext_get_or, length-replicate, one_times, replicate_zeros, split_last, point_of, Automaton, rule_change, total, times_in, total-append, IsOf, GuardsAre, StartsAt, ArrangedOf, AreRuleCounts, count_at, Run, RunLine, Mark, line_change, Draft, unit, value_after, Switches, Drops, step_line, CutPiece, AreCut, IsPiece, IsShortened, Still, SwitchesAt, DropsAt, units, lines_in, counts_of, Advances, IsFirstDraft, Closes, CountsStep, DraftAt, OneMore, DraftIsReady, RepeatsRule, zeros, length-append}
+use Rattle.ta_compress.proofs.Common.{◌≡◌, inl, inr, ℕ, ◌<◌, ℤ, pos, ◌+ℤ◌, List, [], ◌∷◌, ◌++◌, length, map, arith, sym, ap, ◌∙◌, refl, subst, slice_get, append_assoc, append-nil, fun_ext, ints, ext_get_or, length-replicate, one_times, replicate_zeros, split_last, point_of, Automaton, rule_change, total, times_in, total-append, IsOf, GuardsAre, StartsAt, ArrangedOf, AreRuleCounts, count_at, Run, RunLine, Mark, line_change, Draft, unit, value_after, Switches, Drops, step_line, CutPiece, AreCut, IsPiece, IsShortened, Still, SwitchesAt, DropsAt, units, lines_in, counts_of, Advances, IsFirstDraft, Closes, CountsStep, DraftAt, OneMore, DraftIsReady, RepeatsRule, zeros, length-append}
 use Rattle.ta_base.proofs.Times.{times-push}
 use Rattle.ta_base.proofs.Totals.{one_if-number}
 use Rattle.ta_counter.specs.declared.config.Config.{Config}
 use Rattle.ta_compress.proofs.Cutting.{mark-value}
 use Rattle.ta_compress.proofs.Rearranging.{count_in, counts_length}
 use Rattle.ta_compress.proofs.Steady.{units-append}
+use Rattle.ta_base.proofs.Lists.{heads}
+use Rattle.std.proofs.lemmas.List.{append_cancel_left}
 
 -- counts that say how often each rule is in a list
 pub counts_are : (a : Automaton) (xs : List ℕ) (counts : List ℤ) → length counts ≡ length a.rules → ((r : ℕ) → r < length a.rules → count_at counts r ≡ pos (times_in r xs)) → counts ≡ counts_of a xs
@@ -35,18 +37,10 @@ cut_push a first piece added (q ∷ qs) done lines short cut is sh =
 pub still_push : (a : Automaton) (first : List ℤ) (done : List RunLine) (rules : List ℕ) (r : ℕ) → Still a first done rules → (SwitchesAt a first (done ++ units rules) r → ⊥) → Still a first done (rules ++ r ∷ [])
 still_push a first done rules r still none front q behind is switches = elim (split_last rules r front q behind is) [
   | inl same ↦ (
-      let tail : q ≡ r = last_item rules r front q behind is same in
+      let tail : q ≡ r = heads q r behind [] (append_cancel_left rules (q ∷ behind) (r ∷ []) (ap (λ (xs : List ℕ). xs ++ q ∷ behind) (sym same) ∙ sym is)) in
       none (subst (λ (x : ℕ). SwitchesAt a first (done ++ units rules) x) tail (subst (λ (xs : List ℕ). SwitchesAt a first (done ++ units xs) q) same switches)))
   | inr w ↦ still front q w.0 w.1 switches
-] where
-  last_item : (xs : List ℕ) (x : ℕ) (front : List ℕ) (q : ℕ) (behind : List ℕ) → xs ++ x ∷ [] ≡ front ++ q ∷ behind → front ≡ xs → q ≡ x
-  last_item [] x [] q behind e s = (let same : x ≡ q = cc in sym same)
-  last_item [] x (f ∷ fs) q behind e s = absurd (cc)
-  last_item (y ∷ ys) x [] q behind e s = absurd (cc)
-  last_item (y ∷ ys) x (f ∷ fs) q behind e s =
-      let tail : ys ++ x ∷ [] ≡ fs ++ q ∷ behind = cc in
-      let rest : fs ≡ ys = cc in
-      last_item ys x fs q behind tail rest
+]
 
 -- where a unit step leads
 pub unit-value : (a : Automaton) (first : List ℤ) (done : List RunLine) (r i : ℕ) → value_after a first (done ++ unit r ∷ []) i ≡ (value_after a first done i +ℤ rule_change a (slice_get a.rules r) i)

@@ -4,7 +4,7 @@ pub use Rattle.std.proofs.Math.IntN.{*ℤ-zero, zero-*ℤ}
 pub use Rattle.std.proofs.lemmas.Bool.{cases_lt, false≢true}
 pub use Rattle.std.proofs.lemmas.Bool.Decides.{eqb_tells, nat_tests}
 pub use Rattle.std.proofs.lemmas.Int.{fits_signed_from_abs, ints, to_z-of_z}
-pub use Rattle.std.proofs.lemmas.List.{drop-set-add, drop_all, drop_more, ext_get_or, get_or-drop, get_or-set_other, get_or-set_same, get_or-take, get_or_past, length-map, length-replicate, length-set, length-take-le, map-append, take-replicate, take-set-le, take_all, take_at, take_more}
+pub use Rattle.std.proofs.lemmas.List.{drop-set-add, drop_all, drop_more, ext_get_or, get_or-drop, get_or-set_other, get_or-set_same, get_or-take, get_or_past, length-map, length-replicate, length-set, length-take-le, take-replicate, take-set-le, take_all, take_at, take_more}
 pub use Rattle.std.proofs.lemmas.Option.{get_or_from_slice_get, same_Some, slice_get-get_or, slice_get_within}
 pub use Rattle.std.proofs.lemmas.Result.{IfErr-weaker, on_ok_weaker}
 pub use Rattle.std.proofs.result.Match.{err_is}

@@ -1,21 +1,19 @@
 -- the model's configuration with given values
-use Rattle.ta_counter.proofs.Common.{◌≡◌, ℕ, zero, suc, ◌+◌, ◌<◌, ℤ, pos, List, [], ◌∷◌, ◌++◌, length, map, take, drop, sum, arith, sym, ap, ◌∙◌, refl, get_or, length-drop, unsigned_abs, fun_ext, ints, map-append, length-map, length-take-le, AllByRecursion, abs_natural, pieces, same_numbers, point_of, Automaton, Config, value_at, total, location_place, Whole, fits_whole, value_at-parameter, value_at-shared, value_at-location, Value, places_of, naturals, model_of, sum_of}
+use Rattle.ta_counter.proofs.Common.{◌≡◌, ℕ, zero, suc, ◌+◌, ◌<◌, ℤ, pos, List, [], ◌∷◌, length, map, take, drop, sum, arith, sym, ap, ◌∙◌, refl, get_or, length-drop, unsigned_abs, fun_ext, ints, length-map, length-take-le, AllByRecursion, abs_natural, pieces, same_numbers, point_of, Automaton, Config, value_at, total, location_place, Whole, fits_whole, value_at-parameter, value_at-shared, value_at-location, Value, places_of, naturals, model_of, sum_of}
 use Rattle.std.proofs.lemmas.List.Sums.{sum_by-cons}
+use Rattle.ta_base.proofs.Lists.{map_three}
 
 pub naturals_at : (values : List ℤ) → AllByRecursion Value values → (i : ℕ) → pos (get_or (map unsigned_abs values) i 0) ≡ get_or values i (pos 0)
 naturals_at [] h i = refl
 naturals_at (z ∷ zs) h zero = abs_natural z (h.0).natural
 naturals_at (z ∷ zs) h (suc i) = naturals_at zs h.1 i
 
-joined : (a b c : List ℤ) → naturals a ++ naturals b ++ naturals c ≡ naturals (a ++ b ++ c)
-joined a b c = ap (λ r. r ++ naturals c) (sym (map-append unsigned_abs a b)) ∙ sym (map-append unsigned_abs (a ++ b) c)
-
 -- the value at a place is that of the list
 pub model_at : (a : Automaton) (v : List ℤ) → AllByRecursion Value v → (i : ℕ) → value_at (model_of a v) i ≡ point_of v i
 model_at a v h i =
     let p = length a.parameters in
     let s = length a.shared in
-    ap (λ (ns : List ℕ). pos (get_or ns i 0)) (joined (take p v) (take s (drop p v)) (drop (p + s) v) ∙ ap naturals (pieces p s v)) ∙ naturals_at v h i
+    ap (λ (ns : List ℕ). pos (get_or ns i 0)) (map_three unsigned_abs (take p v) (take s (drop p v)) (drop (p + s) v) ∙ ap naturals (pieces p s v)) ∙ naturals_at v h i
 
 pub model_point : (a : Automaton) (v : List ℤ) → AllByRecursion Value v → value_at (model_of a v) ≡ point_of v
 model_point a v h = fun_ext (model_at a v h)

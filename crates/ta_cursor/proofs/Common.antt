@@ -2,7 +2,7 @@
 pub use Rattle.std.proofs.Common.{Bool, Err, FitsSigned, IfOk, List, None, Ok, Option, Result, Some, [], ap, append_assoc, arith, cond, drop, false, inl, inr, length, length-append, map, nat_lt, not, pos, refl, reverse, rules, slice_get, subst, suc, sym, take, true, ℕ, ℤ, ◌*ℤ◌, ◌*◌, ◌++◌, ◌+ℤ◌, ◌+◌, ◌<◌, ◌^◌, ◌∙◌, ◌∷◌, ◌≡◌, ◌≤◌, ◌⊎◌}
 pub use Rattle.std.proofs.lemmas.Bool.{cases_lt, ltb-false}
 pub use Rattle.std.proofs.lemmas.Int.{ints, to_z-of_z}
-pub use Rattle.std.proofs.lemmas.List.{append-nil, length-map, length-take-le, reverse-append, take-append-drop, take-take, take_all}
+pub use Rattle.std.proofs.lemmas.List.{append-nil, length-map, length-take-le, reverse-append, take-take, take_all}
 pub use Rattle.std.proofs.lemmas.Option.{slice_get-map, slice_get_read}
 pub use Rattle.std.specs.Int.{w128}
 pub use Rattle.std.specs.List.{range_with_len}
@@ -15,7 +15,7 @@ pub use Rattle.ta_base.proofs.Members.{in_at}
 pub use Rattle.ta_base.proofs.Ranges.{count_few}
 pub use Rattle.ta_base.specs.Masks.{has_bit}
 pub use Rattle.ta_cert.specs.declared.line.Node.TheVariants.{Extend, Split}
-pub use Rattle.ta_cursor.specs.Cursors.{BeginsWithin, FrameFits, FramesFit, GoesOn, Inside, IsAtRoot, IsBeforeWords, IsShared, IsWithin, IsWord, SplitFits, WentOn, Within, all_behind, behind, here, left_at, node_of, word_at, word_of}
+pub use Rattle.ta_cursor.specs.Cursors.{BeginsWithin, FrameFits, FramesFit, GoesOn, Inside, IsAtRoot, IsBeforeWords, IsShared, IsUnshared, IsWithin, IsWord, SplitFits, WentOn, Within, all_behind, behind, here, left_at, node_of, word_at, word_of}
 pub use Rattle.ta_cursor.specs.InTrees.{AllGoOn, AllWithin, here_at}
 pub use Rattle.ta_cursor.specs.TreeCalls.{IsRoot, IsSmall}
 pub use Rattle.ta_cursor.specs.declared.cursor.Cursor.{Cursor}

@@ -3,8 +3,8 @@ use Rattle.ta_cursor.proofs.Common.{◌≡◌, ◌⊎◌, inl, inr, ℕ, ◌≤�
 use Rattle.ta_base.proofs.Each.{each_push}
 use Rattle.ta_encode.specs.Lines.{BoundWithin, BoundsWithin}
 use Rattle.ta_encode.specs.declared.meaning.Side.{Side}
-use Rattle.ta_encode.proofs.InOrder.{past_push}
 use Rattle.ta_cursor.proofs.FramesKept.{Opened, opened_on}
+use Rattle.std.proofs.lemmas.List.{reverse-append}
 
 bounds_more : (n m : ℕ) (bounds : List Bound) → n ≤ m → BoundsWithin n bounds → BoundsWithin m bounds
 bounds_more n m [] le h = tt
@@ -21,7 +21,7 @@ pub opened_child : (s : Search) (old new : Cursor) (w : Pending) (words : List P
     → Within s new (drop k (parts s w Extend) ++ words)
 opened_child s old new w words k e within o word bounds child more =
     let f : Frame = record { split = None; length = length old.word; bounds = length old.bounds.items; next = k } in
-    let past : reverse new.word ≡ e ∷ reverse old.word = ap reverse word ∙ past_push old.word e in
+    let past : reverse new.word ≡ e ∷ reverse old.word = ap reverse word ∙ reverse-append old.word (e ∷ []) in
     let at : w ≡ here old = (let left = within.left in cc) in
     let wider = bounds_more (s.unknowns old.start_mask (reverse old.word)) (s.unknowns old.start_mask (e ∷ reverse old.word)) old.bounds.items more within.word.bounds in
     let reached : longer (here old) e ≡ here new = (let start = o.start in cc) in

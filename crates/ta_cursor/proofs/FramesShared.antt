@@ -1,7 +1,8 @@
 -- open nodes of which the outermost go to another cursor
-use Rattle.ta_cursor.proofs.Common.{◌≡◌, ℕ, ◌+◌, ◌≤◌, List, [], ◌∷◌, ◌++◌, length, take, drop, reverse, slice_get, Some, arith, sym, ap, ◌∙◌, refl, subst, append_assoc, length-take-le, reverse-append, take-append-drop, next_dropped, Pending, Search, Frame, Cursor, here, word_of, behind, all_behind, left_at, FramesFit, Inside, IsBeforeWords, IsShared, IsWord, Within, take-take, take_all}
+use Rattle.ta_cursor.proofs.Common.{◌≡◌, ℕ, ◌+◌, ◌≤◌, List, [], ◌∷◌, ◌++◌, length, take, drop, reverse, slice_get, Some, arith, sym, ap, ◌∙◌, refl, subst, append_assoc, length-take-le, Pending, Search, Frame, Cursor, here, word_of, behind, all_behind, left_at, FramesFit, Inside, IsBeforeWords, IsShared, IsUnshared, IsWord, Within, take-take, take_all}
 use Rattle.ta_cursor.proofs.FramesLeft.{SamePlace, inside_moved}
 use Rattle.ta_cursor.proofs.FramesKept.{BeginAlike, frames_kept, left_kept, same_pending}
+use Rattle.ta_base.proofs.Lists.{reversed_parts, reversed_at}
 
 -- the nodes around one that is open
 pub record Around (s : Search) (c : Cursor) (n m : ℕ) (g : Frame) (outers : List Frame) : Type 0 where
@@ -27,17 +28,6 @@ behind_both : (s : Search) (c : Cursor) (inner outers : List Frame) → all_behi
 behind_both s c [] outers = refl
 behind_both s c (f ∷ inner) outers =
     ap (λ (ws : List Pending). behind s c f ++ ws) (behind_both s c inner outers) ∙ sym (append_assoc (behind s c f) (all_behind s c inner) (all_behind s c outers))
-
--- a list in order, cut
-reversed_parts : (k : ℕ) (fs : List Frame) → reverse fs ≡ reverse (drop k fs) ++ reverse (take k fs)
-reversed_parts k fs = ap reverse (sym (take-append-drop k fs)) ∙ reverse-append (take k fs) (drop k fs)
-
-reversed_at : (k : ℕ) (fs : List Frame) (g : Frame) → slice_get fs k ≡ Some g → reverse fs ≡ reverse (drop (k + 1) fs) ++ g ∷ reverse (take k fs)
-reversed_at k fs g at =
-    reversed_parts k fs
-    ∙ ap (λ (gs : List Frame). reverse gs ++ reverse (take k fs)) (next_dropped fs k g at)
-    ∙ ap (λ (gs : List Frame). gs ++ reverse (take k fs)) (reverse-append (g ∷ []) (drop (k + 1) fs))
-    ∙ append_assoc (reverse (drop (k + 1) fs)) (g ∷ []) (reverse (take k fs))
 
 -- a cursor that stands where an open node does, with the nodes around that one open
 pub record StandsAt (c d : Cursor) (k : ℕ) (g : Frame) : Type 0 where
@@ -80,8 +70,10 @@ pub record KeepsInner (c d : Cursor) (k : ℕ) : Type 0 where
   pub bounds : d.bounds.items ≡ c.bounds.items
   pub frames : d.frames.items ≡ drop k c.frames.items
 
-pub shared : (s : Search) (c d later : Cursor) (k : ℕ) (pending : List Pending) → Within s c pending → KeepsInner c d k → IsBeforeWords s (all_behind s c (reverse (take k c.frames.items))) later → IsShared s c d later
-shared s c d later k pending within o is =
+pub shared : (s : Search) (c d later : Cursor) (outer : ℕ) (pending : List Pending) → Within s c pending → KeepsInner c d (outer + 1) → all_behind s c (reverse (take outer c.frames.items)) ≡ [] →
+    IsBeforeWords s (all_behind s c (reverse (take (outer + 1) c.frames.items))) later → IsShared s c d later
+shared s c d later outer pending within o none is =
+    let k = outer + 1 in
     let n = length c.word in
     let m = length c.bounds.items in
     let inner = reverse (drop k c.frames.items) in
@@ -94,6 +86,9 @@ shared s c d later k pending within o is =
     let kept = subst (λ (v : Pending). FramesFit s d v n m inner) (sym same) (frames_kept s c d (here c) n m inner alike fit) in
     let left : all_behind s d (reverse d.frames.items) ≡ all_behind s c inner = ap (all_behind s d) (sym all) ∙ left_kept s c d (here c) n m inner alike fit in
     record {
+      outer = outer;
+      farther = none;
+      given = is.words;
       words =
           ap (λ (ws : List Pending). here c ∷ ws) (ap (all_behind s c) cut ∙ behind_both s c inner outers)
           ∙ ap (λ (ws : List Pending). here c ∷ (ws ++ all_behind s c outers)) (sym left)
@@ -118,3 +113,12 @@ pub all_inside : (s : Search) (c d : Cursor) (k : ℕ) (words : List Pending) �
 all_inside s c d k words inside same most =
     let left = inside.left ∙ ap (λ (fs : List Frame). all_behind s c (reverse fs)) (sym (take_all k c.frames.items most)) in
     subst (Inside s d) left (inside_moved s c d words inside same)
+
+-- no open node leaves a word
+pub unshared : (s : Search) (c d : Cursor) (k : ℕ) → d ≡ c → all_behind s c (reverse (take k c.frames.items)) ≡ [] → length c.frames.items ≤ k → IsUnshared s c d
+unshared s c d k kept none most =
+    let all = ap (λ (fs : List Frame). all_behind s c (reverse fs)) (sym (take_all k c.frames.items most)) in
+    record {
+      kept = kept;
+      alone = ap (λ (ws : List Pending). here c ∷ ws) (all ∙ none);
+    }

@@ -106,15 +106,24 @@ WentOn s new words (Err e) = Unit {0}
 abbrev pub left_at : Search → Cursor → List Pending
 left_at s c = here c ∷ all_behind s c (reverse c.frames.items)
 
--- a cursor gave the last of its words to another one: those that it kept come first, and then the other's
+-- a cursor gave the last of its words to another one: those that it kept come first, and then the other's. So many nodes are open
+-- outside the outermost one that leaves a word: they leave none, and the other's words are those that they and that one leave
 pub record IsShared (s : Search) (old new later : Cursor) : Type 0 where
+  pub outer : ℕ
+  pub farther : all_behind s old (reverse (take outer old.frames.items)) ≡ []
+  pub given : left_at s later ≡ all_behind s old (reverse (take (outer + 1) old.frames.items))
   pub words : left_at s old ≡ left_at s new ++ left_at s later
   pub first : Within s new (left_at s new)
   pub second : Within s later (left_at s later)
 
--- whether it did; else it is as before
+-- a cursor had none to give: it is as before, and only the word at which it stands is left
+pub record IsUnshared (s : Search) (old new : Cursor) : Type 0 where
+  pub kept : new ≡ old
+  pub alone : left_at s old ≡ here old ∷ []
+
+-- whether it did; else it is as before, and no word is left behind its own
 abbrev pub Shares : Search → Cursor → Cursor → Option Cursor → Type 0
-Shares s old new None = new ≡ old
+Shares s old new None = IsUnshared s old new
 Shares s old new (Some later) = IsShared s old new later
 
 -- a cursor at the first of these words

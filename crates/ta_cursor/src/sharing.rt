@@ -1,7 +1,7 @@
 //! How a cursor gives the last of its words to another one.
 #![tactic(auto)]
 
-ghost use Rattle.std.specs.Prelude.{◌≡◌, ◌≤◌, IfOk, IfSome, length, reverse, take};
+ghost use Rattle.std.specs.Prelude.{◌≡◌, ◌≤◌, [], IfOk, MatchOption, length, reverse, take};
 ghost use Rattle.ta_encode.specs.Search.{Search};
 ghost use Rattle.ta_cursor.specs.Cursors.{Inside, IsBeforeWords, IsWithin, Shares, all_behind};
 
@@ -11,7 +11,9 @@ use std::alloc::{AllocError, Global};
 
 impl Cursor {
     /// Gives the words that the outermost open nodes leave to a cursor of their own, where any are
-    /// left: those of the fewest such nodes. This cursor keeps the words before them.
+    /// left: those of the fewest such nodes. This cursor keeps the words before them. Gives none
+    /// only where no open node leaves a word: then this cursor is as before, and only the word at
+    /// which it stands is left.
     pub fn share<T: Tree>(&mut self, alloc: Global, tree: &T) -> Result<Option<Cursor>, AllocError>
         requires { IsWithin (T.search tree.now) self.old }
         ensures { IfOk result (Shares (T.search tree.now) self.old self.new) }
@@ -26,7 +28,7 @@ impl Cursor {
     }
 
     /// The cursor at the first of the words that so many open nodes leave, counted from the
-    /// outermost, if one is left.
+    /// outermost; none only where none is left.
     fn behind<T: Tree>(
         &self,
         alloc: Global,
@@ -35,7 +37,9 @@ impl Cursor {
     ) -> Result<Option<Cursor>, AllocError>
         requires within { IsWithin (T.search tree.now) self.now }
         requires most { outer ≤ length self.now.frames.items }
-        ensures { IfOk result (λ later. IfSome later (IsBeforeWords (T.search tree.now) (all_behind (T.search tree.now) self.now (reverse (take outer self.now.frames.items))))) }
+        ensures { IfOk result (λ later. MatchOption later
+            (all_behind (T.search tree.now) self.now (reverse (take outer self.now.frames.items)) ≡ [])
+            (IsBeforeWords (T.search tree.now) (all_behind (T.search tree.now) self.now (reverse (take outer self.now.frames.items))))) }
     {
         let mut later = self.outermost(alloc, outer)?;
         if later.leave(tree)? {

@@ -1,4 +1,4 @@
-use Rattle.ta_dense.proofs.Common.{◌≡◌, ◌≢◌, ◌⊎◌, inl, inr, ℕ, suc, ◌+◌, ◌*◌, ◌<◌, length, map, arith, refl, sym, ap, ◌∙◌, subst, ℤ, pos, ◌+ℤ◌, ◌*ℤ◌, ◌-ℤ◌, neg_ℤ, ◌<ℤ◌, get_or-set_same, get_or-set_other, cases_eq, length-map, length-set, get_or-map, cancel_positive, leaving_arith, pos_out, product_positive, times_assoc, factor_divisor, TableauRow, Tableau, cell_of, turned, merged, row_of, no_row, pivoted, basic_of, non_basic_of, IsPrimitive, dot, IsDictionary, int_div}
+use Rattle.ta_dense.proofs.Common.{◌≡◌, ◌≢◌, ◌⊎◌, inl, inr, ℕ, suc, ◌*◌, ◌<◌, length, map, arith, refl, sym, ap, ◌∙◌, subst, ℤ, pos, ◌+ℤ◌, ◌*ℤ◌, ◌-ℤ◌, neg_ℤ, ◌<ℤ◌, get_or-set_same, get_or-set_other, cases_eq, length-map, length-set, get_or-map, cancel_positive, leaving_arith, pos_out, product_positive, times_assoc, factor_divisor, TableauRow, Tableau, cell_of, turned, merged, row_of, no_row, pivoted, basic_of, non_basic_of, IsPrimitive, dot, IsDictionary, int_div}
 use Rattle.std.proofs.Common.{cond, eq-eqb, eqb}
 use Rattle.std.proofs.lemmas.Bool.{cond-false, cond-true, ne_eqb}
 use Rattle.ta_dense.proofs.Dot.{dot-change, dot-scaled}
@@ -6,6 +6,7 @@ use Rattle.ta_dense.proofs.PivotLaws.{Holds-turned}
 use Rattle.ta_dense.proofs.MergedRow.{Good, Good-merged, merged_cases, merged_with}
 use Rattle.ta_dense.proofs.ReduceFacts.{factors_positive}
 use Rattle.ta_dense.proofs.Primitive.{IsPrimitive-turned, IsPrimitive-merged}
+use Rattle.std.proofs.Math.Nat.{mul-suc}
 
 -- the rows after a pivot
 pub row_at : (t : Tableau) (row column : ℕ) → row < length t.rows → row_of (pivoted t row column) row ≡ turned (non_basic_of t column) column (row_of t row)
@@ -107,7 +108,7 @@ free_after A n t row column d h k positive scale want =
     let same_scale : pos m *ℤ (c *ℤ scale) ≡ pos (m * suc cn.0) *ℤ scale = sym (times_assoc (pos m) c scale) ∙ ap (λ (z : ℤ). (pos m *ℤ z) *ℤ scale) cn.1 in (
       m * suc cn.0,
       value,
-      (let some = f.2 in omega (arith, one_more m cn.0)),
+      (let some = f.2 in omega (arith, mul-suc m cn.0)),
       subst (λ (s : ℤ). A s value) same_scale f.3,
       λ j inside. (elim (cases_eq j column) [
         | inl here ↦ rw (here, non_basic_at t row column k) (leaving ∙ ap (λ (z : ℤ). (pos m *ℤ z) *ℤ want l) cn.1)
@@ -118,9 +119,6 @@ free_after A n t row column d h k positive scale want =
             ∙ sym (times_assoc (pos m) c (want (non_basic_of t j))) ∙ ap (λ (z : ℤ). (pos m *ℤ z) *ℤ want (non_basic_of t j)) cn.1)
       ]),
     )
-  where
-    one_more : (m k : ℕ) → m * suc k ≡ m + m * k
-    one_more m k = omega arith
 
 -- where the variables stand after a pivot
 basic_after : (A : ℤ → (ℕ → ℤ) → Type 0) (n : ℕ) (t : Tableau) (row column : ℕ) → row < length t.rows → (i : ℕ) → i < length t.rows →

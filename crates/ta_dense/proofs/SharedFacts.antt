@@ -1,5 +1,5 @@
 -- rows that are stored once where their numbers are equal
-use Rattle.ta_dense.proofs.Common.{◌≡◌, ◌≢◌, ℕ, zero, suc, ◌+◌, ◌-◌, ◌<◌, ◌≤◌, List, [], ◌∷◌, ◌++◌, length, get_or, set, map, arith, refl, sym, ap, ◌∙◌, subst, ℤ, pos, negsuc, length-map, length-append, length-set, map-append, map-set, get_or-map, get_or_append_left, get_or_at, set-get_or, All-head, All-tail, TableauRow, cell_of, merged, merged_at, turned, no_row, pivoted_rows, IsProper, MergesInRange, OthersMergeBelow, row_view, views, AreProper, DenseRow, raised, widened, zero_filled, narrow_view, narrow_views, narrow_at, IsNarrow, AreNarrow, named, row_at_place, rows_at_places, shared_at, widened_place, ArePlaced, AreShared, no_place, at_place, IsAlone, IsSameAt, KeepRows, NarrowRow, Place, get_or-set_same, get_or-set_other}
+use Rattle.ta_dense.proofs.Common.{◌≡◌, ◌≢◌, ℕ, zero, suc, ◌<◌, ◌≤◌, List, [], ◌∷◌, ◌++◌, length, get_or, set, map, arith, refl, sym, ap, ◌∙◌, subst, ℤ, pos, negsuc, length-map, length-append, length-set, map-append, map-set, get_or-map, get_or_append_left, get_or_at, set-get_or, All-head, All-tail, TableauRow, cell_of, merged, merged_at, turned, no_row, pivoted_rows, IsProper, MergesInRange, OthersMergeBelow, row_view, views, AreProper, DenseRow, raised, widened, zero_filled, narrow_view, narrow_views, narrow_at, IsNarrow, AreNarrow, named, row_at_place, rows_at_places, shared_at, widened_place, ArePlaced, AreShared, no_place, at_place, IsAlone, IsSameAt, KeepRows, NarrowRow, Place, get_or-set_same, get_or-set_other}
 use Rattle.ta_dense.specs.declared.shared.SharedRows.{SharedRows}
 
 -- the stored rows and one more

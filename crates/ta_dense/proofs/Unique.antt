@@ -3,6 +3,7 @@ use Rattle.std.proofs.Math.IntN.{*ℤ_comm}
 use Rattle.ta_dense.proofs.Dot.{dot-change, dot-scaled}
 use Rattle.ta_dense.proofs.Primitive.{primitive_divisor}
 use Rattle.ta_dense.proofs.RowFacts.{record_same}
+use Rattle.ta_base.proofs.Integers.{once_and_nothing, none_and_once}
 
 -- what divides the products with two numbers divides that with their greatest common divisor
 dvd-gcd_within : (k x n a b : ℕ) → k ∣ x * a → k ∣ x * b → k ∣ x * gcd_within n a b
@@ -45,20 +46,14 @@ constant_cross : (A : ℤ → (ℕ → ℤ) → Type 0) (n : ℕ) (t : Tableau) 
     r'.denominator *ℤ r.constant ≡ r.denominator *ℤ r'.constant
 constant_cross A n t r r' d p p' same =
     let k = rw (dot-nothing r.cells t.non_basic, dot-nothing r'.cells t.non_basic) at (cross A n t r r' d p p' same (pos 1) (λ _. pos 0)) in
-    ap (λ (z : ℤ). r'.denominator *ℤ z) (one r.constant) ∙ k ∙ ap (λ (z : ℤ). r.denominator *ℤ z) (sym (one r'.constant))
-  where
-    one : (z : ℤ) → z ≡ pos 1 *ℤ z +ℤ pos 0
-    one z = omega (arith, ints)
+    ap (λ (z : ℤ). r'.denominator *ℤ z) (once_and_nothing r.constant) ∙ k ∙ ap (λ (z : ℤ). r.denominator *ℤ z) (sym (once_and_nothing r'.constant))
 
 cell_cross : (A : ℤ → (ℕ → ℤ) → Type 0) (n : ℕ) (t : Tableau) (r r' : TableauRow) → IsDictionary A n t → IsDictionaryRow A t.non_basic r → IsDictionaryRow A t.non_basic r' → r.basic ≡ r'.basic → (j : ℕ) → j < length t.non_basic →
     r'.denominator *ℤ get_or r.cells j (pos 0) ≡ r.denominator *ℤ get_or r'.cells j (pos 0)
 cell_cross A n t r r' d p p' same j h =
     let apart = λ (i : ℕ) (inside : i < length t.non_basic) (ne : i ≢ j) (e : non_basic_of t j ≡ non_basic_of t i). ne (d.basis.non_basic_once i j inside h (sym e)) in
     let k = rw (dot-one r.cells t.non_basic j h p.long apart, dot-one r'.cells t.non_basic j h p'.long apart) at (cross A n t r r' d p p' same (pos 0) (single (non_basic_of t j) (pos 1))) in
-    ap (λ (z : ℤ). r'.denominator *ℤ z) (nought r.constant (get_or r.cells j (pos 0))) ∙ k ∙ ap (λ (z : ℤ). r.denominator *ℤ z) (sym (nought r'.constant (get_or r'.cells j (pos 0))))
-  where
-    nought : (b z : ℤ) → z ≡ pos 0 *ℤ b +ℤ z
-    nought b z = omega (arith, ints)
+    ap (λ (z : ℤ). r'.denominator *ℤ z) (none_and_once r.constant (get_or r.cells j (pos 0))) ∙ k ∙ ap (λ (z : ℤ). r.denominator *ℤ z) (sym (none_and_once r'.constant (get_or r'.cells j (pos 0))))
 
 dvd_denominator : (A : ℤ → (ℕ → ℤ) → Type 0) (n : ℕ) (t : Tableau) (r r' : TableauRow) → IsDictionary A n t → IsDictionaryRow A t.non_basic r → IsDictionaryRow A t.non_basic r' → r.basic ≡ r'.basic →
     unsigned_abs r.denominator ∣ unsigned_abs r'.denominator

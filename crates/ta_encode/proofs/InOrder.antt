@@ -2,10 +2,6 @@
 use Rattle.ta_encode.proofs.Common.{◌≡◌, ℕ, List, [], ◌∷◌, ◌++◌, take, drop, reverse, sym, ap, ◌∙◌, refl, subst, append_assoc, reverse-append, take-append-drop, Automaton, Pattern, Element, LegalWord, word_rows, AllHold}
 use Rattle.ta_encode.proofs.Safety.{extend, prefix_rows, prefix_legal}
 
--- the past after one more element
-pub past_push : (word : List Element) (e : Element) → reverse (word ++ e ∷ []) ≡ e ∷ reverse word
-past_push word e = reverse-append word (e ∷ [])
-
 extend_is : (past future : List Element) → extend past future ≡ reverse future ++ past
 extend_is past [] = refl
 extend_is past (e ∷ future) = extend_is (e ∷ past) future ∙ sym (append_assoc (reverse future) (e ∷ []) past) ∙ ap (λ (x : List Element). x ++ past) (sym (reverse-append (e ∷ []) future))

@@ -1,9 +1,7 @@
 -- reading a proof node by node
 use Rattle.ta_encode.proofs.Common.{◌≡◌, ℕ, zero, suc, ◌≤◌, ◌<◌, ℤ, List, [], ◌∷◌, ◌++◌, map, length, arith, sym, ap, ◌∙◌, refl, subst, append_assoc, Node, Tree, Forest, Leaf, Extend, Split, Done, More, preorder, forest_preorder, all_preorder, Low, High, Pending, Search, bound_at, bounded, longer, IsLeaf, RefutesBy, RefuteEach, RefuteAll, ProofBy, RefutedInOrder, ProofsReadInOrder, ProofsAreDetermined, LeafTest}
 use Rattle.ta_cert.specs.declared.line.Node.TheVariants as node
-
-join : (ns xs mid ys rest : List Node) → ns ≡ xs ++ mid → mid ≡ ys ++ rest → ns ≡ (xs ++ ys) ++ rest
-join ns xs mid ys rest e f = e ∙ ap (λ (zs : List Node). xs ++ zs) f ∙ sym (append_assoc xs ys rest)
+use Rattle.ta_base.proofs.Lists.{joined, regrouped}
 
 -- the tree of the first word, and the nodes of the others
 pub record First (s : Search) (test : LeafTest) (w : Pending) (ws : List Pending) (ns : List Node) : Type 0 where
@@ -35,7 +33,7 @@ read_each s test n read (v ∷ vs) ws ns b h =
     record {
       trees = More one.tree more.trees;
       rest = more.rest;
-      nodes = join ns (preorder one.tree) one.rest (forest_preorder more.trees) more.rest one.nodes more.nodes;
+      nodes = joined ns (preorder one.tree) one.rest (forest_preorder more.trees) more.rest one.nodes more.nodes;
       refutes = (one.refutes, more.refutes);
       others = more.others;
       shorter = omega (arith, one.shorter, more.shorter);
@@ -62,7 +60,7 @@ read_first s test (suc n) w ws (node.Split unknown floor ∷ ns) b h =
     record {
       tree = Split unknown floor low.tree high.tree;
       rest = high.rest;
-      nodes = (let both : ns ≡ (preorder low.tree ++ preorder high.tree) ++ high.rest = join ns (preorder low.tree) low.rest (preorder high.tree) high.rest low.nodes high.nodes in ap (λ (xs : List Node). node.Split unknown floor ∷ xs) {y = (preorder low.tree ++ preorder high.tree) ++ high.rest} both);
+      nodes = (let both : ns ≡ (preorder low.tree ++ preorder high.tree) ++ high.rest = joined ns (preorder low.tree) low.rest (preorder high.tree) high.rest low.nodes high.nodes in ap (λ (xs : List Node). node.Split unknown floor ∷ xs) {y = (preorder low.tree ++ preorder high.tree) ++ high.rest} both);
       refutes = (h.0, low.refutes, high.refutes);
       others = high.others;
       shorter = omega (arith, low.shorter, high.shorter);
@@ -125,9 +123,6 @@ record SameForest (t u : Forest) (xs ys : List Node) : Type 0 where
   pub trees : t ≡ u
   pub rest : xs ≡ ys
 
-regroup : (xs ys rest xs' ys' rest' : List Node) → (xs ++ ys) ++ rest ≡ (xs' ++ ys') ++ rest' → xs ++ (ys ++ rest) ≡ xs' ++ (ys' ++ rest')
-regroup xs ys rest xs' ys' rest' e = sym (append_assoc xs ys rest) ∙ e ∙ append_assoc xs' ys' rest'
-
 split_parts : (x x' : ℕ) (k k' : ℤ) (xs ys : List Node) → (node.Split x k ∷ xs) ≡ (node.Split x' k' ∷ ys) → (x ≡ x') × (k ≡ k') × (xs ≡ ys)
 split_parts x x' k k' xs ys e = (cc, cc, cc)
 
@@ -149,7 +144,7 @@ mutual
       let q = split_parts x x' k k' ((preorder l ++ preorder r) ++ xs) ((preorder l' ++ preorder r') ++ ys) e in
       let low : bounded w (bound_at x k Low) ≡ bounded v (bound_at x' k' Low) = cc in
       let high : bounded w (bound_at x k High) ≡ bounded v (bound_at x' k' High) = cc in
-      let one = same_tree l l' s test (bounded w (bound_at x k Low)) (bounded v (bound_at x' k' Low)) (preorder r ++ xs) (preorder r' ++ ys) low h.1 g.1 (regroup (preorder l) (preorder r) xs (preorder l') (preorder r') ys q.2) in
+      let one = same_tree l l' s test (bounded w (bound_at x k Low)) (bounded v (bound_at x' k' Low)) (preorder r ++ xs) (preorder r' ++ ys) low h.1 g.1 (regrouped (preorder l) (preorder r) xs (preorder l') (preorder r') ys q.2) in
       let two = same_tree r r' s test (bounded w (bound_at x k High)) (bounded v (bound_at x' k' High)) xs ys high h.2 g.2 one.rest in
       let left = one.tree in
       let right = two.tree in
@@ -171,7 +166,7 @@ mutual
   same_forest (More t ts) (More u us) s test (w ∷ ws) (v ∷ vs) xs ys o h g e =
       let first : w ≡ v = cc in
       let others : ws ≡ vs = cc in
-      let one = same_tree t u s test w v (forest_preorder ts ++ xs) (forest_preorder us ++ ys) first h.0 g.0 (regroup (preorder t) (forest_preorder ts) xs (preorder u) (forest_preorder us) ys e) in
+      let one = same_tree t u s test w v (forest_preorder ts ++ xs) (forest_preorder us ++ ys) first h.0 g.0 (regrouped (preorder t) (forest_preorder ts) xs (preorder u) (forest_preorder us) ys e) in
       let two = same_forest ts us s test ws vs xs ys others h.1 g.1 one.rest in
       let left = one.tree in
       let right = two.trees in

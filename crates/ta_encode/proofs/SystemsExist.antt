@@ -1,6 +1,6 @@
 -- The numbers of a word's rows are in range, so each word has a system.
 use Rattle.ta_encode.proofs.Common.{◌≡◌, ◌≢◌, ⊎_elim, ℕ, zero, suc, ℤ, pos, negsuc, ◌+◌, ◌-◌, ◌*◌, ◌^◌, ◌<◌, ◌≤◌, ◌+ℤ◌, ◌-ℤ◌, ◌*ℤ◌, ◌≤ℤ◌, ◌<ℤ◌, unsigned_abs, Bool, true, false, not, eqb, cond, List, [], ◌∷◌, ◌++◌, length, length-append, map, get_or, slice_get, Option, Some, None, arith, refl, sym, ap, subst, ◌∙◌, AllByRecursion, ◌==◌, if◌then◌else◌, nat_lt, ints, length-map, coefficients_turned, each_append, each_map_all, each_weaker, abs_minus, abs_product, abs_sum, choose_small, less_small, zero_or_not, InRange, AllBelow, coefficient, IsNormal, terms_value, Form, Row, System, IsNormal-higher, IsNormal-lower, coefficient-below, Automaton, Comparison, File, Pattern, Rule, has_bit, range_with_len, one_if, location_place, shared_change, rule_change, rule_within, pattern_within, Element, Event, Rise, Fall, allowed_rules, has_fallen, IsRowOf, AreRowsOf, SystemAt, BoundsWithin, pattern_search, sample_meanings, sample_rows, sample_search, Pending, Search, bounded_rows, Meaning, Parameter, Start, Count, Single, place_coefficient, start_meanings, meanings, counts_after, singles_after, LinearRow, Bound, Side, Low, High, bound_row, only_at, side_row, opposite, negated, form_row, counter_row, counter_rows, condition_rows, guard_rows, start_guard_rows, start_coefficient, processes_row, singles_row, event_rows, standing_rows, start_rows, rise_rows, happening_rows, fall_rows, word_rows, SmallForm, SmallRows, SmallCondition, SmallEvents, cond_both, each_map, cond_apart, cond_same}
-use Rattle.std.proofs.Math.IntN.{+ℤ_idl}
+use Rattle.std.proofs.Math.IntN.{+ℤ_idl, +ℤ_idr}
 use Rattle.ta_base.proofs.Totals.{one_if-small}
 use Rattle.std.specs.List.{filter}
 use Rattle.ta_automaton.specs.declared.pattern.Event.{Event as PatternEvent}
@@ -50,18 +50,18 @@ form_small : (a : Automaton) (m : Meaning) (f : Form) → SmallForm f → unsign
 form_small a m f small = omega (arith, value_small a m f.terms small.terms.small, small.terms.few)
 
 -- ---- rows whose numbers are small: a constant up to some number, and no more coefficients than unknowns
-record Mild (most n : ℕ) (l : LinearRow) : Type 0 where
-  constant : unsigned_abs l.constant ≤ most
-  coefficients : AllByRecursion (λ (c : ℤ). unsigned_abs c ≤ 2 ^ 73) l.coefficients
-  count : length l.coefficients ≤ n
+pub record Mild (most n : ℕ) (l : LinearRow) : Type 0 where
+  pub constant : unsigned_abs l.constant ≤ most
+  pub coefficients : AllByRecursion (λ (c : ℤ). unsigned_abs c ≤ 2 ^ 73) l.coefficients
+  pub count : length l.coefficients ≤ n
 
-abbrev AllMild : ℕ → ℕ → List LinearRow → Type 0
+abbrev pub AllMild : ℕ → ℕ → List LinearRow → Type 0
 AllMild most n ls = AllByRecursion (Mild most n) ls
 
 more : (most most' n n' : ℕ) (ls : List LinearRow) → most ≤ most' → n ≤ n' → AllMild most n ls → AllMild most' n' ls
 more most most' n n' ls low few all = each_weaker (Mild most n) (Mild most' n') ls (λ l mild. record { constant = (let h = mild.constant in omega arith); coefficients = mild.coefficients; count = (let h = mild.count in omega arith) }) all
 
-opposite_mild : (most n : ℕ) (l : LinearRow) → Mild most n l → Mild most n (opposite l)
+pub opposite_mild : (most n : ℕ) (l : LinearRow) → Mild most n l → Mild most n (opposite l)
 opposite_mild most n l h = record { constant = less_small l.constant most h.constant; coefficients = coefficients_turned l.coefficients h.coefficients; count = (let few = h.count in omega (arith, length-map l.coefficients (λ c. pos 0 -ℤ c))) }
 
 negated_mild : (most n : ℕ) (l : LinearRow) → Mild most n l → Mild (most + 1) n (negated l)
@@ -77,12 +77,15 @@ form_mild a ms f small = record {
   count = omega (arith, length-map ms (λ m. terms_value (place_coefficient a m) f.terms));
 }
 
-counters_mild : (a : Automaton) (ms : List Meaning) (ls : List ℕ) → AllMild 1000000001 (length ms) (map (counter_row a ms) ls)
-counters_mild a ms ls = each_map_all (Mild 1000000001 (length ms)) (counter_row a ms) ls (λ l. record {
+pub counter_mild : (a : Automaton) (ms : List Meaning) (l : ℕ) → Mild 1000000001 (length ms) (counter_row a ms l)
+counter_mild a ms l = record {
   constant = omega arith;
   coefficients = each_map_all (λ (c : ℤ). unsigned_abs c ≤ 2 ^ 73) (λ m. place_coefficient a m (location_place a l)) ms (λ m. omega (arith, place_small a m (location_place a l)));
   count = omega (arith, length-map ms (λ m. place_coefficient a m (location_place a l)));
-})
+}
+
+counters_mild : (a : Automaton) (ms : List Meaning) (ls : List ℕ) → AllMild 1000000001 (length ms) (map (counter_row a ms) ls)
+counters_mild a ms ls = each_map_all (Mild 1000000001 (length ms)) (counter_row a ms) ls (λ l. counter_mild a ms l)
 
 forms_mild : (a : Automaton) (ms : List Meaning) (rows : List Row) → SmallRows rows → AllMild 1000000001 (length ms) (map (λ (r : Row). form_row a ms r.form) rows)
 forms_mild a ms [] small = tt
@@ -100,6 +103,13 @@ guards_mild a ms test k (r ∷ rs) small =
 
 guards_more : (a : Automaton) (ms : List Meaning) (test : ℕ → Bool) (rows : List Row) → SmallRows rows → AllMild 1000000001 (length ms) (guard_rows a ms test 0 rows)
 guards_more a ms test rows small = more 1000000000 1000000001 (length ms) (length ms) (guard_rows a ms test 0 rows) (omega arith) (omega arith) (guards_mild a ms test 0 rows small)
+
+negated_guards_mild : (a : Automaton) (ms : List Meaning) (test : ℕ → Bool) (rows : List Row) → SmallRows rows → AllMild 1000000001 (length ms) (map negated (guard_rows a ms test 0 rows))
+negated_guards_mild a ms test rows small = each_map negated (Mild 1000000000 (length ms)) (Mild 1000000001 (length ms)) (guard_rows a ms test 0 rows) (λ l mild. negated_mild 1000000000 (length ms) l mild) (guards_mild a ms test 0 rows small)
+
+-- rise guards that fail
+pub negated_rises_mild : (a : Automaton) (ms : List Meaning) (test : ℕ → Bool) → AllMild 1000000001 (length ms) (map negated (guard_rows a ms test 0 a.rise))
+negated_rises_mild a ms test = negated_guards_mild a ms test a.rise (rise_rows_small a)
 
 one_of : (n : ℕ) (b : Bool) (x y : LinearRow) → Mild 1000000001 n x → Mild 1000000001 n y → Mild 1000000001 n (cond b x y)
 one_of n true x y h g = h
@@ -173,7 +183,7 @@ module _ (a : Automaton) (p : Pattern) (start_small : SmallCondition p.start) (e
       (each_append (Mild 1000000001 (length ms)) (guard_rows a ms (λ k. eqb k i) 0 a.rise) (standing_rows a start past ms) (guards_more a ms (λ k. eqb k i) a.rise (rise_rows_small a)) (falls_mild ms (λ j. not (has_fallen start past j))))
 
   gone_mild : (ms : List Meaning) (test : ℕ → Bool) → AllMild 1000000001 (length ms) (map negated (guard_rows a ms test 0 a.fall))
-  gone_mild ms test = each_map negated (Mild 1000000000 (length ms)) (Mild 1000000001 (length ms)) (guard_rows a ms test 0 a.fall) (λ l mild. negated_mild 1000000000 (length ms) l mild) (guards_mild a ms test 0 a.fall (fall_rows_small a))
+  gone_mild ms test = negated_guards_mild a ms test a.fall (fall_rows_small a)
 
   fall_mild : (start : ℕ) (past : List Element) (before : List Meaning) (mask : ℕ) → AllMild 1000000001 (length (before ++ singles_after a p start past)) (fall_rows a p start past before (before ++ singles_after a p start past) mask)
   unfolding fall_rows
@@ -194,7 +204,7 @@ module _ (a : Automaton) (p : Pattern) (start_small : SmallCondition p.start) (e
       (each_append (Mild 1000000001 n) pair (c ++ (g ++ s)) (singles_mild before al n (omega arith))
       (each_append (Mild 1000000001 n) c (g ++ s) (kept_mild end) (each_append (Mild 1000000001 n) g s (gone_mild end (has_bit mask)) (falls_mild end (λ j. not (has_fallen start (Fall mask ∷ past) j)))))))
 
-  word_mild : (start : ℕ) (past : List Element) → AllMild 1000000001 (length (meanings a p start past)) (word_rows a p start past)
+  pub word_mild : (start : ℕ) (past : List Element) → AllMild 1000000001 (length (meanings a p start past)) (word_rows a p start past)
   unfolding word_rows meanings
   word_mild start [] = start_mild start
   word_mild start (Event e ∷ past) =
@@ -280,11 +290,8 @@ module _ (k : ℕ) (c : ℤ) (cs : List ℤ) (fits : InRange c) (rest : Terms (k
   without : c ≡ pos 0 → Terms k (c ∷ cs)
   without none = record { terms = rest.terms; normal = IsNormal-from (k + 1) k ((k + 1) + length cs) (k + suc (length cs)) rest.terms (omega arith) (omega arith) rest.normal; there = there_without none }
 
-  nothing_more : (z : ℤ) → z ≡ pos 0 → (c +ℤ z) ≡ c
-  nothing_more z none = omega (arith, ints, none)
-
   there_with : (i : ℕ) → coefficient ((k, c) ∷ rest.terms) (k + i) ≡ get_or (c ∷ cs) i (pos 0)
-  there_with zero = ap (coefficient ((k, c) ∷ rest.terms)) (let e : k + 0 ≡ k = omega arith in e) ∙ at_own k c rest.terms ∙ nothing_more (coefficient rest.terms k) below
+  there_with zero = ap (coefficient ((k, c) ∷ rest.terms)) (let e : k + 0 ≡ k = omega arith in e) ∙ at_own k c rest.terms ∙ ap (λ z. c +ℤ z) below ∙ +ℤ_idr c
   there_with (suc i) = at_other k (k + suc i) c rest.terms (λ e. absurd (omega (arith, e))) ∙ shifted i
 
   with_it : c ≢ pos 0 → Terms k (c ∷ cs)
@@ -327,7 +334,7 @@ rows_exist n (l ∷ ls) few fits =
     record { rows = first.row ∷ rest.rows; are = (first.is, rest.are); below = (first.below, rest.below) }
 
 -- a word whose rows fit has a system
-system_exists : (s : Search) (w : Pending) → s.unknowns w.start w.past ≤ 2 ^ 32 → AllMild 1000000001 (s.unknowns w.start w.past) (s.rows w.start w.past) → BoundsWithin (s.unknowns w.start w.past) w.bounds → (system : System) × SystemAt s w system
+pub system_exists : (s : Search) (w : Pending) → s.unknowns w.start w.past ≤ 2 ^ 32 → AllMild 1000000001 (s.unknowns w.start w.past) (s.rows w.start w.past) → BoundsWithin (s.unknowns w.start w.past) w.bounds → (system : System) × SystemAt s w system
 system_exists s w few mild bounds =
     let n = s.unknowns w.start w.past in
     let own = each_weaker (Mild 1000000001 n) (Fitting n) (s.rows w.start w.past) (mild_fits n) mild in

@@ -1,5 +1,5 @@
 -- what a solution says at a moment
-use Rattle.ta_encode.proofs.Common.{◌≡◌, inl, inr, ℕ, zero, suc, ◌+◌, ◌-◌, ◌^◌, ◌<◌, ℤ, pos, ◌+ℤ◌, ◌*ℤ◌, ◌≤ℤ◌, List, [], ◌∷◌, ◌++◌, map, length, drop, cond, Bool, true, false, not, arith, sym, ap, ◌∙◌, refl, subst, slice_get, Some, All, ints, false≢true, not_from_false, one_times, In-filter, in_append, in_more, In-numbers, value_of, RowHolds, Form, Row, Comparison, Automaton, Pattern, Config, value_at, has_bit, range_with_len, In, Element, Event, Rise, Fall, may_fire, allowed_rules, children, is_complete, is_ready, is_standing, may_rise, Meaning, place_coefficient, location_place, LinearRow, form_row, counter_row, counter_rows, condition_rows, guard_rows, sum_of_products, row_value, AllHold, total, terms_value-same, in_filter, each_append, length-append}
+use Rattle.ta_encode.proofs.Common.{◌≡◌, inl, inr, ℕ, zero, suc, ◌+◌, ◌-◌, ◌^◌, ◌<◌, ℤ, pos, ◌+ℤ◌, ◌≤ℤ◌, List, [], ◌∷◌, ◌++◌, map, length, drop, cond, Bool, true, false, not, arith, sym, ap, ◌∙◌, refl, subst, slice_get, Some, All, ints, false≢true, not_from_false, one_times, In-filter, in_append, in_more, In-numbers, value_of, RowHolds, Form, Row, Comparison, Automaton, Pattern, Config, value_at, has_bit, range_with_len, In, Element, Event, Rise, Fall, may_fire, allowed_rules, children, is_complete, is_ready, is_standing, may_rise, Meaning, place_coefficient, location_place, LinearRow, form_row, counter_row, counter_rows, condition_rows, guard_rows, sum_of_products, row_value, AllHold, total, terms_value-same, in_filter, each_append, length-append}
 use Rattle.std.proofs.Common.{replicate}
 use Rattle.ta_base.proofs.Totals.{total-append, total-replicate}
 use Rattle.std.proofs.lemmas.List.{length-replicate}

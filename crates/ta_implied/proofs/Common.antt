@@ -12,7 +12,7 @@ pub use Rattle.ta_automaton.specs.declared.automaton.Automaton.{Automaton}
 pub use Rattle.ta_automaton.specs.declared.condition.Comparison.{Comparison}
 pub use Rattle.ta_base.proofs.Bits.{bit_in_masks_below, has_above, has_none, has_or, no_numbers, some_bit, with_bit}
 pub use Rattle.ta_base.proofs.Each.{behind_distinct, each_at, each_from_in, each_in, each_set}
-pub use Rattle.ta_base.proofs.Lists.{append_empty, cond_append, take_next_read}
+pub use Rattle.ta_base.proofs.Lists.{cond_append, take_next_read}
 pub use Rattle.ta_base.proofs.Members.{In-filter, In-left, In-map, In-right, back, either, in_append, in_filter, in_map}
 pub use Rattle.ta_base.proofs.Ranges.{In-numbers, in_numbers}
 pub use Rattle.ta_base.specs.Masks.{In, has_bit}

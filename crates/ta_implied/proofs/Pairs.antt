@@ -1,5 +1,6 @@
 -- the pairs of masks: which they are, their order, and one more at its place
-use Rattle.ta_implied.proofs.Common.{length, ◌≡◌, inl, inr, ℕ, zero, suc, ◌+◌, ◌-◌, ◌^◌, ◌<◌, ◌≤◌, List, [], ◌∷◌, ◌++◌, map, get_or, true, arith, sym, ap, ◌∙◌, refl, subst, filter, replicate, false≢true, AllByRecursion, has_bit, range_with_len, In, bit_in_masks_below, has_none, no_numbers, some_bit, append_empty, In-filter, In-left, In-map, In-right, in_append, in_filter, in_map, In-numbers, pairs_at, pairs_from}
+use Rattle.ta_implied.proofs.Common.{length, ◌≡◌, inl, inr, ℕ, zero, suc, ◌+◌, ◌-◌, ◌^◌, ◌<◌, ◌≤◌, List, [], ◌∷◌, ◌++◌, map, get_or, true, arith, sym, ap, ◌∙◌, refl, subst, filter, replicate, false≢true, AllByRecursion, has_bit, range_with_len, In, bit_in_masks_below, has_none, no_numbers, some_bit, In-filter, In-left, In-map, In-right, in_append, in_filter, in_map, In-numbers, pairs_at, pairs_from}
+use Rattle.ta_base.proofs.Lists.{empty_left, empty_right}
 
 -- a pair of the guards of a mask
 in_pairs_at : (j i guard mask : ℕ) → In (j, i) (pairs_at guard mask) → (i ≡ guard) × (has_bit mask j ≡ true)
@@ -57,8 +58,7 @@ empty_mask k (suc m) fits none =
 empty_masks : (k : ℕ) (masks : List ℕ) → AllByRecursion (λ m. m < 2 ^ 16) masks → pairs_from k masks ≡ [] → masks ≡ replicate (length masks) 0
 empty_masks k [] fit none = refl
 empty_masks k (m ∷ ms) fit none =
-    let parts = append_empty (pairs_at k m) (pairs_from (k + 1) ms) none in
-    ap (λ n. n ∷ ms) (empty_mask k m fit.0 parts.0) ∙ ap (λ xs. 0 ∷ xs) (empty_masks (k + 1) ms fit.1 parts.1)
+    ap (λ n. n ∷ ms) (empty_mask k m fit.0 (empty_left (pairs_at k m) (pairs_from (k + 1) ms) none)) ∙ ap (λ xs. 0 ∷ xs) (empty_masks (k + 1) ms fit.1 (empty_right (pairs_at k m) (pairs_from (k + 1) ms) none))
 
 pub all_empty : (masks : List ℕ) → AllByRecursion (λ m. m < 2 ^ 16) masks → length masks ≡ 16 → pairs_from 0 masks ≡ [] → masks ≡ replicate 16 0
 all_empty masks fit count none = empty_masks 0 masks fit none ∙ ap (λ n. replicate n 0) count

@@ -1,8 +1,9 @@
 -- The dictionary of a longer system
-use Rattle.ta_links.proofs.Common.{◌≡◌, ℕ, ◌+◌, ◌-◌, ◌<◌, ◌≤◌, List, ◌∷◌, [], ◌++◌, length, map, take, drop, get_or, arith, sym, ap, ◌∙◌, subst, length-take, get_or-take, names_long, range_with_len, Row, TableauRow, basic_of, slack_rows, raised, widened, extended, FirstLeaving, KeptPivot, kept_at, chosen_row, carried, StayInRange, FirstRefused, Cell, RowHead, LinkedCells, Inside, AreSound, value_in, Linked, table_rows, no_head, AreProperHeads, IsProperHead, linked_of, RowsShow, slack_heads, rows_from, IsRoom, raised_head, AllCarried, IsRefusal}
+use Rattle.ta_links.proofs.Common.{◌≡◌, ℕ, ◌+◌, ◌-◌, ◌<◌, ◌≤◌, List, ◌∷◌, [], ◌++◌, length, map, take, drop, get_or, arith, sym, ap, ◌∙◌, subst, get_or-take, names_long, range_with_len, Row, TableauRow, basic_of, slack_rows, raised, widened, extended, FirstLeaving, KeptPivot, kept_at, chosen_row, carried, StayInRange, FirstRefused, Cell, RowHead, LinkedCells, Inside, AreSound, value_in, Linked, table_rows, no_head, AreProperHeads, IsProperHead, linked_of, RowsShow, slack_heads, rows_from, IsRoom, raised_head, AllCarried, IsRefusal}
 use Rattle.ta_linear.specs.declared.row.System.{System}
 use Rattle.ta_links.proofs.LinkedFacts.{length-table_rows, table_row_at}
 use Rattle.ta_links.proofs.ExtendedRows.{Lengthened, new_rows_begin, begun_room, extended_table}
+use Rattle.ta_base.proofs.Lists.{taken_long}
 
 -- the basic variable of a row
 pub basic_is : (inside : Inside) (d : Linked) (i : ℕ) → linked_of inside ≡ d → i < length inside.rows.items → basic_of d.tableau i ≡ (get_or inside.rows.items i no_head).basic
@@ -70,9 +71,6 @@ extend_refused {u} {first} {hs} {hs1} {old} {l1} us s ks last pivot row few w be
       number = omega arith;
       refused = subst (λ (xs : List TableauRow). FirstRefused (kept_at ks pivot).column (chosen_row s.unknowns (kept_at ks pivot)) (carried s.unknowns ks pivot xs) (row - first)) is r.refused;
     }
-
-pub taken_long : (last : ℕ) (hs hs' : List RowHead) → hs' ≡ take last hs → length hs ≡ last + 1 → length hs' ≡ last
-taken_long last hs hs' e long = let t = length-take last hs in let f = ap (λ (xs : List RowHead). length xs) e in omega arith
 
 pub taken_proper : (last : ℕ) (hs hs' : List RowHead) → hs' ≡ take last hs → length hs ≡ last + 1 → AreProperHeads hs → AreProperHeads hs'
 taken_proper last hs hs' e long proper i b =

@@ -47,9 +47,6 @@ taken_end cells cell [] visits all =
 ap_visits : (cells : List Cell) (a i : ℕ) (is : List ℕ) → a ≡ i → FreeVisits cells (cell_at cells i).right is → FreeVisits cells (cell_at cells a).right is
 ap_visits cells a i is e v = subst (λ (m : ℕ). FreeVisits cells (cell_at cells m).right is) (sym e) v
 
-not_in : (a i : ℕ) (is : List ℕ) → a ≡ i → NotIn i is → NotIn a is
-not_in a i is e v = subst (λ (m : ℕ). NotIn m is) (sym e) v
-
 taken_free : (cells : List Cell) (a : ℕ) (cell : Cell) (visited : List ℕ) → FreeVisits cells (Some a) visited → ((i : ℕ) → i < length cells → NotIn i visited → (cell_at cells i).value ≢ pos 0) → Taken cells (Some a) cell a (set cells a cell)
 taken_free cells a cell [] visits all = absurd (let e = visits in cc)
 taken_free cells a cell (i ∷ is) visits all =
@@ -70,7 +67,7 @@ taken_free cells a cell (i ∷ is) visits all =
           omega (arith, ints, old, now);
       left = is;
       visits = ap_visits cells a i is same visits.4;
-      without = not_in a i is same visits.3;
+      without = subst (λ (m : ℕ). NotIn m is) (sym same) visits.3;
       all = λ k h ne out. all k h ((λ e. ne (e ∙ sym same)), out);
     }
 

@@ -3,11 +3,11 @@ use Rattle.std.specs.Prelude.{ℕ, ◌<◌, ◌≡◌, ◌≢◌, List, [], ◌�
 use Rattle.ta_linear.specs.Numbers.{InRange}
 use Rattle.ta_links.specs.declared.cell.Cell.{Cell}
 use Rattle.ta_links.specs.Chains.{cell_at, IsLive, along_rows, along_columns, IsChained}
+use Rattle.std.specs.List.{AllByRecursion}
 
 -- an index is not in a list
 abbrev pub NotIn : ℕ → List ℕ → Type 0
-NotIn i [] = Unit {0}
-NotIn i (j ∷ js) = (i ≢ j) × NotIn i js
+NotIn i is = AllByRecursion (λ j. i ≢ j) is
 
 -- the chain of free cells goes along `right` through these, none of them twice, and no value of theirs is anything but 0
 abbrev pub FreeVisits : List Cell → Option ℕ → List ℕ → Type 0

@@ -1,7 +1,8 @@
 -- The names that the proofs of this crate cite, passed on from one place. Declares nothing.
+pub use Rattle.std.specs.List.{range_with_len}
 pub use Rattle.std.proofs.Common.{Bool, IsTrue, List, [], ap, arith, false, length, map, refl, subst, suc, sym, true, zero, ℕ, ◌&&◌, ◌++◌, ◌+◌, ◌-◌, ◌<◌, ◌||◌, ◌∙◌, ◌∷◌, ◌≡◌, ◌≤◌}
 pub use Rattle.std.proofs.lemmas.List.{append_assoc, length-map, map-append}
 pub use Rattle.std.specs.Prelude.{codes}
-pub use Rattle.ta_maker.specs.Family.{lone, name, numbered, numbers_on, rules_of, sender, waiter}
+pub use Rattle.ta_maker.specs.Family.{lone, name, numbered, rules_of, sender, waiter}
 pub use Rattle.ta_syntax.specs.Grammar.{IsSum, PlainRule, Term, Terms}
 pub use Rattle.ta_syntax.specs.PlainTrees.{plain_location, plain_name, plain_rule}

@@ -1,18 +1,14 @@
 -- The family of test automata (this project's profile). The automaton of k has k shared variables, each of which one rule raises and
 -- one guard waits for; its pattern, more processes than there are, never comes about
-use Rattle.std.specs.Prelude.{ℕ, zero, suc, ◌+◌, false, true, List, [], ◌∷◌, ◌++◌, codes, decimal, map}
+use Rattle.std.specs.Prelude.{ℕ, false, true, List, [], ◌∷◌, ◌++◌, codes, decimal, map}
 use Rattle.ta_syntax.specs.Grammar.{PlainComparison, PlainPattern, PlainRule, PlainTree, Term, Terms, alone, done, named, number, term}
 use Rattle.ta_syntax.specs.declared.sums.Sign.TheVariants as sign
 use Rattle.ta_syntax.specs.declared.tokens.Relation.TheVariants as relation
+use Rattle.std.specs.List.{range_with_len}
 
 -- a name and a number behind it
 abbrev pub numbered : List ℕ → ℕ → List ℕ
 numbered front index = front ++ decimal index
-
--- so many numbers, from this one on
-abbrev pub numbers_on : ℕ → ℕ → List ℕ
-numbers_on first zero = []
-numbers_on first (suc count) = first ∷ numbers_on (first + 1) count
 
 -- sums of one and of two terms, and those of names and numbers
 abbrev pub lone : Term → Terms
@@ -66,10 +62,10 @@ abbrev pub family : ℕ → PlainTree
 family k = record {
   name = numbered (codes "family") k;
   parameters = codes "n" ∷ [];
-  shared = map (numbered (codes "x")) (numbers_on 1 k);
+  shared = map (numbered (codes "x")) (range_with_len 1 k);
   locations = record { name = codes "A"; initial = true } ∷ record { name = codes "B"; initial = false } ∷ [];
   processes = lone (name (codes "n"));
   resilience = at_least (lone (name (codes "n"))) (lone (number (codes "1"))) ∷ [];
-  rules = rules_of (numbers_on 1 k);
+  rules = rules_of (range_with_len 1 k);
   patterns = lost ∷ [];
 }

@@ -1,9 +1,10 @@
 //! The family.
 #![tactic(auto)]
 
+ghost use Rattle.std.specs.List.{range_with_len};
 ghost use Rattle.std.specs.Prelude.{◌≡◌, ◌≤◌, ◌∷◌, [], IfOk, codes, map};
 ghost use Rattle.ta_syntax.specs.PlainTrees.{plain_comparison, plain_event, plain_location, plain_name, plain_pattern, plain_rule, plain_tree, plain_update};
-ghost use Rattle.ta_maker.specs.Family.{family, lost, numbered, numbers_on, rules_of, sender, waiter};
+ghost use Rattle.ta_maker.specs.Family.{family, lost, numbered, rules_of, sender, waiter};
 ghost use Rattle.ta_maker.specs.Made.{IsFamilyNumber, Makes};
 
 use crate::fault::MakerFault;
@@ -60,7 +61,7 @@ fn list_of<T: Drop>(alloc: Global, item: T) -> Result<List<T>, AllocError>
 /// The shared variables.
 fn shared(alloc: Global, k: u32) -> Result<List<Spelled>, AllocError>
     requires { IsFamilyNumber k }
-    ensures { IfOk result (λ list. map plain_name list ≡ map (numbered (codes "x")) (numbers_on 1 k)) }
+    ensures { IfOk result (λ list. map plain_name list ≡ map (numbered (codes "x")) (range_with_len 1 k)) }
 {
     let mut names = Vec::new(alloc);
     for index in 1..k + 1 {
@@ -88,7 +89,7 @@ fn locations(alloc: Global) -> Result<List<TreeLocation>, AllocError>
 /// The rules.
 fn rules(alloc: Global, k: u32) -> Result<List<TreeRule>, AllocError>
     requires { IsFamilyNumber k }
-    ensures { IfOk result (λ list. map plain_rule list ≡ rules_of (numbers_on 1 k)) }
+    ensures { IfOk result (λ list. map plain_rule list ≡ rules_of (range_with_len 1 k)) }
 {
     let mut rules = Vec::new(alloc);
     for index in 1..k + 1 {

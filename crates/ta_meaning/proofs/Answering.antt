@@ -1,5 +1,6 @@
 -- How the faults of parts make those of the whole: the first of them, or none.
 use Rattle.ta_meaning.proofs.Common.{◌≡◌, Bool, true, false, List, [], ◌∷◌, ◌++◌, Result, Ok, Err, inl, inr, refl, sym, ap, subst, ◌∙◌, FileFault, where_, else_, First, FirstOrMemory, Judges, Answers}
+use Rattle.ta_base.proofs.Lists.{empty_before}
 
 -- ---- where there are none
 pub where-false : (test : Bool) (f : FileFault) → test ≡ false → where_ test f ≡ []
@@ -10,15 +11,8 @@ pub else-left-none : (a b : List FileFault) → a ≡ [] → else_ a b ≡ b
 else-left-none [] b e = refl
 else-left-none (f ∷ a) b e = cc
 
-pub append-left-none : (a b : List FileFault) → a ≡ [] → a ++ b ≡ b
-append-left-none [] b e = refl
-append-left-none (f ∷ a) b e = cc
-
 pub else-none : (a b : List FileFault) → a ≡ [] → b ≡ [] → else_ a b ≡ []
 else-none a b e g = else-left-none a b e ∙ g
-
-pub append-none : (a b : List FileFault) → a ≡ [] → b ≡ [] → a ++ b ≡ []
-append-none a b e g = append-left-none a b e ∙ g
 
 -- where the whole has none, no part has one
 pub not-where : (test : Bool) (f : FileFault) → where_ test f ≡ [] → test ≡ false
@@ -32,14 +26,6 @@ none-else-left (f ∷ a) b e = cc
 pub none-else-right : (a b : List FileFault) → else_ a b ≡ [] → b ≡ []
 none-else-right [] b e = e
 none-else-right (f ∷ a) b e = cc
-
-pub none-append-left : (a b : List FileFault) → a ++ b ≡ [] → a ≡ []
-none-append-left [] b e = refl
-none-append-left (f ∷ a) b e = cc
-
-pub none-append-right : (a b : List FileFault) → a ++ b ≡ [] → b ≡ []
-none-append-right [] b e = e
-none-append-right (f ∷ a) b e = cc
 
 pub where-leads : (test : Bool) (f : FileFault) → test ≡ true → First (where_ test f) f
 where-leads true f e = ([], refl)
@@ -75,7 +61,7 @@ pub else-right-first : (a b : List FileFault) (e : FileFault) → a ≡ [] → F
 else-right-first a b e none h = first-through b (else_ a b) e (else-right-leads a b e none) h
 
 pub append-right-first : (a b : List FileFault) (e : FileFault) → a ≡ [] → FirstOrMemory b e → FirstOrMemory (a ++ b) e
-append-right-first a b e none h = subst (λ (fs : List FileFault). FirstOrMemory fs e) (sym (append-left-none a b none)) h
+append-right-first a b e none h = subst (λ (fs : List FileFault). FirstOrMemory fs e) (sym (empty_before a b none)) h
 
 -- ---- answers
 

@@ -40,7 +40,7 @@ pub use Rattle.ta_meaning.specs.Reading.{Legal, file_fault}
 pub use Rattle.ta_meaning.specs.Offsets.{IsOfMeaning, IsTokenAt, fault_offset}
 pub use Rattle.ta_meaning.specs.Names.{Names, all_names, guard_names, location_name, names_of, plain_names}
 pub use Rattle.ta_meaning.specs.Meaning.{Means, MeansAutomaton, MeansEvent, MeansEvents, MeansPattern, MeansRule, MeansTree, MeansUpdates, guards_of, initial_from}
-pub use Rattle.ta_meaning.specs.Linear.{Difference, FormOf, Linear, MeansComparison, MeansCondition, Pairwise, RowOf, UsesNames, any_large, comparison_rows, differences_by, is_large, is_large_linear, linear_difference, linear_sum}
+pub use Rattle.ta_meaning.specs.Linear.{Difference, FormOf, Linear, MeansComparison, MeansCondition, RowOf, UsesNames, any_large, comparison_rows, differences_by, is_large, is_large_linear, linear_difference, linear_sum}
 pub use Rattle.ta_meaning.specs.Inside.Updating.{IsNewVariable, UpdatesRead, names_at, variable_faults}
 pub use Rattle.ta_meaning.specs.Inside.SumParts.{IsSignedSum, PartOf, RowOfDifference, any_large_row, any_large_term, form_differences, is_large_form, judged_factor, judged_term, linear_factor, number_or}
 pub use Rattle.ta_meaning.specs.Inside.RuleReading.{RuleRead, RuleSoFar}
@@ -59,7 +59,7 @@ pub use Rattle.ta_linear.specs.Forms.{IsMultiple, MultipleOutOfRange}
 pub use Rattle.ta_linear.proofs.TermLemmas.{IsNormal-le, coefficient-above, coefficient-below, negative_stays}
 pub use Rattle.ta_linear.proofs.NormalTerms.{coefficient-first, coefficient-other, normal_narrow, normal_unique}
 pub use Rattle.ta_base.specs.Masks.{In}
-pub use Rattle.ta_base.specs.Lists.{Distinct, EachFrom, Rises}
+pub use Rattle.ta_base.specs.Lists.{Distinct, EachFrom, Rises, Pairwise}
 pub use Rattle.ta_base.proofs.Ranges.{rises-wider, at_number}
 pub use Rattle.ta_base.proofs.Members.{In-left, In-map, In-right, contains_at, in-here}
 pub use Rattle.ta_base.proofs.Lists.{at_map, at_map_both, at_map_none, cut_in_three, empty-not, get_map, get_of_drop, get_of_map, get_push, heads, next_item, number_gives, place-along, push-split, slice_get-drop, slice_get-take, slice_get-take_within, slice_get_left, tails, within_part, get_end, get_front}
@@ -85,7 +85,7 @@ pub use Rattle.std.specs.String.{string_bytes, string_eq}
 pub use Rattle.std.specs.Str.{bytes_eq}
 pub use Rattle.std.specs.Prelude.{MatchResult, flat_map, slice_range}
 pub use Rattle.std.specs.List.{AllByRecursion, list_any, range_with_len}
-pub use Rattle.std.specs.Int.{bit_at, w128}
+pub use Rattle.std.specs.Int.{w128}
 pub use Rattle.std.specs.Global.{Vec}
 pub use Rattle.std.proofs.result.Match.{err_is}
 pub use Rattle.std.proofs.lemmas.Slice.Eq.{bytes_eq-Decides, slice_eq-Decides}

@@ -2,8 +2,9 @@
 use Rattle.ta_meaning.proofs.Common.{◌≡◌, ℕ, ℤ, pos, ◌+◌, ◌^◌, ◌-ℤ◌, Bool, List, [], ◌∷◌, ◌++◌, length, map, get_or, Result, sym, ap, subst, ◌∙◌, append-nil, length-map, AllByRecursion, less_alike, minus_alike, at_map_both, coefficient, Form, Row, Terms, plain_sum, plain_comparison, Relation, TreeComparison, FileFault, RowOver, Comparison, Condition, sum_coefficient, sum_constant, sum_uses, Difference, FormOf, RowOf, Pairwise, linear_sum, linear_difference, differences_by, comparison_rows, any_large, MeansComparison, is_large_linear, Scope, FirstOrMemory, Answers, where_, else_, sum_faults, comparison_faults, condition_faults, ResolvedForm, ResolvedComparison, ResolvedCondition, IsDifference, PartOf, is_large_form, any_large_row, form_differences, RowOfDifference, refl}
 use Rattle.ta_syntax.specs.declared.tokens.Relation.TheVariants as relation
 use Rattle.ta_syntax.specs.declared.fault.FileFault.TheVariants as fault
-use Rattle.ta_meaning.proofs.Answering.{else-left-none, not-where, answers-along, answers-knowing, answers-otherwise, append-none, append-left-first, else-left-first}
+use Rattle.ta_meaning.proofs.Answering.{else-left-none, not-where, answers-along, answers-knowing, answers-otherwise, append-left-first, else-left-first}
 use Rattle.ta_meaning.proofs.LargeNumbers.{same_large, same_large_rows, form_over, rows_over}
+use Rattle.ta_base.proofs.Lists.{empty_both}
 
 -- ---- a sum
 
@@ -82,7 +83,7 @@ left_first s c e first =
 pub last_of_comparison : (s : Scope) (c : TreeComparison) → sum_faults s c.left ≡ [] → sum_faults s c.right ≡ [] → comparison_faults s c ≡ where_ (any_large (comparison_rows s.allowed (plain_comparison c))) (fault.TooLarge c.at)
 last_of_comparison s c none_left none_right =
     else-left-none (sum_faults s c.left ++ sum_faults s c.right) (where_ (any_large (comparison_rows s.allowed (plain_comparison c))) (fault.TooLarge c.at))
-    (append-none (sum_faults s c.left) (sum_faults s c.right) none_left none_right)
+    (empty_both (sum_faults s c.left) (sum_faults s c.right) none_left none_right)
 
 -- ---- comparisons one after another
 

@@ -1,7 +1,8 @@
 -- Names that are declared one after another without a fault: they are distinct and legal.
 use Rattle.ta_meaning.proofs.Common.{◌≡◌, ℕ, true, false, not, ◌||◌, List, [], ◌∷◌, ◌++◌, length, map, refl, sym, ap, subst, ◌∙◌, append_assoc, bytes_eq, list_any, AllByRecursion, ltb-false, false≢true, not-false, or_parts, append-nil, bytes_eq-Decides, distinct_push_apart, each_append, plain_name, plain_location, Spelled, TreeLocation, Tree, Distinct, Name, has_name, guard_names, all_names, location_name, names_of, where_, is_long, declared_faults, declarations_faults, location_spelled, any_initial, names_faults}
 use Rattle.ta_syntax.specs.declared.fault.FileFault.TheVariants as fault
-use Rattle.ta_meaning.proofs.Answering.{not-where, none-else-left, none-else-right, none-append-left, none-append-right}
+use Rattle.ta_meaning.proofs.Answering.{not-where, none-else-left, none-else-right}
+use Rattle.ta_base.proofs.Lists.{empty_left, empty_right}
 
 -- ---- names among names
 
@@ -34,15 +35,15 @@ declared-distinct before n d none = distinct_push_apart before n.name d (has_nam
 pub declarations-distinct : (before : List (List ℕ)) (ns : List Spelled) → Distinct before → declarations_faults before ns ≡ [] → Distinct (before ++ map plain_name ns)
 declarations-distinct before [] d none = subst Distinct (sym (append-nil before)) d
 declarations-distinct before (n ∷ ns) d none =
-    let here : declared_faults before n ≡ [] = none-append-left (declared_faults before n) _ none in
-    let later : declarations_faults (before ++ n.name ∷ []) ns ≡ [] = none-append-right (declared_faults before n) _ none in
+    let here : declared_faults before n ≡ [] = empty_left (declared_faults before n) _ none in
+    let later : declarations_faults (before ++ n.name ∷ []) ns ≡ [] = empty_right (declared_faults before n) _ none in
     subst Distinct (append_assoc before (n.name ∷ []) (map plain_name ns)) (declarations-distinct (before ++ n.name ∷ []) ns (declared-distinct before n d here) later)
 
 pub declarations-legal : (before : List (List ℕ)) (ns : List Spelled) → declarations_faults before ns ≡ [] → AllByRecursion Name (map plain_name ns)
 declarations-legal before [] none = tt
 declarations-legal before (n ∷ ns) none =
-    let here : declared_faults before n ≡ [] = none-append-left (declared_faults before n) _ none in
-    let later : declarations_faults (before ++ n.name ∷ []) ns ≡ [] = none-append-right (declared_faults before n) _ none in
+    let here : declared_faults before n ≡ [] = empty_left (declared_faults before n) _ none in
+    let later : declarations_faults (before ++ n.name ∷ []) ns ≡ [] = empty_right (declared_faults before n) _ none in
     (declared-legal before n here, declarations-legal (before ++ n.name ∷ []) ns later)
 
 -- ---- the names of a tree
@@ -67,15 +68,15 @@ any_initial_is (l ∷ ls) = ap (λ b. l.initial || b) (any_initial_is ls)
 
 pub names_declared : (t : Tree) → names_faults (names_of t) t ≡ [] → NamesDeclared t
 names_declared t none =
-    let after_name = none-append-right (where_ (is_long t.name) (fault.TooLarge t.name.at)) _ none in
-    let after_parameters = none-append-right (declarations_faults [] t.parameters) _ after_name in
-    let after_shared = none-append-right (declarations_faults (names_of t).parameters t.shared) _ after_parameters in
+    let after_name = empty_right (where_ (is_long t.name) (fault.TooLarge t.name.at)) _ none in
+    let after_parameters = empty_right (declarations_faults [] t.parameters) _ after_name in
+    let after_shared = empty_right (declarations_faults (names_of t).parameters t.shared) _ after_parameters in
     record {
-      name = not-where (is_long t.name) (fault.TooLarge t.name.at) (none-append-left _ _ none);
-      parameters = none-append-left _ _ after_name;
-      shared = none-append-left _ _ after_parameters;
-      initial = not-false (any_initial t.locations) (not-where (not (any_initial t.locations)) (fault.NoInitial t.locations_at) (none-append-left _ _ after_shared));
-      locations = none-append-right (where_ (not (any_initial t.locations)) (fault.NoInitial t.locations_at)) _ after_shared;
+      name = not-where (is_long t.name) (fault.TooLarge t.name.at) (empty_left _ _ none);
+      parameters = empty_left _ _ after_name;
+      shared = empty_left _ _ after_parameters;
+      initial = not-false (any_initial t.locations) (not-where (not (any_initial t.locations)) (fault.NoInitial t.locations_at) (empty_left _ _ after_shared));
+      locations = empty_right (where_ (not (any_initial t.locations)) (fault.NoInitial t.locations_at)) _ after_shared;
     }
 
 -- the names of a tree whose names have no fault are distinct

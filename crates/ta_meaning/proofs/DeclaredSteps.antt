@@ -1,6 +1,7 @@
 -- Declaring names one after another: what is done and what is left.
 use Rattle.ta_meaning.proofs.Common.{◌≡◌, ℕ, List, [], ◌∷◌, ◌++◌, map, refl, sym, ap, ◌∙◌, append_assoc, append-nil, plain_name, Spelled, FileFault, FirstOrMemory, declared_faults, declarations_faults}
-use Rattle.ta_meaning.proofs.Answering.{append-left-none, append-left-first}
+use Rattle.ta_meaning.proofs.Answering.{append-left-first}
+use Rattle.ta_base.proofs.Lists.{empty_before}
 
 -- names are declared after others, and the rest of them is left
 pub record DeclaredTo (before : List (List ℕ)) (all : List Spelled) (names : List (List ℕ)) (rest : List Spelled) : Type 0 where
@@ -12,7 +13,7 @@ declaring_begins before all = record { faults = refl; names_are = refl }
 
 pub declaring_goes_on : (before : List (List ℕ)) (all : List Spelled) (names : List (List ℕ)) (n : Spelled) (rest : List Spelled) (more : List (List ℕ)) → DeclaredTo before all names (n ∷ rest) → declared_faults names n ≡ [] → more ≡ names ++ n.name ∷ [] → DeclaredTo before all more rest
 declaring_goes_on before all names n rest more to none is = record {
-  faults = to.faults ∙ append-left-none (declared_faults names n) _ none ∙ ap (λ z. declarations_faults z rest) (sym is);
+  faults = to.faults ∙ empty_before (declared_faults names n) _ none ∙ ap (λ z. declarations_faults z rest) (sym is);
   names_are = to.names_are ∙ sym (append_assoc names (n.name ∷ []) (map plain_name rest)) ∙ ap (λ z. z ++ map plain_name rest) (sym is);
 }
 

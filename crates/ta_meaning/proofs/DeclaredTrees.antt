@@ -1,8 +1,9 @@
 -- The names of a tree, declared part by part.
 use Rattle.ta_meaning.proofs.Common.{◌≡◌, ℕ, ◌+◌, not, List, [], ◌++◌, length, map, take, drop, sym, ap, subst, ◌∙◌, length-append, length-map, cut_in_three, plain_name, plain_location, Spelled, TreeLocation, Tree, FileFault, Names, guard_names, all_names, location_name, names_of, where_, is_long, declarations_faults, location_spelled, any_initial, names_faults, FirstOrMemory}
 use Rattle.ta_syntax.specs.declared.fault.FileFault.TheVariants as fault
-use Rattle.ta_meaning.proofs.Answering.{append-left-first, append-right-first, append-none}
+use Rattle.ta_meaning.proofs.Answering.{append-left-first, append-right-first}
 use Rattle.ta_meaning.proofs.Declared.{location_names}
+use Rattle.ta_base.proofs.Lists.{empty_both}
 
 -- the names so far
 abbrev pub AfterParameters : Tree → List (List ℕ) → Type 0
@@ -54,7 +55,7 @@ shared_fit t start ps before s p none = record { before = before; shared = along
 
 pub all_fit : (t : Tree) (start : List (List ℕ)) (ls : List TreeLocation) → InitialFits t → AfterShared t start → ls ≡ t.locations → declarations_faults start (map location_spelled ls) ≡ [] → names_faults (names_of t) t ≡ []
 all_fit t start ls before s p none =
-    append-none _ _ before.before.before.name (append-none _ _ before.before.before.parameters (append-none _ _ before.before.shared (append-none _ _ before.initial
+    empty_both _ _ before.before.before.name (empty_both _ _ before.before.before.parameters (empty_both _ _ before.before.shared (empty_both _ _ before.initial
     (along_none start (guard_names (names_of t)) (map location_spelled ls) (map location_spelled t.locations) s (ap (λ (z : List TreeLocation). map location_spelled z) p) none))))
 
 -- ---- the first fault

@@ -1,8 +1,9 @@
 -- the guards of one rule, numbered one after another
 use Rattle.ta_meaning.proofs.Common.{◌≡◌, ◌⊎◌, inl, inr, ℕ, List, [], ◌∷◌, ◌++◌, map, length, true, false, arith, sym, ap, ◌∙◌, refl, subst, append-nil, length-map, slice_get_within, true≢false, AllByRecursion, each_at, each_push, each_weaker, PlainComparison, plain_comparison, TreeComparison, FileFault, Names, guard_names, Linear, UsesNames, Guards, falls, with_row, with_guard, with_guards, rows_of, NamesGuards, FirstOrMemory, in_guards, guard_faults, guards_faults, guards_then, guards_so_far, GuardsKept, GuardNumbered, GuardsNumbered, AmongGuards, WithNumber, NumberFits, linear_of, GuardList, GuardMasks, GuardNumber, append_assoc}
 use Rattle.ta_meaning.specs.declared.guards.GuardNumber.TheVariants as number
-use Rattle.ta_meaning.proofs.Answering.{append-left-none, append-left-first}
+use Rattle.ta_meaning.proofs.Answering.{append-left-first}
 use Rattle.ta_meaning.proofs.GuardSteps.{Extends, with_row_cases, guard_falls, guard_rises, extends_guard, guards_append, rows_append, rows_one, among_extends, among_number, mask_kind, mask_other, no_rows, guards_counted}
+use Rattle.ta_base.proofs.Lists.{empty_before}
 
 -- a guard's number fits its mask
 pub number_fits : (ns : Names) (before after : GuardList) (c : PlainComparison) (n : GuardNumber) → GuardNumbered ns before c after n → NumberFits n
@@ -101,7 +102,7 @@ reading_more ns first before after all left c masks more n reading none h bits =
       split = reading.split ∙ sym (append_assoc reading.done (plain_comparison c ∷ []) (map plain_comparison left));
       numbered = numbered_more ns first before after reading.done (plain_comparison c) masks more n reading.numbered h bits;
       faults = reading.faults
-          ∙ append-left-none (guard_faults parameters (in_guards ns) g c) (guards_faults parameters (in_guards ns) (guards_then parameters (in_guards ns) g c) left) none
+          ∙ empty_before (guard_faults parameters (in_guards ns) g c) (guards_faults parameters (in_guards ns) (guards_then parameters (in_guards ns) g c) left) none
           ∙ ap (λ (z : Guards). guards_faults parameters (in_guards ns) z left) (guards_counted parameters (in_guards ns) g c none)
           ∙ ap (λ (rows : List Linear). guards_faults parameters (in_guards ns) (with_guards parameters g rows) left) h.one_row
           ∙ ap (λ (z : Guards). guards_faults parameters (in_guards ns) z left) (sym h.guards);

@@ -2,7 +2,7 @@
 use Rattle.ta_meaning.proofs.Common.{◌≡◌, ◌⊎◌, inl, inr, ℕ, ◌<◌, ◌^◌, List, [], ◌∷◌, ◌++◌, map, length, true, false, slice_get, Some, sym, ap, ◌∙◌, refl, subst, append-nil, slice_get_within, false≢true, cond-true, cond-false, cases_Bool, mask_below, no_bit, distinct_at, get_push, slice_get_left, PlainComparison, plain_comparison, TreeComparison, Distinct, Linear, comparison_rows, Guards, falls, has_row, with_row, with_guard, with_guards, rows_of, NamesGuards, Scope, guards_with, guard_faults, guards_faults, guards_then, counted, IsGuardNumber, AmongGuards, WithBit, GuardNumber, FileFault, append_assoc}
 use Rattle.ta_meaning.specs.declared.guards.GuardNumber.TheVariants as number
 use Rattle.ta_meaning.proofs.GuardRows.{has_at, at_has, has_left, has_push, has_last}
-use Rattle.ta_meaning.proofs.Answering.{none-append-left, none-append-right}
+use Rattle.ta_base.proofs.Lists.{empty_left, empty_right}
 
 -- ---- guards after guards
 
@@ -80,8 +80,8 @@ guards_counted parameters s g c none = counted-fine (guard_faults parameters s g
 pub guards_with_rows : (parameters : ℕ) (s : Scope) (g : Guards) (cs : List TreeComparison) → guards_faults parameters s g cs ≡ [] → guards_with parameters s g cs ≡ with_guards parameters g (rows_of s.allowed (map plain_comparison cs))
 guards_with_rows parameters s g [] none = refl
 guards_with_rows parameters s g (c ∷ cs) none =
-    let here = none-append-left (guard_faults parameters s g c) (guards_faults parameters s (guards_then parameters s g c) cs) none in
-    let later = none-append-right (guard_faults parameters s g c) (guards_faults parameters s (guards_then parameters s g c) cs) none in
+    let here = empty_left (guard_faults parameters s g c) (guards_faults parameters s (guards_then parameters s g c) cs) none in
+    let later = empty_right (guard_faults parameters s g c) (guards_faults parameters s (guards_then parameters s g c) cs) none in
     guards_with_rows parameters s (guards_then parameters s g c) cs later
     ∙ ap (λ (z : Guards). with_guards parameters z (rows_of s.allowed (map plain_comparison cs))) (guards_counted parameters s g c here)
     ∙ sym (guards_append parameters g (comparison_rows s.allowed (plain_comparison c)) (rows_of s.allowed (map plain_comparison cs)))

@@ -1,7 +1,6 @@
 -- lemmas for the crates above
 pub mod OneTree
 mod Answering
-mod PairwiseItems
 mod ListedNames
 mod UsedNames
 mod WrittenNumbers
@@ -17,7 +16,6 @@ mod DeclaredSteps
 mod DeclaredTrees
 mod PlaceNames
 mod PlaceScopes
-mod GuardMasks
 mod ListedSteps
 mod PatternSteps
 mod GuardRows

@@ -1,11 +1,12 @@
 -- Listing names one after another: the mask so far, and what is left.
-use Rattle.ta_meaning.proofs.Common.{◌≡◌, ℕ, ◌-◌, ◌*◌, ◌%◌, ◌^◌, ◌<◌, ◌≤◌, inl, inr, false, ◌||◌, List, [], ◌∷◌, ◌++◌, length, map, Decides, Contains, slice_get, Some, IsBitSet, bit_or, w32, refl, sym, ap, subst, ◌∙◌, arith, bytes_eq, mod-eq_of_lt, false≢true, false_from_ne_true, eqb_tells, Decides-like, Decides-or, bit_at_set_same, bit_at_set_other, append-nil, Contains-append_left, Contains-push, Contains-push_cases, slice_get_within, same_Some, bytes_eq-Decides, at_set, no_bit, set_at, distinct_at, each_append, contains_at, plain_name, Spelled, FileFault, Distinct, has_name, ListedMask, where_, else_, First, used_faults, listed_faults, append_assoc, All-from_recursion, All-contains}
+use Rattle.ta_meaning.proofs.Common.{◌≡◌, ℕ, ◌*◌, ◌%◌, ◌^◌, ◌<◌, ◌≤◌, inl, inr, false, ◌||◌, List, [], ◌∷◌, ◌++◌, length, map, Decides, Contains, slice_get, Some, IsBitSet, bit_or, w32, refl, sym, ap, subst, ◌∙◌, arith, bytes_eq, mod-eq_of_lt, false≢true, false_from_ne_true, eqb_tells, Decides-like, Decides-or, bit_at_set_same, bit_at_set_other, append-nil, Contains-append_left, Contains-push, Contains-push_cases, slice_get_within, same_Some, bytes_eq-Decides, at_set, no_bit, set_at, distinct_at, each_append, contains_at, plain_name, Spelled, FileFault, Distinct, has_name, ListedMask, where_, else_, First, used_faults, listed_faults, append_assoc, All-from_recursion, All-contains}
 use Rattle.std.proofs.lemmas.Nat.{or_lt, pow_below, pow_pos}
 use Rattle.ta_scope.proofs.Reaching.{bit_of}
 use Rattle.ta_syntax.specs.declared.fault.FileFault.TheVariants as fault
-use Rattle.ta_meaning.proofs.Answering.{where-false, append-left-none, append-left-leads, else-left-leads, else-right-leads, else-none, where-leads}
+use Rattle.ta_meaning.proofs.Answering.{where-false, append-left-leads, else-left-leads, else-right-leads, else-none, where-leads}
 use Rattle.ta_meaning.proofs.UsedNames.{rightly_used}
 use Rattle.ta_base.proofs.Members.{contains_cases, contains_from}
+use Rattle.ta_base.proofs.Lists.{empty_before}
 
 -- the test decides the relation
 pub has_name-Decides : (names : List (List ℕ)) (n : List ℕ) → Decides (has_name names n) (Contains names n)
@@ -98,7 +99,7 @@ module _ (declared allowed : List (List ℕ)) (all : List Spelled) (n : Spelled)
       let fresh : has_name to.before n.name ≡ false = false_from_ne_true (has_name to.before n.name) (λ t. new ((to.mask_is.bits.bits i).1 (n.name, named, (has_name-Decides to.before n.name).0 t))) in
       record {
         before = to.before ++ n.name ∷ [];
-        faults = to.faults ∙ append-left-none _ _ (else-none _ _ (where-false (has_name to.before n.name) (fault.Duplicate n.at) fresh) none);
+        faults = to.faults ∙ empty_before _ _ (else-none _ _ (where-false (has_name to.before n.name) (fault.Duplicate n.at) fresh) none);
         names_are = to.names_are ∙ sym (append_assoc to.before (n.name ∷ []) (map plain_name rest));
         mask_is = one_more_name allowed to.before mask i n.name distinct few to.mask_is named;
       }

@@ -1,7 +1,7 @@
 -- A tree without faults of meaning means a file.
 use Rattle.ta_meaning.proofs.Common.{◌≡◌, ◌≤◌, [], ◌++◌, map, length, refl, arith, length-map, distinct_right, plain_sum, plain_location, plain_tree, Tree, Automaton, File, names_of, no_guards, linear_sum, is_large_linear, initial_from, MeansAutomaton, MeansTree, where_, sum_faults, condition_faults, in_parameters, processes_faults, names_faults, rules_faults, patterns_faults, meaning_faults}
 use Rattle.ta_syntax.specs.declared.fault.FileFault.TheVariants as fault
-use Rattle.ta_meaning.proofs.Answering.{not-where, none-else-left, none-else-right, none-append-left, none-append-right}
+use Rattle.ta_meaning.proofs.Answering.{not-where, none-else-left, none-else-right}
 use Rattle.ta_meaning.proofs.Declared.{names-distinct}
 use Rattle.ta_meaning.proofs.DeclaredTrees.{lengths}
 use Rattle.ta_meaning.proofs.Shapes.{automaton_shape}
@@ -9,6 +9,7 @@ use Rattle.ta_meaning.proofs.Whole.{patterns_shape-of, means_automaton}
 use Rattle.ta_meaning.proofs.MadeForms.{sum_exists, condition_exists}
 use Rattle.ta_meaning.proofs.MadePatterns.{FineNames, patterns_exist}
 use Rattle.ta_meaning.proofs.MadeRules.{rules_exist}
+use Rattle.ta_base.proofs.Lists.{empty_left, empty_right}
 
 fine_names : (t : Tree) → names_faults (names_of t) t ≡ [] → FineNames (names_of t)
 fine_names t none =
@@ -31,19 +32,19 @@ file_exists t none =
     let holds = condition_faults (in_parameters ns) t.resilience in
     let rules = rules_faults ns [] no_guards t.rules in
     let patterns = patterns_faults ns [] t.patterns in
-    let no_names = none-append-left names (sum ++ (holds ++ (rules ++ patterns))) none in
-    let after_names = none-append-right names (sum ++ (holds ++ (rules ++ patterns))) none in
-    let no_sum = none-append-left sum (holds ++ (rules ++ patterns)) after_names in
-    let after_sum = none-append-right sum (holds ++ (rules ++ patterns)) after_names in
-    let after_holds = none-append-right holds (rules ++ patterns) after_sum in
+    let no_names = empty_left names (sum ++ (holds ++ (rules ++ patterns))) none in
+    let after_names = empty_right names (sum ++ (holds ++ (rules ++ patterns))) none in
+    let no_sum = empty_left sum (holds ++ (rules ++ patterns)) after_names in
+    let after_sum = empty_right sum (holds ++ (rules ++ patterns)) after_names in
+    let after_holds = empty_right holds (rules ++ patterns) after_sum in
     let fine = fine_names t no_names in
     let few : length ns.parameters ≤ 64 = omega (arith, fine.parameters) in
     let large = where_ (is_large_linear (linear_sum ns.parameters (plain_sum t.processes))) (fault.TooLarge t.processes_at) in
     let terms = sum_faults (in_parameters ns) t.processes in
     let p = sum_exists (in_parameters ns) t.processes few (none-else-left terms large no_sum) (not-where (is_large_linear (linear_sum ns.parameters (plain_sum t.processes))) (fault.TooLarge t.processes_at) (none-else-right terms large no_sum)) in
-    let r = condition_exists (in_parameters ns) t.resilience few t.few_resilience (none-append-left holds (rules ++ patterns) after_sum) in
-    let rs = rules_exist ns fine t.rules (none-append-left rules patterns after_holds) in
-    let ps = patterns_exist ns fine t.patterns t.few_patterns (none-append-right rules patterns after_holds) in
+    let r = condition_exists (in_parameters ns) t.resilience few t.few_resilience (empty_left holds (rules ++ patterns) after_sum) in
+    let rs = rules_exist ns fine t.rules (empty_left rules patterns after_holds) in
+    let ps = patterns_exist ns fine t.patterns t.few_patterns (empty_right rules patterns after_holds) in
     let automaton : Automaton = record {
       name = t.name.name;
       parameters = ns.parameters;

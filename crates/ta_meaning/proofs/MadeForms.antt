@@ -3,11 +3,13 @@ use Rattle.ta_meaning.proofs.Common.{◌≡◌, ◌≢◌, ℕ, zero, suc, ℤ, 
 use Rattle.ta_linear.specs.Terms.{IsTerm}
 use Rattle.ta_syntax.specs.declared.tokens.Relation.TheVariants as relation
 use Rattle.ta_syntax.specs.declared.fault.FileFault.TheVariants as fault
-use Rattle.ta_meaning.proofs.Answering.{not-where, none-else-left, none-else-right, none-append-left, none-append-right}
+use Rattle.ta_meaning.proofs.Answering.{not-where, none-else-left, none-else-right}
 use Rattle.ta_meaning.proofs.LargeNumbers.{small_tells, same_large, same_large_rows, form_over, rows_over}
 use Rattle.ta_meaning.proofs.ComparedForms.{each_length}
 use Rattle.ta_meaning.proofs.UsedNames.{used_is_allowed}
 use Rattle.ta_meaning.proofs.SeenSums.{judged_of_terms, judged_of_term, judged_of_factor, every_sum_seen}
+use Rattle.ta_base.proofs.Lists.{empty_left, empty_right}
+use Rattle.ta_base.proofs.Pairwise.{paired_length}
 
 -- ---- normal terms with given coefficients
 
@@ -83,13 +85,13 @@ rows_exist (l ∷ ls) small few =
 mutual
   terms_known : (s : Scope) (ts : SeenTerms) → (judged_of_terms s ts).faults ≡ [] → sum_uses s.allowed (plain_of_terms ts) ≡ true
   terms_known s seen_none none = refl
-  terms_known s (seen_more sign t ts) none = and_from (term_uses s.allowed (plain_of_term t)) (sum_uses s.allowed (plain_of_terms ts)) (term_known s t (none-append-left (judged_of_term s t).faults (judged_of_terms s ts).faults none)) (terms_known s ts (none-append-right (judged_of_term s t).faults (judged_of_terms s ts).faults none))
+  terms_known s (seen_more sign t ts) none = and_from (term_uses s.allowed (plain_of_term t)) (sum_uses s.allowed (plain_of_terms ts)) (term_known s t (empty_left (judged_of_term s t).faults (judged_of_terms s ts).faults none)) (terms_known s ts (empty_right (judged_of_term s t).faults (judged_of_terms s ts).faults none))
 
   term_known : (s : Scope) (t : SeenTerm) → (judged_of_term s t).faults ≡ [] → term_uses s.allowed (plain_of_term t) ≡ true
   term_known s (seen_number at d) none = refl
   term_known s (seen_times at d f) none =
       let j = judged_of_factor s f in
-      factor_known s f (none-append-right (number_faults (Some d)) j.faults (none-else-left (number_faults (Some d) ++ j.faults) (where_ (is_large_linear (linear_term s.allowed (term_of (Some d) (Some j.plain)))) (fault.TooLarge at)) none))
+      factor_known s f (empty_right (number_faults (Some d)) j.faults (none-else-left (number_faults (Some d) ++ j.faults) (where_ (is_large_linear (linear_term s.allowed (term_of (Some d) (Some j.plain)))) (fault.TooLarge at)) none))
   term_known s (seen_alone at f) none =
       let j = judged_of_factor s f in
       factor_known s f (none-else-left j.faults (where_ (is_large_linear (linear_term s.allowed (term_of None (Some j.plain)))) (fault.TooLarge at)) none)
@@ -121,12 +123,6 @@ all_few : (n : ℕ) (ls : List Linear) → n ≤ 64 → AllByRecursion (λ l. le
 all_few n [] few h = tt
 all_few n (l ∷ ls) few h = (subst (λ m. m ≤ 64) (sym h.0) few, all_few n ls few h.1)
 
-pub paired_length : {A B : Type 0} (R : A → B → Type 0) (xs : List A) (ys : List B) → Pairwise R xs ys → length ys ≡ length xs
-paired_length R [] [] h = refl
-paired_length R [] (y ∷ ys) h = absurd h
-paired_length R (x ∷ xs) [] h = absurd h
-paired_length R (x ∷ xs) (y ∷ ys) h = ap suc (paired_length R xs ys h.1)
-
 pub comparison_exists : (s : Scope) (c : TreeComparison) → length s.allowed ≤ 64 → comparison_faults s c ≡ [] → (k : Comparison) × ResolvedComparison s.allowed (plain_comparison c) k
 comparison_exists s c few none =
     let ls = comparison_rows s.allowed (plain_comparison c) in
@@ -138,7 +134,7 @@ comparison_exists s c few none =
     let count : length rows.0 ≡ length (differences_by c.relation (plain_sum c.left) (plain_sum c.right)) = paired_length RowOf ls rows.0 rows.1 ∙ length-map (differences_by c.relation (plain_sum c.left) (plain_sum c.right)) (linear_difference s.allowed) in (
       record { rows = rows.0; some = subst (λ n. 1 ≤ n) (sym count) number.0; most = subst (λ n. n ≤ 2) (sym count) number.1 },
       record {
-        means = record { known = record { left = sum_known s c.left (none-append-left (sum_faults s c.left) (sum_faults s c.right) sums); right = sum_known s c.right (none-append-right (sum_faults s c.left) (sum_faults s c.right) sums) }; rows = rows.1 };
+        means = record { known = record { left = sum_known s c.left (empty_left (sum_faults s c.left) (sum_faults s c.right) sums); right = sum_known s c.right (empty_right (sum_faults s c.left) (sum_faults s c.right) sums) }; rows = rows.1 };
         over = rows_over ls (length s.allowed) rows.0 rows.1 counts (same_large_rows ls rows.0 rows.1 ∙ small);
       },
     )
@@ -152,8 +148,8 @@ record MadeComparisons (s : Scope) (cs : List TreeComparison) : Type 0 where
 comparisons_exist : (s : Scope) (cs : List TreeComparison) → length s.allowed ≤ 64 → condition_faults s cs ≡ [] → MadeComparisons s cs
 comparisons_exist s [] few none = record { items = []; count = refl; means = tt; over = tt }
 comparisons_exist s (c ∷ cs) few none =
-    let k = comparison_exists s c few (none-append-left (comparison_faults s c) (condition_faults s cs) none) in
-    let more = comparisons_exist s cs few (none-append-right (comparison_faults s c) (condition_faults s cs) none) in
+    let k = comparison_exists s c few (empty_left (comparison_faults s c) (condition_faults s cs) none) in
+    let more = comparisons_exist s cs few (empty_right (comparison_faults s c) (condition_faults s cs) none) in
     record { items = k.0 ∷ more.items; count = ap suc more.count; means = (k.1.means, more.means); over = (k.1.over, more.over) }
 
 pub condition_exists : (s : Scope) (cs : List TreeComparison) → length s.allowed ≤ 64 → length cs ≤ 16 → condition_faults s cs ≡ [] → (k : Condition) × ResolvedCondition s.allowed (map plain_comparison cs) k

@@ -1,12 +1,13 @@
 -- Patterns without a fault mean patterns.
 use Rattle.ta_meaning.proofs.Common.{◌≡◌, ℕ, ◌*◌, ◌%◌, ◌^◌, ◌<◌, ◌≤◌, true, bit_or, List, [], ◌∷◌, ◌++◌, map, length, Contains, IsBitSet, refl, sym, subst, ◌∙◌, arith, same_Some, plain_name, plain_event, plain_pattern, Spelled, TreeEvent, TreePattern, Distinct, Event, Pattern, Names, all_names, has_name, where_, else_, in_conditions, declared_faults, used_faults, listed_faults, condition_faults, event_faults, events_faults, pattern_faults, patterns_faults, ListedMask, ResolvedPatterns, ResolvedEvent, ResolvedEvents, ResolvedPattern}
 use Rattle.ta_syntax.specs.declared.fault.FileFault.TheVariants as fault
-use Rattle.ta_meaning.proofs.Answering.{not-where, none-else-left, none-else-right, none-append-left, none-append-right}
+use Rattle.ta_meaning.proofs.Answering.{not-where, none-else-left, none-else-right}
 use Rattle.ta_meaning.proofs.UsedNames.{used_is_allowed}
 use Rattle.ta_meaning.proofs.ListedNames.{has_name-where}
 use Rattle.ta_meaning.proofs.ListedSteps.{has_name-Decides, ListedTo, listing_begins, listing_goes_on, listing_ends}
 use Rattle.ta_meaning.proofs.PatternSteps.{EventsTo, events_begin, events_go_on, events_end, few_events, event_resolved, PatternsTo, patterns_begin, patterns_go_on, patterns_end, pattern_resolved}
 use Rattle.ta_meaning.proofs.MadeForms.{condition_exists}
+use Rattle.ta_base.proofs.Lists.{empty_left, empty_right}
 
 -- the names of places are distinct and few
 pub record FineNames (ns : Names) : Type 0 where
@@ -24,7 +25,7 @@ mask_from declared allowed all (n ∷ rest) mask distinct few none to =
     let left = sym to.faults ∙ none in
     let once = where_ (has_name to.before n.name) (fault.Duplicate n.at) in
     let used = used_faults declared allowed n in
-    let here = none-append-left (else_ once used) (listed_faults declared allowed (to.before ++ n.name ∷ []) rest) left in
+    let here = empty_left (else_ once used) (listed_faults declared allowed (to.before ++ n.name ∷ []) rest) left in
     let new = not-where (has_name to.before n.name) (fault.Duplicate n.at) (none-else-left once used here) in
     let rightly = none-else-right once used here in
     let place = has_name-where allowed n.name (used_is_allowed declared allowed n rightly) in
@@ -45,10 +46,10 @@ module _ (ns : Names) (fine : FineNames ns) where
       let declared = declared_faults before e.name in
       let listed = listed_faults before before [] e.after in
       let holds = condition_faults (in_conditions ns) e.condition in
-      let name = none-append-left declared (listed ++ holds) none in
-      let later = none-append-right declared (listed ++ holds) none in
-      let mask = mask_exists before before e.after distinct (omega arith) (none-append-left listed holds later) in
-      let condition = condition_exists (in_conditions ns) e.condition fine.all e.few (none-append-right listed holds later) in
+      let name = empty_left declared (listed ++ holds) none in
+      let later = empty_right declared (listed ++ holds) none in
+      let mask = mask_exists before before e.after distinct (omega arith) (empty_left listed holds later) in
+      let condition = condition_exists (in_conditions ns) e.condition fine.all e.few (empty_right listed holds later) in
       let event : Event = record { name = e.name.name; after = mask.0; condition = condition.0 } in
       (event, event_resolved ns before e e.after refl e.condition refl (before ++ e.name.name ∷ []) event distinct name refl refl mask.1 condition.1)
 
@@ -56,7 +57,7 @@ module _ (ns : Names) (fine : FineNames ns) where
   events_from all [] names resolved few none to = (resolved, (events_end ns all names resolved few to).1)
   events_from all (e ∷ rest) names resolved few none to =
       let left = sym to.faults ∙ none in
-      let here = none-append-left (event_faults ns names e) (events_faults ns (names ++ e.name.name ∷ []) rest) left in
+      let here = empty_left (event_faults ns names e) (events_faults ns (names ++ e.name.name ∷ []) rest) left in
       let event = event_exists names e to.distinct (few_events ns all e rest names resolved to few) here in
       events_from all rest (names ++ e.name.name ∷ []) (resolved ++ event.0 ∷ []) few none (events_go_on ns all e rest names resolved to (names ++ e.name.name ∷ []) event.0 here event.1)
 
@@ -66,12 +67,12 @@ module _ (ns : Names) (fine : FineNames ns) where
       let holds = condition_faults (in_conditions ns) p.start in
       let listed = listed_faults (all_names ns) ns.locations [] p.empty in
       let many = events_faults ns [] p.events in
-      let name = none-append-left declared (holds ++ (listed ++ many)) none in
-      let later = none-append-right declared (holds ++ (listed ++ many)) none in
-      let last = none-append-right holds (listed ++ many) later in
-      let start = condition_exists (in_conditions ns) p.start fine.all p.few_start (none-append-left holds (listed ++ many) later) in
-      let empty = mask_exists (all_names ns) ns.locations p.empty fine.locations_distinct fine.locations (none-append-left listed many last) in
-      let events = events_from p.events p.events [] [] p.few_events (none-append-right listed many last) (events_begin ns p.events [] [] refl refl) in
+      let name = empty_left declared (holds ++ (listed ++ many)) none in
+      let later = empty_right declared (holds ++ (listed ++ many)) none in
+      let last = empty_right holds (listed ++ many) later in
+      let start = condition_exists (in_conditions ns) p.start fine.all p.few_start (empty_left holds (listed ++ many) later) in
+      let empty = mask_exists (all_names ns) ns.locations p.empty fine.locations_distinct fine.locations (empty_left listed many last) in
+      let events = events_from p.events p.events [] [] p.few_events (empty_right listed many last) (events_begin ns p.events [] [] refl refl) in
       let pattern : Pattern = record { name = p.name.name; start = start.0; empty = empty.0; events = events.0 } in
       (pattern, pattern_resolved ns before p p.start refl p.empty refl p.events refl (before ++ p.name.name ∷ []) pattern distinct name refl refl start.1 empty.1 events.1)
 
@@ -79,7 +80,7 @@ module _ (ns : Names) (fine : FineNames ns) where
   patterns_from all [] names resolved few none to = (resolved, (patterns_end ns all names resolved few to).1)
   patterns_from all (p ∷ rest) names resolved few none to =
       let left = sym to.faults ∙ none in
-      let here = none-append-left (pattern_faults ns names p) (patterns_faults ns (names ++ p.name.name ∷ []) rest) left in
+      let here = empty_left (pattern_faults ns names p) (patterns_faults ns (names ++ p.name.name ∷ []) rest) left in
       let pattern = pattern_exists names p to.distinct here in
       patterns_from all rest (names ++ p.name.name ∷ []) (resolved ++ pattern.0 ∷ []) few none (patterns_go_on ns all p rest names resolved to (names ++ p.name.name ∷ []) pattern.0 here pattern.1)
 

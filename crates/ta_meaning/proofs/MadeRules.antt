@@ -1,13 +1,13 @@
 -- Rules without a fault mean rules and guards.
+use Rattle.ta_base.proofs.Bits.{one_bit_more}
 use Rattle.ta_meaning.proofs.Common.{◌≡◌, ◌⊎◌, inl, inr, ⊎_elim, ℕ, ℤ, pos, ◌*◌, ◌%◌, ◌^◌, ◌<◌, ◌≤◌, Bool, true, false, not, ltb, ◌&&◌, cond, eqb, bit_or, List, [], ◌∷◌, ◌++◌, map, length, Ok, Contains, refl, sym, ap, ◌∙◌, arith, w8, w16, cases_Bool, length-map, bit_at_set_same, bit_at_set_other, IsNormal, Row, plain_comparison, plain_update, plain_rule, TreeComparison, TreeUpdate, TreeRule, Rule, Names, all_names, guard_names, has_name, number_of, no_guards, is_negative, is_positive, falls, has_row, is_no_threshold, is_one_more, is_past_limit, Linear, comparison_rows, where_, else_, in_guards, comparison_faults, guard_faults, guards_faults, guards_with, declared_faults, used_faults, digits_faults, updates_faults, rule_faults, rules_faults, guards_then, any_shared, is_no_guard, Has, RowAnswers, linear_of, guards_so_far, GuardsKept, GuardNumbered, GuardsNumbered, NumberFits, WithNumber, names_at, UpdatesRead, RuleRead, ResolvedRules, GuardList, GuardMasks, GuardNumber, length-append, and_false, not-false}
 use Rattle.ta_syntax.specs.declared.fault.FileFault.TheVariants as fault
 use Rattle.ta_meaning.specs.declared.guards.GuardNumber.TheVariants as number
-use Rattle.ta_meaning.proofs.Answering.{not-where, none-else-left, none-else-right, none-append-left, none-append-right}
+use Rattle.ta_meaning.proofs.Answering.{not-where, none-else-left, none-else-right}
 use Rattle.ta_meaning.proofs.UsedNames.{used_is_allowed}
 use Rattle.ta_meaning.proofs.ListedNames.{has_name-where}
 use Rattle.ta_meaning.proofs.ListedPlaces.{number_seen}
 use Rattle.ta_meaning.proofs.UpdateReading.{UpdatesReading, updates_begin, updates_more, updates_end}
-use Rattle.ta_meaning.proofs.GuardMasks.{with_bit}
 use Rattle.ta_meaning.proofs.GuardSigns.{falls_same, no_threshold_same}
 use Rattle.ta_meaning.proofs.GuardNumbers.{size, has_linear, linear_has, OneRow, one_row_over, comparison_rows_are, rise_normal, fall_normal, rise_numbered, fall_numbered, not_past}
 use Rattle.ta_meaning.proofs.GuardReading.{GuardsReading, number_fits, reading_begins, reading_more, reading_ends}
@@ -17,6 +17,7 @@ use Rattle.ta_meaning.proofs.MadeForms.{comparison_exists}
 use Rattle.ta_meaning.proofs.MadePatterns.{FineNames}
 use Rattle.ta_syntax.proofs.BuiltSums.{vec_of}
 use Rattle.std.proofs.lemmas.Bool.{ltb-true}
+use Rattle.ta_base.proofs.Lists.{empty_left, empty_right}
 
 -- ---- updates
 module _ (ns : Names) where
@@ -28,8 +29,8 @@ module _ (ns : Names) where
       let once = where_ (has_name before u.name.name) (fault.Duplicate u.name.at) in
       let used = used_faults (all_names ns) ns.shared u.name in
       let rest = updates_faults ns (before ++ u.name.name ∷ []) left in
-      let variable = none-append-left (else_ once used) (digits_faults u.amount ++ rest) here in
-      let digits = none-append-left (digits_faults u.amount) rest (none-append-right (else_ once used) (digits_faults u.amount ++ rest) here) in
+      let variable = empty_left (else_ once used) (digits_faults u.amount ++ rest) here in
+      let digits = empty_left (digits_faults u.amount) rest (empty_right (else_ once used) (digits_faults u.amount ++ rest) here) in
       let new = not-where (has_name before u.name.name) (fault.Duplicate u.name.at) (none-else-left once used variable) in
       let place = has_name-where ns.shared u.name.name (used_is_allowed (all_names ns) ns.shared u.name (none-else-right once used variable)) in
       let unseen : Contains seen place.0 → ⊥ = λ c. let again = number_seen ns.shared seen place.0 u.name.name c place.1 in absurd cc in
@@ -139,15 +140,15 @@ module _ (ns : Names) (fine : FineNames ns) where
 
   -- masks with one more guard
   number_exists : (masks : GuardMasks) (n : GuardNumber) → NumberFits n → (more : GuardMasks) × WithNumber masks n more
-  number_exists masks (number.Rise n) fits = (record { rise = bit_or masks.rise (1 * 2 ^ n % 65536); fall = masks.fall }, (with_bit masks.rise n (bit_or masks.rise (1 * 2 ^ n % 65536)) (bit_at_set_same w16 masks.rise n fits) (λ i ne. bit_at_set_other w16 masks.rise n fits i ne), refl))
-  number_exists masks (number.Fall n) fits = (record { rise = masks.rise; fall = bit_or masks.fall (1 * 2 ^ n % 256) }, (refl, with_bit masks.fall n (bit_or masks.fall (1 * 2 ^ n % 256)) (bit_at_set_same w8 masks.fall n fits) (λ i ne. bit_at_set_other w8 masks.fall n fits i ne)))
+  number_exists masks (number.Rise n) fits = (record { rise = bit_or masks.rise (1 * 2 ^ n % 65536); fall = masks.fall }, (one_bit_more masks.rise n (bit_or masks.rise (1 * 2 ^ n % 65536)) (bit_at_set_same w16 masks.rise n fits) (λ i ne. bit_at_set_other w16 masks.rise n fits i ne), refl))
+  number_exists masks (number.Fall n) fits = (record { rise = masks.rise; fall = bit_or masks.fall (1 * 2 ^ n % 256) }, (refl, one_bit_more masks.fall n (bit_or masks.fall (1 * 2 ^ n % 256)) (bit_at_set_same w8 masks.fall n fits) (λ i ne. bit_at_set_other w8 masks.fall n fits i ne)))
 
   guards_from : (first now : GuardList) (all left : List TreeComparison) (masks : GuardMasks) → guards_faults (length ns.parameters) (in_guards ns) (guards_so_far ns first) all ≡ [] → GuardsReading ns first now all left masks → (after : GuardList) × (bits : GuardMasks) × GuardsNumbered ns first (map plain_comparison all) after bits
   guards_from first now all [] masks none r = (now, masks, (reading_ends ns first now all [] masks refl r).1)
   guards_from first now all (c ∷ left) masks none r =
       let parameters = length ns.parameters in
       let g = guards_so_far ns now in
-      let here = none-append-left (guard_faults parameters (in_guards ns) g c) (guards_faults parameters (in_guards ns) (guards_then parameters (in_guards ns) g c) left) (sym r.faults ∙ none) in
+      let here = empty_left (guard_faults parameters (in_guards ns) g c) (guards_faults parameters (in_guards ns) (guards_then parameters (in_guards ns) g c) left) (sym r.faults ∙ none) in
       let made = guard_exists now c r.numbered.kept here in
       let masked = number_exists masks made.1 (number_fits ns now made.0 (plain_comparison c) made.1 made.2) in
       guards_from first made.0 all left masked.0 none (reading_more ns first now made.0 all left c masks masked.0 made.1 r here made.2 masked.1)
@@ -165,15 +166,15 @@ module _ (ns : Names) (fine : FineNames ns) where
       let to = used_faults (all_names ns) ns.locations r.to in
       let when = guards_faults (length ns.parameters) (in_guards ns) g r.guards in
       let do_ = updates_faults ns [] r.updates in
-      let after_name = none-append-right name (from ++ (to ++ (when ++ do_))) none in
-      let after_from = none-append-right from (to ++ (when ++ do_)) after_name in
-      let after_to = none-append-right to (when ++ do_) after_from in
-      let source = has_name-where ns.locations r.from.name (used_is_allowed (all_names ns) ns.locations r.from (none-append-left from (to ++ (when ++ do_)) after_name)) in
-      let target = has_name-where ns.locations r.to.name (used_is_allowed (all_names ns) ns.locations r.to (none-append-left to (when ++ do_) after_from)) in
-      let guards = guards_from before before r.guards r.guards (record { rise = 0; fall = 0 }) (none-append-left when do_ after_to) (reading_begins ns before r.guards kept) in
-      let updates = updates_exist ns r.updates (none-append-right when do_ after_to) in
+      let after_name = empty_right name (from ++ (to ++ (when ++ do_))) none in
+      let after_from = empty_right from (to ++ (when ++ do_)) after_name in
+      let after_to = empty_right to (when ++ do_) after_from in
+      let source = has_name-where ns.locations r.from.name (used_is_allowed (all_names ns) ns.locations r.from (empty_left from (to ++ (when ++ do_)) after_name)) in
+      let target = has_name-where ns.locations r.to.name (used_is_allowed (all_names ns) ns.locations r.to (empty_left to (when ++ do_) after_from)) in
+      let guards = guards_from before before r.guards r.guards (record { rise = 0; fall = 0 }) (empty_left when do_ after_to) (reading_begins ns before r.guards kept) in
+      let updates = updates_exist ns r.updates (empty_right when do_ after_to) in
       let rule : Rule = record { name = r.name.name; from = source.0; to = target.0; rise = guards.1.rise; fall = guards.1.fall; updates = updates.0 } in
-      (guards.0, rule, rule_read ns names (names ++ r.name.name ∷ []) before guards.0 r guards.1 updates.0 rule (none-append-left name (from ++ (to ++ (when ++ do_))) none) refl source.1 target.1 guards.2 updates.1 refl refl refl refl)
+      (guards.0, rule, rule_read ns names (names ++ r.name.name ∷ []) before guards.0 r guards.1 updates.0 rule (empty_left name (from ++ (to ++ (when ++ do_))) none) refl source.1 target.1 guards.2 updates.1 refl refl refl refl)
 
   abbrev MadeRules : List TreeRule → Type 0
   MadeRules rules = (rise fall : List Row) × (resolved : List Rule) × ResolvedRules ns (map plain_rule rules) rise fall resolved
@@ -182,7 +183,7 @@ module _ (ns : Names) (fine : FineNames ns) where
   rules_from all [] names guards rules none r = (guards.rise.items, guards.fall.items, rules, (rules_end ns all [] names guards rules refl r).1)
   rules_from all (t ∷ left) names guards rules none r =
       let g = guards_so_far ns guards in
-      let here = none-append-left (rule_faults ns names g t) (rules_faults ns (names ++ t.name.name ∷ []) (guards_with (length ns.parameters) (in_guards ns) g t.guards) left) (sym r.faults ∙ none) in
+      let here = empty_left (rule_faults ns names g t) (rules_faults ns (names ++ t.name.name ∷ []) (guards_with (length ns.parameters) (in_guards ns) g t.guards) left) (sym r.faults ∙ none) in
       let made = rule_exists names guards t r.kept here in
       rules_from all left (names ++ t.name.name ∷ []) made.0 (rules ++ made.1 ∷ []) none (rules_more ns all left t names (names ++ t.name.name ∷ []) guards made.0 rules made.1 r here made.2)
 

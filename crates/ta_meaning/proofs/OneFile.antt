@@ -1,24 +1,13 @@
 -- A tree means at most one file.
-use Rattle.ta_meaning.proofs.Common.{◌≡◌, inl, inr, ℕ, ℤ, pos, ◌^◌, List, [], ◌∷◌, ◌++◌, sym, ap, ◌∙◌, refl, subst, mask-one, distinct_at, distinct_left, distinct_right, Form, normal_unique, PlainEvent, PlainTree, Distinct, Event, Automaton, File, number_of, Names, guard_names, all_names, plain_names, Linear, Pairwise, FormOf, RowOf, linear_sum, comparison_rows, MeansComparison, MeansCondition, Guards, MeansUpdates, MeansRule, MeansAutomaton, MeansEvent, MeansEvents, MeansPattern, MeansTree, guards_of}
+use Rattle.ta_meaning.proofs.Common.{◌≡◌, inl, inr, ℕ, ℤ, pos, ◌^◌, List, [], ◌∷◌, ◌++◌, sym, ap, ◌∙◌, refl, subst, mask-one, distinct_at, distinct_left, distinct_right, Form, normal_unique, PlainEvent, PlainTree, Distinct, Event, Automaton, File, number_of, Names, guard_names, all_names, plain_names, Linear, FormOf, RowOf, linear_sum, comparison_rows, MeansComparison, MeansCondition, Guards, MeansUpdates, MeansRule, MeansAutomaton, MeansEvent, MeansEvents, MeansPattern, MeansTree, guards_of}
 use Rattle.ta_meaning.proofs.EqualParts.{form-equal, row-equal, comparison-equal, condition-equal, rule-equal, event-equal, pattern-equal, automaton-equal, file-equal}
+use Rattle.ta_base.proofs.Pairwise.{pairwise-one}
 
 -- ---- lists
 
 -- each thing has at most one other in a relation
 abbrev pub AtMostOne : {A B : Type 0} → (A → B → Type 0) → Type 0
 AtMostOne {A} {B} R = (a : A) (x y : B) → R a x → R a y → x ≡ y
-
--- so each list has at most one other
-pub pairwise-one : {A B : Type 0} (R : A → B → Type 0) → AtMostOne R → (ks : List A) (xs ys : List B) → Pairwise R ks xs → Pairwise R ks ys → xs ≡ ys
-pairwise-one R one [] [] [] p q = refl
-pairwise-one R one [] [] (y ∷ ys) p q = absurd q
-pairwise-one R one [] (x ∷ xs) ys p q = absurd p
-pairwise-one R one (a ∷ more) [] ys p q = absurd p
-pairwise-one R one (a ∷ more) (x ∷ xs) [] p q = absurd q
-pairwise-one R one (a ∷ more) (x ∷ xs) (y ∷ ys) p q =
-    let first : x ≡ y = one a x y p.0 q.0 in
-    let rest : xs ≡ ys = pairwise-one R one more xs ys p.1 q.1 in
-    cc
 
 -- ---- forms, rows and conditions
 pub form-one : (linear : Linear) (a b : Form) → FormOf linear a → FormOf linear b → a ≡ b

@@ -2,7 +2,7 @@
 use Rattle.ta_meaning.proofs.Common.{◌≡◌, ℕ, ℤ, pos, ◌+◌, ◌*◌, ◌^◌, ◌<◌, ◌≤◌, ◌+ℤ◌, ◌*ℤ◌, unsigned_abs, Bool, IsTrue, List, [], ◌∷◌, ◌++◌, map, get_or, slice_get, Option, Some, None, Result, refl, sym, ap, subst, ◌∙◌, arith, ints, nat_tests, add_moved, more_within, one_times, at_map, at_map_both, at_map_none, coefficient, IsMultiple, Form, Terms, Term, Factor, number, blank, named, plain_term, plain_factor, plain_terms, term_of, Digits, Sign, TreeTerm, TreeFactor, out-TreeTerm, FileFault, Distinct, signed, number_of, sum_coefficient, term_coefficient, factor_coefficient, sum_constant, term_constant, sum_uses, term_uses, factor_uses, FormOf, linear_sum, is_large_linear, Scope, FirstOrMemory, Answers, where_, else_, linear_term, number_faults, FormWithin, judged_term, judged_factor, is_large_form, linear_factor, number_or, PartOf, IsSignedSum, less_small, ◌&&◌}
 use Rattle.ta_syntax.specs.declared.sums.Sign.TheVariants as sign
 use Rattle.ta_syntax.specs.declared.fault.FileFault.TheVariants as fault
-use Rattle.ta_meaning.proofs.Answering.{append-left-none, append-none, append-left-first, else-none, else-left-first, where-false, not-where, answers-along, answers-knowing, answers-otherwise}
+use Rattle.ta_meaning.proofs.Answering.{append-left-first, else-none, else-left-first, where-false, not-where, answers-along, answers-knowing, answers-otherwise}
 use Rattle.ta_meaning.proofs.LargeNumbers.{small_within, linear_small, same_large}
 use Rattle.ta_meaning.proofs.ListedNames.{has_name-at}
 use Rattle.ta_meaning.proofs.WrittenNumbers.{number_is_small}
@@ -10,6 +10,7 @@ use Rattle.ta_meaning.proofs.SmallForms.{within_more}
 use Rattle.ta_meaning.proofs.LinearSums.{name_numbers}
 use Rattle.ta_meaning.proofs.TreeSums.{terms_faults, large_term, term_faults_none, term_faults_some, plain_term_none, plain_term_some}
 use Rattle.std.proofs.Math.IntN.{+ℤ_idr, +ℤ_idl, *ℤ-zero}
+use Rattle.ta_base.proofs.Lists.{empty_before, empty_both}
 
 -- ---- names
 one_small : (i x : ℕ) → unsigned_abs (coefficient ((i, pos 1) ∷ []) x) ≤ 1
@@ -87,7 +88,7 @@ signed_same s a b e = ap (λ (z : ℤ). signed s z) e
 
 pub sum_more : (s : Scope) (all left : List (Sign × TreeTerm)) (t : Sign × TreeTerm) (count : ℕ) (form next sum : Form) → Summing s all (t ∷ left) count form → (judged_term s t.1).faults ≡ [] → PartOf (term_uses s.allowed (plain_term t.1)) (linear_term s.allowed (plain_term t.1)) 1000000000 next → IsSignedSum sum form t.0 next → Summing s all left (count + 1) sum
 sum_more s all left t count form next sum so_far none part is = record {
-  faults = so_far.faults ∙ append-left-none (judged_term s t.1).faults (terms_faults s left) none;
+  faults = so_far.faults ∙ empty_before (judged_term s t.1).faults (terms_faults s left) none;
   known = so_far.known ∙ ap (λ b. b && (sum_uses s.allowed (plain_terms left))) part.known;
   constant = add_moved form.constant sum.constant (signed t.0 (term_constant (plain_term t.1))) (sum_constant (plain_terms left)) (sum_constant (plain_terms all)) so_far.constant
       (is.constant ∙ ap (λ (z : ℤ). form.constant +ℤ z) (signed_same t.0 next.constant (term_constant (plain_term t.1)) part.numbers.constant));
@@ -144,7 +145,7 @@ alone_answers s t n form body none is constant terms =
     let plain = term_of (out-TreeTerm t).factor None in
     let small = linear_small (linear_term s.allowed plain) form part.numbers part.within in (
       term_faults_none s t body
-          ∙ else-none (number_faults (out-TreeTerm t).factor ++ []) (large_term s (out-TreeTerm t).at plain) (append-none (number_faults (out-TreeTerm t).factor) [] none refl) (where-false (is_large_linear (linear_term s.allowed plain)) (fault.TooLarge (out-TreeTerm t).at) small),
+          ∙ else-none (number_faults (out-TreeTerm t).factor ++ []) (large_term s (out-TreeTerm t).at plain) (empty_both (number_faults (out-TreeTerm t).factor) [] none refl) (where-false (is_large_linear (linear_term s.allowed plain)) (fault.TooLarge (out-TreeTerm t).at) small),
       subst (λ (p : Term). PartOf (term_uses s.allowed p) (linear_term s.allowed p) 1000000000 form) (sym (plain_term_none t body)) part,
     )
 
@@ -173,6 +174,6 @@ product_answers s t f n inner product r body none is none_inner part multiple an
     in
     let known = answers-knowing (where_ (is_large_form product) (fault.TooLarge (out-TreeTerm t).at)) (λ form. form ≡ product) (PartOf (term_uses s.allowed plain) (linear_term s.allowed plain) 1000000000) r right answer in
     let large = answers-along (where_ (is_large_form product) (fault.TooLarge (out-TreeTerm t).at)) (large_term s (out-TreeTerm t).at plain) (PartOf (term_uses s.allowed plain) (linear_term s.allowed plain) 1000000000) r (ap (λ (b : Bool). where_ b (fault.TooLarge (out-TreeTerm t).at)) same) known in
-    let both = answers-otherwise (number_faults (out-TreeTerm t).factor ++ (judged_factor s f).faults) (large_term s (out-TreeTerm t).at plain) (PartOf (term_uses s.allowed plain) (linear_term s.allowed plain) 1000000000) r (append-none (number_faults (out-TreeTerm t).factor) (judged_factor s f).faults none none_inner) large in
+    let both = answers-otherwise (number_faults (out-TreeTerm t).factor ++ (judged_factor s f).faults) (large_term s (out-TreeTerm t).at plain) (PartOf (term_uses s.allowed plain) (linear_term s.allowed plain) 1000000000) r (empty_both (number_faults (out-TreeTerm t).factor) (judged_factor s f).faults none none_inner) large in
     let term = answers-along (else_ (number_faults (out-TreeTerm t).factor ++ (judged_factor s f).faults) (large_term s (out-TreeTerm t).at plain)) (judged_term s t).faults (PartOf (term_uses s.allowed plain) (linear_term s.allowed plain) 1000000000) r (sym (term_faults_some s t f body)) both in
     subst (λ (p : Term). Answers (judged_term s t).faults (PartOf (term_uses s.allowed p) (linear_term s.allowed p) 1000000000) r) (sym (plain_term_some t f body)) term

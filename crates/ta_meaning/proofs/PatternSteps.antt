@@ -1,8 +1,9 @@
 -- Patterns and their events, one after another.
+use Rattle.ta_base.proofs.Pairwise.{pairwise_push}
 use Rattle.ta_meaning.proofs.Common.{◌≡◌, ℕ, ◌+◌, ◌<◌, ◌≤◌, List, [], ◌∷◌, ◌++◌, length, map, refl, sym, ap, subst, ◌∙◌, append_assoc, arith, append-nil, length-map, length_push, map_push, AllByRecursion, each_append, each_from-push, PlainEvent, PlainPattern, plain_name, plain_comparison, plain_event, plain_pattern, Spelled, TreeComparison, TreeEvent, TreePattern, FileFault, Event, Pattern, EachFrom, Distinct, Name, EventWithin, event_name, PatternWithin, pattern_name, Names, all_names, Pairwise, MeansEvent, MeansEvents, MeansPattern, FirstOrMemory, in_conditions, declared_faults, listed_faults, condition_faults, event_faults, events_faults, pattern_faults, patterns_faults, ResolvedCondition, ResolvedPatterns, ListedMask, DeclaredNext, ResolvedEvent, ResolvedEvents, ResolvedPattern}
-use Rattle.ta_meaning.proofs.PairwiseItems.{pairwise_push}
-use Rattle.ta_meaning.proofs.Answering.{append-none, append-left-none, append-left-first, append-right-first}
+use Rattle.ta_meaning.proofs.Answering.{append-left-first, append-right-first}
 use Rattle.ta_meaning.proofs.Declared.{declared-legal, declared-distinct}
+use Rattle.ta_base.proofs.Lists.{empty_before, empty_both}
 
 declared_next : (before : List (List ℕ)) (n : Spelled) (names : List (List ℕ)) → Distinct before → declared_faults before n ≡ [] → names ≡ before ++ n.name ∷ [] → DeclaredNext before n.name names
 declared_next before n names d none is = record { next = is; distinct = subst (λ (z : List (List ℕ)). Distinct z) (sym is) (declared-distinct before n d none) }
@@ -23,7 +24,7 @@ module _ (ns : Names) (before : List (List ℕ)) (e : TreeEvent) (after : List S
 
   pub event_has_none : declared_faults before e.name ≡ [] → listed_faults before before [] after ≡ [] → condition_faults (in_conditions ns) condition ≡ [] → event_faults ns before e ≡ []
   event_has_none name listed none =
-      append-none _ _ name (append-none _ _ (subst (λ (z : List Spelled). listed_faults before before [] z ≡ []) is_after listed) (subst (λ (z : List TreeComparison). condition_faults (in_conditions ns) z ≡ []) is_condition none))
+      empty_both _ _ name (empty_both _ _ (subst (λ (z : List Spelled). listed_faults before before [] z ≡ []) is_after listed) (subst (λ (z : List TreeComparison). condition_faults (in_conditions ns) z ≡ []) is_condition none))
 
   pub event_resolved : (names : List (List ℕ)) (event : Event) → Distinct before → declared_faults before e.name ≡ [] → names ≡ before ++ e.name.name ∷ [] → event.name ≡ e.name.name → ListedMask before (map plain_name after) event.after → ResolvedCondition (all_names ns) (map plain_comparison condition) event.condition → ResolvedEvent ns before (plain_event e) names event
   event_resolved names event d none is name mask holds =
@@ -71,7 +72,7 @@ module _ (ns : Names) (all : List TreeEvent) (e : TreeEvent) (rest : List TreeEv
 
   pub events_go_on : (more : List (List ℕ)) (event : Event) → event_faults ns names e ≡ [] → ResolvedEvent ns names (plain_event e) more event → EventsTo ns all rest more (resolved ++ event ∷ [])
   events_go_on more event none r = record {
-    faults = to.faults ∙ append-left-none _ _ none ∙ ap (λ (z : List (List ℕ)). events_faults ns z rest) (sym r.declared.next);
+    faults = to.faults ∙ empty_before _ _ none ∙ ap (λ (z : List (List ℕ)). events_faults ns z rest) (sym r.declared.next);
     names_are = r.declared.next ∙ ap (λ (z : List (List ℕ)). z ++ e.name.name ∷ []) to.names_are ∙ ap (λ (n : List ℕ). map event_name resolved ++ n ∷ []) (sym r.means.name) ∙ sym (map_push event_name resolved event);
     distinct = r.declared.distinct;
     done = to.done ++ plain_event e ∷ [];
@@ -114,7 +115,7 @@ module _ (ns : Names) (before : List (List ℕ)) (p : TreePattern) (start : List
 
   pub pattern_has_none : declared_faults before p.name ≡ [] → condition_faults (in_conditions ns) start ≡ [] → listed_faults (all_names ns) ns.locations [] empty ≡ [] → events_faults ns [] events ≡ [] → pattern_faults ns before p ≡ []
   pattern_has_none name none listed rest =
-      append-none _ _ name (append-none _ _ (start_none none) (append-none _ _ (empty_none listed) (subst (λ (z : List TreeEvent). events_faults ns [] z ≡ []) is_events rest)))
+      empty_both _ _ name (empty_both _ _ (start_none none) (empty_both _ _ (empty_none listed) (subst (λ (z : List TreeEvent). events_faults ns [] z ≡ []) is_events rest)))
 
   pub pattern_resolved : (names : List (List ℕ)) (pattern : Pattern) → Distinct before → declared_faults before p.name ≡ [] → names ≡ before ++ p.name.name ∷ [] → pattern.name ≡ p.name.name → ResolvedCondition (all_names ns) (map plain_comparison start) pattern.start → ListedMask ns.locations (map plain_name empty) pattern.empty → ResolvedEvents ns (map plain_event events) pattern.events → ResolvedPattern ns before (plain_pattern p) names pattern
   pattern_resolved names pattern d none is name holds mask many =
@@ -151,7 +152,7 @@ module _ (ns : Names) (all : List TreePattern) (p : TreePattern) (rest : List Tr
 
   pub patterns_go_on : (more : List (List ℕ)) (pattern : Pattern) → pattern_faults ns names p ≡ [] → ResolvedPattern ns names (plain_pattern p) more pattern → PatternsTo ns all rest more (resolved ++ pattern ∷ [])
   patterns_go_on more pattern none r = record {
-    faults = to.faults ∙ append-left-none _ _ none ∙ ap (λ (z : List (List ℕ)). patterns_faults ns z rest) (sym r.declared.next);
+    faults = to.faults ∙ empty_before _ _ none ∙ ap (λ (z : List (List ℕ)). patterns_faults ns z rest) (sym r.declared.next);
     names_are = r.declared.next ∙ ap (λ (z : List (List ℕ)). z ++ p.name.name ∷ []) to.names_are ∙ ap (λ (n : List ℕ). map pattern_name resolved ++ n ∷ []) (sym r.means.name) ∙ sym (map_push pattern_name resolved pattern);
     distinct = r.declared.distinct;
     done = to.done ++ plain_pattern p ∷ [];

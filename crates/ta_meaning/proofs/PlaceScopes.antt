@@ -1,5 +1,5 @@
 -- Where all places may stand, and where the locations alone may.
-use Rattle.ta_meaning.proofs.Common.{◌≡◌, ℕ, ◌-◌, List, [], length, map, take, Result, sym, subst, ◌∙◌, arith, take_all, plain_name, plain_comparison, Spelled, TreeComparison, FileFault, Condition, Scope, Answers, condition_faults, listed_faults, Judges, ListedMask, first_places, ResolvedCondition}
+use Rattle.ta_meaning.proofs.Common.{◌≡◌, ℕ, List, [], length, map, take, Result, sym, subst, ◌∙◌, arith, take_all, plain_name, plain_comparison, Spelled, TreeComparison, FileFault, Condition, Scope, Answers, condition_faults, listed_faults, Judges, ListedMask, first_places, ResolvedCondition}
 
 abbrev scope : List (List ℕ) → List (List ℕ) → Scope
 scope places allowed = record { places = places; allowed = allowed }

@@ -1,14 +1,15 @@
 -- rules read one after another, and the guards of all of them
+use Rattle.ta_base.proofs.Pairwise.{pairwise_with, pairwise_push, pairwise_each}
 use Rattle.ta_meaning.proofs.Common.{◌≡◌, ℕ, ◌≤◌, List, [], ◌∷◌, ◌++◌, map, length, Bool, true, false, arith, sym, ap, ◌∙◌, refl, subst, append-nil, map_push, true≢false, cond-true, cond-false, AllByRecursion, distinct_push, distinct_unmap, each_at, each_weaker, Row, PlainRule, plain_rule, TreeRule, FileFault, Distinct, RiseRow, FallRow, RuleWithin, name_of, Rule, Names, guard_names, all_names, Linear, Pairwise, RowOf, Guards, no_guards, falls, has_row, with_guards, rows_of, guards_after, NamesGuards, MeansRule, guards_of, FirstOrMemory, in_guards, declared_faults, guards_with, rule_faults, rules_faults, used_faults, guards_faults, updates_faults, ResolvedGuards, ResolvedRules, linear_of, guards_so_far, GuardsKept, AmongGuards, RuleSoFar, RuleRead, GuardList, append_assoc}
 use Rattle.ta_meaning.proofs.Declared.{declared-new}
-use Rattle.ta_meaning.proofs.PairwiseItems.{pairwise_with, pairwise_push, pairwise_each}
-use Rattle.ta_meaning.proofs.Answering.{append-left-none, append-left-first, none-append-left, none-append-right}
+use Rattle.ta_meaning.proofs.Answering.{append-left-first}
 use Rattle.ta_meaning.proofs.NormalTerms.{linear_row}
 use Rattle.ta_meaning.proofs.GuardRows.{at_has}
 use Rattle.ta_meaning.proofs.GuardNumbers.{Normal, guards_same, rise_normal, fall_normal}
 use Rattle.ta_meaning.proofs.GuardSteps.{Extends, extends_guards, guards_with_rows, among_extends, mask_later}
 use Rattle.ta_meaning.proofs.ListedNames.{has_name-at}
 use Rattle.ta_meaning.proofs.RuleSteps.{rows_fit}
+use Rattle.ta_base.proofs.Lists.{empty_before, empty_left, empty_right}
 
 -- ---- pairs
 pairwise_rows : (places : ℕ) (rows : List Row) → AllByRecursion (Normal places) rows → Pairwise RowOf (map (linear_of places) rows) rows
@@ -118,7 +119,7 @@ guards_fine ns names g r none =
     let to = used_faults (all_names ns) ns.locations r.to in
     let when = guards_faults (length ns.parameters) (in_guards ns) g r.guards in
     let do_ = updates_faults ns [] r.updates in
-    none-append-left when do_ (none-append-right to (when ++ do_) (none-append-right from (to ++ (when ++ do_)) (none-append-right name (from ++ (to ++ (when ++ do_))) none)))
+    empty_left when do_ (empty_right to (when ++ do_) (empty_right from (to ++ (when ++ do_)) (empty_right name (from ++ (to ++ (when ++ do_))) none)))
 
 pub rules_more : (ns : Names) (all left : List TreeRule) (r : TreeRule) (names names_after : List (List ℕ)) (before after : GuardList) (rules : List Rule) (rule : Rule) → RulesReading ns all (r ∷ left) names before rules
     → rule_faults ns names (guards_so_far ns before) r ≡ [] → RuleRead ns names before r names_after after rule → RulesReading ns all left names_after after (rules ++ rule ∷ [])
@@ -128,10 +129,10 @@ rules_more ns all left r names names_after before after rules rule reading none 
     let k = guards_so_far ns after in
     let x : Extends g k = subst (λ (z : Guards). Extends g z) (sym read.guards) (extends_guards parameters g (rows_of (guard_names ns) (plain_rule r).guards)) in
     let old = pairwise_with (RuleSoFar ns before) (RuleSoFar ns after) reading.done rules (λ q z h. rule_later ns before after q z x read.kept h) reading.so_far in
-    let declared = none-append-left (declared_faults names r.name) _ none in
+    let declared = empty_left (declared_faults names r.name) _ none in
     record {
       faults = reading.faults
-          ∙ append-left-none (rule_faults ns names g r) (rules_faults ns (names ++ r.name.name ∷ []) (guards_with parameters (in_guards ns) g r.guards) left) none
+          ∙ empty_before (rule_faults ns names g r) (rules_faults ns (names ++ r.name.name ∷ []) (guards_with parameters (in_guards ns) g r.guards) left) none
           ∙ ap (λ (z : Guards). rules_faults ns (names ++ r.name.name ∷ []) z left) (guards_with_rows parameters (in_guards ns) g r.guards (guards_fine ns names g r none) ∙ sym read.guards)
           ∙ ap (λ (ms : List (List ℕ)). rules_faults ns ms k left) (sym read.declared);
       kept = read.kept;

@@ -1,8 +1,9 @@
 -- the parts of one rule
 use Rattle.ta_meaning.proofs.Common.{◌≡◌, ℕ, ℤ, ◌<◌, ◌^◌, List, [], ◌∷◌, ◌++◌, map, length, slice_get, Some, arith, sym, subst, slice_get_within, length-map, Row, plain_comparison, plain_update, TreeRule, FileFault, Name, Rule, Names, all_names, guard_names, Linear, Guards, NamesGuards, rows_of, FirstOrMemory, declared_faults, used_faults, in_guards, guards_faults, updates_faults, rule_faults, linear_of, guards_so_far, GuardsNumbered, UpdatesRead, RuleRead, GuardList, GuardMasks}
 use Rattle.ta_meaning.proofs.Declared.{declared-legal}
-use Rattle.ta_meaning.proofs.Answering.{append-left-first, append-right-first, append-none}
+use Rattle.ta_meaning.proofs.Answering.{append-left-first, append-right-first}
 use Rattle.ta_meaning.proofs.GuardSteps.{mask_fits}
+use Rattle.ta_base.proofs.Lists.{empty_both}
 
 -- ---- the first fault of a rule
 
@@ -34,7 +35,7 @@ first_updates ns names g r e a b c d h =
 
 pub none_in_rule : (ns : Names) (names : List (List ℕ)) (g : Guards) (r : TreeRule) → declared_faults names r.name ≡ [] → from_faults ns r ≡ [] → to_faults ns r ≡ [] → when_faults ns g r ≡ [] → updates_faults ns [] r.updates ≡ [] → rule_faults ns names g r ≡ []
 none_in_rule ns names g r a b c d e =
-    append-none (declared_faults names r.name) _ a (append-none (from_faults ns r) _ b (append-none (to_faults ns r) _ c (append-none (when_faults ns g r) (updates_faults ns [] r.updates) d e)))
+    empty_both (declared_faults names r.name) _ a (empty_both (from_faults ns r) _ b (empty_both (to_faults ns r) _ c (empty_both (when_faults ns g r) (updates_faults ns [] r.updates) d e)))
 
 -- ---- a rule without faults
 

@@ -101,13 +101,6 @@ each-once plain stated Same o (a ∷ firsts) (b ∷ seconds) x y e h =
     let others = each-once plain stated Same o firsts seconds x y (tails (plain a) (plain b) (map plain firsts) (map plain seconds) e) first.1 in
     ((first.0, others.0), others.1)
 
--- items that are equal, pair by pair, make equal lists
-pub pairwise-equal : {A : Type 0} (firsts seconds : List A) → Pairwise (λ a b. a ≡ b) firsts seconds → firsts ≡ seconds
-pairwise-equal [] [] h = refl
-pairwise-equal [] (b ∷ seconds) h = absurd h
-pairwise-equal (a ∷ firsts) [] h = absurd h
-pairwise-equal (a ∷ firsts) (b ∷ seconds) h = ap (λ z. z ∷ firsts) h.0 ∙ ap (λ zs. b ∷ zs) (pairwise-equal firsts seconds h.1)
-
 -- what is stated of a list whose items state the same
 pub further-stated : {A : Type 0} (stated : A → List Offsets) (Same : A → A → Type 0) → ((a b : A) → Same a b → stated a ≡ stated b) → (firsts seconds : List A) → Pairwise Same firsts seconds → further unplaced stated firsts ≡ further unplaced stated seconds
 further-stated stated Same s [] [] h = refl

@@ -1,6 +1,6 @@
 -- What an automaton's type keeps, of the parts that a tree resolves to
+use Rattle.ta_base.proofs.Pairwise.{paired_length}
 use Rattle.ta_meaning.proofs.Common.{ℕ, ◌+◌, ◌≤◌, ◌<◌, ◌≡◌, true, false, ◌||◌, if◌then◌else◌, List, [], ◌∷◌, length, map, arith, length-map, PlainLocation, plain_location, TreeLocation, Rises, initial_from, plain_sum, plain_comparison, plain_rule, Tree, Form, Row, Condition, Rule, AutomatonShape, names_of, location_name, ResolvedForm, ResolvedCondition, ResolvedRules, any_initial, names_faults, rises-wider}
-use Rattle.ta_meaning.proofs.MadeForms.{paired_length}
 use Rattle.ta_meaning.proofs.Declared.{name-legal, names-legal, names-distinct, some_initial}
 
 -- the numbers of the marked locations rise

@@ -1,9 +1,10 @@
 -- The faults of rules, events, patterns and of a whole tree rise within their tokens.
-use Rattle.ta_meaning.proofs.Common.{ℕ, ◌≡◌, List, [], ◌∷◌, ◌++◌, length, map, refl, sym, append_assoc, listed, led, ended, each, plain_comparison, Offsets, unplaced, at_first, sum_stated, name_stated, initial_stated, location_stated, comparison_stated, update_stated, rule_stated, event_stated, pattern_stated, tree_stated, Spelled, TreeComparison, TreeLocation, TreeUpdate, TreeRule, TreeEvent, TreePattern, Tree, FileFault, has_name, Linear, comparison_rows, Names, guard_names, all_names, names_of, Guards, no_guards, is_no_threshold, is_one_more, Scope, where_, else_, is_long, declared_faults, declarations_faults, used_faults, listed_faults, digits_faults, comparison_faults, condition_faults, guard_faults, guards_faults, guards_with, in_parameters, in_guards, in_conditions, updates_faults, rule_faults, rules_faults, event_faults, events_faults, pattern_faults, patterns_faults, location_spelled, any_initial, processes_faults, meaning_faults, guards_then, not}
+use Rattle.ta_meaning.proofs.Common.{ℕ, List, [], ◌∷◌, ◌++◌, length, map, refl, sym, append_assoc, listed, led, ended, each, plain_comparison, Offsets, unplaced, at_first, sum_stated, name_stated, initial_stated, location_stated, comparison_stated, update_stated, rule_stated, event_stated, pattern_stated, tree_stated, Spelled, TreeComparison, TreeLocation, TreeUpdate, TreeRule, TreeEvent, TreePattern, Tree, FileFault, has_name, Linear, comparison_rows, Names, guard_names, all_names, names_of, Guards, no_guards, is_no_threshold, is_one_more, Scope, where_, else_, is_long, declared_faults, declarations_faults, used_faults, listed_faults, digits_faults, comparison_faults, condition_faults, guard_faults, guards_faults, guards_with, in_parameters, in_guards, in_conditions, updates_faults, rule_faults, rules_faults, event_faults, events_faults, pattern_faults, patterns_faults, location_spelled, any_initial, processes_faults, meaning_faults, guards_then, not}
 use Rattle.ta_syntax.specs.declared.tokens.Mark.TheVariants as mark
 use Rattle.ta_syntax.specs.declared.fault.FileFault.TheVariants as fault
 use Rattle.ta_meaning.proofs.InOrder.{InOrder, inside-name, one, either, along, together, after_token, before_tokens, Items, listed-in_order, led-in_order, ended-in_order, each-in_order}
 use Rattle.ta_meaning.proofs.SumsInOrder.{token, declared-in_order, used-in_order, once-in_order, digits-in_order, whole_sum-in_order, inside-comparison, comparison-in_order, condition-items}
+use Rattle.ta_base.proofs.Lists.{five_parts}
 
 -- ---- lists of names
 names-items : (before : List (List ℕ)) (ns : List Spelled) → Items name_stated ns (declarations_faults before ns)
@@ -205,14 +206,10 @@ from_name ns t =
     (together (token t.name.at) ([] ∷ [] ∷ stated) long later (one (token t.name.at) (is_long t.name) (fault.TooLarge t.name.at) tt (inside-name t.name.at))
     (after_token [] ([] ∷ stated) later (after_token [] stated later (declared-then [] t.parameters (stated_from_shared t) (faults_from_shared ns t) (from_shared ns t)))))
 
--- five lists one after another and the rest, however they are grouped
-regroup : (a b c d e rest : List FileFault) → a ++ (b ++ (c ++ (d ++ (e ++ rest)))) ≡ (a ++ (b ++ (c ++ (d ++ e)))) ++ rest
-regroup a b c d e rest = simp append_assoc
-
 -- the faults of a tree rise within its tokens
 pub tree-in_order : (t : Tree) → InOrder (tree_stated t) (meaning_faults t)
 tree-in_order t =
     let ns : Names = names_of t in
     along (tree_stated t) (tree_stated t) (faults_from_name ns t) (meaning_faults t) refl
-    (regroup (where_ (is_long t.name) (fault.TooLarge t.name.at)) (declarations_faults [] t.parameters) (declarations_faults ns.parameters t.shared) (where_ (not (any_initial t.locations)) (fault.NoInitial t.locations_at)) (declarations_faults (guard_names ns) (map location_spelled t.locations)) (faults_from_processes ns t))
+    (five_parts (where_ (is_long t.name) (fault.TooLarge t.name.at)) (declarations_faults [] t.parameters) (declarations_faults ns.parameters t.shared) (where_ (not (any_initial t.locations)) (fault.NoInitial t.locations_at)) (declarations_faults (guard_names ns) (map location_spelled t.locations)) (faults_from_processes ns t))
     (from_name ns t)

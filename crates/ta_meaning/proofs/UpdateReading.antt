@@ -1,7 +1,8 @@
 -- the updates of a rule, read one after another
 use Rattle.ta_meaning.proofs.Common.{◌≡◌, inl, inr, ℕ, ℤ, pos, ◌+◌, ◌<◌, ◌≤◌, List, [], ◌∷◌, ◌++◌, map, length, get_or, eqb, cond, ltb, slice_get, Some, Contains, arith, sym, ap, ◌∙◌, refl, subst, ints, append-nil, map_push, length-map, Contains-append_left, Contains-append_right, slice_get_within, get_or_from_slice_get, ltb-false, eqb_tells, AllByRecursion, distinct_push, each_at, each_push, each_weaker, contains_at, PlainUpdate, plain_update, TreeUpdate, FileFault, Distinct, Update, variable_of, Names, number_of, FirstOrMemory, digits_faults, updates_faults, MeansUpdates, names_at, variable_faults, IsNewVariable, UpdatesRead, append_assoc, length-append}
 use Rattle.ta_syntax.specs.declared.fault.FileFault.TheVariants as fault
-use Rattle.ta_meaning.proofs.Answering.{append-left-none, append-left-first, append-right-first, not-where}
+use Rattle.ta_meaning.proofs.Answering.{append-left-first, append-right-first, not-where}
+use Rattle.ta_base.proofs.Lists.{empty_before}
 
 -- the updates so far are read, and the faults of all are those of the updates left
 pub record UpdatesReading (ns : Names) (all left : List TreeUpdate) (seen : List ℕ) (updates : List (ℕ × ℤ)) : Type 0 where
@@ -65,8 +66,8 @@ updates_more ns all left u seen updates after x amount reading none new small is
     let last_seen : Contains (seen ++ x ∷ []) x = Contains-append_right seen (x ∷ []) x (0, omega arith, refl) in
     record {
       faults = reading.faults
-          ∙ append-left-none (variable_faults ns before u.name) (digits_faults u.amount ++ updates_faults ns (before ++ u.name.name ∷ []) left) none
-          ∙ append-left-none (digits_faults u.amount) (updates_faults ns (before ++ u.name.name ∷ []) left) small
+          ∙ empty_before (variable_faults ns before u.name) (digits_faults u.amount ++ updates_faults ns (before ++ u.name.name ∷ []) left) none
+          ∙ empty_before (digits_faults u.amount) (updates_faults ns (before ++ u.name.name ∷ []) left) small
           ∙ ap (λ (b : List (List ℕ)). updates_faults ns b left) (sym names);
       known = each_push (λ y. y < length shared) seen x reading.known within;
       means = means_more shared (map plain_update left) (plain_update u) x amount updates after (map plain_update all) new.named (contains_at shared x u.name.name new.named) is grown reading.means;

@@ -2,8 +2,9 @@
 use Rattle.ta_meaning.proofs.Common.{ℕ, ◌+◌, ◌≡◌, List, [], take, map, length, length-append, Result, refl, sym, ap, subst, ◌∙◌, Vec, Form, Row, plain_sum, plain_comparison, plain_location, plain_rule, plain_pattern, plain_tree, Tree, FileFault, Condition, Pattern, Rule, Places, Automaton, PatternsShape, MeansAutomaton, initial_from, Names, guard_names, all_names, names_of, linear_sum, is_large_linear, no_guards, where_, else_, sum_faults, condition_faults, processes_faults, in_parameters, rules_faults, patterns_faults, names_faults, meaning_faults, Scope, FirstOrMemory, Answers, kinds_of, first_places, ResolvedForm, ResolvedCondition, ResolvedRules, ResolvedPatterns}
 use Rattle.ta_syntax.specs.declared.fault.FileFault.TheVariants as fault
 use Rattle.ta_meaning.specs.declared.rules.Rules.{Rules}
-use Rattle.ta_meaning.proofs.Answering.{append-left-first, append-right-first, append-none}
+use Rattle.ta_meaning.proofs.Answering.{append-left-first, append-right-first}
 use Rattle.ta_meaning.proofs.PlaceNames.{in_parameters_are}
+use Rattle.ta_base.proofs.Lists.{empty_both}
 
 -- the faults of the sum of `processes` where parameters alone may stand
 abbrev pub processes_in : Scope → Tree → List FileFault
@@ -63,7 +64,7 @@ at-patterns t e clean rules h =
 
 pub all-clean : (t : Tree) → HeadClean t → rules_faults (names_of t) [] no_guards t.rules ≡ [] → patterns_faults (names_of t) [] t.patterns ≡ [] → meaning_faults t ≡ []
 all-clean t clean rules patterns =
-    append-none (names_faults (names_of t) t) _ clean.names (append-none (processes_faults (names_of t) t) _ clean.processes (append-none (condition_faults (in_parameters (names_of t)) t.resilience) _ clean.resilience (append-none (rules_faults (names_of t) [] no_guards t.rules) _ rules patterns)))
+    empty_both (names_faults (names_of t) t) _ clean.names (empty_both (processes_faults (names_of t) t) _ clean.processes (empty_both (condition_faults (in_parameters (names_of t)) t.resilience) _ clean.resilience (empty_both (rules_faults (names_of t) [] no_guards t.rules) _ rules patterns)))
 
 -- ---- the tree's file
 

@@ -11,6 +11,7 @@ use Rattle.ta_syntax.specs.declared.tokens.Relation.TheVariants as relation
 use Rattle.ta_automaton.specs.declared.condition.Comparison.{Comparison}
 use Rattle.ta_automaton.specs.declared.condition.Condition.{Condition}
 use Rattle.ta_meaning.specs.Sums.{sum_coefficient, sum_constant, sum_uses}
+use Rattle.ta_base.specs.Lists.{Pairwise}
 
 -- a constant, and what stands before each of some names, in their order
 pub record Linear : Type 0 where
@@ -54,13 +55,6 @@ pub record FormOf (linear : Linear) (form : Form) : Type 0 where
 
 abbrev pub RowOf : Linear → Row → Type 0
 RowOf linear row = FormOf linear row.form
-
--- one item for each, in order, with a relation between them
-abbrev pub Pairwise : {A B : Type 0} → (A → B → Type 0) → List A → List B → Type 0
-Pairwise R [] [] = Unit {0}
-Pairwise R (a ∷ more) (b ∷ others) = R a b × Pairwise R more others
-Pairwise R [] (b ∷ others) = ⊥
-Pairwise R (a ∷ more) [] = ⊥
 
 -- each name that a comparison uses is among names
 pub record UsesNames (names : List (List ℕ)) (c : PlainComparison) : Type 0 where

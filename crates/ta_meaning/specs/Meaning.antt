@@ -1,4 +1,5 @@
 -- What an automaton file means: places in place of names, normal rows in place of comparisons (this project's profile)
+use Rattle.ta_base.specs.Lists.{Pairwise}
 use Rattle.std.specs.Prelude.{ℕ, ℤ, pos, ◌+◌, ◌≡◌, ◌≢◌, ◌↔◌, ◌⊎◌, List, [], ◌∷◌, ◌++◌, length, map, slice_get, Contains, Some, IsBitSet, if◌then◌else◌}
 use Rattle.std.specs.List.{AllByRecursion}
 use Rattle.ta_syntax.specs.Grammar.{PlainLocation, PlainUpdate, PlainRule, PlainEvent, PlainPattern, PlainTree}
@@ -12,7 +13,7 @@ use Rattle.ta_automaton.specs.declared.automaton.Automaton.{Automaton}
 use Rattle.ta_automaton.specs.declared.file.File.{File}
 use Rattle.ta_meaning.specs.Sums.{number_of}
 use Rattle.ta_meaning.specs.Names.{Names, guard_names, all_names, location_name, plain_names}
-use Rattle.ta_meaning.specs.Linear.{Pairwise, RowOf, MeansForm, UsesNames, MeansCondition}
+use Rattle.ta_meaning.specs.Linear.{RowOf, MeansForm, UsesNames, MeansCondition}
 use Rattle.ta_meaning.specs.Guards.{Guards, no_guards, guards_after, rows_of, NamesGuards}
 
 -- the guards of rules, in the order of the text

@@ -1,10 +1,11 @@
 //! Sums and conditions over the first places of a file.
 #![tactic(auto)]
 
+ghost use Rattle.ta_base.specs.Lists.{Pairwise};
 ghost use Rattle.std.specs.Prelude.{◌≡◌, ◌≤◌, ◌^◌, length, take, map, MatchResult};
 ghost use Rattle.ta_syntax.specs.PlainSums.{plain_sum};
 ghost use Rattle.ta_syntax.specs.PlainTrees.{plain_comparison};
-ghost use Rattle.ta_meaning.specs.Linear.{Pairwise, linear_sum, is_large_linear};
+ghost use Rattle.ta_meaning.specs.Linear.{linear_sum, is_large_linear};
 ghost use Rattle.ta_meaning.specs.Faults.{Judges, Answers, else_, where_, sum_faults, comparison_faults, condition_faults};
 ghost use Rattle.ta_meaning.specs.Inside.Resolved.{first_places, ResolvedForm, ResolvedComparison, ResolvedCondition};
 ghost use Rattle.ta_meaning.specs.SumParts.{FormWithin};

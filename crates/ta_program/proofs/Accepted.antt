@@ -2,10 +2,11 @@
 use Rattle.ta_program.proofs.Common.{◌≡◌, ◌∙◌, ◌≤◌, ℕ, List, [], length, Option, None, Some, refl, sym, ap, subst, inl, File, Pattern, AllSafe, Certificate, check_text, Verdict, Safe, Unsafe, Spent, Overflow, Told, WhereTold, is_more, sub_told, IsSo, Performs, State, HoldsText, in_files, seen, Answer, FileMeans, claiming, CERTIFICATE, safe_numbers, tree_size, check_meaning, IsFile, certificate_kind, file_kind, SaysOrFails, WrittenIsAccepted, VerdictHolds, held}
 use Rattle.ta_automaton.specs.Runs as runs
 use Rattle.ta_claim.specs.declared.claim.Claim.TheVariants as claim
-use Rattle.ta_program.proofs.Accepting.{is_kept, one_list, ones_hold, own_numbers, says_or_fails}
+use Rattle.ta_program.proofs.Accepting.{is_kept, one_list, ones_hold, says_or_fails}
 use Rattle.ta_program.proofs.Clauses.{as_check, certificate_written, same_file}
 use Rattle.ta_program.proofs.Meanings.{check_decides}
 use Rattle.ta_program.proofs.WordsDiffer.{out_differs}
+use Rattle.ta_base.proofs.Lists.{get_from_none}
 
 -- the patterns that are said to be safe are
 size_safe : (file : File) (budget number : ℕ) (p : Pattern) (v : Verdict) (nodes : ℕ) → tree_size v ≡ Some nodes → VerdictHolds file budget number p v → runs.Safe file.automaton p
@@ -49,7 +50,7 @@ written_is_accepted words first before after h asked out is given low told after
     let read = written.added in
     let is_first : IsFile (in_files files.0) name r.file = is_more file_kind (seen (Some files.0) read) (in_files files.0) (sub_told files.0 read) name r.file (subst (λ (o : Option Told). IsFile (seen o read) name r.file) files.1 r.is_file) in
     let is_now = is_kept file_kind files.0 told name r.file (files.2.others name (out_differs words asked out is given)) is_first in
-    let safe = ones_hold (claiming claim.Safe r.file) 0 r.file.patterns r.verdicts (λ k p v nodes named given size. size_safe r.file budget k p v nodes size (held (VerdictHolds r.file budget) r.file.patterns r.verdicts r.are.hold k p v named given)) (own_numbers r.file.patterns) in
+    let safe = ones_hold (claiming claim.Safe r.file) 0 r.file.patterns r.verdicts (λ k p v nodes named given size. size_safe r.file budget k p v nodes size (held (VerdictHolds r.file budget) r.file.patterns r.verdicts r.are.hold k p v named given)) (get_from_none r.file.patterns) in
     record {
       file = r.file;
       is_file = is_now;

@@ -4,11 +4,12 @@ use Rattle.ta_rest_verdict.proofs.VerdictsTold.{ending_of_own}
 use Rattle.ta_claim.specs.declared.claim.Claim.TheVariants as claim
 use Rattle.ta_rest.proofs.EndingLaws.{endings_rest}
 use Rattle.ta_program.proofs.Accepted.{told_before}
-use Rattle.ta_program.proofs.Accepting.{is_kept, one_list, ones_hold, own_numbers, says_or_fails}
+use Rattle.ta_program.proofs.Accepting.{is_kept, one_list, ones_hold, says_or_fails}
 use Rattle.ta_program.proofs.Clauses.{as_rest_check, rests_report, same_file}
 use Rattle.ta_program.proofs.EndsOnce.{ends_once}
 use Rattle.ta_program.proofs.RestMeanings.{rest_check_decides}
 use Rattle.ta_program.proofs.WordsDiffer.{rest_out_differs}
+use Rattle.ta_base.proofs.Lists.{get_from_none}
 
 -- the endings of the patterns that are said to be safe at rest are safe at rest
 module _ (file ending : File) (added budget : ℕ) (same : ending.automaton ≡ file.automaton) where
@@ -68,7 +69,7 @@ written_at_rest_is_accepted words first before after h asked out is given low to
     let read = written.added in
     let is_first : IsFile (in_files files.0) name r.file = is_more file_kind (seen (Some files.0) read) (in_files files.0) (sub_told files.0 read) name r.file (subst (λ (o : Option Told). IsFile (seen o read) name r.file) files.1 r.is_file) in
     let is_now = is_kept file_kind files.0 told name r.file (files.2.others name (rest_out_differs words asked out is given)) is_first in
-    let safe = ones_hold (claiming claim.RestSafe ending) 0 ending.patterns r.verdicts (safe_at r.file ending r.ends.added asked.nodes endings.automaton r.verdicts endings.patterns r.are.hold) (own_numbers ending.patterns) in
+    let safe = ones_hold (claiming claim.RestSafe ending) 0 ending.patterns r.verdicts (safe_at r.file ending r.ends.added asked.nodes endings.automaton r.verdicts endings.patterns r.are.hold) (get_from_none ending.patterns) in
     let accepted = rest_checks name out told r.file r.ends (safe_numbers ending r.verdicts) c.text is_now r.are_ends files.2.held c.within c.accepted safe second begun ended begun_told (as_rest_check again second begun ended done (record { file = name; other = out }) checked) in
     record {
       file = r.file;

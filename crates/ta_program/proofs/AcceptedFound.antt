@@ -4,10 +4,10 @@ use Rattle.ta_claim.specs.declared.claim.Claim.TheVariants as claim
 use Rattle.ta_search.specs.declared.outcome.Outcome.{Outcome}
 use Rattle.ta_search.specs.Outcomes.{OutcomeHolds}
 use Rattle.ta_program.proofs.Accepted.{checks, told_before}
-use Rattle.ta_program.proofs.Accepting.{each_holds, is_kept, own_numbers}
+use Rattle.ta_program.proofs.Accepting.{each_holds, is_kept}
 use Rattle.ta_program.proofs.Clauses.{as_check, searches}
-use Rattle.ta_program.proofs.SearchMeanings.{no_end}
 use Rattle.ta_program.proofs.WordsDiffer.{names_apart}
+use Rattle.ta_base.proofs.Lists.{no_end, get_from_none}
 
 -- the outcome of the last vector that was tried holds
 last_holds : (t : Template) (budget : ℕ) (vs : List (List ℕ)) (before : List Tried) (x : Tried) (found : Bool) → AreTried t budget vs (before ++ x ∷ []) found → OutcomeHolds (filled_text t x.values) budget x.outcome
@@ -45,7 +45,7 @@ found_is_accepted words before after h asked out filled is out_is filled_is told
     let same : told name ≡ files.0 name = holds.others name (λ given. apart.filled name name refl given refl) (λ given. apart.out name name refl given refl) in
     let held : told filled ≡ Some text = holds.first filled filled_is in
     let is_file : IsFile (in_files told) filled file = record { bytes = text; had = record { seen = held; within = found_within t asked.nodes s.end s.is_end last }; means = last.found.legal } in
-    let safe = each_holds (claiming claim.Safe file) 0 file.patterns last.found.safe (own_numbers file.patterns) in
+    let safe = each_holds (claiming claim.Safe file) 0 file.patterns last.found.safe (get_from_none file.patterns) in
     let short = found.within (subst (λ (o : Option (List ℕ)). IsSome o) (sym out_is) refl) in
     record {
       template = t;

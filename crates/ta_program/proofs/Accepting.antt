@@ -38,10 +38,6 @@ module _ (subject : Subject) where
         each_holds (number + 1) ps each.1 (λ k q named. let there : number + suc k ≡ (number + 1) + k = omega arith in subst (λ (n : ℕ). slice_get subject.file.patterns n ≡ Some q) there (at (suc k) q named)),
       )
 
--- the patterns of a file are those of their own numbers
-pub own_numbers : (ps : List Pattern) (k : ℕ) (p : Pattern) → slice_get ps k ≡ Some p → slice_get ps (0 + k) ≡ Some p
-own_numbers ps k p named = let here : k ≡ 0 + k = omega arith in subst (λ (n : ℕ). slice_get ps n ≡ Some p) here named
-
 numbers_of : (qs : List (ℕ × List Tree)) → map (λ p. p.pattern) (proofs_of qs) ≡ map proof_number qs
 numbers_of [] = refl
 numbers_of (q ∷ qs) = ap (λ (ks : List ℕ). q.0 ∷ ks) (numbers_of qs)

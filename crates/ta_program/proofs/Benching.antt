@@ -1,5 +1,5 @@
 -- what `bench` makes and says
-use Rattle.ta_program.proofs.Common.{◌≡◌, ◌∙◌, ◌<◌, ◌+◌, ◌++◌, List, [], ◌∷◌, ℕ, false, sym, ap, subst, slice_get, Some, Result, Ok, Err, length, take, get_or, IfOk, take_more, File, Pattern, CertFault, Certificate, CheckerFinishAnswers, Accepted, Verdict, joined_more, texts_joined, Writes, Answer, claiming, BUDGET, SaysBench, bench_status, bench_text, family_text, CertificateOf, safe_numbers, AreVerdicts, is_unsafe}
+use Rattle.ta_program.proofs.Common.{◌≡◌, ◌∙◌, ◌<◌, ◌+◌, ◌++◌, List, ◌∷◌, ℕ, false, ap, subst, slice_get, Some, Result, Ok, Err, IfOk, File, Pattern, CertFault, Certificate, CheckerFinishAnswers, Accepted, Verdict, Writes, Answer, claiming, BUDGET, SaysBench, bench_status, bench_text, family_text, CertificateOf, safe_numbers, AreVerdicts, is_unsafe}
 use Rattle.std.specs.declared.alloc.AllocError.{AllocError}
 use Rattle.ta_maker.specs.Family.{family}
 use Rattle.ta_meaning.specs.Reading.{Legal}
@@ -36,10 +36,6 @@ says_bench k file legal vs are text certificate accepted p v named given not_uns
 pub says_ok : (k : ℕ) (file : File) → Legal (family_text k) file → (vs : List Verdict) → AreVerdicts file BUDGET vs → (text : List ℕ) → CertificateOf file BUDGET vs text → Certificate file text (safe_numbers file vs) → (p : Pattern) (v : Verdict) → slice_get file.patterns 0 ≡ Some p → slice_get vs 0 ≡ Some v → is_unsafe v ≡ false → (result : Result Answer AllocError) → IfOk result (Writes (bench_status v) (bench_text k p v)) → IfOk result (SaysBench k)
 says_ok k file legal vs are text certificate accepted p v named given not_unsafe (Ok answer) writes = says_bench k file legal vs are text certificate accepted p v named given not_unsafe answer writes
 says_ok k file legal vs are text certificate accepted p v named given not_unsafe (Err e) writes = tt
-
--- the pieces so far, with one more
-pub one_more_piece : (texts : List (List ℕ)) (k : ℕ) (text : List ℕ) → k < length texts → get_or texts k text ≡ text → texts_joined (take k texts) ++ text ≡ texts_joined (take (k + 1) texts)
-one_more_piece texts k text below is = sym (ap texts_joined (take_more texts k text below ∙ ap (λ (t : List ℕ). take k texts ++ t ∷ []) is) ∙ joined_more (take k texts) text)
 
 -- what ends well is a certificate
 pub ends_well : (file : File) (text : List ℕ) (result : Result Accepted CertFault) → CheckerFinishAnswers (claiming claim.Safe file) text result → IfOk result (λ accepted. Certificate file text accepted.patterns)

@@ -1,12 +1,12 @@
 -- The names that the proofs of this crate cite, passed on from one place. Declares nothing.
-pub use Rattle.std.proofs.Common.{Bool, Err, List, None, Ok, Option, Result, Some, [], ap, append_assoc, arith, cond, drop, false, get_or, inl, inr, length, length-append, ltb-false, ltb-true, map, min, nat_le, nat_lt, not, option_map, refl, rules, slice_get, subst, suc, sym, take, take_all, tests, true, zero, ℕ, ◌&&◌, ◌++◌, ◌+◌, ◌-◌, ◌<◌, ◌^◌, ◌∙◌, ◌∷◌, ◌≡◌, ◌≢◌, ◌≤◌, ◌⊎◌}
+pub use Rattle.std.proofs.Common.{Bool, Err, List, None, Ok, Option, Result, Some, [], ap, append_assoc, arith, cond, drop, false, inl, inr, length, length-append, ltb-false, ltb-true, map, min, nat_le, nat_lt, not, option_map, refl, rules, slice_get, subst, suc, sym, take, take_all, tests, true, zero, ℕ, ◌&&◌, ◌++◌, ◌+◌, ◌-◌, ◌<◌, ◌^◌, ◌∙◌, ◌∷◌, ◌≡◌, ◌≢◌, ◌≤◌, ◌⊎◌}
 pub use Rattle.std.proofs.Math.Seq.{take-append-add}
 pub use Rattle.std.proofs.lemmas.Bool.{and_parts, cases_order, eqb-true, false_from_ne_true, false≢true, or_parts}
 pub use Rattle.std.proofs.lemmas.Iterator.{YieldsList-from_slice}
 pub use Rattle.std.proofs.lemmas.Iterator.Search.{any_from_yields_List}
-pub use Rattle.std.proofs.lemmas.List.{append-nil, length-drop, length-take-le, take-append-drop, take-append-le, take_more}
+pub use Rattle.std.proofs.lemmas.List.{append-nil, length-drop, length-take-le, take-append-drop, take-append-le}
 pub use Rattle.std.proofs.lemmas.Option.{get_or_from_slice_get, option_and_then_some, slice_get_within}
-pub use Rattle.std.specs.List.{AllByRecursion, list_all, list_any, range_with_len}
+pub use Rattle.std.specs.List.{AllByRecursion, list_all, list_any, range_with_len, concat}
 pub use Rattle.std.specs.Prelude.{Contains, IfOk, IsSome, codes, if◌then◌else◌, is_some, option_and_then, ◌==◌}
 pub use Rattle.std.specs.Str.{bytes_eq}
 pub use Rattle.ta_automaton.specs.declared.automaton.Automaton.{Automaton}
@@ -94,13 +94,12 @@ pub use Rattle.ta_shelf.specs.Calls.{Call, Grew, PieceBy, ReadsFirst, Spells}
 pub use Rattle.ta_shelf.specs.Put.{OthersStay, Told, WhereTold}
 pub use Rattle.ta_shelf.specs.Sink.{with_text}
 pub use Rattle.ta_shell.proofs.Clauses.{answered, hindered, kept_refused, never_five}
-pub use Rattle.ta_shell.proofs.Joined.{joined_append, joined_more}
 pub use Rattle.ta_shell.proofs.Read.{after_monotone, decides, finds_memory, finds_monotone, finds_one, finds_then, finds_wrong, grew_fault, grew_found, grew_none, grew_then, is_more, no_hindrance, one_number, replies_monotone, replies_one, settles_monotone}
 pub use Rattle.ta_shell.proofs.Views.{Monotone, sub_told, whole_one}
 pub use Rattle.ta_shell.specs.Commands.{Decides, IsSo, Meaning, Says}
 pub use Rattle.ta_shell.specs.Ends.{IsAnswered, Performs, Quiet, ShelfState, SinkState, State, Tells, state}
 pub use Rattle.ta_shell.specs.Lines.{file_line, longer_than, missing, phrase_text}
-pub use Rattle.ta_shell.specs.Puts.{HoldsPut, HoldsText, KeptBut, PutsWithin, Stand, put_bytes, texts_joined}
+pub use Rattle.ta_shell.specs.Puts.{HoldsPut, HoldsText, KeptBut, PutsWithin, Stand, put_bytes}
 pub use Rattle.ta_shell.specs.Reading.{IsReading, IsUnreadable, ReadCause, SaysOfFile, UnreadBy}
 pub use Rattle.ta_shell.specs.Sights.{Begins, HasMore, View, in_files, seen, where_told}
 pub use Rattle.ta_shell.specs.Stages.{FileIsAtFault, FileMeans, Hinders, IsBroken, Kind, ReadingGoesOn, Stage, Writes, after, finds, replies, settles}

@@ -1,6 +1,5 @@
 mod Prefixes
 mod WordsBudget
-mod Within
 mod Certifying
 mod UnsafePrinted
 mod Meanings

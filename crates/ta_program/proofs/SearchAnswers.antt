@@ -3,7 +3,7 @@ use Rattle.ta_program.proofs.Common.{◌≡◌, ◌∙◌, ◌<◌, ◌≤◌, �
 use Rattle.ta_search.specs.declared.outcome.Outcome.TheVariants.{Safe}
 use Rattle.ta_search.specs.declared.template.Hole.{Hole}
 use Rattle.ta_program.specs.Inside.FoundFiles.{FoundBy}
-use Rattle.ta_program.proofs.SearchMeanings.{one_last}
+use Rattle.ta_base.proofs.Lists.{same_end}
 
 -- the names of these files are among those that may be put
 abbrev NamesIn : List (List ℕ) → List PutText → Type 0
@@ -55,7 +55,7 @@ module _ (asked : SearchWords) (t : Template) (values certificate text : List �
   last = h.ends.last
 
   same : last.last ≡ record { values = values; outcome = Safe certificate }
-  same = one_last last.before h.gives.before last.last _ (sym last.whole ∙ h.gives.whole)
+  same = same_end last.before h.gives.before last.last _ (sym last.whole ∙ h.gives.whole)
 
   same_values : last.last.values ≡ values
   same_values = ap (λ (x : Tried). x.values) same

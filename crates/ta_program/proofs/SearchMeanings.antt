@@ -1,8 +1,9 @@
 -- what `search` says grows with what is seen, and told files leave one number
-use Rattle.ta_program.proofs.Common.{◌≡◌, ◌∙◌, ℕ, List, [], ◌∷◌, ◌++◌, length, Option, None, Some, refl, sym, ap, subst, inl, inr, arith, TemplateFault, SearchEnd, Tried, Template, LastIsFound, SearchesAreDetermined, FirstTemplateFault, no_fault, one_template, Decides, IsSo, View, in_files, Answer, after_monotone, decides, no_hindrance, one_number, settles_monotone, Monotone, PassesWhere, Finds, HindersFound, IsTemplateText, LegalTemplate, end_number, found_meaning, found_names, search_meaning, template_kind, SearchWords}
+use Rattle.ta_program.proofs.Common.{◌≡◌, ◌∙◌, ℕ, List, ◌∷◌, ◌++◌, length, Option, None, Some, refl, sym, ap, subst, inl, inr, arith, TemplateFault, SearchEnd, Tried, Template, LastIsFound, SearchesAreDetermined, FirstTemplateFault, no_fault, one_template, Decides, IsSo, View, in_files, Answer, after_monotone, decides, no_hindrance, one_number, settles_monotone, Monotone, PassesWhere, Finds, HindersFound, IsTemplateText, LegalTemplate, end_number, found_meaning, found_names, search_meaning, template_kind, SearchWords}
 use mathlib.Core.HLevel.{is_prop→PathP}
 use Rattle.ta_search.specs.declared.outcome.Outcome.TheVariants.{Safe}
 use Rattle.ta_search.specs.Holes.{AreHoles, AreHoles-prop, unknown_place, unknown-prop}
+use Rattle.ta_base.proofs.Lists.{same_end}
 
 -- what a template's type keeps besides its data are propositions
 template_equal : (t u : Template) → t.holes ≡ u.holes → t.body ≡ u.body → t ≡ u
@@ -20,21 +21,10 @@ one_text bytes t u is are = let same = one_template t u (is ∙ sym are) in temp
 pub template_fits : (bytes : List ℕ) (t : Template) (e : TemplateFault) → IsTemplateText bytes t → FirstTemplateFault bytes e → ⊥
 template_fits bytes t e is fault = no_fault t e (subst (λ (b : List ℕ). FirstTemplateFault b e) (sym is) fault)
 
--- a list has one last item
-pub no_end : (ys : List Tried) (y : Tried) → [] ≡ ys ++ y ∷ [] → ⊥
-no_end [] y e = absurd (cc)
-no_end (b ∷ ys) y e = absurd (cc)
-
-pub one_last : (xs ys : List Tried) (x y : Tried) → xs ++ x ∷ [] ≡ ys ++ y ∷ [] → x ≡ y
-one_last [] [] x y e = cc
-one_last [] (b ∷ ys) x y e = absurd (no_end ys y (cc))
-one_last (a ∷ xs) [] x y e = absurd (no_end xs x (cc))
-one_last (a ∷ xs) (b ∷ ys) x y e = one_last xs ys x y (cc)
-
 -- what was found has one certificate
 pub certificates_same : (t : Template) (a b : SearchEnd) → a ≡ b → (f : LastIsFound t a) (g : LastIsFound t b) → f.certificate ≡ g.certificate
 certificates_same t a b same f g =
-    let last = one_last f.before g.before f.last g.last (sym f.whole ∙ ap (λ (end : SearchEnd). end.tried) same ∙ g.whole) in
+    let last = same_end f.before g.before f.last g.last (sym f.whole ∙ ap (λ (end : SearchEnd). end.tried) same ∙ g.whole) in
     let said : Safe f.certificate ≡ Safe g.certificate = sym f.said ∙ ap (λ (x : Tried). x.outcome) last ∙ g.said in
     cc
 

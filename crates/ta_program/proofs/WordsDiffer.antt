@@ -2,6 +2,7 @@
 use Rattle.ta_program.proofs.Common.{◌≡◌, ◌≢◌, ◌∙◌, ℕ, Bool, true, false, ◌&&◌, not, List, [], ◌∷◌, length, Option, None, Some, refl, sym, subst, rules, option_and_then_some, option_and_then, if◌then◌else◌, bytes_eq, rest_form, rest_of, rest_taken, rest_words, SearchWords, search_form, search_of, search_taken, search_words, are_same, budget_of, filled_of, file_name_of, out_of, VerifyWords, verify_form, verify_of, verify_taken, verify_words, Taken, behind_name, plain_of, taken_by, option_value, codes, is_some, nat_lt, option_map}
 use Rattle.std.proofs.lemmas.Option.{cond_some, none-some}
 use Rattle.ta_base.proofs.Booleans.{not_chosen}
+use Rattle.ta_base.proofs.Options.{some_where}
 
 -- two names that are both given differ
 abbrev pub Apart : Option (List ℕ) → Option (List ℕ) → Type 0
@@ -21,13 +22,9 @@ file_apart file None result is = λ name other first second. absurd (cc)
 file_apart file (Some given) result is = by_test (nat_lt 0 (length given)) (not (bytes_eq given file)) file given (λ differs same. search rules) result is
 
 -- what the words of a command say of what they ask for, where they are behind its name
-by_name : {W : Type 0} (Such : W → Type 0) (read : List (List ℕ) → Option W) → ((words : List (List ℕ)) (asked : W) → read words ≡ Some asked → Such asked) → (named : Bool) (words : List (List ℕ)) (asked : W) → (if named then read words else None) ≡ Some asked → Such asked
-by_name Such read such true words asked is = such words asked is
-by_name Such read such false words asked is = absurd (cc)
-
 behind : {W : Type 0} (Such : W → Type 0) (name : List ℕ) (read : List (List ℕ) → Option W) → ((words : List (List ℕ)) (asked : W) → read words ≡ Some asked → Such asked) → (words : List (List ℕ)) (asked : W) → behind_name name read words ≡ Some asked → Such asked
 behind Such name read such [] asked is = absurd (cc)
-behind Such name read such (word ∷ words) asked is = by_name Such read such (bytes_eq word name) words asked is
+behind Such name read such (word ∷ words) asked is = such words asked (some_where (bytes_eq word name) (read words) asked is).1
 
 -- ---- OUT of `verify` and of `rest`
 abbrev Differs : VerifyWords → Type 0

@@ -1,13 +1,13 @@
 //! The command `bench`.
 #![tactic(auto)]
 
+ghost use Rattle.std.specs.List.{concat};
 ghost use Rattle.std.specs.Prelude.{◌≡◌, [], IfOk, length, map, option_map, Option, slice_get, Some, string_bytes};
 ghost use Rattle.ta_check.specs.Certificate.{Certificate};
 ghost use Rattle.ta_maker.specs.Made.{IsFamilyNumber};
 ghost use Rattle.ta_meaning.specs.Reading.{Legal};
 ghost use Rattle.ta_shelf.specs.Put.{Told};
 ghost use Rattle.ta_shell.specs.Commands.{Says};
-ghost use Rattle.ta_shell.specs.Puts.{texts_joined};
 ghost use Rattle.ta_shell.specs.Reading.{ReadCause};
 ghost use Rattle.ta_shell.specs.Stages.{Writes};
 ghost use Rattle.ta_program.specs.Bench.{SaysBench, bench_meaning, bench_status, bench_text, bench_words, family_number, family_text};
@@ -136,7 +136,7 @@ fn read_family(alloc: Global, k: u32) -> Result<ScopedFile, AllocError>
 
 /// Judges a certificate that comes in pieces.
 fn accept(alloc: Global, scoped: &ScopedFile, pieces: &[Text]) -> Result<Accepted, CertFault>
-    ensures { IfOk result (λ accepted. Certificate scoped.now.file (texts_joined pieces.now) accepted.patterns) }
+    ensures { IfOk result (λ accepted. Certificate scoped.now.file (concat pieces.now) accepted.patterns) }
 {
     let mut checker = Checker::new(alloc, scoped);
     for piece in pieces {

@@ -1,8 +1,8 @@
 //! The certificate of `verify`.
 #![tactic(auto)]
 
+ghost use Rattle.std.specs.List.{concat};
 ghost use Rattle.std.specs.Prelude.{◌≡◌, ◌≤◌, ◌↔◌, IfOk, IsTrue, length};
-ghost use Rattle.ta_shell.specs.Puts.{texts_joined};
 ghost use Rattle.ta_shell.specs.Reading.{ReadCause};
 ghost use Rattle.ta_program.specs.Inside.Certifying.{Certifies, SaysLong};
 
@@ -20,7 +20,7 @@ pub(crate) fn answer_certified<'a>(
     name: &'a str,
     pieces: List<Text>,
 ) -> Result<Answer, Refusal<'a>>
-    ensures certified { Certifies number report name.now (texts_joined pieces) result }
+    ensures certified { Certifies number report name.now (concat pieces) result }
     ensures cause { ReadCause result 0 0 }
 {
     if !are_within(pieces.as_slice(), CERTIFICATE.bytes) {
@@ -63,7 +63,7 @@ pub(crate) fn put_of(alloc: Global, name: &str, content: Content) -> Result<Put,
 
 /// Whether texts have together at most so many bytes.
 pub(crate) fn are_within(texts: &[Text], limit: u64) -> bool
-    ensures { IsTrue result ↔ length (texts_joined texts.now) ≤ limit }
+    ensures { IsTrue result ↔ length (concat texts.now) ≤ limit }
 {
     let mut left = limit;
     for text in texts {

@@ -1,6 +1,7 @@
 //! The command `search`.
 #![tactic(auto)]
 
+ghost use Rattle.std.specs.List.{concat};
 ghost use Rattle.std.specs.Prelude.{◌≡◌, ◌≢◌, ◌≤◌, ◌<◌, ◌++◌, [], decimal, IfErr, IfOk, IfSome, IsSome, length, map, MatchOption, OnOk, Option, option_map, Some};
 ghost use Rattle.ta_search.specs.declared.fault.TemplateFault.TheVariants as fault;
 ghost use Rattle.ta_search.specs.Filling.{filled_text};
@@ -9,7 +10,7 @@ ghost use Rattle.ta_shelf.specs.Calls.{Grew};
 ghost use Rattle.ta_shelf.specs.Put.{Told};
 ghost use Rattle.ta_shell.specs.Commands.{Says};
 ghost use Rattle.ta_shell.specs.Lines.{phrase_text};
-ghost use Rattle.ta_shell.specs.Puts.{content_bytes, texts_joined};
+ghost use Rattle.ta_shell.specs.Puts.{content_bytes};
 ghost use Rattle.ta_shell.specs.Reading.{ReadCause};
 ghost use Rattle.ta_shell.specs.Stages.{Stage};
 ghost use Rattle.ta_program.specs.declared.limits.TheConstants.{CERTIFICATE as CERTIFICATE_LIMIT};
@@ -258,7 +259,7 @@ struct Last {
 
 /// What was found: the last that was tried.
 fn last_of(end: SearchEnd) -> Option<Last>
-    ensures { IfSome result (λ last. LastGives end last.values (texts_joined last.pieces)) }
+    ensures { IfSome result (λ last. LastGives end last.values (concat last.pieces)) }
 {
     let mut tried = end.tried.into_vec();
     let Some(last) = tried.pop() else {
@@ -283,7 +284,7 @@ fn put_last<'a>(
     text: Text,
     asked: &Search<'a>,
 ) -> Result<Answer, Refusal<'a>>
-    requires { FoundBy template.now asked.now.budget.nodes last.values (texts_joined last.pieces) text }
+    requires { FoundBy template.now asked.now.budget.nodes last.values (concat last.pieces) text }
     ensures says { (files : Option Told) → Says (found_meaning (search_seen asked.now) template.now) files result [] }
     ensures cause { ReadCause result 0 0 }
 {
@@ -302,8 +303,8 @@ fn put_short<'a>(
     text: Text,
     asked: &Search<'a>,
 ) -> Result<Answer, Refusal<'a>>
-    requires found { FoundBy template.now asked.now.budget.nodes last.values (texts_joined last.pieces) text }
-    requires within { IsSome (search_seen asked.now).out → length (texts_joined last.pieces) ≤ CERTIFICATE_LIMIT.bytes }
+    requires found { FoundBy template.now asked.now.budget.nodes last.values (concat last.pieces) text }
+    requires within { IsSome (search_seen asked.now).out → length (concat last.pieces) ≤ CERTIFICATE_LIMIT.bytes }
     ensures says { (files : Option Told) → Says (found_meaning (search_seen asked.now) template.now) files result [] }
     ensures cause { ReadCause result 0 0 }
 {
@@ -319,7 +320,7 @@ fn put_short<'a>(
 
 /// The name under which a certificate is asked for that is longer than one may be.
 fn long_name<'a>(pieces: &[Text], out: Option<&'a str>) -> Option<&'a str>
-    ensures { MatchOption result (IsSome (option_map (λ w. w.now) out.entry) → length (texts_joined pieces.now) ≤ CERTIFICATE_LIMIT.bytes) (λ name. (option_map (λ w. w.now) out.entry ≡ Some name.now) × (CERTIFICATE_LIMIT.bytes < length (texts_joined pieces.now))) }
+    ensures { MatchOption result (IsSome (option_map (λ w. w.now) out.entry) → length (concat pieces.now) ≤ CERTIFICATE_LIMIT.bytes) (λ name. (option_map (λ w. w.now) out.entry ≡ Some name.now) × (CERTIFICATE_LIMIT.bytes < length (concat pieces.now))) }
 {
     let Some(name) = out else {
         return None;
@@ -340,7 +341,7 @@ fn found_puts<'a>(
     asked: &Search<'a>,
 ) -> Result<Vec<Put>, AllocError>
     requires { length last.values ≡ length template.now.holes }
-    ensures { IfOk result (λ puts. map put_text puts.items ≡ found_files (search_seen asked.now).filled (search_seen asked.now).out (filled_text template.now last.values) (texts_joined last.pieces)) }
+    ensures { IfOk result (λ puts. map put_text puts.items ≡ found_files (search_seen asked.now).filled (search_seen asked.now).out (filled_text template.now last.values) (concat last.pieces)) }
 {
     let Last { values, pieces } = last;
     let bytes = fill(alloc, template, values.as_slice())?;

@@ -1,10 +1,11 @@
 -- the lines of pieces: how many steps they have, and where their marks stand
-use Rattle.ta_replay.proofs.Common.{◌≡◌, inl, inr, ℕ, zero, suc, ◌+◌, ◌*◌, ◌<◌, ◌≤◌, ℤ, List, [], ◌∷◌, ◌++◌, map, length, take, replicate, unsigned_abs, Option, Some, None, slice_get, arith, refl, sym, ap, ◌∙◌, subst, length-append, append_assoc, append-nil, cases_lt, cases_order, slice_get_within, get_parts, Automaton, HappensAt, RunLine, Step, Mark, unit_steps, steps_before, MarksAt, Piece, OncePerRule, PiecesAreShort, PiecesShow, step_line, last_lines, piece_lines, pieces_lines, pieces_marks, steps_count, steps_until, rule_of, length-map}
+use Rattle.ta_replay.proofs.Common.{◌≡◌, inl, inr, ℕ, zero, suc, ◌+◌, ◌<◌, ◌≤◌, ℤ, List, [], ◌∷◌, ◌++◌, map, length, take, replicate, unsigned_abs, Option, Some, None, slice_get, arith, refl, sym, ap, ◌∙◌, subst, length-append, append_assoc, append-nil, cases_lt, cases_order, slice_get_within, get_parts, Automaton, HappensAt, RunLine, Step, Mark, unit_steps, steps_before, MarksAt, Piece, OncePerRule, PiecesAreShort, PiecesShow, step_line, last_lines, piece_lines, pieces_lines, pieces_marks, steps_count, steps_until, rule_of, length-map}
 use Rattle.ta_base.proofs.Members.{place_of}
 use Rattle.ta_base.proofs.Each.{distinct_length, each_map_of}
 use Rattle.ta_base.proofs.Times.{distinct-times, once_at, times-in}
 use Rattle.ta_base.specs.Masks.{In}
 use Rattle.ta_replay.proofs.Lines.{unit_steps-append}
+use Rattle.ta_base.proofs.Naturals.{product_next}
 
 steps_count-append : (xs ys : List RunLine) → steps_count (xs ++ ys) ≡ steps_count xs + steps_count ys
 steps_count-append [] ys = omega arith
@@ -32,9 +33,7 @@ piece_count a piece h =
 
 pub are_short : PiecesAreShort
 are_short a [] h = omega arith
-are_short a (piece ∷ pieces) h = short (length a.rules + 1) (length pieces) (steps_count (pieces_lines (piece ∷ pieces))) (steps_count (piece_lines piece)) (steps_count (pieces_lines pieces)) (steps_count-append (piece_lines piece) (pieces_lines pieces)) (piece_count a piece h.0) (are_short a pieces h.1) where
-  short : (m n all first rest : ℕ) → all ≡ first + rest → first ≤ m → rest ≤ n * m → all ≤ suc n * m
-  short m n all first rest e f g = let next : suc n * m ≡ m + n * m = omega arith in omega arith
+are_short a (piece ∷ pieces) h = product_next (length a.rules + 1) (length pieces) (steps_count (pieces_lines (piece ∷ pieces))) (steps_count (piece_lines piece)) (steps_count (pieces_lines pieces)) (steps_count-append (piece_lines piece) (pieces_lines pieces)) (piece_count a piece h.0) (are_short a pieces h.1)
 
 -- the events that lines mark, in order
 marked : List RunLine → List ℕ

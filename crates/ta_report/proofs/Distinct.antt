@@ -3,6 +3,7 @@ use Rattle.ta_report.proofs.Common.{ℕ, ℤ, ◌<◌, ◌^◌, ◌≡◌, List,
 use Rattle.ta_replay.specs.declared.run.Run.{Run as RunOf}
 use Rattle.ta_replay.proofs.Decimals.{number_same as value_once}
 use Rattle.ta_report.specs.declared.verdict.ReportSample.TheVariants as sample
+use Rattle.ta_base.proofs.Lists.{behind_three}
 
 -- the place in front of a line's end is determined
 pub place_same : (j k : ReportKind) (r s : List ℕ) → PlaceFits j → PlaceFits k → place_text j ++ (10 ∷ r) ≡ place_text k ++ (10 ∷ s) → (j ≡ k) × (r ≡ s)
@@ -45,13 +46,6 @@ value_same low y z r s below is are e =
     let parts = first_byte low (signed_decimal y) (signed_decimal z) r s (number_avoids low y below is) (number_avoids low z below are) e in
     (value_once y z is are parts.0, parts.1)
 
--- a value and its name, and what stands behind them
-value_flat : (n : List ℕ) (v : ℤ) (more t : List ℕ) → (codes " " ++ (n ++ (codes "=" ++ (signed_decimal v ++ more)))) ++ t ≡ codes " " ++ (n ++ (codes "=" ++ (signed_decimal v ++ (more ++ t))))
-value_flat n v more t = ap (λ tail. codes " " ++ tail) (append_assoc n (codes "=" ++ (signed_decimal v ++ more)) t ∙ ap (λ tail. n ++ (codes "=" ++ tail)) (append_assoc (signed_decimal v) more t))
-
-value_front : (n : List ℕ) (v w : ℤ) (more rest t u : List ℕ) → (codes " " ++ (n ++ (codes "=" ++ (signed_decimal v ++ more)))) ++ t ≡ (codes " " ++ (n ++ (codes "=" ++ (signed_decimal w ++ rest)))) ++ u → signed_decimal v ++ (more ++ t) ≡ signed_decimal w ++ (rest ++ u)
-value_front n v w more rest t u e = append_cancel_left (codes "=") _ _ (append_cancel_left n _ _ (append_cancel_left (codes " ") _ _ (sym (value_flat n v more t) ∙ e ∙ value_flat n w rest u)))
-
 -- the values in front of a line's end are determined
 values_same : (ns : List (List ℕ)) (vs ws : List ℤ) (r s : List ℕ) → length vs ≡ length ns → length ws ≡ length ns → AllByRecursion Value vs → AllByRecursion Value ws → values_text ns vs ++ (10 ∷ r) ≡ values_text ns ws ++ (10 ∷ s) → (vs ≡ ws) × (r ≡ s)
 values_same [] [] [] r s cv cw fv fw e = (refl, append_cancel_left (codes "\n") r s e)
@@ -60,14 +54,14 @@ values_same [] (v ∷ vs) ws r s cv cw fv fw e = absurd (omega arith)
 values_same (n ∷ ns) [] ws r s cv cw fv fw e = absurd (omega arith)
 values_same (n ∷ ns) (v ∷ vs) [] r s cv cw fv fw e = absurd (omega arith)
 values_same (n ∷ []) (v ∷ []) (w ∷ []) r s cv cw fv fw e =
-    let parts = value_same 10 v w r s (lit< tt) fv.0 fw.0 (value_front n v w [] [] (10 ∷ r) (10 ∷ s) e) in
+    let parts = value_same 10 v w r s (lit< tt) fv.0 fw.0 (behind_three (codes " ") n (codes "=") (signed_decimal v) (signed_decimal w) [] [] (10 ∷ r) (10 ∷ s) e) in
     (ap (λ x. x ∷ []) parts.0, parts.1)
 values_same (n ∷ []) (v ∷ u ∷ vs) (w ∷ ws) r s cv cw fv fw e = absurd (omega arith)
 values_same (n ∷ []) (v ∷ []) (w ∷ x ∷ ws) r s cv cw fv fw e = absurd (omega arith)
 values_same (n ∷ m ∷ ns) (v ∷ []) (w ∷ ws) r s cv cw fv fw e = absurd (omega arith)
 values_same (n ∷ m ∷ ns) (v ∷ u ∷ vs) (w ∷ []) r s cv cw fv fw e = absurd (omega arith)
 values_same (n ∷ m ∷ ns) (v ∷ u ∷ vs) (w ∷ x ∷ ws) r s cv cw fv fw e =
-    let parts = value_same 32 v w _ _ (lit< tt) fv.0 fw.0 (value_front n v w (values_text (m ∷ ns) (u ∷ vs)) (values_text (m ∷ ns) (x ∷ ws)) (10 ∷ r) (10 ∷ s) e) in
+    let parts = value_same 32 v w _ _ (lit< tt) fv.0 fw.0 (behind_three (codes " ") n (codes "=") (signed_decimal v) (signed_decimal w) (values_text (m ∷ ns) (u ∷ vs)) (values_text (m ∷ ns) (x ∷ ws)) (10 ∷ r) (10 ∷ s) e) in
     let rest = values_same (m ∷ ns) (u ∷ vs) (x ∷ ws) r s (omega arith) (omega arith) fv.1 fw.1 (ap (λ t. 32 ∷ t) parts.1) in
     (ap (λ y. y ∷ u ∷ vs) parts.0 ∙ ap (λ ys. w ∷ ys) rest.0, rest.1)
 

@@ -110,8 +110,3 @@ no_verdict_floats file (p ∷ ps) (v ∷ vs) = ap (λ b. b || items_have_float (
 
 pub no_floats : (file : File) (s : ReportSample) (vs : List Verdict) → has_float (report_data file s vs) ≡ false
 no_floats file s vs = ap (λ b. b || (items_have_float (verdicts_data file file.patterns vs) || false)) (no_sample_floats file s) ∙ ap (λ b. b || false) (no_verdict_floats file file.patterns vs)
-
--- the strings of texts
-pub strings_of : {A : Type 0} (text : A → List ℕ) (xs : List A) → map (λ y. json.string (text y)) xs ≡ map json.string (map text xs)
-strings_of text [] = refl
-strings_of text (x ∷ xs) = ap (λ ds. json.string (text x) ∷ ds) (strings_of text xs)

@@ -1,5 +1,5 @@
 -- What a printed line of a pattern says.
-use Rattle.ta_report.proofs.Common.{ℕ, ℤ, zero, suc, ◌+◌, ◌<◌, ◌^◌, ◌≡◌, ◌⊎◌, inl, inr, Bool, true, false, List, [], ◌∷◌, ◌++◌, map, codes, decimal, refl, sym, ap, subst, ◌∙◌, append_assoc, arith, lit<, slice_get, Some, if◌then◌else◌, signed_decimal, append_cancel_left, AllByRecursion, between, number_clear, each_at, each_front, word_avoids, apart_third, avoids-append, avoids_known, behind_line, differ, either_clear, first_byte, heads_apart, File, Pattern, PatternWithin, pattern_name, Value, lines_text, named_line, run_lines, run_text, valued_line, Avoids, number_avoids, each_run_line, run_clear, ReportKind, Pivot, Leaf, Run, ReportSample, Verdict, Safe, Unsafe, Spent, Overflow, is_proved, proofs_text, proofs_told, word_told, PlaceFits, SampleFits, VerdictFits, overflow_text, place_text, rest_word, run_part, sample_line, sample_text, spent_text, told_lines, told_text, values_text, verdict_text, word_before}
+use Rattle.ta_report.proofs.Common.{ℕ, ℤ, zero, suc, ◌+◌, ◌<◌, ◌^◌, ◌≡◌, ◌⊎◌, inl, inr, Bool, true, false, List, [], ◌∷◌, ◌++◌, map, codes, decimal, refl, sym, ap, subst, ◌∙◌, append_assoc, arith, lit<, slice_get, Some, signed_decimal, append_cancel_left, AllByRecursion, between, number_clear, each_at, each_front, word_avoids, apart_third, avoids-append, avoids_known, behind_line, differ, either_clear, first_byte, heads_apart, File, Pattern, PatternWithin, pattern_name, Value, lines_text, named_line, run_lines, run_text, valued_line, Avoids, number_avoids, each_run_line, run_clear, ReportKind, Pivot, Leaf, Run, ReportSample, Verdict, Safe, Unsafe, Spent, Overflow, is_proved, proofs_text, proofs_told, word_told, PlaceFits, SampleFits, VerdictFits, overflow_text, place_text, rest_word, run_part, sample_line, sample_text, spent_text, told_lines, told_text, values_text, verdict_text, word_before}
 use Rattle.ta_base.specs.Lists.{Distinct}
 use Rattle.ta_automaton.specs.Names.{Name}
 use Rattle.ta_replay.specs.declared.run.Run.{Run as RunOf}
@@ -9,6 +9,7 @@ use Rattle.ta_report.specs.declared.verdict.ReportSample.TheVariants as sample
 use Rattle.ta_report.specs.Printed.{LineAt, PrintedProved, PrintedRestProved, PrintedRestSafe, PrintedRestUnsafe, PrintedSafe, PrintedUnsafe, told_of}
 use Rattle.ta_report.specs.PrintedRuns.{BeginsText, IsPlain, PrintedRuns, RunsArePrinted, unsafe_words}
 use Rattle.ta_report.proofs.Distinct.{sample_flat}
+use Rattle.ta_base.proofs.Lists.{first_chosen}
 
 -- a line begins so, or one behind it does
 here_or_behind : (front xs rest behind : List ℕ) → Avoids 10 xs → LineAt front behind (xs ++ (10 ∷ rest)) → (xs ++ (10 ∷ rest) ≡ front ++ behind) ⊎ LineAt front behind rest
@@ -486,20 +487,12 @@ proof_told rest file numbers k p front behind at has =
     let number : 0 + k ≡ k = omega arith in
     record { later = later; same = ap (λ (n : ℕ). word_told rest numbers n ++ (10 ∷ later)) (sym number) ∙ ap (λ w. w ++ (10 ∷ later)) word ∙ found.same }
 
-proved_word : (b : Bool) (rest behind : List ℕ) → (if b then codes "proved" else codes "not proved") ++ (10 ∷ rest) ≡ codes "proved" ++ behind → b ≡ true
-proved_word true rest behind e = refl
-proved_word false rest behind e = heads_apart 110 112 _ _ (inl (lit< tt)) e
-
-rest_proved_word : (b : Bool) (rest behind : List ℕ) → (if b then codes "rest proved" else codes "not rest proved") ++ (10 ∷ rest) ≡ codes "rest proved" ++ behind → b ≡ true
-rest_proved_word true rest behind e = refl
-rest_proved_word false rest behind e = heads_apart 110 114 _ _ (inl (lit< tt)) e
-
 pub printed_proved : PrintedProved
 printed_proved file numbers k p at has =
     let told = proof_told false file numbers k p (codes "proved") has.0 at has.1 in
-    proved_word (is_proved numbers k) told.later has.0 told.same
+    first_chosen (is_proved numbers k) (codes "proved") (codes "not proved") (10 ∷ told.later) has.0 told.same (heads_apart 110 112 _ _ (inl (lit< tt)))
 
 pub printed_rest_proved : PrintedRestProved
 printed_rest_proved file numbers k p at has =
     let told = proof_told true file numbers k p (codes "rest proved") has.0 at has.1 in
-    rest_proved_word (is_proved numbers k) told.later has.0 told.same
+    first_chosen (is_proved numbers k) (codes "rest proved") (codes "not rest proved") (10 ∷ told.later) has.0 told.same (heads_apart 110 114 _ _ (inl (lit< tt)))

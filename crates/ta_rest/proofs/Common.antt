@@ -1,9 +1,8 @@
 -- The names that the proofs of this crate cite, passed on from one place. Declares nothing.
-pub use Rattle.std.proofs.Common.{All, Bool, IsBitSet, List, None, Option, Some, [], ap, append_assoc, arith, cond, drop, eqb, eqb-true, false, get_or, inl, inr, length, length-append, map, not, pos, refl, reverse, slice_get, subst, suc, sum, sym, take, true, zero, ℕ, ℤ, ◌&&◌, ◌*ℤ◌, ◌*◌, ◌++◌, ◌+◌, ◌-◌, ◌<◌, ◌^◌, ◌↔◌, ◌∙◌, ◌∷◌, ◌≡◌, ◌≢◌, ◌≤ℤ◌, ◌≤◌, ◌⊎◌}
+pub use Rattle.std.proofs.Common.{All, Bool, IsBitSet, List, None, Option, Some, [], ap, append_assoc, arith, cond, eqb, eqb-true, false, get_or, inl, inr, length, length-append, map, not, pos, refl, reverse, slice_get, subst, suc, sum, sym, true, zero, ℕ, ℤ, ◌&&◌, ◌*ℤ◌, ◌*◌, ◌++◌, ◌+◌, ◌-◌, ◌<◌, ◌^◌, ◌↔◌, ◌∙◌, ◌∷◌, ◌≡◌, ◌≢◌, ◌≤ℤ◌, ◌≤◌, ◌⊎◌}
 pub use Rattle.std.proofs.lemmas.Bool.{and_from, and_parts, cases_Bool, cases_lt, eq-eqb, false≢true, not-false, not-true, not_from_false, true≢false}
 pub use Rattle.std.proofs.lemmas.Bool.Decides.{eqb_tells, nat_tests}
 pub use Rattle.std.proofs.lemmas.Int.{ints}
-pub use Rattle.std.proofs.lemmas.Nat.{pow_pos}
 pub use Rattle.std.proofs.lemmas.Option.{same_Some, slice_get-get_or, slice_get_read, slice_get_within}
 pub use Rattle.std.specs.List.{AllByRecursion, range_with_len}
 pub use Rattle.std.specs.Prelude.{filter}
@@ -18,7 +17,7 @@ pub use Rattle.ta_automaton.specs.declared.condition.Condition.{Condition}
 pub use Rattle.ta_automaton.specs.declared.pattern.Event.{Event}
 pub use Rattle.ta_automaton.specs.declared.pattern.Pattern.{Pattern}
 pub use Rattle.ta_automaton.specs.declared.rule.Rule.{Rule}
-pub use Rattle.ta_base.proofs.Bits.{all_below-at, all_below-false, all_below-from, at_set, bit_below, bit_set, bit_true, no_bit}
+pub use Rattle.ta_base.proofs.Bits.{all_below-at, all_below-false, all_below-from, at_set, bit_set, bit_true, no_bit}
 pub use Rattle.ta_base.proofs.Booleans.{implies-at, implies-from}
 pub use Rattle.ta_base.proofs.Lists.{at_most_first, get_end, push_cases, slice_get_left, some_at}
 pub use Rattle.ta_base.proofs.Members.{In-filter, cond_child, in_filter}
@@ -36,7 +35,7 @@ pub use Rattle.ta_linear.specs.declared.row.Row.{Row}
 pub use Rattle.ta_rest.specs.Endings.{ComesLast, Endings, FewEvents, IsEnding, LastMoved, RestAdded, events_below, rest_name}
 pub use Rattle.ta_rest.specs.Laws.{EndingsRestAlike, EndsOfSolutionsRest, RefutedEndingsRest, RefutedEndingsShow, RestingRunsSolve, SolutionsComeToRest, StepsOfSolutionsRest}
 pub use Rattle.ta_rest.specs.Rest.{AtRest, ComeAfterEarlier, RestOccurs}
-pub use Rattle.ta_rest.specs.RestSearch.{leads_out, must_be_left, rest_search, some_below}
+pub use Rattle.ta_rest.specs.RestSearch.{leads_out, must_be_left, rest_search}
 unfoldable pub use Rattle.ta_rest.specs.RestSearch.{end_rows, rest_rows}
 pub use Rattle.ta_scope.specs.LongerCycles.{LoopsAlone}
 pub use Rattle.ta_words.specs.Words.{LegalWord, follows, has_fallen, has_rise, is_complete}

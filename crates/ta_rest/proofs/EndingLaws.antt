@@ -1,6 +1,8 @@
 -- a run comes to rest for a pattern as it does for the pattern's ending
-use Rattle.ta_rest.proofs.Common.{◌≡◌, ◌⊎◌, inl, inr, ℕ, zero, suc, ◌+◌, ◌^◌, ◌<◌, ◌≤◌, List, [], ◌∷◌, ◌++◌, length, length-append, arith, sym, ap, ◌∙◌, refl, subst, slice_get, get_or, Some, IsBitSet, All, cases_lt, pow_pos, slice_get_within, slice_get-get_or, same_Some, bit_below, no_bit, at_most_first, get_end, push_cases, slice_get_left, some_at, Comparison, Condition, Automaton, Event, Pattern, Config, Holds, Occurs, value_at, RowHolds, run_length, IsEnding, LastMoved, RestAdded, events_below, EndingsRestAlike, ComeAfterEarlier, RestOccurs}
+use Rattle.ta_rest.proofs.Common.{◌≡◌, ◌⊎◌, inl, inr, ℕ, zero, suc, ◌+◌, ◌≤◌, List, [], ◌∷◌, ◌++◌, length, length-append, arith, sym, ap, ◌∙◌, refl, subst, slice_get, get_or, Some, IsBitSet, All, cases_lt, slice_get_within, slice_get-get_or, same_Some, no_bit, at_most_first, get_end, push_cases, slice_get_left, some_at, Comparison, Condition, Automaton, Event, Pattern, Config, Holds, Occurs, value_at, RowHolds, run_length, IsEnding, LastMoved, RestAdded, events_below, EndingsRestAlike, ComeAfterEarlier, RestOccurs}
 use Rattle.std.proofs.lemmas.List.{get_or_past}
+use Rattle.ta_base.proofs.Lists.{none_of_empty}
+use Rattle.ta_base.proofs.Bits.{ones_bit}
 
 -- patterns whose events have the same conditions and, but for the last, come after the same events
 record Alike (p q : Pattern) : Type 0 where
@@ -121,10 +123,6 @@ added_rests a p q start empty m first rules o =
       rests = o.rests;
     }
 
-pub no_event : (xs : List Event) → xs ≡ [] → (e : ℕ) (event : Event) → slice_get xs e ≡ Some event → ⊥
-no_event [] e k event at = cc
-no_event (x ∷ xs) e k event at = cc
-
 added_back : (a : Automaton) (p q : Pattern) → q.start ≡ p.start → q.empty ≡ p.empty → RestAdded p.events q.events → (first : Config) (rules : List ℕ) → RestOccurs a q first rules → RestOccurs a p first rules
 added_back a p q start empty m first rules o =
     let was = o.occurs in
@@ -137,8 +135,8 @@ added_back a p q start empty m first rules o =
         kept_empty = λ l set. was.kept_empty l (subst (λ k. IsBitSet k l) (sym empty) set);
         positions = [];
         each_has_one = sym none;
-        happens = λ e event k at place. absurd (no_event p.events m.none e event at);
-        in_order = λ e f event at set. absurd (no_event p.events m.none e event at);
+        happens = λ e event k at place. absurd (none_of_empty p.events m.none e event at);
+        in_order = λ e f event at set. absurd (none_of_empty p.events m.none e event at);
       };
       at_end = λ last is. absurd (omega arith);
       rests = o.rests;
@@ -160,10 +158,6 @@ ending_has p q h = elim h.events [
   | inr m ↦ (let e = ap (λ (xs : List Event). length xs) m.is in omega arith)
 ]
 
--- a bit of the mask of the events below a number is below it
-pub below_bit : (n f : ℕ) → IsBitSet (events_below n) f → f < n
-below_bit n f set = bit_below (events_below n) n f (let some : 1 ≤ 2 ^ n = pow_pos n in omega arith) set
-
 -- the events of an ending come after earlier ones alone
 pub ending_early : (p q : Pattern) → IsEnding p q → ComeAfterEarlier p → ComeAfterEarlier q
 ending_early p q h early e event at f set = elim h.events [
@@ -172,7 +166,7 @@ ending_early p q h early e event at f set = elim h.events [
     | inr w ↦ (
         let here = w.0 in
         let after : event.after ≡ events_below (length m.front) = ap (λ (x : Event). x.after) (sym w.1) ∙ m.after in
-        let low = below_bit (length m.front) f (subst (λ k. IsBitSet k f) after set) in
+        let low = ones_bit (length m.front) f (subst (λ k. IsBitSet k f) after set) in
         omega arith)
   ]
   | inr m ↦ absurd (none m e (ap (λ (xs : List Event). slice_get xs e) (sym m.is) ∙ at))

@@ -1,5 +1,5 @@
 -- the endings of a file's patterns are patterns of such a file, and their last events come last
-use Rattle.ta_rest.proofs.Common.{◌≡◌, inl, inr, ℕ, suc, ◌+◌, ◌^◌, ◌<◌, List, [], ◌∷◌, ◌++◌, map, length, length-append, append_assoc, arith, sym, ap, ◌∙◌, refl, subst, slice_get, get_or, eqb, take, drop, Some, false≢true, pow_pos, AllByRecursion, push_cases, Comparison, Condition, Event, Pattern, Distinct, EachFrom, ComesLast, Endings, FewEvents, IsEnding, RestAdded, events_below, rest_name}
+use Rattle.ta_rest.proofs.Common.{◌≡◌, inl, inr, ℕ, suc, ◌+◌, ◌^◌, ◌<◌, List, [], ◌∷◌, ◌++◌, map, length, length-append, append_assoc, arith, sym, ap, ◌∙◌, refl, subst, slice_get, get_or, eqb, Some, false≢true, AllByRecursion, push_cases, Comparison, Condition, Event, Pattern, Distinct, EachFrom, ComesLast, Endings, FewEvents, IsEnding, RestAdded, events_below, rest_name}
 use Rattle.ta_syntax.specs.declared.tokens.Mark.{Mark}
 use Rattle.ta_syntax.specs.declared.tokens.Mark.TheVariants as mark
 use Rattle.ta_syntax.specs.Kinds.{mark_bytes}
@@ -7,6 +7,7 @@ use Rattle.ta_automaton.specs.Forms.{ConditionOver, RowOver}
 use Rattle.ta_automaton.specs.Names.{Name}
 use Rattle.ta_automaton.specs.Patterns.{EventWithin, PatternWithin, PatternsShape, event_name, pattern_name}
 use Rattle.ta_rest.proofs.EndingLaws.{ending_has}
+use Rattle.ta_base.proofs.Bits.{ones_below}
 
 no_mark : (m : Mark) → mark_bytes m ≡ rest_name → ⊥
 no_mark mark.Rule e = false≢true (ap (λ (xs : List ℕ). eqb (get_or xs 1 0) 101) e)
@@ -20,14 +21,11 @@ rest_is_name = record {
   limit = omega arith;
 }
 
-below_power : (n : ℕ) → events_below n < 2 ^ n
-below_power n = omega (arith, pow_pos n)
-
 -- an event that has another's name and condition and comes after all earlier ones is within what the other is
 moved_within : (places k : ℕ) (event moved : Event) → moved.name ≡ event.name → moved.condition ≡ event.condition → moved.after ≡ events_below k → EventWithin places k event → EventWithin places k moved
 moved_within places k event moved name condition after h = record {
   name = subst Name (sym name) h.name;
-  after = omega (arith, after, below_power k);
+  after = omega (arith, after, ones_below k);
   condition = subst (ConditionOver places) (sym condition) h.condition;
 }
 
@@ -142,8 +140,3 @@ next_few patterns rest endings p h few = each_next h.front p rest (subst (AllByR
 -- an event named `rest` with an empty condition, in the place of none
 pub added_of : (event : Event) → event.name ≡ rest_name → event.after ≡ 0 → event.condition.comparisons ≡ [] → RestAdded [] (event ∷ [])
 added_of event name after condition = record { none = refl; event = event; is = refl; name = name; after = after; condition = condition }
-
--- the first pattern of a list, and the others
-pub removed_first : (xs ys : List Pattern) (x : Pattern) → x ≡ get_or xs 0 x → ys ≡ take 0 xs ++ drop 1 xs → 0 < length xs → xs ≡ x ∷ ys
-removed_first [] ys x first others some = absurd (omega arith)
-removed_first (z ∷ zs) ys x first others some = ap (λ (w : Pattern). w ∷ zs) (sym first) ∙ ap (λ (ws : List Pattern). x ∷ ws) (sym others)

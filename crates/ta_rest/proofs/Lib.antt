@@ -6,4 +6,5 @@ mod PatternMasks
 mod Heights
 pub mod Moving
 pub mod Solutions
+pub mod RestSystems
 mod Common

@@ -1,5 +1,5 @@
 -- the run of a solution of a word's system of rest comes to rest
-use Rattle.ta_rest.proofs.Common.{◌≡◌, ◌≢◌, inl, inr, ℕ, ◌+◌, ◌<◌, ◌≤◌, ℤ, pos, ◌≤ℤ◌, List, [], ◌∷◌, ◌++◌, map, length, eqb, cond, Bool, true, false, not, arith, sym, ap, ◌∙◌, refl, subst, slice_get, get_or, Some, None, Option, IsBitSet, filter, ints, false≢true, true≢false, cases_Bool, and_parts, and_from, not-true, not_from_false, eqb_tells, slice_get_within, same_Some, all_below-at, all_below-from, at_set, bit_set, implies-from, some_at, In-filter, value_of, RowHolds, Row, Rule, Automaton, Pattern, has_bit, all_below, implies, range_with_len, In, Whole, location_place, Config, Move, value_at, Fits, value_at-location, from_within, Element, LegalWord, children, follows, has_event, has_fallen, has_rise, is_complete, RunsThrough, WordFires, position_in, steps_of, AllHold, counter_row, guard_rows, negated, opposite, row_value, word_rows, meanings, start_meanings, AllHold-left, RowFails, opposite_value, take_apart, ComesLast, events_below, EndsOfSolutionsRest, SolutionsComeToRest, StepsOfSolutionsRest, AtRest, end_rows, leads_out, must_be_left, rest_rows, some_below, Event as PatternEvent}
+use Rattle.ta_rest.proofs.Common.{◌≡◌, ◌≢◌, inl, inr, ℕ, ◌+◌, ◌<◌, ◌≤◌, ℤ, pos, ◌≤ℤ◌, List, [], ◌∷◌, ◌++◌, map, length, eqb, cond, true, false, not, arith, sym, ap, ◌∙◌, refl, subst, slice_get, get_or, Some, None, Option, IsBitSet, filter, ints, false≢true, true≢false, cases_Bool, and_parts, and_from, not_from_false, eqb_tells, slice_get_within, same_Some, all_below-at, all_below-from, at_set, bit_set, implies-from, some_at, In-filter, value_of, RowHolds, Row, Rule, Automaton, Pattern, has_bit, all_below, implies, range_with_len, In, Whole, location_place, Config, Move, value_at, Fits, value_at-location, from_within, Element, LegalWord, children, follows, has_event, has_fallen, has_rise, is_complete, RunsThrough, WordFires, position_in, steps_of, AllHold, counter_row, guard_rows, negated, opposite, row_value, word_rows, meanings, start_meanings, AllHold-left, RowFails, opposite_value, take_apart, ComesLast, events_below, EndsOfSolutionsRest, SolutionsComeToRest, StepsOfSolutionsRest, AtRest, end_rows, leads_out, must_be_left, rest_rows, Event as PatternEvent}
 use Rattle.std.proofs.lemmas.Nat.Bits.{bit_at_ones}
 use Rattle.ta_base.proofs.Ranges.{In-numbers, at_index}
 use Rattle.ta_linear.proofs.TermLemmas.{terms_value-same}
@@ -10,6 +10,7 @@ use Rattle.ta_encode.proofs.Realize.{solution_end, solution_runs, some_firings}
 use Rattle.ta_encode.proofs.Values.{AllHold-right, event_ready, place_value}
 use Rattle.ta_rest.proofs.EndingLaws.{positions_within}
 use Rattle.ta_rest.proofs.Resting.{not_followed}
+use Rattle.ta_base.proofs.Bits.{any_below-at}
 
 -- the rows of rest of a complete word
 pub end_hold : (a : Automaton) (p : Pattern) (start : ℕ) (past : List Element) (vs : List ℕ) → is_complete p past ≡ true → AllHold vs (rest_rows a p start past ++ []) → AllHold vs (word_rows a p start past) × AllHold vs (end_rows a p start past)
@@ -77,13 +78,6 @@ leads a p start past vs c d end rule move apart =
     ])) in
     and_from (eqb rule.from rule.from) _ here (and_from (not (eqb rule.from rule.to)) _ (ap not other) (and_from _ _ rise fall))
 
--- some number below another passes
-some_passes : (n : ℕ) (test : ℕ → Bool) (r : ℕ) → r < n → test r ≡ true → some_below n test ≡ true
-some_passes n test r b t = elim (cases_Bool (all_below n (λ k. not (test k)))) [
-  | inl all ↦ absurd (true≢false (sym t ∙ not-true (test r) (all_below-at n (λ k. not (test k)) all r b)))
-  | inr f ↦ ap not f
-]
-
 at_rest : (a : Automaton) (p : Pattern) (start : ℕ) (past : List Element) (vs : List ℕ) (c : Config) → EndOf a p start past vs c → AtRest a c
 at_rest a p start past vs c end r next step =
     let rule = step.rule in
@@ -95,7 +89,7 @@ at_rest a p start past vs c end r next step =
         | inl t ↦ absurd (let none = end.empty l t in omega arith)
         | inr f ↦ (
             let out : leads_out a start past l (slice_get a.rules r) ≡ true = ap (leads_out a start past l) step.named ∙ leads a p start past vs c next end rule step.move ne.1 in
-            let left : must_be_left a p start past l ≡ true = and_from (not (has_bit p.empty l)) _ (not_from_false (has_bit p.empty l) f) (some_passes (length a.rules) (λ k. leads_out a start past l (slice_get a.rules k)) r (slice_get_within a.rules r rule step.named) out) in
+            let left : must_be_left a p start past l ≡ true = and_from (not (has_bit p.empty l)) _ (not_from_false (has_bit p.empty l) f) (any_below-at (length a.rules) (λ k. leads_out a start past l (slice_get a.rules k)) r (slice_get_within a.rules r rule step.named) out) in
             let none = nobody_left a p start past vs c end l (from_within a r rule step.named) left in
             absurd (omega arith))
       ]

@@ -4,7 +4,7 @@ use Rattle.std.specs.Prelude.{ℕ, ◌==◌, Bool, false, cond, not, ◌&&◌, L
 use Rattle.ta_automaton.specs.declared.rule.Rule.{Rule}
 use Rattle.ta_automaton.specs.declared.automaton.Automaton.{Automaton}
 use Rattle.ta_automaton.specs.declared.pattern.Pattern.{Pattern}
-use Rattle.ta_base.specs.Masks.{has_bit, all_below, implies}
+use Rattle.ta_base.specs.Masks.{has_bit, all_below, implies, any_below}
 use Rattle.std.specs.List.{range_with_len}
 use Rattle.ta_words.specs.declared.element.Element.{Element}
 use Rattle.ta_words.specs.Words.{children, has_fallen, has_rise, is_complete}
@@ -12,10 +12,6 @@ use Rattle.ta_encode.specs.Unknowns.{meanings}
 use Rattle.ta_encode.specs.System.{LinearRow, opposite, negated, counter_row, guard_rows, word_rows}
 use Rattle.ta_encode.specs.Search.{Search}
 use Rattle.ta_encode.specs.PatternSearch.{all_starts}
-
--- whether some number below another passes
-abbrev pub some_below : ℕ → (ℕ → Bool) → Bool
-some_below n test = not (all_below n (λ k. not (test k)))
 
 -- whether a rule leads from a location to another, has its rise guards in the word, and has no fall guard that is in the start set or has fallen
 abbrev pub leads_out : Automaton → ℕ → List Element → ℕ → Option Rule → Bool
@@ -28,7 +24,7 @@ leads_out a start past l (Some rule) =
 
 -- whether a location isn't kept empty and has such a rule: at rest nobody is in it
 abbrev pub must_be_left : Automaton → Pattern → ℕ → List Element → ℕ → Bool
-must_be_left a p start past l = not (has_bit p.empty l) && some_below (length a.rules) (λ r. leads_out a start past l (slice_get a.rules r))
+must_be_left a p start past l = not (has_bit p.empty l) && any_below (length a.rules) (λ r. leads_out a start past l (slice_get a.rules r))
 
 -- the rows of rest at a word's end: the negated rise guards that aren't in the word, and `-counter` of those locations, in order
 unfoldable pub end_rows : Automaton → Pattern → ℕ → List Element → List LinearRow

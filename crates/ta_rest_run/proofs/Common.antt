@@ -21,7 +21,7 @@ pub use Rattle.ta_replay.specs.Shows.{IsFirstConfig, MarkedOnce, MarksAt, Shows,
 pub use Rattle.ta_replay.specs.declared.run.Run.{Run}
 pub use Rattle.ta_replay.specs.declared.run.RunLine.{RunLine}
 pub use Rattle.ta_replay.specs.declared.run.RunLine.TheVariants.{Mark, Step}
-pub use Rattle.ta_rest.proofs.EndingLaws.{back_of, end_config, endings_rest, moved_count, no_event}
+pub use Rattle.ta_rest.proofs.EndingLaws.{back_of, end_config, endings_rest, moved_count}
 pub use Rattle.ta_rest.proofs.Solutions.{by_event, end_hold, steps_rest}
 pub use Rattle.ta_rest.specs.Endings.{ComesLast, Endings, IsEnding, LastMoved, RestAdded, events_below}
 pub use Rattle.ta_rest.specs.Faults.{EndingsOf}

@@ -1,7 +1,7 @@
 -- a run of an ending is, less the mark of an added event, a run of the pattern itself
-use Rattle.ta_rest_run.proofs.Common.{◌≡◌, inl, inr, ℕ, zero, suc, ◌+◌, ◌<◌, ◌≤◌, ℤ, Bool, true, false, List, [], ◌∷◌, ◌++◌, length, length-append, append-nil, cond, take, get_or, arith, sym, ap, ◌∙◌, refl, subst, slice_get, Some, IsBitSet, slice_index, cases_Bool, false≢true, same_Some, slice_get-get_or, slice_get_within, AllByRecursion, at_set, bit_set, bit_true, each_at, each_from, each_front, Automaton, Pattern, File, has_bit, At, Config, Holds, after_earlier, pattern_within, Endings, IsEnding, LastMoved, RestAdded, events_below, EndingsOf, AtRest, ComeAfterEarlier, RestOccurs, back_of, endings_rest, moved_count, no_event, Run, RunLine, Step, Mark, LineFits, ConditionStays, LineStays, NumbersStay, ValuesAfter, IsFirstConfig, MarkedOnce, MarksAt, ShowsPattern, unit_steps, OwnRunsRest, OccursAtRest, ending_run, marked_at_end, Event}
+use Rattle.ta_rest_run.proofs.Common.{◌≡◌, inl, inr, ℕ, zero, suc, ◌+◌, ◌<◌, ℤ, Bool, true, false, List, [], ◌∷◌, ◌++◌, length, length-append, append-nil, cond, take, get_or, arith, sym, ap, ◌∙◌, refl, subst, slice_get, Some, IsBitSet, slice_index, cases_Bool, false≢true, same_Some, slice_get-get_or, slice_get_within, AllByRecursion, at_set, bit_set, bit_true, each_at, each_from, each_front, Automaton, Pattern, File, has_bit, At, Config, Holds, after_earlier, pattern_within, Endings, IsEnding, LastMoved, RestAdded, events_below, EndingsOf, AtRest, ComeAfterEarlier, RestOccurs, back_of, endings_rest, moved_count, Run, RunLine, Step, Mark, LineFits, ConditionStays, LineStays, NumbersStay, ValuesAfter, IsFirstConfig, MarkedOnce, MarksAt, ShowsPattern, unit_steps, OwnRunsRest, OccursAtRest, ending_run, marked_at_end, Event}
 use Rattle.std.proofs.lemmas.Nat.Bits.{bit_at_ones}
-use Rattle.ta_base.proofs.Lists.{slice_get_left, slice_get_right}
+use Rattle.ta_base.proofs.Lists.{slice_get_left, slice_get_right, none_of_empty}
 use Rattle.ta_linear.specs.Values.{point_of}
 use Rattle.ta_automaton.specs.declared.condition.Condition.{Condition}
 use Rattle.ta_automaton.specs.Runs as runs
@@ -11,6 +11,7 @@ use Rattle.ta_counter.specs.Values.{Value}
 use Rattle.ta_rest.proofs.EndingShapes.{ending_last}
 use Rattle.ta_replay.proofs.Lines.{unit_steps-append}
 use Rattle.ta_rest_run.proofs.Ends.{begins_same, ends_same}
+use Rattle.std.proofs.lemmas.List.{take-append-le}
 
 -- the pattern of an ending
 pub ending_at : (ps qs : List Pattern) → Endings ps qs → (k : ℕ) (q : Pattern) → slice_get qs k ≡ Some q → (p : Pattern) × (slice_get ps k ≡ Some p) × IsEnding p q
@@ -99,8 +100,8 @@ shows_added a p q run h m s =
       follows = subst (λ (rules : List ℕ). runs.Run a s.first rules s.later) steps s.follows;
       start = subst (λ (c : Condition). Holds c s.first) h.start s.start;
       kept_empty = λ k c at l set. s.kept_empty k c at l (subst (λ n. IsBitSet n l) (sym h.empty) set);
-      marked = λ e event at. absurd (no_event p.events m.none e event at);
-      in_order = λ e f i event at set mark. absurd (no_event p.events m.none e event at);
+      marked = λ e event at. absurd (none_of_empty p.events m.none e event at);
+      in_order = λ e f i event at set mark. absurd (none_of_empty p.events m.none e event at);
     }
 
 line_added : (a : Automaton) (p q : Pattern) (run : Run) → RestAdded p.events q.events → ShowsPattern a q (marked_at_end run) → (i : ℕ) (line : RunLine) → slice_get run.lines i ≡ Some line → LineFits a q line → LineFits a p line
@@ -109,7 +110,7 @@ line_added a p q run m s i (Mark e) at fits = absurd (unmarked a p q run m s i e
 
 line_stays_added : (a : Automaton) (p q : Pattern) → RestAdded p.events q.events → (values : List ℤ) (line : RunLine) → LineStays a q values line → LineStays a p values line
 line_stays_added a p q m values (Step r factor) stays = stays
-line_stays_added a p q m values (Mark e) stays = λ event at. absurd (no_event p.events m.none e event at)
+line_stays_added a p q m values (Mark e) stays = λ event at. absurd (none_of_empty p.events m.none e event at)
 
 stays_added : (a : Automaton) (p q : Pattern) (run : Run) → IsEnding p q → RestAdded p.events q.events → NumbersStay a q (marked_at_end run) → NumbersStay a p run
 stays_added a p q run h m s = record {
@@ -119,13 +120,9 @@ stays_added a p q run h m s = record {
   start = λ first starts. subst (ConditionStays (point_of first)) h.start (s.start first starts);
   lines = λ i line values at reached.
       let within = slice_get_within run.lines i line at in
-      let front : take i (run.lines ++ Mark 0 ∷ []) ≡ take i run.lines = take_front run.lines (Mark 0 ∷ []) i (omega arith) in
+      let front : take i (run.lines ++ Mark 0 ∷ []) ≡ take i run.lines = take-append-le i run.lines (Mark 0 ∷ []) (omega arith) in
       line_stays_added a p q m values line (s.lines i line values (slice_get_left run.lines (Mark 0 ∷ []) i line at) (subst (λ (ls : List RunLine). ValuesAfter a (marked_at_end run) ls values) (sym front) (record { first = reached.first; starts = reached.starts; places = reached.places; changed = reached.changed })));
-} where
-  take_front : (xs ys : List RunLine) (i : ℕ) → i ≤ length xs → take i (xs ++ ys) ≡ take i xs
-  take_front xs ys zero b = refl
-  take_front [] ys (suc i) b = absurd (omega arith)
-  take_front (x ∷ xs) ys (suc i) b = ap (λ (zs : List RunLine). x ∷ zs) (take_front xs ys i (omega arith))
+}
 
 -- what a pattern's own run needs: it fits, it shows the pattern, and no number leaves the range
 record Accepted (a : Automaton) (p : Pattern) (run : Run) : Type 0 where

@@ -37,7 +37,7 @@ pub use Rattle.ta_rest_verdict.specs.Laws.{RestTextsAreAlike, RestVerdictsAreDet
 pub use Rattle.ta_rest_verdict.specs.Verdicts.{EndingVerdictHolds, IsNotSafe, KeepsSafe, OwnVerdict, OwnVerdicts, RestVerdictHolds, rest_question}
 pub use Rattle.ta_verdict.proofs.DraftsMade.{adds_tree, wanted_same}
 pub use Rattle.ta_verdict.proofs.JudgedSoFar.{JudgedSoFar, judged_all, judged_more}
-pub use Rattle.ta_verdict.proofs.VerdictsMade.{held_by, holds_weaker, overflow_holds, run_leaves, said_of, so_many}
+pub use Rattle.ta_verdict.proofs.VerdictsMade.{as_many, held_by, holds_weaker, overflow_holds, run_leaves, said_of, so_many}
 pub use Rattle.ta_verdict.specs.Certificates.{AreTreesOf, safe_numbers, safe_ones}
 pub use Rattle.ta_verdict.specs.Drafts.{DraftHasTree, DraftKeeps, ended_line}
 pub use Rattle.ta_verdict.specs.Verdicts.{EachHolds}

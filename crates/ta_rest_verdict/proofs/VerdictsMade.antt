@@ -1,5 +1,5 @@
 -- verdicts at rest that are made of endings are those of each file that has these
-use Rattle.ta_rest_verdict.proofs.Common.{ℕ, List, arith, slice_get_within, some_at, AllByRecursion, File, Pattern, Verdict, Safe, Unsafe, Spent, Overflow, VerdictFits, EachHolds, endings_count, RestFile, OwnVerdict, OwnVerdicts, RestVerdictHolds, each_at, each_from, held_by, holds_weaker}
+use Rattle.ta_rest_verdict.proofs.Common.{ℕ, List, ◌∙◌, as_many, arith, slice_get_within, some_at, AllByRecursion, File, Pattern, Verdict, Safe, Unsafe, Spent, Overflow, VerdictFits, EachHolds, endings_count, RestFile, OwnVerdict, OwnVerdicts, RestVerdictHolds, each_at, each_from, held_by, holds_weaker}
 
 -- a verdict that fits the endings and holds fits the file
 own_fits : (file ending : File) (added budget number : ℕ) (own p : Pattern) (v : Verdict) → RestVerdictHolds file ending added budget number own p v → VerdictFits ending v → VerdictFits file v
@@ -13,6 +13,7 @@ own_verdicts rest budget vs hold fit file ends =
     let ending = rest.ending.file in
     let same = endings_count file.patterns ending.patterns ends.patterns in
     record {
+      each = as_many (OwnVerdict rest budget) 0 ending.patterns vs hold ∙ same;
       hold = holds_weaker (OwnVerdict rest budget) _ 0 ending.patterns vs (λ k p v own. own file ends) hold;
       fit = each_from (VerdictFits file) vs (λ k v said.
           let by = held_by (OwnVerdict rest budget) ending.patterns vs hold k v said in

@@ -36,7 +36,7 @@ safe_verdict rest budget number p Keeps nodes leaves named within kept file ends
       tree = kept.nodes;
       is = kept.is;
       counted = kept.counted;
-      proof = λ _. proof;
+      proof = proof;
     }
 
 -- a budget that is spent

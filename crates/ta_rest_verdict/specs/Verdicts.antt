@@ -1,5 +1,5 @@
 -- What is said of a pattern whose runs are to come to rest, and when it holds (this project's profile)
-use Rattle.std.specs.Prelude.{ℕ, ◌≡◌, List, [], slice_get, Some}
+use Rattle.std.specs.Prelude.{ℕ, ◌≡◌, List, [], length, slice_get, Some}
 use Rattle.std.specs.List.{AllByRecursion}
 use Rattle.ta_automaton.specs.declared.file.File.{File}
 use Rattle.ta_automaton.specs.declared.pattern.Pattern.{Pattern}
@@ -14,15 +14,17 @@ use Rattle.ta_report.specs.declared.verdict.Verdict.{Verdict}
 use Rattle.ta_report.specs.declared.verdict.Verdict.TheVariants.{Safe, Unsafe, Spent, Overflow}
 use Rattle.ta_report.specs.Report.{VerdictFits}
 use Rattle.ta_verdict.specs.Verdicts.{EachHolds, Question, VerdictAnswers}
-use Rattle.ta_walk.specs.Ends.{TreeKept}
+use Rattle.ta_walk.specs.Ends.{IsProof, TreeKept}
 use Rattle.ta_walk.specs.Splits.{HasAtMost}
 use Rattle.ta_witness.specs.Witness.{WitnessOutOfRange}
 
--- whether no run in which the file's own pattern occurs comes to rest where its last event happens: asked of the words of rest of its ending
+-- whether no run in which the file's own pattern occurs comes to rest where its last event happens: asked of the words of rest of its ending;
+-- a tree is a proof that a judge accepts
 abbrev pub rest_question : File → File → ℕ → Pattern → Pattern → Question
 rest_question file ending added own p = record {
   search = rest_search ending.automaton p;
   claim = RestSafe file.automaton own;
+  proved = λ budget tree. IsProof (rest_search ending.automaton p) tree;
   shown = RestWitnessOf file ending added;
   leaves = WitnessOutOfRange ending;
   few = HasAtMost ending.automaton p [];
@@ -55,8 +57,9 @@ IsNotSafe (Unsafe nodes run) = Unit {0}
 IsNotSafe (Spent nodes) = Unit {0}
 IsNotSafe (Overflow node kind) = Unit {0}
 
--- a verdict on each pattern of a file, in order: each holds, its numbers are below 2^64, and its run fits the file
+-- a verdict on each pattern of a file, in order, one for each: it holds, its numbers are below 2^64, and its run fits the file
 pub record AreRestVerdicts (file ending : File) (added budget : ℕ) (verdicts : List Verdict) : Type 0 where
+  pub each : length verdicts ≡ length file.patterns
   pub hold : EachHolds (EndingVerdictHolds file ending added budget) 0 ending.patterns verdicts
   pub fit : AllByRecursion (VerdictFits file) verdicts
 

@@ -2,10 +2,9 @@
 #![tactic(auto)]
 
 ghost use Rattle.std.specs.Prelude.{ℕ, ◌≡◌, ◌<◌, ◌≤◌, [], IfOk, false, length, List, true};
-ghost use Rattle.std.specs.List.{AllByRecursion};
+ghost use Rattle.std.specs.List.{AllByRecursion, concat};
 ghost use Rattle.ta_check.specs.Certificate.{RestCertificate};
 ghost use Rattle.ta_report.specs.Report.{VerdictFits};
-ghost use Rattle.ta_shell.specs.Puts.{texts_joined};
 ghost use Rattle.ta_automaton.specs.Numbered.{OfPattern};
 ghost use Rattle.ta_verdict.specs.Certificates.{safe_numbers, safe_ones};
 ghost use Rattle.ta_verdict.specs.Drafts.{AddsTree, HasProofs, HasTrees};
@@ -37,8 +36,8 @@ pub fn judge_rest<R: Threads + Sync>(
     ensures verdicts { IfOk result (λ judged. OwnVerdicts rest.now nodes judged.verdicts) }
     ensures all { IfOk result (λ judged. length judged.verdicts ≡ length rest.now.ending.file.patterns) }
     ensures fit { IfOk result (λ judged. AllByRecursion (VerdictFits rest.now.ending.file) judged.verdicts) }
-    ensures certificate { wanted ≡ true → IfOk result (λ judged. RestCertificateOf rest.now.ending.file nodes judged.verdicts (texts_joined judged.certificate)) }
-    ensures accepted { wanted ≡ true → IfOk result (λ judged. RestCertificate rest.now.ending.file (texts_joined judged.certificate) (safe_numbers rest.now.ending.file judged.verdicts)) }
+    ensures certificate { wanted ≡ true → IfOk result (λ judged. RestCertificateOf rest.now.ending.file nodes judged.verdicts (concat judged.certificate)) }
+    ensures accepted { wanted ≡ true → IfOk result (λ judged. RestCertificate rest.now.ending.file (concat judged.certificate) (safe_numbers rest.now.ending.file judged.verdicts)) }
     ensures unwanted { wanted ≡ false → IfOk result (λ judged. judged.certificate ≡ []) }
 {
     let mut draft = Draft::certificate(alloc, wanted, &[])?;

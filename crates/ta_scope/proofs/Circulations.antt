@@ -1,5 +1,5 @@
 -- taking circulations out leaves natural counts with the same end
-use Rattle.ta_scope.proofs.Common.{◌≡◌, inl, inr, ℕ, ◌+◌, ◌<◌, ◌≤◌, ℤ, pos, ◌+ℤ◌, ◌*ℤ◌, ◌≤ℤ◌, List, [], ◌∷◌, length, arith, sym, ap, ◌∙◌, refl, subst, IsBitSet, ints, slice_get_within, *ℤ-zero, AllByRecursion, each_in, each_weaker, by_one, distributes, mul_left_comm, Automaton, Distinct, in_or, range_with_len, Walk, InScope, total, times_in, total-same, total-add, total-times, change_of, circuit_pure, NoCycle, IsLeastCycle, count_at, AreRuleCounts, Support, LeastCount, SubtractsFrom, TakenOut, AllTakenOut}
+use Rattle.ta_scope.proofs.Common.{◌≡◌, inl, inr, ℕ, ◌<◌, ◌≤◌, ℤ, pos, ◌+ℤ◌, ◌*ℤ◌, ◌≤ℤ◌, List, [], ◌∷◌, length, arith, sym, ap, ◌∙◌, refl, subst, IsBitSet, ints, slice_get_within, *ℤ-zero, AllByRecursion, each_in, each_weaker, by_one, distributes, mul_left_comm, Automaton, Distinct, in_or, range_with_len, Walk, InScope, total, times_in, total-same, total-add, total-times, change_of, circuit_pure, NoCycle, IsLeastCycle, count_at, AreRuleCounts, Support, LeastCount, SubtractsFrom, TakenOut, AllTakenOut}
 use Rattle.ta_base.proofs.Times.{EachOnce, times-distinct, times-none, times-numbers, total-by_times}
 use Rattle.ta_automaton.proofs.Circuits.{circuit_total}
 use Rattle.ta_scope.proofs.Taken.{sum_of, sum_less, counted}

@@ -1,5 +1,7 @@
 -- where every remaining location has a remaining other one that leads to it, there is a cycle
 use Rattle.ta_scope.proofs.Common.{◌≡◌, ◌⊎◌, inl, inr, ℕ, zero, suc, ◌+◌, ◌<◌, List, [], ◌∷◌, length, arith, sym, ap, ◌∙◌, refl, subst, slice_get, Some, Contains, IsBitSet, eqb_tells, slice_get_within, AllByRecursion, set_or, distinct_length, each_weaker, find_or, contains_or, Rule, Automaton, Distinct, Walk, from_within, Reaches, NoCycle, Blocks, Ready}
+use Rattle.ta_base.proofs.Options.{none_or_some}
+use Rattle.std.proofs.lemmas.Option.{none-some}
 
 -- a rule of the mask that leads to a location from another one that remains
 abbrev pub Blocker : List Rule → ℕ → List ℕ → ℕ → Type 0
@@ -17,16 +19,11 @@ blocks_or placed location rule = elim (eqb_tells rule.to location) [
   | inr t ↦ inr (λ b. t.1 b.to)
 ]
 
-got_or : (all : List Rule) (n : ℕ) → ((rule : Rule) × (slice_get all n ≡ Some rule)) ⊎ ((rule : Rule) → slice_get all n ≡ Some rule → ⊥)
-got_or [] n = inr (λ rule at. absurd (cc))
-got_or (rule ∷ all) zero = inl (rule, refl)
-got_or (rule ∷ all) (suc n) = got_or all n
-
 -- a rule by its number blocks a location and is in the mask, or doesn't
 blocker_or : (all : List Rule) (rules : ℕ) (placed : List ℕ) (location n : ℕ) → ((rule : Rule) → slice_get all n ≡ Some rule → IsBitSet rules n → Blocks placed location rule → ⊥) ⊎ Blocker all rules placed location
-blocker_or all rules placed location n = elim (got_or all n) [
-  | inr none ↦ inl (λ rule named member blocks. none rule named)
-  | inl (rule, named) ↦ elim (set_or rules n) [
+blocker_or all rules placed location n = elim (none_or_some (slice_get all n)) [
+  | inl none ↦ inl (λ rule named member blocks. none-some rule (sym none ∙ named))
+  | inr (rule, named) ↦ elim (set_or rules n) [
     | inr out ↦ inl (λ other at member blocks. out member)
     | inl member ↦ elim (blocks_or placed location rule) [
       | inl b ↦ inr (n, rule, named, member, b)
@@ -82,11 +79,4 @@ pub none_remains : (a : Automaton) (rules : ℕ) (placed : List ℕ) → NoCycle
 none_remains a rules placed acyclic none l below = elim (contains_or l placed) [
   | inl c ↦ c
   | inr remains ↦ absurd (go_back a rules placed acyclic none (length a.locations) l [] (below, tt) (tt, tt) (([], refl, tt), tt) remains (omega arith))
-]
-
--- what holds of each earlier rule and of this one holds of each rule before the next
-pub rules_more : (rules : List Rule) (P : ℕ → Rule → Type 0) (i : ℕ) (rule : Rule) → slice_get rules i ≡ Some rule → P i rule → ((q : ℕ) (other : Rule) → q < i → slice_get rules q ≡ Some other → P q other) → (q : ℕ) (other : Rule) → q < i + 1 → slice_get rules q ≡ Some other → P q other
-rules_more rules P i rule named here earlier q other below at = elim (eqb_tells q i) [
-  | inl e ↦ (let same : Some rule ≡ Some other = sym named ∙ ap (slice_get rules) (sym e.1) ∙ at in let is : rule ≡ other = cc in subst (λ n. P n other) (sym e.1) (subst (P i) is here))
-  | inr ne ↦ earlier q other (let differ = ne.1 in omega arith) at
 ]

@@ -5,9 +5,10 @@ use Rattle.std.proofs.Math.IntN.{*ℤ_comm}
 use Rattle.ta_base.specs.Sums.{one_if}
 use Rattle.ta_base.proofs.Ranges.{numbers_more}
 use Rattle.ta_base.proofs.Times.{times-total}
-use Rattle.ta_base.proofs.Totals.{one_if-other, one_if-same, total-replicate}
+use Rattle.ta_base.proofs.Totals.{total-replicate, one_if-test}
 use Rattle.ta_automaton.specs.Laws.{leads_out_of}
 use Rattle.ta_scope.proofs.Circulations.{weighted}
+use Rattle.std.proofs.Math.Bool.{and-false}
 
 -- the unit steps of the rules that pass a test
 abbrev passed : (ℕ → Bool) → (ℕ → ℤ) → List ℕ → List ℕ
@@ -120,26 +121,18 @@ along_parts a counts natural g (l ∷ ls) =
     omega (arith, ints, ap (total g) (steps_cons a counts l ls), total-append g (passed (is_step_from a counts l) (count_at counts) ns) (arranged_steps (steps_along a counts ls)), passed_total g (is_step_from a counts l) (count_at counts) natural ns, along_parts a counts natural g ls)
 
 no_test : (o : Option Rule) (z : ℤ) (ls : List ℕ) (b : Bool) → b ≡ false → total (λ l. cond (leads_out_of l o && b) z (pos 0)) ls ≡ pos 0
-no_test o z ls b e = total-zero (λ l. cond (leads_out_of l o && b) z (pos 0)) ls (λ l. rw e (off (leads_out_of l o) z)) where
-  off : (t : Bool) (z : ℤ) → cond (t && false) z (pos 0) ≡ pos 0
-  off true z = refl
-  off false z = refl
+no_test o z ls b e = total-zero (λ l. cond (leads_out_of l o && b) z (pos 0)) ls (λ l. rw e (ap (λ t. cond t z (pos 0)) (and-false (leads_out_of l o))))
 
 -- each rule has one source, which is once in the order
 one_source : (a : Automaton) (order : List ℕ) → ((l : ℕ) → l < length a.locations → times_in l order ≡ 1) → (o : Option Rule) → ((rule : Rule) → o ≡ Some rule → rule.from < length a.locations) → (z : ℤ) → pos 0 ≤ℤ z → (i : ℕ) → total (λ l. cond (leads_out_of l o && int_lt (pos 0) z) (rule_change a o i *ℤ z) (pos 0)) order ≡ (rule_change a o i *ℤ z)
 one_source a order once None within z natural i = total-zero _ order (λ l. refl) ∙ sym (zero-*ℤ z)
 one_source a order once (Some rule) within z natural i = elim (cases_Bool (int_lt (pos 0) z)) [
-  | inl e ↦ rw e (total-same (λ l. cond (eqb rule.from l && true) (rule_change a (Some rule) i *ℤ z) (pos 0)) (λ l. one_if l rule.from *ℤ (rule_change a (Some rule) i *ℤ z)) order (from_only rule.from (rule_change a (Some rule) i *ℤ z)) ∙ times-total (λ _. rule_change a (Some rule) i *ℤ z) rule.from order ∙ ap (λ (n : ℕ). (rule_change a (Some rule) i *ℤ z) *ℤ pos n) (once rule.from (within rule refl)) ∙ by_one (rule_change a (Some rule) i *ℤ z))
+  | inl e ↦ rw e (total-same (λ l. cond (eqb rule.from l && true) (rule_change a (Some rule) i *ℤ z) (pos 0)) (λ l. one_if l rule.from *ℤ (rule_change a (Some rule) i *ℤ z)) order (one_if-test rule.from (rule_change a (Some rule) i *ℤ z)) ∙ times-total (λ _. rule_change a (Some rule) i *ℤ z) rule.from order ∙ ap (λ (n : ℕ). (rule_change a (Some rule) i *ℤ z) *ℤ pos n) (once rule.from (within rule refl)) ∙ by_one (rule_change a (Some rule) i *ℤ z))
   | inr e ↦ (
       let below = not_above_zero z e in
       let none : z ≡ pos 0 = omega (arith, ints) in
       no_test (Some rule) (rule_change a (Some rule) i *ℤ z) order (int_lt (pos 0) z) e ∙ sym (ap (λ y. rule_change a (Some rule) i *ℤ y) none ∙ *ℤ-zero (rule_change a (Some rule) i)))
-] where
-  from_only : (from : ℕ) (y : ℤ) (l : ℕ) → cond (eqb from l && true) y (pos 0) ≡ (one_if l from *ℤ y)
-  from_only from y l = elim (eqb_tells from l) [
-    | inl same ↦ rw same.0 (sym (ap (λ k. one_if k from *ℤ y) (sym same.1) ∙ one_if-same from y))
-    | inr other ↦ rw other.0 (sym (one_if-other l from y (λ q. other.1 (sym q))))
-  ]
+]
 
 -- the unit steps along an order have the end of the counts
 pub along_total : (a : Automaton) (counts : List ℤ) → ((r : ℕ) → pos 0 ≤ℤ count_at counts r) → (order : List ℕ) → ((l : ℕ) → l < length a.locations → times_in l order ≡ 1) → (i : ℕ) → total (change_of a i) (arranged_steps (steps_along a counts order)) ≡ weighted a counts i

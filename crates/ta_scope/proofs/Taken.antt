@@ -1,17 +1,16 @@
 -- counts from which an amount is subtracted
-use Rattle.ta_scope.proofs.Common.{◌≡◌, ◌≢◌, ◌⊎◌, inl, inr, ℕ, ◌+◌, ◌<◌, ◌≤◌, ℤ, pos, ◌+ℤ◌, ◌-ℤ◌, ◌≤ℤ◌, List, [], ◌∷◌, ◌++◌, length, take, get_or, set, arith, sym, ap, ◌∙◌, refl, subst, IsBitSet, ◌↔◌, length-set, unsigned_abs, int_min, bit_at, ints, cases_lt, eqb_tells, get_or_past, take_more, take_all, get_or-set_same, get_or-set_other, set_at, not_before, abs_less, abs_less_than, min_cases, In-left, In-right, in_append, in_get_or, Automaton, Distinct, In, count_at, Support, LeastCount, SubtractsFrom, TakenOut, AllTakenOut, range_with_len}
+use Rattle.ta_scope.proofs.Common.{◌≡◌, ◌≢◌, ◌⊎◌, inl, inr, ℕ, ◌+◌, ◌<◌, ◌≤◌, ℤ, pos, ◌+ℤ◌, ◌-ℤ◌, ◌≤ℤ◌, List, [], ◌∷◌, ◌++◌, length, take, get_or, set, arith, sym, ap, ◌∙◌, refl, subst, IsBitSet, ◌↔◌, length-set, unsigned_abs, int_min, ints, cases_lt, eqb_tells, get_or_past, take_more, take_all, get_or-set_same, get_or-set_other, set_at, not_before, abs_less, abs_less_than, min_cases, In-left, In-right, in_append, in_get_or, Automaton, Distinct, In, count_at, Support, LeastCount, SubtractsFrom, TakenOut, AllTakenOut, range_with_len}
 use Rattle.ta_base.proofs.Sums.{sum_by-less}
 use Rattle.std.proofs.Common.{sum_by}
 use Rattle.ta_base.proofs.Ranges.{number_here}
+use Rattle.std.proofs.lemmas.Nat.Bits.{bit_at-zero}
 
 -- the support of the first counts
 abbrev pub SupportBefore : List ℤ → ℕ → ℕ → Type 0
 SupportBefore counts n rules = (r : ℕ) → IsBitSet rules r ↔ ((r < n) × (pos 1 ≤ℤ count_at counts r))
 
 pub support_none : (counts : List ℤ) → SupportBefore counts 0 0
-support_none counts r = (λ b. absurd (let one = set_at 0 r b in none r one), λ w. absurd (let b = w.0 in omega arith)) where
-  none : (r : ℕ) → bit_at 0 r ≡ 1 → ⊥
-  none r h = omega arith
+support_none counts r = (λ b. absurd (let one = sym (bit_at-zero r) ∙ set_at 0 r b in cc), λ w. absurd (let b = w.0 in omega arith))
 
 pub support_more : (counts : List ℤ) (n rules more : ℕ) (count : ℤ) → count ≡ count_at counts n → SupportBefore counts n rules → ((r : ℕ) → IsBitSet more r ↔ (IsBitSet rules r ⊎ ((r ≡ n) × (pos 1 ≤ℤ count)))) → SupportBefore counts (n + 1) more
 support_more counts n rules more count same before is r = (

@@ -1,8 +1,8 @@
 //! The text of a certificate in pieces.
 #![tactic(auto)]
 
+ghost use Rattle.std.specs.List.{concat};
 ghost use Rattle.std.specs.Prelude.{◌≡◌};
-ghost use Rattle.ta_shell.specs.Puts.{texts_joined};
 
 use std::marker::Model;
 use ta_base::{List, Text};
@@ -16,31 +16,31 @@ pub struct CertificateText {
 
 impl Model for CertificateText {
     ghost use Rattle.std.specs.Prelude.{List, ℕ};
-    ghost use Rattle.ta_shell.specs.Puts.{texts_joined};
+    ghost use Rattle.std.specs.List.{concat};
 
     ghost Value = { List ℕ };
 
-    ghost view = { λ c. texts_joined c.pieces };
+    ghost view = { λ c. concat c.pieces };
 }
 
 impl CertificateText {
     /// The text of these pieces. It takes no memory.
     pub fn from_pieces(pieces: List<Text>) -> CertificateText
-        ensures { result ≡ texts_joined pieces }
+        ensures { result ≡ concat pieces }
     {
         CertificateText { pieces }
     }
 
     /// The pieces.
     pub fn as_pieces(&self) -> &[Text]
-        ensures { texts_joined result.now ≡ self.now }
+        ensures { concat result.now ≡ self.now }
     {
         self.pieces.as_slice()
     }
 
     /// The pieces, handed out. It takes no memory.
     pub fn into_pieces(self) -> List<Text>
-        ensures { texts_joined result ≡ self }
+        ensures { concat result ≡ self }
     {
         self.pieces
     }

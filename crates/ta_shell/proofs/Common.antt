@@ -1,4 +1,5 @@
 -- The names that the proofs of this crate cite, passed on from one place. Declares nothing.
+pub use Rattle.std.specs.List.{concat}
 pub use Rattle.std.proofs.Common.{Bor, Err, List, None, Ok, Option, Result, Some, [], add-one, ap, append_assoc, arith, drop, drop-cons, get_or, inl, inr, length, length-append, refl, rules, subst, suc, sym, take, ℕ, ◌++◌, ◌+◌, ◌<◌, ◌∙◌, ◌∷◌, ◌≡◌, ◌≢◌, ◌≤◌, ◌⊎◌}
 pub use Rattle.std.proofs.lemmas.List.{append-nil, append_cancel_left, drop_at, length-take-le, take-append-drop, take-append-le, take_more}
 pub use Rattle.std.specs.Option.{IfSome}
@@ -12,7 +13,7 @@ pub use Rattle.ta_shell.specs.Commands.{AnswerHolds, Decides, Exact, IsSo, Judge
 pub use Rattle.ta_shell.specs.Ends.{Calm, End, Ends, FailureTold, Finishes, IsAnswered, IsHindered, Performs, Quiet, SinkFaltered, SinkState, State, Telling, Tells}
 pub use Rattle.ta_shell.specs.Ends.End.{Done, NoMemory, Stopped, Unput, Unread, Unwritten}
 pub use Rattle.ta_shell.specs.Lines.{file_line, longer_than, missing, phrase_text, piece_text, pieces_text, refusal_line, refusal_number}
-pub use Rattle.ta_shell.specs.Puts.{HoldsPut, HoldsText, KeptBut, PutsWithin, Stand, StopAt, texts_joined}
+pub use Rattle.ta_shell.specs.Puts.{HoldsPut, HoldsText, KeptBut, PutsWithin, Stand, StopAt}
 pub use Rattle.ta_shell.specs.Reading.{Gives, IsReading, IsUnreadable, ReadCause, ReadsFile, SaysOfFile, UnreadBy}
 pub use Rattle.ta_shell.specs.Sights.{Absent, Begins, HasBytes, HasMore, Part, Sight, View, Whole, in_calls, in_files, seen, where_told}
 pub use Rattle.ta_shell.specs.Stages.{FileIsAtFault, FileMeans, Hinders, IsBroken, Kind, ReadingGoesOn, Stage, after, finds, replies, settles}

@@ -2,7 +2,6 @@
 pub mod Clauses
 pub mod Views
 pub mod Read
-pub mod Joined
 pub mod PiecesSeen
 mod Pieces
 mod PutOrder

@@ -4,15 +4,11 @@ use Rattle.ta_shelf.specs.Put.{OthersStay, Told, WhereTold}
 use Rattle.ta_shell.specs.declared.answer.Content.{Content}
 use Rattle.ta_shell.specs.declared.answer.Content.TheVariants.{Pieces, Bytes}
 use Rattle.ta_shell.specs.declared.answer.Put.{Put}
-
--- texts, one behind the other
-abbrev pub texts_joined : List (List ℕ) → List ℕ
-texts_joined [] = []
-texts_joined (t ∷ ts) = t ++ texts_joined ts
+use Rattle.std.specs.List.{concat}
 
 -- the bytes of a content: its texts, one behind the other, or its bytes
 abbrev pub content_bytes : Content → List ℕ
-content_bytes (Pieces texts) = texts_joined texts
+content_bytes (Pieces texts) = concat texts
 content_bytes (Bytes bytes) = bytes
 
 -- what is put

@@ -1,10 +1,10 @@
 //! Putting files on the shelf.
 #![tactic(auto)]
 
+ghost use Rattle.std.specs.List.{concat};
 ghost use Rattle.std.specs.Prelude.{◌≡◌};
 ghost use Rattle.ta_shelf.specs.Put.{PutFailsOnlyFaulted};
 ghost use Rattle.ta_shell.specs.Putting.{PutCause, Puts, PutsAll, PutsText};
-ghost use Rattle.ta_shell.specs.Puts.{texts_joined};
 
 use crate::answer::{Content, Put, Refusal};
 use ta_base::Text;
@@ -45,7 +45,7 @@ fn put_file<S: Shelf>(shelf: &mut S, put: &Put) -> Result<(), PutFault>
 
 /// Makes a file anew and fills it with texts, one behind the other.
 fn put_pieces<S: Shelf>(shelf: &mut S, name: &str, pieces: &[Text]) -> Result<(), PutFault>
-    ensures puts { PutsText result name.now (texts_joined pieces.now) (S.files shelf.old) (S.files shelf.new) }
+    ensures puts { PutsText result name.now (concat pieces.now) (S.files shelf.old) (S.files shelf.new) }
     ensures log { S.calls shelf.new ≡ S.calls shelf.old }
     ensures cause { PutFailsOnlyFaulted result (S.faults shelf.old) (S.faults shelf.new) }
 {

@@ -12,11 +12,13 @@
 -- variables, which are natural, times cells that are at most 0, or the least of them had entered; and greater ones, which
 -- don't change, so that they are outside the basis at k too, and are 0. So it is negative, and the two sides differ.
 -- There are at most 2 ^ n bases, so the rule ends before as many steps (`Ends`).
-use Rattle.ta_simplex.proofs.Common.{◌≡◌, ◌≢◌, ◌⊎◌, inl, inr, ℕ, suc, ◌+◌, ◌*◌, ◌<◌, ◌≤◌, List, [], ◌∷◌, length, get_or, Bool, true, false, arith, refl, sym, ap, ◌∙◌, subst, ℤ, pos, ◌*ℤ◌, ◌<ℤ◌, ◌≤ℤ◌, cases_eq, cases_order, cases_Bool, ints, ge-zero_of_mul, lt-zero_of_mul, mul-ge-zero, mul-le-zero, mul-le-zero_turned, mul-lt-zero, switches, Tableau, row_of, basic_of, non_basic_of, dot, IsDictionary, Leaves, Enters, *ℤ-zero}
+use Rattle.ta_simplex.proofs.Common.{◌≡◌, ◌≢◌, inl, inr, ℕ, suc, ◌+◌, ◌*◌, ◌<◌, ◌≤◌, List, [], ◌∷◌, length, get_or, Bool, true, false, arith, refl, sym, ap, ◌∙◌, subst, ℤ, pos, ◌*ℤ◌, ◌<ℤ◌, ◌≤ℤ◌, cases_eq, cases_order, cases_Bool, ints, ge-zero_of_mul, lt-zero_of_mul, mul-ge-zero, mul-le-zero, mul-le-zero_turned, mul-lt-zero, switches, Tableau, row_of, basic_of, non_basic_of, dot, IsDictionary, Leaves, Enters, *ℤ-zero}
 use Rattle.std.proofs.Common.{true≢false}
 use Rattle.std.proofs.lemmas.Bool.{false≢true}
 use Rattle.ta_simplex.proofs.Basic.{is_basic}
 use Rattle.ta_base.proofs.Searches.{Moves, Stays, moves_or_stays, greatest_or_none}
+use Rattle.ta_base.proofs.Booleans.{other_of}
+use Rattle.std.proofs.Math.Logic.{⊎_swap}
 
 -- a sum of numbers that are at most 0
 dot-le-zero : (cs : List ℤ) (us : List ℕ) (value : ℕ → ℤ) → ((j : ℕ) → j < length cs → (get_or cs j (pos 0) *ℤ value (get_or us j 0)) ≤ℤ pos 0) → dot cs us value ≤ℤ pos 0
@@ -186,22 +188,14 @@ no_basis_repeats A n at s t h moments same =
             | inl yes_s ↦
                 let no_i = other_of (f i) (f s) true false g.2.3 yes_s (either i) in
                 let fall = switches f true false s i true≢false either g.2.1 yes_s no_i in
-                let rise = switches f false true i t false≢true (λ k. swap (either k)) g.2.2 no_i (sym ends ∙ yes_s) in
+                let rise = switches f false true i t false≢true (λ k. ⊎_swap (either k)) g.2.2 no_i (sym ends ∙ yes_s) in
                 core A n at s t g.0 fall.0 rise.0 g.1 g.3 fall.1 (let e = fall.2 in let e' = g.2.2 in omega arith) (moments fall.0 fall.1 (let e = fall.2 in let e' = g.2.2 in omega arith)) fall.3 fall.4
                 (let e = rise.1 in let e' = g.2.1 in omega arith) rise.2 (moments rise.0 (let e = rise.1 in let e' = g.2.1 in omega arith) rise.2) rise.3 rise.4
             | inr no_s ↦
-                let yes_i = other_of (f i) (f s) false true g.2.3 no_s (swap (either i)) in
-                let rise = switches f false true s i false≢true (λ k. swap (either k)) g.2.1 no_s yes_i in
+                let yes_i = other_of (f i) (f s) false true g.2.3 no_s (⊎_swap (either i)) in
+                let rise = switches f false true s i false≢true (λ k. ⊎_swap (either k)) g.2.1 no_s yes_i in
                 let fall = switches f true false i t true≢false either g.2.2 yes_i (sym ends ∙ no_s) in
                 core A n at s t g.0 fall.0 rise.0 g.1 g.3 (let e = fall.1 in let e' = g.2.1 in omega arith) fall.2 (moments fall.0 (let e = fall.1 in let e' = g.2.1 in omega arith) fall.2) fall.3 fall.4
                 rise.1 (let e = rise.2 in let e' = g.2.2 in omega arith) (moments rise.0 rise.1 (let e = rise.2 in let e' = g.2.2 in omega arith)) rise.3 rise.4
           ]
     ]
-  where
-    swap : {P Q : Type 0} → P ⊎ Q → Q ⊎ P
-    swap (inl p) = inr p
-    swap (inr q) = inl q
-
-    other_of : (a b v w : Bool) → (a ≡ b → ⊥) → b ≡ v → (a ≡ v) ⊎ (a ≡ w) → a ≡ w
-    other_of a b v w ne e (inl p) = absurd (ne (p ∙ sym e))
-    other_of a b v w ne e (inr q) = q

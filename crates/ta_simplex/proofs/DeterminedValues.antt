@@ -1,6 +1,7 @@
 -- the values of a vertex are one list
-use Rattle.ta_simplex.proofs.Common.{◌≡◌, inl, inr, ℕ, suc, ◌<◌, List, [], ◌∷◌, length, arith, refl, sym, ap, ◌∙◌, subst, ℤ, pos, ◌<ℤ◌, Option, Some, None, slice_get, IsSomeAnd, positive_prop, System, Tableau, row_of, basic_of, non_basic_of, DictionaryOf, GivesValues, Fraction}
+use Rattle.ta_simplex.proofs.Common.{◌≡◌, inl, inr, ℕ, ◌<◌, List, arith, sym, ap, ◌∙◌, subst, ℤ, pos, ◌<ℤ◌, Option, Some, None, slice_get, IsSomeAnd, positive_prop, System, Tableau, row_of, basic_of, non_basic_of, DictionaryOf, GivesValues, Fraction}
 use mathlib.Core.HLevel.{is_prop→PathP}
+use Rattle.ta_base.proofs.Lists.{same_items}
 
 -- a fraction is its top and its bottom
 fraction_same : (f g : Fraction) → f.top ≡ g.top → f.bottom ≡ g.bottom → f ≡ g
@@ -16,19 +17,9 @@ value_same None q top bottom is are = absurd is
 value_same (Some f) None top bottom is are = absurd are
 value_same (Some f) (Some g) top bottom is are = ap Some (fraction_same f g (is.0 ∙ sym are.0) (is.1 ∙ sym are.1))
 
--- lists are one that have one value at each place
-places_same : (fs gs : List Fraction) → length fs ≡ length gs → ((x : ℕ) → x < length fs → slice_get fs x ≡ slice_get gs x) → fs ≡ gs
-places_same [] [] e same = refl
-places_same [] (g ∷ gs) e same = absurd (omega arith)
-places_same (f ∷ fs) [] e same = absurd (omega arith)
-places_same (f ∷ fs) (g ∷ gs) e same =
-    let first = same 0 (omega arith) in
-    let rest = places_same fs gs (omega arith) (λ x h. same (suc x) (omega arith)) in
-    cc
-
 -- a dictionary gives each unknown one value
 pub values_once : (s : System) (t : Tableau) (fs gs : List Fraction) → DictionaryOf s t → GivesValues t s.unknowns fs → GivesValues t s.unknowns gs → fs ≡ gs
-values_once s t fs gs d is are = places_same fs gs (is.count ∙ sym are.count) (λ x h. place x (let k = is.count in omega arith))
+values_once s t fs gs d is are = same_items fs gs (is.count ∙ sym are.count) (λ x h. place x (let k = is.count in omega arith))
   where
     place : (x : ℕ) → x < s.unknowns → slice_get fs x ≡ slice_get gs x
     place x h =

@@ -1,6 +1,8 @@
 use Rattle.ta_simplex.proofs.Common.{◌≡◌, inl, inr, ℕ, suc, ◌+◌, ◌<◌, List, [], ◌∷◌, length, get_or, cond, eqb, arith, refl, sym, ap, ◌∙◌, ℤ, pos, ◌+ℤ◌, ◌*ℤ◌, ◌-ℤ◌, neg_ℤ, ◌<ℤ◌, ◌≤ℤ◌, cases_eq, eqb_tells, ints, *ℤ_comm, expand, single, single-at, single-elsewhere, single-le, sum_between, sum-add, sum-single, sum-split, sum-sub, sum-upto, sum-zero, TableauRow, dot, EquationHolds, terms_value, coefficient, slack_at, SlacksFollow, Row, AllBelow, terms_value-same, slacks_follow, extended-unknown, extended-slack}
 use Rattle.ta_base.proofs.Sums.{sum_between-next, sum_between-none}
 use Rattle.ta_dense.proofs.SlackDictionary.{extended}
+use Rattle.ta_base.proofs.Integers.{one_times, and_none, balance_of_one}
+use Rattle.std.proofs.Math.IntN.{+ℤ_idl}
 
 -- the cells of a variable, added up: at most one, where the variables differ
 unfoldable pub cells_at : List ℤ → List ℕ → ℕ → ℤ
@@ -93,26 +95,17 @@ at_choice u rs r us scale want number known below inside holds is =
 pub leaf_constant : (u : ℕ) (rs : List Row) (r : TableauRow) (us : List ℕ) → AllBelow u rs → r.basic < u + length rs → ((j : ℕ) → j < length us → get_or us j 0 < u + length rs) →
     ((s : ℤ) (value : ℕ → ℤ) → SlacksFollow rs u s value → EquationHolds us r s value) → slack_weighted (weight r us) u rs (λ q. q.form.constant) ≡ r.constant
 leaf_constant u rs r us known below inside holds =
-    let e = at_choice u rs r us (pos 1) (λ _. pos 0) (λ q. q.form.constant) known below inside holds (λ q. ap (λ (z : ℤ). z +ℤ pos 1 *ℤ q.form.constant) (terms_value-zero q.form.terms) ∙ one q.form.constant) in
+    let e = at_choice u rs r us (pos 1) (λ _. pos 0) (λ q. q.form.constant) known below inside holds (λ q. ap (λ (z : ℤ). z +ℤ pos 1 *ℤ q.form.constant) (terms_value-zero q.form.terms) ∙ +ℤ_idl (pos 1 *ℤ q.form.constant) ∙ one_times q.form.constant) in
     let z = sum-upto 0 u (λ w. weight r us w *ℤ pos 0) (λ _. pos 0) (λ w h. omega (arith, ints)) ∙ sum-zero 0 u in
     omega (arith, ints, e, z)
-  where
-    one : (z : ℤ) → pos 0 +ℤ pos 1 *ℤ z ≡ z
-    one z = omega (arith, ints)
 
 -- the slack_weighted coefficients of an unknown add up to what its own weight takes away
 pub leaf_column : (u : ℕ) (rs : List Row) (r : TableauRow) (us : List ℕ) (k : ℕ) → k < u → AllBelow u rs → r.basic < u + length rs → ((j : ℕ) → j < length us → get_or us j 0 < u + length rs) →
     ((s : ℤ) (value : ℕ → ℤ) → SlacksFollow rs u s value → EquationHolds us r s value) → slack_weighted (weight r us) u rs (λ q. coefficient q.form.terms k) ≡ neg_ℤ (weight r us k)
 leaf_column u rs r us k h known below inside holds =
-    let e = at_choice u rs r us (pos 0) (single k (pos 1)) (λ q. coefficient q.form.terms k) known below inside holds (λ q. ap (λ (z : ℤ). z +ℤ pos 0 *ℤ q.form.constant) (terms_value-single q.form.terms k) ∙ nought (coefficient q.form.terms k) q.form.constant) in
+    let e = at_choice u rs r us (pos 0) (single k (pos 1)) (λ q. coefficient q.form.terms k) known below inside holds (λ q. ap (λ (z : ℤ). z +ℤ pos 0 *ℤ q.form.constant) (terms_value-single q.form.terms k) ∙ and_none (coefficient q.form.terms k) q.form.constant) in
     let z = sum-upto 0 u (λ w. weight r us w *ℤ single k (pos 1) w) (λ w. single k (pos 1) w *ℤ weight r us w) (λ w h. *ℤ_comm (weight r us w) (single k (pos 1) w)) ∙ sum-single 0 u k (pos 1) (weight r us) (omega arith) (omega arith) in
-    finish (weight r us k) (slack_weighted (weight r us) u rs (λ q. coefficient q.form.terms k)) (sum_between 0 u (λ w. weight r us w *ℤ single k (pos 1) w)) r.constant e z
-  where
-    nought : (x c : ℤ) → x +ℤ pos 0 *ℤ c ≡ x
-    nought x c = omega (arith, ints)
-
-    finish : (w s t c : ℤ) → t +ℤ s ≡ pos 0 *ℤ c → t ≡ pos 1 *ℤ w → s ≡ neg_ℤ w
-    finish w s t c e z = omega (arith, ints, e, z)
+    balance_of_one (weight r us k) (slack_weighted (weight r us) u rs (λ q. coefficient q.form.terms k)) (sum_between 0 u (λ w. weight r us w *ℤ single k (pos 1) w)) r.constant e z
 
 cells_at-le : (cs : List ℤ) (us : List ℕ) (w : ℕ) → length cs ≡ length us → ((j : ℕ) → j < length us → get_or cs j (pos 0) ≤ℤ pos 0) → cells_at cs us w ≤ℤ pos 0
 unfolding cells_at

@@ -1,5 +1,5 @@
 -- the values of a vertex, row by row
-use Rattle.ta_simplex.proofs.Common.{◌≡◌, ◌≢◌, inl, inr, ℕ, zero, ◌+◌, ◌<◌, ◌≤◌, List, [], ◌∷◌, ◌++◌, length, set, arith, sym, ap, ◌∙◌, subst, ℤ, pos, Option, IsSomeAnd, cases_eq, cases_lt, length-set, length-append, get-set_other, get-set_same, Tableau, row_of, basic_of, non_basic_of, IsBasis, ValueIs, AreZeros, GivesValues, Fraction, get_end, slice_get_before}
+use Rattle.ta_simplex.proofs.Common.{◌≡◌, ◌≢◌, inl, inr, ℕ, ◌+◌, ◌<◌, ◌≤◌, List, [], ◌∷◌, ◌++◌, length, set, arith, sym, ap, ◌∙◌, subst, ℤ, pos, Option, IsSomeAnd, cases_eq, cases_lt, length-set, length-append, get-set_other, get-set_same, Tableau, row_of, basic_of, non_basic_of, IsBasis, ValueIs, AreZeros, GivesValues, Fraction, get_end, slice_get_before}
 
 -- the basic unknowns of the rows before one have their values, and every other unknown is 0
 pub record ValuesSoFar (t : Tableau) (unknowns row : ℕ) (values : List Fraction) : Type 0 where

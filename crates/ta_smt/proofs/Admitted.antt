@@ -1,5 +1,5 @@
 -- Values that are admitted, and why values aren't.
-use Rattle.ta_smt.proofs.Common.{◌≡◌, ◌≢◌, ℕ, zero, suc, ◌≤◌, ◌^◌, ℤ, pos, Bool, true, false, List, [], ◌∷◌, length, map, reverse, slice_get, get_or, unsigned_abs, Some, arith, refl, sym, ap, subst, ◌∙◌, length-append, All, AllByRecursion, slice_index, false≢true, length-map, all_at, PassedTo, same_pattern, AllBelow, StaysInRange, RowHolds, Solves, point_of, Row, System, File, Pattern, RowFails, RowOutOfRange, RowPasses, RowsOver, Value, Element, LegalWord, is_complete, AreRowsOf, SystemOf, pattern_search, LinearRow, bound_row, system_rows, word_rows, rows_count, solution_back, unbounded, AdmitFault, AdmitFaultOf, Admits, AdmitsAreExact, AskedWord, IsCompleteWord, IsIncomplete, SystemStays, SystemAsked, asked, IsValuesText, BadRow, CheckFault, IsChecked, PassesCheck, RowFault, RowStops, RunFault, IsRunOfValues, WordFault, LineFault, solution_of as solves_of, Automaton}
+use Rattle.ta_smt.proofs.Common.{◌≡◌, ◌≢◌, ℕ, ◌≤◌, ◌^◌, ℤ, pos, Bool, true, false, List, [], ◌∷◌, length, map, reverse, slice_get, get_or, unsigned_abs, Some, arith, refl, sym, ap, subst, ◌∙◌, length-append, All, AllByRecursion, slice_index, false≢true, length-map, all_at, PassedTo, same_pattern, AllBelow, StaysInRange, RowHolds, Solves, point_of, Row, System, File, Pattern, RowFails, RowOutOfRange, RowPasses, RowsOver, Value, Element, LegalWord, is_complete, AreRowsOf, SystemOf, pattern_search, LinearRow, bound_row, system_rows, word_rows, rows_count, solution_back, unbounded, AdmitFault, AdmitFaultOf, Admits, AdmitsAreExact, AskedWord, IsCompleteWord, IsIncomplete, SystemStays, SystemAsked, asked, IsValuesText, BadRow, CheckFault, IsChecked, PassesCheck, RowFault, RowStops, RunFault, IsRunOfValues, WordFault, LineFault, solution_of as solves_of, Automaton}
 use Rattle.ta_encode.specs.Search.{Pending}
 use Rattle.ta_words.specs.declared.task.Task.{Task}
 use Rattle.ta_cursor.proofs.RowCounts.{few_rows}
@@ -12,6 +12,8 @@ use Rattle.ta_smt.specs.Admit.{solution_of}
 use Rattle.ta_smt.proofs.Forms.{rows_stay}
 use Rattle.ta_smt.proofs.Solutions.{holds_same, naturals_from, points}
 use Rattle.ta_smt.proofs.ValueTexts.{not_both, values_once}
+use Rattle.std.proofs.lemmas.List.Elements.{All-from_recursion}
+use Rattle.ta_base.proofs.Each.{each_from}
 
 -- the word as it is pending, without bounds
 abbrev pub pending : AskedWord → Pending
@@ -34,12 +36,6 @@ twins file word s z is are =
 pub stay_alike : (file : File) (word : AskedWord) (values : List ℤ) (s z : System) → SystemAsked file word s → SystemAsked file word z → SystemStays values s → SystemStays values z
 stay_alike file word values s z is are stay = let t = twins file word s z is are in rows_stay t.linear s.rows z.rows t.is t.are (point_of values) stay
 
--- rows that pass hold
-pass_all : (P : Row → Type 0) (rows : List Row) → ((j : ℕ) (row : Row) → slice_get rows j ≡ Some row → P row) → All P rows
-pass_all P [] each k d b = absurd (omega arith)
-pass_all P (r ∷ rs) each zero d b = each 0 r refl
-pass_all P (r ∷ rs) each (suc k) d b = pass_all P rs (λ j row e. each (suc j) row e) k d (omega arith)
-
 -- values that pass the check are a solution
 pub solves : (system : System) (values : List ℤ) → AllByRecursion Value values → IsChecked system values → Solves system (map unsigned_abs values)
 solves system values natural checked =
@@ -47,7 +43,7 @@ solves system values natural checked =
     let same : (x : ℕ) → point_of values x ≡ pos (slice_index (map unsigned_abs values) x) = λ x. ap (λ zs. point_of zs x) are ∙ points (map unsigned_abs values) x in
     record {
       count = length-map values unsigned_abs ∙ checked.counted;
-      rows_hold = pass_all (RowHolds (λ x. pos (slice_index (map unsigned_abs values) x))) system.rows (λ j row at. holds_same (point_of values) (λ x. pos (slice_index (map unsigned_abs values) x)) same row (checked.pass j row at).holds);
+      rows_hold = All-from_recursion (RowHolds (λ x. pos (slice_index (map unsigned_abs values) x))) system.rows (each_from (RowHolds (λ x. pos (slice_index (map unsigned_abs values) x))) system.rows (λ j row at. holds_same (point_of values) (λ x. pos (slice_index (map unsigned_abs values) x)) same row (checked.pass j row at).holds));
     }
 
 pub solution_from : (file : File) (word : AskedWord) (values : List ℤ) (complete : IsCompleteWord file word) → ((p : Pattern) → slice_get file.patterns word.pattern ≡ Some p → LegalWord file.automaton p word.start (reverse word.elements)) → AllByRecursion Value values → PassesCheck file word values → IsSolution file (solution_of word values)

@@ -1,7 +1,8 @@
 -- Numbers and elements of words, from their texts.
-use Rattle.ta_smt.proofs.Common.{◌≡◌, ◌≢◌, ◌≤◌, ◌<◌, ◌^◌, ◌&&◌, ◌||◌, ◌∙◌, ◌≤ℤ◌, ℕ, zero, suc, ℤ, pos, List, [], ◌∷◌, ◌++◌, Bool, true, false, nat_eq, cond, Bor, map, append-nil, Option, None, Some, is_some, refl, sym, ap, subst, arith, rules, decimal, codes, option_map, option_and_then, MatchOption, list_all, slice_split, bytes_eq, signed_decimal, ints, found_here, none_here, InRange, Value, number_same, Element, those_elements, with_element, each_element, element_of, elements_in, elements_of, number_up_to, map-append}
+use Rattle.ta_smt.proofs.Common.{◌≡◌, ◌≢◌, ◌≤◌, ◌<◌, ◌^◌, ◌&&◌, ◌||◌, ◌∙◌, ◌≤ℤ◌, ℕ, zero, suc, ℤ, pos, List, [], ◌∷◌, ◌++◌, true, false, nat_eq, Bor, map, append-nil, Option, None, Some, is_some, refl, sym, ap, subst, arith, rules, decimal, codes, option_map, option_and_then, MatchOption, list_all, slice_split, bytes_eq, signed_decimal, ints, found_here, none_here, InRange, Value, number_same, Element, those_elements, with_element, each_element, element_of, elements_in, elements_of, number_up_to, map-append}
 use Rattle.std.specs.Option.{unwrap_or}
 use Rattle.ta_replay.specs.Reading.{IsNumber}
+use Rattle.ta_base.proofs.Options.{some_more, some_by, value_by}
 
 -- a text that is written as a number
 abbrev pub same_bytes : List ℕ → List ℕ → Type 0
@@ -49,21 +50,12 @@ number_by limit bytes value shown None low is same h = number_above limit bytes 
 number_by limit bytes value shown (Some n) low is same h = number_here limit n bytes value low is (sym same ∙ h.0) h.1
 
 -- whether there are elements for some texts is whether there is one for each
-some_more : (o : Option Element) (more : Option (List Element)) → is_some (option_and_then (λ (e : Element). option_map (λ es. e ∷ es) more) o) ≡ (is_some o && is_some more)
-some_more None more = refl
-some_more (Some e) None = refl
-some_more (Some e) (Some es) = refl
-
 pub each_some : (texts : List (List ℕ)) → is_some (each_element texts) ≡ list_all (λ text. is_some (element_of text)) texts
 each_some [] = refl
 each_some (text ∷ texts) = some_more (element_of text) (each_element texts) ∙ ap (λ b. is_some (element_of text) && b) (each_some texts)
 
-elements_by : (b : Bool) (o : Option (List Element)) → is_some (cond b (Some []) o) ≡ (b || is_some o)
-elements_by true o = refl
-elements_by false o = refl
-
 pub elements_some : (text : List ℕ) → is_some (elements_of text) ≡ (bytes_eq text (codes "-") || list_all (λ part. is_some (element_of part)) (slice_split (λ c. nat_eq c 44) text))
-elements_some text = elements_by (bytes_eq text (codes "-")) (each_element (slice_split (λ c. nat_eq c 44) text)) ∙ ap (λ b. bytes_eq text (codes "-") || b) (each_some (slice_split (λ c. nat_eq c 44) text))
+elements_some text = some_by (bytes_eq text (codes "-")) [] (each_element (slice_split (λ c. nat_eq c 44) text)) ∙ ap (λ b. bytes_eq text (codes "-") || b) (each_some (slice_split (λ c. nat_eq c 44) text))
 
 pub elements_else : (text : List ℕ) → bytes_eq text (codes "-") ≡ false → list_all (λ part. is_some (element_of part)) (slice_split (λ c. nat_eq c 44) text) ≡ is_some (elements_of text)
 elements_else text other = sym ((elements_some text) ∙ ap (λ b. b || (list_all (λ part. is_some (element_of part)) (slice_split (λ c. nat_eq c 44) text))) other)
@@ -78,12 +70,8 @@ those_all : (texts : List (List ℕ)) → is_some (each_element texts) ≡ true 
 those_all [] some = refl
 those_all (text ∷ texts) some = those_more (element_of text) (each_element texts) (those_elements texts) some (those_all texts)
 
-in_by : (b : Bool) (o : Option (List Element)) (rest : List Element) → b ≡ false → is_some (cond b (Some []) o) ≡ true → (is_some o ≡ true → unwrap_or o [] ≡ rest) → rest ≡ unwrap_or (cond b (Some []) o) []
-in_by true o rest e some same = absurd (cc)
-in_by false o rest e some same = sym (same some)
-
 pub elements_read : (text : List ℕ) → bytes_eq text (codes "-") ≡ false → is_some (elements_of text) ≡ true → those_elements (slice_split (λ c. nat_eq c 44) text) ≡ elements_in text
-elements_read text other some = in_by (bytes_eq text (codes "-")) (each_element (slice_split (λ c. nat_eq c 44) text)) (those_elements (slice_split (λ c. nat_eq c 44) text)) other some (those_all (slice_split (λ c. nat_eq c 44) text))
+elements_read text other some = value_by (bytes_eq text (codes "-")) [] (those_elements (slice_split (λ c. nat_eq c 44) text)) (each_element (slice_split (λ c. nat_eq c 44) text)) other some (those_all (slice_split (λ c. nat_eq c 44) text))
 
 with_append : (o : Option Element) (xs ys : List Element) → with_element o (xs ++ ys) ≡ with_element o xs ++ ys
 with_append None xs ys = refl

@@ -1,5 +1,5 @@
 -- A form in normal order is determined by its numbers, so a word has one system as far as its rows are evaluated.
-use Rattle.ta_smt.proofs.Common.{◌≡◌, ℕ, ◌+◌, ◌^◌, ℤ, pos, ◌+ℤ◌, ◌≤ℤ◌, List, [], ◌∷◌, slice_get, Some, zero, suc, refl, sym, subst, ◌∙◌, same_Some, StaysInRange, RowHolds, terms_value, Row, RowFails, RowOutOfRange, RowPasses, RowsPass, IsRowOf, AreRowsOf, LinearRow, RowStops}
+use Rattle.ta_smt.proofs.Common.{◌≡◌, ℕ, ◌^◌, ℤ, pos, ◌+ℤ◌, ◌≤ℤ◌, List, [], ◌∷◌, slice_get, Some, zero, suc, refl, sym, subst, ◌∙◌, same_Some, StaysInRange, RowHolds, terms_value, Row, RowFails, RowOutOfRange, RowPasses, RowsPass, IsRowOf, AreRowsOf, LinearRow, RowStops}
 use Rattle.ta_linear.proofs.NormalTerms.{normal_unique}
 
 -- two rows have the same numbers

@@ -1,6 +1,7 @@
 -- Elements that make a word, one by one.
-use Rattle.ta_smt.proofs.Common.{◌≡◌, ◌<◌, ◌≤◌, ℕ, zero, suc, ◌+◌, Bool, false, List, [], ◌∷◌, length, reverse, take, slice_get, get_or, Some, arith, inl, inr, refl, sym, ap, subst, ◌∙◌, ◌↔◌, IsTrue, cases_order, false≢true, take-take, slice_get-get_or, front_get, take_next, Pattern, In, Element, LegalWord, children, FirstStranger, Automaton}
-use Rattle.ta_encode.proofs.InOrder.{past_push, prefix_is_legal}
+use Rattle.ta_smt.proofs.Common.{◌≡◌, ◌<◌, ◌≤◌, ℕ, ◌+◌, Bool, false, List, [], ◌∷◌, length, reverse, take, slice_get, get_or, Some, arith, inl, inr, sym, ap, subst, ◌∙◌, ◌↔◌, IsTrue, cases_order, false≢true, take-take, slice_get-get_or, front_get, take_next, Pattern, In, Element, LegalWord, children, FirstStranger, Automaton}
+use Rattle.ta_encode.proofs.InOrder.{prefix_is_legal}
+use Rattle.std.proofs.lemmas.List.{length-take-le, reverse-append}
 
 -- a legal word so far
 pub record Spells (a : Automaton) (p : Pattern) (start : ℕ) (elements : List Element) (i : ℕ) (word : List Element) : Type 0 where
@@ -19,7 +20,7 @@ stranger a p start elements word i element spells at none = record {
 pub no_stranger : (a : Automaton) (p : Pattern) (start : ℕ) (elements : List Element) (k : ℕ) → LegalWord a p start (reverse elements) → FirstStranger a p start elements k → ⊥
 no_stranger a p start elements k legal first =
     let more = prefix_is_legal a p start elements legal (k + 1) in
-    let split : reverse (take (k + 1) elements) ≡ first.element ∷ reverse (take k elements) = ap reverse (take_next elements k first.element first.at) ∙ past_push (take k elements) first.element in
+    let split : reverse (take (k + 1) elements) ≡ first.element ∷ reverse (take k elements) = ap reverse (take_next elements k first.element first.at) ∙ reverse-append (take k elements) (first.element ∷ []) in
     first.stranger (subst (LegalWord a p start) split more).0
 
 -- the first one is at one place
@@ -40,12 +41,7 @@ stranger_once a p start elements j k first other = elim (cases_order j k) [
 
 -- as many elements as were taken
 pub spelled_length : (a : Automaton) (p : Pattern) (start : ℕ) (elements : List Element) (i : ℕ) (word : List Element) → i ≤ length elements → Spells a p start elements i word → length word ≡ i
-spelled_length a p start elements i word within spells = ap length spells.so_far ∙ taken elements i within
-  where
-    taken : (xs : List Element) (i : ℕ) → i ≤ length xs → length (take i xs) ≡ i
-    taken xs zero within = refl
-    taken [] (suc i) within = absurd (omega arith)
-    taken (x ∷ xs) (suc i) within = ap suc (taken xs i (omega arith))
+spelled_length a p start elements i word within spells = ap length spells.so_far ∙ length-take-le i elements within
 
 pub stranger_found : (a : Automaton) (p : Pattern) (start : ℕ) (elements word : List Element) (i : ℕ) (d : Element) (r : Bool) → Spells a p start elements i word → i < length elements → IsTrue r ↔ In (get_or elements i d) (children a p [] start (reverse word)) → r ≡ false → FirstStranger a p start elements i
 stranger_found a p start elements word i d r spells within told is =

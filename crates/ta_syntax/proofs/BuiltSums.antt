@@ -6,6 +6,7 @@ use Rattle.ta_syntax.specs.declared.tokens.Kind.TheVariants as kind
 use Rattle.ta_syntax.specs.declared.tokens.Mark.TheVariants as mark
 use Rattle.ta_syntax.specs.declared.sums.Sign.TheVariants as sign
 use Rattle.ta_syntax.proofs.SumSteps.{plain_sum_roll, plain_number, plain_times, plain_alone, plain_named, plain_nested, stated_number, stated_times, stated_alone, stated_named, stated_nested, stated_sum_roll, pairs}
+use Rattle.ta_base.proofs.Lists.{empty-not, empty_left}
 
 -- a list of the program with these items; where it lies in memory doesn't matter
 abbrev pub vec_of : {A : Type 0} (xs : List A) → length xs < 2 ^ 63 → Vec A
@@ -130,7 +131,7 @@ record BuiltFactor (f : Factor) (front : List Token) : Type 0 where
 
 -- a term has at least one token
 some_tokens : (t : Term) → IsTerm t → (b : List Kind) (ts : List Token) → kinds ts ≡ term_kinds t ++ b → 1 ≤ length (before (term_kinds t) ts)
-some_tokens t is b [] e = absurd (none (term_kinds t) (spelled t is) e)
+some_tokens t is b [] e = absurd (let s = spelled t is in empty-not s.0 s.1 (sym (empty_left (term_kinds t) b (sym e)) ∙ s.2))
   where
     spelled : (t : Term) → IsTerm t → (k : Kind) × (ks : List Kind) × (term_kinds t ≡ k ∷ ks)
     spelled (number d) is = (kind.Number d, [], refl)
@@ -138,9 +139,6 @@ some_tokens t is b [] e = absurd (none (term_kinds t) (spelled t is) e)
     spelled (alone (named n)) is = (kind.Name n, [], refl)
     spelled (alone (nested ts)) is = (kind.Fixed mark.Open, sum_kinds ts ++ kind.Fixed mark.Close ∷ [], refl)
     spelled blank is = absurd is
-
-    none : (a : List Kind) → (k : Kind) × (ks : List Kind) × (a ≡ k ∷ ks) → [] ≡ a ++ b → ⊥
-    none a s e = let f : [] ≡ s.0 ∷ (s.1 ++ b) = e ∙ ap (λ (x : List Kind). x ++ b) s.2 in cc
 some_tokens t is b (u ∷ ts) e = first t is
   where
     first : (t : Term) → IsTerm t → 1 ≤ length (before (term_kinds t) (u ∷ ts))

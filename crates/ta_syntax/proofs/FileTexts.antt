@@ -2,14 +2,7 @@
 use Rattle.ta_syntax.proofs.Common.{◌≡◌, Bool, true, false, List, [], ◌∷◌, ◌++◌, inl, inr, refl, sym, ap, subst, ◌∙◌, append_assoc, AllByRecursion, IsNameText, sum_kinds, relation_kind, PlainComparison, PlainLocation, PlainUpdate, PlainRule, PlainEvent, PlainPattern, PlainTree, listed, further, led, ended, each, name_kinds, initial_kinds, location_kinds, comparison_kinds, update_kinds, rule_kinds, event_kinds, pattern_kinds, file_kinds, IsSome, IsComparison, IsUpdate, IsRule, IsEvent, IsPattern, IsTree, FileText, GrammarPart, Text, nothing, a_mark, a_name, a_sum, both, maybe, many, upto, blocks, list_part, location_part, update_part, comparison_part, rule_part, event_part, pattern_part, blocks_part, file_part, with_mark, Kind, Mark}
 use Rattle.ta_syntax.specs.declared.tokens.Kind.TheVariants as kind
 use Rattle.ta_syntax.specs.declared.tokens.Mark.TheVariants as mark
-
--- a token and what follows it
-one : (ks a b c : List Kind) (k : Kind) → ks ≡ a ++ b → a ≡ k ∷ [] → b ≡ c → ks ≡ k ∷ c
-one ks a b c k e f g = e ∙ ap (λ (z : List Kind). z ++ b) f ∙ ap (λ (z : List Kind). k ∷ z) g
-
--- a piece and what follows it
-piece : (ks a b x c : List Kind) → ks ≡ a ++ b → a ≡ x → b ≡ c → ks ≡ x ++ c
-piece ks a b x c e f g = e ∙ ap (λ (z : List Kind). z ++ b) f ∙ ap (λ (z : List Kind). x ++ z) g
+use Rattle.ta_base.proofs.Lists.{one_piece, piece}
 
 -- A kind of trees, whose texts are those of the part.
 pub record IsPartOf {A : Type 0} (Is : A → Type 0) (kinds_of : A → List Kind) (p : GrammarPart) : Type 0 where
@@ -110,22 +103,22 @@ locations_are = record { to = λ l is. (kind.Name l.name ∷ [], initial_kinds l
     initial_to false = inl refl
 
     is_from : (ks : List Kind) → Text location_part ks → (l : PlainLocation) × IsLocation l × (ks ≡ location_kinds l)
-    is_from ks (a, b, (n, is, e), inl none, s) = (record { name = n; initial = false }, is, one ks a b [] (kind.Name n) s e none)
-    is_from ks (a, b, (n, is, e), inr x, s) = (record { name = n; initial = true }, is, one ks a b (kind.Fixed mark.Initial ∷ []) (kind.Name n) s e (x.2 ∙ ap (λ (z : List Kind). kind.Fixed mark.Initial ∷ z) x.1))
+    is_from ks (a, b, (n, is, e), inl none, s) = (record { name = n; initial = false }, is, one_piece ks a b [] (kind.Name n) s e none)
+    is_from ks (a, b, (n, is, e), inr x, s) = (record { name = n; initial = true }, is, one_piece ks a b (kind.Fixed mark.Initial ∷ []) (kind.Name n) s e (x.2 ∙ ap (λ (z : List Kind). kind.Fixed mark.Initial ∷ z) x.1))
 
 updates_are : IsPartOf IsUpdate update_kinds update_part
 updates_are = record { to = λ u is. (kind.Name u.name ∷ [], kind.Fixed mark.PlusEquals ∷ kind.Number u.amount ∷ [], (u.name, is.name, refl), (kind.Fixed mark.PlusEquals ∷ [], kind.Number u.amount ∷ [], refl, (u.amount, is.amount, refl), refl), refl); from = λ ks t. is_from ks t }
   where
     is_from : (ks : List Kind) → Text update_part ks → (u : PlainUpdate) × IsUpdate u × (ks ≡ update_kinds u)
     is_from ks (a, b, (n, is, e), (a2, b2, e2, (d, isd, e3), s2), s) =
-        (record { name = n; amount = d }, record { name = is; amount = isd }, one ks a b (kind.Fixed mark.PlusEquals ∷ kind.Number d ∷ []) (kind.Name n) s e (one b a2 b2 (kind.Number d ∷ []) (kind.Fixed mark.PlusEquals) s2 e2 e3))
+        (record { name = n; amount = d }, record { name = is; amount = isd }, one_piece ks a b (kind.Fixed mark.PlusEquals ∷ kind.Number d ∷ []) (kind.Name n) s e (one_piece b a2 b2 (kind.Number d ∷ []) (kind.Fixed mark.PlusEquals) s2 e2 e3))
 
 comparisons_are : IsPartOf IsComparison comparison_kinds comparison_part
 comparisons_are = record { to = λ c is. (sum_kinds c.left, relation_kind c.relation ∷ sum_kinds c.right, (c.left, is.left, refl), (relation_kind c.relation ∷ [], sum_kinds c.right, (c.relation, refl), (c.right, is.right, refl), refl), refl); from = λ ks t. is_from ks t }
   where
     is_from : (ks : List Kind) → Text comparison_part ks → (c : PlainComparison) × IsComparison c × (ks ≡ comparison_kinds c)
     is_from ks (a, b, (l, is, e), (a2, b2, (r, e2), (q, isq, e3), s2), s) =
-        (record { left = l; relation = r; right = q }, record { left = is; right = isq }, piece ks a b (sum_kinds l) (relation_kind r ∷ sum_kinds q) s e (one b a2 b2 (sum_kinds q) (relation_kind r) s2 e2 e3))
+        (record { left = l; relation = r; right = q }, record { left = is; right = isq }, piece ks a b (sum_kinds l) (relation_kind r ∷ sum_kinds q) s e (one_piece b a2 b2 (sum_kinds q) (relation_kind r) s2 e2 e3))
 
 -- ---- rules, events and patterns behind their keywords
 
@@ -156,11 +149,11 @@ rules_are = record { to = is_to; from = is_from }
         let w_kinds = led kind.Fixed mark.When comparison_kinds guards.0 ++ d_kinds in (
           record { name = n; from = f; to = t; guards = guards.0; updates = updates.0 },
           record { name = is_n; from = is_f; to = is_t; guards = guards.1; updates = updates.1 },
-          one ks a1 b1 (kind.Fixed mark.Colon ∷ kind.Name f ∷ kind.Fixed mark.Arrow ∷ kind.Name t ∷ w_kinds) (kind.Name n) s1 e1
-              (one b1 a2 b2 (kind.Name f ∷ kind.Fixed mark.Arrow ∷ kind.Name t ∷ w_kinds) (kind.Fixed mark.Colon) s2 e2
-              (one b2 a3 b3 (kind.Fixed mark.Arrow ∷ kind.Name t ∷ w_kinds) (kind.Name f) s3 e3
-              (one b3 a4 b4 (kind.Name t ∷ w_kinds) (kind.Fixed mark.Arrow) s4 e4
-              (one b4 a5 b5 w_kinds (kind.Name t) s5 e5
+          one_piece ks a1 b1 (kind.Fixed mark.Colon ∷ kind.Name f ∷ kind.Fixed mark.Arrow ∷ kind.Name t ∷ w_kinds) (kind.Name n) s1 e1
+              (one_piece b1 a2 b2 (kind.Name f ∷ kind.Fixed mark.Arrow ∷ kind.Name t ∷ w_kinds) (kind.Fixed mark.Colon) s2 e2
+              (one_piece b2 a3 b3 (kind.Fixed mark.Arrow ∷ kind.Name t ∷ w_kinds) (kind.Name f) s3 e3
+              (one_piece b3 a4 b4 (kind.Name t ∷ w_kinds) (kind.Fixed mark.Arrow) s4 e4
+              (one_piece b4 a5 b5 w_kinds (kind.Name t) s5 e5
               (piece b5 a6 b6 (led kind.Fixed mark.When comparison_kinds guards.0) d_kinds s6 guards.2
               (piece b6 a7 b7 (led kind.Fixed mark.Do update_kinds updates.0) (kind.Fixed mark.Semicolon ∷ []) s7 updates.2 e8)))))),
         )
@@ -189,9 +182,9 @@ events_are = record { to = is_to; from = is_from }
         let c = listed kind.Fixed comparison_kinds condition.0 ++ kind.Fixed mark.Semicolon ∷ [] in (
           record { name = n; after = names.0; condition = condition.0 },
           record { name = is_n; after = names.1; some = condition.1; condition = condition.2 },
-          one ks a1 b1 (led kind.Fixed mark.After name_kinds names.0 ++ kind.Fixed mark.Colon ∷ c) (kind.Name n) s1 e1
+          one_piece ks a1 b1 (led kind.Fixed mark.After name_kinds names.0 ++ kind.Fixed mark.Colon ∷ c) (kind.Name n) s1 e1
               (piece b1 a2 b2 (led kind.Fixed mark.After name_kinds names.0) (kind.Fixed mark.Colon ∷ c) s2 names.2
-              (one b2 a3 b3 c (kind.Fixed mark.Colon) s3 e3
+              (one_piece b2 a3 b3 c (kind.Fixed mark.Colon) s3 e3
               (piece b3 a4 b4 (listed kind.Fixed comparison_kinds condition.0) (kind.Fixed mark.Semicolon ∷ []) s4 condition.3 e5))),
         )
 
@@ -223,8 +216,8 @@ patterns_are = record { to = is_to; from = is_from }
         let s = ended kind.Fixed mark.Start comparison_kinds start.0 ++ m in (
           record { name = n; start = start.0; empty = empty.0; events = events.0 },
           record { name = is_n; start = start.1; empty = empty.1; events = events.1 },
-          one ks a1 b1 (kind.Fixed mark.OpenBrace ∷ s) (kind.Name n) s1 e1
-              (one b1 a2 b2 s (kind.Fixed mark.OpenBrace) s2 e2
+          one_piece ks a1 b1 (kind.Fixed mark.OpenBrace ∷ s) (kind.Name n) s1 e1
+              (one_piece b1 a2 b2 s (kind.Fixed mark.OpenBrace) s2 e2
               (piece b2 a3 b3 (ended kind.Fixed mark.Start comparison_kinds start.0) m s3 start.2
               (piece b3 a4 b4 (ended kind.Fixed mark.Empty name_kinds empty.0) v s4 empty.2
               (piece b4 a5 b5 (each event_kinds events.0) (kind.Fixed mark.CloseBrace ∷ []) s5 events.2 e6)))),
@@ -324,20 +317,20 @@ file_from ks (a1, b1, e1, (a2, b2, (n, is_n, e2), (a3, b3, e3, (a4, b4, e4, (a5,
     let t : PlainTree = record { name = n; parameters = parameters.0; shared = shared.0; locations = locations.0; processes = p; resilience = resilience.0; rules = rules.0; patterns = patterns.0 } in (
       t,
       record { name = is_n; parameters = parameters.1; shared = shared.1; some = locations.1; locations = locations.2; processes = is_p; resilience = resilience.1; rules = rules.1; patterns = patterns.1 },
-      sym (one ks a1 b1 (kind.Name n ∷ kind.Fixed mark.Semicolon ∷ parameters_kinds t) (kind.Fixed mark.Automaton) s1 e1
-          (one b1 a2 b2 (kind.Fixed mark.Semicolon ∷ parameters_kinds t) (kind.Name n) s2 e2
-          (one b2 a3 b3 (parameters_kinds t) (kind.Fixed mark.Semicolon) s3 e3
-          (one b3 a4 b4 (listed kind.Fixed name_kinds t.parameters ++ kind.Fixed mark.Semicolon ∷ shared_kinds t) (kind.Fixed mark.Parameters) s4 e4
+      sym (one_piece ks a1 b1 (kind.Name n ∷ kind.Fixed mark.Semicolon ∷ parameters_kinds t) (kind.Fixed mark.Automaton) s1 e1
+          (one_piece b1 a2 b2 (kind.Fixed mark.Semicolon ∷ parameters_kinds t) (kind.Name n) s2 e2
+          (one_piece b2 a3 b3 (parameters_kinds t) (kind.Fixed mark.Semicolon) s3 e3
+          (one_piece b3 a4 b4 (listed kind.Fixed name_kinds t.parameters ++ kind.Fixed mark.Semicolon ∷ shared_kinds t) (kind.Fixed mark.Parameters) s4 e4
           (upto_after b4 a5 b5 (listed kind.Fixed name_kinds t.parameters) (shared_kinds t) s5 parameters.2
-          (one b5 a6 b6 (listed kind.Fixed name_kinds t.shared ++ kind.Fixed mark.Semicolon ∷ locations_kinds t) (kind.Fixed mark.Shared) s6 e6
+          (one_piece b5 a6 b6 (listed kind.Fixed name_kinds t.shared ++ kind.Fixed mark.Semicolon ∷ locations_kinds t) (kind.Fixed mark.Shared) s6 e6
           (upto_after b6 a7 b7 (listed kind.Fixed name_kinds t.shared) (locations_kinds t) s7 shared.2
-          (one b7 a8 b8 (listed kind.Fixed location_kinds t.locations ++ kind.Fixed mark.Semicolon ∷ processes_kinds t) (kind.Fixed mark.Locations) s8 e8
+          (one_piece b7 a8 b8 (listed kind.Fixed location_kinds t.locations ++ kind.Fixed mark.Semicolon ∷ processes_kinds t) (kind.Fixed mark.Locations) s8 e8
           (piece b8 a9 b9 (listed kind.Fixed location_kinds t.locations) (kind.Fixed mark.Semicolon ∷ processes_kinds t) s9 locations.3
-          (one b9 a10 b10 (processes_kinds t) (kind.Fixed mark.Semicolon) s10 e10
-          (one b10 a11 b11 (sum_kinds t.processes ++ kind.Fixed mark.Semicolon ∷ resilience_kinds t) (kind.Fixed mark.Processes) s11 e11
+          (one_piece b9 a10 b10 (processes_kinds t) (kind.Fixed mark.Semicolon) s10 e10
+          (one_piece b10 a11 b11 (sum_kinds t.processes ++ kind.Fixed mark.Semicolon ∷ resilience_kinds t) (kind.Fixed mark.Processes) s11 e11
           (piece b11 a12 b12 (sum_kinds t.processes) (kind.Fixed mark.Semicolon ∷ resilience_kinds t) s12 e12
-          (one b12 a13 b13 (resilience_kinds t) (kind.Fixed mark.Semicolon) s13 e13
-          (one b13 a14 b14 (listed kind.Fixed comparison_kinds t.resilience ++ kind.Fixed mark.Semicolon ∷ blocks_kinds t) (kind.Fixed mark.Resilience) s14 e14
+          (one_piece b12 a13 b13 (resilience_kinds t) (kind.Fixed mark.Semicolon) s13 e13
+          (one_piece b13 a14 b14 (listed kind.Fixed comparison_kinds t.resilience ++ kind.Fixed mark.Semicolon ∷ blocks_kinds t) (kind.Fixed mark.Resilience) s14 e14
           (upto_after b14 a15 b15 (listed kind.Fixed comparison_kinds t.resilience) (blocks_kinds t) s15 resilience.2
           (piece b15 a16 b16 (each rule_kinds t.rules) (each pattern_kinds t.patterns) s16 rules.2 patterns.2)))))))))))))))),
     )

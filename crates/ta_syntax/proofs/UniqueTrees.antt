@@ -5,6 +5,7 @@ use Rattle.ta_syntax.specs.declared.tokens.Mark.TheVariants as mark
 use Rattle.ta_syntax.specs.declared.tokens.Relation.TheVariants as relation
 use Rattle.ta_syntax.specs.declared.sums.Sign.TheVariants as sign
 use Rattle.ta_syntax.proofs.SumSteps.{term_not}
+use Rattle.ta_base.proofs.Lists.{heads}
 
 -- ---- sums
 
@@ -168,15 +169,13 @@ comparisons_determined = record { same = determined }
     made : (a b : PlainComparison) → a.left ≡ b.left → a.relation ≡ b.relation → a.right ≡ b.right → a ≡ b
     made a b e f g = ap (λ (l : Terms). with_fields l a.relation a.right) e ∙ ap (λ (r : Relation). with_fields b.left r a.right) f ∙ ap (with_fields b.left b.relation) g
 
-    heads : (j k : Kind) (x y : List Kind) → j ∷ x ≡ k ∷ y → (j ≡ k) × (x ≡ y)
-    heads j k x y e = (cc, cc)
-
     determined : (a b : PlainComparison) (x y : List Kind) → IsComparison a → IsComparison b → begins_by extends_item x ≡ false → begins_by extends_item y ≡ false → comparison_kinds a ++ x ≡ comparison_kinds b ++ y → (a ≡ b) × (x ≡ y)
     determined a b x y is is' p q e =
         let l = sum_unique a.left b.left (relation_kind a.relation ∷ (sum_kinds a.right ++ x)) (relation_kind b.relation ∷ (sum_kinds b.right ++ y)) is.left is'.left (no_operator a.relation (sum_kinds a.right ++ x)) (no_operator b.relation (sum_kinds b.right ++ y)) (sym (append_assoc (sum_kinds a.left) (relation_kind a.relation ∷ sum_kinds a.right) x) ∙ e ∙ append_assoc (sum_kinds b.left) (relation_kind b.relation ∷ sum_kinds b.right) y) in
-        let h = heads (relation_kind a.relation) (relation_kind b.relation) (sum_kinds a.right ++ x) (sum_kinds b.right ++ y) l.1 in
-        let r = sum_unique a.right b.right x y is.right is'.right (less_extends x p) (less_extends y q) h.1 in
-        (made a b l.0 (sym (relation_known a.relation) ∙ ap relation_of_kind h.0 ∙ relation_known b.relation) r.0, r.1)
+        let first = heads (relation_kind a.relation) (relation_kind b.relation) (sum_kinds a.right ++ x) (sum_kinds b.right ++ y) l.1 in
+        let rest = tails (relation_kind a.relation) (relation_kind b.relation) (sum_kinds a.right ++ x) (sum_kinds b.right ++ y) l.1 in
+        let r = sum_unique a.right b.right x y is.right is'.right (less_extends x p) (less_extends y q) rest in
+        (made a b l.0 (sym (relation_known a.relation) ∙ ap relation_of_kind first ∙ relation_known b.relation) r.0, r.1)
 
 -- ---- lists
 less_list : (x : List Kind) → begins_by extends_list x ≡ false → begins_by extends_item x ≡ false
@@ -220,9 +219,6 @@ module _ {A : Type 0} (Is : A → Type 0) (f : A → List Kind) (item : IsDeterm
   led_same m [] (b ∷ ys) x y is is' p q s t e = absurd (s (listed kind.Fixed f (b ∷ ys) ++ y, e))
   led_same m (a ∷ xs) [] x y is is' p q s t e = absurd (t (listed kind.Fixed f (a ∷ xs) ++ x, sym e))
   led_same m (a ∷ xs) (b ∷ ys) x y is is' p q s t e = listed_same (a ∷ xs) (b ∷ ys) x y tt tt is is' p q (tails (kind.Fixed m) (kind.Fixed m) (listed kind.Fixed f (a ∷ xs) ++ x) (listed kind.Fixed f (b ∷ ys) ++ y) e)
-    where
-      tails : (j k : Kind) (v w : List Kind) → j ∷ v ≡ k ∷ w → v ≡ w
-      tails j k v w h = cc
 
   -- with its semicolon
   end_same : (xs ys : List A) (x y : List Kind) → IsSome xs → IsSome ys → AllByRecursion Is xs → AllByRecursion Is ys → listed kind.Fixed f xs ++ kind.Fixed mark.Semicolon ∷ x ≡ listed kind.Fixed f ys ++ kind.Fixed mark.Semicolon ∷ y → (xs ≡ ys) × (x ≡ y)
@@ -235,9 +231,6 @@ module _ {A : Type 0} (Is : A → Type 0) (f : A → List Kind) (item : IsDeterm
   ended_same m (a ∷ xs) (b ∷ ys) x y is is' s t e =
       let inner = tails (kind.Fixed m) (kind.Fixed m) ((listed kind.Fixed f (a ∷ xs) ++ kind.Fixed mark.Semicolon ∷ []) ++ x) ((listed kind.Fixed f (b ∷ ys) ++ kind.Fixed mark.Semicolon ∷ []) ++ y) e in
       end_same (a ∷ xs) (b ∷ ys) x y tt tt is is' (sym (append_assoc (listed kind.Fixed f (a ∷ xs)) (kind.Fixed mark.Semicolon ∷ []) x) ∙ inner ∙ append_assoc (listed kind.Fixed f (b ∷ ys)) (kind.Fixed mark.Semicolon ∷ []) y)
-    where
-      tails : (j k : Kind) (v w : List Kind) → j ∷ v ≡ k ∷ w → v ≡ w
-      tails j k v w h = cc
 
   -- a list that may be empty, and its semicolon
   declared_same : (xs ys : List A) (x y : List Kind) → ((a : A) (v w : List Kind) → Is a → f a ++ v ≡ kind.Fixed mark.Semicolon ∷ w → ⊥) → AllByRecursion Is xs → AllByRecursion Is ys → listed kind.Fixed f xs ++ kind.Fixed mark.Semicolon ∷ x ≡ listed kind.Fixed f ys ++ kind.Fixed mark.Semicolon ∷ y → (xs ≡ ys) × (x ≡ y)

@@ -2,7 +2,7 @@
 pub use Rattle.std.proofs.Common.{Err, IfOk, List, None, Ok, Option, Result, Some, [], ap, append-nil, append_assoc, arith, codes, decimal, inl, inr, length, lit<, lit≤, map, pos, refl, reverse, rules, slice_get, subst, suc, sym, take, true, zero, ℕ, ℤ, ◌++◌, ◌+◌, ◌<◌, ◌^◌, ◌∙◌, ◌∷◌, ◌≡◌, ◌≤◌, ◌⊎◌}
 pub use Rattle.std.proofs.lemmas.List.{length-map, length-take-le, take_all}
 pub use Rattle.std.proofs.lemmas.Option.{same_Some, slice_get_within}
-pub use Rattle.std.specs.List.{AllByRecursion}
+pub use Rattle.std.specs.List.{AllByRecursion, concat}
 pub use Rattle.std.specs.declared.alloc.AllocError.{AllocError}
 pub use Rattle.ta_automaton.specs.Numbered.{OfPattern}
 pub use Rattle.ta_automaton.specs.Runs.{LoopsPure}
@@ -24,7 +24,6 @@ pub use Rattle.ta_report.specs.declared.verdict.ReportKind.{ReportKind}
 pub use Rattle.ta_report.specs.declared.verdict.Verdict.{Verdict}
 pub use Rattle.ta_report.specs.declared.verdict.Verdict.TheVariants.{Overflow}
 pub use Rattle.ta_scope.proofs.Judging.{loops_pure}
-pub use Rattle.ta_shell.specs.Puts.{texts_joined}
 pub use Rattle.ta_verdict.specs.Certificates.{AreTrees, AreTreesOf, CertificateOf, CertificatesAreDetermined, SafeOne, safe_numbers, safe_ones, tree_size, tree_under, with_safe}
 pub use Rattle.ta_verdict.specs.Drafts.{AddsTree, DraftBegins, DraftHasTree, DraftKeeps, HasProofs, HasText, HasTrees, ended_line, pieces_text}
 pub use Rattle.ta_verdict.specs.Verdicts.{EachHolds, IsOutOfRangeIn, IsSample, Question, SafeHolds, SampleHolds, SamplesAreDetermined, SpentHolds, UnderOrders, VerdictAnswers, VerdictHolds, VerdictsAreDetermined, place_of, safety_question}

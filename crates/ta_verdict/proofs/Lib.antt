@@ -1,7 +1,6 @@
 -- lemmas for the crates above
 pub mod VerdictsMade
 pub mod VerdictsOnce
-mod PiecesMade
 pub mod DraftsMade
 pub mod JudgedSoFar
 pub mod CertificatesMade

@@ -1,4 +1,5 @@
 -- What a certificate is while it is written
+use Rattle.std.specs.List.{concat}
 use Rattle.std.specs.Prelude.{ℕ, ◌≡◌, true, List, [], ◌∷◌, ◌++◌, string_bytes, Some}
 use Rattle.ta_automaton.specs.declared.pattern.Pattern.{Pattern}
 use Rattle.ta_cert.specs.Certificates.{nodes_text, proofs_text}
@@ -7,14 +8,13 @@ use Rattle.ta_cert.specs.declared.line.Line.{Line}
 use Rattle.ta_cert.specs.declared.line.Node.{Node}
 use Rattle.ta_cert.specs.declared.line.Proof.{Proof}
 use Rattle.ta_report.specs.declared.verdict.Verdict.{Verdict}
-use Rattle.ta_shell.specs.Puts.{texts_joined}
 use Rattle.ta_verdict.specs.declared.pieces.Pieces.{Pieces}
 use Rattle.ta_verdict.specs.declared.draft.Draft.{Draft}
 use Rattle.ta_verdict.specs.Certificates.{AreTreesOf, SafeOne, tree_size, with_safe}
 
 -- the pieces, and the one that is still open
 abbrev pub pieces_text : Pieces → List ℕ
-pieces_text pieces = texts_joined pieces.whole.items ++ string_bytes pieces.open
+pieces_text pieces = concat pieces.whole.items ++ string_bytes pieces.open
 
 -- where lines are wanted, the draft has these
 abbrev pub HasText : Draft → List ℕ → Type 0

@@ -45,22 +45,24 @@ pub record UnderOrders (file : File) (fact : List (ℕ × ℕ) → Type 0) : Typ
   pub found : FoundOrders file.automaton orders
   pub holds : fact (map pair_of orders)
 
--- what is asked of a pattern: which words are searched, what is so where all are refuted, the run of a solution, when a number of that run's
--- replay leaves the range, and when there are no more pairs of a start set and a legal word than some number
+-- what is asked of a pattern: which words are searched, what is so where all are refuted, what a tree is then for a budget of nodes, the run
+-- of a solution, when a number of that run's replay leaves the range, and when there are no more pairs of a start set and a legal word than
+-- some number
 pub record Question : Type 1 where
   pub search : Search
   pub claim : Type 0
+  pub proved : ℕ → List Node → Type 0
   pub shown : Solution → Run → Type 0
   pub leaves : Solution → Type 0
   pub few : ℕ → Type 0
 
--- it is so; the tree has so many nodes, within the budget, of which so many are leaves; and within a judge's limit they are a proof that it accepts
+-- it is so; the tree has so many nodes, within the budget, of which so many are leaves; and it is what the question says of such a tree
 pub record SafeHolds (q : Question) (budget nodes leaves : ℕ) : Type 0 where
   pub safe : q.claim
   pub tree : List Node
   pub is : TreeIs q.search budget tree nodes
   pub counted : leaves ≡ leaf_count tree
-  pub proof : budget ≤ MOST_NODES → IsProof q.search tree
+  pub proof : q.proved budget tree
 
 -- the run is that of the solution of the first whole node, which is the node of this number, within the budget; the pattern of the
 -- search has this number in its file
@@ -110,11 +112,13 @@ pub record ShownWitness (file : File) (solution : Solution) (run : Run) : Type 0
   pub stays : ReplayStays file run
   pub short : IsShortRun file run
 
--- whether a pattern of a file is safe, with words ordered by pairs of guards
+-- whether a pattern of a file is safe, with words ordered by pairs of guards; for a budget within a judge's limit a tree is a proof that it
+-- accepts
 abbrev pub safety_question : File → List (ℕ × ℕ) → Pattern → Question
 safety_question file pairs p = record {
   search = pattern_search file.automaton p pairs;
   claim = runs.Safe file.automaton p;
+  proved = λ budget tree. budget ≤ MOST_NODES → IsProof (pattern_search file.automaton p pairs) tree;
   shown = ShownWitness file;
   leaves = WitnessOutOfRange file;
   few = HasAtMost file.automaton p pairs;

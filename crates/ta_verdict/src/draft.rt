@@ -1,10 +1,10 @@
 //! A certificate while it is written.
 #![tactic(auto)]
 
+ghost use Rattle.std.specs.List.{concat};
 ghost use Rattle.std.specs.Prelude.{◌≡◌, ◌++◌, [], IfOk, OnOk, List, ℕ, false, true};
 ghost use Rattle.ta_cert.specs.Certificates.{head_text};
 ghost use Rattle.ta_cert.specs.declared.line.Line.TheVariants.{End};
-ghost use Rattle.ta_shell.specs.Puts.{texts_joined};
 ghost use Rattle.ta_verdict.specs.Drafts.{DraftKeeps, HasText, ended_line};
 
 use crate::pieces::Pieces;
@@ -62,7 +62,7 @@ impl Draft {
 
     /// The pieces, with the line `end` behind them; none where no lines are wanted.
     pub fn end(self, alloc: Global) -> Result<List<Text>, AllocError>
-        ensures text { self.wanted ≡ true → (begun : List ℕ) → HasText self begun → IfOk result (λ texts. texts_joined texts ≡ begun ++ ended_line End) }
+        ensures text { self.wanted ≡ true → (begun : List ℕ) → HasText self begun → IfOk result (λ texts. concat texts ≡ begun ++ ended_line End) }
         ensures unwanted { self.wanted ≡ false → IfOk result (λ texts. texts ≡ []) }
     {
         if !self.wanted {

@@ -1,6 +1,7 @@
 //! What is said of the patterns of a file.
 #![tactic(auto)]
 
+ghost use Rattle.std.specs.List.{concat};
 ghost use Rattle.std.specs.Prelude.{ℕ, ◌≡◌, ◌<◌, ◌≤◌, [], IfOk, false, length, List, map, None, true};
 ghost use Rattle.ta_automaton.specs.declared.pattern.Pattern.{Pattern};
 ghost use Rattle.ta_cert.specs.Certificates.{pair_of};
@@ -8,7 +9,6 @@ ghost use Rattle.ta_cert.specs.declared.line.Order.{Order};
 ghost use Rattle.ta_check.specs.Certificate.{Certificate};
 ghost use Rattle.ta_encode.specs.PatternSearch.{pattern_search};
 ghost use Rattle.ta_report.specs.Report.{VerdictFits};
-ghost use Rattle.ta_shell.specs.Puts.{texts_joined};
 ghost use Rattle.ta_walk.specs.Ends.{NodeOf, SolutionAt};
 ghost use Rattle.ta_walk.specs.FoundOrders.{FoundOrders};
 ghost use Rattle.ta_witness.specs.Witness.{IsSolution};
@@ -55,8 +55,8 @@ pub fn judge_file<R: Threads + Sync>(
     requires some { 0 < nodes }
     requires limit { nodes ≤ MOST_NODES }
     ensures verdicts { IfOk result (λ judged. AreVerdicts scoped.now.file nodes judged.verdicts) }
-    ensures certificate { wanted ≡ true → IfOk result (λ judged. CertificateOf scoped.now.file nodes judged.verdicts (texts_joined judged.certificate)) }
-    ensures accepted { wanted ≡ true → IfOk result (λ judged. Certificate scoped.now.file (texts_joined judged.certificate) (safe_numbers scoped.now.file judged.verdicts)) }
+    ensures certificate { wanted ≡ true → IfOk result (λ judged. CertificateOf scoped.now.file nodes judged.verdicts (concat judged.certificate)) }
+    ensures accepted { wanted ≡ true → IfOk result (λ judged. Certificate scoped.now.file (concat judged.certificate) (safe_numbers scoped.now.file judged.verdicts)) }
     ensures unwanted { wanted ≡ false → IfOk result (λ judged. judged.certificate ≡ []) }
 {
     let found = find_orders::<NarrowDictionary>(alloc, scoped)?;

@@ -1,10 +1,10 @@
 //! Long texts in pieces.
 #![tactic(auto)]
 
+ghost use Rattle.std.specs.List.{concat};
 ghost use Rattle.std.specs.Prelude.{◌≡◌, [], ◌∷◌, ◌++◌, OnOk, string_bytes};
 ghost use Rattle.ta_cert.specs.Certificates.{head_text};
 ghost use Rattle.ta_cert.specs.Lines.{line_text};
-ghost use Rattle.ta_shell.specs.Puts.{texts_joined};
 ghost use Rattle.ta_verdict.specs.Drafts.{pieces_text};
 
 use std::alloc::{AllocError, Global};
@@ -55,7 +55,7 @@ impl Pieces {
     /// Ends the open piece.
     pub fn close(&mut self, alloc: Global) -> Result<(), AllocError>
         ensures text { OnOk result (pieces_text self.new ≡ pieces_text self.old) }
-        ensures closed { OnOk result (texts_joined self.new.whole.items ≡ pieces_text self.old) }
+        ensures closed { OnOk result (concat self.new.whole.items ≡ pieces_text self.old) }
     {
         let piece = mem::replace(&mut self.open, String::new(alloc));
         self.whole.push(Text::from_string(piece))?;

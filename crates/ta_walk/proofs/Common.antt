@@ -1,5 +1,5 @@
 -- The names that the proofs of this crate cite, passed on from one place. Declares nothing.
-pub use Rattle.std.proofs.Common.{Bool, FitsSigned, IfOk, List, None, Ok, Option, Some, [], ap, append-nil, append_assoc, arith, codes, cond, decimal, drop, false, get_or, inl, inr, length, length-append, lit<, map, nat_lt, negsuc, pos, refl, reverse, rules, slice_get, subst, suc, sym, take, true, zero, ℕ, ℤ, ◌*ℤ◌, ◌*◌, ◌++◌, ◌+ℤ◌, ◌+◌, ◌-◌, ◌<ℤ◌, ◌<◌, ◌^◌, ◌∙◌, ◌∷◌, ◌≡◌, ◌≤ℤ◌, ◌≤◌, ◌⊎◌}
+pub use Rattle.std.proofs.Common.{Bool, FitsSigned, IfOk, List, None, Ok, Option, Some, [], ap, append-nil, append_assoc, arith, codes, decimal, drop, false, get_or, inl, inr, length, length-append, lit<, map, nat_lt, negsuc, pos, refl, reverse, rules, slice_get, subst, suc, sym, take, true, zero, ℕ, ℤ, ◌*ℤ◌, ◌*◌, ◌++◌, ◌+ℤ◌, ◌+◌, ◌-◌, ◌<ℤ◌, ◌<◌, ◌^◌, ◌∙◌, ◌∷◌, ◌≡◌, ◌≤ℤ◌, ◌≤◌, ◌⊎◌}
 pub use Rattle.std.proofs.Math.IntN.{*ℤ_comm}
 pub use Rattle.std.proofs.lemmas.Bool.{cases_eq, cases_order, cond_both, true≢false}
 pub use Rattle.std.proofs.lemmas.Bool.Decides.{nat_tests}
@@ -17,7 +17,7 @@ pub use Rattle.ta_base.proofs.DecimalDigits.{row_short}
 pub use Rattle.ta_base.proofs.Each.{distinct_append, each_append, each_back, each_from_in, each_front, each_in, each_push, each_take, no_more}
 pub use Rattle.ta_base.proofs.Integers.{below_limit, cancel_positive, euclid, factor_below, floor_high, floor_low, floor_natural, floor_once, ge-zero_of_mul, number_short, twice_most, unsigned_abs-neg}
 pub use Rattle.ta_base.proofs.Lists.{next_dropped, none_dropped, some_within}
-pub use Rattle.ta_base.proofs.Members.{In-left, In-map, In-right, in_append, in_at, in_filter, in_map}
+pub use Rattle.ta_base.proofs.Members.{In-left, In-map, In-right, in_append, in_at, in_map}
 pub use Rattle.ta_base.proofs.Ranges.{In-numbers, in_numbers}
 pub use Rattle.ta_base.specs.Lists.{Distinct}
 pub use Rattle.ta_base.specs.Masks.{In}

@@ -1,9 +1,10 @@
 -- a search has one end, and so has a walk
-use Rattle.ta_walk.proofs.Common.{cases_order, reverse-reverse, ◌≡◌, inl, inr, ℕ, ◌<◌, List, ℤ, length, reverse, arith, refl, sym, ap, ◌∙◌, subst, Node, Element, PlaceKind, NodeAt, WholeAt, IsOutOfRangeAt, TreeIs, NodeOf, SolutionAt, IsSpent, Ending, Whole, Solved, Stopped, Left, IsVisitEnding, EndingsAreDetermined, IsWalkEnd, WalksAreDetermined, Pending, Search, WalkEnd}
+use Rattle.ta_walk.proofs.Common.{cases_order, ◌≡◌, inl, inr, ℕ, ◌<◌, List, ℤ, length, arith, refl, sym, ap, ◌∙◌, subst, Node, PlaceKind, NodeAt, WholeAt, IsOutOfRangeAt, TreeIs, NodeOf, SolutionAt, IsSpent, Ending, Whole, Solved, Stopped, Left, IsVisitEnding, EndingsAreDetermined, IsWalkEnd, WalksAreDetermined, Pending, Search, WalkEnd}
 use Rattle.ta_walk.proofs.DeterminedNodes.{whole_once, whole_is_no_node, leaving_is_no_node, leaving_is_not_whole, leaving_once}
 use Rattle.ta_walk.proofs.DeterminedVisits.{tree_once, word_of_tree, word_once, node_at_word}
 use Rattle.ta_encode.specs.declared.encoded.Solution.{Solution}
 use Rattle.ta_walk.specs.declared.end.WalkEnd.TheVariants.{Refuted, Found, Spent, Overflow}
+use Rattle.ta_base.proofs.Lists.{reversed_same}
 
 -- where a fact holds of a word, no node stands at it
 abbrev BarsNodes : Search → (Pending → Type 0) → Type 0
@@ -98,9 +99,6 @@ endings_once s budget (Left i k) (Left j l) h g =
 pub node_with : (s : Search) (budget number : ℕ) (F G : Pending → Type 0) (n : NodeOf s budget number F) → G n.word → NodeOf s budget number G
 node_with s budget number F G n holds = record { before = n.before; number_is = n.number_is; within = n.within; word = n.word; visited = n.visited; holds = holds }
 
-pub word_same : (xs ys zs : List Element) → reverse xs ≡ zs → reverse ys ≡ zs → xs ≡ ys
-word_same xs ys zs is are = sym (reverse-reverse xs) ∙ ap reverse (is ∙ sym are) ∙ reverse-reverse ys
-
 -- what a walk ended at, as an end of its search
 abbrev ending_of : (s : Search) (number budget : ℕ) (e : WalkEnd) → IsWalkEnd s number budget e → Ending
 ending_of s number budget (Refuted ns c) h = Whole ns c
@@ -118,7 +116,7 @@ solution_once : (s : Search) (number : ℕ) (x y : Solution) (w v : Pending) →
 solution_once s number x y w v same values h g =
     let patterns = h.pattern ∙ sym g.pattern in
     let starts = h.start ∙ ap (λ (u : Pending). u.start) same ∙ sym g.start in
-    let words = word_same x.word y.word v.past (h.word ∙ ap (λ (u : Pending). u.past) same) g.word in
+    let words = reversed_same x.word y.word v.past (h.word ∙ ap (λ (u : Pending). u.past) same) g.word in
     λ i. record { pattern = patterns i; start_mask = starts i; word = words i; values = values i }
 
 pub ends_once : WalksAreDetermined

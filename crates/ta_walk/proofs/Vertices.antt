@@ -1,7 +1,7 @@
 -- whole fractions, and the whole numbers below the others
 use Rattle.ta_walk.proofs.Common.{◌≡◌, ℕ, ◌+◌, ◌<◌, List, [], ◌∷◌, ◌++◌, length, get_or, slice_get, take, arith, ℤ, pos, ◌≤ℤ◌, ◌<ℤ◌, ◌*ℤ◌, ◌+ℤ◌, ap, refl, sym, subst, ◌∙◌, int_div_euclid, int_rem_euclid, ints, by_lt_z, take_more, euclid, floor_high, floor_low, floor_once, Fraction, AreNumbers, IsWholeNumber, IsWhole, IsAbove, SplitsAt, IsSomeAnd}
-use Rattle.std.proofs.lemmas.Option.{slice_get_read}
 use borrow.Author.Count.{below_more}
+use Rattle.ta_base.proofs.Lists.{has_read, of_read}
 
 -- without a remainder a fraction is whole
 pub rest_whole : (f : Fraction) (rest : ℤ) → rest ≡ int_rem_euclid f.top f.bottom → rest ≡ pos 0 → IsWhole f
@@ -23,21 +23,13 @@ rest_above f rest floor is some low high =
     in
     record { above = by_lt_z (floor *ℤ f.bottom) f.top (λ less. less) (λ most. absurd (none (omega (arith, ints)))); below = high }
 
--- what is read at a place has a fact that the value has
-has : (fs : List Fraction) (i : ℕ) (f : Fraction) (fact : Fraction → Type 0) → i < length fs → f ≡ get_or fs i f → fact f → IsSomeAnd (slice_get fs i) fact
-has fs i f fact below is holds = subst (λ o. IsSomeAnd o fact) (sym (slice_get_read fs (length fs) i f refl below is)) holds
-
--- and the value has the fact of what is read
-of_read : (fs : List Fraction) (i : ℕ) (f : Fraction) (fact : Fraction → Type 0) → i < length fs → f ≡ get_or fs i f → IsSomeAnd (slice_get fs i) fact → fact f
-of_read fs i f fact below is holds = subst (λ o. IsSomeAnd o fact) (slice_get_read fs (length fs) i f refl below is) holds
-
 -- the first value that isn't whole
 pub splits : (fs : List Fraction) (i : ℕ) (f : Fraction) (floor : ℤ) → ((k : ℕ) → k < i → IsSomeAnd (slice_get fs k) IsWhole) → i < length fs → f ≡ get_or fs i f → IsAbove floor f → SplitsAt fs i floor
-splits fs i f floor before below is above = record { before = before; here = has fs i f (IsAbove floor) below is above }
+splits fs i f floor before below is above = record { before = before; here = has_read fs i f (IsAbove floor) below is above }
 
 -- one more whole value
 pub whole_more : (fs : List Fraction) (i : ℕ) (f : Fraction) → ((k : ℕ) → k < i → IsSomeAnd (slice_get fs k) IsWhole) → i < length fs → f ≡ get_or fs i f → IsWhole f → (k : ℕ) → k < i + 1 → IsSomeAnd (slice_get fs k) IsWhole
-whole_more fs i f before below is whole = below_more (λ k. IsSomeAnd (slice_get fs k) IsWhole) i before (has fs i f IsWhole below is whole)
+whole_more fs i f before below is whole = below_more (λ k. IsSomeAnd (slice_get fs k) IsWhole) i before (has_read fs i f IsWhole below is whole)
 
 -- one more number
 appended : (fs : List Fraction) (ks : List ℤ) (f : Fraction) (k : ℤ) → AreNumbers fs ks → IsWholeNumber k f → AreNumbers (fs ++ f ∷ []) (ks ++ k ∷ [])

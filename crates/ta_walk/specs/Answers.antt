@@ -7,9 +7,10 @@ use Rattle.ta_automaton.specs.declared.file.File.{File}
 use Rattle.ta_automaton.specs.declared.pattern.Pattern.{Pattern}
 use Rattle.ta_encode.specs.Code.{SystemAt}
 use Rattle.ta_encode.specs.Lines.{BoundsWithin}
-use Rattle.ta_encode.specs.PatternSearch.{pattern_search}
 use Rattle.ta_encode.specs.Sample.{sample_search}
 use Rattle.ta_encode.specs.Search.{Pending, Search, Comes}
+use Rattle.ta_claim.specs.Claims.{search_for}
+use Rattle.ta_claim.specs.declared.claim.Claim.{Claim}
 use Rattle.ta_walk.specs.Ends.{Ending, IsWalkEnd, IsVisitEnding, IsUnbounded}
 use Rattle.ta_walk.specs.Samples.{IsSampleEnd}
 use Rattle.ta_walk.specs.declared.end.SampleEnd.{SampleEnd}
@@ -28,12 +29,12 @@ HasEnding s budget = (e : Ending) × IsVisitEnding s budget e
 abbrev pub SearchesHaveEnds : Type 0
 SearchesHaveEnds = (s : Search) → HasSystems s → (budget : ℕ) → ¬ HasEnding s budget → ⊥
 
--- under any pairs of rise guards the words of each pattern of a file have systems, and so has the search for a sample
+-- for each claim, under any pairs of rise guards, the words of each pattern of a file have systems, and so has the search for a sample
 pub record WordsHaveSystems : Type 0 where
-  pub patterns : (file : File) (number : ℕ) (p : Pattern) → slice_get file.patterns number ≡ Some p → (pairs : List (ℕ × ℕ)) → HasSystems (pattern_search file.automaton p pairs)
+  pub patterns : (claim : Claim) (file : File) (number : ℕ) (p : Pattern) → slice_get file.patterns number ≡ Some p → (pairs : List (ℕ × ℕ)) → HasSystems (search_for claim file.automaton p pairs)
   pub samples : (a : Automaton) → HasSystems (sample_search a)
 
--- so under any pairs the walk of each pattern ends within each budget, and so does the search for a sample
+-- so for each claim, under any pairs of rise guards, the walk of each pattern ends within each budget, and so does the search for a sample
 pub record WalksHaveEnds : Type 0 where
-  pub walks : (file : File) (number : ℕ) (p : Pattern) → slice_get file.patterns number ≡ Some p → (pairs : List (ℕ × ℕ)) (budget : ℕ) → ¬ ((e : WalkEnd) × IsWalkEnd (pattern_search file.automaton p pairs) number budget e) → ⊥
+  pub walks : (claim : Claim) (file : File) (number : ℕ) (p : Pattern) → slice_get file.patterns number ≡ Some p → (pairs : List (ℕ × ℕ)) (budget : ℕ) → ¬ ((e : WalkEnd) × IsWalkEnd (search_for claim file.automaton p pairs) number budget e) → ⊥
   pub samples : (a : Automaton) (budget : ℕ) → ¬ ((e : SampleEnd) × IsSampleEnd a budget e) → ⊥

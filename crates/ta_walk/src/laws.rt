@@ -47,8 +47,8 @@ pub fn searches_have_ends()
     ensures { SearchesHaveEnds }
 {}
 
-/// The walk of each pattern of a file ends within each budget, and so does the search for a sample: the
-/// words of both have systems.
+/// The walk of each pattern of a file ends within each budget, whatever is claimed of it, and so does the
+/// search for a sample: the words of all have systems.
 pub fn walks_have_ends()
     ensures systems { WordsHaveSystems }
     ensures ends { WalksHaveEnds }

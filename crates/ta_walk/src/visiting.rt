@@ -1,10 +1,10 @@
 //! The visit of the tree at a cursor, by one thread.
 #![tactic(auto)]
 
-ghost use Rattle.std.specs.Prelude.{◌+◌, ◌<◌, ◌≤◌, ◌≡◌, ◌++◌, [], ◌∷◌, IfOk, List, Some, None, true};
+ghost use Rattle.std.specs.Prelude.{◌+◌, ◌<◌, ◌≤◌, ◌≡◌, ◌++◌, [], ◌∷◌, IfOk, List, MatchOption, Some, None, true};
 ghost use Rattle.ta_cert.specs.declared.line.Node.{Node};
 ghost use Rattle.ta_encode.specs.Search.{Pending, parts};
-ghost use Rattle.ta_cursor.specs.Cursors.{GoesOn, IsWithin, Shares, Within, here, left_at};
+ghost use Rattle.ta_cursor.specs.Cursors.{GoesOn, IsShared, IsWithin, Within, here, left_at};
 ghost use Rattle.ta_simplex.specs.Branch.{IsBranch};
 ghost use Rattle.ta_walk.specs.Visit.{NodeAt};
 ghost use Rattle.ta_walk.specs.declared.end.TreeEnd.TheVariants.{Found};
@@ -117,7 +117,7 @@ fn give_away<T: Tree>(
     cursor: &mut Cursor,
 ) -> Result<Option<Cursor>, AllocError>
     requires { IsWithin (T.search tree.now) cursor.old }
-    ensures { IfOk result (Shares (T.search tree.now) cursor.old cursor.new) }
+    ensures { IfOk result (λ later. MatchOption later (cursor.new ≡ cursor.old) (IsShared (T.search tree.now) cursor.old cursor.new)) }
 {
     if !watch.looks_around(count) || !cursor.bounds().is_empty() || !watch.goes_beside() {
         return Ok(None);

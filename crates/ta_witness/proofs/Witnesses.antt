@@ -1,11 +1,12 @@
 -- the run of a solution shows the pattern, and is short
-use Rattle.ta_witness.proofs.Common.{◌≡◌, inl, inr, ℕ, ◌+◌, ◌*◌, ◌≤◌, ℤ, List, ◌∷◌, map, length, reverse, true, Some, slice_get, unsigned_abs, arith, sym, ap, ◌∙◌, subst, slice_index, length-reverse, slice_get_within, get_or_from_slice_get, bit_set, each_from, get_map, some_at, count_most, number_here, Automaton, Pattern, File, has_bit, range_with_len, In, Config, HappensAt, InScope, pattern_within, after_earlier, arranged_within, Element, Event, Rise, Fall, has_event, has_rise, has_fallen, legal_weight, Solution, Meaning, Parameter, Start, meanings, SolvedWord, position_in, steps_of, Run, unit_steps, ShowsPattern, Piece, OncePerRule, HasFewSteps, PiecesHappen, pieces_lines, steps_count, are_short, show, unknown_value, IsSolution, PiecesOf, EndsPiece, WitnessOf, WitnessesShow, solution_value}
+use Rattle.ta_witness.proofs.Common.{◌≡◌, inl, inr, ℕ, ◌+◌, ◌≤◌, ℤ, List, ◌∷◌, map, length, reverse, true, Some, slice_get, unsigned_abs, arith, sym, ap, ◌∙◌, subst, slice_index, length-reverse, slice_get_within, get_or_from_slice_get, bit_set, each_from, get_map, some_at, count_most, number_here, Automaton, Pattern, File, has_bit, range_with_len, In, Config, HappensAt, InScope, pattern_within, after_earlier, arranged_within, Element, Event, Rise, Fall, has_event, has_rise, has_fallen, legal_weight, Solution, Meaning, Parameter, Start, meanings, SolvedWord, position_in, steps_of, Run, unit_steps, ShowsPattern, Piece, OncePerRule, HasFewSteps, PiecesHappen, pieces_lines, steps_count, are_short, show, unknown_value, IsSolution, PiecesOf, EndsPiece, WitnessOf, WitnessesShow, solution_value}
 use Rattle.ta_automaton.specs.Runs as runs
 use Rattle.ta_encode.proofs.Theorems.{these_run}
 use Rattle.ta_witness.proofs.Backward.{pieces_back, pieces_fire, piece_rules, values_of, are_counts}
 use Rattle.ta_witness.proofs.Marks.{all_steps, position_at, marks_in_order}
 use Rattle.ta_witness.proofs.Starts.{parameters_are, counts_are}
-use Rattle.std.proofs.Math.Nat.{mul-le-mul_right}
+use Rattle.std.proofs.lemmas.Option.{same_Some}
+use Rattle.ta_base.proofs.Naturals.{product_most}
 
 -- a run of pieces whose events and steps are those of a solution
 pub record Parts (a : Automaton) (p : Pattern) (start : ℕ) (word : List Element) (vs : List ℕ) (run : Run) : Type 0 where
@@ -69,15 +70,13 @@ short_parts file n p scope start word vs solved run h =
     let weight = legal_weight a p start past solved.legal in
     let few : length h.pieces ≤ length a.rise + length a.fall + length p.events = omega (arith, h.are.count, length-reverse word, weight, count_most (has_event past) (length p.events), count_most (has_rise past) (length a.rise), count_most (has_fallen start past) (length a.fall)) in
     let lines = ap steps_count h.lines in
-    fewer (length h.pieces) (length a.rise + length a.fall + length p.events) (length a.rules + 1) (steps_count run.lines) few (omega (arith, lines, short)) where
-      fewer : (m n k s : ℕ) → m ≤ n → s ≤ m * k → s ≤ n * k
-      fewer m n k s b c = let d = mul-le-mul_right k b in omega arith
+    product_most (length h.pieces) (length a.rise + length a.fall + length p.events) (length a.rules + 1) (steps_count run.lines) few (omega (arith, lines, short))
 
 -- the parts of a solution's run
 pub parts_of : (file : File) (solution : Solution) (s : IsSolution file solution) (run : Run) (w : WitnessOf file solution run) → Parts file.automaton s.pattern solution.start_mask solution.word s.values run
 parts_of file solution s run w =
     let a = file.automaton in
-    let same : w.pattern ≡ s.pattern = same_pattern w.pattern s.pattern (sym w.named ∙ s.named) in
+    let same : w.pattern ≡ s.pattern = same_Some w.pattern s.pattern (sym w.named ∙ s.named) in
     let values : Pattern → List ℤ → Meaning → ℤ = λ p vs m. unknown_value (meanings a p solution.start_mask (reverse solution.word)) vs m in
     let one : solution_value a w.pattern solution ≡ values s.pattern solution.values = ap (λ (p : Pattern). values p solution.values) same in
     let two : values s.pattern solution.values ≡ values_of a s.pattern solution.start_mask (reverse solution.word) s.values = ap (λ (vs : List ℤ). values s.pattern vs) s.are in
@@ -88,9 +87,7 @@ parts_of file solution s run w =
       parameters = w.parameters ∙ ap (λ (v : Meaning → ℤ). map (λ i. v (Parameter i)) (range_with_len 0 (length a.parameters))) both;
       counts = w.counts ∙ ap (λ (v : Meaning → ℤ). map (λ l. v (Start l)) a.initial) both;
       lines = w.lines;
-    } where
-      same_pattern : (x y : Pattern) → Some x ≡ Some y → x ≡ y
-      same_pattern x y e = cc
+    }
 
 pub witnesses_show : WitnessesShow
 witnesses_show file scope solution s run w =
@@ -101,7 +98,5 @@ witnesses_show file scope solution s run w =
         named = named;
         shows = shows_parts file solution.pattern s.pattern s.named scope solution.start_mask solution.word s.values s.solved run h;
       },
-      (λ p at. subst (λ (q : Pattern). HasFewSteps file.automaton q run.lines) (same_pattern s.pattern p (sym named ∙ at)) (short_parts file solution.pattern s.pattern scope solution.start_mask solution.word s.values s.solved run h)),
-    ) where
-      same_pattern : (x y : Pattern) → Some x ≡ Some y → x ≡ y
-      same_pattern x y e = cc
+      (λ p at. subst (λ (q : Pattern). HasFewSteps file.automaton q run.lines) (same_Some s.pattern p (sym named ∙ at)) (short_parts file solution.pattern s.pattern scope solution.start_mask solution.word s.values s.solved run h)),
+    )

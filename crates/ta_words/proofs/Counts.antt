@@ -1,13 +1,6 @@
 -- a legal word has at most as many elements as there are events and guards
-use Rattle.ta_words.proofs.Common.{◌≡◌, ◌⊎◌, inl, inr, ℕ, ◌+◌, ◌-◌, ◌^◌, ◌<◌, ◌≤◌, List, [], ◌∷◌, ◌++◌, length, map, Bool, true, not, arith, sym, ap, refl, subst, reverse, filter, ◌==◌, length-reverse, and_parts, eq-eqb, not-true, or_left, or_right, has_bit, implies, range_with_len, In, all_below-at, some_bit, implies-at, In-filter, In-left, In-map, In-right, cond_more, in_append, in_filter, in_map, in_more, count, count_most, count_new, In-numbers, in_numbers, Automaton, Pattern, has_event, has_rise, has_fallen, is_complete, is_due, is_ready, is_standing, may_rise, children, LegalWord, LegalUnder, Element, Event, Rise, Fall, Task}
-
--- a number that passes, among n numbers from k on
-in_passed : (f : ℕ → Element) (test : ℕ → Bool) (k n : ℕ) (e : Element) → In e (map f (filter test (range_with_len k n))) → (x : ℕ) × (e ≡ f x) × (test x ≡ true) × (k ≤ x) × (x < k + n)
-in_passed f test k n e h =
-    let mapped = in_map f e (filter test (range_with_len k n)) h in
-    let kept = in_filter test mapped.0 (range_with_len k n) mapped.1 in
-    let within = in_numbers mapped.0 k n kept.1 in
-    (mapped.0, mapped.2, kept.0, within.0, within.1)
+use Rattle.ta_words.proofs.Common.{◌≡◌, ◌⊎◌, inl, inr, ℕ, ◌+◌, ◌-◌, ◌^◌, ◌<◌, ◌≤◌, List, [], ◌∷◌, ◌++◌, length, map, true, not, arith, ap, refl, subst, reverse, filter, ◌==◌, length-reverse, and_parts, eq-eqb, not-true, or_left, or_right, has_bit, implies, range_with_len, In, all_below-at, some_bit, implies-at, In-left, In-right, cond_more, in_append, in_more, count, count_most, count_new, Automaton, Pattern, has_event, has_rise, has_fallen, is_complete, is_due, is_ready, is_standing, may_rise, children, LegalWord, LegalUnder, Element, Event, Rise, Fall, Task}
+use Rattle.ta_base.proofs.Ranges.{in_passed, passed_more}
 
 -- a child is an event that is ready, a rise guard that is not in the word, or a set of standing fall guards
 pub in_children : (a : Automaton) (p : Pattern) (pairs : List (ℕ × ℕ)) (start : ℕ) (past : List Element) (e : Element) → In e (children a p pairs start past)
@@ -26,11 +19,6 @@ in_children a p pairs start past e h =
         | inr r ↦ inr (inr (in_passed Fall (is_standing a start past) 1 (2 ^ length a.fall - 1) e r))
       ]
     ]
-
-passed_more : (f : ℕ → Element) (test other : ℕ → Bool) (k n : ℕ) (e : Element) → ((x : ℕ) → test x ≡ true → other x ≡ true) → In e (map f (filter test (range_with_len k n))) → In e (map f (filter other (range_with_len k n)))
-passed_more f test other k n e more h =
-    let c = in_passed f test k n e h in
-    subst (λ x. In x (map f (filter other (range_with_len k n)))) (sym c.1) (In-map f c.0 _ (In-filter other c.0 _ (more c.0 c.2) (In-numbers c.0 k n c.3 c.4)))
 
 -- a child under pairs is one under none
 pub under_none : (a : Automaton) (p : Pattern) (pairs : List (ℕ × ℕ)) (start : ℕ) (past : List Element) (e : Element) → In e (children a p pairs start past) → In e (children a p [] start past)

@@ -1,9 +1,8 @@
 -- what follows a word, and how long words and lists of children get
-use Rattle.ta_words.proofs.Common.{◌≡◌, ℕ, ◌+◌, ◌-◌, ◌^◌, ◌<◌, ◌≤◌, List, [], ◌++◌, length, map, Bool, true, false, arith, sym, ap, ◌∙◌, append_assoc, length-append, filter, length-map, slice_get_within, range_with_len, filter_shorter, Automaton, Pattern, EventsNamed, is_complete, is_ready, is_standing, may_rise, children, Element, Event, Rise, Fall, cond-false, cond-true}
+use Rattle.ta_words.proofs.Common.{◌≡◌, ℕ, ◌+◌, ◌-◌, ◌^◌, ◌<◌, ◌≤◌, List, [], ◌++◌, length, map, true, false, arith, sym, ap, ◌∙◌, append_assoc, filter, slice_get_within, range_with_len, Automaton, Pattern, EventsNamed, is_complete, is_ready, is_standing, may_rise, children, Element, Event, Rise, Fall, cond-false, cond-true}
 use Rattle.std.proofs.Math.Nat.{pow-le-pow_right}
 use Rattle.ta_base.proofs.Each.{each_from_at}
 use Rattle.ta_automaton.specs.Patterns.{EventWithin, PatternOver}
-use Rattle.std.proofs.lemmas.List.FromFn.{length-range_with_len}
 
 pub events_named : (a : Automaton) (p : Pattern) → PatternOver a p → EventsNamed p
 events_named a p over =
@@ -19,12 +18,6 @@ events_named a p over =
           let more : 2 ^ (0 + e) ≤ 2 ^ length p.events = pow-le-pow_right two number in
           omega arith;
     }
-
-pub passed_length : (f : ℕ → Element) (test : ℕ → Bool) (k n : ℕ) → length (map f (filter test (range_with_len k n))) ≤ n
-passed_length f test k n = omega (arith, length-map (filter test (range_with_len k n)) f, filter_shorter test (range_with_len k n), length-range_with_len k n)
-
-pub passed_most : (f : ℕ → Element) (test : ℕ → Bool) (before now : List Element) (k n : ℕ) → now ≡ before ++ map f (filter test (range_with_len k n)) → length now ≤ length before + n
-passed_most f test before now k n e = omega (arith, ap length e, length-append before (map f (filter test (range_with_len k n))), passed_length f test k n)
 
 abbrev event_children : Pattern → List Element → List Element
 event_children p past = map Event (filter (is_ready p past) (range_with_len 0 (length p.events)))

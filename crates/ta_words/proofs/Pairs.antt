@@ -1,6 +1,7 @@
 -- rise guards that come after others
 use Rattle.ta_words.proofs.Common.{◌≡◌, ◌↔◌, inl, inr, ℕ, ◌-◌, ◌^◌, ◌<◌, ◌≤◌, List, [], ◌∷◌, ◌++◌, length, map, cond, Bool, true, false, not, ◌&&◌, arith, sym, ap, ◌∙◌, refl, filter, ◌==◌, true≢false, and_from, and_parts, eq-eqb, eqb-true, all_below, has_bit, implies, range_with_len, In, all_below-at, all_below-from, has_above, and_right, both_ways, implies-at, implies-from, Automaton, Pattern, IsSeen, NamesBefore, has_rise, is_complete, is_due, is_ready, is_standing, may_rise, children, Element, Event, Rise, Fall, Seen, cases_lt}
 use Rattle.std.proofs.Math.Path.{fun_ext}
+use Rattle.ta_base.specs.Lists.{SameMembers}
 
 -- a guard that is due has those before it in the word
 pub due_at : (pairs : List (ℕ × ℕ)) (past : List Element) (i j : ℕ) → is_due pairs past i ≡ true → In (j, i) pairs → has_rise past j ≡ true
@@ -18,9 +19,6 @@ due_from (pair ∷ pairs) past i h =
     and_from (implies (pair.1 == i) (has_rise past pair.0)) (is_due pairs past i) (implies-from (pair.1 == i) (has_rise past pair.0) here) (due_from pairs past i (λ j m. h j (inr m)))
 
 -- only which pairs there are counts
-abbrev pub SameMembers : List (ℕ × ℕ) → List (ℕ × ℕ) → Type 0
-SameMembers xs ys = (pair : ℕ × ℕ) → In pair xs ↔ In pair ys
-
 pub same_due : (xs ys : List (ℕ × ℕ)) (past : List Element) (i : ℕ) → SameMembers xs ys → is_due xs past i ≡ is_due ys past i
 same_due xs ys past i same =
     both_ways (is_due xs past i) (is_due ys past i)

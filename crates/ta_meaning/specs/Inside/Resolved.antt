@@ -8,12 +8,12 @@ use Rattle.ta_automaton.specs.declared.condition.Comparison.{Comparison}
 use Rattle.ta_automaton.specs.declared.condition.Condition.{Condition}
 use Rattle.ta_automaton.specs.declared.rule.Rule.{Rule}
 use Rattle.ta_automaton.specs.declared.pattern.Pattern.{Pattern}
-use Rattle.ta_base.specs.Lists.{Distinct}
+use Rattle.ta_base.specs.Lists.{Distinct, Pairwise}
 use Rattle.ta_automaton.specs.Forms.{FormOver, RowOver, ConditionOver, RiseRow, FallRow}
 use Rattle.ta_automaton.specs.Shape.{RuleWithin, name_of}
 use Rattle.ta_automaton.specs.Patterns.{PatternsShape}
 use Rattle.ta_meaning.specs.Names.{Names, all_names}
-use Rattle.ta_meaning.specs.Linear.{Pairwise, RowOf, MeansForm, MeansComparison, MeansCondition}
+use Rattle.ta_meaning.specs.Linear.{RowOf, MeansForm, MeansComparison, MeansCondition}
 use Rattle.ta_meaning.specs.Guards.{Guards}
 use Rattle.ta_meaning.specs.Meaning.{MeansRule, MeansPattern, guards_of}
 use Rattle.ta_meaning.specs.Faults.{Scope}

@@ -1,5 +1,5 @@
-use Rattle.ta_compress.proofs.Common.{◌≡◌, ◌<◌, ◌-◌, ◌^◌, ◌∙◌, ap, sym, take, min, pos, get_or, arith, ℕ, nat_tests, ints, take_all, slice_get-get_or, w128, to_z, capped, Step, factor_of, factors_sum, factors_sum-next}
-use Rattle.ta_base.proofs.Naturals.{capped_again, capped_below}
+use Rattle.ta_compress.proofs.Common.{◌≡◌, ◌-◌, ◌^◌, ◌∙◌, ap, sym, take, min, pos, get_or, arith, ints, take_all, slice_get-get_or, w128, to_z, capped, Step, factor_of, factors_sum, factors_sum-next}
+use Rattle.ta_base.proofs.Naturals.{capped_again, capped_below, below_cap}
 use Rattle.ta_compress.proofs.compressing.steps_of.Goals as goal
 
 pub loop-line-preserved : goal.loop-line-preserved
@@ -8,11 +8,8 @@ loop-line-preserved c =
     let i = c.loop-line.line-index in
     let line = get_or lines i (Step 0 (pos 0)) in
     let next = factors_sum-next lines i line (slice_get-get_or lines i (Step 0 (pos 0)) c.loop-line-test.true) in
-    let sum = capped (2 ^ 128 - 1) (factors_sum (take i lines)) (factor_of line) c.loop-line.steps c.steps_on.result c.saturating_add-steps.result c.loop-line.invariant (c.steps_on.ensures ∙ small (factor_of line) (c.steps_on.ensures) c.steps_on.type_inv) c.saturating_add-steps.ensures in
+    let sum = capped (2 ^ 128 - 1) (factors_sum (take i lines)) (factor_of line) c.loop-line.steps c.steps_on.result c.saturating_add-steps.result c.loop-line.invariant (c.steps_on.ensures ∙ below_cap (factor_of line) c.steps_on.result (2 ^ 128 - 1) c.steps_on.ensures (let b = c.steps_on.type_inv in omega arith)) c.saturating_add-steps.ensures in
     sum ∙ ap (λ n. min n (2 ^ 128 - 1)) (sym next)
-  where
-    small : (f : ℕ) {r : ℕ} → r ≡ f → r < 2 ^ 128 → f ≡ min f (2 ^ 128 - 1)
-    small f same below = grind (arith, nat_tests)
 
 pub returns : goal.returns
 returns c =

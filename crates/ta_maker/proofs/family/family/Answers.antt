@@ -1,7 +1,8 @@
 use Rattle.ta_maker.proofs.Common.{◌≡◌, ◌∙◌, sym, ap, length, arith, length-map, codes, plain_location, plain_name, plain_rule, numbered}
-use Rattle.ta_maker.proofs.Counting.{few_items, few_rules}
+use Rattle.ta_maker.proofs.Counting.{few_rules}
 use Rattle.ta_maker.proofs.Naming.{is_lone, name_family, shallow_lone}
 use Rattle.ta_maker.proofs.family.family.Goals as goal
+use Rattle.ta_base.proofs.Ranges.{few_counted}
 
 pub numbered-requires : goal.numbered-requires
 numbered-requires c = name_family c.args.k c.requires
@@ -15,7 +16,7 @@ invariant_of-result c =
     let named = c.in_ok-spelled-2.field-0 in
     record {
       few_parameters = omega (arith, parameters);
-      few_shared = few_items plain_name (numbered (codes "x")) c.in_ok-shared.field-0 c.args.k c.requires.high c.in_ok-shared.ensures;
+      few_shared = few_counted plain_name (numbered (codes "x")) c.in_ok-shared.field-0 c.args.k 16 (let b = c.requires.high in omega arith) c.in_ok-shared.ensures;
       some_locations = omega (arith, locations);
       few_locations = omega (arith, locations);
       is_processes = is_lone _ _ named.name c.in_ok-lone.ensures c.name_term.ensures named.legal;

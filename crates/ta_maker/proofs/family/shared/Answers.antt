@@ -1,5 +1,5 @@
 use Rattle.ta_maker.proofs.Common.{arith, codes, plain_name, numbered}
-use Rattle.ta_maker.proofs.Counting.{more_items}
+use Rattle.ta_base.proofs.Ranges.{next_counted}
 use Rattle.ta_maker.proofs.Naming.{name_x}
 use Rattle.ta_maker.proofs.family.shared.Goals as goal
 
@@ -15,5 +15,5 @@ loop-index-preserved c =
     let below = c.loop-index-test.true in
     record {
       low = omega arith;
-      all = rw c.in_ok-push.ensures.items (more_items plain_name (numbered (codes "x")) c.loop-index.names.items c.in_ok-numbered.field-0 c.loop-index.index c.args.k _ (omega (arith, below)) c.in_ok-numbered.ensures c.loop-index.invariant.all);
+      all = rw c.in_ok-push.ensures.items (next_counted plain_name (numbered (codes "x")) c.loop-index.names.items c.in_ok-numbered.field-0 c.loop-index.index c.args.k _ (omega (arith, below)) c.in_ok-numbered.ensures c.loop-index.invariant.all);
     }

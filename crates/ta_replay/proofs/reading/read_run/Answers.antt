@@ -1,9 +1,10 @@
-use Rattle.ta_replay.proofs.Common.{ℕ, ◌≡◌, ◌+◌, ◌<◌, ◌++◌, List, Some, length, get_or, refl, ap, ◌∙◌, arith, length-append, length-map, slice_get_read, err_is, rises_length_added, Pattern, parameter_slot, start_slot, slice_get}
+use Rattle.ta_replay.proofs.Common.{◌≡◌, ◌+◌, ◌++◌, length, ◌∙◌, arith, length-append, length-map, err_is, rises_length_added, parameter_slot, start_slot}
 use Rattle.ta_replay.proofs.WholeTexts.{whole_read, parameters_fault, counts_fault, lines_fault}
 use Rattle.ta_replay.specs.declared.fault.RunFault.TheVariants as fault
 use Rattle.ta_replay.proofs.OneRun.{one_run, no_fault}
 use Rattle.ta_replay.proofs.OneFault.{malformed_only, misnamed_only}
 use Rattle.ta_replay.proofs.reading.read_run.Goals as goal
+use Rattle.ta_base.proofs.Lists.{read_within}
 
 pub returns-in_err-number-clause-only : goal.returns-in_err-number-clause-only
 returns-in_err-number-clause-only c = λ run is. rw (err_is c.from_residual.result _ c.from_residual.ensures.1) (no_fault c.args.file.now run c.args.bytes.now c.in_err-number.field-0.0 is c.in_err-number.ensures.fault)
@@ -74,20 +75,16 @@ read_steps-requires-clause-room c =
     let second = c.in_ok-counts.ensures.read.all ∙ length-map a.initial (start_slot a) in
     omega (arith, c.len.ensures, c.in_ok-parameters.parameters.ok.0, c.len-2.ensures, c.in_ok-counts.counts.ok.0)
 
--- the pattern of a number
-pattern_read : (patterns list : List Pattern) (k : ℕ) (p : Pattern) → list ≡ patterns → k < length patterns → p ≡ get_or list k p → slice_get patterns k ≡ Some p
-pattern_read patterns list k p same within is = slice_get_read patterns (length patterns) k p refl within (is ∙ ap (λ ps. get_or ps k p) same)
-
 pub returns-in_err-lines-clause-fault : goal.returns-in_err-lines-clause-fault
 returns-in_err-lines-clause-fault c =
-    let named = pattern_read c.args.file.now.patterns c.as_slice.result.now c.in_ok-number.number c.index-as_slice-place.result c.as_slice.ensures c.in_ok-number.ensures.read.exists c.index-as_slice-place.is in
+    let named = read_within c.args.file.now.patterns c.as_slice.result.now c.in_ok-number.number c.index-as_slice-place.result c.as_slice.ensures c.in_ok-number.ensures.read.exists c.index-as_slice-place.is in
     let place : 2 + c.len.result + c.len-2.result ≡ 2 + length (c.in_ok-parameters.parameters.items ++ c.in_ok-counts.counts.items) = omega (arith, c.len.ensures, c.in_ok-parameters.parameters.ok.0, c.len-2.ensures, c.in_ok-counts.counts.ok.0, length-append c.in_ok-parameters.parameters.items c.in_ok-counts.counts.items) in
     rw (err_is c.from_residual-in_err-lines.result _ c.from_residual-in_err-lines.ensures.1)
     (lines_fault c.args.file.now c.args.bytes.now c.in_ok-number.rest.now c.in_ok-parameters.rest.now c.in_ok-counts.rest.now c.in_ok-number.number (2 + c.len.result + c.len-2.result) c.index-as_slice-place.result c.in_ok-parameters.parameters.items c.in_ok-counts.counts.items c.in_err-lines.field-0.0 c.in_ok-number.ensures.read named c.in_ok-parameters.ensures.read c.in_ok-counts.ensures.read place c.in_err-lines.ensures.fault)
 
 pub returns-in_err-lines-clause-only : goal.returns-in_err-lines-clause-only
 returns-in_err-lines-clause-only c =
-    let named = pattern_read c.args.file.now.patterns c.as_slice.result.now c.in_ok-number.number c.index-as_slice-place.result c.as_slice.ensures c.in_ok-number.ensures.read.exists c.index-as_slice-place.is in
+    let named = read_within c.args.file.now.patterns c.as_slice.result.now c.in_ok-number.number c.index-as_slice-place.result c.as_slice.ensures c.in_ok-number.ensures.read.exists c.index-as_slice-place.is in
     let place : 2 + c.len.result + c.len-2.result ≡ 2 + length (c.in_ok-parameters.parameters.items ++ c.in_ok-counts.counts.items) = omega (arith, c.len.ensures, c.in_ok-parameters.parameters.ok.0, c.len-2.ensures, c.in_ok-counts.counts.ok.0, length-append c.in_ok-parameters.parameters.items c.in_ok-counts.counts.items) in
     λ run is.
     rw (err_is c.from_residual-in_err-lines.result _ c.from_residual-in_err-lines.ensures.1)
@@ -96,7 +93,7 @@ returns-in_err-lines-clause-only c =
 
 pub returns-in_err-lines-clause-malformed : goal.returns-in_err-lines-clause-malformed
 returns-in_err-lines-clause-malformed c =
-    let named = pattern_read c.args.file.now.patterns c.as_slice.result.now c.in_ok-number.number c.index-as_slice-place.result c.as_slice.ensures c.in_ok-number.ensures.read.exists c.index-as_slice-place.is in
+    let named = read_within c.args.file.now.patterns c.as_slice.result.now c.in_ok-number.number c.index-as_slice-place.result c.as_slice.ensures c.in_ok-number.ensures.read.exists c.index-as_slice-place.is in
     let place : 2 + c.len.result + c.len-2.result ≡ 2 + length (c.in_ok-parameters.parameters.items ++ c.in_ok-counts.counts.items) = omega (arith, c.len.ensures, c.in_ok-parameters.parameters.ok.0, c.len-2.ensures, c.in_ok-counts.counts.ok.0, length-append c.in_ok-parameters.parameters.items c.in_ok-counts.counts.items) in
     λ number bad.
     rw (err_is c.from_residual-in_err-lines.result _ c.from_residual-in_err-lines.ensures.1)
@@ -104,7 +101,7 @@ returns-in_err-lines-clause-malformed c =
 
 pub returns-in_err-lines-clause-misnamed : goal.returns-in_err-lines-clause-misnamed
 returns-in_err-lines-clause-misnamed c =
-    let named = pattern_read c.args.file.now.patterns c.as_slice.result.now c.in_ok-number.number c.index-as_slice-place.result c.as_slice.ensures c.in_ok-number.ensures.read.exists c.index-as_slice-place.is in
+    let named = read_within c.args.file.now.patterns c.as_slice.result.now c.in_ok-number.number c.index-as_slice-place.result c.as_slice.ensures c.in_ok-number.ensures.read.exists c.index-as_slice-place.is in
     let place : 2 + c.len.result + c.len-2.result ≡ 2 + length (c.in_ok-parameters.parameters.items ++ c.in_ok-counts.counts.items) = omega (arith, c.len.ensures, c.in_ok-parameters.parameters.ok.0, c.len-2.ensures, c.in_ok-counts.counts.ok.0, length-append c.in_ok-parameters.parameters.items c.in_ok-counts.counts.items) in
     λ number bad.
     rw (err_is c.from_residual-in_err-lines.result _ c.from_residual-in_err-lines.ensures.1)
@@ -112,7 +109,7 @@ returns-in_err-lines-clause-misnamed c =
 
 pub returns-clause-text : goal.returns-clause-text
 returns-clause-text c =
-    let named = pattern_read c.args.file.now.patterns c.as_slice.result.now c.in_ok-number.number c.index-as_slice-place.result c.as_slice.ensures c.in_ok-number.ensures.read.exists c.index-as_slice-place.is in
+    let named = read_within c.args.file.now.patterns c.as_slice.result.now c.in_ok-number.number c.index-as_slice-place.result c.as_slice.ensures c.in_ok-number.ensures.read.exists c.index-as_slice-place.is in
     rw (c.from_vec.ensures, c.from_vec-2.ensures, c.from_vec-3.ensures)
     (whole_read c.args.file.now c.args.bytes.now c.in_ok-number.rest.now c.in_ok-parameters.rest.now c.in_ok-counts.rest.now c.in_ok-number.number c.index-as_slice-place.result c.in_ok-parameters.parameters.items c.in_ok-counts.counts.items c.in_ok-lines.lines.items c.in_ok-number.ensures.read named c.in_ok-parameters.ensures.read c.in_ok-counts.ensures.read c.in_ok-lines.ensures.read)
 

@@ -3,8 +3,9 @@ use Rattle.std.specs.Str.Iter.{split_has_more, split_pattern, split_text}
 use Rattle.std.proofs.lemmas.Iterator.Splits.{YieldsList-from_str_split}
 use Rattle.std.proofs.lemmas.Iterator.Consumers.{YieldsList-end}
 use Rattle.serde_json.specs.Data as json
-use Rattle.ta_report.proofs.JsonItems.{texts_listed, split_lines, last_off, items_of_views, strings_of}
+use Rattle.ta_report.proofs.JsonItems.{texts_listed, split_lines, last_off, items_of_views}
 use Rattle.ta_report.proofs.object.run_value.Goals as goal
+use Rattle.ta_base.proofs.Lists.{map-map}
 
 pub returns : goal.returns
 returns c =
@@ -17,6 +18,6 @@ returns c =
     YieldsList-from_str_split {s = c.into_iter-line-iterator.result} 10 (lines_text lines) (omega arith) (ap split_text same ∙ c.split-line-items.ensures.text ∙ bytes) (ap split_has_more same ∙ c.split-line-items.ensures.has_more) (ap split_pattern same ∙ c.split-line-items.ensures.pattern) in
     let end = YieldsList-end cut l.yielded _ l.yielded_by _ _ c.in-None.is c.next.ensures.steps in
     let read : map (λ y. y.now) l.yielded ≡ lines ++ ([] ∷ []) = end.0 ∙ split_lines lines free in
-    let so_far : map view l.items.items ≡ map json.string (lines ++ ([] ∷ [])) = l.invariant ∙ strings_of (λ y. y.now) l.yielded ∙ ap (map json.string) read in
+    let so_far : map view l.items.items ≡ map json.string (lines ++ ([] ∷ [])) = l.invariant ∙ map-map json.string (λ y. y.now) l.yielded ∙ ap (map json.string) read in
     let count : l.items.len ≡ length l.items.items = search rules in
     view-Array c.pop.new.self ∙ ap json.array (items_of_views _ _ (last_off lines l.items.items c.pop.new.self.items so_far (c.pop.ensures.rest ∙ ap (λ n. take (n - 1) l.items.items) count)) ∙ texts_listed lines)

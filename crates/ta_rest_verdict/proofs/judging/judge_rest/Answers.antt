@@ -1,5 +1,5 @@
+use Rattle.std.specs.List.{concat}
 use Rattle.ta_rest_verdict.proofs.Common.{◌∙◌, ◌++◌, List, [], append-nil, subst, sym, head_text, proofs_text, Verdict, AreTreesOf, safe_ones, rest_tree}
-use Rattle.ta_shell.specs.Puts.{texts_joined}
 use Rattle.ta_rest_verdict.proofs.CertificatesMade.{rest_accepted, rest_made}
 use Rattle.ta_rest_verdict.proofs.judging.judge_rest.Goals as goal
 
@@ -13,8 +13,8 @@ returns-clause-certificate g c = λ wanted.
     let trees = subst (λ (vs : List Verdict). AreTreesOf (rest_tree file budget) (safe_ones 0 file.patterns vs) has.0) (sym c.from_vec.ensures) has.1 in
     let same = c.in_ok-verdicts.ensures.wanted ∙ c.in_ok-draft.ensures.wanted ∙ wanted in
     let text = c.in_ok-certificate.ensures.text same (head ++ proofs_text has.0) has.2 in
-    rest_made file budget c.from_vec.result has.0 trees (texts_joined c.in_ok-certificate.certificate) text
+    rest_made file budget c.from_vec.result has.0 trees (concat c.in_ok-certificate.certificate) text
 
 pub returns-clause-accepted : goal.returns-clause-accepted
 returns-clause-accepted g c = λ wanted.
-    rest_accepted c.args.rest.now.ending.file c.args.nodes c.requires.limit c.from_vec.result (texts_joined c.in_ok-certificate.certificate) (returns-clause-certificate g c wanted)
+    rest_accepted c.args.rest.now.ending.file c.args.nodes c.requires.limit c.from_vec.result (concat c.in_ok-certificate.certificate) (returns-clause-certificate g c wanted)

@@ -1,6 +1,6 @@
 use Rattle.ta_scope.proofs.Common.{ap, length, arith, List, ℕ, IsBitSet, slice_get_within, read_same, Rule, OnCycle}
-use Rattle.ta_scope.proofs.Cycles.{rules_more}
 use Rattle.ta_scope.proofs.circulation.first_cycle.Goals as goal
+use Rattle.ta_base.proofs.Lists.{one_passed}
 
 pub returns-in-Some-clause-some : goal.returns-in-Some-clause-some
 returns-in-Some-clause-some c =
@@ -25,7 +25,7 @@ loop-number-preserved c =
     let a = c.args.automaton.now in
     let named = read_same a.rules c.as_slice-rule-items.result.now c.loop-number.number c.rule-item.result c.as_slice-rule-items.ensures c.loop-number-test.true c.rule-item.is in
     let none = rw c.in_default.is at c.in_ok-cycle.ensures.none in
-    rules_more a.rules (λ (r : ℕ) (rule : Rule). IsBitSet c.args.rules r → ¬ OnCycle a c.args.rules rule) c.loop-number.number c.rule-item.result named none c.loop-number.invariant
+    one_passed (λ (r : ℕ) (rule : Rule). IsBitSet c.args.rules r → ¬ OnCycle a c.args.rules rule) a.rules c.loop-number.number c.rule-item.result named none c.loop-number.invariant
 
 pub returns-clause-none : goal.returns-clause-none
 returns-clause-none c = λ r rule named.

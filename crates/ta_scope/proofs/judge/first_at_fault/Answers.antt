@@ -1,7 +1,7 @@
 use Rattle.ta_scope.proofs.Common.{ap, refl, length, arith, List, ℕ, false≢true, slice_get_within, read_same, Rule, AtFault}
-use Rattle.ta_scope.proofs.Cycles.{rules_more}
 use Rattle.ta_scope.proofs.Judging.{in_scope, fault_out, fault_exactly}
 use Rattle.ta_scope.proofs.judge.first_at_fault.Goals as goal
+use Rattle.ta_base.proofs.Lists.{one_passed}
 
 pub returns-then-is_at_fault-clause-fault : goal.returns-then-is_at_fault-clause-fault
 returns-then-is_at_fault-clause-fault c =
@@ -24,7 +24,7 @@ pub loop-number-preserved : goal.loop-number-preserved
 loop-number-preserved c =
     let a = c.args.automaton.now in
     let named = read_same a.rules c.as_slice-rule-items.result.now c.loop-number.number c.rule-item.result c.as_slice-rule-items.ensures c.loop-number-test.true c.rule-item.is in
-    rules_more a.rules (λ (r : ℕ) (rule : Rule). ¬ AtFault a rule) c.loop-number.number c.rule-item.result named
+    one_passed (λ (r : ℕ) (rule : Rule). ¬ AtFault a rule) a.rules c.loop-number.number c.rule-item.result named
     (λ fault. false≢true (c.if-is_at_fault.ensures.1 ((fault_exactly a c.args.table.now c.loop-number.number c.rule-item.result c.requires named).1 fault)))
     c.loop-number.invariant
 

@@ -1,7 +1,7 @@
 use Rattle.ta_scope.proofs.Common.{ap, refl, length, arith, List, ℕ, false≢true, slice_get_within, read_same, Rule, OnLongerCycle}
-use Rattle.ta_scope.proofs.Cycles.{rules_more}
 use Rattle.ta_scope.proofs.LongerCycles.{loops_alone, longer_exactly}
 use Rattle.ta_scope.proofs.longer.first_by_table.Goals as goal
+use Rattle.ta_base.proofs.Lists.{one_passed}
 
 pub returns-then-is_on_longer_cycle-clause-some : goal.returns-then-is_on_longer_cycle-clause-some
 returns-then-is_on_longer_cycle-clause-some c =
@@ -18,7 +18,7 @@ pub loop-number-preserved : goal.loop-number-preserved
 loop-number-preserved c =
     let a = c.args.automaton.now in
     let named = read_same a.rules c.as_slice-rule-items.result.now c.loop-number.number c.rule-item.result c.as_slice-rule-items.ensures c.loop-number-test.true c.rule-item.is in
-    rules_more a.rules (λ (r : ℕ) (rule : Rule). ¬ OnLongerCycle a rule) c.loop-number.number c.rule-item.result named
+    one_passed (λ (r : ℕ) (rule : Rule). ¬ OnLongerCycle a rule) a.rules c.loop-number.number c.rule-item.result named
     (λ cycle. false≢true (c.if-is_on_longer_cycle.ensures.1 ((longer_exactly a c.args.table.now c.loop-number.number c.rule-item.result c.requires named).1 cycle)))
     c.loop-number.invariant
 

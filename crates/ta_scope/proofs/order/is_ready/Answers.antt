@@ -1,6 +1,6 @@
 use Rattle.ta_scope.proofs.Common.{ap, refl, length, arith, List, ℕ, IsBitSet, false≢true, slice_get_within, read_same, Rule, Blocks, Ready}
-use Rattle.ta_scope.proofs.Cycles.{rules_more}
 use Rattle.ta_scope.proofs.order.is_ready.Goals as goal
+use Rattle.ta_base.proofs.Lists.{one_passed}
 
 pub returns-then-blocks : goal.returns-then-blocks
 returns-then-blocks c =
@@ -13,7 +13,7 @@ pub loop-number-preserved : goal.loop-number-preserved
 loop-number-preserved c =
     let a = c.args.automaton.now in
     let named = read_same a.rules c.as_slice-rule-items.result.now c.loop-number.number c.rule-item.result c.as_slice-rule-items.ensures c.loop-number-test.true c.rule-item.is in
-    rules_more a.rules (λ (r : ℕ) (rule : Rule). ¬ (IsBitSet c.args.rules r × Blocks c.args.placed.now c.args.location rule)) c.loop-number.number c.rule-item.result named
+    one_passed (λ (r : ℕ) (rule : Rule). ¬ (IsBitSet c.args.rules r × Blocks c.args.placed.now c.args.location rule)) a.rules c.loop-number.number c.rule-item.result named
     (λ blocked. false≢true (c.if-blocks.ensures.1 blocked)) c.loop-number.invariant
 
 pub returns : goal.returns

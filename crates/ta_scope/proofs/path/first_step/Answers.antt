@@ -1,7 +1,7 @@
 use Rattle.ta_scope.proofs.Common.{ap, refl, length, arith, List, ℕ, false≢true, slice_get_within, read_same, Rule, IsStep}
-use Rattle.ta_scope.proofs.Cycles.{rules_more}
 use Rattle.ta_scope.proofs.Stepping.{no_step}
 use Rattle.ta_scope.proofs.path.first_step.Goals as goal
+use Rattle.ta_base.proofs.Lists.{one_passed}
 
 pub returns-then-is_step : goal.returns-then-is_step
 returns-then-is_step c =
@@ -13,7 +13,7 @@ pub loop-number-preserved : goal.loop-number-preserved
 loop-number-preserved c =
     let a = c.args.automaton.now in
     let named = read_same a.rules c.as_slice-rule-items.result.now c.loop-number.number c.rule-item.result c.as_slice-rule-items.ensures c.loop-number-test.true c.rule-item.is in
-    rules_more a.rules (λ (r : ℕ) (rule : Rule). ¬ IsStep a c.args.rules c.args.from c.args.to c.args.left r rule) c.loop-number.number c.rule-item.result named (λ step. false≢true (c.if-is_step.ensures.1 step)) c.loop-number.invariant
+    one_passed (λ (r : ℕ) (rule : Rule). ¬ IsStep a c.args.rules c.args.from c.args.to c.args.left r rule) a.rules c.loop-number.number c.rule-item.result named (λ step. false≢true (c.if-is_step.ensures.1 step)) c.loop-number.invariant
 
 pub unreachable-requires : goal.unreachable-requires
 unreachable-requires c =

@@ -1,7 +1,7 @@
 use Rattle.ta_scope.proofs.Common.{ap, refl, length, arith, List, ℕ, false≢true, slice_get_within, read_same, Rule, LeadsOut}
-use Rattle.ta_scope.proofs.Cycles.{rules_more}
 use Rattle.ta_scope.proofs.Reaching.{grown_by, grown_greater, to_fits}
 use Rattle.ta_scope.proofs.reach.grown.Goals as goal
+use Rattle.ta_base.proofs.Lists.{one_passed}
 
 pub returns-then-leads_out-clause-some : goal.returns-then-leads_out-clause-some
 returns-then-leads_out-clause-some c =
@@ -19,7 +19,7 @@ pub loop-number-preserved : goal.loop-number-preserved
 loop-number-preserved c =
     let a = c.args.automaton.now in
     let named = read_same a.rules c.as_slice-rule-items.result.now c.loop-number.number c.rule-item.result c.as_slice-rule-items.ensures c.loop-number-test.true c.rule-item.is in
-    rules_more a.rules (λ (r : ℕ) (rule : Rule). ¬ LeadsOut c.args.rules c.args.mask r rule) c.loop-number.number c.rule-item.result named (λ out. false≢true (c.if-leads_out.ensures.1 out)) c.loop-number.invariant
+    one_passed (λ (r : ℕ) (rule : Rule). ¬ LeadsOut c.args.rules c.args.mask r rule) a.rules c.loop-number.number c.rule-item.result named (λ out. false≢true (c.if-leads_out.ensures.1 out)) c.loop-number.invariant
 
 pub returns-clause-none : goal.returns-clause-none
 returns-clause-none c = λ r rule named.

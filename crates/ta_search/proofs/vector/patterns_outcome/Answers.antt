@@ -1,6 +1,6 @@
+use Rattle.std.specs.List.{concat}
 use Rattle.ta_search.proofs.Common.{◌≤◌, List, length, refl, subst, sym, slice_get_past, slice_get_read, Verdict, Certificate, CertificateOf, safe_numbers, AreVerdicts, IsSafe}
 use borrow.Author.Tests.{ltb-false}
-use Rattle.ta_shell.specs.Puts.{texts_joined}
 use Rattle.ta_search.proofs.Outcoming.{numbered, other_at, pattern_holds, safe_holds}
 use Rattle.ta_search.proofs.vector.patterns_outcome.Goals as goal
 
@@ -35,7 +35,7 @@ returns-in-None g c = λ bytes values sampled.
     let place = c.safe_before-place.result in
     let past : length vs ≤ place = ltb-false place (length vs) (sym c.in-None.ensures.lookup.0) in
     let ensures = c.in_ok-judged.ensures in
-    let text = texts_joined c.in_ok-judged.judged.certificate in
+    let text = concat c.in_ok-judged.judged.certificate in
     let are = subst (AreVerdicts file budget) (sym c.as_slice-verdicts.ensures) ensures.verdicts in
     let certificate = subst (λ (ws : List Verdict). CertificateOf file budget ws text) (sym c.as_slice-verdicts.ensures) (ensures.certificate refl) in
     let accepted = subst (λ (ws : List Verdict). Certificate file text (safe_numbers file ws)) (sym c.as_slice-verdicts.ensures) (ensures.accepted refl) in

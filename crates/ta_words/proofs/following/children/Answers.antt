@@ -1,6 +1,7 @@
 use Rattle.ta_words.proofs.Common.{length, reverse, arith, sym, ap, ◌∙◌, children, is_ready, may_rise, Event, Rise}
-use Rattle.ta_words.proofs.Lists.{events_named, passed_most, children_listed, no_children}
+use Rattle.ta_words.proofs.Lists.{events_named, children_listed, no_children}
 use Rattle.ta_words.proofs.following.children.Goals as goal
+use Rattle.ta_base.proofs.Ranges.{passed_most}
 
 pub push_events-requires-clause-named : goal.push_events-requires-clause-named
 push_events-requires-clause-named c = events_named c.args.task.automaton.now c.args.task.pattern.now c.args.task.over

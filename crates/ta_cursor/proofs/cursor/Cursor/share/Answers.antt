@@ -1,19 +1,34 @@
-use Rattle.ta_cursor.proofs.Common.{◌+◌, ◌∙◌, ap, drop, reverse, subst, sym, take, Cursor, IsBeforeWords, IsWithin, all_behind}
-use Rattle.ta_cursor.proofs.FramesShared.{shared}
+use Rattle.ta_cursor.proofs.Common.{◌≡◌, ◌+◌, ◌∙◌, [], ap, arith, drop, reverse, subst, sym, take, Cursor, IsBeforeWords, IsWithin, all_behind}
+use Rattle.ta_cursor.proofs.FramesShared.{shared, unshared}
 use Rattle.ta_cursor.proofs.cursor.Cursor.share.Goals as goal
 
 pub behind-requires-clause-within : goal.behind-requires-clause-within
-behind-requires-clause-within g c = subst (IsWithin (g.T.Tree.search c.args.tree.now)) (sym c.loop-outer.invariant) c.requires
+behind-requires-clause-within g c = subst (IsWithin (g.T.Tree.search c.args.tree.now)) (sym c.loop-outer.invariant.kept) c.requires
+
+pub loop-outer-preserved : goal.loop-outer-preserved
+loop-outer-preserved g c =
+    let s = g.T.Tree.search c.args.tree.now in
+    let k = c.loop-outer.outer + 1 in
+    let kept = c.loop-outer.invariant.kept in
+    let none = rw c.in_default.is at c.in_ok-later.ensures in
+    record {
+      kept = kept;
+      none = subst (λ (d : Cursor). all_behind s d (reverse (take k d.frames.items)) ≡ []) kept none;
+    }
 
 pub returns-in-Some : goal.returns-in-Some
 returns-in-Some g c =
     let s = g.T.Tree.search c.args.tree.now in
     let k = c.loop-outer.outer + 1 in
+    let kept = c.loop-outer.invariant.kept in
     let is = rw c.in-Some.is at c.in_ok-later.ensures in
-    let before = subst (λ (d : Cursor). IsBeforeWords s (all_behind s d (reverse (take k d.frames.items))) c.in-Some.later) c.loop-outer.invariant is in
-    shared s c.args.self.now _ c.in-Some.later k c.requires.0 c.requires.1 (record {
-      start = ap (λ (d : Cursor). d.start_mask) c.loop-outer.invariant;
-      word = ap (λ (d : Cursor). d.word) c.loop-outer.invariant;
-      bounds = ap (λ (d : Cursor). d.bounds.items) c.loop-outer.invariant;
-      frames = c.in_ok-self.ensures.tail ∙ ap (λ (d : Cursor). drop k d.frames.items) c.loop-outer.invariant;
-    }) before
+    let before = subst (λ (d : Cursor). IsBeforeWords s (all_behind s d (reverse (take k d.frames.items))) c.in-Some.later) kept is in
+    shared s c.args.self.now _ c.in-Some.later c.loop-outer.outer c.requires.0 c.requires.1 (record {
+      start = ap (λ (d : Cursor). d.start_mask) kept;
+      word = ap (λ (d : Cursor). d.word) kept;
+      bounds = ap (λ (d : Cursor). d.bounds.items) kept;
+      frames = c.in_ok-self.ensures.tail ∙ ap (λ (d : Cursor). drop k d.frames.items) kept;
+    }) c.loop-outer.invariant.none before
+
+pub returns : goal.returns
+returns g c = unshared (g.T.Tree.search c.args.tree.now) c.args.self.now _ c.loop-outer.outer c.loop-outer.invariant.kept c.loop-outer.invariant.none (omega arith)

@@ -1,9 +1,10 @@
 use Rattle.ta_links.proofs.Common.{◌≡◌, ◌≤◌, ◌+◌, ◌-◌, ◌++◌, ◌∙◌, ap, sym, subst, arith, length, map, get_or, List, ℕ, map-id, names_long, range_with_len, Row, Tableau, StayInRange, raised, extended, new_rows, FirstLeaving, RowHead, Linked, table_rows, no_head}
 use Rattle.ta_links.proofs.LinkedFacts.{length-table_rows}
 use Rattle.ta_links.proofs.ExtendedRows.{Lengthened}
-use Rattle.ta_links.proofs.ExtendedTable.{basic_is, lengthen, room_for, extend_is, extend_within, extend_refused, taken_long, taken_proper}
+use Rattle.ta_links.proofs.ExtendedTable.{basic_is, lengthen, room_for, extend_is, extend_within, extend_refused, taken_proper}
 use Rattle.ta_links.proofs.linked.LinkedDictionaryDictionary.extend.Goals as goal
 use Rattle.ta_links.proofs.linked.LinkedDictionaryDictionary.extend.Goals.{After-deref, In_ok-links}
+use Rattle.ta_base.proofs.Lists.{taken_long}
 
 -- the rows are as many as the heads, and the columns as the free variables
 long : (c : After-deref) → c.rows-first.result ≡ length c.self.inside.rows.items
