@@ -12,6 +12,7 @@
 -- The other way, the lines of a certificate follow each other, whoever wrote it (`lines_of`): the standing is computed
 -- from the lines alone, and only a number that leaves the range, or memory, can stop the checker before its end.
 use Rattle.ta_check.proofs.Common.{◌≡◌, inl, inr, ℕ, zero, suc, ◌≤◌, List, [], ◌∷◌, ◌++◌, map, length, reverse, Some, slice_get, arith, sym, ap, ◌∙◌, refl, subst, append-nil, codes, lit<, lit≤, false≢true, reverse-reverse, AllByRecursion, File, Pattern, Distinct, Line, Node, Order, Tree, IsVersion, line_text, cert_lines_text, AreLater, IsComplete, line_limit, AreOrders, cert_lines, order_lines, pair_of, proof_lines, proofs_of, version_of, AreShort, Good, Search, weaker_proof, IsJudged, MayClaim, search_for, Claim, Safe, RestSafe, ComesLast, HasVersion, Subject, claiming, AllClaimsHold, AllSafe, AllUnsolved, Certificate, CertificateFor, CertificatesShow, ClaimsHold, MayClaimAll, MayHave, PatternUnsolved, ProvesClaim, ProvesPattern, ShowsPair, proof_number, Standing, OpensCertificate, first_standing, LeadThrough, MayFollow, In, each_all}
+use Rattle.ta_words.specs.declared.element.Element.{Element}
 use Rattle.std.proofs.lemmas.Fmt.{decimal_digit}
 use Rattle.ta_rest.proofs.Resting.{no_pairs_good}
 use Rattle.ta_automaton.specs.Runs.{InScope, LoopsPure}
@@ -25,7 +26,7 @@ use Rattle.ta_check.proofs.Behind.{lead_proofs, standing}
 use Rattle.ta_check.proofs.Heads.{OrdersBehind, heads, lead_orders}
 
 -- a proof of what is judged
-leaves_proof : (search : Search) (trees : List Tree) → ProofBy search (IsJudged search) trees → ProofBy search (IsLeaf search) trees
+leaves_proof : (search : Search Element) (trees : List Tree) → ProofBy search (IsJudged search) trees → ProofBy search (IsLeaf search) trees
 leaves_proof search trees proves = weaker_proof (IsJudged search) (IsLeaf search) (λ w ts judged. judged.leaf) search trees proves
 
 -- the pattern that is proved
@@ -40,7 +41,7 @@ proven subject pairs q one =
     record {
       pattern = found.pattern;
       named = found.named;
-      proof = subst (λ (s : Search). ProofBy s (IsLeaf s) q.1) (sym found.is) (leaves_proof one.search q.1 one.proves);
+      proof = subst (λ (s : Search Element). ProofBy s (IsLeaf s) q.1) (sym found.is) (leaves_proof one.search q.1 one.proves);
     }
 
 -- what may be claimed of each pattern may be of that of a number

@@ -1,17 +1,20 @@
 -- Lines lead to one standing, and those that lead on are not at fault
 use Rattle.ta_check.proofs.Common.{◌≡◌, ◌⊎◌, inl, inr, ℕ, ◌<◌, ℤ, List, [], ◌∷◌, ◌++◌, length, false, None, Some, refl, sym, ap, subst, ◌∙◌, arith, false≢true, Line, Node, CertFault, IsShown, Pending, Search, parts, MayStand, leaf_back, LeafFault, no_fault, IsJudged, Subject, search_at, Standing, AtWord, ShowsWaiting, Stands, Leads, LeadThrough, AtSomeWord, IsMisplaced, IsNoLeaf, FirstLeafFault, LeafFails, PairFails, IsAtFault, check_stays, none-some}
+use Rattle.ta_words.specs.declared.element.Element.{Element}
 use Rattle.ta_cert.specs.declared.line.Line.TheVariants as line
+use Rattle.ta_encode.specs.Search.{MayAsk}
+use Rattle.ta_encode.proofs.Asking.{none_asked}
 use Rattle.ta_cert.specs.declared.line.Node.TheVariants as node
 use Rattle.ta_cert.specs.declared.fault.CertFault.TheVariants as fault
 use Rattle.ta_check.proofs.LeafFaults.{shows_or_fails}
 
 -- one word is the first that is left
-pub record SameWord (p q : Search) (w v : Pending) (ws vs : List Pending) : Type 0 where
+pub record SameWord (p q : Search Element) (w v : Pending Element) (ws vs : List (Pending Element)) : Type 0 where
   pub search : p ≡ q
   pub word : w ≡ v
   pub words : ws ≡ vs
 
-pub word_once : (subject : Subject) (s : Standing) (p q : Search) (w v : Pending) (ws vs : List Pending) → AtWord subject s p w ws → AtWord subject s q v vs → SameWord p q w v ws vs
+pub word_once : (subject : Subject) (s : Standing) (p q : Search Element) (w v : Pending Element) (ws vs : List (Pending Element)) → AtWord subject s p w ws → AtWord subject s q v vs → SameWord p q w v ws vs
 word_once subject s p q w v ws vs a b =
     let begun : (a.number ∷ a.older) ≡ (b.number ∷ b.older) = sym a.begun ∙ b.begun in
     let number : a.number ≡ b.number = cc in
@@ -23,7 +26,7 @@ word_once subject s p q w v ws vs a b =
 stands_once : (subject : Subject) (s : Standing) (n : Node) (x y : Standing) → Stands subject s n x → Stands subject s n y → x ≡ y
 stands_once subject s n x y a b =
     let same = word_once subject s a.search b.search a.word b.word a.words b.words a.at b.at in
-    let left : List Pending → Standing = λ ws. record s { pending = ws } in
+    let left : List (Pending Element) → Standing = λ ws. record s { pending = ws } in
     a.leads
     ∙ ap (λ p. left (parts p a.word n ++ a.words)) same.search
     ∙ ap (λ w. left (parts b.search w n ++ a.words)) same.word
@@ -66,13 +69,13 @@ through_parts subject s (l ∷ ls) ms after (next, first, rest) =
     (parts.0, (next, first, parts.1), parts.2)
 
 -- a node that stands does so at the first word that is left
-may_stand : (subject : Subject) (s : Standing) (n : Node) (after : Standing) (p : Search) (w : Pending) (ws : List Pending) → AtWord subject s p w ws → Stands subject s n after → MayStand p (IsJudged p) w n
+may_stand : (subject : Subject) (s : Standing) (n : Node) (after : Standing) (p : Search Element) (w : Pending Element) (ws : List (Pending Element)) → AtWord subject s p w ws → Stands subject s n after → MayStand p (IsJudged p) w n
 may_stand subject s n after p w ws at stands =
     let same = word_once subject s stands.search p stands.word w stands.words ws stands.at at in
     subst (λ v. MayStand p (IsJudged p) v n) same.word (subst (λ q. MayStand q (IsJudged q) stands.word n) same.search stands.may)
 
 -- so does a node that leads on there
-may_lead : (subject : Subject) (s : Standing) (n : Node) (after : Standing) (p : Search) (w : Pending) (ws : List Pending) → AtWord subject s p w ws → Stands subject s n after ⊎ ShowsWaiting subject s n after → MayStand p (IsJudged p) w n
+may_lead : (subject : Subject) (s : Standing) (n : Node) (after : Standing) (p : Search Element) (w : Pending Element) (ws : List (Pending Element)) → AtWord subject s p w ws → Stands subject s n after ⊎ ShowsWaiting subject s n after → MayStand p (IsJudged p) w n
 may_lead subject s n after p w ws at (inl stands) = may_stand subject s n after p w ws at stands
 may_lead subject s n after p w ws at (inr shows) = absurd (none-some shows.pair (sym at.none ∙ shows.waits))
 
@@ -118,8 +121,8 @@ not_both subject s number l (fault.UnknownPattern n) after (place, k, here, beyo
 not_both subject s number l (fault.RepeatedPattern n) after (place, k, here, old) leads = (subst (λ m. Leads subject s m after) here.is leads).new old
 not_both subject s number l (fault.Pair n) after (place, bad) leads = bad.bad (subst (λ m. Leads subject s m after) bad.is leads).may
 not_both subject s number l (fault.ExtendComplete n) after (place, is, at) leads =
-    let may : at.search.complete at.word.start at.word.past ≡ false = may_lead subject s node.Extend after at.search at.word at.words at.at (subst (λ m. Leads subject s m after) is leads) in
-    false≢true (sym may ∙ at.holds)
+    let may : MayAsk at.search at.word.start at.word.past node.Extend = may_lead subject s node.Extend after at.search at.word at.words at.at (subst (λ m. Leads subject s m after) is leads) in
+    none_asked at.search at.word.start at.word.past node.Extend may at.holds
 not_both subject s number l (fault.SplitVariable n) after (place, splits) leads =
     let at = splits.at in
     let may : splits.unknown < at.search.unknowns at.word.start at.word.past = may_lead subject s (node.Split splits.unknown splits.floor) after at.search at.word at.words at.at (subst (λ m. Leads subject s m after) splits.is leads) in

@@ -2,6 +2,8 @@
 use Rattle.ta_check.proofs.Common.{◌≡◌, ◌⊎◌, ◌<◌, length, slice_get, inl, inr, ℕ, ℤ, Bool, true, false, List, [], ◌∷◌, ◌++◌, reverse, Option, None, Some, Result, Ok, Err, sym, ap, ◌∙◌, subst, refl, slice_get_within, Pattern, Line, Node, CertFault, Element, Pending, Search, parts, MayStand, IsEncoding, Place, IsWord, here, Cursor, AllGoOn, AllWithin, IsAllWithin, here_at, here_first, here_is, later_words, LeafFault, search_for, Subject, Position, IsJudged, Standing, AtWord, Stands, AtSomeWord, FirstLeafFault, LeafFails, Between, InNewest, IsPositionAt, IsSomewhere, LeafTaken, SameMembers, LineAnswers, fault_at, none-some}
 use Rattle.ta_cert.specs.declared.line.Line.TheVariants as line
 use Rattle.ta_cert.specs.declared.line.Node.TheVariants as node
+use Rattle.ta_cursor.specs.TreeCalls.{IsCompleteOf}
+use Rattle.ta_encode.specs.Search.{MayAsk, asked}
 use Rattle.ta_farkas.specs.declared.LeafFault.TheVariants as leaf
 use Rattle.ta_check.proofs.Searches.{search_same}
 
@@ -63,42 +65,50 @@ pattern_there subject s number none current somewhere =
     slice_get_within subject.file.patterns number n.0 n.1.named
 
 -- the tree of the pattern whose proof is being read
-abbrev pub IsTree : Subject → Position → ℕ → Search → Type 0
+abbrev pub IsTree : Subject → Position → ℕ → Search Element → Type 0
 IsTree subject s number tree = (p : Pattern) → slice_get subject.file.patterns number ≡ Some p → tree ≡ search_for subject.claim subject.file.automaton p s.orders
 
 -- the place is within it
-pub tree_within : (subject : Subject) (s : Position) (number : ℕ) (tree : Search) → s.waiting ≡ None → s.current ≡ Some number → IsTree subject s number tree → IsSomewhere subject s → IsAllWithin tree s.place
+pub tree_within : (subject : Subject) (s : Position) (number : ℕ) (tree : Search Element) → s.waiting ≡ None → s.current ≡ Some number → IsTree subject s number tree → IsSomewhere subject s → IsAllWithin tree s.place
 tree_within subject s number tree none current same (at, is) =
     let n = some_newest subject s at number none current is in
-    (at.pending, subst (λ (q : Search). AllWithin q s.place at.pending) (sym (same n.0 n.1.named)) n.1.within)
+    (at.pending, subst (λ (q : Search Element). AllWithin q s.place at.pending) (sym (same n.0 n.1.named)) n.1.within)
 
 -- and its word is one of the tree's
-pub tree_word : (subject : Subject) (s : Position) (number : ℕ) (tree : Search) → s.waiting ≡ None → s.current ≡ Some number → IsTree subject s number tree → IsSomewhere subject s → IsWord tree (here_at s.place)
+pub tree_word : (subject : Subject) (s : Position) (number : ℕ) (tree : Search Element) → s.waiting ≡ None → s.current ≡ Some number → IsTree subject s number tree → IsSomewhere subject s → IsWord tree (here_at s.place)
 tree_word subject s number tree none current same somewhere = (tree_within subject s number tree none current same somewhere).1.within.word
 
--- what a tree answers of the word of a cursor that was read
-pub told_at : {X : Type 0} (f : Search → ℕ → List Element → X) (tree search : Search) (answer : X) (start : ℕ) (word : List Element) (read also cursor : Cursor) → tree ≡ search → start ≡ read.start_mask → read ≡ cursor → word ≡ also.word → also ≡ cursor →
-    answer ≡ f tree start (reverse word) → answer ≡ f search cursor.start_mask (reverse cursor.word)
-told_at f tree search answer start word read also cursor same starts reads words reads_also told =
-    told ∙ ap (λ (q : Search). f q start (reverse word)) same ∙ ap (λ (k : ℕ). f search k (reverse word)) (starts ∙ ap (λ (c : Cursor). c.start_mask) reads)
-    ∙ ap (λ (es : List Element). f search cursor.start_mask (reverse es)) (words ∙ ap (λ (c : Cursor). c.word) reads_also)
+-- what a tree says of the word of a cursor that was read
+pub told_at : (Says : Search Element → ℕ → List Element → Type 0) (tree search : Search Element) (start : ℕ) (word : List Element) (read also cursor : Cursor) → tree ≡ search → start ≡ read.start_mask → read ≡ cursor → word ≡ also.word → also ≡ cursor →
+    Says tree start (reverse word) → Says search cursor.start_mask (reverse cursor.word)
+told_at Says tree search start word read also cursor same starts reads words reads_also told =
+    subst (λ (es : List Element). Says search cursor.start_mask (reverse es)) (words ∙ ap (λ (c : Cursor). c.word) reads_also)
+    (subst (λ (k : ℕ). Says search k (reverse word)) (starts ∙ ap (λ (c : Cursor). c.start_mask) reads)
+    (subst (λ (q : Search Element). Says q start (reverse word)) same told))
+
+-- where a word is complete an Extend may not stand, and where it isn't it may
+pub none_told : (s : Search Element) (start : ℕ) (past : List Element) (complete : Bool) → complete ≡ true → IsCompleteOf s start past complete → asked s start past node.Extend ≡ None
+none_told s start past complete is told = (subst (IsCompleteOf s start past) is told) node.Extend
+
+pub may_told : (s : Search Element) (start : ℕ) (past : List Element) (complete : Bool) → complete ≡ false → IsCompleteOf s start past complete → MayAsk s start past node.Extend
+may_told s start past complete is told = (subst (IsCompleteOf s start past) is told).0
 
 -- a place that went on within a tree did so within the search of that tree
-pub went_on : (tree search : Search) (old new : Place) (n : Node) (more : Bool) (words : List Pending) → tree ≡ search
-    → ((w : Pending) (ws : List Pending) → AllWithin tree old (w ∷ ws) → AllGoOn tree new (parts tree w n ++ ws) (Ok more))
+pub went_on : (tree search : Search Element) (old new : Place) (n : Node) (more : Bool) (words : List (Pending Element)) → tree ≡ search
+    → ((w : Pending Element) (ws : List (Pending Element)) → AllWithin tree old (w ∷ ws) → AllGoOn tree new (parts tree w n ++ ws) (Ok more))
     → AllWithin search old (here_at old ∷ words) → AllGoOn search new (parts search (here_at old) n ++ words) (Ok more)
 went_on tree search old new n more words same told =
-    subst (λ (q : Search). (w : Pending) (ws : List Pending) → AllWithin q old (w ∷ ws) → AllGoOn q new (parts q w n ++ ws) (Ok more)) same told (here_at old) words
+    subst (λ (q : Search Element). (w : Pending Element) (ws : List (Pending Element)) → AllWithin q old (w ∷ ws) → AllGoOn q new (parts q w n ++ ws) (Ok more)) same told (here_at old) words
 
 -- a split within a tree is one within its search
-pub split_on : (tree search : Search) (old new : Place) (unknown : ℕ) (floor : ℤ) (words : List Pending) → tree ≡ search
-    → ((w : Pending) (ws : List Pending) → AllWithin tree old (w ∷ ws) → AllWithin tree new (parts tree w (node.Split unknown floor) ++ ws))
+pub split_on : (tree search : Search Element) (old new : Place) (unknown : ℕ) (floor : ℤ) (words : List (Pending Element)) → tree ≡ search
+    → ((w : Pending Element) (ws : List (Pending Element)) → AllWithin tree old (w ∷ ws) → AllWithin tree new (parts tree w (node.Split unknown floor) ++ ws))
     → AllWithin search old (here_at old ∷ words) → AllWithin search new (parts search (here_at old) (node.Split unknown floor) ++ words)
 split_on tree search old new unknown floor words same told =
-    subst (λ (q : Search). (w : Pending) (ws : List Pending) → AllWithin q old (w ∷ ws) → AllWithin q new (parts q w (node.Split unknown floor) ++ ws)) same told (here_at old) words
+    subst (λ (q : Search Element). (w : Pending Element) (ws : List (Pending Element)) → AllWithin q old (w ∷ ws) → AllWithin q new (parts q w (node.Split unknown floor) ++ ws)) same told (here_at old) words
 
 -- the words behind the first
-abbrev pub later : (subject : Subject) (s : Position) (at : Standing) (number : ℕ) (p : Pattern) → Newest subject s at number p → List Pending
+abbrev pub later : (subject : Subject) (s : Position) (at : Standing) (number : ℕ) (p : Pattern) → Newest subject s at number p → List (Pending Element)
 later subject s at number p n = later_words (search_for subject.claim subject.file.automaton p s.orders) s.place at.pending n.within
 
 -- its word is the first that is left
@@ -116,7 +126,7 @@ at_word subject s at number p n = record {
 }
 
 -- what holds of the newest pattern's search and of the position's word
-pub at_some_word : (subject : Subject) (s : Position) (at : Standing) (number : ℕ) (p : Pattern) (fact : Search → Pending → Type 0) → Newest subject s at number p → fact (search_for subject.claim subject.file.automaton p s.orders) (here_at s.place) → AtSomeWord subject at fact
+pub at_some_word : (subject : Subject) (s : Position) (at : Standing) (number : ℕ) (p : Pattern) (fact : Search Element → Pending Element → Type 0) → Newest subject s at number p → fact (search_for subject.claim subject.file.automaton p s.orders) (here_at s.place) → AtSomeWord subject at fact
 at_some_word subject s at number p fact n holds = record {
   search = search_for subject.claim subject.file.automaton p s.orders;
   word = here_at s.place;
@@ -131,7 +141,7 @@ CurrentWhere true number current = current ≡ Some number
 CurrentWhere false number current = current ≡ None
 
 -- a position whose place went on is at what is left
-went_at : (subject : Subject) (s : Position) (at : Standing) (number : ℕ) (p : Pattern) (words : List Pending) (older : List ℕ) (more : Bool) → Head s at → slice_get subject.file.patterns number ≡ Some p → at.begun ≡ number ∷ older → at.begun ≡ reverse s.proved.items → CurrentWhere more number s.current → IsEncoding subject.file.automaton p s.encoding → AllGoOn (search_for subject.claim subject.file.automaton p s.orders) s.place words (Ok more) → IsPositionAt subject s (record at { pending = words })
+went_at : (subject : Subject) (s : Position) (at : Standing) (number : ℕ) (p : Pattern) (words : List (Pending Element)) (older : List ℕ) (more : Bool) → Head s at → slice_get subject.file.patterns number ≡ Some p → at.begun ≡ number ∷ older → at.begun ≡ reverse s.proved.items → CurrentWhere more number s.current → IsEncoding subject.file.automaton p s.encoding → AllGoOn (search_for subject.claim subject.file.automaton p s.orders) s.place words (Ok more) → IsPositionAt subject s (record at { pending = words })
 went_at subject s at number p words older more head named newest proved current kept went = record {
   version = head.version;
   pairs = head.pairs;
@@ -141,7 +151,7 @@ went_at subject s at number p words older more head named newest proved current 
   place = placed words went;
 }
   where
-    placed : (ws : List Pending) → AllGoOn (search_for subject.claim subject.file.automaton p s.orders) s.place ws (Ok more) → Between s ws ⊎ InNewest subject s (record at { pending = ws })
+    placed : (ws : List (Pending Element)) → AllGoOn (search_for subject.claim subject.file.automaton p s.orders) s.place ws (Ok more) → Between s ws ⊎ InNewest subject s (record at { pending = ws })
     placed [] gone = inl (record {
       current = subst (λ (m : Bool). CurrentWhere m number s.current) gone current;
       left = refl;
@@ -189,9 +199,9 @@ fault_told subject at number l new (leaf.Positive unknown) fails = (refl, fails)
 fault_told subject at number l new leaf.NotNegative fails = (refl, fails)
 
 -- what the judge of a leaf says of a tree's word it says of the search's
-pub leaf_told : (tree search : Search) (there cursor : Cursor) (number : ℕ) (ts : List (ℕ × ℤ)) (answer : Result (Unit {0}) CertFault) → tree ≡ search → there ≡ cursor → LeafTaken tree (here there) number ts answer → LeafTaken search (here cursor) number ts answer
+pub leaf_told : (tree search : Search Element) (there cursor : Cursor) (number : ℕ) (ts : List (ℕ × ℤ)) (answer : Result (Unit {0}) CertFault) → tree ≡ search → there ≡ cursor → LeafTaken tree (here there) number ts answer → LeafTaken search (here cursor) number ts answer
 leaf_told tree search there cursor number ts answer same place told =
-    subst (λ (d : Cursor). LeafTaken search (here d) number ts answer) place (subst (λ (q : Search). LeafTaken q (here there) number ts answer) same told)
+    subst (λ (d : Cursor). LeafTaken search (here d) number ts answer) place (subst (λ (q : Search Element). LeafTaken q (here there) number ts answer) same told)
 
 -- what the judge of a leaf refuses is refused
 pub leaf_refused : (subject : Subject) (s new : Position) (at : Standing) (k number : ℕ) (p : Pattern) (ts : List (ℕ × ℤ)) (f : CertFault) (n : Newest subject s at k p) → LeafTaken (search_for subject.claim subject.file.automaton p s.orders) (here_at s.place) number ts (Err f) → LineAnswers subject at number (line.Tree (node.Leaf ts)) new (Err f)

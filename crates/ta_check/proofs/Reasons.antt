@@ -1,5 +1,6 @@
 -- A line that can't follow has one fault
 use Rattle.ta_check.proofs.Common.{◌≡◌, ℕ, ℤ, ◌<◌, ◌≤◌, ◌⊎◌, List, [], ◌∷◌, length, Some, inl, inr, refl, sym, ap, subst, ◌∙◌, arith, In, known_first, Line, Node, CertFault, FailsToShow, Pending, Search, LeafFault, Subject, Standing, NothingIsLeft, TakesOrder, Leads, LeadThrough, IsMisplaced, IsNoLeaf, AtSomeWord, FirstLeafFault, LeafFails, IsAtFault, fault_at, none-some}
+use Rattle.ta_words.specs.declared.element.Element.{Element}
 use Rattle.ta_cert.specs.declared.line.Line.TheVariants as line
 use Rattle.ta_cert.specs.declared.line.Node.TheVariants as node
 use Rattle.ta_cert.specs.declared.fault.CertFault.TheVariants as fault
@@ -26,7 +27,7 @@ known_through subject s [] after known leads = subst (KnowsBegun subject) (sym l
 known_through subject s (l ∷ ls) after known (next, first, rest) = known_through subject next ls after (known_next subject s l next known first) rest
 
 -- the fault of a node at a word
-AtWordFault : ℕ → Node → CertFault → Search → Pending → Type 0
+AtWordFault : ℕ → Node → CertFault → Search Element → Pending Element → Type 0
 AtWordFault number node.Extend f p w = f ≡ fault.ExtendComplete number
 AtWordFault number (node.Split unknown floor) f p w = f ≡ fault.SplitVariable number
 AtWordFault number (node.Leaf ts) f p w = (why : LeafFault) × (f ≡ fault_at number why) × FirstLeafFault p w ts why
@@ -93,7 +94,7 @@ reason subject s number l (fault.NotNegative n) (place, fails) = leaf_reason sub
 reason subject s number l _ at = absurd at
 
 -- a node has one fault at a word
-node_once : (number : ℕ) (n : Node) (f g : CertFault) (p : Search) (w : Pending) → AtWordFault number n f p w → AtWordFault number n g p w → f ≡ g
+node_once : (number : ℕ) (n : Node) (f g : CertFault) (p : Search Element) (w : Pending Element) → AtWordFault number n f p w → AtWordFault number n g p w → f ≡ g
 unfolding AtWordFault
 node_once number node.Extend f g p w a b = a ∙ sym b
 node_once number (node.Split unknown floor) f g p w a b = a ∙ sym b

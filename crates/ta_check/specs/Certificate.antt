@@ -28,7 +28,7 @@ ShowsPair a order = IsShown a (pair_of order) order.multipliers
 
 -- trees that prove what is claimed of the file's pattern of a number, under pairs, no leaf check of which leaves the range
 pub record ProvesClaim (subject : Subject) (pairs : List (ℕ × ℕ)) (numbered : ℕ × List Tree) : Type 0 where
-  pub search : Search
+  pub search : Search Element
   pub searched : search_at subject pairs numbered.0 ≡ Some search
   pub proves : ProofBy search (IsJudged search) numbered.1
 

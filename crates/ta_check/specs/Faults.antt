@@ -1,5 +1,6 @@
 -- The first fault of a text that is no certificate
 use Rattle.std.specs.Prelude.{ℕ, ◌≡◌, ◌≤◌, ◌⊎◌, true, List, [], ◌∷◌, ◌++◌, length, ℤ, Some, None}
+use Rattle.ta_words.specs.declared.element.Element.{Element}
 use Rattle.ta_linear.specs.declared.row.System.{System}
 use Rattle.ta_automaton.specs.declared.file.File.{File}
 use Rattle.ta_base.specs.Masks.{In}
@@ -15,6 +16,7 @@ use Rattle.ta_implied.specs.Orders.{MayJoin}
 use Rattle.ta_implied.specs.Refused.{FailsToShow}
 use Rattle.ta_encode.specs.Code.{SystemAt}
 use Rattle.ta_encode.specs.InPreorder.{Pending, Search}
+use Rattle.ta_encode.specs.Search.{asked}
 use Rattle.ta_farkas.specs.Faults.{IsFirstFaultOfLeaf as IsFirstLeafFault}
 use Rattle.ta_farkas.specs.declared.LeafFault.{LeafFault}
 use Rattle.ta_farkas.specs.declared.LeafFault.TheVariants as leaf
@@ -25,9 +27,8 @@ use Rattle.ta_check.specs.Lines.{Standing, AtWord, NothingIsLeft, TakesOrder, fi
 
 -- a node that is no leaf
 abbrev pub IsNoLeaf : Node → Type 0
-IsNoLeaf node.Extend = Unit {0}
-IsNoLeaf (node.Split unknown floor) = Unit {0}
 IsNoLeaf (node.Leaf multipliers) = ⊥
+IsNoLeaf n = Unit {0}
 
 -- a pair waits for its leaf
 pub record IsWaiting (s : Standing) : Type 0 where
@@ -62,10 +63,10 @@ pub record IsPatternLine (s : Standing) (l : Line) (number : ℕ) : Type 0 where
   pub free : NothingIsLeft s
 
 -- at the first word that is left
-pub record AtSomeWord (subject : Subject) (s : Standing) (fact : Search → Pending → Type 0) : Type 0 where
-  pub search : Search
-  pub word : Pending
-  pub words : List Pending
+pub record AtSomeWord (subject : Subject) (s : Standing) (fact : Search Element → Pending Element → Type 0) : Type 0 where
+  pub search : Search Element
+  pub word : Pending Element
+  pub words : List (Pending Element)
   pub at : AtWord subject s search word words
   pub holds : fact search word
 
@@ -78,7 +79,7 @@ pub record SplitsUnknown (subject : Subject) (s : Standing) (l : Line) : Type 0 
 
 -- the first fault of multipliers over the system of a word: rows before columns, the columns by rising unknown and the
 -- constants last, and a column's range before its sign
-pub record FirstLeafFault (search : Search) (w : Pending) (ts : List (ℕ × ℤ)) (f : LeafFault) : Type 0 where
+pub record FirstLeafFault (search : Search Element) (w : Pending Element) (ts : List (ℕ × ℤ)) (f : LeafFault) : Type 0 where
   pub system : System
   pub is : SystemAt search w system
   pub first : IsFirstLeafFault system ts f
@@ -101,7 +102,7 @@ IsAtFault subject s number l (fault.Line n) = (n ≡ number) × IsMisplaced subj
 IsAtFault subject s number l (fault.UnknownPattern n) = (n ≡ number) × (k : ℕ) × IsPatternLine s l k × (length subject.file.patterns ≤ k)
 IsAtFault subject s number l (fault.RepeatedPattern n) = (n ≡ number) × (k : ℕ) × IsPatternLine s l k × In k s.begun
 IsAtFault subject s number l (fault.Pair n) = (n ≡ number) × IsBadOrder subject s l
-IsAtFault subject s number l (fault.ExtendComplete n) = (n ≡ number) × (l ≡ line.Tree node.Extend) × AtSomeWord subject s (λ search w. search.complete w.start w.past ≡ true)
+IsAtFault subject s number l (fault.ExtendComplete n) = (n ≡ number) × (l ≡ line.Tree node.Extend) × AtSomeWord subject s (λ search w. asked search w.start w.past node.Extend ≡ None)
 IsAtFault subject s number l (fault.SplitVariable n) = (n ≡ number) × SplitsUnknown subject s l
 IsAtFault subject s number l (fault.Row n row) = (n ≡ number) × LeafFails subject s l (leaf.RowNumber row)
 IsAtFault subject s number l (fault.Overflow n column) = (n ≡ number) × LeafFails subject s l (leaf.Overflow column)

@@ -1,5 +1,6 @@
 -- Which lines may follow each other in a certificate
 use Rattle.std.specs.Prelude.{ℕ, ℤ, ◌≡◌, ◌≢◌, ◌<◌, ◌⊎◌, List, [], ◌∷◌, ◌++◌, length, Option, Some, None}
+use Rattle.ta_words.specs.declared.element.Element.{Element}
 use Rattle.ta_base.specs.Masks.{In}
 use Rattle.ta_cert.specs.declared.line.Line.{Line}
 use Rattle.ta_cert.specs.declared.line.Line.TheVariants as line
@@ -18,14 +19,14 @@ pub record Standing : Type 0 where
   pub pairs : List (ℕ × ℕ)
   pub waiting : Option (ℕ × ℕ)
   pub begun : List ℕ
-  pub pending : List Pending
+  pub pending : List (Pending Element)
 
 -- before the first line
 abbrev pub first_standing : Standing
 first_standing = record { version = 0; pairs = []; waiting = None; begun = []; pending = [] }
 
 -- the first word that is to be refuted, in the search of the newest pattern
-pub record AtWord (subject : Subject) (s : Standing) (search : Search) (word : Pending) (words : List Pending) : Type 0 where
+pub record AtWord (subject : Subject) (s : Standing) (search : Search Element) (word : Pending Element) (words : List (Pending Element)) : Type 0 where
   pub none : s.waiting ≡ None
   pub number : ℕ
   pub older : List ℕ
@@ -74,9 +75,9 @@ pub record BeginsProof (subject : Subject) (s : Standing) (number : ℕ) (after 
 
 -- a node stands at the first word, and what it leaves of the word comes in its place
 pub record Stands (subject : Subject) (s : Standing) (node : Node) (after : Standing) : Type 0 where
-  pub search : Search
-  pub word : Pending
-  pub words : List Pending
+  pub search : Search Element
+  pub word : Pending Element
+  pub words : List (Pending Element)
   pub at : AtWord subject s search word words
   pub may : MayStand search (IsJudged search) word node
   pub leads : after ≡ record s { pending = parts search word node ++ words }

@@ -1,5 +1,6 @@
 -- What the fields of a position stand for
 use Rattle.std.specs.Prelude.{ℕ, ◌≡◌, ◌⊎◌, List, [], ◌∷◌, reverse, slice_get, ℤ, Some, None, Result, Ok, Err}
+use Rattle.ta_words.specs.declared.element.Element.{Element}
 use Rattle.ta_automaton.specs.declared.pattern.Pattern.{Pattern}
 use Rattle.ta_cert.specs.declared.line.Line.{Line}
 use Rattle.ta_cert.specs.declared.fault.CertFault.{CertFault}
@@ -19,7 +20,7 @@ use Rattle.ta_check.specs.Faults.{IsAtFault, FirstLeafFault}
 use Rattle.ta_base.specs.Lists.{SameMembers}
 
 -- behind a proof, or before any
-pub record Between (s : Position) (pending : List Pending) : Type 0 where
+pub record Between (s : Position) (pending : List (Pending Element)) : Type 0 where
   pub current : s.current ≡ None
   pub left : pending ≡ []
 
@@ -66,12 +67,12 @@ fault_at number (leaf.Positive unknown) = fault.Positive number unknown
 fault_at number leaf.NotNegative = fault.NotNegative number
 
 -- the first fault of a leaf at a word, told in a line of a number
-pub record LeafTold (search : Search) (w : Pending) (number : ℕ) (ts : List (ℕ × ℤ)) (told : CertFault) : Type 0 where
+pub record LeafTold (search : Search Element) (w : Pending Element) (number : ℕ) (ts : List (ℕ × ℤ)) (told : CertFault) : Type 0 where
   pub fault : LeafFault
   pub is : told ≡ fault_at number fault
   pub first : FirstLeafFault search w ts fault
 
 -- what the judge of a leaf answers at a word; want of memory is free
-abbrev pub LeafTaken : Search → Pending → ℕ → List (ℕ × ℤ) → Result (Unit {0}) CertFault → Type 0
+abbrev pub LeafTaken : Search Element → Pending Element → ℕ → List (ℕ × ℤ) → Result (Unit {0}) CertFault → Type 0
 LeafTaken search w number ts (Ok _) = IsJudged search w ts
 LeafTaken search w number ts (Err told) = (told ≡ fault.Memory) ⊎ LeafTold search w number ts told

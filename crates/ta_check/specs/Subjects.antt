@@ -1,5 +1,6 @@
 -- What a certificate is judged for
 use Rattle.std.specs.Prelude.{ℕ, ◌≡◌, List, slice_get, Option, Some, None}
+use Rattle.ta_words.specs.declared.element.Element.{Element}
 use Rattle.ta_automaton.specs.declared.automaton.Automaton.{Automaton}
 use Rattle.ta_automaton.specs.declared.file.File.{File}
 use Rattle.ta_automaton.specs.declared.pattern.Pattern.{Pattern}
@@ -17,12 +18,12 @@ abbrev pub claiming : Claim → File → Subject
 claiming claim file = record { claim = claim; file = file }
 
 -- the search for a claim on a pattern under pairs
-abbrev pub search_in : Claim → Automaton → List (ℕ × ℕ) → Option Pattern → Option Search
+abbrev pub search_in : Claim → Automaton → List (ℕ × ℕ) → Option Pattern → Option (Search Element)
 search_in claim a pairs None = None
 search_in claim a pairs (Some p) = Some (search_for claim a p pairs)
 
 -- that of the file's pattern of a number
-abbrev pub search_at : Subject → List (ℕ × ℕ) → ℕ → Option Search
+abbrev pub search_at : Subject → List (ℕ × ℕ) → ℕ → Option (Search Element)
 search_at subject pairs number = search_in subject.claim subject.file.automaton pairs (slice_get subject.file.patterns number)
 
 -- a version that a certificate may have: for rest there is none with pairs

@@ -1,6 +1,12 @@
 -- the words of a claim, whichever claim it is
-use Rattle.ta_claim.proofs.Common.{◌≡◌, ℕ, ◌^◌, ◌≤◌, List, [], length, slice_get, Some, arith, refl, Automaton, File, Pattern, Element, LegalWord, is_complete, Comes, Pending, IsSmall, System, PatternOver, SystemAt, all_starts, meanings, few_rows, few_unknowns, small_of, search_for, Claim, Safe, RestSafe}
+use Rattle.ta_claim.proofs.Common.{◌≡◌, ℕ, ◌^◌, ◌≤◌, List, [], length, slice_get, Some, arith, refl, Automaton, File, Pattern, Element, LegalWord, is_complete, Comes, Pending, IsSmall, System, PatternOver, SystemAt, all_starts, meanings, few_rows, few_unknowns, small_of, search_for, Claim, Safe, RestSafe, ap, sym, ℤ, Bool, true, false, pattern_search, rest_search, children, ◌∷◌}
 use Rattle.ta_encode.specs.Lines.{BoundsWithin}
+use Rattle.std.specs.Option.{is_some}
+use Rattle.ta_cert.specs.declared.line.Node.TheVariants.{Extend}
+use Rattle.ta_cursor.specs.TreeCalls.{IsCompleteOf}
+use Rattle.ta_encode.specs.Search.{Search}
+use Rattle.ta_encode.proofs.Asking.{IsOfWords, asked_at_open, none_at_complete}
+use Rattle.ta_encode.proofs.Prefixes.{prefix_fewer}
 use Rattle.ta_encode.proofs.SystemsExist.{word_system}
 use Rattle.ta_rest.proofs.RestSystems.{rest_word_system}
 use Rattle.ta_claim.proofs.PatternWords.{comes_legal}
@@ -11,13 +17,23 @@ pub claim_roots : (claim : Claim) (a : Automaton) (p : Pattern) (pairs : List (�
 claim_roots Safe a p pairs = refl
 claim_roots RestSafe a p pairs = refl
 
-pub claim_complete : (claim : Claim) (a : Automaton) (p : Pattern) (pairs : List (ℕ × ℕ)) (start : ℕ) (past : List Element) → (search_for claim a p pairs).complete start past ≡ is_complete p past
-claim_complete Safe a p pairs start past = refl
-claim_complete RestSafe a p pairs start past = refl
+-- whether a word is complete, in a search of which only Extend asks
+word_complete : (s : Search Element) (start : ℕ) (past : List Element) (complete r : Bool) (es : List Element) → IsOfWords s start past complete es → ((values : List (ℤ × ℤ)) → s.question start past values ≡ Some Extend) → r ≡ complete → IsCompleteOf s start past r
+word_complete s start past complete true es h q is = none_at_complete s start past complete es h (sym is)
+word_complete s start past complete false es h q is = (ap is_some (asked_at_open s start past complete es h (sym is)), q)
+
+pub claim_complete : (claim : Claim) (a : Automaton) (p : Pattern) (pairs : List (ℕ × ℕ)) (start : ℕ) (past : List Element) (r : Bool) → r ≡ is_complete p past → IsCompleteOf (search_for claim a p pairs) start past r
+claim_complete Safe a p pairs start past r is = word_complete (pattern_search a p pairs) start past (is_complete p past) r (children a p pairs start past) (λ n. refl) (λ values. refl) is
+claim_complete RestSafe a p pairs start past r is = word_complete (rest_search a p) start past (is_complete p past) r (children a p [] start past) (λ n. refl) (λ values. refl) is
 
 pub claim_unknowns : (claim : Claim) (a : Automaton) (p : Pattern) (pairs : List (ℕ × ℕ)) (start : ℕ) (past : List Element) → (search_for claim a p pairs).unknowns start past ≡ length (meanings a p start past)
 claim_unknowns Safe a p pairs start past = refl
 claim_unknowns RestSafe a p pairs start past = refl
+
+-- a word that is longer has no fewer
+pub claim_grows : (claim : Claim) (a : Automaton) (p : Pattern) (pairs : List (ℕ × ℕ)) (start : ℕ) (past : List Element) (e : Element) → (search_for claim a p pairs).unknowns start past ≤ (search_for claim a p pairs).unknowns start (e ∷ past)
+claim_grows Safe a p pairs start past e = prefix_fewer a p start past (e ∷ [])
+claim_grows RestSafe a p pairs start past e = prefix_fewer a p start past (e ∷ [])
 
 -- a word to which it comes is legal
 pub claim_legal : (claim : Claim) (a : Automaton) (p : Pattern) (pairs : List (ℕ × ℕ)) (start : ℕ) (past : List Element) → Comes (search_for claim a p pairs) start past → LegalWord a p start past
@@ -29,11 +45,11 @@ rows_few Safe a p pairs start past over legal = omega (arith, few_rows a p start
 rows_few RestSafe a p pairs start past over legal = rest_few a p start past over legal
 
 -- its system has few unknowns and rows
-pub claim_small : (claim : Claim) (a : Automaton) (p : Pattern) (pairs : List (ℕ × ℕ)) (w : Pending) (s : System) → PatternOver a p → LegalWord a p w.start w.past → SystemAt (search_for claim a p pairs) w s → IsSmall w.bounds s
+pub claim_small : (claim : Claim) (a : Automaton) (p : Pattern) (pairs : List (ℕ × ℕ)) (w : Pending Element) (s : System) → PatternOver a p → LegalWord a p w.start w.past → SystemAt (search_for claim a p pairs) w s → IsSmall w.bounds s
 claim_small claim a p pairs w s over legal is =
     small_of (search_for claim a p pairs) w s (omega (arith, claim_unknowns claim a p pairs w.start w.past, few_unknowns a p w.start w.past over legal)) (rows_few claim a p pairs w.start w.past over legal) is
 
 -- each word of a pattern of a file, with few enough unknowns, has a system
-pub claim_system : (claim : Claim) (file : File) (number : ℕ) (p : Pattern) (pairs : List (ℕ × ℕ)) (w : Pending) → slice_get file.patterns number ≡ Some p → length (meanings file.automaton p w.start w.past) ≤ 2 ^ 32 → BoundsWithin ((search_for claim file.automaton p pairs).unknowns w.start w.past) w.bounds → (system : System) × SystemAt (search_for claim file.automaton p pairs) w system
+pub claim_system : (claim : Claim) (file : File) (number : ℕ) (p : Pattern) (pairs : List (ℕ × ℕ)) (w : Pending Element) → slice_get file.patterns number ≡ Some p → length (meanings file.automaton p w.start w.past) ≤ 2 ^ 32 → BoundsWithin ((search_for claim file.automaton p pairs).unknowns w.start w.past) w.bounds → (system : System) × SystemAt (search_for claim file.automaton p pairs) w system
 claim_system Safe file number p pairs w at few bounds = word_system file number p pairs w at few bounds
 claim_system RestSafe file number p pairs w at few bounds = rest_word_system file number p w at few bounds

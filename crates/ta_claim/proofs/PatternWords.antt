@@ -1,6 +1,7 @@
 -- the words of a pattern
 use Rattle.ta_claim.proofs.Common.{◌≡◌, inl, inr, ℕ, zero, suc, ◌+◌, ◌-◌, ◌^◌, ◌<◌, ◌≤◌, List, [], ◌∷◌, ◌++◌, length, map, reverse, slice_get, Some, None, Bool, true, arith, sym, ap, ◌∙◌, refl, subst, length-append, lit<, filter, if◌then◌else◌, slice_get-map, slice_get_within, In, range_with_len, numbers_end, slice_numbers, Automaton, Pattern, Element, Event, Rise, Fall, LegalWord, LegalUnder, children, is_complete, is_ready, is_standing, may_rise, under_none, passed_length, Pending, BeginsAtWord, Comes, all_starts, empty_word, pattern_search, IsPushed, PushAnswers, PatternOver}
 use Rattle.std.proofs.Math.Nat.{pow-le-pow_right}
+use Rattle.ta_encode.proofs.Asking.{answers_in, children_answer}
 use Rattle.ta_encode.proofs.Prefixes.{prefix_fewer}
 use Rattle.ta_base.proofs.Lists.{unless_most}
 
@@ -35,13 +36,13 @@ pub start_none : (a : Automaton) (number : ℕ) → 2 ^ length a.fall ≤ number
 start_none a number h = slice_get-map empty_word (range_with_len 0 (2 ^ length a.fall)) number ∙ rw (numbers_end 0 (2 ^ length a.fall) number h) refl
 
 -- what is known of a word with which the search of a pattern begins
-record IsStart (a : Automaton) (w : Pending) : Type 0 where
+record IsStart (a : Automaton) (w : Pending Element) : Type 0 where
   pub start : w.start < 2 ^ length a.fall
   pub past : w.past ≡ []
 
-starts_are : (a : Automaton) (k n : ℕ) (w : Pending) → k + n ≤ 2 ^ length a.fall → In w (map empty_word (range_with_len k n)) → IsStart a w
+starts_are : (a : Automaton) (k n : ℕ) (w : Pending Element) → k + n ≤ 2 ^ length a.fall → In w (map empty_word (range_with_len k n)) → IsStart a w
 starts_are a k zero w h is = absurd is
-starts_are a k (suc n) w h (inl same) = record { start = subst (λ (v : Pending). v.start < 2 ^ length a.fall) (sym same) (let below : k < 2 ^ length a.fall = omega arith in below); past = ap (λ (v : Pending). v.past) same }
+starts_are a k (suc n) w h (inl same) = record { start = subst (λ (v : Pending Element). v.start < 2 ^ length a.fall) (sym same) (let below : k < 2 ^ length a.fall = omega arith in below); past = ap (λ (v : Pending Element). v.past) same }
 starts_are a k (suc n) w h (inr is) = starts_are a (k + 1) n w (omega arith) is
 
 -- a word to which the search of a pattern comes under pairs is legal under them, and legal, and its start set is one of fall guards
@@ -63,7 +64,10 @@ began a p pairs start past b =
 pub comes_legal : (a : Automaton) (p : Pattern) (pairs : List (ℕ × ℕ)) (start : ℕ) (past : List Element) → Comes (pattern_search a p pairs) start past → IsLegal a p pairs start past
 comes_legal a p pairs start [] c = began a p pairs start [] c
 comes_legal a p pairs start (e ∷ past) (inl b) = began a p pairs start (e ∷ past) b
-comes_legal a p pairs start (e ∷ past) (inr c) = (let before = comes_legal a p pairs start past c.1 in record { start_is = before.start_is; under = (c.0, before.under); legal = (under_none a p pairs start past e c.0, before.legal) })
+comes_legal a p pairs start (e ∷ past) (inr c) =
+    let before = comes_legal a p pairs start past c.1 in
+    let child = answers_in (pattern_search a p pairs) start past (is_complete p past) (children a p pairs start past) (λ n. refl) c.0.0 e c.0.1 in
+    record { start_is = before.start_is; under = (child, before.under); legal = (under_none a p pairs start past e child, before.legal) }
 
 -- a word that is pushed a child
 pub child_pushed : (a : Automaton) (p : Pattern) (pairs : List (ℕ × ℕ)) (start : ℕ) (old new : List Element) (k : ℕ) (e : Element) (r : Bool) → PatternOver a p
@@ -76,7 +80,7 @@ child_pushed a p pairs start old new k e r over at yea word =
     let longer : new ≡ old ++ e ∷ [] = word ∙ ap (λ (b : Bool). if b then old ++ e ∷ [] else old) yea in
     let is : IsPushed s start old new k = record {
       element = e;
-      follows = at;
+      follows = subst (λ (es : List Element). slice_get es k ≡ Some e) (sym (children_answer a p pairs start (reverse old))) at;
       word = longer;
       more = prefix_fewer a p start (reverse old) (e ∷ []);
       small = omega arith;

@@ -1,9 +1,10 @@
 -- words of rest are words under no pairs, and the rows of their ends
-use Rattle.ta_claim.proofs.Common.{◌≡◌, inl, inr, ℕ, ◌≤◌, List, [], ◌∷◌, ◌++◌, length, map, cond, Bool, true, false, not, Option, Some, None, arith, sym, ap, ◌∙◌, subst, length-append, filter, Automaton, Pattern, has_bit, range_with_len, Element, LegalWord, has_rise, is_complete, pattern_search, Comes, Pending, PushAnswers, end_rows, must_be_left, rest_rows, rest_search, count_few, filter_numbers_same, System, AreRowsOf, SystemAt, meanings, PatternOver, few_rows, guards_few}
+use Rattle.ta_claim.proofs.Common.{◌≡◌, inl, inr, ℕ, ◌≤◌, List, [], ◌∷◌, ◌++◌, length, map, cond, Bool, true, false, not, Option, Some, None, arith, sym, ap, ◌∙◌, subst, length-append, filter, Automaton, Pattern, has_bit, range_with_len, Element, LegalWord, has_rise, is_complete, pattern_search, Comes, Pending, PushAnswers, end_rows, must_be_left, rest_rows, rest_search, count_few, filter_numbers_same, System, AreRowsOf, SystemAt, meanings, PatternOver, few_rows, guards_few, refl}
 use Rattle.std.proofs.lemmas.List.{length-map}
 use Rattle.ta_encode.specs.declared.ending.WordEnd.{WordEnd}
 use Rattle.ta_encode.specs.Ends.{EndedSystem, ended_rows}
 use Rattle.ta_encode.specs.System.{LinearRow, bound_row, counter_row, guard_rows, negated, opposite, word_rows}
+use Rattle.ta_encode.proofs.Asking.{answers_moved}
 use Rattle.ta_encode.proofs.Ended.{guards_same}
 use Rattle.ta_claim.specs.RestEnds.{IsRestEnd}
 
@@ -11,7 +12,7 @@ use Rattle.ta_claim.specs.RestEnds.{IsRestEnd}
 pub rest_comes : (a : Automaton) (p : Pattern) (start : ℕ) (past : List Element) → Comes (rest_search a p) start past → Comes (pattern_search a p []) start past
 rest_comes a p start [] c = c
 rest_comes a p start (e ∷ past) (inl b) = inl b
-rest_comes a p start (e ∷ past) (inr c) = inr (c.0, rest_comes a p start past c.1)
+rest_comes a p start (e ∷ past) (inr c) = inr (answers_moved (rest_search a p) (pattern_search a p []) start past e (λ n. refl) c.0, rest_comes a p start past c.1)
 
 -- and goes on with the same elements
 pub rest_pushed : (a : Automaton) (p : Pattern) (start : ℕ) (old new : List Element) (number : ℕ) (r : Bool) → PushAnswers (pattern_search a p []) start old new number r → PushAnswers (rest_search a p) start old new number r
@@ -32,7 +33,7 @@ ended_are a p start past (Some end) is =
     ∙ sym (ap (λ (b : Bool). cond b (end_rows a p start past) []) is.0)
 
 -- the system that is written of a word is that of rest
-pub rest_system : (a : Automaton) (p : Pattern) (w : Pending) (end : Option WordEnd) (s : System) → IsRestEnd a p w.start w.past end → EndedSystem a p w.start w.past end w.bounds s → SystemAt (rest_search a p) w s
+pub rest_system : (a : Automaton) (p : Pattern) (w : Pending Element) (end : Option WordEnd) (s : System) → IsRestEnd a p w.start w.past end → EndedSystem a p w.start w.past end w.bounds s → SystemAt (rest_search a p) w s
 unfolding rest_rows
 rest_system a p w end s is ended = record {
   unknowns = ended.unknowns;

@@ -1,5 +1,6 @@
 -- What is claimed of a pattern, and the search that shows it (this project's profile)
 use Rattle.std.specs.Prelude.{ℕ, ◌≤◌, ◌≡◌, List, length, slice_get, Some}
+use Rattle.ta_words.specs.declared.element.Element.{Element}
 use Rattle.ta_automaton.specs.declared.automaton.Automaton.{Automaton}
 use Rattle.ta_automaton.specs.declared.file.File.{File}
 use Rattle.ta_automaton.specs.declared.pattern.Pattern.{Pattern}
@@ -15,7 +16,7 @@ use Rattle.ta_claim.specs.declared.claim.Claim.{Claim}
 use Rattle.ta_claim.specs.declared.claim.Claim.TheVariants.{Safe, RestSafe}
 
 -- the search whose words are refuted for a claim: a pattern's words under pairs of rise guards, or its words of rest, which are under no pairs
-abbrev pub search_for : Claim → Automaton → Pattern → List (ℕ × ℕ) → Search
+abbrev pub search_for : Claim → Automaton → Pattern → List (ℕ × ℕ) → Search Element
 search_for Safe a p pairs = pattern_search a p pairs
 search_for RestSafe a p pairs = rest_search a p
 

@@ -1,12 +1,13 @@
 -- The search of a claim's tree
 use Rattle.ta_encode.specs.Marks.{IsEncoding}
+use Rattle.ta_words.specs.declared.element.Element.{Element}
 use Rattle.ta_encode.specs.Search.{Search}
 use Rattle.ta_encode.specs.declared.growing.Encoding.{Encoding}
 use Rattle.ta_claim.specs.Claims.{search_for}
 use Rattle.ta_claim.specs.declared.claim_tree.ClaimTree.{ClaimTree}
 
 -- the search that shows the claim, under the tree's pairs
-abbrev pub search_of_claim : ClaimTree → Search
+abbrev pub search_of_claim : ClaimTree → Search Element
 search_of_claim tree = search_for tree.claim tree.task.automaton.now tree.task.pattern.now tree.orders.now
 
 -- a word's system of the tree's pattern, with its marks

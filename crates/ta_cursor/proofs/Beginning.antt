@@ -1,12 +1,12 @@
 -- at a word with which a search begins, that word is left
 use Rattle.ta_cursor.proofs.Common.{◌≡◌, inl, ℕ, List, [], ◌∷◌, length, reverse, sym, ap, refl, subst, in_at, Element, Pending, Search, BeginsAtWord, Comes, Cursor, here, word_at, all_behind, FramesFit, IsAtRoot, IsWord, Within, BeginsWithin}
 
-pub comes_first : (s : Search) (start : ℕ) (past : List Element) → BeginsAtWord s start past → Comes s start past
+pub comes_first : {E : Type 0} (s : Search E) (start : ℕ) (past : List E) → BeginsAtWord s start past → Comes s start past
 comes_first s start [] b = b
 comes_first s start (e ∷ past) b = inl b
 
 -- where no node is open, no word comes behind
-pub at_word : (s : Search) (c : Cursor) (w : Pending) → IsAtRoot c w → IsWord s w → Within s c (w ∷ [])
+pub at_word : (s : Search Element) (c : Cursor) (w : Pending Element) → IsAtRoot c w → IsWord s w → Within s c (w ∷ [])
 at_word s c w is word =
     let none : [] ≡ reverse c.frames.items = sym (ap reverse is.frames) in
     record {
@@ -16,7 +16,7 @@ at_word s c w is word =
         left = ap (all_behind s c) none;
       };
       word = subst (IsWord s) (sym is.here) word;
-      left = ap (λ (v : Pending). v ∷ []) (sym is.here);
+      left = ap (λ (v : Pending Element). v ∷ []) (sym is.here);
     }
 
 pub begins_within : BeginsWithin

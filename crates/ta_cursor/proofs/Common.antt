@@ -22,7 +22,7 @@ pub use Rattle.ta_cursor.specs.declared.cursor.Cursor.{Cursor}
 pub use Rattle.ta_cursor.specs.declared.cursor.Frame.{Frame}
 pub use Rattle.ta_encode.proofs.CodeRows.{coefficient_same, constant_same, rows_count}
 pub use Rattle.ta_encode.specs.Code.{SystemAt}
-pub use Rattle.ta_encode.specs.Search.{BeginsAtWord, Comes, Pending, Search, bound_at, bounded, bounded_rows, longer, parts}
+pub use Rattle.ta_encode.specs.Search.{BeginsAtWord, Comes, Pending, Search, bound_at, bounded, bounded_rows, longer, parts, answered}
 pub use Rattle.ta_encode.specs.declared.meaning.Bound.{Bound}
 pub use Rattle.ta_encode.specs.declared.meaning.Side.TheVariants.{High, Low}
 pub use Rattle.ta_linear.specs.declared.row.System.{System}

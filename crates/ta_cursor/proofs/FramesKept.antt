@@ -14,30 +14,30 @@ alike_before c d n m k l h le less = record {
   bounds = fewer_alike l m d.bounds.items c.bounds.items less h.bounds;
 }
 
-pub same_pending : (a b : ℕ) (past before : List Element) (xs ys : List Bound) → a ≡ b → past ≡ before → xs ≡ ys → ◌≡◌ {A = Pending} (record { start = a; past = past; bounds = xs }) (record { start = b; past = before; bounds = ys })
+pub same_pending : (a b : ℕ) (past before : List Element) (xs ys : List Bound) → a ≡ b → past ≡ before → xs ≡ ys → ◌≡◌ {A = Pending Element} (record { start = a; past = past; bounds = xs }) (record { start = b; past = before; bounds = ys })
 same_pending a b past before xs ys e f g = cc
 
 word_kept : (c d : Cursor) (f : Frame) → BeginAlike c d f.length f.bounds → word_of d f ≡ word_of c f
 word_kept c d f h = same_pending d.start_mask c.start_mask (reverse (take f.length d.word)) (reverse (take f.length c.word)) (take f.bounds d.bounds.items) (take f.bounds c.bounds.items) h.start (ap reverse h.word) h.bounds
 
-pub frames_kept : (s : Search) (c d : Cursor) (w : Pending) (n m : ℕ) (fs : List Frame) → BeginAlike c d n m → FramesFit s c w n m fs → FramesFit s d w n m fs
+pub frames_kept : (s : Search Element) (c d : Cursor) (w : Pending Element) (n m : ℕ) (fs : List Frame) → BeginAlike c d n m → FramesFit s c w n m fs → FramesFit s d w n m fs
 frames_kept s c d w n m [] h fit = fit
 frames_kept s c d w n m (f ∷ fs) h fit =
     let alike = alike_before c d n m f.length f.bounds h fit.0 fit.1 in
     let same = sym (word_kept c d f alike) in (
       fit.0,
       fit.1,
-      subst (λ (v : Pending). FrameFits s v f) same fit.2,
-      subst (λ (v : Pending). slice_get (parts s v (node_of f.split)) f.next ≡ Some w) same fit.3,
-      subst (λ (v : Pending). FramesFit s d v f.length f.bounds fs) same (frames_kept s c d (word_of c f) f.length f.bounds fs alike fit.4),
+      subst (λ (v : Pending Element). FrameFits s v f) same fit.2,
+      subst (λ (v : Pending Element). slice_get (parts s v (node_of f.split)) f.next ≡ Some w) same fit.3,
+      subst (λ (v : Pending Element). FramesFit s d v f.length f.bounds fs) same (frames_kept s c d (word_of c f) f.length f.bounds fs alike fit.4),
     )
 
-pub left_kept : (s : Search) (c d : Cursor) (w : Pending) (n m : ℕ) (fs : List Frame) → BeginAlike c d n m → FramesFit s c w n m fs → all_behind s d fs ≡ all_behind s c fs
+pub left_kept : (s : Search Element) (c d : Cursor) (w : Pending Element) (n m : ℕ) (fs : List Frame) → BeginAlike c d n m → FramesFit s c w n m fs → all_behind s d fs ≡ all_behind s c fs
 left_kept s c d w n m [] h fit = refl
 left_kept s c d w n m (f ∷ fs) h fit =
     let alike = alike_before c d n m f.length f.bounds h fit.0 fit.1 in
-    ap (λ (w : Pending). drop (f.next + 1) (parts s w (node_of f.split)) ++ all_behind s d fs) (word_kept c d f alike)
-    ∙ ap (λ (ws : List Pending). behind s c f ++ ws) (left_kept s c d (word_of c f) f.length f.bounds fs alike fit.4)
+    ap (λ (w : Pending Element). drop (f.next + 1) (parts s w (node_of f.split)) ++ all_behind s d fs) (word_kept c d f alike)
+    ∙ ap (λ (ws : List (Pending Element)). behind s c f ++ ws) (left_kept s c d (word_of c f) f.length f.bounds fs alike fit.4)
 
 -- a cursor at which a node was opened, and whose word and bounds are the node's and more
 pub record Opened (old new : Cursor) (f : Frame) : Type 0 where
@@ -63,7 +63,7 @@ opened_word old new f o =
     ∙ same_pending old.start_mask old.start_mask (reverse (take f.length old.word)) (reverse old.word) (take f.bounds old.bounds.items) old.bounds.items refl (ap reverse (all_taken f.length old.word o.elements)) (all_taken f.bounds old.bounds.items o.marks)
 
 -- behind an open node comes the part of it that the cursor is at, and then the parts behind that
-pub opened_on : (s : Search) (old new : Cursor) (w : Pending) (words : List Pending) (f : Frame)
+pub opened_on : (s : Search Element) (old new : Cursor) (w : Pending Element) (words : List (Pending Element)) (f : Frame)
     → Within s old (w ∷ words) → Opened old new f
     → SplitFits (s.unknowns old.start_mask (reverse old.word)) f.split
     → IsWord s (here new)
@@ -77,16 +77,16 @@ opened_on s old new w words f within o split word part =
     let is = opened_word old new f o in
     let all : reverse new.frames.items ≡ f ∷ fs = ap reverse o.frames ∙ reverse-append old.frames.items (f ∷ []) in
     let outer : FramesFit s old (here old) f.length f.bounds fs = subst (λ (n : ℕ). FramesFit s old (here old) n f.bounds fs) (sym o.elements) (subst (λ (m : ℕ). FramesFit s old (here old) (length old.word) m fs) (sym o.marks) within.inside.frames) in
-    let chain = subst (λ (v : Pending). slice_get (parts s v (node_of f.split)) f.next ≡ Some (here new)) (at ∙ sym is) part in
-    let around = subst (λ (v : Pending). FramesFit s new v f.length f.bounds fs) (sym is) (frames_kept s old new (here old) f.length f.bounds fs alike outer) in
+    let chain = subst (λ (v : Pending Element). slice_get (parts s v (node_of f.split)) f.next ≡ Some (here new)) (at ∙ sym is) part in
+    let around = subst (λ (v : Pending Element). FramesFit s new v f.length f.bounds fs) (sym is) (frames_kept s old new (here old) f.length f.bounds fs alike outer) in
     let whole : FrameFits s (here old) f = record { word = within.word; split = split } in
     let fit : FramesFit s new (here new) (length new.word) (length new.bounds.items) (f ∷ fs) =
-    (longer_by f.length old.word new.word o.more_word o.elements o.word, longer_by f.bounds old.bounds.items new.bounds.items o.more_bounds o.marks o.bounds, subst (λ (v : Pending). FrameFits s v f) (sym is) whole, chain, around) in
+    (longer_by f.length old.word new.word o.more_word o.elements o.word, longer_by f.bounds old.bounds.items new.bounds.items o.more_bounds o.marks o.bounds, subst (λ (v : Pending Element). FrameFits s v f) (sym is) whole, chain, around) in
     let rest = drop (f.next + 1) (parts s w (node_of f.split)) ++ words in
     let left : rest ≡ all_behind s new (f ∷ fs) =
-    ap (λ (v : Pending). drop (f.next + 1) (parts s v (node_of f.split)) ++ words) (at ∙ sym is)
-    ∙ ap (λ (ws : List Pending). behind s new f ++ ws) (same ∙ within.inside.left ∙ sym (left_kept s old new (here old) f.length f.bounds fs alike outer)) in
-    let dropped = ap (λ (ws : List Pending). ws ++ words) (next_dropped (parts s w (node_of f.split)) f.next (here new) part) in
+    ap (λ (v : Pending Element). drop (f.next + 1) (parts s v (node_of f.split)) ++ words) (at ∙ sym is)
+    ∙ ap (λ (ws : List (Pending Element)). behind s new f ++ ws) (same ∙ within.inside.left ∙ sym (left_kept s old new (here old) f.length f.bounds fs alike outer)) in
+    let dropped = ap (λ (ws : List (Pending Element)). ws ++ words) (next_dropped (parts s w (node_of f.split)) f.next (here new) part) in
     subst (Within s new) (sym dropped) (record {
       words = rest;
       inside = record {
@@ -104,12 +104,12 @@ pub record Popped (old new : Cursor) (f : Frame) : Type 0 where
   pub word : new.word ≡ take f.length old.word
   pub bounds : new.bounds.items ≡ take f.bounds old.bounds.items
 
-popped_frames : (s : Search) (old new : Cursor) (words : List Pending) (f : Frame) → Inside s old words → Popped old new f → FramesFit s old (here old) (length old.word) (length old.bounds.items) (f ∷ reverse new.frames.items)
+popped_frames : (s : Search Element) (old new : Cursor) (words : List (Pending Element)) (f : Frame) → Inside s old words → Popped old new f → FramesFit s old (here old) (length old.word) (length old.bounds.items) (f ∷ reverse new.frames.items)
 popped_frames s old new words f inside o = subst (FramesFit s old (here old) (length old.word) (length old.bounds.items)) (ap reverse o.frames ∙ reverse-append new.frames.items (f ∷ [])) inside.frames
 
 -- the words behind the child of an open node are those of the node, and then those of the nodes around it
-pub record Reopened (s : Search) (new : Cursor) (words : List Pending) (f : Frame) : Type 0 where
-  pub rest : List Pending
+pub record Reopened (s : Search Element) (new : Cursor) (words : List (Pending Element)) (f : Frame) : Type 0 where
+  pub rest : List (Pending Element)
   pub left : words ≡ drop (f.next + 1) (parts s (here new) (node_of f.split)) ++ rest
   pub within : Within s new (here new ∷ rest)
   pub split : SplitFits (s.unknowns new.start_mask (reverse new.word)) f.split
@@ -124,23 +124,23 @@ alike_popped old new f o = record {
   bounds = ap (take f.bounds) o.bounds ∙ take-take f.bounds f.bounds old.bounds.items (omega arith);
 }
 
-pub reopened : (s : Search) (old new : Cursor) (words : List Pending) (f : Frame) → Inside s old words → Popped old new f → Reopened s new words f
+pub reopened : (s : Search Element) (old new : Cursor) (words : List (Pending Element)) (f : Frame) → Inside s old words → Popped old new f → Reopened s new words f
 reopened s old new words f inside o =
     let fs = reverse new.frames.items in
     let fit = popped_frames s old new words f inside o in
     let alike = alike_popped old new f o in
     let is = popped_word old new f o in
-    let whole : FrameFits s (here new) f = subst (λ (v : Pending). FrameFits s v f) (sym is) fit.2 in
+    let whole : FrameFits s (here new) f = subst (λ (v : Pending Element). FrameFits s v f) (sym is) fit.2 in
     let elements : length new.word ≡ f.length = ap length o.word ∙ length-take-le f.length old.word fit.0 in
     let marks : length new.bounds.items ≡ f.bounds = ap length o.bounds ∙ length-take-le f.bounds old.bounds.items fit.1 in
-    let outer = subst (λ (v : Pending). FramesFit s new v f.length f.bounds fs) (sym is) (frames_kept s old new (word_of old f) f.length f.bounds fs alike fit.4) in
+    let outer = subst (λ (v : Pending Element). FramesFit s new v f.length f.bounds fs) (sym is) (frames_kept s old new (word_of old f) f.length f.bounds fs alike fit.4) in
     let all : reverse old.frames.items ≡ f ∷ fs = ap reverse o.frames ∙ reverse-append new.frames.items (f ∷ []) in
     record {
       rest = all_behind s new fs;
       left =
           inside.left ∙ ap (all_behind s old) all
-          ∙ ap (λ (v : Pending). drop (f.next + 1) (parts s v (node_of f.split)) ++ all_behind s old fs) (sym is)
-          ∙ ap (λ (ws : List Pending). drop (f.next + 1) (parts s (here new) (node_of f.split)) ++ ws) (sym (left_kept s old new (word_of old f) f.length f.bounds fs alike fit.4));
+          ∙ ap (λ (v : Pending Element). drop (f.next + 1) (parts s v (node_of f.split)) ++ all_behind s old fs) (sym is)
+          ∙ ap (λ (ws : List (Pending Element)). drop (f.next + 1) (parts s (here new) (node_of f.split)) ++ ws) (sym (left_kept s old new (word_of old f) f.length f.bounds fs alike fit.4));
       within = record {
         words = all_behind s new fs;
         inside = record {
@@ -154,7 +154,7 @@ reopened s old new words f inside o =
     }
 
 -- an open node stands within the word
-pub frame_within : (s : Search) (c : Cursor) (words : List Pending) (fs : List Frame) (f : Frame) → Inside s c words → c.frames.items ≡ fs ++ f ∷ [] → f.length ≤ length c.word
+pub frame_within : (s : Search Element) (c : Cursor) (words : List (Pending Element)) (fs : List Frame) (f : Frame) → Inside s c words → c.frames.items ≡ fs ++ f ∷ [] → f.length ≤ length c.word
 frame_within s c words fs f inside e =
     let fit = subst (FramesFit s c (here c) (length c.word) (length c.bounds.items)) (ap reverse e ∙ reverse-append fs (f ∷ [])) inside.frames in
     fit.0

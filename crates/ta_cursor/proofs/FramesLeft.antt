@@ -12,13 +12,13 @@ pub record SamePlace (c d : Cursor) : Type 0 where
 same_here : (c d : Cursor) → SamePlace c d → here d ≡ here c
 same_here c d same = let start = same.start in let word = same.word in let bounds = same.bounds in cc
 
-pub inside_moved : (s : Search) (c d : Cursor) (words : List Pending) → Inside s c words → SamePlace c d → Inside s d words
+pub inside_moved : (s : Search Element) (c d : Cursor) (words : List (Pending Element)) → Inside s c words → SamePlace c d → Inside s d words
 inside_moved s c d words inside same =
     let n = length c.word in
     let m = length c.bounds.items in
     let fs = reverse c.frames.items in
     let alike : BeginAlike c d n m = record { start = same.start; word = ap (take n) same.word; bounds = ap (take m) same.bounds } in
-    let fit = subst (λ (v : Pending). FramesFit s d v n m fs) (sym (same_here c d same)) (frames_kept s c d (here c) n m fs alike inside.frames) in
+    let fit = subst (λ (v : Pending Element). FramesFit s d v n m fs) (sym (same_here c d same)) (frames_kept s c d (here c) n m fs alike inside.frames) in
     let all : fs ≡ reverse d.frames.items = ap reverse (sym same.frames) in
     record {
       frames =
@@ -28,12 +28,12 @@ inside_moved s c d words inside same =
     }
 
 -- the cursor left open nodes behind which nothing comes
-abbrev pub Leaving : Search → Cursor → Cursor → Type 0
-Leaving s old now = (words : List Pending) → Inside s old words → Inside s now words
+abbrev pub Leaving : Search Element → Cursor → Cursor → Type 0
+Leaving s old now = (words : List (Pending Element)) → Inside s old words → Inside s now words
 
 -- nothing comes behind the child of the node, so the nodes around it are left with all that there is
-pub passed_over : (s : Search) (between new : Cursor) (words front rest : List Pending) → words ≡ front ++ rest → front ≡ [] → new ≡ between → Within s between (here between ∷ rest) → Inside s new words
+pub passed_over : (s : Search Element) (between new : Cursor) (words front rest : List (Pending Element)) → words ≡ front ++ rest → front ≡ [] → new ≡ between → Within s between (here between ∷ rest) → Inside s new words
 passed_over s between new words front rest all none same within =
     let left : rest ≡ within.words = (let e = within.left in cc) in
-    let whole : words ≡ within.words = all ∙ ap (λ (ws : List Pending). ws ++ rest) none ∙ left in
+    let whole : words ≡ within.words = all ∙ ap (λ (ws : List (Pending Element)). ws ++ rest) none ∙ left in
     subst (λ (c : Cursor). Inside s c words) (sym same) (subst (Inside s between) (sym whole) within.inside)

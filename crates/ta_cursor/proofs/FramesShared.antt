@@ -1,16 +1,17 @@
 -- open nodes of which the outermost go to another cursor
 use Rattle.ta_cursor.proofs.Common.{◌≡◌, ℕ, ◌+◌, ◌≤◌, List, [], ◌∷◌, ◌++◌, length, take, drop, reverse, slice_get, Some, arith, sym, ap, ◌∙◌, refl, subst, append_assoc, length-take-le, Pending, Search, Frame, Cursor, here, word_of, behind, all_behind, left_at, FramesFit, Inside, IsBeforeWords, IsShared, IsUnshared, IsWord, Within, take-take, take_all}
+use Rattle.ta_words.specs.declared.element.Element.{Element}
 use Rattle.ta_cursor.proofs.FramesLeft.{SamePlace, inside_moved}
 use Rattle.ta_cursor.proofs.FramesKept.{BeginAlike, frames_kept, left_kept, same_pending}
 use Rattle.ta_base.proofs.Lists.{reversed_parts, reversed_at}
 
 -- the nodes around one that is open
-pub record Around (s : Search) (c : Cursor) (n m : ℕ) (g : Frame) (outers : List Frame) : Type 0 where
+pub record Around (s : Search Element) (c : Cursor) (n m : ℕ) (g : Frame) (outers : List Frame) : Type 0 where
   pub length : g.length ≤ n
   pub bounds : g.bounds ≤ m
   pub frames : FramesFit s c (word_of c g) g.length g.bounds outers
 
-around : (s : Search) (c : Cursor) (w : Pending) (n m : ℕ) (inner : List Frame) (g : Frame) (outers : List Frame) → FramesFit s c w n m (inner ++ g ∷ outers) → Around s c n m g outers
+around : (s : Search Element) (c : Cursor) (w : Pending Element) (n m : ℕ) (inner : List Frame) (g : Frame) (outers : List Frame) → FramesFit s c w n m (inner ++ g ∷ outers) → Around s c n m g outers
 around s c w n m [] g outers fit = record { length = fit.0; bounds = fit.1; frames = fit.4 }
 around s c w n m (f ∷ inner) g outers fit =
     let rest = around s c (word_of c f) f.length f.bounds inner g outers fit.4 in
@@ -20,14 +21,14 @@ around s c w n m (f ∷ inner) g outers fit =
     let lower = rest.bounds in
     record { length = omega arith; bounds = omega arith; frames = rest.frames }
 
-front_fits : (s : Search) (c : Cursor) (w : Pending) (n m : ℕ) (inner outers : List Frame) → FramesFit s c w n m (inner ++ outers) → FramesFit s c w n m inner
+front_fits : (s : Search Element) (c : Cursor) (w : Pending Element) (n m : ℕ) (inner outers : List Frame) → FramesFit s c w n m (inner ++ outers) → FramesFit s c w n m inner
 front_fits s c w n m [] outers fit = tt
 front_fits s c w n m (f ∷ inner) outers fit = (fit.0, fit.1, fit.2, fit.3, front_fits s c (word_of c f) f.length f.bounds inner outers fit.4)
 
-behind_both : (s : Search) (c : Cursor) (inner outers : List Frame) → all_behind s c (inner ++ outers) ≡ all_behind s c inner ++ all_behind s c outers
+behind_both : (s : Search Element) (c : Cursor) (inner outers : List Frame) → all_behind s c (inner ++ outers) ≡ all_behind s c inner ++ all_behind s c outers
 behind_both s c [] outers = refl
 behind_both s c (f ∷ inner) outers =
-    ap (λ (ws : List Pending). behind s c f ++ ws) (behind_both s c inner outers) ∙ sym (append_assoc (behind s c f) (all_behind s c inner) (all_behind s c outers))
+    ap (λ (ws : List (Pending Element)). behind s c f ++ ws) (behind_both s c inner outers) ∙ sym (append_assoc (behind s c f) (all_behind s c inner) (all_behind s c outers))
 
 -- a cursor that stands where an open node does, with the nodes around that one open
 pub record StandsAt (c d : Cursor) (k : ℕ) (g : Frame) : Type 0 where
@@ -36,12 +37,12 @@ pub record StandsAt (c d : Cursor) (k : ℕ) (g : Frame) : Type 0 where
   pub bounds : d.bounds.items ≡ take g.bounds c.bounds.items
   pub frames : d.frames.items ≡ take k c.frames.items
 
-pub frame_short : (s : Search) (c : Cursor) (k : ℕ) (g : Frame) (words : List Pending) → Inside s c words → slice_get c.frames.items k ≡ Some g → g.length ≤ length c.word
+pub frame_short : (s : Search Element) (c : Cursor) (k : ℕ) (g : Frame) (words : List (Pending Element)) → Inside s c words → slice_get c.frames.items k ≡ Some g → g.length ≤ length c.word
 frame_short s c k g words inside at =
     let fit = subst (FramesFit s c (here c) (length c.word) (length c.bounds.items)) (reversed_at k c.frames.items g at) inside.frames in
     (around s c (here c) (length c.word) (length c.bounds.items) (reverse (drop (k + 1) c.frames.items)) g (reverse (take k c.frames.items)) fit).length
 
-pub stands_inside : (s : Search) (c d : Cursor) (k : ℕ) (g : Frame) (words : List Pending) → Inside s c words → slice_get c.frames.items k ≡ Some g → StandsAt c d k g → Inside s d (all_behind s c (reverse (take k c.frames.items)))
+pub stands_inside : (s : Search Element) (c d : Cursor) (k : ℕ) (g : Frame) (words : List (Pending Element)) → Inside s c words → slice_get c.frames.items k ≡ Some g → StandsAt c d k g → Inside s d (all_behind s c (reverse (take k c.frames.items)))
 stands_inside s c d k g words inside at o =
     let fs = reverse (take k c.frames.items) in
     let fit = subst (FramesFit s c (here c) (length c.word) (length c.bounds.items)) (reversed_at k c.frames.items g at) inside.frames in
@@ -54,7 +55,7 @@ stands_inside s c d k g words inside at o =
     let is : here d ≡ word_of c g = same_pending d.start_mask c.start_mask (reverse d.word) (reverse (take g.length c.word)) d.bounds.items (take g.bounds c.bounds.items) o.start (ap reverse o.word) o.bounds in
     let elements : length d.word ≡ g.length = ap length o.word ∙ length-take-le g.length c.word a.length in
     let marks : length d.bounds.items ≡ g.bounds = ap length o.bounds ∙ length-take-le g.bounds c.bounds.items a.bounds in
-    let kept = subst (λ (v : Pending). FramesFit s d v g.length g.bounds fs) (sym is) (frames_kept s c d (word_of c g) g.length g.bounds fs alike a.frames) in
+    let kept = subst (λ (v : Pending Element). FramesFit s d v g.length g.bounds fs) (sym is) (frames_kept s c d (word_of c g) g.length g.bounds fs alike a.frames) in
     let all : fs ≡ reverse d.frames.items = ap reverse (sym o.frames) in
     record {
       frames =
@@ -70,7 +71,7 @@ pub record KeepsInner (c d : Cursor) (k : ℕ) : Type 0 where
   pub bounds : d.bounds.items ≡ c.bounds.items
   pub frames : d.frames.items ≡ drop k c.frames.items
 
-pub shared : (s : Search) (c d later : Cursor) (outer : ℕ) (pending : List Pending) → Within s c pending → KeepsInner c d (outer + 1) → all_behind s c (reverse (take outer c.frames.items)) ≡ [] →
+pub shared : (s : Search Element) (c d later : Cursor) (outer : ℕ) (pending : List (Pending Element)) → Within s c pending → KeepsInner c d (outer + 1) → all_behind s c (reverse (take outer c.frames.items)) ≡ [] →
     IsBeforeWords s (all_behind s c (reverse (take (outer + 1) c.frames.items))) later → IsShared s c d later
 shared s c d later outer pending within o none is =
     let k = outer + 1 in
@@ -83,17 +84,17 @@ shared s c d later outer pending within o none is =
     let alike : BeginAlike c d n m = record { start = o.start; word = ap (take n) o.word; bounds = ap (take m) o.bounds } in
     let same : here d ≡ here c = same_pending d.start_mask c.start_mask (reverse d.word) (reverse c.word) d.bounds.items c.bounds.items o.start (ap reverse o.word) o.bounds in
     let all : inner ≡ reverse d.frames.items = ap reverse (sym o.frames) in
-    let kept = subst (λ (v : Pending). FramesFit s d v n m inner) (sym same) (frames_kept s c d (here c) n m inner alike fit) in
+    let kept = subst (λ (v : Pending Element). FramesFit s d v n m inner) (sym same) (frames_kept s c d (here c) n m inner alike fit) in
     let left : all_behind s d (reverse d.frames.items) ≡ all_behind s c inner = ap (all_behind s d) (sym all) ∙ left_kept s c d (here c) n m inner alike fit in
     record {
       outer = outer;
       farther = none;
       given = is.words;
       words =
-          ap (λ (ws : List Pending). here c ∷ ws) (ap (all_behind s c) cut ∙ behind_both s c inner outers)
-          ∙ ap (λ (ws : List Pending). here c ∷ (ws ++ all_behind s c outers)) (sym left)
-          ∙ ap (λ (v : Pending). v ∷ (all_behind s d (reverse d.frames.items) ++ all_behind s c outers)) (sym same)
-          ∙ ap (λ (ws : List Pending). left_at s d ++ ws) (sym is.words);
+          ap (λ (ws : List (Pending Element)). here c ∷ ws) (ap (all_behind s c) cut ∙ behind_both s c inner outers)
+          ∙ ap (λ (ws : List (Pending Element)). here c ∷ (ws ++ all_behind s c outers)) (sym left)
+          ∙ ap (λ (v : Pending Element). v ∷ (all_behind s d (reverse d.frames.items) ++ all_behind s c outers)) (sym same)
+          ∙ ap (λ (ws : List (Pending Element)). left_at s d ++ ws) (sym is.words);
       first = record {
         words = all_behind s d (reverse d.frames.items);
         inside = record {
@@ -109,16 +110,16 @@ shared s c d later outer pending within o none is =
     }
 
 -- a cursor at the same place, with all nodes open
-pub all_inside : (s : Search) (c d : Cursor) (k : ℕ) (words : List Pending) → Inside s c words → SamePlace c d → length c.frames.items ≤ k → Inside s d (all_behind s c (reverse (take k c.frames.items)))
+pub all_inside : (s : Search Element) (c d : Cursor) (k : ℕ) (words : List (Pending Element)) → Inside s c words → SamePlace c d → length c.frames.items ≤ k → Inside s d (all_behind s c (reverse (take k c.frames.items)))
 all_inside s c d k words inside same most =
     let left = inside.left ∙ ap (λ (fs : List Frame). all_behind s c (reverse fs)) (sym (take_all k c.frames.items most)) in
     subst (Inside s d) left (inside_moved s c d words inside same)
 
 -- no open node leaves a word
-pub unshared : (s : Search) (c d : Cursor) (k : ℕ) → d ≡ c → all_behind s c (reverse (take k c.frames.items)) ≡ [] → length c.frames.items ≤ k → IsUnshared s c d
+pub unshared : (s : Search Element) (c d : Cursor) (k : ℕ) → d ≡ c → all_behind s c (reverse (take k c.frames.items)) ≡ [] → length c.frames.items ≤ k → IsUnshared s c d
 unshared s c d k kept none most =
     let all = ap (λ (fs : List Frame). all_behind s c (reverse fs)) (sym (take_all k c.frames.items most)) in
     record {
       kept = kept;
-      alone = ap (λ (ws : List Pending). here c ∷ ws) (all ∙ none);
+      alone = ap (λ (ws : List (Pending Element)). here c ∷ ws) (all ∙ none);
     }

@@ -1,5 +1,6 @@
 -- the check of a leaf over a system of the code and over the rows of its word
 use Rattle.ta_cursor.proofs.Common.{◌≡◌, ℕ, ◌<◌, ◌≤◌, ℤ, pos, ◌+ℤ◌, ◌*ℤ◌, List, [], ◌∷◌, true, false, cond, slice_get, nat_lt, arith, sym, ap, ◌∙◌, refl, subst, inl, inr, cases_lt, ints, System, Pending, Search, bounded_rows, SystemAt, coefficient_same, constant_same}
+use Rattle.ta_words.specs.declared.element.Element.{Element}
 use Rattle.std.proofs.Math.IntN.{*ℤ-zero}
 use Rattle.std.proofs.lemmas.Bool.Decides.{nat_tests}
 use Rattle.ta_linear.specs.Numbers.{InRange}
@@ -41,7 +42,7 @@ entry_constant s column k h =
     ap (λ b. cond b (code_coefficient column (slice_get s.rows k)) (code_constant (slice_get s.rows k))) e
 
 -- a check that stays in range over a system of the code does so over the word's rows
-pub leaf_stays : (search : Search) (w : Pending) (s : System) (ts : List (ℕ × ℤ)) → SystemAt search w s → CheckStays s ts → LeafStays (bounded_rows search w) ts
+pub leaf_stays : {E : Type 0} (search : Search E) (w : Pending E) (s : System) (ts : List (ℕ × ℤ)) → SystemAt search w s → CheckStays s ts → LeafStays (bounded_rows search w) ts
 leaf_stays search w s ts is stays =
     let ls = bounded_rows search w in
     record {
@@ -53,7 +54,7 @@ leaf_stays search w s ts is stays =
     }
 
 -- and the other way
-pub check_stays : (search : Search) (w : Pending) (s : System) (ts : List (ℕ × ℤ)) → SystemAt search w s → LeafStays (bounded_rows search w) ts → CheckStays s ts
+pub check_stays : {E : Type 0} (search : Search E) (w : Pending E) (s : System) (ts : List (ℕ × ℤ)) → SystemAt search w s → LeafStays (bounded_rows search w) ts → CheckStays s ts
 check_stays search w s ts is stays column within =
     let ls = bounded_rows search w in
     elim (cases_lt column s.unknowns) [

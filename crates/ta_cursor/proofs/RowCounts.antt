@@ -188,7 +188,7 @@ pub few_rows : (a : Automaton) (p : Pattern) (start : ℕ) (past : List Element)
 few_rows a p start past over legal = omega (arith, word_few a p start past, legal_length a p start past over.events_limit legal)
 
 -- the unknowns and the rows of a word's system
-pub small_of : (s : Search) (w : Pending) (system : System) → s.unknowns w.start w.past ≤ 4656 → length (s.rows w.start w.past) ≤ 2640 → SystemAt s w system → IsSmall w.bounds system
+pub small_of : {E : Type 0} (s : Search E) (w : Pending E) (system : System) → s.unknowns w.start w.past ≤ 4656 → length (s.rows w.start w.past) ≤ 2640 → SystemAt s w system → IsSmall w.bounds system
 small_of s w system unknowns few is =
     let words = s.rows w.start w.past in
     let bounds = map bound_row w.bounds in

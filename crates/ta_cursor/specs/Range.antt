@@ -17,5 +17,5 @@ pub record LeafIsJudged (rows : List LinearRow) (ts : List (ℕ × ℤ)) : Type 
   pub in_range : LeafStays rows ts
 
 -- so it is over the rows of a word
-abbrev pub IsJudged : Search → Pending → List (ℕ × ℤ) → Type 0
+abbrev pub IsJudged : {E : Type 0} → Search E → Pending E → List (ℕ × ℤ) → Type 0
 IsJudged s w ts = LeafIsJudged (bounded_rows s w) ts

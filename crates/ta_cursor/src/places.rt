@@ -7,6 +7,7 @@ ghost use Rattle.ta_cert.specs.declared.line.Node.TheVariants.{Extend, Split};
 ghost use Rattle.ta_encode.specs.Search.{Pending, parts};
 ghost use Rattle.ta_cursor.specs.Cursors.{IsAtRoot, word_at};
 ghost use Rattle.ta_cursor.specs.InTrees.{AllGoOn, AllWithin, BeginsAll, IsAllWithin};
+ghost use Rattle.ta_words.specs.declared.element.Element.{Element};
 
 use crate::cursor::Cursor;
 use crate::place::Place;
@@ -61,7 +62,7 @@ impl Place {
     /// Goes on behind a leaf, and says whether a node comes.
     pub fn leave<T: Tree>(&mut self, alloc: Global, tree: &T) -> Result<bool, AllocError>
         requires { IsAllWithin (T.search tree.now) self.old }
-        ensures { (w : Pending) (words : List Pending) → AllWithin (T.search tree.now) self.old (w ∷ words) → AllGoOn (T.search tree.now) self.new words result }
+        ensures { (w : Pending Element) (words : List (Pending Element)) → AllWithin (T.search tree.now) self.old (w ∷ words) → AllGoOn (T.search tree.now) self.new words result }
     {
         if self.cursor.leave(tree)? {
             Ok(true)
@@ -74,7 +75,7 @@ impl Place {
     /// and says whether a node comes.
     pub fn extend<T: Tree>(&mut self, alloc: Global, tree: &T) -> Result<bool, AllocError>
         requires { IsAllWithin (T.search tree.now) self.old }
-        ensures { (w : Pending) (words : List Pending) → AllWithin (T.search tree.now) self.old (w ∷ words) → AllGoOn (T.search tree.now) self.new (parts (T.search tree.now) w Extend ++ words) result }
+        ensures { (w : Pending Element) (words : List (Pending Element)) → AllWithin (T.search tree.now) self.old (w ∷ words) → AllGoOn (T.search tree.now) self.new (parts (T.search tree.now) w Extend ++ words) result }
     {
         if self.cursor.extend(tree)? {
             Ok(true)
@@ -88,7 +89,7 @@ impl Place {
         requires within { IsAllWithin (T.search tree.now) self.old }
         requires floor { IsSplit unknown floor }
         requires unknown { unknown < (T.search tree.now).unknowns self.old.cursor.start_mask (reverse self.old.cursor.word) }
-        ensures { (w : Pending) (words : List Pending) → AllWithin (T.search tree.now) self.old (w ∷ words) → IfOk result (λ _. AllWithin (T.search tree.now) self.new (parts (T.search tree.now) w (Split unknown floor) ++ words)) }
+        ensures { (w : Pending Element) (words : List (Pending Element)) → AllWithin (T.search tree.now) self.old (w ∷ words) → IfOk result (λ _. AllWithin (T.search tree.now) self.new (parts (T.search tree.now) w (Split unknown floor) ++ words)) }
     {
         let _tree = tree;
         self.cursor.split(unknown, floor)

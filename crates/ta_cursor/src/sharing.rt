@@ -4,6 +4,7 @@
 ghost use Rattle.std.specs.Prelude.{◌≡◌, ◌≤◌, [], IfOk, MatchOption, length, reverse, take};
 ghost use Rattle.ta_encode.specs.Search.{Search};
 ghost use Rattle.ta_cursor.specs.Cursors.{Inside, IsBeforeWords, IsWithin, Shares, all_behind};
+ghost use Rattle.ta_words.specs.declared.element.Element.{Element};
 
 use crate::cursor::Cursor;
 use crate::tree::Tree;
@@ -52,9 +53,9 @@ impl Cursor {
     /// A cursor with so many nodes open, counted from the outermost, which stands where the next of
     /// the open nodes does, or where this one does.
     fn outermost(&self, alloc: Global, outer: usize) -> Result<Cursor, AllocError>
-        requires within { (s : Search) × IsWithin s self.now }
+        requires within { (s : Search Element) × IsWithin s self.now }
         requires most { outer ≤ length self.now.frames.items }
-        ensures { (s : Search) → IsWithin s self.now → IfOk result (λ later. Inside s later (all_behind s self.now (reverse (take outer self.now.frames.items)))) }
+        ensures { (s : Search Element) → IsWithin s self.now → IfOk result (λ later. Inside s later (all_behind s self.now (reverse (take outer self.now.frames.items)))) }
     {
         let mut word = self.word.again();
         let mut bounds = Vec::from_slice(alloc, self.bounds.as_slice())?;

@@ -24,12 +24,13 @@ pub trait Tree {
     ghost use Rattle.ta_encode.specs.Marks.{SameRows};
     ghost use Rattle.ta_encode.specs.Search.{Comes, Search};
     ghost use Rattle.ta_cursor.specs.Cursors.{word_at};
-    ghost use Rattle.ta_cursor.specs.TreeCalls.{IsRoot, IsSmall, PushAnswers};
+    ghost use Rattle.ta_cursor.specs.TreeCalls.{IsCompleteOf, IsRoot, IsSmall, PushAnswers};
+    ghost use Rattle.ta_words.specs.declared.element.Element.{Element};
 
     /// The system that was written last, with what it takes to write another from it.
     type Kept: Drop;
 
-    ghost search: { Self → Search };
+    ghost search: { Self → Search Element };
 
     ghost is_kept: { Self → Self.Kept → Type 0 };
 
@@ -47,7 +48,7 @@ pub trait Tree {
 
     /// Whether a word is complete: then its unknowns are split, and no element follows it.
     fn is_complete(&self, start_mask: u8, word: &Word) -> bool
-        ensures { result ≡ (search self.now).complete start_mask (reverse word.now) };
+        ensures { IsCompleteOf (search self.now) start_mask (reverse word.now) result };
 
     /// How many unknowns a word's system has.
     fn unknown_count(&self, start_mask: u8, word: &Word) -> u32

@@ -1,5 +1,5 @@
 -- leaves and solutions of a system of the code are those of the word
-use Rattle.ta_encode.proofs.Common.{◌≡◌, ℕ, zero, suc, ℤ, pos, ◌*ℤ◌, ◌≤ℤ◌, ◌<ℤ◌, List, [], ◌∷◌, map, length, slice_get, get_or, Option, None, Some, arith, sym, ap, ◌∙◌, refl, subst, All, ints, range_sum-same, coefficient, IsNormal, AllBelow, value_of, RowHolds, Solves, Row, System, Automaton, Pattern, LinearRow, bound_row, word_rows, row_value, AllHold, SolvesWord, Pending, Search, SolvesAt, bounded_rows, pattern_search, linear_coefficient_in, linear_constant_in, IsLeaf, IsRowOf, AreRowsOf, SystemAt}
+use Rattle.ta_encode.proofs.Common.{◌≡◌, ℕ, zero, suc, ℤ, pos, ◌*ℤ◌, ◌≤ℤ◌, ◌<ℤ◌, List, [], ◌∷◌, map, length, slice_get, get_or, Option, None, Some, arith, sym, ap, ◌∙◌, refl, subst, All, ints, range_sum-same, coefficient, IsNormal, AllBelow, value_of, RowHolds, Solves, Row, System, Automaton, Pattern, LinearRow, bound_row, word_rows, row_value, AllHold, SolvesWord, Pending, Search, SolvesAt, bounded_rows, pattern_search, linear_coefficient_in, linear_constant_in, IsLeaf, IsRowOf, AreRowsOf, SystemAt, Element}
 use Rattle.ta_linear.specs.Leaf.{weighted, AreMultipliers, LeafOf, coefficient_in as code_coefficient, constant_in as code_constant}
 use Rattle.ta_linear.proofs.RangeSum.{terms_value-sum}
 use Rattle.ta_encode.proofs.Moments.{AllHold-append, AllHold-left}
@@ -32,7 +32,7 @@ weighted_same f g rs ls [] h = refl
 weighted_same f g rs ls (t ∷ ts) h = omega (arith, ints, ap (λ z. t.1 *ℤ z) (h t.0), weighted_same f g rs ls ts h)
 
 -- a leaf of the code's system is one of the word's rows
-pub leaf_of : (s : Search) (w : Pending) (system : System) (ts : List (ℕ × ℤ)) → SystemAt s w system → LeafOf system ts → IsLeaf s w ts
+pub leaf_of : {E : Type 0} (s : Search E) (w : Pending E) (system : System) (ts : List (ℕ × ℤ)) → SystemAt s w system → LeafOf system ts → IsLeaf s w ts
 leaf_of s w system ts is leaf =
     let ls = bounded_rows s w in
     record {
@@ -42,7 +42,7 @@ leaf_of s w system ts is leaf =
     }
 
 -- a leaf of the word's rows is one of the code's system
-pub leaf_back : (s : Search) (w : Pending) (system : System) (ts : List (ℕ × ℤ)) → SystemAt s w system → IsLeaf s w ts → LeafOf system ts
+pub leaf_back : {E : Type 0} (s : Search E) (w : Pending E) (system : System) (ts : List (ℕ × ℤ)) → SystemAt s w system → IsLeaf s w ts → LeafOf system ts
 leaf_back s w system ts is leaf =
     let ls = bounded_rows s w in
     record {
@@ -76,21 +76,21 @@ rows_back vs n [] (r ∷ rs) e b is h k d c = absurd is
 rows_back vs n (l ∷ ls) [] e b is h k d c = absurd is
 
 -- a solution of the code's system is one of the word
-pub solution_of : (s : Search) (w : Pending) (system : System) (vs : List ℕ) → SystemAt s w system → Solves system vs → SolvesAt s w vs
+pub solution_of : {E : Type 0} (s : Search E) (w : Pending E) (system : System) (vs : List ℕ) → SystemAt s w system → Solves system vs → SolvesAt s w vs
 solution_of s w system vs is solves = record {
   count = solves.count ∙ is.unknowns;
   rows_hold = rows_hold vs system.unknowns (bounded_rows s w) system.rows (sym solves.count) system.within is.rows solves.rows_hold;
 }
 
 -- a solution of the word is one of the code's system
-pub solution_back : (s : Search) (w : Pending) (system : System) (vs : List ℕ) → SystemAt s w system → SolvesAt s w vs → Solves system vs
+pub solution_back : {E : Type 0} (s : Search E) (w : Pending E) (system : System) (vs : List ℕ) → SystemAt s w system → SolvesAt s w vs → Solves system vs
 solution_back s w system vs is solves = record {
   count = solves.count ∙ sym is.unknowns;
   rows_hold = rows_back vs system.unknowns (bounded_rows s w) system.rows (sym (solves.count ∙ sym is.unknowns)) system.within is.rows solves.rows_hold;
 }
 
 -- a solution with bounds is one without
-pub unbounded : (a : Automaton) (p : Pattern) (pairs : List (ℕ × ℕ)) (w : Pending) (vs : List ℕ) → SolvesAt (pattern_search a p pairs) w vs → SolvesWord a p w.start w.past [] vs
+pub unbounded : (a : Automaton) (p : Pattern) (pairs : List (ℕ × ℕ)) (w : Pending Element) (vs : List ℕ) → SolvesAt (pattern_search a p pairs) w vs → SolvesWord a p w.start w.past [] vs
 unbounded a p pairs w vs s = record {
   count = s.count;
   rows_hold = AllHold-append vs (word_rows a p w.start w.past) [] (AllHold-left vs (word_rows a p w.start w.past) (map bound_row w.bounds) s.rows_hold) tt;

@@ -43,7 +43,7 @@ pub use Rattle.ta_base.proofs.Totals.{one_if-natural, one_if-ne, one_if-shift, o
 pub use Rattle.ta_base.specs.Sums.{one_if, times_in}
 unfoldable pub use Rattle.ta_base.specs.Sums.{total}
 unfoldable pub use Rattle.ta_base.proofs.Sums.{range_sum}
-pub use Rattle.ta_cert.specs.Tree.{Done, Extend, Forest, Leaf, More, Split, Tree, all_preorder, forest_preorder, preorder}
+pub use Rattle.ta_cert.specs.Tree.{Ask, Done, Forest, Leaf, More, Split, Tree, all_preorder, forest_preorder, preorder}
 pub use Rattle.ta_cert.specs.declared.line.Node.{Node}
 pub use Rattle.ta_encode.specs.Code.{AreRowsOf, IsRowOf, SystemAt, SystemOf}
 pub use Rattle.ta_encode.specs.Ends.{EndedSystem, ended_rows}
@@ -61,7 +61,7 @@ pub use Rattle.ta_encode.specs.Refutes.{IsLeaf, LeafOfRows, LeafTest, ProofBy, P
 unfoldable pub use Rattle.ta_encode.specs.Refutes.{RefutesBy}
 pub use Rattle.ta_encode.specs.Sample.{HasStart, SamplesStart, StartsAreSampled, sample_search, sampled}
 unfoldable pub use Rattle.ta_encode.specs.Sample.{sample_meanings, sample_rows}
-pub use Rattle.ta_encode.specs.Search.{Pending, Search, SolvesAt, bound_at, bounded, bounded_rows, longer}
+pub use Rattle.ta_encode.specs.Search.{Answers, MayAsk, Pending, Search, SolvesAt, all_or_none, answered, asked, bound_at, bounded, bounded_rows, longer, only_extend}
 pub use Rattle.ta_encode.specs.System.{AllHold, Bound, High, LinearRow, Low, Side, SolvesWord, bound_row, condition_rows, counter_row, counter_rows, event_rows, form_row, guard_rows, negated, only_at, opposite, processes_row, row_value, side_row, singles_row, standing_rows, start_coefficient, start_guard_rows}
 unfoldable pub use Rattle.ta_encode.specs.System.{fall_rows, happening_rows, rise_rows, start_rows, sum_of_products, word_rows}
 pub use Rattle.ta_encode.specs.Unknowns.{Count, Meaning, Parameter, Single, Start, counts_after, place_coefficient, singles_after, start_locations}

@@ -6,6 +6,7 @@ pub mod InOrder
 pub mod Prefixes
 pub mod Theorems
 pub mod CodeRows
+pub mod Asking
 pub mod Preorders
 pub mod Marking
 pub mod Appending

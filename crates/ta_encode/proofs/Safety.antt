@@ -1,5 +1,7 @@
 -- a proof of a pattern shows that the pattern is safe
-use Rattle.ta_encode.proofs.Common.{◌≡◌, ◌⊎◌, inl, inr, ℕ, zero, suc, ◌+◌, ◌<◌, ◌≤◌, ◌^◌, ℤ, pos, negsuc, ◌-ℤ◌, ◌≤ℤ◌, ◌<ℤ◌, List, [], ◌∷◌, ◌++◌, map, length, get_or, true, arith, sym, ap, ◌∙◌, refl, subst, ints, false≢true, cases_Bool, zero-*ℤ, is_negative, negative_false, negative_true, one_times, cases_start, Automaton, Pattern, LoopsPure, Safe, In, range_with_len, Good, Element, Event, Rise, Fall, LegalUnder, is_complete, Bound, Low, High, only_at, side_row, bound_row, word_rows, sum_of_products, row_value, AllHold, Tree, Forest, Leaf, Extend, Split, Done, More, Pending, Search, bound_at, bounded, longer, bounded_rows, empty_word, pattern_search, IsLeaf, RefutesBy, RefuteEach, RefuteAll, ProofOf}
+use Rattle.ta_encode.proofs.Common.{◌≡◌, ◌⊎◌, inl, inr, ℕ, zero, suc, ◌+◌, ◌<◌, ◌≤◌, ◌^◌, ℤ, pos, negsuc, ◌-ℤ◌, ◌≤ℤ◌, ◌<ℤ◌, List, [], ◌∷◌, ◌++◌, map, length, get_or, true, arith, sym, ap, ◌∙◌, refl, subst, ints, false≢true, cases_Bool, zero-*ℤ, is_negative, negative_false, negative_true, one_times, cases_start, Automaton, Pattern, LoopsPure, Safe, In, range_with_len, Good, Element, Event, Rise, Fall, LegalUnder, is_complete, Bound, Low, High, only_at, side_row, bound_row, word_rows, sum_of_products, row_value, AllHold, Tree, Forest, Leaf, Ask, Split, Done, More, Pending, Search, bound_at, bounded, longer, bounded_rows, empty_word, pattern_search, IsLeaf, RefutesBy, RefuteEach, RefuteAll, ProofOf, Node, MayAsk, answered}
+use Rattle.ta_words.specs.Words.{children}
+use Rattle.ta_encode.proofs.Asking.{answers_each, closed}
 use Rattle.ta_encode.proofs.Moments.{AllHold-append, AllHold-left}
 use Rattle.ta_encode.proofs.RowSums.{leaf_contradicts}
 use Rattle.ta_encode.proofs.Reorder.{AfterEarlier, describe}
@@ -53,40 +55,41 @@ pub bounds_more : (bounds : List Bound) (b : Bound) (vs : List ℕ) → AllHold 
 bounds_more [] b vs h g = (g, tt)
 bounds_more (c ∷ bounds) b vs h g = (h.0, bounds_more bounds b vs h.1 g)
 
--- values that solve the rows of a word and of each that is longer by these elements, each of which may follow, up to a complete word
-abbrev pub SolvesAlong : Search → ℕ → List ℕ → List Element → List Element → Type 0
-SolvesAlong s start vs past [] = AllHold vs (s.rows start past) × (s.complete start past ≡ true)
-SolvesAlong s start vs past (e ∷ future) = AllHold vs (s.rows start past) × In e (s.following start past) × SolvesAlong s start vs (e ∷ past) future
+-- values that solve the rows of a past and of each that is longer by these facts, each of which answers whatever may be asked, up to one
+-- where nothing may be asked
+abbrev pub SolvesAlong : {E : Type 0} → Search E → ℕ → List ℕ → List E → List E → Type 0
+SolvesAlong s start vs past [] = AllHold vs (s.rows start past) × ((n : Node) → MayAsk s start past n → ⊥)
+SolvesAlong s start vs past (e ∷ future) = AllHold vs (s.rows start past) × ((n : Node) → MayAsk s start past n → In e (answered s start past n)) × SolvesAlong s start vs (e ∷ past) future
 
-rows_here : (s : Search) (start : ℕ) (vs : List ℕ) (past future : List Element) → SolvesAlong s start vs past future → AllHold vs (s.rows start past)
+rows_here : {E : Type 0} (s : Search E) (start : ℕ) (vs : List ℕ) (past future : List E) → SolvesAlong s start vs past future → AllHold vs (s.rows start past)
 rows_here s start vs past [] h = h.0
 rows_here s start vs past (e ∷ future) h = h.0
 
 mutual
   unfolding RefutesBy
 
-  no_tree : (tree : Tree) (s : Search) (w : Pending) (future : List Element) (vs : List ℕ) → SolvesAlong s w.start vs w.past future → AllHold vs (map bound_row w.bounds) → RefutesBy s (IsLeaf s) w tree → ⊥
+  no_tree : {E : Type 0} (tree : Tree) (s : Search E) (w : Pending E) (future : List E) (vs : List ℕ) → SolvesAlong s w.start vs w.past future → AllHold vs (map bound_row w.bounds) → RefutesBy s (IsLeaf s) w tree → ⊥
   no_tree (Leaf ts) s w future vs along held h =
       leaf_contradicts (bounded_rows s w) ts vs h (AllHold-append vs (s.rows w.start w.past) (map bound_row w.bounds) (rows_here s w.start vs w.past future along) held)
-  no_tree (Extend trees) s w [] vs along held h = false≢true (sym h.0 ∙ along.1)
-  no_tree (Extend trees) s w (e ∷ future) vs along held h =
-      no_forest trees s w e future vs along.2 held (s.following w.start w.past) along.1 h.1
+  no_tree (Ask n trees) s w [] vs along held h = along.1 n h.0
+  no_tree (Ask n trees) s w (e ∷ future) vs along held h =
+      no_forest trees s w e future vs along.2 held (answered s w.start w.past n) (along.1 n h.0) h.1
   no_tree (Split unknown floor low high) s w future vs along held h =
       elim (sides unknown floor vs) [
         | inl g ↦ no_tree low s (bounded w (bound_at unknown floor Low)) future vs along (bounds_more w.bounds (bound_at unknown floor Low) vs held g) h.1
         | inr g ↦ no_tree high s (bounded w (bound_at unknown floor High)) future vs along (bounds_more w.bounds (bound_at unknown floor High) vs held g) h.2
       ]
 
-  no_forest : (trees : Forest) (s : Search) (w : Pending) (e : Element) (future : List Element) (vs : List ℕ) → SolvesAlong s w.start vs (e ∷ w.past) future → AllHold vs (map bound_row w.bounds) → (es : List Element) → In e es → RefuteEach s (IsLeaf s) (map (longer w) es) trees → ⊥
+  no_forest : {E : Type 0} (trees : Forest) (s : Search E) (w : Pending E) (e : E) (future : List E) (vs : List ℕ) → SolvesAlong s w.start vs (e ∷ w.past) future → AllHold vs (map bound_row w.bounds) → (es : List E) → In e es → RefuteEach s (IsLeaf s) (map (longer w) es) trees → ⊥
   no_forest Done s w e future vs along held [] i h = i
   no_forest Done s w e future vs along held (x ∷ es) i h = h
   no_forest (More tree trees) s w e future vs along held [] i h = i
   no_forest (More tree trees) s w e future vs along held (x ∷ es) (inl same) h =
-      no_tree tree s (longer w e) future vs along held (subst (λ (y : Element). RefutesBy s (IsLeaf s) (longer w y) tree) (sym same) h.0)
+      no_tree tree s (longer w e) future vs along held (subst (λ (y : _). RefutesBy s (IsLeaf s) (longer w y) tree) (sym same) h.0)
   no_forest (More tree trees) s w e future vs along held (x ∷ es) (inr i) h =
       no_forest trees s w e future vs along held es i h.1
 
-pick_tree : (s : Search) (first start count : ℕ) (trees : List Tree) → RefuteAll s (IsLeaf s) (map empty_word (range_with_len first count)) trees → first ≤ start → start < first + count → (tree : Tree) × RefutesBy s (IsLeaf s) (empty_word start) tree
+pick_tree : (s : Search Element) (first start count : ℕ) (trees : List Tree) → RefuteAll s (IsLeaf s) (map empty_word (range_with_len first count)) trees → first ≤ start → start < first + count → (tree : Tree) × RefutesBy s (IsLeaf s) (empty_word start) tree
 pick_tree s first start zero trees h low high = absurd (omega arith)
 pick_tree s first start (suc count) [] h low high = absurd h
 pick_tree s first start (suc count) (tree ∷ trees) h low high = elim (cases_start first start low) [
@@ -95,15 +98,15 @@ pick_tree s first start (suc count) (tree ∷ trees) h low high = elim (cases_st
 ]
 
 -- where a search of words from each start set is refuted, no values solve along the elements of a complete word
-pub none_along : (s : Search) (n : ℕ) (trees : List Tree) → RefuteAll s (IsLeaf s) (map empty_word (range_with_len 0 n)) trees → (start : ℕ) → start < n → (future : List Element) (vs : List ℕ) → SolvesAlong s start vs [] future → ⊥
+pub none_along : (s : Search Element) (n : ℕ) (trees : List Tree) → RefuteAll s (IsLeaf s) (map empty_word (range_with_len 0 n)) trees → (start : ℕ) → start < n → (future : List Element) (vs : List ℕ) → SolvesAlong s start vs [] future → ⊥
 none_along s n trees proof start b future vs along =
     let w = pick_tree s 0 start n trees proof (omega arith) (omega arith) in
     no_tree w.0 s (empty_word start) future vs along tt w.1
 
 pattern_along : (a : Automaton) (p : Pattern) (pairs : List (ℕ × ℕ)) (start : ℕ) (vs : List ℕ) (past future : List Element) → LegalUnder a p pairs start (extend past future) → is_complete p (extend past future) ≡ true → AllHold vs (word_rows a p start (extend past future)) → SolvesAlong (pattern_search a p pairs) start vs past future
-pattern_along a p pairs start vs past [] legal complete rows = (rows, complete)
+pattern_along a p pairs start vs past [] legal complete rows = (rows, closed (pattern_search a p pairs) start past (is_complete p past) (children a p pairs start past) (λ n. refl) complete)
 pattern_along a p pairs start vs past (e ∷ future) legal complete rows =
-    (prefix_rows a p start past (e ∷ future) vs rows, (prefix_legal a p pairs start (e ∷ past) future legal).0, pattern_along a p pairs start vs (e ∷ past) future legal complete rows)
+    (prefix_rows a p start past (e ∷ future) vs rows, answers_each (pattern_search a p pairs) start past (is_complete p past) (children a p pairs start past) (λ n. refl) e (prefix_legal a p pairs start (e ∷ past) future legal).0, pattern_along a p pairs start vs (e ∷ past) future legal complete rows)
 
 -- no start set and no complete word has a system with a natural solution
 pub none_solves : (a : Automaton) (p : Pattern) (pairs : List (ℕ × ℕ)) (trees : List Tree) → ProofOf a p pairs trees → (start : ℕ) → start < 2 ^ length a.fall → (past : List Element) (vs : List ℕ) → LegalUnder a p pairs start past → is_complete p past ≡ true → AllHold vs (word_rows a p start past) → ⊥

@@ -14,5 +14,5 @@ rows_same (l ∷ ls) (r ∷ rs) [] is are = absurd are
 rows_same (l ∷ ls) (r ∷ rs) (q ∷ qs) is are = (row_same l r q is.0 are.0, rows_same ls rs qs is.1 are.1)
 
 -- two systems that are one word's have the same numbers
-pub same_numbers : (s : Search) (w : Pending) (y z : System) → SystemAt s w y → SystemAt s w z → SameNumbers y z
+pub same_numbers : {E : Type 0} (s : Search E) (w : Pending E) (y z : System) → SystemAt s w y → SystemAt s w z → SameNumbers y z
 same_numbers s w y z is are = record { unknowns = is.unknowns ∙ sym are.unknowns; rows = rows_same (bounded_rows s w) y.rows z.rows is.rows are.rows }

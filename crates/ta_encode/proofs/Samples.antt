@@ -1,5 +1,5 @@
 -- the sample system is what stands at the start of a pattern that asks for nothing
-use Rattle.ta_encode.proofs.Common.{◌≡◌, inl, inr, ℕ, ℤ, ◌+◌, ◌≤◌, List, [], ◌∷◌, ◌++◌, map, length, arith, sym, ap, ◌∙◌, refl, subst, length-append, get_or, slice_index, false≢true, true≢false, ints, length-map, has_none, none_kept_empty, each_index, Automaton, Pattern, In, range_with_len, Config, Initial, Fits, resilience_holds, Node, Meaning, Parameter, Start, start_locations, start_meanings, AllHold, High, LinearRow, Low, bound_row, condition_rows, opposite, processes_row, RefutedInOrder, IsLeaf, LeafTest, HasStart, SamplesStart, StartsAreSampled, sample_meanings, sample_rows, sample_search, sampled, Pending, bound_at, bounded, bounded_rows, Adds, AreWritten, Draft, append-nil, length-range_with_len}
+use Rattle.ta_encode.proofs.Common.{◌≡◌, inl, inr, ℕ, ℤ, ◌+◌, ◌≤◌, List, [], ◌∷◌, ◌++◌, map, length, arith, sym, ap, ◌∙◌, refl, subst, length-append, get_or, slice_index, false≢true, true≢false, ints, length-map, has_none, none_kept_empty, each_index, Automaton, Pattern, In, range_with_len, Config, Initial, Fits, resilience_holds, Node, Meaning, Parameter, Start, start_locations, start_meanings, AllHold, High, LinearRow, Low, bound_row, condition_rows, opposite, processes_row, RefutedInOrder, IsLeaf, LeafTest, HasStart, SamplesStart, StartsAreSampled, sample_meanings, sample_rows, sample_search, sampled, Pending, bound_at, bounded, bounded_rows, Adds, AreWritten, Draft, append-nil, length-range_with_len, Element}
 use Rattle.ta_cert.specs.declared.line.Node.TheVariants as node
 use Rattle.ta_encode.proofs.Adding.{adds_behind, adds_both, nothing_written}
 use Rattle.ta_encode.proofs.Begin.{FirstRows, first_initial, first_of}
@@ -83,17 +83,16 @@ unfolding sample_rows
 sample_written a {zeroth = zeroth} same e none one two = adds_behind a (sample_meanings a) [] same e (nothing_written (length zeroth.meanings.items) zeroth.rows.items none) (adds_both one two)
 
 -- where nodes refute words of the search for a sample, no natural values solve one of them
-pub none_solved : (a : Automaton) (test : LeafTest) → ((w : Pending) (ts : List (ℕ × ℤ)) → test w ts → IsLeaf (sample_search a) w ts) → (ws : List Pending) (nodes : List Node) → RefutedInOrder (sample_search a) test ws nodes → (w : Pending) → In w ws → (vs : List ℕ) → AllHold vs (bounded_rows (sample_search a) w) → ⊥
+pub none_solved : (a : Automaton) (test : LeafTest Element) → ((w : Pending Element) (ts : List (ℕ × ℤ)) → test w ts → IsLeaf (sample_search a) w ts) → (ws : List (Pending Element)) (nodes : List Node) → RefutedInOrder (sample_search a) test ws nodes → (w : Pending Element) → In w ws → (vs : List ℕ) → AllHold vs (bounded_rows (sample_search a) w) → ⊥
 none_solved a test leaf ws [] h w i vs holds = subst (In w) h i
 none_solved a test leaf [] (n ∷ nodes) h w i vs holds = h
 none_solved a test leaf (v ∷ ws) (node.Leaf ts ∷ nodes) h w (inl same) vs holds =
-    leaf_contradicts (bounded_rows (sample_search a) v) ts vs (leaf v ts h.0) (subst (λ (x : Pending). AllHold vs (bounded_rows (sample_search a) x)) same holds)
+    leaf_contradicts (bounded_rows (sample_search a) v) ts vs (leaf v ts h.0) (subst (λ (x : Pending Element). AllHold vs (bounded_rows (sample_search a) x)) same holds)
 none_solved a test leaf (v ∷ ws) (node.Leaf ts ∷ nodes) h w (inr i) vs holds = none_solved a test leaf ws nodes h.1 w i vs holds
-none_solved a test leaf (v ∷ ws) (node.Extend ∷ nodes) h w i vs holds = absurd (true≢false h.0)
 none_solved a test leaf (v ∷ ws) (node.Split unknown floor ∷ nodes) h w (inl same) vs holds =
     let low = bounded v (bound_at unknown floor Low) in
     let high = bounded v (bound_at unknown floor High) in
-    let here = subst (λ (x : Pending). AllHold vs (bounded_rows (sample_search a) x)) same holds in
+    let here = subst (λ (x : Pending Element). AllHold vs (bounded_rows (sample_search a) x)) same holds in
     let rows = AllHold-left vs (sample_rows a) (map bound_row v.bounds) here in
     let bounds = AllHold-right vs (sample_rows a) (map bound_row v.bounds) here in
     elim (sides unknown floor vs) [
@@ -102,8 +101,9 @@ none_solved a test leaf (v ∷ ws) (node.Split unknown floor ∷ nodes) h w (inl
     ]
 none_solved a test leaf (v ∷ ws) (node.Split unknown floor ∷ nodes) h w (inr i) vs holds =
     none_solved a test leaf (bounded v (bound_at unknown floor Low) ∷ bounded v (bound_at unknown floor High) ∷ ws) nodes h.1 w (inr (inr i)) vs holds
+none_solved a test leaf (v ∷ ws) (n ∷ nodes) h w i vs holds = absurd (false≢true h.0)
 
 -- where nodes refute the sample system, no parameters have an initial configuration
-pub none_starts : (a : Automaton) (test : LeafTest) → ((w : Pending) (ts : List (ℕ × ℤ)) → test w ts → IsLeaf (sample_search a) w ts) → (nodes : List Node) → RefutedInOrder (sample_search a) test (sample_search a).roots nodes → (parameters : List ℕ) → ¬ HasStart a parameters
+pub none_starts : (a : Automaton) (test : LeafTest Element) → ((w : Pending Element) (ts : List (ℕ × ℤ)) → test w ts → IsLeaf (sample_search a) w ts) → (nodes : List Node) → RefutedInOrder (sample_search a) test (sample_search a).roots nodes → (parameters : List ℕ) → ¬ HasStart a parameters
 none_starts a test leaf nodes h parameters start =
     none_solved a test leaf (sample_search a).roots nodes h (sampled []) (inl refl) (start.first.parameters ++ map (slice_index start.first.counters) a.initial) (starts_sampled a start.first start.initial).rows_hold

@@ -334,7 +334,7 @@ rows_exist n (l ∷ ls) few fits =
     record { rows = first.row ∷ rest.rows; are = (first.is, rest.are); below = (first.below, rest.below) }
 
 -- a word whose rows fit has a system
-pub system_exists : (s : Search) (w : Pending) → s.unknowns w.start w.past ≤ 2 ^ 32 → AllMild 1000000001 (s.unknowns w.start w.past) (s.rows w.start w.past) → BoundsWithin (s.unknowns w.start w.past) w.bounds → (system : System) × SystemAt s w system
+pub system_exists : {E : Type 0} (s : Search E) (w : Pending E) → s.unknowns w.start w.past ≤ 2 ^ 32 → AllMild 1000000001 (s.unknowns w.start w.past) (s.rows w.start w.past) → BoundsWithin (s.unknowns w.start w.past) w.bounds → (system : System) × SystemAt s w system
 system_exists s w few mild bounds =
     let n = s.unknowns w.start w.past in
     let own = each_weaker (Mild 1000000001 n) (Fitting n) (s.rows w.start w.past) (mild_fits n) mild in
@@ -342,12 +342,12 @@ system_exists s w few mild bounds =
     (record { unknowns = n; rows = r.rows; within = r.below }, record { unknowns = refl; rows = r.are })
 
 -- each word of a pattern of a file, whatever the pairs of rise guards, with few enough unknowns, has a system
-pub word_system : (file : File) (number : ℕ) (p : Pattern) (pairs : List (ℕ × ℕ)) (w : Pending) → slice_get file.patterns number ≡ Some p → length (meanings file.automaton p w.start w.past) ≤ 2 ^ 32 → BoundsWithin (length (meanings file.automaton p w.start w.past)) w.bounds → (system : System) × SystemAt (pattern_search file.automaton p pairs) w system
+pub word_system : (file : File) (number : ℕ) (p : Pattern) (pairs : List (ℕ × ℕ)) (w : Pending Element) → slice_get file.patterns number ≡ Some p → length (meanings file.automaton p w.start w.past) ≤ 2 ^ 32 → BoundsWithin (length (meanings file.automaton p w.start w.past)) w.bounds → (system : System) × SystemAt (pattern_search file.automaton p pairs) w system
 word_system file number p pairs w at few bounds =
     let a = file.automaton in
     let over = pattern_within file number p at in
     system_exists (pattern_search a p pairs) w few (word_mild a p (small_at_start a p over) (events_small a p over) w.start w.past) bounds
 
 -- and so has each word of the search for a sample
-pub sample_system : (a : Automaton) (w : Pending) → BoundsWithin (length (sample_meanings a)) w.bounds → (system : System) × SystemAt (sample_search a) w system
+pub sample_system : (a : Automaton) (w : Pending Element) → BoundsWithin (length (sample_meanings a)) w.bounds → (system : System) × SystemAt (sample_search a) w system
 sample_system a w bounds = system_exists (sample_search a) w (omega (arith, sample_few a)) (sample_mild a) bounds

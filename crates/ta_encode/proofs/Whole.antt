@@ -63,11 +63,11 @@ bound_rows n (b ∷ bs) most within =
     record { rows = first.row ∷ rest.rows; of = (first.of, rest.of); below = (first.below, rest.below) }
 
 -- the rows of a system without bounds
-pub unbounded_rows : (search : Search) (start : ℕ) (past : List Element) (z : System) → SystemAt search (record { start = start; past = past; bounds = [] }) z → AreRowsOf (search.rows start past) z.rows
+pub unbounded_rows : {E : Type 0} (search : Search E) (start : ℕ) (past : List E) (z : System) → SystemAt search (record { start = start; past = past; bounds = [] }) z → AreRowsOf (search.rows start past) z.rows
 unbounded_rows search start past z is = subst (λ (ls : List LinearRow). AreRowsOf ls z.rows) (append-nil (search.rows start past)) is.rows
 
 -- where a word has a system without bounds, it has one with them
-pub whole_system : (search : Search) (start : ℕ) (past : List Element) (bounds : List Bound) (z : System) → z.unknowns ≤ 2 ^ 32 → SystemAt search (record { start = start; past = past; bounds = [] }) z → BoundsWithin z.unknowns bounds → (s : System) × SystemAt search (record { start = start; past = past; bounds = bounds }) s
+pub whole_system : {E : Type 0} (search : Search E) (start : ℕ) (past : List E) (bounds : List Bound) (z : System) → z.unknowns ≤ 2 ^ 32 → SystemAt search (record { start = start; past = past; bounds = [] }) z → BoundsWithin z.unknowns bounds → (s : System) × SystemAt search (record { start = start; past = past; bounds = bounds }) s
 whole_system search start past bounds z most is within =
     let more = bound_rows z.unknowns bounds most within in
     let rows = search.rows start past in

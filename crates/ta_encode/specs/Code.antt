@@ -22,8 +22,8 @@ AreRowsOf (l ∷ ls) (r ∷ rs) = IsRowOf l r × AreRowsOf ls rs
 AreRowsOf [] (r ∷ rs) = ⊥
 AreRowsOf (l ∷ ls) [] = ⊥
 
--- the unknowns and the rows of a word of a search
-pub record SystemAt (s : Search) (w : Pending) (system : System) : Type 0 where
+-- the unknowns and the rows of a system of a search
+pub record SystemAt {E : Type 0} (s : Search E) (w : Pending E) (system : System) : Type 0 where
   pub unknowns : system.unknowns ≡ s.unknowns w.start w.past
   pub rows : AreRowsOf (bounded_rows s w) system.rows
 

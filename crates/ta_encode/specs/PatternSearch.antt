@@ -1,27 +1,30 @@
 -- The search of a pattern: the words of this project's profile
-use Rattle.std.specs.Prelude.{ℕ, ◌^◌, List, [], length, map}
+use Rattle.std.specs.Prelude.{ℕ, ◌^◌, List, [], length, map, Some}
 use Rattle.ta_automaton.specs.declared.automaton.Automaton.{Automaton}
 use Rattle.ta_automaton.specs.declared.pattern.Pattern.{Pattern}
 use Rattle.std.specs.List.{range_with_len}
+use Rattle.ta_cert.specs.declared.line.Node.TheVariants as node
+use Rattle.ta_words.specs.declared.element.Element.{Element}
 use Rattle.ta_words.specs.Words.{children, is_complete}
 use Rattle.ta_encode.specs.Unknowns.{meanings}
 use Rattle.ta_encode.specs.System.{word_rows}
-use Rattle.ta_encode.specs.Search.{Pending, Search}
+use Rattle.ta_encode.specs.Search.{Pending, Search, only_extend}
 
 -- the empty word of a start set, without bounds
-abbrev pub empty_word : ℕ → Pending
+abbrev pub empty_word : ℕ → Pending Element
 empty_word start = record { start = start; past = []; bounds = [] }
 
 -- the empty word for each start set by rising mask
-abbrev pub all_starts : Automaton → List Pending
+abbrev pub all_starts : Automaton → List (Pending Element)
 all_starts a = map empty_word (range_with_len 0 (2 ^ length a.fall))
 
 -- under pairs of rise guards, (j, i) for j before i: it begins with the empty word of each start set, and goes on with the children of each word
-abbrev pub pattern_search : Automaton → Pattern → List (ℕ × ℕ) → Search
+-- that isn't complete
+abbrev pub pattern_search : Automaton → Pattern → List (ℕ × ℕ) → Search Element
 pattern_search a p pairs = record {
   roots = all_starts a;
-  following = children a p pairs;
-  complete = λ start past. is_complete p past;
+  answers = λ start past. only_extend (is_complete p past) (children a p pairs start past);
+  question = λ start past values. Some node.Extend;
   unknowns = λ start past. length (meanings a p start past);
   rows = word_rows a p;
 }

@@ -1,11 +1,11 @@
--- Which trees refute a word, and which are a proof (Farkas' lemma and integer branching over the words of this project's profile)
-use Rattle.std.specs.Prelude.{ℕ, ℤ, pos, ◌<◌, ◌≡◌, false, List, [], ◌∷◌, map, slice_index_or, Option, Some, None}
+-- Which trees refute, and which are a proof (Farkas' lemma and integer branching; those of a pattern over the words of this project's profile)
+use Rattle.std.specs.Prelude.{ℕ, ℤ, pos, ◌<◌, List, [], ◌∷◌, map, slice_index_or, Option, Some, None}
 use Rattle.ta_linear.specs.Leaf.{Leaf as FarkasLeaf}
 use Rattle.ta_automaton.specs.declared.automaton.Automaton.{Automaton}
 use Rattle.ta_automaton.specs.declared.pattern.Pattern.{Pattern}
-use Rattle.ta_cert.specs.Tree.{Tree, Forest, Leaf, Extend, Split, Done, More}
+use Rattle.ta_cert.specs.Tree.{Tree, Forest, Leaf, Ask, Split, Done, More}
 use Rattle.ta_encode.specs.System.{LinearRow, Low, High}
-use Rattle.ta_encode.specs.Search.{Pending, Search, bounded, longer, bounded_rows}
+use Rattle.ta_encode.specs.Search.{MayAsk, Pending, Search, answered, bounded, longer, bounded_rows}
 pub use Rattle.ta_encode.specs.Search.{LeafTest, bound_at}
 use Rattle.ta_encode.specs.PatternSearch.{pattern_search}
 
@@ -23,35 +23,35 @@ abbrev pub LeafOfRows : List LinearRow → List (ℕ × ℤ) → Type 0
 LeafOfRows rows ts = FarkasLeaf linear_coefficient_in linear_constant_in rows ts
 
 -- multipliers of a word's rows are such a leaf
-abbrev pub IsLeaf : Search → Pending → List (ℕ × ℤ) → Type 0
+abbrev pub IsLeaf : {E : Type 0} → Search E → Pending E → List (ℕ × ℤ) → Type 0
 IsLeaf s w ts = LeafOfRows (bounded_rows s w) ts
 
 unfoldable mutual
-  -- a leaf that meets the test; or a tree for each word that is longer than one that isn't complete; or a tree for each side of an unknown of the word's system
-  pub RefutesBy : Search → LeafTest → Pending → Tree → Type 0
+  -- a leaf that meets the test; or a node that may ask, with a tree for each answer; or a tree for each side of an unknown of the system
+  pub RefutesBy : {E : Type 0} → Search E → LeafTest E → Pending E → Tree → Type 0
   RefutesBy s test w (Leaf ts) = test w ts
-  RefutesBy s test w (Extend trees) = (s.complete w.start w.past ≡ false) × RefuteEach s test (map (longer w) (s.following w.start w.past)) trees
+  RefutesBy s test w (Ask n trees) = MayAsk s w.start w.past n × RefuteEach s test (map (longer w) (answered s w.start w.past n)) trees
   RefutesBy s test w (Split unknown floor low high) =
       (unknown < s.unknowns w.start w.past)
       × RefutesBy s test (bounded w (bound_at unknown floor Low)) low
       × RefutesBy s test (bounded w (bound_at unknown floor High)) high
 
   -- one tree for each word, in order, each of which refutes its word
-  pub RefuteEach : Search → LeafTest → List Pending → Forest → Type 0
+  pub RefuteEach : {E : Type 0} → Search E → LeafTest E → List (Pending E) → Forest → Type 0
   RefuteEach s test [] Done = Unit {0}
   RefuteEach s test (w ∷ ws) Done = ⊥
   RefuteEach s test [] (More tree trees) = ⊥
   RefuteEach s test (w ∷ ws) (More tree trees) = RefutesBy s test w tree × RefuteEach s test ws trees
 
 -- the same of a list of trees
-abbrev pub RefuteAll : Search → LeafTest → List Pending → List Tree → Type 0
+abbrev pub RefuteAll : {E : Type 0} → Search E → LeafTest E → List (Pending E) → List Tree → Type 0
 RefuteAll s test [] [] = Unit {0}
 RefuteAll s test (w ∷ ws) [] = ⊥
 RefuteAll s test [] (tree ∷ trees) = ⊥
 RefuteAll s test (w ∷ ws) (tree ∷ trees) = RefutesBy s test w tree × RefuteAll s test ws trees
 
 -- a proof whose leaves meet a test: one tree for each word with which the search begins
-abbrev pub ProofBy : Search → LeafTest → List Tree → Type 0
+abbrev pub ProofBy : {E : Type 0} → Search E → LeafTest E → List Tree → Type 0
 ProofBy s test trees = RefuteAll s test s.roots trees
 
 -- a proof of a pattern under pairs: one tree for each set of fall guards that may be false at the start

@@ -1,9 +1,10 @@
 -- The sample system: whether there are parameters that meet the resilience condition and have an initial configuration (this
 -- project's profile)
-use Rattle.std.specs.Prelude.{ℕ, ◌≡◌, true, List, [], ◌∷◌, ◌++◌, length, map, slice_index, take}
+use Rattle.std.specs.Prelude.{ℕ, ◌≡◌, List, [], ◌∷◌, ◌++◌, length, map, slice_index, take, None}
 use Rattle.ta_automaton.specs.declared.automaton.Automaton.{Automaton}
 use Rattle.std.specs.List.{range_with_len}
 use Rattle.ta_automaton.specs.Runs.{Config, Initial}
+use Rattle.ta_words.specs.declared.element.Element.{Element}
 use Rattle.ta_encode.specs.Unknowns.{Meaning, Parameter, Start}
 use Rattle.ta_encode.specs.System.{Bound, LinearRow, condition_rows, opposite, processes_row}
 use Rattle.ta_encode.specs.Search.{Pending, Search, SolvesAt}
@@ -19,15 +20,15 @@ sample_rows a =
     ++ (processes_row a (sample_meanings a) ∷ opposite (processes_row a (sample_meanings a)) ∷ [])
 
 -- the word of the search for a sample, which is empty, with bounds
-abbrev pub sampled : List Bound → Pending
+abbrev pub sampled : List Bound → Pending Element
 sampled bounds = record { start = 0; past = []; bounds = bounds }
 
--- the search for a sample: that word alone, which is complete
-abbrev pub sample_search : Automaton → Search
+-- the search for a sample: that word alone, at which nothing is asked
+abbrev pub sample_search : Automaton → Search Element
 sample_search a = record {
   roots = sampled [] ∷ [];
-  following = λ start past. [];
-  complete = λ start past. true;
+  answers = λ start past n. None;
+  question = λ start past values. None;
   unknowns = λ start past. length (sample_meanings a);
   rows = λ start past. sample_rows a;
 }

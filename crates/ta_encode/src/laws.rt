@@ -32,7 +32,7 @@ pub fn solutions_become_runs()
 {}
 
 /// A proof may be judged node by node, and a list of nodes is that of at most one proof.
-pub fn proofs_read_in_order()
-    ensures in_order { ProofsReadInOrder IsLeaf }
-    ensures determined { ProofsAreDetermined }
+pub fn proofs_read_in_order<E>()
+    ensures in_order { ProofsReadInOrder {E = E} IsLeaf }
+    ensures determined { ProofsAreDetermined E }
 {}

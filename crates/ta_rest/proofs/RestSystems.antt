@@ -30,7 +30,7 @@ rest_mild a p start_small events start past =
     (cond_both (is_complete p past) (end_rows a p start past) [] (AllMild 1000000001 n) (λ _. end_mild a p start past) (λ _. tt))
 
 -- each word of rest of a pattern of a file, with few enough unknowns, has a system
-pub rest_word_system : (file : File) (number : ℕ) (p : Pattern) (w : Pending) → slice_get file.patterns number ≡ Some p → length (meanings file.automaton p w.start w.past) ≤ 2 ^ 32 → BoundsWithin (length (meanings file.automaton p w.start w.past)) w.bounds → (system : System) × SystemAt (rest_search file.automaton p) w system
+pub rest_word_system : (file : File) (number : ℕ) (p : Pattern) (w : Pending Element) → slice_get file.patterns number ≡ Some p → length (meanings file.automaton p w.start w.past) ≤ 2 ^ 32 → BoundsWithin (length (meanings file.automaton p w.start w.past)) w.bounds → (system : System) × SystemAt (rest_search file.automaton p) w system
 rest_word_system file number p w at few bounds =
     let a = file.automaton in
     let over = pattern_within file number p at in

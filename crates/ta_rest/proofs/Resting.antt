@@ -1,5 +1,6 @@
 -- a run that has come to rest solves the system of rest of its word
 use Rattle.ta_rest.proofs.Common.{◌≡◌, inl, inr, ℕ, zero, suc, ◌+◌, ◌-◌, ◌≤◌, ◌^◌, pos, List, [], ◌∷◌, map, length, eqb, cond, Bool, true, false, not, arith, sym, ap, ◌∙◌, refl, subst, slice_get, get_or, Some, None, Option, reverse, filter, ints, false≢true, true≢false, cases_Bool, and_parts, eq-eqb, not-false, not-true, slice_get_within, same_Some, all_below-at, all_below-false, bit_true, implies-at, cond_child, in_filter, value_of, RowHolds, Row, Rule, Automaton, Pattern, has_bit, all_below, implies, range_with_len, In, Whole, location_place, Config, MaskedHold, Steps, value_at, Fits, value_at-location, run_length, Element, LegalWord, children, has_fallen, has_rise, is_complete, EndsAt, LinearRow, AllHold, counter_row, guard_rows, negated, opposite, word_rows, meanings, AllHold-append, AllHold-left, Moment, RowFails, guards_fail, opposite_value, SolvesAlong, extend, none_along, prefix_legal, prefix_rows, take_apart, AtRest, end_rows, leads_out, must_be_left, rest_rows, rest_search, RestingRunsSolve, RefutedEndingsRest, RefutedEndingsShow, eqb-true}
+use Rattle.ta_encode.proofs.Asking.{answers_each, closed}
 use Rattle.std.proofs.lemmas.List.{append-nil}
 use Rattle.ta_base.proofs.Integers.{is_negative, negative_false, negative_true}
 use Rattle.ta_automaton.proofs.Fire.{fire, fire_step, step_whole}
@@ -120,11 +121,11 @@ not_followed a p start past e i = cond_child e (is_complete p past) _ i
 
 rest_along : (a : Automaton) (p : Pattern) (start : ℕ) (vs : List ℕ) (past future : List Element) → LegalWord a p start (extend past future) → is_complete p (extend past future) ≡ true → AllHold vs (word_rows a p start (extend past future)) → AllHold vs (rest_rows a p start (extend past future)) → SolvesAlong (rest_search a p) start vs past future
 unfolding rest_rows
-rest_along a p start vs past [] legal complete words rows = (rows, complete)
+rest_along a p start vs past [] legal complete words rows = (rows, closed (rest_search a p) start past (is_complete p past) (children a p [] start past) (λ n. refl) complete)
 rest_along a p start vs past (e ∷ future) legal complete words rows =
     let child = (prefix_legal a p [] start (e ∷ past) future legal).0 in
     let own = AllHold-append vs (word_rows a p start past) (cond (is_complete p past) (end_rows a p start past) []) (prefix_rows a p start past (e ∷ future) vs words) (no_more vs (is_complete p past) (end_rows a p start past) (not_followed a p start past e child)) in
-    (own, child, rest_along a p start vs (e ∷ past) future legal complete words rows)
+    (own, answers_each (rest_search a p) start past (is_complete p past) (children a p [] start past) (λ n. refl) e child, rest_along a p start vs (e ∷ past) future legal complete words rows)
 
 pub refuted_rests : RefutedEndingsRest
 unfolding rest_rows

@@ -10,7 +10,8 @@ use Rattle.ta_words.specs.declared.element.Element.{Element}
 use Rattle.ta_words.specs.Words.{children, has_fallen, has_rise, is_complete}
 use Rattle.ta_encode.specs.Unknowns.{meanings}
 use Rattle.ta_encode.specs.System.{LinearRow, opposite, negated, counter_row, guard_rows, word_rows}
-use Rattle.ta_encode.specs.Search.{Search}
+use Rattle.ta_cert.specs.declared.line.Node.TheVariants as node
+use Rattle.ta_encode.specs.Search.{Search, only_extend}
 use Rattle.ta_encode.specs.PatternSearch.{all_starts}
 
 -- whether a rule leads from a location to another, has its rise guards in the word, and has no fall guard that is in the start set or has fallen
@@ -37,11 +38,11 @@ unfoldable pub rest_rows : Automaton → Pattern → ℕ → List Element → Li
 rest_rows a p start past = word_rows a p start past ++ cond (is_complete p past) (end_rows a p start past) []
 
 -- the search of a pattern's words of rest: its words under no pairs, with these rows
-abbrev pub rest_search : Automaton → Pattern → Search
+abbrev pub rest_search : Automaton → Pattern → Search Element
 rest_search a p = record {
   roots = all_starts a;
-  following = children a p [];
-  complete = λ start past. is_complete p past;
+  answers = λ start past. only_extend (is_complete p past) (children a p [] start past);
+  question = λ start past values. Some node.Extend;
   unknowns = λ start past. length (meanings a p start past);
   rows = rest_rows a p;
 }

@@ -1,5 +1,6 @@
 -- what is known of verdicts on runs that come to rest, as they are made
 use Rattle.ta_rest_verdict.proofs.Common.{◌≡◌, ℕ, zero, suc, refl, ◌∙◌, same_Some, ◌<◌, ◌≤◌, List, [], ◌∷◌, length, sym, subst, Some, slice_get, Result, Ok, Err, IfOk, Automaton, File, Pattern, Node, IsLeaf, Search, Solution, in_order, weaker_proof, IsJudged, Endings, IsEnding, rest_search, refuted_show, IsRestSolution, Verdict, Safe, Unsafe, Spent, Overflow, come_after, IsSpent, NodeOf, TreeKept, SolutionAt, IsNotSafe, KeepsSafe, OwnVerdict, some_at, OfPattern, RestFile, pattern_within, RestSafe as ClaimRestSafe, proof_made}
+use Rattle.ta_words.specs.declared.element.Element.{Element}
 use Rattle.std.specs.declared.alloc.AllocError.{AllocError}
 use Rattle.ta_rest.specs.Rest.{RestSafe}
 use Rattle.ta_scope.proofs.Judging.{loops_pure}
@@ -44,7 +45,7 @@ pub spent_verdict : (rest : RestFile) (budget number : ℕ) (p : Pattern) (nodes
 spent_verdict rest budget number p nodes spent file ends own at =
     let a = rest.ending.file.automaton in
     let s = rest_search a p in
-    record { is = spent; split = λ most. split_of_words a p [] s.complete s.unknowns s.rows budget nodes most spent }
+    record { is = spent; split = λ most. split_of_words a p [] s.question s.unknowns s.rows budget nodes most spent }
 
 -- what a visit finds is a solution
 pub solution_found : (file : File) (number : ℕ) → number < length file.patterns → (budget nodes : ℕ) (solution : Solution) → OfPattern file number (λ p. NodeOf (rest_search file.automaton p) budget nodes (SolutionAt (rest_search file.automaton p) number solution)) → IsRestSolution file solution
@@ -52,7 +53,7 @@ solution_found file number within budget nodes solution found =
     let at = some_at file.patterns number within in
     found_solved file number at.0 at.1 budget nodes solution (found at.0 at.1)
 
-keeps_nothing : (s : Search) (budget : ℕ) (Keeps : List Node → Type 0) (v : Verdict) → IsNotSafe v → KeepsSafe s budget Keeps v
+keeps_nothing : (s : Search Element) (budget : ℕ) (Keeps : List Node → Type 0) (v : Verdict) → IsNotSafe v → KeepsSafe s budget Keeps v
 keeps_nothing s budget Keeps (Safe nodes leaves) other = absurd other
 keeps_nothing s budget Keeps (Unsafe nodes run) other = tt
 keeps_nothing s budget Keeps (Spent nodes) other = tt

@@ -1,5 +1,6 @@
 -- What is said of a pattern whose runs are to come to rest, and when it holds (this project's profile)
 use Rattle.std.specs.Prelude.{ℕ, ◌≡◌, List, [], length, slice_get, Some}
+use Rattle.ta_words.specs.declared.element.Element.{Element}
 use Rattle.std.specs.List.{AllByRecursion}
 use Rattle.ta_automaton.specs.declared.file.File.{File}
 use Rattle.ta_automaton.specs.declared.pattern.Pattern.{Pattern}
@@ -44,7 +45,7 @@ abbrev pub OwnVerdict : RestFile → ℕ → ℕ → Pattern → Verdict → Typ
 OwnVerdict rest budget number p v = (file : File) → EndingsOf file rest.ending.file rest.added → EndingVerdictHolds file rest.ending.file rest.added budget number p v
 
 -- of a tree that refutes a pattern's ending the rest is kept
-abbrev pub KeepsSafe : Search → ℕ → (List Node → Type 0) → Verdict → Type 0
+abbrev pub KeepsSafe : Search Element → ℕ → (List Node → Type 0) → Verdict → Type 0
 KeepsSafe s budget Keeps (Safe nodes leaves) = TreeKept s budget Keeps nodes leaves
 KeepsSafe s budget Keeps (Unsafe nodes run) = Unit {0}
 KeepsSafe s budget Keeps (Spent nodes) = Unit {0}

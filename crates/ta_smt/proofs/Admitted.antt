@@ -16,7 +16,7 @@ use Rattle.std.proofs.lemmas.List.Elements.{All-from_recursion}
 use Rattle.ta_base.proofs.Each.{each_from}
 
 -- the word as it is pending, without bounds
-abbrev pub pending : AskedWord → Pending
+abbrev pub pending : AskedWord → Pending Element
 pending word = record { start = word.start; past = reverse word.elements; bounds = [] }
 
 -- two systems of a word: they have the same unknowns, and rows for the same linear ones

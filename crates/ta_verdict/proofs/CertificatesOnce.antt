@@ -1,16 +1,17 @@
 -- a file has one certificate for a budget
 use Rattle.ta_verdict.proofs.Common.{◌≡◌, ◌∙◌, List, [], ◌∷◌, ℕ, map, refl, sym, ap, subst, File, Pattern, cert_text, pair_of, Node, Order, Proof, pattern_search, TreeIs, orders_once, AreTrees, AreTreesOf, CertificatesAreDetermined, SafeOne, safe_ones, tree_under, endings_once, Ending, Left, Solved, Stopped, Whole}
+use Rattle.ta_words.specs.declared.element.Element.{Element}
 use Rattle.ta_encode.specs.Search.{Search}
 use Rattle.ta_verdict.proofs.VerdictsOnce.{verdicts_once}
 
 -- a search has one tree
-nodes_of : Ending → List Node
+nodes_of : Ending Element → List Node
 nodes_of (Whole nodes count) = nodes
 nodes_of (Solved count w values) = []
 nodes_of (Stopped count) = []
 nodes_of (Left node kind) = []
 
-pub tree_once : (s : Search) (budget : ℕ) (nodes others : List Node) (count : ℕ) → TreeIs s budget nodes count → TreeIs s budget others count → nodes ≡ others
+pub tree_once : (s : Search Element) (budget : ℕ) (nodes others : List Node) (count : ℕ) → TreeIs s budget nodes count → TreeIs s budget others count → nodes ≡ others
 unfolding nodes_of
 tree_once s budget nodes others count is are = ap nodes_of (endings_once s budget (Whole nodes count) (Whole others count) is are)
 

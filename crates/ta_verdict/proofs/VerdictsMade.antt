@@ -1,5 +1,6 @@
 -- what is known of verdicts as they are made and counted
 use Rattle.ta_verdict.proofs.Common.{◌≡◌, ℕ, zero, suc, ◌+◌, ◌<◌, ◌≤◌, List, [], ◌∷◌, ◌++◌, length, map, reverse, take, arith, refl, sym, ap, subst, ◌∙◌, Some, slice_get, length-take-le, take_all, take_next, same_Some, slice_get_within, some_at, File, Pattern, LoopsPure, pair_of, Node, Order, OfPattern, Pending, Solution, PlaceKind, IsSpent, NodeOf, SolutionAt, TreeIs, leaf_count, FoundOrders, orders_sound, refuted_hold, ReportKind, Verdict, IsSolution, pattern_search, EachHolds, IsOutOfRangeIn, Question, SafeHolds, SpentHolds, UnderOrders, VerdictAnswers, safety_question, node_with, place_of, Err, IfOk, Ok, Result, AllocError, Safe as ClaimSafe, Overflow}
+use Rattle.ta_words.specs.declared.element.Element.{Element}
 use Rattle.ta_implied.specs.Implied.{Good}
 use Rattle.ta_words.proofs.Counts.{legal_under}
 use Rattle.ta_walk.specs.Visit.{IsOutOfRangeAt}
@@ -45,7 +46,7 @@ solution_found file number within pairs budget nodes solution found =
     solution_is file number at.0 at.1 pairs budget nodes solution (found at.0 at.1)
 
 -- where a walk says that a number leaves the range, it does
-out_of_range_in : (q : Question) (number : ℕ) (k : PlaceKind) (r : ReportKind) (w : Pending) → place_of r ≡ k → IsOutOfRangeAt q.search w k → IsOutOfRangeIn q number r w
+out_of_range_in : (q : Question) (number : ℕ) (k : PlaceKind) (r : ReportKind) (w : Pending Element) → place_of r ≡ k → IsOutOfRangeAt q.search w k → IsOutOfRangeIn q number r w
 out_of_range_in q number k (kind.Pivot pivot) w same leaves = subst (IsOutOfRangeAt q.search w) (sym same) leaves
 out_of_range_in q number k kind.Leaf w same leaves = subst (IsOutOfRangeAt q.search w) (sym same) leaves
 out_of_range_in q number k kind.Run w same leaves = absurd (subst (IsOutOfRangeAt q.search w) (sym same) leaves)

@@ -1,5 +1,6 @@
 -- What is said of the patterns and of the parameters of a file, and when it holds (this project's profile)
 use Rattle.std.specs.Prelude.{ℕ, ◌+◌, ◌≤◌, ◌≡◌, Bool, true, false, List, [], ◌∷◌, slice_get, Some, ℤ, pos, map}
+use Rattle.ta_words.specs.declared.element.Element.{Element}
 use Rattle.std.specs.List.{AllByRecursion}
 use Rattle.ta_base.specs.declared.limits.TheConstants.{MOST_NODES}
 use Rattle.ta_automaton.specs.declared.automaton.Automaton.{Automaton}
@@ -49,7 +50,7 @@ pub record UnderOrders (file : File) (fact : List (ℕ × ℕ) → Type 0) : Typ
 -- of a solution, when a number of that run's replay leaves the range, and when there are no more pairs of a start set and a legal word than
 -- some number
 pub record Question : Type 1 where
-  pub search : Search
+  pub search : Search Element
   pub claim : Type 0
   pub proved : ℕ → List Node → Type 0
   pub shown : Solution → Run → Type 0
@@ -78,13 +79,13 @@ pub record SpentHolds (q : Question) (budget nodes : ℕ) : Type 0 where
   pub split : q.few budget → WasSplit q.search budget
 
 -- the word is that of a whole node, and a number of the replay of its run leaves the range
-pub record RunOutOfRange (q : Question) (number : ℕ) (w : Pending) : Type 0 where
+pub record RunOutOfRange (q : Question) (number : ℕ) (w : Pending Element) : Type 0 where
   pub solution : Solution
   pub whole : SolutionAt q.search number solution w
   pub run : q.leaves solution
 
 -- where a number of a node leaves the range: in a pivot, in the check of the leaf that it is, or in the replay of its run
-abbrev pub IsOutOfRangeIn : Question → ℕ → ReportKind → Pending → Type 0
+abbrev pub IsOutOfRangeIn : Question → ℕ → ReportKind → Pending Element → Type 0
 IsOutOfRangeIn q number (kind.Pivot pivot) w = IsOutOfRangeAt q.search w (place.Pivot pivot)
 IsOutOfRangeIn q number kind.Leaf w = IsOutOfRangeAt q.search w place.Leaf
 IsOutOfRangeIn q number kind.Run w = RunOutOfRange q number w

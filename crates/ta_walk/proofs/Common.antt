@@ -1,7 +1,7 @@
 -- The names that the proofs of this crate cite, passed on from one place. Declares nothing.
 pub use Rattle.std.proofs.Common.{Bool, FitsSigned, IfOk, List, None, Ok, Option, Some, [], ap, append-nil, append_assoc, arith, codes, decimal, drop, false, get_or, inl, inr, length, length-append, lit<, map, nat_lt, negsuc, pos, refl, reverse, rules, slice_get, subst, suc, sym, take, true, zero, ℕ, ℤ, ◌*ℤ◌, ◌*◌, ◌++◌, ◌+ℤ◌, ◌+◌, ◌-◌, ◌<ℤ◌, ◌<◌, ◌^◌, ◌∙◌, ◌∷◌, ◌≡◌, ◌≤ℤ◌, ◌≤◌, ◌⊎◌}
 pub use Rattle.std.proofs.Math.IntN.{*ℤ_comm}
-pub use Rattle.std.proofs.lemmas.Bool.{cases_eq, cases_order, cond_both, true≢false}
+pub use Rattle.std.proofs.lemmas.Bool.{cases_eq, cases_order, cond_both, false≢true, true≢false}
 pub use Rattle.std.proofs.lemmas.Bool.Decides.{nat_tests}
 pub use Rattle.std.proofs.lemmas.Int.{by_lt_z, ints, to_z-of_z}
 pub use Rattle.std.proofs.lemmas.List.{length-map, map-append, reverse-reverse, take-append-drop, take_more}
@@ -47,7 +47,7 @@ pub use Rattle.ta_encode.specs.Code.{SystemAt}
 pub use Rattle.ta_encode.specs.PatternSearch.{all_starts, empty_word, pattern_search}
 pub use Rattle.ta_encode.specs.Sample.{HasStart, sample_meanings, sample_search, sampled}
 unfoldable pub use Rattle.ta_encode.specs.Sample.{sample_rows}
-pub use Rattle.ta_encode.specs.Search.{Comes, Pending, Search, SolvesAt, bound_at, bounded, bounded_rows, longer, parts}
+pub use Rattle.ta_encode.specs.Search.{Comes, Pending, Search, SolvesAt, bound_at, bounded, bounded_rows, longer, parts, Answers, answered, asked}
 pub use Rattle.ta_encode.specs.System.{LinearRow, SolvesWord, bound_row, condition_rows, opposite, processes_row}
 pub use Rattle.ta_encode.specs.declared.meaning.Bound.{Bound}
 pub use Rattle.ta_encode.specs.declared.meaning.Side.TheVariants.{High, Low}
@@ -77,7 +77,7 @@ pub use Rattle.ta_walk.specs.Inside.Parts.{ComesTo, HasFewBounds, HasFewLeft, Is
 pub use Rattle.ta_walk.specs.Inside.Sought.{ComesFirst, GuardTried, MasksAgree, PairTried}
 pub use Rattle.ta_walk.specs.Samples.{IsSampleEnd, SampleAt, SampleEndsAreDetermined, SampleFound, SampleRefuted, SamplesAreReal}
 pub use Rattle.ta_walk.specs.Splits.{HasAtMost, HasSplit, SpentNeedsSplits, WasSplit}
-pub use Rattle.ta_walk.specs.Visit.{AreNumbers, IsAbove, IsOutOfRangeAt, IsWhole, IsWholeNumber, LeafAt, LeafOutOfRange, NodeAt, OfSystem, RefutedAt, SplitVertex, SplitsAt, VertexAt, Visits, WholeAt}
+pub use Rattle.ta_walk.specs.Visit.{AreNumbers, IsAbove, IsOutOfRangeAt, IsWhole, IsWholeNumber, LeafAt, LeafOutOfRange, NodeAt, OfSystem, RefutedAt, SplitVertex, SplitsAt, VertexAt, Visits, WholeAt, IsSettled, OpenVertex, parts_of}
 pub use Rattle.ta_walk.specs.declared.end.PlaceKind.{PlaceKind}
 pub use Rattle.ta_walk.specs.declared.end.SampleEnd.{SampleEnd}
 pub use Rattle.ta_walk.specs.declared.end.TreeEnd.{TreeEnd}

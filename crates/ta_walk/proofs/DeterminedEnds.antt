@@ -1,5 +1,6 @@
 -- a search has one end, and so has a walk
 use Rattle.ta_walk.proofs.Common.{cases_order, ◌≡◌, inl, inr, ℕ, ◌<◌, List, ℤ, length, arith, refl, sym, ap, ◌∙◌, subst, Node, PlaceKind, NodeAt, WholeAt, IsOutOfRangeAt, TreeIs, NodeOf, SolutionAt, IsSpent, Ending, Whole, Solved, Stopped, Left, IsVisitEnding, EndingsAreDetermined, IsWalkEnd, WalksAreDetermined, Pending, Search, WalkEnd}
+use Rattle.ta_words.specs.declared.element.Element.{Element}
 use Rattle.ta_walk.proofs.DeterminedNodes.{whole_once, whole_is_no_node, leaving_is_no_node, leaving_is_not_whole, leaving_once}
 use Rattle.ta_walk.proofs.DeterminedVisits.{tree_once, word_of_tree, word_once, node_at_word}
 use Rattle.ta_encode.specs.declared.encoded.Solution.{Solution}
@@ -7,35 +8,35 @@ use Rattle.ta_walk.specs.declared.end.WalkEnd.TheVariants.{Refuted, Found, Spent
 use Rattle.ta_base.proofs.Lists.{reversed_same}
 
 -- where a fact holds of a word, no node stands at it
-abbrev BarsNodes : Search → (Pending → Type 0) → Type 0
-BarsNodes s fact = (w : Pending) (n : Node) → fact w → NodeAt s w n → ⊥
+abbrev BarsNodes : {E : Type 0} → Search E → (Pending E → Type 0) → Type 0
+BarsNodes {E} s fact = (w : Pending E) (n : Node) → fact w → NodeAt s w n → ⊥
 
 -- a whole tree has no node of that number with such a fact
-not_in_tree : (s : Search) (budget c i : ℕ) (ns : List Node) (F : Pending → Type 0) → BarsNodes s F → TreeIs s budget ns c → NodeOf s budget i F → ⊥
+not_in_tree : {E : Type 0} (s : Search E) (budget c i : ℕ) (ns : List Node) (F : Pending E → Type 0) → BarsNodes s F → TreeIs s budget ns c → NodeOf s budget i F → ⊥
 not_in_tree s budget c i ns F bars t f =
     let on = word_of_tree s budget ns c f.before f.word t f.visited in
     bars f.word on.1.0 f.holds on.1.1
 
 -- nor does a spent budget reach past a node with such a fact
-not_before_spent : (s : Search) (budget c i : ℕ) (F : Pending → Type 0) → BarsNodes s F → IsSpent s budget c → NodeOf s budget i F → ⊥
+not_before_spent : {E : Type 0} (s : Search E) (budget c i : ℕ) (F : Pending E → Type 0) → BarsNodes s F → IsSpent s budget c → NodeOf s budget i F → ⊥
 not_before_spent s budget c i F bars spent f =
     let less : f.before < budget = (let h = f.within in let e = f.number_is in omega arith) in
     let on = node_at_word s f.before budget f.word spent.word less f.visited spent.visited in
     bars f.word on.0 f.holds on.1
 
-tree_is_not_spent : (s : Search) (budget c d : ℕ) (ns : List Node) → TreeIs s budget ns c → IsSpent s budget d → ⊥
+tree_is_not_spent : {E : Type 0} (s : Search E) (budget c d : ℕ) (ns : List Node) → TreeIs s budget ns c → IsSpent s budget d → ⊥
 tree_is_not_spent s budget c d ns t spent =
     let less = (word_of_tree s budget ns c budget spent.word t spent.visited).0 in
     absurd (omega arith)
 
 -- two such nodes are one, at one word
-record SamePlace (i j : ℕ) (F G : Pending → Type 0) : Type 0 where
+record SamePlace {E : Type 0} (i j : ℕ) (F G : Pending E → Type 0) : Type 0 where
   pub number : i ≡ j
-  pub word : Pending
+  pub word : Pending E
   pub one : F word
   pub other : G word
 
-place_once : (s : Search) (budget i j : ℕ) (F G : Pending → Type 0) → BarsNodes s F → BarsNodes s G → NodeOf s budget i F → NodeOf s budget j G → SamePlace i j F G
+place_once : {E : Type 0} (s : Search E) (budget i j : ℕ) (F G : Pending E → Type 0) → BarsNodes s F → BarsNodes s G → NodeOf s budget i F → NodeOf s budget j G → SamePlace i j F G
 place_once s budget i j F G bars bar f g =
     let number = f.number_is in
     elim (cases_order f.before g.before) [
@@ -52,16 +53,16 @@ place_once s budget i j F G bars bar f g =
     ]
 
 -- a whole node at this word
-abbrev IsWhole : Search → Pending → List ℤ → Pending → Type 0
+abbrev IsWhole : {E : Type 0} → Search E → Pending E → List ℤ → Pending E → Type 0
 IsWhole s word values w = (w ≡ word) × WholeAt s w values
 
-whole_bars : (s : Search) (word : Pending) (values : List ℤ) → BarsNodes s (IsWhole s word values)
+whole_bars : {E : Type 0} (s : Search E) (word : Pending E) (values : List ℤ) → BarsNodes s (IsWhole s word values)
 whole_bars s word values w n h g = whole_is_no_node s w values n h.1 g
 
-leaving_bars : (s : Search) (j : PlaceKind) → BarsNodes s (λ w. IsOutOfRangeAt s w j)
+leaving_bars : {E : Type 0} (s : Search E) (j : PlaceKind) → BarsNodes s (λ w. IsOutOfRangeAt s w j)
 leaving_bars s j w n h g = leaving_is_no_node s w j n h g
 
-pub endings_once : EndingsAreDetermined
+pub endings_once : {E : Type 0} → EndingsAreDetermined E
 endings_once s budget (Whole ns c) (Whole ms d) h g =
     let nodes = tree_once s budget ns ms c d h g in
     let counts : c ≡ d = h.counted ∙ ap length nodes ∙ sym g.counted in
@@ -96,27 +97,27 @@ endings_once s budget (Left i k) (Left j l) h g =
     cc
 
 -- the node of a number has a fact that follows
-pub node_with : (s : Search) (budget number : ℕ) (F G : Pending → Type 0) (n : NodeOf s budget number F) → G n.word → NodeOf s budget number G
+pub node_with : {E : Type 0} (s : Search E) (budget number : ℕ) (F G : Pending E → Type 0) (n : NodeOf s budget number F) → G n.word → NodeOf s budget number G
 node_with s budget number F G n holds = record { before = n.before; number_is = n.number_is; within = n.within; word = n.word; visited = n.visited; holds = holds }
 
 -- what a walk ended at, as an end of its search
-abbrev ending_of : (s : Search) (number budget : ℕ) (e : WalkEnd) → IsWalkEnd s number budget e → Ending
+abbrev ending_of : (s : Search Element) (number budget : ℕ) (e : WalkEnd) → IsWalkEnd s number budget e → Ending Element
 ending_of s number budget (Refuted ns c) h = Whole ns c
 ending_of s number budget (Found i x) h = Solved i h.word x.values
 ending_of s number budget (Spent c) h = Stopped c
 ending_of s number budget (Overflow i k) h = Left i k
 
-is_ending : (s : Search) (number budget : ℕ) (e : WalkEnd) (h : IsWalkEnd s number budget e) → IsVisitEnding s budget (ending_of s number budget e h)
+is_ending : (s : Search Element) (number budget : ℕ) (e : WalkEnd) (h : IsWalkEnd s number budget e) → IsVisitEnding s budget (ending_of s number budget e h)
 is_ending s number budget (Refuted ns c) h = h
 is_ending s number budget (Found i x) h = node_with s budget i (SolutionAt s number x) (IsWhole s h.word x.values) h (refl, h.holds.whole)
 is_ending s number budget (Spent c) h = h
 is_ending s number budget (Overflow i k) h = h
 
-solution_once : (s : Search) (number : ℕ) (x y : Solution) (w v : Pending) → w ≡ v → x.values ≡ y.values → SolutionAt s number x w → SolutionAt s number y v → x ≡ y
+solution_once : (s : Search Element) (number : ℕ) (x y : Solution) (w v : Pending Element) → w ≡ v → x.values ≡ y.values → SolutionAt s number x w → SolutionAt s number y v → x ≡ y
 solution_once s number x y w v same values h g =
     let patterns = h.pattern ∙ sym g.pattern in
-    let starts = h.start ∙ ap (λ (u : Pending). u.start) same ∙ sym g.start in
-    let words = reversed_same x.word y.word v.past (h.word ∙ ap (λ (u : Pending). u.past) same) g.word in
+    let starts = h.start ∙ ap (λ (u : Pending Element). u.start) same ∙ sym g.start in
+    let words = reversed_same x.word y.word v.past (h.word ∙ ap (λ (u : Pending Element). u.past) same) g.word in
     λ i. record { pattern = patterns i; start_mask = starts i; word = words i; values = values i }
 
 pub ends_once : WalksAreDetermined

@@ -7,14 +7,14 @@ pub judgeable : (s : System) (ts : List (ℕ × ℤ)) → variables s < 2 ^ 32 �
 judgeable s ts few refuted = multipliers-wider 0 (length s.rows) (2 ^ 32) ts (omega arith) refuted.multipliers.leaf.multipliers
 
 -- a leaf whose check stays in range
-pub leaf_at : (search : Search) (w : Pending) (s : System) (ts : List (ℕ × ℤ)) → SystemAt search w s → IsRefuted s ts → CheckStays s ts → LeafAt search w ts
+pub leaf_at : {E : Type 0} (search : Search E) (w : Pending E) (s : System) (ts : List (ℕ × ℤ)) → SystemAt search w s → IsRefuted s ts → CheckStays s ts → LeafAt search w ts
 leaf_at search w s ts is refuted stays = record {
   refuted = record { system = s; is = is; holds = refuted };
   in_range = leaf_stays search w s ts is stays;
 }
 
 -- and one whose check leaves it
-pub leaf_out_of_range : (search : Search) (w : Pending) (s : System) (ts : List (ℕ × ℤ)) → SystemAt search w s → IsRefuted s ts → (LeafOf s ts → CheckStays s ts → ⊥) → LeafOutOfRange search w
+pub leaf_out_of_range : {E : Type 0} (search : Search E) (w : Pending E) (s : System) (ts : List (ℕ × ℤ)) → SystemAt search w s → IsRefuted s ts → (LeafOf s ts → CheckStays s ts → ⊥) → LeafOutOfRange search w
 leaf_out_of_range search w s ts is refuted refused = record {
   multipliers = ts;
   refuted = record { system = s; is = is; holds = refuted };
@@ -22,5 +22,5 @@ leaf_out_of_range search w s ts is refuted refused = record {
 }
 
 -- a small system has few variables
-pub few_variables : (w : Pending) (s : System) → length w.bounds ≤ 1000000000 → IsSmall w.bounds s → variables s < 2 ^ 32
+pub few_variables : {E : Type 0} (w : Pending E) (s : System) → length w.bounds ≤ 1000000000 → IsSmall w.bounds s → variables s < 2 ^ 32
 few_variables w s few small = omega arith

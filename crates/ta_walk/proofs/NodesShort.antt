@@ -1,5 +1,6 @@
 -- the nodes of a walk are short
 use Rattle.ta_walk.proofs.Common.{ℕ, ◌+◌, ◌*◌, ◌<◌, ◌≤◌, ◌^◌, ℤ, List, [], ◌∷◌, ◌++◌, length, arith, length-append, codes, decimal, lit<, ints, AllByRecursion, row_short, number_short, Automaton, Pattern, LegalWord, Node, pair_text, pairs_text, split_text, IsMultiplierPair, ArePairs, IsSplit, IsNode, few_multipliers, NodeAt, Visits, HasFewPairs, IsShort, Pending, parts, few_unknowns, PatternOver, claim_legal, claim_unknowns, search_for, Claim}
+use Rattle.ta_words.specs.declared.element.Element.{Element}
 use Rattle.std.specs.Fmt.{signed_decimal}
 use Rattle.ta_cert.specs.declared.line.Node.TheVariants as node
 use Rattle.ta_walk.proofs.WordsVisited.{Waits, next_wait}
@@ -33,16 +34,15 @@ nodes_short [] are few = tt
 nodes_short (n ∷ ns) are few = (node_short n are.0 few.0, nodes_short ns are.1 few.1)
 
 -- a node that stands at a legal word of a claim has few pairs
-node_few : (claim : Claim) (a : Automaton) (p : Pattern) (pairs : List (ℕ × ℕ)) (w : Pending) (n : Node) → PatternOver a p → LegalWord a p w.start w.past → NodeAt (search_for claim a p pairs) w n → HasFewPairs n
+node_few : (claim : Claim) (a : Automaton) (p : Pattern) (pairs : List (ℕ × ℕ)) (w : Pending Element) (n : Node) → PatternOver a p → LegalWord a p w.start w.past → NodeAt (search_for claim a p pairs) w n → HasFewPairs n
 node_few claim a p pairs w (node.Leaf ts) over legal stands =
     let s = stands.refuted.system in
     let unknowns = stands.refuted.is.unknowns in
     omega (arith, few_multipliers s ts stands.refuted.holds, few_unknowns a p w.start w.past over legal, claim_unknowns claim a p pairs w.start w.past)
-node_few claim a p pairs w node.Extend over legal stands = tt
-node_few claim a p pairs w (node.Split unknown floor) over legal stands = tt
+node_few claim a p pairs w n over legal stands = tt
 
 -- each node that is visited has few pairs
-pub nodes_few : (claim : Claim) (a : Automaton) (p : Pattern) (pairs : List (ℕ × ℕ)) → PatternOver a p → (most : ℕ) (ws : List Pending) (ns : List Node) (rest : List Pending) → AllByRecursion (Waits (search_for claim a p pairs) most) ws → Visits (search_for claim a p pairs) ws ns rest → AllByRecursion HasFewPairs ns
+pub nodes_few : (claim : Claim) (a : Automaton) (p : Pattern) (pairs : List (ℕ × ℕ)) → PatternOver a p → (most : ℕ) (ws : List (Pending Element)) (ns : List Node) (rest : List (Pending Element)) → AllByRecursion (Waits (search_for claim a p pairs) most) ws → Visits (search_for claim a p pairs) ws ns rest → AllByRecursion HasFewPairs ns
 nodes_few claim a p pairs over most ws [] rest all v = tt
 nodes_few claim a p pairs over most [] (n ∷ ns) rest all v = absurd v
 nodes_few claim a p pairs over most (w ∷ ws) (n ∷ ns) rest all v =

@@ -18,7 +18,7 @@ are_pairs low count (t ∷ ts) few all fits =
     )
 
 -- a node that stands at a word of few variables can be written
-pub node_written : (search : Search) (w : Pending) (n : Node) → ((s : System) → SystemAt search w s → variables s < 2 ^ 32) → NodeAt search w n → IsNode n
+pub node_written : {E : Type 0} (search : Search E) (w : Pending E) (n : Node) → ((s : System) → SystemAt search w s → variables s < 2 ^ 32) → NodeAt search w n → IsNode n
 node_written search w (node.Leaf ts) few at =
     let s = at.refuted.system in
     let is = at.refuted.holds in

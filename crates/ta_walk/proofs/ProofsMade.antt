@@ -10,6 +10,7 @@
 -- Words have at most as many bounds as nodes have been visited, so a budget below 2 ^ 32 keeps each number of a node in
 -- its range and each line short; and the walk ends, since each node takes one from the budget.
 use Rattle.ta_walk.proofs.Common.{ℕ, ◌+◌, ◌≤◌, List, [], ◌∷◌, ◌++◌, length, arith, sym, AllByRecursion, Node, IsNode, leaf_of, NodeAt, Visits, IsProof, RefutedClaimsHold, Automaton, TreeIs, Pattern, Pending, Search, parts, IsJudged, claim_legal, claim_small, search_for, Claim, pattern_within, PatternOver}
+use Rattle.ta_words.specs.declared.element.Element.{Element}
 use Rattle.ta_cert.specs.declared.line.Node.TheVariants as node
 use Rattle.ta_encode.proofs.Preorders.{in_order, weaker_proof}
 use Rattle.ta_claim.proofs.ClaimsShown.{proofs_show}
@@ -21,19 +22,19 @@ use Rattle.ta_encode.specs.Refutes.{IsLeaf}
 use Rattle.ta_encode.specs.InPreorder.{MayStand, RefutedInOrder}
 use Rattle.ta_walk.proofs.Nodes.{few_variables}
 
-may_stand : (s : Search) (w : Pending) (n : Node) → NodeAt s w n → MayStand s (IsJudged s) w n
+may_stand : {E : Type 0} (s : Search E) (w : Pending E) (n : Node) → NodeAt s w n → MayStand s (IsJudged s) w n
 may_stand s w (node.Leaf ts) h = record { leaf = leaf_of s w h.refuted.system ts h.refuted.is h.refuted.holds.multipliers.leaf; in_range = h.in_range }
-may_stand s w node.Extend h = h.going_on
 may_stand s w (node.Split unknown floor) h = split_within s w unknown floor h
+may_stand s w n h = h.may
 
 -- the nodes of a whole tree refute the words with which it begins, and no leaf check leaves the range
-pub refuted_in_order : (s : Search) (ws : List Pending) (ns : List Node) → Visits s ws ns [] → RefutedInOrder s (IsJudged s) ws ns
+pub refuted_in_order : {E : Type 0} (s : Search E) (ws : List (Pending E)) (ns : List Node) → Visits s ws ns [] → RefutedInOrder s (IsJudged s) ws ns
 refuted_in_order s ws [] v = sym v
 refuted_in_order s [] (n ∷ ns) v = absurd v
 refuted_in_order s (w ∷ ws) (n ∷ ns) v = (may_stand s w n v.0, refuted_in_order s (parts s w n ++ ws) ns v.1)
 
 -- each node that is visited within the budget can be written
-nodes_written : (claim : Claim) (a : Automaton) (p : Pattern) (pairs : List (ℕ × ℕ)) → PatternOver a p → (most : ℕ) (ws : List Pending) (ns : List Node) (rest : List Pending) → most + length ns ≤ 1000000000 → AllByRecursion (Waits (search_for claim a p pairs) most) ws → Visits (search_for claim a p pairs) ws ns rest → AllByRecursion IsNode ns
+nodes_written : (claim : Claim) (a : Automaton) (p : Pattern) (pairs : List (ℕ × ℕ)) → PatternOver a p → (most : ℕ) (ws : List (Pending Element)) (ns : List Node) (rest : List (Pending Element)) → most + length ns ≤ 1000000000 → AllByRecursion (Waits (search_for claim a p pairs) most) ws → Visits (search_for claim a p pairs) ws ns rest → AllByRecursion IsNode ns
 nodes_written claim a p pairs over most ws [] rest budget all v = tt
 nodes_written claim a p pairs over most [] (n ∷ ns) rest budget all v = absurd v
 nodes_written claim a p pairs over most (w ∷ ws) (n ∷ ns) rest budget all v =

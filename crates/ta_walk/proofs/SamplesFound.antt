@@ -1,5 +1,6 @@
 -- what the ends of the search for a sample say
 use Rattle.ta_walk.proofs.Common.{◌≡◌, ℕ, zero, suc, ◌+◌, ◌*◌, ◌^◌, ◌<◌, ◌≤◌, ℤ, pos, negsuc, ◌*ℤ◌, ◌<ℤ◌, List, [], ◌∷◌, map, take, length, length-append, refl, sym, ap, ◌∙◌, subst, arith, slice_get, IsSomeAnd, unsigned_abs, ints, length-map, take-map, AllByRecursion, InRange, System, Automaton, SystemAt, HasStart, sample_meanings, sample_rows, sample_search, sampled, Pending, SolvesAt, bounded_rows, Bound, bound_row, condition_rows, opposite, processes_row, rows_count, none_starts, sample_few, samples_start, condition_few, IsJudged, Fraction, SampleEnd, Ending, IsVisitEnding, IsSampleEnd, SampleAt, SampleEndsAreDetermined, SampleFound, SampleRefuted, SamplesAreReal, AreNumbers, IsWholeNumber, WholeAt, each_take}
+use Rattle.ta_words.specs.declared.element.Element.{Element}
 use Rattle.ta_encode.proofs.Moments.{AllHold-append, AllHold-left}
 use Rattle.ta_walk.specs.declared.end.SampleEnd.TheVariants.{Sample, Empty, Spent, Overflow}
 use Rattle.ta_walk.specs.Ends.Ending.{Whole, Solved, Stopped, Left}
@@ -23,7 +24,7 @@ sample_small a bounds system is =
     omega (arith, rows_count (bounded_rows (sample_search a) (sampled bounds)) system.rows is.rows, length-append (sample_rows a) (map bound_row bounds), length-map bounds bound_row, sample_rows_few a)
 
 -- a solution with bounds is one without
-without_bounds : (a : Automaton) (w : Pending) (vs : List ℕ) → SolvesAt (sample_search a) w vs → SolvesAt (sample_search a) (sampled []) vs
+without_bounds : (a : Automaton) (w : Pending Element) (vs : List ℕ) → SolvesAt (sample_search a) w vs → SolvesAt (sample_search a) (sampled []) vs
 without_bounds a w vs s = record { count = s.count; rows_hold = AllHold-append vs (sample_rows a) [] (AllHold-left vs (sample_rows a) (map bound_row w.bounds) s.rows_hold) tt }
 
 pub found_starts : (a : Automaton) (budget : ℕ) (parameters : List ℤ) → SampleFound a budget parameters → (values : List ℕ) × (parameters ≡ map pos values) × HasStart a values
@@ -73,7 +74,7 @@ pub samples_real : SamplesAreReal
 samples_real = record { found = found_starts; none = refuted_starts }
 
 -- the end of the search
-abbrev ending_of : (a : Automaton) (budget : ℕ) (e : SampleEnd) → IsSampleEnd a budget e → Ending
+abbrev ending_of : (a : Automaton) (budget : ℕ) (e : SampleEnd) → IsSampleEnd a budget e → Ending Element
 ending_of a budget (Sample parameters) h = Solved h.number h.node.word h.node.holds.values
 ending_of a budget Empty h = Whole h.nodes h.count
 ending_of a budget (Spent count) h = Stopped count

@@ -1,6 +1,8 @@
 -- A search whose words have systems ends.
-use Rattle.ta_walk.proofs.Common.{◌≡◌, ◌⊎◌, inl, inr, ℕ, zero, suc, ◌+◌, ◌<◌, ℤ, pos, negsuc, Bool, true, false, List, [], ◌∷◌, ◌++◌, length, length-append, map, slice_get, arith, refl, sym, subst, ◌∙◌, IsSomeAnd, int_div_euclid, int_rem_euclid, true≢false, ints, AllByRecursion, each_append, floor_high, floor_low, System, In, Node, Element, Bound, Low, High, SystemAt, Pending, Search, Comes, bound_at, bounded, longer, parts, comes_first, Fraction, end_exists, HasSystems, HasEnding, SearchesHaveEnds, Whole, Solved, Stopped, Left, IsUnbounded, IsVisited, AreNumbers, IsAbove, IsWhole, NodeAt, SplitsAt, Visits}
+use Rattle.ta_walk.proofs.Common.{◌≡◌, ◌⊎◌, inl, inr, ℕ, zero, suc, ◌+◌, ◌<◌, ℤ, pos, negsuc, Bool, true, false, List, [], ◌∷◌, ◌++◌, length, length-append, map, slice_get, arith, refl, sym, subst, ◌∙◌, IsSomeAnd, int_div_euclid, int_rem_euclid, true≢false, ints, AllByRecursion, each_append, floor_high, floor_low, System, In, Node, Element, Bound, Low, High, SystemAt, Pending, Search, Comes, bound_at, bounded, longer, parts, comes_first, Fraction, end_exists, HasSystems, HasEnding, SearchesHaveEnds, Whole, Solved, Stopped, Left, IsUnbounded, IsVisited, AreNumbers, IsAbove, IsWhole, NodeAt, SplitsAt, Visits, Answers, answered, asked, OpenVertex, IsSettled, parts_of, Option, Some, None, false≢true}
+use Rattle.std.specs.Option.{is_some}
 use Rattle.ta_cert.specs.declared.line.Node.TheVariants as node
+use Rattle.ta_cursor.proofs.FramesParts.{bounds_more}
 use Rattle.ta_encode.specs.declared.meaning.Side.{Side}
 use Rattle.ta_encode.specs.Lines.{BoundWithin, BoundsWithin}
 use Rattle.ta_simplex.specs.Answers.{HasEnd, RunOverflows}
@@ -48,55 +50,55 @@ numbers_or_split (f ∷ fs) = elim (whole_or_above f) [
 
 -- ---- what is known of each word that is left
 
--- the search comes to the word, its bounds are of its unknowns, and only a complete word has bounds
-record Lives (s : Search) (w : Pending) : Type 0 where
+-- the search comes to the word, and its bounds are of its unknowns
+record Lives {E : Type 0} (s : Search E) (w : Pending E) : Type 0 where
   comes : Comes s w.start w.past
   bounds : BoundsWithin (s.unknowns w.start w.past) w.bounds
-  open_ : IsUnbounded w ⊎ (s.complete w.start w.past ≡ true)
 
-unbounded_within : (n : ℕ) (w : Pending) → IsUnbounded w → BoundsWithin n w.bounds
+unbounded_within : {E : Type 0} (n : ℕ) (w : Pending E) → IsUnbounded w → BoundsWithin n w.bounds
 unbounded_within n w none = subst (BoundsWithin n) (sym none) tt
 
-root_lives : (s : Search) (w : Pending) → In w s.roots → IsUnbounded w → Lives s w
+root_lives : {E : Type 0} (s : Search E) (w : Pending E) → In w s.roots → IsUnbounded w → Lives s w
 root_lives s w is none = record {
   comes = comes_first s w.start w.past (w, is, refl, refl);
   bounds = unbounded_within (s.unknowns w.start w.past) w none;
-  open_ = inl none;
 }
 
-roots_live : (s : Search) (ws : List Pending) → ((w : Pending) → In w ws → In w s.roots) → AllByRecursion IsUnbounded ws → AllByRecursion (Lives s) ws
+roots_live : {E : Type 0} (s : Search E) (ws : List (Pending E)) → ((w : Pending E) → In w ws → In w s.roots) → AllByRecursion IsUnbounded ws → AllByRecursion (Lives s) ws
 roots_live s [] inside all = tt
 roots_live s (w ∷ ws) inside all = (root_lives s w (inside w (inl (let same : w ≡ w = refl in same))) all.0, roots_live s ws (λ v is. inside v (inr is)) all.1)
 
-longer_lives : (s : Search) (w : Pending) → Comes s w.start w.past → IsUnbounded w → (es : List Element) → ((e : Element) → In e es → In e (s.following w.start w.past)) → AllByRecursion (Lives s) (map (longer w) es)
-longer_lives s w comes none [] inside = tt
-longer_lives s w comes none (e ∷ es) inside = (
-  record {
-    comes = inr (inside e (inl (let same : e ≡ e = refl in same)), comes);
-    bounds = unbounded_within (s.unknowns w.start (e ∷ w.past)) (longer w e) none;
-    open_ = inl none;
-  },
-  longer_lives s w comes none es (λ f is. inside f (inr is)),
-)
+longer_lives : {E : Type 0} (s : Search E) (w : Pending E) → HasSystems s → Lives s w → (es : List E) → ((e : E) → In e es → Answers s w.start w.past e) → AllByRecursion (Lives s) (map (longer w) es)
+longer_lives s w has lives [] inside = tt
+longer_lives s w has lives (e ∷ es) inside =
+    let first = inside e (inl (let same : e ≡ e = refl in same)) in (
+      record {
+        comes = inr (first, lives.comes);
+        bounds = bounds_more (s.unknowns w.start w.past) (s.unknowns w.start (e ∷ w.past)) w.bounds (has.grow w.start w.past e first) lives.bounds;
+      },
+      longer_lives s w has lives es (λ f is. inside f (inr is)),
+    )
 
-is_unbounded : (s : Search) (w : Pending) → Lives s w → s.complete w.start w.past ≡ false → IsUnbounded w
-is_unbounded s w lives going = elim lives.open_ [ inl none ↦ none | inr complete ↦ absurd (true≢false (sym complete ∙ going)) ]
-
-bounded_lives : (s : Search) (w : Pending) (b : Bound) → Lives s w → BoundWithin (s.unknowns w.start w.past) b → s.complete w.start w.past ≡ true → Lives s (bounded w b)
-bounded_lives s w b lives within complete = record {
+bounded_lives : {E : Type 0} (s : Search E) (w : Pending E) (b : Bound) → Lives s w → BoundWithin (s.unknowns w.start w.past) b → Lives s (bounded w b)
+bounded_lives s w b lives within = record {
   comes = lives.comes;
   bounds = each_append (BoundWithin (s.unknowns w.start w.past)) w.bounds (b ∷ []) lives.bounds (within, tt);
-  open_ = inr complete;
 }
 
-parts_live : (s : Search) (w : Pending) (n : Node) → Lives s w → NodeAt s w n → AllByRecursion (Lives s) (parts s w n)
-parts_live s w (node.Leaf ts) lives stands = tt
-parts_live s w node.Extend lives stands = longer_lives s w lives.comes (is_unbounded s w lives stands.going_on) (s.following w.start w.past) (λ e is. is)
-parts_live s w (node.Split unknown floor) lives stands =
+parts_live : {E : Type 0} (s : Search E) (w : Pending E) (n : Node) → HasSystems s → Lives s w → NodeAt s w n → AllByRecursion (Lives s) (parts s w n)
+parts_live s w (node.Leaf ts) has lives stands = tt
+parts_live s w (node.Split unknown floor) has lives stands =
     let below = split_within s w unknown floor stands in
     let fits = split_floor s w unknown floor stands in
     let within : (side : Side) → BoundWithin (s.unknowns w.start w.past) (bound_at unknown floor side) = λ side. record { exists = below; least = fits.low; most = fits.high } in
-    (bounded_lives s w (bound_at unknown floor Low) lives (within Low) stands.complete, (bounded_lives s w (bound_at unknown floor High) lives (within High) stands.complete, tt))
+    (bounded_lives s w (bound_at unknown floor Low) lives (within Low), (bounded_lives s w (bound_at unknown floor High) lives (within High), tt))
+parts_live s w n has lives stands = longer_lives s w has lives (answered s w.start w.past n) (λ e is. (n, is))
+
+-- a node that asks at a vertex stands there
+open_stands : {E : Type 0} (s : Search E) (w : Pending E) (n : Node) → OpenVertex s w n → NodeAt s w n
+open_stands s w (node.Leaf ts) h = absurd (false≢true h.may)
+open_stands s w (node.Split unknown floor) h = absurd (false≢true h.may)
+open_stands s w n h = h
 
 -- ---- each word has a node, or ends the search
 
@@ -104,12 +106,17 @@ parts_live s w (node.Split unknown floor) lives stands =
 system_ends : (s : System) → ¬ HasEnd s → ¬ RunOverflows s → ⊥
 system_ends s no_end no_overflow = run_ends s (λ r. no_end (end_exists s r.0 r.1 r.2 r.3)) no_overflow
 
-module _ (s : Search) (has : HasSystems s) (budget : ℕ) (none : ¬ HasEnding s budget) where
+some_same : (m n : Node) → Some m ≡ Some n → m ≡ n
+some_same m n e = cc
+
+none_some : (n : Node) → None ≡ Some n → ⊥
+none_some n e = absurd (cc)
+
+module _ {E : Type 0} (s : Search E) (has : HasSystems s) (budget : ℕ) (none : ¬ HasEnding s budget) where
   -- at a word before which so many nodes were visited, within the budget
-  module _ (w : Pending) (lives : Lives s w) (done : ℕ) (within : done < budget) (visited : IsVisited s done w) (next : (n : Node) → NodeAt s w n → ⊥) where
-    at_vertex : (system : System) → SystemAt s w system → (values : List Fraction) → IsSystemEnd system (end.Vertex values) → (b : Bool) → s.complete w.start w.past ≡ b → ⊥
-    at_vertex system is values vertex false going = next node.Extend (record { values = values; vertex = record { system = system; is = is; holds = vertex }; going_on = going })
-    at_vertex system is values vertex true complete = elim (numbers_or_split values) [
+  module _ (w : Pending E) (lives : Lives s w) (done : ℕ) (within : done < budget) (visited : IsVisited s done w) (next : (n : Node) → NodeAt s w n → ⊥) where
+    at_settled : (system : System) → SystemAt s w system → (values : List Fraction) → IsSystemEnd system (end.Vertex values) → IsSettled s w values → ⊥
+    at_settled system is values vertex settled = elim (numbers_or_split values) [
       | inl numbers ↦ none (
         Solved (done + 1) w numbers.0,
         record {
@@ -118,11 +125,22 @@ module _ (s : Search) (has : HasSystems s) (budget : ℕ) (none : ¬ HasEnding s
           within = omega arith;
           word = w;
           visited = visited;
-          holds = (refl, record { values = values; vertex = record { system = system; is = is; holds = vertex }; complete = complete; whole = numbers.1 });
+          holds = (refl, record { values = values; vertex = record { system = system; is = is; holds = vertex }; settled = settled; whole = numbers.1 });
         },
       )
-      | inr split ↦ next (node.Split split.0 split.1) (record { values = values; vertex = record { system = system; is = is; holds = vertex }; complete = complete; splits = split.2 })
+      | inr split ↦ next (node.Split split.0 split.1) (record { values = values; vertex = record { system = system; is = is; holds = vertex }; settled = settled; splits = split.2 })
     ]
+
+    at_question : (system : System) → SystemAt s w system → (values : List Fraction) → IsSystemEnd system (end.Vertex values) → (n : Node) → s.question w.start w.past (parts_of values) ≡ Some n → (b : Bool) → is_some (asked s w.start w.past n) ≡ b → ⊥
+    at_question system is values vertex n asks true may =
+        next n (open_stands s w n (record { values = values; vertex = record { system = system; is = is; holds = vertex }; question = asks; may = may }))
+    at_question system is values vertex n asks false none = at_settled system is values vertex (λ m question may.
+        let same : m ≡ n = some_same m n (sym question ∙ asks) in
+        false≢true (sym none ∙ subst (λ (k : Node). is_some (asked s w.start w.past k) ≡ true) same may))
+
+    at_vertex : (system : System) → SystemAt s w system → (values : List Fraction) → IsSystemEnd system (end.Vertex values) → (q : Option Node) → s.question w.start w.past (parts_of values) ≡ q → ⊥
+    at_vertex system is values vertex None none = at_settled system is values vertex (λ m question may. none_some m (sym none ∙ question))
+    at_vertex system is values vertex (Some n) asks = at_question system is values vertex n asks (is_some (asked s w.start w.past n)) refl
 
     at_leaf : (system : System) → SystemAt s w system → (ts : List (ℕ × ℤ)) → IsSystemEnd system (end.Refuted ts) → ⊥
     at_leaf system is ts refuted = none (
@@ -143,7 +161,7 @@ module _ (s : Search) (has : HasSystems s) (budget : ℕ) (none : ¬ HasEnding s
 
     at_end : (system : System) → SystemAt s w system → (e : End) → IsSystemEnd system e → ⊥
     at_end system is (end.Refuted ts) h = at_leaf system is ts h
-    at_end system is (end.Vertex values) h = at_vertex system is values h (s.complete w.start w.past) refl
+    at_end system is (end.Vertex values) h = at_vertex system is values h (s.question w.start w.past (parts_of values)) refl
 
     at_overflow : (system : System) → SystemAt s w system → RunOverflows system → ⊥
     at_overflow system is over = none (
@@ -163,15 +181,15 @@ module _ (s : Search) (has : HasSystems s) (budget : ℕ) (none : ¬ HasEnding s
         let system = has.systems w lives.comes lives.bounds in
         system_ends system.0 (λ e. at_end system.0 system.1 e.0 e.1) (at_overflow system.0 system.1)
 
-  go : (left done : ℕ) (ns : List Node) (ws : List Pending) → Visits s s.roots ns ws → length ns ≡ done → done + left ≡ budget → AllByRecursion (Lives s) ws → ⊥
+  go : (left done : ℕ) (ns : List Node) (ws : List (Pending E)) → Visits s s.roots ns ws → length ns ≡ done → done + left ≡ budget → AllByRecursion (Lives s) ws → ⊥
   go left done ns [] visits counted all lives = none (Whole ns (length ns), record { visits = visits; counted = refl; within = omega arith })
   go zero done ns (w ∷ ws) visits counted all lives = none (Stopped budget, record { counted = refl; word = w; visited = record { nodes = ns; words = ws; visits = visits; counted = omega arith } })
   go (suc left) done ns (w ∷ ws) visits counted all lives =
       at_word w lives.0 done (omega arith) (record { nodes = ns; words = ws; visits = visits; counted = counted })
-      (λ n stands. go left (done + 1) (ns ++ n ∷ []) (parts s w n ++ ws) (visits_more s s.roots ns w ws n visits stands) (omega (arith, length-append ns (n ∷ []))) (omega arith) (each_append (Lives s) (parts s w n) ws (parts_live s w n lives.0 stands) lives.1))
+      (λ n stands. go left (done + 1) (ns ++ n ∷ []) (parts s w n ++ ws) (visits_more s s.roots ns w ws n visits stands) (omega (arith, length-append ns (n ∷ []))) (omega arith) (each_append (Lives s) (parts s w n) ws (parts_live s w n has lives.0 stands) lives.1))
 
   ends : ⊥
   ends = go budget 0 [] s.roots refl refl (omega arith) (roots_live s s.roots (λ w is. is) has.unbounded)
 
-pub searches_end : SearchesHaveEnds
+pub searches_end : {E : Type 0} → SearchesHaveEnds E
 searches_end s has budget none = ends s has budget none

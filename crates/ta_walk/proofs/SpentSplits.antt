@@ -1,5 +1,7 @@
 -- a budget that is large enough for the words is spent only where a node was split
-use Rattle.ta_walk.proofs.Common.{◌≡◌, inl, inr, ℕ, zero, suc, ◌+◌, ◌<◌, ◌≤◌, ◌^◌, Bool, List, [], ◌∷◌, ◌++◌, length, map, slice_get, Some, arith, refl, sym, ap, ◌∙◌, subst, length-map, AllByRecursion, each_from_in, each_in, no_more, In-left, In-map, In-right, in_map, In-numbers, in_numbers, Automaton, File, Pattern, Distinct, In, range_with_len, Node, Element, LegalUnder, children, all_starts, empty_word, pattern_search, Comes, Pending, Search, parts, LinearRow, comes_legal, IsSpent, IsVisited, HasAtMost, HasSplit, SpentNeedsSplits, WasSplit, Visits, pattern_within}
+use Rattle.ta_walk.proofs.Common.{◌≡◌, inl, inr, ℕ, zero, suc, ◌+◌, ◌<◌, ◌≤◌, ◌^◌, Bool, List, [], ◌∷◌, ◌++◌, length, map, slice_get, Some, arith, refl, sym, ap, ◌∙◌, subst, length-map, AllByRecursion, each_from_in, each_in, no_more, In-left, In-map, In-right, in_map, In-numbers, in_numbers, Automaton, File, Pattern, Distinct, In, range_with_len, Node, Element, LegalUnder, children, all_starts, empty_word, pattern_search, Comes, Pending, Search, parts, LinearRow, comes_legal, IsSpent, IsVisited, HasAtMost, HasSplit, SpentNeedsSplits, WasSplit, Visits, pattern_within, ℤ, Option}
+use Rattle.ta_words.specs.Words.{is_complete}
+use Rattle.ta_encode.proofs.Asking.{answers_moved, distinct_answers}
 use Rattle.ta_words.proofs.Counts.{legal_length, legal_under}
 use Rattle.ta_walk.proofs.ChildrenOnce.{children_once}
 use Rattle.ta_walk.proofs.DeterminedVisits.{word_once}
@@ -7,7 +9,7 @@ use Rattle.ta_walk.proofs.SubtreesApart.{AllApart, Branches, IsPlain, UnderSome,
 use Rattle.ta_walk.proofs.WordsVisited.{Waits, next_wait, roots_wait, starts_unbounded}
 
 -- each mark is one that goes on from a word with which the visit begins
-marks_under : (s : Search) (ws : List Pending) (ns : List Node) (rest : List Pending) → AllByRecursion IsPlain ns → Visits s ws ns rest → (t : ℕ × List Element) → In t (marks s ws ns) → UnderSome ws t.0 t.1
+marks_under : (s : Search Element) (ws : List (Pending Element)) (ns : List Node) (rest : List (Pending Element)) → AllByRecursion IsPlain ns → Visits s ws ns rest → (t : ℕ × List Element) → In t (marks s ws ns) → UnderSome ws t.0 t.1
 marks_under s ws [] rest plain v t h =
     let at = in_map mark t ws h in
     record { word = at.0; one = at.1; under = under_here at.0 t.0 t.1 (ap (λ (m : ℕ × List Element). m.0) (sym at.2)) (ap (λ (m : ℕ × List Element). m.1) (sym at.2)) }
@@ -16,7 +18,7 @@ marks_under s (w ∷ ws) (n ∷ ns) rest plain v t (inl e) =
     record { word = w; one = inl refl; under = under_here w t.0 t.1 (ap (λ (m : ℕ × List Element). m.0) (sym e)) (ap (λ (m : ℕ × List Element). m.1) (sym e)) }
 marks_under s (w ∷ ws) (n ∷ ns) rest plain v t (inr h) = under_before s w ws n t.0 t.1 plain.0 (marks_under s (parts s w n ++ ws) ns rest plain.1 v.1 t h)
 
-words_once : (ws : List Pending) → AllApart ws → Distinct (map mark ws)
+words_once : (ws : List (Pending Element)) → AllApart ws → Distinct (map mark ws)
 words_once [] all = tt
 words_once (w ∷ ws) all = (
   each_from_in (λ t. mark w ≡ t → ⊥) (map mark ws) (λ t h same.
@@ -27,7 +29,7 @@ words_once (w ∷ ws) all = (
   words_once ws all.1,
 )
 
-marks_once : (s : Search) (ws : List Pending) (ns : List Node) (rest : List Pending) → Branches s → AllApart ws → AllByRecursion IsPlain ns → Visits s ws ns rest → Distinct (marks s ws ns)
+marks_once : (s : Search Element) (ws : List (Pending Element)) (ns : List Node) (rest : List (Pending Element)) → Branches s → AllApart ws → AllByRecursion IsPlain ns → Visits s ws ns rest → Distinct (marks s ws ns)
 marks_once s ws [] rest branches all plain v = words_once ws all
 marks_once s [] (n ∷ ns) rest branches all plain v = absurd v
 marks_once s (w ∷ ws) (n ∷ ns) rest branches all plain v = (
@@ -37,12 +39,12 @@ marks_once s (w ∷ ws) (n ∷ ns) rest branches all plain v = (
   marks_once s (parts s w n ++ ws) ns rest branches (parts_apart s w ws n branches plain.0 all) plain.1 v.1,
 )
 
-marks_count : (s : Search) (ws : List Pending) (ns : List Node) (rest : List Pending) → Visits s ws ns rest → length (marks s ws ns) ≡ length ns + length rest
+marks_count : (s : Search Element) (ws : List (Pending Element)) (ns : List Node) (rest : List (Pending Element)) → Visits s ws ns rest → length (marks s ws ns) ≡ length ns + length rest
 marks_count s ws [] rest v = omega (arith, length-map ws mark, ap length v)
 marks_count s [] (n ∷ ns) rest v = absurd v
 marks_count s (w ∷ ws) (n ∷ ns) rest v = omega (arith, marks_count s (parts s w n ++ ws) ns rest v.1)
 
-marks_come : (s : Search) (most : ℕ) (ws : List Pending) (ns : List Node) → AllByRecursion (Waits s most) ws → (t : ℕ × List Element) → In t (marks s ws ns) → Comes s t.0 t.1
+marks_come : (s : Search Element) (most : ℕ) (ws : List (Pending Element)) (ns : List Node) → AllByRecursion (Waits s most) ws → (t : ℕ × List Element) → In t (marks s ws ns) → Comes s t.0 t.1
 marks_come s most ws [] all t h =
     let at = in_map mark t ws h in
     subst (λ (m : ℕ × List Element). Comes s m.0 m.1) (sym at.2) (each_in (Waits s most) ws at.0 all at.1).comes
@@ -56,7 +58,7 @@ starts_from k (suc n) = (
   λ v h start past u t.
       let at = in_map empty_word v (range_with_len (k + 1) n) h in
       let above = in_numbers at.0 (k + 1) n at.1 in
-      let is : v.start ≡ at.0 = ap (λ (w : Pending). w.start) at.2 in
+      let is : v.start ≡ at.0 = ap (λ (w : Pending Element). w.start) at.2 in
       let low = above.0 in
       absurd (omega (arith, under_start (empty_word k) start past u, under_start v start past t)),
   starts_from (k + 1) n,
@@ -66,20 +68,27 @@ starts_apart : (a : Automaton) → AllApart (all_starts a)
 starts_apart a = starts_from 0 (2 ^ length a.fall)
 
 branches_of : (a : Automaton) (p : Pattern) (pairs : List (ℕ × ℕ)) → Branches (pattern_search a p pairs)
-branches_of a p pairs start past = children_once a p pairs start past
+branches_of a p pairs start past n = distinct_answers (pattern_search a p pairs) start past (is_complete p past) (children a p pairs start past) (λ m. refl) (children_once a p pairs start past) n
 
 -- a search of a pattern's words, whatever else is asked of them
-abbrev pub words_with : Automaton → Pattern → List (ℕ × ℕ) → (ℕ → List Element → Bool) → (ℕ → List Element → ℕ) → (ℕ → List Element → List LinearRow) → Search
-words_with a p pairs complete unknowns rows = record { roots = all_starts a; following = children a p pairs; complete = complete; unknowns = unknowns; rows = rows }
+abbrev pub words_with : Automaton → Pattern → List (ℕ × ℕ) → (ℕ → List Element → List (ℤ × ℤ) → Option Node) → (ℕ → List Element → ℕ) → (ℕ → List Element → List LinearRow) → Search Element
+words_with a p pairs question unknowns rows = record {
+  roots = all_starts a;
+  answers = (pattern_search a p pairs).answers;
+  question = question;
+  unknowns = unknowns;
+  rows = rows;
+}
 
-same_words : (a : Automaton) (p : Pattern) (pairs : List (ℕ × ℕ)) (complete : ℕ → List Element → Bool) (unknowns : ℕ → List Element → ℕ) (rows : ℕ → List Element → List LinearRow) (start : ℕ) (past : List Element) → Comes (words_with a p pairs complete unknowns rows) start past → Comes (pattern_search a p pairs) start past
-same_words a p pairs complete unknowns rows start [] c = c
-same_words a p pairs complete unknowns rows start (e ∷ past) (inl b) = inl b
-same_words a p pairs complete unknowns rows start (e ∷ past) (inr c) = inr (c.0, same_words a p pairs complete unknowns rows start past c.1)
+same_words : (a : Automaton) (p : Pattern) (pairs : List (ℕ × ℕ)) (question : ℕ → List Element → List (ℤ × ℤ) → Option Node) (unknowns : ℕ → List Element → ℕ) (rows : ℕ → List Element → List LinearRow) (start : ℕ) (past : List Element) → Comes (words_with a p pairs question unknowns rows) start past → Comes (pattern_search a p pairs) start past
+same_words a p pairs question unknowns rows start [] c = c
+same_words a p pairs question unknowns rows start (e ∷ past) (inl b) = inl b
+same_words a p pairs question unknowns rows start (e ∷ past) (inr c) =
+    inr (answers_moved (words_with a p pairs question unknowns rows) (pattern_search a p pairs) start past e (λ n. refl) c.0, same_words a p pairs question unknowns rows start past c.1)
 
-pub split_of_words : (a : Automaton) (p : Pattern) (pairs : List (ℕ × ℕ)) (complete : ℕ → List Element → Bool) (unknowns : ℕ → List Element → ℕ) (rows : ℕ → List Element → List LinearRow) (budget count : ℕ) → HasAtMost a p pairs budget → IsSpent (words_with a p pairs complete unknowns rows) budget count → WasSplit (words_with a p pairs complete unknowns rows) budget
-split_of_words a p pairs complete unknowns rows budget count most spent =
-    let s = words_with a p pairs complete unknowns rows in
+pub split_of_words : (a : Automaton) (p : Pattern) (pairs : List (ℕ × ℕ)) (question : ℕ → List Element → List (ℤ × ℤ) → Option Node) (unknowns : ℕ → List Element → ℕ) (rows : ℕ → List Element → List LinearRow) (budget count : ℕ) → HasAtMost a p pairs budget → IsSpent (words_with a p pairs question unknowns rows) budget count → WasSplit (words_with a p pairs question unknowns rows) budget
+split_of_words a p pairs question unknowns rows budget count most spent =
+    let s = words_with a p pairs question unknowns rows in
     let v = spent.visited in
     let left = spent.word ∷ v.words in
     let counted = v.counted in
@@ -87,9 +96,9 @@ split_of_words a p pairs complete unknowns rows budget count most spent =
     elim (split_or_plain v.nodes) [
       | inl split ↦ record { nodes = v.nodes; left = left; visits = v.visits; counted = counted; split = split }
       | inr plain ↦ absurd (
-          let once = marks_once s s.roots v.nodes left (λ start past. children_once a p pairs start past) (starts_apart a) plain v.visits in
+          let once = marks_once s s.roots v.nodes left (λ start past. distinct_answers s start past (is_complete p past) (children a p pairs start past) (λ m. refl) (children_once a p pairs start past)) (starts_apart a) plain v.visits in
           let few = no_more (marks s s.roots v.nodes) most.words once (λ t h.
-          let legal = comes_legal a p pairs t.0 t.1 (same_words a p pairs complete unknowns rows t.0 t.1 (marks_come s 0 s.roots v.nodes (roots_wait s (starts_unbounded a)) t h)) in
+          let legal = comes_legal a p pairs t.0 t.1 (same_words a p pairs question unknowns rows t.0 t.1 (marks_come s 0 s.roots v.nodes (roots_wait s (starts_unbounded a)) t h)) in
           most.each t.0 t.1 legal.start_is legal.under) in
           omega (arith, few, marks_count s s.roots v.nodes left v.visits)
           )
@@ -98,23 +107,23 @@ split_of_words a p pairs complete unknowns rows budget count most spent =
 pub spent_split : (a : Automaton) (p : Pattern) (pairs : List (ℕ × ℕ)) (budget count : ℕ) → HasAtMost a p pairs budget → IsSpent (pattern_search a p pairs) budget count → WasSplit (pattern_search a p pairs) budget
 spent_split a p pairs budget count most spent =
     let s = pattern_search a p pairs in
-    split_of_words a p pairs s.complete s.unknowns s.rows budget count most spent
+    split_of_words a p pairs s.question s.unknowns s.rows budget count most spent
 
-left_marked : (s : Search) (ws : List Pending) (ns : List Node) (w : Pending) (rest : List Pending) → Visits s ws ns (w ∷ rest) → In (mark w) (marks s ws ns)
-left_marked s ws [] w rest v = subst (λ (xs : List Pending). In (mark w) (map mark xs)) v (inl refl)
+left_marked : (s : Search Element) (ws : List (Pending Element)) (ns : List Node) (w : Pending Element) (rest : List (Pending Element)) → Visits s ws ns (w ∷ rest) → In (mark w) (marks s ws ns)
+left_marked s ws [] w rest v = subst (λ (xs : List (Pending Element)). In (mark w) (map mark xs)) v (inl refl)
 left_marked s [] (n ∷ ns) w rest v = absurd v
 left_marked s (u ∷ ws) (n ∷ ns) w rest v = inr (left_marked s (parts s u n ++ ws) ns w rest v.1)
 
 -- behind so many nodes of a visit another word is left than behind all of them
-record LeftOther (s : Search) (ws : List Pending) (count : ℕ) (w : Pending) : Type 0 where
-  pub word : Pending
-  pub words : List Pending
+record LeftOther (s : Search Element) (ws : List (Pending Element)) (count : ℕ) (w : Pending Element) : Type 0 where
+  pub word : Pending Element
+  pub words : List (Pending Element)
   pub nodes : List Node
   pub visits : Visits s ws nodes (word ∷ words)
   pub counted : length nodes ≡ count
   pub other : mark word ≡ mark w → ⊥
 
-left_other : (s : Search) (ws : List Pending) (ns : List Node) (w : Pending) (rest : List Pending) (count : ℕ) → Branches s → AllApart ws → AllByRecursion IsPlain ns → count < length ns → Visits s ws ns (w ∷ rest) → LeftOther s ws count w
+left_other : (s : Search Element) (ws : List (Pending Element)) (ns : List Node) (w : Pending Element) (rest : List (Pending Element)) (count : ℕ) → Branches s → AllApart ws → AllByRecursion IsPlain ns → count < length ns → Visits s ws ns (w ∷ rest) → LeftOther s ws count w
 left_other s ws [] w rest count branches all plain less v = absurd (omega arith)
 left_other s [] (n ∷ ns) w rest count branches all plain less v = absurd v
 left_other s (u ∷ ws) (n ∷ ns) w rest zero branches all plain less v = record {
@@ -132,7 +141,7 @@ left_other s (u ∷ ws) (n ∷ ns) w rest (suc count) branches all plain less v 
     record { word = on.word; words = on.words; nodes = n ∷ on.nodes; visits = (v.0, on.visits); counted = ap suc on.counted; other = on.other }
 
 words_apart :
-    (a : Automaton) (p : Pattern) (pairs : List (ℕ × ℕ)) (before later : ℕ) (v w : Pending) → before < later → IsVisited (pattern_search a p pairs) before v
+    (a : Automaton) (p : Pattern) (pairs : List (ℕ × ℕ)) (before later : ℕ) (v w : Pending Element) → before < later → IsVisited (pattern_search a p pairs) before v
     → (at : IsVisited (pattern_search a p pairs) later w) → ¬ HasSplit at.nodes → v.start ≡ w.start → v.past ≡ w.past → ⊥
 words_apart a p pairs before later v w less begun at none starts pasts =
     let s = pattern_search a p pairs in

@@ -1,5 +1,6 @@
 -- a split at a vertex is one that can be written, and its floor is one that a bound may have
 use Rattle.ta_walk.proofs.Common.{◌≡◌, inl, inr, ℕ, zero, suc, ◌^◌, ◌<◌, List, arith, subst, ℤ, pos, negsuc, ◌+ℤ◌, ◌*ℤ◌, ◌<ℤ◌, ◌≤ℤ◌, Option, Some, None, slice_get, IsSomeAnd, ints, floor_natural, twice_most, some_within, InRange, System, IsSplit, row_of, basic_of, non_basic_of, IsVertex, Fraction, reached_dictionary, IsAbove, SplitVertex, Pending, Search}
+use Rattle.ta_words.specs.declared.element.Element.{Element}
 use Rattle.ta_base.proofs.Options.{is_some-map}
 use Rattle.ta_walk.proofs.TableausInRange.{reached_proper}
 
@@ -39,7 +40,7 @@ floor_fits (Some f) floor is natural fits =
     record { low = low; high = floor_small floor f.top f.bottom f.positive low is.above is.below fits }
 
 -- a split is at an unknown of the word
-pub split_within : (search : Search) (w : Pending) (unknown : ℕ) (floor : ℤ) → SplitVertex search w unknown floor → unknown < search.unknowns w.start w.past
+pub split_within : {E : Type 0} (search : Search E) (w : Pending E) (unknown : ℕ) (floor : ℤ) → SplitVertex search w unknown floor → unknown < search.unknowns w.start w.past
 split_within search w unknown floor v =
     let below = some_within v.values unknown (IsAbove floor) v.splits.here in
     let count = v.vertex.holds.gives.count in
@@ -47,7 +48,7 @@ split_within search w unknown floor v =
     omega arith
 
 -- its floor is at least 0 and below 2^126
-pub split_floor : (search : Search) (w : Pending) (unknown : ℕ) (floor : ℤ) → SplitVertex search w unknown floor → FloorFits floor
+pub split_floor : {E : Type 0} (search : Search E) (w : Pending E) (unknown : ℕ) (floor : ℤ) → SplitVertex search w unknown floor → FloorFits floor
 split_floor search w unknown floor v =
     let s = v.vertex.system in
     let vertex = v.vertex.holds in
@@ -56,7 +57,7 @@ split_floor search w unknown floor v =
     let inside : unknown < s.unknowns = omega arith in
     floor_fits (slice_get v.values unknown) floor v.splits.here (vertex.meet.not_negative unknown inside) (vertex_in_range s v.values vertex unknown inside)
 
-pub split_fits : (search : Search) (w : Pending) (unknown : ℕ) (floor : ℤ) → SplitVertex search w unknown floor → unknown < 2 ^ 32 → IsSplit unknown floor
+pub split_fits : {E : Type 0} (search : Search E) (w : Pending E) (unknown : ℕ) (floor : ℤ) → SplitVertex search w unknown floor → unknown < 2 ^ 32 → IsSplit unknown floor
 split_fits search w unknown floor v number =
     let fits = split_floor search w unknown floor v in
     record { number = number; low = fits.low; high = fits.high }

@@ -4,27 +4,27 @@ use Rattle.ta_cert.specs.declared.line.Node.TheVariants as node
 use Rattle.ta_walk.proofs.SearchesMoved.{moved_visits}
 
 -- a visit goes the same way with further words behind those with which it begins
-pub visits_before : (s : Search) (ws : List Pending) (ns : List Node) (rest more : List Pending) → Visits s ws ns rest → Visits s (ws ++ more) ns (rest ++ more)
-visits_before s ws [] rest more v = ap (λ (xs : List Pending). xs ++ more) v
+pub visits_before : {E : Type 0} (s : Search E) (ws : List (Pending E)) (ns : List Node) (rest more : List (Pending E)) → Visits s ws ns rest → Visits s (ws ++ more) ns (rest ++ more)
+visits_before s ws [] rest more v = ap (λ (xs : List (Pending _)). xs ++ more) v
 visits_before s [] (n ∷ ns) rest more v = absurd v
 visits_before s (w ∷ ws) (n ∷ ns) rest more v =
-    (v.0, subst (λ (xs : List Pending). Visits s xs ns (rest ++ more)) (append_assoc (parts s w n) ws more) (visits_before s (parts s w n ++ ws) ns rest more v.1))
+    (v.0, subst (λ (xs : List (Pending _)). Visits s xs ns (rest ++ more)) (append_assoc (parts s w n) ws more) (visits_before s (parts s w n ++ ws) ns rest more v.1))
 
 -- a visit goes on where another ends
-pub visits_on : (s : Search) (ws : List Pending) (ns : List Node) (mid : List Pending) (ms : List Node) (rest : List Pending) → Visits s ws ns mid → Visits s mid ms rest → Visits s ws (ns ++ ms) rest
-visits_on s ws [] mid ms rest v u = subst (λ (xs : List Pending). Visits s xs ms rest) v u
+pub visits_on : {E : Type 0} (s : Search E) (ws : List (Pending E)) (ns : List Node) (mid : List (Pending E)) (ms : List Node) (rest : List (Pending E)) → Visits s ws ns mid → Visits s mid ms rest → Visits s ws (ns ++ ms) rest
+visits_on s ws [] mid ms rest v u = subst (λ (xs : List (Pending _)). Visits s xs ms rest) v u
 visits_on s [] (n ∷ ns) mid ms rest v u = absurd v
 visits_on s (w ∷ ws) (n ∷ ns) mid ms rest v u = (v.0, visits_on s (parts s w n ++ ws) ns mid ms rest v.1 u)
 
 -- so many nodes were visited from some words on, and then a word is left
-record Stopped (s : Search) (ws : List Pending) (count : ℕ) : Type 0 where
-  pub word : Pending
-  pub words : List Pending
+record Stopped {E : Type 0} (s : Search E) (ws : List (Pending E)) (count : ℕ) : Type 0 where
+  pub word : Pending E
+  pub words : List (Pending E)
   pub nodes : List Node
   pub visits : Visits s ws nodes (word ∷ words)
   pub counted : length nodes ≡ count
 
-stops_before : (s : Search) (ws : List Pending) (ns : List Node) (rest : List Pending) (count : ℕ) → count < length ns → Visits s ws ns rest → Stopped s ws count
+stops_before : {E : Type 0} (s : Search E) (ws : List (Pending E)) (ns : List Node) (rest : List (Pending E)) (count : ℕ) → count < length ns → Visits s ws ns rest → Stopped s ws count
 stops_before s ws [] rest count less v = absurd (omega arith)
 stops_before s [] (n ∷ ns) rest count less v = absurd v
 stops_before s (w ∷ ws) (n ∷ ns) rest zero less v = record { word = w; words = ws; nodes = []; visits = refl; counted = refl }
@@ -33,7 +33,7 @@ stops_before s (w ∷ ws) (n ∷ ns) rest (suc count) less v =
     record { word = on.word; words = on.words; nodes = n ∷ on.nodes; visits = (v.0, on.visits); counted = ap suc on.counted }
 
 -- where some nodes lead to words, and a word is left behind so many nodes of theirs, it is left behind both
-pub visited_behind : (s : Search) (ws us : List Pending) (ns : List Node) (before : ℕ) (w : Pending) → Visits (beginning s ws) ws ns us → IsVisited (beginning s us) before w → IsVisited (beginning s ws) (length ns + before) w
+pub visited_behind : {E : Type 0} (s : Search E) (ws us : List (Pending E)) (ns : List Node) (before : ℕ) (w : Pending E) → Visits (beginning s ws) ws ns us → IsVisited (beginning s us) before w → IsVisited (beginning s ws) (length ns + before) w
 visited_behind s ws us ns before w v u = record {
   nodes = ns ++ u.nodes;
   words = u.words;
@@ -42,14 +42,14 @@ visited_behind s ws us ns before w v u = record {
 }
 
 -- a word that is left behind fewer nodes
-pub record LeftBefore (s : Search) (count : ℕ) : Type 0 where
-  pub word : Pending
+pub record LeftBefore {E : Type 0} (s : Search E) (count : ℕ) : Type 0 where
+  pub word : Pending E
   pub visited : IsVisited s count word
 
-stopped : (s : Search) (count : ℕ) → Stopped s s.roots count → LeftBefore s count
+stopped : {E : Type 0} (s : Search E) (count : ℕ) → Stopped s s.roots count → LeftBefore s count
 stopped s count at = record { word = at.word; visited = record { nodes = at.nodes; words = at.words; visits = at.visits; counted = at.counted } }
 
-pub left_before : (s : Search) (count before : ℕ) (w : Pending) → count ≤ before → IsVisited s before w → LeftBefore s count
+pub left_before : {E : Type 0} (s : Search E) (count before : ℕ) (w : Pending E) → count ≤ before → IsVisited s before w → LeftBefore s count
 left_before s count before w most v =
     let many = v.counted in
     elim (cases_order count before) [
@@ -61,12 +61,11 @@ left_before s count before w most v =
     ]
 
 -- the same in a tree that has more nodes
-pub left_in_tree : (s : Search) (ns : List Node) (rest : List Pending) (count : ℕ) → count < length ns → Visits s s.roots ns rest → LeftBefore s count
+pub left_in_tree : {E : Type 0} (s : Search E) (ns : List Node) (rest : List (Pending E)) (count : ℕ) → count < length ns → Visits s s.roots ns rest → LeftBefore s count
 left_in_tree s ns rest count less v = stopped s count (stops_before s s.roots ns rest count less v)
 
 -- the leaves of two lists
 pub leaves_added : (ns ms : List Node) → leaf_count (ns ++ ms) ≡ leaf_count ns + leaf_count ms
 leaves_added [] ms = omega arith
 leaves_added (node.Leaf ts ∷ ns) ms = let rest = leaves_added ns ms in omega arith
-leaves_added (node.Extend ∷ ns) ms = leaves_added ns ms
-leaves_added (node.Split unknown floor ∷ ns) ms = leaves_added ns ms
+leaves_added (n ∷ ns) ms = leaves_added ns ms

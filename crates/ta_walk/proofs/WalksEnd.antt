@@ -1,8 +1,9 @@
 -- The walks of patterns for each claim, and the searches for samples, end.
 use Rattle.ta_walk.proofs.Common.{◌≡◌, ℕ, ◌^◌, ◌≤◌, ℤ, List, length, reverse, slice_get, take, Some, arith, refl, sym, ap, ◌∙◌, reverse-reverse, Automaton, File, Pattern, sample_search, Pending, Search, few_unknowns, claim_legal, search_for, Claim, SampleEnd, WalkEnd, HasSystems, WalksHaveEnds, WordsHaveSystems, Ending, IsWalkEnd, IsVisitEnding, Left, SolutionAt, Solved, Stopped, Whole, IsSampleEnd, SampleAt, WholeAt, pattern_within}
+use Rattle.ta_words.specs.declared.element.Element.{Element}
 use Rattle.ta_encode.specs.Unknowns.{meanings}
 use Rattle.ta_encode.proofs.SystemsExist.{sample_system}
-use Rattle.ta_claim.proofs.ClaimWords.{claim_system}
+use Rattle.ta_claim.proofs.ClaimWords.{claim_system, claim_grows}
 use Rattle.ta_walk.specs.declared.end.SampleEnd.TheVariants as sampled
 use Rattle.ta_walk.specs.declared.end.WalkEnd.TheVariants as walked
 use Rattle.ta_walk.proofs.SearchesEnd.{searches_end}
@@ -12,6 +13,7 @@ use Rattle.ta_walk.proofs.DeterminedEnds.{node_with}
 pattern_has : (claim : Claim) (file : File) (number : ℕ) (p : Pattern) → slice_get file.patterns number ≡ Some p → (pairs : List (ℕ × ℕ)) → HasSystems (search_for claim file.automaton p pairs)
 pattern_has claim file number p at pairs = record {
   unbounded = claim_unbounded claim file.automaton p pairs;
+  grow = λ start past e answers. claim_grows claim file.automaton p pairs start past e;
   systems = λ w comes bounds.
       let legal = claim_legal claim file.automaton p pairs w.start w.past comes in
       let few : length (meanings file.automaton p w.start w.past) ≤ 2 ^ 32 = omega (arith, few_unknowns file.automaton p w.start w.past (pattern_within file number p at) legal) in
@@ -19,20 +21,20 @@ pattern_has claim file number p at pairs = record {
 }
 
 sample_has : (a : Automaton) → HasSystems (sample_search a)
-sample_has a = record { unbounded = (refl, tt); systems = λ w comes bounds. sample_system a w bounds }
+sample_has a = record { unbounded = (refl, tt); grow = λ start past e answers. omega arith; systems = λ w comes bounds. sample_system a w bounds }
 
 pub words_have : WordsHaveSystems
 words_have = record { patterns = pattern_has; samples = sample_has }
 
-solution_at : (s : Search) (number : ℕ) (w v : Pending) (values : List ℤ) → (v ≡ w) × WholeAt s v values → SolutionAt s number (record { pattern = number; start_mask = w.start; word = reverse w.past; values = values }) v
+solution_at : (s : Search Element) (number : ℕ) (w v : Pending Element) (values : List ℤ) → (v ≡ w) × WholeAt s v values → SolutionAt s number (record { pattern = number; start_mask = w.start; word = reverse w.past; values = values }) v
 solution_at s number w v values h = record {
   pattern = refl;
-  start = ap (λ (x : Pending). x.start) (sym h.0);
-  word = reverse-reverse w.past ∙ ap (λ (x : Pending). x.past) (sym h.0);
+  start = ap (λ (x : Pending Element). x.start) (sym h.0);
+  word = reverse-reverse w.past ∙ ap (λ (x : Pending Element). x.past) (sym h.0);
   whole = h.1;
 }
 
-walk_end : (s : Search) (number budget : ℕ) (e : Ending) → IsVisitEnding s budget e → (f : WalkEnd) × IsWalkEnd s number budget f
+walk_end : (s : Search Element) (number budget : ℕ) (e : Ending Element) → IsVisitEnding s budget e → (f : WalkEnd) × IsWalkEnd s number budget f
 walk_end s number budget (Whole nodes count) h = (walked.Refuted nodes count, h)
 walk_end s number budget (Solved k w values) h = (
   walked.Found k (record { pattern = number; start_mask = w.start; word = reverse w.past; values = values }),
@@ -41,7 +43,7 @@ walk_end s number budget (Solved k w values) h = (
 walk_end s number budget (Stopped count) h = (walked.Spent count, h)
 walk_end s number budget (Left k kind) h = (walked.Overflow k kind, h)
 
-sample_end : (a : Automaton) (budget : ℕ) (e : Ending) → IsVisitEnding (sample_search a) budget e → (f : SampleEnd) × IsSampleEnd a budget f
+sample_end : (a : Automaton) (budget : ℕ) (e : Ending Element) → IsVisitEnding (sample_search a) budget e → (f : SampleEnd) × IsSampleEnd a budget f
 sample_end a budget (Whole nodes count) h = (sampled.Empty, record { nodes = nodes; count = count; tree = h })
 sample_end a budget (Solved k w values) h = (
   sampled.Sample (take (length a.parameters) values),

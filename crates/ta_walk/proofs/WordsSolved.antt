@@ -1,5 +1,7 @@
 -- the values of a whole node solve its word
-use Rattle.ta_walk.proofs.Common.{◌≡◌, ℕ, zero, suc, ◌<◌, ◌^◌, ℤ, pos, ◌*ℤ◌, ◌≤ℤ◌, List, [], ◌∷◌, map, length, reverse, slice_get, arith, refl, sym, ap, ◌∙◌, subst, IsSomeAnd, slice_index, *ℤ_comm, ge-zero_of_mul, Element, LegalUnder, is_complete, SolvesWord, solution_of, unbounded, Fraction, whole_vertex_solves, pattern_search, comes_legal, IsWholeNumber, AreNumbers, FoundWordsAreSolved, WholeNodesSolve, unsigned_abs}
+use Rattle.ta_walk.proofs.Common.{◌≡◌, ℕ, zero, suc, ◌<◌, ◌^◌, ℤ, pos, ◌*ℤ◌, ◌≤ℤ◌, List, [], ◌∷◌, map, length, reverse, slice_get, arith, refl, sym, ap, ◌∙◌, subst, IsSomeAnd, slice_index, *ℤ_comm, ge-zero_of_mul, Element, LegalUnder, is_complete, SolvesWord, solution_of, unbounded, Fraction, whole_vertex_solves, pattern_search, comes_legal, IsWholeNumber, AreNumbers, FoundWordsAreSolved, WholeNodesSolve, unsigned_abs, children}
+use Rattle.ta_cert.specs.declared.line.Node.TheVariants.{Extend}
+use Rattle.ta_encode.proofs.Asking.{settled_complete}
 use Rattle.ta_base.proofs.Integers.{abs_natural}
 use Rattle.ta_claim.specs.declared.claim.Claim.TheVariants.{Safe}
 use Rattle.ta_walk.proofs.WordsVisited.{starts_wait, left_wait}
@@ -34,7 +36,7 @@ naturals (f ∷ fs) (k ∷ ks) are low =
     here n ns e more zero h = e
     here n ns e more (suc x) h = more x (omega arith)
 
-pub whole_solves : WholeNodesSolve
+pub whole_solves : {E : Type 0} → WholeNodesSolve E
 whole_solves s w numbers whole =
     let z = whole.vertex.system in
     let at = whole.vertex.holds in
@@ -61,7 +63,7 @@ found_solved a p pairs number budget count solution found =
       subst (λ (k : ℕ). k < 2 ^ length a.fall) start legal.start_is,
       record {
         legal = subst (λ (k : ℕ). LegalUnder a p pairs k (reverse solution.word)) start (subst (LegalUnder a p pairs w.start) past legal.under);
-        complete = ap (is_complete p) (sym past) ∙ at.whole.complete;
+        complete = ap (is_complete p) (sym past) ∙ settled_complete s w.start w.past (is_complete p w.past) (children a p pairs w.start w.past) (λ n. refl) (λ may. at.whole.settled Extend refl may);
         solves = subst (λ (k : ℕ). SolvesWord a p k (reverse solution.word) [] solved.0) start (subst (λ (q : List Element). SolvesWord a p w.start q [] solved.0) past solves);
       },
     )

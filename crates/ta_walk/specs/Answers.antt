@@ -1,5 +1,5 @@
 -- That each search ends (this project's profile)
-use Rattle.std.specs.Prelude.{ℕ, ◌≡◌, List, slice_get, Some}
+use Rattle.std.specs.Prelude.{ℕ, ◌≡◌, List, slice_get, Some, ◌≤◌, ◌∷◌}
 use Rattle.std.specs.List.{AllByRecursion}
 use Rattle.ta_linear.specs.declared.row.System.{System}
 use Rattle.ta_automaton.specs.declared.automaton.Automaton.{Automaton}
@@ -8,7 +8,7 @@ use Rattle.ta_automaton.specs.declared.pattern.Pattern.{Pattern}
 use Rattle.ta_encode.specs.Code.{SystemAt}
 use Rattle.ta_encode.specs.Lines.{BoundsWithin}
 use Rattle.ta_encode.specs.Sample.{sample_search}
-use Rattle.ta_encode.specs.Search.{Pending, Search, Comes}
+use Rattle.ta_encode.specs.Search.{Pending, Search, Comes, Answers}
 use Rattle.ta_claim.specs.Claims.{search_for}
 use Rattle.ta_claim.specs.declared.claim.Claim.{Claim}
 use Rattle.ta_walk.specs.Ends.{Ending, IsWalkEnd, IsVisitEnding, IsUnbounded}
@@ -16,18 +16,20 @@ use Rattle.ta_walk.specs.Samples.{IsSampleEnd}
 use Rattle.ta_walk.specs.declared.end.SampleEnd.{SampleEnd}
 use Rattle.ta_walk.specs.declared.end.WalkEnd.{WalkEnd}
 
--- a search begins with words without bounds, and each word to which it comes has a system, whatever bounds its unknowns have
-pub record HasSystems (s : Search) : Type 0 where
+-- a search begins with words without bounds; a word that is longer by an answer has no fewer unknowns; and each word to which it comes
+-- has a system, whatever bounds its unknowns have
+pub record HasSystems {E : Type 0} (s : Search E) : Type 0 where
   pub unbounded : AllByRecursion IsUnbounded s.roots
-  pub systems : (w : Pending) → Comes s w.start w.past → BoundsWithin (s.unknowns w.start w.past) w.bounds → (system : System) × SystemAt s w system
+  pub grow : (start : ℕ) (past : List E) (e : E) → Answers s start past e → s.unknowns start past ≤ s.unknowns start (e ∷ past)
+  pub systems : (w : Pending E) → Comes s w.start w.past → BoundsWithin (s.unknowns w.start w.past) w.bounds → (system : System) × SystemAt s w system
 
 -- within a budget a search ends in some way
-abbrev pub HasEnding : Search → ℕ → Type 0
-HasEnding s budget = (e : Ending) × IsVisitEnding s budget e
+abbrev pub HasEnding : {E : Type 0} → Search E → ℕ → Type 0
+HasEnding {E} s budget = (e : Ending E) × IsVisitEnding s budget e
 
 -- such a search ends within each budget: it can't be that it doesn't. It is said so since no test of the specs tells whether a pivot stays in range.
-abbrev pub SearchesHaveEnds : Type 0
-SearchesHaveEnds = (s : Search) → HasSystems s → (budget : ℕ) → ¬ HasEnding s budget → ⊥
+abbrev pub SearchesHaveEnds : Type 0 → Type 0
+SearchesHaveEnds E = (s : Search E) → HasSystems s → (budget : ℕ) → ¬ HasEnding s budget → ⊥
 
 -- for each claim, under any pairs of rise guards, the words of each pattern of a file have systems, and so has the search for a sample
 pub record WordsHaveSystems : Type 0 where

@@ -8,7 +8,7 @@ use Rattle.ta_automaton.specs.declared.file.File.{File}
 use Rattle.ta_automaton.specs.Runs.{LoopsPure}
 use Rattle.ta_cert.specs.declared.line.Node.{Node}
 use Rattle.ta_implied.specs.Implied.{Good}
-use Rattle.ta_cert.specs.declared.line.Node.TheVariants.{Extend, Split, Leaf}
+use Rattle.ta_cert.specs.declared.line.Node.TheVariants.{Leaf}
 use Rattle.ta_cert.specs.Lines.{IsNode, node_text}
 use Rattle.ta_cert.specs.Streams.{line_limit}
 use Rattle.ta_words.specs.declared.element.Element.{Element}
@@ -37,69 +37,69 @@ node_count (tree.Spent count) = count
 node_count (tree.Overflow node kind) = node
 
 -- a word without bounds
-abbrev pub IsUnbounded : Pending → Type 0
+abbrev pub IsUnbounded : {E : Type 0} → Pending E → Type 0
 IsUnbounded w = w.bounds ≡ []
 
 -- the tree of a search has these nodes, within the budget
-pub record TreeIs (s : Search) (budget : ℕ) (nodes : List Node) (count : ℕ) : Type 0 where
+pub record TreeIs {E : Type 0} (s : Search E) (budget : ℕ) (nodes : List Node) (count : ℕ) : Type 0 where
   pub visits : Visits s s.roots nodes []
   pub counted : count ≡ length nodes
   pub within : count ≤ budget
 
 -- so many nodes were visited, and then a word is left
-pub record IsVisited (s : Search) (count : ℕ) (w : Pending) : Type 0 where
+pub record IsVisited {E : Type 0} (s : Search E) (count : ℕ) (w : Pending E) : Type 0 where
   pub nodes : List Node
-  pub words : List Pending
+  pub words : List (Pending E)
   pub visits : Visits s s.roots nodes (w ∷ words)
   pub counted : length nodes ≡ count
 
 -- the node of this number
-pub record NodeOf (s : Search) (budget : ℕ) (number : ℕ) (fact : Pending → Type 0) : Type 0 where
+pub record NodeOf {E : Type 0} (s : Search E) (budget : ℕ) (number : ℕ) (fact : Pending E → Type 0) : Type 0 where
   pub before : ℕ
   pub number_is : number ≡ before + 1
   pub within : number ≤ budget
-  pub word : Pending
+  pub word : Pending E
   pub visited : IsVisited s before word
   pub holds : fact word
 
 -- some word is left behind the budget
-pub record IsSpent (s : Search) (budget count : ℕ) : Type 0 where
+pub record IsSpent {E : Type 0} (s : Search E) (budget count : ℕ) : Type 0 where
   pub counted : count ≡ budget
-  pub word : Pending
+  pub word : Pending E
   pub visited : IsVisited s budget word
 
 -- an end of a search: the nodes of its tree and how many these are; the number of the first whole node, its word and its values; a
 -- spent budget; or the number of the first node at which a number leaves the range, and where
-pub data Ending : Type 0 where
-  Whole : List Node → ℕ → Ending
-  Solved : ℕ → Pending → List ℤ → Ending
-  Stopped : ℕ → Ending
-  Left : ℕ → PlaceKind → Ending
+pub data Ending (E : Type 0) : Type 0 where
+  Whole : List Node → ℕ → Ending E
+  Solved : ℕ → Pending E → List ℤ → Ending E
+  Stopped : ℕ → Ending E
+  Left : ℕ → PlaceKind → Ending E
 
 -- a search ends so within a budget
-abbrev pub IsVisitEnding : Search → ℕ → Ending → Type 0
+abbrev pub IsVisitEnding : {E : Type 0} → Search E → ℕ → Ending E → Type 0
 IsVisitEnding s budget (Whole nodes count) = TreeIs s budget nodes count
 IsVisitEnding s budget (Solved number word values) = NodeOf s budget number (λ w. (w ≡ word) × WholeAt s w values)
 IsVisitEnding s budget (Stopped count) = IsSpent s budget count
 IsVisitEnding s budget (Left number kind) = NodeOf s budget number (λ w. IsOutOfRangeAt s w kind)
 
 -- a search has one end within a budget
-abbrev pub EndingsAreDetermined : Type 0
-EndingsAreDetermined = (s : Search) (budget : ℕ) (e f : Ending) → IsVisitEnding s budget e → IsVisitEnding s budget f → e ≡ f
+abbrev pub EndingsAreDetermined : Type 0 → Type 0
+EndingsAreDetermined E = (s : Search E) (budget : ℕ) (e f : Ending E) → IsVisitEnding s budget e → IsVisitEnding s budget f → e ≡ f
 
 -- the values of a whole node are natural numbers that solve its word's system
-abbrev pub WholeNodesSolve : Type 0
-WholeNodesSolve = (s : Search) (w : Pending) (numbers : List ℤ) → WholeAt s w numbers → (values : List ℕ) × (numbers ≡ map pos values) × SolvesAt s w values
+abbrev pub WholeNodesSolve : Type 0 → Type 0
+WholeNodesSolve E = (s : Search E) (w : Pending E) (numbers : List ℤ) → WholeAt s w numbers → (values : List ℕ) × (numbers ≡ map pos values) × SolvesAt s w values
 
 -- a solution at a word of a search, for the pattern of a number: its values are those of a whole node
-pub record SolutionAt (s : Search) (number : ℕ) (solution : Solution) (w : Pending) : Type 0 where
+pub record SolutionAt (s : Search Element) (number : ℕ) (solution : Solution) (w : Pending Element) : Type 0 where
   pub pattern : solution.pattern ≡ number
   pub start : solution.start_mask ≡ w.start
   pub word : reverse solution.word ≡ w.past
   pub whole : WholeAt s w solution.values
 
 -- how the walk of a search whose words are those of the pattern of a number ends within a budget
-abbrev pub IsWalkEnd : Search → ℕ → ℕ → WalkEnd → Type 0
+abbrev pub IsWalkEnd : Search Element → ℕ → ℕ → WalkEnd → Type 0
 IsWalkEnd s number budget (Refuted nodes count) = TreeIs s budget nodes count
 IsWalkEnd s number budget (Found count solution) = NodeOf s budget count (SolutionAt s number solution)
 IsWalkEnd s number budget (Spent count) = IsSpent s budget count
@@ -109,31 +109,30 @@ IsWalkEnd s number budget (Overflow node kind) = NodeOf s budget node (λ w. IsO
 abbrev pub leaf_count : List Node → ℕ
 leaf_count [] = 0
 leaf_count (Leaf ts ∷ ns) = leaf_count ns + 1
-leaf_count (Extend ∷ ns) = leaf_count ns
-leaf_count (Split unknown floor ∷ ns) = leaf_count ns
+leaf_count (n ∷ ns) = leaf_count ns
 
 -- the tree has so many nodes, within the budget, and so many of them are leaves; what was kept is what they leave
-pub record TreeKept (s : Search) (budget : ℕ) (Keeps : List Node → Type 0) (count leaves : ℕ) : Type 0 where
+pub record TreeKept {E : Type 0} (s : Search E) (budget : ℕ) (Keeps : List Node → Type 0) (count leaves : ℕ) : Type 0 where
   pub nodes : List Node
   pub is : TreeIs s budget nodes count
   pub counted : leaves ≡ leaf_count nodes
   pub kept : Keeps nodes
 
 -- a word of these elements under a start set, with the values of a whole node
-pub record WholeWord (s : Search) (start : ℕ) (word : List Element) (values : List ℤ) (w : Pending) : Type 0 where
+pub record WholeWord (s : Search Element) (start : ℕ) (word : List Element) (values : List ℤ) (w : Pending Element) : Type 0 where
   pub start_is : start ≡ w.start
   pub word_is : reverse word ≡ w.past
   pub whole : WholeAt s w values
 
 -- how a visit of a tree ends whose nodes were handed on: of the nodes of a whole tree the rest is kept
-abbrev pub IsTreeEnd : Search → ℕ → (List Node → Type 0) → TreeEnd → Type 0
+abbrev pub IsTreeEnd : Search Element → ℕ → (List Node → Type 0) → TreeEnd → Type 0
 IsTreeEnd s budget Keeps (tree.Refuted count leaves) = TreeKept s budget Keeps count leaves
 IsTreeEnd s budget Keeps (tree.Found count start word values) = NodeOf s budget count (WholeWord s start word values)
 IsTreeEnd s budget Keeps (tree.Spent count) = IsSpent s budget count
 IsTreeEnd s budget Keeps (tree.Overflow node kind) = NodeOf s budget node (λ w. IsOutOfRangeAt s w kind)
 
 -- the same of a pattern's tree: a walk ends so
-abbrev pub IsVisitEnd : Search → ℕ → ℕ → (List Node → Type 0) → VisitEnd → Type 0
+abbrev pub IsVisitEnd : Search Element → ℕ → ℕ → (List Node → Type 0) → VisitEnd → Type 0
 IsVisitEnd s number budget Keeps (visit.Refuted count leaves) = TreeKept s budget Keeps count leaves
 IsVisitEnd s number budget Keeps (visit.Found count solution) = IsWalkEnd s number budget (Found count solution)
 IsVisitEnd s number budget Keeps (visit.Spent count) = IsWalkEnd s number budget (Spent count)
@@ -141,20 +140,19 @@ IsVisitEnd s number budget Keeps (visit.Overflow node kind) = IsWalkEnd s number
 
 -- a walk has one end
 abbrev pub WalksAreDetermined : Type 0
-WalksAreDetermined = (s : Search) (number budget : ℕ) (e f : WalkEnd) → IsWalkEnd s number budget e → IsWalkEnd s number budget f → e ≡ f
+WalksAreDetermined = (s : Search Element) (number budget : ℕ) (e f : WalkEnd) → IsWalkEnd s number budget e → IsWalkEnd s number budget f → e ≡ f
 
 -- a leaf has at most 4,657 multipliers
 abbrev pub HasFewPairs : Node → Type 0
 HasFewPairs (Leaf ts) = length ts ≤ MOST_UNKNOWNS + 1
-HasFewPairs Extend = Unit {0}
-HasFewPairs (Split unknown floor) = Unit {0}
+HasFewPairs n = Unit {0}
 
 -- the text of a node is no longer than a line may be
 abbrev pub IsShort : Node → Type 0
 IsShort n = length (node_text n) ≤ line_limit
 
 -- nodes that are a proof which a judge accepts, and each of which can be written in a line
-pub record IsProof (s : Search) (nodes : List Node) : Type 0 where
+pub record IsProof {E : Type 0} (s : Search E) (nodes : List Node) : Type 0 where
   pub refutes : RefutedInOrder s (IsJudged s) s.roots nodes
   pub writable : AllByRecursion IsNode nodes
   pub few : AllByRecursion HasFewPairs nodes

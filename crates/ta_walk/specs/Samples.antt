@@ -1,5 +1,6 @@
 -- How the search for a sample of the parameters ends (this project's profile)
 use Rattle.std.specs.Prelude.{ℕ, ℤ, pos, ◌≡◌, List, length, map, take}
+use Rattle.ta_words.specs.declared.element.Element.{Element}
 use Rattle.ta_automaton.specs.declared.automaton.Automaton.{Automaton}
 use Rattle.ta_cert.specs.declared.line.Node.{Node}
 use Rattle.ta_encode.specs.Sample.{HasStart, sample_search}
@@ -10,7 +11,7 @@ use Rattle.ta_walk.specs.Ends.{IsSpent, NodeOf, TreeIs}
 use Rattle.ta_walk.specs.Visit.{IsOutOfRangeAt, WholeAt}
 
 -- a whole node, whose first values are these of the parameters
-pub record SampleAt (a : Automaton) (parameters : List ℤ) (w : Pending) : Type 0 where
+pub record SampleAt (a : Automaton) (parameters : List ℤ) (w : Pending Element) : Type 0 where
   pub values : List ℤ
   pub whole : WholeAt (sample_search a) w values
   pub first : parameters ≡ take (length a.parameters) values

@@ -26,9 +26,9 @@ pub record HasSplit (nodes : List Node) : Type 0 where
   pub is : In (node.Split unknown floor) nodes
 
 -- so many nodes were visited, and one of them was split
-pub record WasSplit (s : Search) (count : ℕ) : Type 0 where
+pub record WasSplit {E : Type 0} (s : Search E) (count : ℕ) : Type 0 where
   pub nodes : List Node
-  pub left : List Pending
+  pub left : List (Pending E)
   pub visits : Visits s s.roots nodes left
   pub counted : length nodes ≡ count
   pub split : HasSplit nodes
@@ -39,5 +39,5 @@ pub record SpentNeedsSplits : Type 0 where
   pub number : (file : File) (number : ℕ) (p : Pattern) → slice_get file.patterns number ≡ Some p → (pairs : List (ℕ × ℕ)) → (most : ℕ) × HasAtMost file.automaton p pairs most
   pub split : (a : Automaton) (p : Pattern) (pairs : List (ℕ × ℕ)) (budget count : ℕ) → HasAtMost a p pairs budget → IsSpent (pattern_search a p pairs) budget count → WasSplit (pattern_search a p pairs) budget
   pub apart :
-      (a : Automaton) (p : Pattern) (pairs : List (ℕ × ℕ)) (before later : ℕ) (v w : Pending) → before < later → IsVisited (pattern_search a p pairs) before v
+      (a : Automaton) (p : Pattern) (pairs : List (ℕ × ℕ)) (before later : ℕ) (v w : Pending Element) → before < later → IsVisited (pattern_search a p pairs) before v
       → (at : IsVisited (pattern_search a p pairs) later w) → ¬ HasSplit at.nodes → v.start ≡ w.start → v.past ≡ w.past → ⊥

@@ -1,10 +1,10 @@
--- The tree of a search, node by node (least-index solving of the systems of words, and integer branching at a complete word)
-use Rattle.std.specs.Prelude.{ℕ, ℤ, pos, ◌<◌, ◌+ℤ◌, ◌*ℤ◌, ◌<ℤ◌, ◌≡◌, true, false, List, [], ◌∷◌, ◌++◌, slice_get, IsSomeAnd}
+-- The tree of a search, node by node (least-index solving of its systems, and integer branching where nothing is asked)
+use Rattle.std.specs.Prelude.{ℕ, ℤ, pos, ◌<◌, ◌+ℤ◌, ◌*ℤ◌, ◌<ℤ◌, ◌≡◌, List, [], ◌∷◌, ◌++◌, map, slice_get, IsSomeAnd, Some}
 use Rattle.ta_linear.specs.declared.row.System.{System}
 use Rattle.ta_cert.specs.declared.line.Node.{Node}
 use Rattle.ta_cert.specs.declared.line.Node.TheVariants as node
 use Rattle.ta_encode.specs.Code.{SystemAt}
-use Rattle.ta_encode.specs.Search.{Pending, Search, parts, bounded_rows}
+use Rattle.ta_encode.specs.Search.{MayAsk, Pending, Search, parts, bounded_rows}
 use Rattle.ta_cursor.specs.Range.{LeafStays}
 use Rattle.ta_dense.specs.Slack.{slack_tableau}
 use Rattle.ta_simplex.specs.LeastIndex.{OverflowsAt}
@@ -15,17 +15,17 @@ use Rattle.ta_walk.specs.declared.end.PlaceKind.{PlaceKind}
 use Rattle.ta_walk.specs.declared.end.PlaceKind.TheVariants as kind
 
 -- the word's system has a fact
-pub record OfSystem (s : Search) (w : Pending) (fact : System → Type 0) : Type 0 where
+pub record OfSystem {E : Type 0} (s : Search E) (w : Pending E) (fact : System → Type 0) : Type 0 where
   pub system : System
   pub is : SystemAt s w system
   pub holds : fact system
 
 -- the least-index rule refutes the word's system, with these multipliers
-abbrev pub RefutedAt : Search → Pending → List (ℕ × ℤ) → Type 0
+abbrev pub RefutedAt : {E : Type 0} → Search E → Pending E → List (ℕ × ℤ) → Type 0
 RefutedAt s w ts = OfSystem s w (λ system. IsRefuted system ts)
 
 -- the least-index rule ends at a vertex of the word's system, with these values
-abbrev pub VertexAt : Search → Pending → List Fraction → Type 0
+abbrev pub VertexAt : {E : Type 0} → Search E → Pending E → List Fraction → Type 0
 VertexAt s w values = OfSystem s w (λ system. IsVertex system values)
 
 -- a fraction is this whole number
@@ -52,53 +52,62 @@ AreNumbers [] (k ∷ ks) = ⊥
 AreNumbers (f ∷ fs) [] = ⊥
 AreNumbers (f ∷ fs) (k ∷ ks) = IsWholeNumber k f × AreNumbers fs ks
 
--- a vertex of a complete word, one of whose values isn't whole
-pub record SplitVertex (s : Search) (w : Pending) (unknown : ℕ) (floor : ℤ) : Type 0 where
+-- the numerators and denominators of values
+abbrev pub parts_of : List Fraction → List (ℤ × ℤ)
+parts_of values = map (λ f. (f.top, f.bottom)) values
+
+-- at a vertex with these values the maker asks nothing: the node that it would have ask, if any, may not stand there
+abbrev pub IsSettled : {E : Type 0} → Search E → Pending E → List Fraction → Type 0
+IsSettled s w values = (n : Node) → s.question w.start w.past (parts_of values) ≡ Some n → MayAsk s w.start w.past n → ⊥
+
+-- a vertex at which nothing is asked, one of whose values isn't whole
+pub record SplitVertex {E : Type 0} (s : Search E) (w : Pending E) (unknown : ℕ) (floor : ℤ) : Type 0 where
   pub values : List Fraction
   pub vertex : VertexAt s w values
-  pub complete : s.complete w.start w.past ≡ true
+  pub settled : IsSettled s w values
   pub splits : SplitsAt values unknown floor
 
--- a vertex of a word that isn't complete
-pub record OpenVertex (s : Search) (w : Pending) : Type 0 where
+-- a vertex at which this node asks
+pub record OpenVertex {E : Type 0} (s : Search E) (w : Pending E) (n : Node) : Type 0 where
   pub values : List Fraction
   pub vertex : VertexAt s w values
-  pub going_on : s.complete w.start w.past ≡ false
+  pub question : s.question w.start w.past (parts_of values) ≡ Some n
+  pub may : MayAsk s w.start w.past n
 
--- a whole node: a vertex of a complete word, whose values are these whole numbers
-pub record WholeAt (s : Search) (w : Pending) (numbers : List ℤ) : Type 0 where
+-- a whole node: a vertex at which nothing is asked, whose values are these whole numbers
+pub record WholeAt {E : Type 0} (s : Search E) (w : Pending E) (numbers : List ℤ) : Type 0 where
   pub values : List Fraction
   pub vertex : VertexAt s w values
-  pub complete : s.complete w.start w.past ≡ true
+  pub settled : IsSettled s w values
   pub whole : AreNumbers values numbers
 
 -- a leaf whose check stays in range
-pub record LeafAt (s : Search) (w : Pending) (ts : List (ℕ × ℤ)) : Type 0 where
+pub record LeafAt {E : Type 0} (s : Search E) (w : Pending E) (ts : List (ℕ × ℤ)) : Type 0 where
   pub refuted : RefutedAt s w ts
   pub in_range : LeafStays (bounded_rows s w) ts
 
 -- which node stands at a word, where it is no whole node and no number leaves the range: a leaf where the system is refuted;
--- where it has a vertex, an Extend if the word isn't complete, else a Split of the least unknown that isn't whole, at its floor
-abbrev pub NodeAt : Search → Pending → Node → Type 0
+-- where it has a vertex, the node that asks there, if any, else a Split of the least unknown that isn't whole, at its floor
+abbrev pub NodeAt : {E : Type 0} → Search E → Pending E → Node → Type 0
 NodeAt s w (node.Leaf ts) = LeafAt s w ts
-NodeAt s w node.Extend = OpenVertex s w
 NodeAt s w (node.Split unknown floor) = SplitVertex s w unknown floor
+NodeAt s w n = OpenVertex s w n
 
 -- multipliers refute the word's system, and their check leaves the range
-pub record LeafOutOfRange (s : Search) (w : Pending) : Type 0 where
+pub record LeafOutOfRange {E : Type 0} (s : Search E) (w : Pending E) : Type 0 where
   pub multipliers : List (ℕ × ℤ)
   pub refuted : RefutedAt s w multipliers
   pub leaves : LeafStays (bounded_rows s w) multipliers → ⊥
 
 -- where a number of a node leaves the range. A walk makes no run, so it never says that one leaves it
-abbrev pub IsOutOfRangeAt : Search → Pending → PlaceKind → Type 0
+abbrev pub IsOutOfRangeAt : {E : Type 0} → Search E → Pending E → PlaceKind → Type 0
 IsOutOfRangeAt s w (kind.Pivot count) = OfSystem s w (λ system. OverflowsAt (slack_tableau system) count)
 IsOutOfRangeAt s w kind.Leaf = LeafOutOfRange s w
 IsOutOfRangeAt s w kind.Run = ⊥
 
 -- the visit: each node stands at the first word that is left, and what it leaves of the word comes in its place; from these
 -- words it leads to those
-abbrev pub Visits : Search → List Pending → List Node → List Pending → Type 0
+abbrev pub Visits : {E : Type 0} → Search E → List (Pending E) → List Node → List (Pending E) → Type 0
 Visits s ws [] rest = rest ≡ ws
 Visits s [] (n ∷ ns) rest = ⊥
 Visits s (w ∷ ws) (n ∷ ns) rest = NodeAt s w n × Visits s (parts s w n ++ ws) ns rest

@@ -7,13 +7,13 @@ ghost use Rattle.ta_walk.specs.Samples.{SampleEndsAreDetermined, SamplesAreReal}
 ghost use Rattle.ta_walk.specs.Splits.{SpentNeedsSplits};
 
 /// A search has one tree, and one end within a budget.
-pub fn endings_are_determined()
-    ensures { EndingsAreDetermined }
+pub fn endings_are_determined<E>()
+    ensures { EndingsAreDetermined E }
 {}
 
 /// The values of a whole node of a search solve its word's system.
-pub fn whole_nodes_solve()
-    ensures { WholeNodesSolve }
+pub fn whole_nodes_solve<E>()
+    ensures { WholeNodesSolve E }
 {}
 
 /// A pattern has one tree, and its walk within a budget one end.
@@ -43,8 +43,8 @@ pub fn samples_are_real()
 {}
 
 /// A search whose words have systems ends within each budget.
-pub fn searches_have_ends()
-    ensures { SearchesHaveEnds }
+pub fn searches_have_ends<E>()
+    ensures { SearchesHaveEnds E }
 {}
 
 /// The walk of each pattern of a file ends within each budget, whatever is claimed of it, and so does the

@@ -5,6 +5,7 @@ ghost use Rattle.std.specs.Prelude.{ℕ, ◌+◌, ◌-◌, ◌<◌, ◌≤◌, �
 ghost use Rattle.ta_encode.specs.Search.{Pending, Search};
 ghost use Rattle.ta_walk.specs.declared.end.TreeEnd.TheVariants.{Refuted};
 ghost use Rattle.ta_walk.specs.Inside.Parts.{IsLaterKeeper, IsNotRefuted, IsSmallEnd, IsWholeEnd, PartVisited, beginning, behind};
+ghost use Rattle.ta_words.specs.declared.element.Element.{Element};
 
 use crate::end::TreeEnd;
 use crate::keeper::{Keeper, PartKeeper};
@@ -23,7 +24,7 @@ pub(crate) fn merge<K: PartKeeper>(
     requires limit { nodes ≤ MOST_NODES }
     requires first { IsSmallEnd nodes first.end }
     requires second { IsSmallEnd nodes second.end }
-    ensures visited { (s : Search) (ws vs : List Pending) (begun late : K)
+    ensures visited { (s : Search Element) (ws vs : List (Pending Element)) (begun late : K)
         → PartVisited K.keeps (beginning s ws) nodes begun first.keeper first.end → PartVisited K.keeps (beginning s vs) nodes late second.keeper second.end → IsLaterKeeper K.begins K.keeps begun late
         → IfOk result (λ whole. PartVisited K.keeps (beginning s (ws ++ vs)) nodes begun whole.keeper whole.end) }
     ensures small { IfOk result (λ whole. IsSmallEnd nodes whole.end) }
@@ -51,7 +52,7 @@ pub(crate) fn add<K: PartKeeper>(
     requires within { count ≤ nodes }
     requires leaves { leaves ≤ count }
     requires small { (later : ℕ) × IsSmallEnd later second.end }
-    ensures visited { (s : Search) (ws vs : List Pending) (later : ℕ) (begun late : K)
+    ensures visited { (s : Search Element) (ws vs : List (Pending Element)) (later : ℕ) (begun late : K)
         → PartVisited K.keeps (beginning s ws) nodes begun keeper (Refuted count leaves) → PartVisited K.keeps (beginning s vs) later late second.keeper second.end → IsLaterKeeper K.begins K.keeps begun late
         → IfOk result (λ whole. PartVisited K.keeps (beginning s (ws ++ vs)) nodes begun whole.keeper whole.end) }
     ensures small { IfOk result (λ whole. IsSmallEnd nodes whole.end) }

@@ -12,6 +12,7 @@ ghost use Rattle.ta_simplex.specs.Branch.{IsBranch, SharesRows};
 ghost use Rattle.ta_simplex.specs.Refuted.{IsRefuted};
 ghost use Rattle.ta_walk.specs.Inside.Solving.{OnInner, SolvedAt};
 ghost use Rattle.ta_walk.specs.Visit.{VertexAt};
+ghost use Rattle.ta_words.specs.declared.element.Element.{Element};
 
 use crate::end::PlaceKind;
 use crate::vertex::{first_split, whole_values};
@@ -83,7 +84,7 @@ pub(crate) fn solve_node<D: Dictionary, T: Tree>(
 fn take_refuted(system: &System, multipliers: List<(u32, i128)>) -> Solved
     requires few { variables system.now < 2 ^ 32 }
     requires refuted { IsRefuted system.now multipliers }
-    ensures { (s : Search) (w : Pending) → SystemAt s w system.now → SolvedAt s w result }
+    ensures { (s : Search Element) (w : Pending Element) → SystemAt s w system.now → SolvedAt s w result }
 {
     match check_leaf(system, multipliers.as_slice()) {
         Ok(()) => Solved::Inner(Node::Leaf(multipliers)),

@@ -9,6 +9,7 @@ ghost use Rattle.ta_simplex.specs.Branch.{IsBranch};
 ghost use Rattle.ta_walk.specs.Visit.{NodeAt};
 ghost use Rattle.ta_walk.specs.declared.end.TreeEnd.TheVariants.{Found};
 ghost use Rattle.ta_walk.specs.Inside.Parts.{IsSmallStretch, IsWholeStretch, OnShared, HasFewLeft, StretchEnds};
+ghost use Rattle.ta_words.specs.declared.element.Element.{Element};
 
 use crate::end::TreeEnd;
 use crate::keeper::Keeper;
@@ -133,7 +134,7 @@ fn give_away<T: Tree>(
 fn go_on<T: Tree>(tree: &T, cursor: &mut Cursor, node: &Node) -> Result<bool, AllocError>
     requires within { IsWithin (T.search tree.now) cursor.old }
     requires stands { NodeAt (T.search tree.now) (here cursor.old) node.now }
-    ensures { (w : Pending) (words : List Pending) → Within (T.search tree.now) cursor.old (w ∷ words) → GoesOn (T.search tree.now) cursor.new (parts (T.search tree.now) w node.now ++ words) result }
+    ensures { (w : Pending Element) (words : List (Pending Element)) → Within (T.search tree.now) cursor.old (w ∷ words) → GoesOn (T.search tree.now) cursor.new (parts (T.search tree.now) w node.now ++ words) result }
 {
     match node {
         Node::Leaf(_) => cursor.leave(tree),

@@ -9,6 +9,7 @@ ghost use Rattle.ta_cursor.specs.InTrees.{AllGoOn, AllWithin, IsAllWithin, here_
 ghost use Rattle.ta_simplex.specs.Branch.{IsBranch};
 ghost use Rattle.ta_walk.specs.Visit.{NodeAt};
 ghost use Rattle.ta_walk.specs.Ends.{IsTreeEnd, IsUnbounded, leaf_count};
+ghost use Rattle.ta_words.specs.declared.element.Element.{Element};
 
 use crate::end::TreeEnd;
 use crate::keeper::Keeper;
@@ -108,7 +109,7 @@ fn go_on<T: Tree>(
 ) -> Result<bool, AllocError>
     requires within { IsAllWithin (T.search tree.now) place.old }
     requires stands { NodeAt (T.search tree.now) (here_at place.old) node.now }
-    ensures { (w : Pending) (words : List Pending) → AllWithin (T.search tree.now) place.old (w ∷ words) → AllGoOn (T.search tree.now) place.new (parts (T.search tree.now) w node.now ++ words) result }
+    ensures { (w : Pending Element) (words : List (Pending Element)) → AllWithin (T.search tree.now) place.old (w ∷ words) → AllGoOn (T.search tree.now) place.new (parts (T.search tree.now) w node.now ++ words) result }
 {
     match node {
         Node::Leaf(_) => place.leave(alloc, tree),

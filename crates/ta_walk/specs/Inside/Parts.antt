@@ -1,5 +1,6 @@
 -- Parts of a visit: the words of a list, each with its tree
 use Rattle.std.specs.Prelude.{ℕ, ◌+◌, ◌-◌, ◌≤◌, ◌<◌, ◌≡◌, List, [], ◌++◌, length, reverse, nat_lt, if◌then◌else◌}
+use Rattle.ta_words.specs.declared.element.Element.{Element}
 use Rattle.std.specs.List.{AllByRecursion}
 use Rattle.ta_base.specs.declared.limits.TheConstants.{MOST_NODES}
 use Rattle.ta_cert.specs.declared.line.Node.{Node}
@@ -15,26 +16,26 @@ use Rattle.ta_walk.specs.declared.visiting.Stretch.{Stretch}
 use Rattle.ta_walk.specs.declared.visiting.Stretch.TheVariants as stretch
 
 -- the word with which a tree begins
-abbrev pub root_word : Root → Pending
+abbrev pub root_word : Root → Pending Element
 root_word root = word_at root.start_mask root.word []
 
 -- the search comes to it
-abbrev pub ComesTo : Search → Root → Type 0
+abbrev pub ComesTo : Search Element → Root → Type 0
 ComesTo s root = Comes s root.start_mask (reverse root.word)
 
 -- the search that begins with these words instead
-abbrev pub beginning : Search → List Pending → Search
-beginning s words = record { roots = words; following = s.following; complete = s.complete; unknowns = s.unknowns; rows = s.rows }
+abbrev pub beginning : {E : Type 0} → Search E → List (Pending E) → Search E
+beginning s words = record { roots = words; answers = s.answers; question = s.question; unknowns = s.unknowns; rows = s.rows }
 
 -- a part of a visit ended so within its budget. Where it stopped, a word is left behind so many nodes, which may be fewer
-abbrev pub PartEnds : Search → ℕ → (List Node → Type 0) → TreeEnd → Type 0
+abbrev pub PartEnds : Search Element → ℕ → (List Node → Type 0) → TreeEnd → Type 0
 PartEnds s budget Keeps (tree.Refuted count leaves) = IsTreeEnd s budget Keeps (tree.Refuted count leaves)
 PartEnds s budget Keeps (tree.Found count start word values) = IsTreeEnd s budget Keeps (tree.Found count start word values)
 PartEnds s budget Keeps (tree.Spent count) = IsSpent s count count
 PartEnds s budget Keeps (tree.Overflow node kind) = IsTreeEnd s budget Keeps (tree.Overflow node kind)
 
 -- and its nodes were handed to a keeper, behind those that it took before
-abbrev pub PartVisited : {K : Type 0} → (K → K → List Node → Type 0) → Search → ℕ → K → K → TreeEnd → Type 0
+abbrev pub PartVisited : {K : Type 0} → (K → K → List Node → Type 0) → Search Element → ℕ → K → K → TreeEnd → Type 0
 PartVisited {K} Keeps s budget begun kept end = (first : K) (before : List Node) → Keeps first begun before → PartEnds s budget (λ nodes. Keeps first kept (before ++ nodes)) end
 
 -- the same end, of a visit that had so many nodes more before, so many of them leaves
@@ -71,18 +72,18 @@ IsNotRefuted (tree.Spent count) = Unit {0}
 IsNotRefuted (tree.Overflow node kind) = Unit {0}
 
 -- a word with so many bounds at most
-abbrev pub HasFewBounds : ℕ → Pending → Type 0
+abbrev pub HasFewBounds : {E : Type 0} → ℕ → Pending E → Type 0
 HasFewBounds most w = length w.bounds ≤ most
 
 -- a cursor is before the first of the words that it leaves; these have so few bounds that so many nodes may follow
-pub record HasFewLeft (s : Search) (nodes : ℕ) (c : Cursor) : Type 0 where
+pub record HasFewLeft (s : Search Element) (nodes : ℕ) (c : Cursor) : Type 0 where
   pub within : Within s c (left_at s c)
   pub most : ℕ
   pub room : most + nodes ≤ MOST_NODES
   pub few : AllByRecursion (HasFewBounds most) (left_at s c)
 
 -- behind some nodes, so many of them leaves, the words are those of a cursor, and then those of another one
-pub record LeadsToBoth (s : Search) (words : List Pending) (Keeps : List Node → Type 0) (first later : Cursor) (count leaves : ℕ) : Type 0 where
+pub record LeadsToBoth (s : Search Element) (words : List (Pending Element)) (Keeps : List Node → Type 0) (first later : Cursor) (count leaves : ℕ) : Type 0 where
   pub nodes : List Node
   pub visits : Visits s words nodes (left_at s first ++ left_at s later)
   pub counted : count ≡ length nodes
@@ -90,19 +91,19 @@ pub record LeadsToBoth (s : Search) (words : List Pending) (Keeps : List Node �
   pub kept : Keeps nodes
 
 -- what a stretch of a visit comes to, whose cursor is this one now
-abbrev pub StretchEnds : Search → List Pending → ℕ → Cursor → (List Node → Type 0) → Stretch → Type 0
+abbrev pub StretchEnds : Search Element → List (Pending Element) → ℕ → Cursor → (List Node → Type 0) → Stretch → Type 0
 StretchEnds s words budget first Keeps (stretch.Ended end) = PartEnds (beginning s words) budget Keeps end
 StretchEnds s words budget first Keeps (stretch.Shared count leaves later) = LeadsToBoth s words Keeps first later count leaves
 
 -- a stretch visited some nodes, and both cursors may have the budget that it left
-pub record SharesBudget (s : Search) (budget count leaves : ℕ) (first later : Cursor) : Type 0 where
+pub record SharesBudget (s : Search Element) (budget count leaves : ℕ) (first later : Cursor) : Type 0 where
   pub some : 0 < count
   pub within : count ≤ budget
   pub leaves_few : leaves ≤ count
   pub here : HasFewLeft s (budget - count) first
   pub there : HasFewLeft s (budget - count) later
 
-abbrev pub IsSmallStretch : Search → ℕ → Cursor → Stretch → Type 0
+abbrev pub IsSmallStretch : Search Element → ℕ → Cursor → Stretch → Type 0
 IsSmallStretch s budget first (stretch.Ended end) = IsSmallEnd budget end
 IsSmallStretch s budget first (stretch.Shared count leaves later) = SharesBudget s budget count leaves first later
 

@@ -5,7 +5,7 @@ use Rattle.ta_walk.specs.declared.node.Solved.TheVariants.{Inner, Whole, OutOfRa
 use Rattle.ta_walk.specs.Visit.{NodeAt, WholeAt, IsOutOfRangeAt}
 
 -- the node that stands at a word, the values of a whole node, or where a number leaves the range
-abbrev pub SolvedAt : Search → Pending → Solved → Type 0
+abbrev pub SolvedAt : {E : Type 0} → Search E → Pending E → Solved → Type 0
 SolvedAt s w (Inner node) = NodeAt s w node
 SolvedAt s w (Whole numbers) = WholeAt s w numbers
 SolvedAt s w (OutOfRange kind) = IsOutOfRangeAt s w kind

@@ -1,4 +1,5 @@
 use Rattle.ta_walk.proofs.Common.{◌-◌, ◌∙◌, List, IfOk, arith, map, subst, Pending, TreeEnd, PartVisited, beginning, root_word, search_of_claim}
+use Rattle.ta_words.specs.declared.element.Element.{Element}
 use Rattle.ta_walk.proofs.PartsMerged.{decided_part}
 use Rattle.ta_walk.proofs.RootsListed.{halves_listed}
 use Rattle.ta_walk.proofs.forking.+forks.Goals as goal
@@ -12,7 +13,7 @@ visit_beside-returns-clause-visited g t c =
 pub visit_list-returns-clause-visited : goal.visit_list-returns-clause-visited
 visit_list-returns-clause-visited g t c =
     let all = halves_listed _ c.args.words.items c.split_off.new.self.items c.in_ok-others.others.items c.in_ok-others.ensures.items c.in_ok-others.ensures.tail in
-    subst (λ (us : List Pending). IfOk c.visit_halves.result (λ part. PartVisited g.K.Keeper.keeps (beginning (search_of_claim c.args.tree.now) us) c.args.nodes c.args.keeper part.keeper part.end)) all c.visit_halves.ensures.visited
+    subst (λ (us : List (Pending Element)). IfOk c.visit_halves.result (λ part. PartVisited g.K.Keeper.keeps (beginning (search_of_claim c.args.tree.now) us) c.args.nodes c.args.keeper part.keeper part.end)) all c.visit_halves.ensures.visited
 
 pub visit_halves-returns-in_default-clause-visited : goal.visit_halves-returns-in_default-clause-visited
 visit_halves-returns-in_default-clause-visited g t c =

@@ -2,4 +2,4 @@ use Rattle.ta_walk.proofs.WordsSolved.{whole_solves}
 use Rattle.ta_walk.proofs.laws.whole_nodes_solve.Goals as goal
 
 pub returns : goal.returns
-returns c = whole_solves
+returns g c = whole_solves

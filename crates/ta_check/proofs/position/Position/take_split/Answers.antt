@@ -1,4 +1,4 @@
-use Rattle.ta_check.proofs.Common.{true, reverse, List, ℕ, ◌<◌, ◌≤◌, sym, ap, ◌∙◌, refl, subst, FitsSigned, Cursor, Comes, Element, search_of_claim, search_for, claiming, w128, to_z-of_z, Search}
+use Rattle.ta_check.proofs.Common.{true, reverse, List, ℕ, ◌<◌, ◌≤◌, sym, ap, ◌∙◌, refl, subst, FitsSigned, Cursor, Comes, Element, search_of_claim, search_for, claiming, w128, to_z-of_z, Search, ◌≡◌}
 use Rattle.ta_cert.specs.declared.line.Node.TheVariants as node
 use Rattle.ta_check.proofs.JudgingNodes.{some_newest, pattern_there, tree_within, tree_word, told_at, split_on, first_within, later, at_some_word, node_taken}
 use Rattle.ta_check.proofs.position.Position.take_split.Goals as goal
@@ -21,14 +21,14 @@ split-requires-clause-within c = tree_within (claiming c.args.claim c.args.file.
 pub split-requires-clause-unknown : goal.split-requires-clause-unknown
 split-requires-clause-unknown c =
     let tree = search_of_claim c.new-tree.result in
-    subst (λ (k : ℕ). c.args.unknown < k) (told_at (λ (q : Search). q.unknowns) tree tree c.unknown_count.result _ _ _ _ c.args.self.now.place.cursor refl c.start_mask-start_mask.ensures c.cursor.ensures c.word.ensures c.cursor-2.ensures c.unknown_count.ensures) c.if-unknown-unknown_count.false
+    subst (λ (k : ℕ). c.args.unknown < k) (told_at (λ (q : Search Element) (k : ℕ) (es : List Element). c.unknown_count.result ≡ q.unknowns k es) tree tree _ _ _ _ c.args.self.now.place.cursor refl c.start_mask-start_mask.ensures c.cursor.ensures c.word.ensures c.cursor-2.ensures c.unknown_count.ensures) c.if-unknown-unknown_count.false
 
 pub returns-then-unknown-unknown_count : goal.returns-then-unknown-unknown_count
 returns-then-unknown-unknown_count c = λ at is.
     let s = c.args.self.now in
     let subject = claiming c.args.claim c.args.file.now in
     let n = some_newest subject s at c.args.pattern c.requires.none c.requires.current is in
-    let told = told_at (λ (q : Search). q.unknowns) _ (search_for c.args.claim c.args.file.now.automaton n.0 s.orders) c.unknown_count.result _ _ _ _ s.place.cursor (c.new-tree.ensures.search n.0 n.1.named) c.start_mask-start_mask.ensures c.cursor.ensures c.word.ensures c.cursor-2.ensures c.unknown_count.ensures in (
+    let told = told_at (λ (q : Search Element) (k : ℕ) (es : List Element). c.unknown_count.result ≡ q.unknowns k es) _ (search_for c.args.claim c.args.file.now.automaton n.0 s.orders) _ _ _ _ s.place.cursor (c.new-tree.ensures.search n.0 n.1.named) c.start_mask-start_mask.ensures c.cursor.ensures c.word.ensures c.cursor-2.ensures c.unknown_count.ensures in (
       refl,
       record {
         unknown = c.args.unknown;
@@ -45,7 +45,7 @@ returns c = λ at is.
     let n = some_newest subject s at c.args.pattern c.requires.none c.requires.current is in
     let same = c.new-tree.ensures.search n.0 n.1.named in
     let search = search_for c.args.claim c.args.file.now.automaton n.0 s.orders in
-    let told = told_at (λ (q : Search). q.unknowns) _ search c.unknown_count.result _ _ _ _ s.place.cursor same c.start_mask-start_mask.ensures c.cursor.ensures c.word.ensures c.cursor-2.ensures c.unknown_count.ensures in
+    let told = told_at (λ (q : Search Element) (k : ℕ) (es : List Element). c.unknown_count.result ≡ q.unknowns k es) _ search _ _ _ _ s.place.cursor same c.start_mask-start_mask.ensures c.cursor.ensures c.word.ensures c.cursor-2.ensures c.unknown_count.ensures in
     let fits : FitsSigned w128 c.args.floor = c.ranges.floor in
     let more = simp to_z-of_z at c.in_ok-split.ensures in
     let went = split_on _ search s.place _ c.args.unknown c.args.floor (later subject s at c.args.pattern n.0 n.1) same more (first_within subject s at c.args.pattern n.0 n.1) in

@@ -12,7 +12,7 @@ returns-then-number-as_slice c =
     let below : c.args.number < 2 ^ length a.fall = omega arith in
     let large : 64 < 2 ^ 31 = lit< tt in
     record {
-      is = ap (λ (ws : List Pending). slice_get ws c.args.number) (claim_roots t.claim a t.task.pattern.now t.orders.now)
+      is = ap (λ (ws : List (Pending Element)). slice_get ws c.args.number) (claim_roots t.claim a t.task.pattern.now t.orders.now)
           ∙ subst (λ (es : List Element). slice_get (all_starts a) c.args.number ≡ Some (word_at c.args.number es [])) (sym c.new.ensures) (start_at a c.args.number below);
       small = omega arith;
     }
@@ -23,4 +23,4 @@ returns-else-number-as_slice c =
     let a = t.task.automaton.now in
     let test = rw c.as_slice.ensures at c.if-number-as_slice.false in
     let shift = shifted (length a.fall) a.shape.limits.fall_limit in
-    ap (λ (ws : List Pending). slice_get ws c.args.number) (claim_roots t.claim a t.task.pattern.now t.orders.now) ∙ start_none a c.args.number (omega arith)
+    ap (λ (ws : List (Pending Element)). slice_get ws c.args.number) (claim_roots t.claim a t.task.pattern.now t.orders.now) ∙ start_none a c.args.number (omega arith)
