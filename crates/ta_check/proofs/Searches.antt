@@ -1,9 +1,11 @@
 -- the search for a claim on a pattern, by its number, under pairs in whatever order
-use Rattle.ta_check.proofs.Common.{◌≡◌, ℕ, List, length, Option, None, Some, slice_get, ap, ◌∙◌, refl, Automaton, Pattern, Element, Search, all_starts, word_rows, search_for, Claim, Safe, RestSafe, Subject, search_in, search_at, SameMembers}
+use Rattle.ta_check.proofs.Common.{◌≡◌, ℕ, List, length, Option, None, Some, slice_get, ap, ◌∙◌, refl, Automaton, Pattern, Element, Search, all_starts, word_rows, search_for, Claim, Safe, RestSafe, Subject, search_in, search_at, SameMembers, sym, subst}
 use Rattle.std.proofs.Math.Path.{fun_ext}
 use Rattle.ta_words.specs.Words.{is_complete}
 use Rattle.ta_cert.specs.declared.line.Node.TheVariants.{Extend}
-use Rattle.ta_encode.specs.Search.{only_extend}
+use Rattle.ta_cert.specs.declared.line.Node.{Node}
+use Rattle.ta_claim.specs.Asks.{claim_asks}
+use Rattle.ta_encode.specs.Search.{MayAsk, only_extend}
 use Rattle.ta_words.proofs.Pairs.{same_children}
 use Rattle.ta_encode.specs.Unknowns.{meanings}
 
@@ -36,3 +38,9 @@ search_named subject pairs number p named = ap (search_in subject.claim subject.
 -- also under the same pairs in another order
 pub search_same : (subject : Subject) (xs ys : List (ℕ × ℕ)) (number : ℕ) (p : Pattern) → slice_get subject.file.patterns number ≡ Some p → SameMembers xs ys → search_at subject xs number ≡ Some (search_for subject.claim subject.file.automaton p ys)
 search_same subject xs ys number p named same = search_named subject xs number p named ∙ ap (λ (s : Search Element). Some s) (same_search subject.claim subject.file.automaton p xs ys same)
+
+-- of its nodes only Extend asks
+pub extend_asks : (subject : Subject) (pairs : List (ℕ × ℕ)) (number : ℕ) (search : Search Element) → search_at subject pairs number ≡ Some search → (start : ℕ) (past : List Element) (n : Node) → MayAsk search start past n → n ≡ Extend
+extend_asks subject pairs number search e start past n may =
+    let found = searched subject pairs number search e in
+    claim_asks subject.claim subject.file.automaton found.pattern pairs start past n (subst (λ (q : Search Element). MayAsk q start past n) (sym found.is) may)

@@ -1,3 +1,4 @@
 pub mod Claims
 pub mod Trees
 pub mod RestEnds
+pub mod Asks

@@ -70,6 +70,7 @@ impl<'a> ClaimTree<'a> {
 }
 
 impl<'a> Tree for ClaimTree<'a> {
+    ghost use Rattle.ta_claim.specs.Asks.{claim_asks};
     ghost use Rattle.ta_claim.specs.Trees.{IsKeptFor, search_of_claim};
 
     type Kept = Encoding;
@@ -129,4 +130,6 @@ impl<'a> Tree for ClaimTree<'a> {
     fn system<'k>(&self, kept: &'k Encoding) -> &'k System {
         &kept.system
     }
+
+    ghost only_extend = { λ t start past n may. claim_asks t.claim t.task.automaton.now t.task.pattern.now t.orders.now start past n may };
 }

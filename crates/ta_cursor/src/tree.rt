@@ -17,12 +17,14 @@ pub struct Written<K: Drop> {
 
 /// The words of a search, and their systems.
 pub trait Tree {
-    ghost use Rattle.std.specs.Prelude.{◌≡◌, IfOk, reverse};
+    ghost use Rattle.std.specs.Prelude.{ℕ, ◌≡◌, IfOk, List, reverse};
+    ghost use Rattle.ta_cert.specs.declared.line.Node.{Node};
+    ghost use Rattle.ta_cert.specs.declared.line.Node.TheVariants.{Extend};
     ghost use Rattle.ta_linear.specs.declared.row.System.{System};
     ghost use Rattle.ta_encode.specs.Code.{SystemAt};
     ghost use Rattle.ta_encode.specs.Lines.{BoundsWithin};
     ghost use Rattle.ta_encode.specs.Marks.{SameRows};
-    ghost use Rattle.ta_encode.specs.Search.{Comes, Search};
+    ghost use Rattle.ta_encode.specs.Search.{Comes, MayAsk, Search};
     ghost use Rattle.ta_cursor.specs.Cursors.{word_at};
     ghost use Rattle.ta_cursor.specs.TreeCalls.{IsCompleteOf, IsRoot, IsSmall, PushAnswers};
     ghost use Rattle.ta_words.specs.declared.element.Element.{Element};
@@ -79,4 +81,7 @@ pub trait Tree {
     /// The system that is kept.
     fn system<'k>(&self, kept: &'k Self::Kept) -> &'k System
         ensures { result.now ≡ system_of kept.now };
+
+    // of the nodes only an Extend asks
+    ghost only_extend: { (t : Self) (start : ℕ) (past : List Element) (n : Node) → MayAsk (search t) start past n → n ≡ Extend };
 }

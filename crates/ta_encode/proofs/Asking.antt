@@ -13,7 +13,7 @@ none_asked s start past n may none = false≢true (sym (ap is_some none) ∙ may
 abbrev pub IsOfWords : {E : Type 0} → Search E → ℕ → List E → Bool → List E → Type 0
 IsOfWords s start past complete es = (n : Node) → s.answers start past n ≡ only_extend complete es n
 
-complete_asks_none : {E : Type 0} (complete : Bool) (es : List E) (n : Node) → complete ≡ true → only_extend complete es n ≡ None
+pub complete_asks_none : {E : Type 0} (complete : Bool) (es : List E) (n : Node) → complete ≡ true → only_extend complete es n ≡ None
 complete_asks_none complete es node.Extend e = rw e refl
 complete_asks_none complete es _ e = refl
 
@@ -93,3 +93,10 @@ distinct_answers s start past complete es h d n = subst (λ (o : Option (List _)
     of true node.Extend = tt
     of false node.Extend = d
     of c _ = tt
+
+-- no other node than Extend may stand there to ask
+pub only_asks : {E : Type 0} (s : Search E) (start : ℕ) (past : List E) (complete : Bool) (es : List E) → IsOfWords s start past complete es → (n : Node) → MayAsk s start past n → n ≡ node.Extend
+only_asks s start past complete es h (node.Leaf ts) may = absurd (false≢true may)
+only_asks s start past complete es h (node.Split unknown floor) may = absurd (false≢true may)
+only_asks s start past complete es h node.Extend may = refl
+only_asks s start past complete es h n may = absurd (none_asked s start past n may (h n))

@@ -1,5 +1,5 @@
 -- reading a proof node by node
-use Rattle.ta_encode.proofs.Common.{◌≡◌, ℕ, zero, suc, ◌≤◌, ◌<◌, ℤ, List, [], ◌∷◌, ◌++◌, map, length, arith, sym, ap, ◌∙◌, refl, subst, append_assoc, Node, Tree, Forest, Leaf, Ask, Split, Done, More, preorder, forest_preorder, all_preorder, Low, High, Pending, Search, bound_at, bounded, longer, MayAsk, answered, IsLeaf, RefutesBy, RefuteEach, RefuteAll, ProofBy, RefutedInOrder, ProofsReadInOrder, ProofsAreDetermined, LeafTest}
+use Rattle.ta_encode.proofs.Common.{◌≡◌, ℕ, zero, suc, ◌≤◌, ◌<◌, ℤ, List, [], ◌∷◌, ◌++◌, map, length, arith, sym, ap, ◌∙◌, refl, subst, append_assoc, Node, Tree, Forest, Leaf, Ask, Split, Done, More, preorder, forest_preorder, all_preorder, Low, High, Pending, Search, bound_at, bounded, longer, MayAsk, answered, IsLeaf, RefutesBy, RefuteEach, RefuteAll, ProofBy, RefutedInOrder, ProofsReadInOrder, ProofsAreDetermined, LeafTest, false≢true}
 use Rattle.ta_cert.specs.declared.line.Node.TheVariants as node
 use Rattle.ta_encode.proofs.Asking.{none_asked}
 use Rattle.ta_base.proofs.Lists.{joined, regrouped}
@@ -72,8 +72,9 @@ mutual
 
   pub write_tree : (tree : Tree) {E : Type 0} (s : Search E) (test : LeafTest E) (w : Pending E) (ws : List (Pending E)) (rest : List Node) → RefutesBy s test w tree → RefutedInOrder s test ws rest → RefutedInOrder s test (w ∷ ws) (preorder tree ++ rest)
   write_tree (Leaf ts) s test w ws rest h g = (h, g)
-  write_tree (Ask node.Extend trees) s test w ws rest h g = (h.0, write_forest trees s test (map (longer w) (answered s w.start w.past node.Extend)) ws rest h.1 g)
-  write_tree (Ask _ trees) s test w ws rest h g = absurd (cc)
+  write_tree (Ask (node.Leaf ts) trees) s test w ws rest h g = absurd (false≢true h.0)
+  write_tree (Ask (node.Split unknown floor) trees) s test w ws rest h g = absurd (false≢true h.0)
+  write_tree (Ask n trees) s test w ws rest h g = (h.0, write_forest trees s test (map (longer w) (answered s w.start w.past n)) ws rest h.1 g)
   write_tree (Split unknown floor low high) s test w ws rest h g =
       let l = bounded w (bound_at unknown floor Low) in
       let r = bounded w (bound_at unknown floor High) in

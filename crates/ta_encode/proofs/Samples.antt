@@ -1,7 +1,8 @@
 -- the sample system is what stands at the start of a pattern that asks for nothing
-use Rattle.ta_encode.proofs.Common.{◌≡◌, inl, inr, ℕ, ℤ, ◌+◌, ◌≤◌, List, [], ◌∷◌, ◌++◌, map, length, arith, sym, ap, ◌∙◌, refl, subst, length-append, get_or, slice_index, false≢true, true≢false, ints, length-map, has_none, none_kept_empty, each_index, Automaton, Pattern, In, range_with_len, Config, Initial, Fits, resilience_holds, Node, Meaning, Parameter, Start, start_locations, start_meanings, AllHold, High, LinearRow, Low, bound_row, condition_rows, opposite, processes_row, RefutedInOrder, IsLeaf, LeafTest, HasStart, SamplesStart, StartsAreSampled, sample_meanings, sample_rows, sample_search, sampled, Pending, bound_at, bounded, bounded_rows, Adds, AreWritten, Draft, append-nil, length-range_with_len, Element}
+use Rattle.ta_encode.proofs.Common.{◌≡◌, inl, inr, ℕ, ℤ, ◌+◌, ◌≤◌, List, [], ◌∷◌, ◌++◌, map, length, arith, sym, ap, ◌∙◌, refl, subst, length-append, get_or, slice_index, false≢true, true≢false, ints, length-map, has_none, none_kept_empty, each_index, Automaton, Pattern, In, range_with_len, Config, Initial, Fits, resilience_holds, Node, Meaning, Parameter, Start, start_locations, start_meanings, AllHold, High, LinearRow, Low, bound_row, condition_rows, opposite, processes_row, RefutedInOrder, IsLeaf, LeafTest, HasStart, SamplesStart, StartsAreSampled, sample_meanings, sample_rows, sample_search, sampled, Pending, bound_at, bounded, bounded_rows, Adds, AreWritten, Draft, append-nil, length-range_with_len, Element, MayAsk, true}
 use Rattle.ta_cert.specs.declared.line.Node.TheVariants as node
 use Rattle.ta_encode.proofs.Adding.{adds_behind, adds_both, nothing_written}
+use Rattle.ta_encode.proofs.Asking.{complete_asks_none, only_asks}
 use Rattle.ta_encode.proofs.Begin.{FirstRows, first_initial, first_of}
 use Rattle.ta_encode.proofs.Drafts.{start_few}
 use Rattle.ta_encode.proofs.Moments.{AllHold-append, AllHold-left, condition_holds, opposite_value}
@@ -107,3 +108,7 @@ none_solved a test leaf (v ∷ ws) (n ∷ nodes) h w i vs holds = absurd (false�
 pub none_starts : (a : Automaton) (test : LeafTest Element) → ((w : Pending Element) (ts : List (ℕ × ℤ)) → test w ts → IsLeaf (sample_search a) w ts) → (nodes : List Node) → RefutedInOrder (sample_search a) test (sample_search a).roots nodes → (parameters : List ℕ) → ¬ HasStart a parameters
 none_starts a test leaf nodes h parameters start =
     none_solved a test leaf (sample_search a).roots nodes h (sampled []) (inl refl) (start.first.parameters ++ map (slice_index start.first.counters) a.initial) (starts_sampled a start.first start.initial).rows_hold
+
+-- nothing is asked in the search for a sample
+pub sample_asks : (a : Automaton) (start : ℕ) (past : List Element) (n : Node) → MayAsk (sample_search a) start past n → n ≡ node.Extend
+sample_asks a start past n may = only_asks (sample_search a) start past true [] (λ m. sym (complete_asks_none true [] m refl)) n may

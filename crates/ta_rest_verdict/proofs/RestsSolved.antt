@@ -1,6 +1,9 @@
 -- a whole node of a search of rest solves its word
-use Rattle.ta_rest_verdict.proofs.Common.{[], ◌∷◌, slice_get, sym, ap, ◌∙◌, append-nil, subst, rest_rows, rest_search, left_wait, RestsAreSolved, RestSafe, starts_wait}
+use Rattle.ta_rest_verdict.proofs.Common.{[], ◌∷◌, slice_get, refl, sym, ap, ◌∙◌, append-nil, subst, rest_rows, rest_search, left_wait, RestsAreSolved, RestSafe, starts_wait}
 use Rattle.ta_encode.specs.System.{AllHold}
+use Rattle.ta_cert.specs.declared.line.Node.TheVariants.{Extend}
+use Rattle.ta_words.specs.Words.{children, is_complete}
+use Rattle.ta_encode.proofs.Asking.{settled_complete}
 use Rattle.ta_encode.proofs.Moments.{AllHold-left}
 use Rattle.ta_claim.proofs.PatternWords.{comes_legal}
 use Rattle.ta_claim.proofs.RestRows.{rest_comes}
@@ -24,7 +27,7 @@ found_solved file number p at budget count solution found =
         is_start = legal.start_is;
         past = w.past;
         legal = legal.legal;
-        complete = whole.complete;
+        complete = settled_complete s w.start w.past (is_complete p w.past) (children a p [] w.start w.past) (λ n. refl) (λ may. whole.settled Extend refl may);
         values = solved.0;
         solves = record { count = solved.2.count; rows_hold = subst (AllHold solved.0) (sym (append-nil (rest_rows a p w.start w.past))) rows };
       };

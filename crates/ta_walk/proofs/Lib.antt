@@ -34,3 +34,4 @@ mod WordSoFar
 mod ChildrenOnce
 mod SubtreesApart
 mod Common
+mod Questions

@@ -28,6 +28,9 @@ node_short : (n : Node) → IsNode n → HasFewPairs n → IsShort n
 node_short (node.Leaf ts) is few = omega (arith, pairs_short 0 ts is.1, few)
 node_short node.Extend is few = omega arith
 node_short (node.Split unknown floor) is few = omega (arith, split_short unknown floor is)
+node_short (node.Guard guard) is few = omega (arith, row_short guard is)
+node_short (node.Order before after) is few = omega (arith, length-append (decimal before) (codes " " ++ decimal after), row_short before is.0, row_short after is.1)
+node_short (node.Stuck rule) is few = omega (arith, row_short rule is)
 
 pub nodes_short : (ns : List Node) → AllByRecursion IsNode ns → AllByRecursion HasFewPairs ns → AllByRecursion IsShort ns
 nodes_short [] are few = tt

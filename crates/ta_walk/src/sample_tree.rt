@@ -16,6 +16,7 @@ pub(crate) struct SampleTree<'a> {
 }
 
 impl<'a> Tree for SampleTree<'a> {
+    ghost use Rattle.ta_encode.proofs.Samples.{sample_asks};
     ghost use Rattle.ta_encode.specs.Sample.{sample_search};
 
     type Kept = System;
@@ -84,4 +85,6 @@ impl<'a> Tree for SampleTree<'a> {
     fn system<'k>(&self, kept: &'k System) -> &'k System {
         kept
     }
+
+    ghost only_extend = { λ tree start past n may. sample_asks tree.file.now.automaton start past n may };
 }

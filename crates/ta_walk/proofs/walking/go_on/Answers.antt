@@ -1,5 +1,8 @@
-use Rattle.ta_walk.proofs.Common.{◌<◌, ◌^◌, arith, refl, rules, FitsSigned, w128, here_at, SplitVertex}
-use Rattle.std.proofs.Common.{to_z-of_z}
+use Rattle.ta_walk.proofs.Common.{◌≡◌, Node, inl, inr, ◌<◌, ◌^◌, arith, refl, rules, FitsSigned, w128, here_at, SplitVertex}
+use Rattle.std.proofs.Common.{subst, to_z-of_z}
+use Rattle.ta_cert.specs.declared.line.Node.TheVariants as node
+use Rattle.ta_walk.specs.Visit.{NodeAt}
+use Rattle.ta_walk.proofs.Questions.{IsQuestion, no_question}
 use Rattle.ta_walk.proofs.SplitsFit.{split_fits, split_within}
 use Rattle.ta_walk.proofs.walking.go_on.Goals as goal
 
@@ -23,7 +26,18 @@ split-requires-clause-unknown g c =
     split_within s w c.in-Split.unknown c.in-Split.floor split
 
 pub returns-in-Leaf : goal.returns-in-Leaf
-returns-in-Leaf g c = λ w words all. rw c.in-Leaf.is (c.leave.ensures w words all)
+returns-in-Leaf g c = λ w words all.
+    let left = c.leave.ensures w words all in
+    let s = g.T.Tree.search c.args.tree.now in
+    let at = (here_at c.args.place.now) in
+    let none : (n : Node) → c.args.node.now ≡ n → IsQuestion n → ⊥ = λ n is. no_question s at (g.met.T.Tree.only_extend c.args.tree.now at.start at.past) n (subst (NodeAt s at) is c.requires.stands) in
+    elim c.in-Leaf.is [
+      | inl leaf ↦ rw leaf.1 left
+      | inr more ↦ elim more [
+        | inl guard ↦ absurd (none (node.Guard guard.0) guard.1 tt)
+        | inr rest ↦ elim rest [ inl order ↦ absurd (none (node.Order order.0 order.1) order.2 tt) | inr stuck ↦ absurd (none (node.Stuck stuck.0) stuck.1 tt) ]
+      ]
+    ]
 
 pub returns-in_ok-split-in-Split : goal.returns-in_ok-split-in-Split
 returns-in_ok-split-in-Split g c = λ w words all.
