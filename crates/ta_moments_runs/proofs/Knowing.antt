@@ -1,5 +1,7 @@
 -- what natural values that meet a node's rows say of its moments and its facts
-use Rattle.ta_moments.proofs.Common.{◌≡◌, inl, inr, ℕ, ◌+◌, ◌<◌, pos, ◌≤ℤ◌, List, [], ◌∷◌, ◌++◌, map, flat_map, filter, length, slice_get, Some, None, Option, Bool, true, not, eqb, cond, arith, sym, ap, ◌∙◌, refl, subst, ints, All, get_or, get_map, number_here, slice_get_within, eqb_tells, eqb-true, start_meanings, ◌*◌, cases_Bool, and_from, same_Some, some_at, slice_get_left, bit_set, In, In-filter, In-numbers, in_append, in_at, in_map, in_numbers, range_with_len, Automaton, Pattern, Comparison, Event, Row, ComeAfterEarlier, Fact, Never, First, Stands, Last, Before, After, Same, Vacant, Fails, candidates, comes_after, has_later, moving_rules, Vector, Moment, Point, Pair, early, late, Known, nothing_fired, known, form_at, counters_at, condition_at, event_at, guard_at, guards, opposite_form, negated_form, quiet_at, source_at, below, with_fact, event_vector, end_vector, rows_at_start, rows_of_event, rows_of_after, rows_of_end, is_beside, unknowns_at_first, at_first, before_vector, after_vector, first_vector, rows_of_first, rows_of_last, rows_of_order, rows_of_same, needing, answers, Asking, Exists}
+use Rattle.ta_moments.proofs.Common.{◌≡◌, inl, inr, ℕ, ◌+◌, ◌<◌, pos, ◌≤ℤ◌, List, [], ◌∷◌, ◌++◌, map, flat_map, filter, length, slice_get, Some, None, Option, Bool, true, not, eqb, cond, arith, sym, ap, ◌∙◌, refl, subst, ints, All, get_or, get_map, number_here, slice_get_within, eqb_tells, eqb-true, start_meanings, ◌*◌, cases_Bool, and_from, same_Some, some_at, slice_get_left, bit_set, In, In-filter, In-numbers, in_append, in_at, in_map, in_numbers, range_with_len, Automaton, Pattern, Comparison, Event, Row, ComeAfterEarlier, candidates, comes_after, has_later, moving_rules, Vector, Moment, Point, Pair, early, late, Known, nothing_fired, known, form_at, counters_at, condition_at, event_at, guard_at, guards, opposite_form, negated_form, quiet_at, source_at, below, with_fact, event_vector, end_vector, rows_at_start, rows_of_event, rows_of_after, rows_of_end, is_beside, unknowns_at_first, at_first, before_vector, after_vector, first_vector, rows_of_first, rows_of_last, rows_of_order, rows_of_same, needing, answers, Asking, Exists}
+use Rattle.ta_moments.specs.declared.fact.Fact.{Fact}
+use Rattle.ta_moments.specs.declared.fact.Fact.TheVariants.{Never, First, Stands, Last, Before, After, Same, Vacant, Fails}
 use Rattle.ta_base.proofs.Lists.{get_end}
 use Rattle.ta_base.proofs.Members.{in_get_or}
 use Rattle.ta_moments.proofs.Speaking.{Spoken, VectorSpeaks, event_less, nodes_begin, spoken}

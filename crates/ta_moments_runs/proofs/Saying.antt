@@ -1,5 +1,8 @@
 -- what the facts of a node say at natural values that meet its rows
-use Rattle.ta_moments.proofs.Common.{◌≡◌, inl, inr, ℕ, ◌+◌, ◌-◌, ◌<◌, ◌≤◌, pos, ◌+ℤ◌, ◌-ℤ◌, ◌≤ℤ◌, ◌<ℤ◌, List, [], ◌∷◌, map, length, slice_get, Some, Option, Bool, true, false, ◌&&◌, cond, arith, sym, ap, ◌∙◌, refl, subst, ints, and_parts, false≢true, In, in_filter, Automaton, Pattern, Row, Rule, has_bit, location_place, number_form, minus_form, opposite_form, negated_form, sum_form, Fact, Never, First, Stands, Last, Before, After, Same, Vacant, Fails, OfOrder, has_guard, moving_rules, needing, sparing, Vector, Moment, Point, Pair, early, late, Known, nothing_fired, place_form, form_at, counters_at, guard_at, guards, quiet_at, source_at, below, with_fact, first_vector, step_vector, before_vector, after_vector, steps_less_one, rows_of_first, rows_of_last, rows_of_order, rows_of_same, answers}
+use Rattle.ta_moments.proofs.Common.{◌≡◌, inl, inr, ℕ, ◌+◌, ◌-◌, ◌<◌, ◌≤◌, pos, ◌+ℤ◌, ◌-ℤ◌, ◌≤ℤ◌, ◌<ℤ◌, List, [], ◌∷◌, map, length, slice_get, Some, Option, Bool, true, false, ◌&&◌, cond, arith, sym, ap, ◌∙◌, refl, subst, ints, and_parts, false≢true, In, in_filter, Automaton, Pattern, Row, Rule, has_bit, location_place, number_form, minus_form, opposite_form, negated_form, sum_form, has_guard, moving_rules, needing, sparing, Vector, Moment, Point, Pair, early, late, Known, nothing_fired, place_form, form_at, counters_at, guard_at, guards, quiet_at, source_at, below, with_fact, first_vector, step_vector, before_vector, after_vector, steps_less_one, rows_of_first, rows_of_last, rows_of_order, rows_of_same, answers}
+use Rattle.ta_moments.specs.declared.fact.Question.TheVariants.{OfOrder}
+use Rattle.ta_moments.specs.declared.fact.Fact.{Fact}
+use Rattle.ta_moments.specs.declared.fact.Fact.TheVariants.{Never, First, Stands, Last, Before, After, Same, Vacant, Fails}
 use Rattle.std.specs.Prelude.{unsigned_abs}
 use Rattle.ta_base.proofs.Lists.{get_end}
 use Rattle.ta_moments.proofs.Speaking.{Spoken, VectorSpeaks, vector_more}

@@ -1,5 +1,9 @@
 -- natural values of a whole node are settled moments, and so a run
-use Rattle.ta_moments.proofs.Common.{◌≡◌, ◌⊎◌, inl, inr, ℕ, ◌+◌, ◌-◌, ◌<◌, ◌≤◌, pos, ◌≤ℤ◌, List, [], ◌∷◌, map, length, slice_get, Some, Option, Bool, true, false, not, ◌&&◌, eqb, ltb, cond, arith, sym, ap, ◌∙◌, refl, subst, ints, cases_Bool, cases_lt, and_parts, eqb-true, nat_tests, false≢true, same_Some, slice_get_within, bit_true, has_bit, In, In-filter, in_at, Automaton, Pattern, Event, Row, Rule, File, ComeAfterEarlier, after_earlier, pattern_within, Question, OfGuard, OfOrder, Fact, Never, First, Stands, Last, Before, After, Same, Vacant, Fails, comes_after, has_guard, moving_rules, needing, Moment, Point, Pair, Known, known, guards, event_vector, end_vector, rows_at_start, form_of_row, bound_row, answers, Asking, Node, known_at, node_rows}
+use Rattle.ta_moments.proofs.Common.{◌≡◌, ◌⊎◌, inl, inr, ℕ, ◌+◌, ◌-◌, ◌<◌, ◌≤◌, pos, ◌≤ℤ◌, List, [], ◌∷◌, map, length, slice_get, Some, Option, Bool, true, false, not, ◌&&◌, eqb, ltb, cond, arith, sym, ap, ◌∙◌, refl, subst, ints, cases_Bool, cases_lt, and_parts, eqb-true, nat_tests, false≢true, same_Some, slice_get_within, bit_true, has_bit, In, In-filter, in_at, Automaton, Pattern, Event, Row, Rule, File, ComeAfterEarlier, after_earlier, pattern_within, comes_after, has_guard, moving_rules, needing, Moment, Point, Pair, Known, known, guards, event_vector, end_vector, rows_at_start, form_of_row, bound_row, answers, Asking, Node, known_at, node_rows}
+use Rattle.ta_moments.specs.declared.fact.Question.{Question}
+use Rattle.ta_moments.specs.declared.fact.Question.TheVariants.{OfGuard, OfOrder}
+use Rattle.ta_moments.specs.declared.fact.Fact.{Fact}
+use Rattle.ta_moments.specs.declared.fact.Fact.TheVariants.{Never, First, Stands, Last, Before, After, Same, Vacant, Fails}
 use Rattle.std.specs.Prelude.{IsBitSet}
 use Rattle.ta_automaton.specs.Runs.{InScope}
 use Rattle.ta_base.proofs.Lists.{slice_get_before, slice_get_right}

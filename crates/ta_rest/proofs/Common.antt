@@ -1,6 +1,6 @@
 -- The names that the proofs of this crate cite, passed on from one place. Declares nothing.
-pub use Rattle.std.proofs.Common.{All, Bool, IsBitSet, List, None, Option, Some, [], ap, append_assoc, arith, cond, eqb, eqb-true, false, get_or, inl, inr, length, length-append, map, not, pos, refl, reverse, slice_get, subst, suc, sum, sym, true, zero, ℕ, ℤ, ◌&&◌, ◌*ℤ◌, ◌*◌, ◌++◌, ◌+◌, ◌-◌, ◌<◌, ◌^◌, ◌↔◌, ◌∙◌, ◌∷◌, ◌≡◌, ◌≢◌, ◌≤ℤ◌, ◌≤◌, ◌⊎◌}
-pub use Rattle.std.proofs.lemmas.Bool.{and_from, and_parts, cases_Bool, cases_lt, eq-eqb, false≢true, not-false, not-true, not_from_false, true≢false}
+pub use Rattle.std.proofs.Common.{All, Bool, IsBitSet, List, None, Option, Some, [], ap, append_assoc, arith, cond, eqb, eqb-true, false, get_or, inl, inr, length, length-append, map, not, pos, refl, reverse, slice_get, subst, suc, sum, sym, true, zero, ℕ, ℤ, ◌&&◌, ◌||◌, ◌*ℤ◌, ◌*◌, ◌++◌, ◌+ℤ◌, ◌+◌, ◌-◌, ◌<ℤ◌, ◌<◌, ◌^◌, ◌↔◌, ◌∙◌, ◌∷◌, ◌≡◌, ◌≢◌, ◌≤ℤ◌, ◌≤◌, ◌⊎◌}
+pub use Rattle.std.proofs.lemmas.Bool.{and_from, and_parts, cases_Bool, cases_lt, cond-false, cond-true, eq-eqb, false≢true, ne_eqb, not-false, not-true, not_from_false, true≢false}
 pub use Rattle.std.proofs.lemmas.Bool.Decides.{eqb_tells, nat_tests}
 pub use Rattle.std.proofs.lemmas.Int.{ints}
 pub use Rattle.std.proofs.lemmas.Option.{same_Some, slice_get-get_or, slice_get_read, slice_get_within}
@@ -10,7 +10,7 @@ pub use Rattle.ta_automaton.proofs.Moves.{Fits, value_at-location}
 pub use Rattle.ta_automaton.proofs.Thresholds.{from_within, to_within}
 pub use Rattle.ta_automaton.proofs.Trails.{run_length}
 pub use Rattle.ta_automaton.specs.Places.{Whole, location_place}
-pub use Rattle.ta_automaton.specs.Runs.{Config, Holds, MaskedHold, Move, Occurs, Step, Steps, Walk, value_at}
+pub use Rattle.ta_automaton.specs.Runs.{Config, Holds, Initial, MaskedHold, Move, Occurs, Step, Steps, Walk, value_at}
 pub use Rattle.ta_automaton.specs.declared.automaton.Automaton.{Automaton}
 pub use Rattle.ta_automaton.specs.declared.condition.Comparison.{Comparison}
 pub use Rattle.ta_automaton.specs.declared.condition.Condition.{Condition}
@@ -30,11 +30,14 @@ pub use Rattle.ta_encode.specs.Laws.{EndsAt, RunsThrough, WordFires, position_in
 pub use Rattle.ta_encode.specs.System.{AllHold, LinearRow, counter_row, guard_rows, negated, opposite, row_value, word_rows}
 pub use Rattle.ta_encode.specs.Unknowns.{start_meanings}
 unfoldable pub use Rattle.ta_encode.specs.Unknowns.{meanings}
+pub use Rattle.ta_linear.specs.Terms.{coefficient}
 pub use Rattle.ta_linear.specs.Values.{RowHolds, value_of}
 pub use Rattle.ta_linear.specs.declared.row.Row.{Row}
 pub use Rattle.ta_rest.specs.Endings.{ComesLast, Endings, FewEvents, IsEnding, LastMoved, RestAdded, events_below, rest_name}
 pub use Rattle.ta_rest.specs.Laws.{EndingsRestAlike, EndsOfSolutionsRest, RefutedEndingsRest, RefutedEndingsShow, RestingRunsSolve, SolutionsComeToRest, StepsOfSolutionsRest}
-pub use Rattle.ta_rest.specs.Rest.{AtRest, ComeAfterEarlier, RestOccurs}
+pub use Rattle.ta_rest.specs.Quiet.{MaskedQuietlyHold, MustMove, NoneSubtracted, OneFails, QuietRest, QuietlyHolds, Stuck, is_silent, loud_terms, without}
+pub use Rattle.ta_rest.specs.QuietLaws.{EndingsQuietRestAlike, LoudTermsAreLeft, QuietAlone, QuietRestIsStuck, QuietRestIsWeaker, QuietSafeIsStronger, RestIsQuietRest, RestSafeIsQuietRestSafe}
+pub use Rattle.ta_rest.specs.Rest.{AtRest, ComeAfterEarlier, ComesTo, RestOccurs}
 pub use Rattle.ta_rest.specs.RestSearch.{leads_out, must_be_left, rest_search}
 unfoldable pub use Rattle.ta_rest.specs.RestSearch.{end_rows, rest_rows}
 pub use Rattle.ta_scope.specs.LongerCycles.{LoopsAlone}

@@ -1,5 +1,5 @@
 -- a run comes to rest for a pattern as it does for the pattern's ending
-use Rattle.ta_rest.proofs.Common.{◌≡◌, ◌⊎◌, inl, inr, ℕ, zero, suc, ◌+◌, ◌≤◌, List, [], ◌∷◌, ◌++◌, length, length-append, arith, sym, ap, ◌∙◌, refl, subst, slice_get, get_or, Some, IsBitSet, All, cases_lt, slice_get_within, slice_get-get_or, same_Some, no_bit, at_most_first, get_end, push_cases, slice_get_left, some_at, Comparison, Condition, Automaton, Event, Pattern, Config, Holds, Occurs, value_at, RowHolds, run_length, IsEnding, LastMoved, RestAdded, events_below, EndingsRestAlike, ComeAfterEarlier, RestOccurs}
+use Rattle.ta_rest.proofs.Common.{◌≡◌, ◌⊎◌, inl, inr, ℕ, zero, suc, ◌+◌, ◌≤◌, List, [], ◌∷◌, ◌++◌, length, length-append, arith, sym, ap, ◌∙◌, refl, subst, slice_get, get_or, Some, IsBitSet, All, cases_lt, slice_get_within, slice_get-get_or, same_Some, no_bit, at_most_first, get_end, push_cases, slice_get_left, some_at, Comparison, Condition, Automaton, Event, Pattern, Config, Holds, Occurs, value_at, RowHolds, run_length, IsEnding, LastMoved, RestAdded, events_below, EndingsRestAlike, ComeAfterEarlier, ComesTo, AtRest, ◌↔◌}
 use Rattle.std.proofs.lemmas.List.{get_or_past}
 use Rattle.ta_base.proofs.Lists.{none_of_empty}
 use Rattle.ta_base.proofs.Bits.{ones_bit}
@@ -23,8 +23,8 @@ positions_within a p first rules o f = elim (cases_lt f (length o.positions)) [
   | inr c ↦ omega (arith, get_or_past o.positions f 0 c)
 ]
 
-alike_rests : (a : Automaton) (p q : Pattern) → Alike p q → (first : Config) (rules : List ℕ) → RestOccurs a p first rules → RestOccurs a q first rules
-alike_rests a p q h first rules o =
+alike_rests : (good : Config → Type 0) (a : Automaton) (p q : Pattern) → Alike p q → (first : Config) (rules : List ℕ) → ComesTo good a p first rules → ComesTo good a q first rules
+alike_rests good a p q h first rules o =
     let was = o.occurs in
     record {
       occurs = record {
@@ -96,8 +96,8 @@ added_holds old new m c e event at = only e (ap (λ (xs : List Event). slice_get
   only zero h = (refl, no_comparison c event.condition.comparisons (ap (λ (x : Event). x.condition.comparisons) (sym (same_Some m.event event h)) ∙ m.condition))
   only (suc e) h = absurd (cc)
 
-added_rests : (a : Automaton) (p q : Pattern) → q.start ≡ p.start → q.empty ≡ p.empty → RestAdded p.events q.events → (first : Config) (rules : List ℕ) → RestOccurs a p first rules → RestOccurs a q first rules
-added_rests a p q start empty m first rules o =
+added_rests : (good : Config → Type 0) (a : Automaton) (p q : Pattern) → q.start ≡ p.start → q.empty ≡ p.empty → RestAdded p.events q.events → (first : Config) (rules : List ℕ) → ComesTo good a p first rules → ComesTo good a q first rules
+added_rests good a p q start empty m first rules o =
     let was = o.occurs in
     let n = length rules in
     let end = end_config a p first rules was in
@@ -123,8 +123,8 @@ added_rests a p q start empty m first rules o =
       rests = o.rests;
     }
 
-added_back : (a : Automaton) (p q : Pattern) → q.start ≡ p.start → q.empty ≡ p.empty → RestAdded p.events q.events → (first : Config) (rules : List ℕ) → RestOccurs a q first rules → RestOccurs a p first rules
-added_back a p q start empty m first rules o =
+added_back : (good : Config → Type 0) (a : Automaton) (p q : Pattern) → q.start ≡ p.start → q.empty ≡ p.empty → RestAdded p.events q.events → (first : Config) (rules : List ℕ) → ComesTo good a q first rules → ComesTo good a p first rules
+added_back good a p q start empty m first rules o =
     let was = o.occurs in
     let none : length p.events ≡ 0 = ap (λ (xs : List Event). length xs) m.none in
     record {
@@ -142,14 +142,18 @@ added_back a p q start empty m first rules o =
       rests = o.rests;
     }
 
-pub endings_rest : EndingsRestAlike
-endings_rest a p q h first rules = elim h.events [
+-- a run comes to a good end for a pattern as it does for the pattern's ending
+pub endings_alike : (good : Config → Type 0) (a : Automaton) (p q : Pattern) → IsEnding p q → (first : Config) (rules : List ℕ) → ComesTo good a p first rules ↔ ComesTo good a q first rules
+endings_alike good a p q h first rules = elim h.events [
   | inl m ↦ (
-    alike_rests a p q (record { start = h.start; empty = h.empty; count = moved_count p.events q.events m; events = other_of p.events q.events m }) first rules,
-    alike_rests a q p (record { start = sym h.start; empty = sym h.empty; count = sym (moved_count p.events q.events m); events = back_of p.events q.events m }) first rules,
+    alike_rests good a p q (record { start = h.start; empty = h.empty; count = moved_count p.events q.events m; events = other_of p.events q.events m }) first rules,
+    alike_rests good a q p (record { start = sym h.start; empty = sym h.empty; count = sym (moved_count p.events q.events m); events = back_of p.events q.events m }) first rules,
   )
-  | inr m ↦ (added_rests a p q h.start h.empty m first rules, added_back a p q h.start h.empty m first rules)
+  | inr m ↦ (added_rests good a p q h.start h.empty m first rules, added_back good a p q h.start h.empty m first rules)
 ]
+
+pub endings_rest : EndingsRestAlike
+endings_rest a = endings_alike (AtRest a) a
 
 -- an ending has events
 pub ending_has : (p q : Pattern) → IsEnding p q → 1 ≤ length q.events

@@ -2,6 +2,9 @@
 pub mod Resting
 pub mod EndingLaws
 pub mod EndingShapes
+pub mod QuietResting
+pub mod Deciding
+mod QuietExample
 mod PatternMasks
 mod Heights
 pub mod Moving

@@ -9,11 +9,15 @@ use Rattle.ta_automaton.specs.Runs.{At, Config, Occurs, Step}
 abbrev pub AtRest : Automaton → Config → Type 0
 AtRest a c = (r : ℕ) (next : Config) (step : Step a r c next) → step.rule.from ≡ step.rule.to
 
--- the pattern occurs in a run that has come to rest at its end, where the pattern's last event happens if it has events
-pub record RestOccurs (a : Automaton) (p : Pattern) (first : Config) (rules : List ℕ) : Type 0 where
+-- the pattern occurs in a run that comes to a good configuration at its end, where the pattern's last event happens if it has events
+pub record ComesTo (good : Config → Type 0) (a : Automaton) (p : Pattern) (first : Config) (rules : List ℕ) : Type 0 where
   pub occurs : Occurs a p first rules
   pub at_end : (last : ℕ) → last + 1 ≡ length p.events → slice_index occurs.positions last ≡ length rules
-  pub rests : (c : Config) → At first occurs.later (length rules) c → AtRest a c
+  pub rests : (c : Config) → At first occurs.later (length rules) c → good c
+
+-- the pattern occurs in a run that has come to rest
+abbrev pub RestOccurs : Automaton → Pattern → Config → List ℕ → Type 0
+RestOccurs a = ComesTo (AtRest a) a
 
 -- it does so in no run, for any admissible parameters and any number of steps
 abbrev pub RestSafe : Automaton → Pattern → Type 0
