@@ -12,19 +12,19 @@ use Rattle.ta_encode.specs.Laws.{HasRun}
 use Rattle.ta_moments.proofs.Speaking.{spoken}
 use Rattle.ta_moments.specs.Facts.{is_open, question_of, same_question}
 use Rattle.ta_moments.specs.Whole.{AreAnswers, NothingLeft, SameStep, Settled, WholeNode, form_value}
-use Rattle.ta_moments_runs.specs.Nodes.{SettledMoments}
+use Rattle.ta_moments_runs.specs.Nodes.{RunOfMoments, SettledMoments}
 use Rattle.ta_moments_runs.proofs.Knowing.{NodeRead, after_met, event_moment, end_natural, event_holds, node_read}
 use Rattle.ta_moments_runs.proofs.Nodes.{settled_runs}
 use Rattle.ta_moments_runs.proofs.Reading.{all_met, met_all, met_left}
 use Rattle.ta_moments_runs.proofs.Saying.{Says}
 
 -- ---- the fact that answers a question
-record Asked (past : List Fact) (question : Question) : Type 0 where
+pub record Asked (past : List Fact) (question : Question) : Type 0 where
   pub fact : Fact
   pub among : In fact past
   pub same : same_question (question_of fact) question ≡ true
 
-asked : (past : List Fact) (question : Question) → is_open past question ≡ false → Asked past question
+pub asked : (past : List Fact) (question : Question) → is_open past question ≡ false → Asked past question
 asked [] question e = absurd (false≢true (sym e))
 asked (fact ∷ past) question e = elim (cases_Bool (same_question (question_of fact) question)) [
   | inl t ↦ record { fact = fact; among = inl refl; same = t }
@@ -34,7 +34,7 @@ asked (fact ∷ past) question e = elim (cases_Bool (same_question (question_of 
 ]
 
 -- each fact is an answer of its question
-allowed : (a : Automaton) (p : Pattern) (asking : Asking) (candidate : Option ℕ) (past : List Fact) → AreAnswers a p asking candidate past → (fact : Fact) → In fact past → (k : Known) × In fact (answers a k (question_of fact))
+pub allowed : (a : Automaton) (p : Pattern) (asking : Asking) (candidate : Option ℕ) (past : List Fact) → AreAnswers a p asking candidate past → (fact : Fact) → In fact past → (k : Known) × In fact (answers a k (question_of fact))
 allowed a p asking candidate [] h fact i = absurd i
 allowed a p asking candidate (first ∷ past) h fact (inl e) =
     let k = known a p asking.silent candidate past in
@@ -136,7 +136,7 @@ needs_fall a p r j rule row moves named at set =
     In-filter (λ q. has_guard a g (slice_get a.rules q)) r (moving_rules a p) (ap (has_guard a g) named ∙ ap (λ b. cond b (has_bit rule.rise g) (has_bit rule.fall (g - length a.rise))) high ∙ ap (has_bit rule.fall) back ∙ bit_true rule.fall j set) moves
 
 -- ---- the whole
-read_of : (a : Automaton) (p : Pattern) → ComeAfterEarlier p → (asking : Asking) (node : Node) (vs : List ℕ) → WholeNode a p asking node vs → NodeRead a p asking vs node.candidate node.past (known_at a p asking node).moments
+pub read_of : (a : Automaton) (p : Pattern) → ComeAfterEarlier p → (asking : Asking) (node : Node) (vs : List ℕ) → WholeNode a p asking node vs → NodeRead a p asking vs node.candidate node.past (known_at a p asking node).moments
 read_of a p earlier asking node vs w =
     node_read a p earlier asking vs node.candidate w.candidate_is node.past w.answered (met_left vs (known_at a p asking node).rows (map (λ b. form_of_row (bound_row b)) node.bounds) (met_all vs (node_rows a p asking node) w.met)) (known_at a p asking node).moments (λ x m at. at)
 
@@ -193,11 +193,16 @@ whole_settled a p earlier asking node vs w =
       in_order = λ e f event at less set. after_met a p earlier vs node.candidate r.spoken r.first e f (slice_get_within p.events e event at) (ap (λ (o : Option Event). comes_after o f) at ∙ bit_true event.after f set);
     }
 
-pub whole_runs : (a : Automaton) (p : Pattern) → ComeAfterEarlier p → InScope a → (asking : Asking) (node : Node) (values : List ℕ) → WholeNode a p asking node values → HasRun a p values
-whole_runs a p earlier scope asking node vs w =
+pub whole_run : (a : Automaton) (p : Pattern) → ComeAfterEarlier p → InScope a → (asking : Asking) (node : Node) (values : List ℕ) → WholeNode a p asking node values → RunOfMoments a p values (λ e. Point (event_vector a p e))
+whole_run a p earlier scope asking node vs w =
     let r = read_of a p earlier asking node vs w in
     let s = spoken a p asking.silent node.candidate w.candidate_is node.past in
     settled_runs a p scope vs (omega (arith, s.least, w.count)) (all_met vs (rows_at_start a p) r.first.start) (known_at a p asking node).moments (end_vector a p node.candidate) (λ e. Point (event_vector a p e)) (whole_settled a p earlier asking node vs w)
+
+pub whole_runs : (a : Automaton) (p : Pattern) → ComeAfterEarlier p → InScope a → (asking : Asking) (node : Node) (values : List ℕ) → WholeNode a p asking node values → HasRun a p values
+whole_runs a p earlier scope asking node vs w =
+    let r = whole_run a p earlier scope asking node vs w in
+    record { first = r.first; rules = r.rules; begins = r.begins; occurs = r.occurs }
 
 pub whole_of_file : (file : File) (n : ℕ) (p : Pattern) → slice_get file.patterns n ≡ Some p → InScope file.automaton → (asking : Asking) (node : Node) (values : List ℕ) → WholeNode file.automaton p asking node values → HasRun file.automaton p values
 whole_of_file file n p at scope asking node vs w =
