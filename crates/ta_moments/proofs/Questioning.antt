@@ -1,9 +1,9 @@
 -- what is to be asked may be asked
-use Rattle.ta_moments.proofs.Common.{◌≡◌, ◌⊎◌, inl, inr, ℕ, ◌<◌, List, [], ◌∷◌, ◌&&◌, length, slice_get, Some, None, Option, Bool, true, false, not, cond, arith, sym, refl, subst, length-append, and_parts, same_Some, range_with_len, In, in_at, in_filter, in_numbers, Automaton, Pattern, Question, OfGuard, OfOrder, OfStuck, Fact, may_be_stuck, Vector, guards, end_vector, Asking, Exists, Known, known_at}
+use Rattle.ta_moments.proofs.Common.{◌≡◌, ◌⊎◌, inl, inr, ℕ, ◌+◌, ◌<◌, List, [], ◌∷◌, ◌&&◌, length, slice_get, Some, None, Option, Bool, true, false, not, cond, arith, sym, ap, ◌∙◌, refl, subst, length-append, cases_Bool, and_parts, false≢true, same_Some, range_with_len, In, in_at, in_filter, in_numbers, Automaton, Pattern, Question, OfGuard, OfOrder, OfStuck, Fact, may_be_stuck, Vector, Moment, guards, end_vector, Asking, Exists, Known, Node, known_at}
 use Rattle.std.specs.List.{find}
 use Rattle.std.specs.Option.{option_map, option_or}
 use Rattle.ta_moments.specs.Facts.{is_open}
-use Rattle.ta_moments.specs.Questions.{QuestionsMayBeAsked, Values, fails_at_end, guard_to_ask, is_needed, is_order_open, is_settled, is_stuck_open, open_guards, order_from, order_to_ask, rule_to_ask, would_fire}
+use Rattle.ta_moments.specs.Questions.{QuestionsMayBeAsked, Values, fails_at_end, guard_to_ask, is_needed, is_order_open, is_settled, is_stuck_open, next_question, open_guards, order_from, order_to_ask, rule_to_ask, would_fire}
 
 -- what is found passes, and stands in the list
 pub find_passes : {X : Type 0} (test : X → Bool) (xs : List X) (x : X) → find test xs ≡ Some x → (test x ≡ true) × In x xs
