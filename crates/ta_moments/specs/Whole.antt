@@ -1,7 +1,7 @@
 -- Whole nodes of the tree of questions: natural values of a node's unknowns that meet its rows, at which no question is left
 -- (this project's profile). A solution of a node's rows need not be a run: a guard that a firing rule needs may not be asked, or two
 -- moments may be incomparable. Where no question is left, the moments are a chain and each guard that is needed holds in time
-use Rattle.std.specs.Prelude.{ℕ, ℤ, pos, ◌+◌, ◌<◌, ◌≡◌, ◌⊎◌, ◌+ℤ◌, ◌*ℤ◌, ◌≤ℤ◌, ◌<ℤ◌, true, List, [], ◌∷◌, length, slice_get, Option, Some}
+use Rattle.std.specs.Prelude.{ℕ, ℤ, pos, ◌+◌, ◌<◌, ◌≡◌, ◌⊎◌, ◌+ℤ◌, ◌*ℤ◌, ◌≤ℤ◌, ◌<ℤ◌, true, List, [], ◌∷◌, length, slice_get, Option, Some, None}
 use Rattle.std.specs.List.{AllByRecursion, range_with_len}
 use Rattle.ta_base.specs.Masks.{In}
 use Rattle.ta_base.specs.Sums.{total}
@@ -14,6 +14,7 @@ use Rattle.ta_automaton.specs.declared.rule.Rule.{Rule}
 use Rattle.ta_moments.specs.Forms.{UnknownForm, number_form, plus_form, terms_form}
 use Rattle.ta_moments.specs.Facts.{OfGuard, OfOrder, OfStuck, Fact, question_of, is_open, candidates, has_guard, moving_rules, needing, may_be_stuck}
 use Rattle.ta_moments.specs.Moments.{Vector, Moment, Point, Pair, early, late, place_form, guards, loud_terms, end_vector, known}
+use Rattle.ta_moments.specs.Questions.{natural_values, next_question}
 use Rattle.ta_moments.specs.Refutes.{Asking, Node, Exists, answers, known_at, node_rows}
 
 -- a form's value, where the unknowns have natural values
@@ -71,3 +72,10 @@ pub record WholeNode (a : Automaton) (p : Pattern) (asking : Asking) (node : Nod
   pub count : length values ≡ (known_at a p asking node).unknowns
   pub met : AllByRecursion (λ row. pos 0 ≤ℤ form_value values row) (node_rows a p asking node)
   pub nothing_left : NothingLeft a p asking node values
+
+-- where no question is to be asked at natural values, none is left
+abbrev pub NoQuestionLeavesNothing : Type 0
+NoQuestionLeavesNothing =
+    (a : Automaton) (p : Pattern) (asking : Asking) (node : Node) (values : List ℕ)
+    → next_question a p asking node (natural_values values) ≡ None
+    → NothingLeft a p asking node values

@@ -1,33 +1,18 @@
 -- what the rows of a node say at natural values
-use Rattle.ta_moments.proofs.Common.{◌≡◌, inl, inr, ℕ, ◌+◌, ◌<◌, ℤ, pos, negsuc, ◌+ℤ◌, ◌-ℤ◌, ◌*ℤ◌, ◌≤ℤ◌, List, [], ◌∷◌, ◌++◌, map, filter, flat_map, length, slice_get, Some, Option, Bool, true, false, not, ◌||◌, arith, sym, ap, ◌∙◌, refl, subst, ints, cases_Bool, cases_lt, false≢true, eqb_tells, In, In-filter, In-map, In-numbers, in_filter, range_with_len, range_sum, range_sum-times, get_or, any_below, any_below-at, one_if, Automaton, Pattern, Row, has_bit, location_place, UnknownForm, number_form, unknown_form, plus_form, minus_form, opposite_form, negated_form, may_be_negative, sum_form, has_guard, moving_rules, needing, sparing, Vector, nothing_fired, fresh, place_form, form_at, counters_at, guard_at, below}
+use Rattle.ta_moments.proofs.Common.{◌≡◌, inl, inr, ℕ, ◌+◌, ◌<◌, ℤ, pos, negsuc, ◌*ℤ◌, ◌≤ℤ◌, List, [], ◌∷◌, ◌++◌, map, filter, flat_map, length, slice_get, Some, Option, Bool, true, false, not, ◌||◌, arith, sym, ap, ◌∙◌, refl, subst, ints, cases_Bool, cases_lt, false≢true, eqb_tells, In, In-filter, In-map, In-numbers, in_filter, range_with_len, range_sum, range_sum-times, get_or, any_below, any_below-at, one_if, Automaton, Pattern, Row, has_bit, location_place, UnknownForm, unknown_form, minus_form, may_be_negative, sum_form, has_guard, moving_rules, needing, sparing, Vector, nothing_fired, fresh, place_form, form_at, counters_at, guard_at, below}
 use Rattle.std.specs.List.{AllByRecursion}
 use Rattle.ta_base.proofs.Integers.{mul-ge-zero}
 use Rattle.ta_base.proofs.Members.{In-left, In-right}
 use Rattle.ta_base.proofs.Sums.{range_sum-nonpositive}
 use Rattle.ta_moments.proofs.Speaking.{VectorSpeaks}
-use Rattle.ta_moments.proofs.Worth.{number, worth, worth-number, worth-plus, worth-minus}
+use Rattle.ta_moments.proofs.Worth.{number}
+use Rattle.ta_moments.proofs.Values.{value_is, value_minus, value_number, value_plus}
 use Rattle.ta_moments.specs.Forms.{below_zero}
 use Rattle.ta_moments.specs.Laws.{Speaks}
 use Rattle.ta_moments.specs.Whole.{AtMost, form_value}
 use Rattle.ta_moments_runs.specs.Chains.{firings_in}
 use Rattle.ta_moments_runs.specs.Nodes.{counts_of}
-use Rattle.ta_moments_runs.proofs.Starting.{natural_is, valued}
-
--- ---- values of forms
-pub value_number : (vs : List ℕ) (z : ℤ) → form_value vs (number_form z) ≡ z
-value_number vs z = valued vs (number_form z) ∙ worth-number vs z
-
-pub value_plus : (vs : List ℕ) (f g : UnknownForm) → form_value vs (plus_form f g) ≡ (form_value vs f +ℤ form_value vs g)
-value_plus vs f g = omega (arith, ints, valued vs (plus_form f g), worth-plus vs f g, valued vs f, valued vs g)
-
-pub value_minus : (vs : List ℕ) (f g : UnknownForm) → form_value vs (minus_form f g) ≡ (form_value vs f -ℤ form_value vs g)
-value_minus vs f g = omega (arith, ints, valued vs (minus_form f g), worth-minus vs f g, valued vs f, valued vs g)
-
-pub value_opposite : (vs : List ℕ) (f : UnknownForm) → form_value vs (opposite_form f) ≡ (pos 0 -ℤ form_value vs f)
-value_opposite vs f = omega (arith, ints, value_minus vs (number_form (pos 0)) f, value_number vs (pos 0))
-
-pub value_negated : (vs : List ℕ) (f : UnknownForm) → form_value vs (negated_form f) ≡ (negsuc 0 -ℤ form_value vs f)
-value_negated vs f = omega (arith, ints, value_minus vs (number_form (negsuc 0)) f, value_number vs (negsuc 0))
+use Rattle.ta_moments_runs.proofs.Starting.{natural_is}
 
 -- a sum of terms that are at least 0
 sum_natural : (f : ℕ → ℤ) (n : ℕ) → ((x : ℕ) → x < n → pos 0 ≤ℤ f x) → pos 0 ≤ℤ range_sum f n
@@ -38,14 +23,10 @@ sum_natural f n h =
 coefficient_natural : (z : ℤ) (n : ℕ) → pos 0 ≤ℤ z → pos 0 ≤ℤ (z *ℤ pos n)
 coefficient_natural z n h = mul-ge-zero z (pos n) h (omega (arith, ints))
 
-worth_is : (vs : List ℕ) (f : UnknownForm) → worth vs f ≡ (f.constant +ℤ range_sum (λ u. f.coefficient u *ℤ number vs u) (length vs))
-unfolding worth
-worth_is vs f = refl
-
 natural_worth : (vs : List ℕ) (f : UnknownForm) → pos 0 ≤ℤ f.constant → ((u : ℕ) → pos 0 ≤ℤ f.coefficient u) → pos 0 ≤ℤ form_value vs f
 natural_worth vs f h i =
     let sum = sum_natural (λ u. f.coefficient u *ℤ number vs u) (length vs) (λ u _. coefficient_natural (f.coefficient u) (get_or vs u 0) (i u)) in
-    omega (arith, ints, h, sum, valued vs f, worth_is vs f)
+    omega (arith, ints, h, sum, value_is vs f)
 
 natural_unknown : (vs : List ℕ) (x : ℕ) → pos 0 ≤ℤ form_value vs (unknown_form x)
 natural_unknown vs x = natural_worth vs (unknown_form x) (omega (arith, ints)) (λ u. one_natural x u)

@@ -11,9 +11,9 @@ use Rattle.ta_moments.specs.Facts.{is_open, question_of, same_question}
 use Rattle.ta_moments.specs.Whole.{WholeNode, form_value, quiet_form}
 use Rattle.ta_moments_runs.specs.Nodes.{HasQuietRun}
 use Rattle.ta_moments_runs.proofs.Cutting.{cut_at}
-use Rattle.ta_moments_runs.proofs.Reading.{value_number, value_plus}
+use Rattle.ta_moments.proofs.Values.{value_number, value_plus, valued}
 use Rattle.ta_moments_runs.proofs.Saying.{Says}
-use Rattle.ta_moments_runs.proofs.Starting.{terms_worth, valued}
+use Rattle.ta_moments_runs.proofs.Starting.{terms_worth}
 use Rattle.ta_moments_runs.proofs.Wholes.{allowed, asked, read_of, whole_run}
 use Rattle.ta_rest.proofs.EndingLaws.{ending_early, endings_alike, positions_within}
 use Rattle.ta_rest.proofs.EndingShapes.{ending_last}

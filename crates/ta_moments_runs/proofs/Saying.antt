@@ -12,7 +12,8 @@ use Rattle.ta_moments.specs.Whole.{AtMost, SameStep, form_value, quiet_form}
 use Rattle.ta_moments_runs.specs.Chains.{OneFiring}
 use Rattle.ta_moments_runs.specs.Nodes.{IsMoment, IsNatural, LastStep, counts_of}
 use Rattle.ta_moments_runs.proofs.Pictures.{firings_same}
-use Rattle.ta_moments_runs.proofs.Reading.{Met, below_met, counter_met, fresh_natural, fresh_out, guard_met, met_left, met_map, met_right, needed_out, nothing_zero, spared_out, sum_counts, sum_filtered, value_minus, value_negated, value_number, value_opposite, value_plus}
+use Rattle.ta_moments.proofs.Values.{value_minus, value_negated, value_number, value_opposite, value_plus}
+use Rattle.ta_moments_runs.proofs.Reading.{Met, below_met, counter_met, fresh_natural, fresh_out, guard_met, met_left, met_map, met_right, needed_out, nothing_zero, spared_out, sum_counts, sum_filtered}
 use Rattle.ta_moments_runs.proofs.Starting.{natural_is}
 
 -- a moment with natural vectors, not behind the end, at which the counters are natural
