@@ -44,11 +44,11 @@ mapped_none : {X Y : Type 0} (f : X → Y) (o : Option X) → option_map f o ≡
 mapped_none f None e = refl
 mapped_none f (Some x) e = cc
 
-from_each : {X : Type 0} (g : X → List UnknownForm) (xs : List X) (f : UnknownForm) → In f (flat_map g xs) → (x : X) × In x xs × In f (g x)
-from_each g [] f i = absurd i
-from_each g (x ∷ xs) f i = elim (in_append f (g x) (flat_map g xs) i) [
+pub from_each : {X Y : Type 0} (g : X → List Y) (xs : List X) (y : Y) → In y (flat_map g xs) → (x : X) × In x xs × In y (g x)
+from_each g [] y i = absurd i
+from_each g (x ∷ xs) y i = elim (in_append y (g x) (flat_map g xs) i) [
   | inl here ↦ (x, inl refl, here)
-  | inr later ↦ (let w = from_each g xs f later in (w.0, inr w.1, w.2))
+  | inr later ↦ (let w = from_each g xs y later in (w.0, inr w.1, w.2))
 ]
 
 -- ---- known values
