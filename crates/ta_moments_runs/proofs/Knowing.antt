@@ -174,6 +174,7 @@ event_sound a p earlier vs candidate listed s rows e less =
     record {
       is_moment = record { early_natural = event_natural a p vs e; late_natural = event_natural a p vs e; in_order = λ r i. omega (arith, ints) };
       within = event_within a p earlier vs candidate listed s rows e less;
+      short = omega arith;
       early_counters = counters;
       late_counters = counters;
     }

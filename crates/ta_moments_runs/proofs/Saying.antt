@@ -9,17 +9,20 @@ use Rattle.ta_moments.proofs.Speaking.{Spoken, VectorSpeaks, vector_more}
 use Rattle.ta_moments.specs.Moments.{is_pair}
 use Rattle.ta_moments.specs.Refutes.{are_pairs}
 use Rattle.ta_moments.specs.Whole.{AtMost, SameStep, form_value, quiet_form}
-use Rattle.ta_moments_runs.specs.Chains.{OneFiring}
+use Rattle.ta_moments_runs.specs.Chains.{OneFiring, firings_in}
 use Rattle.ta_moments_runs.specs.Nodes.{IsMoment, IsNatural, LastStep, counts_of}
 use Rattle.ta_moments_runs.proofs.Pictures.{firings_same}
 use Rattle.ta_moments.proofs.Values.{value_minus, value_negated, value_number, value_opposite, value_plus}
 use Rattle.ta_moments_runs.proofs.Reading.{Met, below_met, counter_met, fresh_natural, fresh_out, guard_met, met_left, met_map, met_right, needed_out, nothing_zero, spared_out, sum_counts, sum_filtered}
+use Rattle.ta_moments_runs.proofs.Segments.{firings_between}
+use Rattle.ta_moments_runs.proofs.Settling.{fewer}
 use Rattle.ta_moments_runs.proofs.Starting.{natural_is}
 
 -- a moment with natural vectors, not behind the end, at which the counters are natural
 pub record Sound (a : Automaton) (p : Pattern) (vs : List ℕ) (end : Vector) (m : Moment) : Type 0 where
   pub is_moment : IsMoment a p vs m
   pub within : AtMost a p vs (late m) end
+  pub short : firings_in (moving_rules a p) (counts_of vs (late m)) ≤ firings_in (moving_rules a p) (counts_of vs (early m)) + 1
   pub early_counters : (l : ℕ) → l < length a.locations → has_bit p.empty l ≡ false → pos 0 ≤ℤ form_value vs (place_form a p (early m) (location_place a l))
   pub late_counters : (l : ℕ) → l < length a.locations → has_bit p.empty l ≡ false → pos 0 ≤ℤ form_value vs (place_form a p (late m) (location_place a l))
 
@@ -55,6 +58,7 @@ first_sound a p silent vs end k g s met =
     record {
       is_moment = record { early_natural = natural; late_natural = natural; in_order = λ r i. omega (arith, ints) };
       within = below_met a p (k.unknowns + length (sparing a p g)) v end vs speaks.0 s.ends (met_right vs (guard_at a p v (slice_get (guards a) g)) _ (met_right vs (counters_at a p v) _ met));
+      short = omega arith;
       early_counters = counters;
       late_counters = counters;
     }
@@ -118,25 +122,6 @@ after_is a p vs end unknowns g r = value_plus vs (before_vector a p end unknowns
 after_natural : (a : Automaton) (p : Pattern) (vs : List ℕ) (end : Vector) (unknowns g : ℕ) → LastRows a p vs end unknowns g → IsNatural a p vs (after_vector a p end unknowns g)
 after_natural a p vs end unknowns g rows r i = omega (arith, ints, after_is a p vs end unknowns g r, before_natural a p vs end unknowns g rows r i, step_natural a p vs unknowns g r)
 
-pub last_sound : (a : Automaton) (p : Pattern) (silent vs : List ℕ) (end : Vector) (k : Known) (g : ℕ) → Spoken a p end (with_fact a p silent end k (Last g)) → LastRows a p vs end k.unknowns g → Sound a p vs end (Pair (before_vector a p end k.unknowns g) (after_vector a p end k.unknowns g))
-last_sound a p silent vs end k g s rows =
-    let u = k.unknowns in
-    let before = before_vector a p end u g in
-    let after = after_vector a p end u g in
-    let speaks = s.moments (length k.moments) (Pair before after) (get_end k.moments (Pair before after) (length k.moments) refl) in
-    let n = u + length (sparing a p g) + length (needing a p g) in
-    let le : u + (length (sparing a p g) + length (needing a p g)) ≤ n = omega arith in
-    record {
-      is_moment = record {
-        early_natural = before_natural a p vs end u g rows;
-        late_natural = after_natural a p vs end u g rows;
-        in_order = λ r i. omega (arith, ints, after_is a p vs end u g r, step_natural a p vs u g r);
-      };
-      within = below_met a p n after end vs (vector_more (u + (length (sparing a p g) + length (needing a p g))) n after le speaks.1) (vector_more (u + (length (sparing a p g) + length (needing a p g))) n end le s.ends) rows.within;
-      early_counters = counter_met a p before vs rows.counters;
-      late_counters = counter_met a p after vs rows.counters_after;
-    }
-
 -- the step is one firing
 one_step : (a : Automaton) (p : Pattern) (vs : List ℕ) (end : Vector) (unknowns g : ℕ) → LastRows a p vs end unknowns g → OneFiring a p (counts_of vs (before_vector a p end unknowns g)) (counts_of vs (after_vector a p end unknowns g))
 one_step a p vs end unknowns g rows =
@@ -153,6 +138,26 @@ one_step a p vs end unknowns g rows =
     let value = value_minus vs (sum_form step (needing a p g)) (number_form (pos 1)) in
     let turned = value_opposite vs (steps_less_one a p unknowns g) in
     omega (arith, ints, same, only, sum, value, turned, value_number vs (pos 1), rows.one_least, rows.one_most)
+
+pub last_sound : (a : Automaton) (p : Pattern) (silent vs : List ℕ) (end : Vector) (k : Known) (g : ℕ) → Spoken a p end (with_fact a p silent end k (Last g)) → LastRows a p vs end k.unknowns g → Sound a p vs end (Pair (before_vector a p end k.unknowns g) (after_vector a p end k.unknowns g))
+last_sound a p silent vs end k g s rows =
+    let u = k.unknowns in
+    let before = before_vector a p end u g in
+    let after = after_vector a p end u g in
+    let speaks = s.moments (length k.moments) (Pair before after) (get_end k.moments (Pair before after) (length k.moments) refl) in
+    let n = u + length (sparing a p g) + length (needing a p g) in
+    let le : u + (length (sparing a p g) + length (needing a p g)) ≤ n = omega arith in
+    record {
+      is_moment = record {
+        early_natural = before_natural a p vs end u g rows;
+        late_natural = after_natural a p vs end u g rows;
+        in_order = λ r i. omega (arith, ints, after_is a p vs end u g r, step_natural a p vs u g r);
+      };
+      within = below_met a p n after end vs (vector_more (u + (length (sparing a p g) + length (needing a p g))) n after le speaks.1) (vector_more (u + (length (sparing a p g) + length (needing a p g))) n end le s.ends) rows.within;
+      short = omega (arith, one_step a p vs end u g rows, firings_between (moving_rules a p) (counts_of vs before) (counts_of vs after) (fewer a p vs before after (before_natural a p vs end u g rows) (after_natural a p vs end u g rows) (λ r i. omega (arith, ints, after_is a p vs end u g r, step_natural a p vs u g r))));
+      early_counters = counter_met a p before vs rows.counters;
+      late_counters = counter_met a p after vs rows.counters_after;
+    }
 
 pub last_says : (a : Automaton) (p : Pattern) (vs : List ℕ) (end : Vector) (unknowns g : ℕ) → LastRows a p vs end unknowns g → (ms : List Moment) → In (Pair (before_vector a p end unknowns g) (after_vector a p end unknowns g)) ms
     → (r : ℕ) (row : Row) → In r (needing a p g) → slice_get (guards a) g ≡ Some row → LastStep a p vs ms end r row

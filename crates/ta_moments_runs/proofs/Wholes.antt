@@ -151,6 +151,7 @@ whole_settled a p earlier asking node vs w =
       each = λ m i. (r.read.sound m i).is_moment;
       end_natural = end_natural a p vs node.candidate;
       within = λ m i. (r.read.sound m i).within;
+      short = λ m i. (r.read.sound m i).short;
       settled = λ m n i j.
           let x = place_of m ms i in
           let y = place_of n ms j in
@@ -193,7 +194,7 @@ whole_settled a p earlier asking node vs w =
       in_order = λ e f event at less set. after_met a p earlier vs node.candidate r.spoken r.first e f (slice_get_within p.events e event at) (ap (λ (o : Option Event). comes_after o f) at ∙ bit_true event.after f set);
     }
 
-pub whole_run : (a : Automaton) (p : Pattern) → ComeAfterEarlier p → InScope a → (asking : Asking) (node : Node) (values : List ℕ) → WholeNode a p asking node values → RunOfMoments a p values (λ e. Point (event_vector a p e))
+pub whole_run : (a : Automaton) (p : Pattern) → ComeAfterEarlier p → InScope a → (asking : Asking) (node : Node) (values : List ℕ) → WholeNode a p asking node values → RunOfMoments a p values (known_at a p asking node).moments (λ e. Point (event_vector a p e))
 whole_run a p earlier scope asking node vs w =
     let r = read_of a p earlier asking node vs w in
     let s = spoken a p asking.silent node.candidate w.candidate_is node.past in
