@@ -1,13 +1,14 @@
 -- the constants of the rows of nodes whose conditions have no positive ones
-use Rattle.ta_moments.proofs.Common.{◌≡◌, ◌⊎◌, inl, inr, ℕ, ◌+◌, ◌<◌, ◌≤◌, ℤ, pos, ◌+ℤ◌, ◌-ℤ◌, ◌*ℤ◌, ◌*◌, ◌≤ℤ◌, List, [], ◌∷◌, ◌++◌, map, flat_map, length, slice_get, Some, None, Option, Bool, true, false≢true, cond, ltb, nat_tests, arith, ints, sym, ap, ◌∙◌, refl, subst, *ℤ-zero, eqb_tells, slice_get_within, get_push, append-nil, All, AllByRecursion, In, in_append, in_at, in_filter, in_map, range_with_len, range_sum, Automaton, Pattern, Comparison, Event, Row, LinearRow, UnknownForm, times_form, minus_form, opposite_form, form_of_row, sum_form, terms_form, processes_row, opposite, condition_rows, start_meanings, answers, moving_rules, needing, sparing, Vector, Moment, Point, Known, nothing_fired, early, late, place_form, form_at, counters_at, condition_at, event_at, guard_at, guards, below, with_more, event_vector, end_vector, rows_at_start, rows_of_event, unknowns_at_first, rows_of_after, rows_of_end, at_first, first_vector, rows_of_order, rows_of_same, with_fact, fresh, known, location_place, of_events, Exists}
+use Rattle.ta_moments.proofs.Common.{Node, zero-*ℤ, ◌≡◌, ◌⊎◌, inl, inr, ℕ, ◌+◌, ◌<◌, ◌≤◌, ℤ, pos, ◌+ℤ◌, ◌-ℤ◌, ◌*ℤ◌, ◌*◌, ◌≤ℤ◌, List, [], ◌∷◌, ◌++◌, map, flat_map, length, slice_get, Some, None, Option, Bool, true, false≢true, cond, ltb, nat_tests, arith, ints, sym, ap, ◌∙◌, refl, subst, *ℤ-zero, eqb_tells, slice_get_within, get_push, append-nil, All, AllByRecursion, In, in_append, in_at, in_filter, in_map, range_with_len, range_sum, Automaton, Pattern, Comparison, Event, Row, LinearRow, UnknownForm, times_form, minus_form, opposite_form, form_of_row, sum_form, terms_form, processes_row, opposite, condition_rows, start_meanings, answers, moving_rules, needing, sparing, Vector, Moment, Point, Known, nothing_fired, early, late, place_form, form_at, counters_at, condition_at, event_at, guard_at, guards, below, with_more, event_vector, end_vector, rows_at_start, rows_of_event, unknowns_at_first, rows_of_after, rows_of_end, at_first, first_vector, rows_of_order, rows_of_same, with_fact, fresh, known, location_place, of_events, Exists}
 use Rattle.ta_encode.specs.System.{form_row}
 use Rattle.ta_moments.specs.Facts.{question_of}
 use Rattle.ta_moments.specs.Forms.{may_be_negative}
-use Rattle.ta_moments.specs.Scaled.{ConesHaveNoPositiveConstants, IsCone, NonePositive, ScaledValuesMeetCones, scaled_value}
+use Rattle.ta_moments.specs.Scaled.{ScaledQuestionsLeaveNothing, ConesHaveNoPositiveConstants, IsCone, NonePositive, ScaledValuesMeetCones, scaled_value}
 use Rattle.ta_moments.specs.Whole.{AreAnswers, form_value}
 use Rattle.ta_moments.specs.declared.fact.Fact.{Fact}
 use Rattle.ta_moments.specs.declared.fact.Fact.TheVariants.{Never, First, Stands, Last, Before, After, Same, Vacant, Fails}
-use Rattle.ta_moments.proofs.Unasked.{from_each}
+use Rattle.ta_moments.proofs.Unasked.{Agrees, from_each, guard_left, known_scaled, none_asked, orders_left}
+use Rattle.ta_moments.specs.Questions.{Values}
 use Rattle.ta_moments.proofs.Values.{value_is}
 use Rattle.ta_moments.proofs.Worth.{number}
 use Rattle.std.proofs.lemmas.Option.{get_or_from_slice_get}
@@ -230,3 +231,21 @@ scaled_rows scale numbers (f ∷ fs) some low met = (scaled_row scale numbers f 
 
 pub scaled_met : ScaledValuesMeetCones
 scaled_met a p c candidate past h scale numbers some met = scaled_rows scale numbers (known a p [] candidate past).rows some (none_positive a p c candidate past h) met
+
+-- ---- questions
+agrees : (scale : ℕ) (numbers : List ℕ) (f : UnknownForm) → f.constant ≡ pos 0 → Agrees (Some (record { denominator = pos scale; numbers = map pos numbers })) numbers f
+agrees scale numbers f bare z e =
+    let none = ap (λ (y : ℤ). y *ℤ pos scale) bare ∙ zero-*ℤ (pos scale) in
+    omega (arith, ints, known_scaled (pos scale) numbers f z e, none, bare, value_is numbers f)
+
+pub scaled_left : ScaledQuestionsLeaveNothing
+scaled_left a p c candidate past h scale numbers e =
+    let values : Values = Some (record { denominator = pos scale; numbers = map pos numbers }) in
+    let node : Node = record { candidate = candidate; past = past; bounds = [] } in
+    let end = end_vector a p candidate in
+    let none = none_asked a p of_events node values e in
+    record {
+      guards_asked = guard_left a p past values numbers end (λ r. agrees scale numbers (end r) (bare_end a p candidate r)) none.guards_left;
+      orders_settled = orders_left a p past values numbers Bare (λ v w bv bw r. agrees scale numbers (minus_form (w r) (v r)) (omega (arith, ints, bv r, bw r))) (known a p [] candidate past).moments (low_node a p c candidate past h).moments none.order_none;
+      none_enabled = λ rest. absurd (false≢true rest);
+    }

@@ -1,12 +1,12 @@
 -- where no question is to be asked at natural values, none is left
-use Rattle.ta_moments.proofs.Common.{range_sum, ◌≡◌, inl, inr, ℕ, zero, suc, ◌+◌, ◌<◌, ℤ, pos, negsuc, ◌+ℤ◌, ◌*ℤ◌, ◌≤ℤ◌, ◌<ℤ◌, List, [], ◌∷◌, ◌&&◌, ◌||◌, map, filter, flat_map, length, slice_get, get_or, Some, None, Option, Bool, true, false, not, cond, arith, ints, ap, ◌∙◌, refl, subst, sym, length-append, length-map, cases_Bool, and_from, and_parts, or_cases, false≢true, same_Some, slice_get_within, range_with_len, range_sum-same, total, total-append, In, In-filter, In-map, In-numbers, in_append, in_filter, Automaton, Pattern, Row, Rule, UnknownForm, minus_form, OfGuard, OfOrder, OfStuck, Fact, guards_of, has_guard, may_be_stuck, moving_rules, needing, Vector, Moment, Point, Pair, early, late, guards, guard_at, quiet_at, source_at, place_form, location_place, end_vector}
+use Rattle.ta_moments.proofs.Common.{Asking, Node, known_at, range_sum, ◌≡◌, inl, inr, ℕ, zero, suc, ◌+◌, ◌<◌, ℤ, pos, negsuc, ◌+ℤ◌, ◌*ℤ◌, ◌≤ℤ◌, ◌<ℤ◌, List, [], ◌∷◌, ◌&&◌, ◌||◌, map, filter, flat_map, length, slice_get, get_or, Some, None, Option, Bool, true, false, not, cond, arith, ints, ap, ◌∙◌, refl, subst, sym, length-append, length-map, cases_Bool, and_from, and_parts, or_cases, false≢true, same_Some, slice_get_within, range_with_len, range_sum-same, total, total-append, In, In-filter, In-map, In-numbers, in_append, in_filter, Automaton, Pattern, Row, Rule, UnknownForm, minus_form, OfGuard, OfOrder, OfStuck, Fact, guards_of, has_guard, may_be_stuck, moving_rules, needing, Vector, Moment, Point, Pair, early, late, guards, guard_at, quiet_at, source_at, place_form, location_place, end_vector}
 use Rattle.std.specs.List.{find, list_all, list_any}
 use Rattle.std.specs.Option.{option_map, option_or}
 use Rattle.ta_base.proofs.Lists.{range_more}
 use Rattle.ta_moments.proofs.Values.{value_is, value_minus}
 use Rattle.ta_moments.proofs.Worth.{number}
 use Rattle.ta_moments.specs.Facts.{is_open}
-use Rattle.ta_moments.specs.Questions.{GuardAtEnd, RuleAtEnd, Values, are_settled, counts_natural, counts_positive, first_order, fits, guard_to_ask, guards_at_end, if_fits, is_at_most, is_guard_open, is_known_natural, is_needed, is_order_open, is_rule_open, is_same_step, is_settled, known_value, natural_values, order_before, order_to_ask, parts_at, rule_to_ask, rules_at_end, with_product, with_products}
+use Rattle.ta_moments.specs.Questions.{GuardAtEnd, RuleAtEnd, Values, are_settled, counts_natural, counts_positive, first_order, fits, guard_to_ask, guards_at_end, if_fits, is_at_most, is_guard_open, is_known_natural, is_needed, is_order_open, is_rule_open, is_same_step, is_settled, known_value, natural_values, next_question, order_before, order_to_ask, parts_at, rule_to_ask, rules_at_end, with_product, with_products}
 use Rattle.ta_moments.specs.Whole.{AtMost, NoQuestionLeavesNothing, SameStep, Settled, form_value, quiet_form}
 
 -- ---- lists and options
@@ -81,14 +81,21 @@ mapped_at [] u = refl
 mapped_at (v ∷ vs) zero = refl
 mapped_at (v ∷ vs) (suc u) = mapped_at vs u
 
--- a form's value at natural values, if it is known, is its value
-known_is : (vs : List ℕ) (f : UnknownForm) (z : ℤ) → known_value (natural_values vs) f ≡ Some z → z ≡ form_value vs f
-known_is vs f z e =
+-- a form's value at numbers over a denominator, if it is known
+pub known_scaled : (d : ℤ) (vs : List ℕ) (f : UnknownForm) (z : ℤ) → known_value (Some (record { denominator = d; numbers = map pos vs })) f ≡ Some z → z ≡ ((f.constant *ℤ d) +ℤ range_sum (λ u. f.coefficient u *ℤ number vs u) (length vs))
+known_scaled d vs f z e =
     let n = length (map pos vs) in
-    let sum = known_sum f.coefficient (map pos vs) (f.constant *ℤ pos 1) n z e in
+    let sum = known_sum f.coefficient (map pos vs) (f.constant *ℤ d) n z e in
     let same = range_sum-same (λ u. f.coefficient u *ℤ get_or (map pos vs) u (pos 0)) (λ u. f.coefficient u *ℤ number vs u) n (λ u _. ap (λ x. f.coefficient u *ℤ x) (mapped_at vs u)) in
     let long = ap (range_sum (λ u. f.coefficient u *ℤ number vs u)) (length-map vs pos) in
-    omega (arith, ints, sum, same, long, value_is vs f)
+    omega (arith, ints, sum, same, long)
+
+-- what is known of a form is its value at natural values
+abbrev pub Agrees : Values → List ℕ → UnknownForm → Type 0
+Agrees values vs f = (z : ℤ) → known_value values f ≡ Some z → z ≡ form_value vs f
+
+known_is : (vs : List ℕ) (f : UnknownForm) → Agrees (natural_values vs) vs f
+known_is vs f z e = omega (arith, ints, known_scaled (pos 1) vs f z e, value_is vs f)
 
 at_most_zero : (o : Option ℤ) (z : ℤ) → ((y : ℤ) → o ≡ Some y → y ≡ z) → counts_positive o ≡ false → z ≤ℤ pos 0
 at_most_zero None z h e = absurd (false≢true (sym e))
@@ -113,43 +120,47 @@ known_natural (Some (pos n)) z h e = omega (arith, ints, h (pos n) refl)
 known_natural (Some (negsuc n)) z h e = absurd (false≢true e)
 
 -- ---- guards
-guard_left : (a : Automaton) (p : Pattern) (past : List Fact) (vs : List ℕ) (end : Vector) → guard_to_ask past (natural_values vs) end (guards_at_end a p end) ≡ None → (g : ℕ) → g < length a.rise + length a.fall → is_open past (OfGuard g) ≡ true
+pub guard_left : (a : Automaton) (p : Pattern) (past : List Fact) (values : Values) (vs : List ℕ) (end : Vector) → ((r : ℕ) → Agrees values vs (end r)) → guard_to_ask past values end (guards_at_end a p end) ≡ None → (g : ℕ) → g < length a.rise + length a.fall → is_open past (OfGuard g) ≡ true
     → (r : ℕ) → In r (needing a p g) → form_value vs (end r) ≤ℤ pos 0
-guard_left a p past vs end e g less open_there r i =
-    let values = natural_values vs in
+guard_left a p past values vs end agrees e g less open_there r i =
     let guard : GuardAtEnd = record { number = g; needing = needing a p g; rows = guard_at a p end (slice_get (guards a) g) } in
     let listed : In guard (guards_at_end a p end) = In-map _ g (range_with_len 0 (length (guards a))) (In-numbers g 0 (length (guards a)) (omega arith) (omega (arith, length-append a.rise a.fall, less))) in
     let none = none_found (is_guard_open past values end) (guards_at_end a p end) (neither_some _ _ e).1 guard listed in
     let unneeded : is_needed values end guard ≡ false = ap (λ b. b && is_needed values end guard) (sym open_there) ∙ none in
-    at_most_zero (known_value values (end r)) (form_value vs (end r)) (known_is vs (end r)) (none_any (λ q. counts_positive (known_value values (end q))) (needing a p g) unneeded r i)
+    at_most_zero (known_value values (end r)) (form_value vs (end r)) (agrees r) (none_any (λ q. counts_positive (known_value values (end q))) (needing a p g) unneeded r i)
 
 -- ---- orders
-at_most_is : (a : Automaton) (p : Pattern) (vs : List ℕ) (v w : Vector) → is_at_most (moving_rules a p) (natural_values vs) v w ≡ true → AtMost a p vs v w
-at_most_is a p vs v w t r i =
+-- what is known of the difference of two vectors of a kind is its value at natural values
+abbrev pub DiffersSo : Values → List ℕ → (Vector → Type 0) → Type 0
+DiffersSo values vs Kind = (v w : Vector) → Kind v → Kind w → (r : ℕ) → Agrees values vs (minus_form (w r) (v r))
+
+abbrev pub BothAre : (Vector → Type 0) → Moment → Type 0
+BothAre Kind m = Kind (early m) × Kind (late m)
+
+at_most_is : (a : Automaton) (p : Pattern) (values : Values) (vs : List ℕ) (v w : Vector) → ((r : ℕ) → Agrees values vs (minus_form (w r) (v r))) → is_at_most (moving_rules a p) values v w ≡ true → AtMost a p vs v w
+at_most_is a p values vs v w agrees t r i =
     let f = minus_form (w r) (v r) in
-    let least = known_natural (known_value (natural_values vs) f) (form_value vs f) (known_is vs f) (all_pass (λ q. is_known_natural (known_value (natural_values vs) (minus_form (w q) (v q)))) (moving_rules a p) t r i) in
+    let least = known_natural (known_value values f) (form_value vs f) (agrees r) (all_pass (λ q. is_known_natural (known_value values (minus_form (w q) (v q)))) (moving_rules a p) t r i) in
     omega (arith, ints, least, value_minus vs (w r) (v r))
 
-same_step_is : (a : Automaton) (p : Pattern) (vs : List ℕ) (x y : Moment) → is_same_step (moving_rules a p) (natural_values vs) x y ≡ true → SameStep a p vs x y
-same_step_is a p vs (Point v) y t = absurd (false≢true t)
-same_step_is a p vs (Pair v w) (Point y) t = absurd (false≢true t)
-same_step_is a p vs (Pair v w) (Pair x y) t =
+same_step_is : (a : Automaton) (p : Pattern) (values : Values) (vs : List ℕ) (Kind : Vector → Type 0) → DiffersSo values vs Kind → (x y : Moment) → BothAre Kind x → BothAre Kind y → is_same_step (moving_rules a p) values x y ≡ true → SameStep a p vs x y
+same_step_is a p values vs Kind differs (Point v) y kx ky t = absurd (false≢true t)
+same_step_is a p values vs Kind differs (Pair v w) (Point y) kx ky t = absurd (false≢true t)
+same_step_is a p values vs Kind differs (Pair v w) (Pair x y) kx ky t =
     let rs = moving_rules a p in
-    let ns = natural_values vs in
-    let both = and_parts (is_at_most rs ns v x && is_at_most rs ns x v) (is_at_most rs ns w y && is_at_most rs ns y w) t in
-    let one = and_parts (is_at_most rs ns v x) (is_at_most rs ns x v) both.0 in
-    let two = and_parts (is_at_most rs ns w y) (is_at_most rs ns y w) both.1 in
-    (at_most_is a p vs v x one.0, at_most_is a p vs x v one.1, at_most_is a p vs w y two.0, at_most_is a p vs y w two.1)
+    let both = and_parts (is_at_most rs values v x && is_at_most rs values x v) (is_at_most rs values w y && is_at_most rs values y w) t in
+    let one = and_parts (is_at_most rs values v x) (is_at_most rs values x v) both.0 in
+    let two = and_parts (is_at_most rs values w y) (is_at_most rs values y w) both.1 in
+    (at_most_is a p values vs v x (differs v x kx.0 ky.0) one.0, at_most_is a p values vs x v (differs x v ky.0 kx.0) one.1, at_most_is a p values vs w y (differs w y kx.1 ky.1) two.0, at_most_is a p values vs y w (differs y w ky.1 kx.1) two.1)
 
-settled_is : (a : Automaton) (p : Pattern) (vs : List ℕ) (x y : Moment) → is_settled (moving_rules a p) (natural_values vs) x y ≡ true → Settled a p vs x y
-settled_is a p vs x y t =
+settled_is : (a : Automaton) (p : Pattern) (values : Values) (vs : List ℕ) (Kind : Vector → Type 0) → DiffersSo values vs Kind → (x y : Moment) → BothAre Kind x → BothAre Kind y → is_settled (moving_rules a p) values x y ≡ true → Settled a p vs x y
+settled_is a p values vs Kind differs x y kx ky t =
     let rs = moving_rules a p in
-    let ns = natural_values vs in
-    elim (or_cases (is_at_most rs ns (late x) (early y)) (is_at_most rs ns (late y) (early x) || is_same_step rs ns x y) t) [
-      | inl one ↦ inl (at_most_is a p vs (late x) (early y) one)
-      | inr more ↦ elim (or_cases (is_at_most rs ns (late y) (early x)) (is_same_step rs ns x y) more) [
-        | inl two ↦ inr (inl (at_most_is a p vs (late y) (early x) two))
-        | inr same ↦ inr (inr (same_step_is a p vs x y same))
+    elim (or_cases (is_at_most rs values (late x) (early y)) (is_at_most rs values (late y) (early x) || is_same_step rs values x y) t) [
+      | inl one ↦ inl (at_most_is a p values vs (late x) (early y) (differs (late x) (early y) kx.1 ky.0) one)
+      | inr more ↦ elim (or_cases (is_at_most rs values (late y) (early x)) (is_same_step rs values x y) more) [
+        | inl two ↦ inr (inl (at_most_is a p values vs (late y) (early x) (differs (late y) (early x) ky.1 kx.0) two))
+        | inr same ↦ inr (inr (same_step_is a p values vs Kind differs x y kx ky same))
       ]
     ]
 
@@ -159,17 +170,16 @@ order_left moving past values ms (z ∷ ys) e y i =
     let both = neither_some (order_before moving past values ms z) (first_order moving past values ms ys) e in
     elim i [ inl same ↦ subst (λ (x : ℕ). order_before moving past values ms x ≡ None) (sym same) both.0 | inr j ↦ order_left moving past values ms ys both.1 y j ]
 
-orders_left : (a : Automaton) (p : Pattern) (past : List Fact) (vs : List ℕ) (ms : List Moment) → order_to_ask (moving_rules a p) past (natural_values vs) ms ≡ None → (x y : ℕ) (m n : Moment) → x < y → slice_get ms x ≡ Some m → slice_get ms y ≡ Some n
-    → is_open past (OfOrder x y) ≡ true → Settled a p vs m n
-orders_left a p past vs ms e x y m n less at there open_there =
+pub orders_left : (a : Automaton) (p : Pattern) (past : List Fact) (values : Values) (vs : List ℕ) (Kind : Vector → Type 0) → DiffersSo values vs Kind → (ms : List Moment) → ((x : ℕ) (m : Moment) → slice_get ms x ≡ Some m → BothAre Kind m) → order_to_ask (moving_rules a p) past values ms ≡ None
+    → (x y : ℕ) (m n : Moment) → x < y → slice_get ms x ≡ Some m → slice_get ms y ≡ Some n → is_open past (OfOrder x y) ≡ true → Settled a p vs m n
+orders_left a p past values vs Kind differs ms kinds e x y m n less at there open_there =
     let rs = moving_rules a p in
-    let ns = natural_values vs in
     let within = slice_get_within ms y n there in
-    let before = order_left rs past ns ms (range_with_len 0 (length ms)) e y (In-numbers y 0 (length ms) (omega arith) (omega arith)) in
-    let none = none_found (is_order_open rs past ns ms y) (range_with_len 0 y) (mapped_none (λ z. OfOrder z y) (find (is_order_open rs past ns ms y) (range_with_len 0 y)) before) x (In-numbers x 0 y (omega arith) (omega arith)) in
-    let both : are_settled rs ns (Some m) (Some n) ≡ are_settled rs ns (slice_get ms x) (slice_get ms y) = sym (ap (λ (o : Option Moment). are_settled rs ns o (slice_get ms y)) at ∙ ap (are_settled rs ns (Some m)) there) in
-    elim (cases_Bool (are_settled rs ns (slice_get ms x) (slice_get ms y))) [
-      | inl t ↦ settled_is a p vs m n (both ∙ t)
+    let before = order_left rs past values ms (range_with_len 0 (length ms)) e y (In-numbers y 0 (length ms) (omega arith) (omega arith)) in
+    let none = none_found (is_order_open rs past values ms y) (range_with_len 0 y) (mapped_none (λ z. OfOrder z y) (find (is_order_open rs past values ms y) (range_with_len 0 y)) before) x (In-numbers x 0 y (omega arith) (omega arith)) in
+    let both : are_settled rs values (Some m) (Some n) ≡ are_settled rs values (slice_get ms x) (slice_get ms y) = sym (ap (λ (o : Option Moment). are_settled rs values o (slice_get ms y)) at ∙ ap (are_settled rs values (Some m)) there) in
+    elim (cases_Bool (are_settled rs values (slice_get ms x) (slice_get ms y))) [
+      | inl t ↦ settled_is a p values vs Kind differs m n (kinds x m at) (kinds y n there) (both ∙ t)
       | inr f ↦ absurd (false≢true (sym none ∙ and_from _ _ open_there (ap not f)))
     ]
 
@@ -201,18 +211,32 @@ rule_left a p silent past vs end e r rule named may open_there some holds =
     quiet_natural g (Some row) at has f (inl same) = subst (λ (x : UnknownForm). pos 0 ≤ℤ form_value vs x) (sym same) (holds g row at has)
     quiet_natural g (Some row) at has f (inr out) = absurd out
 
-pub nothing_left : NoQuestionLeavesNothing
-nothing_left a p asking node vs e =
-    let values = natural_values vs in
+-- what is none where the question of a vertex is none
+pub record NoneAsked (a : Automaton) (p : Pattern) (asking : Asking) (node : Node) (values : Values) : Type 0 where
+  pub guards_left : guard_to_ask node.past values (end_vector a p node.candidate) (guards_at_end a p (end_vector a p node.candidate)) ≡ None
+  pub order_none : order_to_ask (moving_rules a p) node.past values (known_at a p asking node).moments ≡ None
+  pub rules_left : rule_to_ask node.past values (cond asking.rest (rules_at_end a p asking.silent (end_vector a p node.candidate)) []) ≡ None
+
+pub none_asked : (a : Automaton) (p : Pattern) (asking : Asking) (node : Node) (values : Values) → next_question a p asking node values ≡ None → NoneAsked a p asking node values
+none_asked a p asking node values e =
     let past = node.past in
     let parts = parts_at a p asking node in
     let end = end_vector a p node.candidate in
     let one = neither_some (option_map (λ (guard : GuardAtEnd). OfGuard guard.number) (guard_to_ask past values end (guards_at_end a p end))) (option_or (order_to_ask parts.moving past values parts.moments) (option_map (λ (rule : RuleAtEnd). OfStuck rule.number) (rule_to_ask past values parts.rules))) e in
     let two = neither_some (order_to_ask parts.moving past values parts.moments) (option_map (λ (rule : RuleAtEnd). OfStuck rule.number) (rule_to_ask past values parts.rules)) one.1 in
-    let guards_left = mapped_none (λ (guard : GuardAtEnd). OfGuard guard.number) (guard_to_ask past values end (guards_at_end a p end)) one.0 in
-    let rules_left = mapped_none (λ (rule : RuleAtEnd). OfStuck rule.number) (rule_to_ask past values parts.rules) two.1 in
     record {
-      guards_asked = guard_left a p past vs end guards_left;
-      orders_settled = orders_left a p past vs parts.moments two.0;
-      none_enabled = λ rest. rule_left a p asking.silent past vs end (subst (λ (b : Bool). rule_to_ask past values (cond b (rules_at_end a p asking.silent end) []) ≡ None) rest rules_left);
+      guards_left = mapped_none (λ (guard : GuardAtEnd). OfGuard guard.number) (guard_to_ask past values end (guards_at_end a p end)) one.0;
+      order_none = two.0;
+      rules_left = mapped_none (λ (rule : RuleAtEnd). OfStuck rule.number) (rule_to_ask past values parts.rules) two.1;
+    }
+
+pub nothing_left : NoQuestionLeavesNothing
+nothing_left a p asking node vs e =
+    let values = natural_values vs in
+    let end = end_vector a p node.candidate in
+    let none = none_asked a p asking node values e in
+    record {
+      guards_asked = guard_left a p node.past values vs end (λ r. known_is vs (end r)) none.guards_left;
+      orders_settled = orders_left a p node.past values vs (λ v. Unit {0}) (λ v w _ _ r. known_is vs (minus_form (w r) (v r))) (known_at a p asking node).moments (λ x m at. (tt, tt)) none.order_none;
+      none_enabled = λ rest. rule_left a p asking.silent node.past vs end (subst (λ (b : Bool). rule_to_ask node.past values (cond b (rules_at_end a p asking.silent end) []) ≡ None) rest none.rules_left);
     }

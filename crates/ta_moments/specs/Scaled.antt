@@ -1,6 +1,6 @@
 -- Nodes whose vertices give natural values (this project's profile; threshold automata whose conditions are cones, as most are). Where no
 -- row has a positive constant, a solution in fractions times its common denominator is a solution in natural numbers
-use Rattle.std.specs.Prelude.{ℕ, ℤ, pos, ◌≡◌, ◌+ℤ◌, ◌*ℤ◌, ◌≤ℤ◌, ◌≤◌, ◌↔◌, All, List, [], length, slice_get, Option, Some}
+use Rattle.std.specs.Prelude.{ℕ, ℤ, pos, ◌≡◌, ◌+ℤ◌, ◌*ℤ◌, ◌≤ℤ◌, ◌≤◌, ◌↔◌, All, List, [], length, map, slice_get, None, Option, Some}
 use Rattle.std.specs.List.{AllByRecursion, range_with_len}
 use Rattle.ta_base.specs.Sums.{total}
 use Rattle.ta_linear.specs.Values.{Solves}
@@ -16,8 +16,9 @@ use Rattle.ta_moments.specs.Code.{NodeSystem}
 use Rattle.ta_moments.specs.Facts.{Fact}
 use Rattle.ta_moments.specs.Forms.{UnknownForm}
 use Rattle.ta_moments.specs.Moments.{known}
+use Rattle.ta_moments.specs.Questions.{next_question}
 use Rattle.ta_moments.specs.Refutes.{Asking, Node, known_at, node_rows, of_events}
-use Rattle.ta_moments.specs.Whole.{AreAnswers, form_value}
+use Rattle.ta_moments.specs.Whole.{AreAnswers, NothingLeft, form_value}
 
 -- no row of a condition has a positive constant
 abbrev pub NonePositive : Condition → Type 0
@@ -52,6 +53,15 @@ ScaledValuesMeetCones =
     → (scale : ℕ) (numbers : List ℕ) → 1 ≤ scale
     → AllByRecursion (λ f. pos 0 ≤ℤ scaled_value scale numbers f) (known a p [] candidate past).rows
     → AllByRecursion (λ f. pos 0 ≤ℤ form_value numbers f) (known a p [] candidate past).rows
+
+-- and where no question is to be asked at a vertex of such a node, none is left at the vertex times its denominator
+abbrev pub ScaledQuestionsLeaveNothing : Type 0
+ScaledQuestionsLeaveNothing =
+    (a : Automaton) (p : Pattern) → IsCone a p
+    → (candidate : Option ℕ) (past : List Fact) → AreAnswers a p of_events candidate past
+    → (scale : ℕ) (numbers : List ℕ)
+    → next_question a p of_events (record { candidate = candidate; past = past; bounds = [] }) (Some (record { denominator = pos scale; numbers = map pos numbers })) ≡ None
+    → NothingLeft a p of_events (record { candidate = candidate; past = past; bounds = [] }) numbers
 
 -- the code's system of such a node has no positive constant either
 abbrev pub SystemsOfConesHaveNoPositiveConstants : Type 0

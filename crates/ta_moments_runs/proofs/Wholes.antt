@@ -1,5 +1,5 @@
 -- natural values of a whole node are settled moments, and so a run
-use Rattle.ta_moments.proofs.Common.{◌≡◌, ◌⊎◌, inl, inr, ℕ, ◌+◌, ◌-◌, ◌<◌, ◌≤◌, pos, ◌≤ℤ◌, List, [], ◌∷◌, map, length, slice_get, Some, Option, Bool, true, false, not, ◌&&◌, eqb, ltb, cond, arith, sym, ap, ◌∙◌, refl, subst, ints, cases_Bool, cases_lt, and_parts, eqb-true, nat_tests, false≢true, same_Some, slice_get_within, bit_true, has_bit, In, In-filter, in_at, Automaton, Pattern, Event, Row, Rule, File, ComeAfterEarlier, after_earlier, pattern_within, comes_after, has_guard, moving_rules, needing, Moment, Point, Pair, Known, known, guards, event_vector, end_vector, rows_at_start, form_of_row, bound_row, answers, Asking, Node, known_at, node_rows}
+use Rattle.ta_moments.proofs.Common.{AllByRecursion, UnknownForm, append-nil, of_events, ◌≡◌, ◌⊎◌, inl, inr, ℕ, ◌+◌, ◌-◌, ◌<◌, ◌≤◌, pos, ◌≤ℤ◌, List, [], ◌∷◌, map, length, slice_get, Some, Option, Bool, true, false, not, ◌&&◌, eqb, ltb, cond, arith, sym, ap, ◌∙◌, refl, subst, ints, cases_Bool, cases_lt, and_parts, eqb-true, nat_tests, false≢true, same_Some, slice_get_within, bit_true, has_bit, In, In-filter, in_at, Automaton, Pattern, Event, Row, Rule, File, ComeAfterEarlier, after_earlier, pattern_within, comes_after, has_guard, moving_rules, needing, Moment, Point, Pair, Known, known, guards, event_vector, end_vector, rows_at_start, form_of_row, bound_row, answers, Asking, Node, known_at, node_rows}
 use Rattle.ta_moments.specs.declared.fact.Question.{Question}
 use Rattle.ta_moments.specs.declared.fact.Question.TheVariants.{OfGuard, OfOrder}
 use Rattle.ta_moments.specs.declared.fact.Fact.{Fact}
@@ -12,7 +12,8 @@ use Rattle.ta_encode.specs.Laws.{HasRun}
 use Rattle.ta_moments.proofs.Speaking.{spoken}
 use Rattle.ta_moments.specs.Facts.{is_open, question_of, same_question}
 use Rattle.ta_moments.specs.Whole.{AreAnswers, NothingLeft, SameStep, Settled, WholeNode, form_value}
-use Rattle.ta_moments_runs.specs.Nodes.{RunOfMoments, SettledMoments}
+use Rattle.ta_moments.proofs.Cones.{scaled_left, scaled_met}
+use Rattle.ta_moments_runs.specs.Nodes.{VerticesOfConesBecomeRuns, RunOfMoments, SettledMoments}
 use Rattle.ta_moments_runs.proofs.Knowing.{NodeRead, after_met, event_moment, end_natural, event_holds, node_read}
 use Rattle.ta_moments_runs.proofs.Nodes.{settled_runs}
 use Rattle.ta_moments_runs.proofs.Reading.{all_met, met_all, met_left}
@@ -208,3 +209,17 @@ whole_runs a p earlier scope asking node vs w =
 pub whole_of_file : (file : File) (n : ℕ) (p : Pattern) → slice_get file.patterns n ≡ Some p → InScope file.automaton → (asking : Asking) (node : Node) (values : List ℕ) → WholeNode file.automaton p asking node values → HasRun file.automaton p values
 whole_of_file file n p at scope asking node vs w =
     whole_runs file.automaton p (λ e event here f b. after_earlier (length file.automaton.parameters + length file.automaton.shared + length file.automaton.locations) (length file.automaton.locations) p (pattern_within file n p at) e event here f b) scope asking node vs w
+
+-- ---- cones
+pub cone_runs : VerticesOfConesBecomeRuns
+cone_runs a p earlier scope cone candidate past scale numbers v =
+    let node : Node = record { candidate = candidate; past = past; bounds = [] } in
+    let rows = (known a p [] candidate past).rows in
+    let met = scaled_met a p cone candidate past v.answered scale numbers v.some v.met in
+    whole_runs a p earlier scope of_events node numbers (record {
+      candidate_is = v.candidate_is;
+      answered = v.answered;
+      count = v.count;
+      met = subst (λ (fs : List UnknownForm). AllByRecursion (λ row. pos 0 ≤ℤ form_value numbers row) fs) (sym (append-nil rows)) met;
+      nothing_left = scaled_left a p cone candidate past v.answered scale numbers v.no_question;
+    })
