@@ -1,5 +1,9 @@
 -- a run in which a pattern occurs, cut behind its events
-use Rattle.ta_moments.proofs.Common.{◌≡◌, ℕ, zero, suc, ◌≤◌, List, [], ◌∷◌, take, length, get_or, slice_get, Some, arith, refl, subst, slice_get_within, slice_get-get_or, Automaton, Pattern, At, Config, Occurs, Steps}
+use Rattle.std.specs.Prelude.{replicate}
+use Rattle.std.proofs.Math.Seq.{take-append-add}
+use Rattle.std.proofs.lemmas.List.{append-nil, length-replicate, take-append-le, take-replicate}
+use Rattle.ta_moments_runs.specs.Chains.{InSteps, fired_steps}
+use Rattle.ta_moments.proofs.Common.{inl, inr, ap, sym, ◌∙◌, cases_lt, ◌++◌, ◌+◌, ◌-◌, ◌≡◌, ℕ, zero, suc, ◌≤◌, List, [], ◌∷◌, take, length, get_or, slice_get, Some, arith, refl, subst, slice_get_within, slice_get-get_or, Automaton, Pattern, At, Config, Occurs, Steps}
 use Rattle.std.proofs.Common.{length-take-le}
 use Rattle.ta_base.proofs.Lists.{front_get, get_front}
 use Rattle.std.proofs.lemmas.Option.{get_or_from_slice_get}
@@ -47,3 +51,35 @@ cut_at a p first rules o k within all = record {
   later = at_uncut first o.later k;
   long = length-take-le k rules within;
 }
+
+-- ---- the accelerated steps of a cut run
+record CutSteps (k : ℕ) (steps : List (ℕ × ℕ)) : Type 0 where
+  pub left : List (ℕ × ℕ)
+  pub are : take k (fired_steps steps) ≡ fired_steps left
+  pub few : length left ≤ length steps
+
+cut_steps : (k : ℕ) (steps : List (ℕ × ℕ)) → CutSteps k steps
+cut_steps k [] = record { left = []; are = nothing_taken k; few = omega arith } where
+  nothing_taken : (j : ℕ) → take j (fired_steps []) ≡ fired_steps []
+  nothing_taken zero = refl
+  nothing_taken (suc j) = refl
+cut_steps k (s ∷ steps) = elim (cases_lt k s.1) [
+  | inl less ↦ record {
+    left = (s.0, k) ∷ [];
+    are = take-append-le k (replicate s.1 s.0) (fired_steps steps) (omega (arith, length-replicate s.1 s.0, less)) ∙ take-replicate k s.1 s.0 (omega arith) ∙ sym (append-nil (replicate k s.0));
+    few = omega arith;
+  }
+  | inr more ↦ (
+      let r = cut_steps (k - s.1) steps in
+      let sum : k ≡ length (replicate s.1 s.0) + (k - s.1) = omega (arith, length-replicate s.1 s.0, more) in
+      record {
+        left = s ∷ r.left;
+        are = ap (λ (j : ℕ). take j (replicate s.1 s.0 ++ fired_steps steps)) sum ∙ take-append-add (replicate s.1 s.0) (fired_steps steps) (k - s.1) ∙ ap (λ (xs : List ℕ). replicate s.1 s.0 ++ xs) r.are;
+        few = (let rest = r.few in omega (arith, rest));
+      })
+]
+
+pub cut_few : (rules : List ℕ) (n k : ℕ) → InSteps rules n → InSteps (take k rules) n
+cut_few rules n k h =
+    let c = cut_steps k h.steps in
+    record { steps = c.left; are = ap (λ (xs : List ℕ). take k xs) h.are ∙ c.are; few = (let one = c.few in let two = h.few in omega (arith, one, two)) }

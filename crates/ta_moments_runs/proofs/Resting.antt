@@ -1,5 +1,5 @@
 -- natural values of a whole node at rest are a run that comes to quiet rest
-use Rattle.ta_moments.proofs.Common.{◌≡◌, ◌⊎◌, inl, inr, ℕ, ◌+◌, ◌-◌, ◌<◌, ◌≤◌, pos, ◌+ℤ◌, ◌≤ℤ◌, ◌<ℤ◌, List, [], ◌∷◌, take, map, filter, length, get_or, slice_get, Some, None, Option, Bool, true, false, not, eqb, ltb, cond, arith, sym, ap, ◌∙◌, refl, subst, ints, cases_Bool, cases_lt, and_from, eqb-true, ne_eqb, nat_tests, false≢true, some_at, slice_get_within, slice_get-get_or, bit_set, has_bit, range_with_len, in_numbers, any_below-at, In, in_filter, in_map, length-append, Automaton, Pattern, Event, Row, Rule, At, Config, Fits, value_at, value_at-location, location_place, terms_value, ComeAfterEarlier, candidates, comes_after, has_later, guards_of, may_be_stuck, has_guard, place_form, guards, end_vector, answers, Known, Node, known_at, of_rest, loud_terms, UnknownForm, number_form, terms_form, MustMove, QuietRest, without}
+use Rattle.ta_moments.proofs.Common.{◌*◌, ◌≡◌, ◌⊎◌, inl, inr, ℕ, ◌+◌, ◌-◌, ◌<◌, ◌≤◌, pos, ◌+ℤ◌, ◌≤ℤ◌, ◌<ℤ◌, List, [], ◌∷◌, take, map, filter, length, get_or, slice_get, Some, None, Option, Bool, true, false, not, eqb, ltb, cond, arith, sym, ap, ◌∙◌, refl, subst, ints, cases_Bool, cases_lt, and_from, eqb-true, ne_eqb, nat_tests, false≢true, some_at, slice_get_within, slice_get-get_or, bit_set, has_bit, range_with_len, in_numbers, any_below-at, In, in_filter, in_map, length-append, Automaton, Pattern, Event, Row, Rule, At, Config, Fits, value_at, value_at-location, location_place, terms_value, ComeAfterEarlier, candidates, comes_after, has_later, guards_of, may_be_stuck, has_guard, place_form, guards, end_vector, answers, Known, Node, known_at, of_rest, loud_terms, UnknownForm, number_form, terms_form, MustMove, QuietRest, without}
 use Rattle.ta_moments.specs.declared.fact.Question.TheVariants.{OfStuck}
 use Rattle.ta_moments.specs.declared.fact.Fact.{Fact}
 use Rattle.ta_moments.specs.declared.fact.Fact.TheVariants.{Never, First, Stands, Last, Before, After, Same, Vacant, Fails}
@@ -10,7 +10,7 @@ use Rattle.ta_base.proofs.Lists.{slice_get_before, slice_get_right}
 use Rattle.ta_moments.specs.Facts.{is_open, question_of, same_question}
 use Rattle.ta_moments.specs.Whole.{WholeNode, form_value, quiet_form}
 use Rattle.ta_moments_runs.specs.Nodes.{HasQuietRun}
-use Rattle.ta_moments_runs.proofs.Cutting.{cut_at}
+use Rattle.ta_moments_runs.proofs.Cutting.{cut_at, cut_few}
 use Rattle.ta_moments.proofs.Values.{value_number, value_plus, valued}
 use Rattle.ta_moments_runs.proofs.Saying.{Says}
 use Rattle.ta_moments_runs.proofs.Starting.{terms_worth}
@@ -135,7 +135,7 @@ kept_there a p first rules o k c at l t =
     subst (λ (d : Config). get_or d.counters l 0 ≡ 0) (get_or_from_slice_get (first ∷ o.later) k c c at) (o.kept_empty l (bit_set p.empty l t) k c less)
 
 -- a pattern whose last event comes after all others
-last_rests : (a : Automaton) (p : Pattern) → ComeAfterEarlier p → ComesLast p → (last : ℕ) → last + 1 ≡ length p.events → InScope a → (silent : List ℕ) (node : Node) (vs : List ℕ) → WholeNode a p (of_rest silent) node vs → HasQuietRun a p p silent vs
+last_rests : (a : Automaton) (p : Pattern) → ComeAfterEarlier p → ComesLast p → (last : ℕ) → last + 1 ≡ length p.events → InScope a → (silent : List ℕ) (node : Node) (vs : List ℕ) → WholeNode a p (of_rest silent) node vs → HasQuietRun a p p silent vs (length (known_at a p (of_rest silent) node).moments * (length a.rules + 1))
 last_rests a p earlier l last is scope silent node vs w =
     let run = whole_run a p earlier scope (of_rest silent) node vs w in
     let o = run.occurs in
@@ -149,6 +149,7 @@ last_rests a p earlier l last is scope silent node vs w =
       first = run.first;
       rules = take k run.rules;
       begins = run.begins;
+      few = cut_few run.rules (length (known_at a p (of_rest silent) node).moments * (length a.rules + 1)) k run.few;
       occurs = record {
         occurs = cut.occurs;
         at_end = λ e end. (let same : e ≡ last = omega arith in ap (λ (x : ℕ). get_or cut.occurs.positions x 0) same ∙ ap (λ (ps : List ℕ). get_or ps last 0) cut.same_positions ∙ sym cut.long);
@@ -160,9 +161,9 @@ last_rests a p earlier l last is scope silent node vs w =
       };
     }
 
-pub whole_rests : (a : Automaton) (p ending : Pattern) → IsEnding p ending → ComeAfterEarlier p → InScope a → (silent : List ℕ) (node : Node) (values : List ℕ) → WholeNode a ending (of_rest silent) node values → HasQuietRun a p ending silent values
+pub whole_rests : (a : Automaton) (p ending : Pattern) → IsEnding p ending → ComeAfterEarlier p → InScope a → (silent : List ℕ) (node : Node) (values : List ℕ) → WholeNode a ending (of_rest silent) node values → HasQuietRun a p ending silent values (length (known_at a ending (of_rest silent) node).moments * (length a.rules + 1))
 whole_rests a p ending is earlier scope silent node vs w =
     let l = ending_last p ending is in
     let some = l.some in
     let run = last_rests a ending (ending_early p ending is earlier) l (length ending.events - 1) (omega (arith, some)) scope silent node vs w in
-    record { first = run.first; rules = run.rules; begins = run.begins; occurs = (endings_alike (QuietRest a silent) a p ending is run.first run.rules).1 run.occurs }
+    record { first = run.first; rules = run.rules; begins = run.begins; few = run.few; occurs = (endings_alike (QuietRest a silent) a p ending is run.first run.rules).1 run.occurs }
