@@ -1,9 +1,9 @@
 -- what is to be asked may be asked
-use Rattle.ta_moments.proofs.Common.{◌≡◌, ◌⊎◌, inl, inr, ℕ, ◌+◌, ◌<◌, List, [], ◌∷◌, ◌&&◌, length, slice_get, Some, None, Option, Bool, true, false, not, cond, arith, sym, ap, ◌∙◌, refl, subst, length-append, cases_Bool, and_parts, false≢true, same_Some, range_with_len, In, in_at, in_filter, in_numbers, Automaton, Pattern, Question, OfGuard, OfOrder, OfStuck, Fact, may_be_stuck, Vector, Moment, guards, end_vector, Asking, Exists, Known, Node, known_at}
+use Rattle.ta_moments.proofs.Common.{◌≡◌, ◌⊎◌, inl, inr, ℕ, ◌+◌, ◌<◌, List, [], ◌∷◌, ◌&&◌, length, slice_get, Some, None, Option, Bool, true, false, not, cond, arith, ap, ◌∙◌, refl, subst, length-append, and_parts, same_Some, range_with_len, In, in_filter, in_map, in_numbers, Automaton, Pattern, Question, OfGuard, OfOrder, OfStuck, Fact, may_be_stuck, Vector, Moment, guards, end_vector, Asking, Exists, Known, Node, known_at, sym}
 use Rattle.std.specs.List.{find}
 use Rattle.std.specs.Option.{option_map, option_or}
 use Rattle.ta_moments.specs.Facts.{is_open}
-use Rattle.ta_moments.specs.Questions.{QuestionsMayBeAsked, Values, fails_at_end, guard_to_ask, is_needed, is_order_open, is_settled, is_stuck_open, next_question, open_guards, order_from, order_to_ask, rule_to_ask, would_fire}
+use Rattle.ta_moments.specs.Questions.{GuardAtEnd, QuestionsMayBeAsked, RuleAtEnd, Values, are_settled, fails_at_end, first_order, guard_to_ask, guards_at_end, is_guard_open, is_needed, is_order_open, is_rule_open, next_question, order_to_ask, parts_at, rule_to_ask, rules_at_end, would_fire}
 
 -- what is found passes, and stands in the list
 pub find_passes : {X : Type 0} (test : X → Bool) (xs : List X) (x : X) → find test xs ≡ Some x → (test x ≡ true) × In x xs
@@ -25,58 +25,65 @@ map_some f (Some x) y e = (x, refl, same_Some (f x) y e)
 abbrev MayBeAsked : Automaton → Pattern → Asking → Known → List Fact → Question → Type 0
 MayBeAsked a p asking k past question = (is_open past question ≡ true) × Exists a p asking k question
 
-guard_open : (a : Automaton) (p : Pattern) (past : List Fact) (values : Values) (end : Vector) (g : ℕ) → guard_to_ask a p past values end ≡ Some g → In g (open_guards a p past values end)
-guard_open a p past values end g e = elim (or_some (find (fails_at_end a p values end) (open_guards a p past values end)) (slice_get (open_guards a p past values end) 0) g e) [
-  | inl h ↦ (find_passes (fails_at_end a p values end) (open_guards a p past values end) g h).1
-  | inr h ↦ in_at (open_guards a p past values end) 0 g h
+guard_found : (past : List Fact) (values : Values) (end : Vector) (gs : List GuardAtEnd) (guard : GuardAtEnd) → guard_to_ask past values end gs ≡ Some guard → (is_guard_open past values end guard ≡ true) × In guard gs
+guard_found past values end gs guard e = elim (or_some (find (λ g. is_guard_open past values end g && fails_at_end values g) gs) (find (is_guard_open past values end) gs) guard e) [
+  | inl h ↦ (
+      let w = find_passes (λ g. is_guard_open past values end g && fails_at_end values g) gs guard h in
+      ((and_parts (is_guard_open past values end guard) (fails_at_end values guard) w.0).0, w.1))
+  | inr h ↦ find_passes (is_guard_open past values end) gs guard h
 ]
 
-guard_asked : (a : Automaton) (p : Pattern) (asking : Asking) (k : Known) (past : List Fact) (values : Values) (end : Vector) (g : ℕ) → guard_to_ask a p past values end ≡ Some g → MayBeAsked a p asking k past (OfGuard g)
-guard_asked a p asking k past values end g e =
-    let w = in_filter (λ x. is_open past (OfGuard x) && is_needed a p values end x) g (range_with_len 0 (length (guards a))) (guard_open a p past values end g e) in
-    let parts = and_parts (is_open past (OfGuard g)) (is_needed a p values end g) w.0 in
-    let within = in_numbers g 0 (length (guards a)) w.1 in
-    (parts.0, (let less = within.1 in omega (arith, less, length-append a.rise a.fall)))
+guard_asked : (a : Automaton) (p : Pattern) (asking : Asking) (k : Known) (past : List Fact) (values : Values) (end : Vector) (guard : GuardAtEnd) → guard_to_ask past values end (guards_at_end a p end) ≡ Some guard → MayBeAsked a p asking k past (OfGuard guard.number)
+guard_asked a p asking k past values end guard e =
+    let found = guard_found past values end (guards_at_end a p end) guard e in
+    let parts = and_parts (is_open past (OfGuard guard.number)) (is_needed values end guard) found.0 in
+    let from = in_map _ guard (range_with_len 0 (length (guards a))) found.1 in
+    let within = in_numbers from.0 0 (length (guards a)) from.1 in
+    let same : guard.number ≡ from.0 = ap (λ (x : GuardAtEnd). x.number) from.2 in
+    (parts.0, (let less = within.1 in omega (arith, less, same, length-append a.rise a.fall)))
 
-order_asked : (a : Automaton) (p : Pattern) (asking : Asking) (k : Known) (past : List Fact) (values : Values) (ys : List ℕ) → ((y : ℕ) → In y ys → y < length k.moments) → (question : Question) → order_from a p past values k.moments ys ≡ Some question → MayBeAsked a p asking k past question
-order_asked a p asking k past values [] within question e = absurd (cc)
-order_asked a p asking k past values (y ∷ ys) within question e =
-    let test = is_order_open a p past values k.moments y in
-    elim (or_some (option_map (λ x. OfOrder x y) (find test (range_with_len 0 y))) (order_from a p past values k.moments ys) question e) [
+order_asked : (a : Automaton) (p : Pattern) (asking : Asking) (k : Known) (moving : List ℕ) (past : List Fact) (values : Values) (ys : List ℕ) → ((y : ℕ) → In y ys → y < length k.moments) → (question : Question) → first_order moving past values k.moments ys ≡ Some question → MayBeAsked a p asking k past question
+order_asked a p asking k moving past values [] within question e = absurd (cc)
+order_asked a p asking k moving past values (y ∷ ys) within question e =
+    let test = is_order_open moving past values k.moments y in
+    elim (or_some (option_map (λ x. OfOrder x y) (find test (range_with_len 0 y))) (first_order moving past values k.moments ys) question e) [
       | inl h ↦ (
           let w = map_some (λ x. OfOrder x y) (find test (range_with_len 0 y)) question h in
           let x = w.0 in
           let found = find_passes test (range_with_len 0 y) x w.1 in
-          let parts = and_parts (is_open past (OfOrder x y)) (not (is_settled a p values (slice_get k.moments x) (slice_get k.moments y))) found.0 in
+          let parts = and_parts (is_open past (OfOrder x y)) (not (are_settled moving values (slice_get k.moments x) (slice_get k.moments y))) found.0 in
           let less = in_numbers x 0 y found.1 in
           subst (MayBeAsked a p asking k past) w.2 (parts.0, ((let b = less.1 in omega (arith, b)), within y (inl refl))))
-      | inr h ↦ order_asked a p asking k past values ys (λ z i. within z (inr i)) question h
+      | inr h ↦ order_asked a p asking k moving past values ys (λ z i. within z (inr i)) question h
     ]
 
-rule_asked : (a : Automaton) (p : Pattern) (asking : Asking) (k : Known) (past : List Fact) (values : Values) (end : Vector) (r : ℕ) → asking.rest ≡ true → rule_to_ask a p asking.silent past values end ≡ Some r → MayBeAsked a p asking k past (OfStuck r)
-rule_asked a p asking k past values end r rest e =
-    let found = find_passes (is_stuck_open a p asking.silent past values end) (range_with_len 0 (length a.rules)) r e in
-    let parts = and_parts (may_be_stuck p (slice_get a.rules r) && is_open past (OfStuck r)) (would_fire a p asking.silent values end r) found.0 in
-    let both = and_parts (may_be_stuck p (slice_get a.rules r)) (is_open past (OfStuck r)) parts.0 in
-    (both.1, (rest, both.0))
+rule_asked : (a : Automaton) (p : Pattern) (asking : Asking) (k : Known) (past : List Fact) (values : Values) (end : Vector) (b : Bool) → asking.rest ≡ b → (rule : RuleAtEnd) → rule_to_ask past values (cond b (rules_at_end a p asking.silent end) []) ≡ Some rule → MayBeAsked a p asking k past (OfStuck rule.number)
+rule_asked a p asking k past values end false rest rule e = absurd (cc)
+rule_asked a p asking k past values end true rest rule e =
+    let found = find_passes (is_rule_open past values) (rules_at_end a p asking.silent end) rule e in
+    let parts = and_parts (is_open past (OfStuck rule.number)) (would_fire values rule) found.0 in
+    let from = in_map _ rule _ found.1 in
+    let may = in_filter (λ r. may_be_stuck p (slice_get a.rules r)) from.0 (range_with_len 0 (length a.rules)) from.1 in
+    let same : from.0 ≡ rule.number = sym (ap (λ (x : RuleAtEnd). x.number) from.2) in
+    (parts.0, (rest, subst (λ (r : ℕ). may_be_stuck p (slice_get a.rules r) ≡ true) same may.0))
 
 pub may_be_asked : QuestionsMayBeAsked
 may_be_asked a p asking node values question e =
     let k = known_at a p asking node in
     let past = node.past in
     let end = end_vector a p node.candidate in
-    elim (or_some (option_map OfGuard (guard_to_ask a p past values end)) (option_or (order_to_ask a p past values k.moments) (cond asking.rest (option_map OfStuck (rule_to_ask a p asking.silent past values end)) None)) question e) [
+    let moving = (parts_at a p asking node).moving in
+    let rules = (parts_at a p asking node).rules in
+    let orders = order_to_ask moving past values k.moments in
+    let stuck = option_map (λ (rule : RuleAtEnd). OfStuck rule.number) (rule_to_ask past values rules) in
+    elim (or_some (option_map (λ (guard : GuardAtEnd). OfGuard guard.number) (guard_to_ask past values end (guards_at_end a p end))) (option_or orders stuck) question e) [
       | inl h ↦ (
-          let w = map_some OfGuard (guard_to_ask a p past values end) question h in
+          let w = map_some (λ (guard : GuardAtEnd). OfGuard guard.number) (guard_to_ask past values end (guards_at_end a p end)) question h in
           subst (MayBeAsked a p asking k past) w.2 (guard_asked a p asking k past values end w.0 w.1))
-      | inr h ↦ elim (or_some (order_to_ask a p past values k.moments) (cond asking.rest (option_map OfStuck (rule_to_ask a p asking.silent past values end)) None) question h) [
-        | inl order ↦ order_asked a p asking k past values (range_with_len 0 (length k.moments)) (λ y i. (let w = in_numbers y 0 (length k.moments) i in let b = w.1 in omega (arith, b))) question order
-        | inr stuck ↦ by_rest asking.rest refl stuck
+      | inr h ↦ elim (or_some orders stuck question h) [
+        | inl order ↦ order_asked a p asking k moving past values (range_with_len 0 (length k.moments)) (λ y i. (let w = in_numbers y 0 (length k.moments) i in let b = w.1 in omega (arith, b))) question order
+        | inr rest ↦ (
+            let w = map_some (λ (rule : RuleAtEnd). OfStuck rule.number) (rule_to_ask past values rules) question rest in
+            subst (MayBeAsked a p asking k past) w.2 (rule_asked a p asking k past values end asking.rest refl w.0 w.1))
       ]
     ]
-  where
-    by_rest : (b : Bool) → asking.rest ≡ b → cond b (option_map OfStuck (rule_to_ask a p asking.silent node.past values (end_vector a p node.candidate))) None ≡ Some question → MayBeAsked a p asking (known_at a p asking node) node.past question
-    by_rest false e h = absurd (cc)
-    by_rest true e h =
-        let w = map_some OfStuck (rule_to_ask a p asking.silent node.past values (end_vector a p node.candidate)) question h in
-        subst (MayBeAsked a p asking (known_at a p asking node) node.past) w.2 (rule_asked a p asking (known_at a p asking node) node.past values (end_vector a p node.candidate) w.0 e w.1)

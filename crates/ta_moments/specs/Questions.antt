@@ -1,7 +1,7 @@
 -- Which question is asked next at a node whose system has a vertex (this project's profile). The vertex is given by whole numbers over
 -- one common denominator. Forms are evaluated in the program's range; where a number leaves it the form's value isn't known, and the
 -- question is asked as if the value were the worst
-use Rattle.std.specs.Prelude.{ℕ, ℤ, pos, negsuc, zero, suc, ◌+◌, ◌^◌, ◌≡◌, ◌+ℤ◌, ◌*ℤ◌, unsigned_abs, Bool, true, false, not, ◌&&◌, ◌||◌, nat_lt, cond, List, [], ◌∷◌, length, map, filter, slice_get, Option, Some, None}
+use Rattle.std.specs.Prelude.{ℕ, ℤ, pos, negsuc, zero, suc, ◌^◌, ◌≡◌, ◌+ℤ◌, ◌*ℤ◌, unsigned_abs, Bool, true, false, not, ◌&&◌, ◌||◌, nat_lt, cond, List, [], ◌∷◌, length, map, filter, flat_map, slice_get, slice_index_or, Option, Some, None}
 use Rattle.std.specs.List.{find, list_all, list_any, range_with_len}
 use Rattle.std.specs.Option.{option_map, option_or}
 use Rattle.ta_automaton.specs.declared.automaton.Automaton.{Automaton}
@@ -37,15 +37,15 @@ abbrev pub with_product : Option ℤ → ℤ → Option ℤ
 with_product None product = None
 with_product (Some sum) product = cond (fits product && fits (sum +ℤ product)) (Some (sum +ℤ product)) None
 
--- a sum with the products of some unknowns' coefficients and numbers, by rising unknown
-abbrev pub with_products : (ℕ → ℤ) → Option ℤ → ℕ → List ℤ → Option ℤ
-with_products coefficient sum unknown [] = sum
-with_products coefficient sum unknown (z ∷ numbers) = with_products coefficient (with_product sum (coefficient unknown *ℤ z)) (unknown + 1) numbers
+-- a sum with the products of the first unknowns' coefficients and numbers, by rising unknown
+abbrev pub with_products : (ℕ → ℤ) → List ℤ → Option ℤ → ℕ → Option ℤ
+with_products coefficient numbers sum zero = sum
+with_products coefficient numbers sum (suc n) = with_product (with_products coefficient numbers sum n) (coefficient n *ℤ slice_index_or numbers n (pos 0))
 
 -- a form's value times the denominator, where it is known
 abbrev pub known_value : Values → UnknownForm → Option ℤ
 known_value None f = None
-known_value (Some values) f = with_products f.coefficient (if_fits (f.constant *ℤ values.denominator)) 0 values.numbers
+known_value (Some values) f = with_products f.coefficient values.numbers (if_fits (f.constant *ℤ values.denominator)) (length values.numbers)
 
 -- whether a value that isn't known, or is, counts as positive, as negative, as at least 0; and whether it is known to be at least 0
 abbrev pub counts_positive : Option ℤ → Bool
@@ -66,85 +66,136 @@ abbrev pub is_known_natural : Option ℤ → Bool
 is_known_natural None = false
 is_known_natural (Some z) = not (below_zero z)
 
+-- ---- what a question may be of
+-- a guard: its number, the moving rules that need it, and its row at the end
+pub record GuardAtEnd : Type 0 where
+  pub number : ℕ
+  pub needing : List ℕ
+  pub rows : List UnknownForm
+
+-- a rule that may be stuck: its number, the counter of its source at the end, and its guards' rows there without the silent places
+pub record RuleAtEnd : Type 0 where
+  pub number : ℕ
+  pub sources : List UnknownForm
+  pub rows : List UnknownForm
+
+-- the guards, by number
+abbrev pub guards_at_end : Automaton → Pattern → Vector → List GuardAtEnd
+guards_at_end a p end =
+    map (λ g. record { number = g; needing = needing a p g; rows = guard_at a p end (slice_get (guards a) g) }) (range_with_len 0 (length (guards a)))
+
+-- the rules that may be stuck, by number
+abbrev pub rules_at_end : Automaton → Pattern → List ℕ → Vector → List RuleAtEnd
+rules_at_end a p silent end =
+    map (λ r. record {
+      number = r;
+      sources = source_at a p end (slice_get a.rules r);
+      rows = flat_map (λ g. quiet_at a p silent end (slice_get (guards a) g)) (guards_of a (slice_get a.rules r));
+    }) (filter (λ r. may_be_stuck p (slice_get a.rules r)) (range_with_len 0 (length a.rules)))
+
+-- all that a node's question may be of: the moving rules, the vector of the end, the guards, the moments, and at rest the rules
+pub record Parts : Type 0 where
+  pub moving : List ℕ
+  pub end : Vector
+  pub guards : List GuardAtEnd
+  pub moments : List Moment
+  pub rules : List RuleAtEnd
+
+-- those of a node
+abbrev pub parts_at : Automaton → Pattern → Asking → Node → Parts
+parts_at a p asking node =
+    let end = end_vector a p node.candidate in
+    record {
+      moving = moving_rules a p;
+      end = end;
+      guards = guards_at_end a p end;
+      moments = (known_at a p asking node).moments;
+      rules = cond asking.rest (rules_at_end a p asking.silent end) [];
+    }
+
 -- ---- guards
--- whether a moving rule that needs a guard fires before the end
-abbrev pub is_needed : Automaton → Pattern → Values → Vector → ℕ → Bool
-is_needed a p values end g = list_any (λ r. counts_positive (known_value values (end r))) (needing a p g)
+-- whether a moving rule that needs the guard fires before the end
+abbrev pub is_needed : Values → Vector → GuardAtEnd → Bool
+is_needed values end guard = list_any (λ r. counts_positive (known_value values (end r))) guard.needing
 
--- the guards that are needed and aren't asked, by number
-abbrev pub open_guards : Automaton → Pattern → List Fact → Values → Vector → List ℕ
-open_guards a p past values end = filter (λ g. is_open past (OfGuard g) && is_needed a p values end g) (range_with_len 0 (length (guards a)))
+-- whether the guard isn't asked, and is needed
+abbrev pub is_guard_open : List Fact → Values → Vector → GuardAtEnd → Bool
+is_guard_open past values end guard = is_open past (OfGuard guard.number) && is_needed values end guard
 
--- whether a guard's row is negative at the end
-abbrev pub fails_at_end : Automaton → Pattern → Values → Vector → ℕ → Bool
-fails_at_end a p values end g = list_any (λ f. counts_negative (known_value values f)) (guard_at a p end (slice_get (guards a) g))
+-- whether its row is negative at the end
+abbrev pub fails_at_end : Values → GuardAtEnd → Bool
+fails_at_end values guard = list_any (λ f. counts_negative (known_value values f)) guard.rows
 
--- of those guards the first whose row is negative at the end; else the first
-abbrev pub guard_to_ask : Automaton → Pattern → List Fact → Values → Vector → Option ℕ
-guard_to_ask a p past values end =
-    option_or (find (fails_at_end a p values end) (open_guards a p past values end)) (slice_get (open_guards a p past values end) 0)
+-- the first open guard whose row is negative at the end; else the first open guard
+abbrev pub guard_to_ask : List Fact → Values → Vector → List GuardAtEnd → Option GuardAtEnd
+guard_to_ask past values end guards =
+    option_or (find (λ guard. is_guard_open past values end guard && fails_at_end values guard) guards) (find (is_guard_open past values end) guards)
 
 -- ---- orders
 -- whether no moving rule has fewer firings in the second vector, as far as that is known
-abbrev pub is_at_most : Automaton → Pattern → Values → Vector → Vector → Bool
-is_at_most a p values v w = list_all (λ r. is_known_natural (known_value values (minus_form (w r) (v r)))) (moving_rules a p)
+abbrev pub is_at_most : List ℕ → Values → Vector → Vector → Bool
+is_at_most moving values v w = list_all (λ r. is_known_natural (known_value values (minus_form (w r) (v r)))) moving
 
 -- whether two moments are the same step
-abbrev pub is_same_step : Automaton → Pattern → Values → Moment → Moment → Bool
-is_same_step a p values (Pair v w) (Pair x y) =
-    (is_at_most a p values v x && is_at_most a p values x v) && (is_at_most a p values w y && is_at_most a p values y w)
-is_same_step a p values (Pair v w) (Point y) = false
-is_same_step a p values (Point v) y = false
+abbrev pub is_same_step : List ℕ → Values → Moment → Moment → Bool
+is_same_step moving values (Pair v w) (Pair x y) =
+    (is_at_most moving values v x && is_at_most moving values x v) && (is_at_most moving values w y && is_at_most moving values y w)
+is_same_step moving values (Pair v w) (Point y) = false
+is_same_step moving values (Point v) y = false
 
 -- whether one moment isn't after the other, or both are the same step
-abbrev pub is_settled : Automaton → Pattern → Values → Option Moment → Option Moment → Bool
-is_settled a p values None y = true
-is_settled a p values (Some x) None = true
-is_settled a p values (Some x) (Some y) =
-    is_at_most a p values (late x) (early y) || (is_at_most a p values (late y) (early x) || is_same_step a p values x y)
+abbrev pub is_settled : List ℕ → Values → Moment → Moment → Bool
+is_settled moving values x y =
+    is_at_most moving values (late x) (early y) || (is_at_most moving values (late y) (early x) || is_same_step moving values x y)
 
--- whether an order is to be asked
-abbrev pub is_order_open : Automaton → Pattern → List Fact → Values → List Moment → ℕ → ℕ → Bool
-is_order_open a p past values moments y x = is_open past (OfOrder x y) && not (is_settled a p values (slice_get moments x) (slice_get moments y))
+-- the same of moments by their numbers
+abbrev pub are_settled : List ℕ → Values → Option Moment → Option Moment → Bool
+are_settled moving values None y = true
+are_settled moving values (Some x) None = true
+are_settled moving values (Some x) (Some y) = is_settled moving values x y
 
--- the first pair that is to be asked, by the second moment, from some number on, then by the first
-abbrev pub order_from : Automaton → Pattern → List Fact → Values → List Moment → List ℕ → Option Question
-order_from a p past values moments [] = None
-order_from a p past values moments (y ∷ ys) =
-    option_or
-    (option_map (λ x. OfOrder x y) (find (is_order_open a p past values moments y) (range_with_len 0 y)))
-    (order_from a p past values moments ys)
+-- whether the order of two moments isn't asked, and isn't settled
+abbrev pub is_order_open : List ℕ → List Fact → Values → List Moment → ℕ → ℕ → Bool
+is_order_open moving past values moments y x =
+    is_open past (OfOrder x y) && not (are_settled moving values (slice_get moments x) (slice_get moments y))
 
-abbrev pub order_to_ask : Automaton → Pattern → List Fact → Values → List Moment → Option Question
-order_to_ask a p past values moments = order_from a p past values moments (range_with_len 0 (length moments))
+-- the first open order of a moment and one before it
+abbrev pub order_before : List ℕ → List Fact → Values → List Moment → ℕ → Option Question
+order_before moving past values moments y = option_map (λ x. OfOrder x y) (find (is_order_open moving past values moments y) (range_with_len 0 y))
+
+-- the first open order: the second moment's number is the least, and then the first one's
+abbrev pub first_order : List ℕ → List Fact → Values → List Moment → List ℕ → Option Question
+first_order moving past values moments [] = None
+first_order moving past values moments (y ∷ ys) = option_or (order_before moving past values moments y) (first_order moving past values moments ys)
+
+abbrev pub order_to_ask : List ℕ → List Fact → Values → List Moment → Option Question
+order_to_ask moving past values moments = first_order moving past values moments (range_with_len 0 (length moments))
 
 -- ---- rest
--- whether a rule fires at the end by its guards without the silent places: somebody is at its source, and no guard fails
-abbrev pub would_fire : Automaton → Pattern → List ℕ → Values → Vector → ℕ → Bool
-would_fire a p silent values end r =
-    list_all (λ f. counts_positive (known_value values f)) (source_at a p end (slice_get a.rules r))
-    && list_all (λ g. list_all (λ f. counts_natural (known_value values f)) (quiet_at a p silent end (slice_get (guards a) g))) (guards_of a (slice_get a.rules r))
+-- whether the rule fires at the end without the silent places: somebody is at its source, and no guard fails
+abbrev pub would_fire : Values → RuleAtEnd → Bool
+would_fire values rule =
+    list_all (λ f. counts_positive (known_value values f)) rule.sources && list_all (λ f. counts_natural (known_value values f)) rule.rows
 
--- whether it is to be asked what keeps a rule from firing
-abbrev pub is_stuck_open : Automaton → Pattern → List ℕ → List Fact → Values → Vector → ℕ → Bool
-is_stuck_open a p silent past values end r =
-    (may_be_stuck p (slice_get a.rules r) && is_open past (OfStuck r)) && would_fire a p silent values end r
+-- whether it isn't asked what keeps it from firing, and it would fire
+abbrev pub is_rule_open : List Fact → Values → RuleAtEnd → Bool
+is_rule_open past values rule = is_open past (OfStuck rule.number) && would_fire values rule
 
 -- the first such rule
-abbrev pub rule_to_ask : Automaton → Pattern → List ℕ → List Fact → Values → Vector → Option ℕ
-rule_to_ask a p silent past values end = find (is_stuck_open a p silent past values end) (range_with_len 0 (length a.rules))
+abbrev pub rule_to_ask : List Fact → Values → List RuleAtEnd → Option RuleAtEnd
+rule_to_ask past values rules = find (is_rule_open past values) rules
 
 -- ---- the question of a vertex
--- first of guards, then of orders, and at rest of rules
-abbrev pub question_among : Automaton → Pattern → Asking → List Fact → Values → Vector → List Moment → Option Question
-question_among a p asking past values end moments =
-    option_or (option_map OfGuard (guard_to_ask a p past values end))
-    (option_or (order_to_ask a p past values moments)
-    (cond asking.rest (option_map OfStuck (rule_to_ask a p asking.silent past values end)) None))
+-- first of guards, then of orders, then of rules
+abbrev pub question_among : List Fact → Values → Parts → Option Question
+question_among past values parts =
+    option_or (option_map (λ (guard : GuardAtEnd). OfGuard guard.number) (guard_to_ask past values parts.end parts.guards))
+    (option_or (order_to_ask parts.moving past values parts.moments)
+    (option_map (λ (rule : RuleAtEnd). OfStuck rule.number) (rule_to_ask past values parts.rules)))
 
 -- the question of a node at values of its unknowns
 abbrev pub next_question : Automaton → Pattern → Asking → Node → Values → Option Question
-next_question a p asking node values = question_among a p asking node.past values (end_vector a p node.candidate) (known_at a p asking node).moments
+next_question a p asking node values = question_among node.past values (parts_at a p asking node)
 
 -- a question that is to be asked exists at the node, and no fact answers it: so each may be asked, and none twice
 abbrev pub QuestionsMayBeAsked : Type 0

@@ -1,5 +1,5 @@
 -- where all values of a vertex are whole, they solve the system
-use Rattle.ta_simplex.proofs.Common.{◌≡◌, ℕ, zero, suc, ◌+◌, ◌<◌, List, [], ◌∷◌, length, arith, ap, subst, ℤ, pos, ◌*ℤ◌, ◌≤ℤ◌, Option, Some, None, slice_get, All, IsSomeAnd, slice_index, ints, expand, ge-zero_of_mul, quotient_whole, IsNormal, AllBelow, terms_value, value_of, RowHolds, Solves, Row, System, IsNormal-le, slack_at, MeetRows, Fraction}
+use Rattle.ta_simplex.proofs.Common.{◌≡◌, ℕ, zero, suc, ◌+◌, ◌<◌, List, [], ◌∷◌, length, arith, ap, subst, ℤ, pos, ◌*ℤ◌, ◌≤ℤ◌, Option, Some, None, slice_get, All, IsSomeAnd, slice_index, ints, expand, ge-zero_of_mul, quotient_whole, mul-le-zero_turned, ◌-ℤ◌, terms_value-same, IsNormal, AllBelow, terms_value, value_of, RowHolds, Solves, Row, System, IsNormal-le, slack_at, MeetRows, Fraction}
 
 pub some_both : (o : Option Fraction) (P Q : Fraction → Type 0) (C : Type 0) → IsSomeAnd o P → IsSomeAnd o Q → ((f : Fraction) → P f → Q f → C) → C
 some_both None P Q C p q g = absurd p
@@ -34,3 +34,21 @@ whole_vertex_solves s values numbers m count all =
           (λ f e is. quotient_whole (m.numbers x) (pos m.scale) (pos (slice_index numbers x)) f.top f.bottom f.positive e is))
           m.rows_hold;
     }
+
+row_unscaled : (n : ℕ) (r : Row) (x v : ℕ → ℤ) (q : ℕ) → 0 < q → IsNormal 0 n r.form.terms → ((u : ℕ) → u < n → x u ≡ v u) → r.form.constant ≤ℤ pos 0 → pos 0 ≤ℤ slack_at r (pos q) x → RowHolds v r
+row_unscaled n r x v q some normal same low h =
+    let e = terms_value-same 0 n r.form.terms x v normal same in
+    let less = mul-le-zero_turned (pos q -ℤ pos 1) r.form.constant (omega (arith, ints, some)) low in
+    omega (arith, ints, e, simp expand at less, h)
+
+rows_unscaled : (n : ℕ) (rs : List Row) (x v : ℕ → ℤ) (q : ℕ) → 0 < q → AllBelow n rs → ((u : ℕ) → u < n → x u ≡ v u) → All (λ (r : Row). r.form.constant ≤ℤ pos 0) rs → All (λ r. pos 0 ≤ℤ slack_at r (pos q) x) rs → All (RowHolds v) rs
+rows_unscaled n [] x v q some below same low h k d inside = absurd (omega arith)
+rows_unscaled n (r ∷ rs) x v q some below same low h zero d inside = row_unscaled n r x v q some below.0 same (low 0 r (omega arith)) (h 0 r (omega arith))
+rows_unscaled n (r ∷ rs) x v q some below same low h (suc k) d inside = rows_unscaled n rs x v q some below.1 same (λ j e b. low (suc j) e (omega arith)) (λ j e b. h (suc j) e (omega arith)) k d (omega arith)
+
+pub scaled_vertex_solves : (s : System) (values : List Fraction) (m : MeetRows s values) → All (λ (r : Row). r.form.constant ≤ℤ pos 0) s.rows → (numbers : List ℕ) → length numbers ≡ s.unknowns →
+    ((x : ℕ) → x < s.unknowns → m.numbers x ≡ pos (slice_index numbers x)) → Solves s numbers
+scaled_vertex_solves s values m low numbers count are = record {
+  count = count;
+  rows_hold = rows_unscaled s.unknowns s.rows m.numbers (λ (x : ℕ). pos (slice_index numbers x)) m.scale m.some s.within are low m.rows_hold;
+}

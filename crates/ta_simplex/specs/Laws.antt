@@ -1,7 +1,8 @@
 -- The laws of the least-index rule
-use Rattle.std.specs.Prelude.{ℕ, suc, ◌+◌, ◌-◌, ◌^◌, ◌<◌, ◌≤◌, ◌≡◌, List, ℤ, pos, ◌*ℤ◌, length, min, slice_get, slice_index, IsSomeAnd}
+use Rattle.std.specs.Prelude.{ℕ, suc, ◌+◌, ◌-◌, ◌^◌, ◌<◌, ◌≤◌, ◌≡◌, List, ℤ, pos, ◌*ℤ◌, length, min, slice_get, slice_index, IsSomeAnd, ◌≤ℤ◌, All}
 use Rattle.ta_linear.specs.SameNumbers.{SameNumbers}
 use Rattle.ta_linear.specs.Values.{Solves}
+use Rattle.ta_linear.specs.declared.row.Row.{Row}
 use Rattle.ta_linear.specs.declared.row.System.{System}
 use Rattle.ta_dense.specs.Tableau.{Tableau}
 use Rattle.ta_dense.specs.Slack.{slack_tableau}
@@ -32,6 +33,12 @@ abbrev pub WholeVerticesSolve : Type 0
 WholeVerticesSolve =
     (s : System) (values : List Fraction) (numbers : List ℕ) → MeetRows s values → length numbers ≡ s.unknowns →
     ((x : ℕ) → x < s.unknowns → IsSomeAnd (slice_get values x) (λ f. f.top ≡ pos (slice_index numbers x) *ℤ f.bottom)) → Solves s numbers
+
+-- where no row has a positive constant, the numbers over the common scale of a vertex solve the system themselves
+abbrev pub ScaledVerticesSolve : Type 0
+ScaledVerticesSolve =
+    (s : System) (values : List Fraction) (m : MeetRows s values) → All (λ (r : Row). r.form.constant ≤ℤ pos 0) s.rows → (numbers : List ℕ) → length numbers ≡ s.unknowns →
+    ((x : ℕ) → x < s.unknowns → m.numbers x ≡ pos (slice_index numbers x)) → Solves s numbers
 
 -- a refutation has at most one multiplier more than the system has unknowns
 abbrev pub MultipliersAreFew : Type 0

@@ -2,7 +2,7 @@
 #![tactic(auto)]
 
 ghost use Rattle.ta_simplex.specs.Answers.{RunsHaveEnds, SystemsHaveEnds};
-ghost use Rattle.ta_simplex.specs.Laws.{EndsAreDetermined, MultipliersAreFew, PrefixesGoFirst, RunsAreDetermined, WholeVerticesSolve};
+ghost use Rattle.ta_simplex.specs.Laws.{EndsAreDetermined, MultipliersAreFew, PrefixesGoFirst, RunsAreDetermined, ScaledVerticesSolve, WholeVerticesSolve};
 
 /// The rule leaves no choice: a system has one list of bases and at most one end.
 pub fn runs_are_determined()
@@ -18,6 +18,11 @@ pub fn ends_are_determined()
 /// A vertex whose values are all whole is a solution.
 pub fn whole_vertices_solve()
     ensures { WholeVerticesSolve }
+{}
+
+/// A vertex of rows without positive constants is a solution, once it is multiplied by its scale.
+pub fn scaled_vertices_solve()
+    ensures { ScaledVerticesSolve }
 {}
 
 /// A refutation has at most one multiplier more than the system has unknowns.

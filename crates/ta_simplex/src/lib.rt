@@ -19,7 +19,7 @@ pub use fault::SolveFault;
 pub use fraction::Fraction;
 pub use laws::{
     ends_are_determined, multipliers_are_few, prefixes_go_first, runs_are_determined,
-    runs_have_ends, whole_vertices_solve,
+    runs_have_ends, scaled_vertices_solve, whole_vertices_solve,
 };
 pub use solving::{Ended, resume, solve};
 
