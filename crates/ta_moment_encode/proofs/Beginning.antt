@@ -4,6 +4,9 @@ unfoldable use Rattle.ta_encode.specs.System.{start_rows, word_rows}
 use Rattle.ta_encode.specs.Unknowns.{start_meanings}
 use Rattle.std.proofs.Common.{mul-le-mul}
 use Rattle.std.specs.Prelude.{flat_map}
+use Rattle.ta_moment_encode.proofs.Common.{filter_shorter}
+use Rattle.ta_moments.specs.Forms.{plus_form, terms_form}
+use Rattle.ta_moments.specs.Moments.{first_vector, guard_at, loud_terms, place_form, quiet_at}
 use Rattle.ta_moment_encode.proofs.Common.{length-map, length-range_with_len}
 use Rattle.ta_moments.specs.Moments.{Known, Point, rows_of_event, rows_of_after, rows_of_end}
 unfoldable use Rattle.ta_moments.specs.Moments.{known}
@@ -154,3 +157,28 @@ pub first_known : (a : Automaton) (p : Pattern) (silent : List ℕ) (c : Option 
     → record { unknowns = u; moments = ms; rows = rows } ≡ known a p silent c []
 unfolding known
 first_known a p silent c u ms rows e g h = λ i. record { unknowns = e i; moments = g i; rows = h i }
+
+-- ---- rules that are chosen among the moving ones
+pub chosen_few : (a : Automaton) (p : Pattern) (test : ℕ → Bool) (rules : List ℕ) → rules ≡ filter test (moving_rules a p) → length rules ≤ 128
+chosen_few a p test rules e = let most = moving_few a p in omega (arith, ap length e, filter_shorter test (moving_rules a p))
+
+pub chosen_below : (a : Automaton) (p : Pattern) (test : ℕ → Bool) (rules : List ℕ) (n : ℕ) → rules ≡ filter test (moving_rules a p) → n ≡ length a.rules → AllByRecursion (λ r. r < n) rules
+chosen_below a p test rules n e same =
+    subst (λ (m : ℕ). AllByRecursion (λ r. r < m) rules) (sym same)
+    (subst (λ (rs : List ℕ). AllByRecursion (λ r. r < length a.rules) rs) (sym e) (each_below 0 (length a.rules) (filter test (moving_rules a p)) (rises_filter test 0 (length a.rules) (moving_rules a p) (moving_within a p))))
+
+-- the vector of a first use
+pub first_is : (a : Automaton) (p : Pattern) (unknowns g : ℕ) (rules : List ℕ) (v : Vector) → rules ≡ sparing a p g → v ≡ fresh unknowns rules (λ r. minus_form (vector_of [] r) (vector_of [] r)) → v ≡ first_vector a p unknowns g
+first_is a p unknowns g rules v is h = h ∙ ap (λ qs. fresh unknowns qs nothing_fired) is
+
+pub first_small : (a : Automaton) (p : Pattern) (unknowns g : ℕ) → SmallVector 1 (first_vector a p unknowns g)
+first_small a p unknowns g = fresh_small 1 unknowns (sparing a p g) nothing_fired (omega arith) (nothing_small 1)
+
+-- with no silent places
+all_loud : (ts : List (ℕ × ℤ)) → loud_terms [] ts ≡ ts
+all_loud [] = refl
+all_loud (t ∷ ts) = ap (λ us. t ∷ us) (all_loud ts)
+
+pub quiet_none : (a : Automaton) (p : Pattern) (v : Vector) (o : Option Row) → quiet_at a p [] v o ≡ guard_at a p v o
+quiet_none a p v None = refl
+quiet_none a p v (Some row) = ap (λ ts. plus_form (number_form row.form.constant) (terms_form (place_form a p v) ts) ∷ []) (all_loud row.form.terms)

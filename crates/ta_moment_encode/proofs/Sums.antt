@@ -61,3 +61,9 @@ product_is ts i product value each b e = e ∙ ap (λ (z : ℤ). times_form z va
 
 pub product_small : (ts : List (ℕ × ℤ)) (i : ℕ) (product value : UnknownForm) → AllByRecursion (λ (t : ℕ × ℤ). unsigned_abs t.1 ≤ 1000000000) ts → i < length ts → product ≡ times_form (to_z w128 (of_z w128 (get_or ts i (0, pos 0)).1)) value → SmallBy 6800000000000 value → SmallBy 6800000000000000000000 product
 product_small ts i product value each b e h = subst (λ (f : UnknownForm). SmallBy 6800000000000000000000 f) (sym (product_is ts i product value each b e)) (small_times 1000000000 6800000000000 (get_or ts i (0, pos 0)).1 value (factor_small ts i each b) h)
+
+none_sum : (x : ℤ) → pos 0 +ℤ x ≡ x
+none_sum x = omega (arith, ints)
+
+pub none_plus : (f : UnknownForm) → plus_form (number_form (pos 0)) f ≡ f
+none_plus f = form_same (plus_form (number_form (pos 0)) f) f (none_sum f.constant) (λ u. none_sum (f.coefficient u))

@@ -10,6 +10,7 @@ mod place;
 mod plan;
 mod rows;
 mod silence;
+mod uses;
 mod vector;
 
 pub use moment::Moment;
