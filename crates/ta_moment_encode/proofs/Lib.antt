@@ -1,0 +1,12 @@
+mod Common
+mod Running
+mod Changes
+mod Sparse
+mod Forms
+mod Sums
+mod Adding
+mod Lists
+mod Smallness
+mod Starts
+mod Vectors
+mod Beginning

@@ -1,0 +1,19 @@
+use Rattle.ta_moment_encode.proofs.Common.{ℕ, ℤ, pos, ◌≡◌, ◌∙◌, ◌+◌, ◌*◌, ◌-◌, ◌<◌, ◌≤◌, ◌^◌, ◌++◌, ◌∷◌, [], List, Option, Some, None, length, map, filter, take, get_or, slice_get, range_with_len, arith, ap, sym, subst, refl, not, Bool, true, false, Row, Automaton, Pattern, Meaning, In, unsigned_abs, to_z, of_z, w128, to_z_abs}
+use Rattle.ta_moment_encode.proofs.Adding.{adds_both}
+use Rattle.ta_moment_encode.proofs.Beginning.{vector_more_small}
+use Rattle.ta_moment_encode.proofs.uses.push_first_rows.Goals as goal
+
+pub push_counters-requires-clause-vector : goal.push_counters-requires-clause-vector
+push_counters-requires-clause-vector c = vector_more_small 1 3 _ (omega arith) c.requires.vector
+
+pub push_guard-requires-clause-vector : goal.push_guard-requires-clause-vector
+push_guard-requires-clause-vector c = vector_more_small 1 3 _ (omega arith) c.requires.vector
+
+pub push_below-requires-clause-beneath : goal.push_below-requires-clause-beneath
+push_below-requires-clause-beneath c = vector_more_small 1 3 _ (omega arith) c.requires.vector
+
+pub push_below-requires-clause-above : goal.push_below-requires-clause-above
+push_below-requires-clause-above c = vector_more_small 1 3 _ (omega arith) c.requires.end
+
+pub returns : goal.returns
+returns c n h k = adds_both _ _ _ _ _ c.in_ok-push_counters.ensures (adds_both _ _ _ _ _ c.in_ok-push_guard.ensures (c.in_ok-push_below.ensures n h k))

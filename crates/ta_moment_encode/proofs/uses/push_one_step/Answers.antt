@@ -1,0 +1,13 @@
+use Rattle.ta_moment_encode.proofs.Common.{ℕ, ℤ, pos, ◌≡◌, ◌∙◌, ◌+◌, ◌*◌, ◌-◌, ◌<◌, ◌≤◌, ◌^◌, ◌++◌, ◌∷◌, [], List, Option, Some, None, length, map, filter, take, get_or, slice_get, range_with_len, arith, ap, sym, subst, refl, not, Bool, true, false, Row, Automaton, Pattern, Meaning, In, unsigned_abs, to_z, of_z, w128, to_z_abs}
+use Rattle.ta_moments.specs.Forms.{UnknownForm, opposite_form}
+use Rattle.ta_moment_encode.proofs.Adding.{adds_both, adds_same}
+use Rattle.ta_moment_encode.proofs.Forms.{small_more}
+use Rattle.ta_moment_encode.proofs.uses.push_one_step.Goals as goal
+
+pub opposite-requires : goal.opposite-requires
+opposite-requires c = small_more 129 (2 ^ 119) _ (omega arith) c.in_ok-steps.ensures.small
+
+pub returns : goal.returns
+returns c =
+    adds_both _ _ _ _ _ (adds_same _ _ _ _ (ap (λ (f : UnknownForm). f ∷ []) c.in_ok-steps.ensures.value) c.in_ok-push_form.ensures)
+    (adds_same _ _ _ _ (ap (λ (f : UnknownForm). f ∷ []) (c.in_ok-turned.ensures ∙ ap opposite_form c.in_ok-steps.ensures.value)) c.in_ok-push_form-2.ensures)

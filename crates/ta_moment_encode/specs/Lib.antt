@@ -1,0 +1,5 @@
+pub mod Forms
+pub mod Rows
+pub mod Plan
+pub mod Moments
+pub mod Draft

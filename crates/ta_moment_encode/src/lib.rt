@@ -1,0 +1,16 @@
+//! Systems of nodes of the tree of questions.
+#![tactic(auto)]
+
+mod at;
+mod draft;
+mod first;
+mod form;
+mod moment;
+mod place;
+mod plan;
+mod rows;
+mod silence;
+mod uses;
+mod vector;
+
+pub use moment::Moment;
