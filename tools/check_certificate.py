@@ -605,13 +605,10 @@ def follow(root, kinds, lines):
             path.append((system.longer(*cases.pop()), len(bounds), []))
 
 
-def roots(automaton, pattern, version, before, rest, silent):
-    """Where the trees of a pattern begin: a start set each, or an event each that no other comes after."""
-    if version < 3:
-        return [System(automaton, pattern, start, before, rest) for start in subsets(len(automaton.fall))]
+def lasts(pattern):
+    """The events that no other comes after; None where there is no event."""
     earlier = set().union(*(event.after for event in pattern.events))
-    lasts = [e for e, event in enumerate(pattern.events) if event.name not in earlier] or [None]
-    return [Facts(automaton, pattern, last, silent if rest else None) for last in lasts]
+    return [e for e, event in enumerate(pattern.events) if event.name not in earlier] or [None]
 
 
 def judge(automaton, lines, rest=False, silent=()):
@@ -629,8 +626,11 @@ def judge(automaton, lines, rest=False, silent=()):
         number = numbers[0]
         need(number < len(automaton.patterns), "C3 unknown pattern")
         need(number not in proved, "C11 repeated pattern")
-        for root in roots(automaton, automaton.patterns[number], version, before, rest, silent):
-            follow(root, kinds, lines)
+        pattern, starts = automaton.patterns[number], subsets(len(automaton.fall)) if version < 3 else ()
+        for start in starts:
+            follow(System(automaton, pattern, start, before, rest), kinds, lines)
+        for last in lasts(pattern) if version == 3 else ():
+            follow(Facts(automaton, pattern, last, silent if rest else None), kinds, lines)
         proved.add(number)
         kind, numbers = lines.take("pattern", "end")
     lines.number += 1
