@@ -404,7 +404,7 @@ class Facts(Start):
         for event in events:
             vector = self.fresh(self.moving)
             self.moments.append(Moment(vector, vector, False))
-            self.rows += self.counters(self.at(vector)) + [value(row, self.at(vector)) for row in event.rows]
+            self.rows += self.counters(places := self.at(vector)) + [value(row, places) for row in event.rows]
         for it, event in zip(self.moments, events):
             for other, earlier in zip(self.moments, events):
                 self.rows += self.below(other.early, it.early) if earlier.name in event.after else []
