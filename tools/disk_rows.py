@@ -67,11 +67,11 @@ def content_of(name):
 class Room:
     """A folder in which a command writes OUT, with what it held, what it will hold, and the right answer."""
 
-    def __init__(self, program, folder, file):
+    def __init__(self, program, folder, file, command="verify"):
         self.program, self.folder, self.file = program, folder, file
         os.makedirs(folder, exist_ok=True)
         self.out, self.old = os.path.join(folder, "out.cert"), content_of("examples/kept.cert")
-        self.words = [program, "verify", file, "--certificate", self.out]
+        self.words = [program, command, file, "--certificate", self.out]
         begun = time.monotonic()
         self.right = answer(self.words)
         self.seconds = time.monotonic() - begun
@@ -186,14 +186,30 @@ def each_call(tried, room, rule, take, calls=CALLS):
             take(call, number, ended)
 
 
-def killed_at_calls(program, folder, tried):
-    """A program that is killed at a call of the system."""
-    room = Room(program, os.path.join(folder, "calls"), SMALL)
+def killed_at_calls(program, folder, tried, file, command):
+    """A program that is killed at a call of the system: OUT is the old one or the new one."""
+    room = Room(program, os.path.join(folder, "calls"), file, command)
 
     def take(call, number, ended):
         held = room.held()
         label = "old" if held == room.old else "new" if held == room.new else "torn"
-        tried.take(label, label != "torn", f"killed at {call} {number}: {room.told(ended)}")
+        tried.take(label, label != "torn", f"{command} killed at {call} {number}: {room.told(ended)}")
+
+    each_call(tried, room, "signal=KILL", take)
+
+
+def killed_searches(program, folder, tried):
+    """A search that is killed at a call of the system: OUT and OUT2 are old or new, and OUT2 is new before OUT is."""
+    room = Room(program, os.path.join(folder, "calls"), "examples/echo_threshold.template", "search")
+    filled, old = os.path.join(room.folder, "filled.ta"), b"# old\n"
+    room.words += ["--filled", filled]
+    answer(room.words)
+    new = room.held(filled)
+
+    def take(call, number, ended):
+        both = [{room.old: "old", room.new: "new"}.get(room.held(), "torn"), {None: "none", old: "old", new: "new"}.get(room.held(filled), "torn")]
+        good = "torn" not in both and (both[0] == "old" or both[1] == "new")
+        tried.take(f"{both[0]} and {both[1]}", good, f"search killed at {call} {number}: {both} {ended}")
 
     each_call(tried, room, "signal=KILL", take)
 
@@ -237,7 +253,7 @@ cp "$1/out.cert" "$6/held"; ls "$1" > "$6/listed"
     for taken in (0, 4096, 8000, 12000, 20000):
         old = written(os.path.join(folder, "old.cert"), room.old)
         words = ["unshare", "-rm", "sh", "-c", script, "sh", place, old, str(taken), program, room.file, results]
-        if shutil.which("unshare") is None or answer(words)[0] in (99, 1):
+        if shutil.which("unshare") is None or answer(words)[0] in (99, 98, 1):
             tried.seen["no small disk here"] = 1
             return
         said, told, status, held, listed = (room.held(os.path.join(results, it)) for it in ("said", "told", "status", "held", "listed"))
