@@ -204,7 +204,8 @@ class Run:
     """A run text, followed step by step as `tav replay` does, with its pattern and its moments."""
 
     def __init__(self, automaton, lines, name, first=1):
-        self.automaton, self.name, self.line, self.last = automaton, name, first, first + len(lines) - 1
+        self.automaton, self.name, self.lines = automaton, name, lines
+        self.line, self.last = first, first + len(lines) - 1
         self.pattern = pattern_of(automaton, lines[0][4:])
         self.rules = {rule.name: rule for rule in automaton.rules}
         self.events = {event.name: event for event in self.pattern.events}
