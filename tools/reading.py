@@ -188,6 +188,20 @@ class Written:
         self.patterns[name] = found
 
 
+def guards_of(automaton, written):
+    """The distinct guards, in order: (`rise` or `fall`, the number, the text where it first appears, the name of that rule)."""
+    found = {}
+    names = f"parameters {', '.join(automaton.parameters)}; shared {', '.join(automaton.shared)};"
+    for rule in automaton.rules:
+        for text in written.rules[rule.name][1]:
+            alone = f"automaton a; {names} locations a_ initial, b_; processes 0; resilience; rule r: a_ -> b_ when {text};"
+            guard = judge.Automaton(alone.encode())
+            for kind, number in [("rise", i) for i in rule.rise] + [("fall", j) for j in rule.fall]:
+                if getattr(automaton, kind)[number] in getattr(guard, kind):
+                    found.setdefault((kind, number), (kind, number, text, rule.name))
+    return [found[key] for key in sorted(found, key=lambda it: (it[0] == "fall", it[1]))]
+
+
 # ---- runs
 class Moment:
     """A configuration: the rule and the factor that led to it, the number of each place, and the events that are marked."""
