@@ -20,6 +20,9 @@ import check_certificate as judge  # noqa: E402  (it lies beside this file)
 
 Fault = judge.Fault
 ONE = judge.ONE
+KEYWORDS = (
+    "automaton parameters shared locations initial processes resilience rule when do pattern start empty event after".split()
+)
 
 
 class Stop(Exception):
