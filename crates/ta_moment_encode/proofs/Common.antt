@@ -43,7 +43,6 @@ pub use Rattle.ta_base.proofs.Totals.{one_if-natural, one_if-ne, one_if-shift, o
 pub use Rattle.ta_base.specs.Sums.{one_if, times_in}
 unfoldable pub use Rattle.ta_base.specs.Sums.{total}
 unfoldable pub use Rattle.ta_base.proofs.Sums.{range_sum}
-pub use Rattle.ta_cert.specs.Tree.{Done, Extend, Forest, Leaf, More, Split, Tree, all_preorder, forest_preorder, preorder}
 pub use Rattle.ta_cert.specs.declared.line.Node.{Node}
 pub use Rattle.ta_encode.specs.Code.{AreRowsOf, IsRowOf, SystemAt, SystemOf}
 pub use Rattle.ta_encode.specs.Ends.{EndedSystem, ended_rows}

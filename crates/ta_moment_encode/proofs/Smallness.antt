@@ -1,7 +1,8 @@
 -- the forms of a file have few terms and small numbers
 use Rattle.ta_moment_encode.proofs.Common.{ℕ, ℤ, ◌+◌, ◌≤◌, List, [], ◌∷◌, length, arith, AllByRecursion, IsNormal, Form, Row, Automaton, Comparison, SmallForm, SmallRows, SmallCondition}
 use Rattle.ta_moment_encode.proofs.Common.{◌≡◌, ◌++◌, slice_get, Some, each_at, each_append}
-use Rattle.ta_moments.specs.Moments.{guards, is_silent, loud_terms}
+use Rattle.ta_moments.specs.Moments.{guards}
+use Rattle.ta_rest.specs.Quiet.{is_silent, loud_terms}
 use Rattle.ta_moment_encode.proofs.Common.{Bool, not, filter, cond_both, SmallTerms}
 use Rattle.ta_automaton.specs.declared.condition.Condition.{Condition}
 use Rattle.ta_automaton.specs.Forms.{FormOver, RowOver, ConditionOver, RiseRow, FallRow}

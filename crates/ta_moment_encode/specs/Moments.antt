@@ -1,5 +1,5 @@
 -- Moments of the code, as those of the definitions
-use Rattle.std.specs.Prelude.{◌≡◌, List, map, slice_get, Option, Some, None}
+use Rattle.std.specs.Prelude.{List, map}
 use Rattle.ta_moments.specs.Moments.{Moment as KnownMoment, Point as KnownPoint, Pair as KnownPair}
 use Rattle.ta_moment_encode.specs.Forms.{vector_of}
 use Rattle.ta_moment_encode.specs.declared.moment.Moment.{Moment}

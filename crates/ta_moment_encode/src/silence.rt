@@ -4,7 +4,8 @@
 ghost use Rattle.std.specs.Prelude.{◌≡◌, OnOk, IfOk, map, slice_get};
 ghost use Rattle.ta_encode.specs.Lines.{SmallTerms};
 ghost use Rattle.ta_moments.specs.Forms.{negated_form, opposite_form};
-ghost use Rattle.ta_moments.specs.Moments.{guards, is_silent, loud_terms, quiet_at, source_at};
+ghost use Rattle.ta_moments.specs.Moments.{guards, quiet_at, source_at};
+ghost use Rattle.ta_rest.specs.Quiet.{is_silent, loud_terms};
 ghost use Rattle.ta_moment_encode.specs.Forms.{SmallVector, vector_of};
 ghost use Rattle.ta_moment_encode.specs.Plan.{IsPlan};
 ghost use Rattle.ta_moment_encode.specs.Rows.{AddsForms};

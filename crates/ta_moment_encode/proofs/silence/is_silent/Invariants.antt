@@ -1,5 +1,5 @@
 use Rattle.std.proofs.Common.{◌≡◌, drop}
-use Rattle.ta_moments.specs.Moments.{is_silent}
+use Rattle.ta_rest.specs.Quiet.{is_silent}
 use Rattle.ta_moment_encode.proofs.silence.is_silent.Given as goal
 
 abbrev pub invariant-loop-quiet : goal.invariant-loop-quiet

@@ -1,5 +1,5 @@
 use Rattle.std.proofs.Common.{◌≡◌, take}
-use Rattle.ta_moments.specs.Moments.{loud_terms}
+use Rattle.ta_rest.specs.Quiet.{loud_terms}
 use Rattle.ta_moment_encode.proofs.silence.loud_terms.Given as goal
 
 abbrev pub invariant-loop-place : goal.invariant-loop-place

@@ -1,8 +1,9 @@
-use Rattle.ta_moment_encode.proofs.Common.{ℕ, ℤ, pos, ◌≡◌, ◌∙◌, ◌+◌, ◌*◌, ◌-◌, ◌<◌, ◌≤◌, ◌^◌, ◌++◌, ◌∷◌, [], List, Option, Some, None, length, map, filter, take, get_or, slice_get, range_with_len, arith, ap, sym, subst, refl, not, Bool, true, false, Row, Automaton, Pattern, Meaning, In, unsigned_abs, to_z, of_z, w128, to_z_abs}
+use Rattle.ta_moment_encode.proofs.Common.{ℕ, ℤ, ◌≡◌, ◌∙◌, ◌*◌, ◌≤◌, ◌^◌, ◌∷◌, [], List, Option, Some, map, slice_get, arith, ap, sym, subst, Row, unsigned_abs, to_z_abs}
 use Rattle.std.specs.Prelude.{option_copied}
 use Rattle.ta_encode.specs.Lines.{SmallTerms}
 use Rattle.ta_moments.specs.Forms.{UnknownForm, negated_form, number_form, plus_form, terms_form}
-use Rattle.ta_moments.specs.Moments.{guards, loud_terms, place_form, quiet_at}
+use Rattle.ta_moments.specs.Moments.{guards, place_form, quiet_at}
+use Rattle.ta_rest.specs.Quiet.{loud_terms}
 use Rattle.ta_moment_encode.specs.Forms.{vector_of}
 use Rattle.ta_moment_encode.proofs.Adding.{adds_same}
 use Rattle.ta_moment_encode.proofs.Forms.{small_more}
