@@ -1,4 +1,4 @@
--- Nodes whose vertices give natural values (this project's profile; threshold automata whose conditions are cones, as most are). Where no
+-- Nodes whose vertices give natural values (this project's profile). Where no
 -- row has a positive constant, a solution in fractions times its common denominator is a solution in natural numbers
 use Rattle.std.specs.Prelude.{ℕ, ℤ, pos, ◌≡◌, ◌+ℤ◌, ◌*ℤ◌, ◌≤ℤ◌, ◌≤◌, ◌↔◌, All, List, [], length, map, slice_get, None, Option, Some}
 use Rattle.std.specs.List.{AllByRecursion, range_with_len}
