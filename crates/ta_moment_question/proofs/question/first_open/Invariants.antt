@@ -1,0 +1,12 @@
+use Rattle.std.proofs.Common.{◌≡◌, ◌&&◌, drop, map}
+use Rattle.std.specs.Prelude.{option_copied}
+use Rattle.std.specs.List.{find}
+use Rattle.ta_moments.specs.Questions.{is_guard_open}
+use Rattle.ta_moment_question.specs.Forms.{values_of, vector_of}
+use Rattle.ta_moment_question.specs.Parts.{guard_of}
+use Rattle.ta_moment_question.proofs.question.first_open.Given as goal
+
+abbrev pub invariant-loop-guard : goal.invariant-loop-guard
+invariant-loop-guard l =
+    find (is_guard_open l.facts (values_of (option_copied l.vertex)) (vector_of l.end)) (map guard_of l.guards)
+    ≡ find (is_guard_open l.facts (values_of (option_copied l.vertex)) (vector_of l.end)) (map guard_of (drop l.guard-index l.guards))
