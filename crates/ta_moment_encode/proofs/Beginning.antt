@@ -1,15 +1,16 @@
 -- the node without facts: its first rows, and its vectors
-use Rattle.ta_moment_encode.proofs.Common.{◌≡◌, ◌∙◌, inl, inr, ℕ, ℤ, pos, suc, ◌+◌, ◌*◌, ◌-◌, ◌<◌, ◌≤◌, List, [], ◌∷◌, ◌++◌, map, filter, length, take, slice_get, Some, None, Option, Bool, arith, ints, sym, ap, subst, refl, append_assoc, append-nil, length-append, range_with_len, AllByRecursion, In, AreRowsOf, IsRowOf, Automaton, Pattern, Row, LinearRow, condition_rows, processes_row, opposite, start_guard_rows, numbers_rise, rises_filter}
+use Rattle.ta_moment_encode.proofs.Common.{◌≡◌, ◌∙◌, inl, inr, ℕ, ℤ, pos, zero, suc, ◌+◌, ◌*◌, ◌-◌, ◌<◌, ◌≤◌, List, [], ◌∷◌, ◌++◌, map, filter, length, take, slice_get, Some, None, Option, not, Bool, arith, ints, sym, ap, subst, refl, append_assoc, append-nil, length-append, range_with_len, cond, eqb, AllByRecursion, In, AreRowsOf, IsRowOf, Automaton, Pattern, Row, LinearRow, System, condition_rows, processes_row, opposite, start_guard_rows, unsigned_abs, numbers_rise, rises_filter}
 unfoldable use Rattle.ta_encode.specs.System.{start_rows, word_rows}
 use Rattle.ta_encode.specs.Unknowns.{start_meanings}
 use Rattle.std.proofs.Common.{mul-le-mul}
 use Rattle.std.specs.Prelude.{flat_map}
 use Rattle.ta_moment_encode.proofs.Common.{filter_shorter}
 use Rattle.ta_moments.specs.Forms.{plus_form, terms_form}
-use Rattle.ta_moments.specs.Moments.{first_vector, guard_at, place_form, quiet_at}
+use Rattle.ta_moments.proofs.Speaking.{speak_minus, speak_plus, vector_more}
+use Rattle.ta_moments.specs.Moments.{after_vector, before_vector, step_vector, first_vector, guard_at, place_form, quiet_at}
 use Rattle.ta_rest.specs.Quiet.{loud_terms}
 use Rattle.ta_moment_encode.proofs.Common.{length-map, length-range_with_len}
-use Rattle.ta_moments.specs.Moments.{Point, rows_of_event, rows_of_after, rows_of_end}
+use Rattle.ta_moments.specs.Moments.{Known, Point, rows_of_event, rows_of_after, rows_of_end}
 unfoldable use Rattle.ta_moments.specs.Moments.{known}
 unfoldable use Rattle.ta_encode.specs.Unknowns.{meanings}
 use Rattle.ta_encode.proofs.CodeRows.{rows_count}
@@ -17,8 +18,9 @@ use Rattle.ta_encode.proofs.Drafts.{start_few}
 use Rattle.ta_moment_encode.proofs.Starts.{moving_few}
 use Rattle.ta_base.specs.Lists.{Rises}
 use Rattle.ta_base.proofs.Ranges.{each_below}
-use Rattle.ta_moments.specs.Facts.{is_moving, moving_rules, sparing}
+use Rattle.ta_moments.specs.Facts.{has_guard, is_moving, moving_rules, needing, sparing}
 use Rattle.ta_moments.specs.Forms.{UnknownForm, form_of_row, number_form, unknown_form, minus_form}
+use Rattle.ta_moments.specs.Laws.{Speaks}
 use Rattle.ta_moments.specs.Moments.{Vector, end_vector, event_vector, nothing_fired, rows_at_start, unknowns_at_first}
 unfoldable use Rattle.ta_moments.specs.Moments.{fresh}
 use Rattle.ta_moments.specs.Facts.{candidates}
@@ -29,7 +31,7 @@ use Rattle.ta_moments.specs.Moments.{Moment}
 use Rattle.ta_moment_encode.specs.declared.moment.Moment.{Moment as Kept}
 use Rattle.ta_moment_encode.specs.Moments.{moment_of, moments_of}
 use Rattle.ta_moment_encode.specs.Forms.{SmallBy, SmallVector, form_of, forms_of, vector_of}
-use Rattle.ta_moment_encode.proofs.Forms.{form_same, small_more, small_number, small_unknown}
+use Rattle.ta_moment_encode.proofs.Forms.{form_same, small_minus, small_plus, small_more, small_number, small_unknown}
 
 row_form : (l : LinearRow) (r : Row) → IsRowOf l r → form_of r.form ≡ form_of_row l
 row_form l r h = form_same (form_of r.form) (form_of_row l) h.constant h.coefficients
@@ -182,3 +184,41 @@ all_loud (t ∷ ts) = ap (λ us. t ∷ us) (all_loud ts)
 pub quiet_none : (a : Automaton) (p : Pattern) (v : Vector) (o : Option Row) → quiet_at a p [] v o ≡ guard_at a p v o
 quiet_none a p v None = refl
 quiet_none a p v (Some row) = ap (λ ts. plus_form (number_form row.form.constant) (terms_form (place_form a p v) ts) ∷ []) (all_loud row.form.terms)
+
+-- the difference of small vectors
+pub less_small : (v w : Vector) → SmallVector 1 v → SmallVector 1 w → SmallVector 2 (λ r. minus_form (v r) (w r))
+less_small v w h k = record { each = λ r. small_minus 1 1 (v r) (w r) (h.each r) (k.each r) }
+
+-- ---- the vectors of a last use
+pub more_small : (v w : Vector) → SmallVector 2 v → SmallVector 1 w → SmallVector 3 (λ r. plus_form (v r) (w r))
+more_small v w h k = record { each = λ r. small_plus 2 1 (v r) (w r) (h.each r) (k.each r) }
+
+pub step_small : (a : Automaton) (p : Pattern) (u g : ℕ) → SmallVector 1 (step_vector a p u g)
+step_small a p u g = fresh_small 1 (u + length (sparing a p g)) (needing a p g) nothing_fired (omega arith) (nothing_small 1)
+
+pub before_small : (a : Automaton) (p : Pattern) (end : Vector) (u g : ℕ) → SmallVector 1 end → SmallVector 2 (before_vector a p end u g)
+before_small a p end u g h = fresh_small 2 u (sparing a p g) (λ r. minus_form (end r) (step_vector a p u g r)) (omega arith) (less_small end (step_vector a p u g) h (step_small a p u g))
+
+pub after_small : (a : Automaton) (p : Pattern) (end : Vector) (u g : ℕ) → SmallVector 1 end → SmallVector 3 (after_vector a p end u g)
+after_small a p end u g h = more_small (before_vector a p end u g) (step_vector a p u g) (before_small a p end u g h) (step_small a p u g)
+
+pub step_is : (a : Automaton) (p : Pattern) (u g : ℕ) (others chosen : List ℕ) (v : Vector) → others ≡ sparing a p g → chosen ≡ needing a p g → v ≡ fresh (u + length others) chosen nothing_fired → v ≡ step_vector a p u g
+step_is a p u g others chosen v o n h = h ∙ ap (λ rs. fresh (u + length rs) chosen nothing_fired) o ∙ ap (λ rs. fresh (u + length (sparing a p g)) rs nothing_fired) n
+
+pub before_is : (a : Automaton) (p : Pattern) (end : Vector) (u g : ℕ) (others : List ℕ) (step v : Vector) → others ≡ sparing a p g → step ≡ step_vector a p u g → v ≡ fresh u others (λ r. minus_form (end r) (step r)) → v ≡ before_vector a p end u g
+before_is a p end u g others step v o s h = h ∙ ap (λ rs. fresh u rs (λ r. minus_form (end r) (step r))) o ∙ ap (λ (w : Vector). fresh u (sparing a p g) (λ r. minus_form (end r) (w r))) s
+
+pub after_is : (a : Automaton) (p : Pattern) (end : Vector) (u g : ℕ) (before step v : Vector) → before ≡ before_vector a p end u g → step ≡ step_vector a p u g → v ≡ (λ r. plus_form (before r) (step r)) → v ≡ after_vector a p end u g
+after_is a p end u g before step v b s h = h ∙ ap (λ (w : Vector). (λ (r : ℕ). plus_form (w r) (step r))) b ∙ ap (λ (w : Vector). (λ (r : ℕ). plus_form (before_vector a p end u g r) (w r))) s
+
+pub after_speaks : (a : Automaton) (p : Pattern) (end : Vector) (u g : ℕ) → VectorSpeaks u end → VectorSpeaks (u + length (sparing a p g) + length (needing a p g)) (after_vector a p end u g)
+after_speaks a p end u g h =
+    let ss = sparing a p g in
+    let ns = needing a p g in
+    let n = u + length ss + length ns in
+    let step = step_vector a p u g in
+    let steps : VectorSpeaks n step = speak_fresh (u + length ss) ns nothing_fired n (omega arith) (λ r. speak_number n (pos 0)) in
+    let ends : VectorSpeaks n end = vector_more u n end (omega arith) h in
+    let before = before_vector a p end u g in
+    let one : VectorSpeaks n before = speak_fresh u ss (λ r. minus_form (end r) (step r)) n (omega arith) (λ r. speak_minus n (end r) (step r) (ends r) (steps r)) in
+    λ r. speak_plus n (before r) (step r) (one r) (steps r)

@@ -1,10 +1,18 @@
 -- vectors of the code
-use Rattle.ta_moment_encode.proofs.Common.{◌≡◌, ◌≢◌, ◌∙◌, inl, inr, ℕ, pos, ◌+◌, ◌<◌, ◌≤◌, List, [], ◌∷◌, ◌++◌, length, get_or, drop, arith, sym, ap, refl, cond_same, cond_apart, slice_get_past, AllByRecursion}
+use Rattle.ta_moment_encode.proofs.Common.{◌≡◌, ◌≢◌, ◌∙◌, inl, inr, ℕ, pos, suc, ◌+◌, ◌<◌, ◌≤◌, List, [], ◌∷◌, ◌++◌, length, get_or, drop, slice_get, Some, None, Option, arith, sym, ap, subst, refl, cond, eqb, cond_same, cond_apart, slice_get_past, AllByRecursion}
 use Rattle.std.proofs.lemmas.List.{drop_more}
+use Rattle.std.specs.Option.{IfSome, MatchOption, option_map}
+use Rattle.std.specs.Prelude.{option_copied}
+use Rattle.std.specs.List.{HoldsAt}
+use denote.Bor.{Bor}
+use Rattle.ta_base.proofs.Lists.{get_map}
+use Rattle.ta_moment_encode.proofs.Common.{length-map, slice_get_read}
+use Rattle.ta_moment_encode.specs.declared.moment.Moment.{Moment as Kept}
+use Rattle.ta_moment_encode.specs.Moments.{moment_of, moments_of}
 use Rattle.ta_base.proofs.Naturals.{below_or_last}
 use Rattle.ta_base.proofs.Lists.{get_end, slice_get_before}
 use Rattle.ta_linear.specs.declared.form.Form.{Form}
-use Rattle.ta_moments.specs.Forms.{number_form, unknown_form, minus_form, plus_form}
+use Rattle.ta_moments.specs.Forms.{UnknownForm, number_form, unknown_form, minus_form, plus_form}
 use Rattle.ta_moments.specs.Moments.{Vector}
 unfoldable use Rattle.ta_moments.specs.Moments.{fresh}
 use Rattle.ta_moment_encode.specs.Forms.{form_in, form_of, vector_of}
@@ -54,3 +62,8 @@ nothing_less = refl
 
 pub nothing_more : plus_form (number_form (pos 0)) (number_form (pos 0)) ≡ number_form (pos 0)
 nothing_more = refl
+
+-- the moment that is got
+pub moment_got : (o : Option (Bor Kept)) (xs : List Kept) (i : ℕ) → IfSome o (λ x. x.now ≡ get_or xs i x.now) → MatchOption o (length xs ≤ i) (λ x. (i < length xs) × HoldsAt (λ y. x.now ≡ y) xs i) → option_map moment_of (option_copied o) ≡ slice_get (moments_of xs) i
+moment_got None xs i h k = sym (slice_get_past (moments_of xs) i (let same = length-map xs moment_of in omega arith))
+moment_got (Some x) xs i h k = sym (get_map moment_of xs i x.now (slice_get_read xs (length xs) i x.now refl k.0 h))

@@ -1,7 +1,8 @@
 -- Moments of the code, as those of the definitions
-use Rattle.std.specs.Prelude.{List, map}
-use Rattle.ta_moments.specs.Moments.{Moment as KnownMoment, Point as KnownPoint, Pair as KnownPair}
-use Rattle.ta_moment_encode.specs.Forms.{vector_of}
+use Rattle.std.specs.Prelude.{ℕ, ◌≡◌, List, map, slice_get, Option, Some, None}
+use Rattle.ta_moments.specs.Laws.{Speaks}
+use Rattle.ta_moments.specs.Moments.{Moment as KnownMoment, Point as KnownPoint, Pair as KnownPair, early, late}
+use Rattle.ta_moment_encode.specs.Forms.{SmallVector, vector_of}
 use Rattle.ta_moment_encode.specs.declared.moment.Moment.{Moment}
 use Rattle.ta_moment_encode.specs.declared.moment.Moment.TheVariants.{Point, Pair}
 
@@ -13,3 +14,13 @@ moment_of (Pair before after) = KnownPair (vector_of before.items) (vector_of af
 -- what moments say, in order
 abbrev pub moments_of : List Moment → List KnownMoment
 moments_of moments = map moment_of moments
+
+-- the numbers of moments' vectors are small
+pub record SmallMoments (moments : List KnownMoment) : Type 0 where
+  pub early_small : (x : ℕ) (m : KnownMoment) → slice_get moments x ≡ Some m → SmallVector 3 (early m)
+  pub late_small : (x : ℕ) (m : KnownMoment) → slice_get moments x ≡ Some m → SmallVector 3 (late m)
+
+-- moments speak of the first unknowns alone
+pub record MomentsSpeak (n : ℕ) (moments : List KnownMoment) : Type 0 where
+  pub early_speaks : (x : ℕ) (m : KnownMoment) → slice_get moments x ≡ Some m → (r : ℕ) → Speaks n (early m r)
+  pub late_speaks : (x : ℕ) (m : KnownMoment) → slice_get moments x ≡ Some m → (r : ℕ) → Speaks n (late m r)

@@ -6,6 +6,7 @@ mod draft;
 mod first;
 mod form;
 mod moment;
+mod order;
 mod place;
 mod plan;
 mod rows;

@@ -1,10 +1,11 @@
 //! Moments: positions of a run, or the two positions of one step.
 #![tactic(auto)]
 
-ghost use Rattle.std.specs.Prelude.{◌≡◌};
+ghost use Rattle.std.specs.Prelude.{◌≡◌, option_copied, slice_get};
+ghost use Rattle.std.specs.Option.{option_map};
 ghost use Rattle.ta_moments.specs.Moments.{early, is_pair, late};
 ghost use Rattle.ta_moment_encode.specs.Forms.{vector_of};
-ghost use Rattle.ta_moment_encode.specs.Moments.{moment_of};
+ghost use Rattle.ta_moment_encode.specs.Moments.{moment_of, moments_of};
 
 use ta_linear::Form;
 
@@ -46,4 +47,11 @@ impl Moment {
             Moment::Pair(_, _) => true,
         }
     }
+}
+
+/// The moment of a number, from 0.
+pub(crate) fn get_moment(moments: &[Moment], number: u32) -> Option<&Moment>
+    ensures { option_map moment_of (option_copied result) ≡ slice_get (moments_of moments.now) number }
+{
+    moments.get(number as usize)
 }

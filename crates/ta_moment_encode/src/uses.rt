@@ -2,10 +2,11 @@
 #![tactic(auto)]
 
 ghost use Rattle.std.specs.Prelude.{ℕ, pos, ◌+◌, ◌<◌, ◌≤◌, ◌^◌, ◌≡◌, ◌∷◌, ◌++◌, [], IfOk, OnOk, length, slice_get};
-ghost use Rattle.ta_moments.specs.Facts.{sparing};
-ghost use Rattle.ta_moments.specs.Forms.{minus_form, number_form, opposite_form, sum_form};
+ghost use Rattle.std.specs.List.{AllByRecursion};
+ghost use Rattle.ta_moments.specs.Facts.{needing, sparing};
+ghost use Rattle.ta_moments.specs.Forms.{minus_form, number_form, opposite_form, plus_form, sum_form};
 ghost use Rattle.ta_moments.specs.Laws.{Speaks};
-ghost use Rattle.ta_moments.specs.Moments.{Point as KnownPoint, below, counters_at, first_vector, guard_at, guards, rows_of_first};
+ghost use Rattle.ta_moments.specs.Moments.{Pair as KnownPair, Point as KnownPoint, after_vector, before_vector, below, counters_at, first_vector, fresh, guard_at, guards, nothing_fired, rows_of_first, rows_of_last};
 ghost use Rattle.ta_moment_encode.specs.Forms.{SmallBy, SmallVector, form_of, vector_of};
 ghost use Rattle.ta_moment_encode.specs.Moments.{moment_of};
 ghost use Rattle.ta_moment_encode.specs.Plan.{IsPlan};
@@ -13,10 +14,10 @@ ghost use Rattle.ta_moment_encode.specs.Rows.{AddsForms, last_rows};
 
 use crate::form::{minus, opposite, plus};
 use crate::moment::Moment;
-use crate::plan::{Plan, sparing};
+use crate::plan::{Plan, needing, sparing};
 use crate::rows::{push_below, push_counters, push_each, push_form, push_guard};
 use crate::silence::push_failing;
-use crate::vector::{fresh, of_rule};
+use crate::vector::{fresh, of_rule, sums};
 use std::alloc::AllocError;
 use ta_linear::{Form, Row};
 
@@ -148,4 +149,75 @@ fn push_last_rows(
     push_below(plan, after, end, rows)?;
     push_failing(plan, &[], end, guard, rows)?;
     Ok(())
+}
+
+/// The vectors of the last step of the rules that are chosen; the other rules have unknowns of their
+/// own.
+fn step_vectors(
+    plan: &Plan,
+    end: &[Form],
+    unknowns: usize,
+    others: &[u32],
+    chosen: &[u32],
+) -> Result<Step, AllocError>
+    requires few { unknowns < 2 ^ 31 }
+    requires others { AllByRecursion (λ r. r < length plan.now.task.automaton.now.rules) others.now }
+    requires chosen { AllByRecursion (λ r. r < length plan.now.task.automaton.now.rules) chosen.now }
+    requires counts { (length others.now ≤ 128) × (length chosen.now ≤ 128) }
+    requires length { length end.now ≤ length plan.now.task.automaton.now.rules }
+    requires end { SmallVector 1 (vector_of end.now) }
+    ensures step { IfOk result (λ vectors. vector_of vectors.step.items ≡ fresh (unknowns + length others.now) chosen.now nothing_fired) }
+    ensures before { IfOk result (λ vectors. vector_of vectors.before.items ≡ fresh unknowns others.now (λ r. minus_form (vector_of end.now r) (vector_of vectors.step.items r))) }
+    ensures after { IfOk result (λ vectors. vector_of vectors.after.items ≡ (λ r. plus_form (vector_of vectors.before.items r) (vector_of vectors.step.items r))) }
+{
+    let rules = plan.task.automaton.rules.as_slice().len();
+    let first = unknowns as u32;
+    let next = first + others.len() as u32;
+    let step = fresh(plan.alloc, rules, next, chosen, &[], &[])?;
+    let stepped = step.as_slice();
+    let before = fresh(plan.alloc, rules, first, others, end, stepped)?;
+    let started = before.as_slice();
+    let after = sums(plan.alloc, started, stepped)?;
+    Ok(Step {
+        before,
+        step,
+        after,
+    })
+}
+
+/// The last use of a guard: its moment and its rows.
+pub(crate) fn push_last_use(
+    plan: &Plan,
+    end: &[Form],
+    unknowns: usize,
+    guard: u32,
+    rows: &mut Vec<Row>,
+) -> Result<Use, AllocError>
+    requires plan { IsPlan plan.now }
+    requires few { unknowns < 2 ^ 31 }
+    requires length { length end.now ≤ length plan.now.task.automaton.now.rules }
+    requires end { SmallVector 1 (vector_of end.now) }
+    requires speaks { (r : ℕ) → Speaks unknowns (vector_of end.now r) }
+    ensures unknowns { IfOk result (λ used. used.unknowns ≡ length (sparing plan.now.task.automaton.now plan.now.task.pattern.now guard) + length (needing plan.now.task.automaton.now plan.now.task.pattern.now guard)) }
+    ensures moment { IfOk result (λ used. moment_of used.moment ≡ KnownPair (before_vector plan.now.task.automaton.now plan.now.task.pattern.now (vector_of end.now) unknowns guard) (after_vector plan.now.task.automaton.now plan.now.task.pattern.now (vector_of end.now) unknowns guard)) }
+    ensures rows { OnOk result (AddsForms (rows_of_last plan.now.task.automaton.now plan.now.task.pattern.now (vector_of end.now) unknowns guard) rows.old.items rows.new.items) }
+{
+    let automaton = plan.task.automaton;
+    let moving = plan.moving.as_slice();
+    let spared = sparing(plan.alloc, automaton, moving, guard)?;
+    let needed = needing(plan.alloc, automaton, moving, guard)?;
+    let others = spared.as_slice();
+    let chosen = needed.as_slice();
+    let vectors = step_vectors(plan, end, unknowns, others, chosen)?;
+    push_last_rows(plan, end, &vectors, guard, chosen, rows)?;
+    let unknowns = others.len() + chosen.len();
+    let Step {
+        before,
+        step: _,
+        after,
+    } = vectors;
+    Ok(Use {
+        unknowns,
+        moment: Moment::Pair(before, after),
+    })
 }
