@@ -11,7 +11,7 @@ use std::alloc::Global;
 use std::marker::PhantomData;
 use std::thread::Threads;
 use ta_shelf::Shelf;
-use ta_shell::{Answer, Command, Refusal};
+use ta_shell::{Answer, Command, Outputs, Refusal};
 
 /// What is done with FILE and a second file that belongs to it.
 pub(crate) trait OfTwoFiles: Drop + Sized {
@@ -67,6 +67,10 @@ impl<'a, C: OfTwoFiles> Request<'a> for TwoFiles<'a, C> {
 
 impl<'a, C: OfTwoFiles> Command for TwoFiles<'a, C> {
     ghost meaning = { λ command. C.stated command.names.file.now command.names.other.now };
+
+    fn outputs(&self) -> Outputs<'_> {
+        Outputs::none()
+    }
 
     fn judge<R: Threads + Sync, S: Shelf>(
         &self,

@@ -1,5 +1,8 @@
 -- from how a command ends to what is said of each
-use Rattle.ta_shell.proofs.Common.{◌≡◌, ◌≢◌, ◌∙◌, ◌≤◌, ◌⊎◌, ◌++◌, ℕ, List, [], ◌∷◌, Option, Some, None, refl, sym, subst, inl, inr, rules, arith, Contains, Call, PutCall, Acts, OthersStay, Told, WhereTold, Put, Decides, Exact, Meaning, IsAnswered, End, Ends, SinkFaltered, FailureTold, IsHindered, Performs, Quiet, State, Telling, Done, NoMemory, Stopped, Unbegun, Unput, Unread, Unwritten, HoldsEither, HoldsPut, KeptBut, Stand, StopAt, PutsWithin, View, seen, with_text, Calm, Spares, put_bytes}
+use Rattle.ta_shell.proofs.Common.{◌≡◌, ◌≢◌, ◌∙◌, ◌≤◌, ◌⊎◌, ◌++◌, ℕ, List, [], ◌∷◌, Option, Some, None, refl, sym, subst, inl, inr, rules, arith, Contains, Call, PutCall, Acts, OthersStay, Told, WhereTold, Put, Decides, Exact, Meaning, IsAnswered, End, Ends, SinkFaltered, FailureTold, IsHindered, Performs, Quiet, State, Telling, Done, NoMemory, Stopped, Unbegun, Unput, Unread, Unwritten, HoldsEither, HoldsPut, KeptBut, Stand, StopAt, PutsWithin, View, seen, with_text, Calm, Spares, put_bytes, ap, append-nil, map, reads, puts, Event, Grew, AreStaging, AreOfStages, PutWhole, PutText, put_text, StopsPublishing, TellsFile, published, names_put, each_append}
+use Rattle.ta_shell.proofs.Ended.{within_puts}
+use Rattle.ta_shell.proofs.Making.{of_stages_within, staging_of_stages}
+use Rattle.ta_shell.proofs.Settling.{whole_of_stages}
 use Rattle.ta_shelf.specs.Counts.{Faulted}
 
 -- the ends by their numbers
@@ -156,6 +159,53 @@ module _ (m : Meaning) (number : ℕ) (before after : State) (e : Ends m number 
   spared (Unput h) three = elim h.halted [ inl u ↦ inl u.0.kept | inr u ↦ inr (acts _ u.refused) ]
   spared (Unwritten h) three = inl h.unstaged.kept
   spared (NoMemory h) three = elim h.stopped [ inl u ↦ inl u.0.kept | inr u ↦ inr (acts _ u.stopped.refused) ]
+
+-- no name stands in none
+none_there : (name : List ℕ) → Contains {X = List ℕ} [] name → ⊥
+none_there name among = let below = among.1 in omega arith
+
+none_staging : (calls : List PutCall) → AreStaging [] calls → calls ≡ []
+none_staging [] are = refl
+none_staging (call ∷ calls) are = absurd (none_there call.name are.0.0)
+
+none_made : (puts : List Put) (calls : List PutCall) → PutsWithin [] puts → PutWhole (map put_text puts) calls → calls ≡ []
+none_made [] calls within whole = whole
+none_made (put ∷ puts) calls within whole = absurd (none_there put.name within.0)
+
+-- of a command without outputs the calls of an answer read, and no others are made
+pub grew_alone : (m : Meaning) (number : ℕ) (before after : State) (e : Ends m number before after) → m.puts ≡ [] → number ≤ 2 → (Such : List Call → Type 0) → Such e.read → Grew Such before.shelf.calls after.shelf.calls
+grew_alone m number before after e none low Such such =
+    let a = answered m (seen before.shelf.files e.read) number before after e.made e.end low in
+    let tried : e.tried ≡ [] = none_staging e.tried (subst (λ (names : List (List ℕ)). AreStaging names e.tried) none e.tries) in
+    let made : e.made ≡ [] = none_made a.answer.puts e.made (subst (λ (names : List (List ℕ)). PutsWithin names a.answer.puts) none a.holds.within) a.whole in
+    record {
+      added = e.read;
+      grown = e.grown ∙ ap (λ (calls : List PutCall). before.shelf.calls ++ (puts calls ++ (reads e.read ++ puts e.made))) tried ∙ ap (λ (calls : List PutCall). before.shelf.calls ++ (reads e.read ++ puts calls)) made ∙ ap (λ (events : List Event). before.shelf.calls ++ events) (append-nil (reads e.read));
+      such = such;
+    }
+
+-- one file is told so
+pub tells_file : (file : PutText) (calls : List PutCall) → PutWhole (file ∷ []) calls → TellsFile file.name file.text calls
+tells_file file calls whole =
+    let stages = whole.3 in
+    record {
+      pieces = stages.pieces;
+      text = stages.text;
+      all = whole.2 ∙ ap (λ (inner : List PutCall). whole.0 ++ (inner ++ published file.name ∷ [])) whole.4 ∙ ap (λ (staged : List PutCall). staged ++ published file.name ∷ []) stages.all;
+    }
+
+stops_of_stages : (names : List (List ℕ)) (calls : List PutCall) → StopsPublishing names calls → AreOfStages names calls
+stops_of_stages names calls s = subst (AreOfStages names) (sym s.all) (each_append _ s.front _ s.before ((s.named, tt), staging_of_stages names s.behind s.after))
+
+-- the calls that change files are of the command's outputs, whatever the end
+pub made_of_stages : (m : Meaning) (view : View) (number : ℕ) (before after : State) (made : List PutCall) → End m view number before after made → AreOfStages m.puts made
+made_of_stages m view number before after made (Done a) = of_stages_within (names_put a.answer.puts) m.puts made (within_puts m.puts a.answer.puts a.holds.within) (whole_of_stages a.answer.puts made a.whole)
+made_of_stages m view number before after made (Stopped h) = subst (AreOfStages m.puts) (sym h.none) tt
+made_of_stages m view number before after made (Unread h) = subst (AreOfStages m.puts) (sym h.none) tt
+made_of_stages m view number before after made (Unbegun h) = subst (AreOfStages m.puts) (sym h.none) tt
+made_of_stages m view number before after made (Unput h) = elim h.halted [ inl u ↦ staging_of_stages m.puts made u.0.staging | inr u ↦ stops_of_stages m.puts made u.refused ]
+made_of_stages m view number before after made (Unwritten h) = staging_of_stages m.puts made h.unstaged.staging
+made_of_stages m view number before after made (NoMemory h) = elim h.stopped [ inl u ↦ staging_of_stages m.puts made u.0.staging | inr u ↦ stops_of_stages m.puts made u.stopped.refused ]
 
 -- with 3, 4 and 5 every file stays
 pub kept_refused : (m : Meaning) (number : ℕ) (before after : State) → Ends m number before after → 3 ≤ number → number ≤ 5 → after.shelf.files ≡ before.shelf.files

@@ -13,7 +13,7 @@ pub use Rattle.ta_shell.specs.Commands.{AnswerHolds, Decides, Exact, IsSo, Judge
 pub use Rattle.ta_shell.specs.Ends.{Calm, End, Ends, FailureTold, IsAnswered, IsHindered, Performs, Quiet, SinkFaltered, SinkState, State, Telling, Tells}
 pub use Rattle.ta_shell.specs.Ends.End.{Done, NoMemory, Stopped, Unbegun, Unput, Unread, Unwritten}
 pub use Rattle.ta_shell.specs.Lines.{file_line, longer_than, missing, phrase_text, piece_text, pieces_text, refusal_line, refusal_number}
-pub use Rattle.ta_shell.specs.Puts.{HoldsEither, HoldsPut, HoldsText, KeptBut, PutsWithin, Stand, StopAt, may_put, names_put, output_names, put_bytes}
+pub use Rattle.ta_shell.specs.Puts.{HoldsEither, HoldsPut, HoldsText, KeptBut, PutsWithin, Stand, StopAt, may_put, names_put, output_names, put_bytes, PutText, put_text}
 pub use Rattle.ta_shell.specs.Reading.{Gives, IsReading, IsUnreadable, ReadCause, ReadsFile, SaysOfFile, UnreadBy}
 pub use Rattle.ta_shell.specs.Sights.{Absent, Begins, HasBytes, HasMore, Part, Sight, View, Whole, in_calls, in_files, seen, where_told}
 pub use Rattle.ta_shell.specs.Stages.{FileIsAtFault, FileMeans, Hinders, IsBroken, Kind, ReadingGoesOn, Stage, after, finds, replies, settles}
@@ -23,7 +23,7 @@ pub use Rattle.ta_shell.specs.declared.answer.Refusal.{Refusal}
 pub use Rattle.ta_shell.specs.declared.answer.Refusal.TheVariants.{Memory, PutFailed, ReadFailed, Refused}
 pub use Rattle.std.specs.List.{AllByRecursion}
 pub use Rattle.ta_base.proofs.Each.{each_append, each_weaker}
-pub use Rattle.ta_shell.specs.Making.{Acts, AreOfStages, AreStaging, Changed, IsOfStage, LeavesFiles, PutWhole, StopsPublishing}
+pub use Rattle.ta_shell.specs.Making.{Acts, AreOfStages, AreStaging, Changed, IsOfStage, LeavesFiles, PutWhole, StopsPublishing, TellsFile}
 pub use Rattle.ta_shell.specs.Ends.{NotBegun, OutOfMemory, PutsStop, Spares, Unpublished, Unstaged}
 pub use Rattle.std.specs.Option.{option_map}
 pub use Rattle.std.specs.Prelude.{map}

@@ -33,7 +33,7 @@ refused m view Memory number before after judges cause kept only =
     NoMemory (record { seven = only.numbered; stopped = inl (record { kept = kept; staging = tt }, only.nothing); no_fault = cause; told = only.told })
 
 -- the names of files that are put are among those that may be
-within_puts : (names : List (List ℕ)) (puts : List Put) → PutsWithin names puts → Within (names_put puts) names
+pub within_puts : (names : List (List ℕ)) (puts : List Put) → PutsWithin names puts → Within (names_put puts) names
 within_puts names [] within name among = absurd (none_there name among)
   where
     none_there : (name : List ℕ) → Contains {X = List ℕ} [] name → ⊥

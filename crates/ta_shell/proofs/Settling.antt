@@ -1,5 +1,5 @@
 -- files of an answer, one around the other
-use Rattle.ta_shell.proofs.Common.{◌≡◌, ◌∙◌, ◌⊎◌, ℕ, List, [], ◌∷◌, ◌++◌, Option, Result, Ok, Err, refl, sym, ap, subst, inl, inr, append_assoc, Bor, Changed, Event, Puts, puts, Contains, contains_here, AllByRecursion, each_append, PutCall, Told, WhereTold, Put, HoldsEither, HoldsText, Stand, StopAt, names_put, put_bytes, AreOfStages, AreStaging, PutWhole, StopsPublishing, Stages, published, Step, PutFault, Halt, length, arith, with_text, SinkState, Tells, Unpublished, Unstaged, PublishRefused, PublishesOne, Settled, WritesText}
+use Rattle.ta_shell.proofs.Common.{◌≡◌, ◌∙◌, ◌⊎◌, ℕ, List, [], ◌∷◌, ◌++◌, Option, Result, Ok, Err, refl, sym, ap, subst, inl, inr, append_assoc, Bor, Changed, Event, Puts, puts, Contains, contains_here, AllByRecursion, each_append, PutCall, Told, WhereTold, Put, HoldsEither, HoldsText, Stand, StopAt, map, names_put, put_bytes, put_text, AreOfStages, AreStaging, PutWhole, StopsPublishing, Stages, published, Step, PutFault, Halt, length, arith, with_text, SinkState, Tells, Unpublished, Unstaged, PublishRefused, PublishesOne, Settled, WritesText}
 use Rattle.ta_shell.specs.declared.putting.Halt.TheVariants as halt
 use Rattle.ta_shell.proofs.Making.{Within, of_stages_within, puts-append, stages_staging, staging_of_stages, staging_within, within_first, within_later}
 use Rattle.std.proofs.Math.Seq.{take-length}
@@ -9,7 +9,7 @@ abbrev pub let_go : List ℕ → PutCall
 let_go name = record { name = name; step = Step.Abandon; bytes = []; answer = Ok tt }
 
 -- calls that put files whole are of their stages
-pub whole_of_stages : (puts : List Put) (calls : List PutCall) → PutWhole puts calls → AreOfStages (names_put puts) calls
+pub whole_of_stages : (puts : List Put) (calls : List PutCall) → PutWhole (map put_text puts) calls → AreOfStages (names_put puts) calls
 whole_of_stages [] calls whole = subst (AreOfStages []) (sym whole) tt
 whole_of_stages (put ∷ puts) calls whole =
     let names = names_put (put ∷ puts) in

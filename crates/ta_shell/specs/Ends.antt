@@ -1,5 +1,5 @@
 -- How a command ends, whichever it is (this project's profile)
-use Rattle.std.specs.Prelude.{ℕ, ◌≡◌, ◌≢◌, ◌≤◌, ◌⊎◌, List, [], ◌++◌, codes, Contains, Option}
+use Rattle.std.specs.Prelude.{ℕ, ◌≡◌, ◌≢◌, ◌≤◌, ◌⊎◌, List, [], ◌++◌, codes, Contains, map, Option}
 use Rattle.ta_shelf.specs.Calls.{Call, Event, Put, puts, reads}
 use Rattle.ta_shelf.specs.Counts.{Faulted, Stalled}
 use Rattle.ta_shelf.specs.Put.{Told}
@@ -10,7 +10,7 @@ use Rattle.ta_shell.specs.Commands.{AnswerHolds, Decides, Exact, Meaning}
 use Rattle.ta_shell.specs.Lines.{file_line, memory_line, output_line}
 use Rattle.ta_shell.specs.declared.answer.Put as answer
 use Rattle.ta_shell.specs.Making.{Acts, AreStaging, PutWhole, StopsPublishing}
-use Rattle.ta_shell.specs.Puts.{KeptBut, Stand, StopAt}
+use Rattle.ta_shell.specs.Puts.{KeptBut, Stand, StopAt, put_text}
 use Rattle.ta_shell.specs.Sights.{View, seen}
 
 -- a shelf's files, the calls on it so far, and its count of faults
@@ -70,7 +70,7 @@ pub record IsAnswered (m : Meaning) (view : View) (number : ℕ) (before after :
   pub holds : AnswerHolds m view answer
   pub numbered : number ≡ answer.number
   pub stand : Stand answer.puts before.shelf.files after.shelf.files
-  pub whole : PutWhole answer.puts made
+  pub whole : PutWhole (map put_text answer.puts) made
   pub no_fault : after.shelf.faults ≡ before.shelf.faults
   pub written : after.out.written ≡ with_text before.out.written answer.text
   pub calm : Calm before.out after.out

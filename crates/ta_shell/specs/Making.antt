@@ -1,13 +1,12 @@
 -- What the log tells of files that are put (this project's profile)
 use Rattle.std.specs.Prelude.{ℕ, ◌≡◌, List, [], ◌∷◌, ◌++◌, Contains, Err}
-use Rattle.std.specs.List.{AllByRecursion}
+use Rattle.std.specs.List.{AllByRecursion, concat}
 use Rattle.ta_shelf.specs.Calls.{Call, Event, Put, puts, reads}
-use Rattle.ta_shelf.specs.Stage.{Stages, published}
+use Rattle.ta_shelf.specs.Stage.{Stages, added, begun, published}
 use Rattle.ta_shelf.specs.declared.entry.Step.{Step}
 use Rattle.ta_shelf.specs.declared.entry.Step.TheVariants.{Create, Append, Begin, Add, Publish, Abandon}
 use Rattle.ta_shelf.specs.declared.fault.PutFault.{PutFault}
-use Rattle.ta_shell.specs.declared.answer.Put as answer
-use Rattle.ta_shell.specs.Puts.{put_bytes}
+use Rattle.ta_shell.specs.Puts.{PutText}
 
 -- a step that leaves every file as it is
 abbrev pub LeavesFiles : Step → Type 0
@@ -36,10 +35,16 @@ abbrev pub AreOfStages : List (List ℕ) → List Put → Type 0
 AreOfStages names calls = AllByRecursion (λ call. Contains names call.name × IsOfStage call.step) calls
 
 -- calls that make each of these files and put it in its place whole; those behind the first are put there before it
-abbrev pub PutWhole : List answer.Put → List Put → Type 0
+abbrev pub PutWhole : List PutText → List Put → Type 0
 PutWhole [] calls = calls ≡ []
-PutWhole (put ∷ puts) calls =
-    (staged inner : List Put) × (calls ≡ staged ++ (inner ++ published put.name ∷ [])) × Stages put.name (put_bytes put) staged × PutWhole puts inner
+PutWhole (file ∷ files) calls =
+    (staged inner : List Put) × (calls ≡ staged ++ (inner ++ published file.name ∷ [])) × Stages file.name file.text staged × PutWhole files inner
+
+-- calls that make a file for a name, in pieces that are these bytes, one behind the other, and put it in its place
+pub record TellsFile (name bytes : List ℕ) (calls : List Put) : Type 0 where
+  pub pieces : List (List ℕ)
+  pub text : bytes ≡ concat pieces
+  pub all : calls ≡ begun name ∷ (added name pieces ++ published name ∷ [])
 
 -- calls on files in the making of these names up to a publishing that is refused; behind it what else is in the making is let go
 pub record StopsPublishing (names : List (List ℕ)) (calls : List Put) : Type 0 where

@@ -16,6 +16,14 @@ content_bytes (Bytes bytes) = bytes
 abbrev pub put_bytes : Put → List ℕ
 put_bytes put = content_bytes put.content
 
+-- a file to be put: its name, and its text
+pub record PutText : Type 0 where
+  pub name : List ℕ
+  pub text : List ℕ
+
+abbrev pub put_text : Put → PutText
+put_text put = record { name = put.name; text = put_bytes put }
+
 -- the file of a name holds this text, and every other file is as it was
 pub record HoldsText (name text : List ℕ) (before after : Told) : Type 0 where
   pub held : after name ≡ Some text

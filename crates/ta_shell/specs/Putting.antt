@@ -1,5 +1,5 @@
 -- What putting files on the shelf answers (this project's profile)
-use Rattle.std.specs.Prelude.{ℕ, ◌≡◌, ◌⊎◌, ◌∷◌, [], Contains, List, Option, Result, Ok, Err}
+use Rattle.std.specs.Prelude.{ℕ, ◌≡◌, ◌⊎◌, ◌∷◌, [], Contains, List, map, Option, Result, Ok, Err}
 use Rattle.ta_shelf.specs.Calls.{Put}
 use Rattle.ta_shelf.specs.Counts.{Faulted}
 use Rattle.std.specs.List.{concat}
@@ -16,7 +16,7 @@ use Rattle.ta_shell.specs.declared.putting.Halt.{Halt}
 use Rattle.ta_shell.specs.declared.putting.Halt.TheVariants as halt
 use Rattle.ta_shell.specs.Ends.{Calm, SinkFaltered, SinkState, Tells, Unpublished, Unstaged}
 use Rattle.ta_shell.specs.Making.{AreStaging, PutWhole}
-use Rattle.ta_shell.specs.Puts.{HoldsEither, HoldsText, Stand, names_put}
+use Rattle.ta_shell.specs.Puts.{HoldsEither, HoldsText, Stand, names_put, put_text}
 
 -- that a file can't be begun is said of one of these names
 abbrev pub BeginRefuses : List (List ℕ) → Result (Unit {0}) Refusal → Type 0
@@ -65,7 +65,7 @@ PublishesOne (Err halt.Memory) name bytes files files' made = PublishRefused nam
 
 -- files stand, and a text was written whole, or not, by such calls
 abbrev pub Settled : List answer.Put → List ℕ → Result (Unit {0}) Halt → Option Told → Option Told → SinkState → SinkState → List Put → Type 0
-Settled puts text (Ok u) files files' out out' made = Stand puts files files' × PutWhole puts made × (out'.written ≡ with_text out.written text) × Calm out out'
+Settled puts text (Ok u) files files' out out' made = Stand puts files files' × PutWhole (map put_text puts) made × (out'.written ≡ with_text out.written text) × Calm out out'
 Settled puts text (Err halt.Unwritten) files files' out out' made = Unstaged (names_put puts) files files' made × AddsPrefix text out.written out'.written × SinkFaltered out out'
 Settled puts text (Err (halt.Unput name)) files files' out out' made =
     Contains (names_put puts) name.now
