@@ -1,5 +1,5 @@
 -- from how a run ends to its clauses
-use Rattle.ta_program.proofs.Common.{◌≡◌, ◌≢◌, ◌≤◌, ◌+◌, ℕ, zero, Bool, true, false, List, [], ◌∷◌, Option, None, Some, refl, sym, ap, subst, ◌∙◌, inl, arith, rules, codes, if◌then◌else◌, list_any, AllByRecursion, bytes_eq, or_parts, File, Pattern, PatternSafe, one_legal, printed_proved, printed_rest_proved, printed_rest_safe, told_safe, check_text, rest_check_text, report_of, Verdict, Safe, Unsafe, Spent, Overflow, filled_text, Grew, OthersStay, Told, WhereTold, with_text, answered, hindered, kept_refused, never_five, whole_one, Decides, Meaning, IsAnswered, Performs, Quiet, ShelfState, SinkState, State, HoldsPut, HoldsText, KeptBut, Stand, put_bytes, View, in_files, seen, run_text, unit_steps, Answer, Put, plain_tree, Asked, LegalFile, Runs, ask, ask_where, Command, NoCommand, BenchHolds, bench_meaning, bench_of, bench_status, bench_words, CheckHolds, check_meaning, check_of, IsFile, file_kind, EachPrintedUnsafe, EachToldSafe, rest_telling, verify_telling, AdmitAsked, AdmitHolds, admit_meaning, admit_of, admit_words, ExportHolds, export_meaning, export_of, export_words, Admitting, Benches, CertificateWritten, CheckProves, ExactlySo, Exports, KeepsFiles, PassesLegal, PrintedHolds, ReplayShows, RestProves, RestsReport, RunShortens, Searches, VerifyReports, put_by, CompressHolds, compress_meaning, compress_of, ReplayHolds, replay_meaning, replay_of, request_of, ClaimHolds, claiming, rest_text, RestOccurs, RestSafe, RestCertificateStands, RestReportHolds, rest_meaning, RestCheckHolds, rest_check_meaning, LegalAtRest, rest_check_of, rest_of, rest_words, CertificateStands, ReportHolds, verify_meaning, VerdictHolds, VerdictsHold, is_unsafe, is_unknown, LegalTemplate, SearchHolds, end_number, leaves_unknown, search_meaning, SearchWords, search_of, search_words, TwoNames, two_names, VerifyWords, verify_of, verify_words, WordAsked, behind_name, map, pair_of, held, held_by, false_from_ne_true, Call, Event, PutCall, PutText, PutWhole, Acts, TellsFile, acts, grew_alone, may_put, put_text, tells_file, Spares}
+use Rattle.ta_program.proofs.Common.{◌≡◌, ◌≢◌, ◌≤◌, ◌+◌, ℕ, zero, Bool, true, false, List, [], ◌∷◌, Option, None, Some, refl, sym, ap, subst, ◌∙◌, inl, arith, rules, codes, if◌then◌else◌, list_any, AllByRecursion, bytes_eq, or_parts, File, Pattern, PatternSafe, one_legal, printed_proved, printed_rest_proved, printed_rest_safe, told_safe, check_text, rest_check_text, report_of, Verdict, Safe, Unsafe, Spent, Overflow, filled_text, Grew, OthersStay, Told, WhereTold, with_text, answered, hindered, kept_refused, never_five, whole_one, Decides, Meaning, IsAnswered, Performs, Quiet, ShelfState, SinkState, State, HoldsPut, HoldsText, KeptBut, Stand, put_bytes, View, in_files, seen, run_text, unit_steps, Answer, Put, plain_tree, Asked, LegalFile, Runs, ask, ask_where, Command, NoCommand, BenchHolds, bench_meaning, bench_of, bench_status, bench_words, CheckHolds, check_meaning, check_of, IsFile, file_kind, EachPrintedUnsafe, EachToldSafe, rest_telling, verify_telling, AdmitAsked, AdmitHolds, admit_meaning, admit_of, admit_words, ExportHolds, export_meaning, export_of, export_words, Admitting, Benches, CertificateWritten, CheckProves, ExactlySo, Exports, KeepsFiles, PassesLegal, PrintedHolds, ReplayShows, RestProves, RestsReport, RunShortens, Searches, VerifyReports, put_by, CompressHolds, compress_meaning, compress_of, ReplayHolds, replay_meaning, replay_of, request_of, ClaimHolds, claiming, rest_text, RestOccurs, RestSafe, RestCertificateStands, RestReportHolds, rest_meaning, RestCheckHolds, rest_check_meaning, LegalAtRest, rest_check_of, rest_of, rest_words, CertificateStands, ReportHolds, verify_meaning, VerdictHolds, VerdictsHold, is_unsafe, is_unknown, LegalTemplate, SearchHolds, end_number, leaves_unknown, search_meaning, SearchWords, search_of, search_words, TwoNames, two_names, VerifyWords, verify_of, verify_words, WordAsked, behind_name, map, pair_of, held, held_by, false_from_ne_true, Call, Event, PutCall, PutText, PutWhole, Acts, TellsFile, acts, grew_alone, may_put, put_text, tells_file, Spares, ◌⊎◌, AreOfStages, made_of_stages, Opens}
 use Rattle.ta_automaton.specs.Runs as runs
 use Rattle.ta_program.specs.Headline.{EachPatternSafe, EachPrinted, HoldsFile, SomePatternOccurs, StatusTells}
 use Rattle.ta_check.proofs.OwnPatterns.{all_own}
@@ -110,20 +110,20 @@ module _ (words : List (List ℕ)) (number : ℕ) (before after : State) (h : Ru
       let ends = performs.ends in
       acts m number before after ends (λ read made. Of (seen before.shelf.files read) made) (from (seen before.shelf.files ends.read) ends.made (answered m (seen before.shelf.files ends.read) number before after ends.made ends.end low))
 
-  gives_some : (m : Meaning) → Performs m number before after → number ≤ 2 → (Of : View → Type 0) → ((view : View) {made : List PutCall} → IsAnswered m view number before after made → Of view) → Acts m.puts (λ read made. Of (seen before.shelf.files read)) before.shelf.calls after.shelf.calls
-  gives_some m performs low Of from = gives_all m performs low (λ view made. Of view) (λ view made a. from view a)
+  gives_some : (m : Meaning) → Performs m number before after → number ≤ 2 → (Of : View → Type 0) → ((view : View) (made : List PutCall) → IsAnswered m view number before after made → Of view) → Acts m.puts (λ read made. Of (seen before.shelf.files read)) before.shelf.calls after.shelf.calls
+  gives_some m performs low Of from = gives_all m performs low (λ view made. Of view) from
 
   -- of a command without outputs
-  gives : (m : Meaning) → m.puts ≡ [] → Performs m number before after → number ≤ 2 → (Of : View → Type 0) → ((view : View) {made : List PutCall} → IsAnswered m view number before after made → Of view) → Grew (λ read. Of (seen before.shelf.files read)) before.shelf.calls after.shelf.calls
+  gives : (m : Meaning) → m.puts ≡ [] → Performs m number before after → number ≤ 2 → (Of : View → Type 0) → ((view : View) (made : List PutCall) → IsAnswered m view number before after made → Of view) → Grew (λ read. Of (seen before.shelf.files read)) before.shelf.calls after.shelf.calls
   gives m none performs low Of from =
       let ends = performs.ends in
-      grew_alone m number before after ends none low (λ read. Of (seen before.shelf.files read)) (from (seen before.shelf.files ends.read) (answered m (seen before.shelf.files ends.read) number before after ends.made ends.end low))
+      grew_alone m number before after ends none low (λ read. Of (seen before.shelf.files read)) (from (seen before.shelf.files ends.read) ends.made (answered m (seen before.shelf.files ends.read) number before after ends.made ends.end low))
 
-  gives_verify : (asked : VerifyWords) → verify_of words ≡ Some asked → number ≤ 2 → (Of : View → Type 0) → ((view : View) {made : List PutCall} → IsAnswered (verify_meaning asked.file asked.nodes asked.json asked.out) view number before after made → Of view) → Acts (may_put asked.out) (λ read made. Of (seen before.shelf.files read)) before.shelf.calls after.shelf.calls
+  gives_verify : (asked : VerifyWords) → verify_of words ≡ Some asked → number ≤ 2 → (Of : View → Type 0) → ((view : View) (made : List PutCall) → IsAnswered (verify_meaning asked.file asked.nodes asked.json asked.out) view number before after made → Of view) → Acts (may_put asked.out) (λ read made. Of (seen before.shelf.files read)) before.shelf.calls after.shelf.calls
   gives_verify asked is low Of from = gives_some (verify_meaning asked.file asked.nodes asked.json asked.out) (as_verify asked is) low Of from
 
-  reported : (name : List ℕ) (budget : ℕ) (json : Bool) (out : Option (List ℕ)) (view : View) {made : List PutCall} → IsAnswered (verify_meaning name budget json out) view number before after made → ReportHolds number view name budget json before.out.written after.out.written
-  reported name budget json out view a =
+  reported : (name : List ℕ) (budget : ℕ) (json : Bool) (out : Option (List ℕ)) (view : View) (made : List PutCall) → IsAnswered (verify_meaning name budget json out) view number before after made → ReportHolds number view name budget json before.out.written after.out.written
+  reported name budget json out view made a =
       let file = a.holds.holds.0 in
       let reports = a.holds.holds.2 in
       record { file = file; is_file = a.holds.holds.1; sample = reports.sample; is_sample = reports.is_sample; verdicts = reports.verdicts; are = reports.are; numbered = sym reports.numbered ∙ sym a.numbered; wrote = a.written ∙ ap (with_text before.out.written) reports.written }
@@ -131,8 +131,8 @@ module _ (words : List (List ℕ)) (number : ℕ) (before after : State) (h : Ru
   pub verify_reports : VerifyReports number words before.shelf.files before.shelf.calls after.shelf.calls before.out.written after.out.written
   verify_reports asked is low = gives_verify asked is low (λ view. ReportHolds number view asked.file asked.nodes asked.json before.out.written after.out.written) (reported asked.file asked.nodes asked.json asked.out)
 
-  certified : (name : List ℕ) (budget : ℕ) (json : Bool) (out : List ℕ) (view : View) {made : List PutCall} → IsAnswered (verify_meaning name budget json (Some out)) view number before after made → CertificateStands number view name budget json out before.shelf.files after.shelf.files before.out.written after.out.written made
-  certified name budget json out view {made} a =
+  certified : (name : List ℕ) (budget : ℕ) (json : Bool) (out : List ℕ) (view : View) (made : List PutCall) → IsAnswered (verify_meaning name budget json (Some out)) view number before after made → CertificateStands number view name budget json out before.shelf.files after.shelf.files before.out.written after.out.written made
+  certified name budget json out view made a =
       let file = a.holds.holds.0 in
       let reports = a.holds.holds.2 in
       let puts = reports.puts in
@@ -152,26 +152,26 @@ module _ (words : List (List ℕ)) (number : ℕ) (before after : State) (h : Ru
       let name = asked.file in
       let budget = asked.nodes in
       let performs = subst (λ (o : Option (List ℕ)). Performs (verify_meaning name budget asked.json o) number before after) given (as_verify asked is) in
-      acts_named given (gives_all (verify_meaning name budget asked.json (Some out)) performs low (λ view made. CertificateStands number view name budget asked.json out before.shelf.files after.shelf.files before.out.written after.out.written made) (λ view made a. certified name budget asked.json out view a))
+      acts_named given (gives_all (verify_meaning name budget asked.json (Some out)) performs low (λ view made. CertificateStands number view name budget asked.json out before.shelf.files after.shelf.files before.out.written after.out.written made) (λ view made a. certified name budget asked.json out view made a))
 
-  proved : (name certificate : List ℕ) (view : View) {made : List PutCall} → IsAnswered (check_meaning name certificate) view number before after made → CheckHolds view name certificate before.out.written after.out.written
-  proved name certificate view a =
+  proved : (name certificate : List ℕ) (view : View) (made : List PutCall) → IsAnswered (check_meaning name certificate) view number before after made → CheckHolds view name certificate before.out.written after.out.written
+  proved name certificate view made a =
       let rest = a.holds.holds.2 in
       record { file = a.holds.holds.0; is_file = a.holds.holds.1; numbers = rest.0; certificate = rest.1; wrote = a.written ∙ ap (with_text before.out.written) rest.2.written }
 
   pub check_proves : CheckProves number words before.shelf.files before.shelf.calls after.shelf.calls before.out.written after.out.written
   check_proves asked is none = gives (check_meaning asked.file asked.other) refl (as_check asked is) (omega (arith, none)) (λ view. CheckHolds view asked.file asked.other before.out.written after.out.written) (proved asked.file asked.other)
 
-  shortened : (name run : List ℕ) (view : View) {made : List PutCall} → IsAnswered (compress_meaning name run) view number before after made → CompressHolds view name run before.out.written after.out.written
-  shortened name run view a =
+  shortened : (name run : List ℕ) (view : View) (made : List PutCall) → IsAnswered (compress_meaning name run) view number before after made → CompressHolds view name run before.out.written after.out.written
+  shortened name run view made a =
       let rest = a.holds.holds.2 in
       record { file = a.holds.holds.0; is_file = a.holds.holds.1; run = rest.0; is_run = rest.1; short = rest.2.short; is_short = rest.2.is; wrote = a.written ∙ ap (with_text before.out.written) rest.2.writes.written }
 
   pub run_shortens : RunShortens number words before.shelf.files before.shelf.calls after.shelf.calls before.out.written after.out.written
   run_shortens asked is none = gives (compress_meaning asked.file asked.other) refl (as_compress asked is) (omega (arith, none)) (λ view. CompressHolds view asked.file asked.other before.out.written after.out.written) (shortened asked.file asked.other)
 
-  shown : (name run : List ℕ) (view : View) {made : List PutCall} → IsAnswered (replay_meaning name run) view number before after made → ReplayHolds view name run before.out.written after.out.written
-  shown name run view a =
+  shown : (name run : List ℕ) (view : View) (made : List PutCall) → IsAnswered (replay_meaning name run) view number before after made → ReplayHolds view name run before.out.written after.out.written
+  shown name run view made a =
       let rest = a.holds.holds.2 in
       record { file = a.holds.holds.0; is_file = a.holds.holds.1; run = rest.0; is_run = rest.1; pattern = rest.2.pattern; named = rest.2.named; wrote = a.written ∙ ap (with_text before.out.written) rest.2.writes.written }
 
@@ -206,8 +206,8 @@ module _ (words : List (List ℕ)) (number : ℕ) (before after : State) (h : Ru
   as_admit : (all : AdmitAsked) → admit_of words ≡ Some all → Performs (admit_meaning all) number before after
   as_admit all is = performed (codes "admit") admit_words (λ a. Some a.asked.file) admit_meaning number before after (λ rest r. r) words all is h
 
-  exported : (asked : WordAsked) (view : View) {made : List PutCall} → IsAnswered (export_meaning asked) view number before after made → ExportHolds view asked before.out.written after.out.written
-  exported asked view a =
+  exported : (asked : WordAsked) (view : View) (made : List PutCall) → IsAnswered (export_meaning asked) view number before after made → ExportHolds view asked before.out.written after.out.written
+  exported asked view made a =
       let found = a.holds.holds.2 in
       let says = found.2 in
       record { file = a.holds.holds.0; is_file = a.holds.holds.1; word = found.0; is_word = found.1; text = says.text; is_text = says.is; wrote = a.written ∙ ap (with_text before.out.written) says.writes.written; denotes = says.is.denotes }
@@ -215,8 +215,8 @@ module _ (words : List (List ℕ)) (number : ℕ) (before after : State) (h : Ru
   pub exports : Exports number words before.shelf.files before.shelf.calls after.shelf.calls before.out.written after.out.written
   exports asked is none = gives (export_meaning asked) refl (as_export asked is) (omega (arith, none)) (λ view. ExportHolds view asked before.out.written after.out.written) (exported asked)
 
-  admitted : (all : AdmitAsked) (view : View) {made : List PutCall} → IsAnswered (admit_meaning all) view number before after made → AdmitHolds view all before.out.written after.out.written
-  admitted all view a =
+  admitted : (all : AdmitAsked) (view : View) (made : List PutCall) → IsAnswered (admit_meaning all) view number before after made → AdmitHolds view all before.out.written after.out.written
+  admitted all view made a =
       let file = a.holds.holds.0 in
       let found = a.holds.holds.2 in
       let rest = found.2 in
@@ -249,14 +249,14 @@ module _ (words : List (List ℕ)) (number : ℕ) (before after : State) (h : Ru
   pub as_rest_check : (asked : TwoNames) → rest_check_of words ≡ Some asked → Performs (rest_check_meaning asked.file asked.other) number before after
   as_rest_check asked is = performed_where (codes "rest-check") two_names (λ a. LegalAtRest a.file) (λ a. rest_check_meaning a.file a.other) number before after (λ rest r. r) words asked is h
 
-  at_rest : (name : List ℕ) (budget : ℕ) (out : Option (List ℕ)) (view : View) {made : List PutCall} → IsAnswered (rest_meaning name budget out) view number before after made → RestReportHolds number view name budget before.out.written after.out.written
-  at_rest name budget out view a =
+  at_rest : (name : List ℕ) (budget : ℕ) (out : Option (List ℕ)) (view : View) (made : List PutCall) → IsAnswered (rest_meaning name budget out) view number before after made → RestReportHolds number view name budget before.out.written after.out.written
+  at_rest name budget out view made a =
       let found = a.holds.holds.2 in
       let reports = found.2 in
       record { file = a.holds.holds.0; is_file = a.holds.holds.1; ends = found.0; are_ends = found.1; sample = reports.sample; is_sample = reports.is_sample; verdicts = reports.verdicts; are = reports.are; numbered = sym reports.numbered ∙ sym a.numbered; wrote = a.written ∙ ap (with_text before.out.written) reports.written }
 
-  rest_certified : (name : List ℕ) (budget : ℕ) (out : List ℕ) (view : View) {made : List PutCall} → IsAnswered (rest_meaning name budget (Some out)) view number before after made → RestCertificateStands number view name budget out before.shelf.files after.shelf.files before.out.written after.out.written made
-  rest_certified name budget out view {made} a =
+  rest_certified : (name : List ℕ) (budget : ℕ) (out : List ℕ) (view : View) (made : List PutCall) → IsAnswered (rest_meaning name budget (Some out)) view number before after made → RestCertificateStands number view name budget out before.shelf.files after.shelf.files before.out.written after.out.written made
+  rest_certified name budget out view made a =
       let found = a.holds.holds.2 in
       let reports = found.2 in
       let puts = reports.puts in
@@ -276,11 +276,11 @@ module _ (words : List (List ℕ)) (number : ℕ) (before after : State) (h : Ru
     report = λ asked is low. gives_some (rest_meaning asked.file asked.nodes asked.out) (as_rest asked is) low (λ view. RestReportHolds number view asked.file asked.nodes before.out.written after.out.written) (at_rest asked.file asked.nodes asked.out);
     certificate = λ asked out is given low.
         let performs = subst (λ (o : Option (List ℕ)). Performs (rest_meaning asked.file asked.nodes o) number before after) given (as_rest asked is) in
-        acts_named given (gives_all (rest_meaning asked.file asked.nodes (Some out)) performs low (λ view made. RestCertificateStands number view asked.file asked.nodes out before.shelf.files after.shelf.files before.out.written after.out.written made) (λ view made a. rest_certified asked.file asked.nodes out view a));
+        acts_named given (gives_all (rest_meaning asked.file asked.nodes (Some out)) performs low (λ view made. RestCertificateStands number view asked.file asked.nodes out before.shelf.files after.shelf.files before.out.written after.out.written made) (λ view made a. rest_certified asked.file asked.nodes out view made a));
   }
 
-  rest_checked : (name certificate : List ℕ) (view : View) {made : List PutCall} → IsAnswered (rest_check_meaning name certificate) view number before after made → RestCheckHolds view name certificate before.out.written after.out.written
-  rest_checked name certificate view a =
+  rest_checked : (name certificate : List ℕ) (view : View) (made : List PutCall) → IsAnswered (rest_check_meaning name certificate) view number before after made → RestCheckHolds view name certificate before.out.written after.out.written
+  rest_checked name certificate view made a =
       let found = a.holds.holds.2 in
       let rest = found.2 in
       let ends = found.1 in
@@ -301,8 +301,8 @@ module _ (words : List (List ℕ)) (number : ℕ) (before after : State) (h : Ru
   as_search : (asked : SearchWords) → search_of words ≡ Some asked → Performs (search_meaning asked) number before after
   as_search asked is = performed_where (codes "search") search_words LegalTemplate search_meaning number before after (λ rest r. r) words asked is h
 
-  searched : (asked : SearchWords) → Apart asked.filled asked.out → (view : View) {made : List PutCall} → IsAnswered (search_meaning asked) view number before after made → SearchHolds number view asked before.shelf.files after.shelf.files before.out.written after.out.written made
-  searched asked apart view {made} a =
+  searched : (asked : SearchWords) → Apart asked.filled asked.out → (view : View) (made : List PutCall) → IsAnswered (search_meaning asked) view number before after made → SearchHolds number view asked before.shelf.files after.shelf.files before.out.written after.out.written made
+  searched asked apart view made a =
       let t = a.holds.holds.0 in
       let finds = a.holds.holds.2 in
       let end = finds.end in
@@ -325,7 +325,7 @@ module _ (words : List (List ℕ)) (number : ℕ) (before after : State) (h : Ru
 
   pub searches : Searches number words before.shelf.files after.shelf.files before.shelf.calls after.shelf.calls before.out.written after.out.written
   searches asked is low =
-      gives_all (search_meaning asked) (as_search asked is) low (λ view made. SearchHolds number view asked before.shelf.files after.shelf.files before.out.written after.out.written made) (λ view made a. searched asked (names_apart words asked is).puts view a)
+      gives_all (search_meaning asked) (as_search asked is) low (λ view made. SearchHolds number view asked before.shelf.files after.shelf.files before.out.written after.out.written made) (λ view made a. searched asked (names_apart words asked is).puts view made a)
 
   printed_verify : (name : List ℕ) (budget : ℕ) (json : Bool) (view : View) → ReportHolds number view name budget json before.out.written after.out.written → EachToldSafe json view name before.out.written after.out.written
   printed_verify name budget json view r = record {
@@ -395,12 +395,12 @@ module _ (words : List (List ℕ)) (number : ℕ) (before after : State) (h : Ru
 
   pub printed_holds : PrintedHolds number words before.shelf.files before.shelf.calls after.shelf.calls before.out.written after.out.written
   printed_holds = record {
-    safe = λ asked is low. gives_verify asked is low (λ view. EachToldSafe asked.json view asked.file before.out.written after.out.written) (λ view a. printed_verify asked.file asked.nodes asked.json view (reported asked.file asked.nodes asked.json asked.out view a));
-    unsafe_ = λ asked is low. gives_verify asked is low (λ view. EachPrintedUnsafe runs.Occurs (verify_telling asked.json) view asked.file before.out.written after.out.written) (λ view a. printed_unsafes asked.file asked.nodes asked.json view (reported asked.file asked.nodes asked.json asked.out view a));
-    rest_safe = λ asked is low. gives_some (rest_meaning asked.file asked.nodes asked.out) (as_rest asked is) low (λ view. EachPrinted RestSafe (codes "rest safe, ") view asked.file before.out.written after.out.written) (λ view a. printed_rest asked.file asked.nodes view (at_rest asked.file asked.nodes asked.out view a));
-    rest_unsafe = λ asked is low. gives_some (rest_meaning asked.file asked.nodes asked.out) (as_rest asked is) low (λ view. EachPrintedUnsafe RestOccurs rest_telling view asked.file before.out.written after.out.written) (λ view a. printed_rest_unsafes asked.file asked.nodes view (at_rest asked.file asked.nodes asked.out view a));
-    rest_proved = λ asked is none. gives (rest_check_meaning asked.file asked.other) refl (as_rest_check asked is) (omega (arith, none)) (λ view. EachPrinted RestSafe (codes "rest proved") view asked.file before.out.written after.out.written) (λ view a. printed_rest_check asked.file asked.other view (rest_checked asked.file asked.other view a));
-    proved = λ asked is none. gives (check_meaning asked.file asked.other) refl (as_check asked is) (omega (arith, none)) (λ view. EachPrinted runs.Safe (codes "proved") view asked.file before.out.written after.out.written) (λ view a. printed_check asked.file asked.other view (proved asked.file asked.other view a));
+    safe = λ asked is low. gives_verify asked is low (λ view. EachToldSafe asked.json view asked.file before.out.written after.out.written) (λ view made a. printed_verify asked.file asked.nodes asked.json view (reported asked.file asked.nodes asked.json asked.out view made a));
+    unsafe_ = λ asked is low. gives_verify asked is low (λ view. EachPrintedUnsafe runs.Occurs (verify_telling asked.json) view asked.file before.out.written after.out.written) (λ view made a. printed_unsafes asked.file asked.nodes asked.json view (reported asked.file asked.nodes asked.json asked.out view made a));
+    rest_safe = λ asked is low. gives_some (rest_meaning asked.file asked.nodes asked.out) (as_rest asked is) low (λ view. EachPrinted RestSafe (codes "rest safe, ") view asked.file before.out.written after.out.written) (λ view made a. printed_rest asked.file asked.nodes view (at_rest asked.file asked.nodes asked.out view made a));
+    rest_unsafe = λ asked is low. gives_some (rest_meaning asked.file asked.nodes asked.out) (as_rest asked is) low (λ view. EachPrintedUnsafe RestOccurs rest_telling view asked.file before.out.written after.out.written) (λ view made a. printed_rest_unsafes asked.file asked.nodes view (at_rest asked.file asked.nodes asked.out view made a));
+    rest_proved = λ asked is none. gives (rest_check_meaning asked.file asked.other) refl (as_rest_check asked is) (omega (arith, none)) (λ view. EachPrinted RestSafe (codes "rest proved") view asked.file before.out.written after.out.written) (λ view made a. printed_rest_check asked.file asked.other view (rest_checked asked.file asked.other view made a));
+    proved = λ asked is none. gives (check_meaning asked.file asked.other) refl (as_check asked is) (omega (arith, none)) (λ view. EachPrinted runs.Safe (codes "proved") view asked.file before.out.written after.out.written) (λ view made a. printed_check asked.file asked.other view (proved asked.file asked.other view made a));
   }
 
   -- some pattern of a file whose report has the number 1 occurs in a run
@@ -422,13 +422,13 @@ module _ (words : List (List ℕ)) (number : ℕ) (before after : State) (h : Ru
 
   pub status_tells : ZeroSays → StatusTells number words before.shelf.files before.shelf.calls after.shelf.calls before.out.written after.out.written
   status_tells zero_says = record {
-    safe = λ asked is none. gives_verify asked is (omega (arith, none)) (λ view. EachPatternSafe view asked.file) (λ view a.
+    safe = λ asked is none. gives_verify asked is (omega (arith, none)) (λ view. EachPatternSafe view asked.file) (λ view made a.
         let name = asked.file in
         let budget = asked.nodes in
-        let r = reported name budget asked.json asked.out view a in
+        let r = reported name budget asked.json asked.out view made a in
         let kinds = zero_says (list_any is_unsafe r.verdicts) (list_any is_unknown r.verdicts) (r.numbered ∙ none) in
         record { file = r.file; holds = holds_file view name r.file r.is_file; safe = each_safe r.file budget 0 r.file.patterns r.verdicts kinds.0 kinds.1 r.are.hold });
-    occurs = λ asked is one. gives_verify asked is (omega (arith, one)) (λ view. SomePatternOccurs view asked.file) (λ view a. some_occurring asked.file asked.nodes asked.json view one (reported asked.file asked.nodes asked.json asked.out view a));
+    occurs = λ asked is one. gives_verify asked is (omega (arith, one)) (λ view. SomePatternOccurs view asked.file) (λ view made a. some_occurring asked.file asked.nodes asked.json view one (reported asked.file asked.nodes asked.json asked.out view made a));
     proved = printed_holds.proved;
     rest_safe = printed_holds.rest_safe;
     rest_proved = printed_holds.rest_proved;
@@ -457,6 +457,13 @@ kept_others (Command legal m) number before after h = h.performs.kept
 kept_by_refusal : (asked : Asked) (number : ℕ) (before after : State) → Runs asked number before after → 3 ≤ number → number ≤ 5 → after.shelf.files ≡ before.shelf.files
 kept_by_refusal NoCommand number before after h three five = ap (λ (s : ShelfState). s.files) h.shelf
 kept_by_refusal (Command legal m) number before after h three five = kept_refused m number before after h.performs.ends three five
+
+-- the calls are those of the command
+pub opens : (asked : Asked) (number : ℕ) (before after : State) → Runs asked number before after → Opens asked before.shelf.calls after.shelf.calls
+opens NoCommand number before after h = ap (λ (s : ShelfState). s.calls) h.shelf
+opens (Command legal m) number before after h =
+    let ends = h.performs.ends in
+    acts m number before after ends (λ read made. (m.opens read ⊎ (read ≡ [])) × AreOfStages m.puts made) (ends.opened, made_of_stages m (seen before.shelf.files ends.read) number before after ends.made ends.end)
 
 spared_by : (asked : Asked) (number : ℕ) (before after : State) → Runs asked number before after → Spares (put_by asked) number before.shelf after.shelf
 spared_by NoCommand number before after h three = inl (ap (λ (s : ShelfState). s.files) h.shelf)

@@ -42,7 +42,7 @@ pub use Rattle.ta_program.specs.Inside.Reported.{RestReported, SampleReported}
 pub use Rattle.ta_program.specs.Kinds.{IsFile, IsReplayFault, ShowsRun, certificate_kind, file_kind, run_kind}
 pub use Rattle.ta_program.specs.Laws.{FoundIsAccepted, PrintedRunsAreReplayed, SaysOrFails, WrittenAtRestIsAccepted, WrittenIsAccepted}
 pub use Rattle.ta_program.specs.Printed.{EachPrintedUnsafe, EachToldSafe, UnsafePrinted, rest_telling, verify_telling}
-pub use Rattle.ta_program.specs.Program.{Admitting, Benches, CertificateWritten, CheckProves, Completes, EndsSo, ExactlySo, Exports, KeepsFiles, PassesLegal, PrintedHolds, ReplayShows, RestProves, RestsReport, RunShortens, Searches, VerifyReports, put_by}
+pub use Rattle.ta_program.specs.Program.{Admitting, Benches, CertificateWritten, CheckProves, Completes, EndsSo, ExactlySo, Exports, KeepsFiles, Opens, PassesLegal, PrintedHolds, ReplayShows, RestProves, RestsReport, RunShortens, Searches, VerifyReports, put_by}
 pub use Rattle.ta_program.specs.Replay.{ReplayHolds, SaysShown, replay_meaning, replay_of, shown_meaning}
 pub use Rattle.ta_program.specs.Reporting.{CertificateStands, ReportHolds, Reports, report_meaning, verify_meaning}
 pub use Rattle.ta_program.specs.Requests.{request_of}

@@ -22,7 +22,7 @@ runs_replayed words number before after h asked asks low told is =
     let name = asked.file in
     let budget = asked.nodes in
     let reports = verify_reports words number before after h asked asks low in
-    let r = subst (λ (files : Option Told). ReportHolds number (seen files reports.added) name budget asked.json before.out.written after.out.written) is reports.such in
+    let r = subst (λ (files : Option Told). ReportHolds number (seen files reports.read) name budget asked.json before.out.written after.out.written) is reports.such in
     record {
       file = r.file;
       text = report_of asked.json r.file r.sample r.verdicts;
