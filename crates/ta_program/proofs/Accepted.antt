@@ -47,7 +47,7 @@ written_is_accepted words first before after h asked out is given low told after
     let c = written.such in
     let r = c.report in
     let files = told_before (HoldsText out c.text) before.shelf.files told (subst (λ (o : Option Told). WhereTold (HoldsText out c.text) before.shelf.files o) after_told c.stands) in
-    let read = written.added in
+    let read = written.read in
     let is_first : IsFile (in_files files.0) name r.file = is_more file_kind (seen (Some files.0) read) (in_files files.0) (sub_told files.0 read) name r.file (subst (λ (o : Option Told). IsFile (seen o read) name r.file) files.1 r.is_file) in
     let is_now = is_kept file_kind files.0 told name r.file (files.2.others name (out_differs words asked out is given)) is_first in
     let safe = ones_hold (claiming claim.Safe r.file) 0 r.file.patterns r.verdicts (λ k p v nodes named given size. size_safe r.file budget k p v nodes size (held (VerdictHolds r.file budget) r.file.patterns r.verdicts r.are.hold k p v named given)) (get_from_none r.file.patterns) in

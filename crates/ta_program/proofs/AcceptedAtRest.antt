@@ -66,7 +66,7 @@ written_at_rest_is_accepted words first before after h asked out is given low to
     let ending = r.ends.ending in
     let endings = r.are_ends.endings in
     let files = told_before (HoldsText out c.text) before.shelf.files told (subst (λ (o : Option Told). WhereTold (HoldsText out c.text) before.shelf.files o) after_told c.stands) in
-    let read = written.added in
+    let read = written.read in
     let is_first : IsFile (in_files files.0) name r.file = is_more file_kind (seen (Some files.0) read) (in_files files.0) (sub_told files.0 read) name r.file (subst (λ (o : Option Told). IsFile (seen o read) name r.file) files.1 r.is_file) in
     let is_now = is_kept file_kind files.0 told name r.file (files.2.others name (rest_out_differs words asked out is given)) is_first in
     let safe = ones_hold (claiming claim.RestSafe ending) 0 ending.patterns r.verdicts (safe_at r.file ending r.ends.added asked.nodes endings.automaton r.verdicts endings.patterns r.are.hold) (get_from_none ending.patterns) in

@@ -40,7 +40,7 @@ found_is_accepted words before after h asked out filled is out_is filled_is told
     let apart = names_apart words asked is in
     let files = told_before (HoldFound asked.filled asked.out text last.certificate) before.shelf.files told (subst (λ (o : Option Told). WhereTold (HoldFound asked.filled asked.out text last.certificate) before.shelf.files o) after_told found.stands) in
     let holds = files.2 in
-    let read = searched.added in
+    let read = searched.read in
     let is_first : IsTemplate (in_files files.0) name t = is_more template_kind (seen (Some files.0) read) (in_files files.0) (sub_told files.0 read) name t (subst (λ (o : Option Told). IsTemplate (seen o read) name t) files.1 s.is_template) in
     let same : told name ≡ files.0 name = holds.others name (λ given. apart.filled name name refl given refl) (λ given. apart.out name name refl given refl) in
     let held : told filled ≡ Some text = holds.first filled filled_is in

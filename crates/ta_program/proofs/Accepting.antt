@@ -51,7 +51,7 @@ one_list subject text ns ms c d =
 pub says_or_fails : (m : Meaning) → Decides m → (told : Told) (text : List ℕ) → IsSo m (in_files told) 0 → ((answer : Answer) → m.answers (in_files told) answer → answer.text ≡ text) → (number : ℕ) (before after : State) → before.shelf.files ≡ Some told → Performs m number before after → SaysOrFails text number before after
 says_or_fails m decides told text so one number before after is h = elim (h.exact decides told is 0 so) [
   | inl zero_is ↦
-      let a = answered m (seen before.shelf.files h.ends.read) number before after h.ends.end (omega (arith, zero_is)) in
+      let a = answered m (seen before.shelf.files h.ends.read) number before after h.ends.made h.ends.end (omega (arith, zero_is)) in
       let seen_told = subst (λ (o : Option Told). m.answers (seen o h.ends.read) a.answer) is a.holds.holds in
       inl (zero_is, a.written ∙ ap (with_text before.out.written) (one a.answer (decides.answers told h.ends.read a.answer seen_told)))
   | inr other ↦ inr other

@@ -1,5 +1,5 @@
 -- from how a run ends to its clauses
-use Rattle.ta_program.proofs.Common.{◌≡◌, ◌≢◌, ◌≤◌, ◌+◌, ℕ, zero, Bool, true, false, List, [], ◌∷◌, Option, None, Some, refl, sym, ap, subst, ◌∙◌, inl, arith, rules, codes, if◌then◌else◌, list_any, AllByRecursion, bytes_eq, or_parts, File, Pattern, PatternSafe, one_legal, printed_proved, printed_rest_proved, printed_rest_safe, told_safe, check_text, rest_check_text, report_of, Verdict, Safe, Unsafe, Spent, Overflow, filled_text, Grew, OthersStay, Told, WhereTold, with_text, answered, hindered, kept_refused, never_five, whole_one, Decides, Meaning, IsAnswered, Performs, Quiet, ShelfState, SinkState, State, HoldsPut, HoldsText, KeptBut, Stand, put_bytes, View, in_files, seen, run_text, unit_steps, Answer, Put, plain_tree, Asked, LegalFile, Runs, ask, ask_where, Command, NoCommand, BenchHolds, bench_meaning, bench_of, bench_status, bench_words, CheckHolds, check_meaning, check_of, IsFile, file_kind, EachPrintedUnsafe, EachToldSafe, rest_telling, verify_telling, AdmitAsked, AdmitHolds, admit_meaning, admit_of, admit_words, ExportHolds, export_meaning, export_of, export_words, Admitting, Benches, CertificateWritten, CheckProves, ExactlySo, Exports, KeepsFiles, PassesLegal, PrintedHolds, ReplayShows, RestProves, RestsReport, RunShortens, Searches, VerifyReports, put_by, CompressHolds, compress_meaning, compress_of, ReplayHolds, replay_meaning, replay_of, request_of, ClaimHolds, claiming, rest_text, RestOccurs, RestSafe, RestCertificateStands, RestReportHolds, rest_meaning, RestCheckHolds, rest_check_meaning, LegalAtRest, rest_check_of, rest_of, rest_words, CertificateStands, ReportHolds, verify_meaning, VerdictHolds, VerdictsHold, is_unsafe, is_unknown, LegalTemplate, SearchHolds, end_number, leaves_unknown, search_meaning, SearchWords, search_of, search_words, TwoNames, two_names, VerifyWords, verify_of, verify_words, WordAsked, behind_name, map, pair_of, held, held_by, false_from_ne_true}
+use Rattle.ta_program.proofs.Common.{◌≡◌, ◌≢◌, ◌≤◌, ◌+◌, ℕ, zero, Bool, true, false, List, [], ◌∷◌, Option, None, Some, refl, sym, ap, subst, ◌∙◌, inl, arith, rules, codes, if◌then◌else◌, list_any, AllByRecursion, bytes_eq, or_parts, File, Pattern, PatternSafe, one_legal, printed_proved, printed_rest_proved, printed_rest_safe, told_safe, check_text, rest_check_text, report_of, Verdict, Safe, Unsafe, Spent, Overflow, filled_text, Grew, OthersStay, Told, WhereTold, with_text, answered, hindered, kept_refused, never_five, whole_one, Decides, Meaning, IsAnswered, Performs, Quiet, ShelfState, SinkState, State, HoldsPut, HoldsText, KeptBut, Stand, put_bytes, View, in_files, seen, run_text, unit_steps, Answer, Put, plain_tree, Asked, LegalFile, Runs, ask, ask_where, Command, NoCommand, BenchHolds, bench_meaning, bench_of, bench_status, bench_words, CheckHolds, check_meaning, check_of, IsFile, file_kind, EachPrintedUnsafe, EachToldSafe, rest_telling, verify_telling, AdmitAsked, AdmitHolds, admit_meaning, admit_of, admit_words, ExportHolds, export_meaning, export_of, export_words, Admitting, Benches, CertificateWritten, CheckProves, ExactlySo, Exports, KeepsFiles, PassesLegal, PrintedHolds, ReplayShows, RestProves, RestsReport, RunShortens, Searches, VerifyReports, put_by, CompressHolds, compress_meaning, compress_of, ReplayHolds, replay_meaning, replay_of, request_of, ClaimHolds, claiming, rest_text, RestOccurs, RestSafe, RestCertificateStands, RestReportHolds, rest_meaning, RestCheckHolds, rest_check_meaning, LegalAtRest, rest_check_of, rest_of, rest_words, CertificateStands, ReportHolds, verify_meaning, VerdictHolds, VerdictsHold, is_unsafe, is_unknown, LegalTemplate, SearchHolds, end_number, leaves_unknown, search_meaning, SearchWords, search_of, search_words, TwoNames, two_names, VerifyWords, verify_of, verify_words, WordAsked, behind_name, map, pair_of, held, held_by, false_from_ne_true, Call, Event, PutCall, PutText, PutWhole, Acts, TellsFile, acts, grew_alone, may_put, put_text, tells_file, Spares, ◌⊎◌, AreOfStages, made_of_stages, Opens}
 use Rattle.ta_automaton.specs.Runs as runs
 use Rattle.ta_program.specs.Headline.{EachPatternSafe, EachPrinted, HoldsFile, ShownOccurs, SomePatternOccurs, StatusTells}
 use Rattle.ta_replay.proofs.Occurring.{shown_occurs}
@@ -81,6 +81,14 @@ holds_text put out named (Some b) (Some a) h = record {
   others = subst (λ (n : List ℕ). OthersStay n b a) named h.others;
 }
 
+-- the calls that put it
+tells_put : (put : Put) (out : List ℕ) → put.name ≡ out → (calls : List PutCall) → PutWhole (put_text put ∷ []) calls → TellsFile out (put_bytes put) calls
+tells_put put out named calls whole = subst (λ (n : List ℕ). TellsFile n (put_bytes put) calls) named (tells_file (put_text put) calls whole)
+
+-- what an output is named
+acts_named : {out name : Option (List ℕ)} {Such : List Call → List PutCall → Type 0} {first last : List Event} → out ≡ name → Acts (may_put name) Such first last → Acts (may_put out) Such first last
+acts_named {out} {name} {Such} {first} {last} is h = subst (λ (o : Option (List ℕ)). Acts (may_put o) Such first last) (sym is) h
+
 module _ (words : List (List ℕ)) (number : ℕ) (before after : State) (h : Runs (request_of words) number before after) where
   pub as_verify : (asked : VerifyWords) → verify_of words ≡ Some asked → Performs (verify_meaning asked.file asked.nodes asked.json asked.out) number before after
   as_verify asked is = performed (codes "verify") verify_words (λ a. Some a.file) (λ a. verify_meaning a.file a.nodes a.json a.out) number before after (λ rest r. r) words asked is h
@@ -98,16 +106,25 @@ module _ (words : List (List ℕ)) (number : ℕ) (before after : State) (h : Ru
   as_bench k is = performed (codes "bench") bench_words (λ k. None) bench_meaning number before after (λ rest r. r) words k is h
 
   -- what an answer of a command says, of what is seen in the calls of the run and in the files
-  gives : (m : Meaning) → Performs m number before after → number ≤ 2 → (Of : View → Type 0) → ((view : View) → IsAnswered m view number before after → Of view) → Grew (λ read. Of (seen before.shelf.files read)) before.shelf.calls after.shelf.calls
-  gives m performs low Of from =
+  gives_all : (m : Meaning) → Performs m number before after → number ≤ 2 → (Of : View → List PutCall → Type 0) → ((view : View) (made : List PutCall) → IsAnswered m view number before after made → Of view made) → Acts m.puts (λ read made. Of (seen before.shelf.files read) made) before.shelf.calls after.shelf.calls
+  gives_all m performs low Of from =
       let ends = performs.ends in
-      record { added = ends.read; grown = ends.grown; such = from (seen before.shelf.files ends.read) (answered m (seen before.shelf.files ends.read) number before after ends.end low) }
+      acts m number before after ends (λ read made. Of (seen before.shelf.files read) made) (from (seen before.shelf.files ends.read) ends.made (answered m (seen before.shelf.files ends.read) number before after ends.made ends.end low))
 
-  gives_verify : (asked : VerifyWords) → verify_of words ≡ Some asked → number ≤ 2 → (Of : View → Type 0) → ((view : View) → IsAnswered (verify_meaning asked.file asked.nodes asked.json asked.out) view number before after → Of view) → Grew (λ read. Of (seen before.shelf.files read)) before.shelf.calls after.shelf.calls
-  gives_verify asked is low Of from = gives (verify_meaning asked.file asked.nodes asked.json asked.out) (as_verify asked is) low Of from
+  gives_some : (m : Meaning) → Performs m number before after → number ≤ 2 → (Of : View → Type 0) → ((view : View) (made : List PutCall) → IsAnswered m view number before after made → Of view) → Acts m.puts (λ read made. Of (seen before.shelf.files read)) before.shelf.calls after.shelf.calls
+  gives_some m performs low Of from = gives_all m performs low (λ view made. Of view) from
 
-  reported : (name : List ℕ) (budget : ℕ) (json : Bool) (out : Option (List ℕ)) (view : View) → IsAnswered (verify_meaning name budget json out) view number before after → ReportHolds number view name budget json before.out.written after.out.written
-  reported name budget json out view a =
+  -- of a command without outputs
+  gives : (m : Meaning) → m.puts ≡ [] → Performs m number before after → number ≤ 2 → (Of : View → Type 0) → ((view : View) (made : List PutCall) → IsAnswered m view number before after made → Of view) → Grew (λ read. Of (seen before.shelf.files read)) before.shelf.calls after.shelf.calls
+  gives m none performs low Of from =
+      let ends = performs.ends in
+      grew_alone m number before after ends none low (λ read. Of (seen before.shelf.files read)) (from (seen before.shelf.files ends.read) ends.made (answered m (seen before.shelf.files ends.read) number before after ends.made ends.end low))
+
+  gives_verify : (asked : VerifyWords) → verify_of words ≡ Some asked → number ≤ 2 → (Of : View → Type 0) → ((view : View) (made : List PutCall) → IsAnswered (verify_meaning asked.file asked.nodes asked.json asked.out) view number before after made → Of view) → Acts (may_put asked.out) (λ read made. Of (seen before.shelf.files read)) before.shelf.calls after.shelf.calls
+  gives_verify asked is low Of from = gives_some (verify_meaning asked.file asked.nodes asked.json asked.out) (as_verify asked is) low Of from
+
+  reported : (name : List ℕ) (budget : ℕ) (json : Bool) (out : Option (List ℕ)) (view : View) (made : List PutCall) → IsAnswered (verify_meaning name budget json out) view number before after made → ReportHolds number view name budget json before.out.written after.out.written
+  reported name budget json out view made a =
       let file = a.holds.holds.0 in
       let reports = a.holds.holds.2 in
       record { file = file; is_file = a.holds.holds.1; sample = reports.sample; is_sample = reports.is_sample; verdicts = reports.verdicts; are = reports.are; numbered = sym reports.numbered ∙ sym a.numbered; wrote = a.written ∙ ap (with_text before.out.written) reports.written }
@@ -115,8 +132,8 @@ module _ (words : List (List ℕ)) (number : ℕ) (before after : State) (h : Ru
   pub verify_reports : VerifyReports number words before.shelf.files before.shelf.calls after.shelf.calls before.out.written after.out.written
   verify_reports asked is low = gives_verify asked is low (λ view. ReportHolds number view asked.file asked.nodes asked.json before.out.written after.out.written) (reported asked.file asked.nodes asked.json asked.out)
 
-  certified : (name : List ℕ) (budget : ℕ) (json : Bool) (out : List ℕ) (view : View) → IsAnswered (verify_meaning name budget json (Some out)) view number before after → CertificateStands number view name budget json out before.shelf.files after.shelf.files before.out.written after.out.written
-  certified name budget json out view a =
+  certified : (name : List ℕ) (budget : ℕ) (json : Bool) (out : List ℕ) (view : View) (made : List PutCall) → IsAnswered (verify_meaning name budget json (Some out)) view number before after made → CertificateStands number view name budget json out before.shelf.files after.shelf.files before.out.written after.out.written made
+  certified name budget json out view made a =
       let file = a.holds.holds.0 in
       let reports = a.holds.holds.2 in
       let puts = reports.puts in
@@ -126,7 +143,8 @@ module _ (words : List (List ℕ)) (number : ℕ) (before after : State) (h : Ru
         text = put_bytes puts.put;
         certificate = puts.certificate;
         within = puts.within;
-        stands = holds_text puts.put out puts.named before.shelf.files after.shelf.files (subst (λ (o : Option Told). WhereTold (HoldsPut puts.put) before.shelf.files o) (sym stand.2) stand.1);
+        stands = holds_text puts.put out puts.named before.shelf.files after.shelf.files (subst (λ (o : Option Told). WhereTold (HoldsPut puts.put) o after.shelf.files) stand.1 stand.2);
+        told = tells_put puts.put out puts.named made (subst (λ (ps : List Put). PutWhole (map put_text ps) made) puts.only a.whole);
         accepted = puts.accepted;
       }
 
@@ -135,35 +153,35 @@ module _ (words : List (List ℕ)) (number : ℕ) (before after : State) (h : Ru
       let name = asked.file in
       let budget = asked.nodes in
       let performs = subst (λ (o : Option (List ℕ)). Performs (verify_meaning name budget asked.json o) number before after) given (as_verify asked is) in
-      gives (verify_meaning name budget asked.json (Some out)) performs low (λ view. CertificateStands number view name budget asked.json out before.shelf.files after.shelf.files before.out.written after.out.written) (certified name budget asked.json out)
+      acts_named given (gives_all (verify_meaning name budget asked.json (Some out)) performs low (λ view made. CertificateStands number view name budget asked.json out before.shelf.files after.shelf.files before.out.written after.out.written made) (λ view made a. certified name budget asked.json out view made a))
 
-  proved : (name certificate : List ℕ) (view : View) → IsAnswered (check_meaning name certificate) view number before after → CheckHolds view name certificate before.out.written after.out.written
-  proved name certificate view a =
+  proved : (name certificate : List ℕ) (view : View) (made : List PutCall) → IsAnswered (check_meaning name certificate) view number before after made → CheckHolds view name certificate before.out.written after.out.written
+  proved name certificate view made a =
       let rest = a.holds.holds.2 in
       record { file = a.holds.holds.0; is_file = a.holds.holds.1; numbers = rest.0; certificate = rest.1; wrote = a.written ∙ ap (with_text before.out.written) rest.2.written }
 
   pub check_proves : CheckProves number words before.shelf.files before.shelf.calls after.shelf.calls before.out.written after.out.written
-  check_proves asked is none = gives (check_meaning asked.file asked.other) (as_check asked is) (omega (arith, none)) (λ view. CheckHolds view asked.file asked.other before.out.written after.out.written) (proved asked.file asked.other)
+  check_proves asked is none = gives (check_meaning asked.file asked.other) refl (as_check asked is) (omega (arith, none)) (λ view. CheckHolds view asked.file asked.other before.out.written after.out.written) (proved asked.file asked.other)
 
-  shortened : (name run : List ℕ) (view : View) → IsAnswered (compress_meaning name run) view number before after → CompressHolds view name run before.out.written after.out.written
-  shortened name run view a =
+  shortened : (name run : List ℕ) (view : View) (made : List PutCall) → IsAnswered (compress_meaning name run) view number before after made → CompressHolds view name run before.out.written after.out.written
+  shortened name run view made a =
       let rest = a.holds.holds.2 in
       record { file = a.holds.holds.0; is_file = a.holds.holds.1; run = rest.0; is_run = rest.1; short = rest.2.short; is_short = rest.2.is; wrote = a.written ∙ ap (with_text before.out.written) rest.2.writes.written }
 
   pub run_shortens : RunShortens number words before.shelf.files before.shelf.calls after.shelf.calls before.out.written after.out.written
-  run_shortens asked is none = gives (compress_meaning asked.file asked.other) (as_compress asked is) (omega (arith, none)) (λ view. CompressHolds view asked.file asked.other before.out.written after.out.written) (shortened asked.file asked.other)
+  run_shortens asked is none = gives (compress_meaning asked.file asked.other) refl (as_compress asked is) (omega (arith, none)) (λ view. CompressHolds view asked.file asked.other before.out.written after.out.written) (shortened asked.file asked.other)
 
-  shown : (name run : List ℕ) (view : View) → IsAnswered (replay_meaning name run) view number before after → ReplayHolds view name run before.out.written after.out.written
-  shown name run view a =
+  shown : (name run : List ℕ) (view : View) (made : List PutCall) → IsAnswered (replay_meaning name run) view number before after made → ReplayHolds view name run before.out.written after.out.written
+  shown name run view made a =
       let rest = a.holds.holds.2 in
       record { file = a.holds.holds.0; is_file = a.holds.holds.1; run = rest.0; is_run = rest.1; pattern = rest.2.pattern; named = rest.2.named; wrote = a.written ∙ ap (with_text before.out.written) rest.2.writes.written }
 
   pub replay_shows : ReplayShows number words before.shelf.files before.shelf.calls after.shelf.calls before.out.written after.out.written
-  replay_shows asked is none = gives (replay_meaning asked.file asked.other) (as_replay asked is) (omega (arith, none)) (λ view. ReplayHolds view asked.file asked.other before.out.written after.out.written) (shown asked.file asked.other)
+  replay_shows asked is none = gives (replay_meaning asked.file asked.other) refl (as_replay asked is) (omega (arith, none)) (λ view. ReplayHolds view asked.file asked.other before.out.written after.out.written) (shown asked.file asked.other)
 
   benched : (k : ℕ) → Performs (bench_meaning k) number before after → number ≤ 2 → BenchHolds number k before.out.written after.out.written
   benched k performs low =
-      let a = answered (bench_meaning k) (seen before.shelf.files performs.ends.read) number before after performs.ends.end low in
+      let a = answered (bench_meaning k) (seen before.shelf.files performs.ends.read) number before after performs.ends.made performs.ends.end low in
       let says = a.holds.holds in
       record { pattern = says.pattern; verdict = says.verdict; is = says.is; numbered = sym says.writes.numbered ∙ sym a.numbered; wrote = a.written ∙ ap (with_text before.out.written) says.writes.written }
 
@@ -189,17 +207,17 @@ module _ (words : List (List ℕ)) (number : ℕ) (before after : State) (h : Ru
   as_admit : (all : AdmitAsked) → admit_of words ≡ Some all → Performs (admit_meaning all) number before after
   as_admit all is = performed (codes "admit") admit_words (λ a. Some a.asked.file) admit_meaning number before after (λ rest r. r) words all is h
 
-  exported : (asked : WordAsked) (view : View) → IsAnswered (export_meaning asked) view number before after → ExportHolds view asked before.out.written after.out.written
-  exported asked view a =
+  exported : (asked : WordAsked) (view : View) (made : List PutCall) → IsAnswered (export_meaning asked) view number before after made → ExportHolds view asked before.out.written after.out.written
+  exported asked view made a =
       let found = a.holds.holds.2 in
       let says = found.2 in
       record { file = a.holds.holds.0; is_file = a.holds.holds.1; word = found.0; is_word = found.1; text = says.text; is_text = says.is; wrote = a.written ∙ ap (with_text before.out.written) says.writes.written; denotes = says.is.denotes }
 
   pub exports : Exports number words before.shelf.files before.shelf.calls after.shelf.calls before.out.written after.out.written
-  exports asked is none = gives (export_meaning asked) (as_export asked is) (omega (arith, none)) (λ view. ExportHolds view asked before.out.written after.out.written) (exported asked)
+  exports asked is none = gives (export_meaning asked) refl (as_export asked is) (omega (arith, none)) (λ view. ExportHolds view asked before.out.written after.out.written) (exported asked)
 
-  admitted : (all : AdmitAsked) (view : View) → IsAnswered (admit_meaning all) view number before after → AdmitHolds view all before.out.written after.out.written
-  admitted all view a =
+  admitted : (all : AdmitAsked) (view : View) (made : List PutCall) → IsAnswered (admit_meaning all) view number before after made → AdmitHolds view all before.out.written after.out.written
+  admitted all view made a =
       let file = a.holds.holds.0 in
       let found = a.holds.holds.2 in
       let rest = found.2 in
@@ -219,7 +237,7 @@ module _ (words : List (List ℕ)) (number : ℕ) (before after : State) (h : Ru
 
   pub admitting : Admitting number words before.shelf.files before.shelf.calls after.shelf.calls before.out.written after.out.written
   admitting = record {
-    holds = λ all is none. gives (admit_meaning all) (as_admit all is) (omega (arith, none)) (λ view. AdmitHolds view all before.out.written after.out.written) (admitted all);
+    holds = λ all is none. gives (admit_meaning all) refl (as_admit all is) (omega (arith, none)) (λ view. AdmitHolds view all before.out.written after.out.written) (admitted all);
     exact = λ all told is files had.
         let answer : Answer = record { number = 0; text = run_text had.file had.run; puts = [] } in
         (as_admit all is).exact (admit_decides all) told files 0
@@ -232,14 +250,14 @@ module _ (words : List (List ℕ)) (number : ℕ) (before after : State) (h : Ru
   pub as_rest_check : (asked : TwoNames) → rest_check_of words ≡ Some asked → Performs (rest_check_meaning asked.file asked.other) number before after
   as_rest_check asked is = performed_where (codes "rest-check") two_names (λ a. LegalAtRest a.file) (λ a. rest_check_meaning a.file a.other) number before after (λ rest r. r) words asked is h
 
-  at_rest : (name : List ℕ) (budget : ℕ) (out : Option (List ℕ)) (view : View) → IsAnswered (rest_meaning name budget out) view number before after → RestReportHolds number view name budget before.out.written after.out.written
-  at_rest name budget out view a =
+  at_rest : (name : List ℕ) (budget : ℕ) (out : Option (List ℕ)) (view : View) (made : List PutCall) → IsAnswered (rest_meaning name budget out) view number before after made → RestReportHolds number view name budget before.out.written after.out.written
+  at_rest name budget out view made a =
       let found = a.holds.holds.2 in
       let reports = found.2 in
       record { file = a.holds.holds.0; is_file = a.holds.holds.1; ends = found.0; are_ends = found.1; sample = reports.sample; is_sample = reports.is_sample; verdicts = reports.verdicts; are = reports.are; numbered = sym reports.numbered ∙ sym a.numbered; wrote = a.written ∙ ap (with_text before.out.written) reports.written }
 
-  rest_certified : (name : List ℕ) (budget : ℕ) (out : List ℕ) (view : View) → IsAnswered (rest_meaning name budget (Some out)) view number before after → RestCertificateStands number view name budget out before.shelf.files after.shelf.files before.out.written after.out.written
-  rest_certified name budget out view a =
+  rest_certified : (name : List ℕ) (budget : ℕ) (out : List ℕ) (view : View) (made : List PutCall) → IsAnswered (rest_meaning name budget (Some out)) view number before after made → RestCertificateStands number view name budget out before.shelf.files after.shelf.files before.out.written after.out.written made
+  rest_certified name budget out view made a =
       let found = a.holds.holds.2 in
       let reports = found.2 in
       let puts = reports.puts in
@@ -249,20 +267,21 @@ module _ (words : List (List ℕ)) (number : ℕ) (before after : State) (h : Ru
         text = put_bytes puts.put;
         certificate = puts.certificate;
         within = puts.within;
-        stands = holds_text puts.put out puts.named before.shelf.files after.shelf.files (subst (λ (o : Option Told). WhereTold (HoldsPut puts.put) before.shelf.files o) (sym stand.2) stand.1);
+        stands = holds_text puts.put out puts.named before.shelf.files after.shelf.files (subst (λ (o : Option Told). WhereTold (HoldsPut puts.put) o after.shelf.files) stand.1 stand.2);
+        told = tells_put puts.put out puts.named made (subst (λ (ps : List Put). PutWhole (map put_text ps) made) puts.only a.whole);
         accepted = puts.accepted;
       }
 
   pub rests_report : RestsReport number words before.shelf.files after.shelf.files before.shelf.calls after.shelf.calls before.out.written after.out.written
   rests_report = record {
-    report = λ asked is low. gives (rest_meaning asked.file asked.nodes asked.out) (as_rest asked is) low (λ view. RestReportHolds number view asked.file asked.nodes before.out.written after.out.written) (at_rest asked.file asked.nodes asked.out);
+    report = λ asked is low. gives_some (rest_meaning asked.file asked.nodes asked.out) (as_rest asked is) low (λ view. RestReportHolds number view asked.file asked.nodes before.out.written after.out.written) (at_rest asked.file asked.nodes asked.out);
     certificate = λ asked out is given low.
         let performs = subst (λ (o : Option (List ℕ)). Performs (rest_meaning asked.file asked.nodes o) number before after) given (as_rest asked is) in
-        gives (rest_meaning asked.file asked.nodes (Some out)) performs low (λ view. RestCertificateStands number view asked.file asked.nodes out before.shelf.files after.shelf.files before.out.written after.out.written) (rest_certified asked.file asked.nodes out);
+        acts_named given (gives_all (rest_meaning asked.file asked.nodes (Some out)) performs low (λ view made. RestCertificateStands number view asked.file asked.nodes out before.shelf.files after.shelf.files before.out.written after.out.written made) (λ view made a. rest_certified asked.file asked.nodes out view made a));
   }
 
-  rest_checked : (name certificate : List ℕ) (view : View) → IsAnswered (rest_check_meaning name certificate) view number before after → RestCheckHolds view name certificate before.out.written after.out.written
-  rest_checked name certificate view a =
+  rest_checked : (name certificate : List ℕ) (view : View) (made : List PutCall) → IsAnswered (rest_check_meaning name certificate) view number before after made → RestCheckHolds view name certificate before.out.written after.out.written
+  rest_checked name certificate view made a =
       let found = a.holds.holds.2 in
       let rest = found.2 in
       let ends = found.1 in
@@ -278,13 +297,13 @@ module _ (words : List (List ℕ)) (number : ℕ) (before after : State) (h : Ru
       }
 
   pub rest_proves : RestProves number words before.shelf.files before.shelf.calls after.shelf.calls before.out.written after.out.written
-  rest_proves asked is none = gives (rest_check_meaning asked.file asked.other) (as_rest_check asked is) (omega (arith, none)) (λ view. RestCheckHolds view asked.file asked.other before.out.written after.out.written) (rest_checked asked.file asked.other)
+  rest_proves asked is none = gives (rest_check_meaning asked.file asked.other) refl (as_rest_check asked is) (omega (arith, none)) (λ view. RestCheckHolds view asked.file asked.other before.out.written after.out.written) (rest_checked asked.file asked.other)
 
   as_search : (asked : SearchWords) → search_of words ≡ Some asked → Performs (search_meaning asked) number before after
   as_search asked is = performed_where (codes "search") search_words LegalTemplate search_meaning number before after (λ rest r. r) words asked is h
 
-  searched : (asked : SearchWords) → Apart asked.filled asked.out → (view : View) → IsAnswered (search_meaning asked) view number before after → SearchHolds number view asked before.shelf.files after.shelf.files before.out.written after.out.written
-  searched asked apart view a =
+  searched : (asked : SearchWords) → Apart asked.filled asked.out → (view : View) (made : List PutCall) → IsAnswered (search_meaning asked) view number before after made → SearchHolds number view asked before.shelf.files after.shelf.files before.out.written after.out.written made
+  searched asked apart view made a =
       let t = a.holds.holds.0 in
       let finds = a.holds.holds.2 in
       let end = finds.end in
@@ -299,15 +318,15 @@ module _ (words : List (List ℕ)) (number : ℕ) (before after : State) (h : Ru
         wrote = a.written ∙ ap (with_text before.out.written) finds.written;
         found = λ zero.
             let put = finds.found (first_passed end.found unknown 0 2 1 (numbered ∙ zero) (λ h. omega (arith, h)) (λ h. omega (arith, h))) in
-            record { last = put.last; stands = found_stands (filled_text t put.last.last.values) put.last.certificate asked.filled asked.out apart a.answer.puts put.are before.shelf.files after.shelf.files a.stand; within = put.within };
+            record { last = put.last; stands = found_stands (filled_text t put.last.last.values) put.last.certificate asked.filled asked.out apart a.answer.puts put.are before.shelf.files after.shelf.files a.stand; told = subst (λ (fs : List PutText). PutWhole fs made) put.are a.whole; within = put.within };
         kept = λ other.
             let none = finds.nothing (false_from_ne_true end.found (λ found. other (sym numbered ∙ ap (λ (b : Bool). if b then 0 else (if unknown then 2 else 1)) found))) in
-            subst (λ (ps : List Put). Stand ps before.shelf.files after.shelf.files) none a.stand;
+            (subst (λ (ps : List Put). Stand ps before.shelf.files after.shelf.files) none a.stand, subst (λ (ps : List Put). PutWhole (map put_text ps) made) none a.whole);
       }
 
   pub searches : Searches number words before.shelf.files after.shelf.files before.shelf.calls after.shelf.calls before.out.written after.out.written
   searches asked is low =
-      gives (search_meaning asked) (as_search asked is) low (λ view. SearchHolds number view asked before.shelf.files after.shelf.files before.out.written after.out.written) (searched asked (names_apart words asked is).puts)
+      gives_all (search_meaning asked) (as_search asked is) low (λ view made. SearchHolds number view asked before.shelf.files after.shelf.files before.out.written after.out.written made) (λ view made a. searched asked (names_apart words asked is).puts view made a)
 
   printed_verify : (name : List ℕ) (budget : ℕ) (json : Bool) (view : View) → ReportHolds number view name budget json before.out.written after.out.written → EachToldSafe json view name before.out.written after.out.written
   printed_verify name budget json view r = record {
@@ -377,12 +396,12 @@ module _ (words : List (List ℕ)) (number : ℕ) (before after : State) (h : Ru
 
   pub printed_holds : PrintedHolds number words before.shelf.files before.shelf.calls after.shelf.calls before.out.written after.out.written
   printed_holds = record {
-    safe = λ asked is low. gives_verify asked is low (λ view. EachToldSafe asked.json view asked.file before.out.written after.out.written) (λ view a. printed_verify asked.file asked.nodes asked.json view (reported asked.file asked.nodes asked.json asked.out view a));
-    unsafe_ = λ asked is low. gives_verify asked is low (λ view. EachPrintedUnsafe runs.Occurs (verify_telling asked.json) view asked.file before.out.written after.out.written) (λ view a. printed_unsafes asked.file asked.nodes asked.json view (reported asked.file asked.nodes asked.json asked.out view a));
-    rest_safe = λ asked is low. gives (rest_meaning asked.file asked.nodes asked.out) (as_rest asked is) low (λ view. EachPrinted RestSafe (codes "rest safe, ") view asked.file before.out.written after.out.written) (λ view a. printed_rest asked.file asked.nodes view (at_rest asked.file asked.nodes asked.out view a));
-    rest_unsafe = λ asked is low. gives (rest_meaning asked.file asked.nodes asked.out) (as_rest asked is) low (λ view. EachPrintedUnsafe RestOccurs rest_telling view asked.file before.out.written after.out.written) (λ view a. printed_rest_unsafes asked.file asked.nodes view (at_rest asked.file asked.nodes asked.out view a));
-    rest_proved = λ asked is none. gives (rest_check_meaning asked.file asked.other) (as_rest_check asked is) (omega (arith, none)) (λ view. EachPrinted RestSafe (codes "rest proved") view asked.file before.out.written after.out.written) (λ view a. printed_rest_check asked.file asked.other view (rest_checked asked.file asked.other view a));
-    proved = λ asked is none. gives (check_meaning asked.file asked.other) (as_check asked is) (omega (arith, none)) (λ view. EachPrinted runs.Safe (codes "proved") view asked.file before.out.written after.out.written) (λ view a. printed_check asked.file asked.other view (proved asked.file asked.other view a));
+    safe = λ asked is low. gives_verify asked is low (λ view. EachToldSafe asked.json view asked.file before.out.written after.out.written) (λ view made a. printed_verify asked.file asked.nodes asked.json view (reported asked.file asked.nodes asked.json asked.out view made a));
+    unsafe_ = λ asked is low. gives_verify asked is low (λ view. EachPrintedUnsafe runs.Occurs (verify_telling asked.json) view asked.file before.out.written after.out.written) (λ view made a. printed_unsafes asked.file asked.nodes asked.json view (reported asked.file asked.nodes asked.json asked.out view made a));
+    rest_safe = λ asked is low. gives_some (rest_meaning asked.file asked.nodes asked.out) (as_rest asked is) low (λ view. EachPrinted RestSafe (codes "rest safe, ") view asked.file before.out.written after.out.written) (λ view made a. printed_rest asked.file asked.nodes view (at_rest asked.file asked.nodes asked.out view made a));
+    rest_unsafe = λ asked is low. gives_some (rest_meaning asked.file asked.nodes asked.out) (as_rest asked is) low (λ view. EachPrintedUnsafe RestOccurs rest_telling view asked.file before.out.written after.out.written) (λ view made a. printed_rest_unsafes asked.file asked.nodes view (at_rest asked.file asked.nodes asked.out view made a));
+    rest_proved = λ asked is none. gives (rest_check_meaning asked.file asked.other) refl (as_rest_check asked is) (omega (arith, none)) (λ view. EachPrinted RestSafe (codes "rest proved") view asked.file before.out.written after.out.written) (λ view made a. printed_rest_check asked.file asked.other view (rest_checked asked.file asked.other view made a));
+    proved = λ asked is none. gives (check_meaning asked.file asked.other) refl (as_check asked is) (omega (arith, none)) (λ view. EachPrinted runs.Safe (codes "proved") view asked.file before.out.written after.out.written) (λ view made a. printed_check asked.file asked.other view (proved asked.file asked.other view made a));
   }
 
   -- some pattern of a file whose report has the number 1 occurs in a run
@@ -426,25 +445,26 @@ module _ (words : List (List ℕ)) (number : ℕ) (before after : State) (h : Ru
 
   pub status_tells : ZeroSays → StatusTells number words before.shelf.files before.shelf.calls after.shelf.calls before.out.written after.out.written
   status_tells zero_says = record {
-    safe = λ asked is none. gives_verify asked is (omega (arith, none)) (λ view. EachPatternSafe view asked.file) (λ view a.
+    safe = λ asked is none. gives_verify asked is (omega (arith, none)) (λ view. EachPatternSafe view asked.file) (λ view made a.
         let name = asked.file in
         let budget = asked.nodes in
-        let r = reported name budget asked.json asked.out view a in
+        let r = reported name budget asked.json asked.out view made a in
         let kinds = zero_says (list_any is_unsafe r.verdicts) (list_any is_unknown r.verdicts) (r.numbered ∙ none) in
         record { file = r.file; holds = holds_file view name r.file r.is_file; safe = each_safe r.file budget 0 r.file.patterns r.verdicts kinds.0 kinds.1 r.are.hold });
-    occurs = λ asked is one. gives_verify asked is (omega (arith, one)) (λ view. SomePatternOccurs view asked.file) (λ view a. some_occurring asked.file asked.nodes asked.json view one (reported asked.file asked.nodes asked.json asked.out view a));
+    occurs = λ asked is one. gives_verify asked is (omega (arith, one)) (λ view. SomePatternOccurs view asked.file) (λ view made a. some_occurring asked.file asked.nodes asked.json view one (reported asked.file asked.nodes asked.json asked.out view made a));
     proved = printed_holds.proved;
     rest_safe = printed_holds.rest_safe;
     rest_proved = printed_holds.rest_proved;
-    safe_lines = λ asked is plain low. gives_verify asked is low (λ view. EachPrinted runs.Safe (codes "safe, ") view asked.file before.out.written after.out.written) (λ view a. safe_in_lines asked.file asked.nodes view (subst (λ (json : Bool). ReportHolds number view asked.file asked.nodes json before.out.written after.out.written) plain (reported asked.file asked.nodes asked.json asked.out view a)));
-    shown = λ asked is none. gives (replay_meaning asked.file asked.other) (as_replay asked is) (omega (arith, none)) (λ view. ShownOccurs view asked.file asked.other) (λ view a. occurs_shown asked.file asked.other view (shown asked.file asked.other view a));
+    safe_lines = λ asked is plain low. gives_verify asked is low (λ view. EachPrinted runs.Safe (codes "safe, ") view asked.file before.out.written after.out.written) (λ view made a. safe_in_lines asked.file asked.nodes view (subst (λ (json : Bool). ReportHolds number view asked.file asked.nodes json before.out.written after.out.written) plain (reported asked.file asked.nodes asked.json asked.out view made a)));
+    shown = λ asked is none. gives (replay_meaning asked.file asked.other) refl (as_replay asked is) (omega (arith, none)) (λ view. ShownOccurs view asked.file asked.other) (λ view made a. occurs_shown asked.file asked.other view (shown asked.file asked.other view made a));
   }
 
 pub quiet : (asked : Asked) (number : ℕ) (before after : State) → Runs asked number before after → Quiet number before after
 quiet NoCommand number before after h =
     let five = h.five in
     record {
-      nothing_written = λ above other. ap (λ (s : SinkState). s.written) h.out;
+      nothing_written = λ above below. ap (λ (s : SinkState). s.written) h.out;
+      memory = λ seven. inl (ap (λ (s : SinkState). s.written) h.out);
       shelf_kept = λ other. ap (λ (s : ShelfState). s.faults) h.shelf;
       out_calm = λ other. (ap (λ (s : SinkState). s.faults) h.out, ap (λ (s : SinkState). s.stalls) h.out);
       failed = λ six. absurd (omega arith);
@@ -463,8 +483,20 @@ kept_by_refusal : (asked : Asked) (number : ℕ) (before after : State) → Runs
 kept_by_refusal NoCommand number before after h three five = ap (λ (s : ShelfState). s.files) h.shelf
 kept_by_refusal (Command legal m) number before after h three five = kept_refused m number before after h.performs.ends three five
 
-pub keeps_files : (words : List (List ℕ)) (number : ℕ) (before after : State) → Runs (request_of words) number before after → KeepsFiles number words before.shelf.files after.shelf.files
-keeps_files words number before after h = record { others = kept_others (request_of words) number before after h; refused = kept_by_refusal (request_of words) number before after h }
+-- the calls are those of the command
+pub opens : (asked : Asked) (number : ℕ) (before after : State) → Runs asked number before after → Opens asked before.shelf.calls after.shelf.calls
+opens NoCommand number before after h = ap (λ (s : ShelfState). s.calls) h.shelf
+opens (Command legal m) number before after h =
+    let ends = h.performs.ends in
+    acts m number before after ends (λ read made. (m.opens read ⊎ (read ≡ [])) × AreOfStages m.puts made) (ends.opened, made_of_stages m (seen before.shelf.files ends.read) number before after ends.made ends.end)
+
+spared_by : (asked : Asked) (number : ℕ) (before after : State) → Runs asked number before after → Spares (put_by asked) number before.shelf after.shelf
+spared_by NoCommand number before after h three = inl (ap (λ (s : ShelfState). s.files) h.shelf)
+spared_by (Command legal m) number before after h three = h.performs.spared three
+
+pub keeps_files : (words : List (List ℕ)) (number : ℕ) (before after : State) → Runs (request_of words) number before after → KeepsFiles number words before.shelf after.shelf
+keeps_files words number before after h =
+    record { others = kept_others (request_of words) number before after h; refused = kept_by_refusal (request_of words) number before after h; spared = spared_by (request_of words) number before after h }
 
 -- what hinders in told files, by what is seen in them and in the calls
 pub hinders_told : (m : Meaning) (told : Told) (number : ℕ) (before after : State) → before.shelf.files ≡ Some told → Performs m number before after → Decides m → 3 ≤ number → number ≤ 4 → (line : List ℕ) × m.refuses (in_files told) number line

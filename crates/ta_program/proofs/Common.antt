@@ -30,7 +30,7 @@ pub use Rattle.ta_program.specs.Asked.{Asked, IsAskedFor, LegalFile, Passes, Pas
 pub use Rattle.ta_program.specs.Asked.Asked.{Command, NoCommand}
 pub use Rattle.ta_program.specs.Bench.{BUDGET, BenchHolds, IsBench, SaysBench, bench_meaning, bench_of, bench_status, bench_text, bench_words}
 unfoldable pub use Rattle.ta_program.specs.Bench.{family_text}
-pub use Rattle.ta_program.specs.Certified.{HindersCertificate, LongCertificate, long_line, may_put}
+pub use Rattle.ta_program.specs.Certified.{HindersCertificate, LongCertificate, long_line}
 pub use Rattle.ta_program.specs.Check.{CheckHolds, check_meaning, check_of, proved_meaning}
 pub use Rattle.ta_program.specs.Compress.{CompressFaultIn, CompressHolds, IsRefusedRun, IsTextFault, SaysShort, ShortOf, compress_meaning, compress_of, long_kind, of_run, short_meaning}
 pub use Rattle.ta_program.specs.Export.{ExportHolds, SaysSystem, WordHinders, export_meaning, export_of, export_words, system_meaning, word_fault_text}
@@ -42,7 +42,7 @@ pub use Rattle.ta_program.specs.Inside.Reported.{RestReported, SampleReported}
 pub use Rattle.ta_program.specs.Kinds.{IsFile, IsReplayFault, ShowsRun, certificate_kind, file_kind, run_kind}
 pub use Rattle.ta_program.specs.Laws.{FoundIsAccepted, PrintedRunsAreReplayed, SaysOrFails, WrittenAtRestIsAccepted, WrittenIsAccepted}
 pub use Rattle.ta_program.specs.Printed.{EachPrintedUnsafe, EachToldSafe, UnsafePrinted, rest_telling, verify_telling}
-pub use Rattle.ta_program.specs.Program.{Admitting, Benches, CertificateWritten, CheckProves, Completes, EndsSo, ExactlySo, Exports, KeepsFiles, PassesLegal, PrintedHolds, ReplayShows, RestProves, RestsReport, RunShortens, Searches, VerifyReports, put_by}
+pub use Rattle.ta_program.specs.Program.{Admitting, Benches, CertificateWritten, CheckProves, Completes, EndsSo, ExactlySo, Exports, KeepsFiles, Opens, PassesLegal, PrintedHolds, ReplayShows, RestProves, RestsReport, RunShortens, Searches, VerifyReports, put_by}
 pub use Rattle.ta_program.specs.Replay.{ReplayHolds, SaysShown, replay_meaning, replay_of, shown_meaning}
 pub use Rattle.ta_program.specs.Reporting.{CertificateStands, ReportHolds, Reports, report_meaning, verify_meaning}
 pub use Rattle.ta_program.specs.Requests.{request_of}
@@ -50,7 +50,7 @@ pub use Rattle.ta_program.specs.Rest.{HindersRest, IsKnownAtRest, LongAtRest, Lo
 pub use Rattle.ta_program.specs.RestCheck.{RestCheckHolds, rest_check_meaning, rest_proved_meaning}
 pub use Rattle.ta_program.specs.RestEnds.{CycleHinders, FileEndings, IsEnds, LegalAtRest, cycle_text, ends_of, with_ends}
 pub use Rattle.ta_program.specs.RestWords.{rest_check_of, rest_form, rest_of, rest_taken, rest_words}
-pub use Rattle.ta_program.specs.Search.{Finds, HindersFound, HoldFound, IsTemplate, IsTemplateText, LegalTemplate, PutText, SearchHolds, end_number, found_files, found_meaning, found_names, leaves_unknown, put_text, search_meaning, template_kind}
+pub use Rattle.ta_program.specs.Search.{Finds, HindersFound, HoldFound, IsTemplate, IsTemplateText, LegalTemplate, SearchHolds, end_number, found_files, found_meaning, found_names, leaves_unknown, search_meaning, template_kind}
 pub use Rattle.ta_program.specs.SearchSeen.{search_seen}
 pub use Rattle.ta_program.specs.SearchWords.{SearchWords, search_form, search_of, search_taken, search_words}
 pub use Rattle.ta_program.specs.Statuses.{verdicts_number}
@@ -90,16 +90,16 @@ pub use Rattle.ta_search.specs.declared.fault.TemplateFault.{TemplateFault}
 pub use Rattle.ta_search.specs.declared.outcome.SearchEnd.{SearchEnd}
 pub use Rattle.ta_search.specs.declared.outcome.Tried.{Tried}
 pub use Rattle.ta_search.specs.declared.template.Template.{Template}
-pub use Rattle.ta_shelf.specs.Calls.{Call, Grew, PieceBy, ReadsFirst, Spells}
+pub use Rattle.ta_shelf.specs.Calls.{Call, Event, Grew, Put as PutCall, PieceBy, reads, ReadsFirst, Spells}
 pub use Rattle.ta_shelf.specs.Put.{OthersStay, Told, WhereTold}
 pub use Rattle.ta_shelf.specs.Sink.{with_text}
-pub use Rattle.ta_shell.proofs.Clauses.{answered, hindered, kept_refused, never_five}
+pub use Rattle.ta_shell.proofs.Clauses.{acts, answered, grew_alone, hindered, kept_refused, made_of_stages, never_five, tells_file}
 pub use Rattle.ta_shell.proofs.Read.{after_monotone, decides, finds_memory, finds_monotone, finds_one, finds_then, finds_wrong, grew_fault, grew_found, grew_none, grew_then, is_more, no_hindrance, one_number, replies_monotone, replies_one, settles_monotone}
 pub use Rattle.ta_shell.proofs.Views.{Monotone, sub_told, whole_one}
 pub use Rattle.ta_shell.specs.Commands.{Decides, IsSo, Meaning, Says}
-pub use Rattle.ta_shell.specs.Ends.{IsAnswered, Performs, Quiet, ShelfState, SinkState, State, Tells, state}
+pub use Rattle.ta_shell.specs.Ends.{IsAnswered, Spares, Performs, Quiet, ShelfState, SinkState, State, Tells, state}
 pub use Rattle.ta_shell.specs.Lines.{file_line, longer_than, missing, phrase_text}
-pub use Rattle.ta_shell.specs.Puts.{HoldsPut, HoldsText, KeptBut, PutsWithin, Stand, put_bytes}
+pub use Rattle.ta_shell.specs.Puts.{HoldsPut, HoldsText, KeptBut, PutsWithin, PutText, Stand, may_put, put_bytes, put_text}
 pub use Rattle.ta_shell.specs.Reading.{IsReading, IsUnreadable, ReadCause, SaysOfFile, UnreadBy}
 pub use Rattle.ta_shell.specs.Sights.{Begins, HasMore, View, in_files, seen, where_told}
 pub use Rattle.ta_shell.specs.Stages.{FileIsAtFault, FileMeans, Hinders, IsBroken, Kind, ReadingGoesOn, Stage, Writes, after, finds, replies, settles}
@@ -116,3 +116,5 @@ pub use Rattle.ta_syntax.specs.PlainTrees.{plain_tree}
 pub use Rattle.ta_verdict.proofs.VerdictsMade.{as_many, held, held_by}
 pub use Rattle.ta_verdict.specs.Certificates.{CertificateOf, SafeOne, safe_numbers, safe_ones, tree_size, with_safe}
 pub use Rattle.ta_verdict.specs.Verdicts.{AreVerdicts, EachHolds, IsKnown, IsSample, NoSample, SampleReal, UnsafeHolds, VerdictHolds, VerdictsHold, is_unknown, is_unsafe, place_of, safety_question}
+pub use Rattle.ta_shell.specs.Making.{Acts, AreOfStages, AreStaging, PutWhole, TellsFile}
+pub use Rattle.ta_shelf.proofs.CallLemmas.{reads-append}

@@ -28,7 +28,7 @@ pub record AnsweredTold (m : Meaning) (told : Told) (number : ℕ) : Type 0 wher
 -- it is so by what is seen in them and in the calls
 answered_told : (m : Meaning) (told : Told) (number : ℕ) (before after : State) → before.shelf.files ≡ Some told → Performs m number before after → Decides m → number ≤ 2 → AnsweredTold m told number
 answered_told m told number before after is h decides low =
-    let a = answered m (seen before.shelf.files h.ends.read) number before after h.ends.end low in
+    let a = answered m (seen before.shelf.files h.ends.read) number before after h.ends.made h.ends.end low in
     record {
       answer = a.answer;
       numbered = a.numbered;

@@ -161,8 +161,8 @@ module _ (m : Meaning) (told : Told) (number : ℕ) (before after : State) (is :
   told_line : 3 ≤ number → number ≤ 4 → (line : List ℕ) × m.refuses (in_files told) number line × Tells line before.err after.err
   told_line three four =
       let h = performs.telling.hindered three four in
-      let line = h.such.0 in
-      (line, decides.refuses told h.added number line (subst (λ (files : Option Told). m.refuses (seen files h.added) number line) is h.such.1), h.such.2)
+      let line = h.such.1 in
+      (line, decides.refuses told h.read number line (subst (λ (files : Option Told). m.refuses (seen files h.read) number line) is h.such.2), h.such.3)
 
   just : (expected : ℕ) (line : List ℕ) → m.refuses (in_files told) expected line → ((number ≡ expected) × Tells line before.err after.err) ⊎ ((number ≡ 6) ⊎ (number ≡ 7))
   just expected line refuses = elim (performs.exact decides told is expected (inr (line, refuses))) [

@@ -2,10 +2,10 @@
 use Rattle.ta_program.proofs.Common.{◌≡◌, ◌≢◌, ◌∙◌, ℕ, List, [], ◌∷◌, map, Option, None, Some, refl, sym, ap, subst, Told, WhereTold, HoldsText, Stand, Put, HoldFound, PutText, found_files, put_text}
 use Rattle.ta_program.proofs.WordsDiffer.{Apart}
 
--- these texts stand, one after the other
+-- these texts stand: those behind the first were put before it
 abbrev Stands : List PutText → Option Told → Option Told → Type 0
 Stands [] before after = after ≡ before
-Stands (f ∷ fs) before after = (middle : Option Told) × WhereTold (HoldsText f.name f.text) before middle × Stands fs middle after
+Stands (f ∷ fs) before after = (middle : Option Told) × Stands fs before middle × WhereTold (HoldsText f.name f.text) middle after
 
 stands_of : (puts : List Put) (files : List PutText) (before after : Option Told) → map put_text puts ≡ files → Stand puts before after → Stands files before after
 stands_of [] [] before after is stand = stand
@@ -14,17 +14,17 @@ stands_of (p ∷ ps) [] before after is stand = absurd (cc)
 stands_of (p ∷ ps) (f ∷ fs) before after is stand =
     let head : put_text p ≡ f = cc in
     let tail : map put_text ps ≡ fs = cc in
-    (stand.0, subst (λ (x : PutText). WhereTold (HoldsText x.name x.text) before stand.0) head stand.1, stands_of ps fs stand.0 after tail stand.2)
+    (stand.0, stands_of ps fs before stand.0 tail stand.1, subst (λ (x : PutText). WhereTold (HoldsText x.name x.text) stand.0 after) head stand.2)
 
 -- of told files, where what is told of none needs no more
 where_same : (P : Told → Told → Type 0) → ((told : Told) → P told told) → (before after : Option Told) → after ≡ before → WhereTold P before after
 where_same P same before None is = subst (λ (o : Option Told). WhereTold P o None) is tt
 where_same P same before (Some told) is = subst (λ (o : Option Told). WhereTold P o (Some told)) is (same told)
 
-where_one : (P Q : Told → Told → Type 0) → ((before after : Told) → P before after → Q before after) → (before middle after : Option Told) → WhereTold P before middle → after ≡ middle → WhereTold Q before after
-where_one P Q from before middle after h is = subst (WhereTold Q before) (sym is) (mapped before middle h)
+where_one : (P Q : Told → Told → Type 0) → ((before after : Told) → P before after → Q before after) → (before middle after : Option Told) → middle ≡ before → WhereTold P middle after → WhereTold Q before after
+where_one P Q from before middle after is h = mapped before after (subst (λ (o : Option Told). WhereTold P o after) is h)
   where
-    mapped : (before middle : Option Told) → WhereTold P before middle → WhereTold Q before middle
+    mapped : (before after : Option Told) → WhereTold P before after → WhereTold Q before after
     mapped None None h = tt
     mapped None (Some m) h = absurd h
     mapped (Some b) None h = absurd h
@@ -68,9 +68,9 @@ module _ (text certificate : List ℕ) where
   by_names (Some filled) None apart before after stands = where_one (HoldsText filled text) (HoldFound (Some filled) None text certificate) (first_put filled) before stands.0 after stands.1 stands.2
   by_names None (Some out) apart before after stands = where_one (HoldsText out certificate) (HoldFound None (Some out) text certificate) (second_put out) before stands.0 after stands.1 stands.2
   by_names (Some filled) (Some out) apart before after stands =
-      let rest = stands.2 in
-      let end = subst (WhereTold (HoldsText out certificate) stands.0) (sym rest.2) rest.1 in
-      where_two (HoldsText filled text) (HoldsText out certificate) (HoldFound (Some filled) (Some out) text certificate) (both_put filled out (apart filled out refl refl)) before stands.0 after stands.1 end
+      let rest = stands.1 in
+      let end = subst (λ (o : Option Told). WhereTold (HoldsText filled text) o stands.0) rest.1 rest.2 in
+      where_two (HoldsText filled text) (HoldsText out certificate) (HoldFound (Some filled) (Some out) text certificate) (both_put filled out (apart filled out refl refl)) before stands.0 after end stands.2
 
   pub found_stands : (filled out : Option (List ℕ)) → Apart filled out → (puts : List Put) → map put_text puts ≡ found_files filled out text certificate → (before after : Option Told) → Stand puts before after → WhereTold (HoldFound filled out text certificate) before after
   found_stands filled out apart puts are before after stand = by_names filled out apart before after (stands_of puts (found_files filled out text certificate) before after are stand)

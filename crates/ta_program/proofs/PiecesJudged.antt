@@ -1,5 +1,5 @@
 -- a certificate that is judged while it is read
-use Rattle.ta_program.proofs.Common.{◌≡◌, ◌∙◌, ◌+◌, ◌-◌, ◌<◌, ◌≤◌, ◌⊎◌, ℕ, Bool, true, false, List, [], ◌++◌, length, take, drop, min, Option, None, Some, Result, Ok, Err, refl, sym, ap, subst, inl, inr, arith, append_assoc, length-append, ltb-false, ltb-true, take-append-add, append-nil, length-drop, length-take-le, take-append-drop, Subject, CertFault, Accepted, Checker, AllClaimsHold, CheckerFeedAnswers, CheckerFinishAnswers, IsExactCheck, IsExactFeed, CheckerStandsFor, subject_of, IsFirstFaultFor, IsLastingFor, no_longer_certificate, Call, Grew, PieceBy, ReadsFirst, Spells, Told, Refusal, Refused, ReadFailed, PutFailed, Memory, longer_than, IsReading, ReadCause, SaysOfFile, UnreadBy, Begins, seen, where_told, Stage, CERTIFICATE, IsAllowed, Breaks, JudgedTo, JudgedWhole, PassesLimit, PieceFed, RefusedBy, Turn, IsUnproved, certificate_kind}
+use Rattle.ta_program.proofs.Common.{◌≡◌, ◌∙◌, ◌+◌, ◌-◌, ◌<◌, ◌≤◌, ◌⊎◌, ℕ, Bool, true, false, List, [], ◌++◌, length, take, drop, min, Option, None, Some, Result, Ok, Err, refl, sym, ap, subst, inl, inr, arith, append_assoc, length-append, ltb-false, ltb-true, take-append-add, append-nil, length-drop, length-take-le, take-append-drop, Subject, CertFault, Accepted, Checker, AllClaimsHold, CheckerFeedAnswers, CheckerFinishAnswers, IsExactCheck, IsExactFeed, CheckerStandsFor, subject_of, IsFirstFaultFor, IsLastingFor, no_longer_certificate, Call, Grew, PieceBy, ReadsFirst, Spells, Told, Refusal, Refused, ReadFailed, PutFailed, Memory, longer_than, IsReading, ReadCause, SaysOfFile, UnreadBy, Begins, seen, where_told, Stage, CERTIFICATE, IsAllowed, Breaks, JudgedTo, JudgedWhole, PassesLimit, PieceFed, RefusedBy, Turn, IsUnproved, certificate_kind, Event, reads-append}
 use Rattle.std.specs.Option.{IfSome}
 use Rattle.std.specs.Result.{IsOk}
 use Rattle.ta_cert.specs.declared.fault.CertFault.TheVariants as fault
@@ -9,6 +9,7 @@ use Rattle.ta_shelf.specs.ReadPiece.{ReadsPiece}
 use Rattle.ta_shelf.specs.declared.fault.ShelfFault.{ShelfFault}
 use Rattle.ta_shell.proofs.PiecesSeen.{first_seen, first_spelled, piece_read, piece_refused, stage_faulty, stage_memory, stage_too_long, stage_unread, told_absent, told_front, told_more, told_whole, whole_spelled}
 use Rattle.std.proofs.lemmas.List.{nil_from_length}
+use Rattle.ta_shelf.specs.Calls.{reads as of_reads}
 
 -- the first line at fault lasts, or there was no memory
 fault_lasts : (subject : Subject) (name text piece : List ℕ) (new : Checker) (f : CertFault) (refusal : Refusal) → (subject_of new) ≡ subject → CheckerFeedAnswers text piece new (Err f) → RefusedBy name f refusal → (refusal ≡ Memory) ⊎ (IsLastingFor subject (text ++ piece) f × SaysOfFile CERTIFICATE name (cert_fault_text f) refusal)
@@ -62,9 +63,9 @@ module _ (subject : Subject) (name text piece : List ℕ) (at allowed : ℕ) (ne
   ]
 
 -- a piece is read behind a text, and judged
-module _ (subject : Subject) (files : Option Told) (name text buffer : List ℕ) (at count : ℕ) (first before now : List Call) (old new : Checker) (j : JudgedTo files name first before old text) (place : at ≡ length text) (some : 0 < length buffer) (few : count ≤ length buffer) (reads : IfSome files (λ m. ReadsPiece (m name) at buffer (Ok count))) (log : Grew (PieceBy name at buffer (Ok count)) before now) where
-  grown : now ≡ first ++ (j.calls.added ++ log.added)
-  grown = log.grown ∙ ap (λ (cs : List Call). cs ++ log.added) j.calls.grown ∙ append_assoc first j.calls.added log.added
+module _ (subject : Subject) (files : Option Told) (name text buffer : List ℕ) (at count : ℕ) (first before now : List Event) (old new : Checker) (j : JudgedTo files name first before old text) (place : at ≡ length text) (some : 0 < length buffer) (few : count ≤ length buffer) (reads : IfSome files (λ m. ReadsPiece (m name) at buffer (Ok count))) (log : Grew (PieceBy name at buffer (Ok count)) before now) where
+  grown : now ≡ first ++ of_reads (j.calls.added ++ log.added)
+  grown = log.grown ∙ ap (λ (cs : List Event). cs ++ of_reads log.added) j.calls.grown ∙ append_assoc first (of_reads j.calls.added) (of_reads log.added) ∙ ap (λ (cs : List Event). first ++ cs) (sym (reads-append j.calls.added log.added))
 
   parts : ((count ≡ length buffer) × ReadsFirst name (j.calls.added ++ log.added) (text ++ take count buffer)) ⊎ ((count < length buffer) × Spells name (j.calls.added ++ log.added) (text ++ take count buffer))
   parts = piece_read name text buffer at count j.calls.added log.added j.calls.such place few log.such
@@ -137,16 +138,16 @@ module _ (subject : Subject) (files : Option Told) (name text buffer : List ℕ)
   turn ended short full (Err refusal) fed = record { added = j.calls.added ++ log.added; grown = grown; such = refuses refusal fed }
 
 -- a read behind a text was refused
-pub turn_refused : (subject : Subject) (files : Option Told) (name text buffer : List ℕ) (at : ℕ) (first before now : List Call) (old new : Checker) (fault : ShelfFault) (refusal : Refusal) → JudgedTo files name first before old text → at ≡ length text → IfSome files (λ m. ReadsPiece (m name) at buffer (Err fault)) → Grew (PieceBy name at buffer (Err fault)) before now → UnreadBy CERTIFICATE name fault refusal → Turn subject files name at first now new (Err refusal)
+pub turn_refused : (subject : Subject) (files : Option Told) (name text buffer : List ℕ) (at : ℕ) (first before now : List Event) (old new : Checker) (fault : ShelfFault) (refusal : Refusal) → JudgedTo files name first before old text → at ≡ length text → IfSome files (λ m. ReadsPiece (m name) at buffer (Err fault)) → Grew (PieceBy name at buffer (Err fault)) before now → UnreadBy CERTIFICATE name fault refusal → Turn subject files name at first now new (Err refusal)
 turn_refused subject files name text buffer at first before now old new fault refusal j place reads log says = record {
   added = j.calls.added ++ log.added;
-  grown = log.grown ∙ ap (λ (cs : List Call). cs ++ log.added) j.calls.grown ∙ append_assoc first j.calls.added log.added;
+  grown = log.grown ∙ ap (λ (cs : List Event). cs ++ of_reads log.added) j.calls.grown ∙ append_assoc first (of_reads j.calls.added) (of_reads log.added) ∙ ap (λ (cs : List Event). first ++ cs) (sym (reads-append j.calls.added log.added));
   such = stage_unread (certificate_kind subject) (λ (a : Accepted). a.patterns) files name _ fault refusal says (piece_refused name text buffer at fault j.calls.added log.added j.calls.such place log.such) (λ is.
       told_absent files name buffer at (subst (λ (f : ShelfFault). IfSome files (λ m. ReadsPiece (m name) at buffer (Err f))) is reads));
 }
 
 -- the offset behind a piece, over files that are the same
-pub turn_more : (subject : Subject) (files kept : Option Told) (name : List ℕ) (at : ℕ) (first now : List Call) (checker : Checker) (given : Option ℕ) (next : ℕ) → kept ≡ files → given ≡ Some next → Turn subject kept name at first now checker (Ok given) → Turn subject files name at first now checker (Ok (Some next))
+pub turn_more : (subject : Subject) (files kept : Option Told) (name : List ℕ) (at : ℕ) (first now : List Event) (checker : Checker) (given : Option ℕ) (next : ℕ) → kept ≡ files → given ≡ Some next → Turn subject kept name at first now checker (Ok given) → Turn subject files name at first now checker (Ok (Some next))
 turn_more subject files kept name at first now checker given next same is t = subst (λ (o : Option Told). Turn subject o name at first now checker (Ok (Some next))) same (subst (λ (r : Option ℕ). Turn subject kept name at first now checker (Ok r)) is t)
 
 -- no read failed where none was made

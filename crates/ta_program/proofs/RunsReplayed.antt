@@ -26,7 +26,7 @@ runs_replayed words number before after h asked asks low told is =
     let name = asked.file in
     let budget = asked.nodes in
     let reports = verify_reports words number before after h asked asks low in
-    let r = subst (λ (files : Option Told). ReportHolds number (seen files reports.added) name budget asked.json before.out.written after.out.written) is reports.such in
+    let r = subst (λ (files : Option Told). ReportHolds number (seen files reports.read) name budget asked.json before.out.written after.out.written) is reports.such in
     record {
       file = r.file;
       text = report_of asked.json r.file r.sample r.verdicts;
@@ -47,7 +47,7 @@ rest_runs_replayed words number before after h asked asks low told is =
     let name = asked.file in
     let budget = asked.nodes in
     let reports = (rests_report words number before after h).report asked asks low in
-    let r = subst (λ (files : Option Told). RestReportHolds number (seen files reports.added) name budget before.out.written after.out.written) is reports.such in
+    let r = subst (λ (files : Option Told). RestReportHolds number (seen files reports.read) name budget before.out.written after.out.written) is reports.such in
     record {
       file = r.file;
       text = rest_text r.file r.sample r.verdicts;

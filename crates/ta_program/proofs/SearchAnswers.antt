@@ -22,7 +22,7 @@ names_in : (filled out : Option (List ℕ)) (text certificate : List ℕ) → Na
 names_in None None text certificate = tt
 names_in None (Some out) text certificate = (search rules, tt)
 names_in (Some filled) None text certificate = (search rules, tt)
-names_in (Some filled) (Some out) text certificate = (search rules, ((1, omega arith, refl), tt))
+names_in (Some filled) (Some out) text certificate = ((1, omega arith, refl), (search rules, tt))
 
 -- a vector has a value for each hole
 abbrev Sized : ℕ → List (List ℕ) → Type 0

@@ -46,8 +46,3 @@ pub record PutsOne (file : File) (budget : ℕ) (verdicts : List Verdict) (out :
 abbrev pub PutsCertificate : File → ℕ → List Verdict → Option (List ℕ) → List Put → Type 0
 PutsCertificate file budget verdicts None puts = puts ≡ []
 PutsCertificate file budget verdicts (Some out) puts = PutsOne file budget verdicts out puts
-
--- the names of the files that may be put
-abbrev pub may_put : Option (List ℕ) → List (List ℕ)
-may_put None = []
-may_put (Some out) = out ∷ []

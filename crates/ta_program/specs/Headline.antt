@@ -16,9 +16,11 @@ use Rattle.ta_replay.specs.declared.run.Run.{Run}
 use Rattle.ta_replay.specs.RunText.{IsRunText}
 use Rattle.ta_replay.specs.Shows.{IsFirstConfig, unit_steps}
 use Rattle.ta_report.specs.Printed.{HasLine, told_of}
-use Rattle.ta_shelf.specs.Calls.{Call, Grew}
+use Rattle.ta_shelf.specs.Calls.{Event, Grew}
 use Rattle.ta_shelf.specs.Put.{Told}
 use Rattle.ta_shelf.specs.Sink.{with_text}
+use Rattle.ta_shell.specs.Making.{Acts}
+use Rattle.ta_shell.specs.Puts.{may_put}
 use Rattle.ta_shell.specs.Sights.{View, Whole, seen}
 use Rattle.ta_rest.specs.Rest.{RestSafe}
 use Rattle.ta_program.specs.Check.{check_of}
@@ -77,11 +79,11 @@ pub record ShownOccurs (view : View) (name run_name : List ℕ) : Type 0 where
 
 -- `verify FILE` with status 0 and with status 1, and `check FILE CERT` with status 0, of what is seen in the calls of the run and
 -- in the files
-pub record StatusTells (number : ℕ) (words : List (List ℕ)) (files : Option Told) (calls calls' : List Call) (written written' : Option (List ℕ)) : Type 0 where
-  pub safe : (asked : VerifyWords) → verify_of words ≡ Some asked → number ≡ 0 → Grew (λ read. EachPatternSafe (seen files read) asked.file) calls calls'
-  pub occurs : (asked : VerifyWords) → verify_of words ≡ Some asked → number ≡ 1 → Grew (λ read. SomePatternOccurs (seen files read) asked.file) calls calls'
+pub record StatusTells (number : ℕ) (words : List (List ℕ)) (files : Option Told) (calls calls' : List Event) (written written' : Option (List ℕ)) : Type 0 where
+  pub safe : (asked : VerifyWords) → verify_of words ≡ Some asked → number ≡ 0 → Acts (may_put asked.out) (λ read made. EachPatternSafe (seen files read) asked.file) calls calls'
+  pub occurs : (asked : VerifyWords) → verify_of words ≡ Some asked → number ≡ 1 → Acts (may_put asked.out) (λ read made. SomePatternOccurs (seen files read) asked.file) calls calls'
   pub proved : (asked : TwoNames) → check_of words ≡ Some asked → number ≡ 0 → Grew (λ read. EachPrinted runs.Safe (codes "proved") (seen files read) asked.file written written') calls calls'
-  pub rest_safe : (asked : VerifyWords) → rest_of words ≡ Some asked → number ≤ 2 → Grew (λ read. EachPrinted RestSafe (codes "rest safe, ") (seen files read) asked.file written written') calls calls'
+  pub rest_safe : (asked : VerifyWords) → rest_of words ≡ Some asked → number ≤ 2 → Acts (may_put asked.out) (λ read made. EachPrinted RestSafe (codes "rest safe, ") (seen files read) asked.file written written') calls calls'
   pub rest_proved : (asked : TwoNames) → rest_check_of words ≡ Some asked → number ≡ 0 → Grew (λ read. EachPrinted RestSafe (codes "rest proved") (seen files read) asked.file written written') calls calls'
-  pub safe_lines : (asked : VerifyWords) → verify_of words ≡ Some asked → asked.json ≡ false → number ≤ 2 → Grew (λ read. EachPrinted runs.Safe (codes "safe, ") (seen files read) asked.file written written') calls calls'
+  pub safe_lines : (asked : VerifyWords) → verify_of words ≡ Some asked → asked.json ≡ false → number ≤ 2 → Acts (may_put asked.out) (λ read made. EachPrinted runs.Safe (codes "safe, ") (seen files read) asked.file written written') calls calls'
   pub shown : (asked : TwoNames) → replay_of words ≡ Some asked → number ≡ 0 → Grew (λ read. ShownOccurs (seen files read) asked.file asked.other) calls calls'

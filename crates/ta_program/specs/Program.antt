@@ -3,12 +3,13 @@ use Rattle.std.specs.Prelude.{ℕ, ◌≡◌, ◌≢◌, ◌≤◌, ◌⊎◌, L
 use Rattle.ta_automaton.specs.declared.file.File.{File}
 use Rattle.ta_automaton.specs.Runs as runs
 use Rattle.ta_rest.specs.Rest.{RestOccurs, RestSafe}
-use Rattle.ta_shelf.specs.Calls.{Call, Grew}
+use Rattle.ta_shelf.specs.Calls.{Event, Grew}
 use Rattle.ta_shelf.specs.Counts.{Faulted}
 use Rattle.ta_shelf.specs.Put.{Told}
 use Rattle.ta_shell.specs.Commands.{Exact}
-use Rattle.ta_shell.specs.Ends.{SinkFaltered, State, Telling, Tells}
-use Rattle.ta_shell.specs.Puts.{KeptBut}
+use Rattle.ta_shell.specs.Ends.{ShelfState, SinkFaltered, Spares, State, Telling, Tells}
+use Rattle.ta_shell.specs.Making.{Acts, AreOfStages}
+use Rattle.ta_shell.specs.Puts.{KeptBut, may_put}
 use Rattle.ta_shell.specs.Sights.{in_files, seen}
 use Rattle.ta_program.specs.Asked.{Asked, IsNoCommand, usage_line}
 use Rattle.ta_program.specs.Asked.Asked.{Command, NoCommand}
@@ -27,7 +28,7 @@ use Rattle.ta_program.specs.Rest.{IsKnownAtRest, LongAtRest, RestCertificateStan
 use Rattle.ta_program.specs.RestCheck.{RestCheckHolds}
 use Rattle.ta_program.specs.RestWords.{rest_check_of, rest_of}
 use Rattle.ta_program.specs.Reporting.{CertificateStands, ReportHolds}
-use Rattle.ta_program.specs.Search.{SearchHolds}
+use Rattle.ta_program.specs.Search.{SearchHolds, found_names}
 use Rattle.ta_program.specs.SearchWords.{SearchWords, search_of}
 use Rattle.ta_verdict.specs.Verdicts.{IsKnown}
 use Rattle.ta_program.specs.Values.{TwoNames}
@@ -36,35 +37,36 @@ use Rattle.ta_program.specs.WordAsked.{WordAsked}
 
 -- `verify FILE` with status 0, 1 or 2, whatever its options: FILE is legal, what is said of the parameters holds, each verdict holds,
 -- they give the status, and the output gained the report: 1 where some pattern is unsafe, else 2 where some is unknown, else 0
-abbrev pub VerifyReports : ℕ → List (List ℕ) → Option Told → List Call → List Call → Option (List ℕ) → Option (List ℕ) → Type 0
+abbrev pub VerifyReports : ℕ → List (List ℕ) → Option Told → List Event → List Event → Option (List ℕ) → Option (List ℕ) → Type 0
 VerifyReports number words files calls calls' written written' =
     (asked : VerifyWords) → verify_of words ≡ Some asked → number ≤ 2
-    → Grew (λ read. ReportHolds number (seen files read) asked.file asked.nodes asked.json written written') calls calls'
+    → Acts (may_put asked.out) (λ read made. ReportHolds number (seen files read) asked.file asked.nodes asked.json written written') calls calls'
 
 -- `verify FILE --certificate OUT` with status 0, 1 or 2: the report holds, OUT holds the certificate of the patterns that it says
--- are safe, which `check` accepts as one of exactly these, and every other file is as it was
-abbrev pub CertificateWritten : ℕ → List (List ℕ) → Option Told → Option Told → List Call → List Call → Option (List ℕ) → Option (List ℕ) → Type 0
+-- are safe, which `check` accepts as one of exactly these, and every other file is as it was; the log tells that exactly this text was
+-- put in the place of OUT, whole
+abbrev pub CertificateWritten : ℕ → List (List ℕ) → Option Told → Option Told → List Event → List Event → Option (List ℕ) → Option (List ℕ) → Type 0
 CertificateWritten number words files files' calls calls' written written' =
     (asked : VerifyWords) (out : List ℕ) → verify_of words ≡ Some asked → asked.out ≡ Some out → number ≤ 2
-    → Grew (λ read. CertificateStands number (seen files read) asked.file asked.nodes asked.json out files files' written written') calls calls'
+    → Acts (may_put asked.out) (λ read made. CertificateStands number (seen files read) asked.file asked.nodes asked.json out files files' written written' made) calls calls'
 
 -- `check FILE CERT` with status 0: FILE is legal, CERT is a certificate of it, each pattern that it proves is safe, and the output
 -- gained the text that says which these are
-abbrev pub CheckProves : ℕ → List (List ℕ) → Option Told → List Call → List Call → Option (List ℕ) → Option (List ℕ) → Type 0
+abbrev pub CheckProves : ℕ → List (List ℕ) → Option Told → List Event → List Event → Option (List ℕ) → Option (List ℕ) → Type 0
 CheckProves number words files calls calls' written written' =
     (asked : TwoNames) → check_of words ≡ Some asked → number ≡ 0
     → Grew (λ read. CheckHolds (seen files read) asked.file asked.other written written') calls calls'
 
 -- `compress FILE RUN` with status 0: FILE is legal, RUN is the text of a run that can be compressed, and the output gained the text
 -- of the compressed run, which shows the pattern, marks the same events at the same configurations, and is short
-abbrev pub RunShortens : ℕ → List (List ℕ) → Option Told → List Call → List Call → Option (List ℕ) → Option (List ℕ) → Type 0
+abbrev pub RunShortens : ℕ → List (List ℕ) → Option Told → List Event → List Event → Option (List ℕ) → Option (List ℕ) → Type 0
 RunShortens number words files calls calls' written written' =
     (asked : TwoNames) → compress_of words ≡ Some asked → number ≡ 0
     → Grew (λ read. CompressHolds (seen files read) asked.file asked.other written written') calls calls'
 
 -- `replay FILE RUN` with status 0: FILE is legal, RUN is the text of a run that shows its pattern, and the output gained the line
 -- that says so
-abbrev pub ReplayShows : ℕ → List (List ℕ) → Option Told → List Call → List Call → Option (List ℕ) → Option (List ℕ) → Type 0
+abbrev pub ReplayShows : ℕ → List (List ℕ) → Option Told → List Event → List Event → Option (List ℕ) → Option (List ℕ) → Type 0
 ReplayShows number words files calls calls' written written' =
     (asked : TwoNames) → replay_of words ≡ Some asked → number ≡ 0
     → Grew (λ read. ReplayHolds (seen files read) asked.file asked.other written written') calls calls'
@@ -77,14 +79,14 @@ pub record Benches (number : ℕ) (words : List (List ℕ)) (written written' : 
 
 -- `export FILE PATTERN START WORD` with status 0: FILE is legal and has the word, and the output gained a text that denotes, of all
 -- lists of whole numbers, exactly those that are natural and solve the word's system without bounds
-abbrev pub Exports : ℕ → List (List ℕ) → Option Told → List Call → List Call → Option (List ℕ) → Option (List ℕ) → Type 0
+abbrev pub Exports : ℕ → List (List ℕ) → Option Told → List Event → List Event → Option (List ℕ) → Option (List ℕ) → Type 0
 Exports number words files calls calls' written written' =
     (asked : WordAsked) → export_of words ≡ Some asked → number ≡ 0
     → Grew (λ read. ExportHolds (seen files read) asked written written') calls calls'
 
 -- `admit FILE PATTERN START WORD VALUES` with status 0: FILE is legal and has the complete word, VALUES solve its system, and the
 -- output gained the text of their run, which shows the pattern. Where told files have all that, the status is 0, 6 and 7 aside
-pub record Admitting (number : ℕ) (words : List (List ℕ)) (files : Option Told) (calls calls' : List Call) (written written' : Option (List ℕ)) : Type 0 where
+pub record Admitting (number : ℕ) (words : List (List ℕ)) (files : Option Told) (calls calls' : List Event) (written written' : Option (List ℕ)) : Type 0 where
   pub holds : (all : AdmitAsked) → admit_of words ≡ Some all → number ≡ 0 → Grew (λ read. AdmitHolds (seen files read) all written written') calls calls'
   pub exact : (all : AdmitAsked) (told : Told) → admit_of words ≡ Some all → files ≡ Some told → IsAdmitted told all → (number ≡ 0) ⊎ ((number ≡ 6) ⊎ (number ≡ 7))
 
@@ -92,13 +94,13 @@ pub record Admitting (number : ℕ) (words : List (List ℕ)) (files : Option To
 -- what is said of the parameters holds, each verdict on runs that come to rest holds, they give the status, and the output gained the report;
 -- and with `--certificate OUT`, OUT holds the certificate of the patterns that are said to be safe so, which `rest-check` accepts as one of
 -- exactly these, and every other file is as it was
-pub record RestsReport (number : ℕ) (words : List (List ℕ)) (files files' : Option Told) (calls calls' : List Call) (written written' : Option (List ℕ)) : Type 0 where
-  pub report : (asked : VerifyWords) → rest_of words ≡ Some asked → number ≤ 2 → Grew (λ read. RestReportHolds number (seen files read) asked.file asked.nodes written written') calls calls'
-  pub certificate : (asked : VerifyWords) (out : List ℕ) → rest_of words ≡ Some asked → asked.out ≡ Some out → number ≤ 2 → Grew (λ read. RestCertificateStands number (seen files read) asked.file asked.nodes out files files' written written') calls calls'
+pub record RestsReport (number : ℕ) (words : List (List ℕ)) (files files' : Option Told) (calls calls' : List Event) (written written' : Option (List ℕ)) : Type 0 where
+  pub report : (asked : VerifyWords) → rest_of words ≡ Some asked → number ≤ 2 → Acts (may_put asked.out) (λ read made. RestReportHolds number (seen files read) asked.file asked.nodes written written') calls calls'
+  pub certificate : (asked : VerifyWords) (out : List ℕ) → rest_of words ≡ Some asked → asked.out ≡ Some out → number ≤ 2 → Acts (may_put asked.out) (λ read made. RestCertificateStands number (seen files read) asked.file asked.nodes out files files' written written' made) calls calls'
 
 -- `rest-check FILE CERT` with status 0: FILE is legal and its cycles are self-loops, CERT is a certificate for its endings, no run comes to
 -- rest where the last event of a pattern that it proves happens, and the output gained the text that says which these are
-abbrev pub RestProves : ℕ → List (List ℕ) → Option Told → List Call → List Call → Option (List ℕ) → Option (List ℕ) → Type 0
+abbrev pub RestProves : ℕ → List (List ℕ) → Option Told → List Event → List Event → Option (List ℕ) → Option (List ℕ) → Type 0
 RestProves number words files calls calls' written written' =
     (asked : TwoNames) → rest_check_of words ≡ Some asked → number ≡ 0
     → Grew (λ read. RestCheckHolds (seen files read) asked.file asked.other written written') calls calls'
@@ -107,21 +109,21 @@ RestProves number words files calls calls' written written' =
 -- holes: its vectors were tried in order, each is listed once with an outcome that holds, up to the first that is Safe. With 0 every
 -- pattern of the last filled text is safe and some parameters have an initial configuration; OUT2 holds that text, and OUT a certificate
 -- of it, which `check` accepts as one of all its patterns. With 1 and 2 every file is as it was: 2 where some outcome is unknown
-abbrev pub Searches : ℕ → List (List ℕ) → Option Told → Option Told → List Call → List Call → Option (List ℕ) → Option (List ℕ) → Type 0
+abbrev pub Searches : ℕ → List (List ℕ) → Option Told → Option Told → List Event → List Event → Option (List ℕ) → Option (List ℕ) → Type 0
 Searches number words files files' calls calls' written written' =
     (asked : SearchWords) → search_of words ≡ Some asked → number ≤ 2
-    → Grew (λ read. SearchHolds number (seen files read) asked files files' written written') calls calls'
+    → Acts (found_names asked) (λ read made. SearchHolds number (seen files read) asked files files' written written' made) calls calls'
 
 -- with status 0, 1 or 2 of `verify` a pattern that the report tells is safe is safe, by its line or in JSON, and one that it tells is
 -- unsafe occurs in a run, the text of which stands there; with status 0 of `check` a pattern that is `proved` is safe. The same of `rest` and
 -- `rest-check`, whose words are `rest safe`, `rest unsafe` and `rest proved`: the pattern comes to rest, its last event at the end, in no run, or
 -- in the run whose text stands there
-pub record PrintedHolds (number : ℕ) (words : List (List ℕ)) (files : Option Told) (calls calls' : List Call) (written written' : Option (List ℕ)) : Type 0 where
-  pub safe : (asked : VerifyWords) → verify_of words ≡ Some asked → number ≤ 2 → Grew (λ read. EachToldSafe asked.json (seen files read) asked.file written written') calls calls'
-  pub unsafe_ : (asked : VerifyWords) → verify_of words ≡ Some asked → number ≤ 2 → Grew (λ read. EachPrintedUnsafe runs.Occurs (verify_telling asked.json) (seen files read) asked.file written written') calls calls'
+pub record PrintedHolds (number : ℕ) (words : List (List ℕ)) (files : Option Told) (calls calls' : List Event) (written written' : Option (List ℕ)) : Type 0 where
+  pub safe : (asked : VerifyWords) → verify_of words ≡ Some asked → number ≤ 2 → Acts (may_put asked.out) (λ read made. EachToldSafe asked.json (seen files read) asked.file written written') calls calls'
+  pub unsafe_ : (asked : VerifyWords) → verify_of words ≡ Some asked → number ≤ 2 → Acts (may_put asked.out) (λ read made. EachPrintedUnsafe runs.Occurs (verify_telling asked.json) (seen files read) asked.file written written') calls calls'
   pub proved : (asked : TwoNames) → check_of words ≡ Some asked → number ≡ 0 → Grew (λ read. EachPrinted runs.Safe (codes "proved") (seen files read) asked.file written written') calls calls'
-  pub rest_safe : (asked : VerifyWords) → rest_of words ≡ Some asked → number ≤ 2 → Grew (λ read. EachPrinted RestSafe (codes "rest safe, ") (seen files read) asked.file written written') calls calls'
-  pub rest_unsafe : (asked : VerifyWords) → rest_of words ≡ Some asked → number ≤ 2 → Grew (λ read. EachPrintedUnsafe RestOccurs rest_telling (seen files read) asked.file written written') calls calls'
+  pub rest_safe : (asked : VerifyWords) → rest_of words ≡ Some asked → number ≤ 2 → Acts (may_put asked.out) (λ read made. EachPrinted RestSafe (codes "rest safe, ") (seen files read) asked.file written written') calls calls'
+  pub rest_unsafe : (asked : VerifyWords) → rest_of words ≡ Some asked → number ≤ 2 → Acts (may_put asked.out) (λ read made. EachPrintedUnsafe RestOccurs rest_telling (seen files read) asked.file written written') calls calls'
   pub rest_proved : (asked : TwoNames) → rest_check_of words ≡ Some asked → number ≡ 0 → Grew (λ read. EachPrinted RestSafe (codes "rest proved") (seen files read) asked.file written written') calls calls'
 
 -- 5 exactly where the words are no command's
@@ -139,20 +141,23 @@ abbrev pub ExactlySo : ℕ → Asked → Option Told → Type 0
 ExactlySo number NoCommand files = Unit {0}
 ExactlySo number (Command legal m) files = Exact m files number
 
--- the calls are those of the command that is asked for, and no others
-abbrev pub Opens : Asked → List Call → List Call → Type 0
+-- the calls are those of the command that is asked for, and no others: those that read, unless an output can't be begun, and those on files
+-- in the making of its outputs; no call creates a file or adds to one in its place
+abbrev pub Opens : Asked → List Event → List Event → Type 0
 Opens NoCommand calls calls' = calls' ≡ calls
-Opens (Command legal m) calls calls' = Grew m.opens calls calls'
+Opens (Command legal m) calls calls' = Acts m.puts (λ read made. (m.opens read ⊎ (read ≡ [])) × AreOfStages m.puts made) calls calls'
 
 -- the names of the files that what is asked for may put
 abbrev pub put_by : Asked → List (List ℕ)
 put_by NoCommand = []
 put_by (Command legal m) = m.puts
 
--- every file is as it was, but OUT where `--certificate OUT` is asked for, and OUT2 where `--filled OUT2` is; with 3, 4 and 5 these are too
-pub record KeepsFiles (number : ℕ) (words : List (List ℕ)) (files files' : Option Told) : Type 0 where
-  pub others : KeptBut (put_by (request_of words)) files files'
-  pub refused : 3 ≤ number → number ≤ 5 → files' ≡ files
+-- every file is as it was, but OUT where `--certificate OUT` is asked for, and OUT2 where `--filled OUT2` is; with 3, 4 and 5 these are too,
+-- and with 6 and 7 where no publishing was refused
+pub record KeepsFiles (number : ℕ) (words : List (List ℕ)) (before after : ShelfState) : Type 0 where
+  pub others : KeptBut (put_by (request_of words)) before.files after.files
+  pub refused : 3 ≤ number → number ≤ 5 → after.files ≡ before.files
+  pub spared : Spares (put_by (request_of words)) number before after
 
 -- where FILE is legal, neither 3 nor 5
 abbrev pub PassesLegal : Asked → ℕ → Option Told → Type 0

@@ -5,16 +5,18 @@ use Rattle.ta_check.specs.Certificate.{Certificate}
 use Rattle.ta_report.specs.declared.verdict.ReportSample.{ReportSample}
 use Rattle.ta_report.specs.declared.verdict.Verdict.{Verdict}
 use Rattle.ta_report.specs.Telling.{report_of}
+use Rattle.ta_shelf.specs.Calls.{Put}
 use Rattle.ta_shelf.specs.Put.{Told, WhereTold}
 use Rattle.ta_shelf.specs.Sink.{with_text}
 use Rattle.ta_shell.specs.declared.answer.Answer.{Answer}
 use Rattle.ta_shell.specs.Commands.{Meaning}
-use Rattle.ta_shell.specs.Puts.{HoldsText}
+use Rattle.ta_shell.specs.Making.{TellsFile}
+use Rattle.ta_shell.specs.Puts.{HoldsText, may_put}
 use Rattle.ta_shell.specs.Sights.{View}
 use Rattle.ta_shell.specs.Stages.{after, settles}
 use Rattle.ta_program.specs.declared.limits.TheConstants.{CERTIFICATE}
 use Rattle.ta_verdict.specs.Certificates.{CertificateOf, safe_numbers}
-use Rattle.ta_program.specs.Certified.{HindersCertificate, PutsCertificate, may_put}
+use Rattle.ta_program.specs.Certified.{HindersCertificate, PutsCertificate}
 use Rattle.ta_program.specs.Asked.{Asked, ask}
 use Rattle.ta_program.specs.Kinds.{IsFile, file_kind}
 use Rattle.ta_verdict.specs.Verdicts.{AreVerdicts, IsSample}
@@ -53,12 +55,13 @@ pub record ReportHolds (number : ℕ) (view : View) (name : List ℕ) (budget : 
   pub numbered : verdicts_number verdicts ≡ number
   pub wrote : written' ≡ with_text written (report_of json file sample verdicts)
 
--- the report holds; OUT holds the certificate of the patterns that it says are safe, and every other file is as it was; and that
--- text is a certificate of FILE that proves exactly these patterns, so `check` accepts it
-pub record CertificateStands (number : ℕ) (view : View) (name : List ℕ) (budget : ℕ) (json : Bool) (out : List ℕ) (files files' : Option Told) (written written' : Option (List ℕ)) : Type 0 where
+-- the report holds; OUT holds the certificate of the patterns that it says are safe, every other file is as it was, and the calls put exactly this text in the
+-- place of OUT, whole; and that text is a certificate of FILE that proves exactly these patterns, so `check` accepts it
+pub record CertificateStands (number : ℕ) (view : View) (name : List ℕ) (budget : ℕ) (json : Bool) (out : List ℕ) (files files' : Option Told) (written written' : Option (List ℕ)) (made : List Put) : Type 0 where
   pub report : ReportHolds number view name budget json written written'
   pub text : List ℕ
   pub certificate : CertificateOf report.file budget report.verdicts text
   pub within : length text ≤ CERTIFICATE.bytes
   pub stands : WhereTold (HoldsText out text) files files'
+  pub told : TellsFile out text made
   pub accepted : Certificate report.file text (safe_numbers report.file report.verdicts)

@@ -8,19 +8,21 @@ use Rattle.ta_report.specs.declared.verdict.Verdict.{Verdict}
 use Rattle.ta_report.specs.Report.{rest_text}
 use Rattle.ta_rest_verdict.specs.Verdicts.{AreRestVerdicts, RestVerdictHolds}
 use Rattle.ta_rest_verdict.specs.Certificates.{RestCertificateOf}
+use Rattle.ta_shelf.specs.Calls as calls
 use Rattle.ta_shelf.specs.Put.{Told, WhereTold}
 use Rattle.ta_shelf.specs.Sink.{with_text}
 use Rattle.ta_shell.specs.declared.answer.Answer.{Answer}
 use Rattle.ta_shell.specs.declared.answer.Put.{Put}
 use Rattle.ta_shell.specs.Commands.{Meaning}
-use Rattle.ta_shell.specs.Puts.{HoldsText, put_bytes}
+use Rattle.ta_shell.specs.Making.{TellsFile}
+use Rattle.ta_shell.specs.Puts.{HoldsText, put_bytes, may_put}
 use Rattle.ta_shell.specs.Sights.{View}
 use Rattle.ta_shell.specs.Stages.{settles}
 use Rattle.ta_verdict.specs.Certificates.{safe_numbers}
 use Rattle.ta_verdict.specs.Verdicts.{IsSample, is_unknown}
 use Rattle.ta_program.specs.declared.limits.TheConstants.{CERTIFICATE}
 use Rattle.ta_program.specs.Asked.{Asked, ask_where}
-use Rattle.ta_program.specs.Certified.{long_line, may_put}
+use Rattle.ta_program.specs.Certified.{long_line}
 use Rattle.ta_program.specs.Kinds.{IsFile}
 use Rattle.ta_program.specs.RestEnds.{FileEndings, IsEnds, LegalAtRest, with_ends}
 use Rattle.ta_program.specs.RestWords.{rest_words}
@@ -107,12 +109,13 @@ pub record RestReportHolds (number : ℕ) (view : View) (name : List ℕ) (budge
   pub numbered : verdicts_number verdicts ≡ number
   pub wrote : written' ≡ with_text written (rest_text file sample verdicts)
 
--- the report holds; OUT holds the certificate of the patterns that it says are safe at rest, and every other file is as it was; and that text
--- is a certificate that proves exactly these, so `rest-check` accepts it
-pub record RestCertificateStands (number : ℕ) (view : View) (name : List ℕ) (budget : ℕ) (out : List ℕ) (files files' : Option Told) (written written' : Option (List ℕ)) : Type 0 where
+-- the report holds; OUT holds the certificate of the patterns that it says are safe at rest, every other file is as it was, and the calls put exactly this text
+-- in the place of OUT, whole; and that text is a certificate that proves exactly these, so `rest-check` accepts it
+pub record RestCertificateStands (number : ℕ) (view : View) (name : List ℕ) (budget : ℕ) (out : List ℕ) (files files' : Option Told) (written written' : Option (List ℕ)) (made : List calls.Put) : Type 0 where
   pub report : RestReportHolds number view name budget written written'
   pub text : List ℕ
   pub certificate : RestCertificateOf report.ends.ending budget report.verdicts text
   pub within : length text ≤ CERTIFICATE.bytes
   pub stands : WhereTold (HoldsText out text) files files'
+  pub told : TellsFile out text made
   pub accepted : RestCertificate report.ends.ending text (safe_numbers report.ends.ending report.verdicts)

@@ -12,17 +12,19 @@ use Rattle.ta_search.specs.Searching.{IsSearchEnd, LastIsFound}
 use Rattle.ta_search.specs.SearchText.{search_text}
 use Rattle.ta_search.specs.TemplateFaults.{FirstTemplateFault}
 use Rattle.ta_search.specs.Templates.{template_text}
+use Rattle.ta_shelf.specs.Calls.{Put}
 use Rattle.ta_shelf.specs.Put.{Told, WhereTold}
 use Rattle.ta_shelf.specs.Sink.{with_text}
 use Rattle.ta_shell.specs.declared.answer.Answer.{Answer}
-use Rattle.ta_shell.specs.declared.answer.Put.{Put}
+use Rattle.ta_shell.specs.declared.answer.Put as answer
 use Rattle.ta_shell.specs.Commands.{Meaning}
-use Rattle.ta_shell.specs.Puts.{put_bytes}
+use Rattle.ta_shell.specs.Making.{PutWhole}
+use Rattle.ta_shell.specs.Puts.{PutText, may_put, put_text}
 use Rattle.ta_shell.specs.Sights.{View, in_files}
 use Rattle.ta_shell.specs.Stages.{FileMeans, Kind, after, settles}
 use Rattle.ta_program.specs.declared.limits.TheConstants.{CERTIFICATE, FILE}
 use Rattle.ta_program.specs.Asked.{Asked, ask_where}
-use Rattle.ta_program.specs.Certified.{long_line, may_put}
+use Rattle.ta_program.specs.Certified.{long_line}
 use Rattle.ta_program.specs.SearchWords.{SearchWords, search_words}
 
 -- why a text is no template, in words; want of memory is never told
@@ -60,26 +62,18 @@ leaves_unknown (outcome.Safe certificate) = false
 abbrev pub end_number : SearchEnd → ℕ
 end_number end = if end.found then 0 else (if list_any (λ x. leaves_unknown x.outcome) end.tried then 2 else 1)
 
--- a file to be put: its name, and its text
-pub record PutText : Type 0 where
-  pub name : List ℕ
-  pub text : List ℕ
-
-abbrev pub put_text : Put → PutText
-put_text put = record { name = put.name; text = put_bytes put }
-
 -- a file of this text in front of others, where a name is given
 abbrev pub with_given : Option (List ℕ) → List ℕ → List PutText → List PutText
 with_given None text rest = rest
 with_given (Some name) text rest = record { name = name; text = text } ∷ rest
 
--- the files that are put where values were found: OUT2 with the filled text, and then OUT with the certificate, as far as their names
--- are given
+-- the files that are put where values were found: OUT with the certificate, and OUT2 with the filled text, which comes into its place before
+-- it, as far as their names are given
 abbrev pub found_files : Option (List ℕ) → Option (List ℕ) → List ℕ → List ℕ → List PutText
-found_files filled out text certificate = with_given filled text (with_given out certificate [])
+found_files filled out text certificate = with_given out certificate (with_given filled text [])
 
 -- values were found, and these files are put; the certificate that is asked for isn't longer than one may be
-pub record PutsFound (template : Template) (end : SearchEnd) (asked : SearchWords) (puts : List Put) : Type 0 where
+pub record PutsFound (template : Template) (end : SearchEnd) (asked : SearchWords) (puts : List answer.Put) : Type 0 where
   pub last : LastIsFound template end
   pub are : map put_text puts ≡ found_files asked.filled asked.out (filled_text template last.last.values) last.certificate
   pub within : IsSome asked.out → length last.certificate ≤ CERTIFICATE.bytes
@@ -138,21 +132,22 @@ pub record HoldFound (filled out : Option (List ℕ)) (text certificate : List �
   pub others : (name : List ℕ) → filled ≢ Some name → out ≢ Some name → after name ≡ before name
 
 -- values were found: every pattern of the filled text is safe and some parameters have an initial configuration, OUT2 holds that text, and
--- OUT a certificate of it that proves all its patterns, so `check` accepts it
-pub record FoundStands (template : Template) (end : SearchEnd) (asked : SearchWords) (files files' : Option Told) : Type 0 where
+-- OUT a certificate of it that proves all its patterns, so `check` accepts it; and the calls put exactly these in their places, whole
+pub record FoundStands (template : Template) (end : SearchEnd) (asked : SearchWords) (files files' : Option Told) (made : List Put) : Type 0 where
   pub last : LastIsFound template end
   pub stands : WhereTold (HoldFound asked.filled asked.out (filled_text template last.last.values) last.certificate) files files'
+  pub told : PutWhole (found_files asked.filled asked.out (filled_text template last.last.values) last.certificate) made
   pub within : IsSome asked.out → length last.certificate ≤ CERTIFICATE.bytes
 
 -- FILE is a template whose vectors were tried in order, each with an outcome that holds, up to the first that is Safe; the output gained
 -- the text that lists them, and the number is 0 where values were found, else 2 where some outcome is unknown, else 1. With 0 what was
--- found stands; else every file is as it was
-pub record SearchHolds (number : ℕ) (view : View) (asked : SearchWords) (files files' : Option Told) (written written' : Option (List ℕ)) : Type 0 where
+-- found stands; else every file is as it was, and no call changed one
+pub record SearchHolds (number : ℕ) (view : View) (asked : SearchWords) (files files' : Option Told) (written written' : Option (List ℕ)) (made : List Put) : Type 0 where
   pub template : Template
   pub is_template : IsTemplate view asked.file template
   pub end : SearchEnd
   pub is_end : IsSearchEnd template asked.nodes end
   pub numbered : end_number end ≡ number
   pub wrote : written' ≡ with_text written (search_text template end)
-  pub found : number ≡ 0 → FoundStands template end asked files files'
-  pub kept : number ≢ 0 → files' ≡ files
+  pub found : number ≡ 0 → FoundStands template end asked files files' made
+  pub kept : number ≢ 0 → (files' ≡ files) × (made ≡ [])

@@ -31,7 +31,7 @@ use ta_base::Text;
 use ta_replay::{Run, print_run};
 use ta_scope::ScopedFile;
 use ta_shelf::Shelf;
-use ta_shell::{Answer, Command, Phrase, Refusal, read_text};
+use ta_shell::{Answer, Command, Outputs, Phrase, Refusal, read_text};
 use ta_smt::{AdmitFault, NamedWord, admit};
 
 /// What `admit` is asked for.
@@ -56,6 +56,10 @@ impl<'a> Command for Admit<'a> {
     ghost use Rattle.ta_program.specs.AdmitSeen.{admit_seen};
 
     ghost meaning = { λ command. admit_meaning (admit_seen command.asked command.values.now) };
+
+    fn outputs(&self) -> Outputs<'_> {
+        Outputs::none()
+    }
 
     fn judge<R: Threads + Sync, S: Shelf>(
         &self,

@@ -27,7 +27,7 @@ use ta_meaning::read_file;
 use ta_report::Verdict;
 use ta_scope::ScopedFile;
 use ta_shelf::Shelf;
-use ta_shell::{Answer, Command, Refusal};
+use ta_shell::{Answer, Command, Outputs, Refusal};
 use ta_syntax::print_tree;
 use ta_verdict::{is_unknown, is_unsafe, judge_file};
 
@@ -51,6 +51,10 @@ impl Command for Bench {
     ghost use Rattle.ta_program.specs.Bench.{bench_meaning};
 
     ghost meaning = { λ command. bench_meaning command.k };
+
+    fn outputs(&self) -> Outputs<'_> {
+        Outputs::none()
+    }
 
     fn judge<R: Threads + Sync, S: Shelf>(
         &self,

@@ -4,7 +4,7 @@
 ghost use Rattle.std.specs.Prelude.{ℕ, ◌≡◌, ◌≤◌, List, [], length, Option};
 ghost use Rattle.ta_check.specs.Checkers.{IsSoundChecker, CheckerStandsFor, subject_of};
 ghost use Rattle.ta_report.specs.Check.{check_text};
-ghost use Rattle.ta_shelf.specs.Calls.{Call, Grew};
+ghost use Rattle.ta_shelf.specs.Calls.{Event, Grew};
 ghost use Rattle.ta_shelf.specs.Put.{Told};
 ghost use Rattle.ta_shell.specs.Commands.{Says};
 ghost use Rattle.ta_shell.specs.Reading.{ReadCause};
@@ -129,7 +129,7 @@ fn judge_piece<'a, S: Shelf>(
     requires within { at ≤ CERTIFICATE.bytes }
     requires room { length buffer.old ≡ 65536 }
     requires sound { IsSoundChecker checker.old }
-    ensures turn { (first : List Call) (text : List ℕ) → JudgedTo (S.files shelf.old) name.now first (S.calls shelf.old) checker.old text → at ≡ length text
+    ensures turn { (first : List Event) (text : List ℕ) → JudgedTo (S.files shelf.old) name.now first (S.calls shelf.old) checker.old text → at ≡ length text
         → Turn (subject_of checker.old) (S.files shelf.old) name.now at first (S.calls shelf.new) checker.new result }
     ensures subject { subject_of checker.new ≡ subject_of checker.old }
     ensures cause { ReadCause result (S.faults shelf.old) (S.faults shelf.new) }

@@ -21,7 +21,7 @@ use std::thread::Threads;
 use ta_automaton::File;
 use ta_base::Text;
 use ta_shelf::Shelf;
-use ta_shell::{Answer, Command, Refusal};
+use ta_shell::{Answer, Command, Outputs, Refusal};
 use ta_smt::{NamedWord, word_text};
 
 /// What `export` is asked for.
@@ -45,6 +45,10 @@ impl<'a> Command for Export<'a> {
     ghost use Rattle.ta_program.specs.WordSeen.{asked_seen};
 
     ghost meaning = { λ command. export_meaning (asked_seen command.asked) };
+
+    fn outputs(&self) -> Outputs<'_> {
+        Outputs::none()
+    }
 
     fn judge<R: Threads + Sync, S: Shelf>(
         &self,

@@ -9,9 +9,9 @@ ghost use Rattle.ta_rest.specs.Faults.{EndingsOf};
 ghost use Rattle.ta_shelf.specs.Calls.{Grew};
 ghost use Rattle.ta_shelf.specs.Put.{Told};
 ghost use Rattle.ta_shell.specs.Commands.{Says};
+ghost use Rattle.ta_shell.specs.Puts.{may_put};
 ghost use Rattle.ta_shell.specs.Reading.{ReadCause};
 ghost use Rattle.ta_shell.specs.Stages.{finds};
-ghost use Rattle.ta_program.specs.Certified.{may_put};
 ghost use Rattle.ta_program.specs.Inside.Reported.{RestReported};
 ghost use Rattle.ta_program.specs.Rest.{rest_meaning, rest_report_meaning};
 ghost use Rattle.ta_program.specs.RestEnds.{CycleHinders, IsEnds, ends_of};
@@ -36,7 +36,7 @@ use ta_rest::RestFile;
 use ta_rest_verdict::judge_rest;
 use ta_scope::ScopedFile;
 use ta_shelf::Shelf;
-use ta_shell::{Answer, Command, Refusal};
+use ta_shell::{Answer, Command, Outputs, Refusal};
 use ta_verdict::{Judged, sample_of};
 
 /// What `rest` is asked for.
@@ -62,6 +62,10 @@ impl<'a> Command for Rest<'a> {
     ghost use Rattle.ta_program.specs.Rest.{rest_meaning};
 
     ghost meaning = { λ command. rest_meaning command.file.now command.budget.nodes (option_map (λ w. w.now) command.out) };
+
+    fn outputs(&self) -> Outputs<'_> {
+        Outputs::one(self.out)
+    }
 
     fn judge<R: Threads + Sync, S: Shelf>(
         &self,

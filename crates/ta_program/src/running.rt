@@ -35,8 +35,9 @@ const USAGE: &str =
 /// the shelf or the output failed, and 7 for want of memory.
 ///
 /// A file is read and judged whole before the next one is opened, and a text is made whole before
-/// it is written. A certificate and a filled text are put on the shelf before the report is written,
-/// and nothing else is ever put there. A failing `err` changes nothing.
+/// it is written. A certificate and a filled text are begun before anything is read, made before the
+/// report is written, and put in their places behind it, and nothing else is ever put on the shelf. A
+/// failing `err` changes nothing.
 pub fn run<R: Threads + Sync, S: Shelf, O: Sink, E: Sink>(
     rt: &R,
     alloc: Global,
@@ -60,7 +61,9 @@ pub fn run<R: Threads + Sync, S: Shelf, O: Sink, E: Sink>(
     ensures printed { PrintedHolds result (map (λ w. w.now) words.now) (S.files shelf.old) (S.calls shelf.old) (S.calls shelf.new) (O.written out.old) (O.written out.new) }
     ensures usage { UsageExactly result (request_of (map (λ w. w.now) words.now)) }
     ensures exact { ExactlySo result (request_of (map (λ w. w.now) words.now)) (S.files shelf.old) }
-    ensures kept { KeepsFiles result (map (λ w. w.now) words.now) (S.files shelf.old) (S.files shelf.new) }
+    ensures kept { KeepsFiles result (map (λ w. w.now) words.now)
+        (record { files = S.files shelf.old; calls = S.calls shelf.old; faults = S.faults shelf.old })
+        (record { files = S.files shelf.new; calls = S.calls shelf.new; faults = S.faults shelf.new }) }
     ensures opened { Opens (request_of (map (λ w. w.now) words.now)) (S.calls shelf.old) (S.calls shelf.new) }
     ensures runs { Runs (request_of (map (λ w. w.now) words.now)) result
         (state (S.files shelf.old) (S.calls shelf.old) (S.faults shelf.old) (O.written out.old) (O.faults out.old) (O.stalls out.old) (E.written err.old) (E.faults err.old) (E.stalls err.old))

@@ -10,12 +10,12 @@ ghost use Rattle.ta_shelf.specs.Calls.{Grew};
 ghost use Rattle.ta_shelf.specs.Put.{Told};
 ghost use Rattle.ta_shell.specs.Commands.{Says};
 ghost use Rattle.ta_shell.specs.Lines.{phrase_text};
-ghost use Rattle.ta_shell.specs.Puts.{content_bytes};
+ghost use Rattle.ta_shell.specs.Puts.{content_bytes, put_text};
 ghost use Rattle.ta_shell.specs.Reading.{ReadCause};
 ghost use Rattle.ta_shell.specs.Stages.{Stage};
 ghost use Rattle.ta_program.specs.declared.limits.TheConstants.{CERTIFICATE as CERTIFICATE_LIMIT};
 ghost use Rattle.ta_program.specs.Inside.FoundFiles.{IsFoundEnd, FoundBy, LastGives};
-ghost use Rattle.ta_program.specs.Search.{IsTemplateText, end_number, found_files, found_meaning, leaves_unknown, put_text, search_meaning, template_fault_text, template_kind, with_given};
+ghost use Rattle.ta_program.specs.Search.{IsTemplateText, end_number, found_files, found_meaning, leaves_unknown, search_meaning, template_fault_text, template_kind, with_given};
 ghost use Rattle.ta_program.specs.SearchSeen.{search_seen};
 ghost use Rattle.ta_program.specs.SearchWords.{search_taken, search_words};
 ghost use Rattle.ta_program.specs.Taken.{taken_of};
@@ -35,7 +35,7 @@ use ta_search::{
     searches_are_determined,
 };
 use ta_shelf::Shelf;
-use ta_shell::{Answer, Command, Content, Phrase, Put, Refusal, read_text};
+use ta_shell::{Answer, Command, Content, Outputs, Phrase, Put, Refusal, read_text};
 
 /// What `search` is asked for.
 #[derive(Drop)]
@@ -63,6 +63,13 @@ impl<'a> Command for Search<'a> {
     ghost use Rattle.ta_program.specs.SearchSeen.{search_seen};
 
     ghost meaning = { λ command. search_meaning (search_seen command) };
+
+    fn outputs(&self) -> Outputs<'_> {
+        Outputs {
+            first: self.filled,
+            second: self.out,
+        }
+    }
 
     fn judge<R: Threads + Sync, S: Shelf>(
         &self,
@@ -332,8 +339,8 @@ fn long_name<'a>(pieces: &[Text], out: Option<&'a str>) -> Option<&'a str>
     }
 }
 
-/// The files of what was found: the filled text, and then the certificate, as far as they are asked
-/// for.
+/// The files of what was found: the certificate, and the filled text, which comes into its place
+/// before it, as far as they are asked for.
 fn found_puts<'a>(
     alloc: Global,
     template: &Template,
@@ -347,8 +354,8 @@ fn found_puts<'a>(
     let bytes = fill(alloc, template, values.as_slice())?;
     let mut puts = Vec::new(alloc);
     let filled = Content::Bytes(bytes);
-    push_given(alloc, &mut puts, asked.filled, filled)?;
     push_given(alloc, &mut puts, asked.out, Content::Pieces(pieces))?;
+    push_given(alloc, &mut puts, asked.filled, filled)?;
     Ok(puts)
 }
 

@@ -11,11 +11,11 @@ use std::alloc::Global;
 use std::marker::PhantomData;
 use std::thread::Threads;
 use ta_shelf::Shelf;
-use ta_shell::{Answer, Command, Refusal};
+use ta_shell::{Answer, Command, Outputs, Refusal};
 
 /// What is done with FILE and a second file that belongs to it.
 pub(crate) trait OfTwoFiles: Drop + Sized {
-    ghost use Rattle.std.specs.Prelude.{◌≡◌, List, ℕ};
+    ghost use Rattle.std.specs.Prelude.{◌≡◌, [], List, ℕ};
     ghost use Rattle.ta_shelf.specs.Calls.{Grew};
     ghost use Rattle.ta_shelf.specs.Put.{Told};
     ghost use Rattle.ta_shell.specs.Commands.{Decides, Meaning, Says};
@@ -39,11 +39,12 @@ pub(crate) trait OfTwoFiles: Drop + Sized {
         ensures cause { ReadCause result (S.faults shelf.old) (S.faults shelf.new) }
         ensures kept { S.files shelf.new ≡ S.files shelf.old };
 
-    /// The laws that told files leave it one answer, and that a legal FILE passes; the call does
-    /// nothing.
+    /// The laws that told files leave it one answer, that a legal FILE passes, and that it has no
+    /// output; the call does nothing.
     fn is_determined()
         ensures decides { (file other : List ℕ) → Decides (stated file other) }
-        ensures passes { (file other : List ℕ) → PassesWhere (legal file) (stated file other) };
+        ensures passes { (file other : List ℕ) → PassesWhere (legal file) (stated file other) }
+        ensures no_output { (file other : List ℕ) → (stated file other).puts ≡ [] };
 }
 
 /// The names of two files, and what is to be done with them.
@@ -67,6 +68,11 @@ impl<'a, C: OfTwoFiles> Request<'a> for TwoFiles<'a, C> {
 
 impl<'a, C: OfTwoFiles> Command for TwoFiles<'a, C> {
     ghost meaning = { λ command. C.stated command.names.file.now command.names.other.now };
+
+    fn outputs(&self) -> Outputs<'_> {
+        C::is_determined();
+        Outputs::none()
+    }
 
     fn judge<R: Threads + Sync, S: Shelf>(
         &self,

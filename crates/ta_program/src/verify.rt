@@ -27,7 +27,7 @@ use ta_base::Text;
 use ta_report::{Said, Verdict, report_json, report_text};
 use ta_scope::ScopedFile;
 use ta_shelf::Shelf;
-use ta_shell::{Answer, Command, Refusal};
+use ta_shell::{Answer, Command, Outputs, Refusal};
 use ta_verdict::{Judged, is_unknown, is_unsafe, judge_file, sample_of};
 
 /// What `verify` is asked for.
@@ -54,6 +54,10 @@ impl<'a> Command for Verify<'a> {
     ghost use Rattle.ta_program.specs.Reporting.{verify_meaning};
 
     ghost meaning = { λ command. verify_meaning command.file.now command.budget.nodes command.json (option_map (λ w. w.now) command.out) };
+
+    fn outputs(&self) -> Outputs<'_> {
+        Outputs::one(self.out)
+    }
 
     fn judge<R: Threads + Sync, S: Shelf>(
         &self,

@@ -2,6 +2,8 @@
 pub mod WrittenSoFar
 pub mod CallLemmas
 mod Distinct
+mod Endings
+mod Handed
 mod ReadSoFar
 mod WithFile
 mod Walks

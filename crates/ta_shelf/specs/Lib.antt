@@ -1,10 +1,14 @@
+pub mod Access
 pub mod Calls
 pub mod Counts
+pub mod Entries
 pub mod Failing
 pub mod Files
+pub mod Making
 pub mod Put
 pub mod Shelf
 pub mod Sink
+pub mod Stage
 pub mod ReadWhole
 pub mod ReadPiece
 pub mod WriteWhole

@@ -4,8 +4,9 @@ pub mod Views
 pub mod Read
 pub mod PiecesSeen
 mod Pieces
-mod PutOrder
-mod PutPieces
-mod Ended
 mod ReadCalls
 mod Common
+mod Making
+mod Settling
+mod Refusing
+mod Ended

@@ -1,5 +1,5 @@
 -- what is seen of a file that is read in pieces
-use Rattle.ta_shell.proofs.Common.{◌≡◌, ◌∙◌, ◌+◌, ◌<◌, ◌≤◌, ◌⊎◌, ℕ, List, [], ◌∷◌, ◌++◌, length, take, drop, Option, None, Some, Ok, Err, refl, sym, ap, subst, inl, inr, arith, append_assoc, length-append, append-nil, drop_at, length-take-le, take-append-drop, IfSome, Call, PieceBy, ReadsFirst, ReadsOn, Spells, Stops, bytes_given, Told, BeginsWith, FillsFrom, ReadsPiece, IsLonger, Refusal, Refused, ReadFailed, PutFailed, Memory, file_line, longer_than, phrase_text, IsReading, SaysOfFile, UnreadBy, Absent, Begins, HasMore, Whole, in_calls, seen, where_told, ReadingGoesOn, FileIsAtFault, IsBroken, Kind, Stage}
+use Rattle.ta_shell.proofs.Common.{◌≡◌, ◌∙◌, ◌+◌, ◌-◌, ◌<◌, ◌≤◌, ◌⊎◌, ℕ, List, [], ◌∷◌, ◌++◌, length, take, drop, Option, None, Some, Ok, Err, refl, sym, ap, subst, inl, inr, arith, append_assoc, length-append, append-nil, drop_at, length-take-le, take-append-drop, IfSome, Call, PieceBy, ReadsFirst, ReadsOn, Spells, Stops, bytes_given, Told, BeginsWith, FillsFrom, ReadsPiece, IsLonger, Refusal, Refused, ReadFailed, PutFailed, Memory, file_line, longer_than, phrase_text, IsReading, SaysOfFile, UnreadBy, Absent, Begins, HasMore, Whole, in_calls, seen, where_told, ReadingGoesOn, FileIsAtFault, IsBroken, Kind, Stage}
 use Rattle.ta_shelf.specs.declared.fault.ShelfFault.{ShelfFault}
 use Rattle.ta_shelf.specs.declared.fault.ShelfFault.TheVariants as shelf
 use Rattle.ta_shelf.proofs.CallLemmas.{ReadsOn-append, bytes_given-append}
@@ -19,7 +19,9 @@ piece_read name text buffer at count calls more first place few piece =
           turns = calls ++ piece.turns;
           in_order = order;
           bytes = given;
-          all = ap (λ (cs : List Call). calls ++ cs) short.1 ∙ sym (append_assoc calls piece.turns (record { name = name; at = at + count; gave = Ok [] } ∷ [])) ∙ ap (λ (n : ℕ). (calls ++ piece.turns) ++ (record { name = name; at = n; gave = Ok [] } ∷ [])) all;
+          asked = length buffer - count;
+          some = (let below = short.0 in omega arith);
+          all = ap (λ (cs : List Call). calls ++ cs) short.1 ∙ sym (append_assoc calls piece.turns (record { name = name; at = at + count; asked = length buffer - count; gave = Ok [] } ∷ [])) ∙ ap (λ (n : ℕ). (calls ++ piece.turns) ++ (record { name = name; at = n; asked = length buffer - count; gave = Ok [] } ∷ [])) all;
         },
       )
     ]
@@ -27,6 +29,8 @@ piece_read name text buffer at count calls more first place few piece =
 -- calls that read the first bytes, and then one was refused
 pub piece_refused : (name text buffer : List ℕ) (at : ℕ) (fault : ShelfFault) (calls more : List Call) → ReadsFirst name calls text → at ≡ length text → PieceBy name at buffer (Err fault) more → Stops name (calls ++ more) fault
 piece_refused name text buffer at fault calls more first place piece =
+    let asked : ℕ = length buffer - length (bytes_given piece.turns) in
+    let left : 0 < asked = (let below = piece.ends.0 in omega arith) in
     let size : length text ≡ length (bytes_given calls) = ap length first.given in
     let given : text ++ bytes_given piece.turns ≡ bytes_given (calls ++ piece.turns) = ap (λ (xs : List ℕ). xs ++ bytes_given piece.turns) first.given ∙ sym (bytes_given-append calls piece.turns) in
     let all : at + length (bytes_given piece.turns) ≡ length (text ++ bytes_given piece.turns) = omega (arith, place, length-append text (bytes_given piece.turns)) in
@@ -36,7 +40,9 @@ piece_refused name text buffer at fault calls more first place piece =
         turns = calls ++ piece.turns;
         in_order = ReadsOn-append name 0 calls piece.turns first.in_order (subst (λ (n : ℕ). ReadsOn name n piece.turns) (omega (arith, place, size)) piece.in_order);
         bytes = given;
-        all = ap (λ (cs : List Call). calls ++ cs) piece.ends ∙ sym (append_assoc calls piece.turns (record { name = name; at = at + length (bytes_given piece.turns); gave = Err fault } ∷ [])) ∙ ap (λ (n : ℕ). (calls ++ piece.turns) ++ (record { name = name; at = n; gave = Err fault } ∷ [])) all;
+        asked = asked;
+        some = left;
+        all = ap (λ (cs : List Call). calls ++ cs) piece.ends.1 ∙ sym (append_assoc calls piece.turns (record { name = name; at = at + length (bytes_given piece.turns); asked = asked; gave = Err fault } ∷ [])) ∙ ap (λ (n : ℕ). (calls ++ piece.turns) ++ (record { name = name; at = n; asked = asked; gave = Err fault } ∷ [])) all;
       };
     }
 

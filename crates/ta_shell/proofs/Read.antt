@@ -1,6 +1,7 @@
 -- commands that read one file after the other
-use Rattle.ta_shell.proofs.Common.{◌≡◌, ◌∙◌, ◌≤◌, ◌⊎◌, Bor, List, [], ◌++◌, ℕ, Option, Some, Result, Ok, Err, refl, sym, ap, subst, inl, inr, append_assoc, take, append-nil, Call, Grew, Told, Answer, Refusal, Refused, ReadFailed, PutFailed, Memory, Decides, IsSo, JudgementHolds, Meaning, Says, PutsWithin, file_line, phrase_text, IsUnreadable, ReadsFile, Absent, Begins, View, in_files, seen, ReadingGoesOn, Hinders, FileIsAtFault, IsBroken, FileMeans, Kind, Stage, after, finds, replies, settles}
+use Rattle.ta_shell.proofs.Common.{◌≡◌, ◌∙◌, ◌≤◌, ◌⊎◌, Bor, List, [], ◌++◌, ℕ, Option, Some, Result, Ok, Err, refl, sym, ap, subst, inl, inr, append_assoc, take, append-nil, Call, Event, Grew, reads, Told, Answer, Refusal, Refused, ReadFailed, PutFailed, Memory, Decides, IsSo, JudgementHolds, Meaning, Says, PutsWithin, file_line, phrase_text, IsUnreadable, ReadsFile, Absent, Begins, View, in_files, seen, ReadingGoesOn, Hinders, FileIsAtFault, IsBroken, FileMeans, Kind, Stage, after, finds, replies, settles}
 use Rattle.ta_shell.specs.declared.phrase.Phrase.{Phrase}
+use Rattle.ta_shelf.proofs.CallLemmas.{reads-append}
 use Rattle.ta_shell.proofs.Views.{Monotone, Sub, begins_some, has_more, not_absent, not_longer, sub_told, sub_within, whole_one}
 
 unreadable_more : (v w : View) → Sub v w → (name : List ℕ) (limit : ℕ) (Such : List ℕ → Type 0) (words : List ℕ) → IsUnreadable v name limit Such words → IsUnreadable w name limit Such words
@@ -66,14 +67,14 @@ module _ {A F : Type 0} (kind : Kind A F) where
         }
 
       -- the same over logs
-      pub grew_then : (given : T) (result : Result Answer Refusal) (before middle last : List Call) → ((v : A) → (rest v).puts ≡ puts) → Grew (Stage kind value files name (Ok given)) before middle → Grew (Says (rest (value given)) files result) middle last → Grew (Says (after kind name puts rest) files result) before last
+      pub grew_then : (given : T) (result : Result Answer Refusal) (before middle last : List Event) → ((v : A) → (rest v).puts ≡ puts) → Grew (Stage kind value files name (Ok given)) before middle → Grew (Says (rest (value given)) files result) middle last → Grew (Says (after kind name puts rest) files result) before last
       grew_then given result before middle last same s r = record {
         added = s.added ++ r.added;
-        grown = r.grown ∙ ap (λ (calls : List Call). calls ++ r.added) s.grown ∙ append_assoc before s.added r.added;
+        grown = r.grown ∙ ap (λ (calls : List Event). calls ++ reads r.added) s.grown ∙ append_assoc before (reads s.added) (reads r.added) ∙ ap (λ (events : List Event). before ++ events) (sym (reads-append s.added r.added));
         such = stage_then given s.added r.added s.such result same r.such;
       }
 
-      pub grew_refused : (3 ≤ kind.limit.number) → (kind.limit.number ≤ 4) → (refusal : Refusal) (before last : List Call) → Grew (Stage {T = T} kind value files name (Err refusal)) before last → Grew (Says (after kind name puts rest) files (Err refusal)) before last
+      pub grew_refused : (3 ≤ kind.limit.number) → (kind.limit.number ≤ 4) → (refusal : Refusal) (before last : List Event) → Grew (Stage {T = T} kind value files name (Err refusal)) before last → Grew (Says (after kind name puts rest) files (Err refusal)) before last
       grew_refused three four refusal before last s = record { added = s.added; grown = s.grown; such = stage_refused three four refusal s.added s.such }
 
     module _ (told : Told) (fits : (bytes : List ℕ) (value : A) (fault : F) → kind.means bytes value → kind.at_fault bytes fault → ⊥) where
@@ -153,7 +154,7 @@ module _ {A : Type 0} (Is : A → Type 0) (Wrong : ℕ → List ℕ → Type 0) 
   pub finds_then : (files : Option Told) (v : A) (result : Result Answer Refusal) (calls : List Call) → Is v → ((w : A) → (rest w).puts ≡ puts) → Says (rest v) files result calls → Says (finds Is Wrong puts rest) files result calls
   finds_then files v result calls is same says = record { opened = inr (v, is, says.opened); judges = judged_found (seen files calls) v result is same says.judges }
 
-  pub grew_found : (files : Option Told) (v : A) (result : Result Answer Refusal) (before last : List Call) → Is v → ((w : A) → (rest w).puts ≡ puts) → Grew (Says (rest v) files result) before last → Grew (Says (finds Is Wrong puts rest) files result) before last
+  pub grew_found : (files : Option Told) (v : A) (result : Result Answer Refusal) (before last : List Event) → Is v → ((w : A) → (rest w).puts ≡ puts) → Grew (Says (rest v) files result) before last → Grew (Says (finds Is Wrong puts rest) files result) before last
   grew_found files v result before last is same h = record { added = h.added; grown = h.grown; such = finds_then files v result h.added is same h.such }
 
 -- told files leave one number where a meaning grows and leaves one
@@ -172,7 +173,7 @@ replies_one puts Such Other view same number other so so' = elim so [
 ]
 
 -- from the bytes of a file to what they mean
-module _ {A F T : Type 0} (kind : Kind A F) (value : T → A) (files : Option Told) (name : List ℕ) (before last : List Call) where
+module _ {A F T : Type 0} (kind : Kind A F) (value : T → A) (files : Option Told) (name : List ℕ) (before last : List Event) where
   -- of a kind that is read whole before it is judged
   whole_unreadable : ((bytes : List ℕ) → ReadingGoesOn kind bytes) → (view : View) (words : List ℕ) → IsUnreadable view name kind.limit.bytes (λ bytes. Unit {0}) words → IsUnreadable view name kind.limit.bytes (ReadingGoesOn kind) words
   whole_unreadable never view words h = elim h [
@@ -220,5 +221,5 @@ module _ {A F T : Type 0} (kind : Kind A F) (value : T → A) (files : Option To
     }
 
 -- nothing more is read
-pub grew_none : (m : Meaning) (files : Option Told) (result : Result Answer Refusal) (calls : List Call) → Says m files result [] → Grew (Says m files result) calls calls
+pub grew_none : (m : Meaning) (files : Option Told) (result : Result Answer Refusal) (calls : List Event) → Says m files result [] → Grew (Says m files result) calls calls
 grew_none m files result calls says = record { added = []; grown = sym (append-nil calls); such = says }

@@ -1,9 +1,23 @@
 -- what the calls of a reading give is seen in them and in the files
-use Rattle.ta_shell.proofs.Common.{List, [], ℕ, Option, None, Some, Result, Ok, Err, sym, subst, inl, inr, append-nil, Call, ReadsBy, Spells, bytes_given, Told, BeginsWith, GivesFirst, ReadsWhole, Missing, TooLong, Refusal, Refused, ReadFailed, PutFailed, Gives, IsReading, IsUnreadable, SaysOfFile, Absent, Begins, HasMore, Part, View, Whole, seen, where_told, Memory as NoMemory}
+use Rattle.ta_shell.proofs.Common.{◌≡◌, ◌∷◌, ◌∙◌, refl, ap, Event, Reads, Puts, reads, List, [], ℕ, Option, None, Some, Result, Ok, Err, sym, subst, inl, inr, append-nil, Call, ReadsBy, Spells, bytes_given, Told, BeginsWith, GivesFirst, ReadsWhole, Missing, TooLong, Refusal, Refused, ReadFailed, PutFailed, Gives, IsReading, IsUnreadable, SaysOfFile, Absent, Begins, HasMore, Part, View, Whole, seen, where_told, Memory as NoMemory}
 use Rattle.std.specs.Prelude.{IfSome}
 use Rattle.ta_shelf.specs.declared.fault.WholeFault.{WholeFault}
 use Rattle.ta_shelf.specs.declared.fault.WholeFault.TheVariants.{Failed, Memory}
 use Rattle.ta_shell.specs.declared.reading.Limit.{Limit}
+
+-- the calls that read, of a log
+abbrev reads_in : List Event → List Call
+reads_in [] = []
+reads_in (Reads call ∷ events) = call ∷ reads_in events
+reads_in (Puts put ∷ events) = reads_in events
+
+reads_in_reads : (calls : List Call) → reads_in (reads calls) ≡ calls
+reads_in_reads [] = refl
+reads_in_reads (call ∷ calls) = ap (λ (cs : List Call). call ∷ cs) (reads_in_reads calls)
+
+-- a log of calls that read tells which they are
+pub reads_same : (first second : List Call) → reads first ≡ reads second → first ≡ second
+reads_same first second same = sym (reads_in_reads first) ∙ ap reads_in same ∙ reads_in_reads second
 
 -- all calls are part of them
 all_of : (Such : List Call → Type 0) (calls : List Call) → Such calls → Part Such calls

@@ -1,6 +1,6 @@
 -- How a command ends, whichever it is (this project's profile)
-use Rattle.std.specs.Prelude.{ℕ, ◌≡◌, ◌≢◌, ◌<◌, ◌≤◌, ◌⊎◌, List, ◌++◌, codes, Contains, Option}
-use Rattle.ta_shelf.specs.Calls.{Call, Grew}
+use Rattle.std.specs.Prelude.{ℕ, ◌≡◌, ◌≢◌, ◌≤◌, ◌⊎◌, List, [], ◌++◌, codes, Contains, map, Option}
+use Rattle.ta_shelf.specs.Calls.{Call, Event, Put, puts, reads}
 use Rattle.ta_shelf.specs.Counts.{Faulted, Stalled}
 use Rattle.ta_shelf.specs.Put.{Told}
 use Rattle.ta_shelf.specs.Sink.{with_text}
@@ -8,13 +8,15 @@ use Rattle.ta_shelf.specs.WriteWhole.{AddsPrefix}
 use Rattle.ta_shell.specs.declared.answer.Answer.{Answer}
 use Rattle.ta_shell.specs.Commands.{AnswerHolds, Decides, Exact, Meaning}
 use Rattle.ta_shell.specs.Lines.{file_line, memory_line, output_line}
-use Rattle.ta_shell.specs.Puts.{KeptBut, Stand, StopAt}
+use Rattle.ta_shell.specs.declared.answer.Put as answer
+use Rattle.ta_shell.specs.Making.{Acts, AreStaging, PutWhole, StopsPublishing}
+use Rattle.ta_shell.specs.Puts.{KeptBut, Stand, StopAt, put_text}
 use Rattle.ta_shell.specs.Sights.{View, seen}
 
--- a shelf's files, the calls that read them so far, and its count of faults
+-- a shelf's files, the calls on it so far, and its count of faults
 pub record ShelfState : Type 0 where
   pub files : Option Told
-  pub calls : List Call
+  pub calls : List Event
   pub faults : ℕ
 
 -- what was written to a sink so far, and its counts of faults and of stalls
@@ -30,7 +32,7 @@ pub record State : Type 0 where
   pub err : SinkState
 
 -- the state of these
-abbrev pub state : Option Told → List Call → ℕ → Option (List ℕ) → ℕ → ℕ → Option (List ℕ) → ℕ → ℕ → State
+abbrev pub state : Option Told → List Event → ℕ → Option (List ℕ) → ℕ → ℕ → Option (List ℕ) → ℕ → ℕ → State
 state files calls faults written out_faults out_stalls told err_faults err_stalls = record {
   shelf = record { files = files; calls = calls; faults = faults };
   out = record { written = written; faults = out_faults; stalls = out_stalls };
@@ -50,91 +52,127 @@ pub record Tells (line : List ℕ) (before after : SinkState) : Type 0 where
   pub begun : AddsPrefix line before.written after.written
   pub whole : (after.written ≡ with_text before.written line) ⊎ SinkFaltered before after
 
--- an answer that holds: its files stand, and its text was written whole
-pub record IsAnswered (m : Meaning) (view : View) (number : ℕ) (before after : State) : Type 0 where
+-- no file was put in its place: each is as it was
+pub record Unstaged (names : List (List ℕ)) (before after : Option Told) (made : List Put) : Type 0 where
+  pub kept : after ≡ before
+  pub staging : AreStaging names made
+
+-- a text was written whole, and then files were put in their places up to that of a name
+pub record Unpublished (names : List (List ℕ)) (puts : List answer.Put) (name text : List ℕ) (before after : Option Told) (out out' : SinkState) (made : List Put) : Type 0 where
+  pub stopped : StopAt name puts before after
+  pub refused : StopsPublishing names made
+  pub written : out'.written ≡ with_text out.written text
+  pub calm : Calm out out'
+
+-- an answer that holds: its text was written whole, and its files stand
+pub record IsAnswered (m : Meaning) (view : View) (number : ℕ) (before after : State) (made : List Put) : Type 0 where
   pub answer : Answer
   pub holds : AnswerHolds m view answer
   pub numbered : number ≡ answer.number
   pub stand : Stand answer.puts before.shelf.files after.shelf.files
+  pub whole : PutWhole (map put_text answer.puts) made
   pub no_fault : after.shelf.faults ≡ before.shelf.faults
   pub written : after.out.written ≡ with_text before.out.written answer.text
   pub calm : Calm before.out after.out
   pub silent : after.err ≡ before.err
 
 -- something hinders, which the line says
-pub record IsHindered (m : Meaning) (view : View) (number : ℕ) (before after : State) : Type 0 where
+pub record IsHindered (m : Meaning) (view : View) (number : ℕ) (before after : State) (made : List Put) : Type 0 where
   pub three : 3 ≤ number
   pub four : number ≤ 4
   pub line : List ℕ
   pub holds : m.refuses view number line
   pub kept : after.shelf.files ≡ before.shelf.files
+  pub none : made ≡ []
   pub no_fault : after.shelf.faults ≡ before.shelf.faults
   pub nothing : after.out ≡ before.out
   pub told : Tells line before.err after.err
 
 -- the file of a name failed to be read
-pub record NotRead (m : Meaning) (view : View) (number : ℕ) (before after : State) : Type 0 where
+pub record NotRead (m : Meaning) (view : View) (number : ℕ) (before after : State) (made : List Put) : Type 0 where
   pub six : number ≡ 6
   pub name : List ℕ
   pub read : m.reads view name
   pub kept : after.shelf.files ≡ before.shelf.files
+  pub none : made ≡ []
   pub faulted : Faulted before.shelf.faults after.shelf.faults
   pub nothing : after.out ≡ before.out
   pub told : Tells (file_line name (codes "read failed")) before.err after.err
 
--- an answer that holds, whose files were put up to that of a name
-pub record PutsStop (m : Meaning) (view : View) (name : List ℕ) (before after : ShelfState) : Type 0 where
-  pub answer : Answer
-  pub holds : AnswerHolds m view answer
-  pub stopped : StopAt name answer.puts before.files after.files
-
--- the file of a name failed to be put
-pub record NotPut (m : Meaning) (view : View) (number : ℕ) (before after : State) : Type 0 where
+-- the file of a name failed to be begun, and nothing else was done
+pub record NotBegun (m : Meaning) (number : ℕ) (before after : State) (made : List Put) : Type 0 where
   pub six : number ≡ 6
   pub name : List ℕ
-  pub stopped : PutsStop m view name before.shelf after.shelf
+  pub among : Contains m.puts name
+  pub kept : after.shelf.files ≡ before.shelf.files
+  pub none : made ≡ []
   pub faulted : Faulted before.shelf.faults after.shelf.faults
   pub nothing : after.out ≡ before.out
   pub told : Tells (file_line name (codes "write failed")) before.err after.err
 
--- an answer that holds: its files stand, and its text was begun to be written
-pub record NotWritten (m : Meaning) (view : View) (number : ℕ) (before after : State) : Type 0 where
+-- the file of a name failed to be made, and the text was written all the same; or it failed to be put in its place behind the text
+pub record NotPut (m : Meaning) (view : View) (number : ℕ) (before after : State) (made : List Put) : Type 0 where
   pub six : number ≡ 6
   pub answer : Answer
   pub holds : AnswerHolds m view answer
-  pub stand : Stand answer.puts before.shelf.files after.shelf.files
+  pub name : List ℕ
+  pub among : Contains m.puts name
+  pub halted : (Unstaged m.puts before.shelf.files after.shelf.files made × Tells answer.text before.out after.out)
+      ⊎ Unpublished m.puts answer.puts name answer.text before.shelf.files after.shelf.files before.out after.out made
+  pub faulted : Faulted before.shelf.faults after.shelf.faults
+  pub told : Tells (file_line name (codes "write failed")) before.err after.err
+
+-- an answer that holds: its text was begun to be written, and every file is as it was
+pub record NotWritten (m : Meaning) (view : View) (number : ℕ) (before after : State) (made : List Put) : Type 0 where
+  pub six : number ≡ 6
+  pub answer : Answer
+  pub holds : AnswerHolds m view answer
+  pub unstaged : Unstaged m.puts before.shelf.files after.shelf.files made
   pub no_fault : after.shelf.faults ≡ before.shelf.faults
   pub begun : AddsPrefix answer.text before.out.written after.out.written
   pub failed : SinkFaltered before.out after.out
   pub told : Tells output_line before.err after.err
 
+-- an answer that holds, whose text was written whole, and whose files were put in their places up to that of a name
+pub record PutsStop (m : Meaning) (view : View) (before after : State) (made : List Put) : Type 0 where
+  pub answer : Answer
+  pub holds : AnswerHolds m view answer
+  pub name : List ℕ
+  pub stopped : Unpublished m.puts answer.puts name answer.text before.shelf.files after.shelf.files before.out after.out made
+
 -- there was no memory, to judge or to put a file; no call failed
-pub record OutOfMemory (m : Meaning) (view : View) (number : ℕ) (before after : State) : Type 0 where
+pub record OutOfMemory (m : Meaning) (view : View) (number : ℕ) (before after : State) (made : List Put) : Type 0 where
   pub seven : number ≡ 7
-  pub stopped : (after.shelf.files ≡ before.shelf.files) ⊎ ((name : List ℕ) × PutsStop m view name before.shelf after.shelf)
+  pub stopped : (Unstaged m.puts before.shelf.files after.shelf.files made × (after.out ≡ before.out)) ⊎ PutsStop m view before after made
   pub no_fault : after.shelf.faults ≡ before.shelf.faults
-  pub nothing : after.out ≡ before.out
   pub told : Tells memory_line before.err after.err
 
 -- one of these ends
-pub data End (m : Meaning) (view : View) (number : ℕ) (before after : State) : Type 0 where
-  Done : IsAnswered m view number before after → End m view number before after
-  Stopped : IsHindered m view number before after → End m view number before after
-  Unread : NotRead m view number before after → End m view number before after
-  Unput : NotPut m view number before after → End m view number before after
-  Unwritten : NotWritten m view number before after → End m view number before after
-  NoMemory : OutOfMemory m view number before after → End m view number before after
+pub data End (m : Meaning) (view : View) (number : ℕ) (before after : State) (made : List Put) : Type 0 where
+  Done : IsAnswered m view number before after made → End m view number before after made
+  Stopped : IsHindered m view number before after made → End m view number before after made
+  Unread : NotRead m view number before after made → End m view number before after made
+  Unbegun : NotBegun m number before after made → End m view number before after made
+  Unput : NotPut m view number before after made → End m view number before after made
+  Unwritten : NotWritten m view number before after made → End m view number before after made
+  NoMemory : OutOfMemory m view number before after made → End m view number before after made
 
--- how a command ends that says this, by what is seen in the calls that it makes and in the files
+-- how a command ends that says this, by what is seen in the calls that it makes and in the files: the files of its outputs are begun
+-- and let go again, then it reads, or is hindered from it, and then its files are put
 pub record Ends (m : Meaning) (number : ℕ) (before after : State) : Type 0 where
+  pub tried : List Put
   pub read : List Call
-  pub grown : after.shelf.calls ≡ before.shelf.calls ++ read
-  pub opened : m.opens read
-  pub end : End m (seen before.shelf.files read) number before after
+  pub made : List Put
+  pub grown : after.shelf.calls ≡ before.shelf.calls ++ (puts tried ++ (reads read ++ puts made))
+  pub tries : AreStaging m.puts tried
+  pub opened : m.opens read ⊎ (read ≡ [])
+  pub end : End m (seen before.shelf.files read) number before after made
 
--- nothing is written but with 0, 1, 2 and 6; no count rose with 0 to 5 and 7; and with 6 the shelf or the output failed or the output stood still
+-- nothing is written with 3, 4 and 5, and with 7 nothing or a whole text; no count rose with 0 to 5 and 7; and with 6 the shelf or the
+-- output failed or the output stood still
 pub record Quiet (number : ℕ) (before after : State) : Type 0 where
-  pub nothing_written : 2 < number → number ≢ 6 → after.out.written ≡ before.out.written
+  pub nothing_written : 3 ≤ number → number ≤ 5 → after.out.written ≡ before.out.written
+  pub memory : number ≡ 7 → (after.out.written ≡ before.out.written) ⊎ ((text : List ℕ) × (after.out.written ≡ with_text before.out.written text))
   pub shelf_kept : number ≢ 6 → after.shelf.faults ≡ before.shelf.faults
   pub out_calm : number ≢ 6 → Calm before.out after.out
   pub failed : number ≡ 6 → Faulted before.shelf.faults after.shelf.faults ⊎ SinkFaltered before.out after.out
@@ -144,27 +182,26 @@ abbrev pub FailureTold : Meaning → State → State → Type 0
 FailureTold m before after =
     (SinkFaltered before.out after.out × Tells output_line before.err after.err)
     ⊎ (Faulted before.shelf.faults after.shelf.faults
-    × (Grew (λ read. (name : List ℕ) × m.reads (seen before.shelf.files read) name × Tells (file_line name (codes "read failed")) before.err after.err) before.shelf.calls after.shelf.calls
+    × (Acts m.puts (λ read made. (made ≡ []) × (name : List ℕ) × m.reads (seen before.shelf.files read) name × Tells (file_line name (codes "read failed")) before.err after.err) before.shelf.calls after.shelf.calls
     ⊎ ((name : List ℕ) × Contains m.puts name × Tells (file_line name (codes "write failed")) before.err after.err)))
 
 -- nothing is told with 0, 1 and 2; with 3 and 4 what hinders; with 6 what failed; and with 7 that there was no memory
 pub record Telling (m : Meaning) (number : ℕ) (before after : State) : Type 0 where
   pub silent : number ≤ 2 → after.err ≡ before.err
-  pub hindered : 3 ≤ number → number ≤ 4 → Grew (λ read. (line : List ℕ) × m.refuses (seen before.shelf.files read) number line × Tells line before.err after.err) before.shelf.calls after.shelf.calls
+  pub hindered : 3 ≤ number → number ≤ 4 → Acts m.puts (λ read made. (made ≡ []) × (line : List ℕ) × m.refuses (seen before.shelf.files read) number line × Tells line before.err after.err) before.shelf.calls after.shelf.calls
   pub failed : number ≡ 6 → FailureTold m before after
   pub memory : number ≡ 7 → Tells memory_line before.err after.err
 
--- how a command ends, and what that says whichever it is: nothing else is written or told, no other file changes, and told files
--- leave one number
+-- where the number isn't that of an answer, every file is as it was, unless a publishing was refused
+abbrev pub Spares : List (List ℕ) → ℕ → ShelfState → ShelfState → Type 0
+Spares names number before after = 3 ≤ number → (after.files ≡ before.files) ⊎ Acts names (λ read made. StopsPublishing names made) before.calls after.calls
+
+-- how a command ends, and what that says whichever it is: nothing else is written or told, no other file changes, none does that isn't
+-- put whole, and told files leave one number
 pub record Performs (m : Meaning) (number : ℕ) (before after : State) : Type 0 where
   pub ends : Ends m number before after
   pub quiet : Quiet number before after
   pub telling : Telling m number before after
   pub kept : KeptBut m.puts before.shelf.files after.shelf.files
+  pub spared : Spares m.puts number before.shelf after.shelf
   pub exact : Decides m → Exact m before.shelf.files number
-
--- a text was written whole with its number; or in part, where the output failed
-abbrev pub Finishes : ℕ → List ℕ → ℕ → SinkState → SinkState → SinkState → SinkState → Type 0
-Finishes answered text number out out' err err' =
-    ((number ≡ answered) × (out'.written ≡ with_text out.written text) × Calm out out' × (err' ≡ err))
-    ⊎ ((number ≡ 6) × AddsPrefix text out.written out'.written × SinkFaltered out out' × Tells output_line err err')

@@ -1,8 +1,10 @@
 pub mod Sights
 pub mod Lines
 pub mod Puts
+pub mod Making
 pub mod Commands
 pub mod Reading
-pub mod Putting
 pub mod Ends
+pub mod Putting
+pub mod Finishing
 pub mod Stages

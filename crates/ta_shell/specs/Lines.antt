@@ -6,6 +6,8 @@ use Rattle.ta_shell.specs.declared.phrase.Piece.{Piece}
 use Rattle.ta_shell.specs.declared.phrase.Piece.TheVariants.{Words, Number}
 use Rattle.ta_shell.specs.declared.answer.Refusal.{Refusal}
 use Rattle.ta_shell.specs.declared.answer.Refusal.TheVariants.{Refused, ReadFailed, PutFailed, Memory}
+use Rattle.ta_shell.specs.declared.putting.Halt.{Halt}
+use Rattle.ta_shell.specs.declared.putting.Halt.TheVariants as halt
 
 -- a phrase in words
 abbrev pub phrase_text : Phrase → List ℕ
@@ -51,3 +53,15 @@ refusal_number (Refused number name why) = number
 refusal_number (ReadFailed name) = 6
 refusal_number (PutFailed name) = 6
 refusal_number Memory = 7
+
+-- the line of why files or a text weren't put
+abbrev pub halt_line : Halt → List ℕ
+halt_line halt.Unwritten = output_line
+halt_line (halt.Unput name) = file_line name.now (codes "write failed")
+halt_line halt.Memory = memory_line
+
+-- its number
+abbrev pub halt_number : Halt → ℕ
+halt_number halt.Unwritten = 6
+halt_number (halt.Unput name) = 6
+halt_number halt.Memory = 7

@@ -1,8 +1,9 @@
 -- The files that an answer puts on the shelf (this project's profile)
-use Rattle.std.specs.Prelude.{ℕ, ◌≡◌, ◌⊎◌, List, [], ◌∷◌, ◌++◌, Contains, Option, Some}
+use Rattle.std.specs.Prelude.{ℕ, ◌≡◌, ◌⊎◌, List, [], ◌∷◌, ◌++◌, Contains, map, Option, None, Some, option_map}
 use Rattle.ta_shelf.specs.Put.{OthersStay, Told, WhereTold}
 use Rattle.ta_shell.specs.declared.answer.Content.{Content}
 use Rattle.ta_shell.specs.declared.answer.Content.TheVariants.{Pieces, Bytes}
+use Rattle.ta_shell.specs.declared.answer.Outputs.{Outputs}
 use Rattle.ta_shell.specs.declared.answer.Put.{Put}
 use Rattle.std.specs.List.{concat}
 
@@ -15,6 +16,14 @@ content_bytes (Bytes bytes) = bytes
 abbrev pub put_bytes : Put → List ℕ
 put_bytes put = content_bytes put.content
 
+-- a file to be put: its name, and its text
+pub record PutText : Type 0 where
+  pub name : List ℕ
+  pub text : List ℕ
+
+abbrev pub put_text : Put → PutText
+put_text put = record { name = put.name; text = put_bytes put }
+
 -- the file of a name holds this text, and every other file is as it was
 pub record HoldsText (name text : List ℕ) (before after : Told) : Type 0 where
   pub held : after name ≡ Some text
@@ -24,17 +33,22 @@ pub record HoldsText (name text : List ℕ) (before after : Told) : Type 0 where
 abbrev pub HoldsPut : Put → Told → Told → Type 0
 HoldsPut put before after = HoldsText put.name (put_bytes put) before after
 
--- each stands, one after the other
+-- each stands: those behind the first were put in their places before it
 abbrev pub Stand : List Put → Option Told → Option Told → Type 0
 Stand [] before after = after ≡ before
-Stand (put ∷ puts) before after = (middle : Option Told) × WhereTold (HoldsPut put) before middle × Stand puts middle after
+Stand (put ∷ puts) before after = (middle : Option Told) × Stand puts before middle × WhereTold (HoldsPut put) middle after
 
--- those before the file of a name stand; that file may hold any bytes or be absent; every other file is as it was
+-- the file of a name holds what it held, or this text whole, and every other file is as it was
+pub record HoldsEither (name text : List ℕ) (before after : Told) : Type 0 where
+  pub either : (after name ≡ before name) ⊎ (after name ≡ Some text)
+  pub others : OthersStay name before after
+
+-- those behind the file of a name stand; that file holds what it held, or what was to be put; every other file is as it was
 abbrev pub StopAt : List ℕ → List Put → Option Told → Option Told → Type 0
 StopAt name [] before after = ⊥
 StopAt name (put ∷ puts) before after =
-    ((put.name ≡ name) × WhereTold (OthersStay name) before after)
-    ⊎ ((middle : Option Told) × WhereTold (HoldsPut put) before middle × StopAt name puts middle after)
+    StopAt name puts before after
+    ⊎ ((middle : Option Told) × Stand puts before middle × (put.name ≡ name) × WhereTold (HoldsEither put.name (put_bytes put)) middle after)
 
 -- the files that are put are among those of these names
 abbrev pub PutsWithin : List (List ℕ) → List Put → Type 0
@@ -46,3 +60,16 @@ abbrev pub KeptBut : List (List ℕ) → Option Told → Option Told → Type 0
 KeptBut [] before after = after ≡ before
 KeptBut (name ∷ names) before after =
     WhereTold (λ files files'. (other : List ℕ) → ¬ Contains (name ∷ names) other → files' other ≡ files other) before after
+
+-- the name, where one is given
+abbrev pub may_put : Option (List ℕ) → List (List ℕ)
+may_put None = []
+may_put (Some name) = name ∷ []
+
+-- the names of a command's outputs
+abbrev pub output_names : Outputs → List (List ℕ)
+output_names outputs = may_put (option_map (λ w. w.now) outputs.first) ++ may_put (option_map (λ w. w.now) outputs.second)
+
+-- the names of files that are put
+abbrev pub names_put : List Put → List (List ℕ)
+names_put puts = map (λ p. p.name) puts

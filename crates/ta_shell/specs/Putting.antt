@@ -1,34 +1,83 @@
 -- What putting files on the shelf answers (this project's profile)
-use Rattle.std.specs.Prelude.{ℕ, ◌≡◌, List, Option, Result, Ok, Err}
+use Rattle.std.specs.Prelude.{ℕ, ◌≡◌, ◌⊎◌, ◌∷◌, [], Contains, List, map, Option, Result, Ok, Err}
+use Rattle.ta_shelf.specs.Calls.{Put}
 use Rattle.ta_shelf.specs.Counts.{Faulted}
-use Rattle.ta_shelf.specs.Put.{OthersStay, Told, WhereTold}
+use Rattle.std.specs.List.{concat}
+use Rattle.ta_shelf.specs.Put.{Told, WhereTold}
+use Rattle.ta_shelf.specs.Sink.{with_text}
+use Rattle.ta_shelf.specs.Stage.{Stages, added, published}
+use Rattle.ta_shelf.specs.WriteWhole.{AddsPrefix}
+use Rattle.ta_shelf.specs.declared.entry.Step.{Step}
 use Rattle.ta_shelf.specs.declared.fault.PutFault.{PutFault}
-use Rattle.ta_shell.specs.declared.answer.Put.{Put}
+use Rattle.ta_shell.specs.declared.answer.Put as answer
 use Rattle.ta_shell.specs.declared.answer.Refusal.{Refusal}
 use Rattle.ta_shell.specs.declared.answer.Refusal.TheVariants.{Refused, ReadFailed, PutFailed, Memory}
-use Rattle.ta_shell.specs.Puts.{HoldsText, Stand, StopAt, put_bytes}
+use Rattle.ta_shell.specs.declared.putting.Halt.{Halt}
+use Rattle.ta_shell.specs.declared.putting.Halt.TheVariants as halt
+use Rattle.ta_shell.specs.Ends.{Calm, SinkFaltered, SinkState, Tells, Unpublished, Unstaged}
+use Rattle.ta_shell.specs.Making.{AreStaging, PutWhole}
+use Rattle.ta_shell.specs.Puts.{HoldsEither, HoldsText, Stand, names_put, put_text}
 
--- the file of a name holds this text; after a refusal it may hold any bytes or be absent, and every other file is as it was
-abbrev pub PutsText : Result (Unit {0}) PutFault → List ℕ → List ℕ → Option Told → Option Told → Type 0
-PutsText (Ok u) name text before after = WhereTold (HoldsText name text) before after
-PutsText (Err fault) name text before after = WhereTold (OthersStay name) before after
+-- that a file can't be begun is said of one of these names
+abbrev pub BeginRefuses : List (List ℕ) → Result (Unit {0}) Refusal → Type 0
+BeginRefuses names (Ok u) = Unit {0}
+BeginRefuses names (Err (Refused number name why)) = ⊥
+BeginRefuses names (Err (ReadFailed name)) = ⊥
+BeginRefuses names (Err (PutFailed name)) = Contains names name.now
+BeginRefuses names (Err Memory) = Unit {0}
 
--- the same of a file that is put
-abbrev pub Puts : Result (Unit {0}) PutFault → Put → Option Told → Option Told → Type 0
-Puts result put before after = PutsText result put.name (put_bytes put) before after
+-- a file failed to be begun only where the shelf is faulted; else its count is as it was
+abbrev pub BeginCause : Result (Unit {0}) Refusal → ℕ → ℕ → Type 0
+BeginCause (Ok u) before after = after ≡ before
+BeginCause (Err (Refused number name why)) before after = ⊥
+BeginCause (Err (ReadFailed name)) before after = ⊥
+BeginCause (Err (PutFailed name)) before after = Faulted before after
+BeginCause (Err Memory) before after = after ≡ before
 
--- all files stand, or those up to one
-abbrev pub PutsAll : Result (Unit {0}) Refusal → List Put → Option Told → Option Told → Type 0
-PutsAll (Ok u) puts before after = Stand puts before after
-PutsAll (Err (Refused number name why)) puts before after = ⊥
-PutsAll (Err (ReadFailed name)) puts before after = ⊥
-PutsAll (Err (PutFailed name)) puts before after = StopAt name.now puts before after
-PutsAll (Err Memory) puts before after = (name : List ℕ) × StopAt name puts before after
+-- a file in the making has these bytes; after a refusal no file is made
+abbrev pub StagesOr : {S : Type 0} → Result S PutFault → List ℕ → List ℕ → List Put → Type 0
+StagesOr (Ok stage) name bytes calls = Stages name bytes calls
+StagesOr (Err fault) name bytes calls = AreStaging (name ∷ []) calls
+
+-- these bytes were added in pieces, one behind the other; after a refusal no file is made
+abbrev pub AddsOr : Result (Unit {0}) PutFault → List ℕ → List ℕ → List Put → Type 0
+AddsOr (Ok u) name bytes calls = (pieces : List (List ℕ)) × (bytes ≡ concat pieces) × (calls ≡ added name pieces)
+AddsOr (Err fault) name bytes calls = AreStaging (name ∷ []) calls
+
+-- a text was written whole, or the output failed
+abbrev pub WritesText : Result (Unit {0}) Halt → List ℕ → SinkState → SinkState → Type 0
+WritesText (Ok u) text out out' = (out'.written ≡ with_text out.written text) × Calm out out'
+WritesText (Err halt.Unwritten) text out out' = AddsPrefix text out.written out'.written × SinkFaltered out out'
+WritesText (Err (halt.Unput name)) text out out' = ⊥
+WritesText (Err halt.Memory) text out out' = ⊥
+
+-- the file of a name holds these bytes; after a refusal those, or what it held
+pub record PublishRefused (name bytes : List ℕ) (files files' : Option Told) (made : List Put) : Type 0 where
+  pub why : PutFault
+  pub call : made ≡ record { name = name; step = Step.Publish; bytes = []; answer = Err why } ∷ []
+  pub held : WhereTold (HoldsEither name bytes) files files'
+
+abbrev pub PublishesOne : Result (Unit {0}) Halt → List ℕ → List ℕ → Option Told → Option Told → List Put → Type 0
+PublishesOne (Ok u) name bytes files files' made = WhereTold (HoldsText name bytes) files files' × (made ≡ published name ∷ [])
+PublishesOne (Err halt.Unwritten) name bytes files files' made = ⊥
+PublishesOne (Err (halt.Unput who)) name bytes files files' made = (who.now ≡ name) × PublishRefused name bytes files files' made
+PublishesOne (Err halt.Memory) name bytes files files' made = PublishRefused name bytes files files' made
+
+-- files stand, and a text was written whole, or not, by such calls
+abbrev pub Settled : List answer.Put → List ℕ → Result (Unit {0}) Halt → Option Told → Option Told → SinkState → SinkState → List Put → Type 0
+Settled puts text (Ok u) files files' out out' made = Stand puts files files' × PutWhole (map put_text puts) made × (out'.written ≡ with_text out.written text) × Calm out out'
+Settled puts text (Err halt.Unwritten) files files' out out' made = Unstaged (names_put puts) files files' made × AddsPrefix text out.written out'.written × SinkFaltered out out'
+Settled puts text (Err (halt.Unput name)) files files' out out' made =
+    Contains (names_put puts) name.now
+    × ((Unstaged (names_put puts) files files' made × Tells text out out')
+    ⊎ Unpublished (names_put puts) puts name.now text files files' out out' made)
+Settled puts text (Err halt.Memory) files files' out out' made =
+    (Unstaged (names_put puts) files files' made × (out' ≡ out))
+    ⊎ ((name : List ℕ) × Unpublished (names_put puts) puts name text files files' out out' made)
 
 -- a file failed to be put only where the shelf is faulted; else its count is as it was
-abbrev pub PutCause : Result (Unit {0}) Refusal → ℕ → ℕ → Type 0
-PutCause (Ok u) before after = after ≡ before
-PutCause (Err (Refused number name why)) before after = ⊥
-PutCause (Err (ReadFailed name)) before after = ⊥
-PutCause (Err (PutFailed name)) before after = Faulted before after
-PutCause (Err Memory) before after = after ≡ before
+abbrev pub SettledCause : Result (Unit {0}) Halt → ℕ → ℕ → Type 0
+SettledCause (Ok u) before after = after ≡ before
+SettledCause (Err halt.Unwritten) before after = after ≡ before
+SettledCause (Err (halt.Unput name)) before after = Faulted before after
+SettledCause (Err halt.Memory) before after = after ≡ before

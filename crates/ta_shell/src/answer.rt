@@ -1,7 +1,8 @@
 //! What a command answers.
 #![tactic(auto)]
 
-ghost use Rattle.std.specs.Prelude.{◌≡◌, ◌∷◌, [], IfOk};
+ghost use Rattle.std.specs.Prelude.{◌≡◌, ◌∷◌, [], IfOk, option_map};
+ghost use Rattle.ta_shell.specs.Puts.{may_put, output_names};
 ghost use Rattle.ta_shell.specs.Stages.{Writes};
 
 use crate::phrase::Phrase;
@@ -24,8 +25,37 @@ pub struct Put {
     pub content: Content,
 }
 
-/// A text, and the number that the process ends with once it is written; the files are put on the
-/// shelf before, in this order.
+/// The names of the files that a command may put on the shelf.
+#[derive(Clone, Copy, Debug, Drop)]
+pub struct Outputs<'a> {
+    pub first: Option<&'a str>,
+    pub second: Option<&'a str>,
+}
+
+impl<'a> Outputs<'a> {
+    /// None.
+    pub fn none() -> Outputs<'a>
+        ensures { output_names result ≡ [] }
+    {
+        Outputs {
+            first: None,
+            second: None,
+        }
+    }
+
+    /// One, where it is given.
+    pub fn one(name: Option<&'a str>) -> Outputs<'a>
+        ensures { output_names result ≡ may_put (option_map (λ w. w.now) name.entry) }
+    {
+        Outputs {
+            first: None,
+            second: name,
+        }
+    }
+}
+
+/// A text, and the number that the process ends with once it is written. The files are made before, and
+/// put in their places behind it, the last one first.
 #[derive(Drop)]
 pub struct Answer {
     pub number: u8,

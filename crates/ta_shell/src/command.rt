@@ -1,7 +1,7 @@
 //! Commands.
 #![tactic(auto)]
 
-use crate::answer::{Answer, Refusal};
+use crate::answer::{Answer, Outputs, Refusal};
 use std::alloc::Global;
 use std::thread::Threads;
 use ta_shelf::Shelf;
@@ -10,12 +10,17 @@ use ta_shelf::Shelf;
 pub trait Command {
     ghost use Rattle.std.specs.Prelude.{◌≡◌};
     ghost use Rattle.ta_shell.specs.Commands.{Meaning, Says};
+    ghost use Rattle.ta_shell.specs.Puts.{output_names};
     ghost use Rattle.ta_shell.specs.Reading.{ReadCause};
     ghost use Rattle.ta_shelf.specs.Calls.{Grew};
     ghost use denote.Param.Send.{IsSync};
 
     // what it says
     ghost meaning: { Self → Meaning };
+
+    /// The names of the files that it may put on the shelf.
+    fn outputs(&self) -> Outputs<'_>
+        ensures { output_names result ≡ (meaning self.now).puts };
 
     /// Reads what it needs, and answers. It puts nothing on the shelf.
     fn judge<R: Threads + Sync, S: Shelf>(

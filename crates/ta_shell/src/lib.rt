@@ -1,7 +1,8 @@
-//! How every command is done: judged, put on the shelf, written, told.
+//! How every command is done: its outputs begun, judged, made, its text written, its files published, told.
 #![tactic(auto)]
 
 mod answer;
+mod beginning;
 mod command;
 mod performing;
 mod phrase;
@@ -9,7 +10,7 @@ mod putting;
 mod reading;
 mod telling;
 
-pub use answer::{Answer, Content, Put, Refusal};
+pub use answer::{Answer, Content, Outputs, Put, Refusal};
 pub use command::Command;
 pub use performing::perform;
 pub use phrase::Phrase;

@@ -4,10 +4,11 @@
 ghost use Rattle.std.specs.Prelude.{◌≡◌};
 ghost use Rattle.ta_shelf.specs.WriteWhole.{AddsWhole, HasCause};
 ghost use Rattle.ta_shell.specs.Ends.{SinkState, Tells};
-ghost use Rattle.ta_shell.specs.Lines.{file_line, refusal_line, refusal_number, phrase_text, piece_text, pieces_text};
+ghost use Rattle.ta_shell.specs.Lines.{file_line, halt_line, halt_number, refusal_line, refusal_number, phrase_text, piece_text, pieces_text};
 
 use crate::answer::Refusal;
 use crate::phrase::{Phrase, Piece};
+use crate::putting::Halt;
 use itoa::Buffer;
 use ta_shelf::{Sink, SinkFault, write_whole};
 
@@ -39,6 +40,28 @@ pub(crate) fn tell_refusal<E: Sink>(refusal: &Refusal<'_>, err: &mut E) -> u8
             6
         }
         Refusal::Memory => {
+            tell_line(err, "tav: out of memory\n");
+            7
+        }
+    }
+}
+
+/// Tells why files or a text weren't put, and answers the number.
+pub(crate) fn tell_halt<E: Sink>(halt: &Halt<'_>, err: &mut E) -> u8
+    ensures number { result ≡ halt_number halt.now }
+    ensures told { Tells (halt_line halt.now) (record { written = E.written err.old; faults = E.faults err.old; stalls = E.stalls err.old })
+        (record { written = E.written err.new; faults = E.faults err.new; stalls = E.stalls err.new }) }
+{
+    match halt {
+        Halt::Unwritten => {
+            tell_line(err, "tav: output failed\n");
+            6
+        }
+        Halt::Unput { name } => {
+            tell_of_file(err, name, &Phrase::Plain("write failed"));
+            6
+        }
+        Halt::Memory => {
             tell_line(err, "tav: out of memory\n");
             7
         }

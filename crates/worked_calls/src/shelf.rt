@@ -165,6 +165,10 @@ fn fills_a_quiet_sink(rt: HostRuntime) -> Result<(), Fail> {
 enum Put {
     Create,
     Append(&'static [u8]),
+    /// Puts a file in the making in its place.
+    Whole(&'static [u8]),
+    /// Lets one go.
+    Dropped(&'static [u8]),
 }
 
 impl Put {
@@ -173,6 +177,17 @@ impl Put {
         match self {
             Put::Create => shelf.create(name),
             Put::Append(bytes) => shelf.append(name, bytes),
+            Put::Whole(bytes) => {
+                let mut stage = shelf.begin(name)?;
+                shelf.add(&mut stage, bytes)?;
+                shelf.publish(stage)
+            }
+            Put::Dropped(bytes) => {
+                let mut stage = shelf.begin(name)?;
+                shelf.add(&mut stage, bytes)?;
+                shelf.abandon(stage);
+                Ok(())
+            }
         }
     }
 }
@@ -221,6 +236,25 @@ const PUTS: &[(&str, Put, After)] = &[
             ("four", Some(b"abcd")),
         ],
     ),
+    (
+        "three",
+        Put::Whole(b"xy"),
+        &[
+            ("new", None),
+            ("three", Some(b"xy")),
+            ("four", Some(b"abcd")),
+        ],
+    ),
+    (
+        "new",
+        Put::Whole(b"xy"),
+        &[
+            ("new", Some(b"xy")),
+            ("three", Some(b"abc")),
+            ("four", Some(b"abcd")),
+        ],
+    ),
+    ("three", Put::Dropped(b"xy"), BEFORE),
 ];
 
 /// Whether a shelf has the files of these names, each with these bytes.
@@ -407,6 +441,8 @@ const GROWS: &[(Put, &[u8])] = &[
     (Put::Create, b""),
     (Put::Append(b"ab"), b"ab"),
     (Put::Append(b"cde"), b"abcde"),
+    (Put::Whole(b"xyz"), b"xyz"),
+    (Put::Dropped(b"uvw"), b"xyz"),
     (Put::Create, b""),
 ];
 

@@ -11,6 +11,8 @@ pub struct Noting<S: Shelf + Drop> {
 }
 
 impl<S: Shelf + Drop> Shelf for Noting<S> {
+    type Stage = S::Stage;
+
     ghost files = { λ s. S.files s.shelf };
 
     ghost faults = { λ s. S.faults s.shelf };
@@ -18,6 +20,10 @@ impl<S: Shelf + Drop> Shelf for Noting<S> {
     ghost calls = { λ s. S.calls s.shelf };
 
     ghost wants_memory = { S.wants_memory };
+
+    ghost stage_name = { S.stage_name };
+
+    ghost stage_bytes = { S.stage_bytes };
 
     fn read_at(&mut self, name: &str, at: u64, buf: &mut [u8]) -> Result<usize, ShelfFault> {
         let _ = write!(self.noted, " {name}:{at}");
@@ -30,5 +36,21 @@ impl<S: Shelf + Drop> Shelf for Noting<S> {
 
     fn append(&mut self, name: &str, bytes: &[u8]) -> Result<(), PutFault> {
         self.shelf.append(name, bytes)
+    }
+
+    fn begin(&mut self, name: &str) -> Result<S::Stage, PutFault> {
+        self.shelf.begin(name)
+    }
+
+    fn add(&mut self, stage: &mut S::Stage, bytes: &[u8]) -> Result<(), PutFault> {
+        self.shelf.add(stage, bytes)
+    }
+
+    fn publish(&mut self, stage: S::Stage) -> Result<(), PutFault> {
+        self.shelf.publish(stage)
+    }
+
+    fn abandon(&mut self, stage: S::Stage) {
+        self.shelf.abandon(stage);
     }
 }

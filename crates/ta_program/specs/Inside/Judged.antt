@@ -8,7 +8,7 @@ use Rattle.ta_check.specs.Checkers.{CheckerStandsFor, subject_of}
 use Rattle.ta_check.specs.Faults.{IsLastingFor}
 use Rattle.ta_check.specs.Subjects.{Subject}
 use Rattle.ta_report.specs.Faults.{cert_fault_text}
-use Rattle.ta_shelf.specs.Calls.{Call, Grew, ReadsFirst, Spells}
+use Rattle.ta_shelf.specs.Calls.{Call, Event, Grew, ReadsFirst, Spells}
 use Rattle.ta_shelf.specs.Put.{Told}
 use Rattle.ta_shell.specs.declared.answer.Refusal.{Refusal}
 use Rattle.ta_shell.specs.declared.answer.Refusal.TheVariants.{Memory}
@@ -25,7 +25,7 @@ RefusedBy name fault.Memory refusal = refusal ≡ Memory
 RefusedBy name f refusal = SaysOfFile CERTIFICATE name (cert_fault_text f) refusal
 
 -- the calls so far read this text, with which the told file begins, and the checker stands for it
-pub record JudgedTo (files : Option Told) (name : List ℕ) (first now : List Call) (checker : Checker) (text : List ℕ) : Type 0 where
+pub record JudgedTo (files : Option Told) (name : List ℕ) (first now : List Event) (checker : Checker) (text : List ℕ) : Type 0 where
   pub calls : Grew (λ read. ReadsFirst name read text) first now
   pub there : 0 < length text → where_told files name (Begins text)
   pub stands : CheckerStandsFor checker text
@@ -48,7 +48,7 @@ JudgingGives subject files name (Ok checker) calls = JudgedWhole files name chec
 JudgingGives subject files name (Err refusal) calls = IsUnproved subject files name refusal calls
 
 -- what judging one piece gives, which begins at an offset: the offset behind it, or that the file ended
-abbrev pub Turn : Subject → Option Told → List ℕ → ℕ → List Call → List Call → Checker → Result (Option ℕ) Refusal → Type 0
+abbrev pub Turn : Subject → Option Told → List ℕ → ℕ → List Event → List Event → Checker → Result (Option ℕ) Refusal → Type 0
 Turn subject files name at first now checker (Ok (Some next)) = (at < next) × (text : List ℕ) × (next ≡ length text) × JudgedTo files name first now checker text
 Turn subject files name at first now checker (Ok None) = Grew (JudgedWhole files name checker) first now
 Turn subject files name at first now checker (Err refusal) = Grew (IsUnproved subject files name refusal) first now

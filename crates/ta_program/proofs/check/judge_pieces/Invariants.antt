@@ -1,8 +1,8 @@
-use Rattle.ta_program.proofs.Common.{◌≡◌, ◌-◌, ℕ, List, Option, length, Checker, subject_of, Subject, Call, Told, JudgedTo}
+use Rattle.ta_program.proofs.Common.{◌≡◌, ◌-◌, ℕ, List, Option, length, Checker, subject_of, Subject, Event, Told, JudgedTo}
 use Rattle.ta_program.proofs.check.judge_pieces.Given as goal
 
 -- the pieces so far are judged
-pub record SoFar (subject : Subject) (files now : Option Told) (name : List ℕ) (first calls : List Call) (before after at : ℕ) (checker : Checker) : Type 0 where
+pub record SoFar (subject : Subject) (files now : Option Told) (name : List ℕ) (first calls : List Event) (before after at : ℕ) (checker : Checker) : Type 0 where
   pub text : List ℕ
   pub judged : JudgedTo files name first calls checker text
   pub place : at ≡ length text

@@ -1,5 +1,5 @@
 use Rattle.ta_program.proofs.Common.{◌≡◌, true, false, arith, refl, map, state, request_of}
-use Rattle.ta_program.proofs.Clauses.{number_by, admitting, benches, certificate_written, check_proves, exactly_so, exports, keeps_files, printed_holds, quiet, replay_shows, rest_proves, rests_report, run_shortens, searches, verify_reports, status_tells}
+use Rattle.ta_program.proofs.Clauses.{number_by, admitting, benches, certificate_written, check_proves, exactly_so, exports, keeps_files, opens, printed_holds, quiet, replay_shows, rest_proves, rests_report, run_shortens, searches, verify_reports, status_tells}
 use Rattle.ta_program.proofs.Complete.{completes}
 use Rattle.ta_program.proofs.running.run.Goals as goal
 
@@ -57,3 +57,6 @@ returns-clause-refused g c = quiet (request_of (map (λ w. w.now) c.args.words.n
 
 pub returns-clause-complete : goal.returns-clause-complete
 returns-clause-complete g c = completes (map (λ w. w.now) c.args.words.now) c.obey.result (state (g.S.Shelf.files c.args.shelf.now) (g.S.Shelf.calls c.args.shelf.now) (g.S.Shelf.faults c.args.shelf.now) (g.O.Sink.written c.args.out.now) (g.O.Sink.faults c.args.out.now) (g.O.Sink.stalls c.args.out.now) (g.E.Sink.written c.args.err.now) (g.E.Sink.faults c.args.err.now) (g.E.Sink.stalls c.args.err.now)) (state (g.S.Shelf.files c.obey.new.shelf) (g.S.Shelf.calls c.obey.new.shelf) (g.S.Shelf.faults c.obey.new.shelf) (g.O.Sink.written c.obey.new.out) (g.O.Sink.faults c.obey.new.out) (g.O.Sink.stalls c.obey.new.out) (g.E.Sink.written c.obey.new.err) (g.E.Sink.faults c.obey.new.err) (g.E.Sink.stalls c.obey.new.err)) c.obey.ensures
+
+pub returns-clause-opened : goal.returns-clause-opened
+returns-clause-opened g c = opens (request_of (map (λ w. w.now) c.args.words.now)) c.obey.result (state (g.S.Shelf.files c.args.shelf.now) (g.S.Shelf.calls c.args.shelf.now) (g.S.Shelf.faults c.args.shelf.now) (g.O.Sink.written c.args.out.now) (g.O.Sink.faults c.args.out.now) (g.O.Sink.stalls c.args.out.now) (g.E.Sink.written c.args.err.now) (g.E.Sink.faults c.args.err.now) (g.E.Sink.stalls c.args.err.now)) (state (g.S.Shelf.files c.obey.new.shelf) (g.S.Shelf.calls c.obey.new.shelf) (g.S.Shelf.faults c.obey.new.shelf) (g.O.Sink.written c.obey.new.out) (g.O.Sink.faults c.obey.new.out) (g.O.Sink.stalls c.obey.new.out) (g.E.Sink.written c.obey.new.err) (g.E.Sink.faults c.obey.new.err) (g.E.Sink.stalls c.obey.new.err)) c.obey.ensures

@@ -1,40 +1,56 @@
-use Rattle.std.proofs.Common.{◌∙◌, refl}
+use Rattle.ta_shell.proofs.Common.{◌≡◌, ◌∙◌, ◌++◌, [], List, Event, PutCall, puts, reads, refl, sym, ap, subst, inl, inr, append_assoc, append-nil, ℕ, Option, Err, Told, Answer, ReadCause, JudgementHolds, seen, BeginRefuses}
 use Rattle.ta_shell.proofs.Clauses.{performs}
-use Rattle.ta_shell.proofs.Ended.{finished, not_put, refused}
+use Rattle.ta_shell.proofs.Ended.{not_begun, refused, settled}
 use Rattle.ta_shell.proofs.performing.perform.Goals as goal
 
-pub returns-in-Ok-put_all : goal.returns-in-Ok-put_all
-returns-in-Ok-put_all g c =
-    let says = c.in-Ok.ensures.says in
-    performs _ c.write_answer.result _ _ (record {
+-- a log that grew by tries, by reads, and by what was made
+grown_by : (first second third fourth : List Event) (tried : List PutCall) (read made : List Event) → second ≡ first ++ puts tried → third ≡ second ++ read → fourth ≡ third ++ made → fourth ≡ first ++ (puts tried ++ (read ++ made))
+grown_by first second third fourth tried read made one two three =
+    three ∙ ap (λ (events : List Event). events ++ made) (two ∙ ap (λ (events : List Event). events ++ read) one) ∙ append_assoc (first ++ puts tried) read made ∙ append_assoc first (puts tried) (read ++ made)
+
+pub returns-in-Ok-judge : goal.returns-in-Ok-judge
+returns-in-Ok-judge g c =
+    let tried = c.in-Ok.ensures.log in
+    let says = c.in-Ok-judge.ensures.says in
+    let done = c.finish.ensures in
+    performs _ c.finish.result _ _ (record {
+      tried = tried.made;
       read = says.added;
-      grown = c.in-Ok-put_all.ensures.log ∙ says.grown;
-      opened = says.such.opened;
-      end = finished _ _ c.in-Ok.answer c.write_answer.result _ _ says.such.judges
-          (rw (← c.in-Ok.ensures.kept) (rw c.as_slice.ensures at c.in-Ok-put_all.ensures.puts))
-          (c.in-Ok-put_all.ensures.cause ∙ c.in-Ok.ensures.cause) c.write_answer.ensures;
+      made = done.settled.made;
+      grown = grown_by _ _ _ _ tried.made (reads says.added) (puts done.settled.made) tried.grown says.grown done.settled.grown;
+      tries = rw c.outputs.ensures at tried.such;
+      opened = inl says.such.opened;
+      end = settled _ _ c.in-Ok-judge.answer (rw c.in-Ok.ensures.kept at says.such.judges) c.finish.result _ _ done.settled.made done.result
+          (rw (c.in-Ok-judge.ensures.kept, c.in-Ok.ensures.kept) at done.settled.such)
+          (rw (c.in-Ok-judge.ensures.cause, c.in-Ok.ensures.cause) at done.cause) done.told;
     })
 
-pub returns-in-Ok : goal.returns-in-Ok
-returns-in-Ok g c =
-    let says = c.in-Ok.ensures.says in
+pub returns-in-Err-judge : goal.returns-in-Err-judge
+returns-in-Err-judge g c =
+    let tried = c.in-Ok.ensures.log in
+    let says = c.in-Err-judge.ensures.says in
     performs _ c.tell_refusal.result _ _ (record {
+      tried = tried.made;
       read = says.added;
-      grown = c.in-Err-put_all.ensures.log ∙ says.grown;
-      opened = says.such.opened;
-      end = not_put _ _ c.in-Ok.answer c.in-Err-put_all.refusal c.tell_refusal.result _ _ says.such.judges
-          (rw (← c.in-Ok.ensures.kept) (rw c.as_slice.ensures at c.in-Err-put_all.ensures.puts))
-          (rw (← c.in-Ok.ensures.cause) c.in-Err-put_all.ensures.cause)
+      made = [];
+      grown = grown_by _ _ _ _ tried.made (reads says.added) [] tried.grown says.grown (sym (append-nil _));
+      tries = rw c.outputs.ensures at tried.such;
+      opened = inl says.such.opened;
+      end = refused _ _ c.in-Err-judge.refusal c.tell_refusal.result _ _ (subst (λ (o : Option Told). JudgementHolds (g.C.Command.meaning c.args.command.now) (seen o says.added) (Err c.in-Err-judge.refusal)) c.in-Ok.ensures.kept says.such.judges)
+          (subst (λ (n : ℕ). ReadCause {T = Answer} (Err c.in-Err-judge.refusal) n (g.S.Shelf.faults c.judge.new.shelf)) c.in-Ok.ensures.cause c.in-Err-judge.ensures.cause) (c.in-Err-judge.ensures.kept ∙ c.in-Ok.ensures.kept)
           (record { numbered = c.tell_refusal.ensures.number; nothing = refl; told = c.tell_refusal.ensures.told });
     })
 
-pub returns : goal.returns
-returns g c =
-    let says = c.in-Err.ensures.says in
+pub returns-in-Err : goal.returns-in-Err
+returns-in-Err g c =
+    let tried = c.in-Err.ensures.log in
     performs _ c.tell_refusal-in-Err.result _ _ (record {
-      read = says.added;
-      grown = says.grown;
-      opened = says.such.opened;
-      end = refused _ _ c.in-Err.refusal c.tell_refusal-in-Err.result _ _ says.such.judges c.in-Err.ensures.cause c.in-Err.ensures.kept
+      tried = tried.made;
+      read = [];
+      made = [];
+      grown = tried.grown ∙ ap (λ (events : List Event). g.S.Shelf.calls c.args.shelf.now ++ events) (sym (append-nil (puts tried.made)));
+      tries = rw c.outputs.ensures at tried.such;
+      opened = inr refl;
+      end = not_begun _ _ c.in-Err.refusal c.tell_refusal-in-Err.result _ _ (subst (λ (names : List (List ℕ)). BeginRefuses names (Err c.in-Err.refusal)) c.outputs.ensures c.in-Err.ensures.refuses) c.in-Err.ensures.cause c.in-Err.ensures.kept
           (record { numbered = c.tell_refusal-in-Err.ensures.number; nothing = refl; told = c.tell_refusal-in-Err.ensures.told });
     })

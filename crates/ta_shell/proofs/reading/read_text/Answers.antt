@@ -1,10 +1,10 @@
-use Rattle.ta_shell.proofs.Common.{◌≡◌, ◌∙◌, ◌++◌, List, Err, Ok, inl, inr, refl, subst, sym, append_cancel_left, IfSome, Call, GivesFirst, Missing, TooLong, longer_than, missing, seen}
-use Rattle.ta_shell.proofs.ReadCalls.{gives_refusal, is_reading, sees_absent, sees_more, sees_whole}
+use Rattle.ta_shell.proofs.Common.{◌≡◌, ◌∙◌, ◌++◌, List, Err, Ok, inl, inr, refl, subst, sym, append_cancel_left, IfSome, Call, Event, reads, GivesFirst, Missing, TooLong, longer_than, missing, seen}
+use Rattle.ta_shell.proofs.ReadCalls.{reads_same, gives_refusal, is_reading, sees_absent, sees_more, sees_whole}
 use Rattle.ta_shell.proofs.reading.read_text.Goals as goal
 
 -- a log grew by one list of calls
-same_added : (before after first second : List Call) → after ≡ before ++ first → after ≡ before ++ second → first ≡ second
-same_added before after first second one other = append_cancel_left before first second (sym one ∙ other)
+same_added : (before after : List Event) (first second : List Call) → after ≡ before ++ reads first → after ≡ before ++ reads second → first ≡ second
+same_added before after first second one other = reads_same first second (append_cancel_left before (reads first) (reads second) (sym one ∙ other))
 
 pub returns-in-Ok-clause-reads : goal.returns-in-Ok-clause-reads
 returns-in-Ok-clause-reads g c =
