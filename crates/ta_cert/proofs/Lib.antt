@@ -1,12 +1,12 @@
--- lemmas for the crates above
-pub mod Standing
-pub mod Unique
+-- lemmas of this crate
+pub mod Parsing
+pub mod LinesRead
+pub mod Streaming
+pub mod Written
 pub mod CertLines
 pub mod Writing
-mod Fields
-mod Meanings
-mod Pairs
-mod Exact
-mod Reading
-mod CertAnswers
+pub mod Examples
+pub mod Relations
+pub mod Exact
+pub mod Unique
 mod Common

@@ -11,12 +11,13 @@
 -- so there is none, and the pattern is safe (`certificates_show`).
 -- The other way, the lines of a certificate follow each other, whoever wrote it (`lines_of`): the standing is computed
 -- from the lines alone, and only a number that leaves the range, or memory, can stop the checker before its end.
-use Rattle.ta_check.proofs.Common.{◌≡◌, inl, inr, ℕ, zero, suc, ◌≤◌, List, [], ◌∷◌, ◌++◌, map, length, reverse, Some, slice_get, arith, sym, ap, ◌∙◌, refl, subst, append-nil, codes, lit<, lit≤, false≢true, reverse-reverse, AllByRecursion, File, Pattern, Distinct, Line, Node, Order, Tree, IsVersion, line_text, cert_lines_text, AreLater, IsComplete, line_limit, AreOrders, cert_lines, order_lines, pair_of, proof_lines, proofs_of, version_of, AreShort, Good, Search, weaker_proof, IsJudged, MayClaim, search_for, Claim, Safe, RestSafe, ComesLast, HasVersion, Subject, claiming, AllClaimsHold, AllSafe, AllUnsolved, Certificate, CertificateFor, CertificatesShow, ClaimsHold, MayClaimAll, MayHave, PatternUnsolved, ProvesClaim, ProvesPattern, ShowsPair, proof_number, Standing, OpensCertificate, first_standing, LeadThrough, MayFollow, In, each_all}
-use Rattle.std.proofs.lemmas.Fmt.{decimal_digit}
+use Rattle.ta_check.proofs.Common.{◌≡◌, inl, inr, ℕ, zero, suc, ◌≤◌, List, [], ◌∷◌, ◌++◌, map, length, reverse, Some, slice_get, arith, sym, ap, ◌∙◌, refl, subst, append-nil, lit≤, false≢true, reverse-reverse, AllByRecursion, File, Pattern, Distinct, Line, Node, Order, Tree, IsVersion, line_text, cert_lines_text, AreLater, IsComplete, line_limit, AreOrders, cert_lines, order_lines, pair_of, proof_lines, proofs_of, version_of, AreShort, Good, Search, weaker_proof, IsJudged, MayClaim, search_for, Claim, Safe, RestSafe, ComesLast, HasVersion, Subject, claiming, AllClaimsHold, AllSafe, AllUnsolved, Certificate, CertificateFor, CertificatesShow, ClaimsHold, MayClaimAll, MayHave, PatternUnsolved, ProvesClaim, ProvesPattern, ShowsPair, proof_number, Standing, OpensCertificate, first_standing, LeadThrough, MayFollow, In, each_all, read_complete}
 use Rattle.ta_rest.proofs.Resting.{no_pairs_good}
+use Rattle.std.proofs.lemmas.Bool.{cases_order}
 use Rattle.ta_automaton.specs.Runs.{InScope, LoopsPure}
 use Rattle.ta_cert.specs.declared.line.Line.TheVariants as line
-use Rattle.ta_cert.proofs.CertLines.{cert_complete}
+use Rattle.ta_cert.proofs.CertLines.{cert_read}
+use Rattle.ta_cert.proofs.Written.{header_short}
 use Rattle.ta_encode.specs.Refutes.{IsLeaf, ProofBy}
 use Rattle.ta_encode.proofs.Theorems.{no_solution, runs}
 use Rattle.ta_claim.proofs.ClaimsShown.{proofs_show}
@@ -127,10 +128,18 @@ short_later [] later = tt
 short_later (l ∷ ls) later = (later.1, short_later ls later.4)
 
 -- the version is that of the pairs
-version_same : (version : ℕ) (orders : List Order) → IsVersion version → (version ≡ 2 → map pair_of orders ≡ [] → ⊥) → ((orders ≡ [] → ⊥) → version ≡ 2) → version ≡ version_of orders
-version_same version [] (inl one) some second = one
-version_same version [] (inr two) some second = absurd (some two refl)
-version_same version (o ∷ os) is some second = second (λ e. cc)
+version_same : (version : ℕ) (orders : List Order) → IsVersion version → version ≤ 2 → (version ≡ 2 → map pair_of orders ≡ [] → ⊥) → ((orders ≡ [] → ⊥) → version ≡ 2) → version ≡ version_of orders
+version_same version [] is most some second = elim (cases_order version 2) [
+  | inl two ↦ absurd (some two refl)
+  | inr (inl less) ↦ (let low = is.0 in omega arith)
+  | inr (inr more) ↦ absurd (omega arith)
+]
+version_same version (o ∷ os) is most some second = second (λ e. cc)
+
+-- a version that a certificate may have is at most 2
+few_versions : (claim : Claim) (version : ℕ) → HasVersion claim version → version ≤ 2
+few_versions Safe version has = has
+few_versions RestSafe version has = let one : version ≡ 1 = has in omega arith
 
 -- a version that a certificate may have allows its pairs
 may_have : (claim : Claim) (version : ℕ) (orders : List Order) → HasVersion claim version → ((orders ≡ [] → ⊥) → version ≡ 2) → AreOrders orders → MayHave claim orders
@@ -146,7 +155,7 @@ certificate_behind subject text version ls s has is fits later written h =
     let proofs : h.rest ≡ proof_lines (proofs_of b.proofs) = b.lines ∙ ap (λ (ns : List Node). map line.Tree ns ++ proof_lines (proofs_of b.proofs)) none in
     let lines : ls ≡ order_lines h.orders ++ proof_lines (proofs_of b.proofs) = h.lines ∙ ap (λ (xs : List Line). order_lines h.orders ++ xs) proofs in
     let named : reverse s.begun ≡ map proof_number b.proofs = ap reverse (b.begun ∙ append-nil (reverse (map proof_number b.proofs))) ∙ reverse-reverse (map proof_number b.proofs) in
-    let same = version_same version h.orders is h.some h.second in
+    let same = version_same version h.orders is (few_versions subject.claim version has) h.some h.second in
     let all : (line.Header version ∷ ls) ≡ cert_lines h.orders (proofs_of b.proofs) = ap (λ (xs : List Line). line.Header version ∷ xs) lines ∙ ap (λ (v : ℕ). line.Header v ∷ (order_lines h.orders ++ proof_lines (proofs_of b.proofs))) same in
     record {
       orders = h.orders;
@@ -162,15 +171,9 @@ certificate_behind subject text version ls s has is fits later written h =
       distinct = subst (λ (ks : List ℕ). Distinct ks) (sym named) b.distinct;
     }
 
--- a first line is short
-version_short : (version : ℕ) → IsVersion version → length (line_text (line.Header version)) ≤ line_limit
-version_short version (inl one) = subst (λ (v : ℕ). length (line_text (line.Header v)) ≤ line_limit) (sym one) (subst (λ (xs : List ℕ). length (codes "threshold-certificate " ++ xs) ≤ line_limit) (sym (decimal_digit 1 (lit< tt))) (lit≤ tt))
-version_short version (inr two) = subst (λ (v : ℕ). length (line_text (line.Header v)) ≤ line_limit) (sym two) (subst (λ (xs : List ℕ). length (codes "threshold-certificate " ++ xs) ≤ line_limit) (sym (decimal_digit 2 (lit< tt))) (lit≤ tt))
-
 -- a complete text whose lines may follow each other is a certificate of the patterns that began
 pub certificate_of : (subject : Subject) (text : List ℕ) (ls : List Line) (s : Standing) → IsComplete text ls → LeadThrough subject first_standing ls s → CertificateFor subject text (reverse s.begun)
 certificate_of subject text [] s complete lead = absurd (false≢true complete.ended)
-certificate_of subject text (line.Order j i ∷ ls) s complete lead = absurd (false≢true complete.reads.legal.0.1)
 certificate_of subject text (line.Pattern k ∷ ls) s complete lead = absurd (false≢true complete.reads.legal.0.1)
 certificate_of subject text (line.Tree n ∷ ls) s complete lead = absurd (false≢true complete.reads.legal.0.1)
 certificate_of subject text (line.End ∷ ls) s complete lead = absurd (false≢true complete.reads.legal.0.1)
@@ -178,7 +181,7 @@ certificate_of subject text (line.Header version ∷ ls) s complete lead =
     let form : IsVersion version = complete.reads.legal.0.0 in
     let later = complete.reads.legal.1 in
     let through : LeadThrough subject (standing version [] [] []) ls s = subst (λ (t : Standing). LeadThrough subject t ls s) lead.1.leads lead.2 in
-    certificate_behind subject text version ls s lead.1.has form (version_short version form) later (complete.reads.whole ∙ append-nil (cert_lines_text (line.Header version ∷ ls))) (heads subject version [] ls s later complete.ended through)
+    certificate_behind subject text version ls s lead.1.has form (header_short (line.Header version) form refl) later (complete.reads.whole ∙ append-nil (cert_lines_text (line.Header version ∷ ls))) (heads subject version [] ls s later complete.ended through)
 
 -- the lines behind the first one lead to the end
 lead_all : (subject : Subject) (orders : List Order) (proofs : List (ℕ × List Tree)) → Good subject.file.automaton (map pair_of orders) → AllByRecursion (ShowsPair subject.file.automaton) orders → AllByRecursion (ProvesClaim subject (map pair_of orders)) proofs → Distinct (map proof_number proofs) → (after : Standing) × LeadThrough subject (standing (version_of orders) [] [] []) (order_lines orders ++ proof_lines (proofs_of proofs)) after
@@ -192,7 +195,8 @@ have_orders RestSafe [] have = tt
 have_orders RestSafe (o ∷ os) have = absurd (cc)
 
 have_version : (claim : Claim) (orders : List Order) → MayHave claim orders → HasVersion claim (version_of orders)
-have_version Safe orders have = tt
+have_version Safe [] have = lit≤ tt
+have_version Safe (o ∷ os) have = lit≤ tt
 have_version RestSafe [] have = refl
 have_version RestSafe (o ∷ os) have = absurd (cc)
 
@@ -203,4 +207,4 @@ lines_of subject text numbers c =
     let distinct = subst (λ (ks : List ℕ). Distinct ks) c.named c.distinct in
     let lead = lead_all subject c.orders c.proofs c.good c.shown c.prove distinct in
     let opens : OpensCertificate subject first_standing (version_of c.orders) (standing (version_of c.orders) [] [] []) = record { has = have_version subject.claim c.orders c.ordered; leads = refl } in
-    (ls, subst (λ (t : List ℕ). IsComplete t ls) (sym c.written) (cert_complete c.orders (proofs_of c.proofs) (have_orders subject.claim c.orders c.ordered) c.legal c.short), (lead.0, (standing (version_of c.orders) [] [] [], opens, lead.1)))
+    (ls, subst (λ (t : List ℕ). IsComplete t ls) (sym c.written) (read_complete _ ls (cert_read c.orders (proofs_of c.proofs) (have_orders subject.claim c.orders c.ordered) c.legal c.short)), (lead.0, (standing (version_of c.orders) [] [] [], opens, lead.1)))

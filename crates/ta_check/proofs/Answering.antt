@@ -4,7 +4,7 @@ use Rattle.ta_cert.specs.declared.fault.CertFault.TheVariants as fault
 use Rattle.ta_check.specs.declared.checker.Checker.{Checker}
 use Rattle.ta_check.proofs.OneFault.{one_fault}
 use Rattle.ta_check.proofs.Refusing.{no_certificate}
-use Rattle.ta_check.proofs.Pieces.{end_fails}
+use Rattle.ta_check.proofs.Pieces.{end_fails, memory_or_not}
 use Rattle.ta_check.proofs.Stopping.{read_breaks, line_or_text}
 
 abbrev Accepts : Subject → List ℕ → Result Accepted CertFault → Type 0
@@ -17,23 +17,6 @@ Faults subject text answer = IfErr answer (λ f. f ≢ fault.Memory → IsFirstF
 pub refused_answer : (subject : Subject) (text : List ℕ) (answer : Result Accepted CertFault) → Faults subject text answer → IfErr answer (λ f. f ≢ fault.Memory → (numbers : List ℕ) → ¬ CertificateFor subject text numbers)
 refused_answer subject text (Ok accepted) h = tt
 refused_answer subject text (Err f) h = λ other. no_certificate subject text f (h other)
-
--- whether a fault is want of memory
-memory_or_not : (f : CertFault) → (f ≡ fault.Memory) ⊎ (f ≢ fault.Memory)
-memory_or_not fault.Memory = inl refl
-memory_or_not (fault.Line n) = inr (λ e. absurd (cc))
-memory_or_not (fault.Truncated n) = inr (λ e. absurd (cc))
-memory_or_not (fault.UnknownPattern n) = inr (λ e. absurd (cc))
-memory_or_not (fault.Row n row) = inr (λ e. absurd (cc))
-memory_or_not (fault.Positive n unknown) = inr (λ e. absurd (cc))
-memory_or_not (fault.NotNegative n) = inr (λ e. absurd (cc))
-memory_or_not (fault.Overflow n column) = inr (λ e. absurd (cc))
-memory_or_not (fault.ExtendComplete n) = inr (λ e. absurd (cc))
-memory_or_not (fault.SplitVariable n) = inr (λ e. absurd (cc))
-memory_or_not (fault.Trailing n) = inr (λ e. absurd (cc))
-memory_or_not (fault.RepeatedPattern n) = inr (λ e. absurd (cc))
-memory_or_not (fault.Pair n) = inr (λ e. absurd (cc))
-memory_or_not fault.Failed = inr (λ e. absurd (cc))
 
 -- the first fault is the answer, unless memory ran out
 pub exact_answer : (subject : Subject) (text : List ℕ) (answer : Result Accepted CertFault) → Accepts subject text answer → Faults subject text answer → (f : CertFault) → IsFirstFaultFor subject text f → IsErrOrMemory answer f
@@ -123,7 +106,7 @@ still_sound new text (Ok u) may failed taken = inr (text, record { may = may; go
 still_sound new text (Err e) may failed taken = inl failed
 
 -- what a reader answers at the end is what the checker does
-pub end_refused : (subject : Subject) (reader : Reader) (position : Position) (text : List ℕ) (e : CertFault) → StandBehind subject reader position text → ReaderFinished text (Err e) → CheckerFinishAnswers subject text (Err e)
+pub end_refused : (subject : Subject) (reader : Reader) (position : Position) (text : List ℕ) (e : CertFault) → (h : StandBehind subject reader position text) → ReaderFinished text h.ls (Err e) → CheckerFinishAnswers subject text (Err e)
 end_refused subject reader position text (fault.Truncated n) h f = end_fails subject reader position text n h f
 end_refused subject reader position text _ h f = absurd f
 

@@ -101,13 +101,13 @@ behind_last subject s next ls after later ends lead =
 pub behind : (subject : Subject) (s : Standing) (ls : List Line) (after : Standing) → s.waiting ≡ None → (s.begun ≡ [] → ⊥) → AreLater ls → has_end ls ≡ true → LeadThrough subject s ls after → Behind subject s ls after
 behind subject s [] after none some later ended lead = absurd (false≢true ended)
 behind subject s (line.Header version ∷ ls) after none some later ended lead = absurd (false≢true (sym later.2))
-behind subject s (line.Order before second ∷ ls) after none some later ended (next, waits, lead) = absurd (some waits.takes.early)
 behind subject s (line.Pattern number ∷ ls) after none some later ended (next, begins, lead) =
     let began = ap (λ (t : Standing). t.begun) begins.leads in
     behind_pattern subject s number next ls after later.0 begins (behind subject next ls after (ap (λ (t : Standing). t.waiting) begins.leads ∙ none) (λ e. let gone : number ∷ s.begun ≡ [] = sym began ∙ e in cc) later.4 ended lead)
 behind subject s (line.Tree node ∷ ls) after none some later ended (next, inl stands, lead) =
     behind_node subject s node next ls after later.0 stands (behind subject next ls after (ap (λ (t : Standing). t.waiting) stands.leads ∙ none) (λ e. some (sym (ap (λ (t : Standing). t.begun) stands.leads) ∙ e)) later.4 ended lead)
-behind subject s (line.Tree node ∷ ls) after none some later ended (next, inr shows, lead) = absurd (none-some shows.pair (sym none ∙ shows.waits))
+behind subject s (line.Tree node ∷ ls) after none some later ended (next, inr (inl shows), lead) = absurd (none-some shows.pair (sym none ∙ shows.waits))
+behind subject s (line.Tree node ∷ ls) after none some later ended (next, inr (inr waits), lead) = absurd (some waits.takes.early)
 behind subject s (line.End ∷ ls) after none some later ended (next, ends, lead) = behind_last subject s next ls after later ends lead
 
 -- nodes that refute what is pending lead through it

@@ -1,5 +1,5 @@
 -- The names that the proofs of this crate cite, passed on from one place. Declares nothing.
-pub use Rattle.std.proofs.Common.{Bool, Err, FitsSigned, IfErr, IfOk, IsErrOf, List, None, Ok, Option, Result, Some, [], ap, append-nil, append_assoc, arith, codes, cond, drop, false, get_or, inl, inr, is_err, length, length-drop, lit<, lit≤, map, nat_lt, of_z, pos, refl, reverse, rules, slice_get, subst, suc, sym, take, take-append-drop, to_z, true, unsigned_abs, zero, ℕ, ℤ, ◌*ℤ◌, ◌++◌, ◌+ℤ◌, ◌+◌, ◌<ℤ◌, ◌<◌, ◌^◌, ◌∙◌, ◌∷◌, ◌≡◌, ◌≢◌, ◌≤ℤ◌, ◌≤◌, ◌⊎◌}
+pub use Rattle.std.proofs.Common.{Bool, Err, FitsSigned, IfErr, IfOk, IsErrOf, List, None, Ok, Option, Result, Some, [], ap, append-nil, append_assoc, arith, cond, drop, false, get_or, inl, inr, is_err, length, length-drop, lit≤, map, nat_lt, of_z, pos, refl, reverse, rules, slice_get, subst, suc, sym, take, take-append-drop, to_z, true, unsigned_abs, zero, ℕ, ℤ, ◌*ℤ◌, ◌++◌, ◌+ℤ◌, ◌+◌, ◌<ℤ◌, ◌<◌, ◌^◌, ◌∙◌, ◌∷◌, ◌≡◌, ◌≢◌, ◌≤ℤ◌, ◌≤◌, ◌⊎◌}
 pub use Rattle.std.proofs.lemmas.Bool.{cases_lt, false_from_ne_true, false≢true, not-true, not_from_false}
 pub use Rattle.std.proofs.lemmas.Int.{fits_signed_from_abs, ints, to_z-of_z}
 pub use Rattle.std.proofs.lemmas.List.{reverse-append, reverse-reverse}
@@ -16,13 +16,16 @@ pub use Rattle.ta_base.proofs.Members.{In-left, In-right, in_append, known_first
 pub use Rattle.ta_base.proofs.Options.{none_of}
 pub use Rattle.ta_base.specs.Lists.{Distinct, SameMembers}
 pub use Rattle.ta_base.specs.Masks.{In}
-pub use Rattle.ta_cert.proofs.Standing.{legal_last, lines_text-append}
-pub use Rattle.ta_cert.proofs.Unique.{compare, legal_forms, legal_prefix, line_unbroken, line_unique, malformed_place, malformed_stuck, malformed_trailing, reads_malformed, reads_stuck, reads_trailing, reads_unique, trailing_place, trailing_stuck}
+pub use Rattle.ta_cert.proofs.Relations.{legal_last, read_complete, one_reading as reads_unique}
+pub use Rattle.ta_cert.proofs.Unique.{compare, legal_forms, legal_prefix, malformed_place, malformed_stuck, malformed_trailing, reads_malformed, reads_stuck, reads_trailing, trailing_place, trailing_stuck}
 unfoldable pub use Rattle.ta_cert.proofs.Unique.{GoesOn, Stuck}
 pub use Rattle.ta_cert.specs.Certificates.{AreOrders, AreWritable, cert_lines, order_lines, pair_of, proof_lines, proofs_of, version_of}
-pub use Rattle.ta_cert.specs.Laws.{AreShort, IsErrOrMemory}
+pub use Rattle.ta_cert.proofs.Writing.{lines_text-append}
+pub use Rattle.ta_cert.proofs.Written.{line_unbroken, line_unique}
+pub use Rattle.ta_cert.specs.Laws.{AreLater, AreLines, AreShort, line_number}
+pub use Rattle.ta_cert.specs.Relations.{FeedLineAnswers, FinishAnswers, IsComplete, IsErrOrMemory, IsMalformed, IsRefusedBehind, IsTrailing, ReadsLines, StandsAt}
 pub use Rattle.ta_cert.specs.Lines.{ArePairs, IsLine, IsNode, IsVersion, cert_lines_text, has_end, line_text}
-pub use Rattle.ta_cert.specs.Streams.{AreLater, AreLines, AreNoLine, FeedLineAnswers, FinishAnswers, IsComplete, IsMalformed, IsRefusedBehind, IsTrailing, ReadsLines, StandsAt, StandsFor, line_limit, line_number}
+pub use Rattle.ta_cert.specs.Streams.{GivesLine, finish, first_line, line_limit, start, state, steps}
 pub use Rattle.ta_cert.specs.Tree.{Tree, all_preorder}
 pub use Rattle.ta_cert.specs.declared.fault.CertFault.{CertFault}
 pub use Rattle.ta_cert.specs.declared.line.Line.{Line}
@@ -31,7 +34,7 @@ pub use Rattle.ta_cert.specs.declared.line.Order.{Order}
 pub use Rattle.ta_cert.specs.declared.reader.Reader.{Reader}
 pub use Rattle.ta_check.specs.Certificate.{AllClaimsHold, AllRestSafe, AllSafe, AllUnsolved, Certificate, CertificateFor, CertificatesShow, ClaimsHold, MayClaimAll, MayHave, PatternUnsolved, ProvesClaim, ProvesPattern, ShowsPair, proof_number}
 pub use Rattle.ta_check.specs.Checkers.{CheckerFeedAnswers, CheckerFinishAnswers, CheckerStandsFor, IsExactCheck, IsExactFeed, IsSoundChecker, StandBehind, subject_of}
-pub use Rattle.ta_check.specs.Faults.{AtSomeWord, FirstLeafFault, IsAtFault, IsFirstFaultFor, IsLastingFor, IsMisplaced, IsNoLeaf, LastingFaultsLast, LeafFails, LineAtFault, PairFails, TextAtFault}
+pub use Rattle.ta_check.specs.Faults.{AtSomeWord, FirstLeafFault, IsAtFault, IsFirstFaultFor, IsIdle, IsLastingFor, IsMisplaced, IsMisplacedNode, IsNoLeaf, IsWaiting, LastingFaultsLast, LeafFails, LineAtFault, PairFails, TextAtFault}
 pub use Rattle.ta_check.specs.Inside.Leaves.{WithoutBounds, renumbered}
 pub use Rattle.ta_check.specs.Inside.Pieces.{NextTaken, StandSomewhere, TakenTo}
 pub use Rattle.ta_check.specs.Lines.{AtWord, BeginsProof, EndsCertificate, LeadThrough, Leads, MayFollow, NothingIsLeft, OpensCertificate, ShowsWaiting, Standing, Stands, TakesOrder, Waits, first_standing}

@@ -1,5 +1,5 @@
 -- Lines lead to one standing, and those that lead on are not at fault
-use Rattle.ta_check.proofs.Common.{◌≡◌, ◌⊎◌, inl, inr, ℕ, ◌<◌, ℤ, List, [], ◌∷◌, ◌++◌, length, false, None, Some, refl, sym, ap, subst, ◌∙◌, arith, false≢true, Line, Node, CertFault, IsShown, Pending, Search, parts, MayStand, leaf_back, LeafFault, no_fault, IsJudged, Subject, search_at, Standing, AtWord, ShowsWaiting, Stands, Leads, LeadThrough, AtSomeWord, IsMisplaced, IsNoLeaf, FirstLeafFault, LeafFails, PairFails, IsAtFault, check_stays, none-some}
+use Rattle.ta_check.proofs.Common.{◌≡◌, ◌⊎◌, inl, inr, ℕ, ◌<◌, ℤ, List, [], ◌∷◌, ◌++◌, length, false, None, Some, refl, sym, ap, subst, ◌∙◌, arith, false≢true, Line, Node, CertFault, IsShown, Pending, Search, parts, MayStand, leaf_back, LeafFault, no_fault, IsJudged, Subject, search_at, Standing, AtWord, ShowsWaiting, Stands, Leads, LeadThrough, AtSomeWord, IsIdle, IsMisplaced, IsMisplacedNode, IsNoLeaf, IsWaiting, MayJoin, Waits, FirstLeafFault, LeafFails, PairFails, IsAtFault, check_stays, none-some}
 use Rattle.ta_cert.specs.declared.line.Line.TheVariants as line
 use Rattle.ta_cert.specs.declared.line.Node.TheVariants as node
 use Rattle.ta_cert.specs.declared.fault.CertFault.TheVariants as fault
@@ -40,15 +40,31 @@ shows_once subject s n x y a b =
     let more : ℕ × ℕ → Standing = λ pair. record s { pairs = s.pairs ++ pair ∷ []; waiting = None } in
     a.leads ∙ ap more (waits_once s a.pair b.pair a.waits b.waits) ∙ sym b.leads
 
+-- where a pair may come no proof began
+early_word : (subject : Subject) (s : Standing) {n : Node} {x y : Standing} → Stands subject s n x → Waits subject s n y → ⊥
+early_word subject s stands waits = let none : [] ≡ (stands.at.number ∷ stands.at.older) = sym waits.takes.early ∙ stands.at.begun in cc
+
+-- a pair leads to one standing
+pair_once : (subject : Subject) (s : Standing) (n : Node) (x y : Standing) → Waits subject s n x → Waits subject s n y → x ≡ y
+pair_once subject s n x y a b =
+    let same : node.Order a.pair.0 a.pair.1 ≡ node.Order b.pair.0 b.pair.1 = sym a.is ∙ b.is in
+    let before : a.pair.0 ≡ b.pair.0 = cc in
+    let after : a.pair.1 ≡ b.pair.1 = cc in
+    a.leads ∙ ap (λ k. record s { waiting = Some (k, a.pair.1) }) before ∙ ap (λ k. record s { waiting = Some (b.pair.0, k) }) after ∙ sym b.leads
+
 -- a line leads to one standing
 pub leads_once : (subject : Subject) (s : Standing) (l : Line) (x y : Standing) → Leads subject s l x → Leads subject s l y → x ≡ y
 leads_once subject s (line.Header version) x y a b = a.leads ∙ sym b.leads
-leads_once subject s (line.Order before later) x y a b = a.leads ∙ sym b.leads
 leads_once subject s (line.Pattern number) x y a b = a.leads ∙ sym b.leads
 leads_once subject s (line.Tree n) x y (inl a) (inl b) = stands_once subject s n x y a b
-leads_once subject s (line.Tree n) x y (inl a) (inr b) = absurd (none-some b.pair (sym a.at.none ∙ b.waits))
-leads_once subject s (line.Tree n) x y (inr a) (inl b) = absurd (none-some a.pair (sym b.at.none ∙ a.waits))
-leads_once subject s (line.Tree n) x y (inr a) (inr b) = shows_once subject s n x y a b
+leads_once subject s (line.Tree n) x y (inl a) (inr (inl b)) = absurd (none-some b.pair (sym a.at.none ∙ b.waits))
+leads_once subject s (line.Tree n) x y (inl a) (inr (inr b)) = absurd (early_word subject s a b)
+leads_once subject s (line.Tree n) x y (inr (inl a)) (inl b) = absurd (none-some a.pair (sym b.at.none ∙ a.waits))
+leads_once subject s (line.Tree n) x y (inr (inl a)) (inr (inl b)) = shows_once subject s n x y a b
+leads_once subject s (line.Tree n) x y (inr (inl a)) (inr (inr b)) = absurd (none-some a.pair (sym b.takes.none ∙ a.waits))
+leads_once subject s (line.Tree n) x y (inr (inr a)) (inl b) = absurd (early_word subject s b a)
+leads_once subject s (line.Tree n) x y (inr (inr a)) (inr (inl b)) = absurd (none-some b.pair (sym a.takes.none ∙ b.waits))
+leads_once subject s (line.Tree n) x y (inr (inr a)) (inr (inr b)) = pair_once subject s n x y a b
 leads_once subject s line.End x y a b = a.leads ∙ sym b.leads
 
 -- so do lines
@@ -72,26 +88,46 @@ may_stand subject s n after p w ws at stands =
     subst (λ v. MayStand p (IsJudged p) v n) same.word (subst (λ q. MayStand q (IsJudged q) stands.word n) same.search stands.may)
 
 -- so does a node that leads on there
-may_lead : (subject : Subject) (s : Standing) (n : Node) (after : Standing) (p : Search) (w : Pending) (ws : List Pending) → AtWord subject s p w ws → Stands subject s n after ⊎ ShowsWaiting subject s n after → MayStand p (IsJudged p) w n
+may_lead : (subject : Subject) (s : Standing) (n : Node) (after : Standing) (p : Search) (w : Pending) (ws : List Pending) → AtWord subject s p w ws → Leads subject s (line.Tree n) after → MayStand p (IsJudged p) w n
 may_lead subject s n after p w ws at (inl stands) = may_stand subject s n after p w ws at stands
-may_lead subject s n after p w ws at (inr shows) = absurd (none-some shows.pair (sym at.none ∙ shows.waits))
+may_lead subject s n after p w ws at (inr (inl shows)) = absurd (none-some shows.pair (sym at.none ∙ shows.waits))
+may_lead subject s n after p w ws at (inr (inr waits)) = absurd (let none : [] ≡ (at.number ∷ at.older) = sym waits.takes.early ∙ at.begun in cc)
+
+-- a node that isn't a pair doesn't lead on where none is waited for
+idle_stops : (subject : Subject) (s : Standing) (n : Node) (after : Standing) → (((before later : ℕ) → n ≡ node.Order before later → ⊥)) → IsIdle s ⊎ (IsWaiting s × IsNoLeaf n) → Leads subject s (line.Tree n) after → ⊥
+idle_stops subject s n after other m (inr (inr waits)) = other waits.pair.0 waits.pair.1 waits.is
+idle_stops subject s n after other (inl idle) (inl stands) = let none : [] ≡ (stands.word ∷ stands.words) = sym idle.done ∙ stands.at.pending in cc
+idle_stops subject s n after other (inl idle) (inr (inl shows)) = none-some shows.pair (sym idle.none ∙ shows.waits)
+idle_stops subject s n after other (inr (waits, none)) (inl stands) = none-some waits.pair (sym stands.at.none ∙ waits.waits)
+idle_stops subject s n after other (inr (waits, none)) (inr (inl shows)) = let leaf : IsNoLeaf (node.Leaf shows.multipliers) = subst IsNoLeaf shows.is none in leaf
+
+-- nor does a misplaced node
+node_stops : (subject : Subject) (s : Standing) (n : Node) (after : Standing) → IsMisplacedNode s n → Leads subject s (line.Tree n) after → ⊥
+node_stops subject s (node.Order before later) after m (inl stands) = stands.may
+node_stops subject s (node.Order before later) after m (inr (inl shows)) = let is = shows.is in cc
+node_stops subject s (node.Order before later) after m (inr (inr waits)) = m waits.takes
+node_stops subject s (node.Guard guard) after m (inl stands) = stands.may
+node_stops subject s (node.Guard guard) after m (inr (inl shows)) = let is = shows.is in cc
+node_stops subject s (node.Guard guard) after m (inr (inr waits)) = let is = waits.is in cc
+node_stops subject s (node.Stuck rule) after m (inl stands) = stands.may
+node_stops subject s (node.Stuck rule) after m (inr (inl shows)) = let is = shows.is in cc
+node_stops subject s (node.Stuck rule) after m (inr (inr waits)) = let is = waits.is in cc
+node_stops subject s node.Extend after m leads = idle_stops subject s node.Extend after (λ before later is. cc) m leads
+node_stops subject s (node.Split unknown floor) after m leads = idle_stops subject s (node.Split unknown floor) after (λ before later is. cc) m leads
+node_stops subject s (node.Leaf ts) after m leads = idle_stops subject s (node.Leaf ts) after (λ before later is. cc) m leads
 
 -- a line that leads on is not misplaced
 in_place : (subject : Subject) (s : Standing) (l : Line) (after : Standing) → IsMisplaced subject.claim s l → Leads subject s l after → ⊥
 in_place subject s (line.Header version) after m leads = m leads.has
-in_place subject s (line.Order before later) after m leads = m leads.takes
 in_place subject s (line.Pattern number) after m leads = m leads.free
-in_place subject s (line.Tree n) after (inl idle) (inl stands) = let none : [] ≡ (stands.word ∷ stands.words) = sym idle.done ∙ stands.at.pending in cc
-in_place subject s (line.Tree n) after (inl idle) (inr shows) = none-some shows.pair (sym idle.none ∙ shows.waits)
-in_place subject s (line.Tree n) after (inr (waits, none)) (inl stands) = none-some waits.pair (sym stands.at.none ∙ waits.waits)
-in_place subject s (line.Tree n) after (inr (waits, none)) (inr shows) = let leaf : IsNoLeaf (node.Leaf shows.multipliers) = subst IsNoLeaf shows.is none in leaf
+in_place subject s (line.Tree n) after m leads = node_stops subject s n after m leads
 in_place subject s line.End after m leads = m leads.free
 
 pub leaf_of_leaf : (ts us : List (ℕ × ℤ)) → node.Leaf ts ≡ node.Leaf us → ts ≡ us
 leaf_of_leaf ts us e = cc
 
 -- a leaf that leads on has no fault
-leaf_leads : (subject : Subject) (s : Standing) (ts : List (ℕ × ℤ)) (f : LeafFault) (after : Standing) → AtSomeWord subject s (λ search w. FirstLeafFault search w ts f) ⊎ PairFails subject s ts f → Stands subject s (node.Leaf ts) after ⊎ ShowsWaiting subject s (node.Leaf ts) after → ⊥
+leaf_leads : (subject : Subject) (s : Standing) (ts : List (ℕ × ℤ)) (f : LeafFault) (after : Standing) → AtSomeWord subject s (λ search w. FirstLeafFault search w ts f) ⊎ PairFails subject s ts f → Leads subject s (line.Tree (node.Leaf ts)) after → ⊥
 leaf_leads subject s ts f after (inl at) leads =
     let wrong : FirstLeafFault at.search at.word ts f = at.holds in
     let judged : IsJudged at.search at.word ts = may_lead subject s (node.Leaf ts) after at.search at.word at.words at.at leads in
@@ -100,7 +136,8 @@ leaf_leads subject s ts f after (inl at) leads =
       check_stays at.search at.word wrong.system ts wrong.is judged.in_range,
     )
 leaf_leads subject s ts f after (inr fails) (inl stands) = none-some fails.pair (sym stands.at.none ∙ fails.waits)
-leaf_leads subject s ts f after (inr fails) (inr shows) =
+leaf_leads subject s ts f after (inr fails) (inr (inr waits)) = none-some fails.pair (sym waits.takes.none ∙ fails.waits)
+leaf_leads subject s ts f after (inr fails) (inr (inl shows)) =
     let pair : shows.pair ≡ fails.pair = waits_once s shows.pair fails.pair shows.waits fails.waits in
     let same : shows.multipliers ≡ ts = sym (leaf_of_leaf ts shows.multipliers shows.is) in
     shows_or_fails subject.file.automaton fails.pair ts f (subst (λ q. IsShown subject.file.automaton q ts) pair (subst (λ us. IsShown subject.file.automaton shows.pair us) same shows.shown)) fails.fails
@@ -116,7 +153,16 @@ not_both subject s number l (fault.UnknownPattern n) after (place, k, here, beyo
     let exists : k < length subject.file.patterns = begins.exists in
     omega arith
 not_both subject s number l (fault.RepeatedPattern n) after (place, k, here, old) leads = (subst (λ m. Leads subject s m after) here.is leads).new old
-not_both subject s number l (fault.Pair n) after (place, bad) leads = bad.bad (subst (λ m. Leads subject s m after) bad.is leads).may
+not_both subject s number l (fault.Pair n) after (place, bad) leads = pair_holds (subst (λ m. Leads subject s m after) bad.is leads)
+  where
+    pair_holds : Leads subject s (line.Tree (node.Order bad.before bad.later)) after → ⊥
+    pair_holds (inl stands) = stands.may
+    pair_holds (inr (inl shows)) = let is = shows.is in cc
+    pair_holds (inr (inr waits)) =
+        let same : node.Order bad.before bad.later ≡ node.Order waits.pair.0 waits.pair.1 = waits.is in
+        let before : waits.pair.0 ≡ bad.before = cc in
+        let later : waits.pair.1 ≡ bad.later = cc in
+        bad.bad (subst (λ k. MayJoin subject.file.automaton s.pairs (bad.before, k)) later (subst (λ k. MayJoin subject.file.automaton s.pairs (k, waits.pair.1)) before waits.may))
 not_both subject s number l (fault.ExtendComplete n) after (place, is, at) leads =
     let may : at.search.complete at.word.start at.word.past ≡ false = may_lead subject s node.Extend after at.search at.word at.words at.at (subst (λ m. Leads subject s m after) is leads) in
     false≢true (sym may ∙ at.holds)

@@ -1,5 +1,5 @@
 -- lines behind the first line of a certificate: its pairs with their leaves, and then its proofs
-use Rattle.ta_check.proofs.Common.{◌≡◌, inl, inr, ℕ, suc, ℤ, true, List, [], ◌∷◌, ◌++◌, map, None, Some, sym, ap, ◌∙◌, refl, subst, append_assoc, append-nil, false≢true, AllByRecursion, apart_before, In-left, In-right, Line, Node, Order, IsLine, IsNode, has_end, AreLater, AreOrders, order_lines, pair_of, Automaton, Good, IsPair, IsShown, MayJoin, leads_along, Subject, ShowsPair, Standing, NothingIsLeft, ShowsWaiting, TakesOrder, Waits, LeadThrough, none-some, each_back}
+use Rattle.ta_check.proofs.Common.{◌≡◌, inl, inr, ℕ, suc, ℤ, true, List, [], ◌∷◌, ◌++◌, map, None, Some, sym, ap, ◌∙◌, refl, subst, append_assoc, append-nil, false≢true, AllByRecursion, apart_before, In-left, In-right, Line, Node, Order, IsNode, has_end, AreLater, AreOrders, order_lines, pair_of, Automaton, Good, IsPair, IsShown, MayJoin, leads_along, Subject, ShowsPair, Standing, NothingIsLeft, ShowsWaiting, TakesOrder, Waits, LeadThrough, none-some, each_back}
 use Rattle.ta_cert.specs.declared.line.Line.TheVariants as line
 use Rattle.ta_cert.specs.declared.line.Node.TheVariants as node
 use Rattle.ta_implied.proofs.Joining.{good_behind}
@@ -33,15 +33,16 @@ none_more subject version pairs ls after free b = record {
 }
 
 -- one pair more
-pub one_order : (subject : Subject) (version : ℕ) (pairs : List (ℕ × ℕ)) (before later : ℕ) (n : Node) (ls : List Line) (after next : Standing) (ts : List (ℕ × ℤ)) → IsLine (line.Order before later) → IsNode n → Waits subject (standing version pairs [] []) (before, later) next → n ≡ node.Leaf ts → IsShown subject.file.automaton (before, later) ts → OrdersBehind subject version (pairs ++ (before, later) ∷ []) ls after → OrdersBehind subject version pairs (line.Order before later ∷ line.Tree n ∷ ls) after
-one_order subject version pairs before later n ls after next ts form leaf waits is shown b =
-    let pair : ℕ × ℕ = (before, later) in
-    let one : Order = record { before = before; after = later; multipliers = ts } in
+pub one_order : (subject : Subject) (version : ℕ) (pairs : List (ℕ × ℕ)) (o n : Node) (ls : List Line) (after next : Standing) (ts : List (ℕ × ℤ)) → IsNode o → IsNode n → (waits : Waits subject (standing version pairs [] []) o next) → n ≡ node.Leaf ts → IsShown subject.file.automaton waits.pair ts → OrdersBehind subject version (pairs ++ waits.pair ∷ []) ls after → OrdersBehind subject version pairs (line.Tree o ∷ line.Tree n ∷ ls) after
+one_order subject version pairs o n ls after next ts guards leaf waits is shown b =
+    let pair = waits.pair in
+    let one : Order = record { before = pair.0; after = pair.1; multipliers = ts } in
+    let form : IsNode (node.Order pair.0 pair.1) = subst IsNode waits.is guards in
     let all : (pairs ++ pair ∷ []) ++ map pair_of b.orders ≡ pairs ++ map pair_of (one ∷ b.orders) = append_assoc pairs (pair ∷ []) (map pair_of b.orders) in
     record {
       orders = one ∷ b.orders;
       rest = b.rest;
-      lines = ap (λ (m : Node). line.Order before later ∷ line.Tree m ∷ ls) is ∙ ap (λ (xs : List Line). line.Order before later ∷ line.Tree (node.Leaf ts) ∷ xs) b.lines;
+      lines = ap (λ (m : Node). line.Tree m ∷ line.Tree n ∷ ls) waits.is ∙ ap (λ (m : Node). line.Tree (node.Order pair.0 pair.1) ∷ line.Tree m ∷ ls) is ∙ ap (λ (xs : List Line). line.Tree (node.Order pair.0 pair.1) ∷ line.Tree (node.Leaf ts) ∷ xs) b.lines;
       ordered = (record { before = form.0; after = form.1; leaf = subst IsNode is leaf }, b.ordered);
       shown = (shown, b.shown);
       good = λ good. subst (Good subject.file.automaton) all (b.good (good_behind subject.file.automaton pairs pair good waits.may (record { system = shown.system; is = shown.is; multipliers = ts; leaf = shown.leaf })));
@@ -65,18 +66,18 @@ heads subject version pairs (line.Pattern k ∷ ls) after later ended (next, beg
     let began = ap (λ (t : Standing). t.begun) begins.leads in
     none_more subject version pairs (line.Pattern k ∷ ls) after begins.free (behind_pattern subject (standing version pairs [] []) k next ls after later.0 begins (behind subject next ls after (ap (λ (t : Standing). t.waiting) begins.leads) (λ e. let gone : k ∷ [] ≡ [] = sym began ∙ e in cc) later.4 ended lead))
 heads subject version pairs (line.Tree n ∷ ls) after later ended (next, inl stands, lead) = absurd (let none : [] ≡ (stands.word ∷ stands.words) = stands.at.pending in cc)
-heads subject version pairs (line.Tree n ∷ ls) after later ended (next, inr shows, lead) = absurd (let none : None ≡ Some shows.pair = shows.waits in cc)
+heads subject version pairs (line.Tree n ∷ ls) after later ended (next, inr (inl shows), lead) = absurd (let none : None ≡ Some shows.pair = shows.waits in cc)
 heads subject version pairs (line.End ∷ ls) after later ended (next, ends, lead) = none_more subject version pairs (line.End ∷ ls) after ends.free (behind_last subject (standing version pairs [] []) next ls after later ends lead)
-heads subject version pairs (line.Order j i ∷ []) after later ended lead = absurd (false≢true ended)
-heads subject version pairs (line.Order j i ∷ line.Header v ∷ ls) after later ended lead = absurd (false≢true (sym later.4.2))
-heads subject version pairs (line.Order j i ∷ line.Order k l ∷ ls) after later ended (next, waits, (last, second, lead)) = absurd (none-some (j, i) (sym second.takes.none ∙ (ap (λ (t : Standing). t.waiting) waits.leads)))
-heads subject version pairs (line.Order j i ∷ line.Pattern k ∷ ls) after later ended (next, waits, (last, second, lead)) = absurd (none-some (j, i) (sym second.free.none ∙ (ap (λ (t : Standing). t.waiting) waits.leads)))
-heads subject version pairs (line.Order j i ∷ line.End ∷ ls) after later ended (next, waits, (last, second, lead)) = absurd (none-some (j, i) (sym second.free.none ∙ (ap (λ (t : Standing). t.waiting) waits.leads)))
-heads subject version pairs (line.Order j i ∷ line.Tree n ∷ ls) after later ended (next, waits, (last, inl stands, lead)) = absurd (none-some (j, i) (sym stands.at.none ∙ (ap (λ (t : Standing). t.waiting) waits.leads)))
-heads subject version pairs (line.Order j i ∷ line.Tree n ∷ ls) after later ended (next, waits, (last, inr shows, lead)) =
-    let at = shown_at subject version pairs (j, i) n next last waits.leads shows in
-    one_order subject version pairs j i n ls after next shows.multipliers later.0 later.4.0 waits shows.is (subst (λ (q : ℕ × ℕ). IsShown subject.file.automaton q shows.multipliers) at.0 shows.shown)
-    (heads subject version (pairs ++ (j, i) ∷ []) ls after later.4.4 ended (subst (λ (t : Standing). LeadThrough subject t ls after) at.1 lead))
+heads subject version pairs (line.Tree o ∷ []) after later ended (next, inr (inr waits), lead) = absurd (false≢true ended)
+heads subject version pairs (line.Tree o ∷ line.Header v ∷ ls) after later ended (next, inr (inr waits), lead) = absurd (false≢true (sym later.4.2))
+heads subject version pairs (line.Tree o ∷ line.Pattern k ∷ ls) after later ended (next, inr (inr waits), (last, second, lead)) = absurd (none-some waits.pair (sym second.free.none ∙ (ap (λ (t : Standing). t.waiting) waits.leads)))
+heads subject version pairs (line.Tree o ∷ line.End ∷ ls) after later ended (next, inr (inr waits), (last, second, lead)) = absurd (none-some waits.pair (sym second.free.none ∙ (ap (λ (t : Standing). t.waiting) waits.leads)))
+heads subject version pairs (line.Tree o ∷ line.Tree n ∷ ls) after later ended (next, inr (inr waits), (last, inl stands, lead)) = absurd (none-some waits.pair (sym stands.at.none ∙ (ap (λ (t : Standing). t.waiting) waits.leads)))
+heads subject version pairs (line.Tree o ∷ line.Tree n ∷ ls) after later ended (next, inr (inr waits), (last, inr (inr second), lead)) = absurd (none-some waits.pair (sym second.takes.none ∙ (ap (λ (t : Standing). t.waiting) waits.leads)))
+heads subject version pairs (line.Tree o ∷ line.Tree n ∷ ls) after later ended (next, inr (inr waits), (last, inr (inl shows), lead)) =
+    let at = shown_at subject version pairs waits.pair n next last waits.leads shows in
+    one_order subject version pairs o n ls after next shows.multipliers later.0 later.4.0 waits shows.is (subst (λ (q : ℕ × ℕ). IsShown subject.file.automaton q shows.multipliers) at.0 shows.shown)
+    (heads subject version (pairs ++ waits.pair ∷ []) ls after later.4.4 ended (subst (λ (t : Standing). LeadThrough subject t ls after) at.1 lead))
 
 joins : (a : Automaton) (xs rest : List (ℕ × ℕ)) (pair : ℕ × ℕ) → Good a (xs ++ pair ∷ rest) → MayJoin a xs pair
 joins a xs rest pair good = record {
@@ -95,6 +96,6 @@ lead_orders subject pairs (o ∷ os) ls good shown lead =
     let at = standing 2 pairs [] [] in
     let takes : TakesOrder at = record { version = refl; none = refl; early = refl } in
     let next : Standing = record at { waiting = Some pair } in
-    let waits : Waits subject at pair next = record { takes = takes; may = joins subject.file.automaton pairs (map pair_of os) pair good; leads = refl } in
+    let waits : Waits subject at (node.Order o.before o.after) next = record { pair = pair; is = refl; takes = takes; may = joins subject.file.automaton pairs (map pair_of os) pair good; leads = refl } in
     let shows : ShowsWaiting subject next (node.Leaf o.multipliers) (standing 2 (pairs ++ pair ∷ []) [] []) = record { pair = pair; waits = refl; multipliers = o.multipliers; is = refl; shown = shown.0; leads = refl } in
-    (rest.0, (next, waits, (standing 2 (pairs ++ pair ∷ []) [] [], inr shows, rest.1)))
+    (rest.0, (next, inr (inr waits), (standing 2 (pairs ++ pair ∷ []) [] [], inr (inl shows), rest.1)))

@@ -66,13 +66,13 @@ join_same a xs ys pair same may = record {
 }
 
 -- a pair that may come waits for its leaf
-pub order_taken : (subject : Subject) (s : Position) (at : Standing) (number before later : ℕ) → IsPositionAt subject s at → TakesOrder at → MayJoin subject.file.automaton s.orders (before, later) → LineAnswers subject at number (line.Order before later) (record s { waiting = Some (before, later) }) (Ok tt)
+pub order_taken : (subject : Subject) (s : Position) (at : Standing) (number before later : ℕ) → IsPositionAt subject s at → TakesOrder at → MayJoin subject.file.automaton s.orders (before, later) → LineAnswers subject at number (line.Tree (node.Order before later)) (record s { waiting = Some (before, later) }) (Ok tt)
 order_taken subject s at number before later is takes may =
     let join = join_same subject.file.automaton s.orders at.pairs (before, later) (same_members_back at.pairs s.orders is.pairs) may in
     let between = before_proofs subject s at takes.early is in
-    let waits : Waits subject at (before, later) (record at { waiting = Some (before, later) }) = record { takes = takes; may = join; leads = refl } in (
+    let waits : Waits subject at (node.Order before later) (record at { waiting = Some (before, later) }) = record { pair = (before, later); is = refl; takes = takes; may = join; leads = refl } in (
       record at { waiting = Some (before, later) },
-      waits,
+      inr (inr waits),
       record {
         version = is.version;
         pairs = is.pairs;
@@ -83,7 +83,7 @@ order_taken subject s at number before later is takes may =
       },
     )
 
-pub order_bad : (subject : Subject) (s : Position) (at : Standing) (number before later : ℕ) (new : Position) → IsPositionAt subject s at → TakesOrder at → (MayJoin subject.file.automaton s.orders (before, later) → ⊥) → LineAnswers subject at number (line.Order before later) new (Err (fault.Pair number))
+pub order_bad : (subject : Subject) (s : Position) (at : Standing) (number before later : ℕ) (new : Position) → IsPositionAt subject s at → TakesOrder at → (MayJoin subject.file.automaton s.orders (before, later) → ⊥) → LineAnswers subject at number (line.Tree (node.Order before later)) new (Err (fault.Pair number))
 order_bad subject s at number before later new is takes bad = (
   refl,
   record {
@@ -123,7 +123,7 @@ shown_taken subject s at number before later ts new waits is joined =
       leads = refl;
     } in (
       record at { pairs = at.pairs ++ pair ∷ []; waiting = None },
-      inr shows,
+      inr (inl shows),
       record {
         version = is.version;
         pairs = same_placed at.pairs s.orders new pair is.pairs joined.whole;

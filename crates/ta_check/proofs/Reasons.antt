@@ -1,5 +1,5 @@
 -- A line that can't follow has one fault
-use Rattle.ta_check.proofs.Common.{◌≡◌, ℕ, ℤ, ◌<◌, ◌≤◌, ◌⊎◌, List, [], ◌∷◌, length, Some, inl, inr, refl, sym, ap, subst, ◌∙◌, arith, In, known_first, Line, Node, CertFault, FailsToShow, Pending, Search, LeafFault, Subject, Standing, NothingIsLeft, TakesOrder, Leads, LeadThrough, IsMisplaced, IsNoLeaf, AtSomeWord, FirstLeafFault, LeafFails, IsAtFault, fault_at, none-some}
+use Rattle.ta_check.proofs.Common.{◌≡◌, ℕ, ℤ, ◌<◌, ◌≤◌, ◌⊎◌, List, [], ◌∷◌, length, Some, inl, inr, refl, sym, ap, subst, ◌∙◌, arith, In, known_first, Line, Node, CertFault, FailsToShow, Pending, Search, LeafFault, Subject, Standing, NothingIsLeft, TakesOrder, Leads, LeadThrough, IsIdle, IsMisplaced, IsMisplacedNode, IsNoLeaf, IsWaiting, AtSomeWord, FirstLeafFault, LeafFails, IsAtFault, fault_at, none-some}
 use Rattle.ta_cert.specs.declared.line.Line.TheVariants as line
 use Rattle.ta_cert.specs.declared.line.Node.TheVariants as node
 use Rattle.ta_cert.specs.declared.fault.CertFault.TheVariants as fault
@@ -14,10 +14,10 @@ KnowsBegun subject s = (k : ℕ) → In k s.begun → k < length subject.file.pa
 -- one line further it still does
 known_next : (subject : Subject) (s : Standing) (l : Line) (after : Standing) → KnowsBegun subject s → Leads subject s l after → KnowsBegun subject after
 known_next subject s (line.Header version) after known leads = λ k began. known k (subst (λ t. In k t.begun) leads.leads began)
-known_next subject s (line.Order before later) after known leads = λ k began. known k (subst (λ t. In k t.begun) leads.leads began)
 known_next subject s (line.Pattern number) after known leads = λ k began. known_first number k (length subject.file.patterns) s.begun leads.exists known (subst (λ t. In k t.begun) leads.leads began)
 known_next subject s (line.Tree n) after known (inl stands) = λ k began. known k (subst (λ t. In k t.begun) stands.leads began)
-known_next subject s (line.Tree n) after known (inr shows) = λ k began. known k (subst (λ t. In k t.begun) shows.leads began)
+known_next subject s (line.Tree n) after known (inr (inl shows)) = λ k began. known k (subst (λ t. In k t.begun) shows.leads began)
+known_next subject s (line.Tree n) after known (inr (inr waits)) = λ k began. known k (subst (λ t. In k t.begun) waits.leads began)
 known_next subject s line.End after known leads = subst (KnowsBegun subject) (sym leads.leads) known
 
 -- so do lines
@@ -30,6 +30,7 @@ AtWordFault : ℕ → Node → CertFault → Search → Pending → Type 0
 AtWordFault number node.Extend f p w = f ≡ fault.ExtendComplete number
 AtWordFault number (node.Split unknown floor) f p w = f ≡ fault.SplitVariable number
 AtWordFault number (node.Leaf ts) f p w = (why : LeafFault) × (f ≡ fault_at number why) × FirstLeafFault p w ts why
+AtWordFault number _ f p w = ⊥
 
 -- the fault of the leaf of a pair
 record WaitFault (subject : Subject) (s : Standing) (number : ℕ) (n : Node) (f : CertFault) : Type 0 where
@@ -41,6 +42,14 @@ record WaitFault (subject : Subject) (s : Standing) (number : ℕ) (n : Node) (f
   pub told : f ≡ fault_at number why
   pub fails : FailsToShow subject.file.automaton pair multipliers why
 
+-- the fault of a pair where one may come
+record JoinFault (s : Standing) (number : ℕ) (n : Node) (f : CertFault) : Type 0 where
+  pub before : ℕ
+  pub later : ℕ
+  pub is : n ≡ node.Order before later
+  pub told : f ≡ fault.Pair number
+  pub takes : TakesOrder s
+
 -- the fault of a pattern's line where one may follow
 PatternFault : Subject → Standing → ℕ → ℕ → CertFault → Type 0
 PatternFault subject s number k f = ((f ≡ fault.UnknownPattern number) × (length subject.file.patterns ≤ k)) ⊎ ((f ≡ fault.RepeatedPattern number) × In k s.begun)
@@ -48,15 +57,13 @@ PatternFault subject s number k f = ((f ≡ fault.UnknownPattern number) × (len
 -- what a line at fault is, form by form
 Reason : Subject → Standing → ℕ → Line → CertFault → Type 0
 Reason subject s number (line.Header version) f = f ≡ fault.Line number
-Reason subject s number (line.Order before later) f = ((f ≡ fault.Line number) × (¬ TakesOrder s)) ⊎ ((f ≡ fault.Pair number) × TakesOrder s)
 Reason subject s number (line.Pattern k) f = ((f ≡ fault.Line number) × (¬ NothingIsLeft s)) ⊎ (NothingIsLeft s × PatternFault subject s number k f)
-Reason subject s number (line.Tree n) f = ((f ≡ fault.Line number) × IsMisplaced subject.claim s (line.Tree n)) ⊎ (AtSomeWord subject s (AtWordFault number n f) ⊎ WaitFault subject s number n f)
+Reason subject s number (line.Tree n) f = ((f ≡ fault.Line number) × IsMisplaced subject.claim s (line.Tree n)) ⊎ (AtSomeWord subject s (AtWordFault number n f) ⊎ (WaitFault subject s number n f ⊎ JoinFault s number n f))
 Reason subject s number line.End f = f ≡ fault.Line number
 
 misplaced_reason : (subject : Subject) (s : Standing) (number n : ℕ) (l : Line) → n ≡ number → IsMisplaced subject.claim s l → Reason subject s number l (fault.Line n)
 unfolding Reason
 misplaced_reason subject s number n (line.Header version) place m = ap fault.Line place
-misplaced_reason subject s number n (line.Order before later) place m = inl (ap fault.Line place, m)
 misplaced_reason subject s number n (line.Pattern k) place m = inl (ap fault.Line place, m)
 misplaced_reason subject s number n (line.Tree t) place m = inl (ap fault.Line place, m)
 misplaced_reason subject s number n line.End place m = ap fault.Line place
@@ -72,7 +79,7 @@ leaf_reason subject s number l f why is fails =
         at = at.at;
         holds = (why, is, at.holds);
       }
-      | inr pair ↦ inr record { pair = pair.pair; waits = pair.waits; multipliers = fails.multipliers; is = refl; why = why; told = is; fails = pair.fails }
+      | inr pair ↦ inr (inl record { pair = pair.pair; waits = pair.waits; multipliers = fails.multipliers; is = refl; why = why; told = is; fails = pair.fails })
     ]))
 
 reason : (subject : Subject) (s : Standing) (number : ℕ) (l : Line) (f : CertFault) → IsAtFault subject s number l f → Reason subject s number l f
@@ -80,7 +87,7 @@ unfolding Reason AtWordFault PatternFault
 reason subject s number l (fault.Line n) at = misplaced_reason subject s number n l at.0 at.1
 reason subject s number l (fault.UnknownPattern n) (place, k, here, beyond) = subst (λ m. Reason subject s number m (fault.UnknownPattern n)) (sym here.is) (inr (here.free, inl (ap fault.UnknownPattern place, beyond)))
 reason subject s number l (fault.RepeatedPattern n) (place, k, here, old) = subst (λ m. Reason subject s number m (fault.RepeatedPattern n)) (sym here.is) (inr (here.free, inr (ap fault.RepeatedPattern place, old)))
-reason subject s number l (fault.Pair n) (place, bad) = subst (λ m. Reason subject s number m (fault.Pair n)) (sym bad.is) (inr (ap fault.Pair place, bad.takes))
+reason subject s number l (fault.Pair n) (place, bad) = subst (λ m. Reason subject s number m (fault.Pair n)) (sym bad.is) (inr (inr (inr record { before = bad.before; later = bad.later; is = refl; told = ap fault.Pair place; takes = bad.takes })))
 reason subject s number l (fault.ExtendComplete n) (place, is, at) =
     subst (λ m. Reason subject s number m (fault.ExtendComplete n)) (sym is) (inr (inl record { search = at.search; word = at.word; words = at.words; at = at.at; holds = ap fault.ExtendComplete place }))
 reason subject s number l (fault.SplitVariable n) (place, splits) =
@@ -97,6 +104,9 @@ node_once : (number : ℕ) (n : Node) (f g : CertFault) (p : Search) (w : Pendin
 unfolding AtWordFault
 node_once number node.Extend f g p w a b = a ∙ sym b
 node_once number (node.Split unknown floor) f g p w a b = a ∙ sym b
+node_once number (node.Guard guard) f g p w a b = absurd a
+node_once number (node.Order before later) f g p w a b = absurd a
+node_once number (node.Stuck rule) f g p w a b = absurd a
 node_once number (node.Leaf ts) f g p w (why, is, first) (other, that, second) = is ∙ ap (fault_at number) (leaf_fault_once p w ts why other first second) ∙ sym that
 
 -- and at the first word that is left
@@ -122,34 +132,59 @@ pattern_once subject s number k f g known (inr (is, old)) (inl (that, beyond)) =
 pattern_once subject s number k f g known (inr (is, old)) (inr (that, other)) = is ∙ sym that
 
 -- a node that stands at a word or is the leaf of a pair isn't misplaced
-placed_word : (subject : Subject) (s : Standing) (n : Node) (number : ℕ) (f : CertFault) → IsMisplaced subject.claim s (line.Tree n) → AtSomeWord subject s (AtWordFault number n f) → ⊥
-placed_word subject s n number f (inl idle) at = let none : [] ≡ (at.word ∷ at.words) = sym idle.done ∙ at.at.pending in cc
-placed_word subject s n number f (inr (waits, none)) at = none-some waits.pair (sym at.at.none ∙ waits.waits)
+idle_word : (subject : Subject) (s : Standing) (n : Node) (fact : Search → Pending → Type 0) → IsIdle s ⊎ (IsWaiting s × IsNoLeaf n) → AtSomeWord subject s fact → ⊥
+idle_word subject s n fact (inl idle) at = let none : [] ≡ (at.word ∷ at.words) = sym idle.done ∙ at.at.pending in cc
+idle_word subject s n fact (inr (waits, none)) at = none-some waits.pair (sym at.at.none ∙ waits.waits)
 
-placed_leaf : (subject : Subject) (s : Standing) (n : Node) (number : ℕ) (f : CertFault) → IsMisplaced subject.claim s (line.Tree n) → WaitFault subject s number n f → ⊥
-placed_leaf subject s n number f (inl idle) at = none-some at.pair (sym idle.none ∙ at.waits)
-placed_leaf subject s n number f (inr (waits, none)) at = (let leaf : IsNoLeaf (node.Leaf at.multipliers) = subst IsNoLeaf at.is none in leaf)
+placed_word : (subject : Subject) (s : Standing) (n : Node) (number : ℕ) (f : CertFault) → IsMisplacedNode s n → AtSomeWord subject s (AtWordFault number n f) → ⊥
+unfolding AtWordFault
+placed_word subject s (node.Guard guard) number f m at = at.holds
+placed_word subject s (node.Order before later) number f m at = at.holds
+placed_word subject s (node.Stuck rule) number f m at = at.holds
+placed_word subject s node.Extend number f m at = idle_word subject s node.Extend _ m at
+placed_word subject s (node.Split unknown floor) number f m at = idle_word subject s (node.Split unknown floor) _ m at
+placed_word subject s (node.Leaf ts) number f m at = idle_word subject s (node.Leaf ts) _ m at
+
+placed_leaf : (subject : Subject) (s : Standing) (n : Node) (number : ℕ) (f : CertFault) → IsMisplacedNode s n → WaitFault subject s number n f → ⊥
+placed_leaf subject s n number f m at = by (subst (IsMisplacedNode s) at.is m)
+  where
+    by : IsMisplacedNode s (node.Leaf at.multipliers) → ⊥
+    by (inl idle) = none-some at.pair (sym idle.none ∙ at.waits)
+    by (inr (waits, leaf)) = leaf
+
+placed_pair : (s : Standing) (n : Node) (number : ℕ) (f : CertFault) → IsMisplacedNode s n → JoinFault s number n f → ⊥
+placed_pair s n number f m at = let never : ¬ TakesOrder s = subst (IsMisplacedNode s) at.is m in never at.takes
+
+-- a pair is no leaf, and stands at no word
+word_or_pair : (subject : Subject) (s : Standing) (n : Node) (number : ℕ) (f g : CertFault) → AtSomeWord subject s (AtWordFault number n f) → JoinFault s number n g → ⊥
+unfolding AtWordFault
+word_or_pair subject s n number f g at pair =
+    let there : AtWordFault number (node.Order pair.before pair.later) f at.search at.word = subst (λ m. AtWordFault number m f at.search at.word) pair.is at.holds in
+    there
 
 reason_once : (subject : Subject) (s : Standing) (number : ℕ) (l : Line) (f g : CertFault) → KnowsBegun subject s → Reason subject s number l f → Reason subject s number l g → f ≡ g
 unfolding Reason
 reason_once subject s number (line.Header version) f g known a b = a ∙ sym b
-reason_once subject s number (line.Order before later) f g known (inl (is, never)) (inl (that, other)) = is ∙ sym that
-reason_once subject s number (line.Order before later) f g known (inl (is, never)) (inr (that, takes)) = absurd (never takes)
-reason_once subject s number (line.Order before later) f g known (inr (is, takes)) (inl (that, never)) = absurd (never takes)
-reason_once subject s number (line.Order before later) f g known (inr (is, takes)) (inr (that, also)) = is ∙ sym that
 reason_once subject s number (line.Pattern k) f g known (inl (is, left)) (inl (that, other)) = is ∙ sym that
 reason_once subject s number (line.Pattern k) f g known (inl (is, left)) (inr (done, why)) = absurd (left done)
 reason_once subject s number (line.Pattern k) f g known (inr (done, why)) (inl (is, left)) = absurd (left done)
 reason_once subject s number (line.Pattern k) f g known (inr (done, why)) (inr (also, because)) = pattern_once subject s number k f g known why because
 reason_once subject s number (line.Tree n) f g known (inl (is, m)) (inl (that, also)) = is ∙ sym that
 reason_once subject s number (line.Tree n) f g known (inl (is, m)) (inr (inl at)) = absurd (placed_word subject s n number g m at)
-reason_once subject s number (line.Tree n) f g known (inl (is, m)) (inr (inr at)) = absurd (placed_leaf subject s n number g m at)
+reason_once subject s number (line.Tree n) f g known (inl (is, m)) (inr (inr (inl at))) = absurd (placed_leaf subject s n number g m at)
+reason_once subject s number (line.Tree n) f g known (inl (is, m)) (inr (inr (inr at))) = absurd (placed_pair s n number g m at)
 reason_once subject s number (line.Tree n) f g known (inr (inl at)) (inl (is, m)) = absurd (placed_word subject s n number f m at)
-reason_once subject s number (line.Tree n) f g known (inr (inr at)) (inl (is, m)) = absurd (placed_leaf subject s n number f m at)
+reason_once subject s number (line.Tree n) f g known (inr (inr (inl at))) (inl (is, m)) = absurd (placed_leaf subject s n number f m at)
+reason_once subject s number (line.Tree n) f g known (inr (inr (inr at))) (inl (is, m)) = absurd (placed_pair s n number f m at)
 reason_once subject s number (line.Tree n) f g known (inr (inl at)) (inr (inl there)) = word_fault_once subject s number n f g at there
-reason_once subject s number (line.Tree n) f g known (inr (inl at)) (inr (inr wait)) = absurd (none-some wait.pair (sym at.at.none ∙ wait.waits))
-reason_once subject s number (line.Tree n) f g known (inr (inr wait)) (inr (inl at)) = absurd (none-some wait.pair (sym at.at.none ∙ wait.waits))
-reason_once subject s number (line.Tree n) f g known (inr (inr wait)) (inr (inr other)) = wait_fault_once subject s number n f g wait other
+reason_once subject s number (line.Tree n) f g known (inr (inl at)) (inr (inr (inl wait))) = absurd (none-some wait.pair (sym at.at.none ∙ wait.waits))
+reason_once subject s number (line.Tree n) f g known (inr (inl at)) (inr (inr (inr pair))) = absurd (word_or_pair subject s n number f g at pair)
+reason_once subject s number (line.Tree n) f g known (inr (inr (inl wait))) (inr (inl at)) = absurd (none-some wait.pair (sym at.at.none ∙ wait.waits))
+reason_once subject s number (line.Tree n) f g known (inr (inr (inr pair))) (inr (inl at)) = absurd (word_or_pair subject s n number g f at pair)
+reason_once subject s number (line.Tree n) f g known (inr (inr (inl wait))) (inr (inr (inl other))) = wait_fault_once subject s number n f g wait other
+reason_once subject s number (line.Tree n) f g known (inr (inr (inl wait))) (inr (inr (inr pair))) = absurd (none-some wait.pair (sym pair.takes.none ∙ wait.waits))
+reason_once subject s number (line.Tree n) f g known (inr (inr (inr pair))) (inr (inr (inl wait))) = absurd (none-some wait.pair (sym pair.takes.none ∙ wait.waits))
+reason_once subject s number (line.Tree n) f g known (inr (inr (inr pair))) (inr (inr (inr other))) = pair.told ∙ sym other.told
 reason_once subject s number line.End f g known a b = a ∙ sym b
 
 -- one standing, number and line have one fault

@@ -4,8 +4,8 @@ use Rattle.ta_cert.specs.declared.fault.CertFault.{CertFault}
 use Rattle.ta_cert.specs.declared.fault.CertFault.TheVariants as fault
 use Rattle.ta_cert.specs.declared.line.Line.{Line}
 use Rattle.ta_cert.specs.declared.reader.Reader.{Reader}
-use Rattle.ta_cert.specs.Laws.{IsErrOrMemory}
-use Rattle.ta_cert.specs.Streams.{StandsAt}
+use Rattle.ta_cert.specs.Relations.{IsErrOrMemory, StandsAt}
+use Rattle.ta_cert.specs.Streams.{state}
 use Rattle.ta_check.specs.declared.accepted.Accepted.{Accepted}
 use Rattle.ta_check.specs.declared.checker.Checker.{Checker}
 use Rattle.ta_check.specs.declared.position.Position.{Position}
@@ -20,7 +20,8 @@ use Rattle.ta_check.specs.Positions.{IsPositionAt}
 pub record StandBehind (subject : Subject) (reader : Reader) (position : Position) (text : List ℕ) : Type 0 where
   pub ls : List Line
   pub at : Standing
-  pub read : StandsAt reader text ls
+  pub going_on : reader.failed ≡ false
+  pub read : StandsAt (state reader) text ls
   pub leads : LeadThrough subject first_standing ls at
   pub place : IsPositionAt subject position at
 

@@ -10,7 +10,8 @@ use Rattle.ta_cert.specs.declared.line.Node.TheVariants as node
 use Rattle.ta_cert.specs.declared.fault.CertFault.{CertFault}
 use Rattle.ta_cert.specs.declared.fault.CertFault.TheVariants as fault
 use Rattle.ta_cert.specs.Lines.{cert_lines_text}
-use Rattle.ta_cert.specs.Streams.{AreLines, IsMalformed, IsTrailing, IsTruncated, line_number}
+use Rattle.ta_cert.specs.Laws.{AreLines, line_number}
+use Rattle.ta_cert.specs.Relations.{IsMalformed, IsTrailing, IsTruncated}
 use Rattle.ta_implied.specs.Orders.{MayJoin}
 use Rattle.ta_implied.specs.Refused.{FailsToShow}
 use Rattle.ta_encode.specs.Code.{SystemAt}
@@ -25,9 +26,8 @@ use Rattle.ta_check.specs.Lines.{Standing, AtWord, NothingIsLeft, TakesOrder, fi
 
 -- a node that is no leaf
 abbrev pub IsNoLeaf : Node → Type 0
-IsNoLeaf node.Extend = Unit {0}
-IsNoLeaf (node.Split unknown floor) = Unit {0}
 IsNoLeaf (node.Leaf multipliers) = ⊥
+IsNoLeaf _ = Unit {0}
 
 -- a pair waits for its leaf
 pub record IsWaiting (s : Standing) : Type 0 where
@@ -39,20 +39,27 @@ pub record IsIdle (s : Standing) : Type 0 where
   pub none : s.waiting ≡ None
   pub done : s.pending ≡ []
 
--- a line of a form that can't follow: a version that a certificate of the claim can't have, a pair where none may come, a proof or the end where it isn't free to come, a node where no word and no
--- pair waits for one, or one that is no leaf where a pair waits
+-- a node that can't follow, whatever it says: a pair where none may come, a question, a node where no word and no pair waits for one, or
+-- one that is no leaf where a pair waits
+abbrev pub IsMisplacedNode : Standing → Node → Type 0
+IsMisplacedNode s (node.Order before later) = ¬ TakesOrder s
+IsMisplacedNode s (node.Guard guard) = Unit {0}
+IsMisplacedNode s (node.Stuck rule) = Unit {0}
+IsMisplacedNode s n = IsIdle s ⊎ (IsWaiting s × IsNoLeaf n)
+
+-- a line of a form that can't follow: a version that a certificate of the claim can't have, a proof or the end where it isn't free to come, or
+-- such a node
 abbrev pub IsMisplaced : Claim → Standing → Line → Type 0
 IsMisplaced claim s (line.Header version) = ¬ HasVersion claim version
-IsMisplaced claim s (line.Order before later) = ¬ TakesOrder s
 IsMisplaced claim s (line.Pattern number) = ¬ NothingIsLeft s
-IsMisplaced claim s (line.Tree node) = IsIdle s ⊎ (IsWaiting s × IsNoLeaf node)
+IsMisplaced claim s (line.Tree node) = IsMisplacedNode s node
 IsMisplaced claim s line.End = ¬ NothingIsLeft s
 
 -- a pair's line where one may come, and the pair may not join those before it
 pub record IsBadOrder (subject : Subject) (s : Standing) (l : Line) : Type 0 where
   pub before : ℕ
   pub later : ℕ
-  pub is : l ≡ line.Order before later
+  pub is : l ≡ line.Tree (node.Order before later)
   pub takes : TakesOrder s
   pub bad : ¬ MayJoin subject.file.automaton s.pairs (before, later)
 

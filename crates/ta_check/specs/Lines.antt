@@ -51,7 +51,9 @@ pub record OpensCertificate (subject : Subject) (s : Standing) (version : ℕ) (
   pub leads : after ≡ record s { version = version }
 
 -- a pair comes that may join those before it
-pub record Waits (subject : Subject) (s : Standing) (pair : ℕ × ℕ) (after : Standing) : Type 0 where
+pub record Waits (subject : Subject) (s : Standing) (n : Node) (after : Standing) : Type 0 where
+  pub pair : ℕ × ℕ
+  pub is : n ≡ node.Order pair.0 pair.1
   pub takes : TakesOrder s
   pub may : MayJoin subject.file.automaton s.pairs pair
   pub leads : after ≡ record s { waiting = Some pair }
@@ -86,12 +88,11 @@ pub record EndsCertificate (s after : Standing) : Type 0 where
   pub free : NothingIsLeft s
   pub leads : after ≡ s
 
--- a line may follow, and leads there; that the first line alone is the header is a matter of the text
+-- a line may follow, and leads there; that the first line alone is the header is a matter of the text. No question may
 abbrev pub Leads : Subject → Standing → Line → Standing → Type 0
 Leads subject s (line.Header version) after = OpensCertificate subject s version after
-Leads subject s (line.Order before later) after = Waits subject s (before, later) after
 Leads subject s (line.Pattern number) after = BeginsProof subject s number after
-Leads subject s (line.Tree node) after = Stands subject s node after ⊎ ShowsWaiting subject s node after
+Leads subject s (line.Tree node) after = Stands subject s node after ⊎ (ShowsWaiting subject s node after ⊎ Waits subject s node after)
 Leads subject s line.End after = EndsCertificate s after
 
 -- lines may follow each other from there, and lead there

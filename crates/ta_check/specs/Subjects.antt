@@ -1,5 +1,5 @@
 -- What a certificate is judged for
-use Rattle.std.specs.Prelude.{ℕ, ◌≡◌, List, slice_get, Option, Some, None}
+use Rattle.std.specs.Prelude.{ℕ, ◌≤◌, ◌≡◌, List, slice_get, Option, Some, None}
 use Rattle.ta_automaton.specs.declared.automaton.Automaton.{Automaton}
 use Rattle.ta_automaton.specs.declared.file.File.{File}
 use Rattle.ta_automaton.specs.declared.pattern.Pattern.{Pattern}
@@ -25,9 +25,9 @@ search_in claim a pairs (Some p) = Some (search_for claim a p pairs)
 abbrev pub search_at : Subject → List (ℕ × ℕ) → ℕ → Option Search
 search_at subject pairs number = search_in subject.claim subject.file.automaton pairs (slice_get subject.file.patterns number)
 
--- a version that a certificate may have: for rest there is none with pairs
+-- a version that a certificate may have: none has questions yet, and for rest none has pairs
 abbrev pub HasVersion : Claim → ℕ → Type 0
-HasVersion Safe version = Unit {0}
+HasVersion Safe version = version ≤ 2
 HasVersion RestSafe version = version ≡ 1
 
 -- what is claimed holds of the file's pattern of a number

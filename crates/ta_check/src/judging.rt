@@ -4,8 +4,8 @@
 ghost use Rattle.std.specs.Prelude.{ℕ, ◌≡◌, ◌↔◌, IsTrue, None, Some, reverse, ◌≢◌, IfErr};
 ghost use Rattle.ta_base.specs.Masks.{In};
 ghost use Rattle.ta_cert.specs.Lines.{ArePairs, IsLine, IsNode, IsSplit};
-ghost use Rattle.ta_cert.specs.declared.line.Line.TheVariants.{End, Header, Order, Pattern, Tree};
-ghost use Rattle.ta_cert.specs.declared.line.Node.TheVariants.{Extend, Leaf, Split};
+ghost use Rattle.ta_cert.specs.declared.line.Line.TheVariants.{End, Header, Pattern, Tree};
+ghost use Rattle.ta_cert.specs.declared.line.Node.TheVariants.{Extend, Leaf, Order, Split};
 ghost use Rattle.ta_check.specs.Subjects.{HasVersion, Subject, claiming};
 ghost use Rattle.ta_check.specs.Lines.{NothingIsLeft, Standing, TakesOrder};
 ghost use Rattle.ta_check.specs.Positions.{IsPositionAt, IsSomewhere, LineAnswers};
@@ -36,9 +36,6 @@ impl Position {
     {
         match line {
             Line::Header(version) => self.take_header(claim, file, number, *version),
-            Line::Order { before, after } => {
-                self.take_order(claim, file, number, *before, *after)
-            },
             Line::Pattern(pattern) => self.begin(alloc, claim, file, number, *pattern),
             Line::Tree(node) => self.take_tree(alloc, claim, file, number, node),
             Line::End => self.end(number),
@@ -91,7 +88,7 @@ impl Position {
         before: u32,
         after: u32,
     ) -> Result<(), CertFault>
-        ensures taken { (at : Standing) → IsPositionAt (claiming claim file.now) self.old at → LineAnswers (claiming claim file.now) at number (Order before after) self.new result }
+        ensures taken { (at : Standing) → IsPositionAt (claiming claim file.now) self.old at → LineAnswers (claiming claim file.now) at number (Tree (Order before after)) self.new result }
         ensures no_memory { IfErr result (λ fault. fault ≢ CertFault.Memory) }
     {
         if !self.takes_order() {
@@ -104,8 +101,8 @@ impl Position {
         Ok(())
     }
 
-    /// Takes the line of a node: the leaf of the pair that waits, or a node of the proof that is
-    /// being read.
+    /// Takes the line of a node: the leaf of the pair that waits, a node of the proof that is being
+    /// read, or a pair. No question is taken.
     fn take_tree(
         &mut self,
         alloc: Global,
@@ -121,7 +118,7 @@ impl Position {
         let Some((before, after)) = self.waiting else {
             return match self.current {
                 Some(pattern) => self.take_node(alloc, claim, file, number, pattern, node),
-                None => Err(CertFault::Line(number)),
+                None => self.take_pair(claim, file, number, node),
             };
         };
         match node {
@@ -134,7 +131,30 @@ impl Position {
                 after,
                 multipliers.as_slice(),
             ),
-            Node::Extend | Node::Split { .. } => Err(CertFault::Line(number)),
+            Node::Extend
+            | Node::Split { .. }
+            | Node::Guard(_)
+            | Node::Order { .. }
+            | Node::Stuck(_) => Err(CertFault::Line(number)),
+        }
+    }
+
+    /// Takes the line of a node where no pair waits and no proof is being read: that of a pair.
+    fn take_pair(
+        &mut self,
+        claim: Claim,
+        file: &File,
+        number: u64,
+        node: &Node,
+    ) -> Result<(), CertFault>
+        requires none { self.old.waiting ≡ None }
+        requires nowhere { self.old.current ≡ None }
+        ensures { (at : Standing) → IsPositionAt (claiming claim file.now) self.old at → LineAnswers (claiming claim file.now) at number (Tree node.now) self.new result }
+    {
+        match node {
+            Node::Order { before, after } => self.take_order(claim, file, number, *before, *after),
+            Node::Extend | Node::Split { .. } | Node::Leaf(_) | Node::Guard(_) | Node::Stuck(_) =>
+                Err(CertFault::Line(number)),
         }
     }
 
@@ -246,6 +266,7 @@ impl Position {
             Node::Leaf(multipliers) => {
                 self.take_leaf(alloc, claim, file, number, pattern, multipliers.as_slice())
             }
+            Node::Guard(_) | Node::Order { .. } | Node::Stuck(_) => Err(CertFault::Line(number)),
         }
     }
 
@@ -336,7 +357,7 @@ fn has_version(claim: Claim, version: u8) -> bool
     ensures { IsTrue result ↔ HasVersion claim version }
 {
     match claim {
-        Claim::Safe => true,
+        Claim::Safe => version <= 2,
         Claim::RestSafe => version == 1,
     }
 }

@@ -65,6 +65,9 @@ read_first s test (suc n) w ws (node.Split unknown floor ∷ ns) b h =
       others = high.others;
       shorter = omega (arith, low.shorter, high.shorter);
     }
+read_first s test (suc n) w ws (node.Guard guard ∷ ns) b h = absurd h.0
+read_first s test (suc n) w ws (node.Order before after ∷ ns) b h = absurd h.0
+read_first s test (suc n) w ws (node.Stuck rule ∷ ns) b h = absurd h.0
 
 mutual
   unfolding RefutesBy

@@ -102,6 +102,9 @@ none_solved a test leaf (v ∷ ws) (node.Split unknown floor ∷ nodes) h w (inl
     ]
 none_solved a test leaf (v ∷ ws) (node.Split unknown floor ∷ nodes) h w (inr i) vs holds =
     none_solved a test leaf (bounded v (bound_at unknown floor Low) ∷ bounded v (bound_at unknown floor High) ∷ ws) nodes h.1 w (inr (inr i)) vs holds
+none_solved a test leaf (v ∷ ws) (node.Guard guard ∷ nodes) h w i vs holds = absurd h.0
+none_solved a test leaf (v ∷ ws) (node.Order before after ∷ nodes) h w i vs holds = absurd h.0
+none_solved a test leaf (v ∷ ws) (node.Stuck rule ∷ nodes) h w i vs holds = absurd h.0
 
 -- where nodes refute the sample system, no parameters have an initial configuration
 pub none_starts : (a : Automaton) (test : LeafTest) → ((w : Pending) (ts : List (ℕ × ℤ)) → test w ts → IsLeaf (sample_search a) w ts) → (nodes : List Node) → RefutedInOrder (sample_search a) test (sample_search a).roots nodes → (parameters : List ℕ) → ¬ HasStart a parameters

@@ -8,11 +8,13 @@ use Rattle.ta_encode.specs.Refutes.{IsLeaf, ProofBy}
 pub use Rattle.ta_encode.specs.Search.{LeafTest, Pending, Search, bounded, longer, parts}
 pub use Rattle.ta_encode.specs.PatternSearch.{all_starts, pattern_search}
 
--- whether a node may stand at a word: a leaf that meets the test, more elements of a word that isn't complete, or a split of an unknown of its system
+-- whether a node may stand at a word: a leaf that meets the test, more elements of a word that isn't complete, or a split of an unknown of its system;
+-- no question of version 3 does
 abbrev pub MayStand : Search → LeafTest → Pending → Node → Type 0
 MayStand s test w (node.Leaf ts) = test w ts
 MayStand s test w node.Extend = s.complete w.start w.past ≡ false
 MayStand s test w (node.Split unknown floor) = unknown < s.unknowns w.start w.past
+MayStand s test w _ = ⊥
 
 -- each node stands at the first word that is left, and what the node leaves of it comes in its place
 abbrev pub RefutedInOrder : Search → LeafTest → List Pending → List Node → Type 0

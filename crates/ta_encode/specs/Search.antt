@@ -42,11 +42,12 @@ pub record SolvesAt (s : Search) (w : Pending) (vs : List ℕ) : Type 0 where
   pub count : length vs ≡ s.unknowns w.start w.past
   pub rows_hold : AllHold vs (bounded_rows s w)
 
--- what a node leaves to be refuted of the word at which it stands
+-- what a node leaves to be refuted of the word at which it stands; a question of version 3 stands at none
 abbrev pub parts : Search → Pending → Node → List Pending
 parts s w (node.Leaf ts) = []
 parts s w node.Extend = map (longer w) (s.following w.start w.past)
 parts s w (node.Split unknown floor) = bounded w (bound_at unknown floor Low) ∷ bounded w (bound_at unknown floor High) ∷ []
+parts s w _ = []
 
 -- a search begins with a word
 abbrev pub BeginsAtWord : Search → ℕ → List Element → Type 0

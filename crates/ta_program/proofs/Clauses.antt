@@ -1,7 +1,8 @@
 -- from how a run ends to its clauses
 use Rattle.ta_program.proofs.Common.{◌≡◌, ◌≢◌, ◌≤◌, ◌+◌, ℕ, zero, Bool, true, false, List, [], ◌∷◌, Option, None, Some, refl, sym, ap, subst, ◌∙◌, inl, arith, rules, codes, if◌then◌else◌, list_any, AllByRecursion, bytes_eq, or_parts, File, Pattern, PatternSafe, one_legal, printed_proved, printed_rest_proved, printed_rest_safe, told_safe, check_text, rest_check_text, report_of, Verdict, Safe, Unsafe, Spent, Overflow, filled_text, Grew, OthersStay, Told, WhereTold, with_text, answered, hindered, kept_refused, never_five, whole_one, Decides, Meaning, IsAnswered, Performs, Quiet, ShelfState, SinkState, State, HoldsPut, HoldsText, KeptBut, Stand, put_bytes, View, in_files, seen, run_text, unit_steps, Answer, Put, plain_tree, Asked, LegalFile, Runs, ask, ask_where, Command, NoCommand, BenchHolds, bench_meaning, bench_of, bench_status, bench_words, CheckHolds, check_meaning, check_of, IsFile, file_kind, EachPrintedUnsafe, EachToldSafe, rest_telling, verify_telling, AdmitAsked, AdmitHolds, admit_meaning, admit_of, admit_words, ExportHolds, export_meaning, export_of, export_words, Admitting, Benches, CertificateWritten, CheckProves, ExactlySo, Exports, KeepsFiles, PassesLegal, PrintedHolds, ReplayShows, RestProves, RestsReport, RunShortens, Searches, VerifyReports, put_by, CompressHolds, compress_meaning, compress_of, ReplayHolds, replay_meaning, replay_of, request_of, ClaimHolds, claiming, rest_text, RestOccurs, RestSafe, RestCertificateStands, RestReportHolds, rest_meaning, RestCheckHolds, rest_check_meaning, LegalAtRest, rest_check_of, rest_of, rest_words, CertificateStands, ReportHolds, verify_meaning, VerdictHolds, VerdictsHold, is_unsafe, is_unknown, LegalTemplate, SearchHolds, end_number, leaves_unknown, search_meaning, SearchWords, search_of, search_words, TwoNames, two_names, VerifyWords, verify_of, verify_words, WordAsked, behind_name, map, pair_of, held, held_by, false_from_ne_true}
 use Rattle.ta_automaton.specs.Runs as runs
-use Rattle.ta_program.specs.Headline.{EachPatternSafe, EachPrinted, HoldsFile, SomePatternOccurs, StatusTells}
+use Rattle.ta_program.specs.Headline.{EachPatternSafe, EachPrinted, HoldsFile, ShownOccurs, SomePatternOccurs, StatusTells}
+use Rattle.ta_replay.proofs.Occurring.{shown_occurs}
 use Rattle.ta_check.proofs.OwnPatterns.{all_own}
 use Rattle.ta_claim.specs.declared.claim.Claim.TheVariants as claim
 use Rattle.ta_program.proofs.AtRest.{rest_safe_at, rest_unsafe_printed}
@@ -401,6 +402,28 @@ module _ (words : List (List ℕ)) (number : ℕ) (before after : State) (h : Ru
         occurs = occurrence.occurs;
       }
 
+  occurs_shown : (name run : List ℕ) (view : View) → ReplayHolds view name run before.out.written after.out.written → ShownOccurs view name run
+  occurs_shown name run view r =
+      let s = r.is_run.means in
+      record {
+        file = r.file;
+        holds = holds_file view name r.file r.is_file;
+        run = r.run;
+        bytes = r.is_run.bytes;
+        held = r.is_run.had.seen;
+        text = s.text;
+        pattern = s.shows.pattern;
+        named = s.shows.named;
+        first = s.shows.shows.first;
+        begins = s.shows.shows.begins;
+        occurs = shown_occurs r.file r.run s.shows;
+      }
+
+  safe_in_lines : (name : List ℕ) (budget : ℕ) (view : View) → ReportHolds number view name budget false before.out.written after.out.written → EachPrinted runs.Safe (codes "safe, ") view name before.out.written after.out.written
+  safe_in_lines name budget view r =
+      let e = printed_verify name budget false view r in
+      record { file = e.file; holds = e.holds; text = e.text; gained = e.gained; holds_of = e.safe }
+
   pub status_tells : ZeroSays → StatusTells number words before.shelf.files before.shelf.calls after.shelf.calls before.out.written after.out.written
   status_tells zero_says = record {
     safe = λ asked is none. gives_verify asked is (omega (arith, none)) (λ view. EachPatternSafe view asked.file) (λ view a.
@@ -413,6 +436,8 @@ module _ (words : List (List ℕ)) (number : ℕ) (before after : State) (h : Ru
     proved = printed_holds.proved;
     rest_safe = printed_holds.rest_safe;
     rest_proved = printed_holds.rest_proved;
+    safe_lines = λ asked is plain low. gives_verify asked is low (λ view. EachPrinted runs.Safe (codes "safe, ") view asked.file before.out.written after.out.written) (λ view a. safe_in_lines asked.file asked.nodes view (subst (λ (json : Bool). ReportHolds number view asked.file asked.nodes json before.out.written after.out.written) plain (reported asked.file asked.nodes asked.json asked.out view a)));
+    shown = λ asked is none. gives (replay_meaning asked.file asked.other) (as_replay asked is) (omega (arith, none)) (λ view. ShownOccurs view asked.file asked.other) (λ view a. occurs_shown asked.file asked.other view (shown asked.file asked.other view a));
   }
 
 pub quiet : (asked : Asked) (number : ℕ) (before after : State) → Runs asked number before after → Quiet number before after

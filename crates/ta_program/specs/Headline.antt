@@ -3,7 +3,7 @@
 -- pattern that the output says is proved occurs in no run. `rest FILE` and `rest-check FILE CERT`: of each pattern that the output says is safe
 -- or proved so, no run in which it occurs comes to rest where its last event happens. Who believes this reads these definitions and those that they name, and
 -- no others.
-use Rattle.std.specs.Prelude.{ℕ, ◌≤◌, ◌≡◌, List, codes, slice_get, Option, Some}
+use Rattle.std.specs.Prelude.{ℕ, ◌≤◌, ◌≡◌, false, List, codes, slice_get, Option, Some}
 use Rattle.std.specs.List.{AllByRecursion}
 use Rattle.ta_syntax.specs.Grammar.{PlainTree}
 use Rattle.ta_syntax.specs.TreeOf.{IsTextOf}
@@ -12,6 +12,9 @@ use Rattle.ta_automaton.specs.declared.file.File.{File}
 use Rattle.ta_automaton.specs.declared.pattern.Pattern.{Pattern}
 use Rattle.ta_automaton.specs.Runs as runs
 use Rattle.ta_meaning.specs.Meaning.{MeansTree}
+use Rattle.ta_replay.specs.declared.run.Run.{Run}
+use Rattle.ta_replay.specs.RunText.{IsRunText}
+use Rattle.ta_replay.specs.Shows.{IsFirstConfig, unit_steps}
 use Rattle.ta_report.specs.Printed.{HasLine, told_of}
 use Rattle.ta_shelf.specs.Calls.{Call, Grew}
 use Rattle.ta_shelf.specs.Put.{Told}
@@ -19,6 +22,7 @@ use Rattle.ta_shelf.specs.Sink.{with_text}
 use Rattle.ta_shell.specs.Sights.{View, Whole, seen}
 use Rattle.ta_rest.specs.Rest.{RestSafe}
 use Rattle.ta_program.specs.Check.{check_of}
+use Rattle.ta_program.specs.Replay.{replay_of}
 use Rattle.ta_program.specs.RestWords.{rest_check_of, rest_of}
 use Rattle.ta_program.specs.Values.{TwoNames}
 use Rattle.ta_program.specs.VerifyWords.{VerifyWords, verify_of}
@@ -56,6 +60,21 @@ pub record EachPrinted (Fact : Automaton → Pattern → Type 0) (word : List �
   pub gained : written' ≡ with_text written text
   pub holds_of : (number : ℕ) (p : Pattern) → slice_get file.patterns number ≡ Some p → HasLine (told_of p.name word) text → Fact file.automaton p
 
+-- a name holds a file, and another name the text of a run of it: from a first configuration with the run's parameters and start counts the
+-- pattern that the run names occurs in its steps
+pub record ShownOccurs (view : View) (name run_name : List ℕ) : Type 0 where
+  pub file : File
+  pub holds : HoldsFile view name file
+  pub run : Run
+  pub bytes : List ℕ
+  pub held : view run_name (Whole bytes)
+  pub text : IsRunText file run bytes
+  pub pattern : Pattern
+  pub named : slice_get file.patterns run.pattern ≡ Some pattern
+  pub first : runs.Config
+  pub begins : IsFirstConfig file.automaton run first
+  pub occurs : runs.Occurs file.automaton pattern first (unit_steps run.lines)
+
 -- `verify FILE` with status 0 and with status 1, and `check FILE CERT` with status 0, of what is seen in the calls of the run and
 -- in the files
 pub record StatusTells (number : ℕ) (words : List (List ℕ)) (files : Option Told) (calls calls' : List Call) (written written' : Option (List ℕ)) : Type 0 where
@@ -64,3 +83,5 @@ pub record StatusTells (number : ℕ) (words : List (List ℕ)) (files : Option 
   pub proved : (asked : TwoNames) → check_of words ≡ Some asked → number ≡ 0 → Grew (λ read. EachPrinted runs.Safe (codes "proved") (seen files read) asked.file written written') calls calls'
   pub rest_safe : (asked : VerifyWords) → rest_of words ≡ Some asked → number ≤ 2 → Grew (λ read. EachPrinted RestSafe (codes "rest safe, ") (seen files read) asked.file written written') calls calls'
   pub rest_proved : (asked : TwoNames) → rest_check_of words ≡ Some asked → number ≡ 0 → Grew (λ read. EachPrinted RestSafe (codes "rest proved") (seen files read) asked.file written written') calls calls'
+  pub safe_lines : (asked : VerifyWords) → verify_of words ≡ Some asked → asked.json ≡ false → number ≤ 2 → Grew (λ read. EachPrinted runs.Safe (codes "safe, ") (seen files read) asked.file written written') calls calls'
+  pub shown : (asked : TwoNames) → replay_of words ≡ Some asked → number ≡ 0 → Grew (λ read. ShownOccurs (seen files read) asked.file asked.other) calls calls'

@@ -21,6 +21,7 @@ use Rattle.ta_program.specs.Asked.{Runs}
 use Rattle.ta_verdict.specs.Certificates.{safe_numbers}
 use Rattle.ta_program.specs.Check.{check_of}
 use Rattle.ta_program.specs.Kinds.{IsFile}
+use Rattle.ta_program.specs.Printed.{Telling, rest_telling}
 use Rattle.ta_program.specs.Replay.{replay_of}
 use Rattle.ta_program.specs.Requests.{request_of}
 use Rattle.ta_program.specs.RestWords.{rest_check_of, rest_of}
@@ -52,6 +53,21 @@ PrintedRunsAreReplayed =
     → (asked : VerifyWords) → verify_of words ≡ Some asked → number ≤ 2
     → (told : Told) → before.shelf.files ≡ Some told
     → PrintsReplayed asked.json told asked.file before after
+
+-- the output gained a text, and what it tells in some way as the run of an unsafe pattern of FILE is replayed
+pub record TellsReplayed (telling : Telling) (told : Told) (name : List ℕ) (before after : State) : Type 0 where
+  pub file : File
+  pub text : List ℕ
+  pub gained : after.out.written ≡ with_text before.out.written text
+  pub replayed : (number : ℕ) (p : Pattern) → slice_get file.patterns number ≡ Some p → telling.unsafe_ p.name text → (bytes : List ℕ) → telling.run p.name bytes text → IsReplayed told name bytes
+
+-- what `rest FILE` prints as a run with status 0, 1 or 2 over told files, `replay` shows
+abbrev pub PrintedRestRunsAreReplayed : Type 0
+PrintedRestRunsAreReplayed =
+    (words : List (List ℕ)) (number : ℕ) (before after : State) → Runs (request_of words) number before after
+    → (asked : VerifyWords) → rest_of words ≡ Some asked → number ≤ 2
+    → (told : Told) → before.shelf.files ≡ Some told
+    → TellsReplayed rest_telling told asked.file before after
 
 -- a run ended with 0 and the output gained this text; or it ended with 6 or 7
 abbrev pub SaysOrFails : List ℕ → ℕ → State → State → Type 0

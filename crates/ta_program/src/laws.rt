@@ -4,6 +4,7 @@
 
 ghost use Rattle.ta_program.specs.Laws.{
   FoundIsAccepted,
+  PrintedRestRunsAreReplayed,
   PrintedRunsAreReplayed,
   WrittenAtRestIsAccepted,
   WrittenIsAccepted,
@@ -12,6 +13,11 @@ ghost use Rattle.ta_program.specs.Laws.{
 /// What `verify` prints as a run `replay` shows.
 pub fn printed_runs_are_replayed()
     ensures { PrintedRunsAreReplayed }
+{}
+
+/// What `rest` prints as a run `replay` shows.
+pub fn printed_rest_runs_are_replayed()
+    ensures { PrintedRestRunsAreReplayed }
 {}
 
 /// The certificate that `verify` puts `check` accepts, for exactly the patterns that it reports safe.

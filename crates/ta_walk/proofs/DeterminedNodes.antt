@@ -22,6 +22,12 @@ node_once s w (node.Split x k) node.Extend h g = absurd (true≢false (sym h.com
 node_once s w (node.Split x k) (node.Split y n) h g =
     let same = split_same s w x y k n h g in
     ap (λ (z : ℕ). node.Split z k) same.unknown ∙ ap (λ (f : ℤ). node.Split y f) same.floor
+node_once s w m (node.Guard guard) h g = absurd g
+node_once s w m (node.Order before after) h g = absurd g
+node_once s w m (node.Stuck rule) h g = absurd g
+node_once s w (node.Guard guard) n h g = absurd h
+node_once s w (node.Order before after) n h g = absurd h
+node_once s w (node.Stuck rule) n h g = absurd h
 
 pub whole_once : (s : Search) (w : Pending) (ks ns : List ℤ) → WholeAt s w ks → WholeAt s w ns → ks ≡ ns
 whole_once s w ks ns h g =
@@ -35,6 +41,9 @@ whole_is_no_node s w ks node.Extend h g = true≢false (sym h.complete ∙ g.goi
 whole_is_no_node s w ks (node.Split x k) h g =
     let values = values_at s w g.values h.values g.vertex h.vertex in
     whole_has_no_split h.values ks x k h.whole (subst (λ (fs : List Fraction). SplitsAt fs x k) values g.splits)
+whole_is_no_node s w ks (node.Guard guard) h g = absurd g
+whole_is_no_node s w ks (node.Order before after) h g = absurd g
+whole_is_no_node s w ks (node.Stuck rule) h g = absurd g
 
 -- nor does one stand where a number leaves the range
 pub leaving_is_no_node : (s : Search) (w : Pending) (j : PlaceKind) (n : Node) → IsOutOfRangeAt s w j → NodeAt s w n → ⊥
@@ -44,6 +53,9 @@ leaving_is_no_node s w (kind.Pivot c) (node.Split x k) h g = no_overflow_vertex 
 leaving_is_no_node s w kind.Leaf (node.Leaf ts) h g = h.leaves (subst (LeafStays (bounded_rows s w)) (multipliers_at s w ts h.multipliers g.refuted h.refuted) g.in_range)
 leaving_is_no_node s w kind.Leaf node.Extend h g = no_vertex s w h.multipliers g.values h.refuted g.vertex
 leaving_is_no_node s w kind.Leaf (node.Split x k) h g = no_vertex s w h.multipliers g.values h.refuted g.vertex
+leaving_is_no_node s w j (node.Guard guard) h g = absurd g
+leaving_is_no_node s w j (node.Order before after) h g = absurd g
+leaving_is_no_node s w j (node.Stuck rule) h g = absurd g
 leaving_is_no_node s w kind.Run n h g = absurd h
 
 pub leaving_is_not_whole : (s : Search) (w : Pending) (j : PlaceKind) (ks : List ℤ) → IsOutOfRangeAt s w j → WholeAt s w ks → ⊥

@@ -17,6 +17,9 @@ parts_few : (s : Search) (most : ℕ) (w : Pending) (n : Node) → HasFewBounds 
 parts_few s most w (node.Leaf ts) few = tt
 parts_few s most w node.Extend few = longer_few (most + 1) w (s.following w.start w.past) (omega arith)
 parts_few s most w (node.Split unknown floor) few = (bounded_few most w (bound_at unknown floor Low) few, (bounded_few most w (bound_at unknown floor High) few, tt))
+parts_few s most w (node.Guard guard) few = tt
+parts_few s most w (node.Order before after) few = tt
+parts_few s most w (node.Stuck rule) few = tt
 
 pub few_left : (s : Search) (most : ℕ) (ws : List Pending) (ns : List Node) (rest : List Pending) → AllByRecursion (HasFewBounds most) ws → Visits s ws ns rest → AllByRecursion (HasFewBounds (most + length ns)) rest
 few_left s most ws [] rest all v = few_more most (most + 0) rest (omega arith) (subst (AllByRecursion (HasFewBounds most)) (sym v) all)

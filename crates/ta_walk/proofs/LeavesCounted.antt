@@ -7,12 +7,18 @@ leaves_more [] n = omega arith
 leaves_more (node.Leaf ts ∷ ns) n = let rest = leaves_more ns n in omega arith
 leaves_more (node.Extend ∷ ns) n = leaves_more ns n
 leaves_more (node.Split unknown floor ∷ ns) n = leaves_more ns n
+leaves_more (node.Guard guard ∷ ns) n = leaves_more ns n
+leaves_more (node.Order before after ∷ ns) n = leaves_more ns n
+leaves_more (node.Stuck rule ∷ ns) n = leaves_more ns n
 
 pub leaves_few : (ns : List Node) → leaf_count ns ≤ length ns
 leaves_few [] = omega arith
 leaves_few (node.Leaf ts ∷ ns) = let rest = leaves_few ns in omega arith
 leaves_few (node.Extend ∷ ns) = let rest = leaves_few ns in omega arith
 leaves_few (node.Split unknown floor ∷ ns) = let rest = leaves_few ns in omega arith
+leaves_few (node.Guard guard ∷ ns) = let rest = leaves_few ns in omega arith
+leaves_few (node.Order before after ∷ ns) = let rest = leaves_few ns in omega arith
+leaves_few (node.Stuck rule ∷ ns) = let rest = leaves_few ns in omega arith
 
 pub leaves_below : (ns : List Node) (count leaves budget : ℕ) → leaves ≡ leaf_count ns → length ns ≡ count → count < budget → budget ≤ 1000000000 → leaves < 1000000000
 leaves_below ns count leaves budget counted done below limit = let few = leaves_few ns in omega arith

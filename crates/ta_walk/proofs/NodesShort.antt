@@ -27,6 +27,9 @@ node_short : (n : Node) → IsNode n → HasFewPairs n → IsShort n
 node_short (node.Leaf ts) is few = omega (arith, pairs_short 0 ts is.1, few)
 node_short node.Extend is few = omega arith
 node_short (node.Split unknown floor) is few = omega (arith, split_short unknown floor is)
+node_short (node.Guard guard) is few = omega (arith, row_short guard is)
+node_short (node.Order before after) is few = omega (arith, length-append (decimal before) (codes " " ++ decimal after), row_short before is.0, row_short after is.1)
+node_short (node.Stuck rule) is few = omega (arith, row_short rule is)
 
 pub nodes_short : (ns : List Node) → AllByRecursion IsNode ns → AllByRecursion HasFewPairs ns → AllByRecursion IsShort ns
 nodes_short [] are few = tt
@@ -40,6 +43,9 @@ node_few claim a p pairs w (node.Leaf ts) over legal stands =
     omega (arith, few_multipliers s ts stands.refuted.holds, few_unknowns a p w.start w.past over legal, claim_unknowns claim a p pairs w.start w.past)
 node_few claim a p pairs w node.Extend over legal stands = tt
 node_few claim a p pairs w (node.Split unknown floor) over legal stands = tt
+node_few claim a p pairs w (node.Guard guard) over legal stands = tt
+node_few claim a p pairs w (node.Order before after) over legal stands = tt
+node_few claim a p pairs w (node.Stuck rule) over legal stands = tt
 
 -- each node that is visited has few pairs
 pub nodes_few : (claim : Claim) (a : Automaton) (p : Pattern) (pairs : List (ℕ × ℕ)) → PatternOver a p → (most : ℕ) (ws : List Pending) (ns : List Node) (rest : List Pending) → AllByRecursion (Waits (search_for claim a p pairs) most) ws → Visits (search_for claim a p pairs) ws ns rest → AllByRecursion HasFewPairs ns

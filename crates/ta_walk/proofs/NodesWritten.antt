@@ -30,3 +30,6 @@ node_written search w (node.Split unknown floor) few at =
     let unknowns = at.vertex.is.unknowns in
     let below = split_within search w unknown floor at in
     split_fits search w unknown floor at (omega arith)
+node_written search w (node.Guard guard) few at = absurd at
+node_written search w (node.Order before after) few at = absurd at
+node_written search w (node.Stuck rule) few at = absurd at

@@ -33,7 +33,7 @@ order_of a o is r = record {
 }
 
 -- the lines of an order are short
-guards_short : (o : Order) → IsOrder o → length (line_text (line.Order o.before o.after)) ≤ line_limit
+guards_short : (o : Order) → IsOrder o → length (line_text (line.Tree (node.Order o.before o.after))) ≤ line_limit
 guards_short o is = omega (arith, length-append (decimal o.before) (codes " " ++ decimal o.after), row_short o.before is.before, row_short o.after is.after)
 
 leaf_short : (a : Automaton) (o : Order) → RefutedPair a o.before o.after o.multipliers → length (line_text (line.Tree (node.Leaf o.multipliers))) ≤ line_limit
@@ -41,7 +41,7 @@ leaf_short a o r =
     let few = few_of_pair a o.before o.after r.system r.is in
     omega (arith, pairs_short 0 o.multipliers (leaf_pairs a o r), few_multipliers r.system o.multipliers r.refuted)
 
-short_push : (os : List Order) (o : Order) → AreShort (order_lines os) → length (line_text (line.Order o.before o.after)) ≤ line_limit → length (line_text (line.Tree (node.Leaf o.multipliers))) ≤ line_limit → AreShort (order_lines (os ++ o ∷ []))
+short_push : (os : List Order) (o : Order) → AreShort (order_lines os) → length (line_text (line.Tree (node.Order o.before o.after))) ≤ line_limit → length (line_text (line.Tree (node.Leaf o.multipliers))) ≤ line_limit → AreShort (order_lines (os ++ o ∷ []))
 short_push [] o short guards leaf = (guards, (leaf, tt))
 short_push (p ∷ ps) o short guards leaf = (short.0, (short.1.0, short_push ps o short.1.1 guards leaf))
 

@@ -25,6 +25,9 @@ may_stand : (s : Search) (w : Pending) (n : Node) → NodeAt s w n → MayStand 
 may_stand s w (node.Leaf ts) h = record { leaf = leaf_of s w h.refuted.system ts h.refuted.is h.refuted.holds.multipliers.leaf; in_range = h.in_range }
 may_stand s w node.Extend h = h.going_on
 may_stand s w (node.Split unknown floor) h = split_within s w unknown floor h
+may_stand s w (node.Guard guard) h = absurd h
+may_stand s w (node.Order before after) h = absurd h
+may_stand s w (node.Stuck rule) h = absurd h
 
 -- the nodes of a whole tree refute the words with which it begins, and no leaf check leaves the range
 pub refuted_in_order : (s : Search) (ws : List Pending) (ns : List Node) → Visits s ws ns [] → RefutedInOrder s (IsJudged s) ws ns

@@ -97,6 +97,9 @@ parts_live s w (node.Split unknown floor) lives stands =
     let fits = split_floor s w unknown floor stands in
     let within : (side : Side) → BoundWithin (s.unknowns w.start w.past) (bound_at unknown floor side) = λ side. record { exists = below; least = fits.low; most = fits.high } in
     (bounded_lives s w (bound_at unknown floor Low) lives (within Low) stands.complete, (bounded_lives s w (bound_at unknown floor High) lives (within High) stands.complete, tt))
+parts_live s w (node.Guard guard) lives stands = tt
+parts_live s w (node.Order before after) lives stands = tt
+parts_live s w (node.Stuck rule) lives stands = tt
 
 -- ---- each word has a node, or ends the search
 

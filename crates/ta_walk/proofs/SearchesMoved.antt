@@ -14,6 +14,9 @@ pub moved_node : (s : Search) (us vs : List Pending) (w : Pending) (n : Node) �
 moved_node s us vs w (node.Leaf ts) at = record { refuted = moved_system s us vs w (λ system. IsRefuted system ts) at.refuted; in_range = at.in_range }
 moved_node s us vs w node.Extend at = record { values = at.values; vertex = moved_system s us vs w (λ system. IsVertex system at.values) at.vertex; going_on = at.going_on }
 moved_node s us vs w (node.Split unknown floor) at = record { values = at.values; vertex = moved_system s us vs w (λ system. IsVertex system at.values) at.vertex; complete = at.complete; splits = at.splits }
+moved_node s us vs w (node.Guard guard) at = at
+moved_node s us vs w (node.Order before after) at = at
+moved_node s us vs w (node.Stuck rule) at = at
 
 pub moved_whole : (s : Search) (us vs : List Pending) (w : Pending) (numbers : List ℤ) → WholeAt (beginning s us) w numbers → WholeAt (beginning s vs) w numbers
 moved_whole s us vs w numbers at = record { values = at.values; vertex = moved_system s us vs w (λ system. IsVertex system at.values) at.vertex; complete = at.complete; whole = at.whole }
@@ -27,6 +30,9 @@ same_parts : (s : Search) (us vs : List Pending) (w : Pending) (n : Node) → pa
 same_parts s us vs w (node.Leaf ts) = refl
 same_parts s us vs w node.Extend = refl
 same_parts s us vs w (node.Split unknown floor) = refl
+same_parts s us vs w (node.Guard guard) = refl
+same_parts s us vs w (node.Order before after) = refl
+same_parts s us vs w (node.Stuck rule) = refl
 
 pub moved_visits : (s : Search) (us vs : List Pending) (ws : List Pending) (ns : List Node) (rest : List Pending) → Visits (beginning s us) ws ns rest → Visits (beginning s vs) ws ns rest
 moved_visits s us vs ws [] rest v = v

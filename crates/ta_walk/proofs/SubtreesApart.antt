@@ -59,15 +59,17 @@ longer_apart_all w (e ∷ es) ws d others all = (
 
 -- a node that is no split
 abbrev pub IsPlain : Node → Type 0
-IsPlain (node.Leaf ts) = Unit {0}
-IsPlain node.Extend = Unit {0}
 IsPlain (node.Split unknown floor) = ⊥
+IsPlain _ = Unit {0}
 
 pub split_or_plain : (ns : List Node) → HasSplit ns ⊎ AllByRecursion IsPlain ns
 split_or_plain [] = inr tt
 split_or_plain (node.Split unknown floor ∷ ns) = inl (record { unknown = unknown; floor = floor; is = inl refl })
 split_or_plain (node.Leaf ts ∷ ns) = elim (split_or_plain ns) [ inl s ↦ inl (record { unknown = s.unknown; floor = s.floor; is = inr s.is }) | inr all ↦ inr (tt, all) ]
 split_or_plain (node.Extend ∷ ns) = elim (split_or_plain ns) [ inl s ↦ inl (record { unknown = s.unknown; floor = s.floor; is = inr s.is }) | inr all ↦ inr (tt, all) ]
+split_or_plain (node.Guard guard ∷ ns) = elim (split_or_plain ns) [ inl s ↦ inl (record { unknown = s.unknown; floor = s.floor; is = inr s.is }) | inr all ↦ inr (tt, all) ]
+split_or_plain (node.Order before after ∷ ns) = elim (split_or_plain ns) [ inl s ↦ inl (record { unknown = s.unknown; floor = s.floor; is = inr s.is }) | inr all ↦ inr (tt, all) ]
+split_or_plain (node.Stuck rule ∷ ns) = elim (split_or_plain ns) [ inl s ↦ inl (record { unknown = s.unknown; floor = s.floor; is = inr s.is }) | inr all ↦ inr (tt, all) ]
 
 -- no two of the elements that may follow a word are equal
 abbrev pub Branches : Search → Type 0
@@ -78,6 +80,9 @@ pub parts_apart : (s : Search) (w : Pending) (ws : List Pending) (n : Node) → 
 parts_apart s w ws (node.Leaf ts) branches plain all = all.1
 parts_apart s w ws node.Extend branches plain all = longer_apart_all w (s.following w.start w.past) ws (branches w.start w.past) all.0 all.1
 parts_apart s w ws (node.Split unknown floor) branches plain all = absurd plain
+parts_apart s w ws (node.Guard guard) branches plain all = all.1
+parts_apart s w ws (node.Order before after) branches plain all = all.1
+parts_apart s w ws (node.Stuck rule) branches plain all = all.1
 
 -- what goes on from one of some words
 pub record UnderSome (ws : List Pending) (start : ℕ) (past : List Element) : Type 0 where
@@ -92,6 +97,9 @@ under_part s w v node.Extend start past plain one u =
     let f = in_map (longer w) v (s.following w.start w.past) one in
     under_longer w f.0 start past (subst (λ (x : Pending). Under x start past) f.2 u)
 under_part s w v (node.Split unknown floor) start past plain one u = absurd plain
+under_part s w v (node.Guard guard) start past plain one u = absurd one
+under_part s w v (node.Order before after) start past plain one u = absurd one
+under_part s w v (node.Stuck rule) start past plain one u = absurd one
 
 -- it isn't the word itself
 part_longer : (s : Search) (w v : Pending) (n : Node) → IsPlain n → In v (parts s w n) → length w.past < length v.past
@@ -101,6 +109,9 @@ part_longer s w v node.Extend plain one =
     let same : length v.past ≡ suc (length w.past) = ap (λ (x : Pending). length x.past) f.2 in
     omega arith
 part_longer s w v (node.Split unknown floor) plain one = absurd plain
+part_longer s w v (node.Guard guard) plain one = absurd one
+part_longer s w v (node.Order before after) plain one = absurd one
+part_longer s w v (node.Stuck rule) plain one = absurd one
 
 pub under_before : (s : Search) (w : Pending) (ws : List Pending) (n : Node) (start : ℕ) (past : List Element) → IsPlain n → UnderSome (parts s w n ++ ws) start past → UnderSome (w ∷ ws) start past
 under_before s w ws n start past plain u =

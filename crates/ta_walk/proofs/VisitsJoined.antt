@@ -70,3 +70,6 @@ leaves_added [] ms = omega arith
 leaves_added (node.Leaf ts ∷ ns) ms = let rest = leaves_added ns ms in omega arith
 leaves_added (node.Extend ∷ ns) ms = leaves_added ns ms
 leaves_added (node.Split unknown floor ∷ ns) ms = leaves_added ns ms
+leaves_added (node.Guard guard ∷ ns) ms = leaves_added ns ms
+leaves_added (node.Order before after ∷ ns) ms = leaves_added ns ms
+leaves_added (node.Stuck rule ∷ ns) ms = leaves_added ns ms

@@ -26,6 +26,9 @@ parts_wait s most w (node.Leaf ts) waits = tt
 parts_wait s most w node.Extend waits = waits_more s most (most + 1) (map (longer w) (s.following w.start w.past)) (omega arith) (longer_wait s most w waits (s.following w.start w.past) (λ e is. is))
 parts_wait s most w (node.Split unknown floor) waits =
     (bounded_waits s most w (bound_at unknown floor Low) waits, (bounded_waits s most w (bound_at unknown floor High) waits, tt))
+parts_wait s most w (node.Guard guard) waits = tt
+parts_wait s most w (node.Order before after) waits = tt
+parts_wait s most w (node.Stuck rule) waits = tt
 
 -- what is left after a node
 pub next_wait : (s : Search) (most : ℕ) (w : Pending) (ws : List Pending) (n : Node) → AllByRecursion (Waits s most) (w ∷ ws) → AllByRecursion (Waits s (most + 1)) (parts s w n ++ ws)

@@ -8,7 +8,7 @@ use Rattle.ta_automaton.specs.declared.file.File.{File}
 use Rattle.ta_automaton.specs.Runs.{LoopsPure}
 use Rattle.ta_cert.specs.declared.line.Node.{Node}
 use Rattle.ta_implied.specs.Implied.{Good}
-use Rattle.ta_cert.specs.declared.line.Node.TheVariants.{Extend, Split, Leaf}
+use Rattle.ta_cert.specs.declared.line.Node.TheVariants.{Leaf}
 use Rattle.ta_cert.specs.Lines.{IsNode, node_text}
 use Rattle.ta_cert.specs.Streams.{line_limit}
 use Rattle.ta_words.specs.declared.element.Element.{Element}
@@ -109,8 +109,7 @@ IsWalkEnd s number budget (Overflow node kind) = NodeOf s budget node (λ w. IsO
 abbrev pub leaf_count : List Node → ℕ
 leaf_count [] = 0
 leaf_count (Leaf ts ∷ ns) = leaf_count ns + 1
-leaf_count (Extend ∷ ns) = leaf_count ns
-leaf_count (Split unknown floor ∷ ns) = leaf_count ns
+leaf_count (_ ∷ ns) = leaf_count ns
 
 -- the tree has so many nodes, within the budget, and so many of them are leaves; what was kept is what they leave
 pub record TreeKept (s : Search) (budget : ℕ) (Keeps : List Node → Type 0) (count leaves : ℕ) : Type 0 where
@@ -146,8 +145,7 @@ WalksAreDetermined = (s : Search) (number budget : ℕ) (e f : WalkEnd) → IsWa
 -- a leaf has at most 4,657 multipliers
 abbrev pub HasFewPairs : Node → Type 0
 HasFewPairs (Leaf ts) = length ts ≤ MOST_UNKNOWNS + 1
-HasFewPairs Extend = Unit {0}
-HasFewPairs (Split unknown floor) = Unit {0}
+HasFewPairs _ = Unit {0}
 
 -- the text of a node is no longer than a line may be
 abbrev pub IsShort : Node → Type 0

@@ -78,11 +78,12 @@ pub record LeafAt (s : Search) (w : Pending) (ts : List (ℕ × ℤ)) : Type 0 w
   pub in_range : LeafStays (bounded_rows s w) ts
 
 -- which node stands at a word, where it is no whole node and no number leaves the range: a leaf where the system is refuted;
--- where it has a vertex, an Extend if the word isn't complete, else a Split of the least unknown that isn't whole, at its floor
+-- where it has a vertex, an Extend if the word isn't complete, else a Split of the least unknown that isn't whole, at its floor; no question
 abbrev pub NodeAt : Search → Pending → Node → Type 0
 NodeAt s w (node.Leaf ts) = LeafAt s w ts
 NodeAt s w node.Extend = OpenVertex s w
 NodeAt s w (node.Split unknown floor) = SplitVertex s w unknown floor
+NodeAt s w _ = ⊥
 
 -- multipliers refute the word's system, and their check leaves the range
 pub record LeafOutOfRange (s : Search) (w : Pending) : Type 0 where

@@ -136,7 +136,9 @@ fn go_on<T: Tree>(tree: &T, cursor: &mut Cursor, node: &Node) -> Result<bool, Al
     ensures { (w : Pending) (words : List Pending) → Within (T.search tree.now) cursor.old (w ∷ words) → GoesOn (T.search tree.now) cursor.new (parts (T.search tree.now) w node.now ++ words) result }
 {
     match node {
-        Node::Leaf(_) => cursor.leave(tree),
+        Node::Leaf(_) | Node::Guard(_) | Node::Order { .. } | Node::Stuck(_) => {
+            cursor.leave(tree)
+        }
         Node::Extend => cursor.extend(tree),
         Node::Split { unknown, floor } => {
             cursor.split(*unknown, *floor)?;

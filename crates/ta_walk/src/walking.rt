@@ -95,7 +95,8 @@ pub(crate) fn leaves_with(leaves: u64, node: &Node) -> u64
 {
     match node {
         Node::Leaf(_) => leaves + 1,
-        Node::Extend | Node::Split { .. } => leaves,
+        Node::Extend | Node::Split { .. } | Node::Guard(_) | Node::Order { .. } | Node::Stuck(_) =>
+            leaves,
     }
 }
 
@@ -111,7 +112,9 @@ fn go_on<T: Tree>(
     ensures { (w : Pending) (words : List Pending) → AllWithin (T.search tree.now) place.old (w ∷ words) → AllGoOn (T.search tree.now) place.new (parts (T.search tree.now) w node.now ++ words) result }
 {
     match node {
-        Node::Leaf(_) => place.leave(alloc, tree),
+        Node::Leaf(_) | Node::Guard(_) | Node::Order { .. } | Node::Stuck(_) => {
+            place.leave(alloc, tree)
+        }
         Node::Extend => place.extend(alloc, tree),
         Node::Split { unknown, floor } => {
             place.split(tree, *unknown, *floor)?;

@@ -16,6 +16,9 @@ fn show_node(text: &mut String, node: &Node) -> Result<(), AllocError> {
         Node::Extend => write!(text, "extend"),
         Node::Split { unknown, floor } => write!(text, "split {unknown} at {floor}"),
         Node::Leaf(pairs) => show_pairs(text, pairs.as_slice()),
+        Node::Guard(guard) => write!(text, "guard {guard}"),
+        Node::Order { before, after } => write!(text, "order {before} {after}"),
+        Node::Stuck(rule) => write!(text, "stuck {rule}"),
     }
 }
 
@@ -32,7 +35,6 @@ fn show_pairs(text: &mut String, pairs: &[(u32, i128)]) -> Result<(), AllocError
 fn show(text: &mut String, line: &Line) -> Result<(), AllocError> {
     match line {
         Line::Header(version) => write!(text, "header {version}"),
-        Line::Order { before, after } => write!(text, "order {before} {after}"),
         Line::Pattern(pattern) => write!(text, "pattern {pattern}"),
         Line::Tree(node) => show_node(text, node),
         Line::End => write!(text, "end"),

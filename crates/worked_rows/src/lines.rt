@@ -41,7 +41,6 @@ fn show(text: &mut String, number: u64, line: &Line) -> Result<(), AllocError> {
     write!(text, "{number} ")?;
     match line {
         Line::Header(version) => write!(text, "header {version}")?,
-        Line::Order { before, after } => write!(text, "order {before} {after}")?,
         Line::Pattern(pattern) => write!(text, "pattern {pattern}")?,
         Line::Tree(Node::Extend) => write!(text, "extend")?,
         Line::Tree(Node::Split { unknown, floor }) => write!(text, "split {unknown} at {floor}")?,
@@ -51,6 +50,9 @@ fn show(text: &mut String, number: u64, line: &Line) -> Result<(), AllocError> {
                 write!(text, " {row}*{multiplier}")?;
             }
         }
+        Line::Tree(Node::Guard(guard)) => write!(text, "guard {guard}")?,
+        Line::Tree(Node::Order { before, after }) => write!(text, "order {before} {after}")?,
+        Line::Tree(Node::Stuck(rule)) => write!(text, "stuck {rule}")?,
         Line::End => write!(text, "end")?,
     }
     write!(text, ", ")

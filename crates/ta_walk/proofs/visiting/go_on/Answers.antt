@@ -1,4 +1,4 @@
-use Rattle.ta_walk.proofs.Common.{◌<◌, ◌^◌, arith, refl, rules, FitsSigned, w128, here, SplitVertex}
+use Rattle.ta_walk.proofs.Common.{inl, inr, ◌<◌, ◌^◌, arith, refl, rules, FitsSigned, w128, here, SplitVertex}
 use Rattle.std.proofs.Common.{to_z-of_z}
 use Rattle.ta_walk.proofs.SplitsFit.{split_fits, split_within}
 use Rattle.ta_walk.proofs.WordSoFar.{inside_of}
@@ -17,7 +17,15 @@ split-requires g c =
     simp to_z-of_z is
 
 pub returns-in-Leaf : goal.returns-in-Leaf
-returns-in-Leaf g c = λ w words all. rw c.in-Leaf.is (c.leave.ensures words (inside_of (g.T.Tree.search c.args.tree.now) c.args.cursor.now w words all))
+returns-in-Leaf g c = λ w words all.
+    let left = c.leave.ensures words (inside_of (g.T.Tree.search c.args.tree.now) c.args.cursor.now w words all) in
+    elim c.in-Leaf.is [
+      | inl leaf ↦ rw leaf.1 left
+      | inr more ↦ elim more [
+        | inl guard ↦ rw guard.1 left
+        | inr rest ↦ elim rest [ inl order ↦ rw order.2 left | inr stuck ↦ rw stuck.1 left ]
+      ]
+    ]
 
 pub returns-in_ok-split-in-Split : goal.returns-in_ok-split-in-Split
 returns-in_ok-split-in-Split g c = λ w words all.
