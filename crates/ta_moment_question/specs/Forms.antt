@@ -1,5 +1,5 @@
 -- Forms, vectors and values of the code, as those of the definitions
-use Rattle.std.specs.Prelude.{ℕ, pos, List, map, slice_get, Option, Some, None}
+use Rattle.std.specs.Prelude.{pos, List, map, slice_get, Option, Some, None}
 use Rattle.ta_linear.specs.Terms.{coefficient}
 use Rattle.ta_linear.specs.declared.form.Form.{Form}
 use Rattle.ta_moments.specs.Forms.{UnknownForm, number_form}

@@ -1,5 +1,5 @@
 -- Parts of a node in the code, as those of the definitions
-use Rattle.std.specs.Prelude.{List, [], ◌∷◌, map}
+use Rattle.std.specs.Prelude.{[], ◌∷◌, map}
 use Rattle.ta_moments.specs.Questions.{GuardAtEnd as KnownGuard, Parts, RuleAtEnd as KnownRule}
 use Rattle.ta_moment_question.specs.Forms.{all_forms, form_of, vector_of}
 use Rattle.ta_moment_question.specs.Moments.{moments_of}

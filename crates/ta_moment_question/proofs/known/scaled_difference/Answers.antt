@@ -1,4 +1,4 @@
-use Rattle.std.proofs.Common.{rules, ◌≡◌, ℤ, ◌-ℤ◌, ◌*ℤ◌, subst}
+use Rattle.std.proofs.Common.{rules, ℤ, ◌-ℤ◌, ◌*ℤ◌, subst}
 use Rattle.std.specs.Prelude.{FitsSigned, SomeIff}
 use Rattle.std.specs.Int.{w128}
 use Rattle.std.proofs.lemmas.Int.{to_z-of_z}

@@ -1,4 +1,4 @@
-use Rattle.std.proofs.Common.{◌≡◌, ◌&&◌, drop, map}
+use Rattle.std.proofs.Common.{◌≡◌, drop, map}
 use Rattle.std.specs.Prelude.{option_copied}
 use Rattle.std.specs.List.{find}
 use Rattle.ta_moments.specs.Questions.{is_guard_open}

@@ -1,6 +1,6 @@
 use Rattle.std.proofs.Common.{◌∙◌, ap}
 use Rattle.std.specs.Prelude.{option_copied}
-use Rattle.ta_moments.specs.Questions.{Parts, parts_at, question_among}
+use Rattle.ta_moments.specs.Questions.{Parts, question_among}
 use Rattle.ta_moment_question.specs.Forms.{values_of}
 use Rattle.ta_moment_question.specs.Parts.{parts_of}
 use Rattle.ta_moment_question.proofs.question.next_question.Goals as goal
