@@ -3,3 +3,4 @@ pub mod Rows
 pub mod Plan
 pub mod Moments
 pub mod Draft
+pub mod Plain
