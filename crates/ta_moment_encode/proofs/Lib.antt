@@ -10,3 +10,4 @@ mod Smallness
 mod Starts
 mod Vectors
 mod Beginning
+mod AddedFacts

@@ -3,6 +3,7 @@
 
 mod at;
 mod draft;
+mod facts;
 mod first;
 mod form;
 mod moment;

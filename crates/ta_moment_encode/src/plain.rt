@@ -21,12 +21,7 @@ use ta_linear::{Form, Row};
 use ta_moments::Fact;
 
 /// No moving rule that needs a guard fires.
-fn push_never(
-    plan: &Plan,
-    end: &[Form],
-    guard: u32,
-    rows: &mut Vec<Row>,
-) -> Result<(), AllocError>
+fn push_never(plan: &Plan, end: &[Form], guard: u32, rows: &mut Vec<Row>) -> Result<(), AllocError>
     requires plan { IsPlan plan.now }
     requires end { SmallVector 3 (vector_of end.now) }
     ensures { OnOk result (AddsForms (map (λ r. opposite_form (vector_of end.now r)) (needing plan.now.task.automaton.now plan.now.task.pattern.now guard)) rows.old.items rows.new.items) }

@@ -10,4 +10,4 @@ pub loop-event-preserved : goal.loop-event-preserved
 loop-event-preserved c =
     let t = c.args.plan.now.task in
     let g = λ (e : ℕ). Point (event_vector t.automaton.now t.pattern.now e) in
-    ap moments_of c.in_ok-push.ensures.items ∙ moments_more c.loop-event.moments.items _ _ (g c.loop-event.event) c.loop-event.invariant (ap Point c.in_ok-vector.ensures) ∙ map_numbers g c.loop-event.event
+    ap moments_of c.in_ok-push.ensures.items ∙ moments_more c.loop-event.moments.items _ _ (g c.loop-event.event) c.loop-event.invariant (ap Point c.in_ok-vector.ensures.value) ∙ map_numbers g c.loop-event.event

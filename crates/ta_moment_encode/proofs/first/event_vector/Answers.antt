@@ -60,8 +60,14 @@ fresh-requires-clause-above c = nothing_small 3
 pub fresh-requires-clause-beneath : goal.fresh-requires-clause-beneath
 fresh-requires-clause-beneath c = nothing_small 3
 
-pub returns : goal.returns
-returns c =
+pub returns-clause-short : goal.returns-clause-short
+returns-clause-short c =
+    let same = ap (λ (rs : List Rule). length rs) c.as_slice-rules.ensures in
+    let count = c.in_ok-forms.ensures.count in
+    omega arith
+
+pub returns-clause-value : goal.returns-clause-value
+returns-clause-value c =
     let t = c.args.plan.now.task in
     let moving = ap (λ (rs : List ℕ). length rs) (c.as_slice-moving.ensures.value ∙ c.requires.plan.moving) in
     let starts = ap (λ (ms : List Meaning). length ms) (c.as_slice-starts.ensures ∙ c.requires.plan.starts) in

@@ -9,4 +9,4 @@ event_vector-requires-clause-event c =
     omega arith
 
 pub push_earlier-requires-clause-above : goal.push_earlier-requires-clause-above
-push_earlier-requires-clause-above c = ap vector_of c.as_slice.ensures.value ∙ c.in_ok-above.ensures
+push_earlier-requires-clause-above c = ap vector_of c.as_slice.ensures.value ∙ c.in_ok-above.ensures.value
