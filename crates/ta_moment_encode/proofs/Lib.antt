@@ -11,3 +11,4 @@ mod Starts
 mod Vectors
 mod Beginning
 mod AddedFacts
+mod Fitting

@@ -4,3 +4,4 @@ pub mod Plan
 pub mod Moments
 pub mod Draft
 pub mod Plain
+pub mod Nodes

@@ -3,6 +3,7 @@
 
 mod at;
 mod draft;
+mod encoding;
 mod facts;
 mod first;
 mod form;
@@ -17,4 +18,5 @@ mod silence;
 mod uses;
 mod vector;
 
+pub use encoding::MomentEncoding;
 pub use moment::Moment;
