@@ -1,5 +1,5 @@
 -- what a fact adds, as the code has it
-use Rattle.ta_moment_encode.proofs.Common.{◌≡◌, ◌∙◌, ℕ, ◌+◌, ◌++◌, ◌∷◌, [], List, Bool, true, false, arith, ap, sym, refl, subst, append-nil, Row, Automaton, Pattern}
+use Rattle.ta_moment_encode.proofs.Common.{◌≡◌, ◌∙◌, ℕ, ◌+◌, ◌++◌, ◌∷◌, [], List, true, arith, ap, sym, refl, append-nil, Automaton, Pattern}
 use Rattle.std.proofs.lemmas.Bool.{false≢true}
 use Rattle.ta_encode.specs.Inside.Lines.{IsBehind}
 use Rattle.ta_moments.specs.declared.fact.Fact.{Fact}
@@ -7,7 +7,7 @@ use Rattle.ta_moments.specs.declared.fact.Fact.TheVariants.{Never, First, Stands
 use Rattle.ta_moments.specs.Forms.{UnknownForm}
 use Rattle.ta_moments.specs.Moments.{Known, Moment, Vector, with_fact, with_more}
 use Rattle.ta_moment_encode.specs.Draft.{Added, is_plain, known_of}
-use Rattle.ta_moment_encode.specs.Forms.{forms_of, vector_of}
+use Rattle.ta_moment_encode.specs.Forms.{vector_of}
 use Rattle.ta_moment_encode.specs.Moments.{moment_of, moments_of}
 use Rattle.ta_moment_encode.specs.Plain.{plain_rows}
 use Rattle.ta_moment_encode.specs.Rows.{AddsForms}

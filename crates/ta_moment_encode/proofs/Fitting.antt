@@ -1,14 +1,14 @@
 -- what is known at a node fits
-use Rattle.ta_moment_encode.proofs.Common.{◌≡◌, ◌∙◌, ℕ, ◌+◌, ◌≤◌, ◌++◌, ◌∷◌, [], List, Option, Some, map, range_with_len, length, slice_get, arith, ap, sym, refl, subst, In, AllByRecursion, Automaton, Pattern, each_at, each_append, each_map_all}
+use Rattle.ta_moment_encode.proofs.Common.{◌∙◌, ℕ, ◌∷◌, [], List, Option, range_with_len, length, arith, ap, sym, subst, In, AllByRecursion, Automaton, Pattern, each_at, each_append, each_map_all}
 use Rattle.ta_moments.specs.Facts.{candidates}
 use Rattle.ta_moments.specs.declared.fact.Fact.{Fact}
 use Rattle.ta_moments.specs.declared.fact.Fact.TheVariants.{Never, First, Stands, Last, Before, After, Same, Vacant, Fails}
-use Rattle.ta_moments.specs.Moments.{Known, Moment, Point, Pair, Vector, early, late, end_vector, event_vector, with_fact}
+use Rattle.ta_moments.specs.Moments.{Known, Moment, Point, Vector, early, late, end_vector, event_vector, with_fact}
 unfoldable use Rattle.ta_moments.specs.Moments.{known}
 use Rattle.ta_moments.proofs.Speaking.{Spoken, VectorSpeaks, spoken}
 use Rattle.ta_moment_encode.specs.Draft.{Added, DraftFits, IsDraft, known_of}
 use Rattle.ta_moment_encode.specs.Forms.{SmallVector, vector_of}
-use Rattle.ta_moment_encode.specs.Moments.{MomentsSpeak, SmallMoments, moments_of}
+use Rattle.ta_moment_encode.specs.Moments.{MomentsSpeak, SmallMoments}
 use Rattle.ta_moment_encode.specs.declared.draft.Draft.{Draft}
 use Rattle.ta_moment_encode.proofs.Beginning.{after_small, before_small, end_small, event_small, first_small, vector_more_small}
 

@@ -1,15 +1,10 @@
-use Rattle.ta_moment_encode.proofs.Common.{ℕ, ℤ, pos, ◌≡◌, ◌∙◌, ◌+◌, ◌*◌, ◌-◌, ◌<◌, ◌≤◌, ◌^◌, ◌++◌, ◌∷◌, [], List, Option, Some, None, length, map, filter, take, get_or, slice_get, range_with_len, arith, ap, sym, subst, refl, not, Bool, true, false, Row, Automaton, Pattern, Meaning, In, unsigned_abs, to_z, of_z, w128, to_z_abs}
-use Rattle.ta_encode.specs.Inside.Lines.{IsBehind}
-use Rattle.ta_moments.specs.Facts.{has_guard, needing, sparing}
-use Rattle.ta_moments.specs.declared.fact.Fact.TheVariants.{First, Last}
-use Rattle.ta_moments.specs.Forms.{UnknownForm}
-use Rattle.ta_moments.specs.Moments.{Moment, Point, Pair, Vector, after_vector, before_vector, first_vector, rows_of_first, rows_of_last}
+use Rattle.ta_moment_encode.proofs.Common.{◌+◌, length, slice_get, arith, ap, sym, subst, refl, not}
+use Rattle.ta_moments.specs.Facts.{has_guard, sparing}
+use Rattle.ta_moments.specs.declared.fact.Fact.TheVariants.{First}
+use Rattle.ta_moments.specs.Moments.{Point, Vector, first_vector, rows_of_first}
 use Rattle.ta_moments.proofs.Speaking.{VectorSpeaks}
 use Rattle.ta_moment_encode.specs.Forms.{SmallVector, vector_of}
-use Rattle.ta_moment_encode.specs.Moments.{SmallMoments, MomentsSpeak, moments_of}
-use Rattle.ta_moment_encode.specs.Plain.{plain_rows}
 use Rattle.ta_moment_encode.specs.Rows.{AddsForms}
-use Rattle.ta_moment_encode.specs.declared.moment.Moment.{Moment as Kept}
 use Rattle.ta_moment_encode.proofs.Beginning.{chosen_few}
 use Rattle.ta_moment_encode.proofs.AddedFacts.{moment_known}
 use Rattle.ta_moment_encode.proofs.facts.with_first.Goals as goal

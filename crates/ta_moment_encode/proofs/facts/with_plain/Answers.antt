@@ -1,16 +1,12 @@
-use Rattle.ta_moment_encode.proofs.Common.{ℕ, ℤ, pos, ◌≡◌, ◌∙◌, ◌+◌, ◌*◌, ◌-◌, ◌<◌, ◌≤◌, ◌^◌, ◌++◌, ◌∷◌, [], List, Option, Some, None, length, map, filter, take, get_or, slice_get, range_with_len, arith, ap, sym, subst, refl, not, Bool, true, false, Row, Automaton, Pattern, Meaning, In, unsigned_abs, to_z, of_z, w128, to_z_abs}
-use Rattle.ta_encode.specs.Inside.Lines.{IsBehind}
-use Rattle.ta_moments.specs.Facts.{needing, sparing}
-use Rattle.ta_moments.specs.Forms.{UnknownForm}
-use Rattle.ta_moments.specs.Moments.{Moment, Point, Pair, Vector, after_vector, before_vector, first_vector, rows_of_first, rows_of_last}
-use Rattle.ta_moments.proofs.Speaking.{VectorSpeaks}
+use Rattle.ta_moment_encode.proofs.Common.{List, arith, ap, sym, subst, refl}
+use Rattle.ta_moments.specs.Moments.{Vector}
 use Rattle.ta_moment_encode.specs.Forms.{SmallVector, vector_of}
 use Rattle.ta_moment_encode.specs.Moments.{SmallMoments, MomentsSpeak, moments_of}
 use Rattle.ta_moment_encode.specs.Plain.{plain_rows}
 use Rattle.ta_moment_encode.specs.Rows.{AddsForms}
 use Rattle.ta_moment_encode.specs.declared.moment.Moment.{Moment as Kept}
 use Rattle.ta_moment_encode.proofs.Beginning.{vector_more_small}
-use Rattle.ta_moment_encode.proofs.AddedFacts.{moment_known, plain_known}
+use Rattle.ta_moment_encode.proofs.AddedFacts.{plain_known}
 use Rattle.ta_moment_encode.proofs.facts.with_plain.Goals as goal
 
 pub push_plain-requires-clause-end : goal.push_plain-requires-clause-end

@@ -1,7 +1,7 @@
-use Rattle.ta_moment_encode.proofs.Common.{ℕ, ℤ, pos, ◌≡◌, ◌∙◌, ◌+◌, ◌*◌, ◌-◌, ◌<◌, ◌≤◌, ◌^◌, ◌++◌, ◌∷◌, [], List, Option, Some, None, length, map, filter, take, get_or, slice_get, range_with_len, arith, ap, sym, subst, refl, not, Bool, true, false, Row, Automaton, Pattern, Meaning, In, unsigned_abs, to_z, of_z, w128, to_z_abs}
+use Rattle.ta_moment_encode.proofs.Common.{◌∙◌, ◌++◌, length, range_with_len, ap}
 use Rattle.std.specs.Prelude.{flat_map}
-use Rattle.ta_moments.specs.Moments.{Moment, Point, event_vector, rows_at_start, rows_of_after, rows_of_end, rows_of_event}
-use Rattle.ta_moment_encode.specs.Forms.{forms_of, vector_of}
+use Rattle.ta_moments.specs.Moments.{rows_of_after, rows_of_end, rows_of_event}
+use Rattle.ta_moment_encode.specs.Forms.{vector_of}
 use Rattle.ta_moment_encode.proofs.Adding.{adds_both, adds_forms}
 use Rattle.ta_moment_encode.proofs.Beginning.{first_known, moments_count}
 use Rattle.ta_moment_encode.proofs.first.first.Goals as goal

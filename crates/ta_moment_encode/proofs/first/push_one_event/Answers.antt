@@ -1,5 +1,5 @@
-use Rattle.ta_moment_encode.proofs.Common.{ℕ, ℤ, pos, ◌≡◌, ◌∙◌, ◌+◌, ◌*◌, ◌-◌, ◌<◌, ◌≤◌, ◌^◌, ◌++◌, ◌∷◌, [], List, Option, Some, None, length, map, filter, take, get_or, slice_get, range_with_len, arith, ap, sym, subst, refl, not, Bool, true, false, Row, Automaton, Pattern, Meaning, In, unsigned_abs, to_z, of_z, w128, to_z_abs}
-use Rattle.ta_moments.specs.Moments.{Vector, counters_at, event_at, event_vector}
+use Rattle.ta_moment_encode.proofs.Common.{◌∙◌, slice_get, arith, ap, sym, subst}
+use Rattle.ta_moments.specs.Moments.{Vector, counters_at, event_at}
 use Rattle.ta_moment_encode.specs.Forms.{SmallVector, vector_of}
 use Rattle.ta_moment_encode.specs.Rows.{AddsForms}
 use Rattle.ta_moment_encode.proofs.Adding.{adds_both}

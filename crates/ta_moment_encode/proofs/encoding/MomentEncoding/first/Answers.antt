@@ -1,4 +1,4 @@
-use Rattle.ta_moment_encode.proofs.Common.{ℕ, ◌≡◌, ◌∙◌, [], ◌∷◌, List, Option, sym, subst, ap, refl, In}
+use Rattle.ta_moment_encode.proofs.Common.{[], sym, subst, In}
 use Rattle.ta_words.specs.declared.task.Task.{Task}
 use Rattle.ta_moments.specs.Facts.{candidates}
 use Rattle.ta_moment_encode.specs.Draft.{IsDraft}

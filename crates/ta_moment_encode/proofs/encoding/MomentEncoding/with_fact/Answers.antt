@@ -1,4 +1,3 @@
-use Rattle.ta_moment_encode.proofs.Common.{ℕ, ◌≡◌, ◌∙◌, [], ◌∷◌, List, Option, sym, subst, ap, refl, In}
 use Rattle.ta_moment_encode.proofs.Fitting.{draft_added, draft_fits}
 use Rattle.ta_moment_encode.proofs.encoding.MomentEncoding.with_fact.Goals as goal
 
