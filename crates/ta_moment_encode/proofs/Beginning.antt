@@ -1,5 +1,5 @@
 -- the node without facts: its first rows, and its vectors
-use Rattle.ta_moment_encode.proofs.Common.{◌≡◌, ◌∙◌, inl, inr, ℕ, ℤ, pos, zero, suc, ◌+◌, ◌*◌, ◌-◌, ◌<◌, ◌≤◌, List, [], ◌∷◌, ◌++◌, map, filter, length, take, slice_get, Some, None, Option, not, Bool, arith, ints, sym, ap, subst, refl, append_assoc, append-nil, length-append, range_with_len, cond, eqb, AllByRecursion, In, AreRowsOf, IsRowOf, Automaton, Pattern, Row, LinearRow, System, condition_rows, processes_row, opposite, start_guard_rows, unsigned_abs, numbers_rise, rises_filter}
+use Rattle.ta_moment_encode.proofs.Common.{◌≡◌, ◌∙◌, inl, inr, ℕ, ℤ, pos, suc, ◌+◌, ◌*◌, ◌-◌, ◌<◌, ◌≤◌, List, [], ◌∷◌, ◌++◌, map, filter, length, take, slice_get, Some, None, Option, Bool, arith, ints, sym, ap, subst, refl, append_assoc, append-nil, length-append, range_with_len, AllByRecursion, In, AreRowsOf, IsRowOf, Automaton, Pattern, Row, LinearRow, condition_rows, processes_row, opposite, start_guard_rows, numbers_rise, rises_filter}
 unfoldable use Rattle.ta_encode.specs.System.{start_rows, word_rows}
 use Rattle.ta_encode.specs.Unknowns.{start_meanings}
 use Rattle.std.proofs.Common.{mul-le-mul}
@@ -10,7 +10,7 @@ use Rattle.ta_moments.proofs.Speaking.{speak_minus, speak_plus, vector_more}
 use Rattle.ta_moments.specs.Moments.{after_vector, before_vector, step_vector, first_vector, guard_at, place_form, quiet_at}
 use Rattle.ta_rest.specs.Quiet.{loud_terms}
 use Rattle.ta_moment_encode.proofs.Common.{length-map, length-range_with_len}
-use Rattle.ta_moments.specs.Moments.{Known, Point, rows_of_event, rows_of_after, rows_of_end}
+use Rattle.ta_moments.specs.Moments.{Point, rows_of_event, rows_of_after, rows_of_end}
 unfoldable use Rattle.ta_moments.specs.Moments.{known}
 unfoldable use Rattle.ta_encode.specs.Unknowns.{meanings}
 use Rattle.ta_encode.proofs.CodeRows.{rows_count}
@@ -18,9 +18,8 @@ use Rattle.ta_encode.proofs.Drafts.{start_few}
 use Rattle.ta_moment_encode.proofs.Starts.{moving_few}
 use Rattle.ta_base.specs.Lists.{Rises}
 use Rattle.ta_base.proofs.Ranges.{each_below}
-use Rattle.ta_moments.specs.Facts.{has_guard, is_moving, moving_rules, needing, sparing}
+use Rattle.ta_moments.specs.Facts.{is_moving, moving_rules, needing, sparing}
 use Rattle.ta_moments.specs.Forms.{UnknownForm, form_of_row, number_form, unknown_form, minus_form}
-use Rattle.ta_moments.specs.Laws.{Speaks}
 use Rattle.ta_moments.specs.Moments.{Vector, end_vector, event_vector, nothing_fired, rows_at_start, unknowns_at_first}
 unfoldable use Rattle.ta_moments.specs.Moments.{fresh}
 use Rattle.ta_moments.specs.Facts.{candidates}

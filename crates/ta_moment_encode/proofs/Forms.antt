@@ -1,21 +1,19 @@
 -- forms of the code are those of the definitions, and small ones stay in range
-use Rattle.std.proofs.Common.{mul-le-mul, ◌≢◌, cond, eqb, ◌≡◌, ◌∙◌, ℕ, ℤ, pos, negsuc, ◌+◌, ◌*◌, ◌<◌, ◌≤◌, ◌^◌, ◌+ℤ◌, ◌-ℤ◌, ◌*ℤ◌, unsigned_abs, Bool, true, false, List, [], ◌∷◌, inl, inr, Option, Some, None, refl, sym, ap, subst, arith}
+use Rattle.std.proofs.Common.{mul-le-mul, ◌≢◌, cond, eqb, ◌≡◌, ◌∙◌, ℕ, ℤ, pos, negsuc, ◌+◌, ◌*◌, ◌<◌, ◌≤◌, ◌^◌, ◌+ℤ◌, ◌-ℤ◌, ◌*ℤ◌, unsigned_abs, Bool, true, false, List, [], ◌∷◌, inl, inr, refl, sym, ap, arith}
 use Rattle.std.specs.Prelude.{◌||◌, not}
-use Rattle.std.specs.List.{list_any}
-use Rattle.std.proofs.Math.IntN.{*ℤ-zero, zero-*ℤ}
 use Rattle.std.proofs.lemmas.Int.{ints, unsigned_abs-mul}
 use Rattle.std.proofs.lemmas.Bool.{true≢false, false≢true, or_cases}
 use Rattle.std.proofs.Math.Nat.{lt_of_not-le}
 use Rattle.ta_linear.proofs.NormalTerms.{coefficient-first, coefficient-other}
 use Rattle.std.proofs.lemmas.Bool.Decides.{nat_tests}
 use Rattle.ta_base.proofs.Integers.{abs_minus, abs_sum}
-use Rattle.ta_base.proofs.Bits.{all_below-at, all_below-from, any_below-at}
-use Rattle.ta_base.specs.Masks.{all_below, any_below}
+use Rattle.ta_base.proofs.Bits.{all_below-from, any_below-at}
+use Rattle.ta_base.specs.Masks.{any_below}
 use Rattle.ta_linear.specs.Numbers.{InRange}
 use Rattle.ta_linear.specs.Terms.{coefficient, IsNormal}
 use Rattle.ta_linear.specs.Forms.{IsSum, IsMultiple, SumOutOfRange, MultipleOutOfRange}
 use Rattle.ta_linear.specs.declared.form.Form.{Form}
-use Rattle.ta_moments.specs.Forms.{UnknownForm, number_form, unknown_form, plus_form, times_form, minus_form, below_zero, may_be_negative}
+use Rattle.ta_moments.specs.Forms.{UnknownForm, number_form, unknown_form, plus_form, times_form, minus_form, below_zero}
 use Rattle.ta_moments.specs.Laws.{Speaks}
 use Rattle.ta_moment_encode.specs.Forms.{SmallBy, form_of, has_negative}
 

@@ -10,3 +10,5 @@ mod Smallness
 mod Starts
 mod Vectors
 mod Beginning
+mod AddedFacts
+mod Fitting

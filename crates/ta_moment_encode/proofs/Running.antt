@@ -1,5 +1,5 @@
 -- sums over the first terms of a list
-use Rattle.ta_moment_encode.proofs.Common.{◌≡◌, ◌≢◌, ℕ, ℤ, pos, ◌+◌, ◌*◌, ◌<◌, ◌≤◌, ◌+ℤ◌, ◌*ℤ◌, unsigned_abs, List, [], ◌∷◌, ◌++◌, length, take, get_or, arith, sym, ap, ◌∙◌, subst, ◌==◌, if◌then◌else◌, FitsSigned, to_z, of_z, w128, ints, fits_signed_mul, take_more, take-length, AllByRecursion, each_get_or, abs_product, abs_sum, fits_sum, to_z_abs, coefficient, terms_value, coefficient-append, cond_apart, cond_same}
+use Rattle.ta_moment_encode.proofs.Common.{◌≡◌, ◌≢◌, ℕ, ℤ, pos, ◌+◌, ◌*◌, ◌<◌, ◌≤◌, ◌+ℤ◌, ◌*ℤ◌, unsigned_abs, List, [], ◌∷◌, ◌++◌, length, take, get_or, arith, sym, ap, ◌∙◌, subst, ◌==◌, if◌then◌else◌, FitsSigned, to_z, of_z, w128, ints, take_more, take-length, AllByRecursion, each_get_or, abs_sum, fits_sum, to_z_abs, coefficient, terms_value, coefficient-append, cond_apart, cond_same}
 use Rattle.std.proofs.Math.IntN.{+ℤ_idr}
 
 abbrev pub at_variable : (ℕ × ℤ) → ℕ → ℤ

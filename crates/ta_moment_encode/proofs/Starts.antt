@@ -1,5 +1,5 @@
 -- the unknowns at the start
-use Rattle.ta_moment_encode.proofs.Common.{◌≡◌, ◌∙◌, inl, inr, ℕ, ℤ, pos, ◌+◌, ◌<◌, ◌≤◌, List, [], ◌∷◌, ◌++◌, map, length, unsigned_abs, arith, sym, ap, subst, refl, get_or, slice_index_or, length-map, length-append, length-range_with_len, range_with_len, filter_shorter, rises_length, cases_lt, get_or-map, get_past, slice_get-get_or, ints, Automaton, Pattern, Meaning, Parameter, Start, start_locations, place_coefficient, location_place, one_if}
+use Rattle.ta_moment_encode.proofs.Common.{◌≡◌, inl, inr, ℕ, ℤ, pos, ◌≤◌, map, length, unsigned_abs, arith, sym, subst, get_or, range_with_len, cases_lt, get_or-map, get_past, slice_get-get_or, ints, Automaton, Pattern, Meaning, Parameter, Start, start_locations, place_coefficient, location_place, one_if}
 unfoldable use Rattle.ta_encode.specs.Unknowns.{start_meanings}
 use Rattle.std.proofs.lemmas.Bool.Decides.{nat_tests}
 use Rattle.ta_base.proofs.Members.{in_at}

@@ -1,5 +1,5 @@
 -- vectors of the code
-use Rattle.ta_moment_encode.proofs.Common.{◌≡◌, ◌≢◌, ◌∙◌, inl, inr, ℕ, pos, suc, ◌+◌, ◌<◌, ◌≤◌, List, [], ◌∷◌, ◌++◌, length, get_or, drop, slice_get, Some, None, Option, arith, sym, ap, subst, refl, cond, eqb, cond_same, cond_apart, slice_get_past, AllByRecursion}
+use Rattle.ta_moment_encode.proofs.Common.{◌≡◌, ◌≢◌, ◌∙◌, inl, inr, ℕ, pos, ◌+◌, ◌<◌, ◌≤◌, List, [], ◌∷◌, ◌++◌, length, get_or, drop, slice_get, Some, None, Option, arith, sym, ap, refl, cond_same, cond_apart, slice_get_past, AllByRecursion}
 use Rattle.std.proofs.lemmas.List.{drop_more}
 use Rattle.std.specs.Option.{IfSome, MatchOption, option_map}
 use Rattle.std.specs.Prelude.{option_copied}
@@ -12,7 +12,7 @@ use Rattle.ta_moment_encode.specs.Moments.{moment_of, moments_of}
 use Rattle.ta_base.proofs.Naturals.{below_or_last}
 use Rattle.ta_base.proofs.Lists.{get_end, slice_get_before}
 use Rattle.ta_linear.specs.declared.form.Form.{Form}
-use Rattle.ta_moments.specs.Forms.{UnknownForm, number_form, unknown_form, minus_form, plus_form}
+use Rattle.ta_moments.specs.Forms.{number_form, unknown_form, minus_form, plus_form}
 use Rattle.ta_moments.specs.Moments.{Vector}
 unfoldable use Rattle.ta_moments.specs.Moments.{fresh}
 use Rattle.ta_moment_encode.specs.Forms.{form_in, form_of, vector_of}

@@ -3,3 +3,5 @@ pub mod Rows
 pub mod Plan
 pub mod Moments
 pub mod Draft
+pub mod Plain
+pub mod Nodes

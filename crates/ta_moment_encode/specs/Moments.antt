@@ -1,5 +1,5 @@
 -- Moments of the code, as those of the definitions
-use Rattle.std.specs.Prelude.{ℕ, ◌≡◌, List, map, slice_get, Option, Some, None}
+use Rattle.std.specs.Prelude.{ℕ, ◌≡◌, List, map, slice_get, Some}
 use Rattle.ta_moments.specs.Laws.{Speaks}
 use Rattle.ta_moments.specs.Moments.{Moment as KnownMoment, Point as KnownPoint, Pair as KnownPair, early, late}
 use Rattle.ta_moment_encode.specs.Forms.{SmallVector, vector_of}

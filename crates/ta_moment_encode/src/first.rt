@@ -45,7 +45,8 @@ fn start(alloc: Global, task: Task<'_>) -> Result<(List<Meaning>, Vec<Row>), All
 fn event_vector(plan: &Plan, event: usize) -> Result<Vec<Form>, AllocError>
     requires plan { IsPlan plan.now }
     requires event { event < 8 }
-    ensures { IfOk result (λ forms. vector_of forms.items ≡ event_vector plan.now.task.automaton.now plan.now.task.pattern.now event) }
+    ensures value { IfOk result (λ forms. vector_of forms.items ≡ event_vector plan.now.task.automaton.now plan.now.task.pattern.now event) }
+    ensures short { IfOk result (λ forms. length forms.items ≤ length plan.now.task.automaton.now.rules) }
 {
     let rules = plan.task.automaton.rules.as_slice().len();
     let moving = plan.moving.as_slice();
@@ -59,7 +60,8 @@ fn event_vector(plan: &Plan, event: usize) -> Result<Vec<Form>, AllocError>
 fn end_vector(plan: &Plan, candidate: Option<u32>) -> Result<Vec<Form>, AllocError>
     requires plan { IsPlan plan.now }
     requires candidate { In candidate (candidates plan.now.task.pattern.now) }
-    ensures { IfOk result (λ forms. vector_of forms.items ≡ end_vector plan.now.task.automaton.now plan.now.task.pattern.now candidate) }
+    ensures value { IfOk result (λ forms. vector_of forms.items ≡ end_vector plan.now.task.automaton.now plan.now.task.pattern.now candidate) }
+    ensures short { IfOk result (λ forms. length forms.items ≤ length plan.now.task.automaton.now.rules) }
 {
     match candidate {
         None => Ok(Vec::new(plan.alloc)),

@@ -3,15 +3,20 @@
 
 mod at;
 mod draft;
+mod encoding;
+mod facts;
 mod first;
 mod form;
 mod moment;
 mod order;
 mod place;
+mod plain;
 mod plan;
 mod rows;
+mod same;
 mod silence;
 mod uses;
 mod vector;
 
+pub use encoding::MomentEncoding;
 pub use moment::Moment;

@@ -1,4 +1,4 @@
-use Rattle.ta_moment_encode.proofs.Common.{◌≡◌, ◌∙◌, ℕ, ℤ, pos, ◌+◌, ◌*◌, ◌<◌, ◌≤◌, ◌^◌, arith, sym, ap, subst, refl, drop, List, [], length, get_or, to_z, of_z, w128, to_z_abs, unsigned_abs}
+use Rattle.ta_moment_encode.proofs.Common.{◌≡◌, ◌∙◌, ℤ, pos, ◌+◌, ◌*◌, ◌≤◌, ◌^◌, arith, sym, ap, subst, get_or, to_z, of_z, w128, to_z_abs, unsigned_abs}
 use Rattle.ta_moments.specs.Forms.{UnknownForm, number_form, plus_form, times_form, terms_form}
 use Rattle.ta_moments.specs.Moments.{place_form}
 use Rattle.ta_moment_encode.specs.Forms.{SmallBy, form_of, vector_of}

@@ -1,6 +1,5 @@
-use Rattle.ta_moment_encode.proofs.Common.{◌≡◌, ◌∙◌, ℕ, ◌+◌, ◌*◌, ◌≤◌, ◌^◌, arith, sym, ap, subst, refl, drop, List, length, get_or, slice_get, rule_change}
+use Rattle.ta_moment_encode.proofs.Common.{◌∙◌, ℕ, ◌+◌, ◌*◌, ◌^◌, arith, sym, ap, subst, List, length, slice_get, rule_change}
 use Rattle.ta_moments.specs.Forms.{UnknownForm, plus_form, times_form, sum_form}
-use Rattle.ta_moments.specs.Facts.{moving_rules}
 use Rattle.ta_moments.specs.Moments.{start_form}
 use Rattle.ta_moment_encode.specs.Forms.{SmallBy, form_of, vector_of}
 use Rattle.ta_moment_encode.proofs.Forms.{small_more}

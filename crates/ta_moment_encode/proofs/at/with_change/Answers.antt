@@ -1,5 +1,5 @@
-use Rattle.ta_moment_encode.proofs.Common.{ℕ, ◌*◌, ◌≡◌, ◌∙◌, ℤ, pos, ◌≤◌, ◌^◌, ◌+◌, arith, ints, sym, ap, subst, refl, to_z, of_z, w128, unsigned_abs, is_none, to_z_abs, slice_get, rule_change, InRange}
-use Rattle.ta_moments.specs.Forms.{UnknownForm, number_form, plus_form, times_form}
+use Rattle.ta_moment_encode.proofs.Common.{◌*◌, ◌≡◌, ◌∙◌, ℤ, pos, ◌≤◌, ◌^◌, ◌+◌, arith, sym, ap, subst, unsigned_abs, is_none, to_z_abs, slice_get, rule_change}
+use Rattle.ta_moments.specs.Forms.{UnknownForm, plus_form, times_form}
 use Rattle.ta_moment_encode.specs.Forms.{SmallBy, form_of, vector_of}
 use Rattle.ta_moment_encode.proofs.Forms.{small_more, small_plus, small_times}
 use Rattle.ta_moment_encode.proofs.Sums.{plus_none, times_none}

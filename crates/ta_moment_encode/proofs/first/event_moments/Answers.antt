@@ -1,7 +1,6 @@
-use Rattle.ta_moment_encode.proofs.Common.{ℕ, ℤ, pos, ◌≡◌, ◌∙◌, ◌+◌, ◌*◌, ◌-◌, ◌<◌, ◌≤◌, ◌^◌, ◌++◌, ◌∷◌, [], List, Option, Some, None, length, map, filter, take, get_or, slice_get, range_with_len, arith, ap, sym, subst, refl, not, Bool, true, false, Row, Automaton, Pattern, Meaning, In, unsigned_abs, to_z, of_z, w128, to_z_abs}
-use Rattle.ta_moments.specs.Moments.{Moment, Point, event_vector}
+use Rattle.ta_moment_encode.proofs.Common.{ℕ, ◌∙◌, ap}
+use Rattle.ta_moments.specs.Moments.{Point, event_vector}
 use Rattle.ta_moment_encode.specs.Moments.{moments_of}
-use Rattle.ta_moment_encode.specs.declared.moment.Moment.{Moment as Kept}
 use Rattle.ta_moment_encode.proofs.Beginning.{moments_more}
 use Rattle.ta_moment_encode.proofs.Lists.{map_numbers}
 use Rattle.ta_moment_encode.proofs.first.event_moments.Goals as goal
@@ -10,4 +9,4 @@ pub loop-event-preserved : goal.loop-event-preserved
 loop-event-preserved c =
     let t = c.args.plan.now.task in
     let g = λ (e : ℕ). Point (event_vector t.automaton.now t.pattern.now e) in
-    ap moments_of c.in_ok-push.ensures.items ∙ moments_more c.loop-event.moments.items _ _ (g c.loop-event.event) c.loop-event.invariant (ap Point c.in_ok-vector.ensures) ∙ map_numbers g c.loop-event.event
+    ap moments_of c.in_ok-push.ensures.items ∙ moments_more c.loop-event.moments.items _ _ (g c.loop-event.event) c.loop-event.invariant (ap Point c.in_ok-vector.ensures.value) ∙ map_numbers g c.loop-event.event

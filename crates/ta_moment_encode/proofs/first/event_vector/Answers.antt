@@ -1,6 +1,5 @@
-use Rattle.ta_moment_encode.proofs.Common.{ℕ, ℤ, pos, ◌≡◌, ◌∙◌, ◌+◌, ◌*◌, ◌-◌, ◌<◌, ◌≤◌, ◌^◌, ◌++◌, ◌∷◌, [], List, Option, Some, None, length, map, filter, take, get_or, slice_get, range_with_len, arith, ap, sym, subst, refl, not, Bool, true, false, Row, Automaton, Pattern, Meaning, In, unsigned_abs, to_z, of_z, w128, to_z_abs}
+use Rattle.ta_moment_encode.proofs.Common.{ℕ, ◌∙◌, ◌+◌, ◌*◌, List, length, arith, ap, Meaning}
 use Rattle.ta_automaton.specs.declared.rule.Rule.{Rule}
-use Rattle.ta_moments.specs.Facts.{moving_rules}
 use Rattle.ta_encode.specs.Unknowns.{start_meanings}
 use Rattle.ta_moment_encode.proofs.Beginning.{event_is, event_room, moving_below_of, nothing_small}
 use Rattle.ta_moment_encode.proofs.first.event_vector.Goals as goal
@@ -60,8 +59,14 @@ fresh-requires-clause-above c = nothing_small 3
 pub fresh-requires-clause-beneath : goal.fresh-requires-clause-beneath
 fresh-requires-clause-beneath c = nothing_small 3
 
-pub returns : goal.returns
-returns c =
+pub returns-clause-short : goal.returns-clause-short
+returns-clause-short c =
+    let same = ap (λ (rs : List Rule). length rs) c.as_slice-rules.ensures in
+    let count = c.in_ok-forms.ensures.count in
+    omega arith
+
+pub returns-clause-value : goal.returns-clause-value
+returns-clause-value c =
     let t = c.args.plan.now.task in
     let moving = ap (λ (rs : List ℕ). length rs) (c.as_slice-moving.ensures.value ∙ c.requires.plan.moving) in
     let starts = ap (λ (ms : List Meaning). length ms) (c.as_slice-starts.ensures ∙ c.requires.plan.starts) in

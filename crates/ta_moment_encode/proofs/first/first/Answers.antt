@@ -1,7 +1,7 @@
-use Rattle.ta_moment_encode.proofs.Common.{ℕ, ℤ, pos, ◌≡◌, ◌∙◌, ◌+◌, ◌*◌, ◌-◌, ◌<◌, ◌≤◌, ◌^◌, ◌++◌, ◌∷◌, [], List, Option, Some, None, length, map, filter, take, get_or, slice_get, range_with_len, arith, ap, sym, subst, refl, not, Bool, true, false, Row, Automaton, Pattern, Meaning, In, unsigned_abs, to_z, of_z, w128, to_z_abs}
+use Rattle.ta_moment_encode.proofs.Common.{◌∙◌, ◌++◌, length, range_with_len, ap}
 use Rattle.std.specs.Prelude.{flat_map}
-use Rattle.ta_moments.specs.Moments.{Moment, Point, event_vector, rows_at_start, rows_of_after, rows_of_end, rows_of_event}
-use Rattle.ta_moment_encode.specs.Forms.{forms_of, vector_of}
+use Rattle.ta_moments.specs.Moments.{rows_of_after, rows_of_end, rows_of_event}
+use Rattle.ta_moment_encode.specs.Forms.{vector_of}
 use Rattle.ta_moment_encode.proofs.Adding.{adds_both, adds_forms}
 use Rattle.ta_moment_encode.proofs.Beginning.{first_known, moments_count}
 use Rattle.ta_moment_encode.proofs.first.first.Goals as goal
@@ -10,7 +10,7 @@ pub unknown_count-unknowns-requires-clause-moments : goal.unknown_count-unknowns
 unknown_count-unknowns-requires-clause-moments c = ap length c.as_slice-known.ensures.value ∙ moments_count _ _ (length c.args.task.pattern.now.events) c.in_ok-moments.ensures
 
 pub push_ends-requires-clause-end : goal.push_ends-requires-clause-end
-push_ends-requires-clause-end c = ap vector_of c.as_slice.ensures.value ∙ c.in_ok-end.ensures
+push_ends-requires-clause-end c = ap vector_of c.as_slice.ensures.value ∙ c.in_ok-end.ensures.value
 
 pub returns-clause-draft : goal.returns-clause-draft
 returns-clause-draft c silent =
@@ -23,5 +23,6 @@ returns-clause-draft c silent =
     let adds = adds_both events (afters ++ ends) _ _ _ c.in_ok-push_events.ensures (adds_both afters ends _ _ _ c.in_ok-push_afters.ensures c.in_ok-push_ends.ensures) in
     record {
       known = first_known a p silent c.args.candidate _ _ _ c.unknown_count-unknowns.ensures.value c.in_ok-moments.ensures (adds_forms _ _ _ adds ∙ ap (λ fs. fs ++ (events ++ (afters ++ ends))) c.in_ok-starts.ensures.rows);
-      end = c.in_ok-end.ensures;
+      end = c.in_ok-end.ensures.value;
+      short = c.in_ok-end.ensures.short;
     }

@@ -1,4 +1,4 @@
-use Rattle.ta_moment_encode.proofs.Common.{ℕ, ℤ, pos, ◌≡◌, ◌∙◌, ◌+◌, ◌*◌, ◌-◌, ◌<◌, ◌≤◌, ◌^◌, ◌++◌, ◌∷◌, [], List, Option, Some, None, length, map, filter, take, get_or, slice_get, range_with_len, arith, ap, sym, subst, refl, not, Bool, true, false, Row, Automaton, Pattern, Meaning, In, unsigned_abs, to_z, of_z, w128, to_z_abs}
+use Rattle.ta_moment_encode.proofs.Common.{◌∙◌, arith, ap}
 use Rattle.ta_moment_encode.specs.Forms.{vector_of}
 use Rattle.ta_moment_encode.proofs.first.push_after.Goals as goal
 
@@ -9,4 +9,4 @@ event_vector-requires-clause-event c =
     omega arith
 
 pub push_earlier-requires-clause-above : goal.push_earlier-requires-clause-above
-push_earlier-requires-clause-above c = ap vector_of c.as_slice.ensures.value ∙ c.in_ok-above.ensures
+push_earlier-requires-clause-above c = ap vector_of c.as_slice.ensures.value ∙ c.in_ok-above.ensures.value

@@ -1,5 +1,3 @@
-use Rattle.ta_moment_encode.proofs.Common.{ℕ, ℤ, pos, ◌≡◌, ◌∙◌, ◌+◌, ◌*◌, ◌-◌, ◌<◌, ◌≤◌, ◌^◌, ◌++◌, ◌∷◌, [], List, Option, Some, None, length, map, filter, take, get_or, slice_get, range_with_len, arith, ap, sym, subst, refl, not, Bool, true, false, Row, Automaton, Pattern, Meaning, In, unsigned_abs, to_z, of_z, w128, to_z_abs}
-use Rattle.ta_automaton.specs.declared.pattern.Event.{Event}
 use Rattle.ta_moments.specs.Moments.{rows_of_after}
 use Rattle.ta_moment_encode.proofs.Adding.{adds_more}
 use Rattle.ta_moment_encode.proofs.Lists.{flat_numbers}

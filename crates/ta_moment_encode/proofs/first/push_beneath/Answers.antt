@@ -1,5 +1,5 @@
-use Rattle.ta_moment_encode.proofs.Common.{ℕ, ℤ, pos, ◌≡◌, ◌∙◌, ◌+◌, ◌*◌, ◌-◌, ◌<◌, ◌≤◌, ◌^◌, ◌++◌, ◌∷◌, [], List, Option, Some, None, length, map, filter, take, get_or, slice_get, range_with_len, arith, ap, sym, subst, refl, not, Bool, true, false, Row, Automaton, Pattern, Meaning, In, unsigned_abs, to_z, of_z, w128, to_z_abs}
-use Rattle.ta_moments.specs.Moments.{Vector, below, event_vector, unknowns_at_first}
+use Rattle.ta_moment_encode.proofs.Common.{◌∙◌, arith, ap, sym, subst}
+use Rattle.ta_moments.specs.Moments.{Vector, below, unknowns_at_first}
 use Rattle.ta_moments.proofs.Speaking.{VectorSpeaks}
 use Rattle.ta_moment_encode.specs.Forms.{SmallVector, vector_of}
 use Rattle.ta_moment_encode.specs.Rows.{AddsForms}
@@ -15,7 +15,7 @@ event_vector-requires-clause-event c =
 pub push_below-requires-clause-beneath : goal.push_below-requires-clause-beneath
 push_below-requires-clause-beneath c =
     let t = c.args.plan.now.task in
-    subst (λ (v : Vector). SmallVector 3 v) (sym (ap vector_of c.as_slice.ensures.value ∙ c.in_ok-beneath.ensures)) (vector_more_small 1 3 _ (omega arith) (event_small t.automaton.now t.pattern.now c.args.event))
+    subst (λ (v : Vector). SmallVector 3 v) (sym (ap vector_of c.as_slice.ensures.value ∙ c.in_ok-beneath.ensures.value)) (vector_more_small 1 3 _ (omega arith) (event_small t.automaton.now t.pattern.now c.args.event))
 
 pub returns : goal.returns
 returns c =
@@ -23,6 +23,6 @@ returns c =
     let a = t.automaton.now in
     let p = t.pattern.now in
     let n = unknowns_at_first a p in
-    let one = ap vector_of c.as_slice.ensures.value ∙ c.in_ok-beneath.ensures in
+    let one = ap vector_of c.as_slice.ensures.value ∙ c.in_ok-beneath.ensures.value in
     subst (λ (v : Vector). AddsForms (below a p n v (vector_of c.args.above.now)) c.args.rows.now.items c.push_below.new.rows.items) one
     (c.in_ok-push_below.ensures n (subst (λ (v : Vector). VectorSpeaks n v) (sym one) (event_speaks a p c.args.event c.requires.event)) c.requires.speaks)

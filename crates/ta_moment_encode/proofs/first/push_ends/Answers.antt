@@ -1,10 +1,10 @@
-use Rattle.ta_moment_encode.proofs.Common.{ℕ, ℤ, pos, ◌≡◌, ◌∙◌, ◌+◌, ◌*◌, ◌-◌, ◌<◌, ◌≤◌, ◌^◌, ◌++◌, ◌∷◌, [], List, Option, Some, None, length, map, filter, take, get_or, slice_get, range_with_len, arith, ap, sym, subst, refl, not, Bool, true, false, Row, Automaton, Pattern, Meaning, In, unsigned_abs, to_z, of_z, w128, to_z_abs}
+use Rattle.ta_moment_encode.proofs.Common.{ℕ, ◌∙◌, ◌+◌, ◌++◌, List, length, filter, range_with_len, arith, ap, sym, subst, Row}
 use Rattle.std.specs.Prelude.{flat_map}
 use Rattle.ta_automaton.specs.declared.pattern.Event.{Event}
 use Rattle.ta_moments.specs.Forms.{UnknownForm}
 use Rattle.ta_moments.specs.Moments.{Vector, below, end_vector, event_vector, is_beside, unknowns_at_first}
 use Rattle.ta_moments.proofs.Speaking.{VectorSpeaks}
-use Rattle.ta_moment_encode.specs.Forms.{SmallVector, vector_of}
+use Rattle.ta_moment_encode.specs.Forms.{SmallVector}
 use Rattle.ta_moment_encode.specs.Rows.{AddsForms}
 use Rattle.ta_moment_encode.proofs.Adding.{adds_more, adds_same}
 use Rattle.ta_moment_encode.proofs.Beginning.{end_small, end_speaks, vector_more_small}

@@ -1,5 +1,5 @@
-use Rattle.ta_moment_encode.proofs.Common.{ℕ, ℤ, pos, ◌≡◌, ◌∙◌, ◌+◌, ◌*◌, ◌-◌, ◌<◌, ◌≤◌, ◌^◌, ◌++◌, ◌∷◌, [], List, Option, Some, None, length, map, filter, take, get_or, slice_get, range_with_len, arith, ap, sym, subst, refl, not, Bool, true, false, Row, Automaton, Pattern, Meaning, In, unsigned_abs, to_z, of_z, w128, to_z_abs}
-use Rattle.ta_moments.specs.Moments.{Vector, counters_at, event_at, event_vector}
+use Rattle.ta_moment_encode.proofs.Common.{◌∙◌, slice_get, arith, ap, sym, subst}
+use Rattle.ta_moments.specs.Moments.{Vector, counters_at, event_at}
 use Rattle.ta_moment_encode.specs.Forms.{SmallVector, vector_of}
 use Rattle.ta_moment_encode.specs.Rows.{AddsForms}
 use Rattle.ta_moment_encode.proofs.Adding.{adds_both}
@@ -9,18 +9,18 @@ use Rattle.ta_moment_encode.proofs.first.push_one_event.Goals as goal
 pub push_counters-requires-clause-vector : goal.push_counters-requires-clause-vector
 push_counters-requires-clause-vector c =
     let t = c.args.plan.now.task in
-    subst (λ (v : Vector). SmallVector 3 v) (sym (ap vector_of c.as_slice.ensures.value ∙ c.in_ok-vector.ensures)) (vector_more_small 1 3 _ (omega arith) (event_small t.automaton.now t.pattern.now c.args.event))
+    subst (λ (v : Vector). SmallVector 3 v) (sym (ap vector_of c.as_slice.ensures.value ∙ c.in_ok-vector.ensures.value)) (vector_more_small 1 3 _ (omega arith) (event_small t.automaton.now t.pattern.now c.args.event))
 
 pub push_event-requires-clause-vector : goal.push_event-requires-clause-vector
 push_event-requires-clause-vector c =
     let t = c.args.plan.now.task in
-    subst (λ (v : Vector). SmallVector 3 v) (sym (ap vector_of c.as_slice-2.ensures.value ∙ c.in_ok-vector.ensures)) (vector_more_small 1 3 _ (omega arith) (event_small t.automaton.now t.pattern.now c.args.event))
+    subst (λ (v : Vector). SmallVector 3 v) (sym (ap vector_of c.as_slice-2.ensures.value ∙ c.in_ok-vector.ensures.value)) (vector_more_small 1 3 _ (omega arith) (event_small t.automaton.now t.pattern.now c.args.event))
 
 pub returns : goal.returns
 returns c =
     let t = c.args.plan.now.task in
-    let one = ap vector_of c.as_slice.ensures.value ∙ c.in_ok-vector.ensures in
-    let two = ap vector_of c.as_slice-2.ensures.value ∙ c.in_ok-vector.ensures in
+    let one = ap vector_of c.as_slice.ensures.value ∙ c.in_ok-vector.ensures.value in
+    let two = ap vector_of c.as_slice-2.ensures.value ∙ c.in_ok-vector.ensures.value in
     adds_both _ _ _ _ _
     (subst (λ (v : Vector). AddsForms (counters_at t.automaton.now t.pattern.now v) c.args.rows.now.items c.push_counters.new.rows.items) one c.in_ok-push_counters.ensures)
     (subst (λ (v : Vector). AddsForms (event_at t.automaton.now t.pattern.now v (slice_get t.pattern.now.events c.args.event)) c.push_counters.new.rows.items c.push_event.new.rows.items) two c.in_ok-push_event.ensures)

@@ -1,7 +1,6 @@
-use Rattle.ta_moment_encode.proofs.Common.{ℕ, ℤ, pos, ◌≡◌, ◌∙◌, ◌+◌, ◌*◌, ◌-◌, ◌<◌, ◌≤◌, ◌^◌, ◌++◌, ◌∷◌, [], List, Option, Some, None, length, map, filter, take, get_or, slice_get, range_with_len, arith, ap, sym, subst, refl, not, Bool, true, false, Row, Automaton, Pattern, Meaning, In, unsigned_abs, to_z, of_z, w128, to_z_abs}
+use Rattle.ta_moment_encode.proofs.Common.{ℕ, ◌∙◌, ◌+◌, ◌*◌, List, length, arith, ap, Meaning}
 use Rattle.ta_encode.specs.Unknowns.{start_meanings}
 use Rattle.ta_moments.specs.Facts.{moving_rules}
-use Rattle.ta_moments.specs.Moments.{unknowns_at_first}
 use Rattle.ta_moment_encode.proofs.Beginning.{count_room}
 use Rattle.ta_moment_encode.proofs.first.unknown_count.Goals as goal
 

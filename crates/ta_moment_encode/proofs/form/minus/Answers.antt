@@ -1,4 +1,4 @@
-use Rattle.std.proofs.Common.{◌≡◌, ◌^◌, ◌∙◌, arith, ap, sym, subst, negsuc}
+use Rattle.std.proofs.Common.{◌^◌, ◌∙◌, arith, ap, sym, subst}
 use Rattle.ta_moments.specs.Forms.{UnknownForm, plus_form}
 use Rattle.ta_moment_encode.specs.Forms.{SmallBy, form_of}
 use Rattle.ta_moment_encode.proofs.Forms.{plus_turned, small_more, small_turned}

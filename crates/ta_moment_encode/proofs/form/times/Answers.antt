@@ -1,8 +1,6 @@
-use Rattle.std.proofs.Common.{◌≡◌, ap, subst, ◌∙◌, ℤ}
+use Rattle.std.proofs.Common.{◌≡◌, ap, subst, ℤ}
 use Rattle.std.specs.Prelude.{Err}
 use Rattle.ta_base.proofs.Integers.{to_z_abs}
-use Rattle.ta_moment_encode.specs.Forms.{form_of}
-use Rattle.ta_moments.specs.Forms.{times_form}
 use Rattle.ta_linear.specs.Forms.{IsMultiple, MultipleOutOfRange}
 use Rattle.std.proofs.Common.{arith, to_z, of_z, ◌^◌}
 use Rattle.std.specs.Int.{w128}

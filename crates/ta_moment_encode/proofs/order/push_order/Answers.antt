@@ -1,9 +1,7 @@
-use Rattle.ta_moment_encode.proofs.Common.{ℕ, ℤ, pos, ◌≡◌, ◌∙◌, ◌+◌, ◌*◌, ◌-◌, ◌<◌, ◌≤◌, ◌^◌, ◌++◌, ◌∷◌, [], List, Option, Some, None, length, map, filter, take, get_or, slice_get, range_with_len, arith, ap, sym, subst, refl, not, Bool, true, false, Row, Automaton, Pattern, Meaning, In, unsigned_abs, to_z, of_z, w128, to_z_abs}
+use Rattle.ta_moment_encode.proofs.Common.{◌∙◌, slice_get, ap, sym}
 use Rattle.std.specs.Prelude.{option_copied}
 use Rattle.std.specs.Option.{option_map}
-use Rattle.ta_moments.specs.Moments.{Moment, Vector, below, early, late, rows_of_order}
-use Rattle.ta_moments.proofs.Speaking.{VectorSpeaks}
-use Rattle.ta_moment_encode.specs.Forms.{SmallVector, vector_of}
+use Rattle.ta_moments.specs.Moments.{rows_of_order}
 use Rattle.ta_moment_encode.specs.Moments.{moment_of, moments_of}
 use Rattle.ta_moment_encode.proofs.Adding.{adds_none, adds_same}
 use Rattle.ta_moment_encode.proofs.order.push_order.Goals as goal

@@ -1,5 +1,4 @@
-use Rattle.ta_moment_encode.proofs.Common.{◌≡◌, ◌-◌, ◌+◌, ◌∙◌, sym, ap, arith, length, List, slice_get, Row, ◌++◌}
-use Rattle.std.specs.Prelude.{option_copied}
+use Rattle.ta_moment_encode.proofs.Common.{◌≡◌, ◌-◌, ◌+◌, ◌∙◌, sym, ap, arith, length, List, slice_get, Row}
 use Rattle.ta_base.proofs.Lists.{slice_get_right}
 use Rattle.ta_moment_encode.proofs.Lists.{copied}
 use Rattle.ta_moment_encode.proofs.plan.guard_row.Goals as goal

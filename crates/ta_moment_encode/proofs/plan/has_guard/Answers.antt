@@ -1,6 +1,5 @@
-use Rattle.ta_moment_encode.proofs.Common.{◌≡◌, ◌-◌, ◌<◌, ◌≤◌, arith, ℕ, Bool, true, false, cond, sym, ap, ◌∙◌, subst, refl, List, length, slice_get, Some, nat_lt, has_bit, slice_get_read, Rule, Row}
+use Rattle.ta_moment_encode.proofs.Common.{◌≡◌, ◌-◌, ◌<◌, ◌≤◌, arith, sym, ap, ◌∙◌, subst, refl, List, length, slice_get, Some, nat_lt, has_bit, slice_get_read, Rule, Row}
 use Rattle.std.proofs.lemmas.Bool.{cond-true, cond-false}
-use Rattle.std.proofs.lemmas.Bool.Decides.{nat_tests}
 use Rattle.ta_moments.specs.Facts.{has_guard}
 use Rattle.ta_moment_encode.proofs.Lists.{less_true, less_false}
 use Rattle.ta_moment_encode.proofs.plan.has_guard.Goals as goal

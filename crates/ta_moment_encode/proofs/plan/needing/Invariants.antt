@@ -1,4 +1,4 @@
-use Rattle.std.proofs.Common.{◌≡◌, not, slice_get, take}
+use Rattle.std.proofs.Common.{◌≡◌, slice_get, take}
 use Rattle.std.specs.Prelude.{filter}
 use Rattle.ta_moments.specs.Facts.{has_guard}
 use Rattle.ta_moment_encode.proofs.plan.needing.Given as goal

@@ -1,6 +1,5 @@
-use Rattle.ta_moment_encode.proofs.Common.{◌≡◌, ◌∙◌, ℕ, ◌+◌, ◌≤◌, ◌++◌, ◌∷◌, [], arith, ap, sym, subst, length, get_or, List, map, filter, take, Row}
+use Rattle.ta_moment_encode.proofs.Common.{◌≡◌, ◌∙◌, ℕ, ◌+◌, ◌++◌, ◌∷◌, [], arith, ap, sym, subst, length, get_or, List, map, filter, take, Row}
 use Rattle.std.proofs.Math.Seq.{take-length}
-use Rattle.ta_moments.specs.Facts.{moving_rules}
 use Rattle.ta_moments.specs.Forms.{UnknownForm, may_be_negative, minus_form}
 use Rattle.ta_moments.specs.Laws.{Speaks}
 use Rattle.ta_moment_encode.specs.Forms.{form_of, vector_of}

@@ -1,4 +1,4 @@
-use Rattle.ta_moment_encode.proofs.Common.{◌≡◌, ◌∙◌, ℕ, Bool, not, true, false, ◌+◌, ◌<◌, ◌++◌, ◌∷◌, [], arith, ap, sym, subst, length, List, map, filter, range_with_len, has_bit, passed_none, passed_one, location_place, Row}
+use Rattle.ta_moment_encode.proofs.Common.{◌≡◌, ◌∙◌, ℕ, Bool, not, ◌+◌, ◌++◌, ◌∷◌, [], arith, ap, sym, subst, length, List, map, filter, range_with_len, has_bit, passed_none, passed_one, location_place, Row}
 use Rattle.ta_moments.specs.Forms.{UnknownForm}
 use Rattle.ta_moments.specs.Moments.{place_form}
 use Rattle.ta_moment_encode.specs.Forms.{vector_of}

@@ -1,6 +1,6 @@
-use Rattle.ta_moment_encode.proofs.Common.{◌≡◌, ◌∙◌, ℕ, ◌+◌, ap, sym, [], ◌∷◌, ◌++◌, List, get_or, map, take}
+use Rattle.ta_moment_encode.proofs.Common.{◌∙◌, ap, [], ◌∷◌, ◌++◌, map, take}
 use Rattle.ta_moments.specs.Forms.{UnknownForm}
-use Rattle.ta_moment_encode.specs.Forms.{form_of, vector_of}
+use Rattle.ta_moment_encode.specs.Forms.{vector_of}
 use Rattle.ta_moment_encode.proofs.Adding.{adds_more, map_more}
 use Rattle.ta_moment_encode.proofs.rows.push_each.Goals as goal
 

@@ -1,4 +1,4 @@
-use Rattle.ta_moment_encode.proofs.Common.{◌≡◌, ◌∙◌, ◌≤◌, List, length, slice_get, Some, None, refl, sym, ap, subst, slice_get_read, slice_get_past}
+use Rattle.ta_moment_encode.proofs.Common.{◌≡◌, ◌≤◌, List, length, slice_get, Some, None, refl, sym, ap, subst, slice_get_read, slice_get_past}
 use Rattle.std.proofs.lemmas.Bool.{ltb-false}
 use Rattle.ta_automaton.specs.declared.pattern.Event.{Event}
 use Rattle.ta_encode.proofs.Drafts.{events_small}

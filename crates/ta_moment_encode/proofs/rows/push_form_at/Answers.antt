@@ -1,4 +1,4 @@
-use Rattle.ta_moment_encode.proofs.Common.{◌≡◌, ◌∙◌, ℕ, ℤ, ap, [], ◌∷◌, List, to_z_range}
+use Rattle.ta_moment_encode.proofs.Common.{◌∙◌, ℕ, ℤ, ap, [], ◌∷◌, List, to_z_range}
 use Rattle.ta_moments.specs.Forms.{UnknownForm, number_form, plus_form, terms_form}
 use Rattle.ta_moments.specs.Moments.{place_form}
 use Rattle.ta_moment_encode.specs.Forms.{vector_of}

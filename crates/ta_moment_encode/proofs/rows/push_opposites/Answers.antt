@@ -1,6 +1,6 @@
-use Rattle.ta_moment_encode.proofs.Common.{◌≡◌, ◌∙◌, ℕ, ◌+◌, ◌^◌, arith, ap, sym, subst, [], ◌∷◌, ◌++◌, List, get_or, map, take}
+use Rattle.ta_moment_encode.proofs.Common.{◌∙◌, ℕ, ◌^◌, arith, ap, sym, subst, [], ◌∷◌, ◌++◌, get_or, map, take}
 use Rattle.ta_moments.specs.Forms.{UnknownForm, opposite_form}
-use Rattle.ta_moment_encode.specs.Forms.{SmallBy, form_of, vector_of}
+use Rattle.ta_moment_encode.specs.Forms.{SmallBy, vector_of}
 use Rattle.ta_moment_encode.proofs.Forms.{small_more}
 use Rattle.ta_moment_encode.proofs.Adding.{adds_more, map_more}
 use Rattle.ta_moment_encode.proofs.rows.push_opposites.Goals as goal

@@ -1,4 +1,4 @@
-use Rattle.ta_moment_encode.proofs.Common.{◌≡◌, ◌∙◌, ◌+◌, ap, [], ◌∷◌, ◌++◌, List, map, take, Row}
+use Rattle.ta_moment_encode.proofs.Common.{◌∙◌, ap, [], ◌∷◌, ◌++◌, map, take, Row}
 use Rattle.ta_moments.specs.Moments.{form_at}
 use Rattle.ta_moment_encode.specs.Forms.{vector_of}
 use Rattle.ta_moment_encode.proofs.Adding.{adds_more, map_more}

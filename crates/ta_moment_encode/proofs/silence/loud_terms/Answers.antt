@@ -1,5 +1,5 @@
-use Rattle.ta_moment_encode.proofs.Common.{ℕ, ℤ, pos, ◌≡◌, ◌∙◌, ◌+◌, ◌*◌, ◌-◌, ◌<◌, ◌≤◌, ◌^◌, ◌++◌, ◌∷◌, [], List, Option, Some, None, length, map, filter, take, get_or, slice_get, range_with_len, arith, ap, sym, subst, refl, not, Bool, true, false, Row, Automaton, Pattern, Meaning, In, unsigned_abs, to_z, of_z, w128, to_z_abs}
-use Rattle.ta_rest.specs.Quiet.{is_silent, loud_terms}
+use Rattle.ta_moment_encode.proofs.Common.{ℕ, ℤ, pos, ◌≡◌, ◌∙◌, ◌++◌, ◌∷◌, [], List, get_or, arith, ap, sym, not, Bool, to_z, of_z, w128, to_z_abs}
+use Rattle.ta_rest.specs.Quiet.{is_silent}
 use Rattle.ta_moment_encode.proofs.Lists.{item_kept, item_left}
 use Rattle.ta_moment_encode.proofs.Sums.{factor_small}
 use Rattle.ta_moment_encode.proofs.silence.loud_terms.Goals as goal

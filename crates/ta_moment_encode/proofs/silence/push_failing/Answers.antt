@@ -1,4 +1,4 @@
-use Rattle.ta_moment_encode.proofs.Common.{ℕ, ℤ, pos, ◌≡◌, ◌∙◌, ◌+◌, ◌*◌, ◌-◌, ◌<◌, ◌≤◌, ◌^◌, ◌++◌, ◌∷◌, [], List, Option, Some, None, length, map, filter, take, get_or, slice_get, range_with_len, arith, ap, sym, subst, refl, not, Bool, true, false, Row, Automaton, Pattern, Meaning, In, unsigned_abs, to_z, of_z, w128, to_z_abs}
+use Rattle.ta_moment_encode.proofs.Common.{ℕ, ℤ, ◌≡◌, ◌∙◌, ◌*◌, ◌≤◌, ◌^◌, ◌∷◌, [], List, Option, Some, map, slice_get, arith, ap, sym, subst, Row, unsigned_abs, to_z_abs}
 use Rattle.std.specs.Prelude.{option_copied}
 use Rattle.ta_encode.specs.Lines.{SmallTerms}
 use Rattle.ta_moments.specs.Forms.{UnknownForm, negated_form, number_form, plus_form, terms_form}

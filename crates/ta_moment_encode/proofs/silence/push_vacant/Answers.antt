@@ -1,4 +1,4 @@
-use Rattle.ta_moment_encode.proofs.Common.{ℕ, ℤ, pos, ◌≡◌, ◌∙◌, ◌+◌, ◌*◌, ◌-◌, ◌<◌, ◌≤◌, ◌^◌, ◌++◌, ◌∷◌, [], List, Option, Some, None, length, map, filter, take, get_or, slice_get, range_with_len, arith, ap, sym, subst, refl, not, Bool, true, false, Row, Automaton, Pattern, Meaning, In, unsigned_abs, to_z, of_z, w128, to_z_abs}
+use Rattle.ta_moment_encode.proofs.Common.{◌≡◌, ◌∙◌, ◌+◌, ◌*◌, ◌≤◌, ◌^◌, ◌∷◌, [], List, Option, Some, None, length, map, slice_get, arith, ap, sym, subst, refl}
 use Rattle.std.proofs.lemmas.Bool.{ltb-false}
 use Rattle.std.proofs.lemmas.Option.{slice_get_past, slice_get_read}
 use Rattle.ta_automaton.specs.declared.rule.Rule.{Rule}

@@ -1,4 +1,4 @@
-use Rattle.ta_moment_encode.proofs.Common.{ℕ, ℤ, pos, ◌≡◌, ◌∙◌, ◌+◌, ◌*◌, ◌-◌, ◌<◌, ◌≤◌, ◌^◌, ◌++◌, ◌∷◌, [], List, Option, Some, None, length, map, filter, take, get_or, slice_get, range_with_len, arith, ap, sym, subst, refl, not, Bool, true, false, Row, Automaton, Pattern, Meaning, In, unsigned_abs, to_z, of_z, w128, to_z_abs}
+use Rattle.ta_moment_encode.proofs.Common.{pos, ◌≡◌, ◌∙◌, ◌+◌, ◌^◌, get_or, arith, ap, sym, subst}
 use Rattle.ta_moments.specs.Forms.{UnknownForm, minus_form, number_form, plus_form, sum_form}
 use Rattle.ta_moment_encode.specs.Forms.{SmallBy, form_of, vector_of}
 use Rattle.ta_moment_encode.proofs.Forms.{number_is, small_minus, small_more, small_number, small_plus}

@@ -1,8 +1,7 @@
-use Rattle.ta_moment_encode.proofs.Common.{ℕ, ℤ, pos, ◌≡◌, ◌∙◌, ◌+◌, ◌*◌, ◌-◌, ◌<◌, ◌≤◌, ◌^◌, ◌++◌, ◌∷◌, [], List, Option, Some, None, length, map, filter, take, get_or, slice_get, range_with_len, arith, ap, sym, subst, refl, not, Bool, true, false, Row, Automaton, Pattern, Meaning, In, unsigned_abs, to_z, of_z, w128, to_z_abs}
+use Rattle.ta_moment_encode.proofs.Common.{ℕ, pos, ◌∙◌, ◌+◌, ◌++◌, List, length, filter, slice_get, arith, ap, sym, subst, not, Bool}
 use Rattle.ta_automaton.specs.declared.rule.Rule.{Rule}
-use Rattle.ta_moments.specs.Facts.{has_guard, moving_rules, sparing}
-use Rattle.ta_moments.specs.Forms.{UnknownForm}
-use Rattle.ta_moments.specs.Moments.{Point, Vector, below, counters_at, first_vector, guard_at, guards, nothing_fired, rows_of_first}
+use Rattle.ta_moments.specs.Facts.{has_guard, sparing}
+use Rattle.ta_moments.specs.Moments.{Point, Vector, below, counters_at, first_vector, guard_at, guards, nothing_fired}
 use Rattle.ta_moments.proofs.Speaking.{VectorSpeaks, speak_fresh, speak_number, vector_more}
 use Rattle.ta_moment_encode.specs.Forms.{SmallVector, vector_of}
 use Rattle.ta_moment_encode.specs.Rows.{AddsForms}

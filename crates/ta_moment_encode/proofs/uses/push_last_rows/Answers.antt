@@ -1,6 +1,5 @@
-use Rattle.ta_moment_encode.proofs.Common.{ℕ, ℤ, pos, ◌≡◌, ◌∙◌, ◌+◌, ◌*◌, ◌-◌, ◌<◌, ◌≤◌, ◌^◌, ◌++◌, ◌∷◌, [], List, Option, Some, None, length, map, filter, take, get_or, slice_get, range_with_len, arith, ap, sym, subst, refl, not, Bool, true, false, Row, Automaton, Pattern, Meaning, In, unsigned_abs, to_z, of_z, w128, to_z_abs}
+use Rattle.ta_moment_encode.proofs.Common.{pos, ◌∷◌, [], List, map, slice_get, arith, ap, sym, subst}
 use Rattle.ta_moments.specs.Forms.{UnknownForm, minus_form, negated_form, number_form, opposite_form, sum_form}
-use Rattle.ta_moments.specs.Laws.{Speaks}
 use Rattle.ta_moments.specs.Moments.{Vector, below, counters_at, guard_at, guards}
 use Rattle.ta_moments.proofs.Speaking.{VectorSpeaks}
 use Rattle.ta_moment_encode.specs.Forms.{SmallVector, vector_of}

@@ -1,10 +1,9 @@
-use Rattle.ta_moment_encode.proofs.Common.{ℕ, ℤ, pos, ◌≡◌, ◌∙◌, ◌+◌, ◌*◌, ◌-◌, ◌<◌, ◌≤◌, ◌^◌, ◌++◌, ◌∷◌, [], List, Option, Some, None, length, map, filter, take, get_or, slice_get, range_with_len, arith, ap, sym, subst, refl, not, Bool, true, false, Row, Automaton, Pattern, Meaning, In, unsigned_abs, to_z, of_z, w128, to_z_abs}
+use Rattle.ta_moment_encode.proofs.Common.{ℕ, ◌∙◌, ◌+◌, List, length, filter, slice_get, arith, ap, sym, subst, refl, not, Bool}
 use Rattle.ta_moments.specs.Facts.{has_guard, needing, sparing}
-use Rattle.ta_moments.specs.Forms.{UnknownForm}
-use Rattle.ta_moments.specs.Moments.{Pair, Vector, after_vector, before_vector, step_vector}
+use Rattle.ta_moments.specs.Moments.{Pair, Vector, before_vector}
 use Rattle.ta_moments.proofs.Speaking.{VectorSpeaks, vector_more}
 use Rattle.ta_moment_encode.specs.Forms.{SmallVector, vector_of}
-use Rattle.ta_moment_encode.specs.Rows.{AddsForms, last_rows}
+use Rattle.ta_moment_encode.specs.Rows.{last_rows}
 use Rattle.ta_moment_encode.proofs.Adding.{adds_same}
 use Rattle.ta_moment_encode.proofs.Beginning.{after_is, after_small, after_speaks, before_is, before_small, chosen_below, chosen_few, step_is, step_small}
 use Rattle.ta_moment_encode.proofs.uses.push_last_use.Goals as goal

@@ -1,5 +1,5 @@
-use Rattle.ta_moment_encode.proofs.Common.{ℕ, ℤ, pos, ◌≡◌, ◌∙◌, ◌+◌, ◌*◌, ◌-◌, ◌<◌, ◌≤◌, ◌^◌, ◌++◌, ◌∷◌, [], List, Option, Some, None, length, map, filter, take, get_or, slice_get, range_with_len, arith, ap, sym, subst, refl, not, Bool, true, false, Row, Automaton, Pattern, Meaning, In, unsigned_abs, to_z, of_z, w128, to_z_abs}
-use Rattle.ta_moments.specs.Forms.{UnknownForm, minus_form, plus_form}
+use Rattle.ta_moment_encode.proofs.Common.{ℕ, ◌∙◌, arith, ap, sym, subst}
+use Rattle.ta_moments.specs.Forms.{minus_form, plus_form}
 use Rattle.ta_moments.specs.Moments.{Vector, fresh, nothing_fired}
 use Rattle.ta_moment_encode.specs.Forms.{SmallVector, vector_of}
 use Rattle.ta_moment_encode.proofs.Beginning.{fresh_small, less_small, nothing_small, vector_more_small}

@@ -1,4 +1,4 @@
-use Rattle.ta_moment_encode.proofs.Common.{◌≡◌, ◌∙◌, ◌^◌, arith, sym, ap, subst}
+use Rattle.ta_moment_encode.proofs.Common.{◌∙◌, ◌^◌, arith, sym, ap, subst}
 use Rattle.ta_moments.specs.Forms.{UnknownForm, minus_form}
 use Rattle.ta_moment_encode.specs.Forms.{SmallBy, form_of, vector_of}
 use Rattle.ta_moment_encode.proofs.Forms.{small_more}

@@ -1,7 +1,7 @@
-use Rattle.ta_moment_encode.proofs.Common.{◌≡◌, ◌∙◌, inl, inr, ℕ, pos, ◌+◌, ◌<◌, ◌≤◌, ap, sym, arith, subst, length, length-append, cases_lt, List, ◌++◌, ◌∷◌, []}
+use Rattle.ta_moment_encode.proofs.Common.{◌≡◌, ◌∙◌, inl, inr, ℕ, pos, ap, sym, arith, length, length-append, cases_lt, List, ◌∷◌, []}
 use Rattle.ta_linear.specs.declared.form.Form.{Form}
 use Rattle.ta_moments.specs.Forms.{UnknownForm, minus_form, number_form}
-use Rattle.ta_moments.specs.Moments.{Vector, fresh}
+use Rattle.ta_moments.specs.Moments.{fresh}
 use Rattle.ta_moment_encode.specs.Forms.{vector_of}
 use Rattle.ta_moment_encode.proofs.Vectors.{fresh_beyond, nothing_less, vector_more, vector_past, vector_same}
 use Rattle.ta_moment_encode.proofs.vector.fresh.Goals as goal

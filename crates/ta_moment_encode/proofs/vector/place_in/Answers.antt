@@ -1,4 +1,4 @@
-use Rattle.ta_moment_encode.proofs.Common.{◌≡◌, ◌+◌, ◌∙◌, ap, sym, arith, length, drop, ◌≤◌}
+use Rattle.ta_moment_encode.proofs.Common.{◌+◌, ◌∙◌, ap}
 use Rattle.std.proofs.Math.ListN.{drop_of_length-le}
 use Rattle.ta_moments.specs.Moments.{fresh}
 use Rattle.ta_moment_encode.proofs.Vectors.{fresh_at_place, fresh_next, fresh_none}

@@ -1,7 +1,6 @@
-use Rattle.ta_moment_encode.proofs.Common.{◌≡◌, ◌∙◌, inl, inr, ℕ, pos, ◌+◌, ◌<◌, ◌≤◌, ◌^◌, ap, sym, arith, subst, length, length-append, cases_lt, List, ◌++◌, ◌∷◌, []}
+use Rattle.ta_moment_encode.proofs.Common.{◌∙◌, inl, inr, ℕ, pos, ◌^◌, ap, sym, arith, subst, length, length-append, cases_lt, List, ◌∷◌, []}
 use Rattle.ta_linear.specs.declared.form.Form.{Form}
 use Rattle.ta_moments.specs.Forms.{UnknownForm, plus_form, number_form}
-use Rattle.ta_moments.specs.Moments.{Vector}
 use Rattle.ta_moment_encode.specs.Forms.{SmallBy, form_of, vector_of}
 use Rattle.ta_moment_encode.proofs.Forms.{small_more}
 use Rattle.ta_moment_encode.proofs.Vectors.{nothing_more, vector_more, vector_past, vector_same}
