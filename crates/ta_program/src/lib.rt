@@ -28,7 +28,7 @@ mod words;
 
 pub use fault_laws::{faults_are_determined, faults_are_named};
 pub use laws::{
-    found_certificates_are_accepted, printed_rest_runs_are_replayed, printed_runs_are_replayed, written_certificates_are_accepted,
-    written_rest_certificates_are_accepted,
+    found_certificates_are_accepted, printed_rest_runs_are_replayed, printed_runs_are_replayed,
+    written_certificates_are_accepted, written_rest_certificates_are_accepted,
 };
 pub use running::run;
