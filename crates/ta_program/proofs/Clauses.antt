@@ -6,6 +6,8 @@ use Rattle.ta_replay.proofs.Occurring.{shown_occurs}
 use Rattle.ta_check.proofs.OwnPatterns.{all_own}
 use Rattle.ta_claim.specs.declared.claim.Claim.TheVariants as claim
 use Rattle.ta_program.proofs.AtRest.{rest_safe_at, rest_unsafe_printed}
+use Rattle.ta_program.proofs.FairAtRest.{fair_at_rest}
+use Rattle.ta_program.specs.Program.{FairlySafeAlone}
 use Rattle.ta_program.proofs.FoundStands.{found_stands}
 use Rattle.ta_program.proofs.WordsDiffer.{Apart, names_apart}
 use Rattle.ta_program.proofs.UnsafePrinted.{run_within, unsafe_occurs, unsafe_printed, unsafe_there}
@@ -385,6 +387,30 @@ module _ (words : List (List ℕ)) (number : ℕ) (before after : State) (h : Ru
         subst (RestSafe r.file.automaton) is found.safe;
   }
 
+  printed_rest_fair : (name : List ℕ) (budget : ℕ) (view : View) → RestReportHolds number view name budget before.out.written after.out.written → EachPrinted FairlySafeAlone (codes "rest safe, ") view name before.out.written after.out.written
+  unfolding printed_rest
+  printed_rest_fair name budget view r =
+      let e = printed_rest name budget view r in
+      record {
+        file = r.file;
+        holds = holds_file view name r.file r.is_file;
+        text = rest_text r.file r.sample r.verdicts;
+        gained = r.wrote;
+        holds_of = λ k p named line. fair_at_rest r.is_file.bytes r.file r.is_file.means r.are_ends.loops k p named (e.holds_of k p named line);
+      }
+
+  printed_rest_check_fair : (name certificate : List ℕ) (view : View) → RestCheckHolds view name certificate before.out.written after.out.written → EachPrinted FairlySafeAlone (codes "rest proved") view name before.out.written after.out.written
+  unfolding printed_rest_check
+  printed_rest_check_fair name certificate view r =
+      let e = printed_rest_check name certificate view r in
+      record {
+        file = r.file;
+        holds = holds_file view name r.file r.is_file;
+        text = rest_check_text r.file r.numbers;
+        gained = r.wrote;
+        holds_of = λ k p named line. fair_at_rest r.is_file.bytes r.file r.is_file.means r.are_ends.loops k p named (e.holds_of k p named line);
+      }
+
   printed_rest_unsafes : (name : List ℕ) (budget : ℕ) (view : View) → RestReportHolds number view name budget before.out.written after.out.written → EachPrintedUnsafe RestOccurs rest_telling view name before.out.written after.out.written
   printed_rest_unsafes name budget view r = record {
     file = r.file;
@@ -401,6 +427,8 @@ module _ (words : List (List ℕ)) (number : ℕ) (before after : State) (h : Ru
     rest_safe = λ asked is low. gives_some (rest_meaning asked.file asked.nodes asked.out) (as_rest asked is) low (λ view. EachPrinted RestSafe (codes "rest safe, ") view asked.file before.out.written after.out.written) (λ view made a. printed_rest asked.file asked.nodes view (at_rest asked.file asked.nodes asked.out view made a));
     rest_unsafe = λ asked is low. gives_some (rest_meaning asked.file asked.nodes asked.out) (as_rest asked is) low (λ view. EachPrintedUnsafe RestOccurs rest_telling view asked.file before.out.written after.out.written) (λ view made a. printed_rest_unsafes asked.file asked.nodes view (at_rest asked.file asked.nodes asked.out view made a));
     rest_proved = λ asked is none. gives (rest_check_meaning asked.file asked.other) refl (as_rest_check asked is) (omega (arith, none)) (λ view. EachPrinted RestSafe (codes "rest proved") view asked.file before.out.written after.out.written) (λ view made a. printed_rest_check asked.file asked.other view (rest_checked asked.file asked.other view made a));
+    rest_fair = λ asked is low. gives_some (rest_meaning asked.file asked.nodes asked.out) (as_rest asked is) low (λ view. EachPrinted FairlySafeAlone (codes "rest safe, ") view asked.file before.out.written after.out.written) (λ view made a. printed_rest_fair asked.file asked.nodes view (at_rest asked.file asked.nodes asked.out view made a));
+    rest_proved_fair = λ asked is none. gives (rest_check_meaning asked.file asked.other) refl (as_rest_check asked is) (omega (arith, none)) (λ view. EachPrinted FairlySafeAlone (codes "rest proved") view asked.file before.out.written after.out.written) (λ view made a. printed_rest_check_fair asked.file asked.other view (rest_checked asked.file asked.other view made a));
     proved = λ asked is none. gives (check_meaning asked.file asked.other) refl (as_check asked is) (omega (arith, none)) (λ view. EachPrinted runs.Safe (codes "proved") view asked.file before.out.written after.out.written) (λ view made a. printed_check asked.file asked.other view (proved asked.file asked.other view made a));
   }
 

@@ -12,6 +12,7 @@ mod SearchAnswers
 mod WordsDiffer
 mod FoundStands
 mod AtRest
+mod FairAtRest
 mod Clauses
 mod Complete
 mod Accepting

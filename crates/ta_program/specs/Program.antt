@@ -2,6 +2,9 @@
 use Rattle.std.specs.Prelude.{ℕ, ◌≡◌, ◌≢◌, ◌≤◌, ◌⊎◌, List, [], codes, Option, Some, IsSome}
 use Rattle.ta_automaton.specs.declared.file.File.{File}
 use Rattle.ta_automaton.specs.Runs as runs
+use Rattle.ta_automaton.specs.declared.automaton.Automaton.{Automaton}
+use Rattle.ta_automaton.specs.declared.pattern.Pattern.{Pattern}
+use Rattle.ta_fair.specs.Fair.{FairlySafe}
 use Rattle.ta_rest.specs.Rest.{RestOccurs, RestSafe}
 use Rattle.ta_shelf.specs.Calls.{Event, Grew}
 use Rattle.ta_shelf.specs.Counts.{Faulted}
@@ -114,10 +117,14 @@ Searches number words files files' calls calls' written written' =
     (asked : SearchWords) → search_of words ≡ Some asked → number ≤ 2
     → Acts (found_names asked) (λ read made. SearchHolds number (seen files read) asked files files' written written' made) calls calls'
 
+-- the pattern occurs for ever in no fair run, where no place is silent
+abbrev pub FairlySafeAlone : Automaton → Pattern → Type 0
+FairlySafeAlone a p = FairlySafe a [] p
+
 -- with status 0, 1 or 2 of `verify` a pattern that the report tells is safe is safe, by its line or in JSON, and one that it tells is
 -- unsafe occurs in a run, the text of which stands there; with status 0 of `check` a pattern that is `proved` is safe. The same of `rest` and
 -- `rest-check`, whose words are `rest safe`, `rest unsafe` and `rest proved`: the pattern comes to rest, its last event at the end, in no run, or
--- in the run whose text stands there
+-- in the run whose text stands there; and it occurs for ever in no fair run without end
 pub record PrintedHolds (number : ℕ) (words : List (List ℕ)) (files : Option Told) (calls calls' : List Event) (written written' : Option (List ℕ)) : Type 0 where
   pub safe : (asked : VerifyWords) → verify_of words ≡ Some asked → number ≤ 2 → Acts (may_put asked.out) (λ read made. EachToldSafe asked.json (seen files read) asked.file written written') calls calls'
   pub unsafe_ : (asked : VerifyWords) → verify_of words ≡ Some asked → number ≤ 2 → Acts (may_put asked.out) (λ read made. EachPrintedUnsafe runs.Occurs (verify_telling asked.json) (seen files read) asked.file written written') calls calls'
@@ -125,6 +132,8 @@ pub record PrintedHolds (number : ℕ) (words : List (List ℕ)) (files : Option
   pub rest_safe : (asked : VerifyWords) → rest_of words ≡ Some asked → number ≤ 2 → Acts (may_put asked.out) (λ read made. EachPrinted RestSafe (codes "rest safe, ") (seen files read) asked.file written written') calls calls'
   pub rest_unsafe : (asked : VerifyWords) → rest_of words ≡ Some asked → number ≤ 2 → Acts (may_put asked.out) (λ read made. EachPrintedUnsafe RestOccurs rest_telling (seen files read) asked.file written written') calls calls'
   pub rest_proved : (asked : TwoNames) → rest_check_of words ≡ Some asked → number ≡ 0 → Grew (λ read. EachPrinted RestSafe (codes "rest proved") (seen files read) asked.file written written') calls calls'
+  pub rest_fair : (asked : VerifyWords) → rest_of words ≡ Some asked → number ≤ 2 → Acts (may_put asked.out) (λ read made. EachPrinted FairlySafeAlone (codes "rest safe, ") (seen files read) asked.file written written') calls calls'
+  pub rest_proved_fair : (asked : TwoNames) → rest_check_of words ≡ Some asked → number ≡ 0 → Grew (λ read. EachPrinted FairlySafeAlone (codes "rest proved") (seen files read) asked.file written written') calls calls'
 
 -- 5 exactly where the words are no command's
 pub record UsageExactly (number : ℕ) (asked : Asked) : Type 0 where
