@@ -33,7 +33,7 @@ name_at names number = slice_index_or names number []
 
 -- the name of a place: parameters stand first, then shared variables, then locations
 abbrev pub place_name : Automaton → ℕ → List ℕ
-place_name a place = name_at (a.parameters ++ (a.shared ++ a.locations)) place
+place_name a place = name_at (a.parameters ++ a.shared ++ a.locations) place
 
 -- the numbers of a mask, each behind a space
 abbrev pub mask_number : ℕ → List ℕ
