@@ -1,5 +1,5 @@
 -- A text of a file is of one file.
-use Rattle.std.proofs.Common.{ℕ, ℤ, pos, negsuc, zero, suc, unsigned_abs, ◌+◌, ◌<◌, ◌≤◌, ◌^◌, ◌≡◌, ◌∙◌, List, [], ◌∷◌, ◌++◌, length, Bool, true, false, cond, ap, sym, refl, subst, arith, decimal, append_assoc, lit≤, Some, inl, inr, get_or}
+use Rattle.std.proofs.Common.{codes, ℕ, ℤ, pos, negsuc, zero, suc, unsigned_abs, ◌+◌, ◌<◌, ◌≤◌, ◌^◌, ◌≡◌, ◌∙◌, List, [], ◌∷◌, ◌++◌, length, Bool, true, false, cond, ap, sym, refl, subst, arith, decimal, append_assoc, lit≤, Some, inl, inr, get_or}
 use Rattle.std.specs.Prelude.{filter}
 use Rattle.std.specs.Fmt.{signed_decimal}
 use Rattle.std.specs.Char.{is_ascii_digit}
@@ -26,8 +26,8 @@ abbrev pub Tells : {X : Type 0} → (X → List ℕ) → (X → List ℕ) → (X
 Tells {X} f g P Q = (x y : X) (r s : List ℕ) → P x → Q y → f x ++ r ≡ g y ++ s → (x ≡ y) × (r ≡ s)
 
 -- ---- lists
-item_out : (d front more r : List ℕ) → ((d ++ (32 ∷ front)) ++ more) ++ r ≡ d ++ (32 ∷ (front ++ (more ++ r)))
-item_out d front more r = append_assoc (d ++ (32 ∷ front)) more r ∙ append_assoc d (32 ∷ front) (more ++ r)
+item_out : (d front more r : List ℕ) → ((d ++ (codes ": " ++ front)) ++ more) ++ r ≡ d ++ (codes ": " ++ (front ++ (more ++ r)))
+item_out d front more r = append_assoc (d ++ (codes ": " ++ front)) more r ∙ append_assoc d (codes ": " ++ front) (more ++ r)
 
 numbered_same : {X : Type 0} (f g : X → List ℕ) (P Q : X → Type 0) → Tells f g P Q → (k : ℕ) (xs ys : List X) (r s : List ℕ) → length xs ≡ length ys → AllByRecursion P xs → AllByRecursion Q ys → numbered f k xs ++ r ≡ numbered g k ys ++ s → (xs ≡ ys) × (r ≡ s)
 numbered_same f g P Q tells k [] [] r s count p q e = (refl, e)
@@ -37,7 +37,7 @@ numbered_same f g P Q tells k (x ∷ xs) (y ∷ ys) r s count p q e =
     let a : List ℕ = f x ++ (numbered f (k + 1) xs ++ r) in
     let b : List ℕ = g y ++ (numbered g (k + 1) ys ++ s) in
     let out = sym (item_out (decimal k) (f x) (numbered f (k + 1) xs) r) ∙ e ∙ item_out (decimal k) (g y) (numbered g (k + 1) ys) s in
-    let one = tells x y (numbered f (k + 1) xs ++ r) (numbered g (k + 1) ys ++ s) p.0 q.0 (tails 32 32 a b (append_cancel_left (decimal k) (32 ∷ a) (32 ∷ b) out)) in
+    let one = tells x y (numbered f (k + 1) xs ++ r) (numbered g (k + 1) ys ++ s) p.0 q.0 (append_cancel_left (codes ": ") a b (append_cancel_left (decimal k) (codes ": " ++ a) (codes ": " ++ b) out)) in
     let rest = numbered_same f g P Q tells (k + 1) xs ys r s (omega (arith, count)) p.1 q.1 one.1 in
     ((λ i. one.0 i ∷ rest.0 i), rest.1)
 

@@ -21,7 +21,7 @@ each f (x ∷ xs) = f x ++ each f xs
 -- the same, each with its number in front of it
 abbrev pub numbered : {X : Type 0} → (X → List ℕ) → ℕ → List X → List ℕ
 numbered f k [] = []
-numbered f k (x ∷ xs) = (decimal k ++ (32 ∷ f x)) ++ numbered f (k + 1) xs
+numbered f k (x ∷ xs) = (decimal k ++ (codes ": " ++ f x)) ++ numbered f (k + 1) xs
 
 -- a list: a line of its word and of how many items there are, and the items with their numbers
 abbrev pub listed : {X : Type 0} → List ℕ → (X → List ℕ) → List X → List ℕ

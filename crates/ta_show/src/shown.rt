@@ -31,7 +31,7 @@ fn show_numbered<T: Shown>(
     ensures { OnOk result (string_bytes text.new ≡ string_bytes text.old ++ numbered (T.shown automaton.now) 0 items.now) }
 {
     'items: for (number, item) in items.iter().enumerate() {
-        write!(text, "{} ", number)?;
+        write!(text, "{}: ", number)?;
         item.show(automaton, text)?;
     }
     Ok(())
