@@ -1,0 +1,3 @@
+mod Showing
+mod Tells
+mod FileTells
