@@ -29,7 +29,7 @@ fn same_question(one: Question, other: Question) -> bool
 }
 
 /// Whether no fact answers a question.
-pub(crate) fn is_open(facts: &[Fact], question: Question) -> bool
+pub fn is_open(facts: &[Fact], question: Question) -> bool
     ensures { result ≡ is_open facts.now question }
 {
     for fact in facts {

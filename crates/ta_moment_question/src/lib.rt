@@ -9,6 +9,7 @@ mod parts;
 mod question;
 mod vertex;
 
+pub use asked::is_open;
 pub use moment::Moment;
 pub use parts::{GuardAtEnd, NodeParts, RuleAtEnd};
 pub use question::next_question;
