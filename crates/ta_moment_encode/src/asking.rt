@@ -1,12 +1,12 @@
 //! Where a tree of questions begins, and which questions there are at a node.
 #![tactic(auto)]
 
-ghost use Rattle.std.specs.Prelude.{ℕ, ◌≡◌, ◌≤◌, ◌+◌, ◌&&◌, IfOk, not, filter, length, map, nat_lt, slice_get, List, Option, Some};
+ghost use Rattle.std.specs.Prelude.{ℕ, ◌≡◌, ◌↔◌, ◌≤◌, ◌+◌, ◌&&◌, IfOk, not, filter, length, map, nat_lt, slice_get, true, List, Option, Some};
 ghost use Rattle.std.specs.List.{range_with_len};
 ghost use Rattle.ta_moments.specs.Facts.{candidates, has_later, may_be_stuck};
 ghost use Rattle.ta_moments.specs.declared.fact.Fact.{Fact};
 ghost use Rattle.ta_moments.specs.Moments.{known};
-ghost use Rattle.ta_moments.specs.Refutes.{Asking};
+ghost use Rattle.ta_moments.specs.Refutes.{Asking, Exists};
 ghost use Rattle.ta_moments.specs.Searched.{exists_as};
 ghost use Rattle.ta_moment_encode.specs.Nodes.{IsNode};
 
@@ -89,9 +89,8 @@ fn is_order(moments: &[Moment], one: u32, other: u32) -> bool
 }
 
 impl MomentEncoding<'_> {
-    /// Whether a question exists at the node: of a guard of the automaton, of two of its moments, the
-    /// lower number first, or, where it is asked of rest, of a rule that may be stuck.
-    pub fn question_exists(&self, rest: bool, question: Question) -> bool
+    /// Whether a question exists at the node.
+    fn exists_as(&self, rest: bool, question: Question) -> bool
         ensures { (asking : Asking) (candidate : Option ℕ) (past : List Fact) → asking.rest ≡ rest → IsNode asking.silent candidate past self.now → result ≡ exists_as self.now.plan.task.automaton.now self.now.plan.task.pattern.now asking (known self.now.plan.task.automaton.now self.now.plan.task.pattern.now asking.silent candidate past) question }
     {
         let automaton = self.plan.task.automaton;
@@ -102,5 +101,14 @@ impl MomentEncoding<'_> {
                 rest && may_be_stuck(automaton, self.plan.task.pattern, rule)
             }
         }
+    }
+
+    /// Whether a question exists at the node: of a guard of the automaton, of two of its moments, the
+    /// lower number first, or, where it is asked of rest, of a rule that may be stuck.
+    pub fn question_exists(&self, rest: bool, question: Question) -> bool
+        ensures computed { (asking : Asking) (candidate : Option ℕ) (past : List Fact) → asking.rest ≡ rest → IsNode asking.silent candidate past self.now → result ≡ exists_as self.now.plan.task.automaton.now self.now.plan.task.pattern.now asking (known self.now.plan.task.automaton.now self.now.plan.task.pattern.now asking.silent candidate past) question }
+        ensures exists { (asking : Asking) (candidate : Option ℕ) (past : List Fact) → asking.rest ≡ rest → IsNode asking.silent candidate past self.now → (result ≡ true) ↔ Exists self.now.plan.task.automaton.now self.now.plan.task.pattern.now asking (known self.now.plan.task.automaton.now self.now.plan.task.pattern.now asking.silent candidate past) question }
+    {
+        self.exists_as(rest, question)
     }
 }
