@@ -1,13 +1,16 @@
 //! What may be answered at a node.
 #![tactic(auto)]
 
-ghost use Rattle.std.specs.Prelude.{ℕ, ◌≡◌, ◌∷◌, [], IfOk, cond, map, nat_lt, length, option_copied, slice_get, List, Option};
+ghost use Rattle.std.specs.Prelude.{ℕ, ◌≡◌, ◌∷◌, [], IfOk, cond, map, nat_lt, length, option_copied, slice_get, List, Option, Some};
 ghost use Rattle.std.specs.Option.{option_map};
 ghost use Rattle.ta_moments.specs.Facts.{guards_of};
 ghost use Rattle.ta_moments.specs.declared.fact.Fact.{Fact};
 ghost use Rattle.ta_moments.specs.declared.fact.Fact.TheVariants.{Never, First, Stands, Last, Before, After, Same, Vacant, Fails};
 ghost use Rattle.ta_moments.specs.Moments.{Known, known};
-ghost use Rattle.ta_moments.specs.Refutes.{answers, are_pairs};
+ghost use Rattle.ta_moments.specs.Refutes.{Asking, answers, are_pairs};
+ghost use Rattle.ta_moments.specs.Searched.{answers_if_open, asking_node, moment_search, start_of};
+ghost use Rattle.ta_moments.specs.Certified.{Maker};
+ghost use Rattle.ta_encode.specs.Search.{asked};
 ghost use Rattle.ta_moment_encode.specs.Moments.{moment_of, moments_of};
 ghost use Rattle.ta_moment_encode.specs.Nodes.{IsNode};
 
@@ -17,7 +20,7 @@ use crate::plan::has_guard;
 use std::alloc::{AllocError, Global};
 use ta_automaton::Automaton;
 use ta_base::List;
-use ta_moments::{Fact, Question};
+use ta_moments::{Fact, Question, is_open};
 
 /// The answers of a question of a guard.
 fn guard_answers(alloc: Global, automaton: &Automaton, guard: u32) -> Result<Vec<Fact>, AllocError>
@@ -104,5 +107,38 @@ impl MomentEncoding<'_> {
         let moments = self.draft.moments.as_slice();
         let facts = all_answers(alloc, self.plan.task.automaton, moments, question)?;
         Ok(List::from_vec(facts))
+    }
+
+    /// The answers of a question in order, where it exists at the node and none of its facts, the
+    /// newest first, answers it; none else. Only want of memory is an error.
+    pub fn answers_if_open(
+        &self,
+        alloc: Global,
+        facts: &[Fact],
+        rest: bool,
+        question: Question,
+    ) -> Result<Option<List<Fact>>, AllocError>
+        ensures node { IfOk result (λ found. (asking : Asking) (candidate : Option ℕ) → asking.rest ≡ rest → IsNode asking.silent candidate facts.now self.now → found ≡ answers_if_open self.now.plan.task.automaton.now self.now.plan.task.pattern.now asking (known self.now.plan.task.automaton.now self.now.plan.task.pattern.now asking.silent candidate facts.now) facts.now (Some question)) }
+        ensures search { IfOk result (λ found. (asking : Asking) (maker : Maker) (candidate : Option ℕ) → asking.rest ≡ rest → IsNode asking.silent candidate facts.now self.now → found ≡ asked (moment_search self.now.plan.task.automaton.now self.now.plan.task.pattern.now asking maker) (start_of candidate) facts.now (asking_node question)) }
+    {
+        self.open_answers(alloc, facts, rest, question)
+    }
+
+    /// The same.
+    fn open_answers(
+        &self,
+        alloc: Global,
+        facts: &[Fact],
+        rest: bool,
+        question: Question,
+    ) -> Result<Option<List<Fact>>, AllocError>
+        ensures { IfOk result (λ found. (asking : Asking) (candidate : Option ℕ) → asking.rest ≡ rest → IsNode asking.silent candidate facts.now self.now → found ≡ answers_if_open self.now.plan.task.automaton.now self.now.plan.task.pattern.now asking (known self.now.plan.task.automaton.now self.now.plan.task.pattern.now asking.silent candidate facts.now) facts.now (Some question)) }
+    {
+        let may_ask = is_open(facts, question) && self.question_exists(rest, question);
+        if !may_ask {
+            return Ok(None);
+        }
+        let answers = self.answers(alloc, question)?;
+        Ok(Some(answers))
     }
 }

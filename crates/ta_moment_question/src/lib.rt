@@ -1,7 +1,6 @@
 //! Which question is asked next at a node of the tree of questions, by a vertex of its system.
 #![tactic(auto)]
 
-mod asked;
 mod known;
 mod moment;
 mod orders;
@@ -9,7 +8,6 @@ mod parts;
 mod question;
 mod vertex;
 
-pub use asked::is_open;
 pub use moment::Moment;
 pub use parts::{GuardAtEnd, NodeParts, RuleAtEnd};
 pub use question::next_question;

@@ -4,7 +4,7 @@
 ghost use Rattle.std.specs.Prelude.{◌≡◌};
 ghost use Rattle.ta_moments.specs.Facts.{is_open, question_of, same_question};
 
-use ta_moments::{Fact, Question};
+use crate::fact::{Fact, Question};
 
 /// The question that a fact answers.
 fn question_of(fact: Fact) -> Question
