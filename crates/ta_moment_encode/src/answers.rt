@@ -121,21 +121,7 @@ impl MomentEncoding<'_> {
         ensures node { IfOk result (λ found. (asking : Asking) (candidate : Option ℕ) → asking.rest ≡ rest → IsNode asking.silent candidate facts.now self.now → found ≡ answers_if_open self.now.plan.task.automaton.now self.now.plan.task.pattern.now asking (known self.now.plan.task.automaton.now self.now.plan.task.pattern.now asking.silent candidate facts.now) facts.now (Some question)) }
         ensures search { IfOk result (λ found. (asking : Asking) (maker : Maker) (candidate : Option ℕ) → asking.rest ≡ rest → IsNode asking.silent candidate facts.now self.now → found ≡ asked (moment_search self.now.plan.task.automaton.now self.now.plan.task.pattern.now asking maker) (start_of candidate) facts.now (asking_node question)) }
     {
-        self.open_answers(alloc, facts, rest, question)
-    }
-
-    /// The same.
-    fn open_answers(
-        &self,
-        alloc: Global,
-        facts: &[Fact],
-        rest: bool,
-        question: Question,
-    ) -> Result<Option<List<Fact>>, AllocError>
-        ensures { IfOk result (λ found. (asking : Asking) (candidate : Option ℕ) → asking.rest ≡ rest → IsNode asking.silent candidate facts.now self.now → found ≡ answers_if_open self.now.plan.task.automaton.now self.now.plan.task.pattern.now asking (known self.now.plan.task.automaton.now self.now.plan.task.pattern.now asking.silent candidate facts.now) facts.now (Some question)) }
-    {
-        let may_ask = is_open(facts, question) && self.question_exists(rest, question);
-        if !may_ask {
+        if !(is_open(facts, question) && self.question_exists(rest, question)) {
             return Ok(None);
         }
         let answers = self.answers(alloc, question)?;
