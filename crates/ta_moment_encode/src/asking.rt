@@ -6,8 +6,10 @@ ghost use Rattle.std.specs.List.{range_with_len};
 ghost use Rattle.ta_moments.specs.Facts.{candidates, has_later, may_be_stuck};
 ghost use Rattle.ta_moments.specs.declared.fact.Fact.{Fact};
 ghost use Rattle.ta_moments.specs.Moments.{known};
-ghost use Rattle.ta_moments.specs.Refutes.{Asking, Exists};
-ghost use Rattle.ta_moments.specs.Searched.{exists_as};
+ghost use Rattle.ta_moments.specs.Refutes.{Asking, Exists, root};
+ghost use Rattle.ta_automaton.specs.declared.automaton.Automaton.{Automaton};
+ghost use Rattle.ta_moments.specs.Certified.{Maker};
+ghost use Rattle.ta_moments.specs.Searched.{exists_as, moment_search, pending_of};
 ghost use Rattle.ta_moment_encode.specs.Nodes.{IsNode};
 
 use crate::encoding::MomentEncoding;
@@ -49,7 +51,8 @@ fn last_events(alloc: Global, pattern: &Pattern) -> Result<Vec<Option<u32>>, All
 /// The events that may be the last, in order; none where the pattern has no event. A tree of
 /// questions begins at each of them. Only want of memory is an error.
 pub fn candidates(alloc: Global, task: Task<'_>) -> Result<List<Option<u32>>, AllocError>
-    ensures { IfOk result (λ events. events ≡ candidates task.entry.pattern.now) }
+    ensures events { IfOk result (λ events. events ≡ candidates task.entry.pattern.now) }
+    ensures roots { IfOk result (λ events. (a : Automaton) (asking : Asking) (maker : Maker) → map (λ c. pending_of (root c)) events ≡ (moment_search a task.entry.pattern.now asking maker).roots) }
 {
     if task.pattern.events.as_slice().is_empty() {
         let mut none = Vec::new(alloc);
