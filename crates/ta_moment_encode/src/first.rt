@@ -124,7 +124,7 @@ fn push_beneath(
 }
 
 /// Whether an event comes after another.
-fn comes_after(pattern: &Pattern, event: usize, other: usize) -> bool
+pub(crate) fn comes_after(pattern: &Pattern, event: usize, other: usize) -> bool
     ensures { result ≡ comes_after (slice_get pattern.now.events event) other }
 {
     match pattern.events.as_slice().get(event) {

@@ -1,6 +1,8 @@
 //! Systems of nodes of the tree of questions.
 #![tactic(auto)]
 
+mod answers;
+mod asking;
 mod at;
 mod draft;
 mod encoding;
@@ -18,5 +20,6 @@ mod silence;
 mod uses;
 mod vector;
 
+pub use asking::candidates;
 pub use encoding::MomentEncoding;
 pub use moment::Moment;

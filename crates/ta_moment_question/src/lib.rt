@@ -1,7 +1,6 @@
 //! Which question is asked next at a node of the tree of questions, by a vertex of its system.
 #![tactic(auto)]
 
-mod asked;
 mod known;
 mod moment;
 mod orders;

@@ -6,12 +6,11 @@ ghost use Rattle.ta_moments.specs.Questions.{is_at_most, is_same_step, is_settle
 ghost use Rattle.ta_moment_question.specs.Forms.{values_of, vector_of};
 ghost use Rattle.ta_moment_question.specs.Moments.{moment_of, moments_of};
 
-use crate::asked::is_open;
 use crate::known::{is_at_least, of_rule};
 use crate::moment::Moment;
 use crate::vertex::Vertex;
 use ta_linear::Form;
-use ta_moments::{Fact, Question};
+use ta_moments::{Fact, Question, is_open};
 
 /// Whether no moving rule has fewer firings in the second vector, as far as that is known.
 fn is_at_most(moving: &[u32], one: &[Form], other: &[Form], vertex: Option<&Vertex>) -> bool

@@ -11,13 +11,12 @@ ghost use Rattle.ta_moments.specs.Questions.{GuardAtEnd as KnownGuard, RuleAtEnd
 ghost use Rattle.ta_moment_question.specs.Forms.{all_forms, values_of, vector_of};
 ghost use Rattle.ta_moment_question.specs.Parts.{guard_of, parts_of, rule_of};
 
-use crate::asked::is_open;
 use crate::known::{counts_natural, counts_negative, counts_positive, of_rule};
 use crate::orders::order_to_ask;
 use crate::parts::{GuardAtEnd, NodeParts, RuleAtEnd};
 use crate::vertex::Vertex;
 use ta_linear::Form;
-use ta_moments::{Fact, Question};
+use ta_moments::{Fact, Question, is_open};
 
 /// Whether some rule that needs a guard fires before the end.
 fn is_needed(vertex: Option<&Vertex>, end: &[Form], needing: &[u32]) -> bool

@@ -83,7 +83,7 @@ if_some : {X : Type 0} (b : Bool) (x : X) → is_some (cond b (Some x) None) ≡
 if_some true x = (λ h. refl, λ h. refl)
 if_some false x = (λ h. absurd (false≢true h), λ h. absurd (false≢true h))
 
-exists_same : (a : Automaton) (p : Pattern) (asking : Asking) (k : Known) (question : Question) → (exists_as a p asking k question ≡ true) ↔ Exists a p asking k question
+pub exists_same : (a : Automaton) (p : Pattern) (asking : Asking) (k : Known) (question : Question) → (exists_as a p asking k question ≡ true) ↔ Exists a p asking k question
 exists_same a p asking k (OfGuard g) = (λ h. grind (arith, nat_tests), λ h. grind (arith, nat_tests))
 exists_same a p asking k (OfOrder x y) = (
   λ h. let both = and_parts (nat_lt x y) (nat_lt y (length k.moments)) h in let first = both.0 in let second = both.1 in (grind (arith, nat_tests), grind (arith, nat_tests)),

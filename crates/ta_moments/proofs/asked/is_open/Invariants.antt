@@ -1,6 +1,6 @@
 use Rattle.std.proofs.Common.{◌≡◌, drop}
 use Rattle.ta_moments.specs.Facts.{is_open}
-use Rattle.ta_moment_question.proofs.asked.is_open.Given as goal
+use Rattle.ta_moments.proofs.asked.is_open.Given as goal
 
 abbrev pub invariant-loop-fact : goal.invariant-loop-fact
 invariant-loop-fact l = is_open l.facts l.question ≡ is_open (drop l.fact-index l.facts) l.question

@@ -4,7 +4,7 @@
 ghost use Rattle.std.specs.Prelude.{◌≡◌};
 ghost use Rattle.ta_moments.specs.Facts.{is_open, question_of, same_question};
 
-use ta_moments::{Fact, Question};
+use crate::fact::{Fact, Question};
 
 /// The question that a fact answers.
 fn question_of(fact: Fact) -> Question
@@ -29,7 +29,7 @@ fn same_question(one: Question, other: Question) -> bool
 }
 
 /// Whether no fact answers a question.
-pub(crate) fn is_open(facts: &[Fact], question: Question) -> bool
+pub fn is_open(facts: &[Fact], question: Question) -> bool
     ensures { result ≡ is_open facts.now question }
 {
     for fact in facts {
