@@ -12,3 +12,5 @@ mod Vectors
 mod Beginning
 mod AddedFacts
 mod Fitting
+mod Copies
+mod Systems

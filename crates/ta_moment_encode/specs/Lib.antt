@@ -5,3 +5,4 @@ pub mod Moments
 pub mod Draft
 pub mod Plain
 pub mod Nodes
+pub mod Systems

@@ -15,6 +15,7 @@ mod plan;
 mod rows;
 mod same;
 mod silence;
+mod system;
 mod uses;
 mod vector;
 
