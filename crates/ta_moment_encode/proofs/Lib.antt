@@ -13,4 +13,6 @@ mod Beginning
 mod AddedFacts
 mod Fitting
 mod Copies
+mod Sizes
+mod Coming
 mod Systems

@@ -6,3 +6,4 @@ pub mod Draft
 pub mod Plain
 pub mod Nodes
 pub mod Systems
+pub mod Sizes

@@ -12,6 +12,7 @@ mod order;
 mod place;
 mod plain;
 mod plan;
+mod room;
 mod rows;
 mod same;
 mod silence;
@@ -21,3 +22,4 @@ mod vector;
 
 pub use encoding::MomentEncoding;
 pub use moment::Moment;
+pub use room::nodes_stay_small;
