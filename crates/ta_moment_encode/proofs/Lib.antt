@@ -15,4 +15,5 @@ mod Fitting
 mod Copies
 mod Sizes
 mod Coming
+mod Cutting
 mod Systems

@@ -7,3 +7,4 @@ pub mod Plain
 pub mod Nodes
 pub mod Systems
 pub mod Sizes
+pub mod Cuts

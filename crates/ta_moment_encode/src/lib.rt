@@ -7,6 +7,7 @@ mod encoding;
 mod facts;
 mod first;
 mod form;
+mod mark;
 mod moment;
 mod order;
 mod place;
@@ -21,5 +22,6 @@ mod uses;
 mod vector;
 
 pub use encoding::MomentEncoding;
+pub use mark::NodeMark;
 pub use moment::Moment;
 pub use room::nodes_stay_small;
