@@ -1,5 +1,5 @@
 -- the rows of a node's system
-use Rattle.ta_moment_encode.proofs.Common.{◌≡◌, ◌∙◌, inl, inr, ℕ, zero, suc, ℤ, pos, negsuc, ◌≢◌, ◌+◌, ◌^◌, List, [], ◌∷◌, ◌++◌, get_or, length, map, take, Option, Some, None, arith, ints, refl, sym, ap, subst, cases_eq, cases_lt, cond_apart, cond_same, take-append-le, take-length, length-append, AllByRecursion, range_with_len, at_number, length-map, length-range_with_len, AllBelow, AreRowsOf, Row, BoundsWithin, IsBehind, SameRows, bound_constant, bound_row, bound_sense, coefficient, coefficient_in_sense}
+use Rattle.ta_moment_encode.proofs.Common.{◌≡◌, ◌∙◌, inl, inr, ℕ, zero, suc, ℤ, pos, negsuc, ◌≢◌, ◌+◌, ◌^◌, List, [], ◌∷◌, ◌++◌, get_or, length, map, Option, Some, None, arith, ints, refl, sym, ap, subst, cases_eq, cases_lt, cond_apart, cond_same, AllByRecursion, range_with_len, at_number, length-map, length-range_with_len, AllBelow, AreRowsOf, Row, BoundsWithin, bound_constant, bound_row, bound_sense, coefficient, coefficient_in_sense}
 use Rattle.std.proofs.lemmas.List.{get_or_past}
 use Rattle.ta_encode.specs.declared.meaning.Side.{Side}
 use Rattle.ta_encode.specs.declared.meaning.Side.TheVariants.{Low, High}
@@ -98,10 +98,3 @@ rows_of_lines n (f ∷ fs) bounds (r ∷ rs) h p = (record { constant = (p.0).co
 pub back : (c : Option ℕ) → candidate_of (start_of c) ≡ c
 back None = refl
 back (Some e) = refl
-
--- ---- rows that come first
-take_behind : (above after : List Row) → IsBehind above after → take (length above) after ≡ above
-take_behind above after h = ap (take (length above)) h.is ∙ take-append-le (length above) above h.more (omega arith) ∙ take-length above
-
-pub same_above : (above before after : List Row) → IsBehind above before → IsBehind above after → SameRows before (length above) after
-same_above above before after h g = record { within = omega (arith, ap length g.is, length-append above g.more); rows_are = take_behind above before h ∙ sym (take_behind above after g) }
