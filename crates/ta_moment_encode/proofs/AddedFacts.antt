@@ -16,7 +16,7 @@ use Rattle.ta_moment_encode.specs.declared.moment.Moment.{Moment as Kept}
 use Rattle.ta_moment_encode.proofs.Adding.{adds_forms}
 use Rattle.ta_moment_encode.proofs.Beginning.{moments_more}
 
-known_same : (k l : Known) → k.unknowns ≡ l.unknowns → k.moments ≡ l.moments → k.rows ≡ l.rows → k ≡ l
+pub known_same : (k l : Known) → k.unknowns ≡ l.unknowns → k.moments ≡ l.moments → k.rows ≡ l.rows → k ≡ l
 known_same k l e g h = λ i. record { unknowns = e i; moments = g i; rows = h i }
 
 plain_same : (a : Automaton) (p : Pattern) (silent : List ℕ) (end : Vector) (k : Known) (fact : Fact) → is_plain fact ≡ true → with_more k 0 [] (plain_rows a p silent k.unknowns end k.moments fact) ≡ with_fact a p silent end k fact

@@ -12,3 +12,8 @@ mod Vectors
 mod Beginning
 mod AddedFacts
 mod Fitting
+mod Copies
+mod Sizes
+mod Coming
+mod Cutting
+mod Systems

@@ -5,3 +5,6 @@ pub mod Moments
 pub mod Draft
 pub mod Plain
 pub mod Nodes
+pub mod Systems
+pub mod Sizes
+pub mod Cuts

@@ -17,3 +17,8 @@ pub record IsSomeNode (silent : List ℕ) (node : MomentEncoding) : Type 0 where
   pub candidate : Option ℕ
   pub past : List Fact
   pub is : IsNode silent candidate past node
+
+-- with some silent places
+pub record IsAnyNode (node : MomentEncoding) : Type 0 where
+  pub silent : List ℕ
+  pub is : IsSomeNode silent node
