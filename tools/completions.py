@@ -10,6 +10,7 @@ from collections import namedtuple
 
 USAGE = "tav: usage: "
 PART = r"[a-z][a-z-]*( [A-Z0-9]+)*( \[--[a-z]+( [A-Z0-9]+)?\])*"
+OPTION = r"--[a-z]+( [A-Z]+)? with [a-z][a-z-]*((, | or )[a-z][a-z-]*)*"  # behind the forms, an option of these commands
 Form = namedtuple("Form", "command places options text")  # options: (name, kind of its value or None)
 ENDINGS = {"FILE": "ta", "CERT": "cert", "RUN": "run", "VALUES": "values"}
 WRITTEN = ("OUT", "OUT2")
@@ -19,17 +20,29 @@ HEAD = "Completions of tav for {}. Made by tools/install from the usage line of 
 
 
 def is_usage(line):
-    return bool(re.fullmatch(f"{USAGE}{PART}(, {PART})*", line))
+    return bool(re.fullmatch(f"{USAGE}{PART}(, {PART})*(, {OPTION})*", line))
+
+
+def options_behind(text):
+    """The options that stand behind the forms: of each command, (name, kind of its value or None)."""
+    found = {}
+    for name, kind, commands in re.findall(r", (--[a-z]+)(?: ([A-Z]+))? with ([a-z][a-z-]*(?:(?:, | or )[a-z][a-z-]*)*)", text):
+        for command in re.split(", | or ", commands):
+            found.setdefault(command, []).append((name, kind or None))
+    return found
 
 
 def forms_of(line):
     """The table of forms, from a usage line."""
     forms = []
-    for text in line[len(USAGE) :].split(", "):
+    whole, mark, behind = line[len(USAGE) :].partition(", --")
+    others = options_behind(mark + behind)
+    for text in whole.split(", "):
         head, *options = text.split(" [")
         command, *places = head.split()
-        pairs = [(it.rstrip("]").split() + [None])[:2] for it in options]
-        forms.append(Form(command, places, pairs, text[len(command) + 1 :]))
+        pairs = [(it.rstrip("]").split() + [None])[:2] for it in options] + [list(it) for it in others.get(command, [])]
+        told = "".join(f" [{' '.join(it for it in pair if it)}]" for pair in others.get(command, []))
+        forms.append(Form(command, places, pairs, text[len(command) + 1 :] + told))
     return forms
 
 

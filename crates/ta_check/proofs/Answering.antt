@@ -44,6 +44,7 @@ none_lasting subject reader position text (fault.ExtendComplete n) h lasting = e
 none_lasting subject reader position text (fault.SplitVariable n) h lasting = elim lasting [ inl line ↦ no_line_fault subject reader position text (fault.SplitVariable n) h line | inr own ↦ own ]
 none_lasting subject reader position text (fault.RepeatedPattern n) h lasting = elim lasting [ inl line ↦ no_line_fault subject reader position text (fault.RepeatedPattern n) h line | inr own ↦ own ]
 none_lasting subject reader position text (fault.Pair n) h lasting = elim lasting [ inl line ↦ no_line_fault subject reader position text (fault.Pair n) h line | inr own ↦ own ]
+none_lasting subject reader position text (fault.Question n) h lasting = elim lasting [ inl line ↦ no_line_fault subject reader position text (fault.Question n) h line | inr own ↦ own ]
 none_lasting subject reader position text fault.Failed h lasting = elim lasting [ inl line ↦ no_line_fault subject reader position text fault.Failed h line | inr own ↦ own ]
 none_lasting subject reader position text fault.Memory h lasting = elim lasting [ inl line ↦ no_line_fault subject reader position text fault.Memory h line | inr own ↦ own ]
 

@@ -1,11 +1,9 @@
 -- lines behind the pairs of a certificate: its proofs
-use Rattle.ta_check.proofs.Common.{◌≡◌, inl, inr, ℕ, ◌<◌, ◌^◌, true, List, [], ◌∷◌, ◌++◌, map, reverse, None, Some, sym, ap, ◌∙◌, refl, subst, AllByRecursion, false≢true, slice_get_within, older_new, others, still_new, some_at, Distinct, In, Line, Node, Tree, all_preorder, IsNode, has_end, AreLater, AreWritable, proof_lines, proofs_of, Pending, Search, all_starts, parts, RefutedInOrder, in_order, IsJudged, search_for, Subject, search_at, ProvesClaim, proof_number, Standing, AtWord, NothingIsLeft, BeginsProof, Stands, EndsCertificate, LeadThrough, reverse_onto, none-some, claim_roots}
-use Rattle.ta_words.specs.declared.element.Element.{Element}
+use Rattle.ta_check.proofs.Common.{◌≡◌, inl, inr, ℕ, ◌<◌, ◌^◌, true, List, [], ◌∷◌, ◌++◌, map, reverse, None, Some, sym, ap, ◌∙◌, refl, subst, AllByRecursion, false≢true, older_new, others, still_new, Distinct, In, Line, Node, Tree, all_preorder, IsNode, has_end, AreLater, AreWritable, proof_lines, proofs_of, Pending, Search, parts, RefutedInOrder, in_order, IsJudged, Subject, fact_of, kind_of, search_at, search_there, FactAt, ProvesClaim, proof_number, Standing, AtWord, NothingIsLeft, BeginsProof, Stands, EndsCertificate, LeadThrough, reverse_onto, none-some}
 use Rattle.ta_cert.specs.declared.line.Line.TheVariants as line
-use Rattle.ta_check.proofs.Searches.{searched, search_named}
 
 -- where a certificate stands where no pair waits
-abbrev pub standing : ℕ → List (ℕ × ℕ) → List ℕ → List (Pending Element) → Standing
+abbrev pub standing : (version : ℕ) → List (ℕ × ℕ) → List ℕ → List (Pending (fact_of (kind_of version))) → Standing
 standing version pairs numbers words = record { version = version; pairs = pairs; waiting = None; begun = numbers; pending = words }
 
 -- lines behind a standing where no pair waits: nodes that refute what is pending for the newest pattern, and then proofs of other patterns
@@ -13,11 +11,11 @@ pub record Behind (subject : Subject) (s : Standing) (ls : List Line) (after : S
   pub nodes : List Node
   pub proofs : List (ℕ × List Tree)
   pub lines : ls ≡ map line.Tree nodes ++ proof_lines (proofs_of proofs)
-  pub refute : (number : ℕ) (older : List ℕ) (p : Search Element) → s.begun ≡ number ∷ older → search_at subject s.pairs number ≡ Some p → RefutedInOrder p (IsJudged p) s.pending nodes
+  pub refute : (number : ℕ) (older : List ℕ) (p : Search (FactAt s)) → s.begun ≡ number ∷ older → search_there subject s number ≡ Some p → RefutedInOrder p (IsJudged p) s.pending nodes
   pub none : s.pending ≡ [] → nodes ≡ []
   pub forms : AllByRecursion IsNode nodes
   pub writable : AreWritable (proofs_of proofs)
-  pub prove : AllByRecursion (ProvesClaim subject s.pairs) proofs
+  pub prove : AllByRecursion (ProvesClaim (kind_of s.version) subject s.pairs) proofs
   pub begun : after.begun ≡ reverse (map proof_number proofs) ++ s.begun
   pub new : AllByRecursion (λ k. In k s.begun → ⊥) (map proof_number proofs)
   pub distinct : Distinct (map proof_number proofs)
@@ -39,10 +37,10 @@ behind_end subject s after done same = record {
 }
 
 -- the newest search is one
-same_search : (subject : Subject) (pairs : List (ℕ × ℕ)) (k number : ℕ) (ks older : List ℕ) (p q : Search Element) → (k ∷ ks) ≡ (number ∷ older) → search_at subject pairs k ≡ Some p → search_at subject pairs number ≡ Some q → p ≡ q
-same_search subject pairs k number ks older p q e f g =
+same_search : (subject : Subject) (s : Standing) (k number : ℕ) (ks older : List ℕ) (p q : Search (FactAt s)) → (k ∷ ks) ≡ (number ∷ older) → search_there subject s k ≡ Some p → search_there subject s number ≡ Some q → p ≡ q
+same_search subject s k number ks older p q e f g =
     let same : k ≡ number = cc in
-    let both : Some p ≡ Some q = sym f ∙ ap (search_at subject pairs) same ∙ g in
+    let both : Some p ≡ Some q = sym f ∙ ap (search_there subject s) same ∙ g in
     cc
 
 -- one more node
@@ -56,9 +54,9 @@ behind_node subject s node between ls after form stands b =
       proofs = rest.proofs;
       lines = ap (λ (xs : List Line). line.Tree node ∷ xs) rest.lines;
       refute = λ number older p begun named.
-          subst (λ (q : Search Element). RefutedInOrder q (IsJudged q) s.pending (node ∷ rest.nodes))
-          (same_search subject s.pairs first.number number first.older older stands.search p (sym first.begun ∙ begun) first.searched named)
-          (subst (λ (ws : List (Pending Element)). RefutedInOrder stands.search (IsJudged stands.search) ws (node ∷ rest.nodes)) (sym first.pending) refuted);
+          subst (λ (q : Search (FactAt s)). RefutedInOrder q (IsJudged q) s.pending (node ∷ rest.nodes))
+          (same_search subject s first.number number first.older older stands.search p (sym first.begun ∙ begun) first.searched named)
+          (subst (λ (ws : List (Pending (FactAt s))). RefutedInOrder stands.search (IsJudged stands.search) ws (node ∷ rest.nodes)) (sym first.pending) refuted);
       none = λ e. let left = first.pending in absurd (cc);
       forms = (form, rest.forms);
       writable = rest.writable;
@@ -71,12 +69,9 @@ behind_node subject s node between ls after form stands b =
 -- one more proof
 pub behind_pattern : (subject : Subject) (s : Standing) (number : ℕ) (between : Standing) (ls : List Line) (after : Standing) → number < 2 ^ 32 → BeginsProof subject s number between → Behind subject between ls after → Behind subject s (line.Pattern number ∷ ls) after
 behind_pattern subject s number between ls after form begins b =
-    let rest : Behind subject (record s { begun = number ∷ s.begun; pending = all_starts subject.file.automaton }) ls after = subst (λ (t : Standing). Behind subject t ls after) begins.leads b in
-    let found = some_at subject.file.patterns number begins.exists in
-    let search = search_for subject.claim subject.file.automaton found.0 s.pairs in
-    let named = search_named subject s.pairs number found.0 found.1 in
-    let starts = claim_roots subject.claim subject.file.automaton found.0 s.pairs in
-    let trees = (in_order IsJudged search rest.nodes).0 (subst (λ (ws : List (Pending Element)). RefutedInOrder search (IsJudged search) ws rest.nodes) (sym starts) (rest.refute number s.begun search refl named)) in
+    let rest : Behind subject (record s { begun = number ∷ s.begun; pending = begins.search.roots }) ls after = subst (λ (t : Standing). Behind subject t ls after) begins.leads b in
+    let search = begins.search in
+    let trees = (in_order IsJudged search rest.nodes).0 (rest.refute number s.begun search refl begins.searched) in
     record {
       nodes = [];
       proofs = (number, trees.0) ∷ rest.proofs;
@@ -85,7 +80,7 @@ behind_pattern subject s number between ls after form begins b =
       none = λ e. refl;
       forms = tt;
       writable = (record { pattern = form; nodes = subst (AllByRecursion IsNode) (sym trees.2) rest.forms }, rest.writable);
-      prove = (record { search = search; searched = named; proves = trees.1 }, rest.prove);
+      prove = (record { search = search; searched = begins.searched; proves = trees.1 }, rest.prove);
       begun = rest.begun ∙ sym (reverse_onto number (map proof_number rest.proofs) s.begun);
       new = (begins.new, older_new number s.begun (map proof_number rest.proofs) rest.new);
       distinct = (others number s.begun (map proof_number rest.proofs) rest.new, rest.distinct);
@@ -112,8 +107,8 @@ behind subject s (line.Tree node ∷ ls) after none some later ended (next, inr 
 behind subject s (line.End ∷ ls) after none some later ended (next, ends, lead) = behind_last subject s next ls after later ends lead
 
 -- nodes that refute what is pending lead through it
-lead_nodes : (subject : Subject) (version : ℕ) (pairs : List (ℕ × ℕ)) (p : Search Element) (number : ℕ) (older : List ℕ) (ws : List (Pending Element)) (ns : List Node) (ls : List Line) → search_at subject pairs number ≡ Some p → RefutedInOrder p (IsJudged p) ws ns → ((after : Standing) × LeadThrough subject (standing version pairs (number ∷ older) []) ls after) → (after : Standing) × LeadThrough subject (standing version pairs (number ∷ older) ws) (map line.Tree ns ++ ls) after
-lead_nodes subject version pairs p number older ws [] ls named refuted lead = (lead.0, subst (λ (vs : List (Pending Element)). LeadThrough subject (standing version pairs (number ∷ older) vs) ls lead.0) (sym refuted) lead.1)
+lead_nodes : (subject : Subject) (version : ℕ) (pairs : List (ℕ × ℕ)) (p : Search (fact_of (kind_of version))) (number : ℕ) (older : List ℕ) (ws : List (Pending (fact_of (kind_of version)))) (ns : List Node) (ls : List Line) → search_at (kind_of version) subject pairs number ≡ Some p → RefutedInOrder p (IsJudged p) ws ns → ((after : Standing) × LeadThrough subject (standing version pairs (number ∷ older) []) ls after) → (after : Standing) × LeadThrough subject (standing version pairs (number ∷ older) ws) (map line.Tree ns ++ ls) after
+lead_nodes subject version pairs p number older ws [] ls named refuted lead = (lead.0, subst (λ (vs : List (Pending (fact_of (kind_of version)))). LeadThrough subject (standing version pairs (number ∷ older) vs) ls lead.0) (sym refuted) lead.1)
 lead_nodes subject version pairs p number older [] (n ∷ ns) ls named refuted lead = absurd refuted
 lead_nodes subject version pairs p number older (w ∷ ws) (n ∷ ns) ls named refuted lead =
     let next = parts p w n ++ ws in
@@ -123,19 +118,17 @@ lead_nodes subject version pairs p number older (w ∷ ws) (n ∷ ns) ls named r
     (rest.0, (standing version pairs (number ∷ older) next, inl stands, rest.1))
 
 -- the lines of proofs lead to the end
-pub lead_proofs : (subject : Subject) (version : ℕ) (pairs : List (ℕ × ℕ)) (proofs : List (ℕ × List Tree)) (begun : List ℕ) → (version ≡ 2 → pairs ≡ [] → ⊥) → AllByRecursion (ProvesClaim subject pairs) proofs → Distinct (map proof_number proofs) → AllByRecursion (λ k. In k begun → ⊥) (map proof_number proofs) → (after : Standing) × LeadThrough subject (standing version pairs begun []) (proof_lines (proofs_of proofs)) after
+pub lead_proofs : (subject : Subject) (version : ℕ) (pairs : List (ℕ × ℕ)) (proofs : List (ℕ × List Tree)) (begun : List ℕ) → (version ≡ 2 → pairs ≡ [] → ⊥) → AllByRecursion (ProvesClaim (kind_of version) subject pairs) proofs → Distinct (map proof_number proofs) → AllByRecursion (λ k. In k begun → ⊥) (map proof_number proofs) → (after : Standing) × LeadThrough subject (standing version pairs begun []) (proof_lines (proofs_of proofs)) after
 lead_proofs subject version pairs [] begun some prove distinct new =
     let free : NothingIsLeft (standing version pairs begun []) = record { none = refl; some = some; done = refl } in
     let ends : EndsCertificate (standing version pairs begun []) (standing version pairs begun []) = record { free = free; leads = refl } in
     (standing version pairs begun [], (standing version pairs begun [], ends, refl))
 lead_proofs subject version pairs (q ∷ qs) begun some prove distinct new =
     let one = prove.0 in
-    let found = searched subject pairs q.0 one.search one.searched in
-    let starts = all_starts subject.file.automaton in
+    let starts = one.search.roots in
     let refuted = (in_order IsJudged one.search (all_preorder q.1)).1 (q.1, one.proves, refl) in
-    let same : one.search.roots ≡ starts = sym (ap (λ (p : Search Element). p.roots) found.is) ∙ claim_roots subject.claim subject.file.automaton found.pattern pairs in
     let rest = lead_proofs subject version pairs qs (q.0 ∷ begun) some prove.1 distinct.1 (still_new q.0 begun (map proof_number qs) distinct.0 new.1) in
-    let through = lead_nodes subject version pairs one.search q.0 begun starts (all_preorder q.1) (proof_lines (proofs_of qs)) one.searched (subst (λ (ws : List (Pending Element)). RefutedInOrder one.search (IsJudged one.search) ws (all_preorder q.1)) same refuted) rest in
+    let through = lead_nodes subject version pairs one.search q.0 begun starts (all_preorder q.1) (proof_lines (proofs_of qs)) one.searched refuted rest in
     let free : NothingIsLeft (standing version pairs begun []) = record { none = refl; some = some; done = refl } in
-    let begins : BeginsProof subject (standing version pairs begun []) q.0 (standing version pairs (q.0 ∷ begun) starts) = record { free = free; exists = slice_get_within subject.file.patterns q.0 found.pattern found.named; new = new.0; leads = refl } in
+    let begins : BeginsProof subject (standing version pairs begun []) q.0 (standing version pairs (q.0 ∷ begun) starts) = record { free = free; search = one.search; searched = one.searched; new = new.0; leads = refl } in
     (through.0, (standing version pairs (q.0 ∷ begun) starts, begins, through.1))

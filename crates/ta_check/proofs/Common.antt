@@ -19,7 +19,7 @@ pub use Rattle.ta_base.specs.Masks.{In}
 pub use Rattle.ta_cert.proofs.Relations.{legal_last, read_complete, one_reading as reads_unique}
 pub use Rattle.ta_cert.proofs.Unique.{compare, legal_forms, legal_prefix, malformed_place, malformed_stuck, malformed_trailing, reads_malformed, reads_stuck, reads_trailing, trailing_place, trailing_stuck}
 unfoldable pub use Rattle.ta_cert.proofs.Unique.{GoesOn, Stuck}
-pub use Rattle.ta_cert.specs.Certificates.{AreOrders, AreWritable, cert_lines, order_lines, pair_of, proof_lines, proofs_of, version_of}
+pub use Rattle.ta_cert.specs.Certificates.{AreOrders, AreWritable, cert_lines, order_lines, pair_of, proof_lines, proofs_of, question_lines, version_of}
 pub use Rattle.ta_cert.proofs.Writing.{lines_text-append}
 pub use Rattle.ta_cert.proofs.Written.{line_unbroken, line_unique}
 pub use Rattle.ta_cert.specs.Laws.{AreLater, AreLines, AreShort, line_number}
@@ -32,17 +32,17 @@ pub use Rattle.ta_cert.specs.declared.line.Line.{Line}
 pub use Rattle.ta_cert.specs.declared.line.Node.{Node}
 pub use Rattle.ta_cert.specs.declared.line.Order.{Order}
 pub use Rattle.ta_cert.specs.declared.reader.Reader.{Reader}
-pub use Rattle.ta_check.specs.Certificate.{AllClaimsHold, AllRestSafe, AllSafe, AllUnsolved, Certificate, CertificateFor, CertificatesShow, ClaimsHold, MayClaimAll, MayHave, PatternUnsolved, ProvesClaim, ProvesPattern, ShowsPair, proof_number}
+pub use Rattle.ta_check.specs.Certificate.{AllClaimsHold, AllQuietRestSafe, AllRestSafe, AllSafe, AllUnsolved, Certificate, CertificateFor, CertificatesNameOneList, CertificatesShow, ClaimsHold, MayClaimAll, MayHave, PatternUnsolved, ProvesClaim, ProvesPattern, ShowsPair, lines_of_kind, may_have, proof_number}
 pub use Rattle.ta_check.specs.Checkers.{CheckerFeedAnswers, CheckerFinishAnswers, CheckerStandsFor, IsExactCheck, IsExactFeed, IsSoundChecker, StandBehind, subject_of}
-pub use Rattle.ta_check.specs.Faults.{AtSomeWord, FirstLeafFault, IsAtFault, IsFirstFaultFor, IsIdle, IsLastingFor, IsMisplaced, IsMisplacedNode, IsNoLeaf, IsWaiting, LastingFaultsLast, LeafFails, LineAtFault, PairFails, TextAtFault}
+pub use Rattle.ta_check.specs.Faults.{AsksInVain, AtSomeWord, FirstLeafFault, HasNoForm, IsAtFault, IsFirstFaultFor, IsIdle, IsLastingFor, IsMisplaced, IsMisplacedNode, IsNoPair, IsUnawaited, IsWaiting, LastingFaultsLast, LeafFails, LineAtFault, PairFails, TextAtFault}
+pub use Rattle.ta_check.specs.Forms.{HasForm, IsNoLeaf, IsQuestion}
 pub use Rattle.ta_check.specs.Inside.Leaves.{WithoutBounds, renumbered}
 pub use Rattle.ta_check.specs.Inside.Pieces.{NextTaken, StandSomewhere, TakenTo}
-pub use Rattle.ta_check.specs.Lines.{AtWord, BeginsProof, EndsCertificate, LeadThrough, Leads, MayFollow, NothingIsLeft, OpensCertificate, ShowsWaiting, Standing, Stands, TakesOrder, Waits, first_standing}
-pub use Rattle.ta_check.specs.Positions.{Between, InNewest, IsPositionAt, IsSomewhere, LeafTaken, LineAnswers, fault_at}
-pub use Rattle.ta_check.specs.Subjects.{HasVersion, Subject, claiming, search_at, search_in}
+pub use Rattle.ta_check.specs.Lines.{AtWord, BeginsProof, EndsCertificate, FactAt, LeadThrough, Leads, MayFollow, NothingIsLeft, OpensCertificate, ShowsWaiting, Standing, Stands, TakesOrder, Waits, first_standing, opened, search_there}
+pub use Rattle.ta_check.specs.Positions.{Between, InNewest, IsKeptIn, IsPositionAt, IsSomewhere, LeafRefused, LeafTaken, LeafTold, LineAnswers, NodeStood, NodeTaken, NodeTold, SplitsNone, fault_at, place_of, unasked_in}
+pub use Rattle.ta_check.specs.Subjects.{HasVersion, Kind, Moments, Subject, Words, asking_for, claimed_with, claiming, claiming_with, fact_of, kind_of, moments_of, search_at, search_in, search_of, version_for}
 pub use Rattle.ta_check.specs.declared.accepted.Accepted.{Accepted}
 pub use Rattle.ta_check.specs.declared.position.Position.{Position}
-pub use Rattle.ta_claim.proofs.ClaimWords.{claim_roots}
 pub use Rattle.ta_claim.specs.Claims.{MayClaim, search_for}
 pub use Rattle.ta_claim.specs.Trees.{search_of_claim}
 pub use Rattle.ta_claim.specs.declared.claim.Claim.{Claim}
@@ -58,10 +58,10 @@ pub use Rattle.ta_encode.proofs.CodeRows.{leaf_back, leaf_of, rows_count, weight
 pub use Rattle.ta_encode.proofs.Preorders.{in_order, weaker_proof}
 pub use Rattle.ta_encode.proofs.Whole.{unbounded_rows, whole_system}
 pub use Rattle.ta_encode.specs.Code.{AreRowsOf, IsRowOf, SystemAt}
-pub use Rattle.ta_encode.specs.InPreorder.{MayStand, Pending, RefutedInOrder, Search, all_starts, parts}
+pub use Rattle.ta_encode.specs.InPreorder.{MayStand, Pending, RefutedInOrder, Search, parts}
 pub use Rattle.ta_encode.specs.Lines.{BoundsWithin}
 pub use Rattle.ta_encode.specs.Marks.{IsEncoding}
-pub use Rattle.ta_encode.specs.Search.{Comes, bounded_rows}
+pub use Rattle.ta_encode.specs.Search.{Comes, MayAsk, asked, bounded_rows}
 pub use Rattle.ta_encode.specs.System.{LinearRow, bound_row, word_rows}
 pub use Rattle.ta_farkas.proofs.Judging.{no_fault}
 pub use Rattle.ta_farkas.specs.Columns.{CheckStays, ColumnStays, column_sum, entry, part_in}

@@ -1,25 +1,23 @@
 -- Lines lead to one standing, and those that lead on are not at fault
-use Rattle.ta_check.proofs.Common.{◌≡◌, ◌⊎◌, inl, inr, ℕ, ◌<◌, ℤ, List, [], ◌∷◌, ◌++◌, length, false, None, Some, refl, sym, ap, subst, ◌∙◌, arith, false≢true, Line, Node, CertFault, IsShown, Pending, Search, parts, MayStand, leaf_back, LeafFault, no_fault, IsJudged, Subject, search_at, Standing, AtWord, ShowsWaiting, Stands, Leads, LeadThrough, AtSomeWord, IsMisplaced, IsNoLeaf, FirstLeafFault, LeafFails, PairFails, IsAtFault, check_stays, none-some, IsIdle, IsMisplacedNode, IsWaiting, MayJoin, Waits}
-use Rattle.ta_words.specs.declared.element.Element.{Element}
+use Rattle.ta_check.proofs.Common.{◌≡◌, ◌⊎◌, inl, inr, ℕ, ◌<◌, ℤ, List, [], ◌∷◌, ◌++◌, length, None, Some, refl, sym, ap, subst, ◌∙◌, arith, Line, Node, CertFault, IsShown, Pending, Search, MayAsk, parts, MayStand, leaf_back, LeafFault, no_fault, IsJudged, Subject, kind_of, Standing, FactAt, search_there, AtWord, BeginsProof, ShowsWaiting, Stands, TakesOrder, Leads, LeadThrough, AtSomeWord, HasForm, IsNoPair, IsQuestion, IsMisplaced, IsNoLeaf, FirstLeafFault, LeafFails, PairFails, IsAtFault, check_stays, none-some, IsMisplacedNode, MayJoin, Waits}
 use Rattle.ta_cert.specs.declared.line.Line.TheVariants as line
-use Rattle.ta_encode.specs.Search.{MayAsk}
 use Rattle.ta_encode.proofs.Asking.{none_asked}
 use Rattle.ta_cert.specs.declared.line.Node.TheVariants as node
 use Rattle.ta_cert.specs.declared.fault.CertFault.TheVariants as fault
 use Rattle.ta_check.proofs.LeafFaults.{shows_or_fails}
-use Rattle.ta_check.proofs.Searches.{extend_asks}
+use Rattle.ta_check.proofs.Searches.{search_exists, stands_form}
 
 -- one word is the first that is left
-pub record SameWord (p q : Search Element) (w v : Pending Element) (ws vs : List (Pending Element)) : Type 0 where
+pub record SameWord {E : Type 0} (p q : Search E) (w v : Pending E) (ws vs : List (Pending E)) : Type 0 where
   pub search : p ≡ q
   pub word : w ≡ v
   pub words : ws ≡ vs
 
-pub word_once : (subject : Subject) (s : Standing) (p q : Search Element) (w v : Pending Element) (ws vs : List (Pending Element)) → AtWord subject s p w ws → AtWord subject s q v vs → SameWord p q w v ws vs
+pub word_once : (subject : Subject) (s : Standing) (p q : Search (FactAt s)) (w v : Pending (FactAt s)) (ws vs : List (Pending (FactAt s))) → AtWord subject s p w ws → AtWord subject s q v vs → SameWord p q w v ws vs
 word_once subject s p q w v ws vs a b =
     let begun : (a.number ∷ a.older) ≡ (b.number ∷ b.older) = sym a.begun ∙ b.begun in
     let number : a.number ≡ b.number = cc in
-    let some : Some p ≡ Some q = sym a.searched ∙ ap (search_at subject s.pairs) number ∙ b.searched in
+    let some : Some p ≡ Some q = sym a.searched ∙ ap (search_there subject s) number ∙ b.searched in
     let pending : (w ∷ ws) ≡ (v ∷ vs) = sym a.pending ∙ b.pending in
     record { search = cc; word = cc; words = cc }
 
@@ -27,7 +25,7 @@ word_once subject s p q w v ws vs a b =
 stands_once : (subject : Subject) (s : Standing) (n : Node) (x y : Standing) → Stands subject s n x → Stands subject s n y → x ≡ y
 stands_once subject s n x y a b =
     let same = word_once subject s a.search b.search a.word b.word a.words b.words a.at b.at in
-    let left : List (Pending Element) → Standing = λ ws. record s { pending = ws } in
+    let left : List (Pending (FactAt s)) → Standing = λ ws. record s { pending = ws } in
     a.leads
     ∙ ap (λ p. left (parts p a.word n ++ a.words)) same.search
     ∙ ap (λ w. left (parts b.search w n ++ a.words)) same.word
@@ -56,10 +54,17 @@ pair_once subject s n x y a b =
     let after : a.pair.1 ≡ b.pair.1 = cc in
     a.leads ∙ ap (λ k. record s { waiting = Some (k, a.pair.1) }) before ∙ ap (λ k. record s { waiting = Some (b.pair.0, k) }) after ∙ sym b.leads
 
+-- the line of a pattern leads to one standing
+begins_once : (subject : Subject) (s : Standing) (number : ℕ) (x y : Standing) → BeginsProof subject s number x → BeginsProof subject s number y → x ≡ y
+begins_once subject s number x y a b =
+    let both : Some a.search ≡ Some b.search = sym a.searched ∙ b.searched in
+    let same : a.search ≡ b.search = cc in
+    a.leads ∙ ap (λ (q : Search (FactAt s)). record s { begun = number ∷ s.begun; pending = q.roots }) same ∙ sym b.leads
+
 -- a line leads to one standing
 pub leads_once : (subject : Subject) (s : Standing) (l : Line) (x y : Standing) → Leads subject s l x → Leads subject s l y → x ≡ y
 leads_once subject s (line.Header version) x y a b = a.leads ∙ sym b.leads
-leads_once subject s (line.Pattern number) x y a b = a.leads ∙ sym b.leads
+leads_once subject s (line.Pattern number) x y a b = begins_once subject s number x y a b
 leads_once subject s (line.Tree n) x y (inl a) (inl b) = stands_once subject s n x y a b
 leads_once subject s (line.Tree n) x y (inl a) (inr (inl b)) = absurd (none-some b.pair (sym a.at.none ∙ b.waits))
 leads_once subject s (line.Tree n) x y (inl a) (inr (inr b)) = absurd (early_word subject s a b)
@@ -86,46 +91,45 @@ through_parts subject s (l ∷ ls) ms after (next, first, rest) =
     (parts.0, (next, first, parts.1), parts.2)
 
 -- a node that stands does so at the first word that is left
-may_stand : (subject : Subject) (s : Standing) (n : Node) (after : Standing) (p : Search Element) (w : Pending Element) (ws : List (Pending Element)) → AtWord subject s p w ws → Stands subject s n after → MayStand p (IsJudged p) w n
+may_stand : (subject : Subject) (s : Standing) (n : Node) (after : Standing) (p : Search (FactAt s)) (w : Pending (FactAt s)) (ws : List (Pending (FactAt s))) → AtWord subject s p w ws → Stands subject s n after → MayStand p (IsJudged p) w n
 may_stand subject s n after p w ws at stands =
     let same = word_once subject s stands.search p stands.word w stands.words ws stands.at at in
     subst (λ v. MayStand p (IsJudged p) v n) same.word (subst (λ q. MayStand q (IsJudged q) stands.word n) same.search stands.may)
 
 -- so does a node that leads on there
-may_lead : (subject : Subject) (s : Standing) (n : Node) (after : Standing) (p : Search Element) (w : Pending Element) (ws : List (Pending Element)) → AtWord subject s p w ws → Leads subject s (line.Tree n) after → MayStand p (IsJudged p) w n
+may_lead : (subject : Subject) (s : Standing) (n : Node) (after : Standing) (p : Search (FactAt s)) (w : Pending (FactAt s)) (ws : List (Pending (FactAt s))) → AtWord subject s p w ws → Leads subject s (line.Tree n) after → MayStand p (IsJudged p) w n
 may_lead subject s n after p w ws at (inl stands) = may_stand subject s n after p w ws at stands
 may_lead subject s n after p w ws at (inr (inl shows)) = absurd (none-some shows.pair (sym at.none ∙ shows.waits))
 may_lead subject s n after p w ws at (inr (inr waits)) = absurd (let none : [] ≡ (at.number ∷ at.older) = sym waits.takes.early ∙ at.begun in cc)
 
--- no question stands
-question_stands : (subject : Subject) (s : Standing) (n : Node) (after : Standing) (stands : Stands subject s n after) → MayAsk stands.search stands.word.start stands.word.past n → n ≡ node.Extend
-question_stands subject s n after stands may = extend_asks subject s.pairs stands.at.number stands.search stands.at.searched stands.word.start stands.word.past n may
+-- a node that stands has a form of the version
+form_of : (subject : Subject) (s : Standing) (n : Node) (after : Standing) → Stands subject s n after → HasForm (kind_of s.version) subject.claim n
+form_of subject s n after stands = stands_form (kind_of s.version) subject s.pairs stands.at.number stands.search stands.at.searched stands.word n stands.may
 
--- a node that isn't a pair doesn't lead on where none is waited for
-idle_stops : (subject : Subject) (s : Standing) (n : Node) (after : Standing) → (((before later : ℕ) → n ≡ node.Order before later → ⊥)) → IsIdle s ⊎ (IsWaiting s × IsNoLeaf n) → Leads subject s (line.Tree n) after → ⊥
-idle_stops subject s n after other m (inr (inr waits)) = other waits.pair.0 waits.pair.1 waits.is
-idle_stops subject s n after other (inl idle) (inl stands) = let none : [] ≡ (stands.word ∷ stands.words) = sym idle.done ∙ stands.at.pending in cc
-idle_stops subject s n after other (inl idle) (inr (inl shows)) = none-some shows.pair (sym idle.none ∙ shows.waits)
-idle_stops subject s n after other (inr (waits, none)) (inl stands) = none-some waits.pair (sym stands.at.none ∙ waits.waits)
-idle_stops subject s n after other (inr (waits, none)) (inr (inl shows)) = let leaf : IsNoLeaf (node.Leaf shows.multipliers) = subst IsNoLeaf shows.is none in leaf
+-- a pair that may come does
+no_pair_waits : (subject : Subject) (s : Standing) (n : Node) (after : Standing) → IsNoPair s n → Waits subject s n after → ⊥
+no_pair_waits subject s n after none waits = let never : ¬ TakesOrder s = subst (IsNoPair s) waits.is none in never waits.takes
 
--- nor does a misplaced node
-node_stops : (subject : Subject) (s : Standing) (n : Node) (after : Standing) → IsMisplacedNode s n → Leads subject s (line.Tree n) after → ⊥
-node_stops subject s (node.Order before later) after m (inl stands) = let e = question_stands subject s (node.Order before later) after stands stands.may in cc
-node_stops subject s (node.Order before later) after m (inr (inl shows)) = let is = shows.is in cc
-node_stops subject s (node.Order before later) after m (inr (inr waits)) = m waits.takes
-node_stops subject s (node.Guard guard) after m (inl stands) = let e = question_stands subject s (node.Guard guard) after stands stands.may in cc
-node_stops subject s (node.Guard guard) after m (inr (inl shows)) = let is = shows.is in cc
-node_stops subject s (node.Guard guard) after m (inr (inr waits)) = let is = waits.is in cc
-node_stops subject s (node.Stuck rule) after m (inl stands) = let e = question_stands subject s (node.Stuck rule) after stands stands.may in cc
-node_stops subject s (node.Stuck rule) after m (inr (inl shows)) = let is = shows.is in cc
-node_stops subject s (node.Stuck rule) after m (inr (inr waits)) = let is = waits.is in cc
-node_stops subject s node.Extend after m leads = idle_stops subject s node.Extend after (λ before later is. cc) m leads
-node_stops subject s (node.Split unknown floor) after m leads = idle_stops subject s (node.Split unknown floor) after (λ before later is. cc) m leads
-node_stops subject s (node.Leaf ts) after m leads = idle_stops subject s (node.Leaf ts) after (λ before later is. cc) m leads
+-- a misplaced node doesn't lead on
+node_stops : (subject : Subject) (s : Standing) (n : Node) (after : Standing) → IsMisplacedNode subject s n → Leads subject s (line.Tree n) after → ⊥
+node_stops subject s n after m (inr (inr waits)) = no_pair_waits subject s n after m.no_pair waits
+node_stops subject s n after m (inl stands) = elim m.out [
+  | inl without ↦ without (form_of subject s n after stands)
+  | inr unawaited ↦ elim unawaited [
+    | inl idle ↦ (let none : [] ≡ (stands.word ∷ stands.words) = sym idle.done ∙ stands.at.pending in cc)
+    | inr waits ↦ none-some waits.0.pair (sym stands.at.none ∙ waits.0.waits)
+  ]
+]
+node_stops subject s n after m (inr (inl shows)) = elim m.out [
+  | inl without ↦ without (subst (HasForm (kind_of s.version) subject.claim) (sym shows.is) tt)
+  | inr unawaited ↦ elim unawaited [
+    | inl idle ↦ none-some shows.pair (sym idle.none ∙ shows.waits)
+    | inr waits ↦ (let leaf : IsNoLeaf (node.Leaf shows.multipliers) = subst IsNoLeaf shows.is waits.1 in leaf)
+  ]
+]
 
 -- a line that leads on is not misplaced
-in_place : (subject : Subject) (s : Standing) (l : Line) (after : Standing) → IsMisplaced subject.claim s l → Leads subject s l after → ⊥
+in_place : (subject : Subject) (s : Standing) (l : Line) (after : Standing) → IsMisplaced subject s l → Leads subject s l after → ⊥
 in_place subject s (line.Header version) after m leads = m leads.has
 in_place subject s (line.Pattern number) after m leads = m leads.free
 in_place subject s (line.Tree n) after m leads = node_stops subject s n after m leads
@@ -153,27 +157,41 @@ leaf_leads subject s ts f after (inr fails) (inr (inl shows)) =
 leaf_holds : (subject : Subject) (s : Standing) (l : Line) (f : LeafFault) (after : Standing) → LeafFails subject s l f → Leads subject s l after → ⊥
 leaf_holds subject s l f after fails leads = leaf_leads subject s fails.multipliers f after fails.at (subst (λ m. Leads subject s m after) fails.is leads)
 
+-- a question that may stand may be asked
+may_ask : {E : Type 0} (p : Search E) (w : Pending E) (n : Node) → IsQuestion n → MayStand p (IsJudged p) w n → MayAsk p w.start w.past n
+may_ask p w node.Extend asks may = absurd asks
+may_ask p w (node.Leaf ts) asks may = absurd asks
+may_ask p w (node.Split unknown floor) asks may = absurd asks
+may_ask p w (node.Guard guard) asks may = may
+may_ask p w (node.Order before later) asks may = may
+may_ask p w (node.Stuck rule) asks may = may
+
 -- a line that leads on is not at fault
 pub not_both : (subject : Subject) (s : Standing) (number : ℕ) (l : Line) (f : CertFault) (after : Standing) → IsAtFault subject s number l f → Leads subject s l after → ⊥
 not_both subject s number l (fault.Line n) after at leads = in_place subject s l after at.1 leads
 not_both subject s number l (fault.UnknownPattern n) after (place, k, here, beyond) leads =
     let begins = subst (λ m. Leads subject s m after) here.is leads in
-    let exists : k < length subject.file.patterns = begins.exists in
+    let exists : k < length subject.file.patterns = search_exists (kind_of s.version) subject s.pairs k begins.search begins.searched in
     omega arith
 not_both subject s number l (fault.RepeatedPattern n) after (place, k, here, old) leads = (subst (λ m. Leads subject s m after) here.is leads).new old
 not_both subject s number l (fault.Pair n) after (place, bad) leads = pair_holds (subst (λ m. Leads subject s m after) bad.is leads)
   where
     pair_holds : Leads subject s (line.Tree (node.Order bad.before bad.later)) after → ⊥
-    pair_holds (inl stands) = let e = question_stands subject s (node.Order bad.before bad.later) after stands stands.may in cc
+    pair_holds (inl stands) = let none : [] ≡ (stands.at.number ∷ stands.at.older) = sym bad.takes.early ∙ stands.at.begun in cc
     pair_holds (inr (inl shows)) = let is = shows.is in cc
     pair_holds (inr (inr waits)) =
         let same : node.Order bad.before bad.later ≡ node.Order waits.pair.0 waits.pair.1 = waits.is in
         let before : waits.pair.0 ≡ bad.before = cc in
         let later : waits.pair.1 ≡ bad.later = cc in
         bad.bad (subst (λ k. MayJoin subject.file.automaton s.pairs (bad.before, k)) later (subst (λ k. MayJoin subject.file.automaton s.pairs (k, waits.pair.1)) before waits.may))
-not_both subject s number l (fault.ExtendComplete n) after (place, is, at) leads =
-    let may : MayAsk at.search at.word.start at.word.past node.Extend = may_lead subject s node.Extend after at.search at.word at.words at.at (subst (λ m. Leads subject s m after) is leads) in
+not_both subject s number l (fault.ExtendComplete n) after (place, vain) leads =
+    let at = vain.at in
+    let may : MayAsk at.search at.word.start at.word.past node.Extend = may_lead subject s node.Extend after at.search at.word at.words at.at (subst (λ m. Leads subject s m after) vain.is leads) in
     none_asked at.search at.word.start at.word.past node.Extend may at.holds
+not_both subject s number l (fault.Question n) after (place, question, asks, vain) leads =
+    let at = vain.at in
+    let may = may_ask at.search at.word question asks (may_lead subject s question after at.search at.word at.words at.at (subst (λ m. Leads subject s m after) vain.is leads)) in
+    none_asked at.search at.word.start at.word.past question may at.holds
 not_both subject s number l (fault.SplitVariable n) after (place, splits) leads =
     let at = splits.at in
     let may : splits.unknown < at.search.unknowns at.word.start at.word.past = may_lead subject s (node.Split splits.unknown splits.floor) after at.search at.word at.words at.at (subst (λ m. Leads subject s m after) splits.is leads) in

@@ -1,5 +1,5 @@
 -- a position before the proofs: the first line, the pairs and their leaves
-use Rattle.ta_check.proofs.Common.{◌≡◌, ◌≢◌, inl, inr, ℕ, ℤ, List, [], ◌∷◌, ◌++◌, None, Some, Ok, Err, sym, ◌∙◌, subst, refl, In-left, In-right, in_append, Automaton, In, JoinsPair, MayJoin, with_pair, leads_along, here_is, search_for, HasVersion, Subject, Position, Standing, NothingIsLeft, ShowsWaiting, TakesOrder, Waits, Between, IsPositionAt, SameMembers, LineAnswers}
+use Rattle.ta_check.proofs.Common.{◌≡◌, ◌≢◌, inl, inr, ℕ, ℤ, List, [], ◌∷◌, ◌++◌, None, Some, Ok, Err, sym, ◌∙◌, subst, refl, In-left, In-right, in_append, Automaton, In, JoinsPair, MayJoin, with_pair, leads_along, here_is, HasVersion, Subject, kind_of, search_of, place_of, opened, Position, Standing, NothingIsLeft, ShowsWaiting, TakesOrder, Waits, Between, IsIdle, IsPositionAt, SameMembers, LineAnswers}
 use Rattle.ta_cert.specs.declared.line.Line.TheVariants as line
 use Rattle.ta_cert.specs.declared.line.Node.TheVariants as node
 use Rattle.ta_cert.specs.declared.fault.CertFault.TheVariants as fault
@@ -7,9 +7,9 @@ use Rattle.ta_implied.proofs.Placing.{in_placed, placed_in}
 use Rattle.ta_base.proofs.Members.{no_members, same_members_back}
 
 -- the first line
-pub header_taken : (subject : Subject) (s : Position) (at : Standing) (number version : ℕ) → HasVersion subject.claim version → IsPositionAt subject s at → LineAnswers subject at number (line.Header version) (record s { version = version }) (Ok tt)
+pub header_taken : (subject : Subject) (s : Position) (at : Standing) (number version : ℕ) → HasVersion subject version → IsPositionAt subject s at → LineAnswers subject at number (line.Header version) (record s { version = version; current = None }) (Ok tt)
 header_taken subject s at number version has is = (
-  record at { version = version },
+  opened at version,
   record { has = has; leads = refl },
   record {
     version = refl;
@@ -17,10 +17,7 @@ header_taken subject s at number version has is = (
     waiting = is.waiting;
     may = λ pair some. let may = is.may pair some in record { join = may.join; early = may.early };
     begun = is.begun;
-    place = elim is.place [
-      | inl between ↦ inl (record { current = between.current; left = between.left })
-      | inr inside ↦ inr (record { number = inside.number; current = inside.current; older = inside.older; begun = inside.begun; pattern = inside.pattern; named = inside.named; within = inside.within; kept = inside.kept })
-    ];
+    place = inl (record { current = refl; left = refl });
   },
 )
 
@@ -52,9 +49,19 @@ free_back subject s at is free = record {
   none = sym is.waiting ∙ free.none;
   nowhere = elim is.place [
     | inl between ↦ between.current
-    | inr inside ↦ absurd (let left = here_is (search_for subject.claim subject.file.automaton inside.pattern s.orders) s.place at.pending inside.within in let gone = sym free.done ∙ left in cc)
+    | inr inside ↦ absurd (let left = here_is (search_of (kind_of at.version) subject s.orders inside.pattern) (place_of (kind_of at.version) s) at.pending inside.within in let gone = sym free.done ∙ left in cc)
   ];
   some = λ two empty. free.some (is.version ∙ two) (no_members s.orders at.pairs empty (same_members_back at.pairs s.orders is.pairs));
+}
+
+-- where no proof is being read and no pair waits, nothing is left
+pub idle_at : (subject : Subject) (s : Position) (at : Standing) → IsPositionAt subject s at → s.waiting ≡ None → s.current ≡ None → IsIdle at
+idle_at subject s at is none nowhere = record {
+  none = is.waiting ∙ none;
+  done = elim is.place [
+    | inl between ↦ between.left
+    | inr inside ↦ absurd (let both : None ≡ Some inside.number = sym nowhere ∙ inside.current in cc)
+  ];
 }
 
 -- only which pairs there are counts

@@ -1,9 +1,8 @@
 -- a position that takes a node
-use Rattle.ta_check.proofs.Common.{◌≡◌, ◌⊎◌, ◌<◌, length, slice_get, inl, inr, ℕ, ℤ, Bool, true, false, List, [], ◌∷◌, ◌++◌, reverse, Option, None, Some, Result, Ok, Err, sym, ap, ◌∙◌, subst, refl, slice_get_within, Pattern, Line, Node, CertFault, Element, Pending, Search, parts, MayStand, IsEncoding, Place, IsWord, here, Cursor, AllGoOn, AllWithin, IsAllWithin, here_at, here_first, here_is, later_words, LeafFault, search_for, Subject, Position, IsJudged, Standing, AtWord, Stands, AtSomeWord, FirstLeafFault, LeafFails, Between, InNewest, IsPositionAt, IsSomewhere, LeafTaken, SameMembers, LineAnswers, fault_at, none-some}
+use Rattle.ta_check.proofs.Common.{◌≡◌, ◌⊎◌, ◌<◌, ◌≤◌, length, slice_get, inl, inr, ℕ, Bool, true, false, List, [], ◌∷◌, ◌++◌, reverse, Option, None, Some, Ok, Err, sym, ap, ◌∙◌, subst, refl, slice_get_within, Pattern, Line, Node, CertFault, Pending, Search, asked, parts, AllGoOn, AllWithin, IsAllWithin, here_at, here_first, here_is, later_words, LeafFault, Kind, HasForm, Subject, fact_of, kind_of, search_of, Place, Position, Standing, FactAt, AtWord, Stands, AtSomeWord, FirstLeafFault, IsNoPair, LeafFails, Between, InNewest, IsKeptIn, IsPositionAt, IsSomewhere, LeafRefused, NodeStood, NodeTold, SameMembers, LineAnswers, fault_at, place_of, none-some}
 use Rattle.ta_cert.specs.declared.line.Line.TheVariants as line
 use Rattle.ta_cert.specs.declared.line.Node.TheVariants as node
-use Rattle.ta_cursor.specs.TreeCalls.{IsCompleteOf}
-use Rattle.ta_encode.specs.Search.{MayAsk, asked}
+use Rattle.ta_cert.specs.declared.fault.CertFault.TheVariants as fault
 use Rattle.ta_farkas.specs.declared.LeafFault.TheVariants as leaf
 use Rattle.ta_check.proofs.Searches.{search_same}
 
@@ -37,8 +36,8 @@ pub record Newest (subject : Subject) (s : Position) (at : Standing) (number : �
   pub older : List ℕ
   pub begun : at.begun ≡ number ∷ older
   pub named : slice_get subject.file.patterns number ≡ Some p
-  pub within : AllWithin (search_for subject.claim subject.file.automaton p s.orders) s.place at.pending
-  pub kept : IsEncoding subject.file.automaton p s.encoding
+  pub within : AllWithin (search_of (kind_of at.version) subject s.orders p) (place_of (kind_of at.version) s) at.pending
+  pub kept : IsKeptIn (kind_of at.version) subject p s
 
 same_number : (subject : Subject) (s : Position) (at : Standing) (number : ℕ) → Head s at → s.current ≡ Some number → (inside : InNewest subject s at) → Newest subject s at number inside.pattern
 same_number subject s at number head current inside =
@@ -64,72 +63,49 @@ pattern_there subject s number none current somewhere =
     let n = some_newest subject s somewhere.0 number none current somewhere.1 in
     slice_get_within subject.file.patterns number n.0 n.1.named
 
+-- the kind of a standing is that of its position
+pub kind_at : (s : Position) (at : Standing) (kind : Kind) → Head s at → kind_of s.version ≡ kind → kind_of at.version ≡ kind
+kind_at s at kind head is = ap kind_of head.version ∙ is
+
 -- the tree of the pattern whose proof is being read
-abbrev pub IsTree : Subject → Position → ℕ → Search Element → Type 0
-IsTree subject s number tree = (p : Pattern) → slice_get subject.file.patterns number ≡ Some p → tree ≡ search_for subject.claim subject.file.automaton p s.orders
+abbrev pub IsTree : (kind : Kind) → Subject → Position → ℕ → Search (fact_of kind) → Type 0
+IsTree kind subject s number tree = (p : Pattern) → slice_get subject.file.patterns number ≡ Some p → tree ≡ search_of kind subject s.orders p
 
 -- the place is within it
-pub tree_within : (subject : Subject) (s : Position) (number : ℕ) (tree : Search Element) → s.waiting ≡ None → s.current ≡ Some number → IsTree subject s number tree → IsSomewhere subject s → IsAllWithin tree s.place
-tree_within subject s number tree none current same (at, is) =
+pub tree_within : (kind : Kind) (subject : Subject) (s : Position) (number : ℕ) (tree : Search (fact_of kind)) → s.waiting ≡ None → s.current ≡ Some number → kind_of s.version ≡ kind → IsTree kind subject s number tree → IsSomewhere subject s → IsAllWithin tree (place_of kind s)
+tree_within kind subject s number tree none current of same (at, is) =
     let n = some_newest subject s at number none current is in
-    (at.pending, subst (λ (q : Search Element). AllWithin q s.place at.pending) (sym (same n.0 n.1.named)) n.1.within)
+    let here : IsAllWithin (search_of (kind_of at.version) subject s.orders n.0) (place_of (kind_of at.version) s) = (at.pending, n.1.within) in
+    let there : IsAllWithin (search_of kind subject s.orders n.0) (place_of kind s) = subst (λ (k : Kind). IsAllWithin (search_of k subject s.orders n.0) (place_of k s)) (kind_at s at kind n.1.head of) here in
+    subst (λ (q : Search (fact_of kind)). IsAllWithin q (place_of kind s)) (sym (same n.0 n.1.named)) there
 
--- and its word is one of the tree's
-pub tree_word : (subject : Subject) (s : Position) (number : ℕ) (tree : Search Element) → s.waiting ≡ None → s.current ≡ Some number → IsTree subject s number tree → IsSomewhere subject s → IsWord tree (here_at s.place)
-tree_word subject s number tree none current same somewhere = (tree_within subject s number tree none current same somewhere).1.within.word
-
--- what a tree says of the word of a cursor that was read
-pub told_at : (Says : Search Element → ℕ → List Element → Type 0) (tree search : Search Element) (start : ℕ) (word : List Element) (read also cursor : Cursor) → tree ≡ search → start ≡ read.start_mask → read ≡ cursor → word ≡ also.word → also ≡ cursor →
-    Says tree start (reverse word) → Says search cursor.start_mask (reverse cursor.word)
-told_at Says tree search start word read also cursor same starts reads words reads_also told =
-    subst (λ (es : List Element). Says search cursor.start_mask (reverse es)) (words ∙ ap (λ (c : Cursor). c.word) reads_also)
-    (subst (λ (k : ℕ). Says search k (reverse word)) (starts ∙ ap (λ (c : Cursor). c.start_mask) reads)
-    (subst (λ (q : Search Element). Says q start (reverse word)) same told))
-
--- where a word is complete an Extend may not stand, and where it isn't it may
-pub none_told : (s : Search Element) (start : ℕ) (past : List Element) (complete : Bool) → complete ≡ true → IsCompleteOf s start past complete → asked s start past node.Extend ≡ None
-none_told s start past complete is told = (subst (IsCompleteOf s start past) is told) node.Extend
-
-pub may_told : (s : Search Element) (start : ℕ) (past : List Element) (complete : Bool) → complete ≡ false → IsCompleteOf s start past complete → MayAsk s start past node.Extend
-may_told s start past complete is told = (subst (IsCompleteOf s start past) is told).0
-
--- a place that went on within a tree did so within the search of that tree
-pub went_on : (tree search : Search Element) (old new : Place) (n : Node) (more : Bool) (words : List (Pending Element)) → tree ≡ search
-    → ((w : Pending Element) (ws : List (Pending Element)) → AllWithin tree old (w ∷ ws) → AllGoOn tree new (parts tree w n ++ ws) (Ok more))
-    → AllWithin search old (here_at old ∷ words) → AllGoOn search new (parts search (here_at old) n ++ words) (Ok more)
-went_on tree search old new n more words same told =
-    subst (λ (q : Search Element). (w : Pending Element) (ws : List (Pending Element)) → AllWithin q old (w ∷ ws) → AllGoOn q new (parts q w n ++ ws) (Ok more)) same told (here_at old) words
-
--- a split within a tree is one within its search
-pub split_on : (tree search : Search Element) (old new : Place) (unknown : ℕ) (floor : ℤ) (words : List (Pending Element)) → tree ≡ search
-    → ((w : Pending Element) (ws : List (Pending Element)) → AllWithin tree old (w ∷ ws) → AllWithin tree new (parts tree w (node.Split unknown floor) ++ ws))
-    → AllWithin search old (here_at old ∷ words) → AllWithin search new (parts search (here_at old) (node.Split unknown floor) ++ words)
-split_on tree search old new unknown floor words same told =
-    subst (λ (q : Search Element). (w : Pending Element) (ws : List (Pending Element)) → AllWithin q old (w ∷ ws) → AllWithin q new (parts q w (node.Split unknown floor) ++ ws)) same told (here_at old) words
+-- what is kept is of its pattern
+pub tree_kept : (kind : Kind) (subject : Subject) (s : Position) (at : Standing) (number : ℕ) (p : Pattern) → kind_of s.version ≡ kind → Newest subject s at number p → IsKeptIn kind subject p s
+tree_kept kind subject s at number p of n = subst (λ (k : Kind). IsKeptIn k subject p s) (kind_at s at kind n.head of) n.kept
 
 -- the words behind the first
-abbrev pub later : (subject : Subject) (s : Position) (at : Standing) (number : ℕ) (p : Pattern) → Newest subject s at number p → List (Pending Element)
-later subject s at number p n = later_words (search_for subject.claim subject.file.automaton p s.orders) s.place at.pending n.within
+abbrev pub later : (subject : Subject) (s : Position) (at : Standing) (number : ℕ) (p : Pattern) → Newest subject s at number p → List (Pending (FactAt at))
+later subject s at number p n = later_words (search_of (kind_of at.version) subject s.orders p) (place_of (kind_of at.version) s) at.pending n.within
 
 -- its word is the first that is left
-pub first_within : (subject : Subject) (s : Position) (at : Standing) (number : ℕ) (p : Pattern) (n : Newest subject s at number p) → AllWithin (search_for subject.claim subject.file.automaton p s.orders) s.place (here_at s.place ∷ later subject s at number p n)
-first_within subject s at number p n = here_first (search_for subject.claim subject.file.automaton p s.orders) s.place at.pending n.within
+first_within : (subject : Subject) (s : Position) (at : Standing) (number : ℕ) (p : Pattern) (n : Newest subject s at number p) → AllWithin (search_of (kind_of at.version) subject s.orders p) (place_of (kind_of at.version) s) (here_at (place_of (kind_of at.version) s) ∷ later subject s at number p n)
+first_within subject s at number p n = here_first (search_of (kind_of at.version) subject s.orders p) (place_of (kind_of at.version) s) at.pending n.within
 
-pub at_word : (subject : Subject) (s : Position) (at : Standing) (number : ℕ) (p : Pattern) (n : Newest subject s at number p) → AtWord subject at (search_for subject.claim subject.file.automaton p s.orders) (here_at s.place) (later subject s at number p n)
+at_word : (subject : Subject) (s : Position) (at : Standing) (number : ℕ) (p : Pattern) (n : Newest subject s at number p) → AtWord subject at (search_of (kind_of at.version) subject s.orders p) (here_at (place_of (kind_of at.version) s)) (later subject s at number p n)
 at_word subject s at number p n = record {
   none = n.head.none;
   number = number;
   older = n.older;
   begun = n.begun;
-  searched = search_same subject at.pairs s.orders number p n.named n.head.pairs;
-  pending = here_is (search_for subject.claim subject.file.automaton p s.orders) s.place at.pending n.within;
+  searched = search_same (kind_of at.version) subject at.pairs s.orders number p n.named n.head.pairs;
+  pending = here_is (search_of (kind_of at.version) subject s.orders p) (place_of (kind_of at.version) s) at.pending n.within;
 }
 
 -- what holds of the newest pattern's search and of the position's word
-pub at_some_word : (subject : Subject) (s : Position) (at : Standing) (number : ℕ) (p : Pattern) (fact : Search Element → Pending Element → Type 0) → Newest subject s at number p → fact (search_for subject.claim subject.file.automaton p s.orders) (here_at s.place) → AtSomeWord subject at fact
+at_some_word : (subject : Subject) (s : Position) (at : Standing) (number : ℕ) (p : Pattern) (fact : Search (FactAt at) → Pending (FactAt at) → Type 0) → Newest subject s at number p → fact (search_of (kind_of at.version) subject s.orders p) (here_at (place_of (kind_of at.version) s)) → AtSomeWord subject at fact
 at_some_word subject s at number p fact n holds = record {
-  search = search_for subject.claim subject.file.automaton p s.orders;
-  word = here_at s.place;
+  search = search_of (kind_of at.version) subject s.orders p;
+  word = here_at (place_of (kind_of at.version) s);
   words = later subject s at number p n;
   at = at_word subject s at number p n;
   holds = holds;
@@ -141,7 +117,7 @@ CurrentWhere true number current = current ≡ Some number
 CurrentWhere false number current = current ≡ None
 
 -- a position whose place went on is at what is left
-went_at : (subject : Subject) (s : Position) (at : Standing) (number : ℕ) (p : Pattern) (words : List (Pending Element)) (older : List ℕ) (more : Bool) → Head s at → slice_get subject.file.patterns number ≡ Some p → at.begun ≡ number ∷ older → at.begun ≡ reverse s.proved.items → CurrentWhere more number s.current → IsEncoding subject.file.automaton p s.encoding → AllGoOn (search_for subject.claim subject.file.automaton p s.orders) s.place words (Ok more) → IsPositionAt subject s (record at { pending = words })
+went_at : (subject : Subject) (s : Position) (at : Standing) (number : ℕ) (p : Pattern) (words : List (Pending (FactAt at))) (older : List ℕ) (more : Bool) → Head s at → slice_get subject.file.patterns number ≡ Some p → at.begun ≡ number ∷ older → at.begun ≡ reverse s.proved.items → CurrentWhere more number s.current → IsKeptIn (kind_of at.version) subject p s → AllGoOn (search_of (kind_of at.version) subject s.orders p) (place_of (kind_of at.version) s) words (Ok more) → IsPositionAt subject s (record at { pending = words })
 went_at subject s at number p words older more head named newest proved current kept went = record {
   version = head.version;
   pairs = head.pairs;
@@ -151,7 +127,7 @@ went_at subject s at number p words older more head named newest proved current 
   place = placed words went;
 }
   where
-    placed : (ws : List (Pending Element)) → AllGoOn (search_for subject.claim subject.file.automaton p s.orders) s.place ws (Ok more) → Between s ws ⊎ InNewest subject s (record at { pending = ws })
+    placed : (ws : List (Pending (FactAt at))) → AllGoOn (search_of (kind_of at.version) subject s.orders p) (place_of (kind_of at.version) s) ws (Ok more) → Between s ws ⊎ InNewest subject s (record at { pending = ws })
     placed [] gone = inl (record {
       current = subst (λ (m : Bool). CurrentWhere m number s.current) gone current;
       left = refl;
@@ -167,49 +143,106 @@ went_at subject s at number p words older more head named newest proved current 
       kept = kept;
     })
 
+-- what a node's line leaves: the system that is kept, and where the place is
+abbrev Left : Subject → Position → Position → Pattern → Node → Bool → Kind → Type 0
+Left subject old new p n more kind = IsKeptIn kind subject p new × NodeStood (search_of kind subject old.orders p) (place_of kind old) (place_of kind new) n more
+
 -- a node that may stand at the word is taken, if the place goes on to its parts
-pub node_taken : (subject : Subject) (old new : Position) (at : Standing) (k number : ℕ) (p : Pattern) (n : Node) (more : Bool) (first : Newest subject old at k p)
+pub node_taken : (kind : Kind) (subject : Subject) (old new : Position) (at : Standing) (k number : ℕ) (p : Pattern) (n : Node) (more : Bool) → Newest subject old at k p
+    → kind_of old.version ≡ kind
     → IsPositionAt subject old at
     → SameHead old new
-    → MayStand (search_for subject.claim subject.file.automaton p old.orders) (IsJudged (search_for subject.claim subject.file.automaton p old.orders)) (here_at old.place) n
     → new.proved.items ≡ old.proved.items
     → CurrentWhere more k new.current
-    → IsEncoding subject.file.automaton p new.encoding
-    → AllGoOn (search_for subject.claim subject.file.automaton p old.orders) new.place (parts (search_for subject.claim subject.file.automaton p old.orders) (here_at old.place) n ++ later subject old at k p first) (Ok more)
+    → IsKeptIn kind subject p new
+    → NodeStood (search_of kind subject old.orders p) (place_of kind old) (place_of kind new) n more
     → LineAnswers subject at number (line.Tree n) new (Ok tt)
-node_taken subject old new at k number p n more first is same may proved current kept went =
-    let search = search_for subject.claim subject.file.automaton p old.orders in
-    let words = parts search (here_at old.place) n ++ later subject old at k p first in
+node_taken kind subject old new at k number p n more first of is same proved current kept stood =
+    let left = subst (Left subject old new p n more) (sym (kind_at old at kind first.head of)) (kept, stood) in
+    let search = search_of (kind_of at.version) subject old.orders p in
+    let word = here_at (place_of (kind_of at.version) old) in
+    let words = parts search word n ++ later subject old at k p first in
     let stands : Stands subject at n (record at { pending = words }) = record {
       search = search;
-      word = here_at old.place;
+      word = word;
       words = later subject old at k p first;
       at = at_word subject old at k p first;
-      may = may;
+      may = left.1.may;
       leads = refl;
     } in
-    let gone = subst (λ (xs : List (ℕ × ℕ)). AllGoOn (search_for subject.claim subject.file.automaton p xs) new.place words (Ok more)) (sym same.orders) went in
-    (record at { pending = words }, inl stands, went_at subject new at k p words first.older more (head_kept old new at same first.head) first.named first.begun (is.begun ∙ ap reverse (sym proved)) current kept gone)
+    let went = left.1.goes (later subject old at k p first) (first_within subject old at k p first) in
+    let gone = subst (λ (xs : List (ℕ × ℕ)). AllGoOn (search_of (kind_of at.version) subject xs p) (place_of (kind_of at.version) new) words (Ok more)) (sym same.orders) went in
+    (record at { pending = words }, inl stands, went_at subject new at k p words first.older more (head_kept old new at same first.head) first.named first.begun (is.begun ∙ ap reverse (sym proved)) current left.0 gone)
 
 -- a leaf's fault is told in its line
-pub fault_told : (subject : Subject) (at : Standing) (number : ℕ) (l : Line) (new : Position) (f : LeafFault) → LeafFails subject at l f → LineAnswers subject at number l new (Err (fault_at number f))
+fault_told : (subject : Subject) (at : Standing) (number : ℕ) (l : Line) (new : Position) (f : LeafFault) → LeafFails subject at l f → LineAnswers subject at number l new (Err (fault_at number f))
 fault_told subject at number l new (leaf.RowNumber row) fails = (refl, fails)
 fault_told subject at number l new (leaf.Overflow column) fails = (refl, fails)
 fault_told subject at number l new (leaf.Positive unknown) fails = (refl, fails)
 fault_told subject at number l new leaf.NotNegative fails = (refl, fails)
 
--- what the judge of a leaf says of a tree's word it says of the search's
-pub leaf_told : (tree search : Search Element) (there cursor : Cursor) (number : ℕ) (ts : List (ℕ × ℤ)) (answer : Result (Unit {0}) CertFault) → tree ≡ search → there ≡ cursor → LeafTaken tree (here there) number ts answer → LeafTaken search (here cursor) number ts answer
-leaf_told tree search there cursor number ts answer same place told =
-    subst (λ (d : Cursor). LeafTaken search (here d) number ts answer) place (subst (λ (q : Search Element). LeafTaken q (here there) number ts answer) same told)
-
--- what the judge of a leaf refuses is refused
-pub leaf_refused : (subject : Subject) (s new : Position) (at : Standing) (k number : ℕ) (p : Pattern) (ts : List (ℕ × ℤ)) (f : CertFault) (n : Newest subject s at k p) → LeafTaken (search_for subject.claim subject.file.automaton p s.orders) (here_at s.place) number ts (Err f) → LineAnswers subject at number (line.Tree (node.Leaf ts)) new (Err f)
-leaf_refused subject s new at k number p ts f n (inl memory) = subst (λ g. LineAnswers subject at number (line.Tree (node.Leaf ts)) new (Err g)) (sym memory) tt
-leaf_refused subject s new at k number p ts f n (inr told) =
-    let fails : LeafFails subject at (line.Tree (node.Leaf ts)) told.fault = record {
-      multipliers = ts;
-      is = refl;
-      at = inl (at_some_word subject s at k p (λ search w. FirstLeafFault search w ts told.fault) n told.first);
+leaf_refused : (subject : Subject) (s new : Position) (at : Standing) (k number : ℕ) (p : Pattern) (n : Node) (f : CertFault) → Newest subject s at k p → LeafRefused (search_of (kind_of at.version) subject s.orders p) (here_at (place_of (kind_of at.version) s)) number n f → LineAnswers subject at number (line.Tree n) new (Err f)
+leaf_refused subject s new at k number p n f newest refused =
+    let told = refused.leaf in
+    let fails : LeafFails subject at (line.Tree n) told.fault = record {
+      multipliers = refused.multipliers;
+      is = ap line.Tree refused.is;
+      at = inl (at_some_word subject s at k p (λ search w. FirstLeafFault search w refused.multipliers told.fault) newest told.first);
     } in
-    subst (λ g. LineAnswers subject at number (line.Tree (node.Leaf ts)) new (Err g)) (sym told.is) (fault_told subject at number (line.Tree (node.Leaf ts)) new told.fault fails)
+    subst (λ g. LineAnswers subject at number (line.Tree n) new (Err g)) (sym told.is) (fault_told subject at number (line.Tree n) new told.fault fails)
+
+-- what a node's line is refused for is its fault
+told_at : (subject : Subject) (s new : Position) (at : Standing) (k number : ℕ) (p : Pattern) (n : Node) (f : CertFault) → Newest subject s at k p → HasForm (kind_of at.version) subject.claim n → NodeTold (search_of (kind_of at.version) subject s.orders p) (here_at (place_of (kind_of at.version) s)) number n f → LineAnswers subject at number (line.Tree n) new (Err f)
+told_at subject s new at k number p n (fault.ExtendComplete m) newest form (place, is, none) = (
+  place,
+  record {
+    is = ap line.Tree is;
+    form = subst (HasForm (kind_of at.version) subject.claim) is form;
+    at = at_some_word subject s at k p (λ search w. asked search w.start w.past node.Extend ≡ None) newest (subst (λ (q : Node). asked (search_of (kind_of at.version) subject s.orders p) (here_at (place_of (kind_of at.version) s)).start (here_at (place_of (kind_of at.version) s)).past q ≡ None) is none);
+  },
+)
+told_at subject s new at k number p n (fault.Question m) newest form (place, asks, none) = (
+  place,
+  n,
+  asks,
+  record {
+    is = refl;
+    form = form;
+    at = at_some_word subject s at k p (λ search w. asked search w.start w.past n ≡ None) newest none;
+  },
+)
+told_at subject s new at k number p n (fault.SplitVariable m) newest form (place, splits) = (
+  place,
+  record {
+    unknown = splits.unknown;
+    floor = splits.floor;
+    is = ap line.Tree splits.is;
+    at = at_some_word subject s at k p (λ search w. search.unknowns w.start w.past ≤ splits.unknown) newest splits.beyond;
+  },
+)
+told_at subject s new at k number p n f newest form told = leaf_refused subject s new at k number p n f newest told
+
+abbrev Told : Subject → Position → ℕ → Pattern → Node → CertFault → Kind → Type 0
+Told subject s number p n f kind = HasForm kind subject.claim n × NodeTold (search_of kind subject s.orders p) (here_at (place_of kind s)) number n f
+
+pub node_refused : (kind : Kind) (subject : Subject) (s new : Position) (at : Standing) (k number : ℕ) (p : Pattern) (n : Node) (f : CertFault) → Newest subject s at k p → kind_of s.version ≡ kind → HasForm kind subject.claim n → (f ≡ fault.Memory) ⊎ NodeTold (search_of kind subject s.orders p) (here_at (place_of kind s)) number n f → LineAnswers subject at number (line.Tree n) new (Err f)
+node_refused kind subject s new at k number p n f newest of form (inl memory) = subst (λ g. LineAnswers subject at number (line.Tree n) new (Err g)) (sym memory) tt
+node_refused kind subject s new at k number p n f newest of form (inr told) =
+    let there = subst (Told subject s number p n f) (sym (kind_at s at kind newest.head of)) (form, told) in
+    told_at subject s new at k number p n f newest there.0 there.1
+
+-- what is said of a tree is said of the search that it is
+pub told_in : {E : Type 0} (tree search : Search E) (place : Place E) (number : ℕ) (n : Node) (f : CertFault) → tree ≡ search → (f ≡ fault.Memory) ⊎ NodeTold tree (here_at place) number n f → (f ≡ fault.Memory) ⊎ NodeTold search (here_at place) number n f
+told_in {E} tree search place number n f same told = subst (λ (q : Search E). (f ≡ fault.Memory) ⊎ NodeTold q (here_at place) number n f) same told
+
+pub stood_in : {E : Type 0} (tree search : Search E) (old new : Place E) (n : Node) (more : Bool) → tree ≡ search → NodeStood tree old new n more → NodeStood search old new n more
+stood_in {E} tree search old new n more same stood = subst (λ (q : Search E). NodeStood q old new n more) same stood
+
+-- in a proof no pair comes
+pub inside_no_pair : (at : Standing) (k : ℕ) (older : List ℕ) (n : Node) → at.begun ≡ k ∷ older → IsNoPair at n
+inside_no_pair at k older (node.Order before later) begun = λ takes. (let none : [] ≡ (k ∷ older) = sym takes.early ∙ begun in cc)
+inside_no_pair at k older node.Extend begun = tt
+inside_no_pair at k older (node.Leaf ts) begun = tt
+inside_no_pair at k older (node.Split unknown floor) begun = tt
+inside_no_pair at k older (node.Guard guard) begun = tt
+inside_no_pair at k older (node.Stuck rule) begun = tt

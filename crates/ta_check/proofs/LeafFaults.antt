@@ -1,6 +1,5 @@
 -- A leaf has one first fault
 use Rattle.ta_check.proofs.Common.{◌≡◌, ℕ, ◌<◌, ◌≤◌, ◌⊎◌, List, ℤ, pos, ◌≤ℤ◌, ◌<ℤ◌, inl, inr, refl, sym, ap, subst, ◌∙◌, arith, cases_lt, ints, System, Automaton, FailsToShow, IsShown, no_fault, weighted_same, part_in, entry, column_sum, ColumnStays, row_at, FirstMissing, FineBefore, IsFirstFaultOfLeaf, LeafFault, RowNumber, Overflow, Positive, NotNegative, FirstLeafFault, stays_same, Pending, Search}
-use Rattle.ta_words.specs.declared.element.Element.{Element}
 use Rattle.ta_base.proofs.Naturals.{neither_below}
 use Rattle.ta_encode.proofs.SameSystems.{same_numbers}
 use Rattle.ta_implied.proofs.PairNumbers.{pair_numbers}
@@ -106,7 +105,7 @@ fault_once s ts NotNegative (Positive d) a b = absurd (none_bad s ts d s.unknown
 fault_once s ts NotNegative NotNegative a b = refl
 
 -- and over a word
-pub leaf_fault_once : (search : Search Element) (w : Pending Element) (ts : List (ℕ × ℤ)) (f g : LeafFault) → FirstLeafFault search w ts f → FirstLeafFault search w ts g → f ≡ g
+pub leaf_fault_once : {E : Type 0} (search : Search E) (w : Pending E) (ts : List (ℕ × ℤ)) (f g : LeafFault) → FirstLeafFault search w ts f → FirstLeafFault search w ts g → f ≡ g
 leaf_fault_once search w ts f g this that = fault_once that.system ts f g (same_fault this.system that.system ts f (same_numbers search w this.system that.system this.is that.is) this.first) that.first
 
 -- and over the system of a pair

@@ -1,6 +1,5 @@
 -- the judge of a leaf
 use Rattle.ta_check.proofs.Common.{◌≡◌, ℕ, zero, suc, ◌+◌, ◌<◌, ◌≤◌, ◌^◌, ℤ, pos, unsigned_abs, List, [], ◌∷◌, ◌++◌, length, take, get_or, to_z, of_z, FitsSigned, ap, ◌∙◌, arith, w128, ints, to_z-of_z, fits_signed_from_abs, AreMultipliers, LeafOf, System, ArePairs, SystemAt, leaf_of, CheckStays, renumbered, IsJudged, leaf_stays, Pending, Search}
-use Rattle.ta_words.specs.declared.element.Element.{Element}
 
 -- pairs of a line are multipliers
 pub pairs_rise : (low : ℕ) (ts : List (ℕ × ℤ)) → ArePairs low ts → AreMultipliers low (2 ^ 32) ts
@@ -8,7 +7,7 @@ pairs_rise low [] are = tt
 pairs_rise low (t ∷ ts) are = (are.0, are.1.row, are.1.low, pairs_rise (t.0 + 1) ts are.2)
 
 -- a leaf of the code's system whose check stays in range is one of the word's rows
-pub judged : (search : Search Element) (w : Pending Element) (s : System) (ts : List (ℕ × ℤ)) → SystemAt search w s → LeafOf s ts → CheckStays s ts → IsJudged search w ts
+pub judged : {E : Type 0} (search : Search E) (w : Pending E) (s : System) (ts : List (ℕ × ℤ)) → SystemAt search w s → LeafOf s ts → CheckStays s ts → IsJudged search w ts
 judged search w s ts is leaf stays = record {
   leaf = leaf_of search w s ts is leaf;
   in_range = leaf_stays search w s ts is stays;

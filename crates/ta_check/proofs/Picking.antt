@@ -1,6 +1,5 @@
 -- the rows that a leaf names, judged apart from the others
 use Rattle.ta_check.proofs.Common.{◌≡◌, ℕ, zero, suc, ◌+◌, ◌<◌, ◌≤◌, ◌^◌, ℤ, pos, ◌+ℤ◌, ◌*ℤ◌, ◌≤ℤ◌, ◌<ℤ◌, cond, nat_lt, List, [], ◌∷◌, ◌++◌, length, map, reverse, slice_get, Option, Some, refl, sym, ap, subst, ◌∙◌, arith, weighted, AreMultipliers, LeafOf, coefficient_in, constant_in, Row, System, ArePairs, LinearRow, bound_row, IsRowOf, AreRowsOf, SystemAt, bounded_rows, BoundsWithin, rows_count, whole_system, Cursor, IsWord, here, IsJudged, part_in, column_sum, ColumnStays, CheckStays, row_at, FirstMissing, FineBefore, IsFirstFaultOfLeaf, LeafFault, RowNumber, Overflow, Positive, NotNegative, FirstLeafFault, WithoutBounds, renumbered, Pending, Search}
-use Rattle.ta_words.specs.declared.element.Element.{Element}
 use Rattle.ta_linear.specs.Numbers.{InRange}
 use Rattle.ta_linear.specs.Sums.{StaysInRange}
 use Rattle.ta_encode.specs.Named.{row_numbered, rows_named, row_number_at, AreThere, FirstAbsent, NamesRows}
@@ -182,27 +181,27 @@ picked_check : (s z : System) (ts : List (ℕ × ℤ)) → Picked s z ts → Che
 picked_check s z ts p stays = λ column most. picked_stays s z ts column p (stays column (subst (λ n. column ≤ n) (sym p.unknowns) most))
 
 -- a word, a system of it, and the system of the rows of the word that multipliers name
-pub record NamedRows (search : Search Element) (w : Pending Element) (ts : List (ℕ × ℤ)) (z : System) : Type 0 where
+pub record NamedRows {E : Type 0} (search : Search E) (w : Pending E) (ts : List (ℕ × ℤ)) (z : System) : Type 0 where
   pub system : System
   pub is : SystemAt search w system
   pub unknowns : z.unknowns ≡ system.unknowns
   pub named : AreRowsOf (rows_named (bounded_rows search w) ts) z.rows
   pub there : AreThere (length (bounded_rows search w)) ts
 
-picked_named : (search : Search Element) (w : Pending Element) (ts : List (ℕ × ℤ)) (z : System) (n : NamedRows search w ts z) → Picked n.system z ts
+picked_named : {E : Type 0} (search : Search E) (w : Pending E) (ts : List (ℕ × ℤ)) (z : System) (n : NamedRows search w ts z) → Picked n.system z ts
 picked_named search w ts z n = picked (bounded_rows search w) n.system z ts n.is.rows n.unknowns n.named n.there
 
 -- a leaf that is judged over the rows that it names is judged over all
-pub judged_picked : (search : Search Element) (w : Pending Element) (ts : List (ℕ × ℤ)) (z : System) → NamedRows search w ts z → ArePairs 0 ts → LeafOf z (renumbered 0 ts) → CheckStays z (renumbered 0 ts) → IsJudged search w ts
+pub judged_picked : {E : Type 0} (search : Search E) (w : Pending E) (ts : List (ℕ × ℤ)) (z : System) → NamedRows search w ts z → ArePairs 0 ts → LeafOf z (renumbered 0 ts) → CheckStays z (renumbered 0 ts) → IsJudged search w ts
 judged_picked search w ts z n are leaf stays =
     let q = picked_named search w ts z n in
     judged search w n.system ts n.is (picked_leaf n.system z ts are q leaf) (picked_check n.system z ts q stays)
 
-pub fault_picked : (search : Search Element) (w : Pending Element) (ts : List (ℕ × ℤ)) (z : System) (f : LeafFault) → NamedRows search w ts z → IsFirstFaultOfLeaf z (renumbered 0 ts) f → FirstLeafFault search w ts f
+pub fault_picked : {E : Type 0} (search : Search E) (w : Pending E) (ts : List (ℕ × ℤ)) (z : System) (f : LeafFault) → NamedRows search w ts z → IsFirstFaultOfLeaf z (renumbered 0 ts) f → FirstLeafFault search w ts f
 fault_picked search w ts z f n first = record { system = n.system; is = n.is; first = picked_fault n.system z ts f (picked_named search w ts z n) first }
 
 -- the first number that no row has
-pub fault_absent : (search : Search Element) (w : Pending Element) (s : System) (ts : List (ℕ × ℤ)) (row : ℕ) → SystemAt search w s → FirstAbsent (length (bounded_rows search w)) ts row → FirstLeafFault search w ts (RowNumber row)
+pub fault_absent : {E : Type 0} (search : Search E) (w : Pending E) (s : System) (ts : List (ℕ × ℤ)) (row : ℕ) → SystemAt search w s → FirstAbsent (length (bounded_rows search w)) ts row → FirstLeafFault search w ts (RowNumber row)
 fault_absent search w s ts row is first =
     let count = rows_count (bounded_rows search w) s.rows is.rows in
     record {
@@ -218,19 +217,19 @@ fault_absent search w s ts row is first =
     }
 
 -- the cursor's word has a system with its bounds
-pub whole_here : (search : Search Element) (c : Cursor) (z : System) → IsWord search (here c) → z.unknowns ≤ 1000000 → WithoutBounds search (here c) z → (s : System) × SystemAt search (here c) s
-whole_here search c z word small is = whole_system search c.start_mask (reverse c.word) c.bounds.items z (omega arith) is (subst (λ n. BoundsWithin n c.bounds.items) (sym is.unknowns) word.bounds)
+pub whole_here : {E : Type 0} (search : Search E) (c : Cursor E) (z : System) → IsWord search (here c) → z.unknowns ≤ 1000000 → WithoutBounds search (here c) z → (s : System) × SystemAt search (here c) s
+whole_here search c z word small is = whole_system search c.start (reverse c.facts.items) c.bounds.items z (omega arith) is (subst (λ n. BoundsWithin n c.bounds.items) (sym is.unknowns) word.bounds)
 
 -- the rows that were named are those of the cursor's word
-pub named_here : (search : Search Element) (c : Cursor) (z rows : System) (bounds : List Bound) (ts : List (ℕ × ℤ)) → IsWord search (here c) → z.unknowns ≤ 1000000 → WithoutBounds search (here c) z → bounds ≡ c.bounds.items
-    → NamesRows (search.rows c.start_mask (reverse c.word) ++ map bound_row bounds) z.unknowns ts (Rows rows) → NamedRows search (here c) ts rows
+pub named_here : {E : Type 0} (search : Search E) (c : Cursor E) (z rows : System) (bounds : List Bound) (ts : List (ℕ × ℤ)) → IsWord search (here c) → z.unknowns ≤ 1000000 → WithoutBounds search (here c) z → bounds ≡ c.bounds.items
+    → NamesRows (search.rows c.start (reverse c.facts.items) ++ map bound_row bounds) z.unknowns ts (Rows rows) → NamedRows search (here c) ts rows
 named_here search c z rows bounds ts word small is same names =
     let whole = whole_here search c z word small is in
-    let told = subst (λ (bs : List Bound). NamesRows (search.rows c.start_mask (reverse c.word) ++ map bound_row bs) z.unknowns ts (Rows rows)) same names in
+    let told = subst (λ (bs : List Bound). NamesRows (search.rows c.start (reverse c.facts.items) ++ map bound_row bs) z.unknowns ts (Rows rows)) same names in
     record { system = whole.0; is = whole.1; unknowns = told.0 ∙ is.unknowns ∙ sym whole.1.unknowns; named = told.1; there = told.2 }
 
-pub absent_here : (search : Search Element) (c : Cursor) (z : System) (bounds : List Bound) (ts : List (ℕ × ℤ)) (row : ℕ) → IsWord search (here c) → z.unknowns ≤ 1000000 → WithoutBounds search (here c) z → bounds ≡ c.bounds.items
-    → NamesRows (search.rows c.start_mask (reverse c.word) ++ map bound_row bounds) z.unknowns ts (Absent row) → FirstLeafFault search (here c) ts (RowNumber row)
+pub absent_here : {E : Type 0} (search : Search E) (c : Cursor E) (z : System) (bounds : List Bound) (ts : List (ℕ × ℤ)) (row : ℕ) → IsWord search (here c) → z.unknowns ≤ 1000000 → WithoutBounds search (here c) z → bounds ≡ c.bounds.items
+    → NamesRows (search.rows c.start (reverse c.facts.items) ++ map bound_row bounds) z.unknowns ts (Absent row) → FirstLeafFault search (here c) ts (RowNumber row)
 absent_here search c z bounds ts row word small is same names =
     let whole = whole_here search c z word small is in
-    fault_absent search (here c) whole.0 ts row whole.1 (subst (λ (bs : List Bound). FirstAbsent (length (search.rows c.start_mask (reverse c.word) ++ map bound_row bs)) ts row) same names)
+    fault_absent search (here c) whole.0 ts row whole.1 (subst (λ (bs : List Bound). FirstAbsent (length (search.rows c.start (reverse c.facts.items) ++ map bound_row bs)) ts row) same names)

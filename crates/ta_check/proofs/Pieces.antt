@@ -42,6 +42,7 @@ memory_or_not (fault.SplitVariable n) = inr (λ e. absurd (cc))
 memory_or_not (fault.Trailing n) = inr (λ e. absurd (cc))
 memory_or_not (fault.RepeatedPattern n) = inr (λ e. absurd (cc))
 memory_or_not (fault.Pair n) = inr (λ e. absurd (cc))
+memory_or_not (fault.Question n) = inr (λ e. absurd (cc))
 memory_or_not fault.Failed = inr (λ e. absurd (cc))
 
 -- what isn't want of memory is told
@@ -59,6 +60,7 @@ next_taken subject text bytes reader position (fault.SplitVariable n) h = elim h
 next_taken subject text bytes reader position (fault.Trailing n) h = elim h [ inl memory ↦ absurd (cc) | inr lasting ↦ lasting ]
 next_taken subject text bytes reader position (fault.RepeatedPattern n) h = elim h [ inl memory ↦ absurd (cc) | inr lasting ↦ lasting ]
 next_taken subject text bytes reader position (fault.Pair n) h = elim h [ inl memory ↦ absurd (cc) | inr lasting ↦ lasting ]
+next_taken subject text bytes reader position (fault.Question n) h = elim h [ inl memory ↦ absurd (cc) | inr lasting ↦ lasting ]
 next_taken subject text bytes reader position fault.Failed h = elim h [ inl memory ↦ absurd (cc) | inr lasting ↦ lasting ]
 
 -- what a reader answers to the bytes of a piece up to its first line feed, wherever it stands

@@ -1,5 +1,5 @@
--- Certificates of a file (Farkas' lemma and integer branching over the words of this project's profile)
-use Rattle.std.specs.Prelude.{ℕ, ◌≡◌, ◌<◌, ◌^◌, List, [], length, map, slice_get, Some}
+-- Certificates of a file (Farkas' lemma and integer branching over the words, or the moments, of this project's profile)
+use Rattle.std.specs.Prelude.{ℕ, ◌≡◌, ◌<◌, ◌^◌, List, [], ◌∷◌, length, map, slice_get, Some}
 use Rattle.std.specs.List.{AllByRecursion}
 use Rattle.ta_automaton.specs.declared.automaton.Automaton.{Automaton}
 use Rattle.ta_automaton.specs.declared.file.File.{File}
@@ -8,8 +8,11 @@ use Rattle.ta_base.specs.Lists.{Distinct}
 use Rattle.ta_automaton.specs.Runs.{InScope, LoopsPure}
 use Rattle.ta_cert.specs.Tree.{Tree}
 use Rattle.ta_cert.specs.Laws.{AreShort}
-use Rattle.ta_cert.specs.Certificates.{AreOrders, AreWritable, CertText, cert_lines, pair_of, proofs_of}
+use Rattle.ta_cert.specs.Certificates.{AreOrders, AreWritable, cert_lines, pair_of, proofs_of, question_lines}
+use Rattle.ta_cert.specs.Lines.{cert_lines_text}
+use Rattle.ta_cert.specs.declared.line.Line.{Line}
 use Rattle.ta_cert.specs.declared.line.Order.{Order}
+use Rattle.ta_cert.specs.declared.line.Proof.{Proof}
 use Rattle.ta_words.specs.declared.element.Element.{Element}
 use Rattle.ta_implied.specs.Implied.{Good}
 use Rattle.ta_implied.specs.Orders.{IsShown}
@@ -20,38 +23,50 @@ use Rattle.ta_cursor.specs.Range.{IsJudged}
 use Rattle.ta_claim.specs.Claims.{MayClaim}
 use Rattle.ta_claim.specs.declared.claim.Claim.{Claim}
 use Rattle.ta_claim.specs.declared.claim.Claim.TheVariants.{Safe, RestSafe}
-use Rattle.ta_check.specs.Subjects.{ClaimHolds, Subject, claiming, search_at}
+use Rattle.ta_check.specs.Subjects.{ClaimHolds, Kind, Words, Moments, Subject, claiming, claiming_with, fact_of, search_at}
 
 -- an order's multipliers show its pair
 abbrev pub ShowsPair : Automaton → Order → Type 0
 ShowsPair a order = IsShown a (pair_of order) order.multipliers
 
--- trees that prove what is claimed of the file's pattern of a number, under pairs, no leaf check of which leaves the range
-pub record ProvesClaim (subject : Subject) (pairs : List (ℕ × ℕ)) (numbered : ℕ × List Tree) : Type 0 where
-  pub search : Search Element
-  pub searched : search_at subject pairs numbered.0 ≡ Some search
+-- trees of a kind that prove what is claimed of the file's pattern of a number, under pairs, no leaf check of which leaves the range
+pub record ProvesClaim (kind : Kind) (subject : Subject) (pairs : List (ℕ × ℕ)) (numbered : ℕ × List Tree) : Type 0 where
+  pub search : Search (fact_of kind)
+  pub searched : search_at kind subject pairs numbered.0 ≡ Some search
   pub proves : ProofBy search (IsJudged search) numbered.1
 
 abbrev pub proof_number : (ℕ × List Tree) → ℕ
 proof_number numbered = numbered.0
 
--- pairs that a certificate may have: for rest there are none
-abbrev pub MayHave : Claim → List Order → Type 0
-MayHave Safe orders = AreOrders orders
-MayHave RestSafe orders = orders ≡ []
+-- pairs that a certificate may have with proofs of a kind: there are none for rest, and none beside proofs of moments; proofs of words
+-- aren't for rest with silent places
+abbrev pub may_have : Kind → Claim → List ℕ → List Order → Type 0
+may_have Words Safe silent orders = AreOrders orders
+may_have Words RestSafe [] orders = orders ≡ []
+may_have Words RestSafe (place ∷ silent) orders = ⊥
+may_have Moments claim silent orders = orders ≡ []
 
--- the text of a good list of pairs, each with multipliers that show it, and of proofs under them of what is claimed of distinct patterns of the
--- file, with these numbers in its order; no line is longer than a reader takes
+abbrev pub MayHave : Kind → Subject → List Order → Type 0
+MayHave kind subject orders = may_have kind subject.claim subject.silent orders
+
+-- the lines of a certificate with such proofs
+abbrev pub lines_of_kind : Kind → List Order → List Proof → List Line
+lines_of_kind Words orders proofs = cert_lines orders proofs
+lines_of_kind Moments orders proofs = question_lines proofs
+
+-- the text of a good list of pairs, each with multipliers that show it, and of proofs of a kind under them of what is claimed of distinct
+-- patterns of the file, with these numbers in its order; no line is longer than a reader takes
 pub record CertificateFor (subject : Subject) (text : List ℕ) (numbers : List ℕ) : Type 0 where
+  pub kind : Kind
   pub orders : List Order
   pub proofs : List (ℕ × List Tree)
-  pub written : text ≡ CertText orders proofs
-  pub ordered : MayHave subject.claim orders
+  pub written : text ≡ cert_lines_text (lines_of_kind kind orders (proofs_of proofs))
+  pub ordered : MayHave kind subject orders
   pub legal : AreWritable (proofs_of proofs)
-  pub short : AreShort (cert_lines orders (proofs_of proofs))
+  pub short : AreShort (lines_of_kind kind orders (proofs_of proofs))
   pub shown : AllByRecursion (ShowsPair subject.file.automaton) orders
   pub good : Good subject.file.automaton (map pair_of orders)
-  pub prove : AllByRecursion (ProvesClaim subject (map pair_of orders)) proofs
+  pub prove : AllByRecursion (ProvesClaim kind subject (map pair_of orders)) proofs
   pub named : numbers ≡ map proof_number proofs
   pub distinct : Distinct numbers
 
@@ -59,9 +74,9 @@ pub record CertificateFor (subject : Subject) (text : List ℕ) (numbers : List 
 abbrev pub AllClaimsHold : Subject → List ℕ → Type 0
 AllClaimsHold subject numbers = AllByRecursion (ClaimHolds subject) numbers
 
--- trees that prove that the file's pattern of a number is safe
+-- trees over words that prove that the file's pattern of a number is safe
 abbrev pub ProvesPattern : File → List (ℕ × ℕ) → (ℕ × List Tree) → Type 0
-ProvesPattern file pairs numbered = ProvesClaim (claiming Safe file) pairs numbered
+ProvesPattern file pairs numbered = ProvesClaim Words (claiming Safe file) pairs numbered
 
 -- a certificate that patterns of the file are safe
 abbrev pub Certificate : File → List ℕ → List ℕ → Type 0
@@ -83,6 +98,14 @@ RestCertificate file text numbers = CertificateFor (claiming RestSafe file) text
 abbrev pub AllRestSafe : File → List ℕ → Type 0
 AllRestSafe file numbers = AllClaimsHold (claiming RestSafe file) numbers
 
+-- the same where these places are silent
+abbrev pub QuietRestCertificate : File → List ℕ → List ℕ → List ℕ → Type 0
+QuietRestCertificate file silent text numbers = CertificateFor (claiming_with RestSafe file silent) text numbers
+
+-- no run comes to quiet rest there, with these silent places; without any, none comes to rest there
+abbrev pub AllQuietRestSafe : File → List ℕ → List ℕ → Type 0
+AllQuietRestSafe file silent numbers = AllClaimsHold (claiming_with RestSafe file silent) numbers
+
 -- of the file's pattern of a number, under no set of fall guards that are false at the start, a complete word that is legal under pairs has a
 -- natural solution of its system
 pub record PatternUnsolved (file : File) (pairs : List (ℕ × ℕ)) (number : ℕ) : Type 0 where
@@ -94,15 +117,19 @@ pub record PatternUnsolved (file : File) (pairs : List (ℕ × ℕ)) (number : �
 abbrev pub AllUnsolved : File → List ℕ → Type 0
 AllUnsolved file numbers = AllByRecursion (PatternUnsolved file []) numbers
 
--- a certificate of a file shows that its patterns are safe and that their words that are legal under its pairs have no solution; where no rule
--- with an update is on a cycle, none of their words has
-pub record CertificateShows (file : File) (pairs : List (ℕ × ℕ)) (numbers : List ℕ) : Type 0 where
+-- a certificate of a file shows that its patterns are safe and, with proofs of words, that their words that are legal under its pairs have no
+-- solution; where no rule with an update is on a cycle, none of their words has
+pub record CertificateShows (file : File) (kind : Kind) (pairs : List (ℕ × ℕ)) (numbers : List ℕ) : Type 0 where
   pub safe : AllSafe file numbers
-  pub unsolved : AllByRecursion (PatternUnsolved file pairs) numbers
+  pub unsolved : kind ≡ Words → AllByRecursion (PatternUnsolved file pairs) numbers
   pub none_solved : InScope file.automaton → AllUnsolved file numbers
 
 abbrev pub CertificatesShow : Type 0
-CertificatesShow = (file : File) (text numbers : List ℕ) → LoopsPure file.automaton → (c : Certificate file text numbers) → CertificateShows file (map pair_of c.orders) numbers
+CertificatesShow = (file : File) (text numbers : List ℕ) → LoopsPure file.automaton → (c : Certificate file text numbers) → CertificateShows file c.kind (map pair_of c.orders) numbers
+
+-- a text is a certificate of one list of patterns at most
+abbrev pub CertificatesNameOneList : Type 0
+CertificatesNameOneList = (subject : Subject) (text ns ms : List ℕ) → CertificateFor subject text ns → CertificateFor subject text ms → ns ≡ ms
 
 -- what is claimed may be claimed of each pattern of the file
 abbrev pub MayClaimAll : Subject → Type 0

@@ -9,7 +9,7 @@ use Rattle.ta_cert.specs.Streams.{state}
 use Rattle.ta_check.specs.declared.accepted.Accepted.{Accepted}
 use Rattle.ta_check.specs.declared.checker.Checker.{Checker}
 use Rattle.ta_check.specs.declared.position.Position.{Position}
-use Rattle.ta_check.specs.Subjects.{Subject, claiming}
+use Rattle.ta_check.specs.Subjects.{Subject, claiming_with}
 use Rattle.ta_check.specs.Certificate.{CertificateFor, MayClaimAll}
 use Rattle.ta_check.specs.Faults.{IsFirstFaultFor, IsLastingFor}
 use Rattle.ta_check.specs.Lines.{Standing, LeadThrough, first_standing}
@@ -27,7 +27,7 @@ pub record StandBehind (subject : Subject) (reader : Reader) (position : Positio
 
 -- what a checker judges
 abbrev pub subject_of : Checker → Subject
-subject_of s = claiming s.claim s.scoped.now.file
+subject_of s = claiming_with s.claim s.scoped.now.file s.silent.now
 
 -- the checker stands for the text: what is claimed may be claimed, no piece was refused, and its fields are those of the text
 pub record CheckerStandsFor (s : Checker) (text : List ℕ) : Type 0 where

@@ -1,6 +1,5 @@
 -- The first fault of a text that is no certificate
-use Rattle.std.specs.Prelude.{ℕ, ◌≡◌, ◌≤◌, ◌⊎◌, true, List, [], ◌∷◌, ◌++◌, length, ℤ, Some, None}
-use Rattle.ta_words.specs.declared.element.Element.{Element}
+use Rattle.std.specs.Prelude.{ℕ, ◌≡◌, ◌≤◌, ◌⊎◌, List, [], ◌∷◌, ◌++◌, length, ℤ, Some, None}
 use Rattle.ta_linear.specs.declared.row.System.{System}
 use Rattle.ta_automaton.specs.declared.file.File.{File}
 use Rattle.ta_base.specs.Masks.{In}
@@ -21,15 +20,10 @@ use Rattle.ta_encode.specs.Search.{asked}
 use Rattle.ta_farkas.specs.Faults.{IsFirstFaultOfLeaf as IsFirstLeafFault}
 use Rattle.ta_farkas.specs.declared.LeafFault.{LeafFault}
 use Rattle.ta_farkas.specs.declared.LeafFault.TheVariants as leaf
-use Rattle.ta_claim.specs.declared.claim.Claim.{Claim}
 use Rattle.ta_claim.specs.declared.claim.Claim.TheVariants.{Safe}
-use Rattle.ta_check.specs.Subjects.{HasVersion, Subject, claiming}
-use Rattle.ta_check.specs.Lines.{Standing, AtWord, NothingIsLeft, TakesOrder, first_standing, LeadThrough, MayFollow}
-
--- a node that is no leaf
-abbrev pub IsNoLeaf : Node → Type 0
-IsNoLeaf (node.Leaf multipliers) = ⊥
-IsNoLeaf n = Unit {0}
+use Rattle.ta_check.specs.Subjects.{HasVersion, Subject, claiming, kind_of}
+use Rattle.ta_check.specs.Forms.{HasForm, IsNoLeaf, IsQuestion}
+use Rattle.ta_check.specs.Lines.{Standing, AtWord, FactAt, NothingIsLeft, TakesOrder, first_standing, LeadThrough, MayFollow}
 
 -- a pair waits for its leaf
 pub record IsWaiting (s : Standing) : Type 0 where
@@ -41,21 +35,31 @@ pub record IsIdle (s : Standing) : Type 0 where
   pub none : s.waiting ≡ None
   pub done : s.pending ≡ []
 
--- a node that can't follow, whatever it says: a pair where none may come, a question, a node where no word and no pair waits for one, or
--- one that is no leaf where a pair waits
-abbrev pub IsMisplacedNode : Standing → Node → Type 0
-IsMisplacedNode s (node.Order before later) = ¬ TakesOrder s
-IsMisplacedNode s (node.Guard guard) = Unit {0}
-IsMisplacedNode s (node.Stuck rule) = Unit {0}
-IsMisplacedNode s n = IsIdle s ⊎ (IsWaiting s × IsNoLeaf n)
+-- a node of a form that the proofs of this version don't have
+abbrev pub HasNoForm : Subject → Standing → Node → Type 0
+HasNoForm subject s n = ¬ HasForm (kind_of s.version) subject.claim n
 
--- a line of a form that can't follow: a version that a certificate of the claim can't have, a proof or the end where it isn't free to come, or
--- such a node
-abbrev pub IsMisplaced : Claim → Standing → Line → Type 0
-IsMisplaced claim s (line.Header version) = ¬ HasVersion claim version
-IsMisplaced claim s (line.Pattern number) = ¬ NothingIsLeft s
-IsMisplaced claim s (line.Tree node) = IsMisplacedNode s node
-IsMisplaced claim s line.End = ¬ NothingIsLeft s
+-- a node where nothing is to be refuted and no pair waits for its leaf, or one that is no leaf where a pair does
+abbrev pub IsUnawaited : Standing → Node → Type 0
+IsUnawaited s n = IsIdle s ⊎ (IsWaiting s × IsNoLeaf n)
+
+-- no pair comes with the node
+abbrev pub IsNoPair : Standing → Node → Type 0
+IsNoPair s (node.Order before later) = ¬ TakesOrder s
+IsNoPair s n = Unit {0}
+
+-- a node that can't follow, whatever it says: it isn't a pair that may come, and proofs have no such form or it is unawaited
+pub record IsMisplacedNode (subject : Subject) (s : Standing) (n : Node) : Type 0 where
+  pub no_pair : IsNoPair s n
+  pub out : HasNoForm subject s n ⊎ IsUnawaited s n
+
+-- a line of a form that can't follow: a version that a certificate can't have, a proof or the end where it isn't free to come, or such a
+-- node
+abbrev pub IsMisplaced : Subject → Standing → Line → Type 0
+IsMisplaced subject s (line.Header version) = ¬ HasVersion subject version
+IsMisplaced subject s (line.Pattern number) = ¬ NothingIsLeft s
+IsMisplaced subject s (line.Tree node) = IsMisplacedNode subject s node
+IsMisplaced subject s line.End = ¬ NothingIsLeft s
 
 -- a pair's line where one may come, and the pair may not join those before it
 pub record IsBadOrder (subject : Subject) (s : Standing) (l : Line) : Type 0 where
@@ -70,13 +74,19 @@ pub record IsPatternLine (s : Standing) (l : Line) (number : ℕ) : Type 0 where
   pub is : l ≡ line.Pattern number
   pub free : NothingIsLeft s
 
--- at the first word that is left
-pub record AtSomeWord (subject : Subject) (s : Standing) (fact : Search Element → Pending Element → Type 0) : Type 0 where
-  pub search : Search Element
-  pub word : Pending Element
-  pub words : List (Pending Element)
+-- at the first word, or node of moments, that is left
+pub record AtSomeWord (subject : Subject) (s : Standing) (fact : Search (FactAt s) → Pending (FactAt s) → Type 0) : Type 0 where
+  pub search : Search (FactAt s)
+  pub word : Pending (FactAt s)
+  pub words : List (Pending (FactAt s))
   pub at : AtWord subject s search word words
   pub holds : fact search word
+
+-- a node that asks, of a form that these proofs have, and may not ask there
+pub record AsksInVain (subject : Subject) (s : Standing) (l : Line) (n : Node) : Type 0 where
+  pub is : l ≡ line.Tree n
+  pub form : HasForm (kind_of s.version) subject.claim n
+  pub at : AtSomeWord subject s (λ search w. asked search w.start w.past n ≡ None)
 
 -- the split of an unknown that the word's system doesn't have
 pub record SplitsUnknown (subject : Subject) (s : Standing) (l : Line) : Type 0 where
@@ -87,7 +97,7 @@ pub record SplitsUnknown (subject : Subject) (s : Standing) (l : Line) : Type 0 
 
 -- the first fault of multipliers over the system of a word: rows before columns, the columns by rising unknown and the
 -- constants last, and a column's range before its sign
-pub record FirstLeafFault (search : Search Element) (w : Pending Element) (ts : List (ℕ × ℤ)) (f : LeafFault) : Type 0 where
+pub record FirstLeafFault {E : Type 0} (search : Search E) (w : Pending E) (ts : List (ℕ × ℤ)) (f : LeafFault) : Type 0 where
   pub system : System
   pub is : SystemAt search w system
   pub first : IsFirstLeafFault system ts f
@@ -106,11 +116,12 @@ pub record LeafFails (subject : Subject) (s : Standing) (l : Line) (f : LeafFaul
 
 -- why a line of this number can't follow
 abbrev pub IsAtFault : Subject → Standing → ℕ → Line → CertFault → Type 0
-IsAtFault subject s number l (fault.Line n) = (n ≡ number) × IsMisplaced subject.claim s l
+IsAtFault subject s number l (fault.Line n) = (n ≡ number) × IsMisplaced subject s l
 IsAtFault subject s number l (fault.UnknownPattern n) = (n ≡ number) × (k : ℕ) × IsPatternLine s l k × (length subject.file.patterns ≤ k)
 IsAtFault subject s number l (fault.RepeatedPattern n) = (n ≡ number) × (k : ℕ) × IsPatternLine s l k × In k s.begun
 IsAtFault subject s number l (fault.Pair n) = (n ≡ number) × IsBadOrder subject s l
-IsAtFault subject s number l (fault.ExtendComplete n) = (n ≡ number) × (l ≡ line.Tree node.Extend) × AtSomeWord subject s (λ search w. asked search w.start w.past node.Extend ≡ None)
+IsAtFault subject s number l (fault.ExtendComplete n) = (n ≡ number) × AsksInVain subject s l node.Extend
+IsAtFault subject s number l (fault.Question n) = (n ≡ number) × (question : Node) × IsQuestion question × AsksInVain subject s l question
 IsAtFault subject s number l (fault.SplitVariable n) = (n ≡ number) × SplitsUnknown subject s l
 IsAtFault subject s number l (fault.Row n row) = (n ≡ number) × LeafFails subject s l (leaf.RowNumber row)
 IsAtFault subject s number l (fault.Overflow n column) = (n ≡ number) × LeafFails subject s l (leaf.Overflow column)

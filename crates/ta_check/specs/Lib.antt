@@ -1,4 +1,5 @@
 pub mod Subjects
+pub mod Forms
 pub mod Certificate
 pub mod Lines
 pub mod Faults

@@ -1,37 +1,44 @@
 -- Which lines may follow each other in a certificate
-use Rattle.std.specs.Prelude.{ℕ, ℤ, ◌≡◌, ◌≢◌, ◌<◌, ◌⊎◌, List, [], ◌∷◌, ◌++◌, length, Option, Some, None}
-use Rattle.ta_words.specs.declared.element.Element.{Element}
+use Rattle.std.specs.Prelude.{ℕ, ℤ, ◌≡◌, ◌≢◌, ◌⊎◌, List, [], ◌∷◌, ◌++◌, Option, Some, None}
 use Rattle.ta_base.specs.Masks.{In}
 use Rattle.ta_cert.specs.declared.line.Line.{Line}
 use Rattle.ta_cert.specs.declared.line.Line.TheVariants as line
 use Rattle.ta_cert.specs.declared.line.Node.{Node}
 use Rattle.ta_cert.specs.declared.line.Node.TheVariants as node
 use Rattle.ta_implied.specs.Orders.{IsShown, MayJoin}
-use Rattle.ta_encode.specs.InPreorder.{Pending, Search, all_starts, parts, MayStand}
+use Rattle.ta_encode.specs.InPreorder.{Pending, Search, parts, MayStand}
 use Rattle.ta_cursor.specs.Range.{IsJudged}
-use Rattle.ta_check.specs.Subjects.{HasVersion, Subject, search_at}
+use Rattle.ta_check.specs.Subjects.{HasVersion, Subject, fact_of, kind_of, search_at}
 
 -- where a certificate stands behind some of its lines: its version, or 0 before its first line; the pairs of rise guards that were shown, in
--- its order, and the pair whose leaf comes next; the patterns whose proofs began, the newest first, and the words that are still to be
--- refuted for the newest
+-- its order, and the pair whose leaf comes next; the patterns whose proofs began, the newest first, and what is still to be refuted for the
+-- newest: words, or nodes of moments in version 3
 pub record Standing : Type 0 where
   pub version : ℕ
   pub pairs : List (ℕ × ℕ)
   pub waiting : Option (ℕ × ℕ)
   pub begun : List ℕ
-  pub pending : List (Pending Element)
+  pub pending : List (Pending (fact_of (kind_of version)))
+
+-- what is added at a time to what is refuted there
+abbrev pub FactAt : Standing → Type 0
+FactAt s = fact_of (kind_of s.version)
+
+-- the search for the file's pattern of a number, under the pairs that were shown
+abbrev pub search_there : Subject → (s : Standing) → ℕ → Option (Search (FactAt s))
+search_there subject s number = search_at (kind_of s.version) subject s.pairs number
 
 -- before the first line
 abbrev pub first_standing : Standing
 first_standing = record { version = 0; pairs = []; waiting = None; begun = []; pending = [] }
 
--- the first word that is to be refuted, in the search of the newest pattern
-pub record AtWord (subject : Subject) (s : Standing) (search : Search Element) (word : Pending Element) (words : List (Pending Element)) : Type 0 where
+-- the first word, or node of moments, that is to be refuted, in the search of the newest pattern
+pub record AtWord (subject : Subject) (s : Standing) (search : Search (FactAt s)) (word : Pending (FactAt s)) (words : List (Pending (FactAt s))) : Type 0 where
   pub none : s.waiting ≡ None
   pub number : ℕ
   pub older : List ℕ
   pub begun : s.begun ≡ number ∷ older
-  pub searched : search_at subject s.pairs number ≡ Some search
+  pub searched : search_there subject s number ≡ Some search
   pub pending : s.pending ≡ word ∷ words
 
 -- a pair may come: in version 2, where none waits and no proof began
@@ -46,10 +53,14 @@ pub record NothingIsLeft (s : Standing) : Type 0 where
   pub some : s.version ≡ 2 → s.pairs ≢ []
   pub done : s.pending ≡ []
 
--- the first line comes, of a version that a certificate of the claim may have
+-- behind the first line, of this version: nothing is to be refuted yet
+abbrev pub opened : Standing → ℕ → Standing
+opened s version = record { version = version; pairs = s.pairs; waiting = s.waiting; begun = s.begun; pending = [] }
+
+-- the first line comes, of a version that a certificate may have
 pub record OpensCertificate (subject : Subject) (s : Standing) (version : ℕ) (after : Standing) : Type 0 where
-  pub has : HasVersion subject.claim version
-  pub leads : after ≡ record s { version = version }
+  pub has : HasVersion subject version
+  pub leads : after ≡ opened s version
 
 -- a pair comes that may join those before it
 pub record Waits (subject : Subject) (s : Standing) (n : Node) (after : Standing) : Type 0 where
@@ -68,18 +79,19 @@ pub record ShowsWaiting (subject : Subject) (s : Standing) (n : Node) (after : S
   pub shown : IsShown subject.file.automaton pair multipliers
   pub leads : after ≡ record s { pairs = s.pairs ++ pair ∷ []; waiting = None }
 
--- the proof of a pattern begins: the file has it, and it had no proof yet
+-- the proof of a pattern begins: the file has it, it had no proof yet, and that with which its search begins is to be refuted
 pub record BeginsProof (subject : Subject) (s : Standing) (number : ℕ) (after : Standing) : Type 0 where
   pub free : NothingIsLeft s
-  pub exists : number < length subject.file.patterns
+  pub search : Search (FactAt s)
+  pub searched : search_there subject s number ≡ Some search
   pub new : In number s.begun → ⊥
-  pub leads : after ≡ record s { begun = number ∷ s.begun; pending = all_starts subject.file.automaton }
+  pub leads : after ≡ record s { begun = number ∷ s.begun; pending = search.roots }
 
--- a node stands at the first word, and what it leaves of the word comes in its place
+-- a node stands at the first of what is to be refuted, and what it leaves of it comes in its place
 pub record Stands (subject : Subject) (s : Standing) (node : Node) (after : Standing) : Type 0 where
-  pub search : Search Element
-  pub word : Pending Element
-  pub words : List (Pending Element)
+  pub search : Search (FactAt s)
+  pub word : Pending (FactAt s)
+  pub words : List (Pending (FactAt s))
   pub at : AtWord subject s search word words
   pub may : MayStand search (IsJudged search) word node
   pub leads : after ≡ record s { pending = parts search word node ++ words }
@@ -89,7 +101,7 @@ pub record EndsCertificate (s after : Standing) : Type 0 where
   pub free : NothingIsLeft s
   pub leads : after ≡ s
 
--- a line may follow, and leads there; that the first line alone is the header is a matter of the text. No question may
+-- a line may follow, and leads there; that the first line alone is the header is a matter of the text
 abbrev pub Leads : Subject → Standing → Line → Standing → Type 0
 Leads subject s (line.Header version) after = OpensCertificate subject s version after
 Leads subject s (line.Pattern number) after = BeginsProof subject s number after

@@ -4,7 +4,7 @@
 ghost use Rattle.std.specs.Prelude.{ℕ, ◌≡◌, ◌↔◌, ◌++◌, [], true, List as Bytes, IfOk, IsErrOf, is_err};
 ghost use Rattle.ta_check.specs.Certificate.{AllClaimsHold, AllUnsolved};
 ghost use Rattle.ta_check.specs.Checkers.{CheckerFeedAnswers, CheckerFinishAnswers, IsExactCheck, IsExactFeed, IsSoundChecker, StandBehind, CheckerStandsFor, subject_of};
-ghost use Rattle.ta_check.specs.Subjects.{claiming};
+ghost use Rattle.ta_check.specs.Subjects.{claiming, claiming_with};
 ghost use Rattle.ta_check.specs.Inside.Pieces.{NextTaken, StandSomewhere, TakenTo};
 
 use crate::accepted::Accepted;
@@ -26,23 +26,26 @@ pub struct Checker<'a> {
     /// What its patterns are claimed to be.
     claim: Claim,
     scoped: &'a ScopedFile,
+    /// The places on which rest does not count.
+    silent: &'a [u32],
     reader: Reader,
     failed: bool,
-    position: Position,
+    position: Position<'a>,
 }
 
 /// Takes the line that the next line feed of some bytes ends, and says how many bytes that were; or
 /// keeps all of them where there is none.
-fn take_next(
+fn take_next<'a>(
     alloc: Global,
     claim: Claim,
-    file: &File,
+    file: &'a File,
+    silent: &'a [u32],
     reader: &mut Reader,
-    position: &mut Position,
+    position: &mut Position<'a>,
     bytes: &[u8],
 ) -> Result<Option<usize>, CertFault>
-    requires { StandSomewhere (claiming claim file.now) reader.old position.old }
-    ensures { (text : Bytes ℕ) → StandBehind (claiming claim file.now) reader.old position.old text → NextTaken (claiming claim file.now) text bytes.now reader.new position.new result }
+    requires { StandSomewhere (claiming_with claim file.now silent.now) reader.old position.old }
+    ensures { (text : Bytes ℕ) → StandBehind (claiming_with claim file.now silent.now) reader.old position.old text → NextTaken (claiming_with claim file.now silent.now) text bytes.now reader.new position.new result }
 {
     match reader.feed_line(bytes)? {
         None => Ok(None),
@@ -53,26 +56,27 @@ fn take_next(
                 taken,
             },
         ) => {
-            position.take_line(alloc, claim, file, number, &line)?;
+            position.take_line(alloc, claim, file, silent, number, &line)?;
             Ok(Some(taken))
         }
     }
 }
 
 /// Takes the lines of a piece, and keeps what stands behind them.
-fn take_lines(
+fn take_lines<'a>(
     alloc: Global,
     claim: Claim,
-    file: &File,
+    file: &'a File,
+    silent: &'a [u32],
     reader: &mut Reader,
-    position: &mut Position,
+    position: &mut Position<'a>,
     piece: &[u8],
 ) -> Result<(), CertFault>
-    requires { StandSomewhere (claiming claim file.now) reader.old position.old }
-    ensures { (text : Bytes ℕ) → StandBehind (claiming claim file.now) reader.old position.old text → TakenTo (claiming claim file.now) (text ++ piece.now) reader.new position.new result }
+    requires { StandSomewhere (claiming_with claim file.now silent.now) reader.old position.old }
+    ensures { (text : Bytes ℕ) → StandBehind (claiming_with claim file.now silent.now) reader.old position.old text → TakenTo (claiming_with claim file.now silent.now) (text ++ piece.now) reader.new position.new result }
 {
     let mut rest = piece;
-    'lines: while let Some(taken) = take_next(alloc, claim, file, reader, position, rest)? {
+    'lines: while let Some(taken) = take_next(alloc, claim, file, silent, reader, position, rest)? {
         let (_, behind) = rest.split_at(taken);
         rest = behind;
     }
@@ -90,6 +94,7 @@ impl<'a> Checker<'a> {
             alloc,
             claim: Claim::Safe,
             scoped,
+            silent: &[],
             reader: Reader::new(alloc),
             failed: false,
             position: Position::new(alloc),
@@ -102,10 +107,19 @@ impl<'a> Checker<'a> {
         ensures stands { CheckerStandsFor result [] }
         ensures subject { subject_of result ≡ claiming Claim.RestSafe rest.now.ending.file }
     {
+        Checker::resting_silently(alloc, rest, &[])
+    }
+
+    /// The same where these places are silent: no run comes to quiet rest there. It takes no memory.
+    pub fn resting_silently(alloc: Global, rest: &'a RestFile, silent: &'a [u32]) -> Checker<'a>
+        ensures stands { CheckerStandsFor result [] }
+        ensures subject { subject_of result ≡ claiming_with Claim.RestSafe rest.now.ending.file silent.now }
+    {
         Checker {
             alloc,
             claim: Claim::RestSafe,
             scoped: &rest.ending,
+            silent,
             reader: Reader::new(alloc),
             failed: false,
             position: Position::new(alloc),
@@ -131,6 +145,7 @@ impl<'a> Checker<'a> {
             self.alloc,
             self.claim,
             &self.scoped.file,
+            self.silent,
             &mut self.reader,
             &mut self.position,
             piece,

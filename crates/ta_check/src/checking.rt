@@ -8,10 +8,10 @@ ghost use Rattle.ta_cert.specs.declared.fault.CertFault.{CertFault as AnyFault};
 ghost use Rattle.ta_cert.specs.declared.fault.CertFault.TheVariants.{Memory};
 ghost use Rattle.ta_claim.specs.declared.claim.Claim.TheVariants.{RestSafe, Safe};
 ghost use Rattle.ta_rest.specs.Faults.{EndingsOf};
-ghost use Rattle.ta_check.specs.Certificate.{AllClaimsHold, AllRestSafe, AllSafe, AllUnsolved, Certificate, CertificateFor, RestCertificate};
+ghost use Rattle.ta_check.specs.Certificate.{AllClaimsHold, AllQuietRestSafe, AllRestSafe, AllSafe, AllUnsolved, Certificate, CertificateFor, QuietRestCertificate, RestCertificate};
 ghost use Rattle.ta_check.specs.Checkers.{CheckerStandsFor, subject_of};
 ghost use Rattle.ta_check.specs.Faults.{IsFirstFault, IsFirstFaultFor};
-ghost use Rattle.ta_check.specs.Subjects.{Subject, claiming};
+ghost use Rattle.ta_check.specs.Subjects.{Subject, claiming, claiming_with};
 
 use crate::accepted::Accepted;
 use crate::checker::Checker;
@@ -20,8 +20,9 @@ use ta_cert::CertFault;
 use ta_rest::RestFile;
 use ta_scope::ScopedFile;
 
-/// Judges a certificate of a file. What is accepted is proved: the patterns that it names happen in
-/// no run, of any length and any number of processes. A fault is that of the first line at fault.
+/// Judges a certificate of a file, whose proofs are of words or, in version 3, of moments. What is
+/// accepted is proved: the patterns that it names happen in no run, of any length and any number of
+/// processes. A fault is that of the first line at fault.
 pub fn check(alloc: Global, scoped: &ScopedFile, text: &[u8]) -> Result<Accepted, CertFault>
     ensures accepted { IfOk result (λ accepted. Certificate scoped.now.file text.now accepted.patterns) }
     ensures refused { IfErr result (λ fault. fault ≢ Memory → (numbers : List ℕ) → ¬ Certificate scoped.now.file text.now numbers) }
@@ -35,7 +36,8 @@ pub fn check(alloc: Global, scoped: &ScopedFile, text: &[u8]) -> Result<Accepted
 
 /// Judges a certificate that patterns are safe at rest: no run, of any length and any number of
 /// processes, comes to rest where the last event of a pattern that it names happens. It has no pairs.
-/// A fault is that of the first line at fault, over the systems of rest of the endings.
+/// Its proofs are of words or, in version 3, of moments. A fault is that of the first line at fault,
+/// over the systems of rest of the endings.
 pub fn rest_check(alloc: Global, rest: &RestFile, text: &[u8]) -> Result<Accepted, CertFault>
     ensures accepted { IfOk result (λ accepted. RestCertificate rest.now.ending.file text.now accepted.patterns) }
     ensures refused { IfErr result (λ fault. fault ≢ Memory → (numbers : List ℕ) → ¬ RestCertificate rest.now.ending.file text.now numbers) }
@@ -45,6 +47,24 @@ pub fn rest_check(alloc: Global, rest: &RestFile, text: &[u8]) -> Result<Accepte
     ensures own { IfOk result (λ accepted. (file : FileValue) → EndingsOf file rest.now.ending.file rest.now.added → AllRestSafe file accepted.patterns) }
 {
     judge_whole(Checker::resting(alloc, rest), text)
+}
+
+/// The same where these places are silent: no run comes to quiet rest where the last event of a
+/// pattern that the certificate names happens. Its proofs are of moments.
+pub fn rest_check_silently(
+    alloc: Global,
+    rest: &RestFile,
+    silent: &[u32],
+    text: &[u8],
+) -> Result<Accepted, CertFault>
+    ensures accepted { IfOk result (λ accepted. QuietRestCertificate rest.now.ending.file silent.now text.now accepted.patterns) }
+    ensures refused { IfErr result (λ fault. fault ≢ Memory → (numbers : List ℕ) → ¬ QuietRestCertificate rest.now.ending.file silent.now text.now numbers) }
+    ensures fault { IfErr result (λ fault. fault ≢ Memory → IsFirstFaultFor (claiming_with RestSafe rest.now.ending.file silent.now) text.now fault) }
+    ensures exact { (fault : AnyFault) → IsFirstFaultFor (claiming_with RestSafe rest.now.ending.file silent.now) text.now fault → IsErrOrMemory result fault }
+    ensures safe { IfOk result (λ accepted. AllQuietRestSafe rest.now.ending.file silent.now accepted.patterns) }
+    ensures own { IfOk result (λ accepted. (file : FileValue) → EndingsOf file rest.now.ending.file rest.now.added → AllQuietRestSafe file silent.now accepted.patterns) }
+{
+    judge_whole(Checker::resting_silently(alloc, rest, silent), text)
 }
 
 /// Judges a whole certificate.

@@ -3,41 +3,40 @@
 
 ghost use Rattle.std.specs.Prelude.{ℕ, ◌≡◌, ◌↔◌, IsTrue, None, Some, reverse, ◌≢◌, IfErr};
 ghost use Rattle.ta_base.specs.Masks.{In};
-ghost use Rattle.ta_cert.specs.Lines.{ArePairs, IsLine, IsNode, IsSplit};
-ghost use Rattle.ta_cert.specs.declared.line.Line.TheVariants.{End, Header, Pattern, Tree};
-ghost use Rattle.ta_cert.specs.declared.line.Node.TheVariants.{Extend, Leaf, Order, Split};
-ghost use Rattle.ta_check.specs.Subjects.{HasVersion, Subject, claiming};
+ghost use Rattle.ta_cert.specs.Lines.{ArePairs, IsLine, IsNode};
+ghost use Rattle.ta_cert.specs.declared.line.Line.TheVariants.{End, Header, Tree};
+ghost use Rattle.ta_cert.specs.declared.line.Node.TheVariants.{Leaf, Order};
+ghost use Rattle.ta_check.specs.Subjects.{Subject, claiming_with, version_for};
 ghost use Rattle.ta_check.specs.Lines.{NothingIsLeft, Standing, TakesOrder};
 ghost use Rattle.ta_check.specs.Positions.{IsPositionAt, IsSomewhere, LineAnswers};
 
-use crate::leaf::{fault_in, judge_leaf};
+use crate::leaf::fault_in;
 use crate::position::Position;
 use std::alloc::Global;
 use ta_automaton::File;
 use ta_cert::{CertFault, Line, Node};
-use ta_claim::{Claim, ClaimTree};
-use ta_cursor::{Place, Tree};
-use ta_encode::Encoding;
+use ta_claim::Claim;
 use ta_implied::OrderFault;
 
-impl Position {
+impl<'a> Position<'a> {
     /// Takes the line of a number, where it may follow the lines before it.
     pub fn take_line(
         &mut self,
         alloc: Global,
         claim: Claim,
-        file: &File,
+        file: &'a File,
+        silent: &'a [u32],
         number: u64,
         line: &Line,
     ) -> Result<(), CertFault>
-        requires somewhere { IsSomewhere (claiming claim file.now) self.old }
+        requires somewhere { IsSomewhere (claiming_with claim file.now silent.now) self.old }
         requires form { IsLine line.now }
-        ensures { (at : Standing) → IsPositionAt (claiming claim file.now) self.old at → LineAnswers (claiming claim file.now) at number line.now self.new result }
+        ensures { (at : Standing) → IsPositionAt (claiming_with claim file.now silent.now) self.old at → LineAnswers (claiming_with claim file.now silent.now) at number line.now self.new result }
     {
         match line {
-            Line::Header(version) => self.take_header(claim, file, number, *version),
-            Line::Pattern(pattern) => self.begin(alloc, claim, file, number, *pattern),
-            Line::Tree(node) => self.take_tree(alloc, claim, file, number, node),
+            Line::Header(version) => self.take_header(claim, file, silent, number, *version),
+            Line::Pattern(pattern) => self.begin(alloc, claim, file, silent, number, *pattern),
+            Line::Tree(node) => self.take_tree(alloc, claim, file, silent, number, node),
             Line::End => self.end(number),
         }
     }
@@ -46,18 +45,20 @@ impl Position {
     fn take_header(
         &mut self,
         claim: Claim,
-        file: &File,
+        file: &'a File,
+        silent: &'a [u32],
         number: u64,
         version: u8,
     ) -> Result<(), CertFault>
-        ensures taken { (at : Standing) → IsPositionAt (claiming claim file.now) self.old at → LineAnswers (claiming claim file.now) at number (Header version) self.new result }
+        ensures taken { (at : Standing) → IsPositionAt (claiming_with claim file.now silent.now) self.old at → LineAnswers (claiming_with claim file.now silent.now) at number (Header version) self.new result }
         ensures no_memory { IfErr result (λ fault. fault ≢ CertFault.Memory) }
     {
         let _file = file;
-        if !has_version(claim, version) {
+        if !has_version(claim, silent, version) {
             return Err(CertFault::Line(number));
         }
         self.version = version;
+        self.current = None;
         Ok(())
     }
 
@@ -70,7 +71,7 @@ impl Position {
 
     /// Whether a proof or the end may come: no pair waits, no proof is being read, and version 2
     /// has a pair.
-    fn is_free(&self) -> bool
+    pub fn is_free(&self) -> bool
         ensures { (subject : Subject) (at : Standing) → IsPositionAt subject self.now at → IsTrue result ↔ NothingIsLeft at }
     {
         if self.waiting.is_some() || self.current.is_some() {
@@ -83,14 +84,18 @@ impl Position {
     fn take_order(
         &mut self,
         claim: Claim,
-        file: &File,
+        file: &'a File,
+        silent: &'a [u32],
         number: u64,
         before: u32,
         after: u32,
     ) -> Result<(), CertFault>
-        ensures taken { (at : Standing) → IsPositionAt (claiming claim file.now) self.old at → LineAnswers (claiming claim file.now) at number (Tree (Order before after)) self.new result }
+        requires none { self.old.waiting ≡ None }
+        requires nowhere { self.old.current ≡ None }
+        ensures taken { (at : Standing) → IsPositionAt (claiming_with claim file.now silent.now) self.old at → LineAnswers (claiming_with claim file.now silent.now) at number (Tree (Order before after)) self.new result }
         ensures no_memory { IfErr result (λ fault. fault ≢ CertFault.Memory) }
     {
+        let _silent = silent;
         if !self.takes_order() {
             return Err(CertFault::Line(number));
         }
@@ -102,23 +107,24 @@ impl Position {
     }
 
     /// Takes the line of a node: the leaf of the pair that waits, a node of the proof that is being
-    /// read, or a pair. No question is taken.
+    /// read, or a pair.
     fn take_tree(
         &mut self,
         alloc: Global,
         claim: Claim,
-        file: &File,
+        file: &'a File,
+        silent: &'a [u32],
         number: u64,
         node: &Node,
     ) -> Result<(), CertFault>
-        requires somewhere { IsSomewhere (claiming claim file.now) self.old }
+        requires somewhere { IsSomewhere (claiming_with claim file.now silent.now) self.old }
         requires form { IsNode node.now }
-        ensures { (at : Standing) → IsPositionAt (claiming claim file.now) self.old at → LineAnswers (claiming claim file.now) at number (Tree node.now) self.new result }
+        ensures { (at : Standing) → IsPositionAt (claiming_with claim file.now silent.now) self.old at → LineAnswers (claiming_with claim file.now silent.now) at number (Tree node.now) self.new result }
     {
         let Some((before, after)) = self.waiting else {
             return match self.current {
-                Some(pattern) => self.take_node(alloc, claim, file, number, pattern, node),
-                None => self.take_pair(claim, file, number, node),
+                Some(pattern) => self.take_node(alloc, claim, file, silent, number, pattern, node),
+                None => self.take_pair(claim, file, silent, number, node),
             };
         };
         match node {
@@ -126,6 +132,7 @@ impl Position {
                 alloc,
                 claim,
                 file,
+                silent,
                 number,
                 before,
                 after,
@@ -143,16 +150,19 @@ impl Position {
     fn take_pair(
         &mut self,
         claim: Claim,
-        file: &File,
+        file: &'a File,
+        silent: &'a [u32],
         number: u64,
         node: &Node,
     ) -> Result<(), CertFault>
         requires none { self.old.waiting ≡ None }
         requires nowhere { self.old.current ≡ None }
-        ensures { (at : Standing) → IsPositionAt (claiming claim file.now) self.old at → LineAnswers (claiming claim file.now) at number (Tree node.now) self.new result }
+        ensures { (at : Standing) → IsPositionAt (claiming_with claim file.now silent.now) self.old at → LineAnswers (claiming_with claim file.now silent.now) at number (Tree node.now) self.new result }
     {
         match node {
-            Node::Order { before, after } => self.take_order(claim, file, number, *before, *after),
+            Node::Order { before, after } => self.take_order(
+                claim, file, silent, number, *before, *after,
+            ),
             Node::Extend | Node::Split { .. } | Node::Leaf(_) | Node::Guard(_) | Node::Stuck(_) =>
                 Err(CertFault::Line(number)),
         }
@@ -163,17 +173,19 @@ impl Position {
         &mut self,
         alloc: Global,
         claim: Claim,
-        file: &File,
+        file: &'a File,
+        silent: &'a [u32],
         number: u64,
         before: u32,
         after: u32,
         multipliers: &[(u32, i128)],
     ) -> Result<(), CertFault>
-        requires somewhere { IsSomewhere (claiming claim file.now) self.old }
+        requires somewhere { IsSomewhere (claiming_with claim file.now silent.now) self.old }
         requires waits { self.old.waiting ≡ Some (before, after) }
         requires form { ArePairs 0 multipliers.now }
-        ensures { (at : Standing) → IsPositionAt (claiming claim file.now) self.old at → LineAnswers (claiming claim file.now) at number (Tree (Leaf multipliers.now)) self.new result }
+        ensures { (at : Standing) → IsPositionAt (claiming_with claim file.now silent.now) self.old at → LineAnswers (claiming_with claim file.now silent.now) at number (Tree (Leaf multipliers.now)) self.new result }
     {
+        let _silent = silent;
         match self
             .orders
             .push(alloc, &file.automaton, before, after, multipliers)
@@ -189,42 +201,8 @@ impl Position {
         }
     }
 
-    /// Takes the line that begins the proof of a pattern.
-    fn begin(
-        &mut self,
-        alloc: Global,
-        claim: Claim,
-        file: &File,
-        number: u64,
-        pattern: u32,
-    ) -> Result<(), CertFault>
-        requires { IsSomewhere (claiming claim file.now) self.old }
-        ensures { (at : Standing) → IsPositionAt (claiming claim file.now) self.old at → LineAnswers (claiming claim file.now) at number (Pattern pattern) self.new result }
-    {
-        if !self.is_free() {
-            return Err(CertFault::Line(number));
-        }
-        if pattern as usize >= file.patterns.as_slice().len() {
-            return Err(CertFault::UnknownPattern(number));
-        }
-        if self.is_begun(pattern) {
-            return Err(CertFault::RepeatedPattern(number));
-        }
-        self.proved.push(pattern)?;
-        let tree = ClaimTree::new(claim, file, pattern, &self.orders);
-        match Place::first(alloc, &tree) {
-            None => Ok(()),
-            Some(place) => {
-                self.current = Some(pattern);
-                self.place = place;
-                self.encoding = Encoding::new(alloc);
-                Ok(())
-            }
-        }
-    }
-
     /// Whether the proof of a pattern began.
-    fn is_begun(&self, pattern: u32) -> bool
+    pub fn is_begun(&self, pattern: u32) -> bool
         ensures { IsTrue result ↔ In pattern (reverse self.now.proved.items) }
     {
         self.proved.contains(&pattern)
@@ -241,123 +219,17 @@ impl Position {
             Err(CertFault::Line(number))
         }
     }
-
-    /// Takes the line of a node in the proof of a pattern.
-    fn take_node(
-        &mut self,
-        alloc: Global,
-        claim: Claim,
-        file: &File,
-        number: u64,
-        pattern: u32,
-        node: &Node,
-    ) -> Result<(), CertFault>
-        requires somewhere { IsSomewhere (claiming claim file.now) self.old }
-        requires none { self.old.waiting ≡ None }
-        requires current { self.old.current ≡ Some pattern }
-        requires form { IsNode node.now }
-        ensures { (at : Standing) → IsPositionAt (claiming claim file.now) self.old at → LineAnswers (claiming claim file.now) at number (Tree node.now) self.new result }
-    {
-        match node {
-            Node::Extend => self.take_extend(alloc, claim, file, number, pattern),
-            Node::Split { unknown, floor } => {
-                self.take_split(claim, file, number, pattern, *unknown, *floor)
-            }
-            Node::Leaf(multipliers) => {
-                self.take_leaf(alloc, claim, file, number, pattern, multipliers.as_slice())
-            }
-            Node::Guard(_) | Node::Order { .. } | Node::Stuck(_) => Err(CertFault::Line(number)),
-        }
-    }
-
-    /// Takes an Extend in the proof of a pattern.
-    fn take_extend(
-        &mut self,
-        alloc: Global,
-        claim: Claim,
-        file: &File,
-        number: u64,
-        pattern: u32,
-    ) -> Result<(), CertFault>
-        requires somewhere { IsSomewhere (claiming claim file.now) self.old }
-        requires none { self.old.waiting ≡ None }
-        requires current { self.old.current ≡ Some pattern }
-        ensures { (at : Standing) → IsPositionAt (claiming claim file.now) self.old at → LineAnswers (claiming claim file.now) at number (Tree Extend) self.new result }
-    {
-        let tree = ClaimTree::new(claim, file, pattern, &self.orders);
-        let start_mask = self.place.cursor().start_mask();
-        if tree.is_complete(start_mask, self.place.cursor().word()) {
-            return Err(CertFault::ExtendComplete(number));
-        }
-        if !self.place.extend(alloc, &tree)? {
-            self.current = None;
-        }
-        Ok(())
-    }
-
-    /// Takes a Split in the proof of a pattern.
-    fn take_split(
-        &mut self,
-        claim: Claim,
-        file: &File,
-        number: u64,
-        pattern: u32,
-        unknown: u32,
-        floor: i128,
-    ) -> Result<(), CertFault>
-        requires somewhere { IsSomewhere (claiming claim file.now) self.old }
-        requires none { self.old.waiting ≡ None }
-        requires current { self.old.current ≡ Some pattern }
-        requires form { IsSplit unknown floor }
-        ensures { (at : Standing) → IsPositionAt (claiming claim file.now) self.old at → LineAnswers (claiming claim file.now) at number (Tree (Split unknown floor)) self.new result }
-    {
-        let tree = ClaimTree::new(claim, file, pattern, &self.orders);
-        let start_mask = self.place.cursor().start_mask();
-        if unknown >= tree.unknown_count(start_mask, self.place.cursor().word()) {
-            return Err(CertFault::SplitVariable(number));
-        }
-        self.place.split(&tree, unknown, floor)?;
-        Ok(())
-    }
-
-    /// Takes a leaf in the proof of a pattern.
-    fn take_leaf(
-        &mut self,
-        alloc: Global,
-        claim: Claim,
-        file: &File,
-        number: u64,
-        pattern: u32,
-        multipliers: &[(u32, i128)],
-    ) -> Result<(), CertFault>
-        requires somewhere { IsSomewhere (claiming claim file.now) self.old }
-        requires none { self.old.waiting ≡ None }
-        requires current { self.old.current ≡ Some pattern }
-        requires form { ArePairs 0 multipliers.now }
-        ensures { (at : Standing) → IsPositionAt (claiming claim file.now) self.old at → LineAnswers (claiming claim file.now) at number (Tree (Leaf multipliers.now)) self.new result }
-    {
-        let tree = ClaimTree::new(claim, file, pattern, &self.orders);
-        judge_leaf(
-            alloc,
-            &tree,
-            self.place.cursor(),
-            &mut self.encoding,
-            number,
-            multipliers,
-        )?;
-        if !self.place.leave(alloc, &tree)? {
-            self.current = None;
-        }
-        Ok(())
-    }
 }
 
 /// Whether a certificate of a claim may have a version.
-fn has_version(claim: Claim, version: u8) -> bool
-    ensures { IsTrue result ↔ HasVersion claim version }
+fn has_version(claim: Claim, silent: &[u32], version: u8) -> bool
+    ensures { IsTrue result ↔ version_for claim silent.now version }
 {
     match claim {
-        Claim::Safe => version <= 2,
-        Claim::RestSafe => version == 1,
+        Claim::Safe => version <= 3,
+        Claim::RestSafe => match silent {
+            [] => version == 1 || version == 3,
+            [_, ..] => version == 3,
+        },
     }
 }

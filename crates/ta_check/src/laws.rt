@@ -1,7 +1,7 @@
 //! Laws of certificates. The functions do nothing: their contracts state the laws.
 #![tactic(auto)]
 
-ghost use Rattle.ta_check.specs.Certificate.{CertificatesShow, ClaimsHold};
+ghost use Rattle.ta_check.specs.Certificate.{CertificatesNameOneList, CertificatesShow, ClaimsHold};
 ghost use Rattle.ta_check.specs.Faults.{LastingFaultsLast};
 
 /// The patterns of a certificate are safe, and none of their words has a solution.
@@ -12,6 +12,11 @@ pub fn certificates_show()
 /// What a certificate claims of its patterns holds.
 pub fn claims_hold()
     ensures { ClaimsHold }
+{}
+
+/// A text is a certificate of one list of patterns at most.
+pub fn certificates_name_one_list()
+    ensures { CertificatesNameOneList }
 {}
 
 /// A lasting fault of a text is the first fault of each longer one.

@@ -19,7 +19,7 @@ use ta_farkas::{LeafFault, check_leaf};
 pub(crate) fn judge_leaf<T: Tree>(
     alloc: Global,
     tree: &T,
-    cursor: &Cursor,
+    cursor: &Cursor<T::Fact>,
     kept: &mut T::Kept,
     number: u64,
     multipliers: &[(u32, i128)],
@@ -48,7 +48,7 @@ pub(crate) fn judge_leaf<T: Tree>(
 fn grow<T: Tree>(
     alloc: Global,
     tree: &T,
-    cursor: &Cursor,
+    cursor: &Cursor<T::Fact>,
     kept: &mut T::Kept,
 ) -> Result<(), AllocError>
     requires word { IsWord (T.search tree.now) (here cursor.now) }
@@ -58,11 +58,11 @@ fn grow<T: Tree>(
     ensures small { OnOk result ((T.system_of kept.new).unknowns ≤ 1000000) }
 {
     let before = mem::replace(kept, tree.nothing(alloc));
-    let start_mask = cursor.start_mask();
+    let start = cursor.start();
     let Written {
         kept: after,
         same: _,
-    } = tree.encode(alloc, start_mask, cursor.word(), &[], before)?;
+    } = tree.encode(alloc, start, cursor.facts(), &[], before)?;
     *kept = after;
     Ok(())
 }

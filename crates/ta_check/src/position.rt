@@ -9,10 +9,13 @@ use std::alloc::Global;
 use ta_cursor::Place;
 use ta_encode::Encoding;
 use ta_implied::Orders;
+use ta_moment_tree::MomentKept;
+use ta_moments::Fact;
+use ta_words::Element;
 
 /// Where a certificate is being read.
 #[derive(Drop)]
-pub(crate) struct Position {
+pub(crate) struct Position<'a> {
     /// The version in the first line, or 0 before it.
     pub version: u8,
     /// The pairs of rise guards that were shown.
@@ -23,16 +26,20 @@ pub(crate) struct Position {
     pub proved: Vec<u32>,
     /// The pattern whose proof is being read.
     pub current: Option<u32>,
-    /// The node whose line comes next. Between two proofs it is any.
-    pub place: Place,
+    /// The node whose line comes next, where proofs are of words. Between two proofs it is any.
+    pub words: Place<Element>,
     /// The rows of the word of the last leaf of the proof that is being read, so that those of the
     /// next are written on from them. No answer depends on them.
     pub encoding: Encoding,
+    /// The node whose line comes next, where proofs are of moments.
+    pub moments: Place<Fact>,
+    /// The node of moments of the last leaf.
+    pub kept: MomentKept<'a>,
 }
 
-impl Position {
+impl<'a> Position<'a> {
     /// The position before the first line. It takes no memory.
-    pub fn new(alloc: Global) -> Position
+    pub fn new(alloc: Global) -> Position<'a>
         ensures { (subject : Subject) → IsPositionAt subject result first_standing }
     {
         Position {
@@ -41,8 +48,10 @@ impl Position {
             waiting: None,
             proved: Vec::new(alloc),
             current: None,
-            place: Place::new(alloc),
+            words: Place::new(alloc),
             encoding: Encoding::new(alloc),
+            moments: Place::new(alloc),
+            kept: MomentKept::nothing(alloc),
         }
     }
 }

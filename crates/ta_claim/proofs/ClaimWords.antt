@@ -1,9 +1,7 @@
 -- the words of a claim, whichever claim it is
-use Rattle.ta_claim.proofs.Common.{◌≡◌, ℕ, ◌^◌, ◌≤◌, List, [], length, slice_get, Some, arith, refl, Automaton, File, Pattern, Element, LegalWord, is_complete, Comes, Pending, IsSmall, System, PatternOver, SystemAt, all_starts, meanings, few_rows, few_unknowns, small_of, search_for, Claim, Safe, RestSafe, ap, sym, ℤ, Bool, true, false, pattern_search, rest_search, children, ◌∷◌}
+use Rattle.ta_claim.proofs.Common.{◌≡◌, ℕ, ◌^◌, ◌≤◌, List, [], length, slice_get, Some, arith, refl, Automaton, File, Pattern, Element, LegalWord, is_complete, Comes, Pending, IsSmall, System, PatternOver, SystemAt, all_starts, meanings, few_rows, few_unknowns, small_of, search_for, Claim, Safe, RestSafe, ap, sym, Bool, true, false, pattern_search, rest_search, children, ◌∷◌, Extend, TellsMayAsk, not}
 use Rattle.ta_encode.specs.Lines.{BoundsWithin}
 use Rattle.std.specs.Option.{is_some}
-use Rattle.ta_cert.specs.declared.line.Node.TheVariants.{Extend}
-use Rattle.ta_cursor.specs.TreeCalls.{IsCompleteOf}
 use Rattle.ta_encode.specs.Search.{Search}
 use Rattle.ta_encode.proofs.Asking.{IsOfWords, asked_at_open, none_at_complete}
 use Rattle.ta_encode.proofs.Prefixes.{prefix_fewer}
@@ -17,14 +15,14 @@ pub claim_roots : (claim : Claim) (a : Automaton) (p : Pattern) (pairs : List (�
 claim_roots Safe a p pairs = refl
 claim_roots RestSafe a p pairs = refl
 
--- whether a word is complete, in a search of which only Extend asks
-word_complete : (s : Search Element) (start : ℕ) (past : List Element) (complete r : Bool) (es : List Element) → IsOfWords s start past complete es → ((values : List (ℤ × ℤ)) → s.question start past values ≡ Some Extend) → r ≡ complete → IsCompleteOf s start past r
-word_complete s start past complete true es h q is = none_at_complete s start past complete es h (sym is)
-word_complete s start past complete false es h q is = (ap is_some (asked_at_open s start past complete es h (sym is)), q)
+-- whether Extend asks at a word, in a search of which it alone asks
+word_extends : (s : Search Element) (start : ℕ) (past : List Element) (complete r : Bool) (es : List Element) → IsOfWords s start past complete es → r ≡ complete → TellsMayAsk s start past Extend (not r)
+word_extends s start past complete true es h is = none_at_complete s start past complete es h (sym is) Extend
+word_extends s start past complete false es h is = ap is_some (asked_at_open s start past complete es h (sym is))
 
-pub claim_complete : (claim : Claim) (a : Automaton) (p : Pattern) (pairs : List (ℕ × ℕ)) (start : ℕ) (past : List Element) (r : Bool) → r ≡ is_complete p past → IsCompleteOf (search_for claim a p pairs) start past r
-claim_complete Safe a p pairs start past r is = word_complete (pattern_search a p pairs) start past (is_complete p past) r (children a p pairs start past) (λ n. refl) (λ values. refl) is
-claim_complete RestSafe a p pairs start past r is = word_complete (rest_search a p) start past (is_complete p past) r (children a p [] start past) (λ n. refl) (λ values. refl) is
+pub claim_extends : (claim : Claim) (a : Automaton) (p : Pattern) (pairs : List (ℕ × ℕ)) (start : ℕ) (past : List Element) (r : Bool) → r ≡ is_complete p past → TellsMayAsk (search_for claim a p pairs) start past Extend (not r)
+claim_extends Safe a p pairs start past r is = word_extends (pattern_search a p pairs) start past (is_complete p past) r (children a p pairs start past) (λ n. refl) is
+claim_extends RestSafe a p pairs start past r is = word_extends (rest_search a p) start past (is_complete p past) r (children a p [] start past) (λ n. refl) is
 
 pub claim_unknowns : (claim : Claim) (a : Automaton) (p : Pattern) (pairs : List (ℕ × ℕ)) (start : ℕ) (past : List Element) → (search_for claim a p pairs).unknowns start past ≡ length (meanings a p start past)
 claim_unknowns Safe a p pairs start past = refl

@@ -18,9 +18,10 @@ unfoldable pub use Rattle.ta_base.specs.Masks.{all_below}
 pub use Rattle.ta_claim.specs.Claims.{ProofsShowClaims, search_for}
 pub use Rattle.ta_claim.specs.declared.claim.Claim.{Claim}
 pub use Rattle.ta_claim.specs.declared.claim.Claim.TheVariants.{RestSafe, Safe}
+pub use Rattle.ta_cert.specs.declared.line.Node.TheVariants.{Extend}
 pub use Rattle.ta_cursor.proofs.RowCounts.{few_rows, few_unknowns, guards_few, small_of}
-pub use Rattle.ta_cursor.specs.Cursors.{word_at}
-pub use Rattle.ta_cursor.specs.TreeCalls.{IsPushed, IsSmall, PushAnswers}
+pub use Rattle.ta_cursor.specs.Cursors.{node_at}
+pub use Rattle.ta_cursor.specs.TreeCalls.{AnswerIs, IsSmall, TellsMayAsk}
 pub use Rattle.ta_encode.specs.Code.{AreRowsOf, SystemAt}
 pub use Rattle.ta_encode.specs.PatternSearch.{all_starts, empty_word, pattern_search}
 pub use Rattle.ta_encode.specs.Search.{BeginsAtWord, Comes, Pending}

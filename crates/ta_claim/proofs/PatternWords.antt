@@ -1,5 +1,5 @@
 -- the words of a pattern
-use Rattle.ta_claim.proofs.Common.{◌≡◌, inl, inr, ℕ, zero, suc, ◌+◌, ◌-◌, ◌^◌, ◌<◌, ◌≤◌, List, [], ◌∷◌, ◌++◌, length, map, reverse, slice_get, Some, None, Bool, true, arith, sym, ap, ◌∙◌, refl, subst, length-append, lit<, filter, if◌then◌else◌, slice_get-map, slice_get_within, In, range_with_len, numbers_end, slice_numbers, Automaton, Pattern, Element, Event, Rise, Fall, LegalWord, LegalUnder, children, is_complete, is_ready, is_standing, may_rise, under_none, passed_length, Pending, BeginsAtWord, Comes, all_starts, empty_word, pattern_search, IsPushed, PushAnswers, PatternOver}
+use Rattle.ta_claim.proofs.Common.{◌≡◌, inl, inr, ℕ, zero, suc, ◌+◌, ◌-◌, ◌^◌, ◌<◌, ◌≤◌, List, [], ◌∷◌, ◌++◌, length, map, slice_get, Some, None, arith, sym, ap, ◌∙◌, refl, subst, length-append, lit<, filter, slice_get-map, slice_get_within, In, range_with_len, numbers_end, slice_numbers, Automaton, Pattern, Element, Event, Rise, Fall, LegalWord, LegalUnder, children, is_complete, is_ready, is_standing, may_rise, under_none, passed_length, Pending, BeginsAtWord, Comes, all_starts, empty_word, pattern_search, Extend, Option, AnswerIs, PatternOver}
 use Rattle.std.proofs.Math.Nat.{pow-le-pow_right}
 use Rattle.ta_encode.proofs.Asking.{answers_in, children_answer}
 use Rattle.ta_encode.proofs.Prefixes.{prefix_fewer}
@@ -69,20 +69,15 @@ comes_legal a p pairs start (e ∷ past) (inr c) =
     let child = answers_in (pattern_search a p pairs) start past (is_complete p past) (children a p pairs start past) (λ n. refl) c.0.0 e c.0.1 in
     record { start_is = before.start_is; under = (child, before.under); legal = (under_none a p pairs start past e child, before.legal) }
 
--- a word that is pushed a child
-pub child_pushed : (a : Automaton) (p : Pattern) (pairs : List (ℕ × ℕ)) (start : ℕ) (old new : List Element) (k : ℕ) (e : Element) (r : Bool) → PatternOver a p
-    → slice_get (children a p pairs start (reverse old)) k ≡ Some e → r ≡ true → new ≡ (if r then old ++ e ∷ [] else old)
-    → PushAnswers (pattern_search a p pairs) start old new k r
-child_pushed a p pairs start old new k e r over at yea word =
-    let s = pattern_search a p pairs in
-    let few = child_below a p pairs start (reverse old) k e over at in
+-- the child of a number answers what a word asks
+pub child_answers : (a : Automaton) (p : Pattern) (pairs : List (ℕ × ℕ)) (start : ℕ) (past : List Element) (k : ℕ) (r : Option Element) → PatternOver a p
+    → r ≡ slice_get (children a p pairs start past) k → AnswerIs (pattern_search a p pairs) start past Extend k r
+child_answers a p pairs start past k None over is = ap (λ (es : List Element). slice_get es k) (children_answer a p pairs start past) ∙ sym is
+child_answers a p pairs start past k (Some e) over is =
+    let few = child_below a p pairs start past k e over (sym is) in
     let large : 87 < 2 ^ 31 = lit< tt in
-    let longer : new ≡ old ++ e ∷ [] = word ∙ ap (λ (b : Bool). if b then old ++ e ∷ [] else old) yea in
-    let is : IsPushed s start old new k = record {
-      element = e;
-      follows = subst (λ (es : List Element). slice_get es k ≡ Some e) (sym (children_answer a p pairs start (reverse old))) at;
-      word = longer;
-      more = prefix_fewer a p start (reverse old) (e ∷ []);
+    record {
+      is = ap (λ (es : List Element). slice_get es k) (children_answer a p pairs start past) ∙ sym is;
+      more = prefix_fewer a p start past (e ∷ []);
       small = omega arith;
-    } in
-    subst (PushAnswers s start old new k) (sym yea) is
+    }

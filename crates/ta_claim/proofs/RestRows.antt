@@ -1,5 +1,5 @@
 -- words of rest are words under no pairs, and the rows of their ends
-use Rattle.ta_claim.proofs.Common.{◌≡◌, inl, inr, ℕ, ◌≤◌, List, [], ◌∷◌, ◌++◌, length, map, cond, Bool, true, false, not, Option, Some, None, arith, sym, ap, ◌∙◌, subst, length-append, filter, Automaton, Pattern, has_bit, range_with_len, Element, LegalWord, has_rise, is_complete, pattern_search, Comes, Pending, PushAnswers, end_rows, must_be_left, rest_rows, rest_search, count_few, filter_numbers_same, System, AreRowsOf, SystemAt, meanings, PatternOver, few_rows, guards_few, refl}
+use Rattle.ta_claim.proofs.Common.{◌≡◌, inl, inr, ℕ, ◌≤◌, List, [], ◌∷◌, ◌++◌, length, map, cond, Bool, true, false, not, Option, Some, None, arith, sym, ap, ◌∙◌, subst, length-append, filter, Automaton, Pattern, has_bit, range_with_len, Element, LegalWord, has_rise, is_complete, pattern_search, Comes, Pending, Extend, AnswerIs, end_rows, must_be_left, rest_rows, rest_search, count_few, filter_numbers_same, System, AreRowsOf, SystemAt, meanings, PatternOver, few_rows, guards_few, refl}
 use Rattle.std.proofs.lemmas.List.{length-map}
 use Rattle.ta_encode.specs.declared.ending.WordEnd.{WordEnd}
 use Rattle.ta_encode.specs.Ends.{EndedSystem, ended_rows}
@@ -14,10 +14,10 @@ rest_comes a p start [] c = c
 rest_comes a p start (e ∷ past) (inl b) = inl b
 rest_comes a p start (e ∷ past) (inr c) = inr (answers_moved (rest_search a p) (pattern_search a p []) start past e (λ n. refl) c.0, rest_comes a p start past c.1)
 
--- and goes on with the same elements
-pub rest_pushed : (a : Automaton) (p : Pattern) (start : ℕ) (old new : List Element) (number : ℕ) (r : Bool) → PushAnswers (pattern_search a p []) start old new number r → PushAnswers (rest_search a p) start old new number r
-rest_pushed a p start old new number false h = h
-rest_pushed a p start old new number true h = record { element = h.element; follows = h.follows; word = h.word; more = h.more; small = h.small }
+-- and the same elements answer them
+pub rest_answers : (a : Automaton) (p : Pattern) (start : ℕ) (past : List Element) (k : ℕ) (r : Option Element) → AnswerIs (pattern_search a p []) start past Extend k r → AnswerIs (rest_search a p) start past Extend k r
+rest_answers a p start past k None h = h
+rest_answers a p start past k (Some e) h = record { is = h.is; more = h.more; small = h.small }
 
 -- the rows that are asked for at a word's end are those of rest
 ended_are : (a : Automaton) (p : Pattern) (start : ℕ) (past : List Element) (end : Option WordEnd) → IsRestEnd a p start past end → ended_rows a (meanings a p start past) end ≡ cond (is_complete p past) (end_rows a p start past) []

@@ -1,4 +1,3 @@
 pub mod Claims
 pub mod Trees
 pub mod RestEnds
-pub mod Asks

@@ -5,7 +5,9 @@ ghost use Rattle.std.specs.Prelude.{◌≡◌, ◌<◌, ◌↔◌, IfOk, length,
 ghost use Rattle.ta_automaton.specs.Numbered.{OfPattern};
 ghost use Rattle.ta_claim.specs.Claims.{search_for};
 ghost use Rattle.ta_claim.specs.Trees.{IsKeptFor, search_of_claim};
-ghost use Rattle.ta_cursor.specs.Cursors.{word_at};
+ghost use Rattle.ta_cert.specs.declared.line.Node.TheVariants.{Extend};
+ghost use Rattle.ta_cursor.specs.TreeCalls.{AnswerIs};
+ghost use Rattle.ta_cursor.specs.Cursors.{node_at};
 ghost use Rattle.ta_encode.specs.Code.{SystemAt};
 ghost use Rattle.ta_encode.specs.Lines.{BoundsWithin};
 ghost use Rattle.ta_encode.specs.Marks.{IsEncoding, SameRows};
@@ -13,17 +15,17 @@ ghost use Rattle.ta_encode.specs.Unknowns.{meanings};
 ghost use Rattle.ta_encode.specs.declared.growing.Encoding.{Encoding};
 ghost use Rattle.ta_words.specs.Words.{LegalWord};
 
-use crate::children::push_child;
+use crate::children::child;
 use crate::claim::Claim;
 use crate::claim_tree::ClaimTree;
 use crate::rest_end::rest_end;
 use std::alloc::{AllocError, Global};
 use ta_automaton::File;
-use ta_cursor::{Root, Tree, Written};
+use ta_cursor::{Ask, Tree, Written};
 use ta_encode::{Bound, Encoding, Grown, unknown_count};
 use ta_implied::Orders;
 use ta_linear::System;
-use ta_words::{Task, Word, is_complete};
+use ta_words::{Element, Task, is_complete};
 
 impl<'a> ClaimTree<'a> {
     /// The tree of a claim on the pattern of this number, from 0, under pairs of rise guards. Words of
@@ -43,35 +45,46 @@ impl<'a> ClaimTree<'a> {
         }
     }
 
+    /// The element of a number, from 0, among those that may follow others.
+    fn child(&self, start_mask: u8, elements: &[Element], number: usize) -> Option<Element>
+        ensures { AnswerIs (search_of_claim self.now) start_mask (reverse elements.now) Extend number result }
+    {
+        match self.claim {
+            Claim::Safe => child(self.task, start_mask, self.orders, elements, number),
+            Claim::RestSafe => child(self.task, start_mask, &Orders::new(), elements, number),
+        }
+    }
+
     /// The system of a word, with what the claim asks of its end.
     fn grown(
         &self,
         alloc: Global,
         start_mask: u8,
-        word: &Word,
+        elements: &[Element],
         bounds: &[Bound],
         kept: Encoding,
     ) -> Result<Grown, AllocError>
-        requires legal { LegalWord self.now.task.automaton.now self.now.task.pattern.now start_mask (reverse word.now) }
-        requires bounds { BoundsWithin (length (meanings self.now.task.automaton.now self.now.task.pattern.now start_mask (reverse word.now))) bounds.now }
+        requires legal { LegalWord self.now.task.automaton.now self.now.task.pattern.now start_mask (reverse elements.now) }
+        requires bounds { BoundsWithin (length (meanings self.now.task.automaton.now self.now.task.pattern.now start_mask (reverse elements.now))) bounds.now }
         requires kept { IsKeptFor self.now kept }
         ensures kept { IfOk result (λ grown. IsKeptFor self.now grown.encoding) }
-        ensures system { IfOk result (λ grown. SystemAt (search_of_claim self.now) (word_at start_mask word.now bounds.now) grown.encoding.system) }
+        ensures system { IfOk result (λ grown. SystemAt (search_of_claim self.now) (node_at start_mask elements.now bounds.now) grown.encoding.system) }
         ensures same { IfOk result (λ grown. SameRows kept.system.rows grown.same grown.encoding.system.rows) }
     {
         match self.claim {
-            Claim::Safe => kept.grown(alloc, self.task, start_mask, word, bounds),
+            Claim::Safe => kept.grown(alloc, self.task, start_mask, elements, bounds),
             Claim::RestSafe => {
-                let end = rest_end(self.task, start_mask, word);
-                kept.grown_to(alloc, self.task, start_mask, word, end, bounds)
+                let end = rest_end(self.task, start_mask, elements);
+                kept.grown_to(alloc, self.task, start_mask, elements, end, bounds)
             }
         }
     }
 }
 
 impl<'a> Tree for ClaimTree<'a> {
-    ghost use Rattle.ta_claim.specs.Asks.{claim_asks};
     ghost use Rattle.ta_claim.specs.Trees.{IsKeptFor, search_of_claim};
+
+    type Fact = Element;
 
     type Kept = Encoding;
 
@@ -79,33 +92,35 @@ impl<'a> Tree for ClaimTree<'a> {
 
     ghost is_kept = { λ t kept. IsKeptFor t kept };
 
+    ghost is_at = { λ t start past kept. Unit {0} };
+
     ghost system_of = { λ kept. kept.system };
 
-    fn root(&self, number: usize) -> Option<Root> {
+    fn root(&self, number: usize) -> Option<u8> {
         if number < 1 << self.task.automaton.fall.as_slice().len() {
-            Some(Root {
-                start_mask: number as u8,
-                word: Word::new(),
-            })
+            Some(number as u8)
         } else {
             None
         }
     }
 
-    fn push_child(&self, start_mask: u8, word: &mut Word, number: usize) -> bool {
-        match self.claim {
-            Claim::Safe => push_child(self.task, start_mask, self.orders, word, number),
-            Claim::RestSafe => push_child(self.task, start_mask, &Orders::new(), word, number),
+    fn may_ask(&self, start: u8, facts: &[Element], ask: Ask) -> bool {
+        let _start = start;
+        match ask {
+            Ask::Extend => !is_complete(self.task, facts),
+            Ask::Guard(_) | Ask::Order { .. } | Ask::Stuck(_) => false,
         }
     }
 
-    fn is_complete(&self, start_mask: u8, word: &Word) -> bool {
-        let _start_mask = start_mask;
-        is_complete(self.task, word)
+    fn answer(&self, start: u8, facts: &[Element], ask: Ask, number: usize) -> Option<Element> {
+        match ask {
+            Ask::Extend => self.child(start, facts, number),
+            Ask::Guard(_) | Ask::Order { .. } | Ask::Stuck(_) => None,
+        }
     }
 
-    fn unknown_count(&self, start_mask: u8, word: &Word) -> u32 {
-        unknown_count(self.task, start_mask, word)
+    fn unknown_count(&self, start: u8, facts: &[Element]) -> u32 {
+        unknown_count(self.task, start, facts)
     }
 
     fn nothing(&self, alloc: Global) -> Encoding {
@@ -115,12 +130,12 @@ impl<'a> Tree for ClaimTree<'a> {
     fn encode(
         &self,
         alloc: Global,
-        start_mask: u8,
-        word: &Word,
+        start: u8,
+        facts: &[Element],
         bounds: &[Bound],
         kept: Encoding,
     ) -> Result<Written<Encoding>, AllocError> {
-        let Grown { encoding, same } = self.grown(alloc, start_mask, word, bounds, kept)?;
+        let Grown { encoding, same } = self.grown(alloc, start, facts, bounds, kept)?;
         Ok(Written {
             kept: encoding,
             same,
@@ -130,6 +145,4 @@ impl<'a> Tree for ClaimTree<'a> {
     fn system<'k>(&self, kept: &'k Encoding) -> &'k System {
         &kept.system
     }
-
-    ghost only_extend = { λ t start past n may. claim_asks t.claim t.task.automaton.now t.task.pattern.now t.orders.now start past n may };
 }

@@ -9,17 +9,17 @@ ghost use Rattle.ta_claim.specs.RestEnds.{IsEndOf, IsRestEnd};
 
 use ta_automaton::{Automaton, Rule};
 use ta_encode::WordEnd;
-use ta_words::{Element, Task, Word, is_complete, is_unlocked, risen_after};
+use ta_words::{Element, Task, is_complete, is_unlocked, risen_after};
 
 /// What is asked of a word's end where the word is complete: the rise guards that aren't in it fail,
 /// and nobody is in a location out of which a rule could lead.
-pub(crate) fn rest_end(task: Task<'_>, start_mask: u8, word: &Word) -> Option<WordEnd>
-    ensures { IsRestEnd task.entry.automaton.now task.entry.pattern.now start_mask (reverse word.now) result }
+pub(crate) fn rest_end(task: Task<'_>, start_mask: u8, elements: &[Element]) -> Option<WordEnd>
+    ensures { IsRestEnd task.entry.automaton.now task.entry.pattern.now start_mask (reverse elements.now) result }
 {
-    if !is_complete(task, word) {
+    if !is_complete(task, elements) {
         return None;
     }
-    Some(end_of(task, start_mask, word.elements()))
+    Some(end_of(task, start_mask, elements))
 }
 
 /// What is asked at the end of a complete word of these elements.

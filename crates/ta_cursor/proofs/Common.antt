@@ -15,9 +15,10 @@ pub use Rattle.ta_base.proofs.Members.{in_at}
 pub use Rattle.ta_base.proofs.Ranges.{count_few}
 pub use Rattle.ta_base.specs.Masks.{has_bit}
 pub use Rattle.ta_cert.specs.declared.line.Node.TheVariants.{Extend, Split}
-pub use Rattle.ta_cursor.specs.Cursors.{BeginsWithin, FrameFits, FramesFit, GoesOn, Inside, IsAtRoot, IsBeforeWords, IsShared, IsUnshared, IsWithin, IsWord, SplitFits, WentOn, Within, all_behind, behind, here, left_at, node_of, word_at, word_of}
+pub use Rattle.ta_cursor.specs.Cursors.{BeginsWithin, FrameFits, FramesFit, GoesOn, Inside, IsAtRoot, IsBeforeWords, IsShared, IsUnshared, IsWithin, IsWord, SplitFits, WentOn, Within, all_behind, behind, here, left_at, node_at, open_node}
+pub use Rattle.ta_cursor.specs.Asking.{ask_node, node_of}
 pub use Rattle.ta_cursor.specs.InTrees.{AllGoOn, AllWithin, here_at}
-pub use Rattle.ta_cursor.specs.TreeCalls.{IsRoot, IsSmall}
+pub use Rattle.ta_cursor.specs.TreeCalls.{IsAnswer, IsRoot, IsSmall}
 pub use Rattle.ta_cursor.specs.declared.cursor.Cursor.{Cursor}
 pub use Rattle.ta_cursor.specs.declared.cursor.Frame.{Frame}
 pub use Rattle.ta_encode.proofs.CodeRows.{coefficient_same, constant_same, rows_count}

@@ -1,6 +1,5 @@
 -- the check of a leaf over a system of the code and over the rows of its word
 use Rattle.ta_cursor.proofs.Common.{◌≡◌, ℕ, ◌<◌, ◌≤◌, ℤ, pos, ◌+ℤ◌, ◌*ℤ◌, List, [], ◌∷◌, true, false, cond, slice_get, nat_lt, arith, sym, ap, ◌∙◌, refl, subst, inl, inr, cases_lt, ints, System, Pending, Search, bounded_rows, SystemAt, coefficient_same, constant_same}
-use Rattle.ta_words.specs.declared.element.Element.{Element}
 use Rattle.std.proofs.Math.IntN.{*ℤ-zero}
 use Rattle.std.proofs.lemmas.Bool.Decides.{nat_tests}
 use Rattle.ta_linear.specs.Numbers.{InRange}

@@ -1,31 +1,29 @@
 -- a place goes on within its tree, or to the next
-use Rattle.ta_cursor.proofs.Common.{◌≡◌, ℕ, ◌+◌, ◌^◌, ◌<◌, true, false, List, [], ◌∷◌, ◌++◌, drop, slice_get, Some, None, Ok, Err, IfOk, Result, Bool, sym, ap, ◌∙◌, refl, subst, append_assoc, AllocError, next_dropped, none_dropped, Pending, Search, parts, Cursor, word_at, GoesOn, Inside, IsAtRoot, WentOn, Within, here_at, AllWithin, AllGoOn, IsRoot}
-use Rattle.ta_words.specs.declared.element.Element.{Element}
+use Rattle.ta_cursor.proofs.Common.{◌≡◌, ℕ, ◌+◌, ◌^◌, ◌<◌, true, false, List, [], ◌∷◌, ◌++◌, drop, slice_get, Some, None, Ok, Err, IfOk, Result, Bool, sym, ap, ◌∙◌, refl, subst, append_assoc, AllocError, next_dropped, none_dropped, Pending, Search, parts, Cursor, node_at, GoesOn, Inside, IsAtRoot, WentOn, Within, here_at, AllWithin, AllGoOn, IsRoot}
 use Rattle.ta_cert.specs.declared.line.Node.{Node}
 use Rattle.ta_cursor.specs.declared.place.Place.{Place}
-use Rattle.ta_cursor.specs.declared.root.Root.{Root}
 use Rattle.ta_cursor.proofs.Beginning.{begins_within}
 
 -- the words behind the first
-abbrev pub later_words : (s : Search Element) (t : Place) (pending : List (Pending Element)) → AllWithin s t pending → List (Pending Element)
+abbrev pub later_words : {E : Type 0} (s : Search E) (t : Place E) (pending : List (Pending E)) → AllWithin s t pending → List (Pending E)
 later_words s t pending all = all.within.words ++ drop (t.root + 1) s.roots
 
 -- the first word is the place's
-pub here_is : (s : Search Element) (t : Place) (pending : List (Pending Element)) (all : AllWithin s t pending) → pending ≡ here_at t ∷ later_words s t pending all
-here_is s t pending all = all.left ∙ ap (λ (ws : List (Pending Element)). ws ++ drop (t.root + 1) s.roots) all.within.left
+pub here_is : {E : Type 0} (s : Search E) (t : Place E) (pending : List (Pending E)) (all : AllWithin s t pending) → pending ≡ here_at t ∷ later_words s t pending all
+here_is {E} s t pending all = all.left ∙ ap (λ (ws : List (Pending E)). ws ++ drop (t.root + 1) s.roots) all.within.left
 
-pub here_first : (s : Search Element) (t : Place) (pending : List (Pending Element)) (all : AllWithin s t pending) → AllWithin s t (here_at t ∷ later_words s t pending all)
-here_first s t pending all = subst (AllWithin s t) (here_is s t pending all) all
+pub here_first : {E : Type 0} (s : Search E) (t : Place E) (pending : List (Pending E)) (all : AllWithin s t pending) → AllWithin s t (here_at t ∷ later_words s t pending all)
+here_first {E} s t pending all = subst (AllWithin s t) (here_is s t pending all) all
 
 -- the other words are those of its tree and those of the later trees
-pub record AtHere (s : Search Element) (t : Place) (w : Pending Element) (words : List (Pending Element)) : Type 0 where
-  pub rest : List (Pending Element)
+pub record AtHere {E : Type 0} (s : Search E) (t : Place E) (w : Pending E) (words : List (Pending E)) : Type 0 where
+  pub rest : List (Pending E)
   pub first : w ≡ here_at t
   pub others : words ≡ rest ++ drop (t.root + 1) s.roots
   pub inside : Inside s t.cursor rest
   pub within : Within s t.cursor (here_at t ∷ rest)
 
-pub at_here : (s : Search Element) (t : Place) (w : Pending Element) (words : List (Pending Element)) → AllWithin s t (w ∷ words) → AtHere s t w words
+pub at_here : {E : Type 0} (s : Search E) (t : Place E) (w : Pending E) (words : List (Pending E)) → AllWithin s t (w ∷ words) → AtHere s t w words
 at_here s t w words all =
     let left = here_is s t (w ∷ words) all in
     record {
@@ -37,22 +35,22 @@ at_here s t w words all =
     }
 
 -- the tree goes on
-pub tree_goes_on : (s : Search Element) (t : Place) (ws all : List (Pending Element)) → GoesOn s t.cursor ws (Ok true) → t.root < 2 ^ 31 → all ≡ ws ++ drop (t.root + 1) s.roots → AllGoOn s t all (Ok true)
+pub tree_goes_on : {E : Type 0} (s : Search E) (t : Place E) (ws all : List (Pending E)) → GoesOn s t.cursor ws (Ok true) → t.root < 2 ^ 31 → all ≡ ws ++ drop (t.root + 1) s.roots → AllGoOn s t all (Ok true)
 tree_goes_on s t [] all goes small left = absurd (let e = goes in cc)
 tree_goes_on s t (w ∷ ws) [] goes small left = absurd (cc)
 tree_goes_on s t (w ∷ ws) (v ∷ vs) goes small left = (refl, record { words = w ∷ ws; within = goes.1; left = left; small = small })
 
 -- the tree ends, and so the later trees are left
-pub tree_ends : (s : Search Element) (c : Cursor) (t : Place) (ws all later : List (Pending Element)) (more : Bool) → GoesOn s c ws (Ok false) → all ≡ ws ++ later → AllGoOn s t later (Ok more) → AllGoOn s t all (Ok more)
-tree_ends s c t [] all later more goes left on = subst (λ (us : List (Pending Element)). AllGoOn s t us (Ok more)) (sym left) on
-tree_ends s c t (w ∷ ws) all later more goes left on = absurd (let e = goes.0 in cc)
+pub tree_ends : {E : Type 0} (s : Search E) (c : Cursor E) (t : Place E) (ws all later : List (Pending E)) (more : Bool) → GoesOn s c ws (Ok false) → all ≡ ws ++ later → AllGoOn s t later (Ok more) → AllGoOn s t all (Ok more)
+tree_ends {E} s c t [] all later more goes left on = subst (λ (us : List (Pending E)). AllGoOn s t us (Ok more)) (sym left) on
+tree_ends {E} s c t (w ∷ ws) all later more goes left on = absurd (let e = goes.0 in cc)
 
 -- the next tree begins
-pub root_comes : (s : Search Element) (t : Place) (number : ℕ) (root : Root) → IsRoot s number (Some root) → IsAtRoot t.cursor (word_at root.start_mask root.word []) → t.root ≡ number → AllGoOn s t (drop number s.roots) (Ok true)
-root_comes s t number root is first same =
-    let w = word_at root.start_mask root.word [] in
-    let within = begins_within s t.cursor number root.start_mask root.word is.is first in
-    subst (λ (ws : List (Pending Element)). AllGoOn s t ws (Ok true)) (sym (next_dropped s.roots number w is.is)) (
+pub root_comes : {E : Type 0} (s : Search E) (t : Place E) (number start : ℕ) → IsRoot s number (Some start) → IsAtRoot t.cursor (node_at start [] []) → t.root ≡ number → AllGoOn s t (drop number s.roots) (Ok true)
+root_comes {E} s t number start is first same =
+    let w = node_at start [] [] in
+    let within = begins_within E s t.cursor number start is.is first in
+    subst (λ (ws : List (Pending E)). AllGoOn s t ws (Ok true)) (sym (next_dropped s.roots number w is.is)) (
       refl,
       record {
         words = w ∷ [];
@@ -63,30 +61,30 @@ root_comes s t number root is first same =
     )
 
 -- none is left
-pub root_none : (s : Search Element) (t : Place) (number : ℕ) → IsRoot s number None → AllGoOn s t (drop number s.roots) (Ok false)
-root_none s t number none = subst (λ (ws : List (Pending Element)). AllGoOn s t ws (Ok false)) (sym (none_dropped s.roots number none)) refl
+pub root_none : {E : Type 0} (s : Search E) (t : Place E) (number : ℕ) → IsRoot s number None → AllGoOn s t (drop number s.roots) (Ok false)
+root_none {E} s t number none = subst (λ (ws : List (Pending E)). AllGoOn s t ws (Ok false)) (sym (none_dropped s.roots number none)) refl
 
 -- the first tree begins
-pub first_begins : (s : Search Element) (t : Place) (root : Root) → IsRoot s 0 (Some root) → IsAtRoot t.cursor (word_at root.start_mask root.word []) → t.root ≡ 0 → AllWithin s t s.roots
-first_begins s t root is first same = all_at s.roots (root_comes s t 0 root is first same)
+pub first_begins : {E : Type 0} (s : Search E) (t : Place E) (start : ℕ) → IsRoot s 0 (Some start) → IsAtRoot t.cursor (node_at start [] []) → t.root ≡ 0 → AllWithin s t s.roots
+first_begins {E} s t start is first same = all_at s.roots (root_comes s t 0 start is first same)
   where
-    all_at : (ws : List (Pending Element)) → AllGoOn s t ws (Ok true) → AllWithin s t ws
+    all_at : (ws : List (Pending E)) → AllGoOn s t ws (Ok true) → AllWithin s t ws
     all_at [] goes = absurd (cc)
     all_at (w ∷ ws) goes = goes.1
 
-pub none_begins : (roots : List (Pending Element)) → slice_get roots 0 ≡ None → roots ≡ []
+pub none_begins : {E : Type 0} (roots : List (Pending E)) → slice_get roots 0 ≡ None → roots ≡ []
 none_begins [] none = refl
 none_begins (w ∷ ws) none = absurd (cc)
 
 -- all that an inner node leaves comes before the words of the later trees
-pub parts_first : (s : Search Element) (t : Place) (w : Pending Element) (words : List (Pending Element)) (n : Node) (at : AtHere s t w words) → parts s w n ++ words ≡ (parts s (here_at t) n ++ at.rest) ++ drop (t.root + 1) s.roots
-parts_first s t w words n at =
-    ap (λ (v : Pending Element). parts s v n ++ words) at.first
-    ∙ ap (λ (ws : List (Pending Element)). parts s (here_at t) n ++ ws) at.others
+pub parts_first : {E : Type 0} (s : Search E) (t : Place E) (w : Pending E) (words : List (Pending E)) (n : Node) (at : AtHere s t w words) → parts s w n ++ words ≡ (parts s (here_at t) n ++ at.rest) ++ drop (t.root + 1) s.roots
+parts_first {E} s t w words n at =
+    ap (λ (v : Pending E). parts s v n ++ words) at.first
+    ∙ ap (λ (ws : List (Pending E)). parts s (here_at t) n ++ ws) at.others
     ∙ sym (append_assoc (parts s (here_at t) n) at.rest (drop (t.root + 1) s.roots))
 
 -- the sides of a split come before the words of the later trees
-pub sides_come : (s : Search Element) (old new : Place) (w : Pending Element) (words : List (Pending Element)) (n : Node) (at : AtHere s old w words) → Within s new.cursor (parts s (here_at old) n ++ at.rest) → new.root ≡ old.root → old.root < 2 ^ 31 → AllWithin s new (parts s w n ++ words)
+pub sides_come : {E : Type 0} (s : Search E) (old new : Place E) (w : Pending E) (words : List (Pending E)) (n : Node) (at : AtHere s old w words) → Within s new.cursor (parts s (here_at old) n ++ at.rest) → new.root ≡ old.root → old.root < 2 ^ 31 → AllWithin s new (parts s w n ++ words)
 sides_come s old new w words n at within same small = record {
   words = parts s (here_at old) n ++ at.rest;
   within = within;
@@ -97,6 +95,6 @@ sides_come s old new w words n at within same small = record {
 }
 
 -- a place that went on to the sides of a split
-pub sides_left : (s : Search Element) (old new : Place) (w : Pending Element) (words : List (Pending Element)) (n : Node) (r : Result (Unit {0}) AllocError) (at : AtHere s old w words) → WentOn s new.cursor (parts s (here_at old) n ++ at.rest) r → new.root ≡ old.root → old.root < 2 ^ 31 → IfOk r (λ done. AllWithin s new (parts s w n ++ words))
+pub sides_left : {E : Type 0} (s : Search E) (old new : Place E) (w : Pending E) (words : List (Pending E)) (n : Node) (r : Result (Unit {0}) AllocError) (at : AtHere s old w words) → WentOn s new.cursor (parts s (here_at old) n ++ at.rest) r → new.root ≡ old.root → old.root < 2 ^ 31 → IfOk r (λ done. AllWithin s new (parts s w n ++ words))
 sides_left s old new w words n (Ok done) at went same small = sides_come s old new w words n at went same small
 sides_left s old new w words n (Err e) at went same small = tt

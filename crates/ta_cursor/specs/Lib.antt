@@ -1,3 +1,4 @@
+pub mod Asking
 pub mod Cursors
 pub mod Range
 pub mod TreeCalls

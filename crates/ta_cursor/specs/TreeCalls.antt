@@ -1,42 +1,36 @@
--- What a tree answers of its words
-use Rattle.std.specs.Prelude.{ℕ, ◌+◌, ◌^◌, ◌<◌, ◌≤◌, ◌≡◌, Bool, true, false, List, [], ◌∷◌, ◌++◌, length, reverse, slice_get, Option, Some, None, ℤ}
+-- What a tree answers of its nodes
+use Rattle.std.specs.Prelude.{ℕ, ◌+◌, ◌^◌, ◌<◌, ◌≤◌, ◌≡◌, Bool, true, false, List, [], ◌∷◌, length, slice_get, Option, Some, None}
 use Rattle.ta_linear.specs.declared.row.System.{System}
-use Rattle.ta_words.specs.declared.element.Element.{Element}
 use Rattle.ta_encode.specs.declared.meaning.Bound.{Bound}
 use Rattle.ta_cert.specs.declared.line.Node.{Node}
-use Rattle.ta_cert.specs.declared.line.Node.TheVariants as node
 use Rattle.ta_encode.specs.Search.{MayAsk, Search, answered, asked}
-use Rattle.ta_cursor.specs.Cursors.{word_at}
-use Rattle.ta_cursor.specs.declared.root.Root.{Root}
+use Rattle.ta_cursor.specs.Cursors.{node_at}
 
--- there is a word of this number with which a search begins, without bounds
-pub record RootIs (s : Search Element) (number : ℕ) (root : Root) : Type 0 where
-  pub is : slice_get s.roots number ≡ Some (word_at root.start_mask root.word [])
+-- the search begins with this start, of this number
+pub record RootIs {E : Type 0} (s : Search E) (number start : ℕ) : Type 0 where
+  pub is : slice_get s.roots number ≡ Some (node_at start [] [])
   pub small : number < 2 ^ 31
 
 -- whether there is one
-abbrev pub IsRoot : Search Element → ℕ → Option Root → Type 0
+abbrev pub IsRoot : {E : Type 0} → Search E → ℕ → Option ℕ → Type 0
 IsRoot s number None = slice_get s.roots number ≡ None
-IsRoot s number (Some root) = RootIs s number root
+IsRoot s number (Some start) = RootIs s number start
 
--- a word got one more element: that of this number among those that an Extend adds. It has no fewer unknowns
-pub record IsPushed (s : Search Element) (start : ℕ) (old new : List Element) (number : ℕ) : Type 0 where
-  pub element : Element
-  pub follows : slice_get (answered s start (reverse old) node.Extend) number ≡ Some element
-  pub word : new ≡ old ++ element ∷ []
-  pub more : s.unknowns start (reverse old) ≤ s.unknowns start (element ∷ reverse old)
+-- whether a node that asks may stand there
+abbrev pub TellsMayAsk : {E : Type 0} → Search E → ℕ → List E → Node → Bool → Type 0
+TellsMayAsk s start past n true = MayAsk s start past n
+TellsMayAsk s start past n false = asked s start past n ≡ None
+
+-- the answer of this number to what a node asks; a node that has it has no fewer unknowns
+pub record IsAnswer {E : Type 0} (s : Search E) (start : ℕ) (past : List E) (n : Node) (number : ℕ) (e : E) : Type 0 where
+  pub is : slice_get (answered s start past n) number ≡ Some e
+  pub more : s.unknowns start past ≤ s.unknowns start (e ∷ past)
   pub small : number < 2 ^ 31
 
--- whether there is an element of this number among them, and the word with it
-abbrev pub PushAnswers : Search Element → ℕ → List Element → List Element → ℕ → Bool → Type 0
-PushAnswers s start old new number true = IsPushed s start old new number
-PushAnswers s start old new number false = (slice_get (answered s start (reverse old) node.Extend) number ≡ None) × (new ≡ old)
-
--- whether a word is complete: then nothing may be asked at it; else an Extend may stand there, and whatever the values of a vertex, the
--- maker would have it stand there
-abbrev pub IsCompleteOf : Search Element → ℕ → List Element → Bool → Type 0
-IsCompleteOf s start past true = (n : Node) → asked s start past n ≡ None
-IsCompleteOf s start past false = MayAsk s start past node.Extend × ((values : List (ℤ × ℤ)) → s.question start past values ≡ Some node.Extend)
+-- whether there is one
+abbrev pub AnswerIs : {E : Type 0} → Search E → ℕ → List E → Node → ℕ → Option E → Type 0
+AnswerIs s start past n number None = slice_get (answered s start past n) number ≡ None
+AnswerIs s start past n number (Some e) = IsAnswer s start past n number e
 
 -- a system of few unknowns and rows, but for those of its bounds
 abbrev pub IsSmall : List Bound → System → Type 0

@@ -2,19 +2,18 @@
 #![tactic(auto)]
 
 ghost use Rattle.std.specs.Prelude.{◌≡◌, []};
-ghost use Rattle.ta_cursor.specs.Cursors.{IsAtRoot, word_at};
+ghost use Rattle.ta_cursor.specs.Cursors.{IsAtRoot, node_at};
 
-use crate::root::Root;
+use crate::asking::Inner;
 use std::alloc::Global;
 use ta_encode::Bound;
-use ta_words::Word;
 
 /// An inner node that is open: some of its trees are still to come.
 #[derive(Clone, Copy)]
 pub struct Frame {
-    /// The unknown and the floor of a Split; none for an Extend.
-    pub split: Option<(u32, i128)>,
-    /// The number of elements of its word.
+    /// What it does.
+    pub inner: Inner,
+    /// The number of its facts.
     pub length: usize,
     /// The number of its bounds.
     pub bounds: usize,
@@ -22,43 +21,44 @@ pub struct Frame {
     pub next: u32,
 }
 
-/// Where the tree of a word is being read or made, its nodes in preorder. The start set, the word
-/// and the bounds are those of the node that comes next.
+/// Where the tree of a search is being read or made, its nodes in preorder. The start, the facts and
+/// the bounds are those of the node that comes next.
 #[derive(Drop)]
-pub struct Cursor {
-    pub(crate) start_mask: u8,
-    pub(crate) word: Word,
+pub struct Cursor<F: Copy + Drop> {
+    pub(crate) start: u8,
+    /// The facts, in the order in which they were added.
+    pub(crate) facts: Vec<F>,
     pub(crate) bounds: Vec<Bound>,
     /// The inner nodes that are open, the innermost last.
     pub(crate) frames: Vec<Frame>,
 }
 
-impl Cursor {
-    /// The cursor at the first node of the tree of a word. It takes no memory.
-    pub fn new(alloc: Global, root: Root) -> Cursor
-        ensures { IsAtRoot result (word_at root.start_mask root.word []) }
+impl<F: Copy + Drop> Cursor<F> {
+    /// The cursor at the first node of the tree of a start, without facts. It takes no memory.
+    pub fn new(alloc: Global, start: u8) -> Cursor<F>
+        ensures { IsAtRoot result (node_at start [] []) }
     {
-        let Root { start_mask, word } = root;
         Cursor {
-            start_mask,
-            word,
+            start,
+            facts: Vec::new(alloc),
             bounds: Vec::new(alloc),
             frames: Vec::new(alloc),
         }
     }
 
-    /// The fall guards that are false at the start: bit j for fall guard j.
-    pub fn start_mask(&self) -> u8
-        ensures { result ≡ self.now.start_mask }
+    /// The start of the node that comes next: of words, the fall guards that are false at the start,
+    /// bit j for fall guard j.
+    pub fn start(&self) -> u8
+        ensures { result ≡ self.now.start }
     {
-        self.start_mask
+        self.start
     }
 
-    /// The word of the node that comes next.
-    pub fn word(&self) -> &Word
-        ensures { result.now ≡ self.now.word }
+    /// The facts of the node that comes next.
+    pub fn facts(&self) -> &[F]
+        ensures { result.now ≡ self.now.facts.items }
     {
-        &self.word
+        self.facts.as_slice()
     }
 
     /// The bounds of the node that comes next.
@@ -68,10 +68,10 @@ impl Cursor {
         self.bounds.as_slice()
     }
 
-    /// The word of the node that comes next, as a value.
-    pub fn into_word(self) -> Word
-        ensures { result ≡ self.word }
+    /// The facts of the node that comes next, as a value.
+    pub fn into_facts(self) -> Vec<F>
+        ensures { result ≡ self.facts }
     {
-        self.word
+        self.facts
     }
 }

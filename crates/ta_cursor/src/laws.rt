@@ -3,7 +3,7 @@
 
 ghost use Rattle.ta_cursor.specs.Cursors.{BeginsWithin};
 
-/// At a word with which a search begins, that word is left.
-pub fn begins_within()
-    ensures { BeginsWithin }
+/// At a node with which a search begins, that node is left.
+pub fn begins_within<F: Copy + Drop>()
+    ensures { BeginsWithin F }
 {}

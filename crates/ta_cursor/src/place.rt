@@ -3,11 +3,11 @@
 
 use crate::cursor::Cursor;
 
-/// Where the trees of a search are being read or made, one after the other, one for each word with
+/// Where the trees of a search are being read or made, one after the other, one for each start with
 /// which the search begins.
 #[derive(Drop)]
-pub struct Place {
-    pub(crate) cursor: Cursor,
-    /// The number, from 0, of the word with which the tree begins.
+pub struct Place<F: Copy + Drop> {
+    pub(crate) cursor: Cursor<F>,
+    /// The number, from 0, of the start with which the tree begins.
     pub(crate) root: usize,
 }

@@ -4,18 +4,21 @@
 ghost use Rattle.std.specs.Prelude.{◌≡◌, ◌≤◌, [], IfOk, MatchOption, length, reverse, take};
 ghost use Rattle.ta_encode.specs.Search.{Search};
 ghost use Rattle.ta_cursor.specs.Cursors.{Inside, IsBeforeWords, IsWithin, Shares, all_behind};
-ghost use Rattle.ta_words.specs.declared.element.Element.{Element};
 
 use crate::cursor::Cursor;
 use crate::tree::Tree;
 use std::alloc::{AllocError, Global};
 
-impl Cursor {
+impl<F: Copy + Drop> Cursor<F> {
     /// Gives the words that the outermost open nodes leave to a cursor of their own, where any are
     /// left: those of the fewest such nodes. This cursor keeps the words before them. Gives none
     /// only where no open node leaves a word: then this cursor is as before, and only the word at
     /// which it stands is left.
-    pub fn share<T: Tree>(&mut self, alloc: Global, tree: &T) -> Result<Option<Cursor>, AllocError>
+    pub fn share<T: Tree<Fact = F>>(
+        &mut self,
+        alloc: Global,
+        tree: &T,
+    ) -> Result<Option<Cursor<F>>, AllocError>
         requires { IsWithin (T.search tree.now) self.old }
         ensures { IfOk result (Shares (T.search tree.now) self.old self.new) }
     {
@@ -30,12 +33,12 @@ impl Cursor {
 
     /// The cursor at the first of the words that so many open nodes leave, counted from the
     /// outermost; none only where none is left.
-    fn behind<T: Tree>(
+    fn behind<T: Tree<Fact = F>>(
         &self,
         alloc: Global,
         tree: &T,
         outer: usize,
-    ) -> Result<Option<Cursor>, AllocError>
+    ) -> Result<Option<Cursor<F>>, AllocError>
         requires within { IsWithin (T.search tree.now) self.now }
         requires most { outer ≤ length self.now.frames.items }
         ensures { IfOk result (λ later. MatchOption later
@@ -52,21 +55,21 @@ impl Cursor {
 
     /// A cursor with so many nodes open, counted from the outermost, which stands where the next of
     /// the open nodes does, or where this one does.
-    fn outermost(&self, alloc: Global, outer: usize) -> Result<Cursor, AllocError>
-        requires within { (s : Search Element) × IsWithin s self.now }
+    fn outermost(&self, alloc: Global, outer: usize) -> Result<Cursor<F>, AllocError>
+        requires within { (s : Search F) × IsWithin s self.now }
         requires most { outer ≤ length self.now.frames.items }
-        ensures { (s : Search Element) → IsWithin s self.now → IfOk result (λ later. Inside s later (all_behind s self.now (reverse (take outer self.now.frames.items)))) }
+        ensures { (s : Search F) → IsWithin s self.now → IfOk result (λ later. Inside s later (all_behind s self.now (reverse (take outer self.now.frames.items)))) }
     {
-        let mut word = self.word.again();
+        let mut facts = Vec::from_slice(alloc, self.facts.as_slice())?;
         let mut bounds = Vec::from_slice(alloc, self.bounds.as_slice())?;
         if let Some(frame) = self.frames.get(outer) {
-            word.cut(frame.length);
+            facts.truncate(frame.length);
             bounds.truncate(frame.bounds);
         }
         let frames = Vec::from_slice(alloc, &self.frames[..outer])?;
         Ok(Cursor {
-            start_mask: self.start_mask,
-            word,
+            start: self.start,
+            facts,
             bounds,
             frames,
         })

@@ -1,22 +1,12 @@
-use Rattle.ta_dense.proofs.Common.{◌≡◌, ◌≢◌, ℕ, zero, suc, ◌+◌, ◌*◌, ◌/◌, ◌%◌, ◌<◌, List, [], ◌∷◌, length, get_or, arith, refl, sym, ap, ◌∙◌, subst, ℤ, pos, ◌+ℤ◌, ◌*ℤ◌, ◌∣◌, ints, ext_get_or, div-add-mod', dvd_antisymm, dvd-mul_right_of_dvd, dvd-add_iff_right, cancel_positive, cross_arith, dvd_cross, mul_cancel, same_positive, single, single-at, single-elsewhere, TableauRow, Tableau, non_basic_of, gcd_with, IsDictionaryRow, dot, IsDictionary, gcd_within, gcd_of, unsigned_abs}
+use Rattle.ta_dense.proofs.Common.{◌≡◌, ◌≢◌, ℕ, zero, suc, ◌*◌, ◌<◌, List, [], ◌∷◌, length, get_or, arith, refl, sym, ap, ◌∙◌, subst, ℤ, pos, ◌+ℤ◌, ◌*ℤ◌, ◌∣◌, ints, ext_get_or, dvd_antisymm, cancel_positive, cross_arith, dvd_cross, mul_cancel, same_positive, single, single-at, single-elsewhere, TableauRow, Tableau, non_basic_of, gcd_with, IsDictionaryRow, dot, IsDictionary, gcd_of, unsigned_abs}
 use Rattle.std.proofs.Math.IntN.{*ℤ_comm}
+use Rattle.ta_linear.proofs.GcdLemmas.{dvd-gcd_of}
 use Rattle.ta_dense.proofs.Dot.{dot-change, dot-scaled}
 use Rattle.ta_dense.proofs.Primitive.{primitive_divisor}
 use Rattle.ta_dense.proofs.RowFacts.{record_same}
 use Rattle.ta_base.proofs.Integers.{once_and_nothing, none_and_once}
 
--- what divides the products with two numbers divides that with their greatest common divisor
-dvd-gcd_within : (k x n a b : ℕ) → k ∣ x * a → k ∣ x * b → k ∣ x * gcd_within n a b
-dvd-gcd_within k x zero a b p q = p
-dvd-gcd_within k x (suc n) a zero p q = p
-dvd-gcd_within k x (suc n) a (suc b) p q =
-    let e : x * a ≡ x * suc b * (a / suc b) + x * (a % suc b) = omega (arith, ap (λ (m : ℕ). x * m) (div-add-mod' a (suc b))) in
-    dvd-gcd_within k x n (suc b) (a % suc b) q ((dvd-add_iff_right k (dvd-mul_right_of_dvd k q (a / suc b))).1 (subst (λ (m : ℕ). k ∣ m) e p))
-
-dvd-gcd_of : (k x a b : ℕ) → k ∣ x * a → k ∣ x * b → k ∣ x * gcd_of a b
-unfolding gcd_of
-dvd-gcd_of k x a b p q = dvd-gcd_within k x (suc b) a b p q
-
+-- what divides the products with numbers divides that with their greatest common divisor
 dvd-gcd_with : (k x g : ℕ) (zs : List ℤ) → k ∣ x * g → ((i : ℕ) → i < length zs → k ∣ x * unsigned_abs (get_or zs i (pos 0))) → k ∣ x * gcd_with g zs
 dvd-gcd_with k x g [] p all = p
 dvd-gcd_with k x g (z ∷ zs) p all = dvd-gcd_with k x (gcd_of g (unsigned_abs z)) zs (dvd-gcd_of k x g (unsigned_abs z) p (all 0 (omega arith))) (λ i h. all (suc i) (omega arith))

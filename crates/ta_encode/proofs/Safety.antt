@@ -1,5 +1,5 @@
 -- a proof of a pattern shows that the pattern is safe
-use Rattle.ta_encode.proofs.Common.{◌≡◌, ◌⊎◌, inl, inr, ℕ, zero, suc, ◌+◌, ◌<◌, ◌≤◌, ◌^◌, ℤ, pos, negsuc, ◌-ℤ◌, ◌≤ℤ◌, ◌<ℤ◌, List, [], ◌∷◌, ◌++◌, map, length, get_or, true, arith, sym, ap, ◌∙◌, refl, subst, ints, false≢true, cases_Bool, zero-*ℤ, is_negative, negative_false, negative_true, one_times, cases_start, Automaton, Pattern, LoopsPure, Safe, In, range_with_len, Good, Element, Event, Rise, Fall, LegalUnder, is_complete, Bound, Low, High, only_at, side_row, bound_row, word_rows, sum_of_products, row_value, AllHold, Tree, Forest, Leaf, Ask, Split, Done, More, Pending, Search, bound_at, bounded, longer, bounded_rows, empty_word, pattern_search, IsLeaf, RefutesBy, RefuteEach, RefuteAll, ProofOf, Node, MayAsk, answered}
+use Rattle.ta_encode.proofs.Common.{◌≡◌, ◌⊎◌, inl, inr, ℕ, zero, suc, ◌+◌, ◌<◌, ◌≤◌, ◌^◌, ℤ, pos, negsuc, ◌-ℤ◌, ◌≤ℤ◌, ◌<ℤ◌, List, [], ◌∷◌, ◌++◌, map, length, get_or, true, arith, sym, ap, ◌∙◌, refl, subst, ints, cases_Bool, zero-*ℤ, is_negative, negative_false, negative_true, one_times, cases_start, Automaton, Pattern, LoopsPure, Safe, In, range_with_len, Good, Element, Event, Rise, Fall, LegalUnder, is_complete, Bound, Low, High, only_at, side_row, bound_row, word_rows, sum_of_products, row_value, AllHold, Tree, Forest, Leaf, Ask, Split, Done, More, Pending, Search, bound_at, bounded, longer, bounded_rows, empty_word, pattern_search, IsLeaf, RefutesBy, RefuteEach, RefuteAll, ProofOf, Node, MayAsk, answered}
 use Rattle.ta_words.specs.Words.{children}
 use Rattle.ta_encode.proofs.Asking.{answers_each, closed}
 use Rattle.ta_encode.proofs.Moments.{AllHold-append, AllHold-left}

@@ -1,5 +1,5 @@
 -- the sample system is what stands at the start of a pattern that asks for nothing
-use Rattle.ta_encode.proofs.Common.{◌≡◌, inl, inr, ℕ, ℤ, ◌+◌, ◌≤◌, List, [], ◌∷◌, ◌++◌, map, length, arith, sym, ap, ◌∙◌, refl, subst, length-append, get_or, slice_index, false≢true, true≢false, ints, length-map, has_none, none_kept_empty, each_index, Automaton, Pattern, In, range_with_len, Config, Initial, Fits, resilience_holds, Node, Meaning, Parameter, Start, start_locations, start_meanings, AllHold, High, LinearRow, Low, bound_row, condition_rows, opposite, processes_row, RefutedInOrder, IsLeaf, LeafTest, HasStart, SamplesStart, StartsAreSampled, sample_meanings, sample_rows, sample_search, sampled, Pending, bound_at, bounded, bounded_rows, Adds, AreWritten, Draft, append-nil, length-range_with_len, Element, MayAsk, true}
+use Rattle.ta_encode.proofs.Common.{◌≡◌, inl, inr, ℕ, ℤ, ◌+◌, ◌≤◌, List, [], ◌∷◌, ◌++◌, map, length, arith, sym, ap, ◌∙◌, refl, subst, length-append, get_or, slice_index, false≢true, ints, length-map, has_none, none_kept_empty, each_index, Automaton, Pattern, In, range_with_len, Config, Initial, Fits, resilience_holds, Node, Meaning, Parameter, Start, start_locations, start_meanings, AllHold, High, LinearRow, Low, bound_row, condition_rows, opposite, processes_row, RefutedInOrder, IsLeaf, LeafTest, HasStart, SamplesStart, StartsAreSampled, sample_meanings, sample_rows, sample_search, sampled, Pending, bound_at, bounded, bounded_rows, Adds, AreWritten, Draft, append-nil, length-range_with_len, Element, MayAsk, true}
 use Rattle.ta_cert.specs.declared.line.Node.TheVariants as node
 use Rattle.ta_encode.proofs.Adding.{adds_behind, adds_both, nothing_written}
 use Rattle.ta_encode.proofs.Asking.{complete_asks_none, only_asks}

@@ -1,5 +1,5 @@
 -- the system of a word with bounds, from that without
-use Rattle.ta_encode.proofs.Common.{◌≡◌, ◌≢◌, ℕ, zero, suc, ◌<◌, ◌≤◌, ◌^◌, ℤ, pos, negsuc, ◌+ℤ◌, ◌-ℤ◌, List, [], ◌∷◌, ◌++◌, map, get_or, arith, sym, ap, ◌∙◌, refl, subst, inl, inr, ints, below_append, InRange, IsNormal, coefficient, AllBelow, Form, Row, System, Element, LinearRow, Bound, Side, Low, High, only_at, bound_row, IsRowOf, AreRowsOf, SystemAt, Search, BoundWithin, BoundsWithin, append-nil, cases_eq, cond_apart, cond_same}
+use Rattle.ta_encode.proofs.Common.{◌≡◌, ◌≢◌, ℕ, zero, suc, ◌<◌, ◌≤◌, ◌^◌, ℤ, pos, negsuc, ◌+ℤ◌, ◌-ℤ◌, List, [], ◌∷◌, ◌++◌, map, get_or, arith, sym, ap, ◌∙◌, refl, subst, inl, inr, ints, below_append, InRange, IsNormal, coefficient, AllBelow, Form, Row, System, LinearRow, Bound, Side, Low, High, only_at, bound_row, IsRowOf, AreRowsOf, SystemAt, Search, BoundWithin, BoundsWithin, append-nil, cases_eq, cond_apart, cond_same}
 use Rattle.ta_encode.proofs.Running.{at_variable}
 use Rattle.ta_encode.proofs.Adding.{RowsOf-append}
 

@@ -1,5 +1,5 @@
 -- The search of a pattern: the words of this project's profile
-use Rattle.std.specs.Prelude.{ℕ, ◌^◌, List, [], length, map, Some}
+use Rattle.std.specs.Prelude.{ℕ, ◌^◌, List, [], length, map, Some, None}
 use Rattle.ta_automaton.specs.declared.automaton.Automaton.{Automaton}
 use Rattle.ta_automaton.specs.declared.pattern.Pattern.{Pattern}
 use Rattle.std.specs.List.{range_with_len}
@@ -25,6 +25,7 @@ pattern_search a p pairs = record {
   roots = all_starts a;
   answers = λ start past. only_extend (is_complete p past) (children a p pairs start past);
   question = λ start past values. Some node.Extend;
+  scaled = λ w values. None;
   unknowns = λ start past. length (meanings a p start past);
   rows = word_rows a p;
 }

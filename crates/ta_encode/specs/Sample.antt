@@ -29,6 +29,7 @@ sample_search a = record {
   roots = sampled [] ∷ [];
   answers = λ start past n. None;
   question = λ start past values. None;
+  scaled = λ w values. None;
   unknowns = λ start past. length (sample_meanings a);
   rows = λ start past. sample_rows a;
 }

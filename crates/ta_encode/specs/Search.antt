@@ -25,12 +25,14 @@ abbrev pub bound_at : ℕ → ℤ → Side → Bound
 bound_at unknown floor side = record { unknown = unknown; floor = floor; side = side }
 
 -- that with which a search begins; the facts of which a node that asks adds one, in order, where it may stand; the node that a maker
--- would have ask at a vertex, by the numerators and denominators of its values; how many unknowns a system has, and its rows, without
--- those of bounds. Each is told of a start and a past
+-- would have ask at a vertex, by the numerators and denominators of its values; the whole values that it takes in place of a vertex's where
+-- it asks nothing and these aren't all whole; how many unknowns a system has, and its rows, without those of bounds. Each is told of a
+-- start and a past
 pub record Search (E : Type 0) : Type 0 where
   pub roots : List (Pending E)
   pub answers : ℕ → List E → Node → Option (List E)
   pub question : ℕ → List E → List (ℤ × ℤ) → Option Node
+  pub scaled : Pending E → List (ℤ × ℤ) → Option (List ℤ)
   pub unknowns : ℕ → List E → ℕ
   pub rows : ℕ → List E → List LinearRow
 

@@ -8,14 +8,13 @@ ghost use Rattle.ta_words.specs.Words.{LegalWord};
 ghost use Rattle.ta_encode.specs.Unknowns.{meanings, start_meanings};
 
 use ta_automaton::{Automaton, Pattern};
-use ta_words::{Element, Task, Word, allowed_after};
+use ta_words::{Element, Task, allowed_after};
 
-/// How many unknowns the system of a word has. It takes no memory.
-pub fn unknown_count(task: Task<'_>, start_mask: u8, word: &Word) -> u32
-    requires { LegalWord task.automaton.now task.pattern.now start_mask (reverse word.now) }
-    ensures { result ≡ length (meanings task.entry.automaton.now task.entry.pattern.now start_mask (reverse word.now)) }
+/// How many unknowns the system of the word of these elements has. It takes no memory.
+pub fn unknown_count(task: Task<'_>, start_mask: u8, elements: &[Element]) -> u32
+    requires { LegalWord task.automaton.now task.pattern.now start_mask (reverse elements.now) }
+    ensures { result ≡ length (meanings task.entry.automaton.now task.entry.pattern.now start_mask (reverse elements.now)) }
 {
-    let elements = word.elements();
     let mut count = start_count(task.automaton, task.pattern);
     for (number, element) in elements.iter().enumerate() {
         count += element_count(task, start_mask, &elements[..number], *element);

@@ -24,7 +24,7 @@ use std::alloc::{AllocError, Global};
 use ta_base::List;
 use ta_base::limits::LONGEST_WORD;
 use ta_linear::{Row, System};
-use ta_words::{Element, Task, Word};
+use ta_words::{Element, Task};
 
 /// How many unknowns and rows there are after some of a word's elements.
 #[derive(Clone, Copy)]
@@ -247,24 +247,24 @@ impl Encoding {
         }
     }
 
-    /// The system of a word with bounds, as `encode` gives it, from that of another word of the
+    /// The system of the word of these elements with bounds, as `encode` gives it, from that of another word of the
     /// pattern: what both begin with isn't written anew. Only want of memory is an error.
     pub fn grown(
         self,
         alloc: Global,
         task: Task<'_>,
         start_mask: u8,
-        word: &Word,
+        elements: &[Element],
         bounds: &[Bound],
     ) -> Result<Grown, AllocError>
-        requires legal { LegalWord task.automaton.now task.pattern.now start_mask (reverse word.now) }
-        requires bounds { BoundsWithin (length (meanings task.automaton.now task.pattern.now start_mask (reverse word.now))) bounds.now }
+        requires legal { LegalWord task.automaton.now task.pattern.now start_mask (reverse elements.now) }
+        requires bounds { BoundsWithin (length (meanings task.automaton.now task.pattern.now start_mask (reverse elements.now))) bounds.now }
         requires encoding { IsEncoding task.automaton.now task.pattern.now self }
         ensures encoding { IfOk result (λ grown. IsEncoding task.entry.automaton.now task.entry.pattern.now grown.encoding) }
-        ensures system { IfOk result (λ grown. SystemOf task.entry.automaton.now task.entry.pattern.now start_mask (reverse word.now) bounds.now grown.encoding.system) }
+        ensures system { IfOk result (λ grown. SystemOf task.entry.automaton.now task.entry.pattern.now start_mask (reverse elements.now) bounds.now grown.encoding.system) }
         ensures same { IfOk result (λ grown. SameRows self.system.rows grown.same grown.encoding.system.rows) }
     {
-        self.grown_to(alloc, task, start_mask, word, None, bounds)
+        self.grown_to(alloc, task, start_mask, elements, None, bounds)
     }
 
     /// As `grown`, with rows of the word's end, where anything is asked of it, between those of the
@@ -274,19 +274,18 @@ impl Encoding {
         alloc: Global,
         task: Task<'_>,
         start_mask: u8,
-        word: &Word,
+        elements: &[Element],
         end: Option<WordEnd>,
         bounds: &[Bound],
     ) -> Result<Grown, AllocError>
-        requires legal { LegalWord task.automaton.now task.pattern.now start_mask (reverse word.now) }
-        requires bounds { BoundsWithin (length (meanings task.automaton.now task.pattern.now start_mask (reverse word.now))) bounds.now }
+        requires legal { LegalWord task.automaton.now task.pattern.now start_mask (reverse elements.now) }
+        requires bounds { BoundsWithin (length (meanings task.automaton.now task.pattern.now start_mask (reverse elements.now))) bounds.now }
         requires encoding { IsEncoding task.automaton.now task.pattern.now self }
         ensures encoding { IfOk result (λ grown. IsEncoding task.entry.automaton.now task.entry.pattern.now grown.encoding) }
-        ensures system { IfOk result (λ grown. EndedSystem task.entry.automaton.now task.entry.pattern.now start_mask (reverse word.now) end bounds.now grown.encoding.system) }
+        ensures system { IfOk result (λ grown. EndedSystem task.entry.automaton.now task.entry.pattern.now start_mask (reverse elements.now) end bounds.now grown.encoding.system) }
         ensures same { IfOk result (λ grown. SameRows self.system.rows grown.same grown.encoding.system.rows) }
     {
         let origin = Origin { task, start_mask };
-        let elements = word.elements();
         let part = part_of(alloc, &origin, elements, self)?;
         let grown = finish(&origin, elements, end, bounds, part)?;
         Ok(grown)

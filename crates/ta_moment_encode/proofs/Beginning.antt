@@ -25,12 +25,12 @@ unfoldable use Rattle.ta_moments.specs.Moments.{fresh}
 use Rattle.ta_moments.specs.Facts.{candidates}
 use Rattle.ta_moments.proofs.Speaking.{VectorSpeaks, speak_fresh, speak_number, times_less, event_less}
 use Rattle.std.proofs.lemmas.Bool.Decides.{eqb_tells}
-use Rattle.std.proofs.lemmas.List.{map-append}
 use Rattle.ta_moments.specs.Moments.{Moment}
 use Rattle.ta_moment_encode.specs.declared.moment.Moment.{Moment as Kept}
 use Rattle.ta_moment_encode.specs.Moments.{moment_of, moments_of}
 use Rattle.ta_moment_encode.specs.Forms.{SmallBy, SmallVector, form_of, forms_of, vector_of}
 use Rattle.ta_moment_encode.proofs.Forms.{form_same, small_minus, small_plus, small_more, small_number, small_unknown}
+use Rattle.ta_moment_encode.proofs.Lists.{mapped_more}
 
 row_form : (l : LinearRow) (r : Row) → IsRowOf l r → form_of r.form ≡ form_of_row l
 row_form l r h = form_same (form_of r.form) (form_of_row l) h.constant h.coefficients
@@ -137,7 +137,7 @@ event_is a p e first rules v is at h = h ∙ ap (λ k. fresh k rules (λ r. minu
 
 -- one more moment
 pub moments_more : (moments : List Kept) (moment : Kept) (begun : List Moment) (is : Moment) → moments_of moments ≡ begun → moment_of moment ≡ is → moments_of (moments ++ moment ∷ []) ≡ begun ++ is ∷ []
-moments_more moments moment begun is e h = map-append moment_of moments (moment ∷ []) ∙ ap (λ (xs : List Moment). xs ++ moment_of moment ∷ []) e ∙ ap (λ (m : Moment). begun ++ m ∷ []) h
+moments_more moments moment begun is e h = mapped_more moment_of moments moment begun is e h
 
 pub count_room : (a : Automaton) (p : Pattern) (e m starts : ℕ) → m ≡ length (moving_rules a p) → starts ≡ length (start_meanings a p) → e ≤ 8 → (e * m ≤ 1024) × (starts ≤ 48)
 count_room a p e m starts same begun events =

@@ -11,7 +11,7 @@ use Rattle.ta_moments.specs.Facts.{candidates, guards_of, is_open, may_be_stuck,
 use Rattle.ta_moments.specs.Forms.{form_of_row}
 use Rattle.ta_moments.specs.Moments.{Known, known}
 use Rattle.ta_moments.specs.Refutes.{Asking, Exists, Node, answers, known_at, root}
-use Rattle.ta_moments.specs.Searched.{answers_if_open, candidate_of, exists_as, moment_search, pending_of, row_of_form}
+use Rattle.ta_moments.specs.Searched.{Maker, answers_if_open, candidate_of, exists_as, moment_search, pending_of, row_of_form}
 use Rattle.ta_moment_encode.specs.Sizes.{AreAnswers, SearchStaysSmall}
 use Rattle.ta_moment_encode.proofs.Sizes.{stay_small}
 
@@ -52,8 +52,8 @@ may_answer a p asking k past e q h =
     let of = each_in (λ f. question_of f ≡ q) (answers a k q) e (answers_all a k q) some.1 in
     subst (λ (r : Question). MayAnswer a p asking k past r) (sym of) (both.0, exists_from a p asking k q both.1)
 
-module _ (a : Automaton) (p : Pattern) (asking : Asking) (question : ℕ → List Fact → List (ℤ × ℤ) → Option TreeNode) where
-  node_answers : (start : ℕ) (past : List Fact) (e : Fact) (n : TreeNode) → In e (answered (moment_search a p asking question) start past n) → MayAnswer a p asking (known a p asking.silent (candidate_of start) past) past (question_of e)
+module _ (a : Automaton) (p : Pattern) (asking : Asking) (maker : Maker) where
+  node_answers : (start : ℕ) (past : List Fact) (e : Fact) (n : TreeNode) → In e (answered (moment_search a p asking maker) start past n) → MayAnswer a p asking (known a p asking.silent (candidate_of start) past) past (question_of e)
   node_answers start past e (node.Guard g) h = may_answer a p asking (known a p asking.silent (candidate_of start) past) past e (OfGuard g) h
   node_answers start past e (node.Order x y) h = may_answer a p asking (known a p asking.silent (candidate_of start) past) past e (OfOrder x y) h
   node_answers start past e (node.Stuck r) h = may_answer a p asking (known a p asking.silent (candidate_of start) past) past e (OfStuck r) h
@@ -61,21 +61,21 @@ module _ (a : Automaton) (p : Pattern) (asking : Asking) (question : ℕ → Lis
   node_answers start past e (node.Split unknown floor) h = absurd h
   node_answers start past e (node.Leaf ts) h = absurd h
 
-  none_begins : (w : Pending Fact) (e : Fact) (past : List Fact) → In w (map (λ c. pending_of (root c)) (candidates p)) → w.past ≡ e ∷ past → ⊥
+  pub none_begins : (w : Pending Fact) (e : Fact) (past : List Fact) → In w (map (λ c. pending_of (root c)) (candidates p)) → w.past ≡ e ∷ past → ⊥
   none_begins w e past i h =
       let from = in_map (λ c. pending_of (root c)) w (candidates p) i in
       let empty : [] ≡ e ∷ past = sym (ap (λ (v : Pending Fact). v.past) from.2) ∙ h in
       absurd (cc)
 
-  come_answers : (start : ℕ) (past : List Fact) → Comes (moment_search a p asking question) start past → AreAnswers a p asking (candidate_of start) past
+  pub come_answers : (start : ℕ) (past : List Fact) → Comes (moment_search a p asking maker) start past → AreAnswers a p asking (candidate_of start) past
   come_answers start [] h = tt
   come_answers start (e ∷ past) (inl h) = absurd (none_begins h.0 e past h.1 h.3)
   come_answers start (e ∷ past) (inr h) = (let may = node_answers start past e h.0.0 h.0.1 in (may.0, may.1, come_answers start past h.1))
 
 pub search_small : SearchStaysSmall
-search_small a p over asking question w h =
+search_small a p over asking maker w h =
     let is : Node = record { candidate = candidate_of w.start; past = w.past; bounds = w.bounds } in
-    let small = stay_small a p over asking is (come_answers a p asking question w.start w.past h) in
+    let small = stay_small a p over asking is (come_answers a p asking maker w.start w.past h) in
     let k = known_at a p asking is in
     let rows = map (row_of_form k.unknowns) k.rows in
     omega (arith, small, length-append k.rows (map (λ b. form_of_row (bound_row b)) w.bounds), length-map w.bounds (λ b. form_of_row (bound_row b)), length-append rows (map bound_row w.bounds), length-map w.bounds bound_row, length-map k.rows (row_of_form k.unknowns))

@@ -6,14 +6,14 @@ use Rattle.ta_moments.specs.Moments.{Moment, known}
 use Rattle.ta_moments.specs.Forms.{UnknownForm}
 use Rattle.ta_moments.proofs.Speaking.{nodes_begin}
 
-front_on : {X : Type 0} (one two three new : List X) → IsBehind one two → three ≡ two ++ new → IsBehind one three
+pub front_on : {X : Type 0} (one two three new : List X) → IsBehind one two → three ≡ two ++ new → IsBehind one three
 front_on one two three new h e = record { more = h.more ++ new; is = e ∙ ap (λ xs. xs ++ new) h.is ∙ append_assoc one h.more new }
 
-rows_front : (a : Automaton) (p : Pattern) (silent : List ℕ) (c : Option ℕ) (newer past : List Fact) → IsBehind (known a p silent c past).rows (known a p silent c (newer ++ past)).rows
+pub rows_front : (a : Automaton) (p : Pattern) (silent : List ℕ) (c : Option ℕ) (newer past : List Fact) → IsBehind (known a p silent c past).rows (known a p silent c (newer ++ past)).rows
 rows_front a p silent c [] past = record { more = []; is = sym (append-nil _) }
 rows_front a p silent c (fact ∷ newer) past = (let next = nodes_begin a p silent c (newer ++ past) fact in front_on _ _ _ next.new_rows (rows_front a p silent c newer past) next.rows)
 
-moments_front : (a : Automaton) (p : Pattern) (silent : List ℕ) (c : Option ℕ) (newer past : List Fact) → IsBehind (known a p silent c past).moments (known a p silent c (newer ++ past)).moments
+pub moments_front : (a : Automaton) (p : Pattern) (silent : List ℕ) (c : Option ℕ) (newer past : List Fact) → IsBehind (known a p silent c past).moments (known a p silent c (newer ++ past)).moments
 moments_front a p silent c [] past = record { more = []; is = sym (append-nil _) }
 moments_front a p silent c (fact ∷ newer) past = (let next = nodes_begin a p silent c (newer ++ past) fact in front_on _ _ _ next.new_moments (moments_front a p silent c newer past) next.moments)
 

@@ -5,15 +5,16 @@ mod Sparse
 mod Forms
 mod Sums
 mod Adding
-mod Lists
+pub mod Lists
 mod Smallness
 mod Starts
 mod Vectors
-mod Beginning
+pub mod Beginning
 mod AddedFacts
-mod Fitting
+pub mod Fitting
+mod PartsAtEnd
 mod Copies
 mod Sizes
-mod Coming
-mod Cutting
-mod Systems
+pub mod Coming
+pub mod Cutting
+pub mod Systems

@@ -44,6 +44,10 @@ map_numbers f n =
     let here : 0 + n ≡ n = omega arith in
     sym (ap (map f) (numbers_more 0 n ∙ ap (λ k. range_with_len 0 n ++ k ∷ []) here) ∙ map-append f (range_with_len 0 n) (n ∷ []))
 
+-- one more item, and what it becomes
+pub mapped_more : {X Y : Type 0} (f : X → Y) (xs : List X) (x : X) (ys : List Y) (y : Y) → map f xs ≡ ys → f x ≡ y → map f (xs ++ x ∷ []) ≡ ys ++ y ∷ []
+mapped_more f xs x ys y e h = map-append f xs (x ∷ []) ∙ ap (λ zs. zs ++ f x ∷ []) e ∙ ap (λ z. ys ++ z ∷ []) h
+
 flat_one : {X : Type 0} (g : ℕ → List X) (xs : List ℕ) (n : ℕ) → flat_map g (xs ++ n ∷ []) ≡ flat_map g xs ++ g n
 flat_one g xs n = flat_map-append g xs (n ∷ []) ∙ ap (λ ys. flat_map g xs ++ ys) (append-nil (g n))
 

@@ -15,6 +15,10 @@ form_of form = record { constant = form.constant; coefficient = λ u. coefficien
 abbrev pub forms_of : List Row → List UnknownForm
 forms_of rows = map (λ (row : Row). form_of row.form) rows
 
+-- what forms say, in order
+abbrev pub all_forms : List Form → List UnknownForm
+all_forms forms = map form_of forms
+
 -- what a form says; 0 where there is none
 abbrev pub form_in : Option Form → UnknownForm
 form_in None = number_form (pos 0)

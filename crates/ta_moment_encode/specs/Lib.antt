@@ -5,6 +5,7 @@ pub mod Moments
 pub mod Draft
 pub mod Plain
 pub mod Nodes
+pub mod Parts
 pub mod Systems
 pub mod Sizes
 pub mod Cuts

@@ -8,7 +8,7 @@ use Rattle.ta_moments.specs.Facts.{is_open, question_of}
 use Rattle.ta_cert.specs.declared.line.Node.{Node as TreeNode}
 use Rattle.ta_encode.specs.Search.{Comes, Pending, bounded_rows}
 use Rattle.ta_moments.specs.Moments.{known}
-use Rattle.ta_moments.specs.Searched.{moment_search}
+use Rattle.ta_moments.specs.Searched.{Maker, moment_search}
 use Rattle.ta_moments.specs.Refutes.{Asking, Exists, Node, known_at, node_rows}
 
 -- each fact answers a question that could be asked before it: it was open and existed
@@ -30,5 +30,5 @@ NodesStaySmall =
 abbrev pub SearchStaysSmall : Type 0
 SearchStaysSmall =
     (a : Automaton) (p : Pattern) → PatternOver a p
-    → (asking : Asking) (question : ℕ → List Fact → List (ℤ × ℤ) → Option TreeNode) (w : Pending Fact) → Comes (moment_search a p asking question) w.start w.past
-    → (moment_search a p asking question).unknowns w.start w.past + length (bounded_rows (moment_search a p asking question) w) < 1000000 + length w.bounds
+    → (asking : Asking) (maker : Maker) (w : Pending Fact) → Comes (moment_search a p asking maker) w.start w.past
+    → (moment_search a p asking maker).unknowns w.start w.past + length (bounded_rows (moment_search a p asking maker) w) < 1000000 + length w.bounds

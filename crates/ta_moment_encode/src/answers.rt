@@ -9,7 +9,7 @@ ghost use Rattle.ta_moments.specs.declared.fact.Fact.TheVariants.{Never, First, 
 ghost use Rattle.ta_moments.specs.Moments.{Known, known};
 ghost use Rattle.ta_moments.specs.Refutes.{Asking, answers, are_pairs};
 ghost use Rattle.ta_moments.specs.Searched.{answers_if_open, asking_node, moment_search, start_of};
-ghost use Rattle.ta_moments.specs.Certified.{Maker};
+ghost use Rattle.ta_moments.specs.Searched.{Maker};
 ghost use Rattle.ta_encode.specs.Search.{asked};
 ghost use Rattle.ta_moment_encode.specs.Moments.{moment_of, moments_of};
 ghost use Rattle.ta_moment_encode.specs.Nodes.{IsNode};

@@ -8,7 +8,7 @@ ghost use Rattle.ta_moments.specs.declared.fact.Fact.{Fact};
 ghost use Rattle.ta_moments.specs.Moments.{known};
 ghost use Rattle.ta_moments.specs.Refutes.{Asking, Exists, root};
 ghost use Rattle.ta_automaton.specs.declared.automaton.Automaton.{Automaton};
-ghost use Rattle.ta_moments.specs.Certified.{Maker};
+ghost use Rattle.ta_moments.specs.Searched.{Maker};
 ghost use Rattle.ta_moments.specs.Searched.{exists_as, moment_search, pending_of};
 ghost use Rattle.ta_moment_encode.specs.Nodes.{IsNode};
 
@@ -23,7 +23,7 @@ use ta_moments::Question;
 use ta_words::Task;
 
 /// Whether some event comes after one.
-fn has_later(pattern: &Pattern, event: usize) -> bool
+pub fn has_later(pattern: &Pattern, event: usize) -> bool
     ensures { result ≡ has_later pattern.now event }
 {
     for other in 0..pattern.events.as_slice().len() {
@@ -64,7 +64,7 @@ pub fn candidates(alloc: Global, task: Task<'_>) -> Result<List<Option<u32>>, Al
 }
 
 /// Whether it may be asked what keeps a rule from firing.
-fn may_be_stuck(automaton: &Automaton, pattern: &Pattern, rule: u32) -> bool
+pub fn may_be_stuck(automaton: &Automaton, pattern: &Pattern, rule: u32) -> bool
     ensures { result ≡ may_be_stuck pattern.now (slice_get automaton.now.rules rule) }
 {
     match automaton.rules.as_slice().get(rule as usize) {
@@ -77,7 +77,7 @@ fn may_be_stuck(automaton: &Automaton, pattern: &Pattern, rule: u32) -> bool
 }
 
 /// Whether a guard has this number.
-fn is_guard(automaton: &Automaton, guard: u32) -> bool
+pub fn is_guard(automaton: &Automaton, guard: u32) -> bool
     ensures { result ≡ nat_lt guard (length automaton.now.rise + length automaton.now.fall) }
 {
     let guards = automaton.rise.as_slice().len() + automaton.fall.as_slice().len();

@@ -19,7 +19,7 @@ pub enum Moment {
 
 impl Moment {
     /// The vector of the first position.
-    pub(crate) fn early(&self) -> &[Form]
+    pub fn early(&self) -> &[Form]
         ensures { vector_of result.now ≡ early (moment_of self.now) }
     {
         match self {
@@ -29,7 +29,7 @@ impl Moment {
     }
 
     /// The vector of the last position.
-    pub(crate) fn late(&self) -> &[Form]
+    pub fn late(&self) -> &[Form]
         ensures { vector_of result.now ≡ late (moment_of self.now) }
     {
         match self {

@@ -35,7 +35,7 @@ pub(crate) fn is_in(mask: u32, number: usize) -> bool
 }
 
 /// Whether a rule moves a process between locations that aren't kept empty.
-fn is_moving(automaton: &Automaton, pattern: &Pattern, rule: usize) -> bool
+pub fn is_moving(automaton: &Automaton, pattern: &Pattern, rule: usize) -> bool
     ensures { result ≡ is_moving pattern.now (slice_get automaton.now.rules rule) }
 {
     match automaton.rules.as_slice().get(rule) {
@@ -66,7 +66,7 @@ pub(crate) fn moving_rules(
 }
 
 /// Whether a rule has a guard.
-pub(crate) fn has_guard(automaton: &Automaton, guard: u32, rule: u32) -> bool
+pub fn has_guard(automaton: &Automaton, guard: u32, rule: u32) -> bool
     ensures { result ≡ has_guard automaton.now guard (slice_get automaton.now.rules rule) }
 {
     let rises = automaton.rise.as_slice().len() as u32;

@@ -1,12 +1,12 @@
 //! Rows of guards without the terms of silent places, and of vacant locations.
 #![tactic(auto)]
 
-ghost use Rattle.std.specs.Prelude.{◌≡◌, OnOk, IfOk, map, slice_get};
+ghost use Rattle.std.specs.Prelude.{◌^◌, ◌≡◌, ◌∷◌, [], OnOk, IfOk, Some, map, slice_get};
 ghost use Rattle.ta_encode.specs.Lines.{SmallTerms};
 ghost use Rattle.ta_moments.specs.Forms.{negated_form, opposite_form};
 ghost use Rattle.ta_moments.specs.Moments.{guards, quiet_at, source_at};
 ghost use Rattle.ta_rest.specs.Quiet.{is_silent, loud_terms};
-ghost use Rattle.ta_moment_encode.specs.Forms.{SmallVector, vector_of};
+ghost use Rattle.ta_moment_encode.specs.Forms.{SmallBy, SmallVector, form_of, vector_of};
 ghost use Rattle.ta_moment_encode.specs.Plan.{IsPlan};
 ghost use Rattle.ta_moment_encode.specs.Rows.{AddsForms};
 
@@ -48,6 +48,26 @@ fn loud_terms(
     Ok(loud)
 }
 
+/// The row of a guard, by its number, at a vector, without the terms of silent places.
+pub(crate) fn quiet_form(
+    plan: &Plan,
+    silent: &[u32],
+    vector: &[Form],
+    guard: u32,
+    row: &Row,
+) -> Result<Form, AllocError>
+    requires plan { IsPlan plan.now }
+    requires vector { SmallVector 3 (vector_of vector.now) }
+    requires row { slice_get (guards plan.now.task.automaton.now) guard ≡ Some row.now }
+    ensures value { IfOk result (λ form. form_of form ∷ [] ≡ quiet_at plan.now.task.automaton.now plan.now.task.pattern.now silent.now (vector_of vector.now) (Some row.now)) }
+    ensures small { IfOk result (λ form. SmallBy (2 ^ 119) (form_of form)) }
+{
+    let _guard = guard;
+    let loud = loud_terms(plan.alloc, silent, row.form.terms.as_slice())?;
+    let form = form_at(plan, vector, row.form.constant, loud.as_slice())?;
+    Ok(form)
+}
+
 /// The negated row of a guard at a vector, without the terms of silent places.
 pub(crate) fn push_failing(
     plan: &Plan,
@@ -63,8 +83,7 @@ pub(crate) fn push_failing(
     match guard_row(plan.task.automaton, guard) {
         None => Ok(()),
         Some(row) => {
-            let loud = loud_terms(plan.alloc, silent, row.form.terms.as_slice())?;
-            let form = form_at(plan, vector, row.form.constant, loud.as_slice())?;
+            let form = quiet_form(plan, silent, vector, guard, row)?;
             let turned = negated(plan.alloc, &form)?;
             push_form(turned, rows)?;
             Ok(())

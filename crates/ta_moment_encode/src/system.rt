@@ -1,8 +1,7 @@
 //! The system of a node with bounds.
 #![tactic(auto)]
 
-ghost use Rattle.std.specs.Prelude.{ℕ, ℤ, ◌^◌, ◌<◌, ◌≡◌, ◌≤ℤ◌, ◌<ℤ◌, ◌≤◌, IfOk, List as Items, OnOk, Option, length, pos, unsigned_abs};
-ghost use Rattle.ta_cert.specs.declared.line.Node.{Node as TreeNode};
+ghost use Rattle.std.specs.Prelude.{ℕ, ◌^◌, ◌<◌, ◌≡◌, ◌≤ℤ◌, ◌<ℤ◌, ◌≤◌, IfOk, List as Items, OnOk, Option, length, pos, unsigned_abs};
 ghost use Rattle.ta_encode.specs.Code.{SystemAt};
 ghost use Rattle.ta_encode.specs.Inside.Lines.{IsBehind, bound_constant, bound_sense};
 ghost use Rattle.ta_encode.specs.Lines.{BoundsWithin, coefficient_in_sense};
@@ -12,7 +11,7 @@ ghost use Rattle.ta_linear.specs.declared.row.Row.{Row as WrittenRow};
 ghost use Rattle.ta_moments.specs.Code.{NodeSystem};
 ghost use Rattle.ta_moments.specs.declared.fact.Fact.{Fact};
 ghost use Rattle.ta_moments.specs.Refutes.{Asking};
-ghost use Rattle.ta_moments.specs.Searched.{moment_search, pending_of};
+ghost use Rattle.ta_moments.specs.Searched.{Maker, moment_search, pending_of};
 ghost use Rattle.ta_moment_encode.specs.Forms.{form_of};
 ghost use Rattle.ta_moment_encode.specs.Nodes.{IsAnyNode, IsNode};
 ghost use Rattle.ta_moment_encode.specs.Rows.{AddsForms};
@@ -123,8 +122,8 @@ impl<'a> MomentEncoding<'a> {
         requires bounds { BoundsWithin self.now.draft.unknowns bounds.now }
         ensures system { IfOk result (λ system. (asking : Asking) (candidate : Option ℕ) (past : Items Fact) → IsNode asking.silent candidate past self.now
             → NodeSystem self.now.plan.task.automaton.now self.now.plan.task.pattern.now asking (bounded_node candidate past bounds.now) system) }
-        ensures search { IfOk result (λ system. (asking : Asking) (question : ℕ → Items Fact → Items (ℤ × ℤ) → Option TreeNode) (candidate : Option ℕ) (past : Items Fact) → IsNode asking.silent candidate past self.now
-            → SystemAt (moment_search self.now.plan.task.automaton.now self.now.plan.task.pattern.now asking question) (pending_of (bounded_node candidate past bounds.now)) system) }
+        ensures search { IfOk result (λ system. (asking : Asking) (maker : Maker) (candidate : Option ℕ) (past : Items Fact) → IsNode asking.silent candidate past self.now
+            → SystemAt (moment_search self.now.plan.task.automaton.now self.now.plan.task.pattern.now asking maker) (pending_of (bounded_node candidate past bounds.now)) system) }
         ensures rows { IfOk result (λ system. IsBehind self.now.draft.rows.items system.rows) }
         ensures same { IfOk result (λ system. (above before : Items WrittenRow) → IsBehind above self.now.draft.rows.items → IsBehind above before → SameRows before (length above) system.rows) }
     {

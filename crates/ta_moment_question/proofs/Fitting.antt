@@ -7,10 +7,10 @@ use Rattle.std.proofs.lemmas.Int.{unsigned_abs-mul}
 use Rattle.ta_linear.specs.Numbers.{InRange}
 use Rattle.ta_moments.specs.Questions.{fits, if_fits, with_product, with_products}
 
-fits_in : (z : ℤ) → InRange z → fits z ≡ true
+pub fits_in : (z : ℤ) → InRange z → fits z ≡ true
 fits_in z h = let less : unsigned_abs z < 2 ^ 127 = h in grind (arith, nat_tests)
 
-fits_not : (z : ℤ) → ¬ InRange z → fits z ≡ false
+pub fits_not : (z : ℤ) → ¬ InRange z → fits z ≡ false
 fits_not z h = elim (cases_lt (unsigned_abs z) (2 ^ 127)) [
   | inl less ↦ absurd (h less)
   | inr more ↦ grind (arith, nat_tests)

@@ -1,3 +1,1 @@
-pub mod Forms
-pub mod Moments
-pub mod Parts
+pub mod Values

@@ -5,7 +5,8 @@ ghost use Rattle.std.specs.Prelude.{ℤ, ◌≡◌, ◌≢◌, ◌<◌, length, 
 ghost use Rattle.ta_linear.specs.Numbers.{InRange};
 ghost use Rattle.ta_moments.specs.Forms.{minus_form};
 ghost use Rattle.ta_moments.specs.Questions.{counts_natural, counts_negative, counts_positive, if_fits, is_known_natural, known_value, with_product};
-ghost use Rattle.ta_moment_question.specs.Forms.{form_in, form_of, values_of, vector_of};
+ghost use Rattle.ta_moment_encode.specs.Forms.{form_in, form_of, vector_of};
+ghost use Rattle.ta_moment_question.specs.Values.{values_of};
 
 use crate::vertex::Vertex;
 use ta_linear::{Form, minus, multiply, plus};

@@ -2,13 +2,9 @@
 #![tactic(auto)]
 
 mod known;
-mod moment;
 mod orders;
-mod parts;
 mod question;
 mod vertex;
 
-pub use moment::Moment;
-pub use parts::{GuardAtEnd, NodeParts, RuleAtEnd};
 pub use question::next_question;
 pub use vertex::Vertex;

@@ -3,13 +3,14 @@
 
 ghost use Rattle.std.specs.Prelude.{◌≡◌, ◌<◌, ◌≤◌, ◌^◌, length, option_copied};
 ghost use Rattle.ta_moments.specs.Questions.{is_at_most, is_same_step, is_settled, is_order_open, order_before, order_to_ask};
-ghost use Rattle.ta_moment_question.specs.Forms.{values_of, vector_of};
-ghost use Rattle.ta_moment_question.specs.Moments.{moment_of, moments_of};
+ghost use Rattle.ta_moment_encode.specs.Forms.{vector_of};
+ghost use Rattle.ta_moment_question.specs.Values.{values_of};
+ghost use Rattle.ta_moment_encode.specs.Moments.{moment_of, moments_of};
 
 use crate::known::{is_at_least, of_rule};
-use crate::moment::Moment;
 use crate::vertex::Vertex;
 use ta_linear::Form;
+use ta_moment_encode::Moment;
 use ta_moments::{Fact, Question, is_open};
 
 /// Whether no moving rule has fewer firings in the second vector, as far as that is known.

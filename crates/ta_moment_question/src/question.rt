@@ -8,14 +8,15 @@ ghost use Rattle.ta_automaton.specs.declared.automaton.Automaton.{Automaton};
 ghost use Rattle.ta_automaton.specs.declared.pattern.Pattern.{Pattern};
 ghost use Rattle.ta_moments.specs.Refutes.{Asking, Node};
 ghost use Rattle.ta_moments.specs.Questions.{GuardAtEnd as KnownGuard, RuleAtEnd as KnownRule, counts_natural, counts_positive, fails_at_end, guard_to_ask, is_guard_open, is_rule_open, known_value, next_question, parts_at, question_among, rule_to_ask, would_fire};
-ghost use Rattle.ta_moment_question.specs.Forms.{all_forms, values_of, vector_of};
-ghost use Rattle.ta_moment_question.specs.Parts.{guard_of, parts_of, rule_of};
+ghost use Rattle.ta_moment_encode.specs.Forms.{all_forms, vector_of};
+ghost use Rattle.ta_moment_question.specs.Values.{values_of};
+ghost use Rattle.ta_moment_encode.specs.Parts.{guard_of, parts_of, rule_of};
 
 use crate::known::{counts_natural, counts_negative, counts_positive, of_rule};
 use crate::orders::order_to_ask;
-use crate::parts::{GuardAtEnd, NodeParts, RuleAtEnd};
 use crate::vertex::Vertex;
 use ta_linear::Form;
+use ta_moment_encode::{GuardAtEnd, NodeParts, RuleAtEnd};
 use ta_moments::{Fact, Question, is_open};
 
 /// Whether some rule that needs a guard fires before the end.
@@ -134,15 +135,14 @@ fn rule_to_ask(facts: &[Fact], vertex: Option<&Vertex>, rules: &[RuleAtEnd]) -> 
 
 /// The question that is asked next with these facts and parts.
 fn question_among(facts: &[Fact], parts: &NodeParts, vertex: Option<&Vertex>) -> Option<Question>
-    requires { length parts.now.moments ≤ 2 ^ 32 }
+    requires { length parts.now.moments.now ≤ 2 ^ 32 }
     ensures { result ≡ question_among facts.now (values_of (option_copied vertex.entry)) (parts_of parts.now) }
 {
     let guards = parts.guards.as_slice();
-    if let Some(guard) = guard_to_ask(facts, vertex, parts.end.as_slice(), guards) {
+    if let Some(guard) = guard_to_ask(facts, vertex, parts.end, guards) {
         return Some(Question::OfGuard(guard));
     }
-    let moments = parts.moments.as_slice();
-    if let Some(order) = order_to_ask(parts.moving.as_slice(), facts, moments, vertex) {
+    if let Some(order) = order_to_ask(parts.moving, facts, parts.moments, vertex) {
         return Some(order);
     }
     match rule_to_ask(facts, vertex, parts.rules.as_slice()) {
@@ -154,7 +154,7 @@ fn question_among(facts: &[Fact], parts: &NodeParts, vertex: Option<&Vertex>) ->
 /// The question that is asked next at a node with these facts, the newest first, and these parts, at a
 /// vertex of its system; without a vertex no value is known.
 pub fn next_question(facts: &[Fact], parts: &NodeParts, vertex: Option<&Vertex>) -> Option<Question>
-    requires { length parts.now.moments ≤ 2 ^ 32 }
+    requires { length parts.now.moments.now ≤ 2 ^ 32 }
     ensures among { result ≡ question_among facts.now (values_of (option_copied vertex.entry)) (parts_of parts.now) }
     ensures node { (a : Automaton) (p : Pattern) (asking : Asking) (node : Node) → facts.now ≡ node.past → parts_of parts.now ≡ parts_at a p asking node → result ≡ next_question a p asking node (values_of (option_copied vertex.entry)) }
 {

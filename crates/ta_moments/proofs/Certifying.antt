@@ -7,8 +7,8 @@ use Rattle.ta_encode.specs.Search.{Pending}
 use Rattle.ta_encode.specs.Refutes.{IsLeaf}
 use Rattle.ta_encode.specs.InPreorder.{RefutedInOrder as NodesRefute}
 use Rattle.ta_moments.specs.InPreorder.{Line, OfLeaf, OfSplit, OfAsk, all_lines}
-use Rattle.ta_moments.specs.Searched.{AreListed, moment_search, node_in, pending_of}
-use Rattle.ta_moments.specs.Certified.{Maker, MomentNodesAreProofs, MomentNodesShowSafety, MomentRestNodesShow, MomentRestNodesShowOfFairRuns, MomentRestNodesShowSafety, RefuteRoots}
+use Rattle.ta_moments.specs.Searched.{AreListed, Maker, moment_search, node_in, pending_of}
+use Rattle.ta_moments.specs.Certified.{MomentNodesAreProofs, MomentNodesShowSafety, MomentRestNodesShow, MomentRestNodesShowOfFairRuns, MomentRestNodesShowSafety, RefuteRoots}
 use Rattle.ta_moments.proofs.Ending.{fair_shows, rest_shows}
 use Rattle.ta_moments.proofs.Preorders.{in_order}
 use Rattle.ta_moments.proofs.Refuting.{rest_safety, safety}

@@ -4,8 +4,6 @@ use Rattle.std.specs.Prelude.{◌↔◌, nat_lt, ◌&&◌, slice_index_or}
 use Rattle.std.specs.Option.{is_some}
 use Rattle.std.proofs.lemmas.Bool.Decides.{nat_tests}
 use Rattle.ta_linear.specs.Leaf.{AreMultipliers, weighted}
-use Rattle.ta_cert.specs.declared.line.Node.{Node as TreeNode}
-use Rattle.ta_cert.specs.declared.line.Node.TheVariants as node
 use Rattle.ta_encode.specs.Search.{Pending, Search, all_or_none, longer, parts as parts_in}
 use Rattle.ta_encode.specs.Refutes.{IsLeaf, LeafOfRows, linear_coefficient_in, linear_constant_in}
 use Rattle.ta_encode.specs.InPreorder.{MayStand as StandsIn, RefutedInOrder as NodesRefute}
@@ -14,9 +12,9 @@ use Rattle.ta_moments.specs.Facts.{is_open}
 use Rattle.ta_moments.specs.Forms.{LeafOfForms}
 use Rattle.ta_moments.specs.Laws.{Speaks}
 use Rattle.ta_moments.specs.Moments.{known}
-use Rattle.ta_moments.specs.Refutes.{Exists, answered, answers, bounded_node, known_at, node_rows}
+use Rattle.ta_moments.specs.Refutes.{Exists, answered, answers, known_at, node_rows}
 use Rattle.ta_moments.specs.InPreorder.{Line, OfLeaf, OfSplit, OfAsk, MayStand, RefutedInOrder, parts}
-use Rattle.ta_moments.specs.Searched.{AreListed, MomentsAreASearch, answers_if_open, asking_node, candidate_of, exists_as, moment_search, node_in, pending_of, question_in, row_of_form, start_of}
+use Rattle.ta_moments.specs.Searched.{AreListed, Maker, MomentsAreASearch, answers_if_open, candidate_of, exists_as, moment_search, node_in, pending_of, row_of_form, start_of}
 use Rattle.ta_moments.proofs.Speaking.{rows_speak}
 
 -- ---- rows
@@ -129,7 +127,7 @@ listed_parts a p asking n (OfLeaf ts) listed = tt
 listed_parts a p asking n (OfSplit unknown floor) listed = (listed, (listed, tt))
 listed_parts a p asking n (OfAsk question) listed = listed_answers p n (answers a (known_at a p asking n) question) listed
 
-module _ (a : Automaton) (p : Pattern) (asking : Asking) (question : ℕ → List Fact → List (ℤ × ℤ) → Option TreeNode) where
+module _ (a : Automaton) (p : Pattern) (asking : Asking) (question : Maker) where
   abbrev search : Search Fact
   search = moment_search a p asking question
 

@@ -1,5 +1,5 @@
 -- What the nodes of a certificate say of runs, where they are read as those of a search of moments
-use Rattle.std.specs.Prelude.{ℕ, ℤ, ◌≡◌, ◌≤◌, ◌↔◌, List, length, map, slice_get, Option, Some}
+use Rattle.std.specs.Prelude.{ℕ, ◌≡◌, ◌≤◌, ◌↔◌, List, length, map, slice_get, Some}
 use Rattle.ta_automaton.specs.declared.automaton.Automaton.{Automaton}
 use Rattle.ta_automaton.specs.declared.file.File.{File}
 use Rattle.ta_automaton.specs.declared.pattern.Pattern.{Pattern}
@@ -11,16 +11,12 @@ use Rattle.ta_encode.specs.Search.{Search}
 use Rattle.ta_moments.specs.Facts.{Fact}
 use Rattle.ta_moments.specs.InPreorder.{all_lines}
 use Rattle.ta_moments.specs.Refutes.{Asking, MomentTree, ProofAsking, of_events, of_rest}
-use Rattle.ta_moments.specs.Searched.{moment_search, node_in}
+use Rattle.ta_moments.specs.Searched.{Maker, moment_search, node_in}
 use Rattle.ta_scope.specs.LongerCycles.{LoopsAlone}
 use Rattle.ta_rest.specs.Endings.{IsEnding}
 use Rattle.ta_rest.specs.Quiet.{QuietRestSafe}
 use Rattle.ta_rest.specs.Rest.{ComeAfterEarlier}
 use Rattle.ta_fair.specs.Fair.{FairlySafe}
-
--- what a maker asks at a vertex
-abbrev pub Maker : Type 0
-Maker = ℕ → List Fact → List (ℤ × ℤ) → Option TreeNode
 
 -- nodes refute in order that with which a search begins, with leaves of its rows
 abbrev pub RefuteRoots : Search Fact → List TreeNode → Type 0

@@ -79,19 +79,23 @@ pub record RuleAtEnd : Type 0 where
   pub sources : List UnknownForm
   pub rows : List UnknownForm
 
--- the guards, by number
-abbrev pub guards_at_end : Automaton → Pattern → Vector → List GuardAtEnd
-guards_at_end a p end =
-    map (λ g. record { number = g; needing = needing a p g; rows = guard_at a p end (slice_get (guards a) g) }) (range_with_len 0 (length (guards a)))
+-- a guard, and the guards, by number
+abbrev pub guard_at_end : Automaton → Pattern → Vector → ℕ → GuardAtEnd
+guard_at_end a p end g = record { number = g; needing = needing a p g; rows = guard_at a p end (slice_get (guards a) g) }
 
--- the rules that may be stuck, by number
+abbrev pub guards_at_end : Automaton → Pattern → Vector → List GuardAtEnd
+guards_at_end a p end = map (guard_at_end a p end) (range_with_len 0 (length (guards a)))
+
+-- a rule, and the rules that may be stuck, by number
+abbrev pub rule_at_end : Automaton → Pattern → List ℕ → Vector → ℕ → RuleAtEnd
+rule_at_end a p silent end r = record {
+  number = r;
+  sources = source_at a p end (slice_get a.rules r);
+  rows = flat_map (λ g. quiet_at a p silent end (slice_get (guards a) g)) (guards_of a (slice_get a.rules r));
+}
+
 abbrev pub rules_at_end : Automaton → Pattern → List ℕ → Vector → List RuleAtEnd
-rules_at_end a p silent end =
-    map (λ r. record {
-      number = r;
-      sources = source_at a p end (slice_get a.rules r);
-      rows = flat_map (λ g. quiet_at a p silent end (slice_get (guards a) g)) (guards_of a (slice_get a.rules r));
-    }) (filter (λ r. may_be_stuck p (slice_get a.rules r)) (range_with_len 0 (length a.rules)))
+rules_at_end a p silent end = map (rule_at_end a p silent end) (filter (λ r. may_be_stuck p (slice_get a.rules r)) (range_with_len 0 (length a.rules)))
 
 -- all that a node's question may be of: the moving rules, the vector of the end, the guards, the moments, and at rest the rules
 pub record Parts : Type 0 where

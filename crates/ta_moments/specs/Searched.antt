@@ -1,6 +1,6 @@
 -- Moments on demand as a search: its starts are the candidates, its facts those of moments, and what it asks are the questions of a
 -- certificate's nodes
-use Rattle.std.specs.Prelude.{ℕ, ℤ, suc, zero, ◌+◌, ◌≡◌, ◌↔◌, true, ◌&&◌, Bool, nat_lt, cond, List, [], ◌∷◌, length, map, slice_get, Option, Some, None}
+use Rattle.std.specs.Prelude.{ℕ, ℤ, suc, zero, ◌+◌, ◌↔◌, ◌&&◌, Bool, nat_lt, cond, List, length, map, slice_get, Option, Some, None}
 use Rattle.std.specs.List.{AllByRecursion, range_with_len}
 use Rattle.ta_base.specs.Masks.{In}
 use Rattle.ta_automaton.specs.declared.automaton.Automaton.{Automaton}
@@ -63,12 +63,18 @@ answers_if_open a p asking k past (Some question) = cond (is_open past question 
 abbrev pub row_of_form : ℕ → UnknownForm → LinearRow
 row_of_form n f = record { constant = f.constant; coefficients = map f.coefficient (range_with_len 0 n) }
 
--- what a maker asks at a vertex is left open
-abbrev pub moment_search : Automaton → Pattern → Asking → (ℕ → List Fact → List (ℤ × ℤ) → Option TreeNode) → Search Fact
-moment_search a p asking question = record {
+-- what a maker does at a vertex: what it asks, and the whole values that it takes where it asks nothing and not all values are whole
+pub record Maker : Type 0 where
+  pub question : ℕ → List Fact → List (ℤ × ℤ) → Option TreeNode
+  pub scaled : Pending Fact → List (ℤ × ℤ) → Option (List ℤ)
+
+-- what a maker does at a vertex is left open
+abbrev pub moment_search : Automaton → Pattern → Asking → Maker → Search Fact
+moment_search a p asking maker = record {
   roots = map (λ c. pending_of (root c)) (candidates p);
   answers = λ start past n. answers_if_open a p asking (known a p asking.silent (candidate_of start) past) past (question_in n);
-  question = question;
+  question = maker.question;
+  scaled = maker.scaled;
   unknowns = λ start past. (known a p asking.silent (candidate_of start) past).unknowns;
   rows = λ start past. map (row_of_form (known a p asking.silent (candidate_of start) past).unknowns) (known a p asking.silent (candidate_of start) past).rows;
 }
@@ -80,6 +86,6 @@ AreListed p nodes = AllByRecursion (λ n. In n.candidate (candidates p)) nodes
 -- lines refute such nodes in order exactly if their nodes refute them in the search
 abbrev pub MomentsAreASearch : Type 0
 MomentsAreASearch =
-    (a : Automaton) (p : Pattern) (asking : Asking) (question : ℕ → List Fact → List (ℤ × ℤ) → Option TreeNode)
+    (a : Automaton) (p : Pattern) (asking : Asking) (maker : Maker)
     → (nodes : List Node) → AreListed p nodes
-    → (lines : List Line) → RefutedInOrder a p asking nodes lines ↔ NodesRefute (moment_search a p asking question) (IsLeaf (moment_search a p asking question)) (map pending_of nodes) (map node_in lines)
+    → (lines : List Line) → RefutedInOrder a p asking nodes lines ↔ NodesRefute (moment_search a p asking maker) (IsLeaf (moment_search a p asking maker)) (map pending_of nodes) (map node_in lines)

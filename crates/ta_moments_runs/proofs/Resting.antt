@@ -27,7 +27,7 @@ after_last p l last f is less =
     let w = some_at p.events last (omega arith) in
     ap (λ (o : Option Event). comes_after o f) w.1 ∙ ap (λ (mask : ℕ). has_bit mask f) (l.last last w.0 is w.1) ∙ has_ones last f less
 
-only_last : (p : Pattern) → ComesLast p → (last : ℕ) → last + 1 ≡ length p.events → (candidate : Option ℕ) → In candidate (candidates p) → candidate ≡ Some last
+pub only_last : (p : Pattern) → ComesLast p → (last : ℕ) → last + 1 ≡ length p.events → (candidate : Option ℕ) → In candidate (candidates p) → candidate ≡ Some last
 only_last p l last is candidate i = listed (eqb (length p.events) 0) refl i where
   listed : (b : Bool) → eqb (length p.events) 0 ≡ b → In candidate (cond b (None ∷ []) (map Some (filter (λ e. not (has_later p e)) (range_with_len 0 (length p.events))))) → candidate ≡ Some last
   listed true e j = absurd (let none = eqb-true (length p.events) 0 e in omega arith)
@@ -85,7 +85,7 @@ guard_exists : (a : Automaton) (g : ℕ) → g < length a.rise + length a.fall �
 guard_exists a g less = some_at (guards a) g (omega (arith, length-append a.rise a.fall))
 
 -- no rule must move at a configuration with the end's values
-quiet_there : (a : Automaton) (p : Pattern) → ComeAfterEarlier p → (silent : List ℕ) (node : Node) (vs : List ℕ) → WholeNode a p (of_rest silent) node vs → (c : Config) → Fits a c → ((l : ℕ) → has_bit p.empty l ≡ true → get_or c.counters l 0 ≡ 0)
+pub quiet_there : (a : Automaton) (p : Pattern) → ComeAfterEarlier p → (silent : List ℕ) (node : Node) (vs : List ℕ) → WholeNode a p (of_rest silent) node vs → (c : Config) → Fits a c → ((l : ℕ) → has_bit p.empty l ≡ true → get_or c.counters l 0 ≡ 0)
     → ((place : ℕ) → value_at c place ≡ form_value vs (place_form a p (end_vector a p node.candidate) place)) → QuietRest a silent c
 quiet_there a p earlier silent node vs w c fits empty same r rule named must =
     let end = end_vector a p node.candidate in

@@ -1,6 +1,6 @@
 -- how many accelerated steps the run of a whole node has: its moments are the events and those of guards, each of which is asked once
 use Rattle.std.proofs.Math.Nat.{mul-le-mul_right}
-use Rattle.ta_moments.proofs.Common.{AllByRecursion, Exists, Vector, first_vector, before_vector, after_vector, with_fact, length-append, length-map, length-range_with_len, range_with_len, eq-eqb, ◌≡◌, ◌⊎◌, inl, inr, ℕ, ◌+◌, ◌<◌, ◌≤◌, List, [], ◌∷◌, length, Option, Bool, true, false, not, ◌&&◌, arith, sym, ap, ◌∙◌, refl, subst, false≢true, In, Automaton, Pattern, Point, Pair, Known, known, event_vector, end_vector, Asking, known_at}
+use Rattle.ta_moments.proofs.Common.{Node, AllByRecursion, Exists, Vector, first_vector, before_vector, after_vector, with_fact, length-append, length-map, length-range_with_len, range_with_len, eq-eqb, ◌≡◌, ◌⊎◌, inl, inr, ℕ, ◌+◌, ◌<◌, ◌≤◌, List, [], ◌∷◌, length, Option, Bool, true, false, not, ◌&&◌, arith, sym, ap, ◌∙◌, refl, subst, false≢true, In, Automaton, Pattern, Point, Pair, Known, known, event_vector, end_vector, Asking, known_at}
 use Rattle.ta_moments.specs.declared.fact.Question.{Question}
 use Rattle.ta_moments.specs.declared.fact.Question.TheVariants.{OfGuard}
 use Rattle.ta_moments.specs.declared.fact.Fact.{Fact}
@@ -100,14 +100,17 @@ used_exist a p asking candidate (fact ∷ past) h =
       | inr w ↦ subst (λ (gs : List ℕ). AllByRecursion (λ g. g < length a.rise + length a.fall) gs) (sym w.2) (subst (Exists a p asking k) w.1 h.0, rest)
     ]
 
+-- where each question was asked once, there are at most as many moments as events and guards
+pub few_moments : (a : Automaton) (p : Pattern) (asking : Asking) (node : Node) → AreAnswers a p asking node.candidate node.past → AskedOnce node.past → length (known_at a p asking node).moments ≤ length p.events + (length a.rise + length a.fall)
+few_moments a p asking node answered once =
+    let used_few = distinct_length (length a.rise + length a.fall) (used_guards node.past) (used_once node.past once) (used_exist a p asking node.candidate node.past answered) in
+    omega (arith, many_moments a p asking.silent node.candidate node.past, used_few)
+
 pub short_runs : WholeNodesHaveShortRuns
 short_runs a p earlier scope asking node vs w once =
     let r = whole_run a p earlier scope asking node vs w in
     let ms = (known_at a p asking node).moments in
-    let guards_count = length a.rise + length a.fall in
-    let used_few = distinct_length guards_count (used_guards node.past) (used_once node.past once) (used_exist a p asking node.candidate node.past w.answered) in
-    let many = many_moments a p asking.silent node.candidate node.past in
-    let fewer_moments : length ms ≤ length p.events + guards_count = omega (arith, many, used_few) in
+    let fewer_moments = few_moments a p asking node w.answered once in
     let few = r.few in
     record {
       run = record { first = r.first; rules = r.rules; begins = r.begins; occurs = r.occurs };

@@ -2,7 +2,8 @@
 use Rattle.ta_program.proofs.Common.{◌≡◌, ◌∙◌, ◌≤◌, ℕ, List, [], length, Option, None, Some, refl, sym, ap, subst, inl, File, Pattern, AllSafe, Certificate, check_text, Verdict, Safe, Unsafe, Spent, Overflow, Told, WhereTold, is_more, sub_told, IsSo, Performs, State, HoldsText, in_files, seen, Answer, FileMeans, claiming, CERTIFICATE, safe_numbers, tree_size, check_meaning, IsFile, certificate_kind, file_kind, SaysOrFails, WrittenIsAccepted, VerdictHolds, held}
 use Rattle.ta_automaton.specs.Runs as runs
 use Rattle.ta_claim.specs.declared.claim.Claim.TheVariants as claim
-use Rattle.ta_program.proofs.Accepting.{is_kept, one_list, ones_hold, says_or_fails}
+use Rattle.ta_check.proofs.Accepting.{one_list}
+use Rattle.ta_program.proofs.Accepting.{is_kept, ones_hold, says_or_fails}
 use Rattle.ta_program.proofs.Clauses.{as_check, certificate_written, same_file}
 use Rattle.ta_program.proofs.Meanings.{check_decides}
 use Rattle.ta_program.proofs.WordsDiffer.{out_differs}

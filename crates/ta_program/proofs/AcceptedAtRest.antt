@@ -4,7 +4,9 @@ use Rattle.ta_rest_verdict.proofs.VerdictsTold.{ending_of_own}
 use Rattle.ta_claim.specs.declared.claim.Claim.TheVariants as claim
 use Rattle.ta_rest.proofs.EndingLaws.{endings_rest}
 use Rattle.ta_program.proofs.Accepted.{told_before}
-use Rattle.ta_program.proofs.Accepting.{is_kept, one_list, ones_hold, says_or_fails}
+use Rattle.ta_check.proofs.Accepting.{one_list}
+use Rattle.ta_program.proofs.Common.{CertificateFor, claiming_with}
+use Rattle.ta_program.proofs.Accepting.{is_kept, ones_hold, says_or_fails}
 use Rattle.ta_program.proofs.Clauses.{as_rest_check, rests_report, same_file}
 use Rattle.ta_program.proofs.EndsOnce.{ends_once}
 use Rattle.ta_program.proofs.RestMeanings.{rest_check_decides}
@@ -42,20 +44,20 @@ module _ (name out : List ℕ) (told : Told) (file : File) (ends : FileEndings) 
   is_certificate : FileMeans (certificate_kind (claiming claim.RestSafe ends.ending)) (in_files told) out numbers
   is_certificate = record { bytes = text; had = record { seen = held; within = within }; means = record { accepted = accepted; safe = safe } }
 
-  is_so : IsSo (rest_check_meaning name out) (in_files told) 0
-  is_so = inl (record { number = 0; text = rest_check_text file numbers; puts = [] }, refl, (file, is_file, (ends, are_ends, (numbers, is_certificate, record { numbered = refl; written = refl; no_put = refl }))))
+  is_so : IsSo (rest_check_meaning name out None) (in_files told) 0
+  is_so = inl (record { number = 0; text = rest_check_text file numbers; puts = [] }, refl, (file, is_file, (ends, are_ends, ([], refl, (numbers, is_certificate, record { numbered = refl; written = refl; no_put = refl })))))
 
   -- what it says, where it answers
-  says_just_these : (answer : Answer) → (rest_check_meaning name out).answers (in_files told) answer → answer.text ≡ rest_check_text file numbers
-  says_just_these answer (other, is, (found_ends, are, (found, proved, writes))) =
+  says_just_these : (answer : Answer) → (rest_check_meaning name out None).answers (in_files told) answer → answer.text ≡ rest_check_text file numbers
+  says_just_these answer (other, is, (found_ends, are, (silent, none, (found, proved, writes)))) =
       let same : other ≡ file = same_file told name file other is is_file in
       let one : found_ends ≡ ends = ends_once file found_ends ends (subst (λ (f : File). IsEnds f found_ends) same are) are_ends in
       let texts : proved.bytes ≡ text = (let e : Some proved.bytes ≡ Some text = sym proved.had.seen ∙ held in cc) in
-      let moved : RestCertificate ends.ending text found = subst (λ (e : FileEndings). RestCertificate e.ending text found) one (subst (λ (t : List ℕ). RestCertificate found_ends.ending t found) texts proved.means.accepted) in
+      let moved : RestCertificate ends.ending text found = subst (λ (e : FileEndings). RestCertificate e.ending text found) one (subst (λ (t : List ℕ). RestCertificate found_ends.ending t found) texts (subst (λ (places : List ℕ). CertificateFor (claiming_with claim.RestSafe found_ends.ending places) proved.bytes found) none proved.means.accepted)) in
       writes.written ∙ ap (λ (f : File). rest_check_text f found) same ∙ ap (rest_check_text file) (one_list (claiming claim.RestSafe ends.ending) text found numbers moved accepted)
 
-  rest_checks : (second : ℕ) (begun ended : State) → begun.shelf.files ≡ Some told → Performs (rest_check_meaning name out) second begun ended → SaysOrFails (rest_check_text file numbers) second begun ended
-  rest_checks second begun ended is h = says_or_fails (rest_check_meaning name out) (rest_check_decides name out) told (rest_check_text file numbers) is_so says_just_these second begun ended is h
+  rest_checks : (second : ℕ) (begun ended : State) → begun.shelf.files ≡ Some told → Performs (rest_check_meaning name out None) second begun ended → SaysOrFails (rest_check_text file numbers) second begun ended
+  rest_checks second begun ended is h = says_or_fails (rest_check_meaning name out None) (rest_check_decides name out None) told (rest_check_text file numbers) is_so says_just_these second begun ended is h
 
 pub written_at_rest_is_accepted : WrittenAtRestIsAccepted
 written_at_rest_is_accepted words first before after h asked out is given low told after_told again checked second begun ended begun_told done =
@@ -70,7 +72,7 @@ written_at_rest_is_accepted words first before after h asked out is given low to
     let is_first : IsFile (in_files files.0) name r.file = is_more file_kind (seen (Some files.0) read) (in_files files.0) (sub_told files.0 read) name r.file (subst (λ (o : Option Told). IsFile (seen o read) name r.file) files.1 r.is_file) in
     let is_now = is_kept file_kind files.0 told name r.file (files.2.others name (rest_out_differs words asked out is given)) is_first in
     let safe = ones_hold (claiming claim.RestSafe ending) 0 ending.patterns r.verdicts (safe_at r.file ending r.ends.added asked.nodes endings.automaton r.verdicts endings.patterns r.are.hold) (get_from_none ending.patterns) in
-    let accepted = rest_checks name out told r.file r.ends (safe_numbers ending r.verdicts) c.text is_now r.are_ends files.2.held c.within c.accepted safe second begun ended begun_told (as_rest_check again second begun ended done (record { file = name; other = out }) checked) in
+    let accepted = rest_checks name out told r.file r.ends (safe_numbers ending r.verdicts) c.text is_now r.are_ends files.2.held c.within c.accepted safe second begun ended begun_told (as_rest_check again second begun ended done (record { file = name; other = out; silent = None }) checked) in
     record {
       file = r.file;
       is_file = is_now;

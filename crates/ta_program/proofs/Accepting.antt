@@ -1,10 +1,6 @@
 -- what a judge makes of a certificate that was put
 use Rattle.ta_program.proofs.Common.{◌≡◌, ◌∙◌, ◌+◌, ℕ, suc, List, [], ◌∷◌, length, map, Option, None, Some, slice_get, refl, sym, ap, subst, inl, inr, arith, AllByRecursion, Pattern, range_with_len, proofs_of, AllClaimsHold, CertificateFor, proof_number, Subject, Verdict, Told, with_text, answered, Decides, IsSo, Meaning, Performs, State, in_files, seen, FileMeans, Kind, Answer, SafeOne, safe_ones, tree_size, with_safe, SaysOrFails}
-use Rattle.ta_check.proofs.Accepting.{have_orders}
-use Rattle.ta_cert.proofs.CertLines.{one_certificate}
-use Rattle.ta_cert.specs.Tree.{Tree}
-use Rattle.ta_cert.specs.declared.line.Proof.{Proof}
-use Rattle.ta_claim.specs.Claims.{claimed}
+use Rattle.ta_check.specs.Subjects.{claimed_with}
 
 -- a name means in told files what it meant in others in which its bytes are the same
 pub is_kept : {A F : Type 0} (kind : Kind A F) (told later : Told) (name : List ℕ) (value : A) → later name ≡ told name → FileMeans kind (in_files told) name value → FileMeans kind (in_files later) name value
@@ -16,12 +12,12 @@ is_kept kind told later name value same is = record {
 
 -- ---- what is claimed of patterns
 module _ (subject : Subject) where
-  one_holds : (number : ℕ) (p : Pattern) (size : Option ℕ) (rest : List SafeOne) → slice_get subject.file.patterns number ≡ Some p → ((nodes : ℕ) → size ≡ Some nodes → claimed subject.claim subject.file.automaton p) → AllClaimsHold subject (map (λ one. one.number) rest) → AllClaimsHold subject (map (λ one. one.number) (with_safe number p size rest))
+  one_holds : (number : ℕ) (p : Pattern) (size : Option ℕ) (rest : List SafeOne) → slice_get subject.file.patterns number ≡ Some p → ((nodes : ℕ) → size ≡ Some nodes → claimed_with subject.claim subject.silent subject.file.automaton p) → AllClaimsHold subject (map (λ one. one.number) rest) → AllClaimsHold subject (map (λ one. one.number) (with_safe number p size rest))
   one_holds number p None rest named safe all = all
   one_holds number p (Some nodes) rest named safe all = (record { pattern = p; named = named; safe = safe nodes refl }, all)
 
   -- it holds of those that verdicts say are safe, if it holds wherever one says so
-  pub ones_hold : (number : ℕ) (ps : List Pattern) (vs : List Verdict) → ((k : ℕ) (p : Pattern) (v : Verdict) (nodes : ℕ) → slice_get ps k ≡ Some p → slice_get vs k ≡ Some v → tree_size v ≡ Some nodes → claimed subject.claim subject.file.automaton p) → ((k : ℕ) (p : Pattern) → slice_get ps k ≡ Some p → slice_get subject.file.patterns (number + k) ≡ Some p) → AllClaimsHold subject (map (λ one. one.number) (safe_ones number ps vs))
+  pub ones_hold : (number : ℕ) (ps : List Pattern) (vs : List Verdict) → ((k : ℕ) (p : Pattern) (v : Verdict) (nodes : ℕ) → slice_get ps k ≡ Some p → slice_get vs k ≡ Some v → tree_size v ≡ Some nodes → claimed_with subject.claim subject.silent subject.file.automaton p) → ((k : ℕ) (p : Pattern) → slice_get ps k ≡ Some p → slice_get subject.file.patterns (number + k) ≡ Some p) → AllClaimsHold subject (map (λ one. one.number) (safe_ones number ps vs))
   ones_hold number [] vs safe at = tt
   ones_hold number (p ∷ ps) [] safe at = tt
   ones_hold number (p ∷ ps) (v ∷ vs) safe at =
@@ -30,22 +26,13 @@ module _ (subject : Subject) where
       (ones_hold (number + 1) ps vs (λ k q w nodes named given is. safe (suc k) q w nodes named given is) (λ k q named. let there : number + suc k ≡ (number + 1) + k = omega arith in subst (λ (n : ℕ). slice_get subject.file.patterns n ≡ Some q) there (at (suc k) q named)))
 
   -- it holds of all, if it holds of each
-  pub each_holds : (number : ℕ) (ps : List Pattern) → AllByRecursion (claimed subject.claim subject.file.automaton) ps → ((k : ℕ) (p : Pattern) → slice_get ps k ≡ Some p → slice_get subject.file.patterns (number + k) ≡ Some p) → AllClaimsHold subject (range_with_len number (length ps))
+  pub each_holds : (number : ℕ) (ps : List Pattern) → AllByRecursion (claimed_with subject.claim subject.silent subject.file.automaton) ps → ((k : ℕ) (p : Pattern) → slice_get ps k ≡ Some p → slice_get subject.file.patterns (number + k) ≡ Some p) → AllClaimsHold subject (range_with_len number (length ps))
   each_holds number [] each at = tt
   each_holds number (p ∷ ps) each at =
       let here : number + 0 ≡ number = omega arith in (
         record { pattern = p; named = subst (λ (k : ℕ). slice_get subject.file.patterns k ≡ Some p) here (at 0 p refl); safe = each.0 },
         each_holds (number + 1) ps each.1 (λ k q named. let there : number + suc k ≡ (number + 1) + k = omega arith in subst (λ (n : ℕ). slice_get subject.file.patterns n ≡ Some q) there (at (suc k) q named)),
       )
-
-numbers_of : (qs : List (ℕ × List Tree)) → map (λ p. p.pattern) (proofs_of qs) ≡ map proof_number qs
-numbers_of [] = refl
-numbers_of (q ∷ qs) = ap (λ (ks : List ℕ). q.0 ∷ ks) (numbers_of qs)
-
-pub one_list : (subject : Subject) (text ns ms : List ℕ) → CertificateFor subject text ns → CertificateFor subject text ms → ns ≡ ms
-one_list subject text ns ms c d =
-    let same = (one_certificate c.orders d.orders (proofs_of c.proofs) (proofs_of d.proofs) (have_orders subject.claim c.orders c.ordered) (have_orders subject.claim d.orders d.ordered) c.legal d.legal (sym c.written ∙ d.written)).1 in
-    c.named ∙ sym (numbers_of c.proofs) ∙ ap (λ (ps : List Proof). map (λ p. p.pattern) ps) same ∙ numbers_of d.proofs ∙ sym d.named
 
 -- ---- a run that does what leaves the number 0 and one text in told files ends so, 6 and 7 aside
 pub says_or_fails : (m : Meaning) → Decides m → (told : Told) (text : List ℕ) → IsSo m (in_files told) 0 → ((answer : Answer) → m.answers (in_files told) answer → answer.text ≡ text) → (number : ℕ) (before after : State) → before.shelf.files ≡ Some told → Performs m number before after → SaysOrFails text number before after

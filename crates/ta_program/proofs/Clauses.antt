@@ -1,12 +1,18 @@
 -- from how a run ends to its clauses
 use Rattle.ta_program.proofs.Common.{◌≡◌, ◌≢◌, ◌≤◌, ◌+◌, ℕ, zero, Bool, true, false, List, [], ◌∷◌, Option, None, Some, refl, sym, ap, subst, ◌∙◌, inl, arith, rules, codes, if◌then◌else◌, list_any, AllByRecursion, bytes_eq, or_parts, File, Pattern, PatternSafe, one_legal, printed_proved, printed_rest_proved, printed_rest_safe, told_safe, check_text, rest_check_text, report_of, Verdict, Safe, Unsafe, Spent, Overflow, filled_text, Grew, OthersStay, Told, WhereTold, with_text, answered, hindered, kept_refused, never_five, whole_one, Decides, Meaning, IsAnswered, Performs, Quiet, ShelfState, SinkState, State, HoldsPut, HoldsText, KeptBut, Stand, put_bytes, View, in_files, seen, run_text, unit_steps, Answer, Put, plain_tree, Asked, LegalFile, Runs, ask, ask_where, Command, NoCommand, BenchHolds, bench_meaning, bench_of, bench_status, bench_words, CheckHolds, check_meaning, check_of, IsFile, file_kind, EachPrintedUnsafe, EachToldSafe, rest_telling, verify_telling, AdmitAsked, AdmitHolds, admit_meaning, admit_of, admit_words, ExportHolds, export_meaning, export_of, export_words, Admitting, Benches, CertificateWritten, CheckProves, ExactlySo, Exports, KeepsFiles, PassesLegal, PrintedHolds, ReplayShows, RestProves, RestsReport, RunShortens, Searches, VerifyReports, put_by, CompressHolds, compress_meaning, compress_of, ReplayHolds, replay_meaning, replay_of, request_of, ClaimHolds, claiming, rest_text, RestOccurs, RestSafe, RestCertificateStands, RestReportHolds, rest_meaning, RestCheckHolds, rest_check_meaning, LegalAtRest, rest_check_of, rest_of, rest_words, CertificateStands, ReportHolds, verify_meaning, VerdictHolds, VerdictsHold, is_unsafe, is_unknown, LegalTemplate, SearchHolds, end_number, leaves_unknown, search_meaning, SearchWords, search_of, search_words, TwoNames, two_names, VerifyWords, verify_of, verify_words, WordAsked, behind_name, map, pair_of, held, held_by, false_from_ne_true, Call, Event, PutCall, PutText, PutWhole, Acts, TellsFile, acts, grew_alone, may_put, put_text, tells_file, Spares, ◌⊎◌, AreOfStages, made_of_stages, Opens}
+use Rattle.ta_program.proofs.Common.{ShowHolds, show_meaning, show_of, show_words}
+use Rattle.ta_program.specs.Program.{SafeAsShown, ShowsFile}
+use Rattle.ta_program.specs.Show.{SafeAsPrinted}
+use Rattle.ta_show.proofs.FileTells.{file_same}
 use Rattle.ta_automaton.specs.Runs as runs
 use Rattle.ta_program.specs.Headline.{EachPatternSafe, EachPrinted, HoldsFile, ShownOccurs, SomePatternOccurs, StatusTells}
 use Rattle.ta_replay.proofs.Occurring.{shown_occurs}
 use Rattle.ta_check.proofs.OwnPatterns.{all_own}
 use Rattle.ta_claim.specs.declared.claim.Claim.TheVariants as claim
 use Rattle.ta_program.proofs.AtRest.{rest_safe_at, rest_unsafe_printed}
-use Rattle.ta_program.proofs.FairAtRest.{fair_at_rest}
+use Rattle.ta_program.proofs.Common.{FairlySafeBut, LegalSilently, RestCheckWords, RestSafeBut, claiming_with, rest_check_words}
+use Rattle.ta_program.proofs.FairAtRest.{fair_at_rest, fair_but}
+use Rattle.ta_program.proofs.SilentPlaces.{safe_but}
 use Rattle.ta_program.specs.Program.{FairlySafeAlone}
 use Rattle.ta_program.proofs.FoundStands.{found_stands}
 use Rattle.ta_program.proofs.WordsDiffer.{Apart, names_apart}
@@ -218,6 +224,18 @@ module _ (words : List (List ℕ)) (number : ℕ) (before after : State) (h : Ru
   pub exports : Exports number words before.shelf.files before.shelf.calls after.shelf.calls before.out.written after.out.written
   exports asked is none = gives (export_meaning asked) refl (as_export asked is) (omega (arith, none)) (λ view. ExportHolds view asked before.out.written after.out.written) (exported asked)
 
+  as_show : (name : List ℕ) → show_of words ≡ Some name → Performs (show_meaning name) number before after
+  as_show name is = performed (codes "show") show_words (λ n. Some n) show_meaning number before after (λ rest r. r) words name is h
+
+  shown_file : (name : List ℕ) (view : View) (made : List PutCall) → IsAnswered (show_meaning name) view number before after made → ShowHolds view name before.out.written after.out.written
+  shown_file name view made a =
+      let is = a.holds.holds.1 in
+      let says = a.holds.holds.2 in
+      record { bytes = is.bytes; held = is.had.seen; text = says.text; printed = record { file = a.holds.holds.0; legal = is.means; is = says.is }; wrote = a.written ∙ ap (with_text before.out.written) says.writes.written }
+
+  pub shows_file : ShowsFile number words before.shelf.files before.shelf.calls after.shelf.calls before.out.written after.out.written
+  shows_file name is none = gives (show_meaning name) refl (as_show name is) (omega (arith, none)) (λ view. ShowHolds view name before.out.written after.out.written) (shown_file name)
+
   admitted : (all : AdmitAsked) (view : View) (made : List PutCall) → IsAnswered (admit_meaning all) view number before after made → AdmitHolds view all before.out.written after.out.written
   admitted all view made a =
       let file = a.holds.holds.0 in
@@ -249,8 +267,8 @@ module _ (words : List (List ℕ)) (number : ℕ) (before after : State) (h : Ru
   pub as_rest : (asked : VerifyWords) → rest_of words ≡ Some asked → Performs (rest_meaning asked.file asked.nodes asked.out) number before after
   as_rest asked is = performed_where (codes "rest") rest_words (λ a. LegalAtRest a.file) (λ a. rest_meaning a.file a.nodes a.out) number before after (λ rest r. r) words asked is h
 
-  pub as_rest_check : (asked : TwoNames) → rest_check_of words ≡ Some asked → Performs (rest_check_meaning asked.file asked.other) number before after
-  as_rest_check asked is = performed_where (codes "rest-check") two_names (λ a. LegalAtRest a.file) (λ a. rest_check_meaning a.file a.other) number before after (λ rest r. r) words asked is h
+  pub as_rest_check : (asked : RestCheckWords) → rest_check_of words ≡ Some asked → Performs (rest_check_meaning asked.file asked.other asked.silent) number before after
+  as_rest_check asked is = performed_where (codes "rest-check") rest_check_words (λ a. LegalSilently a.file a.silent) (λ a. rest_check_meaning a.file a.other a.silent) number before after (λ rest r. r) words asked is h
 
   at_rest : (name : List ℕ) (budget : ℕ) (out : Option (List ℕ)) (view : View) (made : List PutCall) → IsAnswered (rest_meaning name budget out) view number before after made → RestReportHolds number view name budget before.out.written after.out.written
   at_rest name budget out view made a =
@@ -282,24 +300,27 @@ module _ (words : List (List ℕ)) (number : ℕ) (before after : State) (h : Ru
         acts_named given (gives_all (rest_meaning asked.file asked.nodes (Some out)) performs low (λ view made. RestCertificateStands number view asked.file asked.nodes out before.shelf.files after.shelf.files before.out.written after.out.written made) (λ view made a. rest_certified asked.file asked.nodes out view made a));
   }
 
-  rest_checked : (name certificate : List ℕ) (view : View) (made : List PutCall) → IsAnswered (rest_check_meaning name certificate) view number before after made → RestCheckHolds view name certificate before.out.written after.out.written
-  rest_checked name certificate view made a =
+  rest_checked : (name certificate : List ℕ) (names : Option (List ℕ)) (view : View) (made : List PutCall) → IsAnswered (rest_check_meaning name certificate names) view number before after made → RestCheckHolds view name certificate names before.out.written after.out.written
+  rest_checked name certificate names view made a =
       let found = a.holds.holds.2 in
-      let rest = found.2 in
+      let silent = found.2 in
+      let rest = silent.2 in
       let ends = found.1 in
       record {
         file = a.holds.holds.0;
         is_file = a.holds.holds.1;
         ends = found.0;
         are_ends = ends;
+        silent = silent.0;
+        are_silent = silent.1;
         numbers = rest.0;
         certificate = rest.1;
-        safe = all_own a.holds.holds.0 found.0.ending found.0.added rest.0 ends.endings rest.1.means.safe;
+        safe = all_own silent.0 a.holds.holds.0 found.0.ending found.0.added rest.0 ends.endings rest.1.means.safe;
         wrote = a.written ∙ ap (with_text before.out.written) rest.2.written;
       }
 
   pub rest_proves : RestProves number words before.shelf.files before.shelf.calls after.shelf.calls before.out.written after.out.written
-  rest_proves asked is none = gives (rest_check_meaning asked.file asked.other) refl (as_rest_check asked is) (omega (arith, none)) (λ view. RestCheckHolds view asked.file asked.other before.out.written after.out.written) (rest_checked asked.file asked.other)
+  rest_proves asked is none = gives (rest_check_meaning asked.file asked.other asked.silent) refl (as_rest_check asked is) (omega (arith, none)) (λ view. RestCheckHolds view asked.file asked.other asked.silent before.out.written after.out.written) (rest_checked asked.file asked.other asked.silent)
 
   as_search : (asked : SearchWords) → search_of words ≡ Some asked → Performs (search_meaning asked) number before after
   as_search asked is = performed_where (codes "search") search_words LegalTemplate search_meaning number before after (λ rest r. r) words asked is h
@@ -374,17 +395,17 @@ module _ (words : List (List ℕ)) (number : ℕ) (before after : State) (h : Ru
         rest_safe_at r.file r.ends.ending r.ends.added budget r.verdicts r.are k p said.0 said.1 named said.2;
   }
 
-  printed_rest_check : (name certificate : List ℕ) (view : View) → RestCheckHolds view name certificate before.out.written after.out.written → EachPrinted RestSafe (codes "rest proved") view name before.out.written after.out.written
-  printed_rest_check name certificate view r = record {
+  printed_rest_check : (name certificate : List ℕ) (names : Option (List ℕ)) (view : View) → RestCheckHolds view name certificate names before.out.written after.out.written → EachPrinted (RestSafeBut names) (codes "rest proved") view name before.out.written after.out.written
+  printed_rest_check name certificate names view r = record {
     file = r.file;
     holds = holds_file view name r.file r.is_file;
     text = rest_check_text r.file r.numbers;
     gained = r.wrote;
     holds_of = λ k p named line.
-        let found : ClaimHolds (claiming claim.RestSafe r.file) k = listed (ClaimHolds (claiming claim.RestSafe r.file)) k r.numbers r.safe (printed_rest_proved r.file r.numbers k p named line) in
+        let found : ClaimHolds (claiming_with claim.RestSafe r.file r.silent) k = listed (ClaimHolds (claiming_with claim.RestSafe r.file r.silent)) k r.numbers r.safe (printed_rest_proved r.file r.numbers k p named line) in
         let same : Some found.pattern ≡ Some p = sym found.named ∙ named in
         let is : found.pattern ≡ p = cc in
-        subst (RestSafe r.file.automaton) is found.safe;
+        subst (RestSafeBut names r.file.automaton) is (safe_but names r.file.automaton found.pattern r.silent r.are_silent found.safe);
   }
 
   printed_rest_fair : (name : List ℕ) (budget : ℕ) (view : View) → RestReportHolds number view name budget before.out.written after.out.written → EachPrinted FairlySafeAlone (codes "rest safe, ") view name before.out.written after.out.written
@@ -399,16 +420,16 @@ module _ (words : List (List ℕ)) (number : ℕ) (before after : State) (h : Ru
         holds_of = λ k p named line. fair_at_rest r.is_file.bytes r.file r.is_file.means r.are_ends.loops k p named (e.holds_of k p named line);
       }
 
-  printed_rest_check_fair : (name certificate : List ℕ) (view : View) → RestCheckHolds view name certificate before.out.written after.out.written → EachPrinted FairlySafeAlone (codes "rest proved") view name before.out.written after.out.written
+  printed_rest_check_fair : (name certificate : List ℕ) (names : Option (List ℕ)) (view : View) → RestCheckHolds view name certificate names before.out.written after.out.written → EachPrinted (FairlySafeBut names) (codes "rest proved") view name before.out.written after.out.written
   unfolding printed_rest_check
-  printed_rest_check_fair name certificate view r =
-      let e = printed_rest_check name certificate view r in
+  printed_rest_check_fair name certificate names view r =
+      let e = printed_rest_check name certificate names view r in
       record {
         file = r.file;
         holds = holds_file view name r.file r.is_file;
         text = rest_check_text r.file r.numbers;
         gained = r.wrote;
-        holds_of = λ k p named line. fair_at_rest r.is_file.bytes r.file r.is_file.means r.are_ends.loops k p named (e.holds_of k p named line);
+        holds_of = λ k p named line. fair_but r.is_file.bytes r.file r.is_file.means r.are_ends.loops k p named names (e.holds_of k p named line);
       }
 
   printed_rest_unsafes : (name : List ℕ) (budget : ℕ) (view : View) → RestReportHolds number view name budget before.out.written after.out.written → EachPrintedUnsafe RestOccurs rest_telling view name before.out.written after.out.written
@@ -426,9 +447,9 @@ module _ (words : List (List ℕ)) (number : ℕ) (before after : State) (h : Ru
     unsafe_ = λ asked is low. gives_verify asked is low (λ view. EachPrintedUnsafe runs.Occurs (verify_telling asked.json) view asked.file before.out.written after.out.written) (λ view made a. printed_unsafes asked.file asked.nodes asked.json view (reported asked.file asked.nodes asked.json asked.out view made a));
     rest_safe = λ asked is low. gives_some (rest_meaning asked.file asked.nodes asked.out) (as_rest asked is) low (λ view. EachPrinted RestSafe (codes "rest safe, ") view asked.file before.out.written after.out.written) (λ view made a. printed_rest asked.file asked.nodes view (at_rest asked.file asked.nodes asked.out view made a));
     rest_unsafe = λ asked is low. gives_some (rest_meaning asked.file asked.nodes asked.out) (as_rest asked is) low (λ view. EachPrintedUnsafe RestOccurs rest_telling view asked.file before.out.written after.out.written) (λ view made a. printed_rest_unsafes asked.file asked.nodes view (at_rest asked.file asked.nodes asked.out view made a));
-    rest_proved = λ asked is none. gives (rest_check_meaning asked.file asked.other) refl (as_rest_check asked is) (omega (arith, none)) (λ view. EachPrinted RestSafe (codes "rest proved") view asked.file before.out.written after.out.written) (λ view made a. printed_rest_check asked.file asked.other view (rest_checked asked.file asked.other view made a));
+    rest_proved = λ asked is none. gives (rest_check_meaning asked.file asked.other asked.silent) refl (as_rest_check asked is) (omega (arith, none)) (λ view. EachPrinted (RestSafeBut asked.silent) (codes "rest proved") view asked.file before.out.written after.out.written) (λ view made a. printed_rest_check asked.file asked.other asked.silent view (rest_checked asked.file asked.other asked.silent view made a));
     rest_fair = λ asked is low. gives_some (rest_meaning asked.file asked.nodes asked.out) (as_rest asked is) low (λ view. EachPrinted FairlySafeAlone (codes "rest safe, ") view asked.file before.out.written after.out.written) (λ view made a. printed_rest_fair asked.file asked.nodes view (at_rest asked.file asked.nodes asked.out view made a));
-    rest_proved_fair = λ asked is none. gives (rest_check_meaning asked.file asked.other) refl (as_rest_check asked is) (omega (arith, none)) (λ view. EachPrinted FairlySafeAlone (codes "rest proved") view asked.file before.out.written after.out.written) (λ view made a. printed_rest_check_fair asked.file asked.other view (rest_checked asked.file asked.other view made a));
+    rest_proved_fair = λ asked is none. gives (rest_check_meaning asked.file asked.other asked.silent) refl (as_rest_check asked is) (omega (arith, none)) (λ view. EachPrinted (FairlySafeBut asked.silent) (codes "rest proved") view asked.file before.out.written after.out.written) (λ view made a. printed_rest_check_fair asked.file asked.other asked.silent view (rest_checked asked.file asked.other asked.silent view made a));
     proved = λ asked is none. gives (check_meaning asked.file asked.other) refl (as_check asked is) (omega (arith, none)) (λ view. EachPrinted runs.Safe (codes "proved") view asked.file before.out.written after.out.written) (λ view made a. printed_check asked.file asked.other view (proved asked.file asked.other view made a));
   }
 
@@ -471,6 +492,20 @@ module _ (words : List (List ℕ)) (number : ℕ) (before after : State) (h : Ru
       let e = printed_verify name budget false view r in
       record { file = e.file; holds = e.holds; text = e.text; gained = e.gained; holds_of = e.safe }
 
+  pub safe_as_shown : ZeroSays → SafeAsShown number words before.shelf.files before.shelf.calls after.shelf.calls
+  safe_as_shown zero_says = λ asked is none. gives_verify asked is (omega (arith, none)) (λ view. SafeAsPrinted view asked.file) (λ view made a.
+      let budget = asked.nodes in
+      let r = reported asked.file budget asked.json asked.out view made a in
+      let kinds = zero_says (list_any is_unsafe r.verdicts) (list_any is_unknown r.verdicts) (r.numbered ∙ none) in
+      let safe = each_safe r.file budget 0 r.file.patterns r.verdicts kinds.0 kinds.1 r.are.hold in
+      record {
+        bytes = r.is_file.bytes;
+        held = r.is_file.had.seen;
+        safe = λ text printed file orders e.
+            let same : r.file ≡ file = one_legal r.is_file.bytes r.file printed.file r.is_file.means printed.legal ∙ file_same printed.file file (map pair_of printed.is.orders) orders (sym printed.is.shown ∙ sym e) in
+            subst (λ (f : File). AllByRecursion (runs.Safe f.automaton) f.patterns) same safe;
+      })
+
   pub status_tells : ZeroSays → StatusTells number words before.shelf.files before.shelf.calls after.shelf.calls before.out.written after.out.written
   status_tells zero_says = record {
     safe = λ asked is none. gives_verify asked is (omega (arith, none)) (λ view. EachPatternSafe view asked.file) (λ view made a.
@@ -482,7 +517,7 @@ module _ (words : List (List ℕ)) (number : ℕ) (before after : State) (h : Ru
     occurs = λ asked is one. gives_verify asked is (omega (arith, one)) (λ view. SomePatternOccurs view asked.file) (λ view made a. some_occurring asked.file asked.nodes asked.json view one (reported asked.file asked.nodes asked.json asked.out view made a));
     proved = printed_holds.proved;
     rest_safe = printed_holds.rest_safe;
-    rest_proved = printed_holds.rest_proved;
+    rest_proved = λ asked is alone none. subst (λ (names : Option (List ℕ)). Grew (λ read. EachPrinted (RestSafeBut names) (codes "rest proved") (seen before.shelf.files read) asked.file before.out.written after.out.written) before.shelf.calls after.shelf.calls) alone (printed_holds.rest_proved asked is none);
     safe_lines = λ asked is plain low. gives_verify asked is low (λ view. EachPrinted runs.Safe (codes "safe, ") view asked.file before.out.written after.out.written) (λ view made a. safe_in_lines asked.file asked.nodes view (subst (λ (json : Bool). ReportHolds number view asked.file asked.nodes json before.out.written after.out.written) plain (reported asked.file asked.nodes asked.json asked.out view made a)));
     shown = λ asked is none. gives (replay_meaning asked.file asked.other) refl (as_replay asked is) (omega (arith, none)) (λ view. ShownOccurs view asked.file asked.other) (λ view made a. occurs_shown asked.file asked.other view (shown asked.file asked.other view made a));
   }

@@ -21,7 +21,7 @@ pub use Rattle.ta_check.proofs.Lasting.{lasting_faults_last, no_longer_certifica
 pub use Rattle.ta_check.specs.Certificate.{AllClaimsHold, AllRestSafe, AllSafe, Certificate, CertificateFor, PatternSafe, RestCertificate, proof_number}
 pub use Rattle.ta_check.specs.Checkers.{CheckerFeedAnswers, CheckerFinishAnswers, CheckerStandsFor, IsExactCheck, IsExactFeed, subject_of}
 pub use Rattle.ta_check.specs.Faults.{IsFirstFaultFor, IsLastingFor}
-pub use Rattle.ta_check.specs.Subjects.{ClaimHolds, Subject, claiming}
+pub use Rattle.ta_check.specs.Subjects.{ClaimHolds, Subject, claiming, claiming_with}
 pub use Rattle.ta_check.specs.declared.accepted.Accepted.{Accepted}
 pub use Rattle.ta_check.specs.declared.checker.Checker.{Checker}
 pub use Rattle.ta_meaning.proofs.OneTree.{one_legal}
@@ -47,12 +47,14 @@ pub use Rattle.ta_program.specs.Replay.{ReplayHolds, SaysShown, replay_meaning, 
 pub use Rattle.ta_program.specs.Reporting.{CertificateStands, ReportHolds, Reports, report_meaning, verify_meaning}
 pub use Rattle.ta_program.specs.Requests.{request_of}
 pub use Rattle.ta_program.specs.Rest.{HindersRest, IsKnownAtRest, LongAtRest, LongRest, RestCertificateStands, RestReportHolds, RestReports, rest_meaning, rest_report_meaning}
-pub use Rattle.ta_program.specs.RestCheck.{RestCheckHolds, rest_check_meaning, rest_proved_meaning}
+pub use Rattle.ta_program.specs.RestCheck.{RestCheckHolds, quietly_meaning, rest_check_meaning, rest_proved_meaning}
 pub use Rattle.ta_program.specs.RestEnds.{CycleHinders, FileEndings, IsEnds, LegalAtRest, cycle_text, ends_of, with_ends}
-pub use Rattle.ta_program.specs.RestWords.{rest_check_of, rest_form, rest_of, rest_taken, rest_words}
+pub use Rattle.ta_program.specs.RestWords.{RestCheckWords, rest_check_of, rest_check_words, rest_form, rest_of, rest_taken, rest_words}
+pub use Rattle.ta_program.specs.SilentNames.{AreSilent, FairlySafeBut, LegalSilently, NamesHinder, RestSafeBut}
 pub use Rattle.ta_program.specs.Search.{Finds, HindersFound, HoldFound, IsTemplate, IsTemplateText, LegalTemplate, SearchHolds, end_number, found_files, found_meaning, found_names, leaves_unknown, search_meaning, template_kind}
 pub use Rattle.ta_program.specs.SearchSeen.{search_seen}
 pub use Rattle.ta_program.specs.SearchWords.{SearchWords, search_form, search_of, search_taken, search_words}
+pub use Rattle.ta_program.specs.Show.{IsFileText, SaysFile, ShowHolds, file_meaning, show_meaning, show_of, show_words}
 pub use Rattle.ta_program.specs.Statuses.{verdicts_number}
 pub use Rattle.ta_program.specs.Taken.{names_seen}
 pub use Rattle.ta_program.specs.Values.{TwoNames, are_same, budget_of, file_name_of, filled_of, is_budget, out_of, two_names}

@@ -1,9 +1,12 @@
 -- What is told names the fault.
 use Rattle.ta_program.proofs.Common.{◌≡◌, ◌∙◌, ◌≤◌, ℕ, Bool, true, false, List, [], ◌∷◌, Option, None, Some, refl, sym, ap, subst, inl, inr, arith, codes, bytes_eq, File, one_legal, check_text, rest_check_text, run_text, Template, one_fault, Told, replies_monotone, Monotone, Decides, Meaning, Performs, State, Tells, file_line, in_files, seen, Writes, after, finds, replies, whole_faults_once, word_faults_once, whole_exact, words_exact, IsWholeWordOf, IsWordOf, Spelling, WholeFaultOf, WordFaultOf, WordFault, claiming, AdmitAsked, admit_meaning, admit_words, run_meaning, values_kind, values_meaning, Asked, LegalFile, Runs, ask, ask_where, choose, Command, NoCommand, SaysBench, bench_meaning, bench_words, HindersCertificate, may_put, check_meaning, proved_meaning, SaysShort, compress_meaning, long_kind, short_meaning, SaysSystem, WordHinders, export_meaning, export_words, system_meaning, word_fault_text, FaultsAreNamed, HinderOnce, NamesFault, OfCommand, certificate_kind, file_kind, run_kind, SaysShown, replay_meaning, shown_meaning, Reports, report_meaning, verify_meaning, request_of, HindersRest, RestReports, rest_meaning, rest_report_meaning, rest_check_meaning, rest_proved_meaning, CycleHinders, FileEndings, IsEnds, LegalAtRest, cycle_text, with_ends, rest_words, Finds, HindersFound, LegalTemplate, found_meaning, found_names, search_meaning, template_kind, SearchWords, search_words, two_names, verify_words, WordAsked, ◌⊎◌, AskedWord as Word}
+use Rattle.ta_program.proofs.Common.{SaysFile, file_meaning, show_meaning, show_words}
 use Rattle.ta_meaning.specs.Laws.{FirstFaultsAreUnique}
 use Rattle.ta_claim.specs.declared.claim.Claim.TheVariants as claim
 use Rattle.ta_program.proofs.EndsOnce.{ends_once}
-use Rattle.ta_program.proofs.RestMeanings.{cycle_rule, ends_monotone, hinders_rest, no_cycle, rest_proved_monotone, rest_report_monotone}
+use Rattle.ta_program.proofs.RestMeanings.{cycle_rule, ends_monotone, hinders_rest, no_cycle, quietly_monotone, rest_report_monotone}
+use Rattle.ta_program.proofs.SilentPlaces.{silent_fits, silent_line, silent_number, silent_once}
+use Rattle.ta_program.proofs.Common.{AreSilent, LegalSilently, NamesHinder, claiming_with, quietly_meaning, rest_check_words}
 use Rattle.ta_program.proofs.FaultsOnce.{certificate_settled, long_once, run_once, settled, values_once}
 use Rattle.ta_program.proofs.Meanings.{hinders_long, proved_monotone, report_monotone, short_monotone, shown_monotone}
 use Rattle.ta_program.proofs.SearchMeanings.{found_monotone, hinders_four, one_text, template_fits}
@@ -94,6 +97,9 @@ module _ (unique : FirstFaultsAreUnique) (told : Told) where
   admit_once : (all : AdmitAsked) → HinderOnce (admit_meaning all) told
   admit_once all = file_first all.asked.file [] (run_meaning all.asked.file all.asked.word all.values) (run_monotone all.asked.file all.asked.word all.values) (run_line all.asked.file all.asked.word all.values)
 
+  show_once : (name : List ℕ) → HinderOnce (show_meaning name) told
+  show_once name = file_first name [] file_meaning (λ file. replies_monotone [] (SaysFile file)) (λ file. replies_hinder [] (SaysFile file) told)
+
   found_once : (asked : SearchWords) (t : Template) → HinderOnce (found_meaning asked t) told
   found_once asked t =
       settles_once (found_names asked) (Finds t asked) (HindersFound t asked.nodes asked.out) told
@@ -124,11 +130,22 @@ module _ (unique : FirstFaultsAreUnique) (told : Told) where
   rest_once : (name : List ℕ) (budget : ℕ) (out : Option (List ℕ)) → HinderOnce (rest_meaning name budget out) told
   rest_once name budget out = ends_line name (may_put out) (rest_report_meaning budget out) (rest_report_monotone budget out) (rest_report_once budget out)
 
-  rest_check_once : (name certificate : List ℕ) → HinderOnce (rest_check_meaning name certificate) told
-  rest_check_once name certificate =
-      ends_line name [] (rest_proved_meaning certificate) (rest_proved_monotone certificate) (λ file ends.
-      after_last (certificate_kind (claiming claim.RestSafe ends.ending)) (certificate_settled (claiming claim.RestSafe ends.ending)) certificate [] (λ numbers. replies [] (Writes 0 (rest_check_text file numbers))) (λ numbers. replies_monotone [] (Writes 0 (rest_check_text file numbers))) told 4 refl (omega arith) (omega arith)
-      (λ bytes numbers fault proves found. found.no_certificate numbers proves.accepted) (λ numbers number line none. none))
+  proved_once : (certificate : List ℕ) (file : File) (ends : FileEndings) (silent : List ℕ) → HinderOnce (rest_proved_meaning certificate file ends silent) told
+  proved_once certificate file ends silent =
+      after_last (certificate_kind (claiming_with claim.RestSafe ends.ending silent)) (certificate_settled (claiming_with claim.RestSafe ends.ending silent)) certificate [] (λ numbers. replies [] (Writes 0 (rest_check_text file numbers))) (λ numbers. replies_monotone [] (Writes 0 (rest_check_text file numbers))) told 4 refl (omega arith) (omega arith)
+      (λ bytes numbers fault proves found. found.no_certificate numbers proves.accepted) (λ numbers number line none. none)
+
+  quietly_once : (name certificate : List ℕ) (names : Option (List ℕ)) (file : File) (ends : FileEndings) → HinderOnce (quietly_meaning name certificate names file ends) told
+  quietly_once name certificate names file ends =
+      finds_once (AreSilent file.automaton names) (NamesHinder name file.automaton names) [] (rest_proved_meaning certificate file ends) told
+      (λ number line h. let three = silent_number name file.automaton names number line h in (omega (arith, three), omega (arith, three)))
+      (λ number other line words h k. (silent_number name file.automaton names number line h ∙ sym (silent_number name file.automaton names other words k), silent_line name file.automaton names number other line words h k))
+      (λ places number line is. silent_fits name file.automaton names places number line is)
+      (λ d e is are. sym (silent_once file.automaton names d e is are))
+      (proved_once certificate file ends)
+
+  rest_check_once : (name certificate : List ℕ) (names : Option (List ℕ)) → HinderOnce (rest_check_meaning name certificate names) told
+  rest_check_once name certificate names = ends_line name [] (quietly_meaning name certificate names) (quietly_monotone name certificate names) (quietly_once name certificate names)
 
   -- what words ask for, row by row
   asked_where_once : {W : Type 0} (legal : W → Told → Type 0) (says : W → Meaning) (words : Option W) → ((w : W) → HinderOnce (says w) told) → OfCommand (λ m. HinderOnce m told) (ask_where legal says words)
@@ -152,9 +169,10 @@ module _ (unique : FirstFaultsAreUnique) (told : Told) where
       (row_once (bytes_eq word (codes "export")) _ _ (asked_once (λ asked. Some asked.file) export_meaning (export_words words) export_once)
       (row_once (bytes_eq word (codes "replay")) _ _ (asked_once (λ names. Some names.file) (λ names. replay_meaning names.file names.other) (two_names words) (λ names. replay_once names.file names.other))
       (row_once (bytes_eq word (codes "rest")) _ _ (asked_where_once (λ a. LegalAtRest a.file) (λ a. rest_meaning a.file a.nodes a.out) (rest_words words) (λ a. rest_once a.file a.nodes a.out))
-      (row_once (bytes_eq word (codes "rest-check")) _ _ (asked_where_once (λ names. LegalAtRest names.file) (λ names. rest_check_meaning names.file names.other) (two_names words) (λ names. rest_check_once names.file names.other))
+      (row_once (bytes_eq word (codes "rest-check")) _ _ (asked_where_once (λ a. LegalSilently a.file a.silent) (λ a. rest_check_meaning a.file a.other a.silent) (rest_check_words words) (λ a. rest_check_once a.file a.other a.silent))
       (row_once (bytes_eq word (codes "search")) _ _ (asked_where_once LegalTemplate search_meaning (search_words words) search_once)
-      (row_once (bytes_eq word (codes "verify")) _ NoCommand (asked_once (λ asked. Some asked.file) (λ asked. verify_meaning asked.file asked.nodes asked.json asked.out) (verify_words words) (λ asked. verify_once asked.file asked.nodes asked.json asked.out)) tt)))))))))
+      (row_once (bytes_eq word (codes "show")) _ _ (asked_once (λ name. Some name) show_meaning (show_words words) show_once)
+      (row_once (bytes_eq word (codes "verify")) _ NoCommand (asked_once (λ asked. Some asked.file) (λ asked. verify_meaning asked.file asked.nodes asked.json asked.out) (verify_words words) (λ asked. verify_once asked.file asked.nodes asked.json asked.out)) tt))))))))))
 
 -- what a run tells of told files
 module _ (m : Meaning) (told : Told) (number : ℕ) (before after : State) (is : before.shelf.files ≡ Some told) (performs : Performs m number before after) (decides : Decides m) (once : HinderOnce m told) where

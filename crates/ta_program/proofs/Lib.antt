@@ -4,7 +4,9 @@ mod Certifying
 mod UnsafePrinted
 mod Meanings
 mod WordMeanings
+mod ShowMeanings
 mod EndsOnce
+mod SilentPlaces
 mod RestMeanings
 mod Resting
 mod SearchMeanings

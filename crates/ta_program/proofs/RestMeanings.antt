@@ -1,9 +1,10 @@
 -- what `rest` and `rest-check` say grows with what is seen, and told files leave one number
-use Rattle.ta_program.proofs.Common.{◌≡◌, ◌∙◌, ℕ, List, [], length, Option, None, Some, refl, sym, ap, subst, inl, inr, arith, IsSome, cases_order, Automaton, File, FirstLongerCycle, claiming, one_legal, rest_check_text, Verdict, RestCertificateOf, Told, Decides, IsSo, Meaning, put_bytes, in_files, Answer, Writes, finds, replies, after_monotone, finds_monotone, finds_one, no_hindrance, one_number, replies_monotone, replies_one, settles_monotone, Monotone, whole_one, PassesWhere, may_put, certificate_kind, file_kind, HindersRest, LongRest, RestReports, rest_meaning, rest_report_meaning, rest_check_meaning, rest_proved_meaning, CycleHinders, FileEndings, IsEnds, LegalAtRest, with_ends, verdicts_number}
+use Rattle.ta_program.proofs.Common.{◌≡◌, ◌∙◌, ℕ, List, [], length, Option, None, Some, refl, sym, ap, subst, inl, inr, arith, IsSome, cases_order, Automaton, File, FirstLongerCycle, claiming_with, one_legal, rest_check_text, Verdict, RestCertificateOf, Told, Decides, IsSo, Meaning, put_bytes, in_files, Answer, Writes, finds, replies, after_monotone, finds_monotone, finds_one, no_hindrance, one_number, replies_monotone, replies_one, settles_monotone, Monotone, whole_one, PassesWhere, may_put, certificate_kind, file_kind, HindersRest, LongRest, RestReports, rest_meaning, rest_report_meaning, quietly_meaning, rest_check_meaning, rest_proved_meaning, AreSilent, LegalSilently, NamesHinder, CycleHinders, FileEndings, IsEnds, LegalAtRest, with_ends, verdicts_number}
 use Rattle.ta_claim.specs.declared.claim.Claim.TheVariants.{RestSafe}
 use Rattle.ta_rest_verdict.proofs.VerdictsOnce.{verdicts_once}
 use Rattle.ta_rest_verdict.proofs.CertificatesOnce.{rest_certificates_once}
 use Rattle.ta_program.proofs.EndsOnce.{ends_once}
+use Rattle.ta_program.proofs.SilentPlaces.{silent_fits, silent_number, silent_once}
 use Rattle.ta_program.proofs.Meanings.{file_decides, second_passes}
 
 -- a longer cycle has one first rule, and there is none where there are endings
@@ -33,19 +34,26 @@ module _ (name : List ℕ) (puts : List (List ℕ)) (rest : File → FileEndings
       ones file d is told number other so (subst (λ (x : FileEndings). IsSo (rest file x) (in_files told) other) (sym (ends_once file d e is are)) so')))
 
   -- a legal FILE without longer cycles is never refused with 3, if what comes then never is
+  pub ends_passes_where : (L : Told → Type 0) → ((told : Told) → L told → (legal : LegalAtRest name told) × ((ends : FileEndings) (line : List ℕ) → ¬ (rest legal.file ends).refuses (in_files told) 3 line)) → PassesWhere L (with_ends name puts rest)
+  ends_passes_where L at_rest told line l refuses =
+      let legal = (at_rest told l).0 in
+      let never = (at_rest told l).1 in
+      elim refuses [
+        | inl own ↦ no_hindrance file_kind name puts (λ file. finds (IsEnds file) (CycleHinders name file) puts (rest file)) ends_monotone told (λ bytes f fault legal found. legal.no_fault fault found) legal.file 3 line legal.is_file own
+        | inr r ↦
+            let is = legal.is_file in
+            let same : r.0 ≡ legal.file = one_legal is.bytes r.0 legal.file (subst (λ (bytes : List ℕ). file_kind.means bytes r.0) (whole_one told name file_kind.limit.bytes r.1.bytes is.bytes r.1.had is.had) r.1.means) is.means in
+            elim r.2 [
+              | inl cycle ↦
+                  let here = subst (λ (f : File). CycleHinders name f 3 line) same cycle in
+                  let found = here.first.cycle in
+                  found.apart (legal.loops here.rule here.first.rule here.first.named found.walk found.back)
+              | inr later ↦ never later.0 line (subst (λ (f : File). (rest f later.0).refuses (in_files told) 3 line) same later.2)
+            ]
+      ]
+
   pub ends_passes : ((file : File) (ends : FileEndings) (told : Told) (line : List ℕ) → ¬ (rest file ends).refuses (in_files told) 3 line) → PassesWhere (LegalAtRest name) (with_ends name puts rest)
-  ends_passes never told line legal refuses = elim refuses [
-    | inl own ↦ no_hindrance file_kind name puts (λ file. finds (IsEnds file) (CycleHinders name file) puts (rest file)) ends_monotone told (λ bytes f fault legal found. legal.no_fault fault found) legal.file 3 line legal.is_file own
-    | inr r ↦ elim r.2 [
-      | inl cycle ↦
-          let is = legal.is_file in
-          let same : r.0 ≡ legal.file = one_legal is.bytes r.0 legal.file (subst (λ (bytes : List ℕ). file_kind.means bytes r.0) (whole_one told name file_kind.limit.bytes r.1.bytes is.bytes r.1.had is.had) r.1.means) is.means in
-          let here = subst (λ (f : File). CycleHinders name f 3 line) same cycle in
-          let found = here.first.cycle in
-          found.apart (legal.loops here.rule here.first.rule here.first.named found.walk found.back)
-      | inr later ↦ never r.0 later.0 told line later.2
-    ]
-  ]
+  ends_passes never = ends_passes_where (LegalAtRest name) (λ told legal. (legal, λ ends line. never legal.file ends told line))
 
 pub rest_report_monotone : (budget : ℕ) (out : Option (List ℕ)) (file : File) (ends : FileEndings) → Monotone (rest_report_meaning budget out file ends)
 rest_report_monotone budget out file ends = settles_monotone (may_put out) (RestReports file ends budget out) (HindersRest file ends budget out)
@@ -87,18 +95,40 @@ pub rest_passes : (name : List ℕ) (budget : ℕ) (out : Option (List ℕ)) →
 rest_passes name budget out =
     ends_passes name (may_put out) (rest_report_meaning budget out) (rest_report_monotone budget out) (λ file ends told line hinders. let four = (hinders_rest file ends budget out 3 line hinders).0 in absurd (omega (arith, four)))
 
-pub rest_proved_monotone : (name : List ℕ) (file : File) (ends : FileEndings) → Monotone (rest_proved_meaning name file ends)
-rest_proved_monotone name file ends =
-    after_monotone (certificate_kind (claiming RestSafe ends.ending)) name [] (λ numbers. replies [] (Writes 0 (rest_check_text file numbers))) (λ numbers. replies_monotone [] (Writes 0 (rest_check_text file numbers)))
+pub rest_proved_monotone : (name : List ℕ) (file : File) (ends : FileEndings) (silent : List ℕ) → Monotone (rest_proved_meaning name file ends silent)
+rest_proved_monotone name file ends silent =
+    after_monotone (certificate_kind (claiming_with RestSafe ends.ending silent)) name [] (λ numbers. replies [] (Writes 0 (rest_check_text file numbers))) (λ numbers. replies_monotone [] (Writes 0 (rest_check_text file numbers)))
 
-pub rest_check_decides : (name certificate : List ℕ) → Decides (rest_check_meaning name certificate)
-rest_check_decides name certificate =
-    ends_decides name [] (rest_proved_meaning certificate) (rest_proved_monotone certificate) (λ file ends is told.
-    one_number (certificate_kind (claiming RestSafe ends.ending)) certificate [] (λ numbers. replies [] (Writes 0 (rest_check_text file numbers))) (λ numbers. replies_monotone [] (Writes 0 (rest_check_text file numbers))) told
+pub quietly_monotone : (name certificate : List ℕ) (names : Option (List ℕ)) (file : File) (ends : FileEndings) → Monotone (quietly_meaning name certificate names file ends)
+quietly_monotone name certificate names file ends =
+    finds_monotone (AreSilent file.automaton names) (NamesHinder name file.automaton names) [] (rest_proved_meaning certificate file ends) (rest_proved_monotone certificate file ends)
+
+proved_one : (certificate : List ℕ) (file : File) (ends : FileEndings) (silent : List ℕ) (told : Told) (number other : ℕ) → IsSo (rest_proved_meaning certificate file ends silent) (in_files told) number → IsSo (rest_proved_meaning certificate file ends silent) (in_files told) other → number ≡ other
+proved_one certificate file ends silent told =
+    one_number (certificate_kind (claiming_with RestSafe ends.ending silent)) certificate [] (λ numbers. replies [] (Writes 0 (rest_check_text file numbers))) (λ numbers. replies_monotone [] (Writes 0 (rest_check_text file numbers))) told
     (λ bytes numbers fault proves found. found.no_certificate numbers proves.accepted)
-    (λ bytes v w m n. replies_one [] (Writes 0 (rest_check_text file v)) (Writes 0 (rest_check_text file w)) (in_files told) (λ a b x y. x.numbered ∙ sym y.numbered)))
+    (λ bytes v w m n. replies_one [] (Writes 0 (rest_check_text file v)) (Writes 0 (rest_check_text file w)) (in_files told) (λ a b x y. x.numbered ∙ sym y.numbered))
 
-pub rest_check_passes : (name certificate : List ℕ) → PassesWhere (LegalAtRest name) (rest_check_meaning name certificate)
-rest_check_passes name certificate =
-    ends_passes name [] (rest_proved_meaning certificate) (rest_proved_monotone certificate)
-    (λ file ends told. second_passes (certificate_kind (claiming RestSafe ends.ending)) certificate (λ numbers. replies [] (Writes 0 (rest_check_text file numbers))) refl (λ numbers view line none. none) (in_files told))
+quietly_one : (name certificate : List ℕ) (names : Option (List ℕ)) (file : File) (ends : FileEndings) (told : Told) (number other : ℕ) → IsSo (quietly_meaning name certificate names file ends) (in_files told) number → IsSo (quietly_meaning name certificate names file ends) (in_files told) other → number ≡ other
+quietly_one name certificate names file ends told =
+    finds_one (AreSilent file.automaton names) (NamesHinder name file.automaton names) [] (rest_proved_meaning certificate file ends) (in_files told)
+    (λ number other line words h k. silent_number name file.automaton names number line h ∙ sym (silent_number name file.automaton names other words k))
+    (λ places number line is. silent_fits name file.automaton names places number line is)
+    (λ d e is are number other so so'. proved_one certificate file ends d told number other so (subst (λ (places : List ℕ). IsSo (rest_proved_meaning certificate file ends places) (in_files told) other) (sym (silent_once file.automaton names d e is are)) so'))
+
+pub rest_check_decides : (name certificate : List ℕ) (names : Option (List ℕ)) → Decides (rest_check_meaning name certificate names)
+rest_check_decides name certificate names = ends_decides name [] (quietly_meaning name certificate names) (quietly_monotone name certificate names) (λ file ends is told. quietly_one name certificate names file ends told)
+
+-- where the names may be silent neither they nor CERT hinder with 3
+quietly_passes : (name certificate : List ℕ) (names : Option (List ℕ)) (file : File) (ends : FileEndings) (told : Told) (places : List ℕ) → AreSilent file.automaton names places → (line : List ℕ) → ¬ (quietly_meaning name certificate names file ends).refuses (in_files told) 3 line
+quietly_passes name certificate names file ends told places are line refuses = elim refuses [
+  | inl own ↦ silent_fits name file.automaton names places 3 line are own
+  | inr r ↦ second_passes (certificate_kind (claiming_with RestSafe ends.ending r.0)) certificate (λ numbers. replies [] (Writes 0 (rest_check_text file numbers))) refl (λ numbers view line none. none) (in_files told) line r.2
+]
+
+pub rest_check_passes : (name certificate : List ℕ) (names : Option (List ℕ)) → PassesWhere (LegalSilently name names) (rest_check_meaning name certificate names)
+rest_check_passes name certificate names =
+    ends_passes_where name [] (quietly_meaning name certificate names) (quietly_monotone name certificate names) (LegalSilently name names) (λ told legal. (
+      record { file = legal.file; is_file = legal.is_file; loops = legal.loops },
+      λ ends line. quietly_passes name certificate names legal.file ends told legal.places legal.are_silent line,
+    ))

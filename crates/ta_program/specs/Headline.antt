@@ -1,9 +1,9 @@
 -- What a status says, and no more. `verify FILE` with status 0: FILE holds a text that means an automaton with patterns, and each
 -- of these patterns occurs in no run; with status 1: some pattern of it occurs in a run. `check FILE CERT` with status 0: each
--- pattern that the output says is proved occurs in no run. `rest FILE` and `rest-check FILE CERT`: of each pattern that the output says is safe
+-- pattern that the output says is proved occurs in no run. `rest FILE` and `rest-check FILE CERT`, without silent names: of each pattern that the output says is safe
 -- or proved so, no run in which it occurs comes to rest where its last event happens. Who believes this reads these definitions and those that they name, and
 -- no others.
-use Rattle.std.specs.Prelude.{ℕ, ◌≤◌, ◌≡◌, false, List, codes, slice_get, Option, Some}
+use Rattle.std.specs.Prelude.{ℕ, ◌≤◌, ◌≡◌, false, List, codes, slice_get, Option, None, Some}
 use Rattle.std.specs.List.{AllByRecursion}
 use Rattle.ta_syntax.specs.Grammar.{PlainTree}
 use Rattle.ta_syntax.specs.TreeOf.{IsTextOf}
@@ -25,7 +25,7 @@ use Rattle.ta_shell.specs.Sights.{View, Whole, seen}
 use Rattle.ta_rest.specs.Rest.{RestSafe}
 use Rattle.ta_program.specs.Check.{check_of}
 use Rattle.ta_program.specs.Replay.{replay_of}
-use Rattle.ta_program.specs.RestWords.{rest_check_of, rest_of}
+use Rattle.ta_program.specs.RestWords.{RestCheckWords, rest_check_of, rest_of}
 use Rattle.ta_program.specs.Values.{TwoNames}
 use Rattle.ta_program.specs.VerifyWords.{VerifyWords, verify_of}
 
@@ -84,6 +84,6 @@ pub record StatusTells (number : ℕ) (words : List (List ℕ)) (files : Option 
   pub occurs : (asked : VerifyWords) → verify_of words ≡ Some asked → number ≡ 1 → Acts (may_put asked.out) (λ read made. SomePatternOccurs (seen files read) asked.file) calls calls'
   pub proved : (asked : TwoNames) → check_of words ≡ Some asked → number ≡ 0 → Grew (λ read. EachPrinted runs.Safe (codes "proved") (seen files read) asked.file written written') calls calls'
   pub rest_safe : (asked : VerifyWords) → rest_of words ≡ Some asked → number ≤ 2 → Acts (may_put asked.out) (λ read made. EachPrinted RestSafe (codes "rest safe, ") (seen files read) asked.file written written') calls calls'
-  pub rest_proved : (asked : TwoNames) → rest_check_of words ≡ Some asked → number ≡ 0 → Grew (λ read. EachPrinted RestSafe (codes "rest proved") (seen files read) asked.file written written') calls calls'
+  pub rest_proved : (asked : RestCheckWords) → rest_check_of words ≡ Some asked → asked.silent ≡ None → number ≡ 0 → Grew (λ read. EachPrinted RestSafe (codes "rest proved") (seen files read) asked.file written written') calls calls'
   pub safe_lines : (asked : VerifyWords) → verify_of words ≡ Some asked → asked.json ≡ false → number ≤ 2 → Acts (may_put asked.out) (λ read made. EachPrinted runs.Safe (codes "safe, ") (seen files read) asked.file written written') calls calls'
   pub shown : (asked : TwoNames) → replay_of words ≡ Some asked → number ≡ 0 → Grew (λ read. ShownOccurs (seen files read) asked.file asked.other) calls calls'

@@ -1,5 +1,5 @@
 -- What two runs of the program have to do with each other
-use Rattle.std.specs.Prelude.{ℕ, ◌≡◌, ◌≤◌, ◌⊎◌, Bool, List, length, slice_get, Some}
+use Rattle.std.specs.Prelude.{ℕ, ◌≡◌, ◌≤◌, ◌⊎◌, Bool, List, length, slice_get, None, Some}
 use Rattle.ta_automaton.specs.declared.file.File.{File}
 use Rattle.ta_automaton.specs.declared.pattern.Pattern.{Pattern}
 use Rattle.std.specs.List.{range_with_len}
@@ -101,7 +101,7 @@ WrittenAtRestIsAccepted =
     (words : List (List ℕ)) (first : ℕ) (before after : State) → Runs (request_of words) first before after
     → (asked : VerifyWords) (out : List ℕ) → rest_of words ≡ Some asked → asked.out ≡ Some out → first ≤ 2
     → (told : Told) → after.shelf.files ≡ Some told
-    → (again : List (List ℕ)) → rest_check_of again ≡ Some (record { file = asked.file; other = out })
+    → (again : List (List ℕ)) → rest_check_of again ≡ Some (record { file = asked.file; other = out; silent = None })
     → (second : ℕ) (begun ended : State) → begun.shelf.files ≡ Some told → Runs (request_of again) second begun ended
     → SaysTheSame rest_text rest_check_text told asked.file before after second begun ended
 

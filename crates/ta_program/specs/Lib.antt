@@ -20,6 +20,7 @@ pub mod AdmitSeen
 pub mod SearchWords
 pub mod Search
 pub mod SearchSeen
+pub mod Show
 pub mod Requests
 pub mod Headline
 pub mod Printed
@@ -27,6 +28,7 @@ pub mod Program
 pub mod Laws
 pub mod Faults
 pub mod Inside
+pub mod SilentNames
 pub mod RestWords
 pub mod RestEnds
 pub mod Rest

@@ -29,10 +29,12 @@ use Rattle.ta_program.specs.Replay.{ReplayHolds, replay_of}
 use Rattle.ta_program.specs.Requests.{request_of}
 use Rattle.ta_program.specs.Rest.{IsKnownAtRest, LongAtRest, RestCertificateStands, RestReportHolds}
 use Rattle.ta_program.specs.RestCheck.{RestCheckHolds}
-use Rattle.ta_program.specs.RestWords.{rest_check_of, rest_of}
+use Rattle.ta_program.specs.RestWords.{RestCheckWords, rest_check_of, rest_of}
+use Rattle.ta_program.specs.SilentNames.{FairlySafeBut, RestSafeBut}
 use Rattle.ta_program.specs.Reporting.{CertificateStands, ReportHolds}
 use Rattle.ta_program.specs.Search.{SearchHolds, found_names}
 use Rattle.ta_program.specs.SearchWords.{SearchWords, search_of}
+use Rattle.ta_program.specs.Show.{SafeAsPrinted, ShowHolds, show_of}
 use Rattle.ta_verdict.specs.Verdicts.{IsKnown}
 use Rattle.ta_program.specs.Values.{TwoNames}
 use Rattle.ta_program.specs.VerifyWords.{VerifyWords, verify_of}
@@ -102,11 +104,12 @@ pub record RestsReport (number : ℕ) (words : List (List ℕ)) (files files' : 
   pub certificate : (asked : VerifyWords) (out : List ℕ) → rest_of words ≡ Some asked → asked.out ≡ Some out → number ≤ 2 → Acts (may_put asked.out) (λ read made. RestCertificateStands number (seen files read) asked.file asked.nodes out files files' written written' made) calls calls'
 
 -- `rest-check FILE CERT` with status 0: FILE is legal and its cycles are self-loops, CERT is a certificate for its endings, no run comes to
--- rest where the last event of a pattern that it proves happens, and the output gained the text that says which these are
+-- rest where the last event of a pattern that it proves happens, and the output gained the text that says which these are. With `--silent NAMES`
+-- no guard of FILE subtracts one of these, and no run comes to quiet rest there, where their places are silent
 abbrev pub RestProves : ℕ → List (List ℕ) → Option Told → List Event → List Event → Option (List ℕ) → Option (List ℕ) → Type 0
 RestProves number words files calls calls' written written' =
-    (asked : TwoNames) → rest_check_of words ≡ Some asked → number ≡ 0
-    → Grew (λ read. RestCheckHolds (seen files read) asked.file asked.other written written') calls calls'
+    (asked : RestCheckWords) → rest_check_of words ≡ Some asked → number ≡ 0
+    → Grew (λ read. RestCheckHolds (seen files read) asked.file asked.other asked.silent written written') calls calls'
 
 -- `search FILE` with status 0, 1 or 2, whatever its options: FILE is a template, and the output gained the text of the search of its
 -- holes: its vectors were tried in order, each is listed once with an outcome that holds, up to the first that is Safe. With 0 every
@@ -117,6 +120,20 @@ Searches number words files files' calls calls' written written' =
     (asked : SearchWords) → search_of words ≡ Some asked → number ≤ 2
     → Acts (found_names asked) (λ read made. SearchHolds number (seen files read) asked files files' written written' made) calls calls'
 
+-- `show FILE` with status 0: FILE is legal, and the output gained the text of the file that its bytes mean, and of the orders that are found
+-- of its guards. No two files have one text (`shows_differ` of ta_show)
+abbrev pub ShowsFile : ℕ → List (List ℕ) → Option Told → List Event → List Event → Option (List ℕ) → Option (List ℕ) → Type 0
+ShowsFile number words files calls calls' written written' =
+    (name : List ℕ) → show_of words ≡ Some name → number ≡ 0
+    → Grew (λ read. ShowHolds (seen files read) name written written') calls calls'
+
+-- `verify FILE` with status 0: each file that has the text which `show FILE` prints of FILE's bytes, and there is one such file, has patterns
+-- that occur in no run
+abbrev pub SafeAsShown : ℕ → List (List ℕ) → Option Told → List Event → List Event → Type 0
+SafeAsShown number words files calls calls' =
+    (asked : VerifyWords) → verify_of words ≡ Some asked → number ≡ 0
+    → Acts (may_put asked.out) (λ read made. SafeAsPrinted (seen files read) asked.file) calls calls'
+
 -- the pattern occurs for ever in no fair run, where no place is silent
 abbrev pub FairlySafeAlone : Automaton → Pattern → Type 0
 FairlySafeAlone a p = FairlySafe a [] p
@@ -124,16 +141,17 @@ FairlySafeAlone a p = FairlySafe a [] p
 -- with status 0, 1 or 2 of `verify` a pattern that the report tells is safe is safe, by its line or in JSON, and one that it tells is
 -- unsafe occurs in a run, the text of which stands there; with status 0 of `check` a pattern that is `proved` is safe. The same of `rest` and
 -- `rest-check`, whose words are `rest safe`, `rest unsafe` and `rest proved`: the pattern comes to rest, its last event at the end, in no run, or
--- in the run whose text stands there; and it occurs for ever in no fair run without end
+-- in the run whose text stands there; and it occurs for ever in no fair run without end. With `--silent NAMES` of `rest-check`, whose word is the
+-- same, it comes to quiet rest in no run, and occurs for ever in no run that is fair where these are silent
 pub record PrintedHolds (number : ℕ) (words : List (List ℕ)) (files : Option Told) (calls calls' : List Event) (written written' : Option (List ℕ)) : Type 0 where
   pub safe : (asked : VerifyWords) → verify_of words ≡ Some asked → number ≤ 2 → Acts (may_put asked.out) (λ read made. EachToldSafe asked.json (seen files read) asked.file written written') calls calls'
   pub unsafe_ : (asked : VerifyWords) → verify_of words ≡ Some asked → number ≤ 2 → Acts (may_put asked.out) (λ read made. EachPrintedUnsafe runs.Occurs (verify_telling asked.json) (seen files read) asked.file written written') calls calls'
   pub proved : (asked : TwoNames) → check_of words ≡ Some asked → number ≡ 0 → Grew (λ read. EachPrinted runs.Safe (codes "proved") (seen files read) asked.file written written') calls calls'
   pub rest_safe : (asked : VerifyWords) → rest_of words ≡ Some asked → number ≤ 2 → Acts (may_put asked.out) (λ read made. EachPrinted RestSafe (codes "rest safe, ") (seen files read) asked.file written written') calls calls'
   pub rest_unsafe : (asked : VerifyWords) → rest_of words ≡ Some asked → number ≤ 2 → Acts (may_put asked.out) (λ read made. EachPrintedUnsafe RestOccurs rest_telling (seen files read) asked.file written written') calls calls'
-  pub rest_proved : (asked : TwoNames) → rest_check_of words ≡ Some asked → number ≡ 0 → Grew (λ read. EachPrinted RestSafe (codes "rest proved") (seen files read) asked.file written written') calls calls'
+  pub rest_proved : (asked : RestCheckWords) → rest_check_of words ≡ Some asked → number ≡ 0 → Grew (λ read. EachPrinted (RestSafeBut asked.silent) (codes "rest proved") (seen files read) asked.file written written') calls calls'
   pub rest_fair : (asked : VerifyWords) → rest_of words ≡ Some asked → number ≤ 2 → Acts (may_put asked.out) (λ read made. EachPrinted FairlySafeAlone (codes "rest safe, ") (seen files read) asked.file written written') calls calls'
-  pub rest_proved_fair : (asked : TwoNames) → rest_check_of words ≡ Some asked → number ≡ 0 → Grew (λ read. EachPrinted FairlySafeAlone (codes "rest proved") (seen files read) asked.file written written') calls calls'
+  pub rest_proved_fair : (asked : RestCheckWords) → rest_check_of words ≡ Some asked → number ≡ 0 → Grew (λ read. EachPrinted (FairlySafeBut asked.silent) (codes "rest proved") (seen files read) asked.file written written') calls calls'
 
 -- 5 exactly where the words are no command's
 pub record UsageExactly (number : ℕ) (asked : Asked) : Type 0 where
@@ -186,7 +204,7 @@ ReportEnds number files words Known Long =
     (told : Told) (asked : VerifyWords) (file : File) → files ≡ Some told → words ≡ Some asked → IsFile (in_files told) asked.file file
     → EndsSo number asked.out (Known file asked.nodes) (Long file asked.nodes)
 
--- a legal FILE, of `rest` and `rest-check` one whose cycles are self-loops, passes: with told files, neither 3 nor 5; where no call failed or
+-- a legal FILE, of `rest` and `rest-check` one whose cycles are self-loops, with names that may be silent in it, passes: with told files, neither 3 nor 5; where no call failed or
 -- stood still, no 6; of `verify` and of `rest`, where no verdict that leaves a pattern unknown holds, no 2; and 4 exactly where the
 -- certificate that is asked for is too long
 pub record Completes (number : ℕ) (words : List (List ℕ)) (before after : State) : Type 0 where

@@ -12,6 +12,7 @@ use Rattle.ta_program.specs.Reporting.{verify_asked}
 use Rattle.ta_program.specs.Rest.{rest_asked}
 use Rattle.ta_program.specs.RestCheck.{rest_check_asked}
 use Rattle.ta_program.specs.Search.{search_asked}
+use Rattle.ta_program.specs.Show.{show_asked}
 
 -- what words ask for: the first is the command
 abbrev pub request_of : List (List ℕ) → Asked
@@ -26,5 +27,6 @@ request_of (word ∷ words) =
     (row (codes "rest") word (rest_asked words)
     (row (codes "rest-check") word (rest_check_asked words)
     (row (codes "search") word (search_asked words)
+    (row (codes "show") word (show_asked words)
     (row (codes "verify") word (verify_asked words)
-    NoCommand)))))))))
+    NoCommand))))))))))

@@ -1,8 +1,8 @@
 -- The command `rest-check` (this project's profile)
 use Rattle.std.specs.Prelude.{ℕ, ◌≡◌, List, [], Option}
 use Rattle.ta_automaton.specs.declared.file.File.{File}
-use Rattle.ta_check.specs.Certificate.{AllRestSafe}
-use Rattle.ta_check.specs.Subjects.{claiming}
+use Rattle.ta_check.specs.Certificate.{AllQuietRestSafe}
+use Rattle.ta_check.specs.Subjects.{claiming_with}
 use Rattle.ta_claim.specs.declared.claim.Claim.TheVariants.{RestSafe}
 use Rattle.ta_report.specs.Check.{rest_check_text}
 use Rattle.ta_shelf.specs.Sink.{with_text}
@@ -11,28 +11,37 @@ use Rattle.ta_shell.specs.Sights.{View}
 use Rattle.ta_shell.specs.Stages.{FileMeans, Writes, after, replies}
 use Rattle.ta_program.specs.Asked.{Asked, ask_where}
 use Rattle.ta_program.specs.Kinds.{IsFile, certificate_kind}
-use Rattle.ta_program.specs.RestEnds.{FileEndings, IsEnds, LegalAtRest, with_ends}
-use Rattle.ta_program.specs.Values.{two_names}
+use Rattle.ta_program.specs.RestEnds.{FileEndings, IsEnds, with_ends}
+use Rattle.ta_program.specs.RestWords.{RestCheckWords, rest_check_words}
+use Rattle.ta_program.specs.SilentNames.{AreSilent, LegalSilently, with_silent}
 
--- CERT is read for the endings of a file, and the text says of which of its patterns it is proved that no run comes to rest so
-abbrev pub rest_proved_meaning : List ℕ → File → FileEndings → Meaning
-rest_proved_meaning name file ends = after (certificate_kind (claiming RestSafe ends.ending)) name [] (λ numbers. replies [] (Writes 0 (rest_check_text file numbers)))
+-- CERT is read for the endings of a file with these silent places, and the text says of which of its patterns it is proved that no run comes
+-- to rest so
+abbrev pub rest_proved_meaning : List ℕ → File → FileEndings → List ℕ → Meaning
+rest_proved_meaning name file ends silent = after (certificate_kind (claiming_with RestSafe ends.ending silent)) name [] (λ numbers. replies [] (Writes 0 (rest_check_text file numbers)))
 
--- FILE is read, its endings are found, and then CERT is read
-abbrev pub rest_check_meaning : List ℕ → List ℕ → Meaning
-rest_check_meaning file_name certificate_name = with_ends file_name [] (rest_proved_meaning certificate_name)
+-- the places of the names are found, and then CERT is read
+abbrev pub quietly_meaning : List ℕ → List ℕ → Option (List ℕ) → File → FileEndings → Meaning
+quietly_meaning file_name certificate_name names file ends = with_silent file_name names file (rest_proved_meaning certificate_name file ends)
+
+-- FILE is read, its endings are found, and then these
+abbrev pub rest_check_meaning : List ℕ → List ℕ → Option (List ℕ) → Meaning
+rest_check_meaning file_name certificate_name names = with_ends file_name [] (quietly_meaning file_name certificate_name names)
 
 abbrev pub rest_check_asked : List (List ℕ) → Asked
-rest_check_asked words = ask_where (λ names. LegalAtRest names.file) (λ names. rest_check_meaning names.file names.other) (two_names words)
+rest_check_asked words = ask_where (λ asked. LegalSilently asked.file asked.silent) (λ asked. rest_check_meaning asked.file asked.other asked.silent) (rest_check_words words)
 
--- FILE is legal and its cycles are self-loops, CERT is a certificate for its endings, so no run comes to rest where the last event of one of
--- FILE's own patterns that it proves happens, and the output gained the text that says which these are
-pub record RestCheckHolds (view : View) (file_name certificate_name : List ℕ) (written written' : Option (List ℕ)) : Type 0 where
+-- FILE is legal and its cycles are self-loops, the names may be silent in it, CERT is a certificate for its endings with their places silent, so
+-- no run comes to quiet rest where the last event of one of FILE's own patterns that it proves happens, and the output gained the text that says
+-- which these are
+pub record RestCheckHolds (view : View) (file_name certificate_name : List ℕ) (names : Option (List ℕ)) (written written' : Option (List ℕ)) : Type 0 where
   pub file : File
   pub is_file : IsFile view file_name file
   pub ends : FileEndings
   pub are_ends : IsEnds file ends
+  pub silent : List ℕ
+  pub are_silent : AreSilent file.automaton names silent
   pub numbers : List ℕ
-  pub certificate : FileMeans (certificate_kind (claiming RestSafe ends.ending)) view certificate_name numbers
-  pub safe : AllRestSafe file numbers
+  pub certificate : FileMeans (certificate_kind (claiming_with RestSafe ends.ending silent)) view certificate_name numbers
+  pub safe : AllQuietRestSafe file silent numbers
   pub wrote : written' ≡ with_text written (rest_check_text file numbers)

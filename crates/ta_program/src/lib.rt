@@ -19,6 +19,8 @@ mod rest;
 mod rest_check;
 mod running;
 mod search;
+mod show;
+mod silent_names;
 mod spelled;
 mod two_files;
 mod values;

@@ -1,7 +1,7 @@
 //! The command `rest-check`.
 #![tactic(auto)]
 
-ghost use Rattle.std.specs.Prelude.{◌≡◌, [], Option};
+ghost use Rattle.std.specs.Prelude.{◌≡◌, [], map, option_map, Option};
 ghost use Rattle.ta_automaton.specs.declared.file.File.{File};
 ghost use Rattle.ta_report.specs.Check.{rest_check_text};
 ghost use Rattle.ta_rest.specs.Faults.{EndingsOf};
@@ -10,14 +10,21 @@ ghost use Rattle.ta_shelf.specs.Put.{Told};
 ghost use Rattle.ta_shell.specs.Commands.{Says};
 ghost use Rattle.ta_shell.specs.Reading.{ReadCause};
 ghost use Rattle.ta_shell.specs.Stages.{Writes, finds, replies};
-ghost use Rattle.ta_program.specs.RestCheck.{rest_proved_meaning};
+ghost use Rattle.ta_program.specs.RestCheck.{quietly_meaning, rest_check_meaning, rest_proved_meaning};
 ghost use Rattle.ta_program.specs.RestEnds.{CycleHinders, IsEnds, ends_of};
+ghost use Rattle.ta_program.specs.RestSeen.{rest_check_seen};
+ghost use Rattle.ta_program.specs.RestWords.{rest_check_taken, rest_check_words};
+ghost use Rattle.ta_program.specs.Taken.{taken_of};
 
 use crate::check::read_certificate;
 use crate::ends::find_ends;
 use crate::reading::read_legal;
-use crate::two_files::OfTwoFiles;
+use crate::request::Request;
+use crate::silent_names::{find_silent, names_of};
+use crate::values::file_name_of;
+use crate::words::{SILENT_OPTION, Taken, take_words};
 use std::alloc::{AllocError, Global};
+use std::thread::Threads;
 use ta_automaton::File as FileOf;
 use ta_base::Text;
 use ta_check::Checker;
@@ -25,33 +32,86 @@ use ta_report::rest_check_text;
 use ta_rest::RestFile;
 use ta_scope::ScopedFile;
 use ta_shelf::Shelf;
-use ta_shell::{Answer, Refusal};
+use ta_shell::{Answer, Command, Outputs, Refusal};
 
-/// Reads a file, then a certificate for its endings, and says which patterns are proved.
+/// What `rest-check` is asked for.
 #[derive(Drop)]
-pub(crate) struct RestCheck;
+pub(crate) struct RestCheck<'a> {
+    file: &'a str,
+    certificate: &'a str,
+    silent: Option<&'a str>,
+}
 
-impl OfTwoFiles for RestCheck {
+impl<'a> Request<'a> for RestCheck<'a> {
+    ghost use Rattle.ta_program.specs.RestCheck.{rest_check_asked};
+
+    ghost asked = { rest_check_asked };
+
+    fn read(words: &[&'a str]) -> Option<RestCheck<'a>> {
+        read_rest_check(words)
+    }
+}
+
+impl<'a> Command for RestCheck<'a> {
+    ghost use Rattle.std.specs.Prelude.{option_map};
     ghost use Rattle.ta_program.specs.RestCheck.{rest_check_meaning};
-    ghost use Rattle.ta_program.specs.RestEnds.{LegalAtRest};
 
-    ghost legal = { LegalAtRest };
+    ghost meaning = { λ command. rest_check_meaning command.file.now command.certificate.now (option_map (λ w. w.now) command.silent) };
 
-    ghost stated = { rest_check_meaning };
-
-    fn judge_files<'a, S: Shelf>(
-        alloc: Global,
-        shelf: &mut S,
-        file: &'a str,
-        other: &'a str,
-    ) -> Result<Answer, Refusal<'a>> {
-        match read_legal(alloc, shelf, file) {
-            Ok(scoped) => judge_scoped(alloc, shelf, file, scoped, other),
-            Err(refusal) => Err(refusal),
-        }
+    fn outputs(&self) -> Outputs<'_> {
+        Outputs::none()
     }
 
-    fn is_determined() {}
+    fn judge<R: Threads + Sync, S: Shelf>(
+        &self,
+        rt: &R,
+        alloc: Global,
+        shelf: &mut S,
+    ) -> Result<Answer, Refusal<'_>> {
+        let _ = rt;
+        judge_files(alloc, shelf, self.file, self.certificate, self.silent)
+    }
+}
+
+/// Reads the words of `rest-check`.
+fn read_rest_check<'a>(words: &[&'a str]) -> Option<RestCheck<'a>>
+    ensures { option_map rest_check_seen result ≡ rest_check_words (map (λ w. w.now) words.now) }
+{
+    let options = [SILENT_OPTION];
+    rest_check_taken(take_words(2, &options, words)?)
+}
+
+/// What is asked for by what was taken of the words.
+fn rest_check_taken(taken: Taken<'_>) -> Option<RestCheck<'_>>
+    ensures { option_map rest_check_seen result ≡ rest_check_taken (taken_of taken.entry) }
+{
+    let file = file_name_of(taken.plain(0))?;
+    let certificate = file_name_of(taken.plain(1))?;
+    let silent = names_of(taken.value(0))?;
+    Some(RestCheck {
+        file,
+        certificate,
+        silent,
+    })
+}
+
+/// Reads a file, then a certificate for its endings, where the places of some names may be silent, and
+/// says which patterns are proved.
+fn judge_files<'a, S: Shelf>(
+    alloc: Global,
+    shelf: &mut S,
+    file: &'a str,
+    certificate: &'a str,
+    silent: Option<&'a str>,
+) -> Result<Answer, Refusal<'a>>
+    ensures says { Grew (Says (rest_check_meaning file.now certificate.now (option_map (λ w. w.now) silent.entry)) (S.files shelf.old) result) (S.calls shelf.old) (S.calls shelf.new) }
+    ensures cause { ReadCause result (S.faults shelf.old) (S.faults shelf.new) }
+    ensures kept { S.files shelf.new ≡ S.files shelf.old }
+{
+    match read_legal(alloc, shelf, file) {
+        Ok(scoped) => judge_scoped(alloc, shelf, file, scoped, certificate, silent),
+        Err(refusal) => Err(refusal),
+    }
 }
 
 /// Reads a certificate for the endings of a file of a name, unless a rule lies on a longer cycle.
@@ -61,29 +121,50 @@ fn judge_scoped<'a, S: Shelf>(
     name: &'a str,
     scoped: ScopedFile,
     certificate: &'a str,
+    silent: Option<&'a str>,
 ) -> Result<Answer, Refusal<'a>>
-    ensures says { Grew (Says (finds (IsEnds scoped.file) (CycleHinders name.now scoped.file) [] (rest_proved_meaning certificate.now scoped.file)) (S.files shelf.old) result) (S.calls shelf.old) (S.calls shelf.new) }
+    ensures says { Grew (Says (finds (IsEnds scoped.file) (CycleHinders name.now scoped.file) [] (quietly_meaning name.now certificate.now (option_map (λ w. w.now) silent.entry) scoped.file)) (S.files shelf.old) result) (S.calls shelf.old) (S.calls shelf.new) }
     ensures cause { ReadCause result (S.faults shelf.old) (S.faults shelf.new) }
     ensures kept { S.files shelf.new ≡ S.files shelf.old }
 {
     match find_ends(alloc, name, scoped) {
-        Ok(rest) => judge_rest(alloc, shelf, &rest, certificate),
+        Ok(rest) => judge_quietly(alloc, shelf, name, &rest, certificate, silent),
         Err(refusal) => Err(refusal),
     }
 }
 
-/// Reads a certificate for the endings of a file, and says which patterns are proved.
+/// Reads a certificate for the endings of a file of a name, unless the names may not be silent in it.
+fn judge_quietly<'a, S: Shelf>(
+    alloc: Global,
+    shelf: &mut S,
+    name: &'a str,
+    rest: &RestFile,
+    certificate: &'a str,
+    silent: Option<&'a str>,
+) -> Result<Answer, Refusal<'a>>
+    ensures says { (file : File) → EndingsOf file rest.now.ending.file rest.now.added → Grew (Says (quietly_meaning name.now certificate.now (option_map (λ w. w.now) silent.entry) file (ends_of rest.now)) (S.files shelf.old) result) (S.calls shelf.old) (S.calls shelf.new) }
+    ensures cause { ReadCause result (S.faults shelf.old) (S.faults shelf.new) }
+    ensures kept { S.files shelf.new ≡ S.files shelf.old }
+{
+    match find_silent(alloc, name, &rest.ending.file.automaton, silent) {
+        Ok(places) => judge_rest(alloc, shelf, rest, places.as_slice(), certificate),
+        Err(refusal) => Err(refusal),
+    }
+}
+
+/// Reads a certificate for the endings of a file with silent places, and says which patterns are proved.
 fn judge_rest<'a, S: Shelf>(
     alloc: Global,
     shelf: &mut S,
     rest: &RestFile,
+    silent: &[u32],
     name: &'a str,
 ) -> Result<Answer, Refusal<'a>>
-    ensures says { (file : File) → EndingsOf file rest.now.ending.file rest.now.added → Grew (Says (rest_proved_meaning name.now file (ends_of rest.now)) (S.files shelf.old) result) (S.calls shelf.old) (S.calls shelf.new) }
+    ensures says { (file : File) → EndingsOf file rest.now.ending.file rest.now.added → Grew (Says (rest_proved_meaning name.now file (ends_of rest.now) silent.now) (S.files shelf.old) result) (S.calls shelf.old) (S.calls shelf.new) }
     ensures cause { ReadCause result (S.faults shelf.old) (S.faults shelf.new) }
     ensures kept { S.files shelf.new ≡ S.files shelf.old }
 {
-    match read_certificate(shelf, Checker::resting(alloc, rest), name) {
+    match read_certificate(shelf, Checker::resting_silently(alloc, rest, silent), name) {
         Ok(accepted) => {
             answer_rest_proved(alloc, &rest.ending.file, accepted.patterns.as_slice())
         }

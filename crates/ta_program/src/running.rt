@@ -6,6 +6,7 @@ ghost use Rattle.ta_shell.specs.Ends.{Quiet, SinkState, Tells, state};
 ghost use Rattle.ta_program.specs.Asked.{Runs, usage_line};
 ghost use Rattle.ta_program.specs.Headline.{StatusTells};
 ghost use Rattle.ta_program.specs.Program.{Admitting, Benches, CertificateWritten, CheckProves, Completes, ExactlySo, Exports, KeepsFiles, Opens, PrintedHolds, ReplayShows, RestProves, RestsReport, RunShortens, Searches, Tellings, UsageExactly, VerifyReports};
+ghost use Rattle.ta_program.specs.Program.{SafeAsShown, ShowsFile};
 ghost use Rattle.ta_program.specs.Requests.{request_of};
 
 use crate::admit::Admit;
@@ -18,6 +19,7 @@ use crate::request::Request;
 use crate::rest::Rest;
 use crate::rest_check::RestCheck;
 use crate::search::Search;
+use crate::show::Show;
 use crate::two_files::TwoFiles;
 use crate::verify::Verify;
 use std::alloc::Global;
@@ -27,7 +29,7 @@ use ta_shell::{perform, tell_line};
 
 /// The line where the words are no command's.
 const USAGE: &str =
-    "tav: usage: verify FILE [--nodes N] [--certificate OUT] [--json], check FILE CERT, replay FILE RUN, compress FILE RUN, bench K, rest FILE [--nodes N] [--certificate OUT], rest-check FILE CERT, search FILE [--nodes N] [--certificate OUT] [--filled OUT2], export FILE PATTERN START WORD, admit FILE PATTERN START WORD VALUES\n";
+    "tav: usage: verify FILE [--nodes N] [--certificate OUT] [--json], check FILE CERT, replay FILE RUN, compress FILE RUN, bench K, rest FILE [--nodes N] [--certificate OUT], rest-check FILE CERT, search FILE [--nodes N] [--certificate OUT] [--filled OUT2], show FILE, export FILE PATTERN START WORD, admit FILE PATTERN START WORD VALUES, --silent NAMES with rest-check\n";
 
 /// Does what the words ask for, and answers the number that the process ends with: 0 where all is
 /// done, 1 where some pattern is unsafe or no values were found, 2 where that isn't known, 3 where FILE hinders, 4
@@ -58,6 +60,8 @@ pub fn run<R: Threads + Sync, S: Shelf, O: Sink, E: Sink>(
     ensures rests { RestsReport result (map (λ w. w.now) words.now) (S.files shelf.old) (S.files shelf.new) (S.calls shelf.old) (S.calls shelf.new) (O.written out.old) (O.written out.new) }
     ensures rest_proves { RestProves result (map (λ w. w.now) words.now) (S.files shelf.old) (S.calls shelf.old) (S.calls shelf.new) (O.written out.old) (O.written out.new) }
     ensures searches { Searches result (map (λ w. w.now) words.now) (S.files shelf.old) (S.files shelf.new) (S.calls shelf.old) (S.calls shelf.new) (O.written out.old) (O.written out.new) }
+    ensures shows { ShowsFile result (map (λ w. w.now) words.now) (S.files shelf.old) (S.calls shelf.old) (S.calls shelf.new) (O.written out.old) (O.written out.new) }
+    ensures understood { SafeAsShown result (map (λ w. w.now) words.now) (S.files shelf.old) (S.calls shelf.old) (S.calls shelf.new) }
     ensures printed { PrintedHolds result (map (λ w. w.now) words.now) (S.files shelf.old) (S.calls shelf.old) (S.calls shelf.new) (O.written out.old) (O.written out.new) }
     ensures usage { UsageExactly result (request_of (map (λ w. w.now) words.now)) }
     ensures exact { ExactlySo result (request_of (map (λ w. w.now) words.now)) (S.files shelf.old) }
@@ -107,10 +111,9 @@ fn obey<R: Threads + Sync, S: Shelf, O: Sink, E: Sink>(
         "export" => attempt::<Export<'_>, R, S, O, E>(rt, alloc, words, shelf, out, err),
         "replay" => attempt::<TwoFiles<'_, Replay>, R, S, O, E>(rt, alloc, words, shelf, out, err),
         "rest" => attempt::<Rest<'_>, R, S, O, E>(rt, alloc, words, shelf, out, err),
-        "rest-check" => attempt::<TwoFiles<'_, RestCheck>, R, S, O, E>(
-            rt, alloc, words, shelf, out, err,
-        ),
+        "rest-check" => attempt::<RestCheck<'_>, R, S, O, E>(rt, alloc, words, shelf, out, err),
         "search" => attempt::<Search<'_>, R, S, O, E>(rt, alloc, words, shelf, out, err),
+        "show" => attempt::<Show<'_>, R, S, O, E>(rt, alloc, words, shelf, out, err),
         "verify" => attempt::<Verify<'_>, R, S, O, E>(rt, alloc, words, shelf, out, err),
         _ => refuse(err),
     }

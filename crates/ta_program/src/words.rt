@@ -24,6 +24,12 @@ pub(crate) const CERTIFICATE_OPTION: OptionWord<'static> = OptionWord {
     valued: true,
 };
 
+/// The names that are to be silent.
+pub(crate) const SILENT_OPTION: OptionWord<'static> = OptionWord {
+    word: "--silent",
+    valued: true,
+};
+
 /// What the words of a form give: at most five plain words, and at most four options.
 pub(crate) fn take_words<'a>(
     plain: usize,

@@ -36,6 +36,7 @@ cert_fault_text (cert.SplitVariable line) = codes "C9 no such unknown at line " 
 cert_fault_text (cert.Trailing line) = codes "C10 trailing text at line " ++ decimal line
 cert_fault_text (cert.RepeatedPattern line) = codes "C11 repeated pattern at line " ++ decimal line
 cert_fault_text (cert.Pair line) = codes "C14 no such order at line " ++ decimal line
+cert_fault_text (cert.Question line) = codes "C15 no such question at line " ++ decimal line
 cert_fault_text cert.Failed = codes "C12 failed"
 cert_fault_text cert.Memory = codes "out of memory"
 

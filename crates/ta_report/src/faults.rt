@@ -57,6 +57,7 @@ pub fn cert_fault_phrase(fault: &CertFault) -> Phrase
         CertFault::Trailing(line) => one("C10 trailing text at line ", line),
         CertFault::RepeatedPattern(line) => one("C11 repeated pattern at line ", line),
         CertFault::Pair(line) => one("C14 no such order at line ", line),
+        CertFault::Question(line) => one("C15 no such question at line ", line),
         CertFault::Failed => Phrase::Plain("C12 failed"),
         CertFault::Memory => Phrase::Plain("out of memory"),
     }

@@ -43,6 +43,7 @@ rest_search a p = record {
   roots = all_starts a;
   answers = λ start past. only_extend (is_complete p past) (children a p [] start past);
   question = λ start past values. Some node.Extend;
+  scaled = λ w values. None;
   unknowns = λ start past. length (meanings a p start past);
   rows = rest_rows a p;
 }

@@ -1,5 +1,5 @@
 -- lemmas for the crates above
-mod Ends
+pub mod Ends
 pub mod Resting
 pub mod OwnRuns
 mod LastMark

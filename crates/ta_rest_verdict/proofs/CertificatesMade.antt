@@ -3,7 +3,7 @@ use Rattle.ta_rest_verdict.proofs.Common.{◌≡◌, ◌∙◌, ℕ, ◌≤◌, 
 use Rattle.ta_cert.specs.Laws.{AreShort}
 use Rattle.ta_cert.specs.declared.line.Line.TheVariants as line
 use Rattle.ta_check.specs.Certificate.{RestCertificate}
-use Rattle.ta_check.specs.Subjects.{claiming}
+use Rattle.ta_check.specs.Subjects.{Words, claiming}
 use Rattle.ta_verdict.proofs.CertificatesMade.{all_short, cert_written, made, ones_distinct, safe_named}
 
 -- the nodes of such a tree
@@ -15,6 +15,7 @@ rest_accepted ending budget within vs text c =
     let ones = safe_ones 0 ending.patterns vs in
     let m = made (claiming RestSafe ending) [] (rest_tree ending budget) (judgeable ending budget within) ones c.trees (safe_named ending vs) c.are in
     record {
+      kind = Words;
       orders = [];
       proofs = m.proofs;
       written = c.written ∙ ap (cert_text []) (sym m.are);

@@ -7,7 +7,7 @@ use Rattle.ta_encode.proofs.Asking.{settled_complete}
 use Rattle.ta_encode.proofs.Moments.{AllHold-left}
 use Rattle.ta_claim.proofs.PatternWords.{comes_legal}
 use Rattle.ta_claim.proofs.RestRows.{rest_comes}
-use Rattle.ta_walk.proofs.WordsSolved.{whole_solves}
+use Rattle.ta_walk.proofs.WordsSolved.{unscaled_solve, whole_solves}
 
 pub found_solved : RestsAreSolved
 found_solved file number p at budget count solution found =
@@ -17,7 +17,7 @@ found_solved file number p at budget count solution found =
     let waits = (left_wait s 0 s.roots found.visited.nodes (w ∷ found.visited.words) (starts_wait RestSafe a p []) found.visited.visits).0 in
     let legal = comes_legal a p [] w.start w.past (rest_comes a p w.start w.past waits.comes) in
     let whole = found.holds.whole in
-    let solved = whole_solves s w solution.values whole in
+    let solved = whole_solves s (unscaled_solve s (λ v vs. refl)) w solution.values whole in
     let rows = AllHold-left solved.0 (rest_rows a p w.start w.past) _ solved.2.rows_hold in
     record {
       pattern = p;

@@ -45,7 +45,7 @@ pub spent_verdict : (rest : RestFile) (budget number : ℕ) (p : Pattern) (nodes
 spent_verdict rest budget number p nodes spent file ends own at =
     let a = rest.ending.file.automaton in
     let s = rest_search a p in
-    record { is = spent; split = λ most. split_of_words a p [] s.question s.unknowns s.rows budget nodes most spent }
+    record { is = spent; split = λ most. split_of_words a p [] s.question s.scaled s.unknowns s.rows budget nodes most spent }
 
 -- what a visit finds is a solution
 pub solution_found : (file : File) (number : ℕ) → number < length file.patterns → (budget nodes : ℕ) (solution : Solution) → OfPattern file number (λ p. NodeOf (rest_search file.automaton p) budget nodes (SolutionAt (rest_search file.automaton p) number solution)) → IsRestSolution file solution

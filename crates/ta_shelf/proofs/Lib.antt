@@ -1,6 +1,7 @@
 -- lemmas for the crates above
 pub mod WrittenSoFar
 pub mod CallLemmas
+mod Alike
 mod Distinct
 mod Endings
 mod Handed

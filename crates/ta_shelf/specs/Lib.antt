@@ -1,5 +1,6 @@
 pub mod Access
 pub mod Calls
+pub mod Compare
 pub mod Counts
 pub mod Entries
 pub mod Failing

@@ -9,7 +9,7 @@ use crate::disk_stage::DiskStage;
 use crate::entry::Step;
 use crate::fault::{PutFault, ShelfFault};
 use crate::shelf::Shelf;
-use crate::system::{Access, Opened, Tape};
+use crate::system::{Access, Opened, Tape, target_of};
 use std::alloc::AllocGlobal;
 use std::io;
 use std::rt::Files;
@@ -89,6 +89,16 @@ impl<R: Files + AllocGlobal + Clone + Drop> Shelf for DiskShelf<R> {
                 Ok(count)
             }
             Err(fault) => Err(fault),
+        }
+    }
+
+    fn keeps_bytes(&mut self, name: &str) -> bool {
+        match target_of(&self.rt, name) {
+            Ok(None) => {
+                self.tape.passed_over(name);
+                false
+            }
+            _ => true,
         }
     }
 

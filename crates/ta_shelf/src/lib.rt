@@ -1,6 +1,7 @@
 //! Files by name and sinks of bytes, in memory and real, with counts of what went wrong.
 #![tactic(auto)]
 
+mod comparing;
 mod disk_shelf;
 mod disk_stage;
 mod entry;
@@ -23,6 +24,7 @@ mod std_sink;
 mod system;
 mod writing;
 
+pub use comparing::holds;
 pub use disk_shelf::DiskShelf;
 pub use disk_stage::{DiskStage, Making};
 pub use entry::{Entry, Step};

@@ -1,7 +1,7 @@
 //! A shelf in memory, some of whose calls fail.
 #![tactic(auto)]
 
-ghost use Rattle.std.specs.Prelude.{◌≡◌, ◌≤◌, ◌++◌, ◌∷◌, [], ℕ, length, min, IsOk, IfOk, IfErr, IfSome, Ok, Some};
+ghost use Rattle.std.specs.Prelude.{◌≡◌, ◌≤◌, ◌++◌, ◌∷◌, [], ℕ, length, min, IsOk, IfOk, IfErr, IfSome, IsTrue, Ok, Some};
 ghost use Rattle.ta_shelf.specs.Calls.{Reads, Puts, filled};
 ghost use Rattle.ta_shelf.specs.Failing.{IsNextListed, next_calls};
 ghost use Rattle.ta_shelf.specs.Files.{AreDistinct, bytes_left, file_named};
@@ -78,6 +78,14 @@ impl Shelf for MemoryShelf {
             return answer;
         }
         self.shelf.read_at(name, at, buf)
+    }
+
+    // it never fails, and is no call that is numbered
+    fn keeps_bytes(&mut self, _name: &str) -> bool
+        ensures yes { IsTrue result }
+        ensures same { self.new ≡ self.old }
+    {
+        true
     }
 
     fn create(&mut self, name: &str) -> Result<(), PutFault>

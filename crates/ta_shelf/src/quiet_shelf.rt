@@ -1,7 +1,7 @@
 //! A shelf in memory that never fails.
 #![tactic(auto)]
 
-ghost use Rattle.std.specs.Prelude.{◌≡◌, ◌≤◌, ◌++◌, ◌∷◌, [], ℕ, length, min, take, drop, IsOk, IfOk, IfErr, IfSome, Ok, Some};
+ghost use Rattle.std.specs.Prelude.{◌≡◌, ◌≤◌, ◌++◌, ◌∷◌, [], ℕ, length, min, take, drop, IsOk, IfOk, IfErr, IfSome, IsTrue, Ok, Some};
 ghost use Rattle.ta_shelf.specs.Calls.{Reads, Puts, filled};
 ghost use Rattle.ta_shelf.specs.Files.{AreDistinct, bytes_left, file_named};
 ghost use Rattle.ta_shelf.specs.Put.{Creates, Appends, OthersStay, PutNeverFails};
@@ -71,6 +71,13 @@ impl Shelf for QuietShelf {
         };
         self.log.add(name, at, buf, answer);
         answer
+    }
+
+    fn keeps_bytes(&mut self, _name: &str) -> bool
+        ensures yes { IsTrue result }
+        ensures same { self.new ≡ self.old }
+    {
+        true
     }
 
     fn create(&mut self, name: &str) -> Result<(), PutFault>

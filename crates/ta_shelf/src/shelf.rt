@@ -1,9 +1,10 @@
 //! Files by name.
 #![tactic(auto)]
 
-ghost use Rattle.std.specs.Prelude.{◌≡◌, ◌≤◌, ◌++◌, ◌∷◌, [], ℕ, List, length, IfOk, IfSome, IsErrOf, Ok};
+ghost use Rattle.std.specs.Prelude.{◌≡◌, ◌≤◌, ◌++◌, ◌∷◌, [], ℕ, List, length, IfOk, IfSome, IsErrOf, IsTrue, MatchBool, Ok};
 ghost use Rattle.std.specs.declared.option.Option.{Option};
 ghost use Rattle.ta_shelf.specs.Calls.{Event, Reads, Puts, filled};
+ghost use Rattle.ta_shelf.specs.Compare.{asks_nothing};
 ghost use Rattle.ta_shelf.specs.Put.{WhereTold, Creates, Appends, OthersStay, PutFailsOnlyFaulted};
 ghost use Rattle.ta_shelf.specs.Shelf.{ReadsAt, FailsOnlyFaulted};
 ghost use Rattle.ta_shelf.specs.Stage.{answer_of, AddsTo, Publishes};
@@ -45,6 +46,15 @@ pub trait Shelf {
         ensures memory { IsErrOf result ShelfFault.Memory → wants_memory }
         // the log has exactly this call more
         ensures log { calls self.new ≡ calls self.old ++ Reads (record { name = name.now; at = at; asked = length buf.old; gave = filled buf.new result }) ∷ [] }
+        ensures kept { files self.new ≡ files self.old };
+
+    /// Whether the bytes of a name can be read again: not where it is a pipe, say, or a device. It opens
+    /// nothing.
+    fn keeps_bytes(&mut self, name: &str) -> bool
+        ensures told { IfSome (files self.old) (λ m. IsTrue result) }
+        ensures faults { faults self.new ≡ faults self.old }
+        // the log has a call that asks for nothing where they can't
+        ensures log { MatchBool result (calls self.new ≡ calls self.old) (calls self.new ≡ calls self.old ++ Reads (asks_nothing name.now) ∷ []) }
         ensures kept { files self.new ≡ files self.old };
 
     /// Makes the file of a name, which is empty then; one that is there is emptied.

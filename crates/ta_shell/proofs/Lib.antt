@@ -1,4 +1,5 @@
 -- lemmas for the crates above
+pub mod Compared
 pub mod Clauses
 pub mod Views
 pub mod Read

@@ -20,7 +20,7 @@ pub reads_same : (first second : List Call) → reads first ≡ reads second →
 reads_same first second same = sym (reads_in_reads first) ∙ ap reads_in same ∙ reads_in_reads second
 
 -- all calls are part of them
-all_of : (Such : List Call → Type 0) (calls : List Call) → Such calls → Part Such calls
+pub all_of : (Such : List Call → Type 0) (calls : List Call) → Such calls → Part Such calls
 all_of Such calls such = record { before = []; those = calls; after = []; all = sym (append-nil calls); such = such }
 
 -- the calls are of one reading, whatever it answers

@@ -8,3 +8,4 @@ pub mod Ends
 pub mod Putting
 pub mod Finishing
 pub mod Stages
+pub mod Sparing

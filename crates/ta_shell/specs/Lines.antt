@@ -34,6 +34,13 @@ missing = codes "missing"
 abbrev pub longer_than : ℕ → List ℕ
 longer_than limit = codes "longer than " ++ (decimal limit ++ codes " bytes")
 
+-- of an output that is refused, so that it isn't destroyed
+abbrev pub holds_read : List ℕ
+holds_read = codes "holds what was read"
+
+abbrev pub holds_written : List ℕ
+holds_written = codes "holds what was written"
+
 abbrev pub output_line : List ℕ
 output_line = codes "tav: output failed\n"
 

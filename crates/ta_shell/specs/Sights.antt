@@ -1,15 +1,17 @@
 -- What is seen of files (this project's profile)
-use Rattle.std.specs.Prelude.{ℕ, ◌≡◌, ◌<◌, ◌≤◌, List, ◌++◌, length, take, Option, None, Some}
+use Rattle.std.specs.Prelude.{ℕ, ◌≡◌, ◌≢◌, ◌<◌, ◌≤◌, List, ◌++◌, length, take, Option, None, Some}
 use Rattle.ta_shelf.specs.Calls.{Call, ReadsFirst, Spells, Stops}
+use Rattle.ta_shelf.specs.Compare.{TellsOther}
 use Rattle.ta_shelf.specs.Put.{Told}
 use Rattle.ta_shelf.specs.ReadPiece.{BeginsWith}
 use Rattle.ta_shelf.specs.declared.fault.ShelfFault.TheVariants.{Missing}
 
--- of a name: all bytes of its file, or that it has none, or the first bytes of its file
+-- of a name: all bytes of its file, or that it has none, or the first bytes of its file, or that it doesn't hold exactly these bytes
 pub data Sight : Type 0 where
   Whole : List ℕ → Sight
   Absent : Sight
   Begins : List ℕ → Sight
+  Unlike : List ℕ → Sight
 
 -- what is seen of each name
 abbrev pub View : Type 1
@@ -20,6 +22,7 @@ abbrev pub in_files : Told → View
 in_files told name (Whole bytes) = told name ≡ Some bytes
 in_files told name Absent = told name ≡ None
 in_files told name (Begins bytes) = BeginsWith (told name) bytes
+in_files told name (Unlike bytes) = told name ≢ Some bytes
 
 -- the same, where the files are told
 abbrev pub where_told : Option Told → View
@@ -39,6 +42,7 @@ abbrev pub in_calls : List Call → View
 in_calls calls name (Whole bytes) = Part (λ those. Spells name those bytes) calls
 in_calls calls name Absent = Part (λ those. Stops name those Missing) calls
 in_calls calls name (Begins bytes) = Part (λ those. (more : List ℕ) × ReadsFirst name those (bytes ++ more)) calls
+in_calls calls name (Unlike bytes) = Part (TellsOther name bytes) calls
 
 -- in what the calls of a run gave, and in the files, where they are told
 abbrev pub seen : Option Told → List Call → View

@@ -8,6 +8,7 @@ mod performing;
 mod phrase;
 mod putting;
 mod reading;
+mod sparing;
 mod telling;
 
 pub use answer::{Answer, Content, Outputs, Put, Refusal};
@@ -15,4 +16,5 @@ pub use command::Command;
 pub use performing::perform;
 pub use phrase::Phrase;
 pub use reading::{Limit, read_text, too_long, unread};
+pub use sparing::{spare, spare_read};
 pub use telling::tell_line;

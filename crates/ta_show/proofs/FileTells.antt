@@ -6,7 +6,7 @@ use Rattle.std.proofs.lemmas.List.{append_cancel_left}
 use Rattle.std.proofs.lemmas.Int.{ints}
 use Rattle.ta_base.specs.declared.limits.TheConstants.{LARGEST_NUMBER}
 use Rattle.ta_base.specs.Lists.{Distinct, EachFrom}
-use Rattle.ta_base.proofs.Lists.{first_byte, tails, heads}
+use Rattle.ta_base.proofs.Lists.{first_byte}
 use Rattle.ta_base.proofs.DecimalDigits.{number_same}
 use Rattle.ta_base.proofs.Each.{distinct_left, distinct_right, each_front, each_back, each_weaker}
 use Rattle.ta_base.proofs.Ranges.{each_below, rises_length}
@@ -16,6 +16,7 @@ use Rattle.ta_linear.specs.declared.row.Row.{Row}
 use Rattle.ta_automaton.specs.declared.automaton.Automaton.{Automaton}
 use Rattle.ta_automaton.specs.declared.condition.Comparison.{Comparison}
 use Rattle.ta_automaton.specs.declared.condition.Condition.{Condition}
+use Rattle.ta_automaton.specs.declared.file.File.{File}
 use Rattle.ta_automaton.specs.declared.pattern.Event.{Event}
 use Rattle.ta_automaton.specs.declared.pattern.Pattern.{Pattern}
 use Rattle.ta_automaton.specs.declared.rule.Rule.{Rule}
@@ -24,70 +25,23 @@ use Rattle.ta_automaton.specs.Forms.{FormOver, ConditionOver, RowOver, RiseRow, 
 use Rattle.ta_automaton.specs.Shape.{Update, RuleWithin}
 use Rattle.ta_automaton.specs.Patterns.{EventWithin, PatternWithin}
 use Rattle.ta_meaning.proofs.EqualParts.{form-equal, row-equal, comparison-equal, condition-equal, rule-equal, event-equal, pattern-equal, automaton-equal, file-equal}
-use Rattle.ta_show.specs.Show.{each, listed, mask_text, name_text, name_at, place_name, location_text, term_text, sum_text, row_text, comparison_text, condition_text, update_text, rule_text, event_text, pattern_text, order_text, automaton_text}
+use Rattle.ta_show.specs.Show.{each, listed, mask_text, name_text, name_at, location_text, sum_text, row_text, comparison_text, condition_text, update_text, rule_text, event_text, pattern_text, order_text, automaton_text, show_text}
 use Rattle.ta_show.specs.Determined.{ShowsDiffer}
+use Rattle.ta_show.proofs.Sums.{SameNames, TermFits, count, summands_same}
 use Rattle.ta_show.proofs.Tells.{Tells, listed_same, name_tells, name_avoids, numbered_name, signed_same, MaskFits, mask_same}
-
--- automata with the same names of places
-record SameNames (a b : Automaton) : Type 0 where
-  pub parameters : a.parameters ≡ b.parameters
-  pub shared : a.shared ≡ b.shared
-  pub locations : a.locations ≡ b.locations
-
-abbrev all_names : Automaton → List (List ℕ)
-all_names a = a.parameters ++ a.shared ++ a.locations
-
-abbrev count : Automaton → ℕ
-count a = length (all_names a)
 
 count_is : (a : Automaton) → count a ≡ length a.parameters + length a.shared + length a.locations
 count_is a = omega (arith, length-append (a.parameters ++ a.shared) a.locations, length-append a.parameters a.shared)
-
-names_same : (a b : Automaton) → SameNames a b → all_names a ≡ all_names b
-names_same a b same = λ i. same.parameters i ++ same.shared i ++ same.locations i
-
--- ---- terms
-record TermFits (n : ℕ) (t : ℕ × ℤ) : Type 0 where
-  pub place : t.0 < n
-  pub small : unsigned_abs t.1 ≤ LARGEST_NUMBER
-
-term_out : (number name r : List ℕ) → (number ++ (42 ∷ (name ++ (32 ∷ [])))) ++ r ≡ number ++ (42 ∷ (name ++ (32 ∷ r)))
-term_out number name r = append_assoc number (42 ∷ (name ++ (32 ∷ []))) r ∙ ap (λ xs. number ++ (42 ∷ xs)) (append_assoc name (32 ∷ []) r)
-
-term_tells : (a b : Automaton) → SameNames a b → Tells (term_text a) (term_text b) (TermFits (count a)) (TermFits (count b))
-term_tells a b same x y r s p q e =
-    let tail = append_cancel_left (codes "+ ") ((signed_decimal x.1 ++ (42 ∷ (place_name a x.0 ++ (32 ∷ [])))) ++ r) ((signed_decimal y.1 ++ (42 ∷ (place_name b y.0 ++ (32 ∷ [])))) ++ s) e in
-    let low = p.small in
-    let high = q.small in
-    let number = signed_same 42 x.1 y.1 (place_name a x.0 ++ (32 ∷ r)) (place_name b y.0 ++ (32 ∷ s)) (omega arith) (omega arith) (omega arith) (sym (term_out (signed_decimal x.1) (place_name a x.0) r) ∙ tail ∙ term_out (signed_decimal y.1) (place_name b y.0) s) in
-    let name = numbered_name 32 (all_names a) (all_names b) x.0 y.0 r s refl (names_same a b same) a.shape.names_legal a.shape.names_distinct p.place q.place number.1 in
-    ((λ i. (name.0 i, number.0 i)), name.1)
-
-terms_same : (a b : Automaton) → SameNames a b → (t : ℕ) (xs ys : List (ℕ × ℤ)) (r s : List ℕ) → (t ≡ 43 → ⊥) → AllByRecursion (TermFits (count a)) xs → AllByRecursion (TermFits (count b)) ys → each (term_text a) xs ++ (t ∷ r) ≡ each (term_text b) ys ++ (t ∷ s) → (xs ≡ ys) × (r ≡ s)
-terms_same a b same t [] [] r s other p q e = (refl, tails t t r s e)
-terms_same a b same t [] (y ∷ ys) r s other p q e = absurd (other (heads _ _ _ _ e))
-terms_same a b same t (x ∷ xs) [] r s other p q e = absurd (other (sym (heads _ _ _ _ e)))
-terms_same a b same t (x ∷ xs) (y ∷ ys) r s other p q e =
-    let u : List ℕ = each (term_text a) xs ++ (t ∷ r) in
-    let v : List ℕ = each (term_text b) ys ++ (t ∷ s) in
-    let one = term_tells a b same x y u v p.0 q.0 (sym (append_assoc (term_text a x) (each (term_text a) xs) (t ∷ r)) ∙ e ∙ append_assoc (term_text b y) (each (term_text b) ys) (t ∷ s)) in
-    let rest = terms_same a b same t xs ys r s other p.1 q.1 one.1 in
-    ((λ i. one.0 i ∷ rest.0 i), rest.1)
 
 -- ---- sums and rows
 record FormFits (n : ℕ) (f : Form) : Type 0 where
   pub constant : unsigned_abs f.constant ≤ LARGEST_NUMBER
   pub terms : AllByRecursion (TermFits n) f.terms
 
-sum_same : (a b : Automaton) → SameNames a b → (t : ℕ) (f g : Form) (r s : List ℕ) → (t ≡ 43 → ⊥) → FormFits (count a) f → FormFits (count b) g → sum_text a f ++ (t ∷ r) ≡ sum_text b g ++ (t ∷ s) → (f ≡ g) × (r ≡ s)
-sum_same a b same t f g r s other p q e =
-    let u : List ℕ = each (term_text a) f.terms in
-    let v : List ℕ = each (term_text b) g.terms in
-    let low = p.constant in
-    let high = q.constant in
-    let number = signed_same 32 f.constant g.constant (u ++ (t ∷ r)) (v ++ (t ∷ s)) (omega arith) (omega arith) (omega arith) (sym (append_assoc (signed_decimal f.constant) (32 ∷ u) (t ∷ r)) ∙ e ∙ append_assoc (signed_decimal g.constant) (32 ∷ v) (t ∷ s)) in
-    let terms = terms_same a b same t f.terms g.terms r s other p.terms q.terms number.1 in
-    (form-equal f g number.0 terms.0, terms.1)
+sum_same : (a b : Automaton) → SameNames a b → (t : ℕ) (f g : Form) (r s : List ℕ) → (t ≡ 43 → ⊥) → (t ≡ 45 → ⊥) → FormFits (count a) f → FormFits (count b) g → sum_text a f ++ (t ∷ r) ≡ sum_text b g ++ (t ∷ s) → (f ≡ g) × (r ≡ s)
+sum_same a b same t f g r s plus minus p q e =
+    let parts = summands_same a b same t plus minus f.constant g.constant p.constant q.constant f.terms g.terms r s p.terms q.terms e in
+    (form-equal f g parts.1 parts.0, parts.2)
 
 abbrev RowFits : ℕ → Row → Type 0
 RowFits n r = FormFits n r.form
@@ -95,7 +49,7 @@ RowFits n r = FormFits n r.form
 row_tells : (a b : Automaton) → SameNames a b → Tells (row_text a) (row_text b) (RowFits (count a)) (RowFits (count b))
 row_tells a b same x y r s p q e =
     let end : List ℕ = codes ">= 0" ++ (10 ∷ []) in
-    let parts = sum_same a b same 62 x.form y.form (codes "= 0" ++ (10 ∷ r)) (codes "= 0" ++ (10 ∷ s)) (λ h. omega (arith, h)) p q (sym (append_assoc (sum_text a x.form) end r) ∙ e ∙ append_assoc (sum_text b y.form) end s) in
+    let parts = sum_same a b same 62 x.form y.form (codes "= 0" ++ (10 ∷ r)) (codes "= 0" ++ (10 ∷ s)) (λ h. omega (arith, h)) (λ h. omega (arith, h)) p q (sym (append_assoc (sum_text a x.form) end r) ∙ e ∙ append_assoc (sum_text b y.form) end s) in
     (row-equal x y parts.0, append_cancel_left (codes "= 0" ++ (10 ∷ [])) r s parts.1)
 
 -- ---- conditions
@@ -362,7 +316,7 @@ automaton_same a b r s e =
     let same : SameNames a b = record { parameters = parameters.0; shared = shared.0; locations = locations.0 } in
     let initial = listed_same (codes "initial ") (location_text a) (location_text b) (λ l. l < length a.locations) (λ l. l < length b.locations) (location_tells a b same) a.initial b.initial a4 b4 (initial_few a) (initial_few b)
     (each_below 0 (length a.locations) a.initial a.shape.initial_rises) (each_below 0 (length b.locations) b.initial b.shape.initial_rises) locations.1 in
-    let processes = sum_same a b same 112 a.processes b.processes a5 b5 (λ h. omega (arith, h)) (processes_fit a) (processes_fit b) initial.1 in
+    let processes = sum_same a b same 112 a.processes b.processes a5 b5 (λ h. omega (arith, h)) (λ h. omega (arith, h)) (processes_fit a) (processes_fit b) initial.1 in
     let resilience = condition_same a b same (codes "resilience ") a.resilience b.resilience a7 b7 (resilience_fits a) (resilience_fits b) (append_cancel_left (codes "rocesses" ++ (10 ∷ [])) a6 b6 processes.1) in
     let rise = listed_same (codes "rise ") (row_text a) (row_text b) (RowFits (count a)) (RowFits (count b)) (row_tells a b same) a.rise b.rise a8 b8 (omega arith) (omega arith) (rise_rows a) (rise_rows b) resilience.1 in
     let fall = listed_same (codes "fall ") (row_text a) (row_text b) (RowFits (count a)) (RowFits (count b)) (row_tells a b same) a.fall b.fall a9 b9 (omega arith) (omega arith) (fall_rows a) (fall_rows b) rise.1 in
@@ -370,18 +324,30 @@ automaton_same a b r s e =
     (automaton-equal a b (record { name = name.0; parameters = parameters.0; shared = shared.0; locations = locations.0; initial = initial.0; processes = processes.0; resilience = resilience.0; rise = rise.0; fall = fall.0; rules = rules.0 }), rules.1)
 
 -- ---- files
+-- a text is of one file, whatever pairs stand behind it
+module _ (f g : File) (orders others : List (ℕ × ℕ)) (e : show_text f orders ≡ show_text g others) where
+  parts : (f ≡ g) × (listed (codes "orders ") order_text orders ≡ listed (codes "orders ") order_text others)
+  parts =
+      let a = f.automaton in
+      let b = g.automaton in
+      let u1 : List ℕ = listed (codes "patterns ") (pattern_text a) f.patterns in
+      let v1 : List ℕ = listed (codes "patterns ") (pattern_text b) g.patterns in
+      let u2 : List ℕ = listed (codes "orders ") order_text orders in
+      let v2 : List ℕ = listed (codes "orders ") order_text others in
+      let automaton = automaton_same a b (u1 ++ u2) (v1 ++ v2) e in
+      let same : SameNames a b = record { parameters = (λ i. (automaton.0 i).parameters); shared = (λ i. (automaton.0 i).shared); locations = (λ i. (automaton.0 i).locations) } in
+      let few = f.shape.limit in
+      let some = g.shape.limit in
+      let patterns = listed_same (codes "patterns ") (pattern_text a) (pattern_text b) (PatternOf a) (PatternOf b) (pattern_tells a b same) f.patterns g.patterns u2 v2 (omega arith) (omega arith) f.shape.within g.shape.within automaton.1 in
+      (file-equal f g automaton.0 patterns.0, patterns.1)
+
+  pub file_same : f ≡ g
+  file_same = parts.0
+
 pub texts_differ : ShowsDiffer
 texts_differ f g orders others p q e =
-    let a = f.automaton in
-    let b = g.automaton in
-    let u1 : List ℕ = listed (codes "patterns ") (pattern_text a) f.patterns in
-    let v1 : List ℕ = listed (codes "patterns ") (pattern_text b) g.patterns in
-    let u2 : List ℕ = listed (codes "orders ") order_text orders in
-    let v2 : List ℕ = listed (codes "orders ") order_text others in
-    let automaton = automaton_same a b (u1 ++ u2) (v1 ++ v2) e in
-    let same : SameNames a b = record { parameters = (λ i. (automaton.0 i).parameters); shared = (λ i. (automaton.0 i).shared); locations = (λ i. (automaton.0 i).locations) } in
-    let few = f.shape.limit in
-    let some = g.shape.limit in
-    let patterns = listed_same (codes "patterns ") (pattern_text a) (pattern_text b) (PatternOf a) (PatternOf b) (pattern_tells a b same) f.patterns g.patterns u2 v2 (omega arith) (omega arith) f.shape.within g.shape.within automaton.1 in
-    let pairs = listed_same (codes "orders ") order_text order_text PairFits PairFits order_tells orders others [] [] p.count q.count p.fit q.fit (append-nil u2 ∙ patterns.1 ∙ sym (append-nil v2)) in
-    (file-equal f g automaton.0 patterns.0, pairs.0)
+    let files = parts f g orders others e in
+    let u : List ℕ = listed (codes "orders ") order_text orders in
+    let v : List ℕ = listed (codes "orders ") order_text others in
+    let pairs = listed_same (codes "orders ") order_text order_text PairFits PairFits order_tells orders others [] [] p.count q.count p.fit q.fit (append-nil u ∙ files.1 ∙ sym (append-nil v)) in
+    (files.0, pairs.0)

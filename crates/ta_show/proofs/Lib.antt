@@ -1,3 +1,4 @@
 mod Showing
 mod Tells
-mod FileTells
+mod Sums
+pub mod FileTells

@@ -1,10 +1,12 @@
 -- Texts written piece by piece.
-use Rattle.std.proofs.Common.{ℕ, suc, ◌≡◌, ◌<◌, ◌+◌, ◌-◌, ◌∙◌, List, ◌∷◌, ◌++◌, Bool, true, false, cond, ap, sym, arith, append_assoc}
+use Rattle.std.proofs.Common.{ℕ, ℤ, suc, unsigned_abs, ◌==◌, [], decimal, ◌≡◌, ◌<◌, ◌+◌, ◌-◌, ◌∙◌, List, ◌∷◌, ◌++◌, Bool, true, false, cond, ap, sym, arith, append_assoc}
 use Rattle.std.specs.Prelude.{filter}
 use Rattle.std.specs.List.{range_with_len}
 use Rattle.ta_base.specs.Masks.{has_bit}
 use Rattle.ta_base.proofs.Lists.{piece_written}
-use Rattle.ta_show.specs.Show.{each, mask_number}
+use Rattle.std.proofs.lemmas.Bool.{eqb-true, false_from_ne_true}
+use Rattle.ta_automaton.specs.declared.automaton.Automaton.{Automaton}
+use Rattle.ta_show.specs.Show.{amount_text, each, many, mask_number, place_name}
 
 -- the numbers of a mask from one on
 abbrev pub left_of : ℕ → ℕ → List ℕ
@@ -30,3 +32,15 @@ unset_next mask n old new all within is same so_far =
 -- one piece behind another
 pub behind : (old mid new a b : List ℕ) → mid ≡ old ++ a → new ≡ mid ++ b → new ≡ old ++ (a ++ b)
 behind old mid new a b first second = second ∙ ap (λ xs. xs ++ b) first ∙ append_assoc old a b
+
+-- so many of a place, where it isn't one
+pub amount_written : (a : Automaton) (t : ℕ × ℤ) (size : ℕ) (name old new : List ℕ) → name ≡ place_name a t.0 → size ≡ unsigned_abs t.1 → (size ≡ 1 → ⊥) → new ≡ old ++ (decimal size ++ (42 ∷ (name ++ (32 ∷ [])))) → new ≡ old ++ amount_text a t
+amount_written a t size name old new named sized other written =
+    let n = unsigned_abs t.1 in
+    let place : List ℕ = place_name a t.0 in
+    let more : (n == 1) ≡ false = false_from_ne_true (n == 1) (λ e. other (sized ∙ eqb-true n 1 e)) in
+    written
+    ∙ ap (λ (m : ℕ). old ++ (decimal m ++ (42 ∷ (name ++ (32 ∷ []))))) sized
+    ∙ ap (λ (p : List ℕ). old ++ (decimal n ++ (42 ∷ (p ++ (32 ∷ []))))) named
+    ∙ ap (λ xs. old ++ xs) (sym (append_assoc (decimal n) (42 ∷ []) (place ++ (32 ∷ []))))
+    ∙ ap (λ (b : Bool). old ++ (many b n ++ (place ++ (32 ∷ [])))) (sym more)

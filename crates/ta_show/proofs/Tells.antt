@@ -60,7 +60,7 @@ pub name_tells : Tells name_text name_text Name Name
 name_tells x y r s p q e = first_byte 10 x y r s (name_avoids 10 x refl p) (name_avoids 10 y refl q) (sym (append_assoc x (10 ∷ []) r) ∙ e ∙ append_assoc y (10 ∷ []) s)
 
 -- of distinct names, each is that of one number
-one_number : (names : List (List ℕ)) (i j : ℕ) → Distinct names → i < length names → j < length names → name_at names i ≡ name_at names j → i ≡ j
+pub one_number : (names : List (List ℕ)) (i j : ℕ) → Distinct names → i < length names → j < length names → name_at names i ≡ name_at names j → i ≡ j
 one_number names i j distinct low high e = distinct_at names i j (get_or names j []) distinct (slice_get-get_or names i [] low ∙ ap (λ n. Some n) e) (slice_get-get_or names j [] high)
 
 -- a name in front of a byte that it doesn't have
@@ -74,7 +74,7 @@ numbered_name byte names others i j r s other same legal distinct low high e =
     (one_number names i j distinct low within parts.0, parts.1)
 
 -- ---- numbers
-no_minus : (low : ℕ) (ds r x : List ℕ) → low < 45 → Avoids 45 ds → ds ++ (low ∷ r) ≡ 45 ∷ x → ⊥
+pub no_minus : (low : ℕ) (ds r x : List ℕ) → low < 45 → Avoids 45 ds → ds ++ (low ∷ r) ≡ 45 ∷ x → ⊥
 no_minus low [] r x below avoids e = omega (arith, heads low 45 r x e)
 no_minus low (d ∷ ds) r x below avoids e = avoids.0 (heads d 45 (ds ++ (low ∷ r)) x e)
 

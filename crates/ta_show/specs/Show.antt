@@ -1,5 +1,5 @@
 -- The text of a file as it was understood (this project's profile)
-use Rattle.std.specs.Prelude.{ℕ, ℤ, ◌+◌, List, [], ◌∷◌, ◌++◌, length, codes, decimal, filter, slice_index_or}
+use Rattle.std.specs.Prelude.{ℕ, ℤ, pos, negsuc, unsigned_abs, ◌+◌, ◌==◌, Bool, true, false, List, [], ◌∷◌, ◌++◌, length, codes, decimal, filter, slice_index_or}
 use Rattle.std.specs.Fmt.{signed_decimal}
 use Rattle.std.specs.List.{range_with_len}
 use Rattle.ta_base.specs.Masks.{has_bit}
@@ -50,13 +50,44 @@ name_text name = name ++ (10 ∷ [])
 abbrev pub location_text : Automaton → ℕ → List ℕ
 location_text a location = name_at a.locations location ++ (10 ∷ [])
 
--- a term: its coefficient and its place
-abbrev pub term_text : Automaton → ℕ × ℤ → List ℕ
-term_text a t = codes "+ " ++ (signed_decimal t.1 ++ (42 ∷ (place_name a t.0 ++ (32 ∷ []))))
+-- how many of a place, where it isn't one
+abbrev pub many : Bool → ℕ → List ℕ
+many true n = []
+many false n = decimal n ++ codes "*"
 
--- a sum: its constant, and its terms in the order of their places
+-- so many of a place, without the sign
+abbrev pub amount_text : Automaton → ℕ × ℤ → List ℕ
+amount_text a t = many (unsigned_abs t.1 == 1) (unsigned_abs t.1) ++ (place_name a t.0 ++ (32 ∷ []))
+
+-- the sign of what stands first, and of what stands behind something
+abbrev pub first_sign : ℤ → List ℕ
+first_sign (pos n) = []
+first_sign (negsuc n) = codes "-"
+
+abbrev pub next_sign : ℤ → List ℕ
+next_sign (pos n) = codes "+ "
+next_sign (negsuc n) = codes "- "
+
+-- a term that stands first, and one behind something
+abbrev pub first_text : Automaton → ℕ × ℤ → List ℕ
+first_text a t = first_sign t.1 ++ amount_text a t
+
+abbrev pub term_text : Automaton → ℕ × ℤ → List ℕ
+term_text a t = next_sign t.1 ++ amount_text a t
+
+-- a constant behind terms, where it isn't 0
+abbrev pub constant_text : Bool → ℤ → List ℕ
+constant_text true z = []
+constant_text false z = next_sign z ++ (decimal (unsigned_abs z) ++ (32 ∷ []))
+
+-- terms in the order of their places, and then the constant
+abbrev pub summands_text : Automaton → List (ℕ × ℤ) → ℤ → List ℕ
+summands_text a [] z = signed_decimal z ++ (32 ∷ [])
+summands_text a (t ∷ ts) z = first_text a t ++ (each (term_text a) ts ++ constant_text (unsigned_abs z == 0) z)
+
+-- a sum
 abbrev pub sum_text : Automaton → Form → List ℕ
-sum_text a f = signed_decimal f.constant ++ (32 ∷ each (term_text a) f.terms)
+sum_text a f = summands_text a f.terms f.constant
 
 -- a row on its line
 abbrev pub row_text : Automaton → Row → List ℕ

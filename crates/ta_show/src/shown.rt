@@ -1,9 +1,9 @@
 //! Lists whose items have numbers, sums and masks.
 #![tactic(auto)]
 
-ghost use Rattle.std.specs.Prelude.{◌≡◌, ◌∷◌, ◌++◌, [], ℕ, OnOk, string_bytes, decimal, length};
+ghost use Rattle.std.specs.Prelude.{◌≡◌, ◌==◌, ◌∷◌, ◌++◌, [], ℕ, OnOk, string_bytes, decimal, length, unsigned_abs};
 ghost use Rattle.ta_automaton.specs.declared.automaton.Automaton.{Automaton};
-ghost use Rattle.ta_show.specs.Show.{each, listed, mask_text, name_at, numbered, place_name, sum_text, term_text};
+ghost use Rattle.ta_show.specs.Show.{amount_text, constant_text, each, first_sign, first_text, listed, mask_text, name_at, next_sign, numbered, place_name, sum_text, term_text};
 
 use std::alloc::AllocError;
 use ta_automaton::Automaton;
@@ -81,7 +81,57 @@ pub fn place_name(automaton: &Automaton, place: u32) -> &str
     }
 }
 
-/// Writes the terms of a sum.
+/// The sign of what stands first in a sum.
+fn first_sign(number: i128) -> &'static str
+    ensures { result.now ≡ first_sign number }
+{
+    if number < 0 { "-" } else { "" }
+}
+
+/// The sign of what stands behind something in a sum.
+fn next_sign(number: i128) -> &'static str
+    ensures { result.now ≡ next_sign number }
+{
+    if number < 0 { "- " } else { "+ " }
+}
+
+/// Writes so many of a place, without the sign.
+fn show_amount(
+    term: &(u32, i128),
+    automaton: &Automaton,
+    text: &mut String,
+) -> Result<(), AllocError>
+    ensures { OnOk result (string_bytes text.new ≡ string_bytes text.old ++ amount_text automaton.now term.now) }
+{
+    let name = place_name(automaton, term.0);
+    let size = term.1.unsigned_abs();
+    if size == 1 {
+        return write!(text, "{} ", name);
+    }
+    write!(text, "{}*{} ", size, name)
+}
+
+/// Writes the term that stands first.
+fn show_first(
+    term: &(u32, i128),
+    automaton: &Automaton,
+    text: &mut String,
+) -> Result<(), AllocError>
+    ensures { OnOk result (string_bytes text.new ≡ string_bytes text.old ++ first_text automaton.now term.now) }
+{
+    text.push_str(first_sign(term.1))?;
+    show_amount(term, automaton, text)
+}
+
+/// Writes a term behind something.
+fn show_term(term: &(u32, i128), automaton: &Automaton, text: &mut String) -> Result<(), AllocError>
+    ensures { OnOk result (string_bytes text.new ≡ string_bytes text.old ++ term_text automaton.now term.now) }
+{
+    text.push_str(next_sign(term.1))?;
+    show_amount(term, automaton, text)
+}
+
+/// Writes the terms behind the first.
 fn show_terms(
     terms: &[(u32, i128)],
     automaton: &Automaton,
@@ -89,19 +139,33 @@ fn show_terms(
 ) -> Result<(), AllocError>
     ensures { OnOk result (string_bytes text.new ≡ string_bytes text.old ++ each (term_text automaton.now) terms.now) }
 {
-    for (place, coefficient) in terms {
-        let name = place_name(automaton, *place);
-        write!(text, "+ {}*{} ", *coefficient, name)?;
+    for term in terms {
+        show_term(term, automaton, text)?;
     }
     Ok(())
+}
+
+/// Writes the constant behind terms, where it isn't 0.
+fn show_constant(number: i128, text: &mut String) -> Result<(), AllocError>
+    ensures { OnOk result (string_bytes text.new ≡ string_bytes text.old ++ constant_text (unsigned_abs number == 0) number) }
+{
+    let size = number.unsigned_abs();
+    if size == 0 {
+        return Ok(());
+    }
+    write!(text, "{}{} ", next_sign(number), size)
 }
 
 /// Writes a sum.
 pub fn show_sum(form: &Form, automaton: &Automaton, text: &mut String) -> Result<(), AllocError>
     ensures { OnOk result (string_bytes text.new ≡ string_bytes text.old ++ sum_text automaton.now form.now) }
 {
-    write!(text, "{} ", form.constant)?;
-    show_terms(form.terms.as_slice(), automaton, text)
+    let Some((first, others)) = form.terms.as_slice().split_first() else {
+        return write!(text, "{} ", form.constant);
+    };
+    show_first(first, automaton, text)?;
+    show_terms(others, automaton, text)?;
+    show_constant(form.constant, text)
 }
 
 /// Writes the numbers of a mask.

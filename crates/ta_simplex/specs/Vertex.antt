@@ -1,5 +1,5 @@
 -- The vertex at which the rule ends
-use Rattle.std.specs.Prelude.{ℕ, ◌<◌, List, ℤ, pos, ◌*ℤ◌, ◌≤ℤ◌, ◌≡◌, length, slice_get, All, IsSomeAnd}
+use Rattle.std.specs.Prelude.{ℕ, ◌<◌, List, ℤ, pos, ◌*ℤ◌, ◌≤ℤ◌, ◌≡◌, length, map, slice_get, All, IsSomeAnd}
 use Rattle.ta_linear.specs.declared.row.System.{System}
 use Rattle.ta_dense.specs.Tableau.{Tableau, row_of, basic_of, non_basic_of}
 use Rattle.ta_dense.specs.Slack.{slack_tableau, slack_at}
@@ -9,6 +9,10 @@ use Rattle.ta_simplex.specs.declared.fraction.Fraction.{Fraction}
 -- the value of an unknown is this fraction
 abbrev pub ValueIs : List Fraction → ℕ → ℤ → ℤ → Type 0
 ValueIs values x top bottom = IsSomeAnd (slice_get values x) (λ f. (f.top ≡ top) × (f.bottom ≡ bottom))
+
+-- the numerators and denominators of values
+abbrev pub parts_of : List Fraction → List (ℤ × ℤ)
+parts_of values = map (λ f. (f.top, f.bottom)) values
 
 -- a 0 for each unknown
 pub record AreZeros (unknowns : ℕ) (values : List Fraction) : Type 0 where

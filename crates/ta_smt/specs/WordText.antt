@@ -22,6 +22,10 @@ begins_by_letter (b ∷ bs) = is_letter b
 abbrev pub is_name : List ℕ → Bool
 is_name text = begins_by_letter text && list_all is_word text && not (list_any (bytes_eq text) keywords)
 
+-- names with a comma between
+abbrev pub are_names : List ℕ → Bool
+are_names text = list_all is_name (slice_split (λ c. c == 44) text)
+
 -- the number up to a limit that is written so
 unfoldable pub number_up_to : ℕ → List ℕ → Option ℕ
 number_up_to zero text = if bytes_eq text (decimal zero) then Some zero else None

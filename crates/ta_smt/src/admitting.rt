@@ -39,7 +39,7 @@ pub fn admit(
     ensures run { IfOk result (λ run. Admits scoped.now.file (asked pattern start_mask word.now) bytes.now run) }
     ensures fault { IfErr result (AdmitFaultOf scoped.now.file (asked pattern start_mask word.now) bytes.now) }
 {
-    if !is_complete(Task::of(&scoped.file, pattern), word) {
+    if !is_complete(Task::of(&scoped.file, pattern), word.elements()) {
         return Err(AdmitFault::Incomplete);
     }
     let values = read_values(alloc, bytes)?;

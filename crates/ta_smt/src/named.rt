@@ -59,7 +59,7 @@ pub fn whole_word(
     ensures fault { IfErr result (WholeFaultOf file.now (spelling name.now start_mask elements.now)) }
 {
     match named_word(file, name, start_mask, elements) {
-        Ok(named) if is_complete(Task::of(file, named.pattern), &named.word) => Ok(named),
+        Ok(named) if is_complete(Task::of(file, named.pattern), named.word.elements()) => Ok(named),
         Ok(_) => Err(WordFault::Incomplete),
         Err(fault) => Err(fault),
     }

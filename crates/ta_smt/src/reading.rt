@@ -7,7 +7,7 @@ ghost use Rattle.std.specs.Str.{bytes_eq};
 ghost use Rattle.ta_counter.specs.Values.{Value};
 ghost use Rattle.ta_base.specs.Bytes.{is_letter, is_word};
 ghost use Rattle.ta_smt.specs.Inside.Elements.{those_elements};
-ghost use Rattle.ta_smt.specs.WordText.{begins_by_letter, element_by, element_of, elements_in, elements_of, is_name, keywords, number_up_to};
+ghost use Rattle.ta_smt.specs.WordText.{are_names, begins_by_letter, element_by, element_of, elements_in, elements_of, is_name, keywords, number_up_to};
 
 use std::alloc::{AllocError, Global};
 use ta_base::bytes::{are_word_bytes, is_letter};
@@ -20,6 +20,13 @@ pub fn is_name(text: &str) -> bool
     ensures { result ≡ is_name text.now }
 {
     begins_by_letter(text.as_bytes()) && are_word_bytes(text.as_bytes()) && !is_keyword(text)
+}
+
+/// Whether a text is names of the grammar with a comma between.
+pub fn are_names(text: &str) -> bool
+    ensures { result ≡ are_names text.now }
+{
+    text.split(',').all(|name| is_name(name))
 }
 
 /// Whether a letter or `_` stands first.

@@ -10,7 +10,7 @@ use Rattle.ta_cert.specs.declared.line.Line.{Line}
 use Rattle.ta_cert.specs.declared.line.Line.TheVariants as line
 use Rattle.ta_claim.specs.Claims.{search_for}
 use Rattle.ta_check.specs.Certificate.{Certificate, ProvesClaim, proof_number}
-use Rattle.ta_check.specs.Subjects.{Subject, claiming}
+use Rattle.ta_check.specs.Subjects.{Subject, Words, claiming}
 use Rattle.ta_check.proofs.Searches.{search_named}
 use Rattle.ta_cursor.specs.Range.{IsJudged}
 use Rattle.ta_encode.proofs.Preorders.{in_order}
@@ -64,11 +64,11 @@ head_short : (os : List Order) → length (line_text (line.Header (version_of os
 head_short [] = version_short 1 (lit< tt)
 head_short (o ∷ os) = version_short 2 (lit< tt)
 
--- proofs of what is claimed of such patterns, whose nodes are these
+-- proofs by words of what is claimed of such patterns, whose nodes are these
 pub record Made (subject : Subject) (pairs : List (ℕ × ℕ)) (ones : List SafeOne) (trees : List Proof) : Type 0 where
   pub proofs : List (ℕ × List Tree)
   pub are : proofs_of proofs ≡ trees
-  pub prove : AllByRecursion (ProvesClaim subject pairs) proofs
+  pub prove : AllByRecursion (ProvesClaim Words subject pairs) proofs
   pub named : map proof_number proofs ≡ numbers ones
   pub writable : AreWritable trees
   pub short : AreShort (proof_lines trees)
@@ -94,7 +94,7 @@ made subject pairs Of judgeable (one ∷ ones) (t ∷ ts) named are =
     record {
       proofs = (one.number, trees.0) ∷ rest.proofs;
       are = ap (λ (p : Proof). p ∷ proofs_of rest.proofs) same ∙ ap (λ (ps : List Proof). t ∷ ps) rest.are;
-      prove = (record { search = search; searched = search_named subject pairs one.number one.pattern named.0; proves = trees.1 }, rest.prove);
+      prove = (record { search = search; searched = search_named Words subject pairs one.number one.pattern named.0; proves = trees.1 }, rest.prove);
       named = ap (λ (ks : List ℕ). one.number ∷ ks) rest.named;
       writable = (record { pattern = below; nodes = proof.writable }, rest.writable);
       short = (pattern_short t.pattern below, lines_short t.nodes (proof_lines ts) proof.short rest.short);
@@ -122,6 +122,7 @@ certificate_accepted file budget loops within vs text c =
     let sound = orders_sound file.automaton c.orders c.found in
     let m = made (claiming Safe file) (map pair_of c.orders) (tree_under file budget) (judgeable_under file c.orders c.found budget loops within) ones c.trees (safe_named file vs) c.are in
     record {
+      kind = Words;
       orders = c.orders;
       proofs = m.proofs;
       written = c.written ∙ ap (cert_text c.orders) (sym m.are);

@@ -71,13 +71,13 @@ pub use Rattle.ta_simplex.specs.Refuted.{GivesMultipliers, IsRefuted}
 pub use Rattle.ta_simplex.specs.Vertex.{IsVertex}
 pub use Rattle.ta_simplex.specs.declared.fraction.Fraction.{Fraction}
 pub use Rattle.ta_walk.specs.Answers.{HasEnding, HasSystems, SearchesHaveEnds, WalksHaveEnds, WordsHaveSystems}
-pub use Rattle.ta_walk.specs.Ends.{Ending, EndingsAreDetermined, FoundWordsAreSolved, HasFewPairs, IsProof, IsShort, IsSpent, IsTreeEnd, IsUnbounded, IsVisitEnd, IsVisitEnding, IsVisited, IsWalkEnd, Left, NodeOf, RefutedClaimsHold, SolutionAt, Solved, Stopped, TreeIs, TreeKept, WalksAreDetermined, Whole, WholeNodesSolve, WholeWord, leaf_count}
+pub use Rattle.ta_walk.specs.Ends.{Ending, EndingsAreDetermined, FoundWordsAreSolved, HasFewPairs, IsProof, IsShort, IsSpent, IsTreeEnd, IsUnbounded, IsVisitEnd, IsVisitEnding, IsVisited, IsWalkEnd, Left, NodeOf, RefutedClaimsHold, SolutionAt, Solved, Stopped, TreeIs, TreeKept, WalksAreDetermined, Whole, WholeNode, WholeNodesSolve, ScaledSolve, AreSolution, leaf_count}
 pub use Rattle.ta_walk.specs.FoundOrders.{AreSoundOrders, FoundAfter, FoundBefore, FoundOrdersAreDetermined, FoundOrdersAreSound, IsTaken, RefutedPair, TryAnswers}
-pub use Rattle.ta_walk.specs.Inside.Parts.{ComesTo, HasFewBounds, HasFewLeft, IsLaterKeeper, IsNotRefuted, IsWholeEnd, LeadsToBoth, PartEnds, PartVisited, SharesBudget, beginning, behind, root_word}
+pub use Rattle.ta_walk.specs.Inside.Parts.{ComesTo, HasFewBounds, HasFewLeft, IsLaterKeeper, IsNotRefuted, IsWholeEnd, LeadsToBoth, PartEnds, PartVisited, SharesBudget, beginning, behind, root_node}
 pub use Rattle.ta_walk.specs.Inside.Sought.{ComesFirst, GuardTried, MasksAgree, PairTried}
 pub use Rattle.ta_walk.specs.Samples.{IsSampleEnd, SampleAt, SampleEndsAreDetermined, SampleFound, SampleRefuted, SamplesAreReal}
 pub use Rattle.ta_walk.specs.Splits.{HasAtMost, HasSplit, SpentNeedsSplits, WasSplit}
-pub use Rattle.ta_walk.specs.Visit.{AreNumbers, IsAbove, IsOutOfRangeAt, IsWhole, IsWholeNumber, LeafAt, LeafOutOfRange, NodeAt, OfSystem, RefutedAt, SplitVertex, SplitsAt, VertexAt, Visits, WholeAt, IsSettled, OpenVertex, parts_of}
+pub use Rattle.ta_walk.specs.Visit.{AreNumbers, IsAbove, IsOutOfRangeAt, IsWhole, IsWholeNumber, LeafAt, LeafOutOfRange, NodeAt, OfSystem, RefutedAt, SplitVertex, SplitsAt, VertexAt, Visits, WholeAt, IsScaled, IsAsked, IsSettled, OpenVertex, parts_of}
 pub use Rattle.ta_walk.specs.declared.end.PlaceKind.{PlaceKind}
 pub use Rattle.ta_walk.specs.declared.end.SampleEnd.{SampleEnd}
 pub use Rattle.ta_walk.specs.declared.end.TreeEnd.{TreeEnd}

@@ -1,5 +1,5 @@
 -- at a word stands one node, or it is whole, or a number leaves the range
-use Rattle.ta_walk.proofs.Common.{◌≡◌, ℕ, List, ap, ◌∙◌, refl, subst, ℤ, Node, LeafStays, Fraction, PlaceKind, SplitsAt, AreNumbers, NodeAt, WholeAt, IsOutOfRangeAt, SplitVertex, Pending, Search, bounded_rows, sym, true≢false, Some, OpenVertex, VertexAt, IsSettled, parts_of}
+use Rattle.ta_walk.proofs.Common.{◌≡◌, ◌⊎◌, inl, inr, ℕ, List, None, ap, ◌∙◌, refl, subst, ℤ, Node, LeafStays, Fraction, PlaceKind, SplitsAt, AreNumbers, NodeAt, WholeAt, IsOutOfRangeAt, SplitVertex, IsScaled, Pending, Search, bounded_rows, sym, Some, OpenVertex, VertexAt, IsSettled, parts_of}
 use Rattle.ta_cert.specs.declared.line.Node.TheVariants as node
 use Rattle.ta_walk.specs.declared.end.PlaceKind.TheVariants as kind
 use Rattle.ta_walk.proofs.DeterminedOutcomes.{multipliers_at, values_at, no_vertex, counts_at, no_overflow_refuted, no_overflow_vertex}
@@ -38,17 +38,35 @@ node_once s w (node.Split x k) n h g = absurd (asks_unsettled s w n h.values g h
 node_once s w n (node.Split y k) h g = absurd (asks_unsettled s w n g.values h g.vertex g.settled)
 node_once s w m n h g = asks_once s w m n h g
 
+-- what is taken at one vertex is one list
+taken_once : {E : Type 0} (s : Search E) (w : Pending E) (values : List Fraction) (ks ns : List ℤ) → AreNumbers values ks ⊎ IsScaled s w values ks → AreNumbers values ns ⊎ IsScaled s w values ns → ks ≡ ns
+taken_once s w values ks ns (inl h) (inl g) = numbers_once values ks ns h g
+taken_once s w values ks ns (inl h) (inr g) = absurd (whole_has_no_split values ks g.unknown g.floor h g.splits)
+taken_once s w values ks ns (inr h) (inl g) = absurd (whole_has_no_split values ns h.unknown h.floor g h.splits)
+taken_once s w values ks ns (inr h) (inr g) = same (sym h.scaled ∙ g.scaled)
+  where
+    same : Some ks ≡ Some ns → ks ≡ ns
+    same e = cc
+
+-- nothing is taken where an unknown is split
+not_taken : {E : Type 0} (s : Search E) (w : Pending E) (values : List Fraction) (ks : List ℤ) (x : ℕ) (k : ℤ) → AreNumbers values ks ⊎ IsScaled s w values ks → SplitsAt values x k → s.scaled w (parts_of values) ≡ None → ⊥
+not_taken s w values ks x k (inl h) splits none = whole_has_no_split values ks x k h splits
+not_taken s w values ks x k (inr h) splits none = apart (sym none ∙ h.scaled)
+  where
+    apart : None ≡ Some ks → ⊥
+    apart e = absurd (cc)
+
 pub whole_once : {E : Type 0} (s : Search E) (w : Pending E) (ks ns : List ℤ) → WholeAt s w ks → WholeAt s w ns → ks ≡ ns
 whole_once s w ks ns h g =
     let values = values_at s w g.values h.values g.vertex h.vertex in
-    numbers_once h.values ks ns h.whole (subst (λ (fs : List Fraction). AreNumbers fs ns) values g.whole)
+    taken_once s w h.values ks ns h.whole (subst (λ (fs : List Fraction). AreNumbers fs ns ⊎ IsScaled s w fs ns) values g.whole)
 
 -- a whole node is no node of the tree
 pub whole_is_no_node : {E : Type 0} (s : Search E) (w : Pending E) (ks : List ℤ) (n : Node) → WholeAt s w ks → NodeAt s w n → ⊥
 whole_is_no_node s w ks (node.Leaf ts) h g = no_vertex s w ts h.values g.refuted h.vertex
 whole_is_no_node s w ks (node.Split x k) h g =
     let values = values_at s w g.values h.values g.vertex h.vertex in
-    whole_has_no_split h.values ks x k h.whole (subst (λ (fs : List Fraction). SplitsAt fs x k) values g.splits)
+    not_taken s w h.values ks x k h.whole (subst (λ (fs : List Fraction). SplitsAt fs x k) values g.splits) (subst (λ (fs : List Fraction). s.scaled w (parts_of fs) ≡ None) values g.unscaled)
 whole_is_no_node s w ks n h g = asks_unsettled s w n h.values g h.vertex h.settled
 
 -- nor does one stand where a number leaves the range

@@ -1,5 +1,5 @@
 -- each node adds at most one bound to the words that it leaves
-use Rattle.ta_walk.proofs.Common.{ℕ, ◌+◌, ◌≤◌, List, [], ◌∷◌, ◌++◌, map, suc, length, length-append, arith, sym, subst, AllByRecursion, each_append, Node, Element, Bound, Low, High, Pending, Search, bound_at, bounded, longer, parts, Visits, HasFewBounds, answered}
+use Rattle.ta_walk.proofs.Common.{ℕ, ◌+◌, ◌≤◌, List, [], ◌∷◌, ◌++◌, map, suc, length, length-append, arith, sym, subst, AllByRecursion, each_append, Node, Bound, Low, High, Pending, Search, bound_at, bounded, longer, parts, Visits, HasFewBounds, answered}
 use Rattle.ta_cert.specs.declared.line.Node.TheVariants as node
 
 few_more : {E : Type 0} (few more : ℕ) (ws : List (Pending E)) → few ≤ more → AllByRecursion (HasFewBounds few) ws → AllByRecursion (HasFewBounds more) ws

@@ -2,6 +2,7 @@
 pub mod WordsSolved
 pub mod ProofsMade
 pub mod ClaimsVisited
+pub mod ClaimsMade
 pub mod NodesShort
 pub mod DeterminedEnds
 pub mod WordsVisited
@@ -34,4 +35,3 @@ mod WordSoFar
 mod ChildrenOnce
 mod SubtreesApart
 mod Common
-mod Questions

@@ -13,8 +13,8 @@ use Rattle.ta_walk.proofs.Common.{ℕ, ◌+◌, ◌≤◌, List, [], ◌∷◌, 
 use Rattle.ta_words.specs.declared.element.Element.{Element}
 use Rattle.ta_cert.specs.declared.line.Node.TheVariants as node
 use Rattle.ta_encode.proofs.Preorders.{in_order, weaker_proof}
-use Rattle.ta_claim.specs.Asks.{claim_asks}
 use Rattle.ta_claim.proofs.ClaimsShown.{proofs_show}
+use Rattle.ta_walk.proofs.ClaimsMade.{claim_asks}
 use Rattle.ta_walk.proofs.WordsVisited.{Waits, starts_wait, next_wait}
 use Rattle.ta_walk.proofs.NodesWritten.{node_written}
 use Rattle.ta_walk.proofs.SplitsFit.{split_within}

@@ -1,5 +1,5 @@
 -- what the ends of the search for a sample say
-use Rattle.ta_walk.proofs.Common.{◌≡◌, ℕ, zero, suc, ◌+◌, ◌*◌, ◌^◌, ◌<◌, ◌≤◌, ℤ, pos, negsuc, ◌*ℤ◌, ◌<ℤ◌, List, [], ◌∷◌, map, take, length, length-append, refl, sym, ap, ◌∙◌, subst, arith, slice_get, IsSomeAnd, unsigned_abs, ints, length-map, take-map, AllByRecursion, InRange, System, Automaton, SystemAt, HasStart, sample_meanings, sample_rows, sample_search, sampled, Pending, SolvesAt, bounded_rows, Bound, bound_row, condition_rows, opposite, processes_row, rows_count, none_starts, sample_few, samples_start, condition_few, IsJudged, Fraction, SampleEnd, Ending, IsVisitEnding, IsSampleEnd, SampleAt, SampleEndsAreDetermined, SampleFound, SampleRefuted, SamplesAreReal, AreNumbers, IsWholeNumber, WholeAt, each_take}
+use Rattle.ta_walk.proofs.Common.{◌≡◌, ℕ, zero, suc, ◌+◌, ◌*◌, ◌^◌, ◌<◌, ◌≤◌, ℤ, pos, negsuc, ◌*ℤ◌, ◌<ℤ◌, List, [], ◌∷◌, map, take, length, length-append, refl, sym, ap, ◌∙◌, subst, arith, slice_get, IsSomeAnd, unsigned_abs, ints, length-map, take-map, AllByRecursion, InRange, System, Automaton, SystemAt, HasStart, sample_meanings, sample_rows, sample_search, sampled, Pending, SolvesAt, bounded_rows, Bound, bound_row, condition_rows, opposite, processes_row, rows_count, none_starts, sample_few, samples_start, condition_few, IsJudged, Fraction, SampleEnd, Ending, IsVisitEnding, IsSampleEnd, SampleAt, SampleEndsAreDetermined, SampleFound, SampleRefuted, SamplesAreReal, ScaledSolve, IsScaled, inl, inr, ◌⊎◌, AreNumbers, IsWholeNumber, WholeAt, each_take}
 use Rattle.ta_words.specs.declared.element.Element.{Element}
 use Rattle.ta_encode.proofs.Moments.{AllHold-append, AllHold-left}
 use Rattle.ta_walk.specs.declared.end.SampleEnd.TheVariants.{Sample, Empty, Spent, Overflow}
@@ -7,7 +7,7 @@ use Rattle.ta_walk.specs.Ends.Ending.{Whole, Solved, Stopped, Left}
 use Rattle.ta_walk.proofs.DeterminedEnds.{endings_once, node_with}
 use Rattle.ta_walk.proofs.ProofsMade.{refuted_in_order}
 use Rattle.ta_walk.proofs.SplitsFit.{vertex_in_range}
-use Rattle.ta_walk.proofs.WordsSolved.{whole_solves}
+use Rattle.ta_walk.proofs.WordsSolved.{unscaled_solve, whole_solves}
 
 -- the sample system is small: the resilience condition has at most 16 comparisons, of at most two rows each
 sample_rows_few : (a : Automaton) → length (sample_rows a) ≤ 34
@@ -27,12 +27,16 @@ sample_small a bounds system is =
 without_bounds : (a : Automaton) (w : Pending Element) (vs : List ℕ) → SolvesAt (sample_search a) w vs → SolvesAt (sample_search a) (sampled []) vs
 without_bounds a w vs s = record { count = s.count; rows_hold = AllHold-append vs (sample_rows a) [] (AllHold-left vs (sample_rows a) (map bound_row w.bounds) s.rows_hold) tt }
 
+-- no whole values are taken in place of a vertex's
+sample_scaled : (a : Automaton) → ScaledSolve (sample_search a)
+sample_scaled a = unscaled_solve (sample_search a) (λ w vs. refl)
+
 pub found_starts : (a : Automaton) (budget : ℕ) (parameters : List ℤ) → SampleFound a budget parameters → (values : List ℕ) × (parameters ≡ map pos values) × HasStart a values
 found_starts a budget parameters found =
     let n = length a.parameters in
     let w = found.node.word in
     let at = found.node.holds in
-    let solved = whole_solves (sample_search a) w at.values at.whole in
+    let solved = whole_solves (sample_search a) (sample_scaled a) w at.values at.whole in
     let start = samples_start a solved.0 (without_bounds a w solved.0 solved.2) in
     (take n solved.0, at.first ∙ ap (take n) solved.1 ∙ take-map pos n solved.0, start)
 
@@ -60,15 +64,23 @@ all_small [] (n ∷ ns) are fits = absurd are
 all_small (f ∷ fs) [] are fits = tt
 all_small (f ∷ fs) (n ∷ ns) are fits = (small n f are.0 (fits 0 (omega arith)), all_small fs ns are.1 (λ x b. fits (suc x) (omega arith)))
 
+-- they are those of the vertex
+are_numbers : (a : Automaton) (w : Pending Element) (numbers : List ℤ) (whole : WholeAt (sample_search a) w numbers) → AreNumbers whole.values numbers
+are_numbers a w numbers whole = of whole.whole
+  where
+    of : AreNumbers whole.values numbers ⊎ IsScaled (sample_search a) w whole.values numbers → AreNumbers whole.values numbers
+    of (inl are) = are
+    of (inr is) = absurd (let none = is.scaled in cc)
+
 -- the values of a sample are below 2^127
 pub found_small : (a : Automaton) (budget : ℕ) (parameters : List ℤ) (found : SampleFound a budget parameters) → AllByRecursion (λ n. n < 2 ^ 127) (found_starts a budget parameters found).0
 unfolding found_starts
 found_small a budget parameters found =
     let at = found.node.holds in
     let vertex = at.whole.vertex in
-    let solved = whole_solves (sample_search a) found.node.word at.values at.whole in
+    let solved = whole_solves (sample_search a) (sample_scaled a) found.node.word at.values at.whole in
     let count = vertex.holds.gives.count in
-    each_take (λ n. n < 2 ^ 127) (length a.parameters) solved.0 (all_small at.whole.values solved.0 (subst (AreNumbers at.whole.values) solved.1 at.whole.whole) (λ x b. vertex_in_range vertex.system at.whole.values vertex.holds x (omega arith)))
+    each_take (λ n. n < 2 ^ 127) (length a.parameters) solved.0 (all_small at.whole.values solved.0 (subst (AreNumbers at.whole.values) solved.1 (are_numbers a found.node.word at.values at.whole)) (λ x b. vertex_in_range vertex.system at.whole.values vertex.holds x (omega arith)))
 
 pub samples_real : SamplesAreReal
 samples_real = record { found = found_starts; none = refuted_starts }

@@ -1,5 +1,5 @@
 -- A search whose words have systems ends.
-use Rattle.ta_walk.proofs.Common.{◌≡◌, ◌⊎◌, inl, inr, ℕ, zero, suc, ◌+◌, ◌<◌, ℤ, pos, negsuc, Bool, true, false, List, [], ◌∷◌, ◌++◌, length, length-append, map, slice_get, arith, refl, sym, subst, ◌∙◌, IsSomeAnd, int_div_euclid, int_rem_euclid, true≢false, ints, AllByRecursion, each_append, floor_high, floor_low, System, In, Node, Element, Bound, Low, High, SystemAt, Pending, Search, Comes, bound_at, bounded, longer, parts, comes_first, Fraction, end_exists, HasSystems, HasEnding, SearchesHaveEnds, Whole, Solved, Stopped, Left, IsUnbounded, IsVisited, AreNumbers, IsAbove, IsWhole, NodeAt, SplitsAt, Visits, Answers, answered, asked, OpenVertex, IsSettled, parts_of, Option, Some, None, false≢true}
+use Rattle.ta_walk.proofs.Common.{◌≡◌, ◌⊎◌, inl, inr, ℕ, zero, suc, ◌+◌, ◌<◌, ℤ, pos, negsuc, Bool, true, false, List, [], ◌∷◌, ◌++◌, length, length-append, map, slice_get, arith, refl, sym, subst, ◌∙◌, IsSomeAnd, int_div_euclid, int_rem_euclid, ints, AllByRecursion, each_append, floor_high, floor_low, System, In, Node, Bound, Low, High, SystemAt, Pending, Search, Comes, bound_at, bounded, longer, parts, comes_first, Fraction, end_exists, HasSystems, HasEnding, SearchesHaveEnds, Whole, Solved, Stopped, Left, IsUnbounded, IsVisited, AreNumbers, IsAbove, IsWhole, NodeAt, SplitsAt, Visits, Answers, answered, asked, OpenVertex, IsSettled, parts_of, Option, Some, None, false≢true}
 use Rattle.std.specs.Option.{is_some}
 use Rattle.ta_cert.specs.declared.line.Node.TheVariants as node
 use Rattle.ta_cursor.proofs.FramesParts.{bounds_more}
@@ -115,6 +115,20 @@ none_some n e = absurd (cc)
 module _ {E : Type 0} (s : Search E) (has : HasSystems s) (budget : ℕ) (none : ¬ HasEnding s budget) where
   -- at a word before which so many nodes were visited, within the budget
   module _ (w : Pending E) (lives : Lives s w) (done : ℕ) (within : done < budget) (visited : IsVisited s done w) (next : (n : Node) → NodeAt s w n → ⊥) where
+    at_split : (system : System) → SystemAt s w system → (values : List Fraction) → IsSystemEnd system (end.Vertex values) → IsSettled s w values → (x : ℕ) (floor : ℤ) → SplitsAt values x floor → (o : Option (List ℤ)) → s.scaled w (parts_of values) ≡ o → ⊥
+    at_split system is values vertex settled x floor splits None none = next (node.Split x floor) (record { values = values; vertex = record { system = system; is = is; holds = vertex }; settled = settled; splits = splits; unscaled = none })
+    at_split system is values vertex settled x floor splits (Some numbers) scaled = none (
+      Solved (done + 1) w numbers,
+      record {
+        before = done;
+        number_is = refl;
+        within = omega arith;
+        word = w;
+        visited = visited;
+        holds = (refl, record { values = values; vertex = record { system = system; is = is; holds = vertex }; settled = settled; whole = inr (record { unknown = x; floor = floor; splits = splits; scaled = scaled }) });
+      },
+    )
+
     at_settled : (system : System) → SystemAt s w system → (values : List Fraction) → IsSystemEnd system (end.Vertex values) → IsSettled s w values → ⊥
     at_settled system is values vertex settled = elim (numbers_or_split values) [
       | inl numbers ↦ none (
@@ -125,10 +139,10 @@ module _ {E : Type 0} (s : Search E) (has : HasSystems s) (budget : ℕ) (none :
           within = omega arith;
           word = w;
           visited = visited;
-          holds = (refl, record { values = values; vertex = record { system = system; is = is; holds = vertex }; settled = settled; whole = numbers.1 });
+          holds = (refl, record { values = values; vertex = record { system = system; is = is; holds = vertex }; settled = settled; whole = inl numbers.1 });
         },
       )
-      | inr split ↦ next (node.Split split.0 split.1) (record { values = values; vertex = record { system = system; is = is; holds = vertex }; settled = settled; splits = split.2 })
+      | inr split ↦ at_split system is values vertex settled split.0 split.1 split.2 (s.scaled w (parts_of values)) refl
     ]
 
     at_question : (system : System) → SystemAt s w system → (values : List Fraction) → IsSystemEnd system (end.Vertex values) → (n : Node) → s.question w.start w.past (parts_of values) ≡ Some n → (b : Bool) → is_some (asked s w.start w.past n) ≡ b → ⊥

@@ -1,5 +1,5 @@
 -- searches that differ in the words with which they begin alone have the same nodes
-use Rattle.ta_walk.proofs.Common.{◌≡◌, ℤ, List, [], ◌∷◌, ◌++◌, refl, subst, System, Node, Pending, Search, parts, OverflowsAt, IsRefuted, IsVertex, slack_tableau, PlaceKind, IsOutOfRangeAt, NodeAt, OfSystem, Visits, WholeAt, beginning, Fraction, IsSettled}
+use Rattle.ta_walk.proofs.Common.{◌≡◌, ◌⊎◌, inl, inr, ℤ, List, [], ◌∷◌, ◌++◌, refl, subst, System, Node, Pending, Search, parts, OverflowsAt, IsRefuted, IsVertex, slack_tableau, PlaceKind, IsOutOfRangeAt, NodeAt, OfSystem, Visits, WholeAt, beginning, Fraction, IsSettled, AreNumbers, IsScaled}
 use Rattle.ta_cert.specs.declared.line.Node.TheVariants as node
 use Rattle.ta_encode.proofs.Asking.{may_moved}
 use Rattle.ta_walk.specs.declared.end.PlaceKind.TheVariants as kind
@@ -16,11 +16,15 @@ moved_settled s us vs w values settled = λ n is may. settled n is (may_moved (b
 
 pub moved_node : {E : Type 0} (s : Search E) (us vs : List (Pending E)) (w : Pending E) (n : Node) → NodeAt (beginning s us) w n → NodeAt (beginning s vs) w n
 moved_node s us vs w (node.Leaf ts) at = record { refuted = moved_system s us vs w (λ system. IsRefuted system ts) at.refuted; in_range = at.in_range }
-moved_node s us vs w (node.Split unknown floor) at = record { values = at.values; vertex = moved_system s us vs w (λ system. IsVertex system at.values) at.vertex; settled = moved_settled s us vs w at.values at.settled; splits = at.splits }
+moved_node s us vs w (node.Split unknown floor) at = record { values = at.values; vertex = moved_system s us vs w (λ system. IsVertex system at.values) at.vertex; settled = moved_settled s us vs w at.values at.settled; splits = at.splits; unscaled = at.unscaled }
 moved_node s us vs w n at = record { values = at.values; vertex = moved_system s us vs w (λ system. IsVertex system at.values) at.vertex; question = at.question; may = at.may }
 
+moved_taken : {E : Type 0} (s : Search E) (us vs : List (Pending E)) (w : Pending E) (values : List Fraction) (numbers : List ℤ) → AreNumbers values numbers ⊎ IsScaled (beginning s us) w values numbers → AreNumbers values numbers ⊎ IsScaled (beginning s vs) w values numbers
+moved_taken s us vs w values numbers (inl are) = inl are
+moved_taken s us vs w values numbers (inr is) = inr (record { unknown = is.unknown; floor = is.floor; splits = is.splits; scaled = is.scaled })
+
 pub moved_whole : {E : Type 0} (s : Search E) (us vs : List (Pending E)) (w : Pending E) (numbers : List ℤ) → WholeAt (beginning s us) w numbers → WholeAt (beginning s vs) w numbers
-moved_whole s us vs w numbers at = record { values = at.values; vertex = moved_system s us vs w (λ system. IsVertex system at.values) at.vertex; settled = moved_settled s us vs w at.values at.settled; whole = at.whole }
+moved_whole s us vs w numbers at = record { values = at.values; vertex = moved_system s us vs w (λ system. IsVertex system at.values) at.vertex; settled = moved_settled s us vs w at.values at.settled; whole = moved_taken s us vs w at.values numbers at.whole }
 
 pub moved_out_of_range : {E : Type 0} (s : Search E) (us vs : List (Pending E)) (w : Pending E) (k : PlaceKind) → IsOutOfRangeAt (beginning s us) w k → IsOutOfRangeAt (beginning s vs) w k
 moved_out_of_range s us vs w (kind.Pivot count) at = moved_system s us vs w (λ system. OverflowsAt (slack_tableau system) count) at

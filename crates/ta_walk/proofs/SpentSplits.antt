@@ -1,5 +1,5 @@
 -- a budget that is large enough for the words is spent only where a node was split
-use Rattle.ta_walk.proofs.Common.{◌≡◌, inl, inr, ℕ, zero, suc, ◌+◌, ◌<◌, ◌≤◌, ◌^◌, Bool, List, [], ◌∷◌, ◌++◌, length, map, slice_get, Some, arith, refl, sym, ap, ◌∙◌, subst, length-map, AllByRecursion, each_from_in, each_in, no_more, In-left, In-map, In-right, in_map, In-numbers, in_numbers, Automaton, File, Pattern, Distinct, In, range_with_len, Node, Element, LegalUnder, children, all_starts, empty_word, pattern_search, Comes, Pending, Search, parts, LinearRow, comes_legal, IsSpent, IsVisited, HasAtMost, HasSplit, SpentNeedsSplits, WasSplit, Visits, pattern_within, ℤ, Option}
+use Rattle.ta_walk.proofs.Common.{◌≡◌, inl, inr, ℕ, zero, suc, ◌+◌, ◌<◌, ◌≤◌, ◌^◌, List, [], ◌∷◌, ◌++◌, length, map, slice_get, Some, arith, refl, sym, ap, ◌∙◌, subst, length-map, AllByRecursion, each_from_in, each_in, no_more, In-left, In-map, In-right, in_map, In-numbers, in_numbers, Automaton, File, Pattern, Distinct, In, range_with_len, Node, Element, LegalUnder, children, all_starts, empty_word, pattern_search, Comes, Pending, Search, parts, LinearRow, comes_legal, IsSpent, IsVisited, HasAtMost, HasSplit, SpentNeedsSplits, WasSplit, Visits, pattern_within, ℤ, Option}
 use Rattle.ta_words.specs.Words.{is_complete}
 use Rattle.ta_encode.proofs.Asking.{answers_moved, distinct_answers}
 use Rattle.ta_words.proofs.Counts.{legal_length, legal_under}
@@ -71,24 +71,25 @@ branches_of : (a : Automaton) (p : Pattern) (pairs : List (ℕ × ℕ)) → Bran
 branches_of a p pairs start past n = distinct_answers (pattern_search a p pairs) start past (is_complete p past) (children a p pairs start past) (λ m. refl) (children_once a p pairs start past) n
 
 -- a search of a pattern's words, whatever else is asked of them
-abbrev pub words_with : Automaton → Pattern → List (ℕ × ℕ) → (ℕ → List Element → List (ℤ × ℤ) → Option Node) → (ℕ → List Element → ℕ) → (ℕ → List Element → List LinearRow) → Search Element
-words_with a p pairs question unknowns rows = record {
+abbrev pub words_with : Automaton → Pattern → List (ℕ × ℕ) → (ℕ → List Element → List (ℤ × ℤ) → Option Node) → (Pending Element → List (ℤ × ℤ) → Option (List ℤ)) → (ℕ → List Element → ℕ) → (ℕ → List Element → List LinearRow) → Search Element
+words_with a p pairs question scaled unknowns rows = record {
   roots = all_starts a;
   answers = (pattern_search a p pairs).answers;
   question = question;
+  scaled = scaled;
   unknowns = unknowns;
   rows = rows;
 }
 
-same_words : (a : Automaton) (p : Pattern) (pairs : List (ℕ × ℕ)) (question : ℕ → List Element → List (ℤ × ℤ) → Option Node) (unknowns : ℕ → List Element → ℕ) (rows : ℕ → List Element → List LinearRow) (start : ℕ) (past : List Element) → Comes (words_with a p pairs question unknowns rows) start past → Comes (pattern_search a p pairs) start past
-same_words a p pairs question unknowns rows start [] c = c
-same_words a p pairs question unknowns rows start (e ∷ past) (inl b) = inl b
-same_words a p pairs question unknowns rows start (e ∷ past) (inr c) =
-    inr (answers_moved (words_with a p pairs question unknowns rows) (pattern_search a p pairs) start past e (λ n. refl) c.0, same_words a p pairs question unknowns rows start past c.1)
+same_words : (a : Automaton) (p : Pattern) (pairs : List (ℕ × ℕ)) (question : ℕ → List Element → List (ℤ × ℤ) → Option Node) (scaled : Pending Element → List (ℤ × ℤ) → Option (List ℤ)) (unknowns : ℕ → List Element → ℕ) (rows : ℕ → List Element → List LinearRow) (start : ℕ) (past : List Element) → Comes (words_with a p pairs question scaled unknowns rows) start past → Comes (pattern_search a p pairs) start past
+same_words a p pairs question scaled unknowns rows start [] c = c
+same_words a p pairs question scaled unknowns rows start (e ∷ past) (inl b) = inl b
+same_words a p pairs question scaled unknowns rows start (e ∷ past) (inr c) =
+    inr (answers_moved (words_with a p pairs question scaled unknowns rows) (pattern_search a p pairs) start past e (λ n. refl) c.0, same_words a p pairs question scaled unknowns rows start past c.1)
 
-pub split_of_words : (a : Automaton) (p : Pattern) (pairs : List (ℕ × ℕ)) (question : ℕ → List Element → List (ℤ × ℤ) → Option Node) (unknowns : ℕ → List Element → ℕ) (rows : ℕ → List Element → List LinearRow) (budget count : ℕ) → HasAtMost a p pairs budget → IsSpent (words_with a p pairs question unknowns rows) budget count → WasSplit (words_with a p pairs question unknowns rows) budget
-split_of_words a p pairs question unknowns rows budget count most spent =
-    let s = words_with a p pairs question unknowns rows in
+pub split_of_words : (a : Automaton) (p : Pattern) (pairs : List (ℕ × ℕ)) (question : ℕ → List Element → List (ℤ × ℤ) → Option Node) (scaled : Pending Element → List (ℤ × ℤ) → Option (List ℤ)) (unknowns : ℕ → List Element → ℕ) (rows : ℕ → List Element → List LinearRow) (budget count : ℕ) → HasAtMost a p pairs budget → IsSpent (words_with a p pairs question scaled unknowns rows) budget count → WasSplit (words_with a p pairs question scaled unknowns rows) budget
+split_of_words a p pairs question scaled unknowns rows budget count most spent =
+    let s = words_with a p pairs question scaled unknowns rows in
     let v = spent.visited in
     let left = spent.word ∷ v.words in
     let counted = v.counted in
@@ -98,7 +99,7 @@ split_of_words a p pairs question unknowns rows budget count most spent =
       | inr plain ↦ absurd (
           let once = marks_once s s.roots v.nodes left (λ start past. distinct_answers s start past (is_complete p past) (children a p pairs start past) (λ m. refl) (children_once a p pairs start past)) (starts_apart a) plain v.visits in
           let few = no_more (marks s s.roots v.nodes) most.words once (λ t h.
-          let legal = comes_legal a p pairs t.0 t.1 (same_words a p pairs question unknowns rows t.0 t.1 (marks_come s 0 s.roots v.nodes (roots_wait s (starts_unbounded a)) t h)) in
+          let legal = comes_legal a p pairs t.0 t.1 (same_words a p pairs question scaled unknowns rows t.0 t.1 (marks_come s 0 s.roots v.nodes (roots_wait s (starts_unbounded a)) t h)) in
           most.each t.0 t.1 legal.start_is legal.under) in
           omega (arith, few, marks_count s s.roots v.nodes left v.visits)
           )
@@ -107,7 +108,7 @@ split_of_words a p pairs question unknowns rows budget count most spent =
 pub spent_split : (a : Automaton) (p : Pattern) (pairs : List (ℕ × ℕ)) (budget count : ℕ) → HasAtMost a p pairs budget → IsSpent (pattern_search a p pairs) budget count → WasSplit (pattern_search a p pairs) budget
 spent_split a p pairs budget count most spent =
     let s = pattern_search a p pairs in
-    split_of_words a p pairs s.question s.unknowns s.rows budget count most spent
+    split_of_words a p pairs s.question s.scaled s.unknowns s.rows budget count most spent
 
 left_marked : (s : Search Element) (ws : List (Pending Element)) (ns : List Node) (w : Pending Element) (rest : List (Pending Element)) → Visits s ws ns (w ∷ rest) → In (mark w) (marks s ws ns)
 left_marked s ws [] w rest v = subst (λ (xs : List (Pending Element)). In (mark w) (map mark xs)) v (inl refl)

@@ -1,6 +1,5 @@
 -- a split at a vertex is one that can be written, and its floor is one that a bound may have
 use Rattle.ta_walk.proofs.Common.{◌≡◌, inl, inr, ℕ, zero, suc, ◌^◌, ◌<◌, List, arith, subst, ℤ, pos, negsuc, ◌+ℤ◌, ◌*ℤ◌, ◌<ℤ◌, ◌≤ℤ◌, Option, Some, None, slice_get, IsSomeAnd, ints, floor_natural, twice_most, some_within, InRange, System, IsSplit, row_of, basic_of, non_basic_of, IsVertex, Fraction, reached_dictionary, IsAbove, SplitVertex, Pending, Search}
-use Rattle.ta_words.specs.declared.element.Element.{Element}
 use Rattle.ta_base.proofs.Options.{is_some-map}
 use Rattle.ta_walk.proofs.TableausInRange.{reached_proper}
 

@@ -1,5 +1,5 @@
 -- the values of a whole node solve its word
-use Rattle.ta_walk.proofs.Common.{◌≡◌, ℕ, zero, suc, ◌<◌, ◌^◌, ℤ, pos, ◌*ℤ◌, ◌≤ℤ◌, List, [], ◌∷◌, map, length, reverse, slice_get, arith, refl, sym, ap, ◌∙◌, subst, IsSomeAnd, slice_index, *ℤ_comm, ge-zero_of_mul, Element, LegalUnder, is_complete, SolvesWord, solution_of, unbounded, Fraction, whole_vertex_solves, pattern_search, comes_legal, IsWholeNumber, AreNumbers, FoundWordsAreSolved, WholeNodesSolve, unsigned_abs, children}
+use Rattle.ta_walk.proofs.Common.{◌≡◌, ◌⊎◌, inl, inr, ℕ, zero, suc, ◌<◌, ◌^◌, ℤ, pos, ◌*ℤ◌, ◌≤ℤ◌, List, [], ◌∷◌, map, length, reverse, slice_get, Option, arith, refl, sym, ap, ◌∙◌, subst, IsSomeAnd, slice_index, *ℤ_comm, ge-zero_of_mul, Element, LegalUnder, is_complete, SolvesWord, solution_of, unbounded, Fraction, whole_vertex_solves, pattern_search, comes_legal, IsWholeNumber, AreNumbers, FoundWordsAreSolved, WholeNodesSolve, ScaledSolve, AreSolution, IsScaled, VertexAt, Pending, Search, None, Some, parts_of, unsigned_abs, children}
 use Rattle.ta_cert.specs.declared.line.Node.TheVariants.{Extend}
 use Rattle.ta_encode.proofs.Asking.{settled_complete}
 use Rattle.ta_base.proofs.Integers.{abs_natural}
@@ -36,16 +36,31 @@ naturals (f ∷ fs) (k ∷ ks) are low =
     here n ns e more zero h = e
     here n ns e more (suc x) h = more x (omega arith)
 
-pub whole_solves : {E : Type 0} → WholeNodesSolve E
-whole_solves s w numbers whole =
-    let z = whole.vertex.system in
-    let at = whole.vertex.holds in
+-- whole values of a vertex solve its system
+numbers_solve : {E : Type 0} (s : Search E) (w : Pending E) (values : List Fraction) (numbers : List ℤ) → VertexAt s w values → AreNumbers values numbers → AreSolution s w numbers
+numbers_solve s w values numbers vertex are =
+    let z = vertex.system in
+    let at = vertex.holds in
     let count = at.gives.count in
-    let n = naturals whole.values numbers whole.whole (λ x h. at.meet.not_negative x (omega arith)) in (
+    let n = naturals values numbers are (λ x h. at.meet.not_negative x (omega arith)) in (
       n.naturals,
       n.same,
-      solution_of s w z n.naturals whole.vertex.is (whole_vertex_solves z whole.values n.naturals at.meet (n.count ∙ count) (λ x h. n.are x (omega arith))),
+      solution_of s w z n.naturals vertex.is (whole_vertex_solves z values n.naturals at.meet (n.count ∙ count) (λ x h. n.are x (omega arith))),
     )
+
+pub whole_solves : {E : Type 0} → WholeNodesSolve E
+whole_solves s scaled w numbers whole = of whole.whole
+  where
+    of : AreNumbers whole.values numbers ⊎ IsScaled s w whole.values numbers → AreSolution s w numbers
+    of (inl are) = numbers_solve s w whole.values numbers whole.vertex are
+    of (inr is) = scaled w whole.values numbers whole.vertex is.scaled
+
+-- where no whole values are ever taken in place of a vertex's, those that are solve
+pub unscaled_solve : {E : Type 0} (s : Search E) → ((w : Pending E) (vs : List (ℤ × ℤ)) → s.scaled w vs ≡ None) → ScaledSolve s
+unscaled_solve s none w values numbers vertex is = absurd (apart (s.scaled w (parts_of values)) (none w (parts_of values)) is)
+  where
+    apart : (o : Option (List ℤ)) → o ≡ None → o ≡ Some numbers → ⊥
+    apart o e g = absurd (cc)
 
 pub found_solved : FoundWordsAreSolved
 found_solved a p pairs number budget count solution found =
@@ -54,7 +69,7 @@ found_solved a p pairs number budget count solution found =
     let waits = (left_wait s 0 s.roots found.visited.nodes (w ∷ found.visited.words) (starts_wait Safe a p pairs) found.visited.visits).0 in
     let legal = comes_legal a p pairs w.start w.past waits.comes in
     let at = found.holds in
-    let solved = whole_solves s w solution.values at.whole in
+    let solved = whole_solves s (unscaled_solve s (λ v vs. refl)) w solution.values at.whole in
     let solves = unbounded a p pairs w solved.0 solved.2 in
     let start : w.start ≡ solution.start_mask = sym at.start in
     let past : w.past ≡ reverse solution.word = sym at.word in (

@@ -1,5 +1,5 @@
 -- what is known of each word that a visit leaves
-use Rattle.ta_walk.proofs.Common.{◌≡◌, inl, inr, ℕ, zero, suc, ◌+◌, ◌≤◌, ◌^◌, List, [], ◌∷◌, ◌++◌, map, length, length-append, arith, refl, sym, ap, subst, AllByRecursion, each_append, Automaton, Pattern, In, range_with_len, Node, Element, Bound, Low, High, Visits, Pending, Search, Comes, bound_at, bounded, longer, parts, all_starts, empty_word, comes_first, IsUnbounded, claim_roots, search_for, Claim, Answers, answered}
+use Rattle.ta_walk.proofs.Common.{◌≡◌, inl, inr, ℕ, zero, suc, ◌+◌, ◌≤◌, ◌^◌, List, [], ◌∷◌, ◌++◌, map, length, length-append, arith, refl, sym, ap, subst, AllByRecursion, each_append, Automaton, Pattern, In, range_with_len, Node, Bound, Low, High, Visits, Pending, Search, Comes, bound_at, bounded, longer, parts, all_starts, empty_word, comes_first, IsUnbounded, claim_roots, search_for, Claim, Answers, answered}
 use Rattle.ta_cert.specs.declared.line.Node.TheVariants as node
 
 -- a word to which the search comes, with so many bounds at most

@@ -27,12 +27,13 @@ use Rattle.ta_walk.specs.declared.end.VisitEnd.{VisitEnd}
 use Rattle.ta_walk.specs.declared.end.VisitEnd.TheVariants as visit
 use Rattle.ta_walk.specs.declared.end.WalkEnd.{WalkEnd}
 use Rattle.ta_walk.specs.declared.end.WalkEnd.TheVariants.{Refuted, Found, Spent, Overflow}
-use Rattle.ta_walk.specs.Visit.{Visits, WholeAt, IsOutOfRangeAt}
+use Rattle.ta_simplex.specs.declared.fraction.Fraction.{Fraction}
+use Rattle.ta_walk.specs.Visit.{Visits, VertexAt, WholeAt, IsOutOfRangeAt, parts_of}
 
 -- how many nodes a visit visited that ended so
-abbrev pub node_count : TreeEnd → ℕ
+abbrev pub node_count : {E : Type 0} → TreeEnd E → ℕ
 node_count (tree.Refuted count leaves) = count
-node_count (tree.Found count start word values) = count
+node_count (tree.Found count start facts values) = count
 node_count (tree.Spent count) = count
 node_count (tree.Overflow node kind) = node
 
@@ -87,9 +88,17 @@ IsVisitEnding s budget (Left number kind) = NodeOf s budget number (λ w. IsOutO
 abbrev pub EndingsAreDetermined : Type 0 → Type 0
 EndingsAreDetermined E = (s : Search E) (budget : ℕ) (e f : Ending E) → IsVisitEnding s budget e → IsVisitEnding s budget f → e ≡ f
 
--- the values of a whole node are natural numbers that solve its word's system
+-- these are natural numbers that solve a word's system
+abbrev pub AreSolution : {E : Type 0} → Search E → Pending E → List ℤ → Type 0
+AreSolution s w numbers = (values : List ℕ) × (numbers ≡ map pos values) × SolvesAt s w values
+
+-- the whole values that a maker takes in place of a vertex's solve the system
+abbrev pub ScaledSolve : {E : Type 0} → Search E → Type 0
+ScaledSolve {E} s = (w : Pending E) (values : List Fraction) (numbers : List ℤ) → VertexAt s w values → s.scaled w (parts_of values) ≡ Some numbers → AreSolution s w numbers
+
+-- then the values of each whole node are natural numbers that solve its word's system
 abbrev pub WholeNodesSolve : Type 0 → Type 0
-WholeNodesSolve E = (s : Search E) (w : Pending E) (numbers : List ℤ) → WholeAt s w numbers → (values : List ℕ) × (numbers ≡ map pos values) × SolvesAt s w values
+WholeNodesSolve E = (s : Search E) → ScaledSolve s → (w : Pending E) (numbers : List ℤ) → WholeAt s w numbers → AreSolution s w numbers
 
 -- a solution at a word of a search, for the pattern of a number: its values are those of a whole node
 pub record SolutionAt (s : Search Element) (number : ℕ) (solution : Solution) (w : Pending Element) : Type 0 where
@@ -118,16 +127,16 @@ pub record TreeKept {E : Type 0} (s : Search E) (budget : ℕ) (Keeps : List Nod
   pub counted : leaves ≡ leaf_count nodes
   pub kept : Keeps nodes
 
--- a word of these elements under a start set, with the values of a whole node
-pub record WholeWord (s : Search Element) (start : ℕ) (word : List Element) (values : List ℤ) (w : Pending Element) : Type 0 where
+-- a node with this start and these facts, in order, and the values of a whole node
+pub record WholeNode {E : Type 0} (s : Search E) (start : ℕ) (facts : List E) (values : List ℤ) (w : Pending E) : Type 0 where
   pub start_is : start ≡ w.start
-  pub word_is : reverse word ≡ w.past
+  pub facts_are : reverse facts ≡ w.past
   pub whole : WholeAt s w values
 
 -- how a visit of a tree ends whose nodes were handed on: of the nodes of a whole tree the rest is kept
-abbrev pub IsTreeEnd : Search Element → ℕ → (List Node → Type 0) → TreeEnd → Type 0
+abbrev pub IsTreeEnd : {E : Type 0} → Search E → ℕ → (List Node → Type 0) → TreeEnd E → Type 0
 IsTreeEnd s budget Keeps (tree.Refuted count leaves) = TreeKept s budget Keeps count leaves
-IsTreeEnd s budget Keeps (tree.Found count start word values) = NodeOf s budget count (WholeWord s start word values)
+IsTreeEnd s budget Keeps (tree.Found count start facts values) = NodeOf s budget count (WholeNode s start facts values)
 IsTreeEnd s budget Keeps (tree.Spent count) = IsSpent s budget count
 IsTreeEnd s budget Keeps (tree.Overflow node kind) = NodeOf s budget node (λ w. IsOutOfRangeAt s w kind)
 

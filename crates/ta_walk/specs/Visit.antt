@@ -1,15 +1,18 @@
 -- The tree of a search, node by node (least-index solving of its systems, and integer branching where nothing is asked)
-use Rattle.std.specs.Prelude.{ℕ, ℤ, pos, ◌<◌, ◌+ℤ◌, ◌*ℤ◌, ◌<ℤ◌, ◌≡◌, List, [], ◌∷◌, ◌++◌, map, slice_get, IsSomeAnd, Some}
+use Rattle.std.specs.Prelude.{ℕ, ℤ, pos, ◌<◌, ◌+ℤ◌, ◌*ℤ◌, ◌<ℤ◌, ◌≡◌, ◌⊎◌, List, [], ◌∷◌, ◌++◌, map, slice_get, IsSomeAnd, Option, Some, None}
 use Rattle.ta_linear.specs.declared.row.System.{System}
 use Rattle.ta_cert.specs.declared.line.Node.{Node}
 use Rattle.ta_cert.specs.declared.line.Node.TheVariants as node
 use Rattle.ta_encode.specs.Code.{SystemAt}
 use Rattle.ta_encode.specs.Search.{MayAsk, Pending, Search, parts, bounded_rows}
+use Rattle.ta_cursor.specs.Asking.{ask_node}
 use Rattle.ta_cursor.specs.Range.{LeafStays}
+use Rattle.ta_cursor.specs.declared.asking.Ask.{Ask}
 use Rattle.ta_dense.specs.Slack.{slack_tableau}
 use Rattle.ta_simplex.specs.LeastIndex.{OverflowsAt}
 use Rattle.ta_simplex.specs.Refuted.{IsRefuted}
 use Rattle.ta_simplex.specs.Vertex.{IsVertex}
+pub use Rattle.ta_simplex.specs.Vertex.{parts_of}
 use Rattle.ta_simplex.specs.declared.fraction.Fraction.{Fraction}
 use Rattle.ta_walk.specs.declared.end.PlaceKind.{PlaceKind}
 use Rattle.ta_walk.specs.declared.end.PlaceKind.TheVariants as kind
@@ -52,20 +55,27 @@ AreNumbers [] (k ∷ ks) = ⊥
 AreNumbers (f ∷ fs) [] = ⊥
 AreNumbers (f ∷ fs) (k ∷ ks) = IsWholeNumber k f × AreNumbers fs ks
 
--- the numerators and denominators of values
-abbrev pub parts_of : List Fraction → List (ℤ × ℤ)
-parts_of values = map (λ f. (f.top, f.bottom)) values
-
 -- at a vertex with these values the maker asks nothing: the node that it would have ask, if any, may not stand there
 abbrev pub IsSettled : {E : Type 0} → Search E → Pending E → List Fraction → Type 0
 IsSettled s w values = (n : Node) → s.question w.start w.past (parts_of values) ≡ Some n → MayAsk s w.start w.past n → ⊥
 
--- a vertex at which nothing is asked, one of whose values isn't whole
+-- the maker has a node ask this at a vertex with these values, and the node may stand there
+pub record AsksAt {E : Type 0} (s : Search E) (w : Pending E) (values : List Fraction) (n : Node) : Type 0 where
+  pub question : s.question w.start w.past (parts_of values) ≡ Some n
+  pub may : MayAsk s w.start w.past n
+
+-- what is asked at a vertex with these values, or that nothing is
+abbrev pub IsAsked : {E : Type 0} → Search E → Pending E → List Fraction → Option Ask → Type 0
+IsAsked s w values None = IsSettled s w values
+IsAsked s w values (Some asked) = AsksAt s w values (ask_node asked)
+
+-- a vertex at which nothing is asked, one of whose values isn't whole, and in place of whose values no whole ones are taken
 pub record SplitVertex {E : Type 0} (s : Search E) (w : Pending E) (unknown : ℕ) (floor : ℤ) : Type 0 where
   pub values : List Fraction
   pub vertex : VertexAt s w values
   pub settled : IsSettled s w values
   pub splits : SplitsAt values unknown floor
+  pub unscaled : s.scaled w (parts_of values) ≡ None
 
 -- a vertex at which this node asks
 pub record OpenVertex {E : Type 0} (s : Search E) (w : Pending E) (n : Node) : Type 0 where
@@ -74,12 +84,19 @@ pub record OpenVertex {E : Type 0} (s : Search E) (w : Pending E) (n : Node) : T
   pub question : s.question w.start w.past (parts_of values) ≡ Some n
   pub may : MayAsk s w.start w.past n
 
--- a whole node: a vertex at which nothing is asked, whose values are these whole numbers
+-- one of the values of a vertex isn't whole, and these whole numbers are taken in their place
+pub record IsScaled {E : Type 0} (s : Search E) (w : Pending E) (values : List Fraction) (numbers : List ℤ) : Type 0 where
+  pub unknown : ℕ
+  pub floor : ℤ
+  pub splits : SplitsAt values unknown floor
+  pub scaled : s.scaled w (parts_of values) ≡ Some numbers
+
+-- a whole node: a vertex at which nothing is asked, whose values are these whole numbers, or in place of whose values these are taken
 pub record WholeAt {E : Type 0} (s : Search E) (w : Pending E) (numbers : List ℤ) : Type 0 where
   pub values : List Fraction
   pub vertex : VertexAt s w values
   pub settled : IsSettled s w values
-  pub whole : AreNumbers values numbers
+  pub whole : AreNumbers values numbers ⊎ IsScaled s w values numbers
 
 -- a leaf whose check stays in range
 pub record LeafAt {E : Type 0} (s : Search E) (w : Pending E) (ts : List (ℕ × ℤ)) : Type 0 where

@@ -4,7 +4,6 @@
 use ta_base::List;
 use ta_cert::Node;
 use ta_encode::Solution;
-use ta_words::Word;
 
 /// Where a number left 128 bits.
 #[derive(Clone, Copy, Debug, PartialEq, Eq)]
@@ -19,21 +18,21 @@ pub enum PlaceKind {
 }
 
 /// How a visit of a tree ends whose nodes were handed on as they came. Nodes are counted from 1, over
-/// all words with which the search begins, in the order of the visit.
+/// all starts with which the search begins, in the order of the visit.
 #[derive(Drop)]
-pub enum TreeEnd {
+pub enum TreeEnd<F: Copy + Drop> {
     /// The tree has so many nodes, of which so many are leaves.
     Refuted {
         count: u64,
         leaves: u64,
     },
-    /// The node of this number has a complete word, this one under this start set, and whole values
-    /// that solve its system.
+    /// The node of this number, which has this start and these facts, in order, asks nothing, and
+    /// whole values solve its system.
     Found {
         count: u64,
-        start_mask: u8,
-        word: Word,
-        values: ta_base::List<i128>,
+        start: u8,
+        facts: List<F>,
+        values: List<i128>,
     },
     /// These many nodes were visited, and the tree has more.
     Spent {
@@ -46,7 +45,7 @@ pub enum TreeEnd {
     },
 }
 
-impl TreeEnd {
+impl<F: Copy + Drop> TreeEnd<F> {
     ghost use Rattle.std.specs.Prelude.{◌≡◌};
     ghost use Rattle.ta_walk.specs.Ends.{node_count};
 

@@ -19,6 +19,7 @@ use ta_base::limits::MOST_NODES;
 use ta_claim::ClaimTree;
 use ta_dense::Dictionary;
 use ta_encode::Solution;
+use ta_words::{Element, Word};
 
 /// Visits the tree of a claim on a pattern, at most so many nodes of it. Each start set begins with the
 /// empty word. A node whose system is refuted is a leaf. At a vertex the word goes on to its children;
@@ -99,15 +100,15 @@ fn visit_gated<D: Dictionary, K: PartKeeper, R: Threads + Sync, G: Gate>(
         TreeEnd::Refuted { count, leaves } => Ok(VisitEnd::Refuted { count, leaves }),
         TreeEnd::Found {
             count,
-            start_mask,
-            word,
+            start,
+            facts,
             values,
         } => Ok(VisitEnd::Found {
             count,
             solution: Solution {
                 pattern: tree.number,
-                start_mask,
-                word,
+                start_mask: start,
+                word: Word::of(facts.as_slice()),
                 values,
             },
         }),
@@ -126,7 +127,7 @@ fn fork_tree<D: Dictionary, K: PartKeeper, R: Threads + Sync, G: Gate>(
     nodes: u64,
     gate: &G,
     keeper: &mut K,
-) -> Result<TreeEnd, AllocError>
+) -> Result<TreeEnd<Element>, AllocError>
     requires limit { nodes ≤ MOST_NODES }
     requires keeps { K.keeps keeper.old keeper.old [] }
     ensures { IfOk result (IsTreeEnd (search_of_claim tree.now) nodes (K.keeps keeper.old keeper.new)) }
@@ -152,7 +153,7 @@ fn visit_parts<D: Dictionary, K: PartKeeper, R: Threads + Sync, G: Gate>(
     gate: &G,
     patient: bool,
     keeper: &mut K,
-) -> Result<Option<TreeEnd>, AllocError>
+) -> Result<Option<TreeEnd<Element>>, AllocError>
     requires limit { nodes ≤ MOST_NODES }
     requires keeps { K.keeps keeper.old keeper.old [] }
     ensures ends { IfOk result (λ end. IfSome end (IsTreeEnd (search_of_claim tree.now) nodes (K.keeps keeper.old keeper.new))) }
@@ -162,8 +163,8 @@ fn visit_parts<D: Dictionary, K: PartKeeper, R: Threads + Sync, G: Gate>(
     let board = Board::new(alloc, nodes, most_beside(rt))?;
     let watch = Watch::new(&board, patient);
     let late = keeper.later(alloc)?;
-    let words = roots_of(alloc, tree)?;
-    let part = visit_list::<D, K, R, G>(rt, alloc, tree, gate, watch, words, nodes, late)?;
+    let starts = roots_of(alloc, tree)?;
+    let part = visit_list::<D, K, R, G>(rt, alloc, tree, gate, watch, starts, nodes, late)?;
     let Part { end, keeper: late } = part;
     match whole_end(nodes, end) {
         None => Ok(None),
@@ -185,7 +186,7 @@ pub fn most_beside<R: Threads>(rt: &R) -> u64
 }
 
 /// The end of a part, unless it stopped before its budget was spent.
-fn whole_end(nodes: u64, end: TreeEnd) -> Option<TreeEnd>
+fn whole_end(nodes: u64, end: TreeEnd<Element>) -> Option<TreeEnd<Element>>
     requires { IsSmallEnd nodes end }
     ensures some { IfSome result (λ whole. (whole ≡ end) × IsWholeEnd nodes whole) }
     ensures none { IfNone result (IsWholeEnd nodes end → ⊥) }

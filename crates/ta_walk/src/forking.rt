@@ -7,7 +7,7 @@ ghost use denote.Param.Send.{IsSend, IsSync};
 ghost use Rattle.ta_claim.specs.Trees.{IsKeptFor, search_of_claim};
 ghost use Rattle.ta_cursor.specs.Cursors.{left_at};
 ghost use Rattle.ta_simplex.specs.Branch.{IsBranch};
-ghost use Rattle.ta_walk.specs.Inside.Parts.{IsLaterKeeper, ComesTo, IsSmallEnd, IsWholeEnd, PartVisited, HasFewLeft, beginning, root_word};
+ghost use Rattle.ta_walk.specs.Inside.Parts.{IsLaterKeeper, ComesTo, IsSmallEnd, IsWholeEnd, PartVisited, HasFewLeft, beginning, root_node};
 
 use crate::end::TreeEnd;
 use crate::gate::Gate;
@@ -20,12 +20,13 @@ use std::sync::atomic::AtomicU64;
 use std::thread::{Threads, join};
 use ta_base::limits::MOST_NODES;
 use ta_claim::ClaimTree;
-use ta_cursor::{Cursor, Root, Tree};
+use ta_cursor::{Cursor, Tree};
 use ta_dense::Dictionary;
 use ta_encode::Encoding;
 use ta_simplex::Branch;
+use ta_words::Element;
 
-/// Visits the trees of the words of a list, at most so many nodes of them: a list of several words is
+/// Visits the trees of the starts of a list, at most so many nodes of them: a list of several starts is
 /// cut into halves.
 #[cycle(forks)]
 pub(crate) fn visit_list<D: Dictionary, K: PartKeeper, R: Threads + Sync, G: Gate>(
@@ -34,20 +35,20 @@ pub(crate) fn visit_list<D: Dictionary, K: PartKeeper, R: Threads + Sync, G: Gat
     tree: &ClaimTree<'_>,
     gate: &G,
     watch: Watch<'_>,
-    words: Vec<Root>,
+    starts: Vec<u8>,
     nodes: u64,
     keeper: K,
 ) -> Result<Part<K>, AllocError>
-    requires come { AllByRecursion (ComesTo (search_of_claim tree.now)) words.items }
-    requires few { vec_len words ≤ 2 ^ 31 }
+    requires come { AllByRecursion (ComesTo (search_of_claim tree.now)) starts.items }
+    requires few { vec_len starts ≤ 2 ^ 31 }
     requires limit { nodes ≤ MOST_NODES }
-    ensures visited { IfOk result (λ part. PartVisited K.keeps (beginning (search_of_claim tree.now) (map root_word words.items)) nodes keeper part.keeper part.end) }
+    ensures visited { IfOk result (λ part. PartVisited K.keeps (beginning (search_of_claim tree.now) (map root_node starts.items)) nodes keeper part.keeper part.end) }
     ensures small { IfOk result (λ part. IsSmallEnd nodes part.end) }
     ensures patient { watch.entry.patient ≡ true → IfOk result (λ part. IsWholeEnd nodes part.end) }
 {
-    let mut words = words;
-    if words.len() < 2 {
-        return match words.pop() {
+    let mut starts = starts;
+    if starts.len() < 2 {
+        return match starts.pop() {
             None => Ok(Part {
                 end: TreeEnd::Refuted {
                     count: 0,
@@ -55,16 +56,16 @@ pub(crate) fn visit_list<D: Dictionary, K: PartKeeper, R: Threads + Sync, G: Gat
                 },
                 keeper,
             }),
-            Some(root) => visit_root::<D, K, R, G>(
-                rt, alloc, tree, gate, watch, root, nodes, keeper,
+            Some(start) => visit_start::<D, K, R, G>(
+                rt, alloc, tree, gate, watch, start, nodes, keeper,
             ),
         };
     }
-    let others = words.split_off(words.len() / 2)?;
-    visit_halves::<D, K, R, G>(rt, alloc, tree, gate, watch, words, others, nodes, keeper)
+    let others = starts.split_off(starts.len() / 2)?;
+    visit_halves::<D, K, R, G>(rt, alloc, tree, gate, watch, starts, others, nodes, keeper)
 }
 
-/// Visits the words of the halves of a list, beside each other where that may be. Elsewhere the second
+/// Visits the starts of the halves of a list, beside each other where that may be. Elsewhere the second
 /// half has the budget that the first one left.
 #[cycle(forks)]
 fn visit_halves<D: Dictionary, K: PartKeeper, R: Threads + Sync, G: Gate>(
@@ -73,29 +74,29 @@ fn visit_halves<D: Dictionary, K: PartKeeper, R: Threads + Sync, G: Gate>(
     tree: &ClaimTree<'_>,
     gate: &G,
     watch: Watch<'_>,
-    words: Vec<Root>,
-    others: Vec<Root>,
+    starts: Vec<u8>,
+    others: Vec<u8>,
     nodes: u64,
     keeper: K,
 ) -> Result<Part<K>, AllocError>
-    requires first { AllByRecursion (ComesTo (search_of_claim tree.now)) words.items }
+    requires first { AllByRecursion (ComesTo (search_of_claim tree.now)) starts.items }
     requires second { AllByRecursion (ComesTo (search_of_claim tree.now)) others.items }
-    requires some { (0 < vec_len words) × (0 < vec_len others) }
-    requires few { vec_len words + vec_len others ≤ 2 ^ 31 }
+    requires some { (0 < vec_len starts) × (0 < vec_len others) }
+    requires few { vec_len starts + vec_len others ≤ 2 ^ 31 }
     requires limit { nodes ≤ MOST_NODES }
-    ensures visited { IfOk result (λ part. PartVisited K.keeps (beginning (search_of_claim tree.now) (map root_word words.items ++ map root_word others.items)) nodes keeper part.keeper part.end) }
+    ensures visited { IfOk result (λ part. PartVisited K.keeps (beginning (search_of_claim tree.now) (map root_node starts.items ++ map root_node others.items)) nodes keeper part.keeper part.end) }
     ensures small { IfOk result (λ part. IsSmallEnd nodes part.end) }
     ensures patient { watch.entry.patient ≡ true → IfOk result (λ part. IsWholeEnd nodes part.end) }
 {
     let late = keeper.later(alloc)?;
     if watch.goes_beside() {
         return visit_beside::<D, K, R, G>(
-            rt, alloc, tree, gate, watch, words, others, keeper, late, nodes,
+            rt, alloc, tree, gate, watch, starts, others, keeper, late, nodes,
         );
     }
     let low = watch.first_half();
     let high = watch.second_half();
-    let first = visit_list::<D, K, R, G>(rt, alloc, tree, gate, low, words, nodes, keeper)?;
+    let first = visit_list::<D, K, R, G>(rt, alloc, tree, gate, low, starts, nodes, keeper)?;
     let Some((count, leaves)) = refuted(&first.end) else {
         return Ok(first);
     };
@@ -104,7 +105,7 @@ fn visit_halves<D: Dictionary, K: PartKeeper, R: Threads + Sync, G: Gate>(
     add(alloc, nodes, count, leaves, first.keeper, second)
 }
 
-/// Visits the words of the halves of a list beside each other.
+/// Visits the starts of the halves of a list beside each other.
 #[cycle(forks)]
 fn visit_beside<D: Dictionary, K: PartKeeper, R: Threads + Sync, G: Gate>(
     rt: &R,
@@ -112,19 +113,19 @@ fn visit_beside<D: Dictionary, K: PartKeeper, R: Threads + Sync, G: Gate>(
     tree: &ClaimTree<'_>,
     gate: &G,
     watch: Watch<'_>,
-    words: Vec<Root>,
-    others: Vec<Root>,
+    starts: Vec<u8>,
+    others: Vec<u8>,
     keeper: K,
     late: K,
     nodes: u64,
 ) -> Result<Part<K>, AllocError>
-    requires first { AllByRecursion (ComesTo (search_of_claim tree.now)) words.items }
+    requires first { AllByRecursion (ComesTo (search_of_claim tree.now)) starts.items }
     requires second { AllByRecursion (ComesTo (search_of_claim tree.now)) others.items }
-    requires some { (0 < vec_len words) × (0 < vec_len others) }
-    requires few { vec_len words + vec_len others ≤ 2 ^ 31 }
+    requires some { (0 < vec_len starts) × (0 < vec_len others) }
+    requires few { vec_len starts + vec_len others ≤ 2 ^ 31 }
     requires limit { nodes ≤ MOST_NODES }
     requires fresh { IsLaterKeeper K.begins K.keeps keeper late }
-    ensures visited { IfOk result (λ part. PartVisited K.keeps (beginning (search_of_claim tree.now) (map root_word words.items ++ map root_word others.items)) nodes keeper part.keeper part.end) }
+    ensures visited { IfOk result (λ part. PartVisited K.keeps (beginning (search_of_claim tree.now) (map root_node starts.items ++ map root_node others.items)) nodes keeper part.keeper part.end) }
     ensures small { IfOk result (λ part. IsSmallEnd nodes part.end) }
     ensures patient { watch.entry.patient ≡ true → IfOk result (λ part. IsWholeEnd nodes part.end) }
 {
@@ -133,19 +134,19 @@ fn visit_beside<D: Dictionary, K: PartKeeper, R: Threads + Sync, G: Gate>(
     let ended = AtomicU64::new(0);
     let ended = &ended;
     let front = move || -> Result<Part<K>, AllocError>
-        requires { IsSync R.row × IsSync G.row × IsSend K.row × AllByRecursion (ComesTo (search_of_claim tree.now)) words.items × (vec_len words ≤ 2 ^ 31) × (nodes ≤ MOST_NODES) }
-        ensures visited { IfOk result (λ part. PartVisited K.keeps (beginning (search_of_claim tree.entry.now) (map root_word words.items)) nodes keeper part.keeper part.end) }
+        requires { IsSync R.row × IsSync G.row × IsSend K.row × AllByRecursion (ComesTo (search_of_claim tree.now)) starts.items × (vec_len starts ≤ 2 ^ 31) × (nodes ≤ MOST_NODES) }
+        ensures visited { IfOk result (λ part. PartVisited K.keeps (beginning (search_of_claim tree.entry.now) (map root_node starts.items)) nodes keeper part.keeper part.end) }
         ensures small { IfOk result (λ part. IsSmallEnd nodes part.end) }
         ensures patient { low.entry.patient ≡ true → IfOk result (λ part. IsWholeEnd nodes part.end) }
     {
         gate.enter();
-        let part = visit_list::<D, K, R, G>(rt, alloc, tree, gate, low, words, nodes, keeper);
+        let part = visit_list::<D, K, R, G>(rt, alloc, tree, gate, low, starts, nodes, keeper);
         low.came_back(ended);
         part
     };
     let back = move || -> Result<Part<K>, AllocError>
         requires { IsSync R.row × IsSync G.row × IsSend K.row × AllByRecursion (ComesTo (search_of_claim tree.now)) others.items × (vec_len others ≤ 2 ^ 31) × (nodes ≤ MOST_NODES) }
-        ensures visited { IfOk result (λ part. PartVisited K.keeps (beginning (search_of_claim tree.entry.now) (map root_word others.items)) nodes late part.keeper part.end) }
+        ensures visited { IfOk result (λ part. PartVisited K.keeps (beginning (search_of_claim tree.entry.now) (map root_node others.items)) nodes late part.keeper part.end) }
         ensures small { IfOk result (λ part. IsSmallEnd nodes part.end) }
         ensures patient { high.entry.patient ≡ true → IfOk result (λ part. IsWholeEnd nodes part.end) }
     {
@@ -159,24 +160,24 @@ fn visit_beside<D: Dictionary, K: PartKeeper, R: Threads + Sync, G: Gate>(
     merge(alloc, nodes, first?, second?)
 }
 
-/// Visits the tree of a word, at most so many nodes of it.
-fn visit_root<D: Dictionary, K: PartKeeper, R: Threads + Sync, G: Gate>(
+/// Visits the tree of a start, at most so many nodes of it.
+fn visit_start<D: Dictionary, K: PartKeeper, R: Threads + Sync, G: Gate>(
     rt: &R,
     alloc: Global,
     tree: &ClaimTree<'_>,
     gate: &G,
     watch: Watch<'_>,
-    root: Root,
+    start: u8,
     nodes: u64,
     keeper: K,
 ) -> Result<Part<K>, AllocError>
-    requires comes { ComesTo (search_of_claim tree.now) root }
+    requires comes { ComesTo (search_of_claim tree.now) start }
     requires limit { nodes ≤ MOST_NODES }
-    ensures visited { IfOk result (λ part. PartVisited K.keeps (beginning (search_of_claim tree.now) (root_word root ∷ [])) nodes keeper part.keeper part.end) }
+    ensures visited { IfOk result (λ part. PartVisited K.keeps (beginning (search_of_claim tree.now) (root_node start ∷ [])) nodes keeper part.keeper part.end) }
     ensures small { IfOk result (λ part. IsSmallEnd nodes part.end) }
     ensures patient { watch.entry.patient ≡ true → IfOk result (λ part. IsWholeEnd nodes part.end) }
 {
-    let cursor = Cursor::new(alloc, root);
+    let cursor = Cursor::new(alloc, start);
     visit_tree_at::<D, K, R, G>(rt, alloc, tree, gate, watch, cursor, nodes, keeper)
 }
 
@@ -188,7 +189,7 @@ fn visit_tree_at<D: Dictionary, K: PartKeeper, R: Threads + Sync, G: Gate>(
     tree: &ClaimTree<'_>,
     gate: &G,
     watch: Watch<'_>,
-    cursor: Cursor,
+    cursor: Cursor<Element>,
     nodes: u64,
     keeper: K,
 ) -> Result<Part<K>, AllocError>
@@ -214,7 +215,7 @@ fn visit_on<D: Dictionary, K: PartKeeper, R: Threads + Sync, G: Gate>(
     tree: &ClaimTree<'_>,
     gate: &G,
     watch: Watch<'_>,
-    cursor: Cursor,
+    cursor: Cursor<Element>,
     kept: Encoding,
     branch: Branch<D>,
     nodes: u64,
@@ -272,8 +273,8 @@ fn visit_shared<D: Dictionary, K: PartKeeper, R: Threads + Sync, G: Gate>(
     tree: &ClaimTree<'_>,
     gate: &G,
     watch: Watch<'_>,
-    cursor: Cursor,
-    later: Cursor,
+    cursor: Cursor<Element>,
+    later: Cursor<Element>,
     kept: Encoding,
     branch: Branch<D>,
     nodes: u64,

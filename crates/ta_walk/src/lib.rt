@@ -9,6 +9,7 @@ mod forking;
 mod gate;
 mod keeper;
 mod laws;
+mod maker;
 mod merging;
 mod node;
 mod orders_laws;
@@ -30,6 +31,7 @@ pub use laws::{
     sample_ends_are_determined, samples_are_real, searches_have_ends, spent_needs_splits,
     walks_have_ends, whole_nodes_solve,
 };
+pub use maker::Maker;
 pub use orders_laws::{found_orders_are_determined, found_orders_are_sound};
 pub use sampling::sample;
 pub use walking::{visit_tree, visit_tree_along};

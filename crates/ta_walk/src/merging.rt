@@ -12,6 +12,7 @@ use crate::keeper::{Keeper, PartKeeper};
 use crate::part::Part;
 use std::alloc::{AllocError, Global};
 use ta_base::limits::MOST_NODES;
+use ta_words::Element;
 
 /// Two parts that were visited beside each other as one: the ends in order, and the nodes one after
 /// the other.
@@ -67,7 +68,7 @@ pub(crate) fn add<K: PartKeeper>(
 }
 
 /// How many nodes and leaves a part has that is refuted.
-pub(crate) fn refuted(end: &TreeEnd) -> Option<(u64, u64)>
+pub(crate) fn refuted(end: &TreeEnd<Element>) -> Option<(u64, u64)>
     ensures some { IfSome result (λ size. end.now ≡ Refuted size.0 size.1) }
     ensures none { IfNone result (IsNotRefuted end.now) }
 {
@@ -79,7 +80,12 @@ pub(crate) fn refuted(end: &TreeEnd) -> Option<(u64, u64)>
 
 /// The end of a part that came to some words behind so many nodes, of which so many are leaves, where
 /// the part of these words ended so: the budget is spent where these are too many.
-pub(crate) fn end_behind(nodes: u64, count: u64, leaves: u64, end: TreeEnd) -> TreeEnd
+pub(crate) fn end_behind(
+    nodes: u64,
+    count: u64,
+    leaves: u64,
+    end: TreeEnd<Element>,
+) -> TreeEnd<Element>
     requires limit { nodes ≤ MOST_NODES }
     requires within { count ≤ nodes }
     requires leaves { leaves ≤ count }
@@ -101,13 +107,13 @@ pub(crate) fn end_behind(nodes: u64, count: u64, leaves: u64, end: TreeEnd) -> T
         },
         TreeEnd::Found {
             count: more,
-            start_mask,
-            word,
+            start,
+            facts,
             values,
         } => TreeEnd::Found {
             count: count + more,
-            start_mask,
-            word,
+            start,
+            facts,
             values,
         },
         TreeEnd::Spent { count: more } => TreeEnd::Spent {

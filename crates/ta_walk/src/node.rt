@@ -5,6 +5,7 @@ ghost use Rattle.std.specs.Prelude.{◌≡◌, ◌<◌, ◌≤◌, ◌^◌, IfOk
 ghost use Rattle.ta_encode.specs.Code.{SystemAt};
 ghost use Rattle.ta_encode.specs.Marks.{SameRows};
 ghost use Rattle.ta_encode.specs.Search.{Pending, Search};
+ghost use Rattle.ta_cursor.specs.Asking.{ask_node};
 ghost use Rattle.ta_cursor.specs.Cursors.{IsWord, here};
 ghost use Rattle.ta_cursor.specs.TreeCalls.{IsSmall};
 ghost use Rattle.ta_dense.specs.Slack.{variables};
@@ -12,15 +13,15 @@ ghost use Rattle.ta_simplex.specs.Branch.{IsBranch, SharesRows};
 ghost use Rattle.ta_simplex.specs.Refuted.{IsRefuted};
 ghost use Rattle.ta_walk.specs.Inside.Solving.{OnInner, SolvedAt};
 ghost use Rattle.ta_walk.specs.Visit.{VertexAt};
-ghost use Rattle.ta_words.specs.declared.element.Element.{Element};
 
 use crate::end::PlaceKind;
+use crate::maker::Maker;
 use crate::vertex::{first_split, whole_values};
 use std::alloc::{AllocError, Global};
 use ta_base::List;
 use ta_base::limits::MOST_NODES;
 use ta_cert::Node;
-use ta_cursor::{Cursor, Tree, Written};
+use ta_cursor::{Ask, Cursor, Tree, Written};
 use ta_dense::Dictionary;
 use ta_farkas::check_leaf;
 use ta_linear::System;
@@ -41,50 +42,54 @@ pub(crate) enum Solved {
 pub(crate) fn grow<T: Tree>(
     alloc: Global,
     tree: &T,
-    cursor: &Cursor,
+    cursor: &Cursor<T::Fact>,
     kept: T::Kept,
 ) -> Result<Written<T::Kept>, AllocError>
     requires word { IsWord (T.search tree.now) (here cursor.now) }
     requires kept { T.is_kept tree.now kept }
     ensures kept { IfOk result (λ written. T.is_kept tree.now written.kept) }
+    ensures at { IfOk result (λ written. T.is_at tree.now (here cursor.now).start (here cursor.now).past written.kept) }
     ensures system { IfOk result (λ written. SystemAt (T.search tree.now) (here cursor.now) (T.system_of written.kept)) }
     ensures same { IfOk result (λ written. SameRows (T.system_of kept).rows written.same (T.system_of written.kept).rows) }
     ensures small { IfOk result (λ written. IsSmall cursor.now.bounds.items (T.system_of written.kept)) }
 {
-    let start_mask = cursor.start_mask();
-    tree.encode(alloc, start_mask, cursor.word(), cursor.bounds(), kept)
+    tree.encode(alloc, cursor.start(), cursor.facts(), cursor.bounds(), kept)
 }
 
-/// Solves the system of the node at a cursor, so many of whose first rows are those of the node
-/// before, along the branch on which it stands.
-pub(crate) fn solve_node<D: Dictionary, T: Tree>(
+/// Solves the system that is kept of the node at a cursor, so many of whose first rows are those of
+/// the node before, along the branch on which it stands.
+pub(crate) fn solve_node<D: Dictionary, T: Maker>(
     alloc: Global,
     tree: &T,
-    cursor: &Cursor,
-    system: &System,
+    cursor: &Cursor<T::Fact>,
+    kept: &T::Kept,
     same: usize,
     branch: &mut Branch<D>,
 ) -> Result<Solved, AllocError>
     requires few { length cursor.now.bounds.items ≤ MOST_NODES }
-    requires small { IsSmall cursor.now.bounds.items system.now }
-    requires system { SystemAt (T.search tree.now) (here cursor.now) system.now }
-    requires branch { SharesRows D.tableau D.pivot_of branch.old same system.now.rows }
-    ensures branch { IfOk result (λ solved. OnInner solved (IsBranch D.tableau D.pivot_of system.now.rows branch.new)) }
+    requires word { IsWord (T.search tree.now) (here cursor.now) }
+    requires kept { T.is_kept tree.now kept.now }
+    requires at { T.is_at tree.now (here cursor.now).start (here cursor.now).past kept.now }
+    requires small { IsSmall cursor.now.bounds.items (T.system_of kept.now) }
+    requires system { SystemAt (T.search tree.now) (here cursor.now) (T.system_of kept.now) }
+    requires branch { SharesRows D.tableau D.pivot_of branch.old same (T.system_of kept.now).rows }
+    ensures branch { IfOk result (λ solved. OnInner solved (IsBranch D.tableau D.pivot_of (T.system_of kept.now).rows branch.new)) }
     ensures solved { IfOk result (SolvedAt (T.search tree.now) (here cursor.now)) }
 {
+    let system = tree.system(kept);
     match branch.solve(alloc, system, same) {
         Err(SolveFault::Memory) => Err(AllocError),
         Err(SolveFault::Overflow(pivot)) => Ok(Solved::OutOfRange(PlaceKind::Pivot(pivot))),
-        Ok(End::Refuted(multipliers)) => Ok(take_refuted(system, multipliers)),
-        Ok(End::Vertex(values)) => take_vertex(alloc, tree, cursor, values.as_slice()),
+        Ok(End::Refuted(multipliers)) => Ok(take_refuted::<T::Fact>(system, multipliers)),
+        Ok(End::Vertex(values)) => take_vertex(alloc, tree, cursor, kept, values.as_slice()),
     }
 }
 
 /// What multipliers that refute a node's system come to: a leaf, unless its check leaves the range.
-fn take_refuted(system: &System, multipliers: List<(u32, i128)>) -> Solved
+fn take_refuted<F>(system: &System, multipliers: List<(u32, i128)>) -> Solved
     requires few { variables system.now < 2 ^ 32 }
     requires refuted { IsRefuted system.now multipliers }
-    ensures { (s : Search Element) (w : Pending Element) → SystemAt s w system.now → SolvedAt s w result }
+    ensures { (s : Search F) (w : Pending F) → SystemAt s w system.now → SolvedAt s w result }
 {
     match check_leaf(system, multipliers.as_slice()) {
         Ok(()) => Solved::Inner(Node::Leaf(multipliers)),
@@ -92,23 +97,44 @@ fn take_refuted(system: &System, multipliers: List<(u32, i128)>) -> Solved
     }
 }
 
-/// What a vertex of a node's system comes to: the word goes on, or an unknown is split, or all
-/// values are whole.
-fn take_vertex<T: Tree>(
+/// What a vertex of a node's system comes to: the node asks, or all values are whole, or whole ones
+/// are taken in their place, or an unknown is split.
+fn take_vertex<T: Maker>(
     alloc: Global,
     tree: &T,
-    cursor: &Cursor,
+    cursor: &Cursor<T::Fact>,
+    kept: &T::Kept,
     values: &[Fraction],
 ) -> Result<Solved, AllocError>
     requires few { length values.now < 2 ^ 32 }
+    requires word { IsWord (T.search tree.now) (here cursor.now) }
+    requires kept { T.is_kept tree.now kept.now }
+    requires at { T.is_at tree.now (here cursor.now).start (here cursor.now).past kept.now }
     requires vertex { VertexAt (T.search tree.now) (here cursor.now) values.now }
     ensures { IfOk result (SolvedAt (T.search tree.now) (here cursor.now)) }
 {
-    if !tree.is_complete(cursor.start_mask(), cursor.word()) {
-        return Ok(Solved::Inner(Node::Extend));
+    let start = cursor.start();
+    let facts = cursor.facts();
+    if let Some(ask) = tree.question(alloc, start, facts, kept, values)? {
+        return Ok(Solved::Inner(asking(ask)));
     }
-    match first_split(values) {
-        Some((unknown, floor)) => Ok(Solved::Inner(Node::Split { unknown, floor })),
-        None => Ok(Solved::Whole(whole_values(alloc, values)?)),
+    let Some((unknown, floor)) = first_split(values) else {
+        return Ok(Solved::Whole(whole_values(alloc, values)?));
+    };
+    match tree.scaled(alloc, start, facts, cursor.bounds(), kept, values)? {
+        Some(numbers) => Ok(Solved::Whole(numbers)),
+        None => Ok(Solved::Inner(Node::Split { unknown, floor })),
+    }
+}
+
+/// The node that asks this.
+fn asking(ask: Ask) -> Node
+    ensures { result ≡ ask_node ask }
+{
+    match ask {
+        Ask::Extend => Node::Extend,
+        Ask::Guard(guard) => Node::Guard(guard),
+        Ask::Order { before, after } => Node::Order { before, after },
+        Ask::Stuck(rule) => Node::Stuck(rule),
     }
 }

@@ -6,11 +6,12 @@ ghost use Rattle.std.specs.Prelude.{◌≡◌, true, false};
 use crate::end::TreeEnd;
 use std::alloc::{AllocError, Global};
 use std::sync::atomic::{AtomicU64, Ordering};
+use ta_words::Element;
 
 /// How a part of a visit ended, and what keeps its nodes.
 #[derive(Drop)]
 pub(crate) struct Part<K: Drop> {
-    pub end: TreeEnd,
+    pub end: TreeEnd<Element>,
     pub keeper: K,
 }
 
@@ -156,7 +157,7 @@ impl<'a> Watch<'a> {
     }
 
     /// Says that the part decides, where it isn't refuted.
-    pub fn tell(&self, end: &TreeEnd) {
+    pub fn tell(&self, end: &TreeEnd<Element>) {
         match end {
             TreeEnd::Refuted { .. } => {}
             TreeEnd::Found { .. } | TreeEnd::Spent { .. } | TreeEnd::Overflow { .. } => {

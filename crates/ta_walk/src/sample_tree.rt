@@ -1,23 +1,26 @@
 //! The tree of the sample system.
 #![tactic(auto)]
 
+use crate::maker::Maker;
 use std::alloc::{AllocError, Global};
 use ta_automaton::File;
 use ta_base::List;
-use ta_cursor::{Root, Tree, Written};
+use ta_cursor::{Ask, Tree, Written};
 use ta_encode::{Bound, encode_sample};
 use ta_linear::System;
-use ta_words::Word;
+use ta_simplex::Fraction;
+use ta_words::Element;
 
-/// The search for a sample: one word, which is empty and complete, and the sample system.
+/// The search for a sample: one node, which has no facts and asks nothing, and the sample system.
 #[derive(Clone, Copy)]
 pub(crate) struct SampleTree<'a> {
     pub file: &'a File,
 }
 
 impl<'a> Tree for SampleTree<'a> {
-    ghost use Rattle.ta_encode.proofs.Samples.{sample_asks};
     ghost use Rattle.ta_encode.specs.Sample.{sample_search};
+
+    type Fact = Element;
 
     type Kept = System;
 
@@ -25,34 +28,32 @@ impl<'a> Tree for SampleTree<'a> {
 
     ghost is_kept = { λ tree kept. Unit {0} };
 
+    ghost is_at = { λ tree start past kept. Unit {0} };
+
     ghost system_of = { λ kept. kept };
 
-    fn root(&self, number: usize) -> Option<Root> {
-        if number == 0 {
-            Some(Root {
-                start_mask: 0,
-                word: Word::new(),
-            })
-        } else {
-            None
-        }
+    fn root(&self, number: usize) -> Option<u8> {
+        if number == 0 { Some(0) } else { None }
     }
 
-    fn push_child(&self, start_mask: u8, word: &mut Word, number: usize) -> bool {
-        let _place = (start_mask, number);
-        let _word = word;
+    fn may_ask(&self, start: u8, facts: &[Element], ask: Ask) -> bool {
+        let _start = start;
+        let _facts = facts;
+        let _ask = ask;
         false
     }
 
-    fn is_complete(&self, start_mask: u8, word: &Word) -> bool {
-        let _start_mask = start_mask;
-        let _word = word;
-        true
+    fn answer(&self, start: u8, facts: &[Element], ask: Ask, number: usize) -> Option<Element> {
+        let _start = start;
+        let _facts = facts;
+        let _ask = ask;
+        let _number = number;
+        None
     }
 
-    fn unknown_count(&self, start_mask: u8, word: &Word) -> u32 {
-        let _start_mask = start_mask;
-        let _word = word;
+    fn unknown_count(&self, start: u8, facts: &[Element]) -> u32 {
+        let _start = start;
+        let _facts = facts;
         let automaton = &self.file.automaton;
         (automaton.parameters.as_slice().len() + automaton.initial.as_slice().len()) as u32
     }
@@ -67,13 +68,13 @@ impl<'a> Tree for SampleTree<'a> {
     fn encode(
         &self,
         alloc: Global,
-        start_mask: u8,
-        word: &Word,
+        start: u8,
+        facts: &[Element],
         bounds: &[Bound],
         kept: System,
     ) -> Result<Written<System>, AllocError> {
-        let _start_mask = start_mask;
-        let _word = word;
+        let _start = start;
+        let _facts = facts;
         drop(kept);
         let encoded = encode_sample(alloc, self.file, bounds)?;
         Ok(Written {
@@ -85,6 +86,40 @@ impl<'a> Tree for SampleTree<'a> {
     fn system<'k>(&self, kept: &'k System) -> &'k System {
         kept
     }
+}
 
-    ghost only_extend = { λ tree start past n may. sample_asks tree.file.now.automaton start past n may };
+impl<'a> Maker for SampleTree<'a> {
+    fn question(
+        &self,
+        alloc: Global,
+        start: u8,
+        facts: &[Element],
+        kept: &System,
+        values: &[Fraction],
+    ) -> Result<Option<Ask>, AllocError> {
+        let _alloc = alloc;
+        let _start = start;
+        let _facts = facts;
+        let _kept = kept;
+        let _values = values;
+        Ok(None)
+    }
+
+    fn scaled(
+        &self,
+        alloc: Global,
+        start: u8,
+        facts: &[Element],
+        bounds: &[Bound],
+        kept: &System,
+        values: &[Fraction],
+    ) -> Result<Option<List<i128>>, AllocError> {
+        let _alloc = alloc;
+        let _start = start;
+        let _facts = facts;
+        let _bounds = bounds;
+        let _kept = kept;
+        let _values = values;
+        Ok(None)
+    }
 }

@@ -9,10 +9,10 @@ ghost use Rattle.ta_simplex.specs.Branch.{IsBranch};
 ghost use Rattle.ta_walk.specs.Visit.{NodeAt};
 ghost use Rattle.ta_walk.specs.declared.end.TreeEnd.TheVariants.{Found};
 ghost use Rattle.ta_walk.specs.Inside.Parts.{IsSmallStretch, IsWholeStretch, OnShared, HasFewLeft, StretchEnds};
-ghost use Rattle.ta_words.specs.declared.element.Element.{Element};
 
 use crate::end::TreeEnd;
 use crate::keeper::Keeper;
+use crate::maker::Maker;
 use crate::node::{Solved, grow, solve_node};
 use crate::part::Watch;
 use crate::walking::leaves_with;
@@ -21,35 +21,35 @@ use std::mem;
 use ta_base::List;
 use ta_base::limits::MOST_NODES;
 use ta_cert::Node;
-use ta_cursor::{Cursor, Tree, Written};
+use ta_cursor::{Cursor, Tree, Written, ask_of};
 use ta_dense::Dictionary;
 use ta_simplex::Branch;
 
 /// What a visit comes to before another thread is asked.
 #[derive(Drop)]
-pub(crate) enum Stretch {
+pub(crate) enum Stretch<F: Copy + Drop> {
     /// It ended.
-    Ended(TreeEnd),
+    Ended(TreeEnd<F>),
     /// So many nodes were visited, so many of them leaves, and a cursor gave words to this one.
     Shared {
         count: u64,
         leaves: u64,
-        later: Cursor,
+        later: Cursor<F>,
     },
 }
 
 /// Visits the words that are left at a cursor, at most so many nodes, and hands each node on as it
 /// comes. It stops where its watch says so, and where words are given to another cursor.
-pub(crate) fn visit_stretch<D: Dictionary, T: Tree, K: Keeper>(
+pub(crate) fn visit_stretch<D: Dictionary, T: Maker, K: Keeper>(
     alloc: Global,
     tree: &T,
     watch: Watch<'_>,
-    cursor: &mut Cursor,
+    cursor: &mut Cursor<T::Fact>,
     kept: &mut T::Kept,
     branch: &mut Branch<D>,
     nodes: u64,
     keeper: &mut K,
-) -> Result<Stretch, AllocError>
+) -> Result<Stretch<T::Fact>, AllocError>
     requires stands { HasFewLeft (T.search tree.now) nodes cursor.old }
     requires limit { nodes ≤ MOST_NODES }
     requires kept { T.is_kept tree.now kept.old }
@@ -69,12 +69,13 @@ pub(crate) fn visit_stretch<D: Dictionary, T: Tree, K: Keeper>(
         let last = mem::replace(kept, tree.nothing(alloc));
         let Written { kept: next, same } = grow(alloc, tree, cursor, last)?;
         *kept = next;
-        match solve_node(alloc, tree, cursor, tree.system(kept), same, branch)? {
+        match solve_node(alloc, tree, cursor, kept, same, branch)? {
             Solved::OutOfRange(kind) => {
                 return Ok(Stretch::Ended(TreeEnd::Overflow { node: count, kind }));
             }
             Solved::Whole(values) => {
-                return Ok(Stretch::Ended(found_at(cursor, count, values)));
+                let end = found_at(alloc, cursor, count, values)?;
+                return Ok(Stretch::Ended(end));
             }
             Solved::Inner(node) => {
                 let more = go_on(tree, cursor, &node)?;
@@ -97,15 +98,21 @@ pub(crate) fn visit_stretch<D: Dictionary, T: Tree, K: Keeper>(
 }
 
 /// The end at the whole node of a number, which stands at a cursor.
-fn found_at(cursor: &Cursor, count: u64, values: List<i128>) -> TreeEnd
-    ensures { result ≡ Found count cursor.now.start_mask cursor.now.word values }
+fn found_at<F: Copy + Drop>(
+    alloc: Global,
+    cursor: &Cursor<F>,
+    count: u64,
+    values: List<i128>,
+) -> Result<TreeEnd<F>, AllocError>
+    ensures { IfOk result (λ end. end ≡ Found count cursor.now.start cursor.now.facts.items values) }
 {
-    TreeEnd::Found {
+    let facts = Vec::from_slice(alloc, cursor.facts())?;
+    Ok(TreeEnd::Found {
         count,
-        start_mask: cursor.start_mask(),
-        word: cursor.word().again(),
+        start: cursor.start(),
+        facts: List::from_vec(facts),
         values,
-    }
+    })
 }
 
 /// Gives the last words of a cursor to another one, where a processor is free and words are left
@@ -115,8 +122,8 @@ fn give_away<T: Tree>(
     tree: &T,
     watch: Watch<'_>,
     count: u64,
-    cursor: &mut Cursor,
-) -> Result<Option<Cursor>, AllocError>
+    cursor: &mut Cursor<T::Fact>,
+) -> Result<Option<Cursor<T::Fact>>, AllocError>
     requires { IsWithin (T.search tree.now) cursor.old }
     ensures { IfOk result (λ later. MatchOption later (cursor.new ≡ cursor.old) (IsShared (T.search tree.now) cursor.old cursor.new)) }
 {
@@ -131,19 +138,21 @@ fn give_away<T: Tree>(
 }
 
 /// Goes on behind the node that stands at a cursor, and says whether another comes.
-fn go_on<T: Tree>(tree: &T, cursor: &mut Cursor, node: &Node) -> Result<bool, AllocError>
+fn go_on<T: Tree>(tree: &T, cursor: &mut Cursor<T::Fact>, node: &Node) -> Result<bool, AllocError>
     requires within { IsWithin (T.search tree.now) cursor.old }
     requires stands { NodeAt (T.search tree.now) (here cursor.old) node.now }
-    ensures { (w : Pending Element) (words : List (Pending Element)) → Within (T.search tree.now) cursor.old (w ∷ words) → GoesOn (T.search tree.now) cursor.new (parts (T.search tree.now) w node.now ++ words) result }
+    ensures { (w : Pending T.Fact) (words : List (Pending T.Fact)) → Within (T.search tree.now) cursor.old (w ∷ words) → GoesOn (T.search tree.now) cursor.new (parts (T.search tree.now) w node.now ++ words) result }
 {
+    if let Some(ask) = ask_of(node) {
+        return cursor.ask(tree, ask);
+    }
     match node {
-        Node::Leaf(_) | Node::Guard(_) | Node::Order { .. } | Node::Stuck(_) => {
-            cursor.leave(tree)
-        }
-        Node::Extend => cursor.extend(tree),
         Node::Split { unknown, floor } => {
             cursor.split(*unknown, *floor)?;
             Ok(true)
+        }
+        Node::Leaf(_) | Node::Extend | Node::Guard(_) | Node::Order { .. } | Node::Stuck(_) => {
+            cursor.leave(tree)
         }
     }
 }

@@ -9,26 +9,27 @@ ghost use Rattle.ta_cursor.specs.InTrees.{AllGoOn, AllWithin, IsAllWithin, here_
 ghost use Rattle.ta_simplex.specs.Branch.{IsBranch};
 ghost use Rattle.ta_walk.specs.Visit.{NodeAt};
 ghost use Rattle.ta_walk.specs.Ends.{IsTreeEnd, IsUnbounded, leaf_count};
-ghost use Rattle.ta_words.specs.declared.element.Element.{Element};
 
 use crate::end::TreeEnd;
 use crate::keeper::Keeper;
+use crate::maker::Maker;
 use crate::node::{Solved, grow, solve_node};
 use std::alloc::{AllocError, Global};
+use ta_base::List;
 use ta_base::limits::MOST_NODES;
 use ta_cert::Node;
-use ta_cursor::{Place, Tree, Written};
+use ta_cursor::{Place, Tree, Written, ask_of};
 use ta_dense::Dictionary;
 use ta_simplex::Branch;
 
-/// Visits the trees of a search, one for each word with which it begins, at most so many nodes of
+/// Visits the trees of a search, one for each start with which it begins, at most so many nodes of
 /// them, and hands each node on as it comes.
-pub fn visit_tree<D: Dictionary, T: Tree, K: Keeper>(
+pub fn visit_tree<D: Dictionary, T: Maker, K: Keeper>(
     alloc: Global,
     tree: &T,
     nodes: u64,
     keeper: &mut K,
-) -> Result<TreeEnd, AllocError>
+) -> Result<TreeEnd<T::Fact>, AllocError>
     requires roots { AllByRecursion IsUnbounded (T.search tree.now).roots }
     requires limit { nodes ≤ MOST_NODES }
     requires keeps { K.keeps keeper.old keeper.old [] }
@@ -40,13 +41,13 @@ pub fn visit_tree<D: Dictionary, T: Tree, K: Keeper>(
 
 /// Visits the trees of a search as `visit_tree` does, along a branch of no system, which tells
 /// afterwards what the solving took.
-pub fn visit_tree_along<D: Dictionary, T: Tree, K: Keeper>(
+pub fn visit_tree_along<D: Dictionary, T: Maker, K: Keeper>(
     alloc: Global,
     tree: &T,
     nodes: u64,
     branch: &mut Branch<D>,
     keeper: &mut K,
-) -> Result<TreeEnd, AllocError>
+) -> Result<TreeEnd<T::Fact>, AllocError>
     requires roots { AllByRecursion IsUnbounded (T.search tree.now).roots }
     requires limit { nodes ≤ MOST_NODES }
     requires branch { (rows : List Row) → IsBranch D.tableau D.pivot_of rows branch.old }
@@ -65,14 +66,13 @@ pub fn visit_tree_along<D: Dictionary, T: Tree, K: Keeper>(
         let count = before + 1;
         let Written { kept: next, same } = grow(alloc, tree, place.cursor(), kept)?;
         kept = next;
-        let system = tree.system(&kept);
-        match solve_node(alloc, tree, place.cursor(), system, same, branch)? {
+        match solve_node(alloc, tree, place.cursor(), &kept, same, branch)? {
             Solved::OutOfRange(kind) => return Ok(TreeEnd::Overflow { node: count, kind }),
             Solved::Whole(values) => {
                 return Ok(TreeEnd::Found {
                     count,
-                    start_mask: place.cursor().start_mask(),
-                    word: place.into_word(),
+                    start: place.cursor().start(),
+                    facts: List::from_vec(place.into_facts()),
                     values,
                 });
             }
@@ -105,21 +105,23 @@ pub(crate) fn leaves_with(leaves: u64, node: &Node) -> u64
 fn go_on<T: Tree>(
     alloc: Global,
     tree: &T,
-    place: &mut Place,
+    place: &mut Place<T::Fact>,
     node: &Node,
 ) -> Result<bool, AllocError>
     requires within { IsAllWithin (T.search tree.now) place.old }
     requires stands { NodeAt (T.search tree.now) (here_at place.old) node.now }
-    ensures { (w : Pending Element) (words : List (Pending Element)) → AllWithin (T.search tree.now) place.old (w ∷ words) → AllGoOn (T.search tree.now) place.new (parts (T.search tree.now) w node.now ++ words) result }
+    ensures { (w : Pending T.Fact) (words : List (Pending T.Fact)) → AllWithin (T.search tree.now) place.old (w ∷ words) → AllGoOn (T.search tree.now) place.new (parts (T.search tree.now) w node.now ++ words) result }
 {
+    if let Some(ask) = ask_of(node) {
+        return place.ask(alloc, tree, ask);
+    }
     match node {
-        Node::Leaf(_) | Node::Guard(_) | Node::Order { .. } | Node::Stuck(_) => {
-            place.leave(alloc, tree)
-        }
-        Node::Extend => place.extend(alloc, tree),
         Node::Split { unknown, floor } => {
             place.split(tree, *unknown, *floor)?;
             Ok(true)
+        }
+        Node::Leaf(_) | Node::Extend | Node::Guard(_) | Node::Order { .. } | Node::Stuck(_) => {
+            place.leave(alloc, tree)
         }
     }
 }

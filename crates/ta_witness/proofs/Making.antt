@@ -74,7 +74,7 @@ counts_from a f n xs size h = record {
 in_range : (z : ℤ) → pos 1 ≤ℤ z → z <ℤ pos (2 ^ 127) → InRange z
 in_range z low high = grind (arith, ints)
 
-steps_fit : (a : Automaton) (p : Pattern) (counts : List ℤ) (steps : List (ℕ × ℤ)) → AllByRecursion (λ (step : ℕ × ℤ). step.0 < length a.rules) steps → AllByRecursion (λ (step : ℕ × ℤ). (pos 1 ≤ℤ step.1) × (step.1 ≤ℤ count_at counts step.0)) steps → AllByRecursion (λ (step : ℕ × ℤ). step.1 <ℤ pos (2 ^ 127)) steps → AllByRecursion (LineFits a p) (map step_line steps)
+pub steps_fit : (a : Automaton) (p : Pattern) (counts : List ℤ) (steps : List (ℕ × ℤ)) → AllByRecursion (λ (step : ℕ × ℤ). step.0 < length a.rules) steps → AllByRecursion (λ (step : ℕ × ℤ). (pos 1 ≤ℤ step.1) × (step.1 ≤ℤ count_at counts step.0)) steps → AllByRecursion (λ (step : ℕ × ℤ). step.1 <ℤ pos (2 ^ 127)) steps → AllByRecursion (LineFits a p) (map step_line steps)
 steps_fit a p counts [] e f g = tt
 steps_fit a p counts (step ∷ steps) e f g = ((e.0, f.0.0, in_range step.1 f.0.0 g.0), steps_fit a p counts steps e.1 f.1 g.1)
 

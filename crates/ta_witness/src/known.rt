@@ -33,7 +33,7 @@ fn is_same(one: Meaning, other: Meaning) -> bool
 }
 
 /// The values of the parameters.
-pub(crate) fn parameters_of(
+pub fn parameters_of(
     alloc: Global,
     count: usize,
     meanings: &[Meaning],
@@ -52,7 +52,7 @@ pub(crate) fn parameters_of(
 }
 
 /// The start counts of some locations.
-pub(crate) fn starts_of(
+pub fn starts_of(
     alloc: Global,
     locations: &[u32],
     meanings: &[Meaning],

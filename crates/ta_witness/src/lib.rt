@@ -8,5 +8,7 @@ mod lines;
 mod witnessing;
 
 pub use fault::WitnessFault;
+pub use known::{parameters_of, starts_of};
 pub use laws::{witnesses_are_determined, witnesses_show};
+pub use lines::push_steps;
 pub use witnessing::witness;

@@ -71,7 +71,7 @@ fn push_piece(
 }
 
 /// Adds steps, each a rule with its factor.
-fn push_steps(steps: &[(u32, i128)], lines: &mut Vec<RunLine>) -> Result<(), AllocError>
+pub fn push_steps(steps: &[(u32, i128)], lines: &mut Vec<RunLine>) -> Result<(), AllocError>
     ensures added { OnOk result (lines.new.items ≡ lines.old.items ++ map step_line steps.now) }
     ensures fit { OnOk result (AllByRecursion (λ step. step.1 <ℤ pos (2 ^ 127)) steps.now) }
 {

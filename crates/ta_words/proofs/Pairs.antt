@@ -1,5 +1,5 @@
 -- rise guards that come after others
-use Rattle.ta_words.proofs.Common.{◌≡◌, ◌↔◌, inl, inr, ℕ, ◌-◌, ◌^◌, ◌<◌, ◌≤◌, List, [], ◌∷◌, ◌++◌, length, map, cond, Bool, true, false, not, ◌&&◌, arith, sym, ap, ◌∙◌, refl, filter, ◌==◌, true≢false, and_from, and_parts, eq-eqb, eqb-true, all_below, has_bit, implies, range_with_len, In, all_below-at, all_below-from, has_above, and_right, both_ways, implies-at, implies-from, Automaton, Pattern, IsSeen, NamesBefore, has_rise, is_complete, is_due, is_ready, is_standing, may_rise, children, Element, Event, Rise, Fall, Seen, cases_lt}
+use Rattle.ta_words.proofs.Common.{◌≡◌, inl, inr, ℕ, ◌-◌, ◌^◌, ◌<◌, ◌≤◌, List, [], ◌∷◌, ◌++◌, length, map, cond, Bool, true, false, not, ◌&&◌, arith, sym, ap, ◌∙◌, refl, filter, ◌==◌, true≢false, and_from, and_parts, eq-eqb, eqb-true, all_below, has_bit, implies, range_with_len, In, all_below-at, all_below-from, has_above, and_right, both_ways, implies-at, implies-from, Automaton, Pattern, IsSeen, NamesBefore, has_rise, is_complete, is_due, is_ready, is_standing, may_rise, children, Element, Event, Rise, Fall, Seen, cases_lt}
 use Rattle.std.proofs.Math.Path.{fun_ext}
 use Rattle.ta_base.specs.Lists.{SameMembers}
 

@@ -14,12 +14,12 @@ use crate::word::Word;
 use ta_automaton::{Automaton, Rule};
 use ta_implied::Orders;
 
-/// The elements that may follow a word under pairs of rise guards, in order; a complete word has
+/// The elements that may follow others under pairs of rise guards, in order; a complete word has
 /// none.
-pub fn children(task: Task<'_>, start_mask: u8, orders: &Orders, word: &Word) -> Children
-    ensures { result ≡ children task.entry.automaton.now task.entry.pattern.now orders.now start_mask (reverse word.now) }
+pub fn children(task: Task<'_>, start_mask: u8, orders: &Orders, elements: &[Element]) -> Children
+    ensures { result ≡ children task.entry.automaton.now task.entry.pattern.now orders.now start_mask (reverse elements.now) }
 {
-    let seen = Seen::of(start_mask, word.elements());
+    let seen = Seen::of(start_mask, elements);
     let mut children = Children::new();
     if !seen.is_complete(task.pattern) {
         children.push_events(task.pattern, seen);
@@ -29,11 +29,11 @@ pub fn children(task: Task<'_>, start_mask: u8, orders: &Orders, word: &Word) ->
     children
 }
 
-/// Whether each event of the pattern is in a word.
-pub fn is_complete(task: Task<'_>, word: &Word) -> bool
-    ensures { result ≡ is_complete task.entry.pattern.now (reverse word.now) }
+/// Whether each event of the pattern is among some elements.
+pub fn is_complete(task: Task<'_>, elements: &[Element]) -> bool
+    ensures { result ≡ is_complete task.entry.pattern.now (reverse elements.now) }
 {
-    Seen::of(0, word.elements()).is_complete(task.pattern)
+    Seen::of(0, elements).is_complete(task.pattern)
 }
 
 /// The rules that are allowed after a word: bit r for rule r.

@@ -54,6 +54,18 @@ impl Word {
         }
     }
 
+    /// The word of these elements.
+    pub fn of(elements: &[Element]) -> Word
+        requires { list_length elements.now ≤ LONGEST_WORD }
+        ensures { result ≡ elements.now }
+    {
+        let mut copies = ArrayVec::new();
+        match copies.try_extend_from_slice(elements) {
+            Ok(()) => Word { elements: copies },
+            Err(_) => unreachable!(),
+        }
+    }
+
     /// The elements, in order.
     pub fn elements(&self) -> &[Element]
         ensures { result.now ≡ self.now }
@@ -82,7 +94,7 @@ impl Word {
         ensures child { IsTrue result ↔ In element (children task.entry.automaton.now task.entry.pattern.now orders.now start_mask (reverse self.old)) }
         ensures word { self.new ≡ (if result then self.old ++ element ∷ [] else self.old) }
     {
-        let is_child = children(task, start_mask, orders, self).contains(element);
+        let is_child = children(task, start_mask, orders, self.elements()).contains(element);
         if is_child {
             self.elements.push(element);
         }

@@ -60,6 +60,7 @@ const CERT_FAULTS: &[(CertFault, &str)] = &[
     (CertFault::Trailing(1), "Trailing"),
     (CertFault::RepeatedPattern(1), "RepeatedPattern"),
     (CertFault::Pair(1), "Pair"),
+    (CertFault::Question(1), "Question"),
     (CertFault::Failed, "Failed"),
     (CertFault::Memory, "Memory"),
 ];

@@ -81,6 +81,10 @@ impl Shelf for Growing<'_> {
         answer
     }
 
+    fn keeps_bytes(&mut self, _name: &str) -> bool {
+        true
+    }
+
     fn create(&mut self, name: &str) -> Result<(), PutFault> {
         self.refuse(name, Step::Create, &[])
     }

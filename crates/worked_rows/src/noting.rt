@@ -30,6 +30,10 @@ impl<S: Shelf + Drop> Shelf for Noting<S> {
         self.shelf.read_at(name, at, buf)
     }
 
+    fn keeps_bytes(&mut self, name: &str) -> bool {
+        self.shelf.keeps_bytes(name)
+    }
+
     fn create(&mut self, name: &str) -> Result<(), PutFault> {
         self.shelf.create(name)
     }

@@ -91,7 +91,7 @@ pub fn bounded(
     let Some(word) = word_of(task, start_mask, elements) else {
         return String::from_str(alloc, NO_WORD);
     };
-    let count = unknown_count(task, start_mask, &word);
+    let count = unknown_count(task, start_mask, word.elements());
     let greatest = i128::MAX / 2;
     if low.0 >= count
         || high.0 >= count
@@ -233,7 +233,7 @@ pub fn following(
         return String::from_str(alloc, NO_WORD);
     };
     let mut text = String::from_str(alloc, "children")?;
-    for child in children(task, start_mask, &Orders::new(), &word).elements() {
+    for child in children(task, start_mask, &Orders::new(), word.elements()).elements() {
         let (kind, number) = match *child {
             Element::Event(event) => (" e", event),
             Element::Rise(guard) => (" r", guard),
@@ -242,7 +242,7 @@ pub fn following(
         write!(text, "{kind}{number}")?;
     }
     write!(text, "\nrules {}", allowed_rules(task, start_mask, &word))?;
-    if is_complete(task, &word) {
+    if is_complete(task, word.elements()) {
         text.push_str("\ncomplete")?;
     }
     Ok(text)

@@ -1,12 +1,11 @@
 -- Multipliers of the rows that a leaf names, and the system of a word without bounds
 use Rattle.std.specs.Prelude.{ℕ, ℤ, ◌+◌, List, [], ◌∷◌}
-use Rattle.ta_words.specs.declared.element.Element.{Element}
 use Rattle.ta_linear.specs.declared.row.System.{System}
 use Rattle.ta_encode.specs.Code.{SystemAt}
 use Rattle.ta_encode.specs.Search.{Pending, Search}
 
 -- the system of a word, its bounds left out
-abbrev pub WithoutBounds : Search Element → Pending Element → System → Type 0
+abbrev pub WithoutBounds : {E : Type 0} → Search E → Pending E → System → Type 0
 WithoutBounds search w system = SystemAt search (record w { bounds = [] }) system
 
 -- multipliers numbered by their places, from a number on

@@ -1,10 +1,16 @@
 -- What looking for a word of a file finds
-use Rattle.std.specs.Prelude.{ℕ, List}
+use Rattle.std.specs.Prelude.{ℕ, ◌≡◌, List, Option}
 use Rattle.ta_shell.specs.declared.answer.Refusal.{Refusal}
 use Rattle.ta_shell.specs.declared.answer.Refusal.TheVariants.{Refused, ReadFailed, PutFailed, Memory}
 use Rattle.ta_shell.specs.Lines.{file_line, phrase_text}
 use Rattle.ta_smt.specs.declared.fault.WordFault.{WordFault}
+use Rattle.ta_automaton.specs.declared.automaton.Automaton.{Automaton}
 use Rattle.ta_automaton.specs.declared.file.File.{File}
+use Rattle.ta_shell.specs.Reading.{SaysOfFile}
+use Rattle.ta_silent.specs.declared.fault.SilentFault.{SilentFault}
+use Rattle.ta_silent.specs.declared.fault.SilentFault.TheVariants as fault
+use Rattle.ta_program.specs.declared.limits.TheConstants.{FILE}
+use Rattle.ta_program.specs.SilentNames.{NamesHinder, silent_fault_text}
 use Rattle.ta_program.specs.Export.{WordHinders}
 use Rattle.ta_program.specs.RestEnds.{CycleHinders}
 
@@ -21,3 +27,15 @@ EndsRefused name file (Refused number who why) = CycleHinders name file number (
 EndsRefused name file (ReadFailed who) = ⊥
 EndsRefused name file (PutFailed who) = ⊥
 EndsRefused name file Memory = Unit {0}
+
+-- names may not be silent in an automaton, or there was no memory
+abbrev pub SilentRefused : List ℕ → Automaton → Option (List ℕ) → Refusal → Type 0
+SilentRefused name a names (Refused number who why) = NamesHinder name a names number (file_line who.now (phrase_text why))
+SilentRefused name a names (ReadFailed who) = ⊥
+SilentRefused name a names (PutFailed who) = ⊥
+SilentRefused name a names Memory = Unit {0}
+
+-- a refusal says so of this fault, or of want of memory
+abbrev pub TellsSilent : List ℕ → SilentFault → Refusal → Type 0
+TellsSilent name fault.Memory refusal = refusal ≡ Memory
+TellsSilent name f refusal = SaysOfFile FILE name (silent_fault_text f) refusal

@@ -3,6 +3,7 @@
 
 ghost use Rattle.std.specs.Prelude.{◌≡◌, ◌++◌, ◌∷◌, [], length, Ok, Err};
 ghost use Rattle.ta_shelf.specs.Calls.{Reads, Puts, filled};
+ghost use Rattle.ta_shelf.specs.Compare.{asks_nothing};
 ghost use Rattle.ta_shelf.specs.Counts.{Faulted};
 ghost use Rattle.ta_shelf.specs.Put.{PutFailsOnlyFaulted};
 ghost use Rattle.ta_shelf.specs.Shelf.{FailsOnlyFaulted};
@@ -102,6 +103,14 @@ impl Tape {
         ensures log { self.new.log.calls ≡ self.old.log.calls ++ Reads (record { name = name.now; at = at; asked = length buf.now; gave = filled buf.now (Ok count) }) ∷ [] }
     {
         self.log.add(name, at, buf, Ok(count));
+    }
+
+    /// Logs that the bytes of a name can't be read again.
+    pub fn passed_over(&mut self, name: &str)
+        ensures faults { self.new.faults ≡ self.old.faults }
+        ensures log { self.new.log.calls ≡ self.old.log.calls ++ Reads (asks_nothing name.now) ∷ [] }
+    {
+        self.log.add(name, 0, &[], Ok(0));
     }
 
     /// Logs a change that was made.

@@ -1,4 +1,4 @@
-use Rattle.ta_check.proofs.Common.{List, ℕ, Ok, Err, Result, IfOk, IfErr, subst, File, IsErrOrMemory, CertFault, EndingsOf, AllClaimsHold, AllRestSafe, CertificateFor, IsFirstFaultFor, Subject, Accepted, ◌≢◌}
+use Rattle.ta_check.proofs.Common.{[], List, ℕ, Ok, Err, Result, IfOk, IfErr, subst, File, IsErrOrMemory, CertFault, EndingsOf, AllClaimsHold, AllRestSafe, CertificateFor, IsFirstFaultFor, Subject, Accepted, ◌≢◌}
 use Rattle.ta_cert.specs.declared.fault.CertFault.TheVariants as fault
 use Rattle.ta_check.proofs.OwnPatterns.{all_own}
 use Rattle.ta_check.proofs.checking.rest_check.Goals as goal
@@ -13,5 +13,5 @@ pub returns-clause-own : goal.returns-clause-own
 returns-clause-own c = own c.judge_whole.result (subst (λ (s : Subject). IfOk c.judge_whole.result (λ accepted. AllClaimsHold s accepted.patterns)) c.resting.ensures.subject c.judge_whole.ensures.holds)
   where
     own : (answer : Result Accepted CertFault) → IfOk answer (λ accepted. AllRestSafe c.args.rest.now.ending.file accepted.patterns) → IfOk answer (λ accepted. (file : File) → EndingsOf file c.args.rest.now.ending.file c.args.rest.now.added → AllRestSafe file accepted.patterns)
-    own (Ok accepted) safe = λ file of. all_own file c.args.rest.now.ending.file c.args.rest.now.added accepted.patterns of safe
+    own (Ok accepted) safe = λ file of. all_own [] file c.args.rest.now.ending.file c.args.rest.now.added accepted.patterns of safe
     own (Err f) safe = tt

@@ -7,7 +7,7 @@ named_rows-requires-clause-rows g c =
     let search = g.T.Tree.search c.args.tree.now in
     let d = c.args.cursor.now in
     let is = subst (WithoutBounds search (here d)) (sym c.system-system.ensures) c.in_ok-grow.ensures.system in
-    (search.rows d.start_mask (reverse d.word), unbounded_rows search d.start_mask (reverse d.word) c.system-system.result.now is)
+    (search.rows d.start (reverse d.facts.items), unbounded_rows search d.start (reverse d.facts.items) c.system-system.result.now is)
 
 pub named_rows-requires-clause-bounds : goal.named_rows-requires-clause-bounds
 named_rows-requires-clause-bounds g c =
@@ -24,7 +24,7 @@ returns-in-Absent-clause-taken g c =
     let z = c.system-system.result.now in
     let is = subst (WithoutBounds search (here d)) (sym c.system-system.ensures) c.in_ok-grow.ensures.system in
     let small : z.unknowns ≤ 1000000 = subst (λ (s : System). s.unknowns ≤ 1000000) (sym c.system-system.ensures) c.in_ok-grow.ensures.small in
-    let told = rw c.in-Absent.is at (c.in_ok-row.ensures (search.rows d.start_mask (reverse d.word)) (unbounded_rows search d.start_mask (reverse d.word) z is)) in
+    let told = rw c.in-Absent.is at (c.in_ok-row.ensures (search.rows d.start (reverse d.facts.items)) (unbounded_rows search d.start (reverse d.facts.items) z is)) in
     inr (record { fault = RowNumber c.in-Absent.row; is = refl; first = absent_here search d z c.bounds.result.now c.args.multipliers.now c.in-Absent.row c.requires.word small is c.bounds.ensures told })
 
 pub check_leaf-requires : goal.check_leaf-requires
@@ -40,7 +40,7 @@ returns-in-Ok-clause-taken g c =
     let ts = c.args.multipliers.now in
     let is = subst (WithoutBounds search (here d)) (sym c.system-system.ensures) c.in_ok-grow.ensures.system in
     let small : z.unknowns ≤ 1000000 = subst (λ (s : System). s.unknowns ≤ 1000000) (sym c.system-system.ensures) c.in_ok-grow.ensures.small in
-    let told = rw c.in-Rows.is at (c.in_ok-row.ensures (search.rows d.start_mask (reverse d.word)) (unbounded_rows search d.start_mask (reverse d.word) z is)) in
+    let told = rw c.in-Rows.is at (c.in_ok-row.ensures (search.rows d.start (reverse d.facts.items)) (unbounded_rows search d.start (reverse d.facts.items) z is)) in
     let named = named_here search d z rows c.bounds.result.now ts c.requires.word small is c.bounds.ensures told in
     let same = c.as_slice.ensures.value ∙ c.in_ok-again-in-Rows.ensures in
     let ok = c.in-Ok.ensures.ok.0 refl in
@@ -55,7 +55,7 @@ returns-clause-taken g c =
     let ts = c.args.multipliers.now in
     let is = subst (WithoutBounds search (here d)) (sym c.system-system.ensures) c.in_ok-grow.ensures.system in
     let small : z.unknowns ≤ 1000000 = subst (λ (s : System). s.unknowns ≤ 1000000) (sym c.system-system.ensures) c.in_ok-grow.ensures.small in
-    let told = rw c.in-Rows.is at (c.in_ok-row.ensures (search.rows d.start_mask (reverse d.word)) (unbounded_rows search d.start_mask (reverse d.word) z is)) in
+    let told = rw c.in-Rows.is at (c.in_ok-row.ensures (search.rows d.start (reverse d.facts.items)) (unbounded_rows search d.start (reverse d.facts.items) z is)) in
     let named = named_here search d z rows c.bounds.result.now ts c.requires.word small is c.bounds.ensures told in
     let same = c.as_slice.ensures.value ∙ c.in_ok-again-in-Rows.ensures in
     let first = subst (λ us. IsFirstFaultOfLeaf rows us c.in-Err.fault) same c.in-Err.ensures.fault in

@@ -2,4 +2,4 @@ use Rattle.ta_cursor.proofs.Beginning.{begins_within}
 use Rattle.ta_cursor.proofs.laws.begins_within.Goals as goal
 
 pub returns : goal.returns
-returns c = begins_within
+returns g c = begins_within g.row.F.Denot

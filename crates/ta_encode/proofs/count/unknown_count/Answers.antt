@@ -1,4 +1,4 @@
-use Rattle.ta_encode.proofs.Common.{◌≡◌, ◌+◌, ◌<◌, ◌^◌, List, length, reverse, take, arith, sym, ap, ◌∙◌, take-length, length-reverse, length-take-le, reverse_more, Element, meanings}
+use Rattle.ta_encode.proofs.Common.{refl, ◌≡◌, ◌+◌, ◌<◌, ◌^◌, List, length, reverse, take, arith, sym, ap, ◌∙◌, take-length, length-reverse, length-take-le, reverse_more, Element, meanings}
 use Rattle.ta_encode.proofs.Drafts.{meanings_few, word_few}
 use Rattle.ta_encode.proofs.count.unknown_count.Goals as goal
 
@@ -8,8 +8,8 @@ loop-number-init c = c.start_count-count.ensures.value
 
 pub overflow_add-count : goal.overflow_add-count
 overflow_add-count c =
-    let items = c.elements-elements.result.now in
-    let short = word_few c.args.task c.args.start_mask items c.args.word.now c.requires c.elements-elements.ensures in
+    let items = c.args.elements.now in
+    let short = word_few c.args.task c.args.start_mask items items c.requires refl in
     let below = c.loop-number-test.true in
     let part = take c.loop-number.number items in
     let taken = length-take-le c.loop-number.number items (omega arith) in
@@ -22,12 +22,12 @@ overflow_add-count c =
 
 pub loop-number-preserved : goal.loop-number-preserved
 loop-number-preserved c =
-    let items = c.elements-elements.result.now in
+    let items = c.args.elements.now in
     ap (λ n. n + c.element_count-count.result) c.loop-number.invariant ∙ sym c.element_count-count.ensures.value
     ∙ ap (λ (w : List Element). length (meanings c.args.task.automaton.now c.args.task.pattern.now c.args.start_mask w)) (sym (reverse_more items c.loop-number.number _ c.loop-number-test.true))
 
 pub returns : goal.returns
 returns c =
-    let items = c.elements-elements.result.now in
+    let items = c.args.elements.now in
     let end : c.loop-number.number ≡ length items = (let low = c.loop-number-test.false in let high = c.loop-number.auto.number-end in omega arith) in
-    c.loop-number.invariant ∙ ap (λ (w : List Element). length (meanings c.args.task.automaton.now c.args.task.pattern.now c.args.start_mask (reverse w))) (ap (λ n. take n items) end ∙ take-length items ∙ c.elements-elements.ensures)
+    c.loop-number.invariant ∙ ap (λ (w : List Element). length (meanings c.args.task.automaton.now c.args.task.pattern.now c.args.start_mask (reverse w))) (ap (λ n. take n items) end ∙ take-length items)

@@ -1,7 +1,7 @@
 use Rattle.std.specs.Prelude.{FitsSigned, ◌-ℤ◌, ◌*ℤ◌, option_copied}
 use Rattle.std.specs.Int.{w128}
 use Rattle.std.proofs.lemmas.Int.{to_z-of_z}
-use Rattle.ta_moment_question.specs.Forms.{form_in}
+use Rattle.ta_moment_encode.specs.Forms.{form_in}
 use Rattle.ta_moment_question.proofs.known.next_sum.Goals as goal
 
 pub returns : goal.returns

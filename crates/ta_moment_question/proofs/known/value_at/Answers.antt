@@ -3,7 +3,7 @@ use Rattle.std.specs.Prelude.{FitsSigned, ◌-ℤ◌, ◌*ℤ◌, option_copied}
 use Rattle.std.specs.Int.{w128}
 use Rattle.std.proofs.lemmas.Int.{to_z-of_z}
 use Rattle.ta_moments.specs.Questions.{if_fits, with_product}
-use Rattle.ta_moment_question.specs.Forms.{form_in}
+use Rattle.ta_moment_encode.specs.Forms.{form_in}
 use Rattle.ta_moment_question.proofs.Fitting.{none_stays, one_more, with_fits}
 use Rattle.ta_moment_question.proofs.known.value_at.Goals as goal
 

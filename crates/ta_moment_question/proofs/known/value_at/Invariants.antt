@@ -2,7 +2,7 @@ use Rattle.std.proofs.Common.{◌≡◌, Some}
 use Rattle.std.specs.Prelude.{◌-ℤ◌, ◌*ℤ◌, option_copied}
 use Rattle.ta_linear.specs.Numbers.{InRange}
 use Rattle.ta_moments.specs.Questions.{if_fits, with_products}
-use Rattle.ta_moment_question.specs.Forms.{form_in}
+use Rattle.ta_moment_encode.specs.Forms.{form_in}
 use Rattle.ta_moment_question.proofs.known.value_at.Given as goal
 
 -- the sum over the unknowns before

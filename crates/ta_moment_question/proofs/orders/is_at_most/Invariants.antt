@@ -1,7 +1,8 @@
 use Rattle.std.proofs.Common.{◌≡◌, drop}
 use Rattle.std.specs.Prelude.{option_copied}
 use Rattle.ta_moments.specs.Questions.{is_at_most}
-use Rattle.ta_moment_question.specs.Forms.{values_of, vector_of}
+use Rattle.ta_moment_encode.specs.Forms.{vector_of}
+use Rattle.ta_moment_question.specs.Values.{values_of}
 use Rattle.ta_moment_question.proofs.orders.is_at_most.Given as goal
 
 abbrev pub invariant-loop-rule : goal.invariant-loop-rule

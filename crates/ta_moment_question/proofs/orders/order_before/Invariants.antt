@@ -2,8 +2,8 @@ use Rattle.std.proofs.Common.{◌≡◌, ◌-◌}
 use Rattle.std.specs.Prelude.{option_copied}
 use Rattle.std.specs.List.{find, range_with_len}
 use Rattle.ta_moments.specs.Questions.{is_order_open}
-use Rattle.ta_moment_question.specs.Forms.{values_of}
-use Rattle.ta_moment_question.specs.Moments.{moments_of}
+use Rattle.ta_moment_question.specs.Values.{values_of}
+use Rattle.ta_moment_encode.specs.Moments.{moments_of}
 use Rattle.ta_moment_question.proofs.orders.order_before.Given as goal
 
 abbrev pub invariant-loop-x : goal.invariant-loop-x

@@ -1,7 +1,7 @@
 use Rattle.std.proofs.Common.{sym, ◌∙◌}
 use Rattle.std.specs.Prelude.{length, option_copied}
-use Rattle.ta_moment_question.specs.Forms.{values_of}
-use Rattle.ta_moment_question.specs.Moments.{moments_of}
+use Rattle.ta_moment_question.specs.Values.{values_of}
+use Rattle.ta_moment_encode.specs.Moments.{moments_of}
 use Rattle.ta_moment_question.proofs.Ordering.{order_next}
 use Rattle.ta_moment_question.proofs.orders.order_to_ask.Goals as goal
 

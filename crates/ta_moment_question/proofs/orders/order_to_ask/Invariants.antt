@@ -2,8 +2,8 @@ use Rattle.std.proofs.Common.{◌≡◌, ◌-◌, length}
 use Rattle.std.specs.Prelude.{option_copied}
 use Rattle.std.specs.List.{range_with_len}
 use Rattle.ta_moments.specs.Questions.{first_order, order_to_ask}
-use Rattle.ta_moment_question.specs.Forms.{values_of}
-use Rattle.ta_moment_question.specs.Moments.{moments_of}
+use Rattle.ta_moment_question.specs.Values.{values_of}
+use Rattle.ta_moment_encode.specs.Moments.{moments_of}
 use Rattle.ta_moment_question.proofs.orders.order_to_ask.Given as goal
 
 abbrev pub invariant-loop-y : goal.invariant-loop-y

@@ -2,7 +2,8 @@ use Rattle.std.proofs.Common.{◌≡◌, drop}
 use Rattle.std.specs.Prelude.{option_copied}
 use Rattle.std.specs.List.{list_all}
 use Rattle.ta_moments.specs.Questions.{counts_natural, known_value}
-use Rattle.ta_moment_question.specs.Forms.{all_forms, values_of}
+use Rattle.ta_moment_encode.specs.Forms.{all_forms}
+use Rattle.ta_moment_question.specs.Values.{values_of}
 use Rattle.ta_moment_question.proofs.question.all_natural.Given as goal
 
 abbrev pub invariant-loop-row : goal.invariant-loop-row

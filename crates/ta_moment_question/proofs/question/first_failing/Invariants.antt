@@ -2,8 +2,9 @@ use Rattle.std.proofs.Common.{◌≡◌, ◌&&◌, drop, map}
 use Rattle.std.specs.Prelude.{option_copied}
 use Rattle.std.specs.List.{find}
 use Rattle.ta_moments.specs.Questions.{fails_at_end, is_guard_open}
-use Rattle.ta_moment_question.specs.Forms.{values_of, vector_of}
-use Rattle.ta_moment_question.specs.Parts.{guard_of}
+use Rattle.ta_moment_encode.specs.Forms.{vector_of}
+use Rattle.ta_moment_question.specs.Values.{values_of}
+use Rattle.ta_moment_encode.specs.Parts.{guard_of}
 use Rattle.ta_moment_question.proofs.question.first_failing.Given as goal
 
 abbrev pub invariant-loop-guard : goal.invariant-loop-guard

@@ -2,7 +2,8 @@ use Rattle.std.proofs.Common.{◌≡◌, drop}
 use Rattle.std.specs.Prelude.{option_copied}
 use Rattle.std.specs.List.{list_any}
 use Rattle.ta_moments.specs.Questions.{counts_positive, known_value}
-use Rattle.ta_moment_question.specs.Forms.{values_of, vector_of}
+use Rattle.ta_moment_encode.specs.Forms.{vector_of}
+use Rattle.ta_moment_question.specs.Values.{values_of}
 use Rattle.ta_moment_question.proofs.question.is_needed.Given as goal
 
 abbrev pub invariant-loop-rule : goal.invariant-loop-rule

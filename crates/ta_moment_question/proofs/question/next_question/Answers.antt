@@ -1,8 +1,8 @@
 use Rattle.std.proofs.Common.{◌∙◌, ap}
 use Rattle.std.specs.Prelude.{option_copied}
 use Rattle.ta_moments.specs.Questions.{Parts, question_among}
-use Rattle.ta_moment_question.specs.Forms.{values_of}
-use Rattle.ta_moment_question.specs.Parts.{parts_of}
+use Rattle.ta_moment_question.specs.Values.{values_of}
+use Rattle.ta_moment_encode.specs.Parts.{parts_of}
 use Rattle.ta_moment_question.proofs.question.next_question.Goals as goal
 
 pub returns-clause-node : goal.returns-clause-node

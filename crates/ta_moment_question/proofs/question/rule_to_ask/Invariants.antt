@@ -1,8 +1,8 @@
 use Rattle.std.proofs.Common.{◌≡◌, drop, map}
 use Rattle.std.specs.Prelude.{option_copied}
 use Rattle.ta_moments.specs.Questions.{rule_to_ask}
-use Rattle.ta_moment_question.specs.Forms.{values_of}
-use Rattle.ta_moment_question.specs.Parts.{rule_of}
+use Rattle.ta_moment_question.specs.Values.{values_of}
+use Rattle.ta_moment_encode.specs.Parts.{rule_of}
 use Rattle.ta_moment_question.proofs.question.rule_to_ask.Given as goal
 
 abbrev pub invariant-loop-rule : goal.invariant-loop-rule

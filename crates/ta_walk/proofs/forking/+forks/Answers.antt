@@ -1,4 +1,4 @@
-use Rattle.ta_walk.proofs.Common.{◌-◌, ◌∙◌, List, IfOk, arith, map, subst, Pending, TreeEnd, PartVisited, beginning, root_word, search_of_claim}
+use Rattle.ta_walk.proofs.Common.{◌-◌, ◌∙◌, List, IfOk, arith, map, subst, Pending, TreeEnd, PartVisited, beginning, root_node, search_of_claim}
 use Rattle.ta_words.specs.declared.element.Element.{Element}
 use Rattle.ta_walk.proofs.PartsMerged.{decided_part}
 use Rattle.ta_walk.proofs.RootsListed.{halves_listed}
@@ -8,27 +8,27 @@ pub visit_beside-returns-clause-visited : goal.visit_beside-returns-clause-visit
 visit_beside-returns-clause-visited g t c =
     let one = rw c.in_ok-first.was at c.join-first.ensures.first.0 in
     let other = rw c.in_ok-second.was at c.join-first.ensures.second.0 in
-    c.merge.ensures.visited (search_of_claim c.args.tree.now) (map root_word c.args.words.items) (map root_word c.args.others.items) c.args.keeper c.args.late one other c.requires.fresh
+    c.merge.ensures.visited (search_of_claim c.args.tree.now) (map root_node c.args.starts.items) (map root_node c.args.others.items) c.args.keeper c.args.late one other c.requires.fresh
 
 pub visit_list-returns-clause-visited : goal.visit_list-returns-clause-visited
 visit_list-returns-clause-visited g t c =
-    let all = halves_listed _ c.args.words.items c.split_off.new.self.items c.in_ok-others.others.items c.in_ok-others.ensures.items c.in_ok-others.ensures.tail in
+    let all = halves_listed {E = Element} _ c.args.starts.items c.split_off.new.self.items c.in_ok-others.others.items c.in_ok-others.ensures.items c.in_ok-others.ensures.tail in
     subst (λ (us : List (Pending Element)). IfOk c.visit_halves.result (λ part. PartVisited g.K.Keeper.keeps (beginning (search_of_claim c.args.tree.now) us) c.args.nodes c.args.keeper part.keeper part.end)) all c.visit_halves.ensures.visited
 
 pub visit_halves-returns-in_default-clause-visited : goal.visit_halves-returns-in_default-clause-visited
 visit_halves-returns-in_default-clause-visited g t c =
     let part = c.in_ok-first.first in
-    decided_part g.K.Keeper.keeps (search_of_claim c.args.tree.now) (map root_word c.args.words.items) (map root_word c.args.others.items) c.args.nodes c.args.keeper part.keeper part.end c.in_default.ensures.none c.in_ok-first.ensures.visited
+    decided_part g.K.Keeper.keeps (search_of_claim c.args.tree.now) (map root_node c.args.starts.items) (map root_node c.args.others.items) c.args.nodes c.args.keeper part.keeper part.end c.in_default.ensures.none c.in_ok-first.ensures.visited
 
 pub visit_halves-returns-clause-visited : goal.visit_halves-returns-clause-visited
 visit_halves-returns-clause-visited g t c =
     let s = search_of_claim c.args.tree.now in
     let keeps = g.K.Keeper.keeps in
-    let ws = map root_word c.args.words.items in
-    let vs = map root_word c.args.others.items in
+    let ws = map root_node c.args.starts.items in
+    let vs = map root_node c.args.others.items in
     let n = c.args.nodes in
     let first = c.in_ok-first.first in
-    let one = subst (λ (e : TreeEnd). PartVisited keeps (beginning s ws) n c.args.keeper first.keeper e) c.in-Some.ensures.some c.in_ok-first.ensures.visited in
+    let one = subst (λ (e : TreeEnd Element). PartVisited keeps (beginning s ws) n c.args.keeper first.keeper e) c.in-Some.ensures.some c.in_ok-first.ensures.visited in
     c.add.ensures.visited s ws vs (n - c.in-Some.count) c.args.keeper c.in_ok-late.late one c.in_ok-second.ensures.visited (c.in_ok-late.ensures.begins, c.in_ok-late.ensures.keeps)
 
 pub visit_halves-returns-clause-patient : goal.visit_halves-returns-clause-patient

@@ -1,4 +1,5 @@
 use Rattle.ta_walk.proofs.Common.{◌-◌, sym, subst, left_at, TreeEnd, PartVisited, SharesBudget, beginning, search_of_claim}
+use Rattle.ta_words.specs.declared.element.Element.{Element}
 use Rattle.ta_walk.proofs.PartsMerged.{shared_part}
 use Rattle.ta_walk.proofs.forking.+shares.Goals as goal
 
@@ -21,6 +22,6 @@ visit_on-returns-in_ok-part-in-Shared-clause-visited g t c =
     let words = left_at s c.args.cursor in
     let part = c.in_ok-part-in-Shared.part in
     let small : SharesBudget s n count c.in-Shared.leaves c.visit_stretch.new.cursor c.in-Shared.later = rw c.in-Shared.is at c.in_ok-end.ensures.small in
-    subst (λ (e : TreeEnd). PartVisited keeps (beginning s words) n c.args.keeper part.keeper e) (sym c.end_behind.ensures.is)
+    subst (λ (e : TreeEnd Element). PartVisited keeps (beginning s words) n c.args.keeper part.keeper e) (sym c.end_behind.ensures.is)
     (shared_part keeps s words c.visit_stretch.new.cursor c.in-Shared.later n (n - count) count c.in-Shared.leaves c.args.keeper c.visit_stretch.new.keeper part.keeper part.end small.within
     (λ first before has. rw c.in-Shared.is at (c.in_ok-end.ensures.ends first before has)) c.in_ok-part-in-Shared.ensures.visited)

@@ -1,32 +1,37 @@
-use Rattle.ta_walk.proofs.Common.{ℕ, List, length, ap, arith, sym, subst, Fraction, slack_tableau, OverflowsAt, IsVertex, IsOutOfRangeAt, here}
+use Rattle.ta_walk.proofs.Common.{ℕ, ◌<◌, ◌^◌, List, length, ap, arith, sym, subst, Fraction, System, SystemAt, variables, slack_tableau, OverflowsAt, IsVertex, IsOutOfRangeAt, here}
 use Rattle.ta_walk.specs.declared.end.PlaceKind.TheVariants.{Pivot}
 use Rattle.ta_walk.proofs.Nodes.{few_variables}
 use Rattle.ta_walk.proofs.node.solve_node.Goals as goal
 
 pub solve-requires-clause-room : goal.solve-requires-clause-room
-solve-requires-clause-room g c κs within = few_variables (here c.args.cursor.now) c.args.system.now c.requires.few c.requires.small
+solve-requires-clause-room g c κs within =
+    subst (λ (z : System). variables z < 2 ^ 32) (sym c.system-system.ensures) (few_variables (here c.args.cursor.now) (g.T.Tree.system_of c.args.kept.now) c.requires.few c.requires.small)
 
 pub returns-in-Err-Overflow-clause-solved : goal.returns-in-Err-Overflow-clause-solved
 returns-in-Err-Overflow-clause-solved g c =
-    let system = c.args.system.now in
+    let system = c.system-system.result.now in
+    let s = g.T.Tree.search c.args.tree.now in
+    let is = subst (SystemAt s (here c.args.cursor.now)) (sym c.system-system.ensures) c.requires.system in
     let overflows : OverflowsAt (slack_tableau system) c.in-Err-Overflow.pivot = rw c.in-Err-Overflow.field-0-is at c.in-Err-Overflow.ensures.fault in
-    let IsOut : ℕ → Type 0 = λ count. IsOutOfRangeAt (g.T.Tree.search c.args.tree.now) (here c.args.cursor.now) (Pivot count) in
-    subst IsOut (sym c.in-Err-Overflow.pivot-is) (record { system = system; is = c.requires.system; holds = overflows })
+    let IsOut : ℕ → Type 0 = λ count. IsOutOfRangeAt s (here c.args.cursor.now) (Pivot count) in
+    subst IsOut (sym c.in-Err-Overflow.pivot-is) (record { system = system; is = is; holds = overflows })
 
 pub take_refuted-requires-clause-few : goal.take_refuted-requires-clause-few
-take_refuted-requires-clause-few g c = few_variables (here c.args.cursor.now) c.args.system.now c.requires.few c.requires.small
+take_refuted-requires-clause-few g c =
+    subst (λ (z : System). variables z < 2 ^ 32) (sym c.system-system.ensures) (few_variables (here c.args.cursor.now) (g.T.Tree.system_of c.args.kept.now) c.requires.few c.requires.small)
 
 pub take_vertex-requires-clause-few : goal.take_vertex-requires-clause-few
 take_vertex-requires-clause-few g c =
-    let system = c.args.system.now in
+    let system = c.system-system.result.now in
     let vertex : IsVertex system c.in-Ok-Vertex.values = rw c.in-Ok-Vertex.field-0-is at c.in-Ok-Vertex.ensures.ok in
     let count = vertex.gives.count in
-    let few = few_variables (here c.args.cursor.now) system c.requires.few c.requires.small in
+    let few = subst (λ (z : System). variables z < 2 ^ 32) (sym c.system-system.ensures) (few_variables (here c.args.cursor.now) (g.T.Tree.system_of c.args.kept.now) c.requires.few c.requires.small) in
     let same = ap (λ (vs : List Fraction). length vs) c.as_slice.ensures in
     omega arith
 
 pub take_vertex-requires-clause-vertex : goal.take_vertex-requires-clause-vertex
 take_vertex-requires-clause-vertex g c =
-    let system = c.args.system.now in
+    let system = c.system-system.result.now in
+    let is = subst (SystemAt (g.T.Tree.search c.args.tree.now) (here c.args.cursor.now)) (sym c.system-system.ensures) c.requires.system in
     let vertex : IsVertex system c.in-Ok-Vertex.values = rw c.in-Ok-Vertex.field-0-is at c.in-Ok-Vertex.ensures.ok in
-    record { system = system; is = c.requires.system; holds = subst (IsVertex system) (sym c.as_slice.ensures) vertex }
+    record { system = system; is = is; holds = subst (IsVertex system) (sym c.as_slice.ensures) vertex }

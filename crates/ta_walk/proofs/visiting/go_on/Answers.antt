@@ -1,8 +1,7 @@
 use Rattle.ta_walk.proofs.Common.{◌≡◌, Node, inl, inr, ◌<◌, ◌^◌, arith, refl, rules, FitsSigned, w128, here, SplitVertex}
 use Rattle.std.proofs.Common.{subst, to_z-of_z}
 use Rattle.ta_cert.specs.declared.line.Node.TheVariants as node
-use Rattle.ta_walk.specs.Visit.{NodeAt}
-use Rattle.ta_walk.proofs.Questions.{IsQuestion, no_question}
+use Rattle.ta_cursor.specs.Asking.{AsksNothing}
 use Rattle.ta_walk.proofs.SplitsFit.{split_fits, split_within}
 use Rattle.ta_walk.proofs.WordSoFar.{inside_of}
 use Rattle.ta_walk.proofs.visiting.go_on.Goals as goal
@@ -22,14 +21,15 @@ split-requires g c =
 pub returns-in-Leaf : goal.returns-in-Leaf
 returns-in-Leaf g c = λ w words all.
     let left = c.leave.ensures words (inside_of (g.T.Tree.search c.args.tree.now) c.args.cursor.now w words all) in
-    let s = g.T.Tree.search c.args.tree.now in
-    let at = (here c.args.cursor.now) in
-    let none : (n : Node) → c.args.node.now ≡ n → IsQuestion n → ⊥ = λ n is. no_question s at (g.met.T.Tree.only_extend c.args.tree.now at.start at.past) n (subst (NodeAt s at) is c.requires.stands) in
+    let none : (n : Node) → c.args.node.now ≡ n → AsksNothing n = λ n is. subst AsksNothing is c.in_default.ensures.none in
     elim c.in-Leaf.is [
       | inl leaf ↦ rw leaf.1 left
       | inr more ↦ elim more [
-        | inl guard ↦ absurd (none (node.Guard guard.0) guard.1 tt)
-        | inr rest ↦ elim rest [ inl order ↦ absurd (none (node.Order order.0 order.1) order.2 tt) | inr stuck ↦ absurd (none (node.Stuck stuck.0) stuck.1 tt) ]
+        | inl extend ↦ absurd (none node.Extend extend)
+        | inr rest ↦ elim rest [
+          | inl guard ↦ absurd (none (node.Guard guard.0) guard.1)
+          | inr last ↦ elim last [ inl order ↦ absurd (none (node.Order order.0 order.1) order.2) | inr stuck ↦ absurd (none (node.Stuck stuck.0) stuck.1) ]
+        ]
       ]
     ]
 

@@ -1,4 +1,4 @@
-use Rattle.ta_walk.proofs.Common.{ℕ, ◌≡◌, ◌+◌, ◌≤◌, [], ◌∷◌, ◌++◌, ◌∙◌, refl, sym, ap, subst, arith, append_assoc, append-nil, IsShared, here, left_at, Cursor, System, IsBranch, IsSpent, WholeWord, leaf_count, IsOutOfRangeAt, NodeAt, PartEnds, beginning}
+use Rattle.ta_walk.proofs.Common.{ℕ, ◌≡◌, ◌+◌, ◌≤◌, [], ◌∷◌, ◌++◌, ◌∙◌, refl, sym, ap, subst, arith, append_assoc, append-nil, IsShared, here, left_at, Cursor, IsSpent, WholeNode, leaf_count, IsOutOfRangeAt, NodeAt, PartEnds, beginning}
 use Rattle.ta_walk.proofs.LeavesCounted.{leaves_below, leaves_few, leaves_more}
 use Rattle.ta_walk.proofs.SearchesMoved.{moved_out_of_range, moved_whole}
 use Rattle.ta_walk.proofs.WordSoFar.{WordSoFar, both_stand, word_at_node, word_begins, word_few, word_goes, word_refutes, word_shared, word_spent}
@@ -54,11 +54,11 @@ returns-in-Whole-clause-ends g c = λ first before has.
     let begun = left_at s c.args.cursor.now in
     let values = c.in-Whole.values in
     let within : l.before + 1 ≤ c.args.nodes = omega arith in
-    subst (PartEnds (beginning s begun) c.args.nodes (λ more. g.K.Keeper.keeps first l.keeper (before ++ more))) (sym c.found_at.ensures)
-    (word_at_node s begun l.cursor l.before c.args.nodes l.invariant.found (WholeWord (beginning s begun) l.cursor.start_mask l.cursor.word values) l.invariant.walked
+    subst (PartEnds (beginning s begun) c.args.nodes (λ more. g.K.Keeper.keeps first l.keeper (before ++ more))) (sym c.in_ok-end-in-Whole.ensures)
+    (word_at_node s begun l.cursor l.before c.args.nodes l.invariant.found (WholeNode (beginning s begun) l.cursor.start l.cursor.facts.items values) l.invariant.walked
     (record {
       start_is = refl;
-      word_is = refl;
+      facts_are = refl;
       whole = moved_whole s s.roots begun (here l.cursor) values (rw c.in-Whole.is at c.in_ok-kind.ensures.solved);
     }) within)
 
@@ -147,9 +147,9 @@ loop-before-preserved g c =
     let same : c.give_away.new.cursor ≡ c.go_on.new.cursor = rw c.in_default.is at c.in_ok-later-in-Inner.ensures in
     record {
       found = l.invariant.found ++ n ∷ [];
-      walked = subst (λ (d : Cursor). WordSoFar s begun d (l.before + 1) (l.invariant.found ++ n ∷ [])) (sym same) (word_goes s begun l.cursor c.go_on.new.cursor l.before l.invariant.found n l.invariant.walked stands goes);
+      walked = subst (λ (d : Cursor _). WordSoFar s begun d (l.before + 1) (l.invariant.found ++ n ∷ [])) (sym same) (word_goes s begun l.cursor c.go_on.new.cursor l.before l.invariant.found n l.invariant.walked stands goes);
       counted = c.leaves_with-leaves.ensures ∙ ap (λ (k : ℕ). k + leaf_count (n ∷ [])) l.invariant.counted ∙ sym (leaves_more l.invariant.found n);
       keeps = λ first before has. subst (g.K.Keeper.keeps first c.take.new.self) (append_assoc before l.invariant.found (n ∷ [])) (c.in_ok-take-in-Inner.ensures first (before ++ l.invariant.found) (l.invariant.keeps first before has));
       kept = c.in_ok-next.ensures.kept;
-      branch = subst (λ (z : System). IsBranch g.D.Dictionary.tableau g.D.Dictionary.pivot_of z.rows c.solve_node.new.branch) c.system.ensures (rw c.in-Inner.is at c.in_ok-kind.ensures.branch);
+      branch = rw c.in-Inner.is at c.in_ok-kind.ensures.branch;
     }

@@ -1,4 +1,4 @@
-use Rattle.ta_walk.proofs.Common.{ℕ, ◌+◌, ◌≤◌, [], ◌∷◌, ◌++◌, ◌∙◌, length, sym, ap, subst, arith, Cursor, here, System, IsBranch, NodeAt, leaf_count}
+use Rattle.ta_walk.proofs.Common.{ℕ, ◌+◌, ◌≤◌, [], ◌∷◌, ◌++◌, ◌∙◌, length, sym, ap, subst, arith, Cursor, here, NodeAt, leaf_count}
 use Rattle.ta_walk.proofs.LeavesCounted.{leaves_below, leaves_more}
 use Rattle.ta_walk.proofs.WalkSoFar.{walk_few, walk_goes, walk_refutes}
 use Rattle.ta_walk.proofs.walking.visit_tree_along.Goals as goal
@@ -9,7 +9,7 @@ solve_node-requires-clause-few g c κs within =
     let done : l.before ≤ c.args.nodes = omega arith in
     let limit = c.requires.limit in
     let few = walk_few (g.T.Tree.search c.args.tree.now) l.place l.before l.invariant.found c.requires.roots l.invariant.walked in
-    subst (λ (d : Cursor). length d.bounds.items ≤ 1000000000) (sym c.cursor-in-loop-before.ensures) (omega arith)
+    subst (λ (d : Cursor _). length d.bounds.items ≤ 1000000000) (sym c.cursor-in-loop-before.ensures) (omega arith)
 
 pub leaves_with-leaves-requires : goal.leaves_with-leaves-requires
 leaves_with-leaves-requires g c =
@@ -22,7 +22,7 @@ returns-then-not-more g c =
     let l = c.loop-before in
     let n = c.in-Inner.node in
     let within : l.before + 1 ≤ c.args.nodes = omega arith in
-    let stands = subst (λ (d : Cursor). NodeAt s (here d) n) c.cursor-in-loop-before.ensures (rw c.in-Inner.is at c.in_ok-kind.ensures.solved) in
+    let stands = subst (λ (d : Cursor _). NodeAt s (here d) n) c.cursor-in-loop-before.ensures (rw c.in-Inner.is at c.in_ok-kind.ensures.solved) in
     let ends = rw c.if-not-more.true at c.in_ok-more-in-Inner.ensures in
     record {
       nodes = l.invariant.found ++ n ∷ [];
@@ -36,7 +36,7 @@ loop-before-preserved g c =
     let s = g.T.Tree.search c.args.tree.now in
     let l = c.loop-before in
     let n = c.in-Inner.node in
-    let stands = subst (λ (d : Cursor). NodeAt s (here d) n) c.cursor-in-loop-before.ensures (rw c.in-Inner.is at c.in_ok-kind.ensures.solved) in
+    let stands = subst (λ (d : Cursor _). NodeAt s (here d) n) c.cursor-in-loop-before.ensures (rw c.in-Inner.is at c.in_ok-kind.ensures.solved) in
     let goes = rw c.if-not-more.false at c.in_ok-more-in-Inner.ensures in
     record {
       found = l.invariant.found ++ n ∷ [];
@@ -44,5 +44,5 @@ loop-before-preserved g c =
       counted = c.leaves_with-leaves.ensures ∙ ap (λ (k : ℕ). k + leaf_count (n ∷ [])) l.invariant.counted ∙ sym (leaves_more l.invariant.found n);
       keeps = c.in_ok-take-in-Inner.ensures c.args.keeper.now l.invariant.found l.invariant.keeps;
       kept = c.in_ok-next.ensures.kept;
-      branch = subst (λ (z : System). IsBranch g.D.Dictionary.tableau g.D.Dictionary.pivot_of z.rows c.solve_node.new.branch) c.system-system.ensures (rw c.in-Inner.is at c.in_ok-kind.ensures.branch);
+      branch = rw c.in-Inner.is at c.in_ok-kind.ensures.branch;
     }

@@ -1,4 +1,4 @@
-use Rattle.ta_check.proofs.Common.{sym, subst, Ok, err_is, Claim, Certificate, CertificateFor, subject_of, claiming}
+use Rattle.ta_check.proofs.Common.{sym, subst, Ok, err_is, Claim, CertificateFor, subject_of, claiming_with}
 use Rattle.ta_scope.proofs.Judging.{loops_pure}
 use Rattle.ta_check.proofs.Accepting.{certificate_unsolved, claims_hold}
 use Rattle.ta_check.proofs.Answering.{end_refused, exact_end, stands_somewhere}
@@ -32,5 +32,5 @@ returns-clause-unsolved c = λ safe.
     let s = c.args.self in
     let file = s.scoped.now.file in
     let some = stands_somewhere s c.if-self.false c.requires in
-    let certificate : Certificate file some.0 c.from_vec.result = subst (λ (claim : Claim). CertificateFor (claiming claim file) some.0 c.from_vec.result) safe (returns-clause-answer c some.0 some.1) in
-    certificate_unsolved file some.0 c.from_vec.result (loops_pure file.automaton s.scoped.now.in_scope) s.scoped.now.in_scope certificate
+    let certificate = subst (λ (claim : Claim). CertificateFor (claiming_with claim file s.silent.now) some.0 c.from_vec.result) safe (returns-clause-answer c some.0 some.1) in
+    certificate_unsolved file s.silent.now some.0 c.from_vec.result (loops_pure file.automaton s.scoped.now.in_scope) s.scoped.now.in_scope certificate

@@ -1,9 +1,14 @@
-use Rattle.ta_check.proofs.Common.{subst, sym, rules, FitsSigned, w128, to_z-of_z, claiming, LineAnswers}
-use Rattle.ta_cert.specs.declared.line.Line.TheVariants as line
+use Rattle.ta_check.proofs.Common.{refl, inl, sym, ◌∙◌, false≢true, claiming_with, HasForm, kind_of, ap, subst, Kind}
+use Rattle.ta_check.proofs.JudgingNodes.{some_newest, inside_no_pair}
 use Rattle.ta_check.proofs.position.Position.take_node.Goals as goal
 
-pub returns-in-Split : goal.returns-in-Split
-returns-in-Split c = λ at is.
-    let fits : FitsSigned w128 c.in-Split.floor = search rules in
-    let told = simp to_z-of_z at (c.take_split.ensures at is) in
-    subst (λ node. LineAnswers (claiming c.args.claim c.args.file.now) at c.args.number (line.Tree node) c.take_split.new.self c.take_split.result) (sym c.in-Split.is) told
+pub returns-then-not-has_form : goal.returns-then-not-has_form
+returns-then-not-has_form c = λ at is.
+    let subject = claiming_with c.args.claim c.args.file.now c.args.silent.now in
+    let n = some_newest subject c.args.self.now at c.args.pattern c.requires.none c.requires.current is in (
+      refl,
+      record {
+        no_pair = inside_no_pair at c.args.pattern n.1.older c.args.node.now n.1.begun;
+        out = inl (λ form. false≢true (sym c.if-not-has_form.true ∙ c.has_form.ensures.1 (subst (λ (k : Kind). HasForm k c.args.claim c.args.node.now) (ap kind_of is.version) form)));
+      },
+    )

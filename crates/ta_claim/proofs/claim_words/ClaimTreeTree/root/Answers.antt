@@ -1,4 +1,4 @@
-use Rattle.ta_claim.proofs.Common.{◌≡◌, ◌<◌, ◌^◌, List, [], length, arith, sym, ap, ◌∙◌, subst, Some, slice_get, lit<, Element, Pending, shifted, word_at, all_starts}
+use Rattle.ta_claim.proofs.Common.{◌<◌, ◌^◌, List, length, arith, ap, ◌∙◌, slice_get, lit<, Element, Pending, shifted}
 use Rattle.ta_claim.proofs.ClaimWords.{claim_roots}
 use Rattle.ta_claim.proofs.PatternWords.{start_at, start_none}
 use Rattle.ta_claim.proofs.claim_words.ClaimTreeTree.root.Goals as goal
@@ -13,7 +13,7 @@ returns-then-number-as_slice c =
     let large : 64 < 2 ^ 31 = lit< tt in
     record {
       is = ap (λ (ws : List (Pending Element)). slice_get ws c.args.number) (claim_roots t.claim a t.task.pattern.now t.orders.now)
-          ∙ subst (λ (es : List Element). slice_get (all_starts a) c.args.number ≡ Some (word_at c.args.number es [])) (sym c.new.ensures) (start_at a c.args.number below);
+          ∙ start_at a c.args.number below;
       small = omega arith;
     }
 

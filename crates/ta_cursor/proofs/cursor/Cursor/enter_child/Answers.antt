@@ -1,26 +1,29 @@
-use Rattle.ta_cursor.proofs.Common.{◌≡◌, ◌++◌, ◌∷◌, [], refl, sym, length, None, append-nil}
+use Rattle.ta_cursor.proofs.Common.{◌≡◌, ◌++◌, ◌∷◌, [], refl, sym, reverse, subst, length, append-nil, List, None, slice_get, answered, ask_node, IsAnswer}
 use Rattle.ta_cursor.proofs.FramesParts.{opened_child, no_child_left}
+use Rattle.ta_cursor.specs.declared.asking.Inner.TheVariants.{Asks}
 use Rattle.ta_cursor.proofs.cursor.Cursor.enter_child.Goals as goal
 
-pub returns-then-not-push_child : goal.returns-then-not-push_child
-returns-then-not-push_child g c = λ w words within.
-    let no = rw c.if-not-push_child.true at c.push_child.ensures in
-    let same = no.1 in
-    (no_child_left (g.T.Tree.search c.args.tree.now) c.args.self.now w words c.args.number within no.0, cc)
+pub returns-in_default : goal.returns-in_default
+returns-in_default g c = λ w words within.
+    let s = g.T.Tree.search c.args.tree.now in
+    let cursor = c.args.self.now in
+    let none = subst (λ (es : List g.row.F.Denot). slice_get (answered s cursor.start (reverse es) (ask_node c.args.ask)) c.args.number ≡ None) c.as_slice.ensures.value c.in_default.ensures in
+    (no_child_left s cursor w words c.args.ask c.args.number within none, refl {a = cursor})
 
 pub returns : goal.returns
 returns g c = λ w words within.
     let s = g.T.Tree.search c.args.tree.now in
     let cursor = c.args.self.now in
-    let is = rw c.if-not-push_child.false at c.push_child.ensures in
-    let frames : c.push.new.self.items ≡ cursor.frames.items ++ record { split = None; length = length cursor.word; bounds = length cursor.bounds.items; next = c.args.number } ∷ [] = cc (c.in_ok-push.ensures.items, c.len.ensures, c.elements-length.ensures) in
-    opened_child s cursor _ w words c.args.number is.element within (record {
+    let fact = c.in-Some.fact in
+    let is = subst (λ (es : List g.row.F.Denot). IsAnswer s cursor.start (reverse es) (ask_node c.args.ask) c.args.number fact) c.as_slice.ensures.value c.in-Some.ensures in
+    let frames : c.push.new.self.items ≡ cursor.frames.items ++ record { inner = Asks c.args.ask; length = length cursor.facts.items; bounds = length cursor.bounds.items; next = c.args.number } ∷ [] = cc (c.in_ok-push.ensures.items, c.len.ensures, c.len-2.ensures) in
+    opened_child s cursor (record { start = cursor.start; facts = c.push-2.new.self; bounds = cursor.bounds; frames = c.push.new.self }) w words c.args.ask c.args.number fact within (record {
       start = refl;
       frames = frames;
       elements = refl;
       marks = refl;
-      more_word = is.element ∷ [];
-      word = is.word;
+      more_word = fact ∷ [];
+      word = c.in_ok-push-2.ensures.items;
       more_bounds = [];
       bounds = sym (append-nil cursor.bounds.items);
-    }) is.word refl is.follows is.more
+    }) c.in_ok-push-2.ensures.items refl is.is is.more

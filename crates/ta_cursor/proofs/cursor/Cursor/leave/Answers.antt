@@ -38,7 +38,7 @@ frames-smaller g c =
     let back = c.in-Some.ensures s c.requires.0 (c.frames.invariant c.requires.0 c.requires.1) in
     let told = rw c.if-branch.false at (c.in_ok-enter_next.ensures (here between) back.0 back.2) in
     let less = back.4 in
-    omega (arith, ap (λ (d : Cursor). length d.frames.items) told.1)
+    omega (arith, ap (λ (d : Cursor g.row.F.Denot). length d.frames.items) told.1)
 
 pub frames-preserved : goal.frames-preserved
 frames-preserved g c = λ words inside.
@@ -47,7 +47,7 @@ frames-preserved g c = λ words inside.
     let f = c.in-Some.frame in
     let back = c.in-Some.ensures s words (c.frames.invariant words inside) in
     let over = rw c.if-branch.false at (c.in_ok-enter_next.ensures (here between) back.0 back.2) in
-    passed_over s between _ words (drop (f.next + 1) (parts s (here between) (node_of f.split))) back.0 back.1 over.0 over.1 back.2
+    passed_over s between _ words (drop (f.next + 1) (parts s (here between) (node_of f.inner))) back.0 back.1 over.0 over.1 back.2
 
 pub returns : goal.returns
 returns g c = λ words inside.

@@ -13,7 +13,7 @@ loop-outer-preserved g c =
     let none = rw c.in_default.is at c.in_ok-later.ensures in
     record {
       kept = kept;
-      none = subst (λ (d : Cursor). all_behind s d (reverse (take k d.frames.items)) ≡ []) kept none;
+      none = subst (λ (d : Cursor g.row.F.Denot). all_behind s d (reverse (take k d.frames.items)) ≡ []) kept none;
     }
 
 pub returns-in-Some : goal.returns-in-Some
@@ -22,12 +22,12 @@ returns-in-Some g c =
     let k = c.loop-outer.outer + 1 in
     let kept = c.loop-outer.invariant.kept in
     let is = rw c.in-Some.is at c.in_ok-later.ensures in
-    let before = subst (λ (d : Cursor). IsBeforeWords s (all_behind s d (reverse (take k d.frames.items))) c.in-Some.later) kept is in
+    let before = subst (λ (d : Cursor g.row.F.Denot). IsBeforeWords s (all_behind s d (reverse (take k d.frames.items))) c.in-Some.later) kept is in
     shared s c.args.self.now _ c.in-Some.later c.loop-outer.outer c.requires.0 c.requires.1 (record {
-      start = ap (λ (d : Cursor). d.start_mask) kept;
-      word = ap (λ (d : Cursor). d.word) kept;
-      bounds = ap (λ (d : Cursor). d.bounds.items) kept;
-      frames = c.in_ok-self.ensures.tail ∙ ap (λ (d : Cursor). drop k d.frames.items) kept;
+      start = ap (λ (d : Cursor g.row.F.Denot). d.start) kept;
+      word = ap (λ (d : Cursor g.row.F.Denot). d.facts.items) kept;
+      bounds = ap (λ (d : Cursor g.row.F.Denot). d.bounds.items) kept;
+      frames = c.in_ok-self.ensures.tail ∙ ap (λ (d : Cursor g.row.F.Denot). drop k d.frames.items) kept;
     }) c.loop-outer.invariant.none before
 
 pub returns : goal.returns

@@ -8,4 +8,4 @@ returns-in-None g c = root_none (g.T.Tree.search c.args.tree.now) c.args.self.no
 pub returns-in-Some : goal.returns-in-Some
 returns-in-Some g c =
     let next = c.args.self.now.root + 1 in
-    root_comes (g.T.Tree.search c.args.tree.now) (record { cursor = c.new.result; root = next }) next c.in-Some.root c.in-Some.ensures c.new.ensures refl
+    root_comes (g.T.Tree.search c.args.tree.now) (record { cursor = c.new.result; root = next }) next c.in-Some.start c.in-Some.ensures c.new.ensures refl

@@ -1,11 +1,11 @@
-use Rattle.ta_encode.proofs.Common.{List, length, refl, reverse, sym, subst, Element, EndedSystem, BoundsWithin, meanings}
+use Rattle.ta_encode.proofs.Common.{refl}
 use Rattle.ta_encode.proofs.Drafts.{word_few}
 use Rattle.ta_encode.proofs.Marking.{same_on_part}
 use Rattle.ta_encode.proofs.growing.Encoding.grown_to.Goals as goal
 
 pub part_of-requires : goal.part_of-requires
 part_of-requires c = record {
-  few = word_few c.args.task c.args.start_mask c.elements-elements.result.now c.args.word.now c.requires.legal c.elements-elements.ensures;
+  few = word_few c.args.task c.args.start_mask c.args.elements.now c.args.elements.now c.requires.legal refl;
   encoding = c.requires.encoding;
 }
 
@@ -13,14 +13,13 @@ pub finish-requires : goal.finish-requires
 finish-requires c =
     let part = c.in_ok-part.ensures in
     record {
-      few = word_few c.args.task c.args.start_mask c.elements-elements.result.now c.args.word.now c.requires.legal c.elements-elements.ensures;
-      bounds = subst (λ (w : List Element). BoundsWithin (length (meanings c.args.task.automaton.now c.args.task.pattern.now c.args.start_mask (reverse w))) c.args.bounds.now) (sym c.elements-elements.ensures) c.requires.bounds;
+      few = word_few c.args.task c.args.start_mask c.args.elements.now c.args.elements.now c.requires.legal refl;
+      bounds = c.requires.bounds;
       part = record { within = part.within; marked = part.marked; marks = part.marks; drafted = part.drafted; same = part.same; rows_are = refl };
     }
 
 pub returns-clause-system : goal.returns-clause-system
-returns-clause-system c =
-    subst (λ (w : List Element). EndedSystem c.args.task.automaton.now c.args.task.pattern.now c.args.start_mask (reverse w) c.args.end c.args.bounds.now c.in_ok-grown.grown.encoding.system) c.elements-elements.ensures c.in_ok-grown.ensures.system
+returns-clause-system c = c.in_ok-grown.ensures.system
 
 pub returns-clause-same : goal.returns-clause-same
 returns-clause-same c =

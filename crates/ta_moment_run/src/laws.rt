@@ -1,0 +1,26 @@
+//! What the run of a whole node says. The functions do nothing: their contracts state the laws.
+#![tactic(auto)]
+
+ghost use Rattle.ta_moment_run.specs.Laws.{MomentRunsAreDetermined, MomentRunsAreShort, MomentRunsShow};
+ghost use Rattle.ta_moment_run.specs.Resting.{MomentRunsRest};
+
+/// The run of a whole node shows the pattern.
+pub fn moment_runs_show()
+    ensures { MomentRunsShow }
+{}
+
+/// A node has one run at its values.
+pub fn moment_runs_are_determined()
+    ensures { MomentRunsAreDetermined }
+{}
+
+/// At rest the run of a whole node ends at quiet rest, where the pattern's last event happens.
+pub fn moment_runs_rest()
+    ensures { MomentRunsRest }
+{}
+
+/// Where each question was asked once, the run of a whole node has at most (guards + events) * (rules + 1)
+/// steps.
+pub fn moment_runs_are_short()
+    ensures { MomentRunsAreShort }
+{}

@@ -1,0 +1,7 @@
+mod Passed
+mod Reversed
+mod Coming
+mod Counting
+mod Roots
+mod Parts
+mod Asked

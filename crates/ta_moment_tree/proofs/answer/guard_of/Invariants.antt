@@ -1,0 +1,11 @@
+use Rattle.std.proofs.Common.{◌≡◌, ◌≤◌, length, slice_get}
+use Rattle.std.specs.Prelude.{filter}
+use Rattle.std.specs.List.{range_with_len}
+use Rattle.ta_moments.specs.Facts.{has_guard}
+use Rattle.ta_moment_tree.proofs.answer.guard_of.Given as goal
+
+abbrev pub invariant-loop-guard : goal.invariant-loop-guard
+invariant-loop-guard l = record {
+  is : l.passed ≡ length (filter (λ g. has_guard l.automaton g (slice_get l.automaton.rules l.rule)) (range_with_len 0 l.guard));
+  most : l.passed ≤ l.number;
+}

@@ -1,0 +1,15 @@
+use Rattle.std.proofs.Common.{◌-◌, map, slice_get, ap, sym, ◌∙◌}
+use Rattle.std.specs.Option.{option_map}
+use Rattle.std.proofs.lemmas.Option.{slice_get-map}
+use Rattle.ta_moments.specs.declared.fact.Fact.TheVariants.{Vacant, Fails}
+use Rattle.ta_moments.specs.Facts.{guards_of}
+use Rattle.ta_moment_tree.proofs.Passed.{behind_first}
+use Rattle.ta_moment_tree.proofs.answer.stuck_answer.Goals as goal
+
+pub returns-in-Some : goal.returns-in-Some
+returns-in-Some c =
+    let r = c.args.rule in
+    let gs = guards_of c.args.automaton.now (slice_get c.args.automaton.now.rules r) in
+    sym (behind_first (Vacant r) (map (Fails r) gs) c.args.number c.if-number-eq0.false
+    ∙ slice_get-map (Fails r) gs (c.args.number - 1)
+    ∙ ap (option_map (Fails r)) (sym c.guard_of.ensures ∙ c.in-Some.is))

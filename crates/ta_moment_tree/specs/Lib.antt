@@ -1,0 +1,4 @@
+pub mod Makers
+pub mod Counts
+pub mod Trees
+pub mod Kept

@@ -1,0 +1,74 @@
+-- The command `show` (this project's profile)
+use Rattle.std.specs.Prelude.{ℕ, ◌≡◌, List, [], map, codes, Option, Some, option_and_then}
+use Rattle.std.specs.List.{AllByRecursion}
+use Rattle.ta_automaton.specs.declared.file.File.{File}
+use Rattle.ta_automaton.specs.Runs.{Safe}
+use Rattle.ta_cert.specs.Certificates.{pair_of}
+use Rattle.ta_cert.specs.declared.line.Order.{Order}
+use Rattle.ta_meaning.specs.Reading.{Legal}
+use Rattle.ta_shelf.specs.Sink.{with_text}
+use Rattle.ta_shell.specs.declared.answer.Answer.{Answer}
+use Rattle.ta_shell.specs.Commands.{Meaning}
+use Rattle.ta_shell.specs.Sights.{View, Whole}
+use Rattle.ta_shell.specs.Stages.{Writes, after, replies}
+use Rattle.ta_show.specs.Show.{show_text}
+use Rattle.ta_walk.specs.FoundOrders.{FoundOrders}
+use Rattle.ta_program.specs.Asked.{Asked, ask}
+use Rattle.ta_program.specs.Kinds.{file_kind}
+use Rattle.ta_program.specs.Values.{file_name_of}
+use Rattle.ta_program.specs.Words.{behind_name, plain_of, taken_by}
+
+-- the text is that of a file as it was understood, and of the orders that are found of its guards
+pub record IsFileText (file : File) (text : List ℕ) : Type 0 where
+  pub orders : List Order
+  pub found : FoundOrders file.automaton orders
+  pub shown : text ≡ show_text file (map pair_of orders)
+
+-- that text is written
+pub record SaysFile (file : File) (answer : Answer) : Type 0 where
+  pub text : List ℕ
+  pub is : IsFileText file text
+  pub writes : Writes 0 text answer
+
+abbrev pub file_meaning : File → Meaning
+file_meaning file = replies [] (SaysFile file)
+
+-- FILE is read, and its text is written
+abbrev pub show_meaning : List ℕ → Meaning
+show_meaning name = after file_kind name [] file_meaning
+
+-- one plain word that is the name of a file, and no option
+abbrev pub show_words : List (List ℕ) → Option (List ℕ)
+show_words words = option_and_then (λ taken. file_name_of (plain_of taken 0)) (taken_by (record { plain = 1; options = [] }) words)
+
+-- `show FILE`
+abbrev pub show_of : List (List ℕ) → Option (List ℕ)
+show_of = behind_name (codes "show") show_words
+
+abbrev pub show_asked : List (List ℕ) → Asked
+show_asked words = ask (λ name. Some name) show_meaning (show_words words)
+
+-- what `show FILE` prints where these are FILE's bytes: the text of the file that they mean. Whoever has that text before him need not read
+-- what a text means, since no other file has it
+pub record IsPrintedOf (bytes text : List ℕ) : Type 0 where
+  pub file : File
+  pub legal : Legal bytes file
+  pub is : IsFileText file text
+
+-- FILE has bytes that mean a file, and the output gained the text that is printed of them
+pub record ShowHolds (view : View) (name : List ℕ) (written written' : Option (List ℕ)) : Type 0 where
+  pub bytes : List ℕ
+  pub held : view name (Whole bytes)
+  pub text : List ℕ
+  pub printed : IsPrintedOf bytes text
+  pub wrote : written' ≡ with_text written text
+
+-- each file that has this text has patterns that occur in no run
+abbrev pub EachSafeIn : List ℕ → Type 0
+EachSafeIn text = (file : File) (orders : List (ℕ × ℕ)) → show_text file orders ≡ text → AllByRecursion (Safe file.automaton) file.patterns
+
+-- a name has bytes, and so is each file whose text is printed of them
+pub record SafeAsPrinted (view : View) (name : List ℕ) : Type 0 where
+  pub bytes : List ℕ
+  pub held : view name (Whole bytes)
+  pub safe : (text : List ℕ) → IsPrintedOf bytes text → EachSafeIn text

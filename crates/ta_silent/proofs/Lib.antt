@@ -1,0 +1,3 @@
+-- lemmas for the crates above
+mod NoneNegative
+mod Places
