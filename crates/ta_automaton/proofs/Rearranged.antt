@@ -1,4 +1,9 @@
 -- firings from which the circuits are taken out stand in an order in which nobody arrives any more where one leaves
+--
+-- Go back from a firing: to one that leads into its source, and so on. Either that ends at a firing into whose source nothing
+-- leads, or a location comes again, and the firings between are a circuit. In scope no rule of a circuit has an update, and each of
+-- its locations is left as often as it is entered: taken out together, its firings change no sum. The firing at which going back
+-- ends comes first in the order, and the same is done with the others. One or the other makes the list shorter each time.
 use Rattle.ta_automaton.proofs.Common.{◌≡◌, ◌≢◌, ◌⊎◌, inl, inr, ℕ, zero, suc, ◌≤◌, ℤ, pos, List, [], ◌∷◌, ◌++◌, length, arith, sym, ap, ◌∙◌, refl, subst, slice_get, Some, append_assoc, ints, eqb_tells, coefficient, Rule, Automaton, Walk, InScope, In, total, length-append}
 use Rattle.ta_base.proofs.Integers.{zero_or_more}
 use Rattle.ta_base.proofs.Members.{In-left, In-right, in_append}

@@ -1,4 +1,5 @@
--- Forms, rows and conditions over the places that they may speak of (this project's profile)
+-- Forms, rows (linear constraints), conditions and threshold guards over the first places of a configuration, with the limits that the
+-- types keep. Source of threshold guards: Konnov, Lazić, Veith, Widder, POPL 2017.
 use Rattle.std.specs.Prelude.{ℕ, ℤ, pos, ◌+◌, ◌<◌, ◌≤◌, ◌≤ℤ◌, unsigned_abs}
 use Rattle.std.proofs.Props.{props}
 use Rattle.std.specs.List.{AllByRecursion, AllByRecursion-prop}
@@ -25,7 +26,7 @@ pub record FormOver (places : ℕ) (form : Form) : Type 0 where
 pub FormOver-prop : (places : ℕ) (form : Form) → IsProp (FormOver places form)
 FormOver-prop places form = hlevel (props, IsNormal-prop 0 places form.terms, Small-prop form)
 
--- the same of the form of a row
+-- the form of a row is a small form over the first places
 abbrev pub RowOver : ℕ → Row → Type 0
 RowOver places row = FormOver places row.form
 

@@ -1,4 +1,5 @@
--- What holds along every run (POPL 2017 for guards that stay true or false; the others are this project's own)
+-- What holds along every run: of parameters, counters, shared variables and guards. Source of the laws of guards: Konnov, Lazić, Veith,
+-- Widder, POPL 2017 (threshold guards).
 use Rattle.std.specs.Prelude.{ℕ, ℤ, pos, ◌+◌, ◌*ℤ◌, ◌≤◌, ◌≡◌, ◌==◌, Bool, false, List, length, take, sum, count_by, slice_get, slice_index, Option, Some, None}
 use Rattle.ta_base.specs.Sums.{total, times_in}
 use Rattle.ta_linear.specs.Terms.{coefficient}
@@ -10,7 +11,7 @@ use Rattle.ta_automaton.specs.declared.pattern.Pattern.{Pattern}
 use Rattle.ta_automaton.specs.Runs.{Config, Run, At, Safe, value_at, number_at}
 use Rattle.std.specs.List.{range_with_len}
 
--- at every moment the counters add up to the number of processes
+-- at every position of a run the counters add up to the number of processes
 abbrev pub CountersAddUp : Type 0
 CountersAddUp =
     (a : Automaton) (first : Config) (rules : List ℕ) (later : List Config) → Run a first rules later
@@ -31,7 +32,7 @@ SharedNeverFalls =
     → (j k : ℕ) (b c : Config) → j ≤ k → At first later j b → At first later k c
     → (x : ℕ) → slice_index b.shared x ≤ slice_index c.shared x
 
--- a rise guard once true stays true
+-- a rise guard that is true stays true
 abbrev pub RiseGuardsStayTrue : Type 0
 RiseGuardsStayTrue =
     (a : Automaton) (first : Config) (rules : List ℕ) (later : List Config) → Run a first rules later
@@ -39,7 +40,7 @@ RiseGuardsStayTrue =
     → (i : ℕ) (row : Row) → slice_get a.rise i ≡ Some row
     → RowHolds (value_at b) row → RowHolds (value_at c) row
 
--- a fall guard once false stays false
+-- a fall guard that is false stays false
 abbrev pub FallGuardsStayFalse : Type 0
 FallGuardsStayFalse =
     (a : Automaton) (first : Config) (rules : List ℕ) (later : List Config) → Run a first rules later
@@ -76,6 +77,6 @@ SharedByFirings =
     → (k : ℕ) (c : Config) → At first later k c
     → (x : ℕ) → pos (slice_index c.shared x) ≡ total (λ r. update_of x (slice_get a.rules r) *ℤ pos (times_in r (take k rules))) (range_with_len 0 (length a.rules))
 
--- some pattern isn't safe
+-- some pattern is unsafe
 abbrev pub SomeUnsafe : Type 0
 SomeUnsafe = (a : Automaton) × (p : Pattern) × ¬ Safe a p

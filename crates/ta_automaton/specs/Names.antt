@@ -1,4 +1,4 @@
--- The names of an automaton file (this project's profile)
+-- The names of an automaton file.
 use Rattle.std.specs.Prelude.{ℕ, ◌≤◌, List, length}
 use Rattle.std.proofs.Props.{props}
 use Rattle.ta_syntax.specs.Kinds.{IsNameText, IsNameText-prop}

@@ -1,4 +1,4 @@
--- A pattern by its number in a file
+-- A fact of the pattern that has a given number in a file.
 use Rattle.std.specs.Prelude.{ℕ, ◌≡◌, slice_get, Some}
 use Rattle.ta_automaton.specs.declared.file.File.{File}
 use Rattle.ta_automaton.specs.declared.pattern.Pattern.{Pattern}

@@ -1,4 +1,4 @@
--- What the type of a file keeps of its patterns (this project's profile)
+-- What the types of an event, a pattern and a file keep: what they refer to exists.
 use Rattle.std.specs.Prelude.{ℕ, ◌+◌, ◌<◌, ◌≤◌, ◌^◌, List, length, map}
 use Rattle.std.proofs.Props.{props}
 use Rattle.std.specs.List.{AllByRecursion, AllByRecursion-prop}
@@ -9,7 +9,7 @@ use Rattle.ta_base.specs.Lists.{EachFrom, EachFrom-prop, Distinct, Distinct-prop
 use Rattle.ta_automaton.specs.Names.{Name, Name-prop}
 use Rattle.ta_automaton.specs.Forms.{ConditionOver, ConditionOver-prop}
 
--- the event with this number: it comes after earlier events alone
+-- the event with this number: it comes after earlier events only
 pub record EventWithin (places : ℕ) (number : ℕ) (event : Event) : Type 0 where
   pub name : Name event.name
   pub after : event.after < 2 ^ number

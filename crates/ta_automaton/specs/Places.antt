@@ -1,4 +1,5 @@
--- The places of a configuration, and what one firing of a rule adds at each (POPL 2017, counter systems; the numbering is this project's profile)
+-- The places of a configuration, by number, and what one firing of a rule adds at each. Source of counter systems: Konnov, Lazić, Veith,
+-- Widder, POPL 2017.
 use Rattle.std.specs.Prelude.{ℕ, ℤ, pos, ◌≡◌, ◌+◌, ◌-◌, ◌==◌, ◌+ℤ◌, ◌-ℤ◌, nat_lt, if◌then◌else◌, length, Option, Some, None}
 use Rattle.ta_linear.specs.Terms.{coefficient}
 use Rattle.ta_automaton.specs.declared.rule.Rule.{Rule}

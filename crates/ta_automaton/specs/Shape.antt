@@ -1,4 +1,4 @@
--- What the types of an automaton and of a file keep (this project's profile)
+-- What the types of a rule, an automaton and a file keep: what they refer to exists, and lists are within their limits.
 use Rattle.std.specs.Prelude.{ℕ, ℤ, pos, ◌<◌, ◌≤◌, ◌^◌, ◌≤ℤ◌, ◌++◌, List, length, map}
 use Rattle.std.proofs.Props.{props}
 use Rattle.std.specs.List.{AllByRecursion, AllByRecursion-prop}

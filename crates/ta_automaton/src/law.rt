@@ -1,4 +1,4 @@
-//! What holds along every run.
+//! Laws of runs. The function does nothing: its contract states the laws.
 #![tactic(auto)]
 
 ghost use Rattle.ta_automaton.specs.Laws.{CountersAddUp, ParametersStay, SharedNeverFalls, RiseGuardsStayTrue, FallGuardsStayFalse, CountersByFirings, SharedByFirings, SomeUnsafe};

@@ -29,7 +29,7 @@ at_index f n i h = get_or-map-range_with_len f 0 n i i 0 h (omega arith)
 pub past_numbers : (f : ℕ → ℕ) (n i : ℕ) → n ≤ i → get_or (map f (range_with_len 0 n)) i 0 ≡ 0
 past_numbers f n i h = get_or_past (map f (range_with_len 0 n)) i 0 (omega (arith, length-map (range_with_len 0 n) f, length-range_with_len 0 n))
 
--- ---- faults within bounds
+-- ---- errors within bounds
 pub rises-wider : (low high low' high' : ℕ) (xs : List ℕ) → low' ≤ low → high ≤ high' → Rises low high xs → Rises low' high' xs
 rises-wider low high low' high' [] l r h = tt
 rises-wider low high low' high' (x ∷ xs) l r h = let here : low ≤ x = h.0 in let below : x < high = h.1 in (omega arith, omega arith, rises-wider (x + 1) high (x + 1) high' xs (omega arith) r h.2)

@@ -1,9 +1,9 @@
--- Parts of a text, and the bytes of words
+-- Parts of a text, and the bytes of a name.
 use Rattle.std.specs.Prelude.{ℕ, ◌≡◌, ◌≢◌, ◌==◌, ◌||◌, Bool, List, [], ◌∷◌, ◌++◌, IsTrue}
 use Rattle.std.specs.Char.{is_ascii_alphabetic, is_ascii_digit}
 use Rattle.std.specs.List.{AllByRecursion}
 
--- a byte that doesn't occur
+-- a byte does not occur
 abbrev pub Avoids : ℕ → List ℕ → Type 0
 Avoids byte bytes = AllByRecursion (λ b. b ≢ byte) bytes
 
@@ -12,7 +12,7 @@ pub record SplitAt (byte : ℕ) (bytes front behind : List ℕ) : Type 0 where
   pub split : bytes ≡ front ++ (byte ∷ behind)
   pub first : Avoids byte front
 
--- the bytes don't begin so
+-- the bytes do not begin so
 abbrev pub BeginsOtherwise : List ℕ → List ℕ → Type 0
 BeginsOtherwise front bytes = (rest : List ℕ) → bytes ≡ front ++ rest → ⊥
 
@@ -20,7 +20,7 @@ BeginsOtherwise front bytes = (rest : List ℕ) → bytes ≡ front ++ rest → 
 abbrev pub is_letter : ℕ → Bool
 is_letter b = is_ascii_alphabetic b || b == 95
 
--- a byte of a name behind its first
+-- a byte of a name after its first
 abbrev pub is_word : ℕ → Bool
 is_word b = is_letter b || is_ascii_digit b
 

@@ -1,4 +1,4 @@
--- Whole numbers in decimal, without zeros in front
+-- Natural numbers in decimal, without leading zeros, below a limit.
 use Rattle.std.specs.Prelude.{ℕ, ◌<◌, ◌≡◌, ◌==◌, Bool, true, false, List, [], ◌∷◌, ◌++◌, decimal}
 use Rattle.std.specs.Char.{is_ascii_digit}
 use Rattle.std.specs.Str.Parse.{AllDigits}
@@ -8,7 +8,7 @@ abbrev pub BeginsNoDigit : List ℕ → Type 0
 BeginsNoDigit [] = Unit {0}
 BeginsNoDigit (b ∷ bs) = is_ascii_digit b ≡ false
 
--- the digits that stand first, and what stands behind them
+-- the digits that stand first, and what stands after them
 pub record DigitsAt (bytes ds rest : List ℕ) : Type 0 where
   pub split : bytes ≡ ds ++ rest
   pub digits : AllDigits 10 ds

@@ -1,4 +1,4 @@
--- what a list ends as, where a `&mut` to one of its items is returned
+-- What a list holds when the borrow of one of its items (a returned `&mut`) ends.
 use Rattle.std.specs.Prelude.{ℕ, List, slice_set}
 use Rattle.std.specs.Borrow.{Lends, Fml, MutBor, RattleType}
 use Rattle.ta_base.specs.contracts.list.List.{the_row}

@@ -1,4 +1,4 @@
--- Facts about each item of a list, by recursion, so that a type can keep them (this project's profile)
+-- Facts about all items of a list, defined by recursion so that a type can keep them.
 use Rattle.std.specs.List.{AllByRecursion, AllByRecursion-prop}
 use Rattle.std.specs.Prelude.{ℕ, ◌+◌, ◌<◌, ◌≤◌, ◌≡◌, ◌↔◌, List, [], ◌∷◌}
 use Rattle.std.proofs.Props.{props}
@@ -38,6 +38,6 @@ Pairwise R (a ∷ more) (b ∷ others) = R a b × Pairwise R more others
 Pairwise R [] (b ∷ others) = ⊥
 Pairwise R (a ∷ more) [] = ⊥
 
--- only which items there are counts
+-- two lists have the same items, whatever their order and number
 abbrev pub SameMembers : {X : Type 0} → List X → List X → Type 0
 SameMembers {X} xs ys = (x : X) → In x xs ↔ In x ys

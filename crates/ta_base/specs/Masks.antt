@@ -1,4 +1,4 @@
--- Sets of numbers as tests, as masks and as lists (this project's profile)
+-- Sets of natural numbers: as bit masks, as tests and as lists.
 use Rattle.std.specs.Prelude.{ℕ, zero, suc, ◌/◌, ◌%◌, ◌^◌, ◌≡◌, ◌==◌, ◌⊎◌, not, Bool, true, false, ◌&&◌, List, [], ◌∷◌}
 
 -- whether bit i of a mask is 1
@@ -15,7 +15,7 @@ abbrev pub implies : Bool → Bool → Bool
 implies true b = b
 implies false b = true
 
--- an item of a list
+-- a list has this item
 abbrev pub In : {X : Type 0} → X → List X → Type 0
 In x [] = ⊥
 In x (y ∷ ys) = (x ≡ y) ⊎ In x ys

@@ -1,4 +1,4 @@
--- Sums over lists, and how often a number is in a list (this project's profile)
+-- Sums over lists, and how often a number occurs in a list.
 use Rattle.std.specs.Prelude.{ℕ, ℤ, pos, ◌+◌, ◌+ℤ◌, ◌==◌, List, [], ◌∷◌, if◌then◌else◌}
 
 -- the sum of a function over a list

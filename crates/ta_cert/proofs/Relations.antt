@@ -59,7 +59,7 @@ place_other true false e f = false≢true e
 place_other false true e f = false≢true e
 place_other false false e f = false≢true f
 
--- ---- a fault stays one
+-- ---- an error stays one
 
 pub behind_more : (ls : List Line) (text more : List ℕ) (e : CertFault) → IsRefusedBehind ls text e → IsRefusedBehind ls (text ++ more) e
 behind_more ls text more (fault.Line n) (m, same) = (
@@ -101,7 +101,7 @@ pub Fate : List ℕ → List Line → Outcome → Type 0
 Fate text ls (Ok x) = (more : List Line) × StandsAt x.1 text (ls ++ more) × (x.0 ≡ numbered_lines (length ls) more)
 Fate text ls (Err e) = IsRefusedText text e
 
--- the same, where a fault stands behind these lines
+-- the same, where an error stands behind these lines
 pub Here : List ℕ → List Line → Outcome → Type 0
 Here text ls (Ok x) = (more : List Line) × StandsAt x.1 text (ls ++ more) × (x.0 ≡ numbered_lines (length ls) more)
 Here text ls (Err e) = IsRefusedBehind ls text e

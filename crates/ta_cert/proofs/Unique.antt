@@ -111,7 +111,7 @@ reads_malformed text ls rest n r m = read_or_refused (steps text start) (numbere
 pub reads_trailing : (text : List ℕ) (ls : List Line) (rest : List ℕ) (n : ℕ) → ReadsLines text ls rest → IsTrailing text n → ⊥
 reads_trailing text ls rest n r t = read_or_refused (steps text start) (numbered_lines 0 ls, stand_of ls rest) (fault.Trailing n) (readings_are_read text ls rest r) (trailing_are_refused text n t)
 
--- a text has one fault, at one line
+-- a text has one error, at one line
 same_faults : (text : List ℕ) (e f : CertFault) → steps text start ≡ Err e → steps text start ≡ Err f → e ≡ f
 same_faults text e f a b = let both : Err e ≡ Err f = sym a ∙ b in cc
 

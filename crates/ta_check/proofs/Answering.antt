@@ -13,12 +13,12 @@ Accepts subject text answer = IfOk answer (λ accepted. CertificateFor subject t
 abbrev Faults : Subject → List ℕ → Result Accepted CertFault → Type 0
 Faults subject text answer = IfErr answer (λ f. f ≢ fault.Memory → IsFirstFaultFor subject text f)
 
--- a text with a first fault is no certificate
+-- a text with a first error is no certificate
 pub refused_answer : (subject : Subject) (text : List ℕ) (answer : Result Accepted CertFault) → Faults subject text answer → IfErr answer (λ f. f ≢ fault.Memory → (numbers : List ℕ) → ¬ CertificateFor subject text numbers)
 refused_answer subject text (Ok accepted) h = tt
 refused_answer subject text (Err f) h = λ other. no_certificate subject text f (h other)
 
--- the first fault is the answer, unless memory ran out
+-- the first error is the answer, unless memory ran out
 pub exact_answer : (subject : Subject) (text : List ℕ) (answer : Result Accepted CertFault) → Accepts subject text answer → Faults subject text answer → (f : CertFault) → IsFirstFaultFor subject text f → IsErrOrMemory answer f
 exact_answer subject text (Ok accepted) a h f first = absurd (no_certificate subject text f first accepted.patterns a)
 exact_answer subject text (Err other) a h f first = elim (memory_or_not other) [
@@ -26,11 +26,11 @@ exact_answer subject text (Err other) a h f first = elim (memory_or_not other) [
   | inr not ↦ inl (ap Err (one_fault subject text other f (h not) first))
 ]
 
--- no line is at fault where a text is read so far
+-- no line is in error where a text is read so far
 no_line_fault : (subject : Subject) (reader : Reader) (position : Position) (text : List ℕ) (f : CertFault) → StandBehind subject reader position text → LineAtFault subject text f → ⊥
 no_line_fault subject reader position text f h line = line_or_text subject text f line (read_breaks subject text h.ls reader.line h.read.reads (h.at, h.leads))
 
--- a text that is read so far has no lasting fault
+-- a text that is read so far has no lasting error
 none_lasting : (subject : Subject) (reader : Reader) (position : Position) (text : List ℕ) (f : CertFault) → StandBehind subject reader position text → IsLastingFor subject text f → ⊥
 none_lasting subject reader position text (fault.Truncated n) h lasting = lasting
 none_lasting subject reader position text (fault.Line n) h lasting = elim lasting [ inl line ↦ no_line_fault subject reader position text (fault.Line n) h line | inr own ↦ reads_malformed text h.ls reader.line n h.read.reads own.0 ]
@@ -48,7 +48,7 @@ none_lasting subject reader position text (fault.Question n) h lasting = elim la
 none_lasting subject reader position text fault.Failed h lasting = elim lasting [ inl line ↦ no_line_fault subject reader position text fault.Failed h line | inr own ↦ own ]
 none_lasting subject reader position text fault.Memory h lasting = elim lasting [ inl line ↦ no_line_fault subject reader position text fault.Memory h line | inr own ↦ own ]
 
--- a lasting fault is a first one
+-- a lasting error is a first one
 pub first_of_lasting : (subject : Subject) (text : List ℕ) (f : CertFault) → IsLastingFor subject text f → IsFirstFaultFor subject text f
 first_of_lasting subject text (fault.Truncated n) h = absurd h
 first_of_lasting subject text _ h = h
@@ -111,13 +111,13 @@ pub end_refused : (subject : Subject) (reader : Reader) (position : Position) (t
 end_refused subject reader position text (fault.Truncated n) h f = end_fails subject reader position text n h f
 end_refused subject reader position text _ h f = absurd f
 
--- what a finished checker refused is a first fault
+-- what a finished checker refused is a first error
 pub finished_faults : (subject : Subject) (text : List ℕ) (answer : Result Accepted CertFault) → CheckerFinishAnswers subject text answer → Faults subject text answer
 finished_faults subject text (Ok accepted) f = tt
 finished_faults subject text (Err (fault.Truncated n)) f = λ other. f
 finished_faults subject text (Err _) f = absurd f
 
--- what a checker refused of the whole text is its first fault
+-- what a checker refused of the whole text is its first error
 pub fed_faults : (new : Checker) (subject : Subject) (text : List ℕ) (e : CertFault) → subject_of new ≡ subject → CheckerFeedAnswers [] text new (Err e) → e ≢ fault.Memory → IsFirstFaultFor subject text e
 fed_faults new subject text e same answer other = elim (told e answer) [
   | inl memory ↦ absurd (other memory)

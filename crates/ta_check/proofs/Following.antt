@@ -1,4 +1,4 @@
--- Lines lead to one standing, and those that lead on are not at fault
+-- Lines lead to one standing, and those that lead on have no error
 use Rattle.ta_check.proofs.Common.{◌≡◌, ◌⊎◌, inl, inr, ℕ, ◌<◌, ℤ, List, [], ◌∷◌, ◌++◌, length, None, Some, refl, sym, ap, subst, ◌∙◌, arith, Line, Node, CertFault, IsShown, Pending, Search, MayAsk, parts, MayStand, leaf_back, LeafFault, no_fault, IsJudged, Subject, kind_of, Standing, FactAt, search_there, AtWord, BeginsProof, ShowsWaiting, Stands, TakesOrder, Leads, LeadThrough, AtSomeWord, HasForm, IsNoPair, IsQuestion, IsMisplaced, IsNoLeaf, FirstLeafFault, LeafFails, PairFails, IsAtFault, check_stays, none-some, IsMisplacedNode, MayJoin, Waits}
 use Rattle.ta_cert.specs.declared.line.Line.TheVariants as line
 use Rattle.ta_encode.proofs.Asking.{none_asked}
@@ -138,7 +138,7 @@ in_place subject s line.End after m leads = m leads.free
 pub leaf_of_leaf : (ts us : List (ℕ × ℤ)) → node.Leaf ts ≡ node.Leaf us → ts ≡ us
 leaf_of_leaf ts us e = cc
 
--- a leaf that leads on has no fault
+-- a leaf that leads on has no error
 leaf_leads : (subject : Subject) (s : Standing) (ts : List (ℕ × ℤ)) (f : LeafFault) (after : Standing) → AtSomeWord subject s (λ search w. FirstLeafFault search w ts f) ⊎ PairFails subject s ts f → Leads subject s (line.Tree (node.Leaf ts)) after → ⊥
 leaf_leads subject s ts f after (inl at) leads =
     let wrong : FirstLeafFault at.search at.word ts f = at.holds in
@@ -166,7 +166,7 @@ may_ask p w (node.Guard guard) asks may = may
 may_ask p w (node.Order before later) asks may = may
 may_ask p w (node.Stuck rule) asks may = may
 
--- a line that leads on is not at fault
+-- a line that leads on is not in error
 pub not_both : (subject : Subject) (s : Standing) (number : ℕ) (l : Line) (f : CertFault) (after : Standing) → IsAtFault subject s number l f → Leads subject s l after → ⊥
 not_both subject s number l (fault.Line n) after at leads = in_place subject s l after at.1 leads
 not_both subject s number l (fault.UnknownPattern n) after (place, k, here, beyond) leads =

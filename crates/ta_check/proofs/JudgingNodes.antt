@@ -174,7 +174,7 @@ node_taken kind subject old new at k number p n more first of is same proved cur
     let gone = subst (λ (xs : List (ℕ × ℕ)). AllGoOn (search_of (kind_of at.version) subject xs p) (place_of (kind_of at.version) new) words (Ok more)) (sym same.orders) went in
     (record at { pending = words }, inl stands, went_at subject new at k p words first.older more (head_kept old new at same first.head) first.named first.begun (is.begun ∙ ap reverse (sym proved)) current left.0 gone)
 
--- a leaf's fault is told in its line
+-- a leaf's error is told in its line
 fault_told : (subject : Subject) (at : Standing) (number : ℕ) (l : Line) (new : Position) (f : LeafFault) → LeafFails subject at l f → LineAnswers subject at number l new (Err (fault_at number f))
 fault_told subject at number l new (leaf.RowNumber row) fails = (refl, fails)
 fault_told subject at number l new (leaf.Overflow column) fails = (refl, fails)
@@ -191,7 +191,7 @@ leaf_refused subject s new at k number p n f newest refused =
     } in
     subst (λ g. LineAnswers subject at number (line.Tree n) new (Err g)) (sym told.is) (fault_told subject at number (line.Tree n) new told.fault fails)
 
--- what a node's line is refused for is its fault
+-- what a node's line is refused for is its error
 told_at : (subject : Subject) (s new : Position) (at : Standing) (k number : ℕ) (p : Pattern) (n : Node) (f : CertFault) → Newest subject s at k p → HasForm (kind_of at.version) subject.claim n → NodeTold (search_of (kind_of at.version) subject s.orders p) (here_at (place_of (kind_of at.version) s)) number n f → LineAnswers subject at number (line.Tree n) new (Err f)
 told_at subject s new at k number p n (fault.ExtendComplete m) newest form (place, is, none) = (
   place,

@@ -1,4 +1,4 @@
--- A fault that lasts
+-- An error that lasts
 use Rattle.ta_check.proofs.Common.{◌∙◌, ℕ, List, [], ◌∷◌, ◌++◌, inl, inr, refl, sym, ap, subst, append_assoc, CertFault, cert_lines_text, MayFollow, Subject, CertificateFor, IsLastingFor, LastingFaultsLast, LineAtFault, TextAtFault}
 use Rattle.ta_cert.proofs.Relations.{behind_more}
 use Rattle.ta_cert.specs.declared.fault.CertFault.TheVariants as fault
@@ -16,7 +16,7 @@ line_more subject text more f e = record {
   at_fault = e.at_fault;
 }
 
--- a fault of the text itself
+-- an error of the text itself
 malformed_more : (subject : Subject) (text more : List ℕ) (n : ℕ) → TextAtFault subject text (fault.Line n) → TextAtFault subject (text ++ more) (fault.Line n)
 malformed_more subject text more n (m, follow) = let on = behind_more m.ls text more (fault.Line n) (m, refl) in (on.0, subst (MayFollow subject) (sym on.1) follow)
 
@@ -29,6 +29,6 @@ lasting_faults_last subject text more (fault.Line n) h = elim h [ inl line ↦ i
 lasting_faults_last subject text more (fault.Trailing n) h = elim h [ inl line ↦ inl (line_more subject text more (fault.Trailing n) line) | inr own ↦ inr (trailing_more subject text more n own) ]
 lasting_faults_last subject text more f h = elim h [ inl line ↦ inl (line_more subject text more f line) | inr own ↦ absurd own ]
 
--- no text that goes on behind a lasting fault is a certificate
+-- no text that goes on behind a lasting error is a certificate
 pub no_longer_certificate : (subject : Subject) (text : List ℕ) (f : CertFault) → IsLastingFor subject text f → (more numbers : List ℕ) → ¬ CertificateFor subject (text ++ more) numbers
 no_longer_certificate subject text f h more = no_certificate subject (text ++ more) f (lasting_faults_last subject text more f h)

@@ -1,4 +1,4 @@
--- A leaf has one first fault
+-- A leaf has one first error
 use Rattle.ta_check.proofs.Common.{◌≡◌, ℕ, ◌<◌, ◌≤◌, ◌⊎◌, List, ℤ, pos, ◌≤ℤ◌, ◌<ℤ◌, inl, inr, refl, sym, ap, subst, ◌∙◌, arith, cases_lt, ints, System, Automaton, FailsToShow, IsShown, no_fault, weighted_same, part_in, entry, column_sum, ColumnStays, row_at, FirstMissing, FineBefore, IsFirstFaultOfLeaf, LeafFault, RowNumber, Overflow, Positive, NotNegative, FirstLeafFault, stays_same, Pending, Search}
 use Rattle.ta_base.proofs.Naturals.{neither_below}
 use Rattle.ta_encode.proofs.SameSystems.{same_numbers}
@@ -26,7 +26,7 @@ same_fine s z ts column same fine = record {
   none_positive = λ c before. subst (λ x. x ≤ℤ pos 0) (same_sum s z ts c same) (fine.none_positive c before);
 }
 
--- the same first fault
+-- the same first error
 same_fault : (s z : System) (ts : List (ℕ × ℤ)) (f : LeafFault) → SameNumbers s z → IsFirstFaultOfLeaf s ts f → IsFirstFaultOfLeaf z ts f
 same_fault s z ts (RowNumber row) same first = record {
   at = first.at;
@@ -84,7 +84,7 @@ leaves_before s ts c low leaves fine stays =
       | inr from ↦ let last : s.unknowns ≡ c = omega arith in leaves (subst (ColumnStays s ts) last stays)
     ]
 
--- multipliers have one first fault over a system
+-- multipliers have one first error over a system
 fault_once : (s : System) (ts : List (ℕ × ℤ)) (f g : LeafFault) → IsFirstFaultOfLeaf s ts f → IsFirstFaultOfLeaf s ts g → f ≡ g
 unfolding Bad
 fault_once s ts (RowNumber row) (RowNumber other) a b = ap RowNumber (missing_once s ts row other a b)

@@ -1,11 +1,11 @@
--- Two first faults of a text are one
+-- Two first errors of a text are one
 use Rattle.ta_check.proofs.Common.{◌≡◌, ℕ, List, ◌∷◌, ◌++◌, length, inl, inr, sym, ap, subst, ◌∙◌, CertFault, line_text, line_number, reads_unique, reads_malformed, reads_trailing, malformed_trailing, malformed_place, trailing_place, Subject, first_standing, LeadThrough, IsAtFault, LineAtFault, TextAtFault, IsFirstFaultFor}
 use Rattle.ta_cert.specs.declared.fault.CertFault.TheVariants as fault
 use Rattle.ta_check.proofs.Following.{leads_through_once}
 use Rattle.ta_check.proofs.Stopping.{stops_once, line_stops, line_at_front, text_breaks, line_or_text}
 use Rattle.ta_check.proofs.Reasons.{known_through, at_fault_once}
 
--- the first line at fault is one line with one fault
+-- the first line in error is one line with one error
 lines_once : (subject : Subject) (text : List ℕ) (f g : CertFault) → LineAtFault subject text f → LineAtFault subject text g → f ≡ g
 lines_once subject text f g d e =
     let same = stops_once subject text d.ls e.ls (line_text d.line ++ (10 ∷ d.after)) (line_text e.line ++ (10 ∷ e.after)) (line_stops subject text f d) (line_stops subject text g e) in
@@ -17,7 +17,7 @@ lines_once subject text f g d e =
     let moved : IsAtFault subject e.standing (line_number (length e.ls)) e.line f = subst (λ l. IsAtFault subject e.standing (line_number (length e.ls)) l f) line numbered in
     at_fault_once subject e.standing (line_number (length e.ls)) e.line f g (known_through subject first_standing e.ls e.standing (λ k none. absurd none) e.leads) moved e.at_fault
 
--- a text has one fault of its own
+-- a text has one error of its own
 texts_once : (subject : Subject) (text : List ℕ) (f g : CertFault) → TextAtFault subject text f → TextAtFault subject text g → f ≡ g
 texts_once subject text (fault.Line n) (fault.Line k) d e = ap fault.Line (malformed_place text n k d.0 e.0)
 texts_once subject text (fault.Line n) (fault.Trailing k) d e = absurd (malformed_trailing text n k d.0 e.0)
@@ -36,7 +36,7 @@ texts_once subject text (fault.Truncated n) (fault.Truncated k) d e =
 texts_once subject text (fault.Truncated n) _ d e = absurd e
 texts_once subject text _ g d e = absurd d
 
--- two first faults are one
+-- two first errors are one
 pub one_fault : (subject : Subject) (text : List ℕ) (f g : CertFault) → IsFirstFaultFor subject text f → IsFirstFaultFor subject text g → f ≡ g
 one_fault subject text f g (inl d) (inl e) = lines_once subject text f g d e
 one_fault subject text f g (inl d) (inr e) = absurd (line_or_text subject text f d (text_breaks subject text g e))

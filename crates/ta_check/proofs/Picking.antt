@@ -153,7 +153,7 @@ none_missing s z ts row p m =
     let at = renumbered_at 0 ts m.at (omega arith) in
     omega arith
 
--- the first fault over the picked rows is that over all
+-- the first error over the picked rows is that over all
 picked_fault : (s z : System) (ts : List (ℕ × ℤ)) (f : LeafFault) → Picked s z ts → IsFirstFaultOfLeaf z (renumbered 0 ts) f → IsFirstFaultOfLeaf s ts f
 picked_fault s z ts (RowNumber row) p first = absurd (none_missing s z ts row p first)
 picked_fault s z ts (Overflow column) p first = (subst (λ n. column ≤ n) p.unknowns first.0, picked_fine s z ts column p first.1, λ stays. first.2 (picked_leaves s z ts column p stays))

@@ -27,7 +27,7 @@ lasting_text subject ls text (fault.Line n) may (m, same) = inr (m, subst (MayFo
 lasting_text subject ls text (fault.Trailing n) may (t, same) = inr (t, subst (MayFollow subject) (sym same) may)
 lasting_text subject ls text _ may r = absurd r
 
--- whether a fault is want of memory
+-- whether an error is want of memory
 pub memory_or_not : (f : CertFault) → (f ≡ fault.Memory) ⊎ (f ≢ fault.Memory)
 memory_or_not fault.Memory = inl refl
 memory_or_not (fault.Line n) = inr (λ e. absurd (cc))
@@ -165,7 +165,7 @@ goes_within subject reader new last position moved after piece rest taken so (te
     let gone = goes (text ++ so.front) (so.stands text h) in
     (gone.0, gone.1)
 
--- a fault of the bytes that are left
+-- an error of the bytes that are left
 told_of : (subject : Subject) (text bytes : List ℕ) (reader : Reader) (position : Position) (e : CertFault) → NextTaken subject text bytes reader position (Err e) → TakenTo subject (text ++ bytes) reader position (Err e)
 told_of subject text bytes reader position fault.Memory h = tt
 told_of subject text bytes reader position _ h = h

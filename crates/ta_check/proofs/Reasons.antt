@@ -1,4 +1,4 @@
--- A line that can't follow has one fault
+-- A line that can't follow has one error
 use Rattle.ta_check.proofs.Common.{◌≡◌, ℕ, ℤ, ◌<◌, ◌≤◌, ◌⊎◌, List, [], ◌∷◌, length, Some, inl, inr, refl, sym, ap, subst, ◌∙◌, arith, In, known_first, Line, Node, CertFault, FailsToShow, Pending, Search, LeafFault, Subject, kind_of, Standing, FactAt, NothingIsLeft, TakesOrder, Leads, LeadThrough, HasForm, IsNoPair, IsQuestion, IsUnawaited, IsMisplaced, AtSomeWord, FirstLeafFault, LeafFails, IsAtFault, fault_at, none-some, IsMisplacedNode}
 use Rattle.ta_check.proofs.Searches.{search_exists}
 use Rattle.ta_cert.specs.declared.line.Line.TheVariants as line
@@ -26,7 +26,7 @@ pub known_through : (subject : Subject) (s : Standing) (ls : List Line) (after :
 known_through subject s [] after known leads = subst (KnowsBegun subject) (sym leads) known
 known_through subject s (l ∷ ls) after known (next, first, rest) = known_through subject next ls after (known_next subject s l next known first) rest
 
--- the fault of a node at a word
+-- the error of a node at a word
 AtWordFault : {E : Type 0} → ℕ → Node → CertFault → Search E → Pending E → Type 0
 AtWordFault number node.Extend f p w = f ≡ fault.ExtendComplete number
 AtWordFault number (node.Split unknown floor) f p w = f ≡ fault.SplitVariable number
@@ -49,7 +49,7 @@ question_fault number (node.Guard guard) f p w asks is = is
 question_fault number (node.Order before later) f p w asks is = is
 question_fault number (node.Stuck rule) f p w asks is = is
 
--- the fault of the leaf of a pair
+-- the error of the leaf of a pair
 record WaitFault (subject : Subject) (s : Standing) (number : ℕ) (n : Node) (f : CertFault) : Type 0 where
   pub pair : ℕ × ℕ
   pub waits : s.waiting ≡ Some pair
@@ -59,7 +59,7 @@ record WaitFault (subject : Subject) (s : Standing) (number : ℕ) (n : Node) (f
   pub told : f ≡ fault_at number why
   pub fails : FailsToShow subject.file.automaton pair multipliers why
 
--- the fault of a pair where one may come
+-- the error of a pair where one may come
 record JoinFault (s : Standing) (number : ℕ) (n : Node) (f : CertFault) : Type 0 where
   pub before : ℕ
   pub later : ℕ
@@ -67,11 +67,11 @@ record JoinFault (s : Standing) (number : ℕ) (n : Node) (f : CertFault) : Type
   pub told : f ≡ fault.Pair number
   pub takes : TakesOrder s
 
--- the fault of a pattern's line where one may follow
+-- the error of a pattern's line where one may follow
 PatternFault : Subject → Standing → ℕ → ℕ → CertFault → Type 0
 PatternFault subject s number k f = ((f ≡ fault.UnknownPattern number) × (length subject.file.patterns ≤ k)) ⊎ ((f ≡ fault.RepeatedPattern number) × In k s.begun)
 
--- what a line at fault is, form by form
+-- what a line in error is, form by form
 Reason : Subject → Standing → ℕ → Line → CertFault → Type 0
 Reason subject s number (line.Header version) f = f ≡ fault.Line number
 Reason subject s number (line.Pattern k) f = ((f ≡ fault.Line number) × (¬ NothingIsLeft s)) ⊎ (NothingIsLeft s × PatternFault subject s number k f)
@@ -123,7 +123,7 @@ reason subject s number l (fault.Positive n unknown) (place, fails) = leaf_reaso
 reason subject s number l (fault.NotNegative n) (place, fails) = leaf_reason subject s number l (fault.NotNegative n) leaf.NotNegative (ap fault.NotNegative place) fails
 reason subject s number l _ at = absurd at
 
--- a node has one fault at a word
+-- a node has one error at a word
 node_once : {E : Type 0} (number : ℕ) (n : Node) (f g : CertFault) (p : Search E) (w : Pending E) → AtWordFault number n f p w → AtWordFault number n g p w → f ≡ g
 unfolding AtWordFault
 node_once number node.Extend f g p w a b = a ∙ sym b
@@ -149,7 +149,7 @@ wait_fault_once subject s number n f g a b =
     let fails = subst (λ q. FailsToShow subject.file.automaton q b.multipliers a.why) pair (subst (λ us. FailsToShow subject.file.automaton a.pair us a.why) ts a.fails) in
     a.told ∙ ap (fault_at number) (pair_fault_once subject.file.automaton b.pair b.multipliers a.why b.why fails b.fails) ∙ sym b.told
 
--- a pattern's line has one fault
+-- a pattern's line has one error
 pattern_once : (subject : Subject) (s : Standing) (number k : ℕ) (f g : CertFault) → KnowsBegun subject s → PatternFault subject s number k f → PatternFault subject s number k g → f ≡ g
 unfolding PatternFault
 pattern_once subject s number k f g known (inl (is, beyond)) (inl (that, other)) = is ∙ sym that
@@ -213,6 +213,6 @@ reason_once subject s number (line.Tree n) f g known (inr (inr (inr pair))) (inr
 reason_once subject s number (line.Tree n) f g known (inr (inr (inr pair))) (inr (inr (inr other))) = pair.told ∙ sym other.told
 reason_once subject s number line.End f g known a b = a ∙ sym b
 
--- one standing, number and line have one fault
+-- one standing, number and line have one error
 pub at_fault_once : (subject : Subject) (s : Standing) (number : ℕ) (l : Line) (f g : CertFault) → KnowsBegun subject s → IsAtFault subject s number l f → IsAtFault subject s number l g → f ≡ g
 at_fault_once subject s number l f g known a b = reason_once subject s number l f g known (reason subject s number l f a) (reason subject s number l g b)

@@ -46,7 +46,7 @@ line_at_front ls ms l m p q legal right e =
     let other = (legal_last ms m right).0 in
     line_unique l m form other (first_byte 10 (line_text l) (line_text m) p q (line_unbroken l form) (line_unbroken m other) e).0
 
--- a text stops before the first line at fault
+-- a text stops before the first line in error
 pub line_stops : (subject : Subject) (text : List ℕ) (f : CertFault) (e : LineAtFault subject text f) → Stops subject text e.ls (line_text e.line ++ (10 ∷ e.after))
 line_stops subject text f e = record {
   whole = e.whole ∙ ap (λ t. t ++ e.after) (lines_text-append e.ls (e.line ∷ [])) ∙ append_assoc (cert_lines_text e.ls) (line_text e.line ++ (10 ∷ [])) e.after ∙ ap (λ t. cert_lines_text e.ls ++ t) (append_assoc (line_text e.line) (10 ∷ []) e.after);
@@ -80,14 +80,14 @@ break_stops subject text b = record {
 pub read_breaks : (subject : Subject) (text : List ℕ) (ls : List Line) (rest : List ℕ) → ReadsLines text ls rest → MayFollow subject ls → Breaks subject text
 read_breaks subject text ls rest reads follow = record { ls = ls; bytes = rest; whole = reads.whole; legal = reads.legal; follow = follow; stuck = reads_stuck text rest ls reads }
 
--- so does a text with a fault of its own
+-- so does a text with an error of its own
 pub text_breaks : (subject : Subject) (text : List ℕ) (f : CertFault) → TextAtFault subject text f → Breaks subject text
 text_breaks subject text (fault.Line n) (m, follow) = record { ls = m.ls; bytes = m.bytes ++ m.after; whole = m.whole; legal = m.legal; follow = follow; stuck = malformed_stuck text n m }
 text_breaks subject text (fault.Trailing n) (t, follow) = record { ls = t.ls; bytes = t.byte ∷ t.after; whole = t.whole; legal = t.legal; follow = follow; stuck = trailing_stuck text n t }
 text_breaks subject text (fault.Truncated n) (t, follow) = read_breaks subject text t.ls t.rest t.reads follow
 text_breaks subject text _ e = absurd e
 
--- no line is at fault where the text breaks
+-- no line is in error where the text breaks
 pub line_or_text : (subject : Subject) (text : List ℕ) (f : CertFault) → LineAtFault subject text f → Breaks subject text → ⊥
 unfolding Stuck
 line_or_text subject text f e b =

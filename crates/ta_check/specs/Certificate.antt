@@ -1,4 +1,5 @@
--- Certificates of a file (Farkas' lemma and integer branching over the words, or the moments, of this project's profile)
+-- Certificates of a file, and that they are sound: what a certificate claims of a pattern holds. A refutation consists of Farkas
+-- certificates and integer branchings (Schrijver, Theory of Linear and Integer Programming, 1986).
 use Rattle.std.specs.Prelude.{ℕ, ◌≡◌, ◌<◌, ◌^◌, List, [], ◌∷◌, length, map, slice_get, Some}
 use Rattle.std.specs.List.{AllByRecursion}
 use Rattle.ta_automaton.specs.declared.automaton.Automaton.{Automaton}
@@ -29,7 +30,8 @@ use Rattle.ta_check.specs.Subjects.{ClaimHolds, Kind, Words, Moments, Subject, c
 abbrev pub ShowsPair : Automaton → Order → Type 0
 ShowsPair a order = IsShown a (pair_of order) order.multipliers
 
--- trees of a kind that prove what is claimed of the file's pattern of a number, under pairs, no leaf check of which leaves the range
+-- trees of a kind that prove, under pairs, what is claimed of the pattern with this number in the file; the check of no leaf leaves the
+-- range
 pub record ProvesClaim (kind : Kind) (subject : Subject) (pairs : List (ℕ × ℕ)) (numbered : ℕ × List Tree) : Type 0 where
   pub search : Search (fact_of kind)
   pub searched : search_at kind subject pairs numbered.0 ≡ Some search
@@ -38,8 +40,7 @@ pub record ProvesClaim (kind : Kind) (subject : Subject) (pairs : List (ℕ × �
 abbrev pub proof_number : (ℕ × List Tree) → ℕ
 proof_number numbered = numbered.0
 
--- pairs that a certificate may have with proofs of a kind: there are none for rest, and none beside proofs of moments; proofs of words
--- aren't for rest with silent places
+-- which pairs a certificate may have: none for rest, and none with proofs of moments. Rest with silent places has proofs of moments only
 abbrev pub may_have : Kind → Claim → List ℕ → List Order → Type 0
 may_have Words Safe silent orders = AreOrders orders
 may_have Words RestSafe [] orders = orders ≡ []
@@ -54,8 +55,8 @@ abbrev pub lines_of_kind : Kind → List Order → List Proof → List Line
 lines_of_kind Words orders proofs = cert_lines orders proofs
 lines_of_kind Moments orders proofs = question_lines proofs
 
--- the text of a good list of pairs, each with multipliers that show it, and of proofs of a kind under them of what is claimed of distinct
--- patterns of the file, with these numbers in its order; no line is longer than a reader takes
+-- the text of a good list of pairs, each with multipliers that show it, and of proofs of a kind: under these pairs they prove what is
+-- claimed of distinct patterns of the file, whose numbers are in its order; no line is longer than a reader takes
 pub record CertificateFor (subject : Subject) (text : List ℕ) (numbers : List ℕ) : Type 0 where
   pub kind : Kind
   pub orders : List Order
@@ -74,7 +75,7 @@ pub record CertificateFor (subject : Subject) (text : List ℕ) (numbers : List 
 abbrev pub AllClaimsHold : Subject → List ℕ → Type 0
 AllClaimsHold subject numbers = AllByRecursion (ClaimHolds subject) numbers
 
--- trees over words that prove that the file's pattern of a number is safe
+-- trees over schemas that prove that the file's pattern with this number is safe
 abbrev pub ProvesPattern : File → List (ℕ × ℕ) → (ℕ × List Tree) → Type 0
 ProvesPattern file pairs numbered = ProvesClaim Words (claiming Safe file) pairs numbered
 
@@ -82,15 +83,15 @@ ProvesPattern file pairs numbered = ProvesClaim Words (claiming Safe file) pairs
 abbrev pub Certificate : File → List ℕ → List ℕ → Type 0
 Certificate file text numbers = CertificateFor (claiming Safe file) text numbers
 
--- the file's pattern of a number occurs in no run, for any admissible parameters
+-- the file's pattern with this number occurs in no run, for any admissible parameters
 abbrev pub PatternSafe : File → ℕ → Type 0
 PatternSafe file number = ClaimHolds (claiming Safe file) number
 
--- so are all of these
+-- each of these patterns occurs in no run
 abbrev pub AllSafe : File → List ℕ → Type 0
 AllSafe file numbers = AllClaimsHold (claiming Safe file) numbers
 
--- a certificate, without pairs, that no run comes to rest where the last event of such a pattern happens
+-- a certificate, without pairs, that no run is at rest where the last event of one of these patterns happens
 abbrev pub RestCertificate : File → List ℕ → List ℕ → Type 0
 RestCertificate file text numbers = CertificateFor (claiming RestSafe file) text numbers
 
@@ -98,27 +99,28 @@ RestCertificate file text numbers = CertificateFor (claiming RestSafe file) text
 abbrev pub AllRestSafe : File → List ℕ → Type 0
 AllRestSafe file numbers = AllClaimsHold (claiming RestSafe file) numbers
 
--- the same where these places are silent
+-- such a certificate where these places are silent
 abbrev pub QuietRestCertificate : File → List ℕ → List ℕ → List ℕ → Type 0
 QuietRestCertificate file silent text numbers = CertificateFor (claiming_with RestSafe file silent) text numbers
 
--- no run comes to quiet rest there, with these silent places; without any, none comes to rest there
+-- no run comes to quiet rest where the last event of one of these patterns happens, with these silent places; without any, none comes to
+-- rest
 abbrev pub AllQuietRestSafe : File → List ℕ → List ℕ → Type 0
 AllQuietRestSafe file silent numbers = AllClaimsHold (claiming_with RestSafe file silent) numbers
 
--- of the file's pattern of a number, under no set of fall guards that are false at the start, a complete word that is legal under pairs has a
--- natural solution of its system
+-- for the pattern with this number in the file: under no set of fall guards that are false at the start does a complete schema that is
+-- legal under pairs have a natural solution of its system
 pub record PatternUnsolved (file : File) (pairs : List (ℕ × ℕ)) (number : ℕ) : Type 0 where
   pub pattern : Pattern
   pub named : slice_get file.patterns number ≡ Some pattern
   pub none : (start : ℕ) → start < 2 ^ length file.automaton.fall → (word : List Element) (values : List ℕ) → ¬ SolvedUnder file.automaton pattern pairs start word values
 
--- so are all of these, under no pairs, that is, for all legal words
+-- the same of each of these patterns, under no pairs, that is, for all legal schemas
 abbrev pub AllUnsolved : File → List ℕ → Type 0
 AllUnsolved file numbers = AllByRecursion (PatternUnsolved file []) numbers
 
--- a certificate of a file shows that its patterns are safe and, with proofs of words, that their words that are legal under its pairs have no
--- solution; where no rule with an update is on a cycle, none of their words has
+-- a certificate of a file shows that its patterns are safe. With proofs of schemas it also shows that their schemas that are legal under
+-- its pairs have no solution, and none of their schemas has if no rule with an update is on a cycle
 pub record CertificateShows (file : File) (kind : Kind) (pairs : List (ℕ × ℕ)) (numbers : List ℕ) : Type 0 where
   pub safe : AllSafe file numbers
   pub unsolved : kind ≡ Words → AllByRecursion (PatternUnsolved file pairs) numbers
@@ -127,14 +129,14 @@ pub record CertificateShows (file : File) (kind : Kind) (pairs : List (ℕ × �
 abbrev pub CertificatesShow : Type 0
 CertificatesShow = (file : File) (text numbers : List ℕ) → LoopsPure file.automaton → (c : Certificate file text numbers) → CertificateShows file c.kind (map pair_of c.orders) numbers
 
--- a text is a certificate of one list of patterns at most
+-- a text is a certificate of at most one list of patterns
 abbrev pub CertificatesNameOneList : Type 0
 CertificatesNameOneList = (subject : Subject) (text ns ms : List ℕ) → CertificateFor subject text ns → CertificateFor subject text ms → ns ≡ ms
 
--- what is claimed may be claimed of each pattern of the file
+-- the claim may be made of each pattern of the file
 abbrev pub MayClaimAll : Subject → Type 0
 MayClaimAll subject = AllByRecursion (MayClaim subject.claim) subject.file.patterns
 
--- then it holds of a certificate's patterns
+-- then the claim holds of a certificate's patterns
 abbrev pub ClaimsHold : Type 0
 ClaimsHold = (subject : Subject) (text numbers : List ℕ) → MayClaimAll subject → LoopsPure subject.file.automaton → CertificateFor subject text numbers → AllClaimsHold subject numbers

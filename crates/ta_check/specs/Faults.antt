@@ -1,4 +1,4 @@
--- The first fault of a text that is no certificate
+-- The first error of a text that is not a certificate: its line, and the reason.
 use Rattle.std.specs.Prelude.{ℕ, ◌≡◌, ◌≤◌, ◌⊎◌, List, [], ◌∷◌, ◌++◌, length, ℤ, Some, None}
 use Rattle.ta_linear.specs.declared.row.System.{System}
 use Rattle.ta_automaton.specs.declared.file.File.{File}
@@ -30,38 +30,38 @@ pub record IsWaiting (s : Standing) : Type 0 where
   pub pair : ℕ × ℕ
   pub waits : s.waiting ≡ Some pair
 
--- no pair waits, and no word is left
+-- no pair waits, and no schema is left
 pub record IsIdle (s : Standing) : Type 0 where
   pub none : s.waiting ≡ None
   pub done : s.pending ≡ []
 
--- a node of a form that the proofs of this version don't have
+-- a node of a form that the proofs of this version do not have
 abbrev pub HasNoForm : Subject → Standing → Node → Type 0
 HasNoForm subject s n = ¬ HasForm (kind_of s.version) subject.claim n
 
--- a node where nothing is to be refuted and no pair waits for its leaf, or one that is no leaf where a pair does
+-- a node where nothing is to be refuted and no pair waits for its leaf; or a node other than a leaf where a pair waits
 abbrev pub IsUnawaited : Standing → Node → Type 0
 IsUnawaited s n = IsIdle s ⊎ (IsWaiting s × IsNoLeaf n)
 
--- no pair comes with the node
+-- the node does not bring a pair
 abbrev pub IsNoPair : Standing → Node → Type 0
 IsNoPair s (node.Order before later) = ¬ TakesOrder s
 IsNoPair s n = Unit {0}
 
--- a node that can't follow, whatever it says: it isn't a pair that may come, and proofs have no such form or it is unawaited
+-- a node that cannot follow, whatever its contents: it is not a pair that may come, and either proofs do not have its form or it is
+-- unawaited
 pub record IsMisplacedNode (subject : Subject) (s : Standing) (n : Node) : Type 0 where
   pub no_pair : IsNoPair s n
   pub out : HasNoForm subject s n ⊎ IsUnawaited s n
 
--- a line of a form that can't follow: a version that a certificate can't have, a proof or the end where it isn't free to come, or such a
--- node
+-- a line of a form that cannot follow: a version that a certificate cannot have, a proof or the end where it may not come, or such a node
 abbrev pub IsMisplaced : Subject → Standing → Line → Type 0
 IsMisplaced subject s (line.Header version) = ¬ HasVersion subject version
 IsMisplaced subject s (line.Pattern number) = ¬ NothingIsLeft s
 IsMisplaced subject s (line.Tree node) = IsMisplacedNode subject s node
 IsMisplaced subject s line.End = ¬ NothingIsLeft s
 
--- a pair's line where one may come, and the pair may not join those before it
+-- a pair's line where a pair may come, but this pair may not join those before it
 pub record IsBadOrder (subject : Subject) (s : Standing) (l : Line) : Type 0 where
   pub before : ℕ
   pub later : ℕ
@@ -69,12 +69,12 @@ pub record IsBadOrder (subject : Subject) (s : Standing) (l : Line) : Type 0 whe
   pub takes : TakesOrder s
   pub bad : ¬ MayJoin subject.file.automaton s.pairs (before, later)
 
--- a pattern's line where one may follow
+-- a pattern's line where a pattern's line may follow
 pub record IsPatternLine (s : Standing) (l : Line) (number : ℕ) : Type 0 where
   pub is : l ≡ line.Pattern number
   pub free : NothingIsLeft s
 
--- at the first word, or node of moments, that is left
+-- at the first schema, or node of moments, that is left
 pub record AtSomeWord (subject : Subject) (s : Standing) (fact : Search (FactAt s) → Pending (FactAt s) → Type 0) : Type 0 where
   pub search : Search (FactAt s)
   pub word : Pending (FactAt s)
@@ -82,39 +82,39 @@ pub record AtSomeWord (subject : Subject) (s : Standing) (fact : Search (FactAt 
   pub at : AtWord subject s search word words
   pub holds : fact search word
 
--- a node that asks, of a form that these proofs have, and may not ask there
+-- a node that asks, of a form that these proofs have, where it may not ask
 pub record AsksInVain (subject : Subject) (s : Standing) (l : Line) (n : Node) : Type 0 where
   pub is : l ≡ line.Tree n
   pub form : HasForm (kind_of s.version) subject.claim n
   pub at : AtSomeWord subject s (λ search w. asked search w.start w.past n ≡ None)
 
--- the split of an unknown that the word's system doesn't have
+-- a split of an unknown that the schema's system does not have
 pub record SplitsUnknown (subject : Subject) (s : Standing) (l : Line) : Type 0 where
   pub unknown : ℕ
   pub floor : ℤ
   pub is : l ≡ line.Tree (node.Split unknown floor)
   pub at : AtSomeWord subject s (λ search w. search.unknowns w.start w.past ≤ unknown)
 
--- the first fault of multipliers over the system of a word: rows before columns, the columns by rising unknown and the
--- constants last, and a column's range before its sign
+-- the first error of multipliers over the system of a schema: rows before columns, the columns by increasing unknown with the constants
+-- last, and in each column its range before its sign
 pub record FirstLeafFault {E : Type 0} (search : Search E) (w : Pending E) (ts : List (ℕ × ℤ)) (f : LeafFault) : Type 0 where
   pub system : System
   pub is : SystemAt search w system
   pub first : IsFirstLeafFault system ts f
 
--- the first fault of multipliers over the system of the pair that waits
+-- the first error of multipliers over the system of the pair that waits
 pub record PairFails (subject : Subject) (s : Standing) (ts : List (ℕ × ℤ)) (f : LeafFault) : Type 0 where
   pub pair : ℕ × ℕ
   pub waits : s.waiting ≡ Some pair
   pub fails : FailsToShow subject.file.automaton pair ts f
 
--- a leaf with this first fault, at the first word that is left or of the pair that waits
+-- a leaf with this first error, at the first schema that is left or for the pair that waits
 pub record LeafFails (subject : Subject) (s : Standing) (l : Line) (f : LeafFault) : Type 0 where
   pub multipliers : List (ℕ × ℤ)
   pub is : l ≡ line.Tree (node.Leaf multipliers)
   pub at : AtSomeWord subject s (λ search w. FirstLeafFault search w multipliers f) ⊎ PairFails subject s multipliers f
 
--- why a line of this number can't follow
+-- why a line with this number cannot follow
 abbrev pub IsAtFault : Subject → Standing → ℕ → Line → CertFault → Type 0
 IsAtFault subject s number l (fault.Line n) = (n ≡ number) × IsMisplaced subject s l
 IsAtFault subject s number l (fault.UnknownPattern n) = (n ≡ number) × (k : ℕ) × IsPatternLine s l k × (length subject.file.patterns ≤ k)
@@ -129,7 +129,7 @@ IsAtFault subject s number l (fault.Positive n unknown) = (n ≡ number) × Leaf
 IsAtFault subject s number l (fault.NotNegative n) = (n ≡ number) × LeafFails subject s l leaf.NotNegative
 IsAtFault subject s number l _ = ⊥
 
--- a line that has its form and can't follow those before it, each of which may follow those before it
+-- a well-formed line that cannot follow the lines before it, which may follow each other
 pub record LineAtFault (subject : Subject) (text : List ℕ) (f : CertFault) : Type 0 where
   pub ls : List Line
   pub line : Line
@@ -140,27 +140,27 @@ pub record LineAtFault (subject : Subject) (text : List ℕ) (f : CertFault) : T
   pub leads : LeadThrough subject first_standing ls standing
   pub at_fault : IsAtFault subject standing (line_number (length ls)) line f
 
--- a fault of the text behind lines each of which may follow those before it: a line of no form or too long, a byte behind
--- the end, or the text's end where `end` has not come
+-- an error of the text after lines that may follow each other: a line of no form or too long, a byte after the end, or the text's end
+-- before the line `end`
 abbrev pub TextAtFault : Subject → List ℕ → CertFault → Type 0
 TextAtFault subject text (fault.Line n) = (m : IsMalformed text n) × MayFollow subject m.ls
 TextAtFault subject text (fault.Trailing n) = (t : IsTrailing text n) × MayFollow subject t.ls
 TextAtFault subject text (fault.Truncated n) = (t : IsTruncated text n) × MayFollow subject t.ls
 TextAtFault subject text _ = ⊥
 
--- the first line at fault
+-- the first line with an error
 abbrev pub IsFirstFaultFor : Subject → List ℕ → CertFault → Type 0
 IsFirstFaultFor subject text f = LineAtFault subject text f ⊎ TextAtFault subject text f
 
--- a first fault that each longer text keeps: any but the end that comes too early
+-- a first error that each longer text keeps: any but an end that comes too early
 abbrev pub IsLastingFor : Subject → List ℕ → CertFault → Type 0
 IsLastingFor subject text (fault.Truncated n) = ⊥
 IsLastingFor subject text f = IsFirstFaultFor subject text f
 
--- those of a file whose patterns are claimed to be safe
+-- the first error, where the claim is that patterns of a file are safe
 abbrev pub IsFirstFault : File → List ℕ → CertFault → Type 0
 IsFirstFault file text f = IsFirstFaultFor (claiming Safe file) text f
 
--- it is the first fault of each longer text
+-- it is the first error of each longer text
 abbrev pub LastingFaultsLast : Type 0
 LastingFaultsLast = (subject : Subject) (text more : List ℕ) (f : CertFault) → IsLastingFor subject text f → IsFirstFaultFor subject (text ++ more) f

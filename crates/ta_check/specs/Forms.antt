@@ -1,11 +1,11 @@
--- Which forms of nodes the proofs of a certificate have
+-- Which forms of nodes the proofs of a certificate have.
 use Rattle.ta_cert.specs.declared.line.Node.{Node}
 use Rattle.ta_cert.specs.declared.line.Node.TheVariants as node
 use Rattle.ta_claim.specs.declared.claim.Claim.{Claim}
 use Rattle.ta_claim.specs.declared.claim.Claim.TheVariants.{Safe, RestSafe}
 use Rattle.ta_check.specs.Subjects.{Kind, Words, Moments}
 
--- leaves and splits; of words, extensions; of moments, questions, those of rules for rest alone
+-- leaves and splits; for schemas, extensions; for moments, questions, of which those about rules are for rest only
 abbrev pub form_in : Node → Kind → Claim → Type 0
 form_in (node.Leaf multipliers) kind claim = Unit {0}
 form_in (node.Split unknown floor) kind claim = Unit {0}
@@ -32,7 +32,7 @@ IsQuestion node.Extend = ⊥
 IsQuestion (node.Leaf multipliers) = ⊥
 IsQuestion (node.Split unknown floor) = ⊥
 
--- a node that is no leaf
+-- a node other than a leaf
 abbrev pub IsNoLeaf : Node → Type 0
 IsNoLeaf (node.Leaf multipliers) = ⊥
 IsNoLeaf n = Unit {0}

@@ -1,4 +1,4 @@
--- What the fields of a position stand for
+-- What the fields of a position stand for, and what it answers to the next line.
 use Rattle.std.specs.Prelude.{ℕ, ◌≡◌, ◌≤◌, ◌⊎◌, Bool, List, [], ◌∷◌, ◌++◌, reverse, slice_get, ℤ, Some, None, Result, Ok, Err}
 use Rattle.ta_base.specs.Lists.{SameMembers}
 use Rattle.ta_automaton.specs.declared.pattern.Pattern.{Pattern}
@@ -35,7 +35,7 @@ abbrev pub IsKeptIn : Kind → Subject → Pattern → Position → Type 0
 IsKeptIn Words subject p s = IsEncoding subject.file.automaton p s.encoding
 IsKeptIn Moments subject p s = IsKept subject.file.automaton p (asking_for subject.claim subject.silent).silent s.kept
 
--- behind a proof, or before any
+-- between proofs, or before the first
 pub record Between {E : Type 0} (s : Position) (pending : List (Pending E)) : Type 0 where
   pub current : s.current ≡ None
   pub left : pending ≡ []
@@ -65,55 +65,55 @@ pub record IsPositionAt (subject : Subject) (s : Position) (at : Standing) : Typ
   pub begun : at.begun ≡ reverse s.proved.items
   pub place : Between s at.pending ⊎ InNewest subject s at
 
--- those of some standing
+-- the position's fields are those of some standing
 abbrev pub IsSomewhere : Subject → Position → Type 0
 IsSomewhere subject s = (at : Standing) × IsPositionAt subject s at
 
--- what a position at a standing answers to the line of a number, and where it is then; want of memory is free
+-- a position at a standing: its answer to the line with this number, and where it is then; "out of memory" is always allowed
 abbrev pub LineAnswers : Subject → Standing → ℕ → Line → Position → Result (Unit {0}) CertFault → Type 0
 LineAnswers subject at number l new (Ok _) = (after : Standing) × Leads subject at l after × IsPositionAt subject new after
 LineAnswers subject at number l new (Err fault.Memory) = Unit {0}
 LineAnswers subject at number l new (Err f) = IsAtFault subject at number l f
 
--- a leaf's fault in a line of a number
+-- a leaf's error in the line with this number
 abbrev pub fault_at : ℕ → LeafFault → CertFault
 fault_at number (leaf.RowNumber row) = fault.Row number row
 fault_at number (leaf.Overflow column) = fault.Overflow number column
 fault_at number (leaf.Positive unknown) = fault.Positive number unknown
 fault_at number leaf.NotNegative = fault.NotNegative number
 
--- the first fault of a leaf at a word, told in a line of a number
+-- the first error of a leaf at a schema, reported for the line with this number
 pub record LeafTold {E : Type 0} (search : Search E) (w : Pending E) (number : ℕ) (ts : List (ℕ × ℤ)) (told : CertFault) : Type 0 where
   pub fault : LeafFault
   pub is : told ≡ fault_at number fault
   pub first : FirstLeafFault search w ts fault
 
--- what the judge of a leaf answers at a word; want of memory is free
+-- what the checker of a leaf answers at a schema; "out of memory" is always allowed
 abbrev pub LeafTaken : {E : Type 0} → Search E → Pending E → ℕ → List (ℕ × ℤ) → Result (Unit {0}) CertFault → Type 0
 LeafTaken search w number ts (Ok _) = IsJudged search w ts
 LeafTaken search w number ts (Err told) = (told ≡ fault.Memory) ⊎ LeafTold search w number ts told
 
--- the fault of a node that may not ask, in a line of a number
+-- the error of a node that may not ask, in the line with this number
 abbrev pub unasked_in : ℕ → Ask → CertFault
 unasked_in number ask.Extend = fault.ExtendComplete number
 unasked_in number (ask.Guard guard) = fault.Question number
 unasked_in number (ask.Order before later) = fault.Question number
 unasked_in number (ask.Stuck rule) = fault.Question number
 
--- a split of an unknown that the system of what is refuted doesn't have
+-- a split of an unknown that the system there does not have
 pub record SplitsNone {E : Type 0} (search : Search E) (w : Pending E) (n : Node) : Type 0 where
   pub unknown : ℕ
   pub floor : ℤ
   pub is : n ≡ node.Split unknown floor
   pub beyond : search.unknowns w.start w.past ≤ unknown
 
--- a leaf that the judge refuses
+-- a leaf that the checker refuses
 pub record LeafRefused {E : Type 0} (search : Search E) (w : Pending E) (number : ℕ) (n : Node) (told : CertFault) : Type 0 where
   pub multipliers : List (ℕ × ℤ)
   pub is : n ≡ node.Leaf multipliers
   pub leaf : LeafTold search w number multipliers told
 
--- why a node can't stand there, told in a line of a number
+-- why a node cannot stand there, reported for the line with this number
 abbrev pub NodeTold : {E : Type 0} → Search E → Pending E → ℕ → Node → CertFault → Type 0
 NodeTold search w number n (fault.ExtendComplete k) = (k ≡ number) × (n ≡ node.Extend) × (asked search w.start w.past n ≡ None)
 NodeTold search w number n (fault.Question k) = (k ≡ number) × IsQuestion n × (asked search w.start w.past n ≡ None)
@@ -125,7 +125,7 @@ pub record NodeStood {E : Type 0} (search : Search E) (old new : Place E) (n : N
   pub may : MayStand search (IsJudged search) (here_at old) n
   pub goes : (words : List (Pending E)) → AllWithin search old (here_at old ∷ words) → AllGoOn search new (parts search (here_at old) n ++ words) (Ok more)
 
--- what is answered to a node's line at a place, and where the place is then; want of memory is free
+-- a place's answer to a node's line, and where the place is then; "out of memory" is always allowed
 abbrev pub NodeTaken : {E : Type 0} → Search E → Place E → ℕ → Node → Place E → Result Bool CertFault → Type 0
 NodeTaken search old number n new (Ok more) = NodeStood search old new n more
 NodeTaken search old number n new (Err told) = (told ≡ fault.Memory) ⊎ NodeTold search (here_at old) number n told

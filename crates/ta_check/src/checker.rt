@@ -1,4 +1,10 @@
-//! Judging a certificate that comes in pieces.
+//! Judges a certificate that comes in pieces of any length.
+//!
+//! The reader of ta_cert cuts a piece into lines and keeps the unfinished one, the position takes
+//! the lines, and nothing else is kept: memory does not grow with the certificate. Contracts speak
+//! of all bytes fed so far, through a relation over every text for which the checker stands
+//! (`CheckerStandsFor`), so how the text was cut does not matter. Judging ends at the first line
+//! that is refused.
 #![tactic(auto)]
 
 ghost use Rattle.std.specs.Prelude.{ℕ, ◌≡◌, ◌↔◌, ◌++◌, [], true, List as Bytes, IfOk, IsErrOf, is_err};
@@ -126,7 +132,7 @@ impl<'a> Checker<'a> {
         }
     }
 
-    /// Judges the next piece. A fault is that of the first line at fault, where a byte of this piece
+    /// Judges the next piece. An error is that of the first refused line, where a byte of this piece
     /// ends it, makes it too long or stands behind the last line. Once a piece was refused, each
     /// later call is.
     pub fn feed(&mut self, piece: &[u8]) -> Result<(), CertFault>

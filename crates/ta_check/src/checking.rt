@@ -22,7 +22,7 @@ use ta_scope::ScopedFile;
 
 /// Judges a certificate of a file, whose proofs are of words or, in version 3, of moments. What is
 /// accepted is proved: the patterns that it names happen in no run, of any length and any number of
-/// processes. A fault is that of the first line at fault.
+/// processes. An error is that of the first refused line.
 pub fn check(alloc: Global, scoped: &ScopedFile, text: &[u8]) -> Result<Accepted, CertFault>
     ensures accepted { IfOk result (λ accepted. Certificate scoped.now.file text.now accepted.patterns) }
     ensures refused { IfErr result (λ fault. fault ≢ Memory → (numbers : List ℕ) → ¬ Certificate scoped.now.file text.now numbers) }
@@ -36,7 +36,7 @@ pub fn check(alloc: Global, scoped: &ScopedFile, text: &[u8]) -> Result<Accepted
 
 /// Judges a certificate that patterns are safe at rest: no run, of any length and any number of
 /// processes, comes to rest where the last event of a pattern that it names happens. It has no pairs.
-/// Its proofs are of words or, in version 3, of moments. A fault is that of the first line at fault,
+/// Its proofs are of words or, in version 3, of moments. An error is that of the first refused line,
 /// over the systems of rest of the endings.
 pub fn rest_check(alloc: Global, rest: &RestFile, text: &[u8]) -> Result<Accepted, CertFault>
     ensures accepted { IfOk result (λ accepted. RestCertificate rest.now.ending.file text.now accepted.patterns) }

@@ -1,4 +1,8 @@
-//! Judging a certificate line by line.
+//! Which line may come next: the version, pairs of guards with their leaves, proofs, the end.
+//!
+//! A line `o` is read alike in every version. Only here it is known whether it may come: in version
+//! 2 it is a pair before the first proof, and its leaf comes next; in version 3 it is a question
+//! inside a proof.
 #![tactic(auto)]
 
 ghost use Rattle.std.specs.Prelude.{ℕ, ◌≡◌, ◌↔◌, IsTrue, None, Some, reverse, ◌≢◌, IfErr};

@@ -19,7 +19,7 @@ pub fn certificates_name_one_list()
     ensures { CertificatesNameOneList }
 {}
 
-/// A lasting fault of a text is the first fault of each longer one.
+/// A lasting error of a text is the first error of each longer one.
 pub fn lasting_faults_last()
     ensures { LastingFaultsLast }
 {}

@@ -1,4 +1,8 @@
-//! The leaves of a certificate.
+//! Judges the leaves of a certificate.
+//!
+//! The rows of a leaf's node are written on from those of the leaf before. Rows of bounds are not
+//! written with them but only where the leaf names one: so n nested branchings cost n and not n².
+//! The rows that are named, in the order of the leaf, are a small system whose sum ta_farkas forms.
 #![tactic(auto)]
 
 ghost use Rattle.std.specs.Prelude.{◌≡◌, ◌≤◌, IfOk, OnOk};
@@ -79,7 +83,7 @@ fn renumbered(alloc: Global, multipliers: &[(u32, i128)]) -> Result<Vec<(u32, i1
     Ok(again)
 }
 
-/// The fault of a leaf in the line of this number.
+/// The error of a leaf in the line of this number.
 pub(crate) fn fault_in(line: u64, fault: LeafFault) -> CertFault
     ensures { result ≡ fault_at line fault }
 {

@@ -1,4 +1,9 @@
-//! Where a certificate is being read.
+//! Where a certificate is being read: all that the checker knows behind a line.
+//!
+//! In the definitions a standing has the list of the nodes that are left to be refuted. Here the
+//! next node and the open nodes above it (ta_cursor) stand for that list, so a deep tree costs
+//! memory for its depth alone. The rows of the last leaf are kept, and those of the next one
+//! written on from them; no result depends on them.
 #![tactic(auto)]
 
 ghost use Rattle.ta_check.specs.Lines.{first_standing};

@@ -1,4 +1,8 @@
-//! Judging the proofs of a certificate line by line.
+//! The proofs of a certificate: where one begins, and its nodes.
+//!
+//! In version 3 proofs are over moments, else over schemas. Both are trees of a search, so one
+//! function takes a node of either (reading.rt); here the tree is chosen, and what kinds of nodes
+//! it may have.
 #![tactic(auto)]
 
 ghost use Rattle.std.specs.Prelude.{ℕ, ◌≡◌, ◌<◌, ◌↔◌, IsTrue, None, Some, length, reverse};

@@ -108,7 +108,7 @@ fn read_leaf<T: Tree>(
     Ok(more)
 }
 
-/// The fault of a node that may not ask this, in the line of this number.
+/// The error of a node that may not ask this, in the line of this number.
 fn unasked_in(line: u64, ask: Ask) -> CertFault
     ensures { result ≡ unasked_in line ask }
 {

@@ -1,4 +1,4 @@
--- What is claimed of a pattern, and the search that shows it (this project's profile)
+-- What is claimed of a pattern (that it is safe, or safe at rest), and the search whose refutation shows it.
 use Rattle.std.specs.Prelude.{ℕ, ◌≤◌, ◌≡◌, List, length, slice_get, Some}
 use Rattle.ta_words.specs.declared.element.Element.{Element}
 use Rattle.ta_automaton.specs.declared.automaton.Automaton.{Automaton}
@@ -15,17 +15,18 @@ use Rattle.ta_rest.specs.RestSearch.{rest_search}
 use Rattle.ta_claim.specs.declared.claim.Claim.{Claim}
 use Rattle.ta_claim.specs.declared.claim.Claim.TheVariants.{Safe, RestSafe}
 
--- the search whose words are refuted for a claim: a pattern's words under pairs of rise guards, or its words of rest, which are under no pairs
+-- the search whose schemas are refuted for a claim: a pattern's schemas under pairs of rise guards, or its schemas of rest, which have no
+-- pairs
 abbrev pub search_for : Claim → Automaton → Pattern → List (ℕ × ℕ) → Search Element
 search_for Safe a p pairs = pattern_search a p pairs
 search_for RestSafe a p pairs = rest_search a p
 
--- what is claimed: that the pattern occurs in no run, or in none that comes to rest where the pattern's last event happens
+-- what is claimed: the pattern occurs in no run, or in no run that comes to rest where the pattern's last event happens
 abbrev pub claimed : Claim → Automaton → Pattern → Type 0
 claimed Safe a p = IsSafe a p
 claimed RestSafe a p = IsRestSafe a p
 
--- a pattern of which this can be claimed by words: for rest it has an event
+-- a pattern of which this can be claimed with schemas: for rest it has an event
 abbrev pub MayClaim : Claim → Pattern → Type 0
 MayClaim Safe p = Unit {0}
 MayClaim RestSafe p = 1 ≤ length p.events

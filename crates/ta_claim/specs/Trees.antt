@@ -1,4 +1,4 @@
--- The search of a claim's tree
+-- The search that a claim's tree stands for.
 use Rattle.ta_encode.specs.Marks.{IsEncoding}
 use Rattle.ta_words.specs.declared.element.Element.{Element}
 use Rattle.ta_encode.specs.Search.{Search}
@@ -10,6 +10,6 @@ use Rattle.ta_claim.specs.declared.claim_tree.ClaimTree.{ClaimTree}
 abbrev pub search_of_claim : ClaimTree → Search Element
 search_of_claim tree = search_for tree.claim tree.task.automaton.now tree.task.pattern.now tree.orders.now
 
--- a word's system of the tree's pattern, with its marks
+-- a schema's system of the tree's pattern, with its marks
 abbrev pub IsKeptFor : ClaimTree → Encoding → Type 0
 IsKeptFor tree kept = IsEncoding tree.task.automaton.now tree.task.pattern.now kept

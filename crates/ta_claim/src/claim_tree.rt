@@ -1,4 +1,4 @@
-//! The tree of a claim on a pattern.
+//! The tree of a claim on a pattern: its schemas, for safety or for safety at rest.
 #![tactic(auto)]
 
 use crate::claim::Claim;

@@ -1,4 +1,4 @@
-//! The words of a claim on a pattern.
+//! The schemas of a claim on a pattern.
 #![tactic(auto)]
 
 ghost use Rattle.std.specs.Prelude.{◌≡◌, ◌<◌, ◌↔◌, IfOk, length, reverse};

@@ -1,5 +1,5 @@
-//! Which words are refuted for a claim on a pattern, that it is safe or that it is safe at rest, and
-//! the trees of these words.
+//! Which schemas are refuted for a claim on a pattern, that it is safe or that it is safe at rest,
+//! and the trees of these schemas.
 #![tactic(auto)]
 
 mod children;

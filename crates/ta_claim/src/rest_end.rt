@@ -1,4 +1,4 @@
-//! What is asked of the end of a word of rest.
+//! What is asked of the end of a complete schema where runs are to end in a deadlock.
 #![tactic(auto)]
 
 ghost use Rattle.std.specs.Prelude.{ℕ, ◌≡◌, ◌||◌, Some, length, reverse, slice_get};

@@ -1,4 +1,9 @@
 -- the arranged steps of a piece lead where the piece leads
+--
+-- Within a piece no guard changes before its last step. A rule that fires in it has guards that hold somewhere in the piece: a rise
+-- guard then holds at the beginning, and a fall guard at the end. With these the arranged steps of the piece's counts are legal (`ArrangedLaws` of
+-- ta_scope), and they have the same end, since ends depend on counts alone. None leads into a location that is kept empty, since
+-- none of the piece's steps did.
 use Rattle.ta_compress.proofs.Common.{◌≡◌, inl, inr, ℕ, zero, suc, ◌+◌, ◌<◌, ℤ, pos, ◌*ℤ◌, ◌≤ℤ◌, List, [], ◌∷◌, ◌++◌, length, arith, sym, ap, ◌∙◌, refl, subst, slice_get, get_or, Some, IsBitSet, fun_ext, ints, cases_lt, eqb_tells, length-map, get_or_past, same_Some, slice_get_within, RowHolds, Row, Automaton, Pattern, Rule, Whole, location_place, Config, InScope, Steps, At, value_at, times_in, change_of, same_model, KeepsEmpty, ArrangedOf, AreRuleCounts, count_at, GuardsHold, LeadsToEnd, rise_mask, fall_mask, value_at_end, RunLine, value_after, units, counts_of, StepsLead, at_number, range_with_len}
 use Rattle.ta_base.proofs.Totals.{total-within}
 use Rattle.ta_base.proofs.Each.{Cut, cut_of}

@@ -1,4 +1,4 @@
--- Which runs can be compressed, and why others are refused (this project's profile)
+-- Which runs can be compressed, and why others are refused.
 use Rattle.std.specs.Prelude.{ℕ, ℤ, pos, ◌-◌, ◌^◌, ◌<◌, ◌≤◌, ◌≡◌, ◌≢◌, ◌⊎◌, List, [], ◌∷◌, ◌++◌, min, take, unsigned_abs, slice_get, Some}
 use Rattle.ta_linear.specs.Values.{point_of}
 use Rattle.ta_automaton.specs.declared.automaton.Automaton.{Automaton}
@@ -95,7 +95,7 @@ pub record StepsRefuse (file : File) (run : Run) (steps : ℤ) : Type 0 where
   pub many : 1000000 < factors_sum run.lines
   pub sum : steps ≡ pos (min (factors_sum run.lines) (2 ^ 127 - 1))
 
--- why a run is refused: the replay's faults come first, then the number of steps, then the guards; want of memory is free
+-- why a run is refused: first the errors of the replay, then the number of steps, then the guards; "out of memory" is always allowed
 abbrev pub CompressFaultOf : File → Run → CompressFault → Type 0
 CompressFaultOf file run (Replay fault) = ReplayRefuses file run fault ⊎ GuardsRefuse file run fault
 CompressFaultOf file run (TooManySteps steps) = StepsRefuse file run steps

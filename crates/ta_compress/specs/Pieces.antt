@@ -1,4 +1,5 @@
--- The pieces of a run, and the compressed run (this project's profile)
+-- The compressed run: the run is cut at its marks and where guards change; in each piece the steps are reordered and accelerated. Source of
+-- the reordering: Konnov, Lazić, Veith, Widder, POPL 2017.
 use Rattle.std.specs.Prelude.{ℕ, ℤ, pos, ◌≡◌, ◌⊎◌, List, [], ◌∷◌, ◌++◌, length, map, take}
 use Rattle.ta_base.specs.Sums.{times_in}
 use Rattle.ta_automaton.specs.declared.automaton.Automaton.{Automaton}
@@ -12,7 +13,7 @@ use Rattle.ta_replay.specs.declared.run.RunLine.TheVariants.{Mark}
 use Rattle.ta_replay.specs.Pieces.{step_line}
 use Rattle.ta_compress.specs.Units.{unit, unfolded, value_after, EndsAtLastMark, Switches, Drops}
 
--- what stands between two cuts: the rules of the unit steps that are arranged, and the line that is kept, if there is one
+-- a piece between two cuts: the rules of the unit steps that are arranged, and the line that is kept, if there is one
 pub record CutPiece : Type 0 where
   pub body : List ℕ
   pub kept : List RunLine
@@ -60,7 +61,7 @@ pub record RisenEnd (a : Automaton) (first : List ℤ) (done : List RunLine) (pi
   pub switches : SwitchesAt a first (done ++ units front) rule
   pub drops_none : ¬ DropsAt a first (done ++ units front) rule
 
--- a piece that stands after some lines ends at the first cut behind them: at a mark, or at a switch of a guard
+-- a piece that stands after some lines ends at the first cut after them: at a mark, or at a switch of a guard
 abbrev pub IsPiece : Automaton → List ℤ → List RunLine → CutPiece → Type 0
 IsPiece a first done piece = MarkedEnd a first done piece ⊎ (FallenEnd a first done piece ⊎ RisenEnd a first done piece)
 
@@ -83,8 +84,8 @@ AreCut a first done lines (piece ∷ pieces) short =
     × (rest : List RunLine) × IsShortened a piece short rest
     × AreCut a first (done ++ lines_in piece) behind pieces rest
 
--- the lines of the compressed run: the run is unfolded up to its last mark and cut at each mark and behind each switch of a
--- guard; in each piece the unit steps, but a last one that makes a fall guard false, are arranged
+-- the lines of the compressed run: the run is unfolded up to its last mark and cut at each mark and after each switch of a guard; in each
+-- piece the unit steps are arranged, except a last one that makes a fall guard false
 pub record CutOf (a : Automaton) (run : Run) (short : List RunLine) : Type 0 where
   pub first : List ℤ
   pub starts : StartsAt a run.parameters run.counts first
@@ -93,7 +94,7 @@ pub record CutOf (a : Automaton) (run : Run) (short : List RunLine) : Type 0 whe
   pub pieces : List CutPiece
   pub cut : AreCut a first [] (unfolded (take n run.lines)) pieces short
 
--- the compressed run: all but the lines stays as it is
+-- the compressed run: only the lines change
 pub record CompressOf (file : File) (run short : Run) : Type 0 where
   pub pattern : short.pattern ≡ run.pattern
   pub parameters : short.parameters ≡ run.parameters

@@ -1,4 +1,4 @@
--- What a run tells: which events it marks, in order, and at which configurations (this project's profile)
+-- What compression keeps of a run: the events that it marks, in order, and the configurations at which they happen.
 use Rattle.std.specs.Prelude.{ℕ, ◌≡◌, List, [], ◌∷◌, length, replicate, unsigned_abs, slice_get, Some}
 use Rattle.ta_automaton.specs.declared.automaton.Automaton.{Automaton}
 use Rattle.ta_automaton.specs.declared.pattern.Pattern.{Pattern}
@@ -17,7 +17,7 @@ pub record StepsLead (a : Automaton) (p : Pattern) (c : Config) (rules : List �
   pub ends : At c later (length rules) d
   pub kept : (k : ℕ) (e : Config) → At c later k e → KeepsEmpty p.empty e
 
--- from a configuration on, the steps of lines are legal, and their marks are these events at these configurations
+-- from a configuration on, the steps of lines are legal, and the lines mark these events at these configurations
 abbrev pub LinesTell : Automaton → Pattern → Config → List RunLine → List (ℕ × Config) → Type 0
 LinesTell a p c [] tale = tale ≡ []
 LinesTell a p c (Step r factor ∷ lines) tale = (d : Config) × StepsLead a p c (replicate (unsigned_abs factor) r) d × LinesTell a p d lines tale

@@ -1,4 +1,4 @@
--- A run step by step up to its last mark, and the guards along it (this project's profile)
+-- A run step by step up to its last mark, and how guards change along it.
 use Rattle.std.specs.Prelude.{ℕ, ℤ, pos, ◌+◌, ◌≤◌, ◌≡◌, ◌⊎◌, ◌+ℤ◌, List, [], ◌∷◌, ◌++◌, length, replicate, unsigned_abs, slice_get, Some}
 use Rattle.ta_base.specs.Sums.{total}
 use Rattle.ta_linear.specs.Values.{point_of, RowHolds}

@@ -1,4 +1,9 @@
-//! Shortening a run.
+//! Shortens a run, cut by cut.
+//!
+//! Doing it twice may shorten more where a rule adds more than 1. With `big: A -> B do x += 5`,
+//! `small: B -> C do x += 1`, a guard `x >= 6`, 1 process in A and 2 in B, the run small, small,
+//! big, mark becomes big 1, small 2. There x reaches 6 after the first small, so the next cut gives
+//! big 1, small 1, small 1.
 #![tactic(auto)]
 
 ghost use Rattle.std.specs.Prelude.{ℕ, pos, ◌≡◌, ◌≢◌, ◌≤◌, ◌<◌, ◌+◌, ◌^◌, ◌-◌, min, IfOk, IfErr, OnOk, IsOk};

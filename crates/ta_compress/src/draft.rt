@@ -1,4 +1,11 @@
-//! A compressed run in the making.
+//! A compressed run in the making: the lines up to the last cut, and since then a count for each
+//! rule.
+//!
+//! A unit step that changes no guard is counted. One that makes a rise guard true is counted and
+//! ends the piece: it may be reordered with the others, since that guard was false before each of
+//! them and none needs it. One that makes a fall guard false is not counted but stands by itself
+//! behind the piece: fall guards are evaluated before the last firing of a step, so all others may
+//! be reordered in front of it.
 #![tactic(auto)]
 
 ghost use Rattle.std.specs.Prelude.{ℕ, ℤ, pos, ◌+◌, ◌≡◌, ◌<◌, ◌≤◌, ◌≤ℤ◌, ◌↔◌, ◌++◌, ◌∷◌, [], List, length, map, replicate, IfOk, IfErr, IsOk, IsErr, OnOk, IsTrue, IsBitSet};

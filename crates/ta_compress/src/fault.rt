@@ -10,7 +10,7 @@ use ta_replay::RunFault;
 /// Why a run isn't compressed.
 #[derive(Clone, Copy, Debug, Drop, PartialEq, Eq)]
 pub enum CompressFault {
-    /// A fault of the replay, or N11 for a guard of the file that the replay may not need.
+    /// An error of the replay, or N11 for a guard of the file that the replay may not need.
     Replay(RunFault),
     /// N13: the factors add up to more than 1,000,000. It has the sum, or 2^127 - 1 where the sum is larger.
     TooManySteps(i128),

@@ -1,4 +1,4 @@
--- Checks in order, and the rows of conditions and guards as checks (this project's profile)
+-- Checks in order, up to the first that does not pass; the rows of conditions and guards as such checks.
 use Rattle.std.specs.Prelude.{ℕ, ℤ, ◌<◌, ◌≡◌, Bool, true, false, List, slice_get, Option, Some, None, Result, Ok, Err}
 use Rattle.std.specs.List.{AllByRecursion}
 use Rattle.ta_linear.specs.Terms.{IsNormal}
@@ -9,7 +9,7 @@ use Rattle.ta_linear.specs.declared.fault.OutOfRange.{OutOfRange}
 use Rattle.ta_automaton.specs.declared.condition.Comparison.{Comparison}
 use Rattle.ta_automaton.specs.declared.condition.Condition.{Condition}
 
--- each item passes, its number being known
+-- each item passes, and its number is known
 abbrev pub AllPass : {X : Type 0} → (ℕ → X → Type 0) → List X → Type 0
 AllPass {X} Passes items = (j : ℕ) (item : X) → slice_get items j ≡ Some item → Passes j item
 

@@ -1,4 +1,4 @@
--- Configurations in 128 bits, and the model's (this project's profile)
+-- Configurations of the code, in 128 bits, and the configurations of the model that they stand for.
 use Rattle.std.specs.Prelude.{ℕ, ℤ, ◌+◌, ◌≡◌, List, length, take, drop, map, unsigned_abs}
 use Rattle.ta_base.specs.Sums.{total}
 use Rattle.ta_linear.specs.Numbers.{InRange}

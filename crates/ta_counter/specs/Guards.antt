@@ -1,4 +1,4 @@
--- How guards refuse (this project's profile)
+-- When the guards that a mask names pass, and which of them is the first that does not.
 use Rattle.std.specs.Prelude.{ℕ, ℤ, ◌+◌, ◌≡◌, ◌⊎◌, List, length, IsBitSet}
 use Rattle.ta_linear.specs.declared.row.Row.{Row}
 use Rattle.ta_automaton.specs.declared.rule.Rule.{Rule}

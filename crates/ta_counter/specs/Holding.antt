@@ -1,4 +1,4 @@
--- Which guards hold at a point (this project's profile)
+-- Which guards hold at a point.
 use Rattle.std.specs.Prelude.{ℕ, ℤ, ◌≡◌, ◌↔◌, List, slice_get, Some, IsBitSet, Result, Ok, Err}
 use Rattle.ta_linear.specs.Sums.{StaysInRange}
 use Rattle.ta_linear.specs.Values.{RowHolds}

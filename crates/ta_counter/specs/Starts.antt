@@ -1,4 +1,4 @@
--- Where a configuration starts (this project's profile)
+-- The initial configuration of given parameters and counts, and the checks that may refuse it.
 use Rattle.std.specs.Prelude.{ℕ, ℤ, pos, ◌+◌, ◌<◌, ◌≡◌, ◌≢◌, ◌⊎◌, List, length, take, slice_get, Contains, Some, Result, Ok, Err}
 use Rattle.ta_linear.specs.Numbers.{InRange}
 use Rattle.ta_linear.specs.Sums.{StaysInRange}
@@ -31,14 +31,15 @@ pub record MayStart (a : Automaton) (parameters counts : List ℤ) : Type 0 wher
   pub sum_stays : InRange (sum_of counts)
   pub same : value_of (point_of parameters) a.processes ≡ sum_of counts
 
--- the counts don't add up to the number of processes, and no check before fails
+-- the counts do not add up to the number of processes, and each earlier check passes
 pub record OtherSum (a : Automaton) (parameters counts : List ℤ) : Type 0 where
   pub resilience : ConditionPasses (point_of parameters) a.resilience
   pub processes_stay : ProcessesStay a parameters
   pub sum_stays : InRange (sum_of counts)
   pub differ : value_of (point_of parameters) a.processes ≢ sum_of counts
 
--- a comparison on the way leaves the range; or the condition holds, and the number of processes or the sum of the counts leaves it
+-- a comparison leaves the range before one is false; or the condition holds, and the number of processes or the sum of the counts leaves
+-- the range
 abbrev pub StartOutOfRange : Automaton → List ℤ → List ℤ → Type 0
 StartOutOfRange a parameters counts =
     ((k : ℕ) × ConditionStopsAt (point_of parameters) (RowOutOfRange (point_of parameters)) a.resilience k)
@@ -55,12 +56,12 @@ abbrev pub StartChecked : Automaton → List ℤ → List ℤ → Result Unit St
 StartChecked a parameters counts (Ok done) = MayStart a parameters counts
 StartChecked a parameters counts (Err fault) = StartFails a parameters counts fault
 
--- the configuration where no check fails, else the first check that fails
+-- the configuration if no check fails, otherwise the first check that fails
 abbrev pub StartAnswer : Automaton → List ℤ → List ℤ → Result Config StartFault → Type 0
 StartAnswer a parameters counts (Ok c) = StartsAt a parameters counts c.values.items × MayStart a parameters counts
 StartAnswer a parameters counts (Err fault) = StartFails a parameters counts fault
 
--- where the condition is false or the sums differ, these parameters and counts make no initial configuration
+-- if the condition is false or the sums differ, these parameters and counts make no initial configuration
 abbrev pub NoStart : Automaton → List ℤ → List ℤ → StartFault → Type 0
 NoStart a parameters counts (Resilience k) = (values : List ℤ) → StartsAt a parameters counts values → ¬ Initial a (model_of a values)
 NoStart a parameters counts Processes = (values : List ℤ) → StartsAt a parameters counts values → ¬ Initial a (model_of a values)

@@ -1,4 +1,5 @@
--- Steps with a factor, and their checks in order (this project's profile)
+-- Accelerated steps (a rule fires k times in a row), and their checks in order. Source: Konnov, Lazić, Veith, Widder, POPL 2017
+-- (accelerated transitions).
 use Rattle.std.specs.Prelude.{ℕ, ℤ, pos, ◌+◌, ◌≡◌, ◌⊎◌, ◌==◌, ◌+ℤ◌, ◌-ℤ◌, ◌*ℤ◌, ◌≤ℤ◌, List, length, slice_get, replicate, unsigned_abs, if◌then◌else◌, Some, Result, Ok, Err}
 use Rattle.ta_linear.specs.Numbers.{InRange}
 use Rattle.ta_linear.specs.Values.{point_of}
@@ -33,7 +34,7 @@ pub record Grows (a : Automaton) (values : List ℤ) (factor : ℤ) (update : �
 abbrev pub AllGrow : Automaton → Rule → ℤ → List ℤ → Type 0
 AllGrow a rule factor values = AllPass (λ j update. Grows a values factor update) rule.updates
 
--- an update, whose variable has this place, leaves the range, and none before it does
+-- an update, whose variable has this place, is the first to leave the range
 pub record UpdateOutOfRange (a : Automaton) (rule : Rule) (factor : ℤ) (values : List ℤ) (place : ℕ) : Type 0 where
   pub number : ℕ
   pub first : StopsAt (λ j update. Grows a values factor update) (λ j update. ¬ Grows a values factor update) rule.updates number
@@ -69,14 +70,14 @@ pub record StepIsTaken (a : Automaton) (rule : Rule) (factor : ℤ) (values afte
   pub places : length after ≡ length values
   pub changed : (place : ℕ) → point_of after place ≡ (point_of values place +ℤ (factor *ℤ rule_change a (Some rule) place))
 
--- what a step answers, and what stands afterwards
+-- what a step answers, and the values after it
 abbrev pub StepAnswer : Automaton → ℕ → ℤ → List ℤ → List ℤ → Result Unit StepFault → Type 0
 StepAnswer a r factor values after (Ok done) =
     (rule : Rule) → slice_get a.rules r ≡ Some rule → StepIsTaken a rule factor values after
 StepAnswer a r factor values after (Err fault) =
     (rule : Rule) → slice_get a.rules r ≡ Some rule → StepFails a rule factor values fault
 
--- where a count or a guard refuses, so many steps in a row aren't legal
+-- if a count or a guard refuses, this many steps in a row are not legal
 abbrev pub NoSteps : Automaton → ℕ → ℤ → Config → StepFault → Type 0
 NoSteps a r factor c Count = (after : runs.Config) → ¬ Fires a r (unsigned_abs factor) (config_of a c) after
 NoSteps a r factor c (Guard guard) = (after : runs.Config) → ¬ Fires a r (unsigned_abs factor) (config_of a c) after

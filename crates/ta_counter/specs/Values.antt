@@ -1,4 +1,4 @@
--- The values of a configuration (this project's profile)
+-- A value of a configuration: a natural number in range.
 use Rattle.std.specs.Prelude.{ℤ, pos, ◌≤ℤ◌}
 use Rattle.std.proofs.Props.{props}
 use Rattle.ta_linear.specs.Numbers.{InRange}

@@ -1,4 +1,4 @@
-//! Configurations.
+//! Configurations: at most 64 numbers in an `ArrayVec`, so following a run takes no memory.
 #![tactic(auto)]
 
 ghost use Rattle.std.specs.List.{AllByRecursion, AllByRecursion-prop};

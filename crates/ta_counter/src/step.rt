@@ -1,4 +1,8 @@
-//! Steps.
+//! Steps of a configuration, one firing or many in a row.
+//!
+//! A step works on copies, so a refusal changes nothing. The values behind it have the updates
+//! added with the factor. Fall guards are evaluated before the last firing, so on copies with the
+//! factor less 1; rise guards before the first, since they stay true.
 #![tactic(auto)]
 
 ghost use Rattle.std.specs.Prelude.{◌≡◌, ◌<◌, ◌≤ℤ◌, pos, length, unsigned_abs, OnOk, OnErr, IfErr};

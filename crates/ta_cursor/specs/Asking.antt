@@ -1,4 +1,4 @@
--- The nodes that stand for what an inner node does
+-- Which node of a certificate stands for an inner node of a search tree.
 use Rattle.ta_cert.specs.declared.line.Node.{Node}
 use Rattle.ta_cert.specs.declared.line.Node.TheVariants as node
 use Rattle.ta_cursor.specs.declared.asking.Ask.{Ask}
@@ -6,7 +6,7 @@ use Rattle.ta_cursor.specs.declared.asking.Ask.TheVariants as ask
 use Rattle.ta_cursor.specs.declared.asking.Inner.{Inner}
 use Rattle.ta_cursor.specs.declared.asking.Inner.TheVariants.{Asks, Splits}
 
--- the node that asks it
+-- the node that asks this question
 abbrev pub ask_node : Ask → Node
 ask_node ask.Extend = node.Extend
 ask_node (ask.Guard guard) = node.Guard guard

@@ -1,4 +1,4 @@
--- What a leaf's check adds up, over the rows of a word
+-- The sums that the check of a Farkas certificate forms over the rows of a schema, and that they stay in range.
 use Rattle.std.specs.Prelude.{ℕ, ℤ, pos, List, slice_get}
 use Rattle.ta_linear.specs.Sums.{StaysInRange}
 use Rattle.ta_encode.specs.System.{LinearRow}
@@ -16,6 +16,6 @@ pub record LeafIsJudged (rows : List LinearRow) (ts : List (ℕ × ℤ)) : Type 
   pub leaf : LeafOfRows rows ts
   pub in_range : LeafStays rows ts
 
--- so it is over the rows of a word
+-- the same over the rows of a schema
 abbrev pub IsJudged : {E : Type 0} → Search E → Pending E → List (ℕ × ℤ) → Type 0
 IsJudged s w ts = LeafIsJudged (bounded_rows s w) ts

@@ -1,4 +1,4 @@
--- What a tree answers of its nodes
+-- What a search tree answers of its nodes.
 use Rattle.std.specs.Prelude.{ℕ, ◌+◌, ◌^◌, ◌<◌, ◌≤◌, ◌≡◌, Bool, true, false, List, [], ◌∷◌, length, slice_get, Option, Some, None}
 use Rattle.ta_linear.specs.declared.row.System.{System}
 use Rattle.ta_encode.specs.declared.meaning.Bound.{Bound}
@@ -21,7 +21,7 @@ abbrev pub TellsMayAsk : {E : Type 0} → Search E → ℕ → List E → Node �
 TellsMayAsk s start past n true = MayAsk s start past n
 TellsMayAsk s start past n false = asked s start past n ≡ None
 
--- the answer of this number to what a node asks; a node that has it has no fewer unknowns
+-- the answer with this number to what a node asks; the node that has this answer does not have fewer unknowns
 pub record IsAnswer {E : Type 0} (s : Search E) (start : ℕ) (past : List E) (n : Node) (number : ℕ) (e : E) : Type 0 where
   pub is : slice_get (answered s start past n) number ≡ Some e
   pub more : s.unknowns start past ≤ s.unknowns start (e ∷ past)
@@ -32,6 +32,6 @@ abbrev pub AnswerIs : {E : Type 0} → Search E → ℕ → List E → Node → 
 AnswerIs s start past n number None = slice_get (answered s start past n) number ≡ None
 AnswerIs s start past n number (Some e) = IsAnswer s start past n number e
 
--- a system of few unknowns and rows, but for those of its bounds
+-- a system of few unknowns and few rows, without those of its bounds
 abbrev pub IsSmall : List Bound → System → Type 0
 IsSmall bounds system = system.unknowns + length system.rows ≤ 1000000 + length bounds

@@ -1,4 +1,7 @@
-//! Cursors.
+//! A cursor: the node that comes next in one tree, and the open nodes above it.
+//!
+//! The facts and the bounds of the next node are two lists that grow and shrink like stacks. A
+//! frame has their lengths at its node, so going back to an open node cuts both.
 #![tactic(auto)]
 
 ghost use Rattle.std.specs.Prelude.{◌≡◌, []};

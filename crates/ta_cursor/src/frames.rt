@@ -1,4 +1,9 @@
-//! How a cursor goes on from a node to its parts, and how it leaves a node.
+//! How a cursor goes on from a node to its children, and behind a leaf.
+//!
+//! A node that asks or splits pushes its frame, and the fact or bound of its first child. Behind a
+//! leaf the innermost frame is taken back, and the next child of its node is entered; if there is
+//! none, the frame above it is next. So a child costs one push and one pop, besides the computing
+//! of its answer.
 #![tactic(auto)]
 
 ghost use Rattle.std.specs.Prelude.{◌+◌, ◌++◌, ◌∷◌, ◌<◌, ◌≡◌, IfOk, List, [], MatchBool, MatchOption, Some, drop, length, reverse};

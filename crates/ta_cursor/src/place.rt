@@ -1,4 +1,4 @@
-//! Places in the trees of a search.
+//! Places in the trees of a search: a cursor in one of them, and the number of its start.
 #![tactic(auto)]
 
 use crate::cursor::Cursor;

@@ -1,4 +1,9 @@
-//! How a cursor gives the last of its words to another one.
+//! How a cursor gives the last of its nodes to another one, for another thread.
+//!
+//! The nodes that are left come from the open nodes, the innermost first. Those of the outermost
+//! ones come last, and their trees are the largest. So the fewest outermost frames that leave any
+//! node become the frames of the new cursor, which stands at the first of these nodes, and this
+//! cursor keeps the inner frames. The list of nodes left is cut in two; its order stays.
 #![tactic(auto)]
 
 ghost use Rattle.std.specs.Prelude.{◌≡◌, ◌≤◌, [], IfOk, MatchOption, length, reverse, take};

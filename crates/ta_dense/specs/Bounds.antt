@@ -1,4 +1,4 @@
--- Bounds of rows, and which products they keep within 32 bits
+-- Bounds on the numbers of rows, and which products they keep within 32 bits.
 use Rattle.std.specs.Prelude.{ℕ, ◌<◌, ◌≤◌, ◌^◌, List, ℤ, pos, ◌-ℤ◌, ◌*ℤ◌, unsigned_abs, length, get_or, All, FitsSigned}
 use Rattle.std.specs.Int.{w32}
 use Rattle.ta_dense.specs.Tableau.{TableauRow}

@@ -1,3 +1,4 @@
+-- Which variable enters, by the least-index rule. Source: Bland, 1977.
 use Rattle.std.specs.Prelude.{ℕ, ◌<◌, pos, ◌<ℤ◌, ◌≤ℤ◌, length}
 use Rattle.ta_dense.specs.Tableau.{Tableau, row_of, cell_of, non_basic_of}
 

@@ -1,4 +1,4 @@
--- The dictionary of a longer system, from that of a system with which it begins
+-- The dictionary of a longer system, from the dictionary of a system with which it begins.
 use Rattle.std.specs.Prelude.{ℕ, ◌+◌, ◌-◌, ◌<◌, ◌≤◌, ◌≡◌, List, ◌++◌, pos, length, map, replicate, drop, nat_lt, if◌then◌else◌}
 use Rattle.std.specs.List.{range_with_len}
 use Rattle.ta_linear.specs.declared.row.System.{System}
@@ -24,7 +24,8 @@ new_unknowns t s = s.unknowns - length t.non_basic
 abbrev pub new_rows : Tableau → System → List TableauRow
 new_rows t s = slack_rows s.unknowns (s.unknowns + length t.rows) (drop (length t.rows) s.rows)
 
--- the tableau of a longer system after the pivots that led to this one: a column for each new unknown, which no pivot has touched, and the new rows, carried through all pivots
+-- the tableau of a longer system after the pivots that led to this one: a column for each new unknown, which no pivot has touched, and the
+-- new rows, carried through all pivots
 abbrev pub extended : Tableau → List KeptPivot → System → Tableau
 extended t ks s = record {
   non_basic = map (raised (length t.non_basic) (new_unknowns t s)) t.non_basic ++ range_with_len (length t.non_basic) (new_unknowns t s);
@@ -46,7 +47,7 @@ pub record FirstLeaving (t : Tableau) (ks : List KeptPivot) (s : System) (pivot 
   pub number : row ≡ length t.rows + new
   pub refused : FirstRefused (kept_at ks pivot).column (chosen_row s.unknowns (kept_at ks pivot)) (carried s.unknowns ks pivot (new_rows t s)) new
 
--- why a dictionary wasn't extended
+-- why a dictionary was not extended
 abbrev pub IsExtendFault : Tableau → List KeptPivot → System → ExtendFault → Type 0
 IsExtendFault t ks s (Overflow pivot row) = FirstLeaving t ks s pivot row
 IsExtendFault t ks s Memory = Unit {0}

@@ -1,3 +1,4 @@
+-- Why a pivot is refused.
 use Rattle.std.specs.Prelude.{ℕ}
 use Rattle.ta_dense.specs.Tableau.{Tableau}
 use Rattle.ta_dense.specs.Merge.{FirstOverflow}

@@ -1,3 +1,4 @@
+-- Kept pivots, of 32-bit or of 128-bit numbers.
 use Rattle.std.specs.Prelude.{List, map}
 use Rattle.ta_dense.specs.Kept.{KeptPivot}
 use Rattle.ta_dense.specs.declared.small_pivot.PivotForm.{PivotForm}

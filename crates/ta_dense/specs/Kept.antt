@@ -1,4 +1,4 @@
--- Pivots that are kept, and rows that are carried through them
+-- Pivots that are kept, and what they make of rows that are added later.
 use Rattle.std.specs.Prelude.{ℕ, zero, suc, ◌-◌, ◌<◌, ◌≤◌, List, [], ◌++◌, ℤ, pos, ◌<ℤ◌, length, map, replicate, get_or}
 use Rattle.ta_dense.specs.Tableau.{TableauRow, Tableau, row_of, merged}
 use Rattle.ta_dense.specs.Merge.{RowsMergeBelow}
@@ -14,7 +14,7 @@ pub record KeptPivot : Type 0 where
 abbrev pub no_pivot : KeptPivot
 no_pivot = record { row = 0; column = 0; denominator = pos 1; constant = pos 0; cells = [] }
 
--- the pivot of a number
+-- the pivot with this number
 abbrev pub kept_at : List KeptPivot → ℕ → KeptPivot
 kept_at ks j = get_or ks j no_pivot
 
@@ -22,7 +22,7 @@ kept_at ks j = get_or ks j no_pivot
 abbrev pub pivot_in : Tableau → ℕ → ℕ → KeptPivot
 pivot_in t row column = record { row = row; column = column; denominator = (row_of t row).denominator; constant = (row_of t row).constant; cells = (row_of t row).cells }
 
--- a pivot of a dictionary with these many columns or fewer
+-- a pivot of a dictionary with this many columns or fewer
 pub record IsKept (columns : ℕ) (k : KeptPivot) : Type 0 where
   pub long : length k.cells ≤ columns
   pub column : k.column < length k.cells
@@ -31,11 +31,11 @@ pub record IsKept (columns : ℕ) (k : KeptPivot) : Type 0 where
 abbrev pub AreKept : ℕ → List KeptPivot → Type 0
 AreKept columns ks = (j : ℕ) → j < length ks → IsKept columns (kept_at ks j)
 
--- the chosen row of a pivot where there are more columns: its cells of the later ones are 0 (its variable is of no account to other rows)
+-- the chosen row of a pivot where there are more columns: its cells of the later ones are 0 (other rows do not depend on its variable)
 abbrev pub chosen_row : ℕ → KeptPivot → TableauRow
 chosen_row columns k = record { basic = 0; denominator = k.denominator; constant = k.constant; cells = k.cells ++ replicate (columns - length k.cells) (pos 0) }
 
--- what a pivot makes of rows that aren't its chosen one
+-- what a pivot makes of rows other than its chosen row
 abbrev pub after_pivot : ℕ → KeptPivot → List TableauRow → List TableauRow
 after_pivot columns k rows = map (merged k.column (chosen_row columns k)) rows
 

@@ -1,3 +1,4 @@
+-- The cells of a kept pivot, in either width.
 use Rattle.std.specs.Prelude.{List, ℤ}
 use Rattle.ta_dense.specs.declared.kept_cells.KeptCells.{KeptCells}
 use Rattle.ta_dense.specs.declared.kept_cells.KeptCells.TheVariants.{Short, Long}

@@ -1,4 +1,4 @@
--- The laws of dictionaries
+-- The laws of dictionaries: the slack tableau is one, pivots keep them, and their rows are unique.
 use Rattle.std.specs.Prelude.{ℕ, ◌<◌, ◌+◌, ◌≡◌, ◌≢◌, List, ◌∷◌, ◌++◌, pos, ◌<ℤ◌, length}
 use Rattle.ta_linear.specs.declared.row.Row.{Row}
 use Rattle.ta_linear.specs.declared.row.System.{System}

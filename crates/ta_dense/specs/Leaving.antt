@@ -1,4 +1,4 @@
--- Which basic variable leaves
+-- Which basic variable leaves, by the least-index rule. Source: Bland, 1977.
 use Rattle.std.specs.Prelude.{ℕ, ◌<◌, pos, ◌<ℤ◌, ◌≤ℤ◌, length}
 use Rattle.ta_dense.specs.Tableau.{Tableau, row_of, basic_of}
 

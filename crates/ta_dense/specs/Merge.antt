@@ -1,4 +1,4 @@
--- Which pivots stay in range
+-- Which pivots stay in range, and the least row in which a pivot leaves it.
 use Rattle.std.specs.Prelude.{ℕ, ◌<◌, List, ℤ, pos, ◌-ℤ◌, ◌*ℤ◌, ◌<ℤ◌, ◌≢◌, length, get_or, All, int_div, ◌≡◌}
 use Rattle.ta_linear.specs.Numbers.{InRange}
 use Rattle.ta_dense.specs.Tableau.{TableauRow, Tableau, cell_of, factor_divisor, no_row, row_of}

@@ -1,4 +1,4 @@
--- Rows of 32-bit numbers, each with a bound
+-- Rows of 32-bit numbers, each with a bound.
 use Rattle.std.specs.Prelude.{ℕ, List, ◌<◌, ◌^◌, ◌+◌, ◌*◌, ◌≢◌, pos, map, get_or, All, unsigned_abs}
 use Rattle.ta_dense.specs.Tableau.{TableauRow, cell_of, no_row}
 use Rattle.ta_dense.specs.Merge.{IsProper}

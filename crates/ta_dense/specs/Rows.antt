@@ -1,3 +1,4 @@
+-- The rows of the code, and what they mean.
 use Rattle.std.specs.Prelude.{ℕ, List, ◌<◌, map, length, get_or}
 use Rattle.ta_dense.specs.Tableau.{TableauRow, no_row}
 use Rattle.ta_dense.specs.Merge.{IsProper}

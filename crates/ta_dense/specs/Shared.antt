@@ -1,4 +1,4 @@
--- Rows that are stored once where their numbers are equal
+-- Rows that are stored once where their numbers are equal.
 use Rattle.std.specs.Prelude.{ℕ, List, ◌<◌, ◌≤◌, ◌≡◌, ◌≢◌, map, length, get_or, All}
 use Rattle.ta_dense.specs.Tableau.{TableauRow, no_row}
 use Rattle.ta_dense.specs.Narrow.{narrow_view, narrow_at, AreNarrow}
@@ -11,7 +11,7 @@ use Rattle.ta_dense.specs.declared.shared.SharedRows.{SharedRows}
 abbrev pub named : ℕ → TableauRow → TableauRow
 named v r = record { basic = v; denominator = r.denominator; constant = r.constant; cells = r.cells }
 
--- two rows differ in no number
+-- two rows have the same numbers
 abbrev pub HaveEqualNumbers : TableauRow → TableauRow → Type 0
 HaveEqualNumbers r s = named 0 r ≡ named 0 s
 
@@ -30,11 +30,11 @@ widened_place unknowns new p = record { basic = raised unknowns new p.basic; at 
 abbrev pub shared_views : SharedRows → List TableauRow
 shared_views s = rows_at_places s.rows.items s.places.items
 
--- the row of a number
+-- the row with this number
 abbrev pub shared_at : SharedRows → ℕ → TableauRow
 shared_at s row = get_or (shared_views s) row no_row
 
--- each place has a row of so many
+-- each place has one of this many rows
 abbrev pub ArePlaced : ℕ → List Place → Type 0
 ArePlaced count places = All (λ p. p.at < count) places
 

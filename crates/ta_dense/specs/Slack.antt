@@ -1,4 +1,5 @@
--- The dictionary that solving begins with, and the assignments of a system
+-- The dictionary with which solving begins, in which every slack is basic, and the assignments of a system. Source: Chvátal, Linear
+-- Programming, 1983 (dictionaries).
 use Rattle.std.specs.Prelude.{ℕ, suc, ◌+◌, List, [], ◌∷◌, ℤ, pos, ◌+ℤ◌, ◌*ℤ◌, ◌≡◌, map, length}
 use Rattle.std.specs.List.{range_with_len}
 use Rattle.ta_linear.specs.Terms.{coefficient}

@@ -1,3 +1,4 @@
+-- A dictionary of 32-bit numbers: what its fields mean, and what they keep.
 use Rattle.std.specs.Prelude.{◌<◌, ◌^◌, length}
 use Rattle.ta_dense.specs.Tableau.{Tableau}
 use Rattle.ta_dense.specs.Shared.{shared_views, AreShared}

@@ -1,3 +1,4 @@
+-- A kept pivot of 32-bit numbers: what its fields mean, and what they keep.
 use Rattle.std.specs.Prelude.{◌<◌, ◌^◌, length}
 use Rattle.ta_dense.specs.Tableau.{TableauRow}
 use Rattle.ta_dense.specs.Kept.{KeptPivot}

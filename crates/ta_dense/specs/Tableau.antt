@@ -1,4 +1,4 @@
--- Tables of rows, and the table after a pivot
+-- Tableaus of integers, and the tableau after a pivot. Source: Chvátal, Linear Programming, 1983 (dictionaries and pivots).
 use Rattle.std.specs.Prelude.{ℕ, zero, List, [], ◌∷◌, ℤ, pos, neg_ℤ, ◌-ℤ◌, ◌*ℤ◌, int_div, unsigned_abs, map, set, get_or}
 use Rattle.ta_linear.specs.Gcd.{gcd_of}
 
@@ -35,7 +35,8 @@ non_basic_of t column = get_or t.non_basic column 0
 abbrev pub cell_of : TableauRow → ℕ → ℤ
 cell_of r column = get_or r.cells column (pos 0)
 
--- the chosen row `d*l = b + Σ c_j*u_j + c*e` solved for e, the variable that enters: `c*e = -b - Σ c_j*u_j + d*l`, where the column now belongs to l
+-- the chosen row `d*l = b + Σ c_j*u_j + c*e` solved for e, the variable that enters: `c*e = -b - Σ c_j*u_j + d*l`, where the column now
+-- belongs to l
 abbrev pub turned : ℕ → ℕ → TableauRow → TableauRow
 turned entering column r = record {
   basic = entering;
@@ -79,7 +80,8 @@ merged_by p q column chosen r = record {
 abbrev pub factor_divisor : ℤ → ℤ → ℕ
 factor_divisor c a = gcd_of (unsigned_abs c) (unsigned_abs a)
 
--- the row as it is after the pivot, by its cell a of the column: where a is 0 it stays; else, with `g = gcd(c, a)`, `p = c/g` and `q = a/g`, it is the merged row in lowest terms
+-- the row as it is after the pivot, by its cell a of the column: where a is 0 it stays; else, with `g = gcd(c, a)`, `p = c/g` and `q =
+-- a/g`, it is the merged row in lowest terms
 abbrev pub merged_at : ℤ → ℕ → TableauRow → TableauRow → TableauRow
 merged_at (pos zero) column chosen r = r
 merged_at a column chosen r =

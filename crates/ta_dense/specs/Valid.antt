@@ -1,4 +1,4 @@
--- What the rows of a dictionary mean
+-- What the rows of a dictionary mean: equations that every assignment of its system satisfies.
 use Rattle.std.specs.Prelude.{ℕ, ◌<◌, List, [], ◌∷◌, ℤ, pos, ◌+ℤ◌, ◌*ℤ◌, ◌<ℤ◌, ◌≡◌, ◌≢◌, ◌⊎◌, length, unsigned_abs}
 use Rattle.std.specs.Int.{◌∣◌}
 use Rattle.ta_dense.specs.Tableau.{TableauRow, Tableau, row_of, basic_of, non_basic_of}
@@ -28,7 +28,8 @@ pub record Divides (k : ℕ) (r : TableauRow) : Type 0 where
 abbrev pub IsPrimitive : TableauRow → Type 0
 IsPrimitive r = (k : ℕ) → Divides k r → k ≡ 1
 
--- a row over non-basic variables that says something of assignments: its equation holds at each, its denominator is positive, and it is in lowest terms
+-- a row over non-basic variables that is true of assignments: its equation holds at each, its denominator is positive, and it is in lowest
+-- terms
 pub record IsDictionaryRow (Assignment : ℤ → (ℕ → ℤ) → Type 0) (us : List ℕ) (r : TableauRow) : Type 0 where
   pub positive : pos 0 <ℤ r.denominator
   pub long : length r.cells ≡ length us

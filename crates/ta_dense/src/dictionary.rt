@@ -1,4 +1,11 @@
-//! What a dictionary is.
+//! What a dictionary is: the trait on which all solving stands.
+//!
+//! Rows stand in the order of the system, columns in that of its unknowns; a pivot exchanges the
+//! variables of a row and a column and leaves all places as they are. `leaving` and `entering` are
+//! the two choices of Bland's rule. `keep` gives what later rows need of a pivot: its column and
+//! the chosen row as it stood before. A pivot changes another row by the chosen row alone, so a row
+//! that comes later can be carried through kept pivots and comes out as if it had been there
+//! (`extend`).
 
 ghost use Rattle.std.specs.Prelude.{◌≡◌, ◌<◌, ◌^◌, pos, ◌<ℤ◌, length, map, IfOk, IfErr, IfSome, IfNone};
 ghost use Rattle.ta_linear.specs.Numbers.{InRange};

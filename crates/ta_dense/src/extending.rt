@@ -1,4 +1,12 @@
-//! Rows of a longer system.
+//! The dictionary of a longer system from that of a shorter one.
+//!
+//! A child's system begins with its parent's rows, in which the new unknowns have coefficient 0. So
+//! the old rows get cells of 0 for the new columns, the numbers of the old slacks rise by the
+//! number of new unknowns, and the new rows are carried through the kept pivots one after the
+//! other. That is the dictionary to which the same pivots lead from the longer system's slacks, and
+//! a number leaves the range at the pivot and row at which it does there.
+//!
+//! Cost: new rows times kept pivots times columns, in place of all rows.
 
 ghost use Rattle.std.specs.Prelude.{◌≡◌, ◌<◌, ◌≤◌, ◌+◌, ◌-◌, ◌^◌, ◌++◌, ℕ, pos, length, map, drop, get_or, replicate, slice_index, IfOk, IfNone, IfSome};
 ghost use Rattle.std.specs.List.{range_with_len};

@@ -1,4 +1,20 @@
-//! Rows over non-basic variables, and pivots: the trait of dictionaries and the one of dense rows.
+//! Dictionaries of the simplex method, and their pivots, in exact numbers.
+//!
+//! A dictionary states each basic variable by the nonbasic ones, as `d*v = b + sum of c*x` with
+//! whole numbers in lowest terms and d positive. The variables are the unknowns of a system and a
+//! slack for each of its rows. So a pivot is exact without fractions: it multiplies, subtracts and
+//! divides by a greatest common divisor. A number that leaves 128 bits is an error; at which row it
+//! does is part of the contract.
+//!
+//! `Dictionary` is the trait. `DenseDictionary` keeps every coefficient in 128 bits,
+//! `NarrowDictionary`, which the program uses, in 32 bits as long as bounds show that these
+//! suffice. Both have the same contract, so no result depends on the choice. ta_links has sparse
+//! rows.
+//!
+//! `extend` gives the dictionary of a longer system without repeating a pivot: only the new rows
+//! are carried through the pivots that were kept. That is what a child of a tree needs.
+//!
+//! Source: dictionaries as in Chvátal, Linear Programming, scaled to whole numbers.
 #![tactic(auto)]
 
 mod cells;

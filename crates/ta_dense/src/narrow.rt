@@ -1,4 +1,10 @@
-//! Dictionaries that keep 32-bit numbers as long as bounds show that these suffice.
+//! Dictionaries in 32 bits as long as bounds show that no number leaves them, and then in 128.
+//!
+//! Most numbers of a schema's dictionary are small, and loops over 32-bit numbers become vector
+//! code. Before a pivot the bounds of all rows are tested (narrow_rows.rt); if one does not
+//! suffice, nothing has changed yet, and the dictionary is copied to 128 bits and stays there. So a
+//! pivot in 32 bits tests no number while it computes, and only the wide form says that a number
+//! left 128 bits. A kept pivot has the form that the dictionary had then.
 
 ghost use Rattle.std.specs.Prelude.{◌≡◌, ◌<◌, ◌^◌, pos, ◌<ℤ◌, length, IfOk, IfErr};
 ghost use Rattle.ta_dense.specs.Tableau.{cell_of, pivoted, row_of};

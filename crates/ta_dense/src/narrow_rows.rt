@@ -1,4 +1,11 @@
-//! A row of 32-bit numbers, with a bound of them.
+//! A row of 32-bit numbers, with a bound of their absolute values.
+//!
+//! A merge makes `p*row - q*chosen`, so p times the row's bound plus q times that of the chosen row
+//! bounds the result, and becomes the new bound. It grows faster than the numbers, which are
+//! divided to lowest terms; where it no longer suffices it is taken anew from them (`tighten`). All
+//! rows are tested before any is changed (`all_merge`), so a refused pivot leaves the dictionary
+//! whole, and the loops over cells need no test. Rows in lowest terms are mostly divided by 2 to 5
+//! and multiplied by 1 or 2: these have loops of their own, without divisions (narrow_cells.rt).
 
 ghost use Rattle.std.specs.Prelude.{◌≡◌, ◌<◌, ◌≤◌, ◌+◌, ◌*◌, ◌^◌, ◌≢◌, pos, ◌<ℤ◌, unsigned_abs, int_div, length, map};
 ghost use Rattle.std.specs.Bool.{OnTrue, OnFalse};

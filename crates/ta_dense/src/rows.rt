@@ -1,4 +1,9 @@
-//! A row of a dense dictionary.
+//! A row of a dense dictionary, and what a pivot makes of it.
+//!
+//! Where the entering variable has coefficient a in a row and c in the chosen row, with greatest
+//! common divisor g, the new row is c/g times the row minus a/g times the chosen row, in lowest
+//! terms. Each product and difference is tested for its range; the first row in which one fails is
+//! the answer. A row with a = 0 stays as it is.
 
 ghost use Rattle.std.specs.Prelude.{◌≡◌, ◌<◌, ◌^◌, pos, ◌<ℤ◌, unsigned_abs, int_div, length, map, All, IsTrue, IfSome, IfNone, ◌↔◌};
 ghost use Rattle.std.specs.Bool.{OnTrue};

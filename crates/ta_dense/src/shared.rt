@@ -1,4 +1,15 @@
 //! Rows that are stored once where their numbers are equal.
+//!
+//! A schema asks the same of each of its elements, and where the firings between two elements do
+//! not matter to a condition, its row is the same again. Equal rows stay equal through every pivot
+//! that chooses none of them, since a merge depends on the numbers alone. So a row is a place: its
+//! basic variable, and where its numbers are stored. A row that is chosen while others share its
+//! numbers is copied first (`part`), since it is turned and they are merged.
+//!
+//! Equal rows are sought where rows come in (`push_rows`). Comparing all numbers would cost more
+//! than it spares, so each row has a sum of its numbers as it was new, and only rows with the same
+//! sum are compared. The sum is a hint: rows that are equal and not seen to be so are stored twice.
+//! docs/DECISIONS.md says what this gains.
 
 ghost use Rattle.std.specs.Prelude.{◌≡◌, ◌≢◌, ◌++◌, ◌∷◌, [], ◌<◌, ◌+◌, ◌^◌, ℕ, pos, ◌<ℤ◌, length, map, get_or, IfOk, IfSome, IsTrue};
 ghost use Rattle.std.specs.Bool.{OnTrue, OnFalse};

@@ -1,4 +1,8 @@
 -- the firings of an element, in an order that goes forward, are legal where their end is natural
+--
+-- When a location is left, nobody arrives there any more. So its counter first rises from a natural number and then falls to the
+-- one that the rows at the element's end call natural: it is never negative. Rise guards that hold at the beginning stay true; fall
+-- guards that hold at the end held before, since shared variables only grow.
 use Rattle.ta_encode.proofs.Common.{IsBitSet, ◌≡◌, ◌≢◌, inl, inr, ℕ, zero, suc, ◌<◌, ◌≤◌, pos, ◌+ℤ◌, ◌≤ℤ◌, List, [], ◌∷◌, ◌++◌, length, true, false, not, arith, sym, ap, ◌∙◌, refl, subst, slice_get, get_or, Some, None, Option, ints, cases_Bool, and_parts, false≢true, eqb-false, not-true, slice_get_within, AllByRecursion, all_below-at, bit_true, implies-at, untouched, value_of, RowHolds, Row, Rule, Automaton, Pattern, Config, value_at, Step, Steps, MaskedHold, has_bit, all_below, implies, In, Element, has_rise, has_fallen, may_fire, one_if, location_place, total, move_at, value_at-location, one_if-ne, change_of, change_location, EachRule, Onward, Piece, holds_before_last, fire_in_order, Whole, fire, fire_whole, fire_step, fits_whole, Trail, Grows}
 use Rattle.ta_encode.proofs.Switch.{KeptEmpty}
 use Rattle.ta_encode.proofs.Appending.{trail_append}

@@ -1,4 +1,9 @@
 -- a word that describes the first steps of a run, and the steps since its last element
+--
+-- This is what the walk of the reordering keeps (`Reorder`). The values of the word's unknowns solve its rows, and at its last
+-- moment they give each place the value that it has in the run. The steps since then are rules that the word allows, so how often
+-- each fired are the Counts of the element that comes next, whichever it is. A new element takes these numbers as the values of its
+-- unknowns; its rows are read off the present configuration, since sums do not depend on the order of firings.
 use Rattle.ta_encode.proofs.Common.{◌≡◌, inl, inr, ℕ, ◌+◌, ◌^◌, ◌<◌, ◌≤◌, pos, ◌+ℤ◌, ◌≤ℤ◌, ◌<ℤ◌, List, [], ◌∷◌, ◌++◌, map, length, eqb, true, false, not, arith, sym, ap, ◌∙◌, refl, subst, slice_get, Some, Option, append_assoc, length-append, zero-add, length-map, ints, eqb-true, or_cases, and_from, not-true, not_from_false, or_parts, slice_get_within, all_below-at, implies-at, value_of, RowHolds, Row, Automaton, terms_value-same, Pattern, Config, value_at, Holds, has_bit, implies, range_with_len, Element, Event, Rise, Fall, has_rise, has_fallen, is_complete, is_due, is_ready, is_standing, LegalUnder, allowed_rules, Meaning, Count, Single, meanings, counts_after, singles_after, place_coefficient, LinearRow, opposite, negated, counter_rows, guard_rows, standing_rows, singles_row, event_rows, rise_rows, happening_rows, fall_rows, word_rows, sum_of_products, row_value, AllHold, total, times_in, EachOnce, total-by_times, Fits}
 use Rattle.std.specs.List.{filter}
 pub use Rattle.ta_automaton.proofs.Onward.{change_of}

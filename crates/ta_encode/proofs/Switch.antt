@@ -1,4 +1,8 @@
 -- one step of a run: a self-loop, a step that switches no fall guard, or one that does
+--
+-- A self-loop changes no value and is left out. A step that turns no fall guard false is one more since the last element. Otherwise
+-- all fall guards that it turns, and no others, become one Fall with this step as its Single: they hold in the configuration before
+-- the step and fail in the one behind it, so no order among them is needed.
 use Rattle.ta_encode.proofs.Common.{◌≡◌, ◌≢◌, inl, inr, ℕ, ◌<◌, ◌≤◌, pos, ◌≤ℤ◌, ◌<ℤ◌, List, [], ◌∷◌, ◌++◌, map, length, Bool, true, false, not, ◌&&◌, arith, sym, ap, ◌∙◌, subst, slice_get, get_or, Some, append_assoc, ◌⊎◌, ints, cases_Bool, and_parts, and_from, ne_eqb, not-false, not-true, not_from_false, eqb_tells, slice_get_within, all_below-at, all_below-false, all_below-from, bit_set, mask_of-bit, and_false, implies-from, negative_false, negative_true, some_at, arrives, mask_of, mask_of-below, mask_of-some, value_of, Row, Automaton, Pattern, Admissible, Config, value_at, Step, LoopsPure, has_bit, all_below, implies, In, RiseHolds, Element, Fall, has_event, has_rise, has_fallen, is_complete, may_fire, allowed_rules, times_in, Fits, move_at, fits_after, loop_at, step_later, stays_below, stays_true, times-passed}
 use Rattle.ta_encode.proofs.Moments.{RowFails}
 use Rattle.ta_encode.proofs.State.{State, add_step, skip_step, push_fall}

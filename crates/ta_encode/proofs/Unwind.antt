@@ -1,4 +1,8 @@
 -- the run of a word's solution, element by element
+--
+-- What is kept is a run whose last configuration has the values that the solution gives at the last element, and the positions of
+-- the events so far. The Counts of the next element are fired in an order that goes forward (`Segment`). Then a Rise changes
+-- nothing, an Event happens in the configuration that has been reached, and a Fall fires the one rule whose Single is 1.
 use Rattle.ta_encode.proofs.Common.{◌≡◌, ◌≢◌, ◌⊎◌, inl, inr, ℕ, ◌+◌, ◌<◌, ◌≤◌, pos, ◌+ℤ◌, ◌≤ℤ◌, List, [], ◌∷◌, ◌++◌, map, length, drop, eqb, cond, true, false, not, ◌||◌, arith, sym, ap, ◌∙◌, refl, subst, slice_get, get_or, Some, Option, IsBitSet, zero-add, append_assoc, ints, false≢true, cases_Bool, and_parts, eqb-true, or_cases, not-true, not_from_false, or_right, nat_tests, eqb_tells, all_below-at, bit_true, implies-at, cond_same, cond_apart, value_of, RowHolds, Row, Rule, Automaton, terms_value-same, Pattern, Config, value_at, Holds, has_bit, implies, In, Element, Event, Rise, Fall, has_event, has_rise, has_fallen, follows, children, LegalWord, allowed_rules, may_fire, one_if, location_place, Meaning, Single, meanings, counts_after, singles_after, place_coefficient, opposite, negated, counter_rows, guard_rows, standing_rows, singles_row, event_rows, rise_rows, happening_rows, fall_rows, word_rows, AllHold, total, value_at-location, one_if-ne, from_within, Whole, fits_whole, Trail, FiresBefore, FiresFall, WordFires, steps_of, position_in, later_after, change_location, fall_back, rise_on, falls as falls_rows, rises as rises_rows}
 use Rattle.ta_encode.proofs.Moments.{AllHold-left}
 use Rattle.ta_automaton.specs.declared.pattern.Event.{Event as PatternEvent}

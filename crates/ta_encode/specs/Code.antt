@@ -1,4 +1,4 @@
--- A system of the code is the system of a word
+-- When a system of the code is the constraint system of a schema.
 use Rattle.std.specs.Prelude.{ℕ, pos, ◌≡◌, List, [], ◌∷◌, slice_index_or}
 use Rattle.ta_linear.specs.Terms.{coefficient}
 use Rattle.ta_linear.specs.declared.row.Row.{Row}
@@ -27,6 +27,6 @@ pub record SystemAt {E : Type 0} (s : Search E) (w : Pending E) (system : System
   pub unknowns : system.unknowns ≡ s.unknowns w.start w.past
   pub rows : AreRowsOf (bounded_rows s w) system.rows
 
--- those of a pattern's word with bounds; pairs of guards change nothing of them
+-- those of a pattern's schema with bounds; pairs of guards change nothing of them
 abbrev pub SystemOf : Automaton → Pattern → ℕ → List Element → List Bound → System → Type 0
 SystemOf a p start past bounds system = SystemAt (pattern_search a p []) (record { start = start; past = past; bounds = bounds }) system

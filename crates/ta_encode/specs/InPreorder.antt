@@ -1,5 +1,4 @@
--- Proofs read node by node: what is still to be refuted, and a list of nodes that refutes them, one tree
--- after another
+-- Proofs read node by node: what is still to be refuted, and which lists of nodes refute it, one tree after another.
 use Rattle.std.specs.Prelude.{◌<◌, ◌≡◌, ◌↔◌, List, [], ◌∷◌, ◌++◌}
 use Rattle.ta_cert.specs.declared.line.Node.{Node}
 use Rattle.ta_cert.specs.declared.line.Node.TheVariants as node
@@ -14,13 +13,13 @@ MayStand s test w (node.Leaf ts) = test w ts
 MayStand s test w (node.Split unknown floor) = unknown < s.unknowns w.start w.past
 MayStand s test w n = MayAsk s w.start w.past n
 
--- each node stands at the first that is left, and what the node leaves of it comes in its place
+-- each node stands at the first item that is left, and what the node leaves of it takes its place
 abbrev pub RefutedInOrder : {E : Type 0} → Search E → LeafTest E → List (Pending E) → List Node → Type 0
 RefutedInOrder s test ws [] = ws ≡ []
 RefutedInOrder s test [] (n ∷ ns) = ⊥
 RefutedInOrder s test (w ∷ ws) (n ∷ ns) = MayStand s test w n × RefutedInOrder s test (parts s w n ++ ws) ns
 
--- nodes refute that with which a search begins, one after another, exactly if they are those of a proof
+-- nodes refute the starts of a search, one after another, exactly if they are those of a proof
 abbrev pub ProofsReadInOrder : {E : Type 0} → (Search E → LeafTest E) → Type 0
 ProofsReadInOrder {E} test =
     (s : Search E) (nodes : List Node)

@@ -1,5 +1,5 @@
--- What words, their systems and their refutations say of runs (the reordering theorem after POPL 2017, with start sets
--- and joint falls as this project's own)
+-- What schemas, their constraint systems and their refutations say of runs. Source of the reordering: Konnov, Lazić, Veith, Widder, POPL
+-- 2017; start sets and joint falls are this project's.
 use Rattle.std.specs.Prelude.{ℕ, ℤ, ◌<◌, ◌≤◌, ◌^◌, ◌≡◌, ◌≢◌, ◌==◌, ◌↔◌, false, if◌then◌else◌, true, List, [], ◌∷◌, ◌++◌, length, map, reverse, take, drop, slice_get, slice_index, Some}
 use Rattle.ta_base.specs.Sums.{total}
 use Rattle.std.specs.List.{AllByRecursion, range_with_len}
@@ -20,7 +20,7 @@ use Rattle.ta_encode.specs.Unknowns.{Meaning, Single, meanings, counts_after, pl
 use Rattle.ta_encode.specs.System.{SolvesWord, sum_of_products}
 use Rattle.ta_encode.specs.Refutes.{ProofOf}
 
--- a complete word that is legal under pairs, and natural values that solve its system without bounds
+-- a complete schema that is legal under pairs, and natural values that solve its system without bounds
 pub record SolvedUnder (a : Automaton) (p : Pattern) (pairs : List (ℕ × ℕ)) (start : ℕ) (word : List Element) (values : List ℕ) : Type 0 where
   pub legal : LegalUnder a p pairs start (reverse word)
   pub complete : is_complete p (reverse word) ≡ true
@@ -34,12 +34,12 @@ SolvedWord a p start word values = SolvedUnder a p [] start word values
 abbrev pub start_values : Automaton → Pattern → Config → List ℕ
 start_values a p first = first.parameters ++ map (slice_index first.counters) (start_locations a p)
 
--- the values of a prefix's unknowns, which are the first unknowns of the word
+-- the values of a prefix's unknowns, which are the first unknowns of the schema
 abbrev pub values_of_prefix : Automaton → Pattern → ℕ → List Element → List ℕ → List ℕ
 values_of_prefix a p start prefix values = take (length (meanings a p start (reverse prefix))) values
 
--- a set of fall guards, a complete word that is legal under pairs and one assignment of naturals that has the parameters and the
--- start counts of a configuration, and that solves the system of the word and that of each of its prefixes
+-- a set of fall guards, a complete schema that is legal under pairs and one assignment of naturals that has the parameters and the start
+-- counts of a configuration, and that solves the system of the schema and that of each of its prefixes
 pub record IsReordered (a : Automaton) (p : Pattern) (pairs : List (ℕ × ℕ)) (first : Config) : Type 0 where
   pub start : ℕ
   pub is_start : start < 2 ^ length a.fall
@@ -49,7 +49,8 @@ pub record IsReordered (a : Automaton) (p : Pattern) (pairs : List (ℕ × ℕ))
   pub solved : SolvedUnder a p pairs start word values
   pub prefix_solved : (k : ℕ) → SolvesWord a p start (reverse (take k word)) [] (values_of_prefix a p start (take k word) values)
 
--- under good pairs of rise guards, every run in which the pattern occurs, of any length and any number of processes, is described by a word that is legal under them and whose system it solves (POPL 2017, reordering; this project's words)
+-- reordering: under good pairs of rise guards, every run in which the pattern occurs, of any length and any number of processes, is
+-- described by a schema that is legal under them and whose system it solves
 abbrev pub RunsReorder : Type 0
 RunsReorder =
     (file : File) (n : ℕ) (p : Pattern) → slice_get file.patterns n ≡ Some p
@@ -58,9 +59,9 @@ RunsReorder =
     → (first : Config) (rules : List ℕ) → Occurs file.automaton p first rules
     → IsReordered file.automaton p pairs first
 
--- what stands at the end of a word that describes a run of these configurations, in which the events have these positions: its
--- newest element is an event, and the values are those of the configuration at this event's position, which no other's is behind;
--- the rise guards that hold there are those in the word, and the fall guards that fail there are those that have fallen
+-- the end of a schema that describes a run of these configurations, in which the events have these positions: its newest element is an
+-- event; the values are those of the configuration at this event's position, and no other event is later; the rise guards that hold there
+-- are those in the schema, and the fall guards that fail there are those that have fallen
 pub record EndsAt (a : Automaton) (p : Pattern) (start : ℕ) (past : List Element) (values : List ℕ) (configs : List Config) (positions : List ℕ) : Type 0 where
   pub last : ℕ
   pub older : List Element
@@ -75,12 +76,12 @@ pub record EndsAt (a : Automaton) (p : Pattern) (start : ℕ) (past : List Eleme
   pub risen : (i : ℕ) (row : Row) → slice_get a.rise i ≡ Some row → RowHolds (value_at config) row ↔ (has_rise past i ≡ true)
   pub fallen : (j : ℕ) (row : Row) → slice_get a.fall j ≡ Some row → RowHolds (value_at config) row ↔ (has_fallen start past j ≡ false)
 
--- a word as in the reordering, and what stands at its end
+-- a schema as in the reordering, and its end
 pub record ReorderedTo (a : Automaton) (p : Pattern) (pairs : List (ℕ × ℕ)) (first : Config) (configs : List Config) (positions : List ℕ) : Type 0 where
   pub reordered : IsReordered a p pairs first
   pub ends : EndsAt a p reordered.start (reverse reordered.word) reordered.values configs positions
 
--- the word of a run in which a pattern with events occurs ends with the event that happens last, at the configuration at which it happens
+-- the schema of a run in which a pattern with events occurs ends with the event that happens last, at the configuration at which it happens
 abbrev pub RunsReorderTo : Type 0
 RunsReorderTo =
     (file : File) (n : ℕ) (p : Pattern) → slice_get file.patterns n ≡ Some p
@@ -99,7 +100,7 @@ ProofsShowSafety =
     → (trees : List Tree) → ProofOf file.automaton p pairs trees
     → Safe file.automaton p
 
--- where a pattern has a proof under pairs, no complete word that is legal under them has a natural solution
+-- if a pattern has a proof under pairs, no complete schema that is legal under them has a natural solution
 abbrev pub ProofsLeaveNoSolution : Type 0
 ProofsLeaveNoSolution =
     (a : Automaton) (p : Pattern) (pairs : List (ℕ × ℕ)) (trees : List Tree) → ProofOf a p pairs trees
@@ -107,19 +108,19 @@ ProofsLeaveNoSolution =
     → (word : List Element) (values : List ℕ) → SolvedUnder a p pairs start word values
     → ⊥
 
--- where a step leaves, neither it nor a later one arrives
+-- a location that a step leaves is the target neither of that step nor of a later one
 abbrev pub GoesForward : Automaton → List ℕ → Type 0
 GoesForward a rules =
     (i j q r : ℕ) (early late : Rule) → i ≤ j → slice_get rules i ≡ Some q → slice_get rules j ≡ Some r
     → slice_get a.rules q ≡ Some early → slice_get a.rules r ≡ Some late → early.from ≢ late.to
 
--- what the Counts of the element after a word add at a place
+-- what the Counts of the element after a schema add at a place
 abbrev pub counts_change : Automaton → Pattern → ℕ → List Element → List ℕ → ℕ → ℤ
 counts_change a p start past values place =
     sum_of_products (map (λ m. place_coefficient a m place) (counts_after a p start past)) (drop (length (meanings a p start past)) values)
 
--- unit steps before the element after a word: each may fire after the word, they go forward, and together they add at each
--- place what the element's Counts add there
+-- unit steps before the element after a schema: each may fire after the schema, they go forward, and together they add at each place what
+-- the element's Counts add there
 pub record FiresBefore (a : Automaton) (p : Pattern) (start : ℕ) (past : List Element) (values rules : List ℕ) : Type 0 where
   pub allowed : AllByRecursion (λ r. may_fire a p start past (slice_get a.rules r) ≡ true) rules
   pub forward : GoesForward a rules
@@ -129,7 +130,7 @@ pub record FiresBefore (a : Automaton) (p : Pattern) (start : ℕ) (past : List 
 abbrev pub IsOne : List Meaning → List ℕ → Meaning → Type 0
 IsOne ms values m = (i : ℕ) × (slice_get ms i ≡ Some m) × (slice_get values i ≡ Some 1)
 
--- unit steps of a Fall after a word: those of its Counts, and then the rule whose Single is 1
+-- unit steps of a Fall after a schema: those of its Counts, and then the rule whose Single is 1
 pub record FiresFall (a : Automaton) (p : Pattern) (start : ℕ) (past : List Element) (mask : ℕ) (values rules : List ℕ) : Type 0 where
   pub front : List ℕ
   pub last : ℕ
@@ -137,7 +138,7 @@ pub record FiresFall (a : Automaton) (p : Pattern) (start : ℕ) (past : List El
   pub fires : FiresBefore a p start past values front
   pub single : IsOne (meanings a p start (Fall mask ∷ past)) values (Single (length past) last)
 
--- unit steps for each element of a word, those of the newest element first
+-- unit steps for each element of a schema, those of the newest element first
 abbrev pub WordFires : Automaton → Pattern → ℕ → List Element → List ℕ → List (List ℕ) → Type 0
 WordFires a p start [] values [] = Unit {0}
 WordFires a p start [] values (rules ∷ older) = ⊥
@@ -151,7 +152,7 @@ abbrev pub steps_of : List (List ℕ) → List ℕ
 steps_of [] = []
 steps_of (rules ∷ older) = steps_of older ++ rules
 
--- how many unit steps stand before an event of a word: those up to the end of its element
+-- how many unit steps come before an event of a schema: those up to the end of its element
 abbrev pub position_in : List Element → List (List ℕ) → ℕ → ℕ
 position_in [] firings e = 0
 position_in (element ∷ past) [] e = 0
@@ -167,8 +168,8 @@ pub record RunsThrough (a : Automaton) (p : Pattern) (past : List Element) (valu
   pub occurs : Occurs a p first (steps_of firings)
   pub there : occurs.positions ≡ map (position_in past firings) (range_with_len 0 (length p.events))
 
--- a complete legal word with a natural solution: whatever unit steps are taken for each element, as its Counts and its
--- Single say and forward, make a run in which the pattern occurs
+-- a complete legal schema with a natural solution: any unit steps that go forward and are, for each element, those of its Counts and its
+-- Single make a run in which the pattern occurs
 abbrev pub StepsOfSolutionsRun : Type 0
 StepsOfSolutionsRun =
     (file : File) (n : ℕ) (p : Pattern) → slice_get file.patterns n ≡ Some p
@@ -183,7 +184,7 @@ pub record HasRun (a : Automaton) (p : Pattern) (values : List ℕ) : Type 0 whe
   pub begins : start_values a p first ≡ take (length (start_meanings a p)) values
   pub occurs : Occurs a p first rules
 
--- where no rule with an update is on a cycle, a complete legal word with a natural solution gives a run in which the pattern occurs
+-- where no rule with an update is on a cycle, a complete legal schema with a natural solution gives a run in which the pattern occurs
 abbrev pub SolutionsBecomeRuns : Type 0
 SolutionsBecomeRuns =
     (file : File) (n : ℕ) (p : Pattern) → slice_get file.patterns n ≡ Some p

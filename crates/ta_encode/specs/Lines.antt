@@ -1,4 +1,4 @@
--- Rows written from terms over places
+-- Rows of the code that are written from terms over places: the limits of their numbers.
 use Rattle.std.specs.Prelude.{ℕ, ℤ, pos, ◌^◌, ◌<◌, ◌≤◌, ◌≤ℤ◌, ◌<ℤ◌, ◌-ℤ◌, unsigned_abs, if◌then◌else◌, Bool, List, length, map}
 use Rattle.std.specs.List.{AllByRecursion}
 use Rattle.ta_base.specs.declared.limits.TheConstants.{LARGEST_NUMBER}

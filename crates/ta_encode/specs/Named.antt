@@ -1,4 +1,4 @@
--- The rows of a system that a list of row numbers names, each number beside a multiplier
+-- The rows of a system that a Farkas certificate names by their numbers.
 use Rattle.std.specs.Prelude.{ℕ, ℤ, pos, ◌<◌, ◌≤◌, ◌≡◌, List, [], length, map, slice_index_or}
 use Rattle.ta_linear.specs.declared.row.System.{System}
 use Rattle.ta_encode.specs.System.{LinearRow}
@@ -10,7 +10,7 @@ use Rattle.ta_encode.specs.declared.named.Named.TheVariants.{Rows, Absent}
 abbrev pub HasRows : System → Type 0
 HasRows system = (rows : List LinearRow) × AreRowsOf rows system.rows
 
--- the row of a number, which is to be there
+-- the row with a number, which is to exist
 abbrev pub row_numbered : List LinearRow → ℕ → LinearRow
 row_numbered rows number = slice_index_or rows number (record { constant = pos 0; coefficients = [] })
 

@@ -1,4 +1,5 @@
--- Which trees refute, and which are a proof (Farkas' lemma and integer branching; those of a pattern over the words of this project's profile)
+-- Which trees refute a search and so are a proof: Farkas certificates at the leaves, integer branchings and extensions at the inner nodes.
+-- Source: Schrijver, Theory of Linear and Integer Programming, 1986 (Farkas' lemma).
 use Rattle.std.specs.Prelude.{ℕ, ℤ, pos, ◌<◌, List, [], ◌∷◌, map, slice_index_or, Option, Some, None}
 use Rattle.ta_linear.specs.Leaf.{Leaf as FarkasLeaf}
 use Rattle.ta_automaton.specs.declared.automaton.Automaton.{Automaton}
@@ -22,7 +23,7 @@ linear_constant_in (Some row) = row.constant
 abbrev pub LeafOfRows : List LinearRow → List (ℕ × ℤ) → Type 0
 LeafOfRows rows ts = FarkasLeaf linear_coefficient_in linear_constant_in rows ts
 
--- multipliers of a word's rows are such a leaf
+-- multipliers of a schema's rows are such a leaf
 abbrev pub IsLeaf : {E : Type 0} → Search E → Pending E → List (ℕ × ℤ) → Type 0
 IsLeaf s w ts = LeafOfRows (bounded_rows s w) ts
 
@@ -36,21 +37,21 @@ unfoldable mutual
       × RefutesBy s test (bounded w (bound_at unknown floor Low)) low
       × RefutesBy s test (bounded w (bound_at unknown floor High)) high
 
-  -- one tree for each word, in order, each of which refutes its word
+  -- one tree for each schema, in order; each tree refutes its schema
   pub RefuteEach : {E : Type 0} → Search E → LeafTest E → List (Pending E) → Forest → Type 0
   RefuteEach s test [] Done = Unit {0}
   RefuteEach s test (w ∷ ws) Done = ⊥
   RefuteEach s test [] (More tree trees) = ⊥
   RefuteEach s test (w ∷ ws) (More tree trees) = RefutesBy s test w tree × RefuteEach s test ws trees
 
--- the same of a list of trees
+-- the same for a list of trees
 abbrev pub RefuteAll : {E : Type 0} → Search E → LeafTest E → List (Pending E) → List Tree → Type 0
 RefuteAll s test [] [] = Unit {0}
 RefuteAll s test (w ∷ ws) [] = ⊥
 RefuteAll s test [] (tree ∷ trees) = ⊥
 RefuteAll s test (w ∷ ws) (tree ∷ trees) = RefutesBy s test w tree × RefuteAll s test ws trees
 
--- a proof whose leaves meet a test: one tree for each word with which the search begins
+-- a proof whose leaves meet a test: one tree for each schema with which the search begins
 abbrev pub ProofBy : {E : Type 0} → Search E → LeafTest E → List Tree → Type 0
 ProofBy s test trees = RefuteAll s test s.roots trees
 

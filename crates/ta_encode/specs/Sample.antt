@@ -1,5 +1,4 @@
--- The sample system: whether there are parameters that meet the resilience condition and have an initial configuration (this
--- project's profile)
+-- The sample system: whether some parameters meet the resilience condition and have an initial configuration.
 use Rattle.std.specs.Prelude.{ℕ, ◌≡◌, List, [], ◌∷◌, ◌++◌, length, map, slice_index, take, None}
 use Rattle.ta_automaton.specs.declared.automaton.Automaton.{Automaton}
 use Rattle.std.specs.List.{range_with_len}
@@ -19,11 +18,11 @@ sample_rows a =
     condition_rows a (sample_meanings a) a.resilience.comparisons
     ++ (processes_row a (sample_meanings a) ∷ opposite (processes_row a (sample_meanings a)) ∷ [])
 
--- the word of the search for a sample, which is empty, with bounds
+-- the empty schema of the search for a sample, with bounds
 abbrev pub sampled : List Bound → Pending Element
 sampled bounds = record { start = 0; past = []; bounds = bounds }
 
--- the search for a sample: that word alone, at which nothing is asked
+-- the search for a sample: that schema only, at which nothing is asked
 abbrev pub sample_search : Automaton → Search Element
 sample_search a = record {
   roots = sampled [] ∷ [];

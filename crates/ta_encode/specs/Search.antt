@@ -1,4 +1,4 @@
--- What is refuted node by node: a search, over facts of any type. A word is the facts of a node of words: its elements
+-- A search: what is refuted node by node, over facts of any type. For schemas, the facts are their elements.
 use Rattle.std.specs.Prelude.{ℕ, ℤ, ◌≡◌, ◌⊎◌, List, [], ◌∷◌, ◌++◌, length, map, Bool, cond, Option, Some, None}
 use Rattle.std.specs.Option.{IsSome}
 use Rattle.ta_base.specs.Masks.{In}
@@ -6,7 +6,7 @@ use Rattle.ta_cert.specs.declared.line.Node.{Node}
 use Rattle.ta_cert.specs.declared.line.Node.TheVariants as node
 use Rattle.ta_encode.specs.System.{LinearRow, Bound, Side, Low, High, AllHold, bound_row}
 
--- what is to be refuted: a start, the facts that were added, the newest first, and bounds. Of words, the start is a start set
+-- what is to be refuted: a start, the facts that were added, the newest first, and bounds. For schemas, the start is a start set
 pub record Pending (E : Type 0) : Type 0 where
   pub start : ℕ
   pub past : List E
@@ -24,10 +24,10 @@ bounded w b = record { start = w.start; past = w.past; bounds = w.bounds ++ b �
 abbrev pub bound_at : ℕ → ℤ → Side → Bound
 bound_at unknown floor side = record { unknown = unknown; floor = floor; side = side }
 
--- that with which a search begins; the facts of which a node that asks adds one, in order, where it may stand; the node that a maker
--- would have ask at a vertex, by the numerators and denominators of its values; the whole values that it takes in place of a vertex's where
--- it asks nothing and these aren't all whole; how many unknowns a system has, and its rows, without those of bounds. Each is told of a
--- start and a past
+-- a search: its starts; the facts of which a node that asks adds one, in order, where it may stand; the node that a maker lets ask at a
+-- vertex, by the numerators and denominators of its values; the integer values that a maker takes in place of a vertex's values, where it
+-- asks nothing and these are not all integers; how many unknowns a system has, and its rows, without those of bounds. Each is a function of
+-- a start and a past
 pub record Search (E : Type 0) : Type 0 where
   pub roots : List (Pending E)
   pub answers : ℕ → List E → Node → Option (List E)
@@ -40,7 +40,7 @@ pub record Search (E : Type 0) : Type 0 where
 abbrev pub bounded_rows : {E : Type 0} → Search E → Pending E → List LinearRow
 bounded_rows s w = s.rows w.start w.past ++ map bound_row w.bounds
 
--- a solution of it: one natural value for each unknown, at which each row holds
+-- a solution: one natural value for each unknown, at which each row holds
 pub record SolvesAt {E : Type 0} (s : Search E) (w : Pending E) (vs : List ℕ) : Type 0 where
   pub count : length vs ≡ s.unknowns w.start w.past
   pub rows_hold : AllHold vs (bounded_rows s w)
@@ -78,12 +78,12 @@ BeginsAtWord {E} s start past = (w : Pending E) × In w s.roots × (w.start ≡ 
 abbrev pub Answers : {E : Type 0} → Search E → ℕ → List E → E → Type 0
 Answers s start past e = (n : Node) × In e (answered s start past n)
 
--- it comes there: it begins there, or the newest fact answers a node
+-- the search comes there: it begins there, or the newest fact answers a node
 abbrev pub Comes : {E : Type 0} → Search E → ℕ → List E → Type 0
 Comes s start [] = BeginsAtWord s start []
 Comes s start (e ∷ past) = BeginsAtWord s start (e ∷ past) ⊎ (Answers s start past e × Comes s start past)
 
--- what is asked of the multipliers of a leaf
+-- a test of the multipliers of a leaf
 abbrev pub LeafTest : Type 0 → Type 1
 LeafTest E = Pending E → List (ℕ × ℤ) → Type 0
 

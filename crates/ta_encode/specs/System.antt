@@ -1,5 +1,5 @@
--- The rows of a word's system, in order, and their solutions (this project's profile, after the encoding of contexts and
--- schemas of POPL 2017). A word is given as its past: its elements, the newest first.
+-- The constraint system of a schema: its rows, in order, and its solutions. A schema is given as its past: its elements, the newest first.
+-- Source: Konnov, Lazić, Veith, Widder, POPL 2017 (encoding of contexts and schemas).
 use Rattle.std.specs.Prelude.{ℕ, zero, suc, ℤ, pos, negsuc, ◌+◌, ◌≡◌, ◌==◌, ◌+ℤ◌, ◌-ℤ◌, ◌*ℤ◌, ◌≤ℤ◌, Bool, cond, not, List, [], ◌∷◌, ◌++◌, length, map, filter, flat_map, slice_get, Option, Some, None}
 use Rattle.ta_linear.specs.Values.{terms_value}
 use Rattle.ta_linear.specs.declared.form.Form.{Form}
@@ -28,7 +28,7 @@ pub record LinearRow : Type 0 where
 abbrev pub opposite : LinearRow → LinearRow
 opposite row = record { constant = pos 0 -ℤ row.constant; coefficients = map (λ c. pos 0 -ℤ c) row.coefficients }
 
--- the negation of `row >= 0` over whole numbers: `-row - 1 >= 0`
+-- the negation of `row >= 0` over the integers: `-row - 1 >= 0`
 abbrev pub negated : LinearRow → LinearRow
 negated row = record { constant = (pos 0 -ℤ row.constant) -ℤ pos 1; coefficients = map (λ c. pos 0 -ℤ c) row.coefficients }
 
@@ -86,19 +86,19 @@ start_rows a p start =
     ++ (condition_rows a (start_meanings a p) p.start.comparisons
     ++ start_guard_rows a (start_meanings a p) start 0 a.fall))
 
--- the rows at a moment of the fall guards that are neither in the start set nor in a Fall of a word
+-- the rows at a moment of the fall guards that are neither in the start set nor in a Fall of a schema
 abbrev pub standing_rows : Automaton → ℕ → List Element → List Meaning → List LinearRow
 standing_rows a start past ms = guard_rows a ms (λ j. not (has_fallen start past j)) 0 a.fall
 
--- the rows of a Rise after a word; `end` are the unknowns up to its Counts
+-- the rows of a Rise after a schema; `end` are the unknowns up to its Counts
 unfoldable pub rise_rows : Automaton → Pattern → ℕ → List Element → List Meaning → ℕ → List LinearRow
 rise_rows a p start past end i = counter_rows a p end ++ (guard_rows a end (λ k. k == i) 0 a.rise ++ standing_rows a start past end)
 
--- the rows of an Event after a word; `end` are the unknowns up to its Counts
+-- the rows of an Event after a schema; `end` are the unknowns up to its Counts
 unfoldable pub happening_rows : Automaton → Pattern → ℕ → List Element → List Meaning → ℕ → List LinearRow
 happening_rows a p start past end e = counter_rows a p end ++ (event_rows a end (slice_get p.events e) ++ standing_rows a start past end)
 
--- the rows of a Fall after a word; `before` are the unknowns up to its Counts, `end` those up to its Singles
+-- the rows of a Fall after a schema; `before` are the unknowns up to its Counts, `end` those up to its Singles
 unfoldable pub fall_rows : Automaton → Pattern → ℕ → List Element → List Meaning → List Meaning → ℕ → List LinearRow
 fall_rows a p start past before end mask =
     counter_rows a p before
@@ -108,7 +108,7 @@ fall_rows a p start past before end mask =
     ++ (map negated (guard_rows a end (has_bit mask) 0 a.fall)
     ++ standing_rows a start (Fall mask ∷ past) end))))
 
--- the rows of a word, in order: those of each prefix come first
+-- the rows of a schema, in order: those of each prefix come first
 unfoldable pub word_rows : Automaton → Pattern → ℕ → List Element → List LinearRow
 word_rows a p start [] = start_rows a p start
 word_rows a p start (Event e ∷ past) = word_rows a p start past ++ happening_rows a p start past (meanings a p start (Event e ∷ past)) e
@@ -129,7 +129,7 @@ side_row unknown floor High = record { constant = (pos 0 -ℤ floor) -ℤ pos 1;
 abbrev pub bound_row : Bound → LinearRow
 bound_row b = side_row b.unknown b.floor b.side
 
--- the rows of a word with bounds
+-- the rows of a schema with bounds
 abbrev pub system_rows : Automaton → Pattern → ℕ → List Element → List Bound → List LinearRow
 system_rows a p start past bounds = word_rows a p start past ++ map bound_row bounds
 

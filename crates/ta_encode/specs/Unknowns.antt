@@ -1,5 +1,5 @@
--- The unknowns of a word's system, by their meaning (this project's profile; the Counts are the acceleration factors of
--- POPL 2017). A word is given as its past: its elements, the newest first.
+-- The unknowns of a schema's constraint system, by their meaning. A schema is given as its past: its elements, the newest first. Source of
+-- the Counts: Konnov, Lazić, Veith, Widder, POPL 2017 (acceleration factors).
 use Rattle.std.specs.Prelude.{ℕ, ℤ, not, List, [], ◌∷◌, ◌++◌, length, map, filter, slice_get}
 use Rattle.ta_automaton.specs.declared.automaton.Automaton.{Automaton}
 use Rattle.ta_automaton.specs.declared.pattern.Pattern.{Pattern}
@@ -21,15 +21,15 @@ start_locations a p = filter (λ l. not (has_bit p.empty l)) a.initial
 unfoldable pub start_meanings : Automaton → Pattern → List Meaning
 start_meanings a p = map Parameter (range_with_len 0 (length a.parameters)) ++ map Start (start_locations a p)
 
--- how often each rule that is allowed after a word fires before the next element
+-- how often each rule that is allowed after a schema fires before the next element
 abbrev pub counts_after : Automaton → Pattern → ℕ → List Element → List Meaning
 counts_after a p start past = map (Count (length past)) (allowed_rules a p start past)
 
--- which rule that is allowed after a word is the single step of the Fall that comes next
+-- which rule that is allowed after a schema is the single step of the Fall that comes next
 abbrev pub singles_after : Automaton → Pattern → ℕ → List Element → List Meaning
 singles_after a p start past = map (Single (length past)) (allowed_rules a p start past)
 
--- the unknowns of a word, in order: those of each prefix come first
+-- the unknowns of a schema, in order: those of each prefix come first
 unfoldable pub meanings : Automaton → Pattern → ℕ → List Element → List Meaning
 meanings a p start [] = start_meanings a p
 meanings a p start (Event e ∷ past) = meanings a p start past ++ counts_after a p start past

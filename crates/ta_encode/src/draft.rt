@@ -1,4 +1,4 @@
-//! What is written of a system.
+//! What is written of a system so far.
 #![tactic(auto)]
 
 ghost use Rattle.std.specs.Prelude.{◌^◌, ◌<◌, ◌≡◌, [], length};

@@ -1,4 +1,8 @@
-//! The rows of an element after others.
+//! The rows of an element behind those of others.
+//!
+//! At the end of every element the counters are natural, and the fall guards that have not fallen
+//! hold; a Rise adds that its guard holds, an Event its condition. A Fall has two groups of rows:
+//! before its single step its guards hold, behind it they are false.
 #![tactic(auto)]
 
 ghost use Rattle.std.specs.Prelude.{ℕ, ◌==◌, ◌≡◌, ◌<◌, ◌++◌, OnOk, map, not, slice_get};

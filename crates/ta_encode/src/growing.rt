@@ -1,4 +1,12 @@
-//! Systems of words that grow element by element and are cut.
+//! The system of a schema, written on from that of another schema of the pattern.
+//!
+//! The unknowns and rows of an element stand behind those of the elements before it, so two schemas
+//! share what their common prefix has written. A mark after each element says how many unknowns and
+//! rows there were: the old system is cut to the mark of the last element that both share, and the
+//! rest is written behind it. Rows of the end and of bounds stand behind all marks and are written
+//! anew. How many rows stayed is handed on, for the dictionaries (`Branch` of ta_simplex).
+//!
+//! Cost: the elements that are not shared; along a branch of the tree, one.
 #![tactic(auto)]
 
 ghost use Rattle.std.specs.Prelude.{ℕ, ◌+◌, ◌-◌, ◌^◌, ◌<◌, ◌≤◌, ◌≡◌, ◌↔◌, [], List, IfOk, IsTrue, OnOk, length, reverse, take};

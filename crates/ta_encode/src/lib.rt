@@ -1,4 +1,16 @@
-//! Systems of words, and the laws that words, systems and refutations keep.
+//! The constraint systems of schemas (words), and the laws of schemas, their systems and
+//! refutations.
+//!
+//! The unknowns are the parameters, the start counts and, for each element, how often each allowed
+//! rule fires before it (its Counts); a Fall has a Single for each rule besides, of which one is 1.
+//! Sums do not depend on the order of firings: a counter or shared variable at an element is its
+//! start value plus what all firings so far add. So each condition becomes rows over the unknowns.
+//! The unknowns and rows of an element stand behind those of the elements before it (growing.rt).
+//!
+//! Why these systems miss no run, and why every solution is one: proofs/Reorder.antt and
+//! proofs/Realize.antt. By the limits of automaton files no number of a row leaves 128 bits.
+//!
+//! Source: POPL 2017, schemas and reordering; start sets and joint falls are this project's.
 #![tactic(auto)]
 
 mod count;

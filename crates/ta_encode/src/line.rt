@@ -1,4 +1,9 @@
-//! Rows from terms over places.
+//! A row from terms over places, which are parameters, shared variables and counters.
+//!
+//! The coefficient of an unknown is the sum over the terms of what one of it adds at the term's
+//! place. For firings that depends on the rule and not on the element, so it is computed once for
+//! each rule. A row costs the unknowns so far, plus the rules times its terms (at most 64) and, for
+//! a shared variable, the updates (at most 16).
 #![tactic(auto)]
 
 ghost use Rattle.std.specs.Prelude.{ℕ, pos, ◌*◌, ◌^◌, ◌≡◌, ◌≤◌, ◌<◌, IfOk, if◌then◌else◌, length, unsigned_abs};

@@ -1,4 +1,4 @@
-//! Where words begin.
+//! Where schemas begin: a pattern and a start set.
 #![tactic(auto)]
 
 use ta_words::Task;

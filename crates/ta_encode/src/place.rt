@@ -1,4 +1,4 @@
-//! What stands before an unknown where a place's value is written in unknowns.
+//! What stands before an unknown where the value of a place is written in unknowns.
 #![tactic(auto)]
 
 ghost use Rattle.std.specs.Prelude.{ℕ, ℤ, ◌+◌, ◌≡◌, ◌≤◌, ◌<◌, Some, length, slice_get, unsigned_abs};

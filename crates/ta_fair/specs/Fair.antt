@@ -1,5 +1,5 @@
--- Runs without end, which of them are fair, and a pattern in them (this project's profile; the last event of a pattern holds for ever
--- there, as the liveness part of ELTL_FT of POPL 2017 has it)
+-- Infinite runs, weak fairness, and patterns whose last event holds for ever in such a run. Source: Konnov, Lazić, Veith, Widder, POPL 2017
+-- (liveness part of ELTL_FT).
 use Rattle.std.specs.Prelude.{ℕ, ◌+◌, ◌≡◌, ◌≢◌, ◌≤◌, ◌<◌, List, length, slice_get, slice_index, Option, Some, None, IsBitSet}
 use Rattle.ta_automaton.specs.declared.rule.Rule.{Rule}
 use Rattle.ta_automaton.specs.declared.automaton.Automaton.{Automaton}
@@ -20,7 +20,7 @@ pub record InfiniteRun (a : Automaton) : Type 0 where
   pub initial : Initial a (config 0)
   pub follows : (k : ℕ) → Follows a (fired k) (config k) (config (k + 1))
 
--- weakly fair: no rule must move from some position on and never fires there
+-- weakly fair: there is no rule that from some position on always must move and never fires
 abbrev pub Fair : (a : Automaton) → List ℕ → InfiniteRun a → Type 0
 Fair a silent run = (r : ℕ) (rule : Rule) → slice_get a.rules r ≡ Some rule → (k : ℕ)
     → ((n : ℕ) → k ≤ n → MustMove a silent rule (run.config n))
@@ -31,8 +31,8 @@ Fair a silent run = (r : ℕ) (rule : Rule) → slice_get a.rules r ≡ Some rul
 abbrev pub CalmFrom : (a : Automaton) → InfiniteRun a → ℕ → Type 0
 CalmFrom a run n = (k r : ℕ) (rule : Rule) → n ≤ k → run.fired k ≡ Some r → slice_get a.rules r ≡ Some rule → rule.from ≡ rule.to
 
--- the pattern occurs for ever in a fair run: its events happen as in a run that ends, the last one behind all others and from its
--- position on at every position
+-- the pattern occurs for ever in a fair run: its events happen as in a finite run, the last event is at or after all others, and from its
+-- position on its condition holds at every position
 pub record OccursForEver (a : Automaton) (silent : List ℕ) (p : Pattern) (run : InfiniteRun a) : Type 0 where
   pub fair : Fair a silent run
   pub start : Holds p.start (run.config 0)
@@ -44,6 +44,6 @@ pub record OccursForEver (a : Automaton) (silent : List ℕ) (p : Pattern) (run 
   pub behind : (last : ℕ) → last + 1 ≡ length p.events → (e : ℕ) → e < length p.events → slice_index positions e ≤ slice_index positions last
   pub lasts : (last : ℕ) (event : Event) → last + 1 ≡ length p.events → slice_get p.events last ≡ Some event → (n : ℕ) → slice_index positions last ≤ n → Holds event.condition (run.config n)
 
--- it does so in no fair run, for any admissible parameters
+-- the pattern occurs for ever in no fair run, for any admissible parameters
 abbrev pub FairlySafe : Automaton → List ℕ → Pattern → Type 0
 FairlySafe a silent p = (run : InfiniteRun a) → OccursForEver a silent p run → ⊥

@@ -57,7 +57,7 @@ leaf_of s ts m fine last negative = (
   ],
 )
 
--- a leaf whose check stays in range has no fault
+-- a leaf whose check stays in range has no error
 pub no_fault : (s : System) (ts : List (ℕ × ℤ)) (fault : LeafFault) → IsFirstFaultOfLeaf s ts fault → LeafOf s ts × CheckStays s ts → ⊥
 no_fault s ts (RowNumber row) f w = let b = multipliers-exist 0 (length s.rows) ts w.0.multipliers f.at f.below in let e = f.is in let m = f.missing in absurd (omega arith)
 no_fault s ts (Overflow column) f w = f.2 (w.1 column f.0)

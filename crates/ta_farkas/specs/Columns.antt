@@ -1,4 +1,4 @@
--- The columns of a system, as the check of a leaf adds them up
+-- The columns of a system, as the check of a Farkas certificate adds them up.
 use Rattle.std.specs.Prelude.{ℕ, ◌≤◌, List, ℤ, pos, slice_get, Option, nat_lt, if◌then◌else◌}
 use Rattle.ta_linear.specs.Sums.{StaysInRange}
 use Rattle.ta_linear.specs.Leaf.{coefficient_in, constant_in, weighted}
@@ -9,7 +9,7 @@ use Rattle.ta_linear.specs.declared.row.System.{System}
 abbrev pub part_in : ℕ → ℕ → Option Row → ℤ
 part_in unknowns column row = if nat_lt column unknowns then coefficient_in column row else constant_in row
 
--- the part of the row of a number
+-- the part of the row with this number
 abbrev pub entry : System → ℕ → ℕ → ℤ
 entry s column row = part_in s.unknowns column (slice_get s.rows row)
 

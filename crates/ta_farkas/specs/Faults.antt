@@ -1,4 +1,4 @@
--- The first fault of a list of multipliers
+-- The first error of a list of multipliers that is not a Farkas certificate.
 use Rattle.std.specs.Prelude.{ℕ, ◌<◌, ◌≤◌, List, ℤ, pos, ◌≤ℤ◌, ◌<ℤ◌, ◌≡◌, length, get_or}
 use Rattle.ta_linear.specs.declared.row.System.{System}
 use Rattle.ta_farkas.specs.Columns.{column_sum, ColumnStays}

@@ -1,4 +1,8 @@
 -- guards in an order in which no chain of pairs leads back
+--
+-- Guards are inserted one by one: a guard goes in front of the first one to which a chain leads from it, else behind all. No chain
+-- leads back to it from one in front, since it would lead on to that first one, which the order excludes; nor from one behind,
+-- since that would close a circle. Whether a chain leads from one guard to another is decided pair by pair.
 use Rattle.ta_implied.proofs.Common.{◌⊎◌, inl, inr, ℕ, List, [], ◌∷◌, sym, refl, subst, eqb_tells, In, each_from_in, each_in, ChainLeads, HasNoCircle, GuardsInOrder, LeadsSome, AreOrdered, GuardsCanBeOrdered}
 use Rattle.ta_implied.proofs.Chains.{Reaches, nothing_leads, leads_along, leads_join, one_more, through}
 

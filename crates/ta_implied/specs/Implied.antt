@@ -1,5 +1,5 @@
--- Which rise guard implies which (Farkas' lemma over the resilience condition; this project's profile): of a pair, the guard that comes
--- before holds wherever the one that comes after does
+-- Which rise guard implies which, under the resilience condition: of a pair, the guard before holds wherever the guard after holds. A
+-- Farkas certificate shows it.
 use Rattle.std.specs.Prelude.{ℕ, zero, suc, ◌+◌, ◌<◌, ◌≡◌, ◌≢◌, List, [], ◌∷◌, ◌++◌, ℤ, length, flat_map, slice_get, Some}
 use Rattle.std.specs.List.{AllByRecursion}
 use Rattle.ta_linear.specs.Forms.{IsNegation}
@@ -45,14 +45,14 @@ pub record ImplySystem (a : Automaton) (before after : ℕ) (system : System) : 
 abbrev pub RiseHolds : Automaton → Config → ℕ → Type 0
 RiseHolds a c guard = (row : Row) → slice_get a.rise guard ≡ Some row → RowHolds (value_at c) row
 
--- where a pair's system has a leaf, the guard before holds in each configuration of admissible parameters in which the one after does
+-- if a pair's system has a leaf, the guard before holds in each configuration of admissible parameters in which the guard after holds
 abbrev pub LeavesImply : Type 0
 LeavesImply =
     (a : Automaton) (before after : ℕ) (system : System) (ts : List (ℕ × ℤ)) → ImplySystem a before after system → LeafOf system ts
     → (c : Config) → Admissible a c.parameters → length c.shared ≡ length a.shared
     → RiseHolds a c after → RiseHolds a c before
 
--- from one guard a chain of so many more pairs leads to another
+-- from one guard a chain of this many more pairs leads to another
 abbrev pub ChainLeads : List (ℕ × ℕ) → ℕ → ℕ → ℕ → Type 0
 ChainLeads pairs zero first last = In (first, last) pairs
 ChainLeads pairs (suc more) first last = (next : ℕ) × In (first, next) pairs × ChainLeads pairs more next last
@@ -70,14 +70,14 @@ pub record IsImplied (a : Automaton) (pair : ℕ × ℕ) : Type 0 where
   pub multipliers : List (ℕ × ℤ)
   pub leaf : LeafOf system multipliers
 
--- pairs that may order guards: each is implied, none stands twice, and no chain leads from a guard back to itself
+-- pairs that may order guards: each is implied, no pair occurs twice, and no chain leads from a guard back to itself
 pub record Good (a : Automaton) (pairs : List (ℕ × ℕ)) : Type 0 where
   pub pairs_are : AllByRecursion (IsPair a) pairs
   pub implied : AllByRecursion (IsImplied a) pairs
   pub distinct : Distinct pairs
   pub acyclic : (more guard : ℕ) → ChainLeads pairs more guard guard → ⊥
 
--- under such pairs, in a configuration of admissible parameters, a guard that holds has each from which a chain leads to it true
+-- under such pairs, in a configuration of admissible parameters: if a guard holds, so does each guard from which a chain leads to it
 abbrev pub GuardsComeAfter : Type 0
 GuardsComeAfter =
     (a : Automaton) (pairs : List (ℕ × ℕ)) → Good a pairs

@@ -1,4 +1,4 @@
--- Lists of pairs of rise guards by rising numbers, the pairs that may join them, and why a pair is refused (this project's profile)
+-- Lists of pairs of rise guards, in increasing order; which pairs may join them, and why others are refused.
 use Rattle.std.specs.Prelude.{ℕ, ◌+◌, ◌<◌, ◌^◌, ◌==◌, ◌&&◌, ◌||◌, nat_lt, if◌then◌else◌, ℤ, ◌≡◌, Bool, List, [], ◌∷◌, ◌++◌, map, filter, true}
 use Rattle.std.specs.List.{AllByRecursion, range_with_len}
 use Rattle.ta_linear.specs.Leaf.{LeafOf}
@@ -38,12 +38,13 @@ IsBeforeSome pairs mask n j = (guard : ℕ) × (guard < n) × (has_bit mask guar
 abbrev pub HasNoCircle : List (ℕ × ℕ) → Type 0
 HasNoCircle pairs = (more guard : ℕ) → ¬ ChainLeads pairs more guard guard
 
--- masks of guards before others: each is of numbers of guards alone, and no chain of their pairs leads back
+-- masks of guards before others: they name existing guards only, and no chain of their pairs leads back
 pub record AreOrderMasks (masks : List ℕ) : Type 0 where
   pub fit : AllByRecursion (λ m. m < 2 ^ 16) masks
   pub no_circle : HasNoCircle (pairs_from 0 masks)
 
--- a pair may join others: it is of different rise guards, isn't among them, and no chain of them leads from its guard after to its guard before
+-- a pair may join others: it has two different rise guards, is not among the others, and no chain of them leads from its guard after to its
+-- guard before
 pub record MayJoin (a : Automaton) (pairs : List (ℕ × ℕ)) (pair : ℕ × ℕ) : Type 0 where
   pub is : IsPair a pair
   pub fresh : ¬ In pair pairs
@@ -56,7 +57,7 @@ pub record IsShown (a : Automaton) (pair : ℕ × ℕ) (ts : List (ℕ × ℤ)) 
   pub leaf : LeafOf system ts
   pub stays : CheckStays system ts
 
--- a pair joined others at its place: it may, and these multipliers show it
+-- a pair joined others at its place: it may join them, and these multipliers show it
 pub record JoinsPair (a : Automaton) (pair : ℕ × ℕ) (ts : List (ℕ × ℤ)) (old new : List (ℕ × ℕ)) : Type 0 where
   pub may : MayJoin a old pair
   pub shown : IsShown a pair ts
@@ -74,6 +75,6 @@ pub record AreOrdered (pairs : List (ℕ × ℕ)) (xs : List ℕ) : Type 0 where
   pub all : (x : ℕ) → In x xs → In x ys
   pub only : (x : ℕ) → In x ys → In x xs
 
--- under pairs without a circle any guards can be put into such an order
+-- under pairs without a cycle, guards can be put into such an order
 abbrev pub GuardsCanBeOrdered : Type 0
 GuardsCanBeOrdered = (pairs : List (ℕ × ℕ)) → HasNoCircle pairs → (xs : List ℕ) → AreOrdered pairs xs

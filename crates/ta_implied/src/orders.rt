@@ -1,4 +1,9 @@
-//! Pairs of rise guards.
+//! Pairs of rise guards, of which the later implies the earlier.
+//!
+//! Each guard has a mask of those before it. A pair may join if no chain of pairs leads from its
+//! later guard to its earlier one: a mask of all guards from which a chain leads there grows until
+//! it stays the same. Without such a circle the guards that rise at one moment can be put into an
+//! order that keeps all pairs.
 #![tactic(auto)]
 
 ghost use Rattle.std.specs.Prelude.{ℕ, ◌≡◌, ◌↔◌, ◌≤◌, ◌<◌, ◌^◌, ◌⊎◌, [], true, IsTrue, IfErr, OnOk};

@@ -1,4 +1,4 @@
--- Sums, multiples and negations of linear forms, by their numbers, and where they leave the range (elementary; the range is this project's profile)
+-- Sums, multiples and negations of linear forms, and where their numbers leave the range.
 use Rattle.std.specs.Prelude.{ℕ, ℤ, pos, ◌+◌, ◌<◌, ◌≤◌, ◌+ℤ◌, ◌*ℤ◌, ◌-ℤ◌, neg_ℤ, ◌==◌, ◌≡◌, ◌⊎◌, List, length, if◌then◌else◌}
 use Rattle.ta_linear.specs.Numbers.{InRange}
 use Rattle.ta_linear.specs.Terms.{coefficient, IsNormal}
@@ -30,7 +30,7 @@ pub record IsNegation (negation a : Form) : Type 0 where
   pub constant : negation.constant ≡ (neg_ℤ a.constant -ℤ pos 1)
   pub coefficients : (x : ℕ) → coefficient negation.terms x ≡ neg_ℤ (coefficient a.terms x)
 
--- what two lists have besides a term taken off them
+-- what two lists have apart from a term that is taken off them
 pub record IsLeastTerm (left right : List (ℕ × ℤ)) (term : ℕ × ℤ) (left_rest right_rest : List (ℕ × ℤ)) : Type 0 where
   pub sums : (x : ℕ) → ((if term.0 == x then term.1 else pos 0) +ℤ (coefficient left_rest x +ℤ coefficient right_rest x)) ≡ (coefficient left x +ℤ coefficient right x)
   pub normal : (low high : ℕ) → IsNormal low high left → IsNormal low high right → (low ≤ term.0) × InRange term.1 × IsNormal (term.0 + 1) high left_rest × IsNormal (term.0 + 1) high right_rest

@@ -1,5 +1,5 @@
--- The greatest common divisor of two natural numbers as a function, by Euclid's recursion: that of 0 and 0 is 0.
--- Source: Euclid; that it is the common divisor which each common divisor divides is a lemma (IsGcd of std).
+-- The greatest common divisor of two natural numbers, by Euclid's recursion; that of 0 and 0 is 0. A lemma shows that every common divisor
+-- divides it (IsGcd of std).
 use Rattle.std.specs.Prelude.{ℕ, zero, suc, ◌%◌}
 
 -- the last number that is not 0 of Euclid's remainders, within n steps

@@ -1,4 +1,5 @@
--- What sums, multiples, negations and leaves say of values (elementary; Farkas' lemma in the direction that a refutation rests on)
+-- What sums, multiples, negations and Farkas certificates say of values. Only the easy direction of Farkas' lemma is needed: a system with
+-- a certificate has no natural solution.
 use Rattle.std.specs.Prelude.{ℕ, ℤ, ◌≡◌, ◌+ℤ◌, ◌-ℤ◌, ◌*ℤ◌, pos, neg_ℤ, ◌↔◌, List}
 use Rattle.ta_linear.specs.Numbers.{InRange}
 use Rattle.ta_linear.specs.Forms.{IsSum, SumOutOfRange, IsMultiple, MultipleOutOfRange, IsNegation}
@@ -28,10 +29,10 @@ SumsAddValues = (point : ℕ → ℤ) (sum a b : Form) → IsSum sum a b → val
 abbrev pub MultiplesScaleValues : Type 0
 MultiplesScaleValues = (point : ℕ → ℤ) (multiple a : Form) (factor : ℤ) → IsMultiple multiple a factor → value_of point multiple ≡ (factor *ℤ value_of point a)
 
--- a negated row holds exactly where the row doesn't
+-- a negated row holds exactly if the row does not
 abbrev pub NegatedRowsExclude : Type 0
 NegatedRowsExclude = (point : ℕ → ℤ) (negation row : Row) → IsNegation negation.form row.form → RowHolds point negation ↔ ¬ RowHolds point row
 
--- a system that has a leaf has no natural solution (Farkas' lemma, the direction that a refutation rests on)
+-- a system that has a Farkas certificate has no natural solution
 abbrev pub LeavesHaveNoSolution : Type 0
 LeavesHaveNoSolution = (system : System) (ts : List (ℕ × ℤ)) → LeafOf system ts → (values : List ℕ) → Solves system values → ⊥

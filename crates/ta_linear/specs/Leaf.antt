@@ -1,4 +1,5 @@
--- Refutations by Farkas' lemma: multipliers of rows whose sum can't be at least 0 at natural values (Farkas; this project's profile for the form)
+-- Farkas certificates: positive multipliers of rows whose weighted sum is negative at all natural values. In the code they are leaves.
+-- Source: Schrijver, Theory of Linear and Integer Programming, 1986 (Farkas' lemma).
 use Rattle.std.specs.Prelude.{ℕ, ℤ, pos, ◌+◌, ◌<◌, ◌≤◌, ◌+ℤ◌, ◌*ℤ◌, ◌≤ℤ◌, ◌<ℤ◌, List, [], ◌∷◌, length, slice_get, Option, Some, None}
 use Rattle.ta_linear.specs.Terms.{coefficient}
 use Rattle.ta_linear.specs.declared.row.Row.{Row}
@@ -25,7 +26,7 @@ abbrev pub coefficient_in : ℕ → Option Row → ℤ
 coefficient_in x None = pos 0
 coefficient_in x (Some row) = coefficient row.form.terms x
 
--- the constant of a row, and 0 where there is none
+-- the constant of a row, and 0 if there is none
 abbrev pub constant_in : Option Row → ℤ
 constant_in None = pos 0
 constant_in (Some row) = row.form.constant

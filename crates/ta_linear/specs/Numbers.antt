@@ -1,6 +1,6 @@
--- The range of the program's numbers (this project's profile)
+-- The range of the program's numbers.
 use Rattle.std.specs.Prelude.{ℤ, unsigned_abs, ◌<◌, ◌^◌}
 
--- the range of the program's numbers: an absolute value below 2^127 (this project's profile)
+-- a number in the range: its absolute value is below 2^127
 abbrev pub InRange : ℤ → Type 0
 InRange z = unsigned_abs z < 2 ^ 127

@@ -1,4 +1,4 @@
--- Systems of the same numbers (this project's profile)
+-- Systems with the same numbers, however they are written.
 use Rattle.std.specs.Prelude.{ℕ, ◌≡◌, List, [], ◌∷◌}
 use Rattle.ta_linear.specs.Terms.{coefficient}
 use Rattle.ta_linear.specs.declared.row.Row.{Row}

@@ -1,4 +1,4 @@
--- Sums of products in the order in which they are formed, and where these leave the range (this project's profile)
+-- Sums of products in the order in which they are formed, and whether they stay in range.
 use Rattle.std.specs.Prelude.{ℕ, ℤ, ◌+ℤ◌, ◌*ℤ◌, List, [], ◌∷◌}
 use Rattle.ta_linear.specs.Numbers.{InRange}
 

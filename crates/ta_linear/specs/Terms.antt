@@ -1,4 +1,4 @@
--- Lists of terms: what stands before a variable, and when they are normal (this project's profile)
+-- Lists of terms: the coefficient of a variable, and when a list is normal.
 use Rattle.std.specs.Prelude.{ℕ, ℤ, pos, ◌+◌, ◌+ℤ◌, ◌==◌, ◌≤◌, ◌≢◌, List, [], ◌∷◌, if◌then◌else◌}
 use Rattle.std.proofs.Props.{props}
 use Rattle.ta_linear.specs.Numbers.{InRange}
@@ -21,7 +21,7 @@ IsNormal low high (t ∷ ts) = (low ≤ t.0) × IsTerm t × IsNormal (t.0 + 1) h
 IsTerm-prop : (t : ℕ × ℤ) → IsProp (IsTerm t)
 IsTerm-prop t = hlevel props
 
--- that terms are normal is a proposition
+-- a proof that terms are normal is unique
 pub IsNormal-prop : (low high : ℕ) (ts : List (ℕ × ℤ)) → IsProp (IsNormal low high ts)
 IsNormal-prop low high [] = hlevel props
 IsNormal-prop low high (t ∷ ts) = hlevel (props, IsTerm-prop t, IsNormal-prop (t.0 + 1) high ts)

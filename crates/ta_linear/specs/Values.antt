@@ -1,4 +1,4 @@
--- The values of terms, forms and rows at whole numbers, and natural solutions of systems (elementary)
+-- The values of terms, forms and rows at integers, and the natural solutions of a system.
 use Rattle.std.specs.Prelude.{ℕ, ℤ, pos, ◌≡◌, ◌+ℤ◌, ◌*ℤ◌, ◌≤ℤ◌, List, [], ◌∷◌, length, slice_index, slice_index_or, All}
 use Rattle.ta_linear.specs.declared.form.Form.{Form}
 use Rattle.ta_linear.specs.declared.row.Row.{Row}

@@ -1,4 +1,4 @@
-//! The faults of this crate.
+//! The errors of this crate.
 #![tactic(auto)]
 
 use std::alloc::{AllocError, AllocFailed};

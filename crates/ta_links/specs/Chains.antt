@@ -1,4 +1,4 @@
--- Cells that are linked in chains
+-- A sparse matrix: nonzero cells that are linked in chains, along rows and along columns.
 use Rattle.std.specs.Prelude.{ℕ, ◌<◌, ◌≤◌, ◌≡◌, ◌≢◌, ◌⊎◌, List, pos, length, get_or, Option, Some, None}
 use Rattle.ta_links.specs.declared.cell.Cell.{Cell}
 
@@ -12,7 +12,7 @@ cell_at cells i = get_or cells i no_cell
 abbrev pub head_at : List (Option ℕ) → ℕ → Option ℕ
 head_at heads line = get_or heads line None
 
--- a live cell: its value isn't 0
+-- a live cell: its value is not 0
 pub record IsLive (cells : List Cell) (i : ℕ) : Type 0 where
   pub inside : i < length cells
   pub value : (cell_at cells i).value ≢ pos 0
@@ -59,7 +59,8 @@ pub record FollowsCell (way : Direction) (cells : List Cell) (i j : ℕ) : Type 
   pub back : before_at way cells j ≡ Some i
   pub nothing_between : (k : ℕ) → IsLive cells k → line_at way cells k ≡ line_at way cells i → (place_at way cells k ≤ place_at way cells i) ⊎ (place_at way cells j ≤ place_at way cells k)
 
--- each line's chain visits exactly the live cells of the line by rising place: it begins with the first of them, leads from each to the next, and ends with the last; the links back agree with the links forward
+-- each line's chain visits exactly the live cells of the line by rising place: it begins with the first of them, leads from each to the
+-- next, and ends with the last; the links back agree with the links forward
 pub record IsChained (way : Direction) (cells : List Cell) (heads : List (Option ℕ)) : Type 0 where
   pub inside : (i : ℕ) → IsLive cells i → line_at way cells i < length heads
   pub empty : (line : ℕ) → head_at heads line ≡ None → (k : ℕ) → IsLive cells k → line_at way cells k ≢ line

@@ -1,4 +1,4 @@
--- Which non-basic variable enters, as far as a column
+-- Which variable enters, among the columns below a number. Source of the least-index rule: Bland, 1977.
 use Rattle.std.specs.Prelude.{ℕ, ◌<◌, length, pos, ◌<ℤ◌, ◌≤ℤ◌}
 use Rattle.ta_dense.specs.Tableau.{Tableau, row_of, cell_of, non_basic_of}
 

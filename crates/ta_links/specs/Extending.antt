@@ -1,4 +1,4 @@
--- The rows of a longer system
+-- The rows of a longer system.
 use Rattle.std.specs.Prelude.{ℕ, ◌+◌, ◌-◌, ◌≤◌, ◌≡◌, List}
 use Rattle.ta_dense.specs.Kept.{KeptPivot, StayInRange, carried, chosen_row, kept_at}
 use Rattle.ta_dense.specs.Merge.{FirstRefused}

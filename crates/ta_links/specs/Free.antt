@@ -1,4 +1,4 @@
--- The chain of free cells, and all chains
+-- The chain of free cells, and what all chains keep.
 use Rattle.std.specs.Prelude.{ℕ, ◌<◌, ◌≡◌, ◌≢◌, List, [], ◌∷◌, pos, length, Option, Some, None}
 use Rattle.ta_linear.specs.Numbers.{InRange}
 use Rattle.ta_links.specs.declared.cell.Cell.{Cell}
@@ -9,12 +9,12 @@ use Rattle.std.specs.List.{AllByRecursion}
 abbrev pub NotIn : ℕ → List ℕ → Type 0
 NotIn i is = AllByRecursion (λ j. i ≢ j) is
 
--- the chain of free cells goes along `right` through these, none of them twice, and no value of theirs is anything but 0
+-- the chain of free cells goes along `right` through these; it visits none of them twice, and all their values are 0
 abbrev pub FreeVisits : List Cell → Option ℕ → List ℕ → Type 0
 FreeVisits cells head [] = head ≡ None
 FreeVisits cells head (i ∷ is) = (head ≡ Some i) × (i < length cells) × ((cell_at cells i).value ≡ pos 0) × NotIn i is × FreeVisits cells (cell_at cells i).right is
 
--- the chain of free cells visits exactly the cells that aren't live, and none of them twice
+-- the chain of free cells visits exactly the cells that are not live, each of them once
 pub record IsFree (cells : List Cell) (head : Option ℕ) : Type 0 where
   pub visited : List ℕ
   pub visits : FreeVisits cells head visited

@@ -1,4 +1,4 @@
--- Where a place is in a line, and the cells together with their heads
+-- Where a place lies in a line: the cells before and after it.
 use Rattle.std.specs.Prelude.{ℕ, suc, ◌<◌, ◌≤◌, ◌≡◌, List, Option, Some, None}
 use Rattle.ta_links.specs.declared.cell.Cell.{Cell}
 use Rattle.ta_links.specs.declared.linked_cells.LinkedCells.{LinkedCells}
@@ -15,12 +15,12 @@ pub record IsCellBefore (way : Direction) (cells : List Cell) (line place h : �
 abbrev pub MayBefore : Direction → List Cell → ℕ → ℕ → Option ℕ → Type 0
 MayBefore way cells line place before = (h : ℕ) → before ≡ Some h → IsCellBefore way cells line place h
 
--- behind it no cell of the line stands before the place
+-- after it, no cell of the line is before the place
 pub record IsSought (way : Direction) (cells : List Cell) (heads : List (Option ℕ)) (line place : ℕ) (before : Option ℕ) : Type 0 where
   pub may : MayBefore way cells line place before
   pub behind : (j : ℕ) → following way cells heads line before ≡ Some j → place ≤ place_at way cells j
 
--- nor at the place
+-- and none is at the place
 pub record IsEmptyPlace (way : Direction) (cells : List Cell) (heads : List (Option ℕ)) (line place : ℕ) (before : Option ℕ) : Type 0 where
   pub may : MayBefore way cells line place before
   pub behind : (j : ℕ) → following way cells heads line before ≡ Some j → place < place_at way cells j

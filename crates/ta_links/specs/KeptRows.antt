@@ -1,3 +1,4 @@
+-- A kept pivot without its zeros: what its fields mean, and what they keep.
 use Rattle.std.specs.Prelude.{pos, ◌<ℤ◌}
 use Rattle.ta_linear.specs.Numbers.{InRange}
 use Rattle.ta_linear.specs.Terms.{IsNormal}

@@ -1,4 +1,4 @@
--- Walks that visit each live cell of a line
+-- Walks that visit each nonzero cell of a line.
 use Rattle.std.specs.Prelude.{ℕ, ◌<◌, ◌≤◌, ◌≡◌, List, ℤ, pos, Option, Some}
 use Rattle.ta_links.specs.declared.cell.Cell.{Cell}
 use Rattle.ta_links.specs.declared.way.Way.{Way}
@@ -28,6 +28,6 @@ pub record IsNext (way : Way) (cells : List Cell) (l : ℕ) (before : Option ℕ
   pub passed : (p : ℕ) → spot (direction way) cells before ≤ p → p < place_at (direction way) cells j → line_value_at way cells l p ≡ pos 0
   pub value : line_value_at way cells l (place_at (direction way) cells j) ≡ (cell_at cells j).value
 
--- no number of the line is left that isn't 0
+-- the remaining numbers of the line are 0
 abbrev pub NoneLeft : Way → List Cell → ℕ → Option ℕ → Type 0
 NoneLeft way cells line before = (p : ℕ) → spot (direction way) cells before ≤ p → line_value_at way cells line p ≡ pos 0

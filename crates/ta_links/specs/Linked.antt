@@ -1,4 +1,4 @@
--- A dictionary of linked rows, as its callers see it
+-- A dictionary of linked cells, as its callers see it.
 use Rattle.std.specs.Prelude.{ℕ, suc, ◌+◌, ◌<◌, ◌≡◌, List, [], ◌∷◌, ℤ, pos, ◌<ℤ◌, length, get_or, Option}
 use Rattle.ta_linear.specs.Numbers.{InRange}
 use Rattle.ta_dense.specs.Tableau.{TableauRow, Tableau, row_of, cell_of}
@@ -36,7 +36,7 @@ pub record IsProperHead (h : RowHead) : Type 0 where
 abbrev pub AreProperHeads : List RowHead → Type 0
 AreProperHeads hs = (i : ℕ) → i < length hs → IsProperHead (get_or hs i no_head)
 
--- the chains visit exactly the cells that aren't 0, each with its value, and every other cell is a free one
+-- the chains visit exactly the cells that are not 0, each with its value, and every other cell is a free one
 pub record IsKeptInChains (d : Linked) : Type 0 where
   pub linked : AreLinked d.cells d.row_heads d.column_heads d.free_head
   pub rows : length d.row_heads ≡ length d.tableau.rows
@@ -47,7 +47,7 @@ pub record IsKeptInChains (d : Linked) : Type 0 where
 abbrev pub numbers_of : Tableau → ℕ → ℕ → ℤ
 numbers_of t row column = cell_of (row_of t row) column
 
--- how many cells aren't 0
+-- how many cells are not 0
 abbrev pub live_count : List Cell → ℕ
 live_count [] = 0
 live_count (c ∷ cs) = fills (pos 0) c.value + live_count cs

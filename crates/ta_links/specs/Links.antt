@@ -1,4 +1,4 @@
--- How links are written
+-- What writing links changes.
 use Rattle.std.specs.Prelude.{ℕ, ℤ, List, [], ◌∷◌, ◌++◌, pos, set, length, Option, Some, None}
 use Rattle.ta_links.specs.declared.cell.Cell.{Cell}
 use Rattle.ta_links.specs.declared.way.Way.{Way}
@@ -23,12 +23,12 @@ abbrev pub linked : (Option ℕ → Cell → Cell) → List Cell → Option ℕ 
 linked write cells None to = cells
 linked write cells (Some k) to = set cells k (write to (cell_at cells k))
 
--- the heads after that of a line was written, where no cell goes before
+-- the heads after that of a line was written, if no cell comes before
 abbrev pub headed : List (Option ℕ) → Option ℕ → ℕ → Option ℕ → List (Option ℕ)
 headed heads None line to = set heads line to
 headed heads (Some k) line to = heads
 
--- the cells after the link forward of the cell before a gap and the link back of the cell behind it were written
+-- the cells after the link forward of the cell before a gap and the link back of the cell after it were written
 abbrev pub spliced : Way → List Cell → Option ℕ → Option ℕ → Option ℕ → Option ℕ → List Cell
 spliced way cells before after forward back = linked (with_before way) (linked (with_after way) cells before forward) after back
 
@@ -55,7 +55,7 @@ abbrev pub next_free : List Cell → Option ℕ → Option ℕ
 next_free cells None = None
 next_free cells (Some at) = (cell_at cells at).right
 
--- the cell behind a gap in a line, which is behind a cell or at the line's beginning
+-- the cell after a gap in a line; the gap comes after a cell or at the line's beginning
 abbrev pub following : Direction → List Cell → List (Option ℕ) → ℕ → Option ℕ → Option ℕ
 following way cells heads line None = head_at heads line
 following way cells heads line (Some k) = after_at way cells k

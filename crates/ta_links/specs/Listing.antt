@@ -1,4 +1,4 @@
--- Lists of the cells of a line
+-- Lists of the nonzero cells of a line.
 use Rattle.std.specs.Prelude.{ℕ, ◌≡◌, List, ℤ, length, Option}
 use Rattle.ta_linear.specs.Terms.{IsNormal, coefficient}
 use Rattle.ta_links.specs.declared.linked_cells.LinkedCells.{LinkedCells}
@@ -16,7 +16,7 @@ abbrev pub line_places : Way → LinkedCells → ℕ
 line_places Rows l = length l.column_heads.items
 line_places Columns l = length l.row_heads.items
 
--- a list names the places of a line whose numbers aren't 0, by rising place, each with its number
+-- a list names the places of a line whose numbers are not 0, by rising place, each with its number
 pub record Lists (way : Way) (l : LinkedCells) (on : ℕ) (ts : List (ℕ × ℤ)) : Type 0 where
   pub normal : IsNormal 0 (line_places way l) ts
   pub numbers : (p : ℕ) → line_value_at way l.cells.items on p ≡ coefficient ts p

@@ -1,4 +1,4 @@
--- The numbers of a row that is merged with a chosen one
+-- The numbers of a row that is merged with the chosen row of a pivot.
 use Rattle.std.specs.Prelude.{ℕ, zero, suc, ◌+◌, ◌<◌, ◌≤◌, ◌≡◌, ◌≢◌, ◌⊎◌, List, length, get_or, ℤ, ◌*ℤ◌, ◌-ℤ◌, ◌==◌, unsigned_abs, if◌then◌else◌, pos, ◌<ℤ◌}
 use Rattle.ta_linear.specs.Numbers.{InRange}
 use Rattle.ta_linear.specs.Gcd.{gcd_of}
@@ -18,7 +18,7 @@ merged_cell p q column turned f g j = if j == column then turned else p *ℤ f j
 abbrev pub MergesAt : ℤ → ℤ → ℕ → (ℕ → ℤ) → (ℕ → ℤ) → ℕ → Type 0
 MergesAt p q column f g j = j ≢ column → CombinesInRange p (f j) q (g j)
 
--- those of a place aren't
+-- the numbers at a place leave the range
 pub record RefusedAt (p q : ℤ) (column : ℕ) (f g : ℕ → ℤ) (columns : ℕ) : Type 0 where
   pub place : ℕ
   pub inside : place < columns
@@ -63,7 +63,7 @@ pub record RowMerged (columns row at column : ℕ) (heads : List RowHead) (old :
 abbrev pub IsSpared : ℕ → ℕ → ℕ → Type 0
 IsSpared first row i = (i < first) ⊎ (i ≡ row)
 
--- a row that isn't spared was merged with the chosen one, and nothing else changed
+-- a row that is not spared was merged with the chosen one, and nothing else changed
 pub record RowStepped (first columns row at column : ℕ) (heads : List RowHead) (old : LinkedCells) (heads' : List RowHead) (new : LinkedCells) : Type 0 where
   pub sound : AreSound new
   pub row_heads : length new.row_heads.items ≡ length old.row_heads.items
@@ -76,12 +76,12 @@ pub record RowStepped (first columns row at column : ℕ) (heads : List RowHead)
   pub within : ¬ (IsSpared first row at) → MergesInRange column (row_in heads old columns row) (row_in heads old columns at)
   pub held : length new.cells.items ≤ length old.cells.items + filled_places columns (value_in old.cells.items at) (value_in new.cells.items at)
 
--- a row that isn't spared doesn't stay in range
+-- a row that is not spared does not stay in range
 pub record MergeRefused (first columns row at column : ℕ) (heads : List RowHead) (old : LinkedCells) : Type 0 where
   pub apart : ¬ (IsSpared first row at)
   pub refused : ¬ (MergesInRange column (row_in heads old columns row) (row_in heads old columns at))
 
--- the rows before a place that aren't spared were merged
+-- the rows before a place that are not spared were merged
 pub record MergedBelow (first columns row column : ℕ) (heads : List RowHead) (old : LinkedCells) (place : ℕ) (heads' : List RowHead) (new : LinkedCells) : Type 0 where
   pub sound : AreSound new
   pub row_heads : length new.row_heads.items ≡ length old.row_heads.items

@@ -1,4 +1,4 @@
--- Rows after a pivot
+-- The rows after a pivot.
 use Rattle.std.specs.Prelude.{ℕ, ◌+◌, ◌≤◌, ◌≡◌, List, length, get_or}
 use Rattle.ta_dense.specs.Tableau.{TableauRow, no_row, pivoted_rows}
 use Rattle.ta_dense.specs.Merge.{OthersMergeBelow}

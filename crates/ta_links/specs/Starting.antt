@@ -1,10 +1,10 @@
--- The rows of a system, each solved for its slack
+-- The rows of a system, each solved for its slack.
 use Rattle.std.specs.Prelude.{ℕ, suc, ◌<◌, ◌≤◌, ◌≡◌, List, [], ◌∷◌, ℤ, pos, get_or}
 use Rattle.ta_linear.specs.Terms.{coefficient}
 use Rattle.ta_linear.specs.declared.row.Row.{Row}
 use Rattle.ta_links.specs.declared.row_head.RowHead.{RowHead}
 
--- the rows from a first one up to a number show their coefficients; those before are as they were, and those after show nothing
+-- the rows from a first one up to a number show their coefficients; earlier rows are unchanged, and later rows show nothing
 pub record RowsShow (first : ℕ) (old : ℕ → ℕ → ℤ) (rows : List Row) (count : ℕ) (numbers : ℕ → ℕ → ℤ) : Type 0 where
   pub same : (i c : ℕ) → i < first → numbers i c ≡ old i c
   pub shown : (i c : ℕ) (d : Row) → first ≤ i → i < count → numbers i c ≡ coefficient (get_or rows i d).form.terms c

@@ -1,4 +1,4 @@
--- The numbers that cells keep
+-- The numbers that cells keep.
 use Rattle.std.specs.Prelude.{ℕ, zero, suc, List, [], ◌∷◌, ℤ, pos, negsuc, ◌+◌, ◌+ℤ◌, ◌==◌, ◌&&◌, map, if◌then◌else◌}
 use Rattle.std.specs.List.{range_with_len}
 use Rattle.ta_links.specs.declared.cell.Cell.{Cell}
@@ -11,7 +11,7 @@ only_at_place row column value r c = if row == r && column == c then value else 
 abbrev pub shown : Cell → ℕ → ℕ → ℤ
 shown c row column = only_at_place c.row c.column c.value row column
 
--- the number in a row and a column: the sum of what the cells put there, of which one at most isn't 0
+-- the number in a row and a column: the sum of what the cells put there; at most one of these is not 0
 abbrev pub value_in : List Cell → ℕ → ℕ → ℤ
 value_in [] row column = pos 0
 value_in (c ∷ cs) row column = shown c row column +ℤ value_in cs row column
@@ -32,12 +32,12 @@ fills (pos zero) (negsuc n) = 1
 fills (pos (suc m)) b = 0
 fills (negsuc m) b = 0
 
--- how many of the first places of a row were 0 and aren't
+-- how many of the first places of a row were 0 and are not any longer
 abbrev pub filled_places : ℕ → (ℕ → ℤ) → (ℕ → ℤ) → ℕ
 filled_places zero old new = 0
 filled_places (suc n) old new = filled_places n old new + fills (old n) (new n)
 
--- and of the first rows
+-- the same for the first rows
 abbrev pub filled_rows : ℕ → ℕ → (ℕ → ℕ → ℤ) → (ℕ → ℕ → ℤ) → ℕ
 filled_rows zero columns old new = 0
 filled_rows (suc n) columns old new = filled_rows n columns old new + filled_places columns (old n) (new n)

@@ -1,4 +1,4 @@
-//! A dictionary of linked rows.
+//! The dictionary of linked rows.
 
 ghost use Rattle.std.specs.Prelude.{◌≡◌, ◌<◌, ◌≤◌, ◌+◌, pos, ◌<ℤ◌, length, IfOk, IfErr};
 ghost use Rattle.ta_dense.specs.Tableau.{cell_of, pivoted, row_of};

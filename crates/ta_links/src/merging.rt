@@ -1,4 +1,8 @@
-//! Rows that are merged with a chosen one.
+//! A row that is merged with the chosen one, place by place.
+//!
+//! Two cursors move along the chains of both rows. A first pass over the places computes the
+//! greatest common divisor of the merged numbers and tests their range; a second one computes them
+//! again and writes them, divided. So nothing is written where a number leaves the range.
 
 ghost use Rattle.std.specs.Prelude.{◌≡◌, ◌≢◌, ◌<◌, ◌≤◌, ◌+◌, ◌^◌, ℕ, pos, ◌<ℤ◌, int_div, length, IfOk, IfSome, IfNone};
 ghost use Rattle.ta_linear.specs.Numbers.{InRange};

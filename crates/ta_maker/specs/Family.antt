@@ -1,12 +1,12 @@
--- The family of test automata (this project's profile). The automaton of k has k shared variables, each of which one rule raises and
--- one guard waits for; its pattern, more processes than there are, never comes about
+-- A family of test automata. The automaton of k has k shared variables; one rule increments each of them and one guard waits for it. Its
+-- pattern, more processes than there are, never occurs.
 use Rattle.std.specs.Prelude.{ℕ, false, true, List, [], ◌∷◌, ◌++◌, codes, decimal, map}
 use Rattle.ta_syntax.specs.Grammar.{PlainComparison, PlainPattern, PlainRule, PlainTree, Term, Terms, alone, done, named, number, term}
 use Rattle.ta_syntax.specs.declared.sums.Sign.TheVariants as sign
 use Rattle.ta_syntax.specs.declared.tokens.Relation.TheVariants as relation
 use Rattle.std.specs.List.{range_with_len}
 
--- a name and a number behind it
+-- a name and a number after it
 abbrev pub numbered : List ℕ → ℕ → List ℕ
 numbered front index = front ++ decimal index
 
@@ -57,7 +57,7 @@ lost = record {
   events = record { name = codes "lost"; after = []; condition = at_least (pair (name (codes "A")) (name (codes "B"))) (pair (name (codes "n")) (number (codes "1"))) ∷ [] } ∷ [];
 }
 
--- the automaton of a number
+-- the automaton with this number
 abbrev pub family : ℕ → PlainTree
 family k = record {
   name = numbered (codes "family") k;

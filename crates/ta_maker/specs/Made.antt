@@ -1,4 +1,4 @@
--- What making an automaton of the family answers (this project's profile)
+-- What making an automaton of the family answers.
 use Rattle.std.specs.Prelude.{ℕ, ◌≡◌, ◌<◌, ◌≤◌, ◌⊎◌, Result, Ok, Err}
 use Rattle.ta_syntax.specs.PlainTrees.{plain_tree}
 use Rattle.ta_syntax.specs.declared.tree.Tree.{Tree}

@@ -1,4 +1,4 @@
--- How the faults of parts make those of the whole: the first of them, or none.
+-- How the errors of parts make those of the whole: the first of them, or none.
 use Rattle.ta_meaning.proofs.Common.{◌≡◌, Bool, true, false, List, [], ◌∷◌, ◌++◌, Result, Ok, Err, inl, inr, refl, sym, ap, subst, ◌∙◌, FileFault, where_, else_, First, FirstOrMemory, Judges, Answers}
 use Rattle.ta_base.proofs.Lists.{empty_before}
 
@@ -31,7 +31,7 @@ pub where-leads : (test : Bool) (f : FileFault) → test ≡ true → First (whe
 where-leads true f e = ([], refl)
 where-leads false f e = cc
 
--- a fault of the left part is the first of the whole
+-- an error of the left part is the first of the whole
 pub else-left-leads : (a b : List FileFault) (e : FileFault) → First a e → First (else_ a b) e
 else-left-leads [] b e w = let h = w.1 in cc
 else-left-leads (f ∷ a) b e w = w
@@ -70,16 +70,16 @@ pub judges-answer : {X : Type 0} (faults : List FileFault) (IsRight : X → Type
 judges-answer faults IsRight (Ok x) h = h
 judges-answer faults IsRight (Err e) h = inr h
 
--- an answer to some faults is one to the same faults written otherwise, and what is right in one sense is right in another
+-- an answer to some errors is one to the same errors written otherwise, and what is right in one sense is right in another
 pub judges-along : {X : Type 0} (a b : List FileFault) (P Q : X → Type 0) (r : Result X FileFault) → a ≡ b → ((x : X) → P x → Q x) → Judges a P r → Judges b Q r
 judges-along a b P Q (Ok x) e f h = (sym e ∙ h.0, f x h.1)
 judges-along a b P Q (Err d) e f h = (h.0, sym e ∙ h.1)
 
--- an answer to some faults is one to the same faults written otherwise
+-- an answer to some errors is one to the same errors written otherwise
 pub answers-along : {X : Type 0} (a b : List FileFault) (IsRight : X → Type 0) (r : Result X FileFault) → a ≡ b → Answers a IsRight r → Answers b IsRight r
 answers-along a b IsRight r e h = subst (λ (fs : List FileFault). Answers fs IsRight r) e h
 
--- what is right in one sense is right in another where there are no faults
+-- what is right in one sense is right in another where there are no errors
 pub answers-knowing : {X : Type 0} (faults : List FileFault) (P Q : X → Type 0) (r : Result X FileFault) → ((x : X) → faults ≡ [] → P x → Q x) → Answers faults P r → Answers faults Q r
 answers-knowing faults P Q (Ok x) f h = (h.0, f x h.0 h.1)
 answers-knowing faults P Q (Err e) f h = h

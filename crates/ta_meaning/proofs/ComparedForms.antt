@@ -8,7 +8,7 @@ use Rattle.ta_base.proofs.Lists.{empty_both}
 
 -- ---- a sum
 
--- the answer of a sum whose terms have no fault
+-- the answer of a sum whose terms have no error
 pub sum_answers : (s : Scope) (faults : List FileFault) (plain : Terms) (at : ℕ) (form : Form) (r : Result Form FileFault) → faults ≡ [] → PartOf (sum_uses s.allowed plain) (linear_sum s.allowed plain) (2 ^ 93) form
     → Answers (where_ (is_large_form form) (fault.TooLarge at)) (λ f. f ≡ form) r
     → Answers (else_ faults (where_ (is_large_linear (linear_sum s.allowed plain)) (fault.TooLarge at))) (ResolvedForm s.allowed plain) r
@@ -55,7 +55,7 @@ pub each_length : (names : List (List ℕ)) (ds : List Difference) → AllByRecu
 each_length names [] = tt
 each_length names (d ∷ ds) = (length-map names (λ x. sum_coefficient x d.greater -ℤ sum_coefficient x d.less), each_length names ds)
 
--- the answer of a comparison whose sums have no fault
+-- the answer of a comparison whose sums have no error
 pub comparison_answers : (s : Scope) (c : TreeComparison) (l r : Form) (rows : List Row) → sum_faults s c.left ≡ [] → sum_faults s c.right ≡ []
     → PartOf (sum_uses s.allowed (plain_sum c.left)) (linear_sum s.allowed (plain_sum c.left)) (2 ^ 93) l
     → PartOf (sum_uses s.allowed (plain_sum c.right)) (linear_sum s.allowed (plain_sum c.right)) (2 ^ 93) r
@@ -73,13 +73,13 @@ comparison_answers s c l r rows none_left none_right part_left part_right is =
           },
     )
 
--- a fault of a comparison's first sum is its first
+-- an error of a comparison's first sum is its first
 pub left_first : (s : Scope) (c : TreeComparison) (e : FileFault) → FirstOrMemory (sum_faults s c.left) e → FirstOrMemory (comparison_faults s c) e
 left_first s c e first =
     else-left-first (sum_faults s c.left ++ sum_faults s c.right) (where_ (any_large (comparison_rows s.allowed (plain_comparison c))) (fault.TooLarge c.at)) e
     (append-left-first (sum_faults s c.left) (sum_faults s c.right) e first)
 
--- where the sums have no fault, that of the whole comparison is left
+-- where the sums have no error, that of the whole comparison is left
 pub last_of_comparison : (s : Scope) (c : TreeComparison) → sum_faults s c.left ≡ [] → sum_faults s c.right ≡ [] → comparison_faults s c ≡ where_ (any_large (comparison_rows s.allowed (plain_comparison c))) (fault.TooLarge c.at)
 last_of_comparison s c none_left none_right =
     else-left-none (sum_faults s c.left ++ sum_faults s c.right) (where_ (any_large (comparison_rows s.allowed (plain_comparison c))) (fault.TooLarge c.at))

@@ -1,4 +1,4 @@
--- Names that are declared one after another without a fault: they are distinct and legal.
+-- Names that are declared one after another without an error: they are distinct and legal.
 use Rattle.ta_meaning.proofs.Common.{◌≡◌, ℕ, true, false, not, ◌||◌, List, [], ◌∷◌, ◌++◌, length, map, refl, sym, ap, subst, ◌∙◌, append_assoc, bytes_eq, list_any, AllByRecursion, ltb-false, false≢true, not-false, or_parts, append-nil, bytes_eq-Decides, distinct_push_apart, each_append, plain_name, plain_location, Spelled, TreeLocation, Tree, Distinct, Name, has_name, guard_names, all_names, location_name, names_of, where_, is_long, declared_faults, declarations_faults, location_spelled, any_initial, names_faults}
 use Rattle.ta_syntax.specs.declared.fault.FileFault.TheVariants as fault
 use Rattle.ta_meaning.proofs.Answering.{not-where, none-else-left, none-else-right}
@@ -15,7 +15,7 @@ has_name-apart (m ∷ names) n e =
 
 -- ---- one name
 
--- a name that is declared without a fault is not among those before it
+-- a name that is declared without an error is not among those before it
 pub declared-new : (before : List (List ℕ)) (n : Spelled) → declared_faults before n ≡ [] → has_name before n.name ≡ false
 declared-new before n none = not-where (has_name before n.name) (fault.Duplicate n.at) (none-else-left _ _ none)
 
@@ -23,11 +23,11 @@ declared-new before n none = not-where (has_name before n.name) (fault.Duplicate
 pub short_name : (n : Spelled) → is_long n ≡ false → Name n.name
 short_name n short = record { spelled = n.legal; limit = ltb-false 64 (length n.name) short }
 
--- a name that is declared without a fault is legal
+-- a name that is declared without an error is legal
 pub declared-legal : (before : List (List ℕ)) (n : Spelled) → declared_faults before n ≡ [] → Name n.name
 declared-legal before n none = short_name n (not-where (is_long n) (fault.TooLarge n.at) (none-else-right (where_ (has_name before n.name) (fault.Duplicate n.at)) _ none))
 
--- names with a name that is declared without a fault are distinct
+-- names with a name that is declared without an error are distinct
 pub declared-distinct : (before : List (List ℕ)) (n : Spelled) → Distinct before → declared_faults before n ≡ [] → Distinct (before ++ n.name ∷ [])
 declared-distinct before n d none = distinct_push_apart before n.name d (has_name-apart before n.name (declared-new before n none))
 
@@ -53,7 +53,7 @@ pub location_names : (ls : List TreeLocation) → map plain_name (map location_s
 location_names [] = refl
 location_names (l ∷ ls) = ap (λ names. l.name.name ∷ names) (location_names ls)
 
--- what each part of the names says where there is no fault
+-- what each part of the names says where there is no error
 pub record NamesDeclared (t : Tree) : Type 0 where
   pub name : is_long t.name ≡ false
   pub parameters : declarations_faults [] t.parameters ≡ []
@@ -79,7 +79,7 @@ names_declared t none =
       locations = empty_right (where_ (not (any_initial t.locations)) (fault.NoInitial t.locations_at)) _ after_shared;
     }
 
--- the names of a tree whose names have no fault are distinct
+-- the names of a tree whose names have no error are distinct
 pub names-distinct : (t : Tree) → names_faults (names_of t) t ≡ [] → Distinct (all_names (names_of t))
 names-distinct t none =
     let d = names_declared t none in

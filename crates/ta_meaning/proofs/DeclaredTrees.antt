@@ -12,7 +12,7 @@ AfterParameters t names = names ≡ (names_of t).parameters
 abbrev pub AfterShared : Tree → List (List ℕ) → Type 0
 AfterShared t names = names ≡ guard_names (names_of t)
 
--- the stages before have no fault
+-- the stages before have no error
 abbrev pub NameFits : Tree → Type 0
 NameFits t = where_ (is_long t.name) (fault.TooLarge t.name.at) ≡ []
 
@@ -46,7 +46,7 @@ after_all t start names ls s p is =
     is ∙ ap (λ (z : List (List ℕ)). z ++ map plain_name (map location_spelled ls)) s
     ∙ ap (λ (z : List (List ℕ)). guard_names (names_of t) ++ z) (location_names ls ∙ ap (λ (z : List TreeLocation). map location_name (map plain_location z)) p)
 
--- ---- no fault so far
+-- ---- no error so far
 pub parameters_fit : (t : Tree) (start : List (List ℕ)) (ps : List Spelled) → NameFits t → start ≡ [] → ps ≡ t.parameters → declarations_faults start ps ≡ [] → ParametersFit t
 parameters_fit t start ps name s p none = record { name = name; parameters = along_none start [] ps t.parameters s p none }
 
@@ -58,7 +58,7 @@ all_fit t start ls before s p none =
     empty_both _ _ before.before.before.name (empty_both _ _ before.before.before.parameters (empty_both _ _ before.before.shared (empty_both _ _ before.initial
     (along_none start (guard_names (names_of t)) (map location_spelled ls) (map location_spelled t.locations) s (ap (λ (z : List TreeLocation). map location_spelled z) p) none))))
 
--- ---- the first fault
+-- ---- the first error
 pub stops_at_name : (t : Tree) (e : FileFault) → FirstOrMemory (where_ (is_long t.name) (fault.TooLarge t.name.at)) e → FirstOrMemory (names_faults (names_of t) t) e
 stops_at_name t e first = append-left-first _ _ e first
 

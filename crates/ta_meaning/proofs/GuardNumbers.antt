@@ -83,7 +83,7 @@ guards_same a b p q =
     let first : a ≡ record { rise = b.rise; fall = a.fall } = ap (λ (zs : List Linear). record a { rise = zs }) p in
     first ∙ ap (λ (zs : List Linear). record b { fall = zs }) q
 
--- a comparison without faults and the only row that it has
+-- a comparison without errors and the only row that it has
 pub record OneRow (ns : Names) (c : TreeComparison) (row : Row) : Type 0 where
   pub none : comparison_faults (in_guards ns) c ≡ []
   pub rows : Comparison
@@ -115,7 +115,7 @@ rise_normal ns guards kept = each_weaker (RiseRow (length ns.parameters) (length
 pub fall_normal : (ns : Names) (guards : GuardList) → GuardsKept ns guards → AllByRecursion (Normal (size ns)) guards.fall.items
 fall_normal ns guards kept = each_weaker (FallRow (length ns.parameters) (length ns.shared)) (Normal (size ns)) guards.fall.items (λ r h. (kinds_over ns r h.over).below) kept.fall_rows
 
--- the faults behind those of the comparison, at its only row
+-- the errors behind those of the comparison, at its only row
 abbrev later_faults : (parameters : ℕ) (g : Guards) (at : ℕ) (rows : List Linear) → List FileFault
 later_faults parameters g at rows =
     else_ (where_ (is_no_threshold parameters rows) (fault.NotThreshold at)) (where_ (is_one_more parameters g rows) (fault.TooMany at))
@@ -138,7 +138,7 @@ threshold_alone parameters g r threshold = ap (λ (b : Bool). not b && is_past_l
 pub not_past : (parameters : ℕ) (g : Guards) (r : Linear) → is_no_threshold parameters (r ∷ []) ≡ false → is_one_more parameters g (r ∷ []) ≡ false → is_past_limit parameters g r ≡ false
 not_past parameters g r threshold no_more = sym (threshold_alone parameters g r threshold) ∙ no_more
 
--- the faults of a threshold guard are that it is one more
+-- the errors of a threshold guard are that it is one more
 one_more_alone : (ns : Names) (before : GuardList) (c : TreeComparison) (row : Row) (more : Bool) → OneRow ns c row → is_no_threshold (length ns.parameters) (linear_of (size ns) row ∷ []) ≡ false → is_past_limit (length ns.parameters) (guards_so_far ns before) (linear_of (size ns) row) ≡ more
     → guard_faults (length ns.parameters) (in_guards ns) (guards_so_far ns before) c ≡ where_ more (fault.TooMany c.at)
 one_more_alone ns before c row more one threshold is =

@@ -82,7 +82,7 @@ numbered_more ns first before after cs c masks more n all h bits =
       among = subst (λ (zs : List Linear). AllByRecursion (AmongGuards parameters k) zs) (sym rows) (each_push (AmongGuards parameters k) (rows_of names cs) h.row old (among_number parameters k h.row n h.numbered));
     }
 
--- the comparisons so far are numbered, and the faults of all are those of the comparisons left
+-- the comparisons so far are numbered, and the errors of all are those of the comparisons left
 pub record GuardsReading (ns : Names) (first now : GuardList) (all left : List TreeComparison) (masks : GuardMasks) : Type 0 where
   pub done : List PlainComparison
   pub split : map plain_comparison all ≡ done ++ map plain_comparison left

@@ -72,11 +72,11 @@ counted-fine : (faults : List FileFault) (before after : Guards) → faults ≡ 
 counted-fine [] before after e = refl
 counted-fine (f ∷ fs) before after e = cc
 
--- a guard without a fault counts
+-- a guard without an error counts
 pub guards_counted : (parameters : ℕ) (s : Scope) (g : Guards) (c : TreeComparison) → guard_faults parameters s g c ≡ [] → guards_then parameters s g c ≡ with_guards parameters g (comparison_rows s.allowed (plain_comparison c))
 guards_counted parameters s g c none = counted-fine (guard_faults parameters s g c) g (with_guards parameters g (comparison_rows s.allowed (plain_comparison c))) none
 
--- the guards of comparisons without faults are those of their rows
+-- the guards of comparisons without errors are those of their rows
 pub guards_with_rows : (parameters : ℕ) (s : Scope) (g : Guards) (cs : List TreeComparison) → guards_faults parameters s g cs ≡ [] → guards_with parameters s g cs ≡ with_guards parameters g (rows_of s.allowed (map plain_comparison cs))
 guards_with_rows parameters s g [] none = refl
 guards_with_rows parameters s g (c ∷ cs) none =

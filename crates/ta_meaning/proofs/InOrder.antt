@@ -1,4 +1,4 @@
--- Parts of a tree that stand one after another in a text: faults that rise within each part rise in the whole.
+-- Parts of a tree that stand one after another in a text: errors that rise within each part rise in the whole.
 use Rattle.ta_meaning.proofs.Common.{ℕ, ◌+◌, ◌≤◌, ◌<◌, ◌≡◌, Bool, true, false, List, [], ◌∷◌, ◌++◌, map, ◌⊎◌, inl, inr, refl, sym, subst, arith, AllByRecursion, each_append, each_weaker, rises-wider, further, listed, led, ended, each, Offsets, unplaced, at_first, Mark, FileFault, Rises, where_, else_, fault_offset, IsOfMeaning}
 use Rattle.ta_meaning.proofs.StartedParts.{Starts}
 
@@ -7,7 +7,7 @@ abbrev pub Lies : ℕ → List Offsets → ℕ → Type 0
 Lies low [] high = low ≤ high
 Lies low (x ∷ xs) high = (at : ℕ) × (low ≤ at) × AllByRecursion (λ a. a ≡ at) x × Lies (at + 1) xs high
 
--- the offsets of faults rise strictly, from `low` on and below `high`
+-- the offsets of errors rise strictly, from `low` on and below `high`
 abbrev pub Within : ℕ → ℕ → List FileFault → Type 0
 Within low high faults = Rises low high (map fault_offset faults)
 
@@ -24,7 +24,7 @@ IsStated at (x ∷ s) = IsAmong at x ⊎ IsStated at s
 abbrev pub AreStated : List Offsets → List FileFault → Type 0
 AreStated stated faults = AllByRecursion (λ f. IsStated (fault_offset f) stated) faults
 
--- wherever the tokens of a part lie, its faults rise there; each has the offset of a token, and is one that meaning may have
+-- wherever the tokens of a part lie, its errors rise there; each has the offset of a token, and is one that meaning may have
 pub record InOrder (stated : List Offsets) (faults : List FileFault) : Type 0 where
   pub rise : (low high : ℕ) → Lies low stated high → Within low high faults
   pub tokens : AreStated stated faults
@@ -100,19 +100,19 @@ pub inside-at_first : (at : ℕ) (s : List Offsets) → Starts s → IsInside at
 inside-at_first at [] starts = absurd starts
 inside-at_first at (x ∷ s) starts = record { inside = λ low high h. let here : low ≤ h.0 = h.1 in let is : at ≡ h.0 = h.2.0 in let room : h.0 + 1 ≤ high = lies-room (h.0 + 1) high s h.3 in (omega arith, omega arith); token = inl (inl refl) }
 
--- ---- parts and their faults
+-- ---- parts and their errors
 pub no_faults : (s : List Offsets) → InOrder s []
 no_faults s = record { rise = λ low high h. tt; tokens = tt; kinds = tt }
 
 pub along : (s r : List Offsets) (fs gs : List FileFault) → s ≡ r → fs ≡ gs → InOrder s fs → InOrder r gs
 along s r fs gs e d h = subst (λ (z : List Offsets). InOrder z gs) e (subst (λ (z : List FileFault). InOrder s z) d h)
 
--- a fault alone, at an offset inside
+-- an error alone, at an offset inside
 pub one : (s : List Offsets) (test : Bool) (f : FileFault) → IsOfMeaning f → IsInside (fault_offset f) s → InOrder s (where_ test f)
 one s true f kind i = record { rise = λ low high h. let in_ : (low ≤ fault_offset f) × (fault_offset f < high) = i.inside low high h in (in_.0, in_.1, tt); tokens = (i.token, tt); kinds = (kind, tt) }
 one s false f kind i = no_faults s
 
--- one of two lists of faults
+-- one of two lists of errors
 pub either : (s : List Offsets) (fs gs : List FileFault) → InOrder s fs → InOrder s gs → InOrder s (else_ fs gs)
 either s [] gs h k = k
 either s (f ∷ fs) gs h k = h
@@ -127,11 +127,11 @@ together s r fs gs h k = record {
   kinds = each_append IsOfMeaning fs gs h.kinds k.kinds;
 }
 
--- a token without a fault before a part
+-- a token without an error before a part
 pub after_token : (x : Offsets) (s : List Offsets) (fs : List FileFault) → InOrder s fs → InOrder (x ∷ s) fs
 after_token x s fs h = record { rise = λ low high lies. let here : low ≤ lies.0 = lies.1 in within-wider (lies.0 + 1) high low high fs (omega arith) (omega arith) (h.rise (lies.0 + 1) high lies.3); tokens = are_stated-right (x ∷ []) s fs h.tokens; kinds = h.kinds }
 
--- tokens without a fault behind a part
+-- tokens without an error behind a part
 pub before_tokens : (s r : List Offsets) (fs : List FileFault) → InOrder s fs → InOrder (s ++ r) fs
 before_tokens s r fs h = record {
   rise = λ low high lies.
@@ -147,7 +147,7 @@ with_first at s fs h = record { rise = λ low high lies. h.rise low high (lies-a
 
 -- ---- lists of parts
 
--- the faults are those of the items, one item after another
+-- the errors are those of the items, one item after another
 abbrev pub Items : {A : Type 0} → (A → List Offsets) → List A → List FileFault → Type 0
 Items stated [] faults = faults ≡ []
 Items stated (x ∷ xs) faults = (here later : List FileFault) × (faults ≡ here ++ later) × InOrder (stated x) here × Items stated xs later

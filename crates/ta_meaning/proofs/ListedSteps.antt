@@ -75,7 +75,7 @@ pub listing_begins : (declared allowed : List (List ℕ)) (all : List Spelled) �
 listing_begins declared allowed all = record { before = []; faults = refl; names_are = refl; mask_is = no_mask allowed }
 
 module _ (declared allowed : List (List ℕ)) (all : List Spelled) (n : Spelled) (rest : List Spelled) (mask : ℕ) (to : ListedTo declared allowed all (n ∷ rest) mask) where
-  -- a name at fault by itself was not listed before
+  -- a name in error by itself was not listed before
   not_listed : (e : FileFault) (later : List FileFault) → ((m : List ℕ) → Contains allowed m → Contains declared m) → used_faults declared allowed n ≡ e ∷ later → has_name to.before n.name ≡ false
   not_listed e later sub is = false_from_ne_true (has_name to.before n.name) (λ t.
       let known : Contains allowed n.name = All-contains (Contains allowed) to.before n.name (All-from_recursion (Contains allowed) to.before to.mask_is.bits.known) ((has_name-Decides to.before n.name).0 t) in

@@ -1,4 +1,4 @@
--- Numbers that are not too large are those of a form, and sums and comparisons without a fault mean forms and rows.
+-- Numbers that are not too large are those of a form, and sums and comparisons without an error mean forms and rows.
 use Rattle.ta_meaning.proofs.Common.{◌≡◌, ◌≢◌, ℕ, zero, suc, ℤ, pos, negsuc, ◌+◌, ◌^◌, ◌≤◌, unsigned_abs, true, false, List, [], ◌∷◌, ◌++◌, map, length, get_or, IsTrue, Some, None, refl, sym, ap, subst, ◌∙◌, arith, list_any, AllByRecursion, ints, or_parts, and_from, length-map, coefficient, IsNormal, Form, Row, coefficient-below, coefficient-first, coefficient-other, plain_sum, term_of, plain_comparison, Terms, Relation, TreeSum, TreeComparison, RowOver, Comparison, Condition, sum_uses, term_uses, factor_uses, Linear, FormOf, RowOf, Pairwise, MeansComparison, linear_sum, differences_by, linear_difference, comparison_rows, is_large, is_large_linear, any_large, Scope, WithFaults, where_, linear_term, sum_faults, comparison_faults, condition_faults, number_faults, ResolvedForm, ResolvedComparison, ResolvedCondition, SeenTerms, SeenTerm, SeenFactor, seen_none, seen_more, seen_number, seen_times, seen_alone, seen_blank, seen_named, seen_nested, seen_sum, plain_of_terms, plain_of_term, plain_of_factor}
 use Rattle.ta_linear.specs.Terms.{IsTerm}
 use Rattle.ta_syntax.specs.declared.tokens.Relation.TheVariants as relation
@@ -101,7 +101,7 @@ mutual
   factor_known s (seen_named n) none = used_is_allowed s.places s.allowed n none
   factor_known s (seen_nested ts) none = terms_known s ts none
 
--- a sum without a fault uses names alone that may stand there
+-- a sum without an error uses names alone that may stand there
 pub sum_known : (s : Scope) (t : TreeSum) → sum_faults s t ≡ [] → IsTrue (sum_uses s.allowed (plain_sum t))
 sum_known s t none =
     let seen = every_sum_seen t in

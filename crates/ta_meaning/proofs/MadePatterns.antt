@@ -1,4 +1,4 @@
--- Patterns without a fault mean patterns.
+-- Patterns without an error mean patterns.
 use Rattle.ta_meaning.proofs.Common.{◌≡◌, ℕ, ◌*◌, ◌%◌, ◌^◌, ◌<◌, ◌≤◌, true, bit_or, List, [], ◌∷◌, ◌++◌, map, length, Contains, IsBitSet, refl, sym, subst, ◌∙◌, arith, same_Some, plain_name, plain_event, plain_pattern, Spelled, TreeEvent, TreePattern, Distinct, Event, Pattern, Names, all_names, has_name, where_, else_, in_conditions, declared_faults, used_faults, listed_faults, condition_faults, event_faults, events_faults, pattern_faults, patterns_faults, ListedMask, ResolvedPatterns, ResolvedEvent, ResolvedEvents, ResolvedPattern}
 use Rattle.ta_syntax.specs.declared.fault.FileFault.TheVariants as fault
 use Rattle.ta_meaning.proofs.Answering.{not-where, none-else-left, none-else-right}

@@ -1,4 +1,4 @@
--- Rules without a fault mean rules and guards.
+-- Rules without an error mean rules and guards.
 use Rattle.ta_base.proofs.Bits.{one_bit_more}
 use Rattle.ta_meaning.proofs.Common.{◌≡◌, ◌⊎◌, inl, inr, ⊎_elim, ℕ, ℤ, pos, ◌*◌, ◌%◌, ◌^◌, ◌<◌, ◌≤◌, Bool, true, false, not, ltb, ◌&&◌, cond, eqb, bit_or, List, [], ◌∷◌, ◌++◌, map, length, Ok, Contains, refl, sym, ap, ◌∙◌, arith, w8, w16, cases_Bool, length-map, bit_at_set_same, bit_at_set_other, IsNormal, Row, plain_comparison, plain_update, plain_rule, TreeComparison, TreeUpdate, TreeRule, Rule, Names, all_names, guard_names, has_name, number_of, no_guards, is_negative, is_positive, falls, has_row, is_no_threshold, is_one_more, is_past_limit, Linear, comparison_rows, where_, else_, in_guards, comparison_faults, guard_faults, guards_faults, guards_with, declared_faults, used_faults, digits_faults, updates_faults, rule_faults, rules_faults, guards_then, any_shared, is_no_guard, Has, RowAnswers, linear_of, guards_so_far, GuardsKept, GuardNumbered, GuardsNumbered, NumberFits, WithNumber, names_at, UpdatesRead, RuleRead, ResolvedRules, GuardList, GuardMasks, GuardNumber, length-append, and_false, not-false}
 use Rattle.ta_syntax.specs.declared.fault.FileFault.TheVariants as fault

@@ -1,4 +1,4 @@
--- A text has at most one first fault.
+-- A text has at most one first error.
 use Rattle.ta_meaning.proofs.Common.{◌≡◌, ℕ, List, [], ◌∷◌, ◌++◌, length, ◌⊎◌, inl, inr, ⊎_elim, ◌<◌, refl, sym, ap, subst, ◌∙◌, append_assoc, arith, heads, FileText, Counts, at_start, run, counted_after, StaysWithin, IsDeep, IsMany, AreTokens, IsRefused, Kind, Token, FileFault, tokens_unique, refused_unique, refused_no_tokens, Automaton, File, Means, OfText, OfMeaning, OfScope, FirstFault}
 use Rattle.ta_syntax.specs.Faults.{kinds, SameStart, Begins, offset_of, IsWrong, IsPast, IsStopped, FaultOfTokens}
 use Rattle.ta_syntax.specs.declared.fault.FileFault.TheVariants as fault
@@ -113,7 +113,7 @@ deep-many a b ts p q =
 on-same : (bytes : List ℕ) (e : FileFault) (ts : List Token) → AreTokens bytes ts → FaultOfTokens bytes e → IsStopped FileText at_start (length bytes) ts e
 on-same bytes e ts are f = subst (λ (z : List Token). IsStopped FileText at_start (length bytes) z e) (tokens_unique bytes f.tokens ts f.are are) f.stopped
 
--- two faults of one list of tokens, none of them want of memory
+-- two errors of one list of tokens, none of them want of memory
 abbrev IsOfTokens : FileFault → Type 0
 IsOfTokens fault.Memory = ⊥
 IsOfTokens e = Unit {0}
@@ -135,7 +135,7 @@ stopped-once end ts (fault.TooDeep a) _ i j h k = absurd k
 stopped-once end ts (fault.TooMany a) _ i j h k = absurd k
 stopped-once end ts _ d i j h k = absurd h
 
--- a refused byte, or a fault of tokens
+-- a refused byte, or an error of tokens
 abbrev AtByte : List ℕ → FileFault → Type 0
 AtByte bytes e = (a : ℕ) × (e ≡ fault.Byte a) × IsRefused bytes a
 
@@ -158,7 +158,7 @@ text-once bytes e d h k = both (text-cases bytes e h) (text-cases bytes d k)
 
 -- ---- rules
 
--- the first rule at fault is one
+-- the first rule in error is one
 first-number : (a : Automaton) (r s : ℕ) → scope.FirstRuleFault a r → scope.FirstRuleFault a s → r ≡ s
 first-number a r s p q =
     let not-less : ¬ (r < s) = λ less. q.first r p.rule less p.named p.at_fault in

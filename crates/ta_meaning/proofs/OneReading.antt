@@ -1,4 +1,4 @@
--- What is read of a text: the file that it means where nothing is at fault, or its first fault.
+-- What is read of a text: the file that it means if there is no error, or its first error.
 use Rattle.ta_meaning.proofs.Common.{◌≡◌, ℕ, List, [], ◌⊎◌, inl, inr, ⊎_elim, refl, sym, subst, plain_tree, IsTreeOf, Tree, FileFault, InScope, Automaton, File, MeansTree, Means, meaning_faults, FirstOrMemory, OfText, OfMeaning, OfScope, FirstFault, Legal, file_fault}
 use Rattle.ta_syntax.specs.declared.fault.FileFault.TheVariants as fault
 use Rattle.ta_scope.specs.Faults as scope
@@ -9,7 +9,7 @@ use Rattle.ta_scope.proofs.Judging.{fault_out}
 use Rattle.ta_meaning.specs.FirstFault as first
 use Rattle.ta_meaning.proofs.OneTree.{one_meaning, no_text_fault, one_meant}
 
--- ---- the first fault
+-- ---- the first error
 
 pub meaning-fault : (bytes : List ℕ) (t : Tree) (e : FileFault) → IsTreeOf bytes t → FirstOrMemory (meaning_faults t) e → (e ≡ fault.Memory) ⊎ FirstFault bytes e
 meaning-fault bytes t e is (inl m) = inl m
@@ -25,7 +25,7 @@ scope-fault bytes t file f is none means h =
     (λ (s : first.ScopeFault file.automaton (file_fault f)). inr (inr (inr (record { tree = t; is_tree = is; none_of_meaning = none; file = file; means = means; fault = s }))))
     (of_scope file.automaton f h)
 
--- ---- no fault
+-- ---- no error
 
 pub no-text : (bytes : List ℕ) (t : Tree) (e : FileFault) → IsTreeOf bytes t → OfText bytes e → ⊥
 no-text bytes t fault.Memory is f = f
@@ -43,7 +43,7 @@ no-scope bytes file e means scoped f =
     let other : Means bytes f.file = record { tree = f.tree; is_tree = f.is_tree; means = f.means } in
     in-scope f.file.automaton e f.fault (subst (λ (z : File). InScope z.automaton) (one_meant bytes file f.file means other) scoped)
 
--- a text without a fault of meaning, whose file is in scope, has no fault
+-- a text without an error of meaning, whose file is in scope, has no error
 pub is-legal : (bytes : List ℕ) (t : Tree) (file : File) (scoped : ScopedFile) → IsTreeOf bytes t → meaning_faults t ≡ [] → MeansTree (plain_tree t) file → scoped.file ≡ file → Legal bytes scoped.file
 is-legal bytes t file scoped is none means e =
     let right : Means bytes scoped.file = record { tree = t; is_tree = is; means = subst (λ (z : File). MeansTree (plain_tree t) z) (sym e) means } in

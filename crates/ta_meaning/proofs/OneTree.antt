@@ -24,11 +24,11 @@ same-parts bytes t u p q =
 pub one_tree : (bytes : List ℕ) (t u : Tree) → IsTreeOf bytes t → IsTreeOf bytes u → SameTree t u
 one_tree bytes t u p q = record { parts = one_plain_tree bytes t u p q; offsets = tree-stated t u (same-parts bytes t u p q) }
 
--- and so are the faults of what it means
+-- and so are the errors of what it means
 pub one_meaning : (bytes : List ℕ) (t u : Tree) → IsTreeOf bytes t → IsTreeOf bytes u → meaning_faults t ≡ meaning_faults u
 one_meaning bytes t u p q = meaning-faults t u (one_plain_tree bytes t u p q) (same-parts bytes t u p q)
 
--- a text that has a tree has no fault of the text
+-- a text that has a tree has no error of the text
 pub no_text_fault : (bytes : List ℕ) (t : Tree) (e : FileFault) → IsTreeOf bytes t → syntax.FirstGrammarFault bytes e → e ≡ fault.Memory
 no_text_fault bytes t e is first = no_fault bytes (plain_tree t) e (text-of bytes t is) is.within first
 

@@ -130,14 +130,14 @@ sum_ends s all count form so_far few = (
 pub sum_within : (s : Scope) (all left : List (Sign × TreeTerm)) (count : ℕ) (form : Form) → Summing s all left count form → count < 2 ^ 63 → FormWithin (2 ^ 93) form
 sum_within s all left count form so_far few = within_more (1000000000 * count) (2 ^ 93) form (omega (arith, few)) so_far.within
 
--- the first fault of a term is the first of the sum
+-- the first error of a term is the first of the sum
 pub sum_fails : (s : Scope) (all left : List (Sign × TreeTerm)) (t : Sign × TreeTerm) (count : ℕ) (form : Form) (e : FileFault) → Summing s all (t ∷ left) count form → FirstOrMemory (judged_term s t.1).faults e → FirstOrMemory (terms_faults s all) e
 sum_fails s all left t count form e so_far first =
     subst (λ (fs : List FileFault). FirstOrMemory fs e) (sym so_far.faults) (append-left-first (judged_term s t.1).faults (terms_faults s left) e first)
 
 -- ---- the answers of a term
 
--- a number alone, or a blank, has no fault but that of its number
+-- a number alone, or a blank, has no error but that of its number
 pub alone_answers : (s : Scope) (t : TreeTerm) (n : ℕ) (form : Form) → (out-TreeTerm t).body ≡ None → number_faults (out-TreeTerm t).factor ≡ [] → n ≡ number_or 0 (out-TreeTerm t).factor → form.constant ≡ pos n → form.terms ≡ []
     → ((judged_term s t).faults ≡ []) × PartOf (term_uses s.allowed (plain_term t)) (linear_term s.allowed (plain_term t)) 1000000000 form
 alone_answers s t n form body none is constant terms =
@@ -149,14 +149,14 @@ alone_answers s t n form body none is constant terms =
       subst (λ (p : Term). PartOf (term_uses s.allowed p) (linear_term s.allowed p) 1000000000 form) (sym (plain_term_none t body)) part,
     )
 
--- a fault of a term's number is its first
+-- an error of a term's number is its first
 pub number_first : (s : Scope) (t : TreeTerm) (f : TreeFactor) (e : FileFault) → (out-TreeTerm t).body ≡ Some f → FirstOrMemory (number_faults (out-TreeTerm t).factor) e → FirstOrMemory (judged_term s t).faults e
 number_first s t f e body first =
     subst (λ (fs : List FileFault). FirstOrMemory fs e) (sym (term_faults_some s t f body))
     (else-left-first (number_faults (out-TreeTerm t).factor ++ (judged_factor s f).faults) (large_term s (out-TreeTerm t).at (term_of (out-TreeTerm t).factor (Some (plain_factor f)))) e
     (append-left-first (number_faults (out-TreeTerm t).factor) (judged_factor s f).faults e first))
 
--- a factor whose number and parts have no fault
+-- a factor whose number and parts have no error
 pub product_answers : (s : Scope) (t : TreeTerm) (f : TreeFactor) (n : ℕ) (inner product : Form) (r : Result Form FileFault) → (out-TreeTerm t).body ≡ Some f → number_faults (out-TreeTerm t).factor ≡ [] → n ≡ number_or 1 (out-TreeTerm t).factor → (judged_factor s f).faults ≡ []
     → PartOf (factor_uses s.allowed (plain_factor f)) (linear_factor s.allowed (plain_factor f)) (2 ^ 93) inner → IsMultiple product inner (pos n)
     → Answers (where_ (is_large_form product) (fault.TooLarge (out-TreeTerm t).at)) (λ form. form ≡ product) r

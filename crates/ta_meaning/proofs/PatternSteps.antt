@@ -8,7 +8,7 @@ use Rattle.ta_base.proofs.Lists.{empty_before, empty_both}
 declared_next : (before : List (List ℕ)) (n : Spelled) (names : List (List ℕ)) → Distinct before → declared_faults before n ≡ [] → names ≡ before ++ n.name ∷ [] → DeclaredNext before n.name names
 declared_next before n names d none is = record { next = is; distinct = subst (λ (z : List (List ℕ)). Distinct z) (sym is) (declared-distinct before n d none) }
 
--- a copy of a name that is declared without a fault is legal
+-- a copy of a name that is declared without an error is legal
 copied_legal : (before : List (List ℕ)) (n : Spelled) (text : List ℕ) → declared_faults before n ≡ [] → text ≡ n.name → Name text
 copied_legal before n text none is = subst Name (sym is) (declared-legal before n none)
 

@@ -69,7 +69,7 @@ guards_after_push parameters names g (q ∷ rules) r = guards_after_push paramet
 
 -- ---- rules one after another
 
--- the rules so far are read, and the faults of all are those of the rules left
+-- the rules so far are read, and the errors of all are those of the rules left
 pub record RulesReading (ns : Names) (all left : List TreeRule) (names : List (List ℕ)) (guards : GuardList) (rules : List Rule) : Type 0 where
   pub faults : rules_faults ns [] no_guards all ≡ rules_faults ns names (guards_so_far ns guards) left
   pub kept : GuardsKept ns guards
@@ -111,7 +111,7 @@ rules_begin ns all left names guards rules l n r f e =
       distinct = subst (λ (ms : List (List ℕ)). Distinct ms) (sym n) tt;
     }
 
--- the guards of a rule without faults have none
+-- the guards of a rule without errors have none
 guards_fine : (ns : Names) (names : List (List ℕ)) (g : Guards) (r : TreeRule) → rule_faults ns names g r ≡ [] → guards_faults (length ns.parameters) (in_guards ns) g r.guards ≡ []
 guards_fine ns names g r none =
     let name = declared_faults names r.name in

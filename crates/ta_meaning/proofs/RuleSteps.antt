@@ -5,7 +5,7 @@ use Rattle.ta_meaning.proofs.Answering.{append-left-first, append-right-first}
 use Rattle.ta_meaning.proofs.GuardSteps.{mask_fits}
 use Rattle.ta_base.proofs.Lists.{empty_both}
 
--- ---- the first fault of a rule
+-- ---- the first error of a rule
 
 abbrev from_faults : Names → TreeRule → List FileFault
 from_faults ns r = used_faults (all_names ns) ns.locations r.from
@@ -37,7 +37,7 @@ pub none_in_rule : (ns : Names) (names : List (List ℕ)) (g : Guards) (r : Tree
 none_in_rule ns names g r a b c d e =
     empty_both (declared_faults names r.name) _ a (empty_both (from_faults ns r) _ b (empty_both (to_faults ns r) _ c (empty_both (when_faults ns g r) (updates_faults ns [] r.updates) d e)))
 
--- ---- a rule without faults
+-- ---- a rule without errors
 
 pub rows_fit : (places : ℕ) (rows : List Row) (linears : List Linear) (mask : ℕ) → NamesGuards (map (linear_of places) rows) linears mask → mask < 2 ^ length rows
 rows_fit places rows linears mask names = subst (λ (n : ℕ). mask < 2 ^ n) (length-map rows (linear_of places)) (mask_fits (map (linear_of places) rows) linears mask names)

@@ -12,7 +12,7 @@ abbrev seen_terms : List (Sign × TreeTerm) → SeenTerms
 seen_terms [] = seen_none
 seen_terms (t ∷ ts) = seen_more t.0 (seen_term t.1) (seen_terms ts)
 
--- ---- what is read off it: the offsets, the faults
+-- ---- what is read off it: the offsets, the errors
 abbrev mutual
   pub offsets_of_sum : SeenTerms → List Offsets
   offsets_of_sum seen_none = []

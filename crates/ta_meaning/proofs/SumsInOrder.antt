@@ -1,4 +1,4 @@
--- The faults of a sum and of a comparison rise within its tokens.
+-- The errors of a sum and of a comparison rise within its tokens.
 use Rattle.ta_meaning.proofs.Common.{ℕ, List, [], ◌∷◌, ◌++◌, refl, sym, subst, Terms, Term, IsSum, AreTerms, IsTerm, IsFactor, plain_sum, plain_comparison, Offsets, at_first, sum_stated, comparison_stated, Digits, Spelled, TreeSum, TreeComparison, FileFault, number_of, has_name, linear_sum, comparison_rows, is_large_linear, any_large, Scope, WithFaults, where_, else_, is_long, declared_faults, used_faults, digits_faults, sum_faults, linear_term, comparison_faults, condition_faults, SeenTerms, SeenTerm, SeenFactor, seen_none, seen_more, seen_number, seen_times, seen_alone, seen_blank, seen_named, seen_nested, plain_of_terms, plain_of_term, plain_of_factor, seen_sum, Bool, not, ltb}
 use Rattle.ta_syntax.specs.declared.sums.Sign.TheVariants as sign
 use Rattle.ta_syntax.specs.declared.fault.FileFault.TheVariants as fault
@@ -35,7 +35,7 @@ digits-in_order d = one (token d.at) (ltb 1000000000 (number_of d.text)) (fault.
 
 -- ---- sums
 
--- a part, with a fault of the whole at its first token
+-- a part, with an error of the whole at its first token
 whole-in_order : (at : ℕ) (s : List Offsets) (fs : List FileFault) (test : Bool) → Starts s → InOrder s fs → InOrder (at_first at s) (else_ fs (where_ test (fault.TooLarge at)))
 whole-in_order at s fs test starts h =
     either (at_first at s) fs (where_ test (fault.TooLarge at)) (with_first at s fs h) (one (at_first at s) test (fault.TooLarge at) tt (inside-at_first at s starts))

@@ -1,4 +1,4 @@
--- AllByRecursion fault in the list of a tree's faults is a fault of the table.
+-- Each error in the list of a tree's errors is an error of the table.
 use Rattle.ta_meaning.proofs.Common.{◌≡◌, inl, inr, ℕ, Bool, true, false, not, ltb, ◌&&◌, List, [], ◌∷◌, ◌++◌, length, map, refl, sym, ap, subst, ◌∙◌, append_assoc, flat_map, bytes_eq, false≢true, true≢false, or_cases, not-false, cases_Bool, cond-true, cond-false, not-true, Decides-ltb, append-nil, map-append, map_push, bytes_eq-Decides, AllByRecursion, distinct_push_apart, each_append, each_push, each_weaker, push-split, In-left, In-map, In-right, in-here, plain_sum, plain_name, plain_comparison, Terms, Term, Factor, term, number, times, alone, blank, nested, Spelled, Digits, TreeSum, TreeComparison, TreeUpdate, TreeRule, TreeEvent, TreePattern, Tree, FileFault, Distinct, In, number_of, has_name, Linear, linear_sum, comparison_rows, is_large_linear, any_large, guard_names, all_names, names_of, Guards, no_guards, falls, same_row, has_row, with_row, with_guards, is_no_threshold, is_past_limit, is_one_more, Scope, WithFaults, where_, else_, is_long, declared_faults, declarations_faults, used_faults, listed_faults, digits_faults, linear_term, sum_faults, comparison_faults, condition_faults, counted, guards_then, guard_faults, guards_faults, guards_with, in_parameters, in_guards, in_conditions, updates_faults, rule_faults, rules_faults, event_faults, events_faults, pattern_faults, patterns_faults, location_spelled, any_initial, processes_faults, names_faults, meaning_faults, SeenTerms, SeenTerm, SeenFactor, seen_none, seen_more, seen_number, seen_times, seen_alone, seen_blank, seen_named, seen_nested, seen_sum, plain_of_terms, plain_of_term, plain_of_factor, names_of_terms, names_of_term, names_of_factor, numbers_of_terms, numbers_of_term, numbers_of_factor, PlacedTerm, placed, terms_of_terms, terms_of_term, terms_of_factor, and_parts, or_parts, ltb-false}
 use Rattle.std.proofs.lemmas.Grind.{flat_map-append}
 use Rattle.ta_syntax.specs.declared.fault.FileFault.TheVariants as fault
@@ -8,7 +8,7 @@ use Rattle.ta_meaning.proofs.GuardRows.{row_decides}
 use Rattle.ta_meaning.proofs.GuardSteps.{guard_falls, guard_rises}
 use Rattle.ta_meaning.proofs.SeenSums.{judged_of_terms, judged_of_term, judged_of_factor, SeenSum, every_sum_seen}
 
--- ---- lists of faults
+-- ---- lists of errors
 each-where : (P : FileFault → Type 0) (test : Bool) (f : FileFault) → (test ≡ true → P f) → AllByRecursion P (where_ test f)
 each-where P true f h = (h refl, tt)
 each-where P false f h = tt
@@ -241,7 +241,7 @@ module _ (t : Tree) where
   counted-either cs [] before after h k = h refl
   counted-either cs (f ∷ fs) before after h k = k
 
-  -- what is no fault of a guard
+  -- what is no error of a guard
   is-threshold : (g : Guards) (c : TreeComparison) → guard_faults count scope g c ≡ [] → is_no_threshold count (tree_guard_rows t c) ≡ false
   is-threshold g c none =
       let threshold = where_ (is_no_threshold count (tree_guard_rows t c)) (fault.NotThreshold c.at) in

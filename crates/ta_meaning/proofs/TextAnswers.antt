@@ -1,4 +1,4 @@
--- A text is a legal file, or has a first fault.
+-- A text is a legal file, or has a first error.
 use Rattle.ta_meaning.proofs.Common.{◌≡◌, ◌≢◌, ℕ, ◌≤◌, List, [], ◌∷◌, length, inl, inr, refl, IsTreeOf, Tree, FileFault, InScope, meaning_faults, OfText}
 use Rattle.ta_syntax.specs.Faults as syntax
 use Rattle.ta_syntax.specs.AnswerLaws.{Either, HasTree, HasGrammarFault}
@@ -14,7 +14,7 @@ of_text : (bytes : List ℕ) (e : FileFault) → e ≢ fault.Memory → syntax.F
 of_text bytes fault.Memory some f = absurd (some refl)
 of_text bytes _ some f = f
 
--- a tree whose meaning has these faults
+-- a tree whose meaning has these errors
 by_meaning : (bytes : List ℕ) (t : Tree) (faults : List FileFault) → IsTreeOf bytes t → meaning_faults t ≡ faults → Either (HasFile bytes) (HasFault bytes)
 by_meaning bytes t (e ∷ later) is same no_file no_fault = no_fault (e, inr (inl (record { tree = t; is_tree = is; later = later; first = same })))
 by_meaning bytes t [] is none no_file no_fault =

@@ -1,4 +1,4 @@
--- The tokens of a text lie one after another in it, and so the faults of what it means rise.
+-- The tokens of a text lie one after another in it, and so the errors of what it means rise.
 use Rattle.ta_meaning.proofs.Common.{ℕ, ◌+◌, ◌≤◌, ◌<◌, ◌≡◌, List, [], ◌∷◌, ◌++◌, length, length-append, map, inl, inr, sym, ap, subst, ◌∙◌, arith, AllByRecursion, each_weaker, kind_bytes, ScansTo, IsLastGap, Offsets, IsPlaced, tree_stated, IsTreeOf, Token, Tree, FileFault, Rises, meaning_faults, fault_offset, IsOfMeaning, IsTokenAt}
 use Rattle.ta_syntax.proofs.Scans.{kind_some}
 use Rattle.ta_meaning.proofs.InOrder.{Lies, lies-wider, Within, IsAmong, IsStated}

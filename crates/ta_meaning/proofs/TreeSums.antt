@@ -49,7 +49,7 @@ same_factor s = ind-TreeFactor (SameFactor s) (SameSum s) (SameTerm s)
     (λ x y is. subst (λ (z : TreeSum-F TreeFactor TreeSum TreeTerm). SameSum s (roll-TreeSum z)) is (sum_step s (λ e. e.0) (λ e. e.0) (λ e. e.0) (λ e. e.1) (λ e. e.1) (λ e. e.1) y))
     (λ x y is. subst (λ (z : TreeTerm-F TreeFactor TreeSum TreeTerm). SameTerm s (roll-TreeTerm z)) is (term_step s (λ e. e.0) (λ e. e.0) (λ e. e.0) (λ e. e.1) (λ e. e.1) (λ e. e.1) y))
 
--- the faults of terms one after another
+-- the errors of terms one after another
 abbrev pub terms_faults : Scope → List (Sign × TreeTerm) → List FileFault
 terms_faults s [] = []
 terms_faults s (t ∷ ts) = (judged_term s t.1).faults ++ terms_faults s ts

@@ -1,4 +1,4 @@
--- The faults of rules, events, patterns and of a whole tree rise within their tokens.
+-- The errors of rules, events, patterns and of a whole tree rise within their tokens.
 use Rattle.ta_meaning.proofs.Common.{ℕ, List, [], ◌∷◌, ◌++◌, length, map, refl, sym, append_assoc, listed, led, ended, each, plain_comparison, Offsets, unplaced, at_first, sum_stated, name_stated, initial_stated, location_stated, comparison_stated, update_stated, rule_stated, event_stated, pattern_stated, tree_stated, Spelled, TreeComparison, TreeLocation, TreeUpdate, TreeRule, TreeEvent, TreePattern, Tree, FileFault, has_name, Linear, comparison_rows, Names, guard_names, all_names, names_of, Guards, no_guards, is_no_threshold, is_one_more, Scope, where_, else_, is_long, declared_faults, declarations_faults, used_faults, listed_faults, digits_faults, comparison_faults, condition_faults, guard_faults, guards_faults, guards_with, in_parameters, in_guards, in_conditions, updates_faults, rule_faults, rules_faults, event_faults, events_faults, pattern_faults, patterns_faults, location_spelled, any_initial, processes_faults, meaning_faults, guards_then, not}
 use Rattle.ta_syntax.specs.declared.tokens.Mark.TheVariants as mark
 use Rattle.ta_syntax.specs.declared.fault.FileFault.TheVariants as fault
@@ -138,7 +138,7 @@ patterns-items ns before (p ∷ ps) =
 
 -- ---- the file, from its end
 
--- what is stated from the keyword `processes` on, and the faults there
+-- what is stated from the keyword `processes` on, and the errors there
 abbrev stated_from_processes : Tree → List Offsets
 stated_from_processes t = [] ∷ (at_first t.processes_at (sum_stated t.processes) ++ [] ∷ [] ∷ (listed unplaced comparison_stated t.resilience ++ [] ∷ (each rule_stated t.rules ++ each pattern_stated t.patterns)))
 
@@ -206,7 +206,7 @@ from_name ns t =
     (together (token t.name.at) ([] ∷ [] ∷ stated) long later (one (token t.name.at) (is_long t.name) (fault.TooLarge t.name.at) tt (inside-name t.name.at))
     (after_token [] ([] ∷ stated) later (after_token [] stated later (declared-then [] t.parameters (stated_from_shared t) (faults_from_shared ns t) (from_shared ns t)))))
 
--- the faults of a tree rise within its tokens
+-- the errors of a tree rise within its tokens
 pub tree-in_order : (t : Tree) → InOrder (tree_stated t) (meaning_faults t)
 tree-in_order t =
     let ns : Names = names_of t in

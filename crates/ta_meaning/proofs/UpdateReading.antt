@@ -4,7 +4,7 @@ use Rattle.ta_syntax.specs.declared.fault.FileFault.TheVariants as fault
 use Rattle.ta_meaning.proofs.Answering.{append-left-first, append-right-first, not-where}
 use Rattle.ta_base.proofs.Lists.{empty_before}
 
--- the updates so far are read, and the faults of all are those of the updates left
+-- the updates so far are read, and the errors of all are those of the updates left
 pub record UpdatesReading (ns : Names) (all left : List TreeUpdate) (seen : List ℕ) (updates : List (ℕ × ℤ)) : Type 0 where
   pub faults : updates_faults ns [] all ≡ updates_faults ns (names_at ns.shared seen) left
   pub known : AllByRecursion (λ x. x < length ns.shared) seen

@@ -1,4 +1,4 @@
--- The faults of used and of declared names.
+-- The errors of used and of declared names.
 use Rattle.ta_meaning.proofs.Common.{inr, ◌≡◌, ℕ, true, false, not, List, [], ap, not-false, Spelled, FileFault, has_name, First, FirstOrMemory, where_, is_long, used_faults, declared_faults}
 use Rattle.ta_syntax.specs.declared.fault.FileFault.TheVariants as fault
 use Rattle.ta_meaning.proofs.Answering.{where-leads, else-left-leads, else-right-leads, where-first, where-false, not-where, else-left-first, else-right-first, else-none, none-else-right}
@@ -19,7 +19,7 @@ rightly_used names allowed n there may =
     (where-false (not (has_name names n.name)) (fault.Unknown n.at) (ap not there))
     (where-false (not (has_name allowed n.name)) (fault.WrongKind n.at) (ap not may))
 
--- a name that is used without a fault is one of those that may stand there
+-- a name that is used without an error is one of those that may stand there
 pub used_is_allowed : (names allowed : List (List ℕ)) (n : Spelled) → used_faults names allowed n ≡ [] → has_name allowed n.name ≡ true
 used_is_allowed names allowed n none =
     not-false (has_name allowed n.name)

@@ -1,4 +1,4 @@
--- The faults of a tree from those of its parts
+-- The errors of a tree from those of its parts
 use Rattle.ta_meaning.proofs.Common.{ℕ, ◌+◌, ◌≡◌, List, [], take, map, length, length-append, Result, refl, sym, ap, subst, ◌∙◌, Vec, Form, Row, plain_sum, plain_comparison, plain_location, plain_rule, plain_pattern, plain_tree, Tree, FileFault, Condition, Pattern, Rule, Places, Automaton, PatternsShape, MeansAutomaton, initial_from, Names, guard_names, all_names, names_of, linear_sum, is_large_linear, no_guards, where_, else_, sum_faults, condition_faults, processes_faults, in_parameters, rules_faults, patterns_faults, names_faults, meaning_faults, Scope, FirstOrMemory, Answers, kinds_of, first_places, ResolvedForm, ResolvedCondition, ResolvedRules, ResolvedPatterns}
 use Rattle.ta_syntax.specs.declared.fault.FileFault.TheVariants as fault
 use Rattle.ta_meaning.specs.declared.rules.Rules.{Rules}
@@ -6,7 +6,7 @@ use Rattle.ta_meaning.proofs.Answering.{append-left-first, append-right-first}
 use Rattle.ta_meaning.proofs.PlaceNames.{in_parameters_are}
 use Rattle.ta_base.proofs.Lists.{empty_both}
 
--- the faults of the sum of `processes` where parameters alone may stand
+-- the errors of the sum of `processes` where parameters alone may stand
 abbrev pub processes_in : Scope → Tree → List FileFault
 processes_in s t = else_ (sum_faults s t.processes) (where_ (is_large_linear (linear_sum s.allowed (plain_sum t.processes))) (fault.TooLarge t.processes_at))
 
@@ -36,7 +36,7 @@ pub patterns-answer : (places : Places) (t : Tree) (r : Result (Vec Pattern) Fil
     → Answers (patterns_faults (names_of t) [] t.patterns) (λ (ps : Vec Pattern). ResolvedPatterns (names_of t) (map plain_pattern t.patterns) ps.items) r
 patterns-answer places t r k h = subst (λ (ns : Names). Answers (patterns_faults ns [] t.patterns) (λ (ps : Vec Pattern). ResolvedPatterns ns (map plain_pattern t.patterns) ps.items) r) k h
 
--- ---- the first fault of a part is the first of the tree, where the parts before it have none
+-- ---- the first error of a part is the first of the tree, where the parts before it have none
 
 pub at-names : (t : Tree) (e : FileFault) → FirstOrMemory (names_faults (names_of t) t) e → FirstOrMemory (meaning_faults t) e
 at-names t e h = append-left-first _ _ e h
@@ -48,7 +48,7 @@ pub at-resilience : (t : Tree) (e : FileFault) → names_faults (names_of t) t �
 at-resilience t e names processes h =
     append-right-first (names_faults (names_of t) t) _ e names (append-right-first (processes_faults (names_of t) t) _ e processes (append-left-first _ _ e h))
 
--- what stands before the rules has no fault
+-- what stands before the rules has no error
 pub record HeadClean (t : Tree) : Type 0 where
   pub names : names_faults (names_of t) t ≡ []
   pub processes : processes_faults (names_of t) t ≡ []

@@ -1,4 +1,4 @@
--- That each text has an answer (this project's profile)
+-- Each text within the limit of bytes is a legal file or has a first error.
 use Rattle.std.specs.Prelude.{ℕ, ◌≤◌, ◌≡◌, List, [], length}
 use Rattle.ta_base.specs.declared.limits.TheConstants.{FILE_BYTES}
 use Rattle.ta_syntax.specs.AnswerLaws.{Either}
@@ -11,7 +11,7 @@ use Rattle.ta_meaning.specs.Faults.{meaning_faults}
 use Rattle.ta_meaning.specs.FirstFault.{FirstFault}
 use Rattle.ta_meaning.specs.Reading.{Legal}
 
--- a tree without faults of meaning means a file
+-- a tree without errors of meaning means a file
 abbrev pub FilesExist : Type 0
 FilesExist = (t : Tree) → meaning_faults t ≡ [] → (file : File) × MeansTree (plain_tree t) file
 
@@ -19,10 +19,10 @@ FilesExist = (t : Tree) → meaning_faults t ≡ [] → (file : File) × MeansTr
 abbrev pub HasFile : List ℕ → Type 0
 HasFile bytes = (file : File) × Legal bytes file
 
--- a text has a first fault
+-- a text has a first error
 abbrev pub HasFault : List ℕ → Type 0
 HasFault bytes = (e : FileFault) × FirstFault bytes e
 
--- a text of at most 1,048,576 bytes is a legal file, or has a first fault
+-- a text of at most 1,048,576 bytes is a legal file, or has a first error
 abbrev pub TextsHaveAnswers : Type 0
 TextsHaveAnswers = (bytes : List ℕ) → length bytes ≤ FILE_BYTES → Either (HasFile bytes) (HasFault bytes)

@@ -1,7 +1,6 @@
--- The faults of what an automaton file means, in the order in which a reader comes to them (this project's profile).
--- Each list has the faults of a part of the tree. A fault of a whole term, sum or comparison comes only where none of
--- its tokens and inner terms is at fault; where one token has two faults, the lower code stands alone. So the offsets
--- of a list rise, and the first of the list is the first fault of the file.
+-- The errors of an automaton file's meaning, in the order in which a reader comes to them. Each list has the errors of a part of the tree.
+-- An error of a whole term, sum or comparison counts only if its tokens and inner terms have none; of two errors of one token only the one
+-- with the lower code counts. So the offsets of a list increase, and its first error is the first error of the file.
 use Rattle.std.specs.Prelude.{ℕ, ◌≡◌, ◌⊎◌, Bool, false, ◌||◌, not, ltb, List, [], ◌∷◌, ◌++◌, length, map, Option, Some, None, Result, Ok, Err, if◌then◌else◌}
 use Rattle.ta_base.specs.declared.limits.TheConstants.{LARGEST_NUMBER}
 use Rattle.ta_syntax.specs.Grammar.{Terms, Term, Factor, done, term, named, nested}
@@ -27,29 +26,29 @@ use Rattle.ta_meaning.specs.Linear.{Linear, linear_sum, comparison_rows, is_larg
 use Rattle.ta_meaning.specs.Names.{Names, guard_names, all_names, names_of}
 use Rattle.ta_meaning.specs.Guards.{Guards, no_guards, with_guards, is_no_threshold, is_one_more}
 
--- a fault alone, where a test holds
+-- a single error, if a test holds
 abbrev pub where_ : Bool → FileFault → List FileFault
 where_ test f = if test then f ∷ [] else []
 
--- the faults, or where there are none those that come after
+-- these errors, or if there are none those that come after
 abbrev pub else_ : List FileFault → List FileFault → List FileFault
 else_ [] later = later
 else_ (f ∷ fs) later = f ∷ fs
 
--- the first of the faults
+-- the first of the errors
 abbrev pub First : List FileFault → FileFault → Type 0
 First faults e = (rest : List FileFault) × (faults ≡ e ∷ rest)
 
--- the first of the faults, or want of memory
+-- the first of the errors, or out of memory
 abbrev pub FirstOrMemory : List FileFault → FileFault → Type 0
 FirstOrMemory faults e = (e ≡ fault.Memory) ⊎ First faults e
 
--- Ok, with a value that is right, exactly where there are no faults; else the first of them. So answers what takes no memory
+-- the answer of a function that takes no memory: Ok with a right value exactly if there are no errors, otherwise the first of them
 abbrev pub Judges : {X : Type 0} → List FileFault → (X → Type 0) → Result X FileFault → Type 0
 Judges faults IsRight (Ok x) = (faults ≡ []) × IsRight x
 Judges faults IsRight (Err e) = First faults e
 
--- the same where memory may be wanted
+-- the answer of a function that takes memory: the same, or out of memory
 abbrev pub Answers : {X : Type 0} → List FileFault → (X → Type 0) → Result X FileFault → Type 0
 Answers faults IsRight (Ok x) = (faults ≡ []) × IsRight x
 Answers faults IsRight (Err e) = FirstOrMemory faults e
@@ -59,7 +58,7 @@ Answers faults IsRight (Err e) = FirstOrMemory faults e
 abbrev pub is_long : Spelled → Bool
 is_long n = ltb 64 (length n.name)
 
--- a declared name: F3 where it was declared before in its set, else F6 where it is too long
+-- a declared name: F3 if it was declared before in its set, otherwise F6 if it is too long
 abbrev pub declared_faults : List (List ℕ) → Spelled → List FileFault
 declared_faults before n = else_ (where_ (has_name before n.name) (fault.Duplicate n.at)) (where_ (is_long n) (fault.TooLarge n.at))
 
@@ -68,30 +67,30 @@ abbrev pub declarations_faults : List (List ℕ) → List Spelled → List FileF
 declarations_faults before [] = []
 declarations_faults before (n ∷ ns) = declared_faults before n ++ declarations_faults (before ++ n.name ∷ []) ns
 
--- a used name: F4 where it is not declared, F5 where it is of a kind that may not stand there
+-- a used name: F4 if it is not declared, F5 if it is of a kind that may not occur there
 abbrev pub used_faults : List (List ℕ) → List (List ℕ) → Spelled → List FileFault
 used_faults declared allowed n =
     else_ (where_ (not (has_name declared n.name)) (fault.Unknown n.at)) (where_ (not (has_name allowed n.name)) (fault.WrongKind n.at))
 
--- names listed one after another: F3 where one was listed before
+-- names listed one after another: F3 for a name that was listed before
 abbrev pub listed_faults : List (List ℕ) → List (List ℕ) → List (List ℕ) → List Spelled → List FileFault
 listed_faults declared allowed before [] = []
 listed_faults declared allowed before (n ∷ ns) =
     else_ (where_ (has_name before n.name) (fault.Duplicate n.at)) (used_faults declared allowed n)
     ++ listed_faults declared allowed (before ++ n.name ∷ []) ns
 
--- F6 of a number
+-- F6 for a number
 abbrev pub digits_faults : Digits → List FileFault
 digits_faults d = where_ (ltb LARGEST_NUMBER (number_of d.text)) (fault.TooLarge d.at)
 
 -- ---- sums and comparisons
 
--- the names of all places, and those of them that may stand somewhere
+-- the names of all places, and those of them that may occur somewhere
 pub record Scope : Type 0 where
   pub places : List (List ℕ)
   pub allowed : List (List ℕ)
 
--- a part of a sum, with its faults
+-- a part of a sum, with its errors
 pub record WithFaults (X : Type 0) : Type 0 where
   pub plain : X
   pub faults : List FileFault
@@ -123,7 +122,7 @@ part_faults (Some f) = f.faults
 abbrev pub linear_term : List (List ℕ) → Term → Linear
 linear_term names t = record { constant = term_constant t; coefficients = map (λ x. term_coefficient x t) names }
 
--- F6 of a term where none of its tokens and inner terms is at fault
+-- F6 for a term whose tokens and inner terms have no error
 abbrev pub term_judged : Scope → TreeTerm-F (WithFaults Factor) (WithFaults Terms) (WithFaults Term) → WithFaults Term
 term_judged s t = record {
   plain = term_of t.factor (plain_part t.body);
@@ -133,11 +132,11 @@ term_judged s t = record {
 abbrev pub judged_sum : Scope → TreeSum → WithFaults Terms
 judged_sum s = fold-TreeSum (WithFaults Factor) (WithFaults Terms) (WithFaults Term) (factor_judged s) (sum_judged s) (term_judged s)
 
--- the faults of a sum's terms
+-- the errors of a sum's terms
 abbrev pub sum_faults : Scope → TreeSum → List FileFault
 sum_faults s t = (judged_sum s t).faults
 
--- F6 of a comparison where none of its terms is at fault
+-- F6 for a comparison whose terms have no error
 abbrev pub comparison_faults : Scope → TreeComparison → List FileFault
 comparison_faults s c =
     else_ (sum_faults s c.left ++ sum_faults s c.right) (where_ (any_large (comparison_rows s.allowed (plain_comparison c))) (fault.TooLarge c.at))
@@ -148,14 +147,14 @@ condition_faults s (c ∷ cs) = comparison_faults s c ++ condition_faults s cs
 
 -- ---- guards
 
--- a guard after others: F6, else F9, else F7
+-- a guard after others: F6, otherwise F9, otherwise F7
 abbrev pub guard_faults : ℕ → Scope → Guards → TreeComparison → List FileFault
 guard_faults parameters s g c =
     else_ (comparison_faults s c)
     (else_ (where_ (is_no_threshold parameters (comparison_rows s.allowed (plain_comparison c))) (fault.NotThreshold c.at))
     (where_ (is_one_more parameters g (comparison_rows s.allowed (plain_comparison c))) (fault.TooMany c.at)))
 
--- a guard that has a fault counts for no later one
+-- a guard with an error does not count for later ones
 abbrev pub counted : List FileFault → Guards → Guards → Guards
 counted [] before after = after
 counted (f ∷ fs) before after = before
@@ -186,7 +185,7 @@ in_guards ns = record { places = all_names ns; allowed = guard_names ns }
 abbrev pub in_conditions : Names → Scope
 in_conditions ns = record { places = all_names ns; allowed = all_names ns }
 
--- updates: F3 where a variable was updated before in the rule
+-- updates: F3 for a variable that was updated before in the rule
 abbrev pub updates_faults : Names → List (List ℕ) → List TreeUpdate → List FileFault
 updates_faults ns before [] = []
 updates_faults ns before (u ∷ us) =
@@ -234,12 +233,12 @@ abbrev pub any_initial : List TreeLocation → Bool
 any_initial [] = false
 any_initial (l ∷ ls) = l.initial || any_initial ls
 
--- F6 of the sum of `processes` where none of its terms is at fault
+-- F6 for the sum of `processes` if none of its terms has an error
 abbrev pub processes_faults : Names → Tree → List FileFault
 processes_faults ns t =
     else_ (sum_faults (in_parameters ns) t.processes) (where_ (is_large_linear (linear_sum ns.parameters (plain_sum t.processes))) (fault.TooLarge t.processes_at))
 
--- what stands before the sum of `processes`: F12 where no location is initial
+-- the text before the sum of `processes`: F12 if no location is initial
 abbrev pub names_faults : Names → Tree → List FileFault
 names_faults ns t =
     where_ (is_long t.name) (fault.TooLarge t.name.at)
@@ -248,7 +247,7 @@ names_faults ns t =
     ++ (where_ (not (any_initial t.locations)) (fault.NoInitial t.locations_at)
     ++ declarations_faults (guard_names ns) (map location_spelled t.locations))))
 
--- the faults of what a tree means, in the order of the text
+-- the errors of a tree's meaning, in the order of the text
 abbrev pub meaning_faults : Tree → List FileFault
 meaning_faults t =
     names_faults (names_of t) t

@@ -1,4 +1,4 @@
--- The first fault of an automaton file, in four stages: bytes, tokens, meaning, scope (this project's profile)
+-- The first error of an automaton file, in four stages: bytes, tokens, meaning, scope.
 use Rattle.std.specs.Prelude.{ℕ, ◌≡◌, ◌⊎◌, List, [], ◌∷◌}
 use Rattle.ta_syntax.specs.PlainTrees.{plain_tree}
 use Rattle.ta_syntax.specs.TreeOf.{IsTreeOf}
@@ -17,7 +17,7 @@ abbrev pub OfText : List ℕ → FileFault → Type 0
 OfText bytes fault.Memory = ⊥
 OfText bytes e = syntax.FirstGrammarFault bytes e
 
--- the text is a tree, and this is the first fault of what it means
+-- the text is a tree, and this is the first error of its meaning
 pub record OfMeaning (bytes : List ℕ) (e : FileFault) : Type 0 where
   pub tree : Tree
   pub is_tree : IsTreeOf bytes tree
@@ -38,6 +38,6 @@ pub record OfScope (bytes : List ℕ) (e : FileFault) : Type 0 where
   pub means : MeansTree (plain_tree tree) file
   pub fault : ScopeFault file.automaton e
 
--- the first fault of a text: a later stage counts only where the earlier ones find nothing
+-- the first error of a text: a later stage counts only if the earlier ones find nothing
 abbrev pub FirstFault : List ℕ → FileFault → Type 0
 FirstFault bytes e = OfText bytes e ⊎ (OfMeaning bytes e ⊎ OfScope bytes e)

@@ -1,4 +1,5 @@
--- Guards: which comparisons are threshold guards, and how they are numbered (POPL 2017, threshold guards; sums of shared variables and numbering are this project's profile)
+-- Which comparisons are threshold guards, and how guards are numbered. Source: Konnov, Lazić, Veith, Widder, POPL 2017 (threshold guards,
+-- here also with sums of shared variables).
 use Rattle.std.specs.Prelude.{ℕ, ℤ, pos, negsuc, ◌≡◌, ◌↔◌, Bool, true, false, ◌&&◌, not, ltb, List, [], ◌∷◌, ◌++◌, length, drop, flat_map, slice_get, Some, IsBitSet, IsTrue, if◌then◌else◌}
 use Rattle.std.specs.Ordering.{int_eq}
 use Rattle.std.specs.List.{list_any}
@@ -21,7 +22,7 @@ abbrev pub is_positive : ℤ → Bool
 is_positive (pos n) = ltb 0 n
 is_positive (negsuc n) = false
 
--- some shared variable, which come after the parameters, has a negative coefficient: a fall guard, where no coefficient of one is positive
+-- a fall guard, if it is a threshold guard: a shared variable (these come after the parameters) has a negative coefficient
 abbrev pub falls : ℕ → Linear → Bool
 falls parameters r = list_any is_negative (drop parameters r.coefficients)
 
@@ -56,20 +57,20 @@ abbrev pub guards_after : ℕ → List (List ℕ) → Guards → List PlainRule 
 guards_after parameters names g [] = g
 guards_after parameters names g (r ∷ rules) = guards_after parameters names (with_guards parameters g (rows_of names r.guards)) rules
 
--- no threshold guard: two rows, or shared variables with coefficients of both signs
+-- not a threshold guard: not exactly one row, or shared variables with coefficients of both signs
 abbrev pub is_no_threshold : ℕ → List Linear → Bool
 is_no_threshold parameters [] = true
 is_no_threshold parameters (r ∷ []) = falls parameters r && list_any is_positive (drop parameters r.coefficients)
 is_no_threshold parameters (r ∷ q ∷ rows) = true
 
--- a row that is none of the guards of its kind, where these are 16 rise guards or 6 fall guards already
+-- a row that is none of the guards of its kind, of which there are 16 rise guards or 6 fall guards already
 abbrev pub is_past_limit : ℕ → Guards → Linear → Bool
 is_past_limit parameters g r =
     if falls parameters r
     then not (has_row g.fall r) && not (ltb (length g.fall) 6)
     else not (has_row g.rise r) && not (ltb (length g.rise) 16)
 
--- a threshold guard more than 16 rise guards or 6 fall guards
+-- a threshold guard in excess of 16 rise guards or 6 fall guards
 abbrev pub is_one_more : ℕ → Guards → List Linear → Bool
 is_one_more parameters g [] = false
 is_one_more parameters g (r ∷ rows) = not (is_no_threshold parameters (r ∷ rows)) && is_past_limit parameters g r

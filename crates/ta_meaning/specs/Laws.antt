@@ -1,4 +1,4 @@
--- A text has one tree, one meaning and one first fault (this project's profile)
+-- A text has at most one tree, one meaning and one first error.
 use Rattle.std.specs.Prelude.{ℕ, ◌≡◌, List}
 use Rattle.ta_syntax.specs.PlainTrees.{plain_tree}
 use Rattle.ta_syntax.specs.Stated.{tree_stated}
@@ -10,7 +10,8 @@ use Rattle.ta_meaning.specs.Meaning.{Means}
 use Rattle.ta_meaning.specs.Faults.{meaning_faults}
 use Rattle.ta_meaning.specs.FirstFault.{FirstFault}
 
--- Two trees have the same parts, and state the same offset for each token. All else that a tree has is where the lists of its sums lie in memory.
+-- Two trees have the same parts, and state the same offset for each token. They may differ only in where the lists of their sums are in
+-- memory.
 pub record SameTree (t u : Tree) : Type 0 where
   pub parts : plain_tree t ≡ plain_tree u
   pub offsets : tree_stated t ≡ tree_stated u
@@ -19,7 +20,7 @@ pub record SameTree (t u : Tree) : Type 0 where
 abbrev pub TreesAreUnique : Type 0
 TreesAreUnique = (bytes : List ℕ) (t u : Tree) → IsTreeOf bytes t → IsTreeOf bytes u → SameTree t u
 
--- a text that has a tree has one list of faults of what it means
+-- a text that has a tree has one list of errors of its meaning
 abbrev pub FaultsAreUnique : Type 0
 FaultsAreUnique = (bytes : List ℕ) (t u : Tree) → IsTreeOf bytes t → IsTreeOf bytes u → meaning_faults t ≡ meaning_faults u
 
@@ -27,6 +28,6 @@ FaultsAreUnique = (bytes : List ℕ) (t u : Tree) → IsTreeOf bytes t → IsTre
 abbrev pub FilesAreUnique : Type 0
 FilesAreUnique = (bytes : List ℕ) (f g : File) → Means bytes f → Means bytes g → f ≡ g
 
--- a text has at most one first fault
+-- a text has at most one first error
 abbrev pub FirstFaultsAreUnique : Type 0
 FirstFaultsAreUnique = (bytes : List ℕ) (e d : FileFault) → FirstFault bytes e → FirstFault bytes d → e ≡ d

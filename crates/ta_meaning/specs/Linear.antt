@@ -1,4 +1,4 @@
--- Sums and comparisons as numbers: a constant, and a coefficient for each place (this project's profile)
+-- Sums and comparisons as numbers: a constant, and a coefficient for each place.
 use Rattle.std.specs.Prelude.{ℕ, ℤ, pos, ◌-ℤ◌, ◌≡◌, Bool, false, ◌||◌, ltb, unsigned_abs, List, [], ◌∷◌, map, slice_index_or, IsTrue}
 use Rattle.std.specs.List.{list_any}
 use Rattle.ta_base.specs.declared.limits.TheConstants.{LARGEST_NUMBER}
@@ -56,17 +56,17 @@ pub record FormOf (linear : Linear) (form : Form) : Type 0 where
 abbrev pub RowOf : Linear → Row → Type 0
 RowOf linear row = FormOf linear row.form
 
--- each name that a comparison uses is among names
+-- each name that a comparison uses is one of these names
 pub record UsesNames (names : List (List ℕ)) (c : PlainComparison) : Type 0 where
   pub left : IsTrue (sum_uses names c.left)
   pub right : IsTrue (sum_uses names c.right)
 
--- the sum uses these names alone, and the form has its numbers
+-- the sum uses only these names, and the form has its numbers
 pub record MeansForm (names : List (List ℕ)) (sum : Terms) (form : Form) : Type 0 where
   pub known : IsTrue (sum_uses names sum)
   pub numbers : FormOf (linear_sum names sum) form
 
--- the comparison uses these names alone, and the rows have its numbers
+-- the comparison uses only these names, and the rows have its numbers
 pub record MeansComparison (names : List (List ℕ)) (c : PlainComparison) (comparison : Comparison) : Type 0 where
   pub known : UsesNames names c
   pub rows : Pairwise RowOf (comparison_rows names c) comparison.rows

@@ -1,4 +1,4 @@
--- What an automaton file means: places in place of names, normal rows in place of comparisons (this project's profile)
+-- What an automaton file means: place numbers instead of names, normal rows instead of comparisons.
 use Rattle.ta_base.specs.Lists.{Pairwise}
 use Rattle.std.specs.Prelude.{ℕ, ℤ, pos, ◌+◌, ◌≡◌, ◌≢◌, ◌↔◌, ◌⊎◌, List, [], ◌∷◌, ◌++◌, length, map, slice_get, Contains, Some, IsBitSet, if◌then◌else◌}
 use Rattle.std.specs.List.{AllByRecursion}
@@ -66,7 +66,7 @@ pub record MeansEvent (ns : Names) (before : List (List ℕ)) (e : PlainEvent) (
   pub after : NamesBits before e.after event.after
   pub condition : MeansCondition (all_names ns) e.condition event.condition
 
--- events one after another, each of which may come after those before it
+-- events one after another; each may come after those before it
 abbrev pub MeansEvents : Names → List (List ℕ) → List PlainEvent → List Event → Type 0
 MeansEvents ns before [] [] = Unit {0}
 MeansEvents ns before (e ∷ es) (event ∷ events) = MeansEvent ns before e event × MeansEvents ns (before ++ e.name ∷ []) es events

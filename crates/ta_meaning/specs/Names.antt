@@ -1,4 +1,4 @@
--- The names of an automaton file's places (this project's profile)
+-- The names of an automaton file's places.
 use Rattle.std.specs.Prelude.{ℕ, List, ◌++◌, map}
 use Rattle.ta_syntax.specs.Grammar.{PlainLocation, PlainTree}
 use Rattle.ta_syntax.specs.PlainTrees.{plain_tree}

@@ -1,4 +1,4 @@
--- Where the faults of what an automaton file means stand in the text (this project's profile)
+-- Where in the text the errors of a file's meaning are.
 use Rattle.std.specs.Prelude.{ℕ, ◌≡◌, ◌<◌, ◌⊎◌, List, [], ◌∷◌, length, map}
 use Rattle.std.specs.List.{AllByRecursion}
 use Rattle.ta_syntax.specs.TreeOf.{IsTreeOf}
@@ -9,7 +9,7 @@ use Rattle.ta_syntax.specs.declared.fault.FileFault.TheVariants as fault
 use Rattle.ta_base.specs.Lists.{Rises}
 use Rattle.ta_meaning.specs.Faults.{meaning_faults}
 
--- the offset that a fault carries; for a fault of a rule its number, and 0 for want of memory, which carries nothing
+-- the offset that an error carries; for a rule's error the rule's number, and 0 for out of memory, which carries none
 abbrev pub fault_offset : FileFault → ℕ
 fault_offset (fault.Byte at) = at
 fault_offset (fault.Syntax at) = at
@@ -24,7 +24,7 @@ fault_offset (fault.CycleUpdates rule) = rule
 fault_offset (fault.NoInitial at) = at
 fault_offset fault.Memory = 0
 
--- the offsets of the faults of a text's tree rise strictly, and each is that of a byte of the text
+-- the offsets of the errors of a text's tree increase strictly, and each is that of a byte of the text
 abbrev pub FaultsRise : Type 0
 FaultsRise = (bytes : List ℕ) (t : Tree) → IsTreeOf bytes t → Rises 0 (length bytes) (map fault_offset (meaning_faults t))
 
@@ -33,11 +33,11 @@ abbrev pub IsTokenAt : ℕ → List Token → Type 0
 IsTokenAt at [] = ⊥
 IsTokenAt at (t ∷ ts) = (t.at ≡ at) ⊎ IsTokenAt at ts
 
--- each fault of a text's tree stands at a token
+-- each error of a text's tree is at a token
 abbrev pub FaultsStandAtTokens : Type 0
 FaultsStandAtTokens = (bytes : List ℕ) (t : Tree) (is : IsTreeOf bytes t) → AllByRecursion (λ f. IsTokenAt (fault_offset f) is.tokens) (meaning_faults t)
 
--- a fault that meaning may have: F3 to F7, F9 or F12, each of which carries an offset
+-- an error that meaning may have: F3 to F7, F9 or F12; all of these carry an offset
 abbrev pub IsOfMeaning : FileFault → Type 0
 IsOfMeaning (fault.Duplicate at) = Unit {0}
 IsOfMeaning (fault.Unknown at) = Unit {0}
@@ -52,11 +52,11 @@ IsOfMeaning (fault.TooDeep at) = ⊥
 IsOfMeaning (fault.CycleUpdates rule) = ⊥
 IsOfMeaning fault.Memory = ⊥
 
--- each fault of a tree is one that meaning may have
+-- each error of a tree is one that meaning may have
 abbrev pub FaultsAreOfMeaning : Type 0
 FaultsAreOfMeaning = (t : Tree) → AllByRecursion IsOfMeaning (meaning_faults t)
 
--- where there are faults, each that comes after the first has a larger offset
+-- each error after the first has a larger offset
 abbrev pub FirstIsLeast : Type 0
 FirstIsLeast =
     (bytes : List ℕ) (t : Tree) (first : FileFault) (later : List FileFault)

@@ -1,4 +1,4 @@
--- What the reading of an automaton file answers (this project's profile)
+-- What reading an automaton file answers.
 use Rattle.std.specs.Prelude.{ℕ, ◌≡◌, ◌⊎◌, List, Result, Ok, Err}
 use Rattle.ta_syntax.specs.declared.fault.FileFault.{FileFault}
 use Rattle.ta_syntax.specs.declared.fault.FileFault.TheVariants as fault
@@ -9,17 +9,17 @@ use Rattle.ta_automaton.specs.declared.file.File.{File}
 use Rattle.ta_meaning.specs.Meaning.{Means}
 use Rattle.ta_meaning.specs.FirstFault.{FirstFault}
 
--- the bytes are an automaton file without a fault, which means this file
+-- the bytes are an automaton file without errors, which means this file
 pub record Legal (bytes : List ℕ) (file : File) : Type 0 where
   pub means : Means bytes file
   pub no_fault : (e : FileFault) → ¬ FirstFault bytes e
 
--- a legal file, whose type keeps that it is in scope; or the first fault, or want of memory
+-- a legal file, whose type keeps that it is in scope; or the first error, or out of memory
 abbrev pub Reads : List ℕ → Result ScopedFile FileFault → Type 0
 Reads bytes (Ok scoped) = Legal bytes scoped.file
 Reads bytes (Err e) = (e ≡ fault.Memory) ⊎ FirstFault bytes e
 
--- the fault of the file that a fault of scope is
+-- an error of scope as an error of the file
 abbrev pub file_fault : ScopeFault → FileFault
 file_fault (scope_fault.CycleUpdates r) = fault.CycleUpdates r
 file_fault scope_fault.Memory = fault.Memory

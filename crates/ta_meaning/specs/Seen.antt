@@ -1,4 +1,4 @@
--- A sum with its offsets, as plain data: all that a sum of the program says, but for where its lists lie in memory (this project's profile)
+-- A sum of the program with its offsets as plain data, without the addresses of its lists.
 use Rattle.std.specs.Prelude.{ℕ, List, [], ◌∷◌, ◌++◌, Option, Some, None}
 use Rattle.ta_syntax.specs.Grammar.{Terms, Term, Factor, done, term, number, times, alone, blank, named, nested}
 use Rattle.ta_syntax.specs.declared.sums.Sign.{Sign}

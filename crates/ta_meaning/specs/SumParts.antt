@@ -1,4 +1,4 @@
--- The parts of a sum: their faults, and the forms with their numbers (this project's profile)
+-- Forms within a bound, and the difference of two forms.
 use Rattle.std.specs.Prelude.{ℕ, ℤ, ◌≤◌, ◌≡◌, ◌-ℤ◌, unsigned_abs}
 use Rattle.ta_linear.specs.Terms.{coefficient}
 use Rattle.ta_linear.specs.declared.form.Form.{Form}

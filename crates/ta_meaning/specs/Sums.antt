@@ -1,4 +1,4 @@
--- What a sum of an automaton file means: a constant, and what stands before each name (this project's profile)
+-- What a sum of an automaton file means: a constant, and a coefficient for each name.
 use Rattle.std.specs.Prelude.{ℕ, ℤ, pos, ◌+ℤ◌, ◌-ℤ◌, ◌*ℤ◌, Bool, true, ◌&&◌, List, if◌then◌else◌}
 use Rattle.std.specs.List.{list_any}
 use Rattle.std.specs.Str.{bytes_eq}
@@ -20,7 +20,7 @@ signed sign.Plus z = z
 signed sign.Minus z = pos 0 -ℤ z
 
 abbrev mutual
-  -- what stands before a name in a sum
+  -- the coefficient of a name in a sum
   pub sum_coefficient : List ℕ → Terms → ℤ
   sum_coefficient x done = pos 0
   sum_coefficient x (term s t ts) = signed s (term_coefficient x t) +ℤ sum_coefficient x ts
@@ -36,7 +36,7 @@ abbrev mutual
   factor_coefficient x (nested ts) = sum_coefficient x ts
 
 abbrev mutual
-  -- what a sum has without names
+  -- the constant of a sum: its part without names
   pub sum_constant : Terms → ℤ
   sum_constant done = pos 0
   sum_constant (term s t ts) = signed s (term_constant t) +ℤ sum_constant ts

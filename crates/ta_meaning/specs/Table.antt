@@ -1,4 +1,4 @@
--- The table of the faults of meaning: what each code says is wrong, and at which token, whatever else is wrong in the text (this project's profile)
+-- The table of the errors of meaning: what each code says is wrong, and at which token, independent of other errors.
 use Rattle.std.specs.Prelude.{◌<◌, ◌≤◌, ◌≡◌, ◌⊎◌, Bool, true, false, if◌then◌else◌, List, [], ◌∷◌, ◌++◌, length, map, flat_map}
 use Rattle.std.specs.List.{AllByRecursion}
 use Rattle.ta_base.specs.declared.limits.TheConstants.{LARGEST_NUMBER}
@@ -24,9 +24,9 @@ use Rattle.ta_meaning.specs.Guards.{falls, is_no_threshold}
 use Rattle.ta_meaning.specs.Faults.{Scope, linear_term, in_parameters, in_guards, in_conditions, location_spelled, any_initial, meaning_faults}
 use Rattle.ta_meaning.specs.Seen.{PlacedTerm, seen_sum, names_of_terms, numbers_of_terms, terms_of_terms}
 
--- ---- F3: names that stand twice
+-- ---- F3: repeated names
 
--- a name stands in a list behind the same name
+-- a name occurs in a list after the same name
 abbrev pub Repeats : List Spelled → Spelled → Type 0
 Repeats [] n = ⊥
 Repeats (m ∷ ns) n = ((m.name ≡ n.name) × In n ns) ⊎ Repeats ns n
@@ -47,8 +47,8 @@ updated_name u = u.name
 abbrev pub place_names : Tree → List Spelled
 place_names t = t.parameters ++ (t.shared ++ map location_spelled t.locations)
 
--- names among which no two may be the same: those of the places, of the rules, of the patterns and of the events of a pattern;
--- those that a rule updates, that a pattern keeps empty and that an event comes after
+-- names that must be distinct: those of the places, of the rules, of the patterns and of the events of a pattern; those that a rule
+-- updates, that a pattern keeps empty and that an event comes after
 pub data AreApart (t : Tree) (ns : List Spelled) : Type 0 where
   apart_places : ns ≡ place_names t → AreApart t ns
   apart_rules : ns ≡ map rule_name t.rules → AreApart t ns
@@ -68,14 +68,14 @@ pub data IsDeclared (t : Tree) (n : Spelled) : Type 0 where
 
 -- ---- sums and comparisons
 
--- a comparison, with the names that may stand in it
+-- a comparison, with the names that may occur in it
 pub data HasComparison (t : Tree) (s : Scope) (c : TreeComparison) : Type 0 where
   in_resilience : s ≡ in_parameters (names_of t) → In c t.resilience → HasComparison t s c
   in_guard : (r : TreeRule) → s ≡ in_guards (names_of t) → In r t.rules → In c r.guards → HasComparison t s c
   in_start : (p : TreePattern) → s ≡ in_conditions (names_of t) → In p t.patterns → In c p.start → HasComparison t s c
   in_event : (p : TreePattern) (e : TreeEvent) → s ≡ in_conditions (names_of t) → In p t.patterns → In e p.events → In c e.condition → HasComparison t s c
 
--- a sum, with the names that may stand in it
+-- a sum, with the names that may occur in it
 pub data HasSum (t : Tree) (s : Scope) (sum : TreeSum) : Type 0 where
   sum_of_processes : s ≡ in_parameters (names_of t) → sum ≡ t.processes → HasSum t s sum
   sum_at_left : (c : TreeComparison) → HasComparison t s c → sum ≡ c.left → HasSum t s sum
@@ -83,7 +83,7 @@ pub data HasSum (t : Tree) (s : Scope) (sum : TreeSum) : Type 0 where
 
 -- ---- F4 and F5: names that are used
 
--- where locations may stand, where shared variables, and where events declared earlier
+-- where locations may occur, where shared variables, and where events declared earlier
 abbrev pub at_locations : Tree → Scope
 at_locations t = record { places = all_names (names_of t); allowed = (names_of t).locations }
 
@@ -93,7 +93,7 @@ at_shared t = record { places = all_names (names_of t); allowed = (names_of t).s
 abbrev pub at_events : List TreeEvent → Scope
 at_events earlier = record { places = map plain_name (map tree_event_name earlier); allowed = map plain_name (map tree_event_name earlier) }
 
--- a name that is used, with the names that may stand there
+-- a name that is used, with the names that may occur there
 pub data IsUsed (t : Tree) (s : Scope) (n : Spelled) : Type 0 where
   used_from : (r : TreeRule) → In r t.rules → s ≡ at_locations t → n ≡ r.from → IsUsed t s n
   used_to : (r : TreeRule) → In r t.rules → s ≡ at_locations t → n ≡ r.to → IsUsed t s n
@@ -131,7 +131,7 @@ pub record IsThreshold (t : Tree) (fall : Bool) (row : Linear) (c : TreeComparis
 abbrev pub IsRowAmong : Tree → List TreeComparison → Bool → Linear → Type 0
 IsRowAmong t cs fall row = (c : TreeComparison) × In c cs × IsThreshold t fall row c
 
--- a threshold guard whose row is none of 16 distinct rows of rise guards before it, or of 6 of fall guards
+-- a threshold guard in excess: its row is none of the 16 distinct rows of rise guards, or of the 6 of fall guards, before it
 pub record IsOneMore (t : Tree) (c : TreeComparison) : Type 0 where
   pub earlier : List TreeComparison
   pub later : List TreeComparison
@@ -147,13 +147,13 @@ pub record IsOneMore (t : Tree) (c : TreeComparison) : Type 0 where
 
 -- ---- the table
 pub data IsFaultOf (t : Tree) (e : FileFault) : Type 0 where
-  -- F3: a name that stands twice where names are apart
+  -- F3: a name that occurs twice where names must be distinct
   repeated : (ns : List Spelled) (n : Spelled) → AreApart t ns → Repeats ns n → e ≡ fault.Duplicate n.at → IsFaultOf t e
   -- F4: a name that is used and not declared
   unknown : (s : Scope) (n : Spelled) → IsUsed t s n → has_name s.places n.name ≡ false → e ≡ fault.Unknown n.at → IsFaultOf t e
-  -- F5: a name of a kind that may not stand there
+  -- F5: a name of a kind that may not occur there
   wrong_kind : (s : Scope) (n : Spelled) → IsUsed t s n → has_name s.places n.name ≡ true → has_name s.allowed n.name ≡ false → e ≡ fault.WrongKind n.at → IsFaultOf t e
-  -- F6: a declared name above 64 bytes
+  -- F6: a declared name longer than 64 bytes
   long : (n : Spelled) → IsDeclared t n → 64 < length n.name → e ≡ fault.TooLarge n.at → IsFaultOf t e
   -- F6: a number above 1,000,000,000
   large_number : (d : Digits) → IsNumberOf t d → LARGEST_NUMBER < number_of d.text → e ≡ fault.TooLarge d.at → IsFaultOf t e
@@ -163,13 +163,13 @@ pub data IsFaultOf (t : Tree) (e : FileFault) : Type 0 where
   large_row : (s : Scope) (c : TreeComparison) → HasComparison t s c → any_large (comparison_rows s.allowed (plain_comparison c)) ≡ true → e ≡ fault.TooLarge c.at → IsFaultOf t e
   -- F6: the sum of `processes` whose form has one
   large_sum : is_large_linear (linear_sum (names_of t).parameters (plain_sum t.processes)) ≡ true → e ≡ fault.TooLarge t.processes_at → IsFaultOf t e
-  -- F7: a guard that is one more than 16 distinct rise guards or 6 distinct fall guards
+  -- F7: a guard in excess of 16 distinct rise guards or 6 distinct fall guards
   one_more : (c : TreeComparison) → IsOneMore t c → e ≡ fault.TooMany c.at → IsFaultOf t e
-  -- F9: a guard that is no threshold guard
+  -- F9: a guard that is not a threshold guard
   no_threshold : (c : TreeComparison) → In c (tree_guards t) → is_no_threshold (length (names_of t).parameters) (tree_guard_rows t c) ≡ true → e ≡ fault.NotThreshold c.at → IsFaultOf t e
   -- F12: no location is initial
   no_initial : any_initial t.locations ≡ false → e ≡ fault.NoInitial t.locations_at → IsFaultOf t e
 
--- each entry of the list of faults of meaning is a fault of the table
+-- each item of the list of errors of meaning is an error of the table
 abbrev pub FaultsAreOfTheTable : Type 0
 FaultsAreOfTheTable = (t : Tree) → AllByRecursion (IsFaultOf t) (meaning_faults t)

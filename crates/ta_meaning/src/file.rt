@@ -16,7 +16,7 @@ use ta_automaton::{Automaton, File};
 use ta_base::{List, Text};
 use ta_syntax::{FileFault, Spelled, Tree, TreeLocation};
 
-/// The file that a tree means: Ok exactly where no fault of meaning is there, else the first one.
+/// The file that a tree means: Ok exactly where no error of meaning is there, else the first one.
 pub fn resolve(alloc: Global, tree: Tree) -> Result<File, FileFault>
     ensures { Answers (meaning_faults tree) (MeansTree (plain_tree tree)) result }
 {

@@ -1,4 +1,4 @@
-//! What an automaton file means: from a tree to an automaton with its patterns, or the first fault.
+//! What an automaton file means: from a tree to an automaton with its patterns, or the first error.
 #![tactic(auto)]
 
 mod answers;

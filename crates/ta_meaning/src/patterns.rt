@@ -79,7 +79,7 @@ fn resolve_events(
 
 /// The event that a pattern's event means, after others; its name is declared then. It may come
 /// after the others, and not after itself: so they are looked up before its name is declared,
-/// though a fault of its name comes first.
+/// though an error of its name comes first.
 fn resolve_event(
     alloc: Global,
     places: &Places,

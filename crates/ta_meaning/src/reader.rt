@@ -11,7 +11,7 @@ use ta_scope::{ScopeFault, ScopedFile, scope};
 use ta_syntax::{FileFault, read_tree};
 
 /// Reads an automaton file: its bytes, its tokens, what it means, and its scope. Ok exactly where
-/// the bytes mean a file in scope and no stage finds a fault; else the first fault, the stages gone
+/// the bytes mean a file in scope and no stage finds an error; else the first error, the stages gone
 /// through in this order.
 pub fn read_file(alloc: Global, bytes: &[u8]) -> Result<ScopedFile, FileFault>
     requires { length bytes.now ≤ FILE_BYTES }
@@ -25,7 +25,7 @@ pub fn read_file(alloc: Global, bytes: &[u8]) -> Result<ScopedFile, FileFault>
     }
 }
 
-/// The fault of the file that a fault of scope is.
+/// The error of the file that an error of scope is.
 fn fault_of(fault: ScopeFault) -> FileFault
     ensures { result ≡ file_fault fault }
 {

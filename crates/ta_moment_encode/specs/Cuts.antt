@@ -1,4 +1,4 @@
--- Marks of nodes
+-- The mark of a node: how many unknowns, moments and rows it has.
 use Rattle.std.specs.Prelude.{◌≡◌, length}
 use Rattle.ta_moments.specs.Moments.{Known}
 use Rattle.ta_moment_encode.specs.declared.mark.NodeMark.{NodeMark}

@@ -1,4 +1,4 @@
--- The unknowns, moments and rows of the code are those of a node
+-- When the unknowns, moments and rows of the code are those of a node.
 use Rattle.std.specs.Prelude.{ℕ, ◌≡◌, ◌≤◌, Bool, true, false, List, length, Option}
 use Rattle.ta_automaton.specs.declared.automaton.Automaton.{Automaton}
 use Rattle.ta_automaton.specs.declared.pattern.Pattern.{Pattern}
@@ -21,7 +21,7 @@ pub record IsDraft (a : Automaton) (p : Pattern) (silent : List ℕ) (candidate 
   pub end : vector_of draft.end.items ≡ end_vector a p candidate
   pub short : length draft.end.items ≤ length a.rules
 
--- what a draft's vectors need so that no number leaves the range and no row is missed
+-- what a draft's vectors need so that all numbers stay in range and no row is missed
 pub record DraftFits (a : Automaton) (draft : Draft) : Type 0 where
   pub small : SmallVector 1 (vector_of draft.end.items)
   pub speaks : (r : ℕ) → Speaks draft.unknowns (vector_of draft.end.items r)

@@ -1,4 +1,4 @@
--- Forms and vectors of the code, as those of the definitions
+-- The forms and vectors that those of the code stand for, and bounds on their numbers.
 use Rattle.std.specs.Prelude.{ℕ, ℤ, pos, ◌≤◌, unsigned_abs, Bool, List, map, slice_get, Option, Some, None}
 use Rattle.ta_linear.specs.Terms.{coefficient}
 use Rattle.ta_linear.specs.declared.form.Form.{Form}
@@ -19,7 +19,7 @@ forms_of rows = map (λ (row : Row). form_of row.form) rows
 abbrev pub all_forms : List Form → List UnknownForm
 all_forms forms = map form_of forms
 
--- what a form says; 0 where there is none
+-- what a form says; 0 if there is none
 abbrev pub form_in : Option Form → UnknownForm
 form_in None = number_form (pos 0)
 form_in (Some form) = form_of form

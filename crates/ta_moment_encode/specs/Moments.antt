@@ -1,4 +1,4 @@
--- Moments of the code, as those of the definitions
+-- The moments that those of the code stand for, and bounds on their numbers.
 use Rattle.std.specs.Prelude.{ℕ, ◌≡◌, List, map, slice_get, Some}
 use Rattle.ta_moments.specs.Laws.{Speaks}
 use Rattle.ta_moments.specs.Moments.{Moment as KnownMoment, Point as KnownPoint, Pair as KnownPair, early, late}

@@ -1,4 +1,4 @@
--- An encoding is a node's
+-- When an encoding is that of a node.
 use Rattle.std.specs.Prelude.{ℕ, List, Option}
 use Rattle.ta_base.specs.Masks.{In}
 use Rattle.ta_moments.specs.Facts.{candidates}
@@ -7,7 +7,7 @@ use Rattle.ta_moment_encode.specs.Draft.{IsDraft}
 use Rattle.ta_moment_encode.specs.Plan.{IsPlan}
 use Rattle.ta_moment_encode.specs.declared.encoding.MomentEncoding.{MomentEncoding}
 
--- of a candidate with facts, the newest first, with these silent places
+-- the node of a candidate with facts, the newest first, with these silent places
 pub record IsNode (silent : List ℕ) (candidate : Option ℕ) (past : List Fact) (node : MomentEncoding) : Type 0 where
   pub plan : IsPlan node.plan
   pub listed : In candidate (candidates node.plan.task.pattern.now)
@@ -18,7 +18,7 @@ pub record IsSomeNode (silent : List ℕ) (node : MomentEncoding) : Type 0 where
   pub past : List Fact
   pub is : IsNode silent candidate past node
 
--- with some silent places
+-- the same with some silent places
 pub record IsAnyNode (node : MomentEncoding) : Type 0 where
   pub silent : List ℕ
   pub is : IsSomeNode silent node

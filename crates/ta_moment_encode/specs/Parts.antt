@@ -1,4 +1,4 @@
--- What the question of a node may be of in the code, as in the definitions
+-- What a question at a node may be about: what the parts in the code stand for.
 use Rattle.std.specs.Prelude.{[], ◌∷◌, map}
 use Rattle.ta_moments.specs.Questions.{GuardAtEnd as KnownGuard, Parts, RuleAtEnd as KnownRule}
 use Rattle.ta_moment_encode.specs.Forms.{all_forms, form_of, vector_of}

@@ -1,4 +1,4 @@
--- The rows of facts that add no moment
+-- The rows of facts that add no moment.
 use Rattle.std.specs.Prelude.{ℕ, List, [], map, slice_get}
 use Rattle.ta_automaton.specs.declared.automaton.Automaton.{Automaton}
 use Rattle.ta_automaton.specs.declared.pattern.Pattern.{Pattern}

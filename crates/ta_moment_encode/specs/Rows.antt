@@ -1,4 +1,4 @@
--- Rows that are written behind others
+-- Rows that are written after others.
 use Rattle.std.specs.Prelude.{ℕ, pos, ◌≡◌, List, [], ◌∷◌, ◌++◌, map, slice_get}
 use Rattle.ta_linear.specs.declared.row.Row.{Row}
 use Rattle.ta_automaton.specs.declared.automaton.Automaton.{Automaton}
@@ -7,7 +7,7 @@ use Rattle.ta_moments.specs.Forms.{UnknownForm, minus_form, negated_form, number
 use Rattle.ta_moments.specs.Moments.{Vector, below, counters_at, guard_at, guards}
 use Rattle.ta_moment_encode.specs.Forms.{forms_of}
 
--- rows of these forms stand behind those that were there
+-- rows of these forms stand after those that were there
 pub record AddsForms (forms : List UnknownForm) (before after : List Row) : Type 0 where
   pub more : List Row
   pub is : after ≡ before ++ more

@@ -1,4 +1,4 @@
--- How large nodes become
+-- How large nodes become.
 use Rattle.std.specs.Prelude.{ℕ, ℤ, ◌+◌, ◌<◌, ◌≡◌, true, List, [], ◌∷◌, length, Option}
 use Rattle.ta_automaton.specs.declared.automaton.Automaton.{Automaton}
 use Rattle.ta_automaton.specs.declared.pattern.Pattern.{Pattern}
@@ -19,14 +19,14 @@ AreAnswers a p asking candidate (fact ∷ past) =
     × Exists a p asking (known a p asking.silent candidate past) (question_of fact)
     × AreAnswers a p asking candidate past
 
--- a node's unknowns and rows, with those of its bounds, are fewer than 1,000,000 and its bounds
+-- a node's unknowns and rows, with those of its bounds, are fewer than 1,000,000 plus the number of its bounds
 abbrev pub NodesStaySmall : Type 0
 NodesStaySmall =
     (a : Automaton) (p : Pattern) → PatternOver a p
     → (asking : Asking) (node : Node) → AreAnswers a p asking node.candidate node.past
     → (known_at a p asking node).unknowns + length (node_rows a p asking node) < 1000000 + length node.bounds
 
--- the same of what the search comes to
+-- the same for the nodes of the search
 abbrev pub SearchStaysSmall : Type 0
 SearchStaysSmall =
     (a : Automaton) (p : Pattern) → PatternOver a p

@@ -1,4 +1,4 @@
--- Systems of nodes with bounds
+-- Systems of nodes with bounds.
 use Rattle.std.specs.Prelude.{ℕ, pos, ◌^◌, ◌≤ℤ◌, ◌<ℤ◌, List, Option, map}
 use Rattle.std.specs.List.{AllByRecursion}
 use Rattle.ta_encode.specs.System.{bound_row}

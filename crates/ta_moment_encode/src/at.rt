@@ -1,4 +1,4 @@
-//! What stands at a place, and forms over places, at a vector.
+//! The value of a place, and of a form over places, at a moment's vector.
 #![tactic(auto)]
 
 ghost use Rattle.std.specs.Prelude.{ℕ, ◌^◌, ◌+◌, ◌*◌, ◌≡◌, ◌≤◌, IfOk, slice_get, unsigned_abs};

@@ -1,4 +1,4 @@
-//! What is written of a node.
+//! What is written of a node so far.
 #![tactic(auto)]
 
 use crate::moment::Moment;

@@ -1,4 +1,7 @@
-//! The node without facts.
+//! The node without facts: the start, and a moment for each event.
+//!
+//! The rows at the start are those of an empty schema without its fall guards. The candidate is the
+//! event at the end: every event that it does not come after anyway is put below it.
 #![tactic(auto)]
 
 ghost use Rattle.std.specs.Prelude.{ℕ, ◌+◌, ◌<◌, ◌≤◌, ◌≡◌, ◌++◌, [], IfOk, OnOk, flat_map, filter, length, map, slice_get, List, Option};

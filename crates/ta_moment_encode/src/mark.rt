@@ -1,4 +1,7 @@
 //! Nodes that are cut to a node above them.
+//!
+//! Facts write behind what is there, so a node begins with the unknowns, moments and rows of each
+//! node above it. A mark has the numbers of these.
 #![tactic(auto)]
 
 ghost use Rattle.std.specs.Prelude.{ℕ, ◌≡◌, ◌++◌, List, Option, length, take};

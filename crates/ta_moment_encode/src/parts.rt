@@ -1,4 +1,4 @@
-//! What the question of a node may be of.
+//! What a node's question may be about: its guards, moments and rules at the end.
 #![tactic(auto)]
 
 use crate::moment::Moment;

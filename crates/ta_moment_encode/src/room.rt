@@ -1,4 +1,4 @@
-//! What nodes of the tree of questions keep. The functions do nothing: their contracts state the laws.
+//! The bounds that every node keeps. The functions do nothing: their contracts state the laws.
 #![tactic(auto)]
 
 ghost use Rattle.ta_moment_encode.specs.Sizes.{NodesStaySmall, SearchStaysSmall};

@@ -1,4 +1,12 @@
-//! The rows of a first and of a last use of a guard.
+//! The unknowns and rows of the first use of a rise guard, and of the last use of a fall guard.
+//!
+//! Before the first use no rule has fired that needs the guard, so these rules have 0 in its
+//! vector, and the other moving rules an unknown each. The guard holds there, and the vector is
+//! below the end.
+//!
+//! The last use is one step. Its unknowns say which rule steps, with sum 1, and how often each rule
+//! fired before that spares the guard; a rule that needs it has fired as often as up to the end,
+//! but for this step. The guard holds before the step and fails at the end.
 #![tactic(auto)]
 
 ghost use Rattle.std.specs.Prelude.{ℕ, pos, ◌+◌, ◌<◌, ◌≤◌, ◌^◌, ◌≡◌, ◌∷◌, ◌++◌, [], IfOk, OnOk, length, slice_get};

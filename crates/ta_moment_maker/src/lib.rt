@@ -1,4 +1,5 @@
-//! What is done at a vertex of a node of the tree of questions.
+//! The values of a basic feasible solution over their least common denominator, and the question
+//! there.
 #![tactic(auto)]
 
 mod asking;

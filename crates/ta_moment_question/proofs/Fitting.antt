@@ -3,7 +3,7 @@ use Rattle.std.proofs.Common.{Bool, true, false, ◌≡◌, ◌≢◌, inl, inr,
 use Rattle.std.specs.Prelude.{SomeIff, unsigned_abs}
 use Rattle.std.proofs.lemmas.Bool.{cases_lt}
 use Rattle.std.proofs.lemmas.Bool.Decides.{nat_tests}
-use Rattle.std.proofs.lemmas.Int.{unsigned_abs-mul}
+use Rattle.std.proofs.lemmas.Int.{ints, unsigned_abs-mul}
 use Rattle.ta_linear.specs.Numbers.{InRange}
 use Rattle.ta_moments.specs.Questions.{fits, if_fits, with_product, with_products}
 
@@ -64,6 +64,30 @@ none_stays c ns start n (suc m) le e = elim (cases_lt m n) [
 pub one_more : (c : ℕ → ℤ) (ns : List ℤ) (start : Option ℤ) (n : ℕ) (sum : ℤ) (o : Option ℤ) → with_products c ns start n ≡ Some sum → o ≡ with_product (Some sum) (c n *ℤ get_or ns n (pos 0)) → with_products c ns start (n + 1) ≡ o
 one_more c ns start n sum o e h =
     ap (with_products c ns start) (let same : n + 1 ≡ suc n = omega arith in same) ∙ ap (λ s. with_product s (c n *ℤ get_or ns n (pos 0))) e ∙ sym h
+
+-- a product that is 0 adds nothing
+pub with_zero : (sum p : ℤ) → InRange sum → p ≡ pos 0 → with_product (Some sum) p ≡ Some sum
+with_zero sum p within none =
+    let same : sum +ℤ p ≡ sum = omega (arith, ints, none) in
+    let small = fits_in p (rw none (omega arith)) in
+    let whole = fits_in (sum +ℤ p) (rw same within) in
+    ap (λ b. cond (b && fits (sum +ℤ p)) (Some (sum +ℤ p)) None) small
+    ∙ ap (λ b. cond (true && b) (Some (sum +ℤ p)) None) whole
+    ∙ ap Some same
+
+-- unknowns whose coefficients are 0 add nothing
+pub skip : (c : ℕ → ℤ) (ns : List ℤ) (start : Option ℤ) (n m : ℕ) (sum : ℤ) → InRange sum → n ≤ m
+    → ((u : ℕ) → n ≤ u → u < m → c u ≡ pos 0) → with_products c ns start n ≡ Some sum → with_products c ns start m ≡ Some sum
+skip c ns start n zero sum within le none e = ap (with_products c ns start) (let z : 0 ≡ n = omega arith in z) ∙ e
+skip c ns start n (suc m) sum within le none e = elim (cases_lt m n) [
+  | inl past ↦ ap (with_products c ns start) (let same : suc m ≡ n = omega arith in same) ∙ e
+  | inr behind ↦ (
+      let number = get_or ns m (pos 0) in
+      let nothing : (c m *ℤ number) ≡ pos 0 = rw (none m behind (omega arith)) (omega (arith, ints)) in
+      ap (λ o. with_product o (c m *ℤ number)) (skip c ns start n m sum within behind (λ u low high. none u low (omega arith)) e)
+      ∙ with_zero sum (c m *ℤ number) within nothing
+      )
+]
 
 -- what is known is in range
 pub known_fits : (p z : ℤ) → Some z ≡ if_fits p → InRange z

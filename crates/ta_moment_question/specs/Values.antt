@@ -1,4 +1,4 @@
--- Values of the code, as those of the definitions
+-- The values of unknowns that those of the code stand for.
 use Rattle.std.specs.Prelude.{Option, Some, None}
 use Rattle.ta_moments.specs.Questions.{Values}
 use Rattle.ta_moment_question.specs.declared.vertex.Vertex.{Vertex}

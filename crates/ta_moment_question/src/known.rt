@@ -1,26 +1,17 @@
 //! Values of forms at a vertex, where no number leaves the range.
 #![tactic(auto)]
 
-ghost use Rattle.std.specs.Prelude.{ℤ, ◌≡◌, ◌≢◌, ◌<◌, length, slice_index_or, ◌-ℤ◌, ◌*ℤ◌, pos, Option, Some, option_copied};
+ghost use Rattle.std.specs.Prelude.{ℤ, ◌≡◌, ◌≢◌, ◌<◌, ◌^◌, length, slice_index_or, SomeIff, ◌-ℤ◌, ◌*ℤ◌, pos, Option, Some, option_copied};
 ghost use Rattle.ta_linear.specs.Numbers.{InRange};
+ghost use Rattle.ta_linear.specs.Terms.{coefficient, IsNormal};
 ghost use Rattle.ta_moments.specs.Forms.{minus_form};
-ghost use Rattle.ta_moments.specs.Questions.{counts_natural, counts_negative, counts_positive, if_fits, is_known_natural, known_value, with_product};
+ghost use Rattle.ta_moments.specs.Questions.{counts_natural, counts_negative, counts_positive, if_fits, is_known_natural, known_value, with_product, with_products};
 ghost use Rattle.ta_moment_encode.specs.Forms.{form_in, form_of, vector_of};
 ghost use Rattle.ta_moment_question.specs.Values.{values_of};
 
+use crate::merge::{Term, next_terms};
 use crate::vertex::Vertex;
 use ta_linear::{Form, minus, multiply, plus};
-
-/// What stands before an unknown; 0 where there is no form.
-fn coefficient(form: Option<&Form>, unknown: u32) -> i128
-    ensures value { result ≡ (form_in (option_copied form.entry)).coefficient unknown }
-    ensures fits { InRange result }
-{
-    match form {
-        None => 0,
-        Some(form) => form.coefficient_of(unknown),
-    }
-}
 
 /// A form's constant; 0 where there is no form.
 fn constant(form: Option<&Form>) -> i128
@@ -53,23 +44,6 @@ fn first_sum(above: Option<&Form>, beneath: Option<&Form>, vertex: &Vertex) -> O
     scaled_difference(constant(above), constant(beneath), vertex.denominator)
 }
 
-/// The product of an unknown's number and the difference of two forms' coefficients.
-fn next_product(
-    above: Option<&Form>,
-    beneath: Option<&Form>,
-    unknown: u32,
-    number: i128,
-) -> Option<i128>
-    requires { number ≢ pos 0 }
-    ensures { result ≡ if_fits (((form_in (option_copied above.entry)).coefficient unknown -ℤ (form_in (option_copied beneath.entry)).coefficient unknown) *ℤ number) }
-{
-    scaled_difference(
-        coefficient(above, unknown),
-        coefficient(beneath, unknown),
-        number,
-    )
-}
-
 /// A sum with a product that is not known where it leaves the range.
 fn add_known(sum: i128, product: Option<i128>) -> Option<i128>
     requires { InRange sum }
@@ -81,53 +55,79 @@ fn add_known(sum: i128, product: Option<i128>) -> Option<i128>
     }
 }
 
-/// A sum with the product of an unknown's number and the difference of two forms' coefficients.
-fn next_sum(
-    sum: i128,
-    above: Option<&Form>,
-    beneath: Option<&Form>,
-    unknown: u32,
-    number: i128,
-) -> Option<i128>
-    requires { InRange sum }
-    ensures { result ≡ with_product (Some sum) (((form_in (option_copied above.entry)).coefficient unknown -ℤ (form_in (option_copied beneath.entry)).coefficient unknown) *ℤ number) }
+/// A sum with the product of an unknown's number and the difference of two coefficients.
+fn next_sum(sum: i128, one: i128, other: i128, number: i128) -> Option<i128>
+    requires sum { InRange sum }
+    requires one { InRange one }
+    requires other { InRange other }
+    ensures { result ≡ with_product (Some sum) ((one -ℤ other) *ℤ number) }
 {
     if number == 0 {
         return Some(sum);
     }
-    add_known(sum, next_product(above, beneath, unknown, number))
+    if one == other {
+        return Some(sum);
+    }
+    add_known(sum, scaled_difference(one, other, number))
 }
 
-/// The number of an unknown.
-fn number_of(vertex: &Vertex, unknown: usize) -> i128
-    requires { unknown < length vertex.now.numbers }
-    ensures { result ≡ slice_index_or vertex.now.numbers unknown (pos 0) }
+/// The number of an unknown, if it has one.
+fn number_of(numbers: &[i128], unknown: u32) -> Option<i128>
+    ensures { SomeIff result (unknown < length numbers.now) (slice_index_or numbers.now unknown (pos 0)) }
 {
-    vertex.numbers.as_slice()[unknown]
+    numbers.get(unknown as usize).copied()
+}
+
+/// A form's terms, by rising unknown; none where there is no form.
+fn terms_of(form: Option<&Form>) -> &[Term]
+    ensures coefficients { (form_in (option_copied form.entry)).coefficient ≡ coefficient result.now }
+    ensures normal { IsNormal 0 (2 ^ 32) result.now }
+{
+    match form {
+        None => &[],
+        Some(form) => form.terms.as_slice(),
+    }
+}
+
+/// A sum with the products of the unknowns' numbers and the differences of their coefficients in
+/// two lists. An unknown that neither list has adds 0, so only those of the terms are visited: the
+/// cost is the number of terms.
+fn add_terms(start: i128, above: &[Term], beneath: &[Term], numbers: &[i128]) -> Option<i128>
+    requires start { InRange start }
+    requires above { IsNormal 0 (2 ^ 32) above.now }
+    requires beneath { IsNormal 0 (2 ^ 32) beneath.now }
+    ensures { result ≡ with_products (λ u. coefficient above.now u -ℤ coefficient beneath.now u) numbers.now (Some start) (length numbers.now) }
+{
+    let mut sum = start;
+    let mut left = above;
+    let mut right = beneath;
+    'terms: while let Some((unknown, one, other, left_rest, right_rest)) = next_terms(left, right) {
+        let Some(number) = number_of(numbers, unknown) else {
+            return Some(sum);
+        };
+        match next_sum(sum, one, other, number) {
+            None => return None,
+            Some(next) => sum = next,
+        }
+        left = left_rest;
+        right = right_rest;
+    }
+    Some(sum)
 }
 
 /// The value of the difference of two forms, times the denominator.
 fn value_at(above: Option<&Form>, beneath: Option<&Form>, vertex: &Vertex) -> Option<i128>
     ensures { result ≡ known_value (values_of (Some vertex.now)) (minus_form (form_in (option_copied above.entry)) (form_in (option_copied beneath.entry))) }
 {
-    let numbers = vertex.numbers.as_slice();
-    let mut sum = match first_sum(above, beneath, vertex) {
-        None => return None,
-        Some(sum) => sum,
-    };
-    for unknown in 0..numbers.len() {
-        match next_sum(
+    match first_sum(above, beneath, vertex) {
+        None => None,
+        Some(sum) => add_terms(
             sum,
-            above,
-            beneath,
-            unknown as u32,
-            number_of(vertex, unknown),
-        ) {
-            None => return None,
-            Some(next) => sum = next,
-        }
+            terms_of(above),
+            terms_of(beneath),
+            vertex.numbers.as_slice(),
+        ),
     }
-    Some(sum)
 }
 
 /// The same where there may be no vertex.
@@ -156,6 +156,16 @@ pub(crate) fn is_at_least(
     ensures { result ≡ is_known_natural (known_value (values_of (option_copied vertex.entry)) (minus_form (form_in (option_copied above.entry)) (form_in (option_copied beneath.entry)))) }
 {
     match difference(above, beneath, vertex) {
+        None => false,
+        Some(value) => value >= 0,
+    }
+}
+
+/// Whether a form's value at a vertex is known and at least 0.
+pub fn is_met(form: &Form, vertex: &Vertex) -> bool
+    ensures { result ≡ is_known_natural (known_value (values_of (Some vertex.now)) (form_of form.now)) }
+{
+    match value(Some(form), Some(vertex)) {
         None => false,
         Some(value) => value >= 0,
     }

@@ -8,6 +8,7 @@ mod Positions
 pub mod Showing
 pub mod Once
 pub mod Resting
+pub mod EndMark
 pub mod Counting
 pub mod Encoding
 mod Lining

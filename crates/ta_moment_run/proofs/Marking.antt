@@ -54,7 +54,7 @@ in_mark [] s n i j = absurd i
 in_mark (x ∷ ss) s n (inl e) j = In-left n x.marks (stop_marks ss) (subst (λ (z : Stop). In n z.marks) e j)
 in_mark (x ∷ ss) s n (inr i) j = In-right n x.marks (stop_marks ss) (in_mark ss s n i j)
 
-stop_high : (rs : List ℕ) (low : ℕ) (ss : List Stop) → Rising rs low (stop_counts ss) → (s : Stop) → In s ss → low ≤ firings_in rs s.counts
+pub stop_high : (rs : List ℕ) (low : ℕ) (ss : List Stop) → Rising rs low (stop_counts ss) → (s : Stop) → In s ss → low ≤ firings_in rs s.counts
 stop_high rs low [] h s i = absurd i
 stop_high rs low (x ∷ ss) h s (inl e) = subst (λ (z : Stop). low ≤ firings_in rs z.counts) (sym e) h.0
 stop_high rs low (x ∷ ss) h s (inr i) = let le = h.0 in omega (arith, le, stop_high rs (firings_in rs x.counts) ss h.1 s i)

@@ -35,7 +35,7 @@ stop_for vs (x ∷ ms) m u (inr i) j =
     let w = stop_for vs ms m u i j in
     (w.0, In-right w.0 (moment_stops vs x) (stops_of vs ms) w.1, w.2)
 
-moment_for : (vs : List ℕ) (ms : List Moment) (s : Stop) → In s (stops_of vs ms) → (m : Moment) × In m ms × In s.counts (positions_of vs m) × (s.marks ≡ [])
+pub moment_for : (vs : List ℕ) (ms : List Moment) (s : Stop) → In s (stops_of vs ms) → (m : Moment) × In m ms × In s.counts (positions_of vs m) × (s.marks ≡ [])
 moment_for vs [] s i = absurd i
 moment_for vs (x ∷ ms) s i = elim (in_append s (moment_stops vs x) (stops_of vs ms) i) [
   | inl j ↦ (let w = stop_own vs x s j in (x, inl refl, w.0, w.1))

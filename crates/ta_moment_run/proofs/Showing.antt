@@ -1,4 +1,9 @@
 -- the run of a whole node shows the pattern
+--
+-- The stops of the node are the positions of a picture, and sorted they are a chain (`Pictures` of ta_moments_runs). The pieces of
+-- the run lead from each stop to the next, so each mark stands where the firings have the counts of its event, and there the
+-- event's condition holds. Events with the same counts are marked by number, and an event comes after others of lower numbers
+-- alone: so marks keep the order of the pattern.
 use Rattle.ta_moments.proofs.Common.{◌≤◌, cases_lt, Moment, inl, Config, File, ◌≡◌, inr, ℕ, ◌+◌, ◌<◌, ℤ, List, [], ◌++◌, map, length, slice_get, arith, sym, ap, ◌∙◌, refl, subst, same_Some, slice_get_within, bit_true, has_bit, range_with_len, In, in_at, times_in, times-in, Automaton, Pattern, At, after_earlier, pattern_within, value_at, moving_rules, Point, event_vector, end_vector, Asking, Node, known_at, rows_at_start}
 use Rattle.std.specs.Prelude.{slice_index, true, unsigned_abs}
 use Rattle.ta_automaton.specs.Runs as runs

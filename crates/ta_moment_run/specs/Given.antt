@@ -1,4 +1,4 @@
--- What a run is made from: a node's encoding, and values of its unknowns at which no question is left
+-- What a run is built from: a node's encoding, and values of its unknowns at which no question is left.
 use Rattle.std.specs.Prelude.{ℕ, ℤ, pos, ◌≡◌, List, map, slice_get, Some}
 use Rattle.std.specs.List.{AllByRecursion}
 use Rattle.ta_automaton.specs.declared.file.File.{File}
@@ -30,7 +30,7 @@ pub record EncodesWhole (file : File) (number : ℕ) (encoding : MomentEncoding)
   pub are : numbers ≡ map pos values
   pub whole : WholeNode encoding.plan.task.automaton.now encoding.plan.task.pattern.now asking node values
 
--- the same of some node
+-- the same for some node
 pub record EncodesSomeWhole (file : File) (number : ℕ) (encoding : MomentEncoding) (numbers : List ℤ) : Type 0 where
   pub asking : Asking
   pub node : Node
@@ -51,7 +51,7 @@ abbrev pub MomentStays : List ℤ → Moment → Type 0
 MomentStays numbers (Point v) = VectorStays numbers v.items
 MomentStays numbers (Pair v w) = VectorStays numbers v.items × VectorStays numbers w.items
 
--- no number of the making of a run leaves the range: those of the moments' forms, and those of its replay
+-- all numbers in the making of a run stay in range: those of the moments' forms, and those of its replay
 pub record StaysWithin (file : File) (encoding : MomentEncoding) (numbers : List ℤ) (run : Run) : Type 0 where
   pub moments : AllByRecursion (MomentStays numbers) encoding.draft.moments.items
   pub replay : ReplayStays file run
@@ -60,13 +60,13 @@ pub record StaysWithin (file : File) (encoding : MomentEncoding) (numbers : List
 pub record LeavesRange (file : File) (number : ℕ) (encoding : MomentEncoding) (numbers : List ℤ) : Type 0 where
   pub leaves : (run : Run) → RunOfEncoding file number encoding numbers run → ¬ StaysWithin file encoding numbers run
 
--- why there is no run; want of memory is free
+-- why there is no run; "out of memory" is always allowed
 abbrev pub MomentRunFault : File → ℕ → MomentEncoding → List ℤ → WitnessFault → Type 0
 MomentRunFault file number encoding numbers Overflow = LeavesRange file number encoding numbers
 MomentRunFault file number encoding numbers Memory = Unit {0}
 
--- what a run of the encoding's node is at rest, and how long it is, however the node is described: where each question was asked once, it
--- is short; at rest, where the pattern's last event comes after all others, it comes to quiet rest
+-- what the run of an encoding's node is at rest, and how long it is, however the node is described: if each question was asked once, it is
+-- short; at rest, if the pattern's last event comes after all others, it comes to quiet rest
 abbrev pub ShortOfEncoding : File → ℕ → MomentEncoding → List ℤ → Run → Type 0
 ShortOfEncoding file number encoding numbers run =
     (asking : Asking) (node : Node) (values : List ℕ) → EncodesWhole file number encoding numbers asking node values

@@ -1,4 +1,4 @@
--- What the runs of whole nodes say
+-- The run of a whole node shows its pattern, is unique and is short.
 use Rattle.std.specs.Prelude.{ℕ, ◌≡◌, List}
 use Rattle.ta_automaton.specs.Runs.{InScope}
 use Rattle.ta_automaton.specs.declared.file.File.{File}

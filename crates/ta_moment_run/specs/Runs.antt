@@ -1,4 +1,4 @@
--- The run of a whole node of the tree of questions (this project's profile)
+-- The run (counterexample) of a whole node of the tree of questions.
 use Rattle.std.specs.Prelude.{ℕ, ℤ, pos, ◌≡◌, List, length, map, slice_get, Some}
 use Rattle.std.specs.List.{range_with_len}
 use Rattle.ta_automaton.specs.declared.automaton.Automaton.{Automaton}
@@ -25,8 +25,8 @@ pub record WholeOf (file : File) (number : ℕ) (asking : Asking) (node : Node) 
   pub named : slice_get file.patterns number ≡ Some pattern
   pub whole : WholeNode file.automaton pattern asking node values
 
--- the run of a pattern's node at natural values: their parameters and start counts; and from no firing to the first stop, and from each
--- to the next, the missing firings, arranged, behind which the events that happen there are marked
+-- the run of a pattern's node at natural values: their parameters and start counts; then, from no firing to the first stop and from each
+-- stop to the next, the missing firings, arranged, and the marks of the events that happen there
 pub record MomentRunOf (file : File) (number : ℕ) (asking : Asking) (node : Node) (values : List ℕ) (run : Run) : Type 0 where
   pub pattern : Pattern
   pub named : slice_get file.patterns number ≡ Some pattern

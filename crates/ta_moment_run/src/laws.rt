@@ -2,7 +2,7 @@
 #![tactic(auto)]
 
 ghost use Rattle.ta_moment_run.specs.Laws.{MomentRunsAreDetermined, MomentRunsAreShort, MomentRunsShow};
-ghost use Rattle.ta_moment_run.specs.Resting.{MomentRunsRest};
+ghost use Rattle.ta_moment_run.specs.Resting.{MomentRunsEndMarked, MomentRunsRest};
 
 /// The run of a whole node shows the pattern.
 pub fn moment_runs_show()
@@ -17,6 +17,11 @@ pub fn moment_runs_are_determined()
 /// At rest the run of a whole node ends at quiet rest, where the pattern's last event happens.
 pub fn moment_runs_rest()
     ensures { MomentRunsRest }
+{}
+
+/// At rest the run of a whole node of a pattern with one event ends with the mark of this event.
+pub fn moment_runs_end_marked()
+    ensures { MomentRunsEndMarked }
 {}
 
 /// Where each question was asked once, the run of a whole node has at most (guards + events) * (rules + 1)

@@ -1,4 +1,9 @@
-//! The stops of a run, in order.
+//! The stops of a run, sorted.
+//!
+//! A moment adds a stop, a last use the two around its step. A new stop goes in front of the first
+//! one in which no rule has fired less often than in it; as all are comparable, that sorts them.
+//! Moments are added from the last to the first, so of stops with the same counts the one of the
+//! lower number comes first, as a run marks its events.
 #![tactic(auto)]
 
 ghost use Rattle.std.specs.Prelude.{◌≡◌, ◌≤◌, IfErr, IfOk, OnOk, [], length, map};

@@ -1,4 +1,4 @@
-//! How often each rule fired before a position of a run.
+//! How often each rule fired before a position of the run, by the values of a node.
 #![tactic(auto)]
 
 ghost use Rattle.std.specs.Prelude.{pos, ◌≡◌, cond, IfErr, IfOk, OnOk, length, slice_get};

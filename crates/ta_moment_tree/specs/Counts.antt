@@ -1,4 +1,4 @@
--- What the facts of a node say of its moments
+-- What the facts of a node say of its moments.
 use Rattle.std.specs.Prelude.{Bool, true, false, Option, Some, None}
 use Rattle.ta_moments.specs.declared.fact.Fact.{Fact}
 use Rattle.ta_moments.specs.declared.fact.Fact.TheVariants.{Never, First, Stands, Last, Before, After, Same, Vacant, Fails}

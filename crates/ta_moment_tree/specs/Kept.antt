@@ -1,4 +1,4 @@
--- Nodes that are kept, with their marks
+-- Nodes that are kept, with their marks.
 use Rattle.std.specs.Prelude.{ℕ, ◌+◌, ◌≡◌, ◌≤◌, List, length, reverse, slice_get, take, Option, Some, None}
 use Rattle.ta_automaton.specs.declared.automaton.Automaton.{Automaton}
 use Rattle.ta_automaton.specs.declared.pattern.Pattern.{Pattern}
@@ -21,7 +21,7 @@ pub record NodeIs (a : Automaton) (p : Pattern) (silent : List ℕ) (candidate :
   pub pattern : node.plan.task.pattern.now ≡ p
   pub is : IsNode silent candidate past node
 
--- the marks of the nodes with the first so many of these facts, from the node without facts on
+-- the marks of the nodes with the first 0, 1, .. of these facts, up to this many
 pub record AreMarks (a : Automaton) (p : Pattern) (silent : List ℕ) (candidate : Option ℕ) (facts : List Fact) (count : ℕ) (marks : List NodeMark) : Type 0 where
   pub marked : length marks ≡ count + 1
   pub each : (i : ℕ) (mark : NodeMark) → slice_get marks i ≡ Some mark → IsMark (known a p silent candidate (reverse (take i facts))) mark
@@ -32,7 +32,7 @@ pub record KeepsNode (a : Automaton) (p : Pattern) (silent : List ℕ) (kept : M
   pub marks : AreMarks a p silent (candidate_of kept.start) kept.facts.items (length kept.facts.items) kept.marks.items
   pub rows : IsBehind node.draft.rows.items kept.system.rows
 
--- the same where there is one
+-- the same if there is one
 abbrev pub KeepsIfSome : Automaton → Pattern → List ℕ → MomentKept → Option MomentEncoding → Type 0
 KeepsIfSome a p silent kept None = Unit {0}
 KeepsIfSome a p silent kept (Some node) = KeepsNode a p silent kept node
@@ -47,8 +47,8 @@ pub record IsKeptAt (a : Automaton) (p : Pattern) (silent : List ℕ) (candidate
   pub is : kept.node ≡ Some node
   pub of : NodeIs a p silent candidate past node
 
--- what is written already of a node with these facts, in order: the node of the first of them, with its marks, and how many of its rows
--- are those of the system before
+-- what is already written of a node with these facts, in order: the node of the first of them, with its marks, and how many of its rows are
+-- those of the system before
 pub record IsPart (a : Automaton) (p : Pattern) (silent : List ℕ) (start : ℕ) (facts : List Fact) (before : List Row) (part : Part) : Type 0 where
   pub within : part.from ≤ length facts
   pub is : NodeIs a p silent (candidate_of start) (reverse (take part.from facts)) part.node

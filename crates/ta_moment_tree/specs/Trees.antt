@@ -1,4 +1,4 @@
--- The search of a tree of moments
+-- The search that a tree of moments stands for.
 use Rattle.std.specs.Prelude.{ℕ, List}
 use Rattle.ta_encode.specs.Search.{Search}
 use Rattle.ta_moments.specs.declared.fact.Fact.{Fact}

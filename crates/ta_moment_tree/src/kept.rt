@@ -1,4 +1,4 @@
-//! What is kept of the node whose system was written last.
+//! What is kept of the node whose system was written last: its facts, rows and marks.
 #![tactic(auto)]
 
 ghost use Rattle.std.specs.Prelude.{◌≡◌, None, option_copied};

@@ -20,9 +20,9 @@ pub struct MomentTree<'a> {
     pub number: u32,
     pub(crate) task: Task<'a>,
     /// Whether it is asked what keeps rules from firing.
-    pub(crate) rest: bool,
+    pub rest: bool,
     /// The places that don't count there.
-    pub(crate) silent: &'a [u32],
+    pub silent: &'a [u32],
 }
 
 impl<'a> MomentTree<'a> {

@@ -1,4 +1,10 @@
-//! Nodes that are written on from what they share with the node before.
+//! The system of a node, written on from that of the node before.
+//!
+//! Each fact writes behind what is there, so two nodes of one candidate share what their common
+//! first facts have written. A mark after each fact says how much that was: the node before is cut
+//! to the mark of the last fact that both share, and the other facts are written behind it. How
+//! many rows stayed is handed on, for the dictionaries (`Branch` of ta_simplex). Rows of bounds
+//! stand last and are written anew.
 #![tactic(auto)]
 
 ghost use Rattle.std.specs.Prelude.{◌≡◌, ◌≤◌, ◌↔◌, IfOk, IsTrue, List, length, reverse, take};

@@ -1,4 +1,4 @@
-//! Candidates as starts.
+//! Candidates as starts: 0 for none, else the number of the event and 1.
 #![tactic(auto)]
 
 ghost use Rattle.std.specs.Prelude.{◌≡◌, ◌≤◌, filter, length, not, slice_get};

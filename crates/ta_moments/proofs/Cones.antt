@@ -1,4 +1,9 @@
 -- the constants of the rows of nodes whose conditions have no positive ones
+--
+-- Where no guard falls and no condition has a positive constant, vectors have no constants: each form is an unknown or 0. So the
+-- constant of a row is that of the condition that it states, or 0, and nowhere positive. If c times a scale of at least 1 plus the
+-- other terms is at least 0, and c is not positive, then c plus these terms is: so a solution multiplied by its denominator meets
+-- each row.
 use Rattle.ta_moments.proofs.Common.{Node, zero-*ℤ, ◌≡◌, ◌⊎◌, inl, inr, ℕ, ◌+◌, ◌<◌, ◌≤◌, ℤ, pos, ◌+ℤ◌, ◌-ℤ◌, ◌*ℤ◌, ◌*◌, ◌≤ℤ◌, List, [], ◌∷◌, ◌++◌, map, flat_map, length, slice_get, Some, None, Option, Bool, true, false≢true, cond, ltb, nat_tests, arith, ints, sym, ap, ◌∙◌, refl, subst, *ℤ-zero, eqb_tells, slice_get_within, get_push, append-nil, All, AllByRecursion, In, in_append, in_at, in_filter, in_map, range_with_len, range_sum, Automaton, Pattern, Comparison, Event, Row, LinearRow, UnknownForm, times_form, minus_form, opposite_form, form_of_row, sum_form, terms_form, processes_row, opposite, condition_rows, start_meanings, answers, moving_rules, needing, sparing, Vector, Moment, Point, Known, nothing_fired, early, late, place_form, form_at, counters_at, condition_at, event_at, guard_at, guards, below, with_more, event_vector, end_vector, rows_at_start, rows_of_event, unknowns_at_first, rows_of_after, rows_of_end, at_first, first_vector, rows_of_order, rows_of_same, with_fact, fresh, known, location_place, of_events, Exists}
 use Rattle.ta_encode.specs.System.{form_row}
 use Rattle.ta_moments.specs.Facts.{question_of}

@@ -1,4 +1,9 @@
 -- where no question is to be asked at natural values, none is left
+--
+-- The question of a basic feasible solution is computed in 128 bits, and a form whose value leaves them counts as the worst. So if
+-- nothing is asked, every form that mattered was known, and its value is the one that the definition of `NothingLeft` has: guards
+-- that are not asked are needed by no firing, moments whose order is not asked are settled, and at rest no rule would fire that is
+-- not asked.
 use Rattle.ta_moments.proofs.Common.{Asking, Node, known_at, range_sum, ◌≡◌, inl, inr, ℕ, zero, suc, ◌+◌, ◌<◌, ℤ, pos, negsuc, ◌+ℤ◌, ◌*ℤ◌, ◌≤ℤ◌, ◌<ℤ◌, List, [], ◌∷◌, ◌&&◌, ◌||◌, map, filter, flat_map, length, slice_get, get_or, Some, None, Option, Bool, true, false, not, cond, arith, ints, ap, ◌∙◌, refl, subst, sym, length-append, length-map, cases_Bool, and_from, and_parts, or_cases, false≢true, same_Some, slice_get_within, range_with_len, range_sum-same, total, total-append, In, In-filter, In-map, In-numbers, in_append, in_filter, Automaton, Pattern, Row, Rule, UnknownForm, minus_form, OfGuard, OfOrder, OfStuck, Fact, guards_of, has_guard, may_be_stuck, moving_rules, needing, Vector, Moment, Point, Pair, early, late, guards, guard_at, quiet_at, source_at, place_form, location_place, end_vector}
 use Rattle.std.specs.List.{find, list_all, list_any}
 use Rattle.std.specs.Option.{option_map, option_or}

@@ -1,4 +1,4 @@
--- What the nodes of a certificate say of runs, where they are read as those of a search of moments
+-- What the nodes of a certificate say of runs, read as nodes of a search of moments.
 use Rattle.std.specs.Prelude.{ℕ, ◌≡◌, ◌≤◌, ◌↔◌, List, length, map, slice_get, Some}
 use Rattle.ta_automaton.specs.declared.automaton.Automaton.{Automaton}
 use Rattle.ta_automaton.specs.declared.file.File.{File}
@@ -18,11 +18,11 @@ use Rattle.ta_rest.specs.Quiet.{QuietRestSafe}
 use Rattle.ta_rest.specs.Rest.{ComeAfterEarlier}
 use Rattle.ta_fair.specs.Fair.{FairlySafe}
 
--- nodes refute in order that with which a search begins, with leaves of its rows
+-- nodes refute the starts of a search in order, with leaves over its rows
 abbrev pub RefuteRoots : Search Fact → List TreeNode → Type 0
 RefuteRoots s nodes = NodesRefute s (IsLeaf s) s.roots nodes
 
--- nodes refute them exactly if they are those of a proof
+-- nodes refute the starts exactly if they are those of a proof
 abbrev pub MomentNodesAreProofs : Type 0
 MomentNodesAreProofs =
     (a : Automaton) (p : Pattern) (asking : Asking) (maker : Maker) (nodes : List TreeNode)
@@ -36,21 +36,22 @@ MomentNodesShowSafety =
     → (maker : Maker) (nodes : List TreeNode) → RefuteRoots (moment_search file.automaton p of_events maker) nodes
     → Safe file.automaton p
 
--- no run in which a pattern with events occurs comes to quiet rest where its last event happens, if its search at rest is refuted
+-- if the search at rest of a pattern with events is refuted, no run in which the pattern occurs comes to quiet rest where its last event
+-- happens
 abbrev pub MomentRestNodesShowSafety : Type 0
 MomentRestNodesShowSafety =
     (a : Automaton) (p : Pattern) → ComeAfterEarlier p → 1 ≤ length p.events → LoopsPure a
     → (silent : List ℕ) (maker : Maker) (nodes : List TreeNode) → RefuteRoots (moment_search a p (of_rest silent) maker) nodes
     → QuietRestSafe a silent p
 
--- no run in which a pattern occurs comes to quiet rest, if the search of its ending is refuted
+-- if the search of a pattern's ending is refuted, no run in which the pattern occurs comes to quiet rest
 abbrev pub MomentRestNodesShow : Type 0
 MomentRestNodesShow =
     (a : Automaton) (p ending : Pattern) → IsEnding p ending → ComeAfterEarlier p → LoopsPure a
     → (silent : List ℕ) (maker : Maker) (nodes : List TreeNode) → RefuteRoots (moment_search a ending (of_rest silent) maker) nodes
     → QuietRestSafe a silent p
 
--- no fair run without end has such a pattern, if every cycle of rules is a self-loop
+-- then the pattern occurs for ever in no fair infinite run, if every cycle of rules is a self-loop
 abbrev pub MomentRestNodesShowOfFairRuns : Type 0
 MomentRestNodesShowOfFairRuns =
     (file : File) → InScope file.automaton → LoopsAlone file.automaton

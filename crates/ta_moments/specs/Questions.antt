@@ -1,6 +1,6 @@
--- Which question is asked next at a node whose system has a vertex (this project's profile). The vertex is given by whole numbers over
--- one common denominator. Forms are evaluated in the program's range; where a number leaves it the form's value isn't known, and the
--- question is asked as if the value were the worst
+-- Which question is asked next at a node whose system has a vertex. The vertex is given by integers over one common denominator. Forms are
+-- evaluated in the program's range; where a number leaves it, the form's value is unknown, and the question is asked as if the value were
+-- the worst.
 use Rattle.std.specs.Prelude.{ℕ, ℤ, pos, negsuc, zero, suc, ◌^◌, ◌≡◌, ◌+ℤ◌, ◌*ℤ◌, unsigned_abs, Bool, true, false, not, ◌&&◌, ◌||◌, nat_lt, cond, List, [], ◌∷◌, length, map, filter, flat_map, slice_get, slice_index_or, Option, Some, None}
 use Rattle.std.specs.List.{find, list_all, list_any, range_with_len}
 use Rattle.std.specs.Option.{option_map, option_or}
@@ -47,7 +47,7 @@ abbrev pub known_value : Values → UnknownForm → Option ℤ
 known_value None f = None
 known_value (Some values) f = with_products f.coefficient values.numbers (if_fits (f.constant *ℤ values.denominator)) (length values.numbers)
 
--- whether a value that isn't known, or is, counts as positive, as negative, as at least 0; and whether it is known to be at least 0
+-- whether a value, known or not, counts as positive, as negative, as at least 0; and whether it is known to be at least 0
 abbrev pub counts_positive : Option ℤ → Bool
 counts_positive None = true
 counts_positive (Some (pos zero)) = false
@@ -66,7 +66,7 @@ abbrev pub is_known_natural : Option ℤ → Bool
 is_known_natural None = false
 is_known_natural (Some z) = not (below_zero z)
 
--- ---- what a question may be of
+-- ---- what a question may be about
 -- a guard: its number, the moving rules that need it, and its row at the end
 pub record GuardAtEnd : Type 0 where
   pub number : ℕ
@@ -97,7 +97,7 @@ rule_at_end a p silent end r = record {
 abbrev pub rules_at_end : Automaton → Pattern → List ℕ → Vector → List RuleAtEnd
 rules_at_end a p silent end = map (rule_at_end a p silent end) (filter (λ r. may_be_stuck p (slice_get a.rules r)) (range_with_len 0 (length a.rules)))
 
--- all that a node's question may be of: the moving rules, the vector of the end, the guards, the moments, and at rest the rules
+-- all that a node's question may be about: the moving rules, the vector of the end, the guards, the moments, and at rest the rules
 pub record Parts : Type 0 where
   pub moving : List ℕ
   pub end : Vector
@@ -122,7 +122,7 @@ parts_at a p asking node =
 abbrev pub is_needed : Values → Vector → GuardAtEnd → Bool
 is_needed values end guard = list_any (λ r. counts_positive (known_value values (end r))) guard.needing
 
--- whether the guard isn't asked, and is needed
+-- whether the guard was not asked, and is needed
 abbrev pub is_guard_open : List Fact → Values → Vector → GuardAtEnd → Bool
 is_guard_open past values end guard = is_open past (OfGuard guard.number) && is_needed values end guard
 
@@ -130,13 +130,13 @@ is_guard_open past values end guard = is_open past (OfGuard guard.number) && is_
 abbrev pub fails_at_end : Values → GuardAtEnd → Bool
 fails_at_end values guard = list_any (λ f. counts_negative (known_value values f)) guard.rows
 
--- the first open guard whose row is negative at the end; else the first open guard
+-- the first open guard whose row is negative at the end; otherwise the first open guard
 abbrev pub guard_to_ask : List Fact → Values → Vector → List GuardAtEnd → Option GuardAtEnd
 guard_to_ask past values end guards =
     option_or (find (λ guard. is_guard_open past values end guard && fails_at_end values guard) guards) (find (is_guard_open past values end) guards)
 
 -- ---- orders
--- whether no moving rule has fewer firings in the second vector, as far as that is known
+-- whether no moving rule has fewer firings in the second vector, as far as is known
 abbrev pub is_at_most : List ℕ → Values → Vector → Vector → Bool
 is_at_most moving values v w = list_all (λ r. is_known_natural (known_value values (minus_form (w r) (v r)))) moving
 
@@ -147,18 +147,18 @@ is_same_step moving values (Pair v w) (Pair x y) =
 is_same_step moving values (Pair v w) (Point y) = false
 is_same_step moving values (Point v) y = false
 
--- whether one moment isn't after the other, or both are the same step
+-- whether one moment is not after the other, or both are the same step
 abbrev pub is_settled : List ℕ → Values → Moment → Moment → Bool
 is_settled moving values x y =
     is_at_most moving values (late x) (early y) || (is_at_most moving values (late y) (early x) || is_same_step moving values x y)
 
--- the same of moments by their numbers
+-- the same for moments by their numbers
 abbrev pub are_settled : List ℕ → Values → Option Moment → Option Moment → Bool
 are_settled moving values None y = true
 are_settled moving values (Some x) None = true
 are_settled moving values (Some x) (Some y) = is_settled moving values x y
 
--- whether the order of two moments isn't asked, and isn't settled
+-- whether the order of two moments was not asked, and is not settled
 abbrev pub is_order_open : List ℕ → List Fact → Values → List Moment → ℕ → ℕ → Bool
 is_order_open moving past values moments y x =
     is_open past (OfOrder x y) && not (are_settled moving values (slice_get moments x) (slice_get moments y))
@@ -176,12 +176,12 @@ abbrev pub order_to_ask : List ℕ → List Fact → Values → List Moment → 
 order_to_ask moving past values moments = first_order moving past values moments (range_with_len 0 (length moments))
 
 -- ---- rest
--- whether the rule fires at the end without the silent places: somebody is at its source, and no guard fails
+-- whether the rule fires at the end without the silent places: its source is not empty, and no guard fails
 abbrev pub would_fire : Values → RuleAtEnd → Bool
 would_fire values rule =
     list_all (λ f. counts_positive (known_value values f)) rule.sources && list_all (λ f. counts_natural (known_value values f)) rule.rows
 
--- whether it isn't asked what keeps it from firing, and it would fire
+-- whether it was not asked what keeps the rule from firing, and it would fire
 abbrev pub is_rule_open : List Fact → Values → RuleAtEnd → Bool
 is_rule_open past values rule = is_open past (OfStuck rule.number) && would_fire values rule
 
@@ -190,7 +190,7 @@ abbrev pub rule_to_ask : List Fact → Values → List RuleAtEnd → Option Rule
 rule_to_ask past values rules = find (is_rule_open past values) rules
 
 -- ---- the question of a vertex
--- first of guards, then of orders, then of rules
+-- first about guards, then about orders, then about rules
 abbrev pub question_among : List Fact → Values → Parts → Option Question
 question_among past values parts =
     option_or (option_map (λ (guard : GuardAtEnd). OfGuard guard.number) (guard_to_ask past values parts.end parts.guards))
@@ -201,7 +201,7 @@ question_among past values parts =
 abbrev pub next_question : Automaton → Pattern → Asking → Node → Values → Option Question
 next_question a p asking node values = question_among node.past values (parts_at a p asking node)
 
--- a question that is to be asked exists at the node, and no fact answers it: so each may be asked, and none twice
+-- a question that is to be asked exists at the node, and no fact answers it; so each may be asked, and none is asked twice
 abbrev pub QuestionsMayBeAsked : Type 0
 QuestionsMayBeAsked =
     (a : Automaton) (p : Pattern) (asking : Asking) (node : Node) (values : Values) (question : Question) → next_question a p asking node values ≡ Some question

@@ -1,5 +1,5 @@
--- Nodes whose vertices give natural values (this project's profile). Where no
--- row has a positive constant, a solution in fractions times its common denominator is a solution in natural numbers
+-- Nodes whose vertices give integer values: if no row has a positive constant, a rational solution times its common denominator is a
+-- solution in natural numbers.
 use Rattle.std.specs.Prelude.{ℕ, ℤ, pos, ◌≡◌, ◌+ℤ◌, ◌*ℤ◌, ◌≤ℤ◌, ◌≤◌, ◌↔◌, All, List, [], length, map, slice_get, None, Option, Some}
 use Rattle.std.specs.List.{AllByRecursion, range_with_len}
 use Rattle.ta_base.specs.Sums.{total}
@@ -34,7 +34,7 @@ pub record IsCone (a : Automaton) (p : Pattern) : Type 0 where
   pub events : (e : ℕ) (event : Event) → slice_get p.events e ≡ Some event → NonePositive event.condition
   pub rise : (i : ℕ) (row : Row) → slice_get a.rise i ≡ Some row → row.form.constant ≤ℤ pos 0
 
--- then no row of a node without bounds has a positive constant, where guards and orders alone are asked
+-- then no row of a node without bounds has a positive constant, if only guards and orders are asked about
 abbrev pub ConesHaveNoPositiveConstants : Type 0
 ConesHaveNoPositiveConstants =
     (a : Automaton) (p : Pattern) → IsCone a p
@@ -45,7 +45,7 @@ ConesHaveNoPositiveConstants =
 abbrev pub scaled_value : ℕ → List ℕ → UnknownForm → ℤ
 scaled_value scale numbers f = (f.constant *ℤ pos scale) +ℤ total (λ u. f.coefficient u *ℤ number_at numbers u) (range_with_len 0 (length numbers))
 
--- so values that meet the rows of such a node meet them times each scale that makes them whole
+-- so values that meet the rows of such a node still meet them after multiplication by a scale that makes them integers
 abbrev pub ScaledValuesMeetCones : Type 0
 ScaledValuesMeetCones =
     (a : Automaton) (p : Pattern) → IsCone a p
@@ -54,7 +54,7 @@ ScaledValuesMeetCones =
     → AllByRecursion (λ f. pos 0 ≤ℤ scaled_value scale numbers f) (known a p [] candidate past).rows
     → AllByRecursion (λ f. pos 0 ≤ℤ form_value numbers f) (known a p [] candidate past).rows
 
--- and where no question is to be asked at a vertex of such a node, none is left at the vertex times its denominator
+-- and if no question is to be asked at a vertex of such a node, none is left at the vertex times its denominator
 abbrev pub ScaledQuestionsLeaveNothing : Type 0
 ScaledQuestionsLeaveNothing =
     (a : Automaton) (p : Pattern) → IsCone a p

@@ -1,5 +1,5 @@
 -- Moments on demand as a search: its starts are the candidates, its facts those of moments, and what it asks are the questions of a
--- certificate's nodes
+-- certificate's nodes.
 use Rattle.std.specs.Prelude.{ℕ, ℤ, suc, zero, ◌+◌, ◌↔◌, ◌&&◌, Bool, nat_lt, cond, List, length, map, slice_get, Option, Some, None}
 use Rattle.std.specs.List.{AllByRecursion, range_with_len}
 use Rattle.ta_base.specs.Masks.{In}
@@ -63,12 +63,12 @@ answers_if_open a p asking k past (Some question) = cond (is_open past question 
 abbrev pub row_of_form : ℕ → UnknownForm → LinearRow
 row_of_form n f = record { constant = f.constant; coefficients = map f.coefficient (range_with_len 0 n) }
 
--- what a maker does at a vertex: what it asks, and the whole values that it takes where it asks nothing and not all values are whole
+-- a maker, at a vertex: what it asks, and the integer values that it takes where it asks nothing and not all values are integers
 pub record Maker : Type 0 where
   pub question : ℕ → List Fact → List (ℤ × ℤ) → Option TreeNode
   pub scaled : Pending Fact → List (ℤ × ℤ) → Option (List ℤ)
 
--- what a maker does at a vertex is left open
+-- the search of moments, for any maker
 abbrev pub moment_search : Automaton → Pattern → Asking → Maker → Search Fact
 moment_search a p asking maker = record {
   roots = map (λ c. pending_of (root c)) (candidates p);
@@ -83,7 +83,7 @@ moment_search a p asking maker = record {
 abbrev pub AreListed : Pattern → List Node → Type 0
 AreListed p nodes = AllByRecursion (λ n. In n.candidate (candidates p)) nodes
 
--- lines refute such nodes in order exactly if their nodes refute them in the search
+-- lines refute such nodes in order exactly if the nodes of these lines refute them in the search
 abbrev pub MomentsAreASearch : Type 0
 MomentsAreASearch =
     (a : Automaton) (p : Pattern) (asking : Asking) (maker : Maker)

@@ -1,5 +1,5 @@
--- The values that a vertex gives the unknowns (this project's profile): whole numbers over the least common denominator of its
--- fractions. A fraction is given by its numerator and its denominator, and need not be in lowest terms
+-- The values that a vertex gives the unknowns: integers over the least common denominator of its fractions. A fraction is a numerator and a
+-- denominator, not necessarily in lowest terms.
 use Rattle.std.specs.Prelude.{ℕ, ℤ, pos, ◌<◌, ◌<ℤ◌, ◌≡◌, ◌*◌, ◌*ℤ◌, ◌/◌, int_div, unsigned_abs, ◌&&◌, cond, List, [], ◌∷◌, map, Some, None}
 use Rattle.std.specs.Int.{◌∣◌}
 use Rattle.std.specs.List.{AllByRecursion, list_all}
@@ -7,7 +7,7 @@ use Rattle.ta_base.specs.Lists.{Pairwise}
 use Rattle.ta_linear.specs.Gcd.{gcd_of}
 use Rattle.ta_moments.specs.Questions.{Scaled, Values, fits}
 
--- what a fraction's numerator and denominator have in common, and both in lowest terms
+-- the greatest common divisor of a fraction's numerator and denominator, and both in lowest terms
 abbrev pub common_divisor : ℤ × ℤ → ℕ
 common_divisor f = gcd_of (unsigned_abs f.0) (unsigned_abs f.1)
 
@@ -49,11 +49,11 @@ values_of fs = values_over (common_denominator fs) fs
 abbrev pub PositiveDenominators : List (ℤ × ℤ) → Type 0
 PositiveDenominators fs = AllByRecursion (λ (f : ℤ × ℤ). pos 0 <ℤ f.1) fs
 
--- a number makes a fraction whole
+-- a number times a fraction is an integer
 abbrev pub MakesWhole : ℕ → ℤ × ℤ → Type 0
 MakesWhole n f = unsigned_abs f.1 ∣ (n * unsigned_abs f.0)
 
--- the common denominator makes each fraction whole, and divides each number that does
+-- the common denominator times each fraction is an integer, and it divides each number with this property
 abbrev pub CommonDenominatorsAreLeast : Type 0
 CommonDenominatorsAreLeast =
     (fs : List (ℤ × ℤ)) → PositiveDenominators fs
@@ -70,7 +70,7 @@ ValuesAreTheFractions =
     → (values : Scaled) → values_of fs ≡ Some values
     → (values.denominator ≡ pos (common_denominator fs)) × Pairwise (IsNumberOver values.denominator) fs values.numbers
 
--- fractions that are whole numbers have these numbers over 1, if they are in range
+-- integral fractions have their numbers over 1, if these are in range
 abbrev pub WholeValuesAreTheirNumbers : Type 0
 WholeValuesAreTheirNumbers =
     (fs : List (ℤ × ℤ)) → PositiveDenominators fs

@@ -1,6 +1,6 @@
--- Whole nodes of the tree of questions: natural values of a node's unknowns that meet its rows, at which no question is left
--- (this project's profile). A solution of a node's rows need not be a run: a guard that a firing rule needs may not be asked, or two
--- moments may be incomparable. Where no question is left, the moments are a chain and each guard that is needed holds in time
+-- Whole nodes of the tree of questions: natural values of a node's unknowns that satisfy its rows and leave no question. A solution of a
+-- node's rows need not be a run: a guard that a firing rule needs may not have been asked, or two moments may be incomparable. Where no
+-- question is left, the moments are a chain, and each guard that is needed holds in time.
 use Rattle.std.specs.Prelude.{ℕ, ℤ, pos, ◌+◌, ◌<◌, ◌≡◌, ◌⊎◌, ◌+ℤ◌, ◌*ℤ◌, ◌≤ℤ◌, ◌<ℤ◌, true, List, [], ◌∷◌, length, slice_get, Option, Some, None}
 use Rattle.std.specs.List.{AllByRecursion, range_with_len}
 use Rattle.ta_base.specs.Masks.{In}
@@ -31,7 +31,7 @@ SameStep a p values (Pair v w) (Pair x y) = AtMost a p values v x × AtMost a p 
 SameStep a p values (Point v) y = ⊥
 SameStep a p values (Pair v w) (Point y) = ⊥
 
--- one moment isn't after the other, or both are the same step
+-- one moment is not after the other, or both are the same step
 abbrev pub Settled : Automaton → Pattern → List ℕ → Moment → Moment → Type 0
 Settled a p values x y = AtMost a p values (late x) (early y) ⊎ (AtMost a p values (late y) (early x) ⊎ SameStep a p values x y)
 
@@ -43,8 +43,8 @@ quiet_form a p silent v row = plus_form (number_form row.form.constant) (terms_f
 abbrev pub end_of : Automaton → Pattern → Node → Vector
 end_of a p node = end_vector a p node.candidate
 
--- no question is left at natural values: each guard that a firing rule needs is asked; each two moments are asked or settled; at rest,
--- for each rule that might fire at the end it is asked what keeps it from doing so
+-- no question is left at natural values: each guard that a firing rule needs was asked; each two moments were asked or are settled; at
+-- rest, of each rule that might fire at the end it was asked what keeps it from firing
 pub record NothingLeft (a : Automaton) (p : Pattern) (asking : Asking) (node : Node) (values : List ℕ) : Type 0 where
   pub guards_asked : (g : ℕ) → g < length a.rise + length a.fall → is_open node.past (OfGuard g) ≡ true
       → (r : ℕ) → In r (needing a p g) → form_value values (end_of a p node r) ≤ℤ pos 0
@@ -57,7 +57,7 @@ pub record NothingLeft (a : Automaton) (p : Pattern) (asking : Asking) (node : N
       → pos 0 ≤ℤ form_value values (quiet_form a p asking.silent (end_of a p node) row))
       → ⊥
 
--- each fact answers a question that exists where it was asked; the newest fact is the first
+-- each fact answers a question that existed when it was asked; the newest fact is the first
 abbrev pub AreAnswers : Automaton → Pattern → Asking → Option ℕ → List Fact → Type 0
 AreAnswers a p asking candidate [] = Unit {0}
 AreAnswers a p asking candidate (fact ∷ past) =

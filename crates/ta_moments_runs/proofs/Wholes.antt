@@ -1,4 +1,9 @@
 -- natural values of a whole node are settled moments, and so a run
+--
+-- No question is left at a whole node. So of each guard that a firing needs there is a fact, and it is not `Never`, since that
+-- would forbid the firing: a rise guard has a first use, a fall guard stands or has a last use. The rows of these facts say what a
+-- picture asks of its positions (`Saying`). Two moments whose order was asked are settled by the fact's rows, the others by their
+-- values.
 use Rattle.ta_moments.proofs.Common.{AllByRecursion, UnknownForm, append-nil, of_events, ◌≡◌, ◌⊎◌, inl, inr, ℕ, ◌+◌, ◌-◌, ◌<◌, ◌≤◌, pos, ◌≤ℤ◌, List, [], ◌∷◌, map, length, slice_get, Some, Option, Bool, true, false, not, ◌&&◌, eqb, ltb, cond, arith, sym, ap, ◌∙◌, refl, subst, ints, cases_Bool, cases_lt, and_parts, eqb-true, nat_tests, false≢true, same_Some, slice_get_within, bit_true, has_bit, In, In-filter, in_at, Automaton, Pattern, Event, Row, Rule, File, ComeAfterEarlier, after_earlier, pattern_within, comes_after, has_guard, moving_rules, needing, Moment, Point, Pair, Known, known, guards, event_vector, end_vector, rows_at_start, form_of_row, bound_row, answers, Asking, Node, known_at, node_rows}
 use Rattle.ta_moments.specs.declared.fact.Question.{Question}
 use Rattle.ta_moments.specs.declared.fact.Question.TheVariants.{OfGuard, OfOrder}

@@ -1,4 +1,4 @@
--- Locations that stay empty (this project's profile)
+-- Locations that stay empty.
 use Rattle.std.specs.Prelude.{ℕ, ◌≡◌, slice_index, IsBitSet}
 use Rattle.ta_automaton.specs.Runs.{Config}
 

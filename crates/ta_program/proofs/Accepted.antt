@@ -1,6 +1,5 @@
 -- what `verify` puts `check` accepts
-use Rattle.ta_program.proofs.Common.{◌≡◌, ◌∙◌, ◌≤◌, ℕ, List, [], length, Option, None, Some, refl, sym, ap, subst, inl, File, Pattern, AllSafe, Certificate, check_text, Verdict, Safe, Unsafe, Spent, Overflow, Told, WhereTold, is_more, sub_told, IsSo, Performs, State, HoldsText, in_files, seen, Answer, FileMeans, claiming, CERTIFICATE, safe_numbers, tree_size, check_meaning, IsFile, certificate_kind, file_kind, SaysOrFails, WrittenIsAccepted, VerdictHolds, held}
-use Rattle.ta_automaton.specs.Runs as runs
+use Rattle.ta_program.proofs.Common.{tree_safe, ◌≡◌, ◌∙◌, ◌≤◌, ℕ, List, [], length, Option, None, Some, refl, sym, ap, subst, inl, File, AllSafe, Certificate, check_text, Told, WhereTold, is_more, sub_told, IsSo, Performs, State, HoldsText, in_files, seen, Answer, FileMeans, claiming, CERTIFICATE, safe_numbers, check_meaning, IsFile, certificate_kind, file_kind, SaysOrFails, WrittenIsAccepted, VerdictHolds, held}
 use Rattle.ta_claim.specs.declared.claim.Claim.TheVariants as claim
 use Rattle.ta_check.proofs.Accepting.{one_list}
 use Rattle.ta_program.proofs.Accepting.{is_kept, ones_hold, says_or_fails}
@@ -8,13 +7,6 @@ use Rattle.ta_program.proofs.Clauses.{as_check, certificate_written, same_file}
 use Rattle.ta_program.proofs.Meanings.{check_decides}
 use Rattle.ta_program.proofs.WordsDiffer.{out_differs}
 use Rattle.ta_base.proofs.Lists.{get_from_none}
-
--- the patterns that are said to be safe are
-size_safe : (file : File) (budget number : ℕ) (p : Pattern) (v : Verdict) (nodes : ℕ) → tree_size v ≡ Some nodes → VerdictHolds file budget number p v → runs.Safe file.automaton p
-size_safe file budget number p (Safe nodes leaves) size is h = h.holds.safe
-size_safe file budget number p (Unsafe nodes run) size is h = absurd (cc)
-size_safe file budget number p (Spent nodes) size is h = absurd (cc)
-size_safe file budget number p (Overflow node kind) size is h = absurd (cc)
 
 -- `check` of such files
 module _ (name out : List ℕ) (told : Told) (file : File) (numbers text : List ℕ) (is_file : IsFile (in_files told) name file) (held : told out ≡ Some text) (within : length text ≤ CERTIFICATE.bytes) (accepted : Certificate file text numbers) (safe : AllSafe file numbers) where
@@ -43,7 +35,7 @@ told_before P (Some first) told h = (first, refl, h)
 pub written_is_accepted : WrittenIsAccepted
 written_is_accepted words first before after h asked out is given low told after_told again checked second begun ended begun_told done =
     let name = asked.file in
-    let budget = asked.nodes in
+    let budget = asked.budget in
     let written = certificate_written words first before after h asked out is given low in
     let c = written.such in
     let r = c.report in
@@ -51,7 +43,7 @@ written_is_accepted words first before after h asked out is given low told after
     let read = written.read in
     let is_first : IsFile (in_files files.0) name r.file = is_more file_kind (seen (Some files.0) read) (in_files files.0) (sub_told files.0 read) name r.file (subst (λ (o : Option Told). IsFile (seen o read) name r.file) files.1 r.is_file) in
     let is_now = is_kept file_kind files.0 told name r.file (files.2.others name (out_differs words asked out is given)) is_first in
-    let safe = ones_hold (claiming claim.Safe r.file) 0 r.file.patterns r.verdicts (λ k p v nodes named given size. size_safe r.file budget k p v nodes size (held (VerdictHolds r.file budget) r.file.patterns r.verdicts r.are.hold k p v named given)) (get_from_none r.file.patterns) in
+    let safe = ones_hold (claiming claim.Safe r.file) 0 r.file.patterns r.verdicts (λ k p v nodes named given size. tree_safe r.file budget k p v nodes size (held (VerdictHolds r.file budget) r.file.patterns r.verdicts r.are.hold k p v named given)) (get_from_none r.file.patterns) in
     record {
       file = r.file;
       is_file = is_now;

@@ -1,31 +1,41 @@
 -- what `rest` puts `rest-check` accepts
-use Rattle.ta_program.proofs.Common.{◌≡◌, ◌∙◌, ◌≤◌, ◌+◌, ℕ, List, [], ◌∷◌, length, map, Option, None, Some, slice_get, refl, sym, ap, subst, inl, Automaton, File, Pattern, AllRestSafe, RestCertificate, claiming, rest_check_text, Verdict, Safe, Unsafe, Spent, Overflow, Endings, IsEnding, RestSafe, EachHolds, EndingVerdictHolds, RestVerdictHolds, some_at, slice_get_within, arith, Told, WhereTold, is_more, sub_told, IsSo, Performs, State, HoldsText, in_files, seen, FileMeans, Answer, SafeOne, safe_numbers, safe_ones, tree_size, with_safe, CERTIFICATE, IsFile, certificate_kind, file_kind, SaysOrFails, WrittenAtRestIsAccepted, rest_check_meaning, FileEndings, IsEnds, held, endings_count}
-use Rattle.ta_rest_verdict.proofs.VerdictsTold.{ending_of_own}
+use Rattle.ta_program.proofs.Common.{None, ◌≡◌, ◌∙◌, ◌≤◌, ◌+◌, ℕ, List, [], ◌∷◌, length, map, Option, Some, slice_get, refl, sym, ap, subst, inl, Automaton, File, Pattern, rest_check_text, Verdict, Endings, IsEnding, RestSafe, EachHolds, EndingVerdictHolds, some_at, slice_get_within, arith, Told, WhereTold, is_more, sub_told, IsSo, Performs, State, HoldsText, in_files, seen, FileMeans, Answer, SafeOne, safe_numbers, safe_ones, tree_size, with_safe, CERTIFICATE, IsFile, certificate_kind, file_kind, SaysOrFails, WrittenAtRestIsAccepted, rest_check_meaning, FileEndings, IsEnds, held, endings_count, AllQuietRestSafe, QuietRestCertificate, AreSilent, RestBudget, claiming_with, resting}
+use Rattle.ta_verdict.proofs.rest.VerdictsTold.{ending_of_own}
 use Rattle.ta_claim.specs.declared.claim.Claim.TheVariants as claim
+use Rattle.ta_check.specs.Subjects.{claimed_with}
 use Rattle.ta_rest.proofs.EndingLaws.{endings_rest}
+use Rattle.ta_rest.proofs.QuietResting.{quiet_endings}
+use Rattle.ta_rest.specs.Quiet.{QuietRestSafe}
 use Rattle.ta_program.proofs.Accepted.{told_before}
 use Rattle.ta_check.proofs.Accepting.{one_list}
-use Rattle.ta_program.proofs.Common.{CertificateFor, claiming_with}
+use Rattle.ta_verdict.proofs.rest.RestSaid.{tree_claims}
+use Rattle.ta_verdict.specs.Rest.Said.{IsLoudByWords}
+use Rattle.ta_program.proofs.SilentPlaces.{silent_once}
 use Rattle.ta_program.proofs.Accepting.{is_kept, ones_hold, says_or_fails}
-use Rattle.ta_program.proofs.Clauses.{as_rest_check, rests_report, same_file}
+use Rattle.ta_program.proofs.Clauses.{as_rest_check, loud_by_words, rests_report, same_file}
 use Rattle.ta_program.proofs.EndsOnce.{ends_once}
 use Rattle.ta_program.proofs.RestMeanings.{rest_check_decides}
-use Rattle.ta_program.proofs.WordsDiffer.{rest_out_differs}
+use Rattle.ta_program.proofs.WordsDiffer.{rest_said}
 use Rattle.ta_base.proofs.Lists.{get_from_none}
 
--- the endings of the patterns that are said to be safe at rest are safe at rest
-module _ (file ending : File) (added budget : ℕ) (same : ending.automaton ≡ file.automaton) where
-  size_safe : (number : ℕ) (own p : Pattern) (v : Verdict) (size : ℕ) → IsEnding own p → tree_size v ≡ Some size → RestVerdictHolds file ending added budget number own p v → RestSafe ending.automaton p
-  size_safe number own p (Safe nodes leaves) size is sized h = subst (λ (a : Automaton). RestSafe a p) (sym same) (λ first rules occurs. h.safe first rules ((endings_rest file.automaton own p is first rules).1 occurs))
-  size_safe number own p (Unsafe nodes run) size is sized h = absurd (cc)
-  size_safe number own p (Spent nodes) size is sized h = absurd (cc)
-  size_safe number own p (Overflow node kind) size is sized h = absurd (cc)
+-- what is claimed of a pattern is so of its ending
+ending_claimed :
+    (silent : List ℕ) (a b : Automaton) (p ending : Pattern) → b ≡ a → IsEnding p ending → claimed_with claim.RestSafe silent a p
+    → claimed_with claim.RestSafe silent b ending
+ending_claimed [] a b p ending same is safe =
+    subst (λ (c : Automaton). RestSafe c ending) (sym same) (λ first rules occurs. safe first rules ((endings_rest a p ending is first rules).1 occurs))
+ending_claimed (place ∷ silent) a b p ending same is safe =
+    subst (λ (c : Automaton). QuietRestSafe c (place ∷ silent) ending) (sym same) (λ first rules occurs.
+    safe first rules ((quiet_endings a (place ∷ silent) p ending is first rules).1 occurs))
 
-  safe_at : (vs : List Verdict) → Endings file.patterns ending.patterns → EachHolds (EndingVerdictHolds file ending added budget) 0 ending.patterns vs → (k : ℕ) (p : Pattern) (v : Verdict) (size : ℕ) → slice_get ending.patterns k ≡ Some p → slice_get vs k ≡ Some v → tree_size v ≡ Some size → RestSafe ending.automaton p
+-- the endings of the patterns that are said to be safe at rest are safe at rest
+module _ (file ending : File) (added : ℕ) (budget : RestBudget) (loud : IsLoudByWords budget) (same : ending.automaton ≡ file.automaton) where
+  safe_at : (vs : List Verdict) → Endings file.patterns ending.patterns → EachHolds (EndingVerdictHolds file ending added budget) 0 ending.patterns vs → (k : ℕ) (p : Pattern) (v : Verdict) (size : ℕ) → slice_get ending.patterns k ≡ Some p → slice_get vs k ≡ Some v → tree_size v ≡ Some size → claimed_with claim.RestSafe budget.silent ending.automaton p
   safe_at vs are hold k p v size named given sized =
       let own = some_at file.patterns k (omega (arith, slice_get_within ending.patterns k p named, endings_count file.patterns ending.patterns are)) in
       let is = ending_of_own file.patterns ending.patterns are k own.0 p own.1 named in
-      size_safe k own.0 p v size is sized (held (EndingVerdictHolds file ending added budget) ending.patterns vs hold k p v named given own.0 own.1)
+      let said = held (EndingVerdictHolds file ending added budget) ending.patterns vs hold k p v named given own.0 own.1 in
+      ending_claimed budget.silent file.automaton ending.automaton own.0 p same is (tree_claims file ending added budget loud k own.0 p v size sized said)
 
 -- they have the numbers of the patterns themselves
 alike_one : (number : ℕ) (p q : Pattern) (size : Option ℕ) (xs ys : List SafeOne) → map (λ one. one.number) xs ≡ map (λ one. one.number) ys → map (λ one. one.number) (with_safe number q size xs) ≡ map (λ one. one.number) (with_safe number p size ys)
@@ -39,40 +49,48 @@ alike_ones number (p ∷ ps) [] vs are = absurd are
 alike_ones number (p ∷ ps) (q ∷ qs) [] are = refl
 alike_ones number (p ∷ ps) (q ∷ qs) (v ∷ vs) are = alike_one number p q (tree_size v) (safe_ones (number + 1) qs vs) (safe_ones (number + 1) ps vs) (alike_ones (number + 1) ps qs vs are.1)
 
--- `rest-check` of such files
-module _ (name out : List ℕ) (told : Told) (file : File) (ends : FileEndings) (numbers text : List ℕ) (is_file : IsFile (in_files told) name file) (are_ends : IsEnds file ends) (held : told out ≡ Some text) (within : length text ≤ CERTIFICATE.bytes) (accepted : RestCertificate ends.ending text numbers) (safe : AllRestSafe ends.ending numbers) where
-  is_certificate : FileMeans (certificate_kind (claiming claim.RestSafe ends.ending)) (in_files told) out numbers
+-- `rest-check` of such files, with these names
+module _ (name out : List ℕ) (names : Option (List ℕ)) (told : Told) (file : File) (ends : FileEndings) (silent numbers text : List ℕ) (is_file : IsFile (in_files told) name file) (are_ends : IsEnds file ends) (are_silent : AreSilent file.automaton names silent) (held : told out ≡ Some text) (within : length text ≤ CERTIFICATE.bytes) (accepted : QuietRestCertificate ends.ending silent text numbers) (safe : AllQuietRestSafe ends.ending silent numbers) where
+  is_certificate : FileMeans (certificate_kind (claiming_with claim.RestSafe ends.ending silent)) (in_files told) out numbers
   is_certificate = record { bytes = text; had = record { seen = held; within = within }; means = record { accepted = accepted; safe = safe } }
 
-  is_so : IsSo (rest_check_meaning name out None) (in_files told) 0
-  is_so = inl (record { number = 0; text = rest_check_text file numbers; puts = [] }, refl, (file, is_file, (ends, are_ends, ([], refl, (numbers, is_certificate, record { numbered = refl; written = refl; no_put = refl })))))
+  is_so : IsSo (rest_check_meaning name out names) (in_files told) 0
+  is_so = inl (record { number = 0; text = rest_check_text file numbers; puts = [] }, refl, (file, is_file, (ends, are_ends, (silent, are_silent, (numbers, is_certificate, record { numbered = refl; written = refl; no_put = refl })))))
 
   -- what it says, where it answers
-  says_just_these : (answer : Answer) → (rest_check_meaning name out None).answers (in_files told) answer → answer.text ≡ rest_check_text file numbers
-  says_just_these answer (other, is, (found_ends, are, (silent, none, (found, proved, writes)))) =
+  says_just_these : (answer : Answer) → (rest_check_meaning name out names).answers (in_files told) answer → answer.text ≡ rest_check_text file numbers
+  says_just_these answer (other, is, (found_ends, are, (places, quiet, (found, proved, writes)))) =
       let same : other ≡ file = same_file told name file other is is_file in
       let one : found_ends ≡ ends = ends_once file found_ends ends (subst (λ (f : File). IsEnds f found_ends) same are) are_ends in
+      let there : places ≡ silent = silent_once file.automaton names places silent (subst (λ (f : File). AreSilent f.automaton names places) same quiet) are_silent in
       let texts : proved.bytes ≡ text = (let e : Some proved.bytes ≡ Some text = sym proved.had.seen ∙ held in cc) in
-      let moved : RestCertificate ends.ending text found = subst (λ (e : FileEndings). RestCertificate e.ending text found) one (subst (λ (t : List ℕ). RestCertificate found_ends.ending t found) texts (subst (λ (places : List ℕ). CertificateFor (claiming_with claim.RestSafe found_ends.ending places) proved.bytes found) none proved.means.accepted)) in
-      writes.written ∙ ap (λ (f : File). rest_check_text f found) same ∙ ap (rest_check_text file) (one_list (claiming claim.RestSafe ends.ending) text found numbers moved accepted)
+      let first = subst (λ (ps : List ℕ). QuietRestCertificate found_ends.ending ps proved.bytes found) there proved.means.accepted in
+      let second = subst (λ (t : List ℕ). QuietRestCertificate found_ends.ending silent t found) texts first in
+      let moved = subst (λ (e : FileEndings). QuietRestCertificate e.ending silent text found) one second in
+      writes.written ∙ ap (λ (f : File). rest_check_text f found) same ∙ ap (rest_check_text file) (one_list (claiming_with claim.RestSafe ends.ending silent) text found numbers moved accepted)
 
-  rest_checks : (second : ℕ) (begun ended : State) → begun.shelf.files ≡ Some told → Performs (rest_check_meaning name out None) second begun ended → SaysOrFails (rest_check_text file numbers) second begun ended
-  rest_checks second begun ended is h = says_or_fails (rest_check_meaning name out None) (rest_check_decides name out None) told (rest_check_text file numbers) is_so says_just_these second begun ended is h
+  rest_checks : (second : ℕ) (begun ended : State) → begun.shelf.files ≡ Some told → Performs (rest_check_meaning name out names) second begun ended → SaysOrFails (rest_check_text file numbers) second begun ended
+  rest_checks second begun ended is h = says_or_fails (rest_check_meaning name out names) (rest_check_decides name out names) told (rest_check_text file numbers) is_so says_just_these second begun ended is h
 
 pub written_at_rest_is_accepted : WrittenAtRestIsAccepted
 written_at_rest_is_accepted words first before after h asked out is given low told after_told again checked second begun ended begun_told done =
     let name = asked.file in
+    let names = asked.silent in
     let written = (rests_report words first before after h).certificate asked out is given low in
     let c = written.such in
     let r = c.report in
     let ending = r.ends.ending in
     let endings = r.are_ends.endings in
+    let said = rest_said words asked is in
     let files = told_before (HoldsText out c.text) before.shelf.files told (subst (λ (o : Option Told). WhereTold (HoldsText out c.text) before.shelf.files o) after_told c.stands) in
     let read = written.read in
     let is_first : IsFile (in_files files.0) name r.file = is_more file_kind (seen (Some files.0) read) (in_files files.0) (sub_told files.0 read) name r.file (subst (λ (o : Option Told). IsFile (seen o read) name r.file) files.1 r.is_file) in
-    let is_now = is_kept file_kind files.0 told name r.file (files.2.others name (rest_out_differs words asked out is given)) is_first in
-    let safe = ones_hold (claiming claim.RestSafe ending) 0 ending.patterns r.verdicts (safe_at r.file ending r.ends.added asked.nodes endings.automaton r.verdicts endings.patterns r.are.hold) (get_from_none ending.patterns) in
-    let accepted = rest_checks name out told r.file r.ends (safe_numbers ending r.verdicts) c.text is_now r.are_ends files.2.held c.within c.accepted safe second begun ended begun_told (as_rest_check again second begun ended done (record { file = name; other = out; silent = None }) checked) in
+    let is_now = is_kept file_kind files.0 told name r.file (files.2.others name (said.differs name out refl given)) is_first in
+    let loud = loud_by_words words first before after h asked is r.file r.silent r.are_silent in
+    let at = safe_at r.file ending r.ends.added (resting asked.budget r.silent) loud endings.automaton r.verdicts endings.patterns r.are.hold in
+    let safe = ones_hold (claiming_with claim.RestSafe ending r.silent) 0 ending.patterns r.verdicts at (get_from_none ending.patterns) in
+    let performs = as_rest_check again second begun ended done (record { file = name; other = out; silent = names }) checked in
+    let accepted = rest_checks name out names told r.file r.ends r.silent (safe_numbers ending r.verdicts) c.text is_now r.are_ends r.are_silent files.2.held c.within c.accepted safe second begun ended begun_told performs in
     record {
       file = r.file;
       is_file = is_now;

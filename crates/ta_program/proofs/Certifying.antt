@@ -1,5 +1,5 @@
 -- what an answer with a certificate says
-use Rattle.ta_program.proofs.Common.{◌≡◌, ◌∙◌, ◌≤◌, ℕ, Bool, true, false, List, [], ◌∷◌, length, Option, Some, Result, Ok, Err, refl, sym, ap, subst, arith, rules, Contains, if◌then◌else◌, list_any, File, Certificate, Verdict, Told, Answer, Put, Refusal, Refused, ReadFailed, PutFailed, Memory, Says, settles, PutsWithin, CertificateOf, safe_numbers, ReportsAndPuts, Certifies, HindersCertificate, Reports, SampleReported, report_meaning, AreVerdicts, verdicts_number, long_line, ◌<◌, CERTIFICATE}
+use Rattle.ta_program.proofs.Common.{Budget, ◌≡◌, ◌∙◌, ◌≤◌, ℕ, Bool, true, false, List, [], ◌∷◌, length, Option, Some, Result, Ok, Err, refl, sym, ap, subst, arith, rules, Contains, if◌then◌else◌, list_any, File, Certificate, Verdict, Told, Answer, Put, Refusal, Refused, ReadFailed, PutFailed, Memory, Says, settles, PutsWithin, CertificateOf, safe_numbers, ReportsAndPuts, Certifies, HindersCertificate, Reports, SampleReported, report_meaning, AreVerdicts, verdicts_number, long_line, ◌<◌, CERTIFICATE}
 
 low_by : (some unknown : Bool) → (if some then 1 else (if unknown then 2 else 0)) ≤ 2
 low_by true unknown = omega arith
@@ -28,7 +28,7 @@ settled Such Wrong number report out text few such wrong files (Err Memory) c = 
 pub few_by : (vs : List Verdict) (number : ℕ) → number ≡ verdicts_number vs → number ≤ 2
 few_by vs number numbered = subst (λ (n : ℕ). n ≤ 2) (sym numbered) (low_by (list_any _ vs) (list_any _ vs))
 
-module _ (file : File) (budget : ℕ) (json : Bool) (out : List ℕ) (vs : List Verdict) (are : AreVerdicts file budget vs) (text : List ℕ) (certificate : CertificateOf file budget vs text) (accepted : Certificate file text (safe_numbers file vs)) (number : ℕ) (report : List ℕ) (numbered : number ≡ verdicts_number vs) (reported : SampleReported json file budget vs report) where
+module _ (file : File) (budget : Budget) (json : Bool) (out : List ℕ) (vs : List Verdict) (are : AreVerdicts file budget vs) (text : List ℕ) (certificate : CertificateOf file budget vs text) (accepted : Certificate file text (safe_numbers file vs)) (number : ℕ) (report : List ℕ) (numbered : number ≡ verdicts_number vs) (reported : SampleReported json file budget vs report) where
   reports : (answer : Answer) → ReportsAndPuts number report out text answer → Reports file budget json (Some out) answer
   reports answer c = record {
     sample = reported.sample;

@@ -1,21 +1,21 @@
 -- from how a run ends to its clauses
-use Rattle.ta_program.proofs.Common.{◌≡◌, ◌≢◌, ◌≤◌, ◌+◌, ℕ, zero, Bool, true, false, List, [], ◌∷◌, Option, None, Some, refl, sym, ap, subst, ◌∙◌, inl, arith, rules, codes, if◌then◌else◌, list_any, AllByRecursion, bytes_eq, or_parts, File, Pattern, PatternSafe, one_legal, printed_proved, printed_rest_proved, printed_rest_safe, told_safe, check_text, rest_check_text, report_of, Verdict, Safe, Unsafe, Spent, Overflow, filled_text, Grew, OthersStay, Told, WhereTold, with_text, answered, hindered, kept_refused, never_five, whole_one, Decides, Meaning, IsAnswered, Performs, Quiet, ShelfState, SinkState, State, HoldsPut, HoldsText, KeptBut, Stand, put_bytes, View, in_files, seen, run_text, unit_steps, Answer, Put, plain_tree, Asked, LegalFile, Runs, ask, ask_where, Command, NoCommand, BenchHolds, bench_meaning, bench_of, bench_status, bench_words, CheckHolds, check_meaning, check_of, IsFile, file_kind, EachPrintedUnsafe, EachToldSafe, rest_telling, verify_telling, AdmitAsked, AdmitHolds, admit_meaning, admit_of, admit_words, ExportHolds, export_meaning, export_of, export_words, Admitting, Benches, CertificateWritten, CheckProves, ExactlySo, Exports, KeepsFiles, PassesLegal, PrintedHolds, ReplayShows, RestProves, RestsReport, RunShortens, Searches, VerifyReports, put_by, CompressHolds, compress_meaning, compress_of, ReplayHolds, replay_meaning, replay_of, request_of, ClaimHolds, claiming, rest_text, RestOccurs, RestSafe, RestCertificateStands, RestReportHolds, rest_meaning, RestCheckHolds, rest_check_meaning, LegalAtRest, rest_check_of, rest_of, rest_words, CertificateStands, ReportHolds, verify_meaning, VerdictHolds, VerdictsHold, is_unsafe, is_unknown, LegalTemplate, SearchHolds, end_number, leaves_unknown, search_meaning, SearchWords, search_of, search_words, TwoNames, two_names, VerifyWords, verify_of, verify_words, WordAsked, behind_name, map, pair_of, held, held_by, false_from_ne_true, Call, Event, PutCall, PutText, PutWhole, Acts, TellsFile, acts, grew_alone, may_put, put_text, tells_file, Spares, ◌⊎◌, AreOfStages, made_of_stages, Opens}
-use Rattle.ta_program.proofs.Common.{ShowHolds, show_meaning, show_of, show_words}
-use Rattle.ta_program.specs.Program.{SafeAsShown, ShowsFile}
-use Rattle.ta_program.specs.Show.{SafeAsPrinted}
-use Rattle.ta_show.proofs.FileTells.{file_same}
+use Rattle.ta_program.proofs.Common.{verdict_safe, Budget, ◌≡◌, ◌≢◌, ◌≤◌, ◌+◌, ℕ, zero, Bool, true, false, List, [], ◌∷◌, Option, None, Some, refl, sym, ap, subst, ◌∙◌, inl, arith, rules, codes, if◌then◌else◌, list_any, AllByRecursion, bytes_eq, or_parts, File, Pattern, PatternSafe, one_legal, printed_proved, printed_rest_proved, printed_rest_safe, told_safe, check_text, rest_check_text, report_of, Verdict, Safe, Unsafe, Spent, Overflow, filled_text, Grew, OthersStay, Told, WhereTold, with_text, answered, hindered, kept_refused, never_five, whole_one, Decides, Meaning, IsAnswered, Performs, Quiet, ShelfState, SinkState, State, HoldsPut, HoldsText, KeptBut, Stand, put_bytes, View, in_files, seen, run_text, unit_steps, Answer, Put, plain_tree, Asked, LegalFile, Runs, ask, ask_where, Command, NoCommand, BenchHolds, bench_meaning, bench_of, bench_status, bench_words, CheckHolds, check_meaning, check_of, IsFile, file_kind, EachPrintedUnsafe, EachToldSafe, rest_telling, verify_telling, AdmitAsked, AdmitHolds, admit_meaning, admit_of, admit_words, ExportHolds, export_meaning, export_of, export_words, Admitting, Benches, CertificateWritten, CheckProves, ExactlySo, Exports, KeepsFiles, PassesLegal, PrintedHolds, ReplayShows, RestProves, RestsReport, RunShortens, Searches, VerifyReports, put_by, CompressHolds, compress_meaning, compress_of, ReplayHolds, replay_meaning, replay_of, request_of, ClaimHolds, claiming, rest_text, RestCertificateStands, RestReportHolds, rest_meaning, RestCheckHolds, rest_check_meaning, rest_check_of, rest_of, rest_words, CertificateStands, ReportHolds, verify_meaning, VerdictHolds, VerdictsHold, is_unsafe, is_unknown, LegalTemplate, SearchHolds, end_number, leaves_unknown, search_meaning, SearchWords, search_of, search_words, TwoNames, two_names, VerifyWords, verify_of, verify_words, WordAsked, behind_name, map, pair_of, held, held_by, false_from_ne_true, Call, Event, PutCall, PutText, PutWhole, Acts, TellsFile, acts, grew_alone, may_put, put_text, tells_file, Spares, ◌⊎◌, AreOfStages, made_of_stages, Opens, AreStaging, ComparesFirst, Differ, Kind, SparesRead, at_ends, found_meaning, found_names, held_or_staged, report_meaning, rest_quietly, spared, template_kind, inr}
+use Rattle.ta_program.proofs.Common.{ShowHolds, show_meaning, show_of, show_words, slice_get}
+use Rattle.ta_program.specs.Program.{ShowsFile}
 use Rattle.ta_automaton.specs.Runs as runs
 use Rattle.ta_program.specs.Headline.{EachPatternSafe, EachPrinted, HoldsFile, ShownOccurs, SomePatternOccurs, StatusTells}
 use Rattle.ta_replay.proofs.Occurring.{shown_occurs}
 use Rattle.ta_check.proofs.OwnPatterns.{all_own}
 use Rattle.ta_claim.specs.declared.claim.Claim.TheVariants as claim
 use Rattle.ta_program.proofs.AtRest.{rest_safe_at, rest_unsafe_printed}
-use Rattle.ta_program.proofs.Common.{FairlySafeBut, LegalSilently, RestCheckWords, RestSafeBut, claiming_with, rest_check_words}
-use Rattle.ta_program.proofs.FairAtRest.{fair_at_rest, fair_but}
-use Rattle.ta_program.proofs.SilentPlaces.{safe_but}
-use Rattle.ta_program.specs.Program.{FairlySafeAlone}
+use Rattle.ta_program.proofs.Common.{AreSilent, FairlySafeBut, LegalSilently, RestCheckWords, RestOccursBut, RestSafeBut, RestWords, claiming_with, rest_check_words, resting}
+use Rattle.ta_program.proofs.FairAtRest.{fair_but}
+use Rattle.ta_program.proofs.SilentPlaces.{none_silent, safe_but}
+use Rattle.ta_verdict.specs.Rest.Said.{IsLoudByWords}
 use Rattle.ta_program.proofs.FoundStands.{found_stands}
-use Rattle.ta_program.proofs.WordsDiffer.{Apart, names_apart}
+use Rattle.ta_program.proofs.WordsDiffer.{Apart, names_apart, rest_said}
+use Rattle.ta_report.specs.Printed.{HasLine, told_of}
+use Rattle.ta_report.specs.Telling.{TellsSafe}
 use Rattle.ta_program.proofs.UnsafePrinted.{run_within, unsafe_occurs, unsafe_printed, unsafe_there}
 use Rattle.ta_program.proofs.WordMeanings.{admit_decides}
 use Rattle.ta_base.proofs.Members.{listed}
@@ -41,13 +41,13 @@ kinds_of_two false true e = refl
 kinds_of_two false false e = absurd (omega (arith, e))
 
 -- a verdict that holds and is neither unsafe nor unknown says safe
-safe_of : (file : File) (budget number : ℕ) (p : Pattern) (v : Verdict) → is_unsafe v ≡ false → is_unknown v ≡ false → VerdictHolds file budget number p v → runs.Safe file.automaton p
-safe_of file budget number p (Safe nodes leaves) f u h = h.holds.safe
+safe_of : (file : File) (budget : Budget) (number : ℕ) (p : Pattern) (v : Verdict) → is_unsafe v ≡ false → is_unknown v ≡ false → VerdictHolds file budget number p v → runs.Safe file.automaton p
+safe_of file budget number p (Safe nodes leaves) f u h = verdict_safe file budget number p nodes leaves h
 safe_of file budget number p (Unsafe nodes run) f u h = absurd (cc)
 safe_of file budget number p (Spent nodes) f u h = absurd (cc)
 safe_of file budget number p (Overflow node kind) f u h = absurd (cc)
 
-each_safe : (file : File) (budget number : ℕ) (ps : List Pattern) (vs : List Verdict) → list_any is_unsafe vs ≡ false → list_any is_unknown vs ≡ false → VerdictsHold file budget number ps vs → AllByRecursion (runs.Safe file.automaton) ps
+pub each_safe : (file : File) (budget : Budget) (number : ℕ) (ps : List Pattern) (vs : List Verdict) → list_any is_unsafe vs ≡ false → list_any is_unknown vs ≡ false → VerdictsHold file budget number ps vs → AllByRecursion (runs.Safe file.automaton) ps
 each_safe file budget number [] vs f u h = tt
 each_safe file budget number (p ∷ ps) [] f u h = absurd h
 each_safe file budget number (p ∷ ps) (v ∷ vs) f u h =
@@ -98,8 +98,8 @@ acts_named : {out name : Option (List ℕ)} {Such : List Call → List PutCall �
 acts_named {out} {name} {Such} {first} {last} is h = subst (λ (o : Option (List ℕ)). Acts (may_put o) Such first last) (sym is) h
 
 module _ (words : List (List ℕ)) (number : ℕ) (before after : State) (h : Runs (request_of words) number before after) where
-  pub as_verify : (asked : VerifyWords) → verify_of words ≡ Some asked → Performs (verify_meaning asked.file asked.nodes asked.json asked.out) number before after
-  as_verify asked is = performed (codes "verify") verify_words (λ a. Some a.file) (λ a. verify_meaning a.file a.nodes a.json a.out) number before after (λ rest r. r) words asked is h
+  pub as_verify : (asked : VerifyWords) → verify_of words ≡ Some asked → Performs (verify_meaning asked.file asked.budget asked.json asked.out) number before after
+  as_verify asked is = performed (codes "verify") verify_words (λ a. Some a.file) (λ a. verify_meaning a.file a.budget a.json a.out) number before after (λ rest r. r) words asked is h
 
   pub as_check : (asked : TwoNames) → check_of words ≡ Some asked → Performs (check_meaning asked.file asked.other) number before after
   as_check asked is = performed (codes "check") two_names (λ a. Some a.file) (λ a. check_meaning a.file a.other) number before after (λ rest r. r) words asked is h
@@ -119,7 +119,7 @@ module _ (words : List (List ℕ)) (number : ℕ) (before after : State) (h : Ru
       let ends = performs.ends in
       acts m number before after ends (λ read made. Of (seen before.shelf.files read) made) (from (seen before.shelf.files ends.read) ends.made (answered m (seen before.shelf.files ends.read) number before after ends.made ends.end low))
 
-  gives_some : (m : Meaning) → Performs m number before after → number ≤ 2 → (Of : View → Type 0) → ((view : View) (made : List PutCall) → IsAnswered m view number before after made → Of view) → Acts m.puts (λ read made. Of (seen before.shelf.files read)) before.shelf.calls after.shelf.calls
+  pub gives_some : (m : Meaning) → Performs m number before after → number ≤ 2 → (Of : View → Type 0) → ((view : View) (made : List PutCall) → IsAnswered m view number before after made → Of view) → Acts m.puts (λ read made. Of (seen before.shelf.files read)) before.shelf.calls after.shelf.calls
   gives_some m performs low Of from = gives_all m performs low (λ view made. Of view) from
 
   -- of a command without outputs
@@ -128,22 +128,22 @@ module _ (words : List (List ℕ)) (number : ℕ) (before after : State) (h : Ru
       let ends = performs.ends in
       grew_alone m number before after ends none low (λ read. Of (seen before.shelf.files read)) (from (seen before.shelf.files ends.read) ends.made (answered m (seen before.shelf.files ends.read) number before after ends.made ends.end low))
 
-  gives_verify : (asked : VerifyWords) → verify_of words ≡ Some asked → number ≤ 2 → (Of : View → Type 0) → ((view : View) (made : List PutCall) → IsAnswered (verify_meaning asked.file asked.nodes asked.json asked.out) view number before after made → Of view) → Acts (may_put asked.out) (λ read made. Of (seen before.shelf.files read)) before.shelf.calls after.shelf.calls
-  gives_verify asked is low Of from = gives_some (verify_meaning asked.file asked.nodes asked.json asked.out) (as_verify asked is) low Of from
+  gives_verify : (asked : VerifyWords) → verify_of words ≡ Some asked → number ≤ 2 → (Of : View → Type 0) → ((view : View) (made : List PutCall) → IsAnswered (verify_meaning asked.file asked.budget asked.json asked.out) view number before after made → Of view) → Acts (may_put asked.out) (λ read made. Of (seen before.shelf.files read)) before.shelf.calls after.shelf.calls
+  gives_verify asked is low Of from = gives_some (verify_meaning asked.file asked.budget asked.json asked.out) (as_verify asked is) low Of from
 
-  reported : (name : List ℕ) (budget : ℕ) (json : Bool) (out : Option (List ℕ)) (view : View) (made : List PutCall) → IsAnswered (verify_meaning name budget json out) view number before after made → ReportHolds number view name budget json before.out.written after.out.written
+  pub reported : (name : List ℕ) (budget : Budget) (json : Bool) (out : Option (List ℕ)) (view : View) (made : List PutCall) → IsAnswered (verify_meaning name budget json out) view number before after made → ReportHolds number view name budget json before.out.written after.out.written
   reported name budget json out view made a =
       let file = a.holds.holds.0 in
-      let reports = a.holds.holds.2 in
+      let reports = a.holds.holds.2.1 in
       record { file = file; is_file = a.holds.holds.1; sample = reports.sample; is_sample = reports.is_sample; verdicts = reports.verdicts; are = reports.are; numbered = sym reports.numbered ∙ sym a.numbered; wrote = a.written ∙ ap (with_text before.out.written) reports.written }
 
   pub verify_reports : VerifyReports number words before.shelf.files before.shelf.calls after.shelf.calls before.out.written after.out.written
-  verify_reports asked is low = gives_verify asked is low (λ view. ReportHolds number view asked.file asked.nodes asked.json before.out.written after.out.written) (reported asked.file asked.nodes asked.json asked.out)
+  verify_reports asked is low = gives_verify asked is low (λ view. ReportHolds number view asked.file asked.budget asked.json before.out.written after.out.written) (reported asked.file asked.budget asked.json asked.out)
 
-  certified : (name : List ℕ) (budget : ℕ) (json : Bool) (out : List ℕ) (view : View) (made : List PutCall) → IsAnswered (verify_meaning name budget json (Some out)) view number before after made → CertificateStands number view name budget json out before.shelf.files after.shelf.files before.out.written after.out.written made
+  certified : (name : List ℕ) (budget : Budget) (json : Bool) (out : List ℕ) (view : View) (made : List PutCall) → IsAnswered (verify_meaning name budget json (Some out)) view number before after made → CertificateStands number view name budget json out before.shelf.files after.shelf.files before.out.written after.out.written made
   certified name budget json out view made a =
       let file = a.holds.holds.0 in
-      let reports = a.holds.holds.2 in
+      let reports = a.holds.holds.2.1 in
       let puts = reports.puts in
       let stand : Stand (puts.put ∷ []) before.shelf.files after.shelf.files = subst (λ (ps : List Put). Stand ps before.shelf.files after.shelf.files) puts.only a.stand in
       record {
@@ -159,11 +159,11 @@ module _ (words : List (List ℕ)) (number : ℕ) (before after : State) (h : Ru
   pub certificate_written : CertificateWritten number words before.shelf.files after.shelf.files before.shelf.calls after.shelf.calls before.out.written after.out.written
   certificate_written asked out is given low =
       let name = asked.file in
-      let budget = asked.nodes in
+      let budget = asked.budget in
       let performs = subst (λ (o : Option (List ℕ)). Performs (verify_meaning name budget asked.json o) number before after) given (as_verify asked is) in
       acts_named given (gives_all (verify_meaning name budget asked.json (Some out)) performs low (λ view made. CertificateStands number view name budget asked.json out before.shelf.files after.shelf.files before.out.written after.out.written made) (λ view made a. certified name budget asked.json out view made a))
 
-  proved : (name certificate : List ℕ) (view : View) (made : List PutCall) → IsAnswered (check_meaning name certificate) view number before after made → CheckHolds view name certificate before.out.written after.out.written
+  pub proved : (name certificate : List ℕ) (view : View) (made : List PutCall) → IsAnswered (check_meaning name certificate) view number before after made → CheckHolds view name certificate before.out.written after.out.written
   proved name certificate view made a =
       let rest = a.holds.holds.2 in
       record { file = a.holds.holds.0; is_file = a.holds.holds.1; numbers = rest.0; certificate = rest.1; wrote = a.written ∙ ap (with_text before.out.written) rest.2.written }
@@ -179,7 +179,7 @@ module _ (words : List (List ℕ)) (number : ℕ) (before after : State) (h : Ru
   pub run_shortens : RunShortens number words before.shelf.files before.shelf.calls after.shelf.calls before.out.written after.out.written
   run_shortens asked is none = gives (compress_meaning asked.file asked.other) refl (as_compress asked is) (omega (arith, none)) (λ view. CompressHolds view asked.file asked.other before.out.written after.out.written) (shortened asked.file asked.other)
 
-  shown : (name run : List ℕ) (view : View) (made : List PutCall) → IsAnswered (replay_meaning name run) view number before after made → ReplayHolds view name run before.out.written after.out.written
+  pub shown : (name run : List ℕ) (view : View) (made : List PutCall) → IsAnswered (replay_meaning name run) view number before after made → ReplayHolds view name run before.out.written after.out.written
   shown name run view made a =
       let rest = a.holds.holds.2 in
       record { file = a.holds.holds.0; is_file = a.holds.holds.1; run = rest.0; is_run = rest.1; pattern = rest.2.pattern; named = rest.2.named; wrote = a.written ∙ ap (with_text before.out.written) rest.2.writes.written }
@@ -224,10 +224,10 @@ module _ (words : List (List ℕ)) (number : ℕ) (before after : State) (h : Ru
   pub exports : Exports number words before.shelf.files before.shelf.calls after.shelf.calls before.out.written after.out.written
   exports asked is none = gives (export_meaning asked) refl (as_export asked is) (omega (arith, none)) (λ view. ExportHolds view asked before.out.written after.out.written) (exported asked)
 
-  as_show : (name : List ℕ) → show_of words ≡ Some name → Performs (show_meaning name) number before after
+  pub as_show : (name : List ℕ) → show_of words ≡ Some name → Performs (show_meaning name) number before after
   as_show name is = performed (codes "show") show_words (λ n. Some n) show_meaning number before after (λ rest r. r) words name is h
 
-  shown_file : (name : List ℕ) (view : View) (made : List PutCall) → IsAnswered (show_meaning name) view number before after made → ShowHolds view name before.out.written after.out.written
+  pub shown_file : (name : List ℕ) (view : View) (made : List PutCall) → IsAnswered (show_meaning name) view number before after made → ShowHolds view name before.out.written after.out.written
   shown_file name view made a =
       let is = a.holds.holds.1 in
       let says = a.holds.holds.2 in
@@ -264,26 +264,28 @@ module _ (words : List (List ℕ)) (number : ℕ) (before after : State) (h : Ru
         (inl (answer, refl, (had.file, had.is_file, (had.word, had.is_word, (had.run, had.is_run, record { numbered = refl; written = refl; no_put = refl })))));
   }
 
-  pub as_rest : (asked : VerifyWords) → rest_of words ≡ Some asked → Performs (rest_meaning asked.file asked.nodes asked.out) number before after
-  as_rest asked is = performed_where (codes "rest") rest_words (λ a. LegalAtRest a.file) (λ a. rest_meaning a.file a.nodes a.out) number before after (λ rest r. r) words asked is h
+  pub as_rest : (asked : RestWords) → rest_of words ≡ Some asked → Performs (rest_meaning asked.file asked.budget asked.out asked.silent) number before after
+  as_rest asked is = performed_where (codes "rest") rest_words (λ a. LegalSilently a.file a.silent) (λ a. rest_meaning a.file a.budget a.out a.silent) number before after (λ rest r. r) words asked is h
 
   pub as_rest_check : (asked : RestCheckWords) → rest_check_of words ≡ Some asked → Performs (rest_check_meaning asked.file asked.other asked.silent) number before after
   as_rest_check asked is = performed_where (codes "rest-check") rest_check_words (λ a. LegalSilently a.file a.silent) (λ a. rest_check_meaning a.file a.other a.silent) number before after (λ rest r. r) words asked is h
 
-  at_rest : (name : List ℕ) (budget : ℕ) (out : Option (List ℕ)) (view : View) (made : List PutCall) → IsAnswered (rest_meaning name budget out) view number before after made → RestReportHolds number view name budget before.out.written after.out.written
-  at_rest name budget out view made a =
-      let found = a.holds.holds.2 in
-      let reports = found.2 in
-      record { file = a.holds.holds.0; is_file = a.holds.holds.1; ends = found.0; are_ends = found.1; sample = reports.sample; is_sample = reports.is_sample; verdicts = reports.verdicts; are = reports.are; numbered = sym reports.numbered ∙ sym a.numbered; wrote = a.written ∙ ap (with_text before.out.written) reports.written }
+  pub at_rest : (asked : RestWords) (out : Option (List ℕ)) (view : View) (made : List PutCall) → IsAnswered (rest_meaning asked.file asked.budget out asked.silent) view number before after made → RestReportHolds number view asked before.out.written after.out.written
+  at_rest asked out view made a =
+      let found = a.holds.holds.2.1 in
+      let quiet = found.2 in
+      let reports = quiet.2 in
+      record { file = a.holds.holds.0; is_file = a.holds.holds.1; ends = found.0; are_ends = found.1; silent = quiet.0; are_silent = quiet.1; sample = reports.sample; is_sample = reports.is_sample; verdicts = reports.verdicts; are = reports.are; numbered = sym reports.numbered ∙ sym a.numbered; wrote = a.written ∙ ap (with_text before.out.written) reports.written }
 
-  rest_certified : (name : List ℕ) (budget : ℕ) (out : List ℕ) (view : View) (made : List PutCall) → IsAnswered (rest_meaning name budget (Some out)) view number before after made → RestCertificateStands number view name budget out before.shelf.files after.shelf.files before.out.written after.out.written made
-  rest_certified name budget out view made a =
-      let found = a.holds.holds.2 in
-      let reports = found.2 in
+  rest_certified : (asked : RestWords) (out : List ℕ) (view : View) (made : List PutCall) → IsAnswered (rest_meaning asked.file asked.budget (Some out) asked.silent) view number before after made → RestCertificateStands number view asked out before.shelf.files after.shelf.files before.out.written after.out.written made
+  rest_certified asked out view made a =
+      let found = a.holds.holds.2.1 in
+      let quiet = found.2 in
+      let reports = quiet.2 in
       let puts = reports.puts in
       let stand : Stand (puts.put ∷ []) before.shelf.files after.shelf.files = subst (λ (ps : List Put). Stand ps before.shelf.files after.shelf.files) puts.only a.stand in
       record {
-        report = record { file = a.holds.holds.0; is_file = a.holds.holds.1; ends = found.0; are_ends = found.1; sample = reports.sample; is_sample = reports.is_sample; verdicts = reports.verdicts; are = reports.are; numbered = sym reports.numbered ∙ sym a.numbered; wrote = a.written ∙ ap (with_text before.out.written) reports.written };
+        report = record { file = a.holds.holds.0; is_file = a.holds.holds.1; ends = found.0; are_ends = found.1; silent = quiet.0; are_silent = quiet.1; sample = reports.sample; is_sample = reports.is_sample; verdicts = reports.verdicts; are = reports.are; numbered = sym reports.numbered ∙ sym a.numbered; wrote = a.written ∙ ap (with_text before.out.written) reports.written };
         text = put_bytes puts.put;
         certificate = puts.certificate;
         within = puts.within;
@@ -292,15 +294,19 @@ module _ (words : List (List ℕ)) (number : ℕ) (before after : State) (h : Ru
         accepted = puts.accepted;
       }
 
+  -- what an answer of `rest` says
+  gives_rest : (asked : RestWords) → rest_of words ≡ Some asked → number ≤ 2 → (Of : View → Type 0) → ((view : View) → RestReportHolds number view asked before.out.written after.out.written → Of view) → Acts (may_put asked.out) (λ read made. Of (seen before.shelf.files read)) before.shelf.calls after.shelf.calls
+  gives_rest asked is low Of from = gives_some (rest_meaning asked.file asked.budget asked.out asked.silent) (as_rest asked is) low Of (λ view made a. from view (at_rest asked asked.out view made a))
+
   pub rests_report : RestsReport number words before.shelf.files after.shelf.files before.shelf.calls after.shelf.calls before.out.written after.out.written
   rests_report = record {
-    report = λ asked is low. gives_some (rest_meaning asked.file asked.nodes asked.out) (as_rest asked is) low (λ view. RestReportHolds number view asked.file asked.nodes before.out.written after.out.written) (at_rest asked.file asked.nodes asked.out);
+    report = λ asked is low. gives_rest asked is low (λ view. RestReportHolds number view asked before.out.written after.out.written) (λ view r. r);
     certificate = λ asked out is given low.
-        let performs = subst (λ (o : Option (List ℕ)). Performs (rest_meaning asked.file asked.nodes o) number before after) given (as_rest asked is) in
-        acts_named given (gives_all (rest_meaning asked.file asked.nodes (Some out)) performs low (λ view made. RestCertificateStands number view asked.file asked.nodes out before.shelf.files after.shelf.files before.out.written after.out.written made) (λ view made a. rest_certified asked.file asked.nodes out view made a));
+        let performs = subst (λ (o : Option (List ℕ)). Performs (rest_meaning asked.file asked.budget o asked.silent) number before after) given (as_rest asked is) in
+        acts_named given (gives_all (rest_meaning asked.file asked.budget (Some out) asked.silent) performs low (λ view made. RestCertificateStands number view asked out before.shelf.files after.shelf.files before.out.written after.out.written made) (λ view made a. rest_certified asked out view made a));
   }
 
-  rest_checked : (name certificate : List ℕ) (names : Option (List ℕ)) (view : View) (made : List PutCall) → IsAnswered (rest_check_meaning name certificate names) view number before after made → RestCheckHolds view name certificate names before.out.written after.out.written
+  pub rest_checked : (name certificate : List ℕ) (names : Option (List ℕ)) (view : View) (made : List PutCall) → IsAnswered (rest_check_meaning name certificate names) view number before after made → RestCheckHolds view name certificate names before.out.written after.out.written
   rest_checked name certificate names view made a =
       let found = a.holds.holds.2 in
       let silent = found.2 in
@@ -322,13 +328,13 @@ module _ (words : List (List ℕ)) (number : ℕ) (before after : State) (h : Ru
   pub rest_proves : RestProves number words before.shelf.files before.shelf.calls after.shelf.calls before.out.written after.out.written
   rest_proves asked is none = gives (rest_check_meaning asked.file asked.other asked.silent) refl (as_rest_check asked is) (omega (arith, none)) (λ view. RestCheckHolds view asked.file asked.other asked.silent before.out.written after.out.written) (rest_checked asked.file asked.other asked.silent)
 
-  as_search : (asked : SearchWords) → search_of words ≡ Some asked → Performs (search_meaning asked) number before after
+  pub as_search : (asked : SearchWords) → search_of words ≡ Some asked → Performs (search_meaning asked) number before after
   as_search asked is = performed_where (codes "search") search_words LegalTemplate search_meaning number before after (λ rest r. r) words asked is h
 
   searched : (asked : SearchWords) → Apart asked.filled asked.out → (view : View) (made : List PutCall) → IsAnswered (search_meaning asked) view number before after made → SearchHolds number view asked before.shelf.files after.shelf.files before.out.written after.out.written made
   searched asked apart view made a =
       let t = a.holds.holds.0 in
-      let finds = a.holds.holds.2 in
+      let finds = a.holds.holds.2.1 in
       let end = finds.end in
       let numbered : end_number end ≡ number = sym finds.numbered ∙ sym a.numbered in
       let unknown = list_any (λ x. leaves_unknown x.outcome) end.tried in
@@ -351,16 +357,28 @@ module _ (words : List (List ℕ)) (number : ℕ) (before after : State) (h : Ru
   searches asked is low =
       gives_all (search_meaning asked) (as_search asked is) low (λ view made. SearchHolds number view asked before.shelf.files after.shelf.files before.out.written after.out.written made) (λ view made a. searched asked (names_apart words asked is).puts view made a)
 
-  printed_verify : (name : List ℕ) (budget : ℕ) (json : Bool) (view : View) → ReportHolds number view name budget json before.out.written after.out.written → EachToldSafe json view name before.out.written after.out.written
+  -- a pattern that a report tells is safe is so
+  pub tells_safe : (name : List ℕ) (budget : Budget) (json : Bool) (view : View) (r : ReportHolds number view name budget json before.out.written after.out.written) (k : ℕ) (p : Pattern) → slice_get r.file.patterns k ≡ Some p → TellsSafe json p.name (report_of json r.file r.sample r.verdicts) → runs.Safe r.file.automaton p
+  tells_safe name budget json view r k p named line =
+      let said = told_safe r.file r.sample r.verdicts k p named r.is_sample.fits r.are.fit json line in
+      verdict_safe r.file budget k p said.0 said.1 (held (VerdictHolds r.file budget) r.file.patterns r.verdicts r.are.hold k p (Safe said.0 said.1) named said.2)
+
+  printed_verify : (name : List ℕ) (budget : Budget) (json : Bool) (view : View) → ReportHolds number view name budget json before.out.written after.out.written → EachToldSafe json view name before.out.written after.out.written
   printed_verify name budget json view r = record {
     file = r.file;
     holds = holds_file view name r.file r.is_file;
     text = report_of json r.file r.sample r.verdicts;
     gained = r.wrote;
-    safe = λ k p named line.
-        let said = told_safe r.file r.sample r.verdicts k p named r.is_sample.fits r.are.fit json line in
-        (held (VerdictHolds r.file budget) r.file.patterns r.verdicts r.are.hold k p (Safe said.0 said.1) named said.2).holds.safe;
+    safe = tells_safe name budget json view r;
   }
+
+  -- so is one of which the text of `check` tells that it is proved
+  pub tells_proved : (name certificate : List ℕ) (view : View) (r : CheckHolds view name certificate before.out.written after.out.written) (k : ℕ) (p : Pattern) → slice_get r.file.patterns k ≡ Some p → HasLine (told_of p.name (codes "proved")) (check_text r.file r.numbers) → runs.Safe r.file.automaton p
+  tells_proved name certificate view r k p named line =
+      let found : PatternSafe r.file k = listed (PatternSafe r.file) k r.numbers r.certificate.means.safe (printed_proved r.file r.numbers k p named line) in
+      let same : Some found.pattern ≡ Some p = sym found.named ∙ named in
+      let is : found.pattern ≡ p = cc in
+      subst (runs.Safe r.file.automaton) is found.safe
 
   printed_check : (name certificate : List ℕ) (view : View) → CheckHolds view name certificate before.out.written after.out.written → EachPrinted runs.Safe (codes "proved") view name before.out.written after.out.written
   printed_check name certificate view r = record {
@@ -368,14 +386,10 @@ module _ (words : List (List ℕ)) (number : ℕ) (before after : State) (h : Ru
     holds = holds_file view name r.file r.is_file;
     text = check_text r.file r.numbers;
     gained = r.wrote;
-    holds_of = λ k p named line.
-        let found : PatternSafe r.file k = listed (PatternSafe r.file) k r.numbers r.certificate.means.safe (printed_proved r.file r.numbers k p named line) in
-        let same : Some found.pattern ≡ Some p = sym found.named ∙ named in
-        let is : found.pattern ≡ p = cc in
-        subst (runs.Safe r.file.automaton) is found.safe;
+    holds_of = tells_proved name certificate view r;
   }
 
-  printed_unsafes : (name : List ℕ) (budget : ℕ) (json : Bool) (view : View) → ReportHolds number view name budget json before.out.written after.out.written → EachPrintedUnsafe runs.Occurs (verify_telling json) view name before.out.written after.out.written
+  printed_unsafes : (name : List ℕ) (budget : Budget) (json : Bool) (view : View) → ReportHolds number view name budget json before.out.written after.out.written → EachPrintedUnsafe runs.Occurs (verify_telling json) view name before.out.written after.out.written
   printed_unsafes name budget json view r = record {
     file = r.file;
     holds = holds_file view name r.file r.is_file;
@@ -384,16 +398,33 @@ module _ (words : List (List ℕ)) (number : ℕ) (before after : State) (h : Ru
     unsafe_ = unsafe_printed json r.file budget r.sample r.is_sample r.verdicts r.are;
   }
 
-  printed_rest : (name : List ℕ) (budget : ℕ) (view : View) → RestReportHolds number view name budget before.out.written after.out.written → EachPrinted RestSafe (codes "rest safe, ") view name before.out.written after.out.written
-  printed_rest name budget view r = record {
+  -- by words no places are silent
+  pub loud_by_words : (asked : RestWords) → rest_of words ≡ Some asked → (file : File) (places : List ℕ) → AreSilent file.automaton asked.silent places → IsLoudByWords (resting asked.budget places)
+  loud_by_words asked is file places silent = λ by_words. none_silent file.automaton asked.silent places ((rest_said words asked is).quiet by_words) silent
+
+  -- the same of `rest`
+  pub tells_rest_safe : (asked : RestWords) → rest_of words ≡ Some asked → (view : View) (r : RestReportHolds number view asked before.out.written after.out.written) (k : ℕ) (p : Pattern) → slice_get r.file.patterns k ≡ Some p → HasLine (told_of p.name (codes "rest safe, ")) (rest_text r.file r.sample r.verdicts) → RestSafeBut asked.silent r.file.automaton p
+  tells_rest_safe asked is view r k p named line =
+      let said = printed_rest_safe r.file r.sample r.verdicts k p named r.is_sample.fits r.are.fit line in
+      let loud = loud_by_words asked is r.file r.silent r.are_silent in
+      safe_but asked.silent r.file.automaton p r.silent r.are_silent (rest_safe_at r.file r.ends.ending r.ends.added (resting asked.budget r.silent) loud r.verdicts r.are k p said.0 said.1 named said.2)
+
+  printed_rest : (asked : RestWords) → rest_of words ≡ Some asked → (view : View) → RestReportHolds number view asked before.out.written after.out.written → EachPrinted (RestSafeBut asked.silent) (codes "rest safe, ") view asked.file before.out.written after.out.written
+  printed_rest asked is view r = record {
     file = r.file;
-    holds = holds_file view name r.file r.is_file;
+    holds = holds_file view asked.file r.file r.is_file;
     text = rest_text r.file r.sample r.verdicts;
     gained = r.wrote;
-    holds_of = λ k p named line.
-        let said = printed_rest_safe r.file r.sample r.verdicts k p named r.is_sample.fits r.are.fit line in
-        rest_safe_at r.file r.ends.ending r.ends.added budget r.verdicts r.are k p said.0 said.1 named said.2;
+    holds_of = tells_rest_safe asked is view r;
   }
+
+  -- and of `rest-check`
+  pub tells_rest_proved : (name certificate : List ℕ) (names : Option (List ℕ)) (view : View) (r : RestCheckHolds view name certificate names before.out.written after.out.written) (k : ℕ) (p : Pattern) → slice_get r.file.patterns k ≡ Some p → HasLine (told_of p.name (codes "rest proved")) (rest_check_text r.file r.numbers) → RestSafeBut names r.file.automaton p
+  tells_rest_proved name certificate names view r k p named line =
+      let found : ClaimHolds (claiming_with claim.RestSafe r.file r.silent) k = listed (ClaimHolds (claiming_with claim.RestSafe r.file r.silent)) k r.numbers r.safe (printed_rest_proved r.file r.numbers k p named line) in
+      let same : Some found.pattern ≡ Some p = sym found.named ∙ named in
+      let is : found.pattern ≡ p = cc in
+      subst (RestSafeBut names r.file.automaton) is (safe_but names r.file.automaton found.pattern r.silent r.are_silent found.safe)
 
   printed_rest_check : (name certificate : List ℕ) (names : Option (List ℕ)) (view : View) → RestCheckHolds view name certificate names before.out.written after.out.written → EachPrinted (RestSafeBut names) (codes "rest proved") view name before.out.written after.out.written
   printed_rest_check name certificate names view r = record {
@@ -401,64 +432,56 @@ module _ (words : List (List ℕ)) (number : ℕ) (before after : State) (h : Ru
     holds = holds_file view name r.file r.is_file;
     text = rest_check_text r.file r.numbers;
     gained = r.wrote;
-    holds_of = λ k p named line.
-        let found : ClaimHolds (claiming_with claim.RestSafe r.file r.silent) k = listed (ClaimHolds (claiming_with claim.RestSafe r.file r.silent)) k r.numbers r.safe (printed_rest_proved r.file r.numbers k p named line) in
-        let same : Some found.pattern ≡ Some p = sym found.named ∙ named in
-        let is : found.pattern ≡ p = cc in
-        subst (RestSafeBut names r.file.automaton) is (safe_but names r.file.automaton found.pattern r.silent r.are_silent found.safe);
+    holds_of = tells_rest_proved name certificate names view r;
   }
 
-  printed_rest_fair : (name : List ℕ) (budget : ℕ) (view : View) → RestReportHolds number view name budget before.out.written after.out.written → EachPrinted FairlySafeAlone (codes "rest safe, ") view name before.out.written after.out.written
-  unfolding printed_rest
-  printed_rest_fair name budget view r =
-      let e = printed_rest name budget view r in
+  printed_rest_fair : (asked : RestWords) → rest_of words ≡ Some asked → (view : View) → RestReportHolds number view asked before.out.written after.out.written → EachPrinted (FairlySafeBut asked.silent) (codes "rest safe, ") view asked.file before.out.written after.out.written
+  printed_rest_fair asked is view r =
       record {
         file = r.file;
-        holds = holds_file view name r.file r.is_file;
+        holds = holds_file view asked.file r.file r.is_file;
         text = rest_text r.file r.sample r.verdicts;
         gained = r.wrote;
-        holds_of = λ k p named line. fair_at_rest r.is_file.bytes r.file r.is_file.means r.are_ends.loops k p named (e.holds_of k p named line);
+        holds_of = λ k p named line. fair_but r.is_file.bytes r.file r.is_file.means r.are_ends.loops k p named asked.silent (tells_rest_safe asked is view r k p named line);
       }
 
   printed_rest_check_fair : (name certificate : List ℕ) (names : Option (List ℕ)) (view : View) → RestCheckHolds view name certificate names before.out.written after.out.written → EachPrinted (FairlySafeBut names) (codes "rest proved") view name before.out.written after.out.written
-  unfolding printed_rest_check
   printed_rest_check_fair name certificate names view r =
-      let e = printed_rest_check name certificate names view r in
       record {
         file = r.file;
         holds = holds_file view name r.file r.is_file;
         text = rest_check_text r.file r.numbers;
         gained = r.wrote;
-        holds_of = λ k p named line. fair_but r.is_file.bytes r.file r.is_file.means r.are_ends.loops k p named names (e.holds_of k p named line);
+        holds_of = λ k p named line. fair_but r.is_file.bytes r.file r.is_file.means r.are_ends.loops k p named names (tells_rest_proved name certificate names view r k p named line);
       }
 
-  printed_rest_unsafes : (name : List ℕ) (budget : ℕ) (view : View) → RestReportHolds number view name budget before.out.written after.out.written → EachPrintedUnsafe RestOccurs rest_telling view name before.out.written after.out.written
-  printed_rest_unsafes name budget view r = record {
+  printed_rest_unsafes : (asked : RestWords) → rest_of words ≡ Some asked → (view : View) → RestReportHolds number view asked before.out.written after.out.written → EachPrintedUnsafe (RestOccursBut asked.silent) rest_telling view asked.file before.out.written after.out.written
+  printed_rest_unsafes asked is view r = record {
     file = r.file;
-    holds = holds_file view name r.file r.is_file;
+    holds = holds_file view asked.file r.file r.is_file;
     text = rest_text r.file r.sample r.verdicts;
     gained = r.wrote;
-    unsafe_ = rest_unsafe_printed r.file r.ends.ending r.ends.added budget r.sample r.is_sample r.verdicts r.are;
+    unsafe_ = rest_unsafe_printed asked.silent r.file r.ends.ending r.ends.added (resting asked.budget r.silent) r.are_silent (loud_by_words asked is r.file r.silent r.are_silent) r.sample r.is_sample r.verdicts r.are;
   }
 
   pub printed_holds : PrintedHolds number words before.shelf.files before.shelf.calls after.shelf.calls before.out.written after.out.written
   printed_holds = record {
-    safe = λ asked is low. gives_verify asked is low (λ view. EachToldSafe asked.json view asked.file before.out.written after.out.written) (λ view made a. printed_verify asked.file asked.nodes asked.json view (reported asked.file asked.nodes asked.json asked.out view made a));
-    unsafe_ = λ asked is low. gives_verify asked is low (λ view. EachPrintedUnsafe runs.Occurs (verify_telling asked.json) view asked.file before.out.written after.out.written) (λ view made a. printed_unsafes asked.file asked.nodes asked.json view (reported asked.file asked.nodes asked.json asked.out view made a));
-    rest_safe = λ asked is low. gives_some (rest_meaning asked.file asked.nodes asked.out) (as_rest asked is) low (λ view. EachPrinted RestSafe (codes "rest safe, ") view asked.file before.out.written after.out.written) (λ view made a. printed_rest asked.file asked.nodes view (at_rest asked.file asked.nodes asked.out view made a));
-    rest_unsafe = λ asked is low. gives_some (rest_meaning asked.file asked.nodes asked.out) (as_rest asked is) low (λ view. EachPrintedUnsafe RestOccurs rest_telling view asked.file before.out.written after.out.written) (λ view made a. printed_rest_unsafes asked.file asked.nodes view (at_rest asked.file asked.nodes asked.out view made a));
+    safe = λ asked is low. gives_verify asked is low (λ view. EachToldSafe asked.json view asked.file before.out.written after.out.written) (λ view made a. printed_verify asked.file asked.budget asked.json view (reported asked.file asked.budget asked.json asked.out view made a));
+    unsafe_ = λ asked is low. gives_verify asked is low (λ view. EachPrintedUnsafe runs.Occurs (verify_telling asked.json) view asked.file before.out.written after.out.written) (λ view made a. printed_unsafes asked.file asked.budget asked.json view (reported asked.file asked.budget asked.json asked.out view made a));
+    rest_safe = λ asked is low. gives_rest asked is low (λ view. EachPrinted (RestSafeBut asked.silent) (codes "rest safe, ") view asked.file before.out.written after.out.written) (printed_rest asked is);
+    rest_unsafe = λ asked is low. gives_rest asked is low (λ view. EachPrintedUnsafe (RestOccursBut asked.silent) rest_telling view asked.file before.out.written after.out.written) (printed_rest_unsafes asked is);
     rest_proved = λ asked is none. gives (rest_check_meaning asked.file asked.other asked.silent) refl (as_rest_check asked is) (omega (arith, none)) (λ view. EachPrinted (RestSafeBut asked.silent) (codes "rest proved") view asked.file before.out.written after.out.written) (λ view made a. printed_rest_check asked.file asked.other asked.silent view (rest_checked asked.file asked.other asked.silent view made a));
-    rest_fair = λ asked is low. gives_some (rest_meaning asked.file asked.nodes asked.out) (as_rest asked is) low (λ view. EachPrinted FairlySafeAlone (codes "rest safe, ") view asked.file before.out.written after.out.written) (λ view made a. printed_rest_fair asked.file asked.nodes view (at_rest asked.file asked.nodes asked.out view made a));
+    rest_fair = λ asked is low. gives_rest asked is low (λ view. EachPrinted (FairlySafeBut asked.silent) (codes "rest safe, ") view asked.file before.out.written after.out.written) (printed_rest_fair asked is);
     rest_proved_fair = λ asked is none. gives (rest_check_meaning asked.file asked.other asked.silent) refl (as_rest_check asked is) (omega (arith, none)) (λ view. EachPrinted (FairlySafeBut asked.silent) (codes "rest proved") view asked.file before.out.written after.out.written) (λ view made a. printed_rest_check_fair asked.file asked.other asked.silent view (rest_checked asked.file asked.other asked.silent view made a));
     proved = λ asked is none. gives (check_meaning asked.file asked.other) refl (as_check asked is) (omega (arith, none)) (λ view. EachPrinted runs.Safe (codes "proved") view asked.file before.out.written after.out.written) (λ view made a. printed_check asked.file asked.other view (proved asked.file asked.other view made a));
   }
 
   -- some pattern of a file whose report has the number 1 occurs in a run
-  some_occurring : (name : List ℕ) (budget : ℕ) (json : Bool) (view : View) → number ≡ 1 → ReportHolds number view name budget json before.out.written after.out.written → SomePatternOccurs view name
+  some_occurring : (name : List ℕ) (budget : Budget) (json : Bool) (view : View) → number ≡ 1 → ReportHolds number view name budget json before.out.written after.out.written → SomePatternOccurs view name
   some_occurring name budget json view one r =
       let some = unsafe_there r.verdicts (kind_of_one (list_any is_unsafe r.verdicts) (list_any is_unknown r.verdicts) (r.numbered ∙ one)) in
       let by = held_by (VerdictHolds r.file budget) r.file.patterns r.verdicts r.are.hold some.0 (Unsafe some.1 some.2) some.3 in
-      let occurrence = unsafe_occurs r.file (map pair_of by.2.orders) some.0 by.0 budget some.1 some.2 by.1 by.2.holds in
+      let occurrence = unsafe_occurs r.file budget some.0 by.0 some.1 some.2 by.1 by.2 in
       record {
         file = r.file;
         holds = holds_file view name r.file r.is_file;
@@ -487,38 +510,24 @@ module _ (words : List (List ℕ)) (number : ℕ) (before after : State) (h : Ru
         occurs = shown_occurs r.file r.run s.shows;
       }
 
-  safe_in_lines : (name : List ℕ) (budget : ℕ) (view : View) → ReportHolds number view name budget false before.out.written after.out.written → EachPrinted runs.Safe (codes "safe, ") view name before.out.written after.out.written
+  safe_in_lines : (name : List ℕ) (budget : Budget) (view : View) → ReportHolds number view name budget false before.out.written after.out.written → EachPrinted runs.Safe (codes "safe, ") view name before.out.written after.out.written
   safe_in_lines name budget view r =
       let e = printed_verify name budget false view r in
       record { file = e.file; holds = e.holds; text = e.text; gained = e.gained; holds_of = e.safe }
-
-  pub safe_as_shown : ZeroSays → SafeAsShown number words before.shelf.files before.shelf.calls after.shelf.calls
-  safe_as_shown zero_says = λ asked is none. gives_verify asked is (omega (arith, none)) (λ view. SafeAsPrinted view asked.file) (λ view made a.
-      let budget = asked.nodes in
-      let r = reported asked.file budget asked.json asked.out view made a in
-      let kinds = zero_says (list_any is_unsafe r.verdicts) (list_any is_unknown r.verdicts) (r.numbered ∙ none) in
-      let safe = each_safe r.file budget 0 r.file.patterns r.verdicts kinds.0 kinds.1 r.are.hold in
-      record {
-        bytes = r.is_file.bytes;
-        held = r.is_file.had.seen;
-        safe = λ text printed file orders e.
-            let same : r.file ≡ file = one_legal r.is_file.bytes r.file printed.file r.is_file.means printed.legal ∙ file_same printed.file file (map pair_of printed.is.orders) orders (sym printed.is.shown ∙ sym e) in
-            subst (λ (f : File). AllByRecursion (runs.Safe f.automaton) f.patterns) same safe;
-      })
 
   pub status_tells : ZeroSays → StatusTells number words before.shelf.files before.shelf.calls after.shelf.calls before.out.written after.out.written
   status_tells zero_says = record {
     safe = λ asked is none. gives_verify asked is (omega (arith, none)) (λ view. EachPatternSafe view asked.file) (λ view made a.
         let name = asked.file in
-        let budget = asked.nodes in
+        let budget = asked.budget in
         let r = reported name budget asked.json asked.out view made a in
         let kinds = zero_says (list_any is_unsafe r.verdicts) (list_any is_unknown r.verdicts) (r.numbered ∙ none) in
         record { file = r.file; holds = holds_file view name r.file r.is_file; safe = each_safe r.file budget 0 r.file.patterns r.verdicts kinds.0 kinds.1 r.are.hold });
-    occurs = λ asked is one. gives_verify asked is (omega (arith, one)) (λ view. SomePatternOccurs view asked.file) (λ view made a. some_occurring asked.file asked.nodes asked.json view one (reported asked.file asked.nodes asked.json asked.out view made a));
+    occurs = λ asked is one. gives_verify asked is (omega (arith, one)) (λ view. SomePatternOccurs view asked.file) (λ view made a. some_occurring asked.file asked.budget asked.json view one (reported asked.file asked.budget asked.json asked.out view made a));
     proved = printed_holds.proved;
-    rest_safe = printed_holds.rest_safe;
+    rest_safe = λ asked is alone low. subst (λ (names : Option (List ℕ)). Acts (may_put asked.out) (λ read made. EachPrinted (RestSafeBut names) (codes "rest safe, ") (seen before.shelf.files read) asked.file before.out.written after.out.written) before.shelf.calls after.shelf.calls) alone (printed_holds.rest_safe asked is low);
     rest_proved = λ asked is alone none. subst (λ (names : Option (List ℕ)). Grew (λ read. EachPrinted (RestSafeBut names) (codes "rest proved") (seen before.shelf.files read) asked.file before.out.written after.out.written) before.shelf.calls after.shelf.calls) alone (printed_holds.rest_proved asked is none);
-    safe_lines = λ asked is plain low. gives_verify asked is low (λ view. EachPrinted runs.Safe (codes "safe, ") view asked.file before.out.written after.out.written) (λ view made a. safe_in_lines asked.file asked.nodes view (subst (λ (json : Bool). ReportHolds number view asked.file asked.nodes json before.out.written after.out.written) plain (reported asked.file asked.nodes asked.json asked.out view made a)));
+    safe_lines = λ asked is plain low. gives_verify asked is low (λ view. EachPrinted runs.Safe (codes "safe, ") view asked.file before.out.written after.out.written) (λ view made a. safe_in_lines asked.file asked.budget view (subst (λ (json : Bool). ReportHolds number view asked.file asked.budget json before.out.written after.out.written) plain (reported asked.file asked.budget asked.json asked.out view made a)));
     shown = λ asked is none. gives (replay_meaning asked.file asked.other) refl (as_replay asked is) (omega (arith, none)) (λ view. ShownOccurs view asked.file asked.other) (λ view made a. occurs_shown asked.file asked.other view (shown asked.file asked.other view made a));
   }
 
@@ -545,6 +554,21 @@ kept_others (Command legal m) number before after h = h.performs.kept
 kept_by_refusal : (asked : Asked) (number : ℕ) (before after : State) → Runs asked number before after → 3 ≤ number → number ≤ 5 → after.shelf.files ≡ before.shelf.files
 kept_by_refusal NoCommand number before after h three five = ap (λ (s : ShelfState). s.files) h.shelf
 kept_by_refusal (Command legal m) number before after h three five = kept_refused m number before after h.performs.ends three five
+
+-- before a call changes a file outputs were compared with what was read
+differs : {A F : Type 0} (kind : Kind A F) (name : List ℕ) (outs : List (List ℕ)) (rest : A → Meaning) (number : ℕ) (before after : State) → Performs (spared kind name outs rest) number before after → ComparesFirst before.shelf.files name outs before.shelf.calls after.shelf.calls
+differs kind name outs rest number before after performs =
+    let m = spared kind name outs rest in
+    let ends = performs.ends in
+    acts m number before after ends (λ read made. Differ (seen before.shelf.files read) name outs ⊎ AreStaging outs made)
+    (elim (held_or_staged m (seen before.shelf.files ends.read) number before after ends.made ends.end) [ inl answer ↦ inl answer.1.2.0 | inr staged ↦ inr staged ])
+
+pub spares_read : (words : List (List ℕ)) (number : ℕ) (before after : State) → Runs (request_of words) number before after → SparesRead words before.shelf.files before.shelf.calls after.shelf.calls
+spares_read words number before after h = record {
+  verify = λ asked is. differs file_kind asked.file (may_put asked.out) (λ file. report_meaning file asked.budget asked.json asked.out) number before after (as_verify words number before after h asked is);
+  rest = λ asked is. differs file_kind asked.file (may_put asked.out) (at_ends asked.file (may_put asked.out) (rest_quietly asked.file asked.budget asked.out asked.silent)) number before after (as_rest words number before after h asked is);
+  search = λ asked is. differs template_kind asked.file (found_names asked) (found_meaning asked) number before after (as_search words number before after h asked is);
+}
 
 -- the calls are those of the command
 pub opens : (asked : Asked) (number : ℕ) (before after : State) → Runs asked number before after → Opens asked before.shelf.calls after.shelf.calls

@@ -18,7 +18,7 @@ pub use Rattle.ta_base.specs.Masks.{has_bit}
 pub use Rattle.ta_cert.specs.Certificates.{pair_of, proofs_of}
 pub use Rattle.ta_cert.specs.declared.fault.CertFault.{CertFault}
 pub use Rattle.ta_check.proofs.Lasting.{lasting_faults_last, no_longer_certificate}
-pub use Rattle.ta_check.specs.Certificate.{AllClaimsHold, AllRestSafe, AllSafe, Certificate, CertificateFor, PatternSafe, RestCertificate, proof_number}
+pub use Rattle.ta_check.specs.Certificate.{AllClaimsHold, AllQuietRestSafe, AllSafe, Certificate, CertificateFor, PatternSafe, QuietRestCertificate, proof_number}
 pub use Rattle.ta_check.specs.Checkers.{CheckerFeedAnswers, CheckerFinishAnswers, CheckerStandsFor, IsExactCheck, IsExactFeed, subject_of}
 pub use Rattle.ta_check.specs.Faults.{IsFirstFaultFor, IsLastingFor}
 pub use Rattle.ta_check.specs.Subjects.{ClaimHolds, Subject, claiming, claiming_with}
@@ -42,15 +42,15 @@ pub use Rattle.ta_program.specs.Inside.Reported.{RestReported, SampleReported}
 pub use Rattle.ta_program.specs.Kinds.{IsFile, IsReplayFault, ShowsRun, certificate_kind, file_kind, run_kind}
 pub use Rattle.ta_program.specs.Laws.{FoundIsAccepted, PrintedRunsAreReplayed, SaysOrFails, WrittenAtRestIsAccepted, WrittenIsAccepted}
 pub use Rattle.ta_program.specs.Printed.{EachPrintedUnsafe, EachToldSafe, UnsafePrinted, rest_telling, verify_telling}
-pub use Rattle.ta_program.specs.Program.{Admitting, Benches, CertificateWritten, CheckProves, Completes, EndsSo, ExactlySo, Exports, KeepsFiles, Opens, PassesLegal, PrintedHolds, ReplayShows, RestProves, RestsReport, RunShortens, Searches, VerifyReports, put_by}
+pub use Rattle.ta_program.specs.Program.{Admitting, Benches, CertificateWritten, CheckProves, ComparesFirst, Completes, EndsSo, ExactlySo, Exports, HoldsSame, KeepsFiles, Opens, PassesLegal, PrintedHolds, ReplayShows, RestProves, RestsReport, RunShortens, Searches, SparesRead, VerifyReports, put_by}
 pub use Rattle.ta_program.specs.Replay.{ReplayHolds, SaysShown, replay_meaning, replay_of, shown_meaning}
 pub use Rattle.ta_program.specs.Reporting.{CertificateStands, ReportHolds, Reports, report_meaning, verify_meaning}
 pub use Rattle.ta_program.specs.Requests.{request_of}
-pub use Rattle.ta_program.specs.Rest.{HindersRest, IsKnownAtRest, LongAtRest, LongRest, RestCertificateStands, RestReportHolds, RestReports, rest_meaning, rest_report_meaning}
+pub use Rattle.ta_program.specs.Rest.{HindersRest, IsKnownAtRest, LongAtRest, LongRest, RestCertificateStands, RestReportHolds, RestReports, rest_meaning, rest_quietly, rest_report_meaning}
 pub use Rattle.ta_program.specs.RestCheck.{RestCheckHolds, quietly_meaning, rest_check_meaning, rest_proved_meaning}
-pub use Rattle.ta_program.specs.RestEnds.{CycleHinders, FileEndings, IsEnds, LegalAtRest, cycle_text, ends_of, with_ends}
-pub use Rattle.ta_program.specs.RestWords.{RestCheckWords, rest_check_of, rest_check_words, rest_form, rest_of, rest_taken, rest_words}
-pub use Rattle.ta_program.specs.SilentNames.{AreSilent, FairlySafeBut, LegalSilently, NamesHinder, RestSafeBut}
+pub use Rattle.ta_program.specs.RestEnds.{CycleHinders, FileEndings, IsEnds, LegalAtRest, at_ends, cycle_text, ends_of, with_ends}
+pub use Rattle.ta_program.specs.RestWords.{RestCheckWords, RestWords, quiet_names, rest_check_of, rest_check_words, rest_form, rest_of, rest_taken, rest_words}
+pub use Rattle.ta_program.specs.SilentNames.{AreSilent, FairlySafeBut, LegalSilently, NamesHinder, RestOccursBut, RestSafeBut, with_silent}
 pub use Rattle.ta_program.specs.Search.{Finds, HindersFound, HoldFound, IsTemplate, IsTemplateText, LegalTemplate, SearchHolds, end_number, found_files, found_meaning, found_names, leaves_unknown, search_meaning, template_kind}
 pub use Rattle.ta_program.specs.SearchSeen.{search_seen}
 pub use Rattle.ta_program.specs.SearchWords.{SearchWords, search_form, search_of, search_taken, search_words}
@@ -79,8 +79,9 @@ pub use Rattle.ta_report.specs.declared.verdict.Verdict.TheVariants.{Overflow, S
 pub use Rattle.ta_rest.proofs.EndingShapes.{endings_count}
 pub use Rattle.ta_rest.specs.Endings.{Endings, IsEnding, LastMoved, RestAdded, events_below}
 pub use Rattle.ta_rest.specs.Rest.{RestOccurs, RestSafe}
-pub use Rattle.ta_rest_verdict.specs.Certificates.{RestCertificateOf}
-pub use Rattle.ta_rest_verdict.specs.Verdicts.{AreRestVerdicts, EndingVerdictHolds, RestVerdictHolds, rest_question}
+pub use Rattle.ta_verdict.specs.Rest.Budgets.{RestBudget, resting}
+pub use Rattle.ta_verdict.specs.Rest.Certificates.{RestCertificateOf}
+pub use Rattle.ta_verdict.specs.Rest.Verdicts.{AreRestVerdicts, EndingVerdictHolds, RestVerdictHolds}
 pub use Rattle.ta_scope.specs.LongerCycles.{FirstLongerCycle, LoopsAlone}
 pub use Rattle.ta_scope.specs.declared.scoped.ScopedFile.{ScopedFile}
 pub use Rattle.ta_search.proofs.OneFault.{no_fault, one_fault, one_template}
@@ -95,16 +96,18 @@ pub use Rattle.ta_search.specs.declared.template.Template.{Template}
 pub use Rattle.ta_shelf.specs.Calls.{Call, Event, Grew, Put as PutCall, PieceBy, reads, ReadsFirst, Spells}
 pub use Rattle.ta_shelf.specs.Put.{OthersStay, Told, WhereTold}
 pub use Rattle.ta_shelf.specs.Sink.{with_text}
-pub use Rattle.ta_shell.proofs.Clauses.{acts, answered, grew_alone, hindered, kept_refused, made_of_stages, never_five, tells_file}
-pub use Rattle.ta_shell.proofs.Read.{after_monotone, decides, finds_memory, finds_monotone, finds_one, finds_then, finds_wrong, grew_fault, grew_found, grew_none, grew_then, is_more, no_hindrance, one_number, replies_monotone, replies_one, settles_monotone}
+pub use Rattle.ta_shell.proofs.Clauses.{acts, answered, grew_alone, held_or_staged, hindered, kept_refused, made_of_stages, never_five, tells_file}
+pub use Rattle.ta_shell.proofs.Read.{after_monotone, decides, finds_memory, finds_monotone, finds_one, finds_then, finds_wrong, grew_fault, grew_found, grew_meant, grew_means, grew_none, grew_then, grew_unread, is_more, no_hindrance, one_number, replies_monotone, replies_one, settles_monotone}
+pub use Rattle.ta_shell.proofs.Spared.{grew_compared, grew_holds, grew_kept, grew_spared, grew_unspared, one_holds_line, spared_answer, spared_decides, spared_passes, spared_refuses}
 pub use Rattle.ta_shell.proofs.Views.{Monotone, sub_told, whole_one}
 pub use Rattle.ta_shell.specs.Commands.{Decides, IsSo, Meaning, Says}
 pub use Rattle.ta_shell.specs.Ends.{IsAnswered, Spares, Performs, Quiet, ShelfState, SinkState, State, Tells, state}
-pub use Rattle.ta_shell.specs.Lines.{file_line, longer_than, missing, phrase_text}
+pub use Rattle.ta_shell.specs.Lines.{file_line, holds_read, longer_than, missing, phrase_text}
 pub use Rattle.ta_shell.specs.Puts.{HoldsPut, HoldsText, KeptBut, PutsWithin, PutText, Stand, may_put, put_bytes, put_text}
-pub use Rattle.ta_shell.specs.Reading.{IsReading, IsUnreadable, ReadCause, SaysOfFile, UnreadBy}
-pub use Rattle.ta_shell.specs.Sights.{Begins, HasMore, View, in_files, seen, where_told}
-pub use Rattle.ta_shell.specs.Stages.{FileIsAtFault, FileMeans, Hinders, IsBroken, Kind, ReadingGoesOn, Stage, Writes, after, finds, replies, settles}
+pub use Rattle.ta_shell.specs.Reading.{IsReading, IsUnreadable, ReadCause, ReadsFile, SaysOfFile, UnreadBy}
+pub use Rattle.ta_shell.specs.Sights.{Begins, HasMore, Unlike, View, Whole, in_files, seen, where_told}
+pub use Rattle.ta_shell.specs.Sparing.{Compares, Differ, HoldsRead, SparedStage, spared, sparing}
+pub use Rattle.ta_shell.specs.Stages.{FileIsAtFault, FileMeans, Hinders, IsBroken, Kind, MeantBy, ReadingGoesOn, Stage, Writes, after, finds, replies, settles}
 pub use Rattle.ta_shell.specs.declared.answer.Answer.{Answer}
 pub use Rattle.ta_shell.specs.declared.answer.Put.{Put}
 pub use Rattle.ta_shell.specs.declared.answer.Refusal.{Refusal}
@@ -116,7 +119,9 @@ pub use Rattle.ta_smt.specs.Named.{IsWholeWordOf, IsWordOf, Spelling, WholeFault
 pub use Rattle.ta_smt.specs.declared.fault.WordFault.{WordFault}
 pub use Rattle.ta_syntax.specs.PlainTrees.{plain_tree}
 pub use Rattle.ta_verdict.proofs.VerdictsMade.{as_many, held, held_by}
+pub use Rattle.ta_verdict.proofs.VerdictsSaid.{tree_safe, verdict_run, verdict_safe}
 pub use Rattle.ta_verdict.specs.Certificates.{CertificateOf, SafeOne, safe_numbers, safe_ones, tree_size, with_safe}
-pub use Rattle.ta_verdict.specs.Verdicts.{AreVerdicts, EachHolds, IsKnown, IsSample, NoSample, SampleReal, UnsafeHolds, VerdictHolds, VerdictsHold, is_unknown, is_unsafe, place_of, safety_question}
+pub use Rattle.ta_verdict.specs.declared.budget.Budget.{Budget}
+pub use Rattle.ta_verdict.specs.Verdicts.{AreVerdicts, EachHolds, IsKnown, IsSample, NoSample, SampleReal, UnsafeHolds, VerdictHolds, VerdictsHold, is_unknown, is_unsafe, place_of}
 pub use Rattle.ta_shell.specs.Making.{Acts, AreOfStages, AreStaging, PutWhole, TellsFile}
 pub use Rattle.ta_shelf.proofs.CallLemmas.{reads-append}

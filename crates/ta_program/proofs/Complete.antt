@@ -1,8 +1,10 @@
--- what a report of verdicts ends with where told files hold a legal FILE
-use Rattle.ta_program.proofs.Common.{◌≡◌, ◌≢◌, ◌≤◌, ℕ, suc, Bool, true, false, List, [], ◌∷◌, Option, None, Some, slice_get, refl, sym, subst, ◌∙◌, inl, inr, arith, IsSome, list_any, File, Verdict, Told, answered, Decides, Meaning, Performs, State, in_files, seen, Answer, IsKnown, is_unknown, is_unsafe, Runs, HindersCertificate, LongCertificate, long_line, IsFile, Completes, EndsSo, Reports, verify_meaning, request_of, HindersRest, IsKnownAtRest, LongAtRest, LongRest, RestReports, rest_meaning, FileEndings, IsEnds, verdicts_number, EndingVerdictHolds, VerdictHolds, endings_count, held_by, some_at, slice_get_within, false_from_ne_true}
+-- what a report of verdicts ends with where known files hold a legal FILE
+use Rattle.ta_program.proofs.Common.{Budget, ◌≡◌, ◌≢◌, ◌≤◌, ℕ, suc, Bool, true, false, List, [], ◌∷◌, Option, None, Some, slice_get, refl, sym, subst, ◌∙◌, inl, inr, arith, IsSome, list_any, File, Verdict, Told, answered, Decides, Meaning, Performs, State, in_files, seen, Answer, IsKnown, is_unknown, is_unsafe, Runs, HindersCertificate, LongCertificate, long_line, IsFile, Completes, EndsSo, Reports, verify_meaning, request_of, HindersRest, IsKnownAtRest, LongAtRest, LongRest, RestReports, rest_meaning, FileEndings, IsEnds, verdicts_number, EndingVerdictHolds, VerdictHolds, endings_count, held_by, some_at, slice_get_within, false_from_ne_true, AreSilent, RestBudget, resting, rest_quietly, ◌⊎◌, HoldsSame, at_ends, file_kind, may_put, report_meaning}
 use Rattle.ta_program.proofs.Clauses.{as_rest, as_verify, hinders_told, kinds_of_two, passes_legal, quiet, same_file}
 use Rattle.ta_program.proofs.Meanings.{hinders_long, verify_decides}
 use Rattle.ta_program.proofs.RestMeanings.{hinders_rest, rest_decides}
+use Rattle.ta_program.proofs.Same.{hinders_so, same_so, same_told}
+use Rattle.ta_program.proofs.SilentPlaces.{silent_number, silent_once}
 
 -- none of some verdicts leaves a pattern unknown
 none_unknown : (vs : List Verdict) → ((k : ℕ) (v : Verdict) → slice_get vs k ≡ Some v → is_unknown v ≡ true → ⊥) → list_any is_unknown vs ≡ false
@@ -36,87 +38,112 @@ answered_told m told number before after is h decides low =
     }
 
 -- where a certificate is asked for that is too long, it hinders
-hinders_where : (file : File) (budget : ℕ) (out : Option (List ℕ)) → IsSome out → LongCertificate file budget → (line : List ℕ) × HindersCertificate file budget out 4 line
+hinders_where : (file : File) (budget : Budget) (out : Option (List ℕ)) → IsSome out → LongCertificate file budget → (line : List ℕ) × HindersCertificate file budget out 4 line
 hinders_where file budget None some long = absurd (cc)
 hinders_where file budget (Some out) some long = (long_line out, record { numbered = refl; said = refl; long = long })
 
-rest_hinders_where : (file : File) (ends : FileEndings) (budget : ℕ) (out : Option (List ℕ)) → IsSome out → LongRest file ends budget → (line : List ℕ) × HindersRest file ends budget out 4 line
+rest_hinders_where : (file : File) (ends : FileEndings) (budget : RestBudget) (out : Option (List ℕ)) → IsSome out → LongRest file ends budget → (line : List ℕ) × HindersRest file ends budget out 4 line
 rest_hinders_where file ends budget None some long = absurd (cc)
 rest_hinders_where file ends budget (Some out) some long = (long_line out, record { numbered = refl; said = refl; long = long })
 
-module _ (told : Told) (name : List ℕ) (budget : ℕ) (out : Option (List ℕ)) (file : File) (number : ℕ) (before after : State) (is : before.shelf.files ≡ Some told) (is_file : IsFile (in_files told) name file) where
-  module _ (json : Bool) (h : Performs (verify_meaning name budget json out) number before after) where
+module _ (told : Told) (name : List ℕ) (out : Option (List ℕ)) (file : File) (number : ℕ) (before after : State) (is : before.shelf.files ≡ Some told) (is_file : IsFile (in_files told) name file) where
+  module _ (budget : Budget) (json : Bool) (h : Performs (verify_meaning name budget json out) number before after) where
     known : IsKnown file budget → number ≢ 2
     known none two =
         let a = answered_told (verify_meaning name budget json out) told number before after is h (verify_decides name budget json out) (omega (arith, two)) in
         let answers = a.holds in
         let same : answers.0 ≡ file = same_file told name file answers.0 answers.1 is_file in
-        let r : Reports file budget json out a.answer = subst (λ (f : File). Reports f budget json out a.answer) same answers.2 in
+        let r : Reports file budget json out a.answer = subst (λ (f : File). Reports f budget json out a.answer) same answers.2.1 in
         never_two r.verdicts (sym r.numbered ∙ sym a.numbered ∙ two) (λ k v given unknown.
         let by = held_by (VerdictHolds file budget) file.patterns r.verdicts r.are.hold k v given in
         none k by.0 v by.1 unknown by.2)
 
-    -- with 4 the certificate that is asked for is too long
-    fits : number ≡ 4 → IsSome out × LongCertificate file budget
+    -- with 4 the certificate that is asked for is too long, or its file holds what was read
+    fits : number ≡ 4 → IsSome out × (LongCertificate file budget ⊎ HoldsSame told name out)
     fits four =
         let hinders = hinders_told (verify_meaning name budget json out) told number before after is h (verify_decides name budget json out) (omega (arith, four)) (omega (arith, four)) in
         elim hinders.1 [
           | inl own ↦ let three : number ≡ 3 = own.numbered in absurd (omega (arith, three, four))
-          | inr rest ↦
-              let long = hinders_long rest.0 budget out number hinders.0 rest.2 in
-              (long.1, subst (λ (f : File). LongCertificate f budget) (same_file told name file rest.0 rest.1 is_file) long.2)
+          | inr rest ↦ elim rest.2 [
+            | inl holds ↦ let same = same_told told name out number hinders.0 holds in (same.0, inr same.1)
+            | inr later ↦
+                let long = hinders_long rest.0 budget out number hinders.0 later.1 in
+                (long.1, inl (subst (λ (f : File). LongCertificate f budget) (same_file told name file rest.0 rest.1 is_file) long.2))
+          ]
         ]
 
-    pub verify_ends : EndsSo number out (IsKnown file budget) (LongCertificate file budget)
+    pub verify_ends : EndsSo number out (IsKnown file budget) (LongCertificate file budget) (HoldsSame told name out)
     verify_ends = record {
       known = known;
       fits = fits;
       long = λ some long.
           let hinders = hinders_where file budget out some long in
-          h.exact (verify_decides name budget json out) told is 4 (inr (hinders.0, inr (file, is_file, hinders.1)));
+          h.exact (verify_decides name budget json out) told is 4 (hinders_so file_kind told name (λ f. report_meaning f budget json out) file is_file out hinders.0 hinders.1);
+      same = λ same. h.exact (verify_decides name budget json out) told is 4 (same_so file_kind told name (λ f. report_meaning f budget json out) file is_file out same);
     }
 
-  module _ (h : Performs (rest_meaning name budget out) number before after) where
-    known_at_rest : IsKnownAtRest file budget → number ≢ 2
-    known_at_rest none two =
-        let a = answered_told (rest_meaning name budget out) told number before after is h (rest_decides name budget out) (omega (arith, two)) in
-        let answers = a.holds in
-        let same : answers.0 ≡ file = same_file told name file answers.0 answers.1 is_file in
-        let found : (ends : FileEndings) × IsEnds file ends × RestReports file ends budget out a.answer = subst (λ (f : File). (ends : FileEndings) × IsEnds f ends × RestReports f ends budget out a.answer) same answers.2 in
-        let ends = found.0 in
-        let r = found.2 in
-        never_two r.verdicts (sym r.numbered ∙ sym a.numbered ∙ two) (λ k v given unknown.
-        let by = held_by (EndingVerdictHolds file ends.ending ends.added budget) ends.ending.patterns r.verdicts r.are.hold k v given in
-        let same = endings_count file.patterns ends.ending.patterns found.1.endings.patterns in
-        let own = some_at file.patterns k (omega (arith, slice_get_within ends.ending.patterns k by.0 by.1)) in
-        none ends found.1 k own.0 by.0 v own.1 by.1 unknown (by.2 own.0 own.1))
+  module _ (budget : Budget) (names : Option (List ℕ)) (places : List ℕ) (silent : AreSilent file.automaton names places) (h : Performs (rest_meaning name budget out names) number before after) where
+    known_then :
+        (f : File) (ends : FileEndings) (others : List ℕ) (answer : Answer) → f ≡ file → IsEnds f ends → AreSilent f.automaton names others
+        → RestReports f ends (resting budget others) out answer → IsKnownAtRest file (resting budget places) → number ≡ answer.number → number ≢ 2
+    known_then f ends others answer same are quiet reports none numbered two =
+        let is = subst (λ (x : File). IsEnds x ends) same are in
+        let one : others ≡ places = silent_once file.automaton names others places (subst (λ (x : File). AreSilent x.automaton names others) same quiet) silent in
+        let own = subst (λ (x : File). RestReports x ends (resting budget others) out answer) same reports in
+        let r = subst (λ (ps : List ℕ). RestReports file ends (resting budget ps) out answer) one own in
+        never_two r.verdicts (sym r.numbered ∙ sym numbered ∙ two) (λ k v given unknown.
+        let by = held_by (EndingVerdictHolds file ends.ending ends.added (resting budget places)) ends.ending.patterns r.verdicts r.are.hold k v given in
+        let many = endings_count file.patterns ends.ending.patterns is.endings.patterns in
+        let at = some_at file.patterns k (omega (arith, slice_get_within ends.ending.patterns k by.0 by.1)) in
+        none ends is k at.0 by.0 v at.1 by.1 unknown (by.2 at.0 at.1))
 
-    fits_at_rest : number ≡ 4 → IsSome out × LongAtRest file budget
+    known_at_rest : IsKnownAtRest file (resting budget places) → number ≢ 2
+    known_at_rest none two =
+        let a = answered_told (rest_meaning name budget out names) told number before after is h (rest_decides name budget out names) (omega (arith, two)) in
+        let answers = a.holds in
+        let found = answers.2.1 in
+        let quiet = found.2 in
+        known_then answers.0 found.0 quiet.0 a.answer (same_file told name file answers.0 answers.1 is_file) found.1 quiet.1 quiet.2 none a.numbered two
+
+    -- with 4 neither a cycle nor the names hinder
+    long_then : (f : File) (ends : FileEndings) → f ≡ file → IsEnds f ends → number ≡ 4 → (line : List ℕ) → (rest_quietly name budget out names f ends).refuses (in_files told) number line → IsSome out × (LongAtRest file (resting budget places) ⊎ HoldsSame told name out)
+    long_then f ends same are four line refuses = elim refuses [
+      | inl own ↦ let three = silent_number name f.automaton names number line own in absurd (omega (arith, three, four))
+      | inr later ↦
+          let quiet : later.0 ≡ places = silent_once file.automaton names later.0 places (subst (λ (x : File). AreSilent x.automaton names later.0) same later.1) silent in
+          let long = hinders_rest f ends (resting budget later.0) out number line later.2 in
+          let there : LongAtRest f (resting budget later.0) = record { ends = ends; are_ends = are; long = long.2 } in
+          (long.1, inl (subst (λ (x : File). LongAtRest x (resting budget places)) same (subst (λ (others : List ℕ). LongAtRest f (resting budget others)) quiet there)))
+    ]
+
+    fits_at_rest : number ≡ 4 → IsSome out × (LongAtRest file (resting budget places) ⊎ HoldsSame told name out)
     fits_at_rest four =
-        let hinders = hinders_told (rest_meaning name budget out) told number before after is h (rest_decides name budget out) (omega (arith, four)) (omega (arith, four)) in
+        let hinders = hinders_told (rest_meaning name budget out names) told number before after is h (rest_decides name budget out names) (omega (arith, four)) (omega (arith, four)) in
         elim hinders.1 [
           | inl own ↦ let three : number ≡ 3 = own.numbered in absurd (omega (arith, three, four))
           | inr rest ↦ elim rest.2 [
-            | inl cycle ↦ let three : number ≡ 3 = cycle.numbered in absurd (omega (arith, three, four))
-            | inr later ↦
-                let long = hinders_rest rest.0 later.0 budget out number hinders.0 later.2 in
-                (long.1, subst (λ (f : File). LongAtRest f budget) (same_file told name file rest.0 rest.1 is_file) (record { ends = later.0; are_ends = later.1; long = long.2 }))
+            | inl holds ↦ let same = same_told told name out number hinders.0 holds in (same.0, inr same.1)
+            | inr ended ↦ elim ended.1 [
+              | inl cycle ↦ let three : number ≡ 3 = cycle.numbered in absurd (omega (arith, three, four))
+              | inr later ↦ long_then rest.0 later.0 (same_file told name file rest.0 rest.1 is_file) later.1 four hinders.0 later.2
+            ]
           ]
         ]
 
-    pub rest_ends : EndsSo number out (IsKnownAtRest file budget) (LongAtRest file budget)
+    pub rest_ends : EndsSo number out (IsKnownAtRest file (resting budget places)) (LongAtRest file (resting budget places)) (HoldsSame told name out)
     rest_ends = record {
       known = known_at_rest;
       fits = fits_at_rest;
       long = λ some long.
-          let hinders = rest_hinders_where file long.ends budget out some long.long in
-          h.exact (rest_decides name budget out) told is 4 (inr (hinders.0, inr (file, is_file, inr (long.ends, long.are_ends, hinders.1))));
+          let hinders = rest_hinders_where file long.ends (resting budget places) out some long.long in
+          h.exact (rest_decides name budget out names) told is 4 (hinders_so file_kind told name (at_ends name (may_put out) (rest_quietly name budget out names)) file is_file out hinders.0 (inr (long.ends, long.are_ends, inr (places, silent, hinders.1))));
+      same = λ same. h.exact (rest_decides name budget out names) told is 4 (same_so file_kind told name (at_ends name (may_put out) (rest_quietly name budget out names)) file is_file out same);
     }
 
 pub completes : (words : List (List ℕ)) (number : ℕ) (before after : State) → Runs (request_of words) number before after → Completes number words before after
 completes words number before after h = record {
   passes = passes_legal (request_of words) number before after h;
   calm = λ shelf out six. elim ((quiet (request_of words) number before after h).failed six) [ inl faulted ↦ shelf faulted | inr failed ↦ out failed ];
-  verify = λ told asked file is asks is_file. verify_ends told asked.file asked.nodes asked.out file number before after is is_file asked.json (as_verify words number before after h asked asks);
-  rest = λ told asked file is asks is_file. rest_ends told asked.file asked.nodes asked.out file number before after is is_file (as_rest words number before after h asked asks);
+  verify = λ told asked file is asks is_file. verify_ends told asked.file asked.out file number before after is is_file asked.budget asked.json (as_verify words number before after h asked asks);
+  rest = λ told asked file places is asks is_file silent. rest_ends told asked.file asked.out file number before after is is_file asked.budget asked.silent places silent (as_rest words number before after h asked asks);
 }

@@ -24,7 +24,7 @@ legal_in_scope bytes file legal out = by (meaning_faults legal.means.tree) refl
         scope_answers file.automaton out
         (λ (w : (number : ℕ) × scope.FirstRuleFault file.automaton number). legal.no_fault (fault.CycleUpdates w.0) (inr (inr (record { tree = legal.means.tree; is_tree = legal.means.is_tree; none_of_meaning = none; file = file; means = legal.means.means; fault = w.1 }))))
 
-pub fair_quietly : (bytes : List ℕ) (file : File) → Legal bytes file → LoopsAlone file.automaton → (k : ℕ) (p : Pattern) → slice_get file.patterns k ≡ Some p → (silent : List ℕ) → QuietRestSafe file.automaton silent p → FairlySafe file.automaton silent p
+fair_quietly : (bytes : List ℕ) (file : File) → Legal bytes file → LoopsAlone file.automaton → (k : ℕ) (p : Pattern) → slice_get file.patterns k ≡ Some p → (silent : List ℕ) → QuietRestSafe file.automaton silent p → FairlySafe file.automaton silent p
 fair_quietly bytes file legal loops k p named silent safe run occurs =
     legal_in_scope bytes file legal (λ scope. (fair_files_rest file scope loops k p named silent).0 safe run occurs)
 

@@ -1,16 +1,16 @@
--- What is told names the fault.
-use Rattle.ta_program.proofs.Common.{◌≡◌, ◌∙◌, ◌≤◌, ℕ, Bool, true, false, List, [], ◌∷◌, Option, None, Some, refl, sym, ap, subst, inl, inr, arith, codes, bytes_eq, File, one_legal, check_text, rest_check_text, run_text, Template, one_fault, Told, replies_monotone, Monotone, Decides, Meaning, Performs, State, Tells, file_line, in_files, seen, Writes, after, finds, replies, whole_faults_once, word_faults_once, whole_exact, words_exact, IsWholeWordOf, IsWordOf, Spelling, WholeFaultOf, WordFaultOf, WordFault, claiming, AdmitAsked, admit_meaning, admit_words, run_meaning, values_kind, values_meaning, Asked, LegalFile, Runs, ask, ask_where, choose, Command, NoCommand, SaysBench, bench_meaning, bench_words, HindersCertificate, may_put, check_meaning, proved_meaning, SaysShort, compress_meaning, long_kind, short_meaning, SaysSystem, WordHinders, export_meaning, export_words, system_meaning, word_fault_text, FaultsAreNamed, HinderOnce, NamesFault, OfCommand, certificate_kind, file_kind, run_kind, SaysShown, replay_meaning, shown_meaning, Reports, report_meaning, verify_meaning, request_of, HindersRest, RestReports, rest_meaning, rest_report_meaning, rest_check_meaning, rest_proved_meaning, CycleHinders, FileEndings, IsEnds, LegalAtRest, cycle_text, with_ends, rest_words, Finds, HindersFound, LegalTemplate, found_meaning, found_names, search_meaning, template_kind, SearchWords, search_words, two_names, verify_words, WordAsked, ◌⊎◌, AskedWord as Word}
+-- What is printed names the error.
+use Rattle.ta_program.proofs.Common.{Budget, ◌≡◌, ◌∙◌, ◌≤◌, ℕ, Bool, true, false, List, [], ◌∷◌, Option, None, Some, refl, sym, ap, subst, inl, inr, arith, codes, bytes_eq, File, one_legal, check_text, rest_check_text, run_text, Template, one_fault, Told, replies_monotone, Monotone, Decides, Meaning, Performs, State, Tells, file_line, in_files, seen, Writes, after, finds, replies, whole_faults_once, word_faults_once, whole_exact, words_exact, IsWholeWordOf, IsWordOf, Spelling, WholeFaultOf, WordFaultOf, WordFault, claiming, AdmitAsked, admit_meaning, admit_words, run_meaning, values_kind, values_meaning, Asked, LegalFile, Runs, ask, ask_where, choose, Command, NoCommand, SaysBench, bench_meaning, bench_words, HindersCertificate, may_put, check_meaning, proved_meaning, SaysShort, compress_meaning, long_kind, short_meaning, SaysSystem, WordHinders, export_meaning, export_words, system_meaning, word_fault_text, FaultsAreNamed, HinderOnce, NamesFault, OfCommand, certificate_kind, file_kind, run_kind, SaysShown, replay_meaning, shown_meaning, Reports, report_meaning, verify_meaning, request_of, HindersRest, RestReports, rest_meaning, rest_report_meaning, rest_check_meaning, rest_proved_meaning, CycleHinders, FileEndings, IsEnds, cycle_text, with_ends, rest_words, Finds, HindersFound, LegalTemplate, found_meaning, found_names, search_meaning, template_kind, SearchWords, search_words, two_names, verify_words, WordAsked, ◌⊎◌, AskedWord as Word, RestBudget, resting, rest_quietly, with_silent, at_ends}
 use Rattle.ta_program.proofs.Common.{SaysFile, file_meaning, show_meaning, show_words}
 use Rattle.ta_meaning.specs.Laws.{FirstFaultsAreUnique}
 use Rattle.ta_claim.specs.declared.claim.Claim.TheVariants as claim
 use Rattle.ta_program.proofs.EndsOnce.{ends_once}
-use Rattle.ta_program.proofs.RestMeanings.{cycle_rule, ends_monotone, hinders_rest, no_cycle, quietly_monotone, rest_report_monotone}
+use Rattle.ta_program.proofs.RestMeanings.{cycle_rule, ends_monotone, hinders_rest, no_cycle, quietly_monotone, rest_quietly_monotone}
 use Rattle.ta_program.proofs.SilentPlaces.{silent_fits, silent_line, silent_number, silent_once}
 use Rattle.ta_program.proofs.Common.{AreSilent, LegalSilently, NamesHinder, claiming_with, quietly_meaning, rest_check_words}
 use Rattle.ta_program.proofs.FaultsOnce.{certificate_settled, long_once, run_once, settled, values_once}
 use Rattle.ta_program.proofs.Meanings.{hinders_long, proved_monotone, report_monotone, short_monotone, shown_monotone}
 use Rattle.ta_program.proofs.SearchMeanings.{found_monotone, hinders_four, one_text, template_fits}
-use Rattle.ta_program.proofs.OneLine.{after_last, after_once, finds_once, replies_hinder, settles_once}
+use Rattle.ta_program.proofs.OneLine.{after_last, after_once, finds_once, replies_hinder, settles_once, spared_once}
 use Rattle.ta_program.proofs.WordMeanings.{run_monotone, system_monotone}
 
 -- a line that says why a file hasn't a word
@@ -25,15 +25,15 @@ module _ (Of : WordFault → Type 0) (name : List ℕ) where
   )
 
 -- a line that says that a certificate is too long
-long_certificate : (file : File) (budget : ℕ) (out : Option (List ℕ)) (line words : List ℕ) (number other : ℕ) → HindersCertificate file budget out number line → HindersCertificate file budget out other words → line ≡ words
+long_certificate : (file : File) (budget : Budget) (out : Option (List ℕ)) (line words : List ℕ) (number other : ℕ) → HindersCertificate file budget out number line → HindersCertificate file budget out other words → line ≡ words
 long_certificate file budget None line words number other h k = absurd h
 long_certificate file budget (Some out) line words number other h k = h.said ∙ sym k.said
 
-long_found : (t : Template) (budget : ℕ) (out : Option (List ℕ)) (line words : List ℕ) (number other : ℕ) → HindersFound t budget out number line → HindersFound t budget out other words → line ≡ words
+long_found : (t : Template) (budget : Budget) (out : Option (List ℕ)) (line words : List ℕ) (number other : ℕ) → HindersFound t budget out number line → HindersFound t budget out other words → line ≡ words
 long_found t budget None line words number other h k = absurd h
 long_found t budget (Some out) line words number other h k = h.said ∙ sym k.said
 
-long_rest : (file : File) (ends : FileEndings) (budget : ℕ) (out : Option (List ℕ)) (line words : List ℕ) (number other : ℕ) → HindersRest file ends budget out number line → HindersRest file ends budget out other words → line ≡ words
+long_rest : (file : File) (ends : FileEndings) (budget : RestBudget) (out : Option (List ℕ)) (line words : List ℕ) (number other : ℕ) → HindersRest file ends budget out number line → HindersRest file ends budget out other words → line ≡ words
 long_rest file ends budget None line words number other h k = absurd h
 long_rest file ends budget (Some out) line words number other h k = h.said ∙ sym k.said
 
@@ -43,14 +43,16 @@ module _ (unique : FirstFaultsAreUnique) (told : Told) where
   file_first name puts rest rests later =
       after_once file_kind (settled file_kind (λ bytes f none. none) unique) name puts rest rests told 3 refl (omega arith) (omega arith) (λ bytes file fault legal found. legal.no_fault fault found) later one_legal
 
-  report_once : (file : File) (budget : ℕ) (json : Bool) (out : Option (List ℕ)) → HinderOnce (report_meaning file budget json out) told
+  report_once : (file : File) (budget : Budget) (json : Bool) (out : Option (List ℕ)) → HinderOnce (report_meaning file budget json out) told
   report_once file budget json out =
       settles_once (may_put out) (Reports file budget json out) (HindersCertificate file budget out) told
       (λ number line h. let is = (hinders_long file budget out number line h).0 in (omega (arith, is), omega (arith, is)))
       (λ number other line words h k. ((hinders_long file budget out number line h).0 ∙ sym (hinders_long file budget out other words k).0, long_certificate file budget out line words number other h k))
 
-  verify_once : (name : List ℕ) (budget : ℕ) (json : Bool) (out : Option (List ℕ)) → HinderOnce (verify_meaning name budget json out) told
-  verify_once name budget json out = file_first name (may_put out) (λ file. report_meaning file budget json out) (λ file. report_monotone file budget json out) (λ file. report_once file budget json out)
+  verify_once : (name : List ℕ) (budget : Budget) (json : Bool) (out : Option (List ℕ)) → HinderOnce (verify_meaning name budget json out) told
+  verify_once name budget json out =
+      spared_once file_kind name (may_put out) (λ file. report_meaning file budget json out) (λ file. report_monotone file budget json out) told (λ bytes file fault legal found. legal.no_fault fault found)
+      (file_first name (may_put out) (λ file. report_meaning file budget json out) (λ file. report_monotone file budget json out) (λ file. report_once file budget json out))
 
   check_once : (name certificate : List ℕ) → HinderOnce (check_meaning name certificate) told
   check_once name certificate =
@@ -102,13 +104,14 @@ module _ (unique : FirstFaultsAreUnique) (told : Told) where
 
   found_once : (asked : SearchWords) (t : Template) → HinderOnce (found_meaning asked t) told
   found_once asked t =
-      settles_once (found_names asked) (Finds t asked) (HindersFound t asked.nodes asked.out) told
-      (λ number line h. let is = hinders_four t asked.nodes asked.out number line h in (omega (arith, is), omega (arith, is)))
-      (λ number other line words h k. (hinders_four t asked.nodes asked.out number line h ∙ sym (hinders_four t asked.nodes asked.out other words k), long_found t asked.nodes asked.out line words number other h k))
+      settles_once (found_names asked) (Finds t asked) (HindersFound t asked.budget asked.out) told
+      (λ number line h. let is = hinders_four t asked.budget asked.out number line h in (omega (arith, is), omega (arith, is)))
+      (λ number other line words h k. (hinders_four t asked.budget asked.out number line h ∙ sym (hinders_four t asked.budget asked.out other words k), long_found t asked.budget asked.out line words number other h k))
 
   search_once : (asked : SearchWords) → HinderOnce (search_meaning asked) told
   search_once asked =
-      after_once template_kind (settled template_kind (λ bytes f none. none) one_fault) asked.file (found_names asked) (found_meaning asked) (found_monotone asked) told 3 refl (omega arith) (omega arith) template_fits (found_once asked) one_text
+      spared_once template_kind asked.file (found_names asked) (found_meaning asked) (found_monotone asked) told template_fits
+      (after_once template_kind (settled template_kind (λ bytes f none. none) one_fault) asked.file (found_names asked) (found_meaning asked) (found_monotone asked) told 3 refl (omega arith) (omega arith) template_fits (found_once asked) one_text)
 
   -- of a command that looks for the endings of FILE
   ends_line : (name : List ℕ) (puts : List (List ℕ)) (rest : File → FileEndings → Meaning) → ((file : File) (ends : FileEndings) → Monotone (rest file ends)) → ((file : File) (ends : FileEndings) → HinderOnce (rest file ends) told) → HinderOnce (with_ends name puts rest) told
@@ -121,31 +124,41 @@ module _ (unique : FirstFaultsAreUnique) (told : Told) where
       (λ d e is are. sym (ends_once file d e is are))
       (later file))
 
-  rest_report_once : (budget : ℕ) (out : Option (List ℕ)) (file : File) (ends : FileEndings) → HinderOnce (rest_report_meaning budget out file ends) told
+  rest_report_once : (budget : RestBudget) (out : Option (List ℕ)) (file : File) (ends : FileEndings) → HinderOnce (rest_report_meaning budget out file ends) told
   rest_report_once budget out file ends =
       settles_once (may_put out) (RestReports file ends budget out) (HindersRest file ends budget out) told
       (λ number line h. let is = (hinders_rest file ends budget out number line h).0 in (omega (arith, is), omega (arith, is)))
       (λ number other line words h k. ((hinders_rest file ends budget out number line h).0 ∙ sym (hinders_rest file ends budget out other words k).0, long_rest file ends budget out line words number other h k))
 
-  rest_once : (name : List ℕ) (budget : ℕ) (out : Option (List ℕ)) → HinderOnce (rest_meaning name budget out) told
-  rest_once name budget out = ends_line name (may_put out) (rest_report_meaning budget out) (rest_report_monotone budget out) (rest_report_once budget out)
+  -- of commands that look for the places of names
+  names_once : (name : List ℕ) (names : Option (List ℕ)) (puts : List (List ℕ)) (file : File) (rest : List ℕ → Meaning) → ((places : List ℕ) → HinderOnce (rest places) told) → HinderOnce (with_silent name names puts file rest) told
+  names_once name names puts file rest later =
+      let a = file.automaton in
+      finds_once (AreSilent a names) (NamesHinder name a names) puts rest told
+      (λ number line h. let three = silent_number name a names number line h in (omega (arith, three), omega (arith, three)))
+      (λ number other line words h k. (silent_number name a names number line h ∙ sym (silent_number name a names other words k), silent_line name a names number other line words h k))
+      (λ places number line is. silent_fits name a names places number line is)
+      (λ d e is are. sym (silent_once a names d e is are))
+      later
+
+  rest_once : (name : List ℕ) (budget : Budget) (out names : Option (List ℕ)) → HinderOnce (rest_meaning name budget out names) told
+  rest_once name budget out names =
+      let quietly = rest_quietly name budget out names in
+      let monotone = rest_quietly_monotone name budget out names in
+      spared_once file_kind name (may_put out) (at_ends name (may_put out) quietly) (ends_monotone name (may_put out) quietly monotone) told (λ bytes file fault legal found. legal.no_fault fault found)
+      (ends_line name (may_put out) quietly monotone (λ file ends.
+      names_once name names (may_put out) file (λ places. rest_report_meaning (resting budget places) out file ends) (λ places.
+      rest_report_once (resting budget places) out file ends)))
 
   proved_once : (certificate : List ℕ) (file : File) (ends : FileEndings) (silent : List ℕ) → HinderOnce (rest_proved_meaning certificate file ends silent) told
   proved_once certificate file ends silent =
       after_last (certificate_kind (claiming_with claim.RestSafe ends.ending silent)) (certificate_settled (claiming_with claim.RestSafe ends.ending silent)) certificate [] (λ numbers. replies [] (Writes 0 (rest_check_text file numbers))) (λ numbers. replies_monotone [] (Writes 0 (rest_check_text file numbers))) told 4 refl (omega arith) (omega arith)
       (λ bytes numbers fault proves found. found.no_certificate numbers proves.accepted) (λ numbers number line none. none)
 
-  quietly_once : (name certificate : List ℕ) (names : Option (List ℕ)) (file : File) (ends : FileEndings) → HinderOnce (quietly_meaning name certificate names file ends) told
-  quietly_once name certificate names file ends =
-      finds_once (AreSilent file.automaton names) (NamesHinder name file.automaton names) [] (rest_proved_meaning certificate file ends) told
-      (λ number line h. let three = silent_number name file.automaton names number line h in (omega (arith, three), omega (arith, three)))
-      (λ number other line words h k. (silent_number name file.automaton names number line h ∙ sym (silent_number name file.automaton names other words k), silent_line name file.automaton names number other line words h k))
-      (λ places number line is. silent_fits name file.automaton names places number line is)
-      (λ d e is are. sym (silent_once file.automaton names d e is are))
-      (proved_once certificate file ends)
-
   rest_check_once : (name certificate : List ℕ) (names : Option (List ℕ)) → HinderOnce (rest_check_meaning name certificate names) told
-  rest_check_once name certificate names = ends_line name [] (quietly_meaning name certificate names) (quietly_monotone name certificate names) (quietly_once name certificate names)
+  rest_check_once name certificate names =
+      ends_line name [] (quietly_meaning name certificate names) (quietly_monotone name certificate names) (λ file ends.
+      names_once name names [] file (rest_proved_meaning certificate file ends) (proved_once certificate file ends))
 
   -- what words ask for, row by row
   asked_where_once : {W : Type 0} (legal : W → Told → Type 0) (says : W → Meaning) (words : Option W) → ((w : W) → HinderOnce (says w) told) → OfCommand (λ m. HinderOnce m told) (ask_where legal says words)
@@ -168,11 +181,11 @@ module _ (unique : FirstFaultsAreUnique) (told : Told) where
       (row_once (bytes_eq word (codes "compress")) _ _ (asked_once (λ names. Some names.file) (λ names. compress_meaning names.file names.other) (two_names words) (λ names. compress_once names.file names.other))
       (row_once (bytes_eq word (codes "export")) _ _ (asked_once (λ asked. Some asked.file) export_meaning (export_words words) export_once)
       (row_once (bytes_eq word (codes "replay")) _ _ (asked_once (λ names. Some names.file) (λ names. replay_meaning names.file names.other) (two_names words) (λ names. replay_once names.file names.other))
-      (row_once (bytes_eq word (codes "rest")) _ _ (asked_where_once (λ a. LegalAtRest a.file) (λ a. rest_meaning a.file a.nodes a.out) (rest_words words) (λ a. rest_once a.file a.nodes a.out))
+      (row_once (bytes_eq word (codes "rest")) _ _ (asked_where_once (λ a. LegalSilently a.file a.silent) (λ a. rest_meaning a.file a.budget a.out a.silent) (rest_words words) (λ a. rest_once a.file a.budget a.out a.silent))
       (row_once (bytes_eq word (codes "rest-check")) _ _ (asked_where_once (λ a. LegalSilently a.file a.silent) (λ a. rest_check_meaning a.file a.other a.silent) (rest_check_words words) (λ a. rest_check_once a.file a.other a.silent))
       (row_once (bytes_eq word (codes "search")) _ _ (asked_where_once LegalTemplate search_meaning (search_words words) search_once)
       (row_once (bytes_eq word (codes "show")) _ _ (asked_once (λ name. Some name) show_meaning (show_words words) show_once)
-      (row_once (bytes_eq word (codes "verify")) _ NoCommand (asked_once (λ asked. Some asked.file) (λ asked. verify_meaning asked.file asked.nodes asked.json asked.out) (verify_words words) (λ asked. verify_once asked.file asked.nodes asked.json asked.out)) tt))))))))))
+      (row_once (bytes_eq word (codes "verify")) _ NoCommand (asked_once (λ asked. Some asked.file) (λ asked. verify_meaning asked.file asked.budget asked.json asked.out) (verify_words words) (λ asked. verify_once asked.file asked.budget asked.json asked.out)) tt))))))))))
 
 -- what a run tells of told files
 module _ (m : Meaning) (told : Told) (number : ℕ) (before after : State) (is : before.shelf.files ≡ Some told) (performs : Performs m number before after) (decides : Decides m) (once : HinderOnce m told) where

@@ -1,4 +1,4 @@
--- Bytes have one fault of each kind.
+-- Bytes have one error of each kind.
 use Rattle.ta_program.proofs.Common.{◌≡◌, ◌∙◌, ◌++◌, ℕ, List, sym, ap, subst, inl, inr, File, CertFault, IsFirstFaultFor, IsLastingFor, Subject, lasting_faults_last, Run, IsRunText, Kind, admit_faults_once, values_kind, CompressFaultIn, IsRefusedRun, IsTextFault, long_kind, of_run, OneFault, IsReplayFault, certificate_kind, run_kind, ◌≢◌, AskedWord}
 use Rattle.ta_check.proofs.Answering.{first_of_lasting}
 use Rattle.ta_cert.specs.declared.fault.CertFault.TheVariants as cert

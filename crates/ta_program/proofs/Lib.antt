@@ -16,6 +16,10 @@ mod FoundStands
 mod AtRest
 mod FairAtRest
 mod Clauses
+mod FirstWord
+mod JsonLines
+mod NeverResting
+mod WhatIsShown
 mod Complete
 mod Accepting
 mod Accepted
@@ -26,6 +30,8 @@ mod PiecesJudged
 mod Benching
 mod Replied
 mod OneLine
+mod Same
+mod StageOf
 mod FaultsOnce
 mod FaultsNamed
 mod Common

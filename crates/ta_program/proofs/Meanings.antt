@@ -1,5 +1,5 @@
--- what each command says grows with what is seen, and told files leave one number
-use Rattle.ta_program.proofs.Common.{◌≡◌, ◌∙◌, ℕ, List, [], length, slice_get, Option, None, Some, refl, sym, ap, subst, inl, inr, arith, Bool, IsSome, File, Pattern, one_legal, check_text, Verdict, Told, Decides, IsSo, Meaning, put_bytes, View, in_files, Answer, Kind, Writes, after, replies, after_monotone, decides, no_hindrance, one_number, replies_monotone, replies_one, settles_monotone, Monotone, IsAskedFor, LegalFile, Passes, PassesWhere, ask, ask_where, claiming, BUDGET, IsBench, SaysBench, bench_meaning, bench_status, family_text, check_meaning, proved_meaning, SaysShort, compress_meaning, long_kind, short_meaning, certificate_kind, file_kind, run_kind, SaysShown, replay_meaning, shown_meaning, HindersCertificate, LongCertificate, may_put, Reports, report_meaning, verify_meaning, AreVerdicts, verdicts_number, option_map}
+-- what each command says grows with what is seen, and known files leave one number
+use Rattle.ta_program.proofs.Common.{Budget, ◌≡◌, ◌∙◌, ℕ, List, [], length, slice_get, Option, None, Some, refl, sym, ap, subst, inl, inr, arith, Bool, IsSome, File, Pattern, one_legal, check_text, Verdict, Told, Decides, IsSo, Meaning, put_bytes, View, in_files, Answer, Kind, Writes, after, replies, after_monotone, decides, no_hindrance, one_number, replies_monotone, replies_one, settles_monotone, Monotone, IsAskedFor, LegalFile, Passes, PassesWhere, ask, ask_where, claiming, BUDGET, IsBench, SaysBench, bench_meaning, bench_status, family_text, check_meaning, proved_meaning, SaysShort, compress_meaning, long_kind, short_meaning, certificate_kind, file_kind, run_kind, SaysShown, replay_meaning, shown_meaning, HindersCertificate, LongCertificate, may_put, Reports, report_meaning, verify_meaning, AreVerdicts, verdicts_number, option_map, spared_decides, spared_passes}
 use Rattle.ta_claim.specs.declared.claim.Claim.TheVariants as claim
 use Rattle.ta_verdict.proofs.CertificatesOnce.{certificates_once}
 use Rattle.ta_verdict.proofs.VerdictsOnce.{verdicts_once}
@@ -20,16 +20,16 @@ file_decides name puts rest rests ones =
     one_number file_kind name puts rest rests told (λ bytes file fault legal found. legal.no_fault fault found) (λ bytes v w m n number other so so'.
     ones w told number other (subst (λ (file : File). IsSo (rest file) (in_files told) number) (one_legal bytes v w m n) so) so'))
 
-pub report_monotone : (file : File) (budget : ℕ) (json : Bool) (out : Option (List ℕ)) → Monotone (report_meaning file budget json out)
+pub report_monotone : (file : File) (budget : Budget) (json : Bool) (out : Option (List ℕ)) → Monotone (report_meaning file budget json out)
 report_monotone file budget json out = settles_monotone (may_put out) (Reports file budget json out) (HindersCertificate file budget out)
 
 -- only a certificate that is too long hinders a report, with 4
-pub hinders_long : (file : File) (budget : ℕ) (out : Option (List ℕ)) (number : ℕ) (line : List ℕ) → HindersCertificate file budget out number line → (number ≡ 4) × IsSome out × LongCertificate file budget
+pub hinders_long : (file : File) (budget : Budget) (out : Option (List ℕ)) (number : ℕ) (line : List ℕ) → HindersCertificate file budget out number line → (number ≡ 4) × IsSome out × LongCertificate file budget
 hinders_long file budget None number line h = absurd h
 hinders_long file budget (Some out) number line h = (h.numbered, refl, h.long)
 
 -- no certificate is both put and too long
-not_both : (file : File) (budget : ℕ) (json : Bool) (out : Option (List ℕ)) (answer : Answer) (number : ℕ) (line : List ℕ) → Reports file budget json out answer → HindersCertificate file budget out number line → ⊥
+not_both : (file : File) (budget : Budget) (json : Bool) (out : Option (List ℕ)) (answer : Answer) (number : ℕ) (line : List ℕ) → Reports file budget json out answer → HindersCertificate file budget out number line → ⊥
 not_both file budget json None answer number line r h = h
 not_both file budget json (Some out) answer number line r h =
     let long = h.long in
@@ -39,7 +39,7 @@ not_both file budget json (Some out) answer number line r h =
     let longer = long.longer in
     omega (arith, ap length same)
 
-reports_one : (file : File) (budget : ℕ) (json : Bool) (out : Option (List ℕ)) (told : Told) (number other : ℕ) → IsSo (report_meaning file budget json out) (in_files told) number → IsSo (report_meaning file budget json out) (in_files told) other → number ≡ other
+reports_one : (file : File) (budget : Budget) (json : Bool) (out : Option (List ℕ)) (told : Told) (number other : ℕ) → IsSo (report_meaning file budget json out) (in_files told) number → IsSo (report_meaning file budget json out) (in_files told) other → number ≡ other
 reports_one file budget json out told number other so so' = elim so [
   | inl a ↦ elim so' [
     | inl b ↦ sym a.1 ∙ (a.2.numbered ∙ ap verdicts_number (verdicts_once file budget a.2.verdicts b.2.verdicts a.2.are b.2.are) ∙ sym b.2.numbered) ∙ b.1
@@ -111,14 +111,17 @@ replay_passes name run =
     file_passes name [] (λ file. shown_meaning file run) (λ file. shown_monotone file run)
     (λ file told. second_passes (run_kind file) run (λ shown. replies [] (SaysShown file shown)) refl (λ shown view line none. none) (in_files told))
 
-pub verify_decides : (name : List ℕ) (budget : ℕ) (json : Bool) (out : Option (List ℕ)) → Decides (verify_meaning name budget json out)
+pub verify_decides : (name : List ℕ) (budget : Budget) (json : Bool) (out : Option (List ℕ)) → Decides (verify_meaning name budget json out)
 verify_decides name budget json out =
-    file_decides name (may_put out) (λ file. report_meaning file budget json out) (λ file. report_monotone file budget json out) (λ file told. reports_one file budget json out told)
+    spared_decides file_kind name (may_put out) (λ file. report_meaning file budget json out) (λ file. report_monotone file budget json out) (λ bytes file fault legal found. legal.no_fault fault found)
+    (file_decides name (may_put out) (λ file. report_meaning file budget json out) (λ file. report_monotone file budget json out) (λ file told. reports_one file budget json out told))
 
-pub verify_passes : (name : List ℕ) (budget : ℕ) (json : Bool) (out : Option (List ℕ)) → Passes (Some name) (verify_meaning name budget json out)
-verify_passes name budget json out =
-    file_passes name (may_put out) (λ file. report_meaning file budget json out) (λ file. report_monotone file budget json out)
+pub verify_passes : (name : List ℕ) (budget : Budget) (json : Bool) (out : Option (List ℕ)) → Passes (Some name) (verify_meaning name budget json out)
+verify_passes name budget json out told line legal =
+    spared_passes file_kind name (may_put out) (λ file. report_meaning file budget json out) (in_files told) line
+    (file_passes name (may_put out) (λ file. report_meaning file budget json out) (λ file. report_monotone file budget json out)
     (λ file told line hinders. let four = (hinders_long file budget out 3 line hinders).0 in absurd (omega (arith, four)))
+    told line legal)
 
 -- two files of one number have one verdict on their pattern
 bench_one : (k : ℕ) (p q : Pattern) (v w : Verdict) → IsBench k p v → IsBench k q w → v ≡ w

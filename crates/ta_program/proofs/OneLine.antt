@@ -1,5 +1,6 @@
--- Told files hinder a command with one number and one line.
-use Rattle.ta_program.proofs.Common.{◌≡◌, ◌∙◌, ◌+◌, ◌-◌, ◌<◌, ◌≤◌, ◌⊎◌, ℕ, List, ◌++◌, length, length-append, take, Option, None, Some, sym, ap, subst, inl, inr, arith, take-append-add, take-append-le, none_not_some, one_content, Told, Meaning, file_line, longer_than, missing, IsUnreadable, HasMore, in_files, ReadingGoesOn, Hinders, FileIsAtFault, IsBroken, Kind, after, finds, replies, settles, Answer, no_hindrance, Monotone, whole_one, HinderAlike, HinderOnce}
+-- Known files refuse a command with one number and one line.
+use Rattle.ta_program.proofs.Common.{◌≡◌, ◌∙◌, ◌+◌, ◌-◌, ◌<◌, ◌≤◌, ◌⊎◌, ℕ, List, ◌++◌, length, length-append, take, Option, None, Some, sym, ap, subst, inl, inr, arith, take-append-add, take-append-le, none_not_some, one_content, Told, Meaning, file_line, longer_than, missing, IsUnreadable, HasMore, in_files, ReadingGoesOn, Hinders, FileIsAtFault, IsBroken, Kind, after, finds, replies, settles, Answer, no_hindrance, Monotone, whole_one, HinderAlike, HinderOnce, one_holds_line, spared}
+use Rattle.ta_shell.proofs.Spared.{apart as never_both}
 
 -- the faults of a kind are of those of which bytes have one, and bytes that are broken stay so, whatever comes behind
 pub record Settled {A F : Type 0} (kind : Kind A F) : Type 1 where
@@ -131,6 +132,27 @@ module _ {A F : Type 0} (kind : Kind A F) (settled : Settled kind) where
       ranged = in_range (λ value number line refuses. absurd (none value number line refuses));
       one = alike (λ bytes v w m n number other line words refuses. absurd (none v number line refuses));
     }
+
+-- outputs are compared with what was read before
+module _ {A F : Type 0} (kind : Kind A F) (name : List ℕ) (outs : List (List ℕ)) (rest : A → Meaning) (rests : (value : A) → Monotone (rest value)) (told : Told) (fits : (bytes : List ℕ) (value : A) (fault : F) → kind.means bytes value → kind.at_fault bytes fault → ⊥) (once : HinderOnce (after kind name outs rest) told) where
+  spared_ranged : (number : ℕ) (line : List ℕ) → (spared kind name outs rest).refuses (in_files told) number line → (3 ≤ number) × (number ≤ 4)
+  spared_ranged number line (inl own) = once.ranged number line (inl own)
+  spared_ranged number line (inr (value, is, inl holds)) = let four : number ≡ 4 = holds.numbered in (omega (arith, four), omega (arith, four))
+  spared_ranged number line (inr (value, is, inr (differ, later))) = once.ranged number line (inr (value, is, later))
+
+  spared_alike : (number other : ℕ) (line words : List ℕ) → (spared kind name outs rest).refuses (in_files told) number line → (spared kind name outs rest).refuses (in_files told) other words → (number ≡ other) × (line ≡ words)
+  spared_alike number other line words (inl own) (inl again) = once.one number other line words (inl own) (inl again)
+  spared_alike number other line words (inl own) (inr (value, is, inl holds)) = absurd (no_hindrance kind name outs rest rests told fits value number line is own)
+  spared_alike number other line words (inl own) (inr (value, is, inr (differ, later))) = once.one number other line words (inl own) (inr (value, is, later))
+  spared_alike number other line words (inr (value, is, inl holds)) (inl own) = absurd (no_hindrance kind name outs rest rests told fits value other words is own)
+  spared_alike number other line words (inr (value, is, inl holds)) (inr (value', are, inl again)) = (holds.numbered ∙ sym again.numbered, one_holds_line told name outs number other line words holds again)
+  spared_alike number other line words (inr (value, is, inl holds)) (inr (value', are, inr (differ, later))) = absurd (never_both told name outs number line differ holds)
+  spared_alike number other line words (inr (value, is, inr (differ, later))) (inl own) = once.one number other line words (inr (value, is, later)) (inl own)
+  spared_alike number other line words (inr (value, is, inr (differ, later))) (inr (value', are, inl holds)) = absurd (never_both told name outs other words differ holds)
+  spared_alike number other line words (inr (value, is, inr (differ, later))) (inr (value', are, inr (differ', later'))) = once.one number other line words (inr (value, is, later)) (inr (value', are, later'))
+
+  pub spared_once : HinderOnce (spared kind name outs rest) told
+  spared_once = record { ranged = spared_ranged; one = spared_alike }
 
 -- something is looked for, and then comes what it asks for
 module _ {A : Type 0} (Is : A → Type 0) (Wrong : ℕ → List ℕ → Type 0) (puts : List (List ℕ)) (rest : A → Meaning) (told : Told) where

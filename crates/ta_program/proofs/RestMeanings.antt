@@ -1,8 +1,8 @@
--- what `rest` and `rest-check` say grows with what is seen, and told files leave one number
-use Rattle.ta_program.proofs.Common.{◌≡◌, ◌∙◌, ℕ, List, [], length, Option, None, Some, refl, sym, ap, subst, inl, inr, arith, IsSome, cases_order, Automaton, File, FirstLongerCycle, claiming_with, one_legal, rest_check_text, Verdict, RestCertificateOf, Told, Decides, IsSo, Meaning, put_bytes, in_files, Answer, Writes, finds, replies, after_monotone, finds_monotone, finds_one, no_hindrance, one_number, replies_monotone, replies_one, settles_monotone, Monotone, whole_one, PassesWhere, may_put, certificate_kind, file_kind, HindersRest, LongRest, RestReports, rest_meaning, rest_report_meaning, quietly_meaning, rest_check_meaning, rest_proved_meaning, AreSilent, LegalSilently, NamesHinder, CycleHinders, FileEndings, IsEnds, LegalAtRest, with_ends, verdicts_number}
+-- what `rest` and `rest-check` say grows with what is seen, and known files leave one number
+use Rattle.ta_program.proofs.Common.{◌≡◌, ◌∙◌, ℕ, List, [], length, Option, None, Some, refl, sym, ap, subst, inl, inr, arith, IsSome, cases_order, Automaton, File, FirstLongerCycle, claiming_with, one_legal, rest_check_text, Verdict, RestCertificateOf, Told, Decides, IsSo, Meaning, put_bytes, in_files, Answer, Writes, finds, replies, after_monotone, finds_monotone, finds_one, no_hindrance, one_number, replies_monotone, replies_one, settles_monotone, Monotone, whole_one, PassesWhere, may_put, certificate_kind, file_kind, HindersRest, LongRest, RestReports, rest_meaning, rest_report_meaning, quietly_meaning, rest_check_meaning, rest_proved_meaning, AreSilent, LegalSilently, NamesHinder, CycleHinders, FileEndings, IsEnds, LegalAtRest, with_ends, verdicts_number, Budget, RestBudget, resting, rest_quietly, with_silent, at_ends, spared_decides, spared_passes}
 use Rattle.ta_claim.specs.declared.claim.Claim.TheVariants.{RestSafe}
-use Rattle.ta_rest_verdict.proofs.VerdictsOnce.{verdicts_once}
-use Rattle.ta_rest_verdict.proofs.CertificatesOnce.{rest_certificates_once}
+use Rattle.ta_verdict.proofs.rest.VerdictsOnce.{verdicts_once}
+use Rattle.ta_verdict.proofs.rest.CertificatesOnce.{rest_certificates_once}
 use Rattle.ta_program.proofs.EndsOnce.{ends_once}
 use Rattle.ta_program.proofs.SilentPlaces.{silent_fits, silent_number, silent_once}
 use Rattle.ta_program.proofs.Meanings.{file_decides, second_passes}
@@ -52,19 +52,43 @@ module _ (name : List ℕ) (puts : List (List ℕ)) (rest : File → FileEndings
             ]
       ]
 
-  pub ends_passes : ((file : File) (ends : FileEndings) (told : Told) (line : List ℕ) → ¬ (rest file ends).refuses (in_files told) 3 line) → PassesWhere (LegalAtRest name) (with_ends name puts rest)
-  ends_passes never = ends_passes_where (LegalAtRest name) (λ told legal. (legal, λ ends line. never legal.file ends told line))
+-- of commands that look for the places of names
+module _ (name : List ℕ) (names : Option (List ℕ)) (puts : List (List ℕ)) (file : File) (rest : List ℕ → Meaning) where
+  pub names_monotone : ((places : List ℕ) → Monotone (rest places)) → Monotone (with_silent name names puts file rest)
+  names_monotone rests = finds_monotone (AreSilent file.automaton names) (NamesHinder name file.automaton names) puts rest rests
 
-pub rest_report_monotone : (budget : ℕ) (out : Option (List ℕ)) (file : File) (ends : FileEndings) → Monotone (rest_report_meaning budget out file ends)
+  pub names_one :
+      (told : Told)
+      → ((places : List ℕ) (number other : ℕ) → IsSo (rest places) (in_files told) number → IsSo (rest places) (in_files told) other → number ≡ other)
+      → (number other : ℕ) → IsSo (with_silent name names puts file rest) (in_files told) number → IsSo (with_silent name names puts file rest) (in_files told) other
+      → number ≡ other
+  names_one told ones =
+      let a = file.automaton in
+      finds_one (AreSilent a names) (NamesHinder name a names) puts rest (in_files told)
+      (λ number other line words h k. silent_number name a names number line h ∙ sym (silent_number name a names other words k))
+      (λ places number line is. silent_fits name a names places number line is)
+      (λ d e is are number other so so'.
+      ones d number other so (subst (λ (places : List ℕ). IsSo (rest places) (in_files told) other) (sym (silent_once a names d e is are)) so'))
+
+  -- names that may be silent don't hinder with 3, if what comes then doesn't
+  pub names_pass :
+      (told : Told) (places : List ℕ) → AreSilent file.automaton names places → (line : List ℕ)
+      → ((found : List ℕ) → ¬ (rest found).refuses (in_files told) 3 line) → ¬ (with_silent name names puts file rest).refuses (in_files told) 3 line
+  names_pass told places are line never refuses = elim refuses [
+    | inl own ↦ silent_fits name file.automaton names places 3 line are own
+    | inr r ↦ never r.0 r.2
+  ]
+
+pub rest_report_monotone : (budget : RestBudget) (out : Option (List ℕ)) (file : File) (ends : FileEndings) → Monotone (rest_report_meaning budget out file ends)
 rest_report_monotone budget out file ends = settles_monotone (may_put out) (RestReports file ends budget out) (HindersRest file ends budget out)
 
 -- only a certificate that is too long hinders a report at rest, with 4
-pub hinders_rest : (file : File) (ends : FileEndings) (budget : ℕ) (out : Option (List ℕ)) (number : ℕ) (line : List ℕ) → HindersRest file ends budget out number line → (number ≡ 4) × IsSome out × LongRest file ends budget
+pub hinders_rest : (file : File) (ends : FileEndings) (budget : RestBudget) (out : Option (List ℕ)) (number : ℕ) (line : List ℕ) → HindersRest file ends budget out number line → (number ≡ 4) × IsSome out × LongRest file ends budget
 hinders_rest file ends budget None number line h = absurd h
 hinders_rest file ends budget (Some out) number line h = (h.numbered, refl, h.long)
 
 -- no certificate is both put and too long
-not_both : (file : File) (ends : FileEndings) (budget : ℕ) (out : Option (List ℕ)) (answer : Answer) (number : ℕ) (line : List ℕ) → IsEnds file ends → RestReports file ends budget out answer → HindersRest file ends budget out number line → ⊥
+not_both : (file : File) (ends : FileEndings) (budget : RestBudget) (out : Option (List ℕ)) (answer : Answer) (number : ℕ) (line : List ℕ) → IsEnds file ends → RestReports file ends budget out answer → HindersRest file ends budget out number line → ⊥
 not_both file ends budget None answer number line is r h = h
 not_both file ends budget (Some out) answer number line is r h =
     let long = h.long in
@@ -76,7 +100,7 @@ not_both file ends budget (Some out) answer number line is r h =
     let longer = long.longer in
     omega (arith, ap length same)
 
-rest_one : (budget : ℕ) (out : Option (List ℕ)) (file : File) (ends : FileEndings) → IsEnds file ends → (told : Told) (number other : ℕ) → IsSo (rest_report_meaning budget out file ends) (in_files told) number → IsSo (rest_report_meaning budget out file ends) (in_files told) other → number ≡ other
+rest_one : (budget : RestBudget) (out : Option (List ℕ)) (file : File) (ends : FileEndings) → IsEnds file ends → (told : Told) (number other : ℕ) → IsSo (rest_report_meaning budget out file ends) (in_files told) number → IsSo (rest_report_meaning budget out file ends) (in_files told) other → number ≡ other
 rest_one budget out file ends is told number other so so' = elim so [
   | inl a ↦ elim so' [
     | inl b ↦ sym a.1 ∙ (a.2.numbered ∙ ap verdicts_number (verdicts_once file ends.ending ends.added budget is.endings a.2.verdicts b.2.verdicts a.2.are b.2.are) ∙ sym b.2.numbered) ∙ b.1
@@ -88,20 +112,38 @@ rest_one budget out file ends is told number other so so' = elim so [
   ]
 ]
 
-pub rest_decides : (name : List ℕ) (budget : ℕ) (out : Option (List ℕ)) → Decides (rest_meaning name budget out)
-rest_decides name budget out = ends_decides name (may_put out) (rest_report_meaning budget out) (rest_report_monotone budget out) (rest_one budget out)
+pub rest_quietly_monotone :
+    (name : List ℕ) (budget : Budget) (out names : Option (List ℕ)) (file : File) (ends : FileEndings) → Monotone (rest_quietly name budget out names file ends)
+rest_quietly_monotone name budget out names file ends =
+    names_monotone name names (may_put out) file (λ places. rest_report_meaning (resting budget places) out file ends)
+    (λ places. rest_report_monotone (resting budget places) out file ends)
 
-pub rest_passes : (name : List ℕ) (budget : ℕ) (out : Option (List ℕ)) → PassesWhere (LegalAtRest name) (rest_meaning name budget out)
-rest_passes name budget out =
-    ends_passes name (may_put out) (rest_report_meaning budget out) (rest_report_monotone budget out) (λ file ends told line hinders. let four = (hinders_rest file ends budget out 3 line hinders).0 in absurd (omega (arith, four)))
+pub rest_decides : (name : List ℕ) (budget : Budget) (out names : Option (List ℕ)) → Decides (rest_meaning name budget out names)
+rest_decides name budget out names =
+    let quietly = rest_quietly name budget out names in
+    let monotone = rest_quietly_monotone name budget out names in
+    spared_decides file_kind name (may_put out) (at_ends name (may_put out) quietly) (ends_monotone name (may_put out) quietly monotone) (λ bytes file fault legal found. legal.no_fault fault found)
+    (ends_decides name (may_put out) quietly monotone (λ file ends is told.
+    names_one name names (may_put out) file (λ places. rest_report_meaning (resting budget places) out file ends) told (λ places.
+    rest_one (resting budget places) out file ends is told)))
+
+-- where the names may be silent neither they nor the certificate hinder with 3
+pub rest_passes : (name : List ℕ) (budget : Budget) (out names : Option (List ℕ)) → PassesWhere (LegalSilently name names) (rest_meaning name budget out names)
+rest_passes name budget out names told line legal =
+    spared_passes file_kind name (may_put out) (at_ends name (may_put out) (rest_quietly name budget out names)) (in_files told) line
+    (ends_passes_where name (may_put out) (rest_quietly name budget out names) (rest_quietly_monotone name budget out names) (LegalSilently name names) (λ told legal. (
+      record { file = legal.file; is_file = legal.is_file; loops = legal.loops },
+      λ ends line. names_pass name names (may_put out) legal.file (λ places. rest_report_meaning (resting budget places) out legal.file ends) told legal.places legal.are_silent line (λ found hinders.
+          let four = (hinders_rest legal.file ends (resting budget found) out 3 line hinders).0 in
+          absurd (omega (arith, four))),
+    )) told line legal)
 
 pub rest_proved_monotone : (name : List ℕ) (file : File) (ends : FileEndings) (silent : List ℕ) → Monotone (rest_proved_meaning name file ends silent)
 rest_proved_monotone name file ends silent =
     after_monotone (certificate_kind (claiming_with RestSafe ends.ending silent)) name [] (λ numbers. replies [] (Writes 0 (rest_check_text file numbers))) (λ numbers. replies_monotone [] (Writes 0 (rest_check_text file numbers)))
 
 pub quietly_monotone : (name certificate : List ℕ) (names : Option (List ℕ)) (file : File) (ends : FileEndings) → Monotone (quietly_meaning name certificate names file ends)
-quietly_monotone name certificate names file ends =
-    finds_monotone (AreSilent file.automaton names) (NamesHinder name file.automaton names) [] (rest_proved_meaning certificate file ends) (rest_proved_monotone certificate file ends)
+quietly_monotone name certificate names file ends = names_monotone name names [] file (rest_proved_meaning certificate file ends) (rest_proved_monotone certificate file ends)
 
 proved_one : (certificate : List ℕ) (file : File) (ends : FileEndings) (silent : List ℕ) (told : Told) (number other : ℕ) → IsSo (rest_proved_meaning certificate file ends silent) (in_files told) number → IsSo (rest_proved_meaning certificate file ends silent) (in_files told) other → number ≡ other
 proved_one certificate file ends silent told =
@@ -109,26 +151,16 @@ proved_one certificate file ends silent told =
     (λ bytes numbers fault proves found. found.no_certificate numbers proves.accepted)
     (λ bytes v w m n. replies_one [] (Writes 0 (rest_check_text file v)) (Writes 0 (rest_check_text file w)) (in_files told) (λ a b x y. x.numbered ∙ sym y.numbered))
 
-quietly_one : (name certificate : List ℕ) (names : Option (List ℕ)) (file : File) (ends : FileEndings) (told : Told) (number other : ℕ) → IsSo (quietly_meaning name certificate names file ends) (in_files told) number → IsSo (quietly_meaning name certificate names file ends) (in_files told) other → number ≡ other
-quietly_one name certificate names file ends told =
-    finds_one (AreSilent file.automaton names) (NamesHinder name file.automaton names) [] (rest_proved_meaning certificate file ends) (in_files told)
-    (λ number other line words h k. silent_number name file.automaton names number line h ∙ sym (silent_number name file.automaton names other words k))
-    (λ places number line is. silent_fits name file.automaton names places number line is)
-    (λ d e is are number other so so'. proved_one certificate file ends d told number other so (subst (λ (places : List ℕ). IsSo (rest_proved_meaning certificate file ends places) (in_files told) other) (sym (silent_once file.automaton names d e is are)) so'))
-
 pub rest_check_decides : (name certificate : List ℕ) (names : Option (List ℕ)) → Decides (rest_check_meaning name certificate names)
-rest_check_decides name certificate names = ends_decides name [] (quietly_meaning name certificate names) (quietly_monotone name certificate names) (λ file ends is told. quietly_one name certificate names file ends told)
+rest_check_decides name certificate names =
+    ends_decides name [] (quietly_meaning name certificate names) (quietly_monotone name certificate names) (λ file ends is told.
+    names_one name names [] file (rest_proved_meaning certificate file ends) told (λ places. proved_one certificate file ends places told))
 
 -- where the names may be silent neither they nor CERT hinder with 3
-quietly_passes : (name certificate : List ℕ) (names : Option (List ℕ)) (file : File) (ends : FileEndings) (told : Told) (places : List ℕ) → AreSilent file.automaton names places → (line : List ℕ) → ¬ (quietly_meaning name certificate names file ends).refuses (in_files told) 3 line
-quietly_passes name certificate names file ends told places are line refuses = elim refuses [
-  | inl own ↦ silent_fits name file.automaton names places 3 line are own
-  | inr r ↦ second_passes (certificate_kind (claiming_with RestSafe ends.ending r.0)) certificate (λ numbers. replies [] (Writes 0 (rest_check_text file numbers))) refl (λ numbers view line none. none) (in_files told) line r.2
-]
-
 pub rest_check_passes : (name certificate : List ℕ) (names : Option (List ℕ)) → PassesWhere (LegalSilently name names) (rest_check_meaning name certificate names)
 rest_check_passes name certificate names =
     ends_passes_where name [] (quietly_meaning name certificate names) (quietly_monotone name certificate names) (LegalSilently name names) (λ told legal. (
       record { file = legal.file; is_file = legal.is_file; loops = legal.loops },
-      λ ends line. quietly_passes name certificate names legal.file ends told legal.places legal.are_silent line,
+      λ ends line. names_pass name names [] legal.file (rest_proved_meaning certificate legal.file ends) told legal.places legal.are_silent line (λ places.
+          second_passes (certificate_kind (claiming_with RestSafe ends.ending places)) certificate (λ numbers. replies [] (Writes 0 (rest_check_text legal.file numbers))) refl (λ numbers view line none. none) (in_files told) line),
     ))

@@ -1,9 +1,9 @@
 -- what the commands on runs that come to rest make of FILE's endings
-use Rattle.ta_program.proofs.Common.{◌≡◌, ◌∙◌, ◌+◌, ℕ, true, List, [], ◌∷◌, ◌++◌, Option, None, Some, Result, Ok, Err, refl, sym, ap, subst, arith, length, Automaton, File, Pattern, RestCertificate, proofs_told, rest_check_text, word_told, rest_text, ReportSample, Verdict, Endings, AreRestVerdicts, RestCertificateOf, Told, Answer, Refusal, Refused, ReadFailed, PutFailed, Memory, Meaning, Says, PutsWithin, ReadCause, finds, finds_memory, finds_wrong, safe_numbers, IsSample, NoSample, SampleReal, place_of, Certifies, EndsRefused, ReportsAndPuts, RestReported, RestReports, HindersRest, rest_report_meaning, CycleHinders, FileEndings, IsEnds, ends_of, verdicts_number, codes}
+use Rattle.ta_program.proofs.Common.{◌≡◌, ◌∙◌, ◌+◌, ℕ, true, List, [], ◌∷◌, ◌++◌, Option, None, Some, Result, Ok, Err, refl, sym, ap, subst, arith, length, Automaton, File, Pattern, proofs_told, rest_check_text, word_told, rest_text, ReportSample, Verdict, Endings, AreRestVerdicts, RestCertificateOf, Told, Answer, Refusal, Refused, ReadFailed, PutFailed, Memory, Meaning, Says, PutsWithin, ReadCause, finds, finds_memory, finds_wrong, safe_numbers, IsSample, NoSample, SampleReal, place_of, Certifies, EndsRefused, ReportsAndPuts, RestReported, RestReports, HindersRest, rest_report_meaning, CycleHinders, FileEndings, IsEnds, ends_of, verdicts_number, codes, QuietRestCertificate, RestBudget}
 use Rattle.ta_report.specs.declared.verdict.ReportSample.TheVariants as sample
 use Rattle.ta_rest.specs.Faults.{EndingsOf}
 use Rattle.ta_rest.specs.declared.rest_file.RestFile.{RestFile}
-use Rattle.ta_rest_verdict.proofs.TextsAlike.{texts_alike}
+use Rattle.ta_verdict.proofs.rest.TextsAlike.{texts_alike}
 use Rattle.ta_walk.specs.Samples.{IsSampleEnd}
 use Rattle.ta_walk.specs.declared.end.SampleEnd.TheVariants as samples
 use Rattle.ta_program.proofs.Certifying.{few_by, settled}
@@ -46,7 +46,7 @@ sample_own file ending budget (sample.Spent count) e h = record { holds = subst 
 sample_own file ending budget (sample.Overflow node kind) e h = record { holds = subst (λ (a : Automaton). IsSampleEnd a budget (samples.Overflow node (place_of kind))) e h.holds; fits = h.fits }
 
 -- the report on a file's endings is one on the file
-module _ (rest : RestFile) (file : File) (ends : EndingsOf file rest.ending.file rest.added) (budget : ℕ) (vs : List Verdict) (are : AreRestVerdicts file rest.ending.file rest.added budget vs) (number : ℕ) (report : List ℕ) (numbered : number ≡ verdicts_number vs) (reported : RestReported rest.ending.file budget vs report) (files : Option Told) where
+module _ (rest : RestFile) (file : File) (ends : EndingsOf file rest.ending.file rest.added) (budget : RestBudget) (vs : List Verdict) (are : AreRestVerdicts file rest.ending.file rest.added budget vs) (number : ℕ) (report : List ℕ) (numbered : number ≡ verdicts_number vs) (reported : RestReported rest.ending.file budget.nodes vs report) (files : Option Told) where
   text_own : report ≡ rest_text file reported.sample vs
   text_own = reported.written ∙ texts_alike file rest.ending.file rest.added ends reported.sample vs are.fit
 
@@ -57,7 +57,7 @@ module _ (rest : RestFile) (file : File) (ends : EndingsOf file rest.ending.file
       low = few_by vs answer.number (same ∙ numbered);
       holds = record {
         sample = reported.sample;
-        is_sample = sample_own file rest.ending.file budget reported.sample ends.automaton reported.is_sample;
+        is_sample = sample_own file rest.ending.file budget.nodes reported.sample ends.automaton reported.is_sample;
         verdicts = vs;
         are = are;
         numbered = same ∙ numbered;
@@ -68,11 +68,11 @@ module _ (rest : RestFile) (file : File) (ends : EndingsOf file rest.ending.file
     };
   }
 
-  module _ (out text : List ℕ) (certificate : RestCertificateOf rest.ending.file budget vs text) (accepted : RestCertificate rest.ending.file text (safe_numbers rest.ending.file vs)) where
+  module _ (out text : List ℕ) (certificate : RestCertificateOf rest.ending.file budget vs text) (accepted : QuietRestCertificate rest.ending.file budget.silent text (safe_numbers rest.ending.file vs)) where
     reports : (answer : Answer) → ReportsAndPuts number report out text answer → RestReports file (ends_of rest) budget (Some out) answer
     reports answer c = record {
       sample = reported.sample;
-      is_sample = sample_own file rest.ending.file budget reported.sample ends.automaton reported.is_sample;
+      is_sample = sample_own file rest.ending.file budget.nodes reported.sample ends.automaton reported.is_sample;
       verdicts = vs;
       are = are;
       numbered = c.numbered ∙ numbered;
@@ -83,7 +83,7 @@ module _ (rest : RestFile) (file : File) (ends : EndingsOf file rest.ending.file
         named = c.named;
         certificate = subst (RestCertificateOf rest.ending.file budget vs) (sym c.holds) certificate;
         within = (let few = c.within in let same = c.holds in omega (arith, ap length same));
-        accepted = subst (λ (t : List ℕ). RestCertificate rest.ending.file t (safe_numbers rest.ending.file vs)) (sym c.holds) accepted;
+        accepted = subst (λ (t : List ℕ). QuietRestCertificate rest.ending.file budget.silent t (safe_numbers rest.ending.file vs)) (sym c.holds) accepted;
       };
     }
 

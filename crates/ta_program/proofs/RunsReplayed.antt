@@ -1,7 +1,7 @@
 -- What `verify` prints as a run `replay` shows.
-use Rattle.ta_program.proofs.Common.{◌≡◌, ◌⊎◌, inl, ℕ, List, [], Option, Some, refl, sym, ◌∙◌, subst, length, ◌≤◌, File, Run, shown_of, report_of, shown_line, Told, Answer, Performs, State, in_files, seen, FileMeans, RUN, IsFile, ShowsRun, run_kind, PrintedRunsAreReplayed, SaysShown, replay_meaning, ReportHolds}
+use Rattle.ta_program.proofs.Common.{◌≡◌, ◌⊎◌, inl, ℕ, List, [], Option, Some, refl, sym, ◌∙◌, subst, length, ◌≤◌, File, Run, shown_of, report_of, shown_line, Told, Answer, Performs, State, in_files, seen, FileMeans, RUN, IsFile, ShowsRun, run_kind, PrintedRunsAreReplayed, SaysShown, replay_meaning, ReportHolds, resting}
 use Rattle.ta_program.proofs.AtRest.{rest_unsafe_printed}
-use Rattle.ta_program.proofs.Clauses.{as_replay, rests_report, verify_reports}
+use Rattle.ta_program.proofs.Clauses.{as_replay, loud_by_words, rests_report, verify_reports}
 use Rattle.ta_program.proofs.Meanings.{replay_decides}
 use Rattle.ta_program.proofs.UnsafePrinted.{unsafe_printed}
 use Rattle.ta_program.specs.Laws.{PrintedRestRunsAreReplayed}
@@ -24,7 +24,7 @@ shown_number told name run_name file run is_file is_run number before after is p
 pub runs_replayed : PrintedRunsAreReplayed
 runs_replayed words number before after h asked asks low told is =
     let name = asked.file in
-    let budget = asked.nodes in
+    let budget = asked.budget in
     let reports = verify_reports words number before after h asked asks low in
     let r = subst (λ (files : Option Told). ReportHolds number (seen files reports.read) name budget asked.json before.out.written after.out.written) is reports.such in
     record {
@@ -45,9 +45,8 @@ runs_replayed words number before after h asked asks low told is =
 pub rest_runs_replayed : PrintedRestRunsAreReplayed
 rest_runs_replayed words number before after h asked asks low told is =
     let name = asked.file in
-    let budget = asked.nodes in
     let reports = (rests_report words number before after h).report asked asks low in
-    let r = subst (λ (files : Option Told). RestReportHolds number (seen files reports.read) name budget before.out.written after.out.written) is reports.such in
+    let r = subst (λ (files : Option Told). RestReportHolds number (seen files reports.read) asked before.out.written after.out.written) is reports.such in
     record {
       file = r.file;
       text = rest_text r.file r.sample r.verdicts;
@@ -55,7 +54,7 @@ rest_runs_replayed words number before after h asked asks low told is =
       replayed = λ k p named line bytes part again names replays named_so later same has second begun ended begun_is done.
           let run_name = names.other in
           let performs = subst (λ (n : List ℕ). Performs (replay_meaning n run_name) second begun ended) named_so (as_replay again second begun ended done names replays) in
-          let printed = rest_unsafe_printed r.file r.ends.ending r.ends.added budget r.sample r.is_sample r.verdicts r.are k p named line in
+          let printed = rest_unsafe_printed asked.silent r.file r.ends.ending r.ends.added (resting asked.budget r.silent) r.are_silent (loud_by_words words number before after h asked asks r.file r.silent r.are_silent) r.sample r.is_sample r.verdicts r.are k p named line in
           let shows : ShowsRun r.file bytes printed.run = subst (λ (bs : List ℕ). ShowsRun r.file bs printed.run) (sym (printed.only bytes part)) printed.shows in
           let within : length bytes ≤ RUN.bytes = subst (λ (bs : List ℕ). length bs ≤ RUN.bytes) (sym (printed.only bytes part)) printed.within in
           let is_file : IsFile (in_files later) name r.file = record { bytes = r.is_file.bytes; had = record { seen = same ∙ r.is_file.had.seen.1; within = r.is_file.had.within }; means = r.is_file.means } in

@@ -1,5 +1,5 @@
 -- what the answers of `search` say
-use Rattle.ta_program.proofs.Common.{◌≡◌, ◌∙◌, ◌<◌, ◌≤◌, ℕ, suc, Bool, true, false, List, [], ◌∷◌, ◌++◌, length, map, Option, None, Some, Ok, Err, refl, sym, ap, subst, inl, inr, rules, arith, Contains, IsSome, AllByRecursion, each_append, Tried, Template, filled_text, AreTried, LastIsFound, each_before, hole_values, vectors, Told, Says, file_line, phrase_text, PutsWithin, Answer, Put, Refusal, Refused, ReadFailed, PutFailed, Memory, long_line, may_put, CERTIFICATE, SaysLong, HindersFound, PutText, end_number, found_files, found_meaning, found_names, put_text, SearchWords, each_back}
+use Rattle.ta_program.proofs.Common.{Budget, ◌≡◌, ◌∙◌, ◌<◌, ◌≤◌, ℕ, suc, Bool, true, false, List, [], ◌∷◌, ◌++◌, length, map, Option, None, Some, Ok, Err, refl, sym, ap, subst, inl, inr, rules, arith, Contains, IsSome, AllByRecursion, each_append, Tried, Template, filled_text, AreTried, LastIsFound, each_before, hole_values, vectors, Told, Says, file_line, phrase_text, PutsWithin, Answer, Put, Refusal, Refused, ReadFailed, PutFailed, Memory, long_line, may_put, CERTIFICATE, SaysLong, HindersFound, PutText, end_number, found_files, found_meaning, found_names, put_text, SearchWords, each_back}
 use Rattle.ta_search.specs.declared.outcome.Outcome.TheVariants.{Safe}
 use Rattle.ta_search.specs.declared.template.Hole.{Hole}
 use Rattle.ta_program.specs.Inside.FoundFiles.{FoundBy}
@@ -40,7 +40,7 @@ vectors_sized : (hs : List Hole) → Sized (length hs) (vectors hs)
 vectors_sized [] = (refl, tt)
 vectors_sized (h ∷ hs) = before_sized (length hs) (hole_values h) (vectors hs) (vectors_sized hs)
 
-tried_sized : (t : Template) (budget n : ℕ) (vs : List (List ℕ)) (xs : List Tried) (found : Bool) → Sized n vs → AreTried t budget vs xs found → AllByRecursion (λ (x : Tried). length x.values ≡ n) xs
+tried_sized : (t : Template) (budget : Budget) (n : ℕ) (vs : List (List ℕ)) (xs : List Tried) (found : Bool) → Sized n vs → AreTried t budget vs xs found → AllByRecursion (λ (x : Tried). length x.values ≡ n) xs
 tried_sized t budget n [] [] found sized are = tt
 tried_sized t budget n [] (x ∷ xs) found sized are = absurd are
 tried_sized t budget n (v ∷ vs) [] found sized are = absurd are
@@ -50,7 +50,7 @@ tried_sized t budget n (v ∷ vs) (x ∷ xs) found sized are = (
 )
 
 -- what was tried last has the values and the certificate that are known
-module _ (asked : SearchWords) (t : Template) (values certificate text : List ℕ) (h : FoundBy t asked.nodes values certificate text) where
+module _ (asked : SearchWords) (t : Template) (values certificate text : List ℕ) (h : FoundBy t asked.budget values certificate text) where
   last : LastIsFound t h.end
   last = h.ends.last
 
@@ -90,7 +90,7 @@ module _ (asked : SearchWords) (t : Template) (values certificate text : List �
         };
       }
 
-  hinders : (out : Option (List ℕ)) (name : List ℕ) → out ≡ Some name → (number : ℕ) (line : List ℕ) → number ≡ CERTIFICATE.number → line ≡ long_line name → CERTIFICATE.bytes < length certificate → HindersFound t asked.nodes out number line
+  hinders : (out : Option (List ℕ)) (name : List ℕ) → out ≡ Some name → (number : ℕ) (line : List ℕ) → number ≡ CERTIFICATE.number → line ≡ long_line name → CERTIFICATE.bytes < length certificate → HindersFound t asked.budget out number line
   hinders None name is number line numbered said longer = absurd (cc)
   hinders (Some out) name is number line numbered said longer =
       let one : name ≡ out = cc in
@@ -112,4 +112,4 @@ module _ (asked : SearchWords) (t : Template) (values certificate text : List �
   -- there is a value for each hole
   pub values_sized : length values ≡ length t.holes
   values_sized =
-      ap length (sym same_values) ∙ (each_back (λ (x : Tried). length x.values ≡ length t.holes) last.before (last.last ∷ []) (subst (AllByRecursion (λ (x : Tried). length x.values ≡ length t.holes)) last.whole (tried_sized t asked.nodes (length t.holes) (vectors t.holes) h.end.tried h.end.found (vectors_sized t.holes) h.ends.is_end))).0
+      ap length (sym same_values) ∙ (each_back (λ (x : Tried). length x.values ≡ length t.holes) last.before (last.last ∷ []) (subst (AllByRecursion (λ (x : Tried). length x.values ≡ length t.holes)) last.whole (tried_sized t asked.budget (length t.holes) (vectors t.holes) h.end.tried h.end.found (vectors_sized t.holes) h.ends.is_end))).0

@@ -1,5 +1,5 @@
 -- What the report says of unsafe patterns
-use Rattle.ta_program.proofs.Common.{◌≡◌, ◌+◌, ◌≤◌, ℕ, suc, true, length, map, List, [], ◌∷◌, Some, slice_get, Bool, refl, sym, ap, subst, ◌∙◌, arith, list_any, each_at, File, Pattern, pair_of, Run, run_text, IsFirstConfig, Shows, ShowsPattern, unit_steps, lines_counted, run_text_short, VerdictFits, TellsUnsafe, report_of, ReportSample, Verdict, Safe, Unsafe, Spent, Overflow, run_told, told_run, told_unsafe, RUN, UnsafePrinted, verify_telling, AreVerdicts, IsSample, UnsafeHolds, VerdictHolds, is_unsafe, safety_question, held}
+use Rattle.ta_program.proofs.Common.{verdict_run, Budget, ◌≡◌, ◌∙◌, ◌+◌, ◌≤◌, ℕ, suc, true, length, List, [], ◌∷◌, Some, slice_get, Bool, refl, sym, ap, subst, arith, list_any, each_at, File, Pattern, Run, run_text, IsFirstConfig, Shows, ShowsPattern, unit_steps, lines_counted, run_text_short, VerdictFits, TellsUnsafe, report_of, ReportSample, Verdict, Safe, Unsafe, Spent, Overflow, run_told, told_run, told_unsafe, RUN, UnsafePrinted, verify_telling, AreVerdicts, IsSample, VerdictHolds, is_unsafe, held}
 use Rattle.std.proofs.Math.Nat.{mul-le-mul_right}
 use Rattle.ta_automaton.proofs.Thresholds.{pattern_within}
 use Rattle.ta_automaton.specs.Runs as runs
@@ -15,15 +15,16 @@ pub record Occurrence (file : File) (p : Pattern) (run : Run) : Type 0 where
   pub occurs : runs.Occurs file.automaton p first (unit_steps run.lines)
 
 -- the run of an unsafe pattern is an occurrence of it
-run_number : (file : File) (pairs : List (ℕ × ℕ)) (number : ℕ) (p : Pattern) (budget nodes : ℕ) (run : Run) → UnsafeHolds (safety_question file pairs p) number budget nodes run → run.pattern ≡ number
-run_number file pairs number p budget nodes run h = h.is.witness.same_pattern ∙ h.node.holds.pattern
-
-pub unsafe_occurs : (file : File) (pairs : List (ℕ × ℕ)) (number : ℕ) (p : Pattern) (budget nodes : ℕ) (run : Run) → slice_get file.patterns number ≡ Some p → UnsafeHolds (safety_question file pairs p) number budget nodes run → Occurrence file p run
-unsafe_occurs file pairs number p budget nodes run at h =
-    let named : Some h.is.shows.pattern ≡ Some p = sym h.is.shows.named ∙ ap (slice_get file.patterns) (run_number file pairs number p budget nodes run h) ∙ at in
-    let same : h.is.shows.pattern ≡ p = cc in
-    let first = h.is.shows.shows.first in
-    record { first = first; begins = h.is.shows.shows.begins; occurs = subst (λ (q : Pattern). runs.Occurs file.automaton q first (unit_steps run.lines)) same (shown_occurs file run h.is.shows) }
+pub unsafe_occurs :
+    (file : File) (budget : Budget) (number : ℕ) (p : Pattern) (nodes : ℕ) (run : Run) → slice_get file.patterns number ≡ Some p
+    → VerdictHolds file budget number p (Unsafe nodes run) → Occurrence file p run
+unsafe_occurs file budget number p nodes run at h =
+    let known = verdict_run file budget number p nodes run h in
+    let shown = known.shows in
+    let named : Some shown.pattern ≡ Some p = sym shown.named ∙ ap (slice_get file.patterns) known.pattern ∙ at in
+    let same : shown.pattern ≡ p = cc in
+    let first = shown.shows.first in
+    record { first = first; begins = shown.shows.begins; occurs = subst (λ (q : Pattern). runs.Occurs file.automaton q first (unit_steps run.lines)) same (shown_occurs file run shown) }
 
 -- where some verdict says unsafe, one of a number does
 pub unsafe_there : (vs : List Verdict) → list_any is_unsafe vs ≡ true → (k : ℕ) × (nodes : ℕ) × (run : Run) × (slice_get vs k ≡ Some (Unsafe nodes run))
@@ -54,16 +55,15 @@ pub run_within : (file : File) (run : Run) → Fits file run → Shows file run 
 run_within file run fits shows short = let text = run_text_short file run fits (few_lines file run fits shows short) in omega (arith, text)
 
 -- a pattern that a report tells is unsafe, and its run
-pub unsafe_printed : (json : Bool) (file : File) (budget : ℕ) (x : ReportSample) → IsSample file budget x → (vs : List Verdict) → AreVerdicts file budget vs → (k : ℕ) (p : Pattern) → slice_get file.patterns k ≡ Some p → TellsUnsafe json p.name (report_of json file x vs) → UnsafePrinted runs.Occurs (verify_telling json) file k p (report_of json file x vs)
+pub unsafe_printed : (json : Bool) (file : File) (budget : Budget) (x : ReportSample) → IsSample file budget.nodes x → (vs : List Verdict) → AreVerdicts file budget vs → (k : ℕ) (p : Pattern) → slice_get file.patterns k ≡ Some p → TellsUnsafe json p.name (report_of json file x vs) → UnsafePrinted runs.Occurs (verify_telling json) file k p (report_of json file x vs)
 unsafe_printed json file budget x sampled vs are k p named line =
     let said = told_unsafe file x vs k p named sampled.fits are.fit json line in
     let nodes = said.0 in
     let run = said.1 in
     let v = held (VerdictHolds file budget) file.patterns vs are.hold k p (Unsafe nodes run) named said.2 in
     let fit : VerdictFits file (Unsafe nodes run) = each_at (VerdictFits file) vs k (Unsafe nodes run) are.fit said.2 in
-    let pairs = map pair_of v.orders in
-    let h = v.holds in
-    let occurs = unsafe_occurs file pairs k p budget nodes run named h in
+    let known = verdict_run file budget k p nodes run v in
+    let occurs = unsafe_occurs file budget k p nodes run named v in
     record {
       bytes = run_text file run;
       stands = run_told file x vs k p named sampled.fits are.fit json nodes run said.2 line;
@@ -73,9 +73,9 @@ unsafe_printed json file budget x sampled vs are k p named line =
           let same : found.1 ≡ run = cc in
           found.3 ∙ ap (run_text file) same;
       run = run;
-      of = run_number file pairs k p budget nodes run h;
-      shows = record { text = record { fits = fit.1; text = refl }; shows = h.is.shows; stays = h.is.stays };
-      within = run_within file run fit.1 h.is.shows h.is.short;
+      of = known.pattern;
+      shows = record { text = record { fits = fit.1; text = refl }; shows = known.shows; stays = known.stays };
+      within = run_within file run fit.1 known.shows known.short;
       first = occurs.first;
       begins = occurs.begins;
       happens = occurs.occurs;

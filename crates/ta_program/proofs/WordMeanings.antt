@@ -1,4 +1,4 @@
--- what `export` and `admit` say grows with what is seen, and told files leave one number
+-- what `export` and `admit` say grows with what is seen, and known files leave one number
 use Rattle.ta_program.proofs.Common.{◌≡◌, ◌∙◌, ℕ, List, [], Option, Some, Err, refl, sym, subst, inl, inr, arith, File, run_text, Told, Decides, IsSo, Meaning, Says, ReadCause, View, in_files, Writes, finds, replies, Refusal, Refused, ReadFailed, PutFailed, Memory, after_monotone, finds_memory, finds_monotone, finds_one, finds_wrong, one_number, replies_monotone, replies_one, Monotone, WordFault, IsWholeWordOf, IsWordOf, Spelling, WholeFaultOf, WordFaultOf, whole_exact, words_exact, AdmitAsked, admit_meaning, run_meaning, values_kind, values_meaning, Passes, SaysSystem, WordHinders, export_meaning, system_meaning, WordRefused, WordAsked, AskedWord as Word}
 use Rattle.ta_program.proofs.Meanings.{file_decides, file_passes, second_passes}
 

@@ -1,5 +1,5 @@
 -- the files that a command puts are not its FILE, and not each other
-use Rattle.ta_program.proofs.Common.{◌≡◌, ◌≢◌, ◌∙◌, ℕ, Bool, true, false, ◌&&◌, not, List, [], ◌∷◌, length, Option, None, Some, refl, sym, subst, rules, option_and_then_some, option_and_then, if◌then◌else◌, bytes_eq, rest_form, rest_of, rest_taken, rest_words, SearchWords, search_form, search_of, search_taken, search_words, are_same, budget_of, filled_of, file_name_of, out_of, VerifyWords, verify_form, verify_of, verify_taken, verify_words, Taken, behind_name, plain_of, taken_by, option_value, codes, is_some, nat_lt, option_map}
+use Rattle.ta_program.proofs.Common.{Budget, ◌≡◌, ◌≢◌, ◌∙◌, ℕ, Bool, true, false, ◌&&◌, not, List, [], ◌∷◌, length, Option, None, Some, refl, sym, subst, rules, option_and_then_some, option_and_then, if◌then◌else◌, bytes_eq, rest_form, rest_of, rest_taken, rest_words, SearchWords, search_form, search_of, search_taken, search_words, are_same, budget_of, filled_of, file_name_of, out_of, VerifyWords, verify_form, verify_of, verify_taken, verify_words, Taken, behind_name, plain_of, taken_by, option_value, codes, is_some, nat_lt, option_map, RestWords, quiet_names}
 use Rattle.std.proofs.lemmas.Option.{cond_some, none-some}
 use Rattle.ta_base.proofs.Booleans.{not_chosen}
 use Rattle.ta_base.proofs.Options.{some_where}
@@ -26,35 +26,64 @@ behind : {W : Type 0} (Such : W → Type 0) (name : List ℕ) (read : List (List
 behind Such name read such [] asked is = absurd (cc)
 behind Such name read such (word ∷ words) asked is = such words asked (some_where (bytes_eq word name) (read words) asked is).1
 
--- ---- OUT of `verify` and of `rest`
+-- ---- OUT of `verify`
 abbrev Differs : VerifyWords → Type 0
 Differs asked = Apart (Some asked.file) asked.out
 
-by_out : (file : List ℕ) (nodes : ℕ) (json : Bool) (given : Option (List ℕ)) (out : Option (Option (List ℕ))) → out_of file given ≡ out → (asked : VerifyWords) → option_map (λ o. record { file = file; nodes = nodes; out = o; json = json }) out ≡ Some asked → Differs asked
-by_out file nodes json given None from asked is = absurd (cc)
-by_out file nodes json given (Some out) from asked is =
-    let words : VerifyWords = record { file = file; nodes = nodes; out = out; json = json } in
+by_out : (file : List ℕ) (budget : Budget) (json : Bool) (given : Option (List ℕ)) (out : Option (Option (List ℕ))) → out_of file given ≡ out → (asked : VerifyWords) → option_map (λ o. record { file = file; budget = budget; out = o; json = json }) out ≡ Some asked → Differs asked
+by_out file budget json given None from asked is = absurd (cc)
+by_out file budget json given (Some out) from asked is =
+    let words : VerifyWords = record { file = file; budget = budget; out = out; json = json } in
     let same : words ≡ asked = cc in
     subst Differs same (file_apart file given out from)
 
-read_differs : (file : Option (List ℕ)) (nodes : Option ℕ) (json : Bool) (given : Option (List ℕ)) (asked : VerifyWords) → option_and_then (λ f. option_and_then (λ n. option_map (λ o. record { file = f; nodes = n; out = o; json = json }) (out_of f given)) nodes) file ≡ Some asked → Differs asked
-read_differs None nodes json given asked is = absurd (cc)
-read_differs (Some file) None json given asked is = absurd (cc)
-read_differs (Some file) (Some nodes) json given asked is = by_out file nodes json given (out_of file given) refl asked is
+read_differs :
+    (file : Option (List ℕ)) (nodes : Option ℕ) (lazy json : Bool) (given : Option (List ℕ)) (asked : VerifyWords)
+    → option_and_then (λ f.
+    option_and_then (λ n. option_map (λ o. record { file = f; budget = record { nodes = n; lazy = lazy }; out = o; json = json }) (out_of f given)) nodes) file ≡ Some asked
+    → Differs asked
+read_differs None nodes lazy json given asked is = absurd (cc)
+read_differs (Some file) None lazy json given asked is = absurd (cc)
+read_differs (Some file) (Some nodes) lazy json given asked is = by_out file (record { nodes = nodes; lazy = lazy }) json given (out_of file given) refl asked is
 
 verify_differs : (words : List (List ℕ)) (asked : VerifyWords) → verify_words words ≡ Some asked → Differs asked
 verify_differs words asked is = option_and_then_some verify_taken (taken_by verify_form words) asked is (λ taken by taken_is.
-    read_differs (file_name_of (plain_of taken 0)) (budget_of (option_value taken 0)) (is_some (option_value taken 2)) (option_value taken 1) asked taken_is)
-
-rest_differs : (words : List (List ℕ)) (asked : VerifyWords) → rest_words words ≡ Some asked → Differs asked
-rest_differs words asked is = option_and_then_some rest_taken (taken_by rest_form words) asked is (λ taken by taken_is.
-    read_differs (file_name_of (plain_of taken 0)) (budget_of (option_value taken 0)) false (option_value taken 1) asked taken_is)
+    read_differs (file_name_of (plain_of taken 0)) (budget_of (option_value taken 0)) (is_some (option_value taken 3)) (is_some (option_value taken 2)) (option_value taken 1) asked taken_is)
 
 pub out_differs : (words : List (List ℕ)) (asked : VerifyWords) (out : List ℕ) → verify_of words ≡ Some asked → asked.out ≡ Some out → asked.file ≢ out
 out_differs words asked out is given = behind Differs (codes "verify") verify_words verify_differs words asked is asked.file out refl given
 
-pub rest_out_differs : (words : List (List ℕ)) (asked : VerifyWords) (out : List ℕ) → rest_of words ≡ Some asked → asked.out ≡ Some out → asked.file ≢ out
-rest_out_differs words asked out is given = behind Differs (codes "rest") rest_words rest_differs words asked is asked.file out refl given
+-- ---- the words of `rest`: OUT differs from FILE, and names are silent with moments on demand alone
+pub record RestSaid (asked : RestWords) : Type 0 where
+  pub differs : Apart (Some asked.file) asked.out
+  pub quiet : asked.budget.lazy ≡ false → asked.silent ≡ None
+
+names_quiet : (lazy : Bool) (given silent : Option (List ℕ)) → quiet_names lazy given ≡ Some silent → lazy ≡ false → silent ≡ None
+names_quiet true given silent is words = absurd (cc)
+names_quiet false None silent is words = cc
+names_quiet false (Some names) silent is words = absurd (cc)
+
+by_names :
+    (file : List ℕ) (budget : Budget) (out given : Option (List ℕ)) → Apart (Some file) out → (names : Option (Option (List ℕ))) → quiet_names budget.lazy given ≡ names
+    → (asked : RestWords) → option_map (λ s. record { file = file; budget = budget; out = out; silent = s }) names ≡ Some asked → RestSaid asked
+by_names file budget out given apart None from asked is = absurd (cc)
+by_names file budget out given apart (Some silent) from asked is =
+    let words : RestWords = record { file = file; budget = budget; out = out; silent = silent } in
+    let same : words ≡ asked = cc in
+    subst RestSaid same (record { differs = apart; quiet = names_quiet budget.lazy given silent from })
+
+rest_taken_says : (taken : Taken) (asked : RestWords) → rest_taken taken ≡ Some asked → RestSaid asked
+rest_taken_says taken asked is = option_and_then_some _ (file_name_of (plain_of taken 0)) asked is (λ file named file_is.
+    option_and_then_some _ (budget_of (option_value taken 0)) asked file_is (λ nodes counted nodes_is.
+    option_and_then_some _ (out_of file (option_value taken 1)) asked nodes_is (λ out took out_is.
+    let lazy = is_some (option_value taken 2) in
+    by_names file (record { nodes = nodes; lazy = lazy }) out (option_value taken 3) (file_apart file (option_value taken 1) out took) (quiet_names lazy (option_value taken 3)) refl asked out_is)))
+
+rest_says : (words : List (List ℕ)) (asked : RestWords) → rest_words words ≡ Some asked → RestSaid asked
+rest_says words asked is = option_and_then_some rest_taken (taken_by rest_form words) asked is (λ taken by taken_is. rest_taken_says taken asked taken_is)
+
+pub rest_said : (words : List (List ℕ)) (asked : RestWords) → rest_of words ≡ Some asked → RestSaid asked
+rest_said words asked is = behind RestSaid (codes "rest") rest_words rest_says words asked is
 
 differ : (out given : Option (List ℕ)) → are_same out given ≡ false → Apart given out
 differ None given differs = λ name other first second. absurd (cc)
@@ -75,10 +104,10 @@ pub record AllApart (asked : SearchWords) : Type 0 where
   pub out : Apart (Some asked.file) asked.out
   pub filled : Apart (Some asked.file) asked.filled
 
-by_filled : (file : List ℕ) (nodes : ℕ) (first out given : Option (List ℕ)) → out_of file first ≡ Some out → (filled : Option (Option (List ℕ))) → filled_of file out given ≡ filled → (asked : SearchWords) → option_map (λ f. record { file = file; nodes = nodes; out = out; filled = f }) filled ≡ Some asked → AllApart asked
-by_filled file nodes first out given took None from asked is = absurd (cc)
-by_filled file nodes first out given took (Some filled) from asked is =
-    let words : SearchWords = record { file = file; nodes = nodes; out = out; filled = filled } in
+by_filled : (file : List ℕ) (budget : Budget) (first out given : Option (List ℕ)) → out_of file first ≡ Some out → (filled : Option (Option (List ℕ))) → filled_of file out given ≡ filled → (asked : SearchWords) → option_map (λ f. record { file = file; budget = budget; out = out; filled = f }) filled ≡ Some asked → AllApart asked
+by_filled file budget first out given took None from asked is = absurd (cc)
+by_filled file budget first out given took (Some filled) from asked is =
+    let words : SearchWords = record { file = file; budget = budget; out = out; filled = filled } in
     let same : words ≡ asked = cc in
     let by = not_chosen (are_same out given) None (out_of file given) (Some filled) from (none-some filled) in
     subst AllApart same (record {
@@ -91,7 +120,7 @@ taken_apart : (taken : Taken) (asked : SearchWords) → search_taken taken ≡ S
 taken_apart taken asked is = option_and_then_some _ (file_name_of (plain_of taken 0)) asked is (λ file named file_is.
     option_and_then_some _ (budget_of (option_value taken 0)) asked file_is (λ nodes counted nodes_is.
     option_and_then_some _ (out_of file (option_value taken 1)) asked nodes_is (λ out took out_is.
-    by_filled file nodes (option_value taken 1) out (option_value taken 2) took (filled_of file out (option_value taken 2)) refl asked out_is)))
+    by_filled file (record { nodes = nodes; lazy = is_some (option_value taken 3) }) (option_value taken 1) out (option_value taken 2) took (filled_of file out (option_value taken 2)) refl asked out_is)))
 
 search_apart : (words : List (List ℕ)) (asked : SearchWords) → search_words words ≡ Some asked → AllApart asked
 search_apart words asked is = option_and_then_some search_taken (taken_by search_form words) asked is (λ taken by taken_is. taken_apart taken asked taken_is)

@@ -1,4 +1,4 @@
--- What is asked of `admit`, by the texts of the command line
+-- What is asked of `admit`, by the texts of the command line.
 use Rattle.std.specs.Prelude.{ℕ, List}
 use Rattle.ta_program.specs.declared.spelled.WordAsked.{WordAsked}
 use Rattle.ta_program.specs.Admit.{AdmitAsked}

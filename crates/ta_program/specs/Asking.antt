@@ -1,7 +1,7 @@
--- What commands are asked for, by the texts of their words
+-- What each command is asked for, by the texts of the command line.
 use Rattle.std.specs.Prelude.{option_map}
 use Rattle.ta_program.specs.declared.verify.Verify.{Verify}
 use Rattle.ta_program.specs.VerifyWords.{VerifyWords}
 
 abbrev pub verify_seen : Verify → VerifyWords
-verify_seen command = record { file = command.file.now; nodes = command.budget.nodes; out = option_map (λ w. w.now) command.out; json = command.json }
+verify_seen command = record { file = command.file.now; budget = command.budget.given; out = option_map (λ w. w.now) command.out; json = command.json }

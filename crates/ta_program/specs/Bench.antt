@@ -1,4 +1,4 @@
--- The command `bench` (this project's profile)
+-- The command `bench`: it makes a test automaton, verifies it and checks the certificate.
 use Rattle.std.specs.Prelude.{ℕ, ◌*◌, ◌-◌, ◌≡◌, ◌&&◌, nat_le, Bool, true, false, List, [], ◌∷◌, ◌++◌, codes, decimal, slice_get, Option, None, Some, if◌then◌else◌, option_and_then}
 use Rattle.ta_base.specs.declared.limits.TheConstants.{DEFAULT_NODES}
 use Rattle.ta_automaton.specs.declared.file.File.{File}
@@ -17,6 +17,7 @@ use Rattle.ta_syntax.specs.Printed.{printed}
 use Rattle.ta_program.specs.Asked.{Asked, ask}
 use Rattle.ta_verdict.specs.Certificates.{CertificateOf, safe_numbers}
 use Rattle.ta_verdict.specs.Verdicts.{AreVerdicts, is_unknown, is_unsafe}
+use Rattle.ta_verdict.specs.declared.budget.Budget.{Budget}
 use Rattle.ta_program.specs.Words.{behind_name, plain_of, taken_by}
 
 -- K is one of the texts `1` to `7`
@@ -32,13 +33,13 @@ bench_words words = option_and_then (λ taken. family_number (plain_of taken 0))
 abbrev pub bench_of : List (List ℕ) → Option ℕ
 bench_of = behind_name (codes "bench") bench_words
 
--- the text of the automaton of a number
+-- the text of the automaton with this number
 unfoldable pub family_text : ℕ → List ℕ
 family_text k = printed (file_kinds (family k))
 
--- how many nodes may be visited
-abbrev pub BUDGET : ℕ
-BUDGET = DEFAULT_NODES
+-- the budget for the pattern: its schemas are listed
+abbrev pub BUDGET : Budget
+BUDGET = record { nodes = DEFAULT_NODES; lazy = false }
 
 -- the line that says that the certificate was accepted, where the pattern is safe
 abbrev pub accepted_line : Bool → List ℕ
@@ -49,8 +50,8 @@ accepted_line false = codes "certificate: accepted\n"
 abbrev pub bench_text : ℕ → Pattern → Verdict → List ℕ
 bench_text k p v = codes "bench " ++ (decimal k ++ (codes "\nrules " ++ (decimal (2 * k) ++ (codes "\n" ++ (verdict_line p v ++ accepted_line (is_unknown v))))))
 
--- the automaton of the number means a file; its verdicts hold, and that on its pattern doesn't say unsafe; and the text is a
--- certificate of the patterns that they say are safe, so `check` accepts it
+-- the automaton with this number means a file; its verdicts hold, and the one on its pattern is not unsafe; the text is a certificate of
+-- the patterns that are safe by these verdicts, so `check` accepts it
 pub record IsBench (k : ℕ) (p : Pattern) (v : Verdict) : Type 0 where
   pub file : File
   pub legal : Legal (family_text k) file
@@ -63,7 +64,7 @@ pub record IsBench (k : ℕ) (p : Pattern) (v : Verdict) : Type 0 where
   pub certificate : CertificateOf file BUDGET verdicts text
   pub accepted : Certificate file text (safe_numbers file verdicts)
 
--- 2 where the verdict is unknown, else 0
+-- 2 if the verdict is unknown, otherwise 0
 abbrev pub bench_status : Verdict → ℕ
 bench_status v = if is_unknown v then 2 else 0
 

@@ -1,4 +1,4 @@
--- The command `check` (this project's profile)
+-- The command `check`: which patterns a certificate proves safe.
 use Rattle.std.specs.Prelude.{ℕ, ◌≡◌, List, [], codes, Option, Some}
 use Rattle.ta_automaton.specs.declared.file.File.{File}
 use Rattle.ta_report.specs.Check.{check_text}
@@ -28,8 +28,8 @@ check_of = behind_name (codes "check") two_names
 abbrev pub check_asked : List (List ℕ) → Asked
 check_asked words = ask (λ names. Some names.file) (λ names. check_meaning names.file names.other) (two_names words)
 
--- FILE is legal, CERT is a certificate of it, so each pattern that it proves is safe, and the output gained the text that says
--- which these are
+-- FILE is legal, CERT is a certificate of it, so each pattern that it proves is safe, and the output gained the text that says which
+-- patterns these are
 pub record CheckHolds (view : View) (file_name certificate_name : List ℕ) (written written' : Option (List ℕ)) : Type 0 where
   pub file : File
   pub is_file : IsFile view file_name file

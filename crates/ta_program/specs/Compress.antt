@@ -1,4 +1,4 @@
--- The command `compress` (this project's profile)
+-- The command `compress`: it shortens a run.
 use Rattle.std.specs.Prelude.{ℕ, ◌≡◌, ◌≢◌, ◌⊎◌, List, [], ◌++◌, codes, decimal, unsigned_abs, Option, Some}
 use Rattle.ta_automaton.specs.declared.file.File.{File}
 use Rattle.ta_compress.specs.declared.fault.CompressFault.{CompressFault}
@@ -30,12 +30,12 @@ pub record Compresses (file : File) (bytes : List ℕ) (run : Run) : Type 0 wher
   pub text : IsRunText file run bytes
   pub able : Compressible file run
 
--- the fault of a text as a run
+-- an error of a text as a run
 abbrev pub of_run : RunFault → CompressFault
 of_run runs.Memory = fault.Memory
 of_run other = fault.Replay other
 
--- the first fault of the bytes as the text of a run
+-- the first error of the bytes as the text of a run
 pub record IsTextFault (file : File) (bytes : List ℕ) (found : CompressFault) : Type 0 where
   pub first : RunFault
   pub is : found ≡ of_run first
@@ -47,13 +47,13 @@ pub record IsRefusedRun (file : File) (bytes : List ℕ) (found : CompressFault)
   pub text : IsRunText file run bytes
   pub first : CompressFaultOf file run found
 
--- the first fault of a text as a run of a file, of its replay, or of what it takes to compress it
+-- the first error of a text as a run of a file, of its replay, or of its compression
 pub record CompressFaultIn (file : File) (bytes : List ℕ) (found : CompressFault) : Type 0 where
   pub no_memory : found ≢ fault.Memory
   pub first : IsTextFault file bytes found ⊎ IsRefusedRun file bytes found
   pub compresses_nothing : (run : Run) → ¬ Compresses file bytes run
 
--- what is wrong in a run that is to be compressed
+-- the errors of a run that is to be compressed, in words
 abbrev pub compress_fault_text : CompressFault → List ℕ
 compress_fault_text (fault.Replay found) = run_fault_text found
 compress_fault_text (fault.TooManySteps steps) = codes "N13 " ++ (decimal (unsigned_abs steps) ++ codes " unit steps")

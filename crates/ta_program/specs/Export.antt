@@ -1,4 +1,4 @@
--- The command `export` (this project's profile)
+-- The command `export`: the constraint system of a schema as an SMT-LIB script.
 use Rattle.std.specs.Prelude.{ℕ, ℤ, ◌≡◌, ◌↔◌, ◌++◌, List, [], codes, decimal, Option, Some, option_and_then}
 use Rattle.ta_automaton.specs.declared.file.File.{File}
 use Rattle.ta_shelf.specs.Sink.{with_text}
@@ -18,31 +18,31 @@ use Rattle.ta_program.specs.Kinds.{IsFile, file_kind}
 use Rattle.ta_program.specs.WordAsked.{WordAsked, asked_of}
 use Rattle.ta_program.specs.Words.{behind_name, taken_by}
 
--- why a file hasn't a word, in words
+-- why a file does not have a schema, in words
 abbrev pub word_fault_text : WordFault → List ℕ
 word_fault_text fault.Pattern = codes "V1 unknown pattern"
 word_fault_text fault.Start = codes "V2 start set"
 word_fault_text (fault.Element k) = codes "V3 element " ++ decimal k
 word_fault_text fault.Incomplete = codes "V4 word not complete"
 
--- the word hinders: the number is that of the file of values, and the line says why, of FILE
+-- the schema is refused: the status is that of a file of values, and the line says why, for FILE
 pub record WordHinders (Of : WordFault → Type 0) (file_name : List ℕ) (number : ℕ) (line : List ℕ) : Type 0 where
   pub numbered : number ≡ VALUES.number
   pub found : WordFault
   pub is : Of found
   pub said : line ≡ file_line file_name (word_fault_text found)
 
--- the text is that of the word's system
+-- the text is that of the schema's system
 pub record SaysSystem (file : File) (word : Word) (answer : Answer) : Type 0 where
   pub text : List ℕ
   pub is : IsWordText file word text
   pub writes : Writes 0 text answer
 
--- a file has the word, and the text of its system is written
+-- the file has the schema, and the text of its system is written
 abbrev pub system_meaning : List ℕ → Spelling → File → Meaning
 system_meaning file_name spelled file = finds (IsWordOf file spelled) (WordHinders (WordFaultOf file spelled) file_name) [] (λ word. replies [] (SaysSystem file word))
 
--- FILE is read, and then the word is looked for
+-- FILE is read, then the schema is looked up
 abbrev pub export_meaning : WordAsked → Meaning
 export_meaning asked = after file_kind asked.file [] (system_meaning asked.file asked.word)
 
@@ -56,8 +56,8 @@ export_of = behind_name (codes "export") export_words
 abbrev pub export_asked : List (List ℕ) → Asked
 export_asked words = ask (λ asked. Some asked.file) export_meaning (export_words words)
 
--- FILE is legal and has the word, and the output gained the text of the word's system without bounds: for every list of whole
--- numbers, it denotes them exactly where all are natural and solve the system
+-- FILE is legal and has the schema, and the output gained the text of the schema's system without bounds: it denotes exactly those lists of
+-- integers that are natural and solve the system
 pub record ExportHolds (view : View) (asked : WordAsked) (written written' : Option (List ℕ)) : Type 0 where
   pub file : File
   pub is_file : IsFile view asked.file file

@@ -1,8 +1,8 @@
--- What a status says, and no more. `verify FILE` with status 0: FILE holds a text that means an automaton with patterns, and each
--- of these patterns occurs in no run; with status 1: some pattern of it occurs in a run. `check FILE CERT` with status 0: each
--- pattern that the output says is proved occurs in no run. `rest FILE` and `rest-check FILE CERT`, without silent names: of each pattern that the output says is safe
--- or proved so, no run in which it occurs comes to rest where its last event happens. Who believes this reads these definitions and those that they name, and
--- no others.
+-- What an exit status claims, and no more. `verify FILE` with status 0: FILE holds a text that means an automaton with patterns, and each
+-- of these patterns occurs in no run; with status 1: some pattern occurs in a run. `check FILE CERT` with status 0: each pattern that is
+-- printed as proved occurs in no run. `rest FILE` and `rest-check FILE CERT`, without silent names: of each pattern that is printed as safe
+-- or proved, no run in which it occurs is at rest (a deadlock) where its last event happens. To believe this, read these definitions and
+-- those that they name, and no others.
 use Rattle.std.specs.Prelude.{ℕ, ◌≤◌, ◌≡◌, false, List, codes, slice_get, Option, None, Some}
 use Rattle.std.specs.List.{AllByRecursion}
 use Rattle.ta_syntax.specs.Grammar.{PlainTree}
@@ -25,11 +25,11 @@ use Rattle.ta_shell.specs.Sights.{View, Whole, seen}
 use Rattle.ta_rest.specs.Rest.{RestSafe}
 use Rattle.ta_program.specs.Check.{check_of}
 use Rattle.ta_program.specs.Replay.{replay_of}
-use Rattle.ta_program.specs.RestWords.{RestCheckWords, rest_check_of, rest_of}
+use Rattle.ta_program.specs.RestWords.{RestCheckWords, RestWords, rest_check_of, rest_of}
 use Rattle.ta_program.specs.Values.{TwoNames}
 use Rattle.ta_program.specs.VerifyWords.{VerifyWords, verify_of}
 
--- a name has bytes that are a text of the grammar, whose tree means this file
+-- the bytes under a name are a text of the grammar, whose tree means this file
 pub record HoldsFile (view : View) (name : List ℕ) (file : File) : Type 0 where
   pub bytes : List ℕ
   pub held : view name (Whole bytes)
@@ -37,13 +37,13 @@ pub record HoldsFile (view : View) (name : List ℕ) (file : File) : Type 0 wher
   pub text : IsTextOf bytes tree
   pub means : MeansTree tree file
 
--- a name holds a file, each pattern of which occurs in no run
+-- the bytes under a name mean a file, and each of its patterns occurs in no run
 pub record EachPatternSafe (view : View) (name : List ℕ) : Type 0 where
   pub file : File
   pub holds : HoldsFile view name file
   pub safe : AllByRecursion (runs.Safe file.automaton) file.patterns
 
--- a name holds a file, some pattern of which occurs in a run
+-- the bytes under a name mean a file, and some pattern of it occurs in a run
 pub record SomePatternOccurs (view : View) (name : List ℕ) : Type 0 where
   pub file : File
   pub holds : HoldsFile view name file
@@ -54,7 +54,7 @@ pub record SomePatternOccurs (view : View) (name : List ℕ) : Type 0 where
   pub rules : List ℕ
   pub occurs : runs.Occurs file.automaton pattern first rules
 
--- a name holds a file, and a fact holds of each pattern of it whose line the output gained with this word
+-- the bytes under a name mean a file, and a fact holds of each of its patterns for which the output gained a line with this word
 pub record EachPrinted (Fact : Automaton → Pattern → Type 0) (word : List ℕ) (view : View) (name : List ℕ) (written written' : Option (List ℕ)) : Type 0 where
   pub file : File
   pub holds : HoldsFile view name file
@@ -62,8 +62,8 @@ pub record EachPrinted (Fact : Automaton → Pattern → Type 0) (word : List �
   pub gained : written' ≡ with_text written text
   pub holds_of : (number : ℕ) (p : Pattern) → slice_get file.patterns number ≡ Some p → HasLine (told_of p.name word) text → Fact file.automaton p
 
--- a name holds a file, and another name the text of a run of it: from a first configuration with the run's parameters and start counts the
--- pattern that the run names occurs in its steps
+-- the bytes under a name mean a file, and those under another name are the text of a run of it: from a first configuration with the run's
+-- parameters and start counts, the pattern that the run names occurs in its steps
 pub record ShownOccurs (view : View) (name run_name : List ℕ) : Type 0 where
   pub file : File
   pub holds : HoldsFile view name file
@@ -77,13 +77,12 @@ pub record ShownOccurs (view : View) (name run_name : List ℕ) : Type 0 where
   pub begins : IsFirstConfig file.automaton run first
   pub occurs : runs.Occurs file.automaton pattern first (unit_steps run.lines)
 
--- `verify FILE` with status 0 and with status 1, and `check FILE CERT` with status 0, of what is seen in the calls of the run and
--- in the files
+-- what each status claims, of what is seen in the calls of the run and in the files
 pub record StatusTells (number : ℕ) (words : List (List ℕ)) (files : Option Told) (calls calls' : List Event) (written written' : Option (List ℕ)) : Type 0 where
   pub safe : (asked : VerifyWords) → verify_of words ≡ Some asked → number ≡ 0 → Acts (may_put asked.out) (λ read made. EachPatternSafe (seen files read) asked.file) calls calls'
   pub occurs : (asked : VerifyWords) → verify_of words ≡ Some asked → number ≡ 1 → Acts (may_put asked.out) (λ read made. SomePatternOccurs (seen files read) asked.file) calls calls'
   pub proved : (asked : TwoNames) → check_of words ≡ Some asked → number ≡ 0 → Grew (λ read. EachPrinted runs.Safe (codes "proved") (seen files read) asked.file written written') calls calls'
-  pub rest_safe : (asked : VerifyWords) → rest_of words ≡ Some asked → number ≤ 2 → Acts (may_put asked.out) (λ read made. EachPrinted RestSafe (codes "rest safe, ") (seen files read) asked.file written written') calls calls'
+  pub rest_safe : (asked : RestWords) → rest_of words ≡ Some asked → asked.silent ≡ None → number ≤ 2 → Acts (may_put asked.out) (λ read made. EachPrinted RestSafe (codes "rest safe, ") (seen files read) asked.file written written') calls calls'
   pub rest_proved : (asked : RestCheckWords) → rest_check_of words ≡ Some asked → asked.silent ≡ None → number ≡ 0 → Grew (λ read. EachPrinted RestSafe (codes "rest proved") (seen files read) asked.file written written') calls calls'
   pub safe_lines : (asked : VerifyWords) → verify_of words ≡ Some asked → asked.json ≡ false → number ≤ 2 → Acts (may_put asked.out) (λ read made. EachPrinted runs.Safe (codes "safe, ") (seen files read) asked.file written written') calls calls'
   pub shown : (asked : TwoNames) → replay_of words ≡ Some asked → number ≡ 0 → Grew (λ read. ShownOccurs (seen files read) asked.file asked.other) calls calls'

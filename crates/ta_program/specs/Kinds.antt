@@ -1,4 +1,4 @@
--- The files of the commands (this project's profile)
+-- The kinds of files that commands read: FILE, CERT and RUN, and what their bytes may be.
 use Rattle.std.specs.Prelude.{ℕ, ◌≢◌, ◌⊎◌, List}
 use Rattle.ta_automaton.specs.declared.file.File.{File}
 use Rattle.ta_cert.specs.declared.fault.CertFault.{CertFault}
@@ -21,11 +21,11 @@ use Rattle.ta_shell.specs.Sights.{View}
 use Rattle.ta_shell.specs.Stages.{FileMeans, Kind}
 use Rattle.ta_program.specs.declared.limits.TheConstants.{CERTIFICATE, FILE, RUN}
 
--- FILE: bytes that mean an automaton with patterns, or have a first fault
+-- FILE: bytes that mean an automaton with patterns, or have a first error
 abbrev pub file_kind : Kind File FileFault
 file_kind = record { limit = FILE; means = Legal; at_fault = FirstFault; broken = λ bytes fault. ⊥; words = file_fault_text }
 
--- the bytes of a name mean this file
+-- the bytes under this name mean this file
 abbrev pub IsFile : View → List ℕ → File → Type 0
 IsFile view name file = FileMeans file_kind view name file
 
@@ -34,12 +34,12 @@ pub record Proves (subject : Subject) (bytes numbers : List ℕ) : Type 0 where
   pub accepted : CertificateFor subject bytes numbers
   pub safe : AllClaimsHold subject numbers
 
--- the first fault of the bytes, which are no certificate
+-- the first error of bytes that are not a certificate
 pub record CertificateFault (subject : Subject) (bytes : List ℕ) (found : CertFault) : Type 0 where
   pub first : IsFirstFaultFor subject bytes found
   pub no_certificate : (numbers : List ℕ) → ¬ CertificateFor subject bytes numbers
 
--- CERT, for what is claimed of a file, whose reading ends at a fault that each longer text keeps
+-- CERT, for what is claimed of a file; reading ends at an error that each longer text keeps
 abbrev pub certificate_kind : Subject → Kind (List ℕ) CertFault
 certificate_kind subject = record { limit = CERTIFICATE; means = Proves subject; at_fault = CertificateFault subject; broken = IsLastingFor subject; words = cert_fault_text }
 
@@ -49,13 +49,13 @@ pub record ShowsRun (file : File) (bytes : List ℕ) (run : Run) : Type 0 where
   pub shows : Shows file run
   pub stays : ReplayStays file run
 
--- the bytes are the text of a run whose replay meets this fault first
+-- the bytes are the text of a run, and this is the first error of its replay
 pub record IsReplayFault (file : File) (bytes : List ℕ) (found : RunFault) : Type 0 where
   pub run : Run
   pub text : IsRunText file run bytes
   pub first : ReplayFault file run found
 
--- the first fault of a text as a run of a file, or of the replay; so it is the text of no run that shows its pattern
+-- the first error of a text as a run of a file, or of its replay; so it is not the text of a run that shows its pattern
 pub record RunFaultIn (file : File) (bytes : List ℕ) (found : RunFault) : Type 0 where
   pub no_memory : found ≢ fault.Memory
   pub first : TextFault file bytes found ⊎ IsReplayFault file bytes found

@@ -1,4 +1,4 @@
--- What two runs of the program have to do with each other
+-- How commands fit together: `replay` shows what is printed as a run, and `check` accepts what is written as a certificate.
 use Rattle.std.specs.Prelude.{ℕ, ◌≡◌, ◌≤◌, ◌⊎◌, Bool, List, length, slice_get, None, Some}
 use Rattle.ta_automaton.specs.declared.file.File.{File}
 use Rattle.ta_automaton.specs.declared.pattern.Pattern.{Pattern}
@@ -24,14 +24,14 @@ use Rattle.ta_program.specs.Kinds.{IsFile}
 use Rattle.ta_program.specs.Printed.{Telling, rest_telling}
 use Rattle.ta_program.specs.Replay.{replay_of}
 use Rattle.ta_program.specs.Requests.{request_of}
-use Rattle.ta_program.specs.RestWords.{rest_check_of, rest_of}
+use Rattle.ta_program.specs.RestWords.{RestWords, rest_check_of, rest_of}
 use Rattle.ta_program.specs.Search.{IsTemplate}
 use Rattle.ta_program.specs.SearchWords.{SearchWords, search_of}
 use Rattle.ta_program.specs.Values.{TwoNames}
 use Rattle.ta_program.specs.VerifyWords.{VerifyWords, verify_of}
 
--- bytes that a report tells as the run of an unsafe pattern, put into a file of their own beside the same FILE, `replay` shows: it
--- ends with 0, or with 6 or 7
+-- if the bytes that a report gives as the run of an unsafe pattern are put into a file of their own beside the same FILE, `replay` shows
+-- it: it ends with status 0, or with 6 or 7
 abbrev pub IsReplayed : Told → List ℕ → List ℕ → Type 0
 IsReplayed told name bytes =
     (words : List (List ℕ)) (asked : TwoNames) → replay_of words ≡ Some asked → asked.file ≡ name
@@ -39,14 +39,14 @@ IsReplayed told name bytes =
     → (number : ℕ) (before after : State) → before.shelf.files ≡ Some later → Runs (request_of words) number before after
     → (number ≡ 0) ⊎ ((number ≡ 6) ⊎ (number ≡ 7))
 
--- the output gained a text, and what it tells as the run of an unsafe pattern of FILE is replayed
+-- the output gained a text, and what it gives as the run of an unsafe pattern of FILE is replayed
 pub record PrintsReplayed (json : Bool) (told : Told) (name : List ℕ) (before after : State) : Type 0 where
   pub file : File
   pub text : List ℕ
   pub gained : after.out.written ≡ with_text before.out.written text
   pub replayed : (number : ℕ) (p : Pattern) → slice_get file.patterns number ≡ Some p → TellsUnsafe json p.name text → (bytes : List ℕ) → TellsRun json p.name bytes text → IsReplayed told name bytes
 
--- what `verify FILE` prints as a run with status 0, 1 or 2 over told files, `replay` shows
+-- what `verify FILE` prints as a run with status 0, 1 or 2 over known files, `replay` shows
 abbrev pub PrintedRunsAreReplayed : Type 0
 PrintedRunsAreReplayed =
     (words : List (List ℕ)) (number : ℕ) (before after : State) → Runs (request_of words) number before after
@@ -54,27 +54,27 @@ PrintedRunsAreReplayed =
     → (told : Told) → before.shelf.files ≡ Some told
     → PrintsReplayed asked.json told asked.file before after
 
--- the output gained a text, and what it tells in some way as the run of an unsafe pattern of FILE is replayed
+-- the output gained a text, and what it gives, in one form or the other, as the run of an unsafe pattern of FILE is replayed
 pub record TellsReplayed (telling : Telling) (told : Told) (name : List ℕ) (before after : State) : Type 0 where
   pub file : File
   pub text : List ℕ
   pub gained : after.out.written ≡ with_text before.out.written text
   pub replayed : (number : ℕ) (p : Pattern) → slice_get file.patterns number ≡ Some p → telling.unsafe_ p.name text → (bytes : List ℕ) → telling.run p.name bytes text → IsReplayed told name bytes
 
--- what `rest FILE` prints as a run with status 0, 1 or 2 over told files, `replay` shows
+-- what `rest FILE` prints as a run with status 0, 1 or 2 over known files, `replay` shows
 abbrev pub PrintedRestRunsAreReplayed : Type 0
 PrintedRestRunsAreReplayed =
     (words : List (List ℕ)) (number : ℕ) (before after : State) → Runs (request_of words) number before after
-    → (asked : VerifyWords) → rest_of words ≡ Some asked → number ≤ 2
+    → (asked : RestWords) → rest_of words ≡ Some asked → number ≤ 2
     → (told : Told) → before.shelf.files ≡ Some told
     → TellsReplayed rest_telling told asked.file before after
 
--- a run ended with 0 and the output gained this text; or it ended with 6 or 7
+-- a run ended with status 0 and the output gained this text; or it ended with 6 or 7
 abbrev pub SaysOrFails : List ℕ → ℕ → State → State → Type 0
 SaysOrFails text number before after = ((number ≡ 0) × (after.out.written ≡ with_text before.out.written text)) ⊎ ((number ≡ 6) ⊎ (number ≡ 7))
 
--- a first run reported a sample and verdicts on FILE, and a second one said that just the patterns are proved that are safe by these; or it
--- ended with 6 or 7
+-- a first run reported a sample and verdicts on FILE, and a second run said that exactly the patterns are proved that are safe by these
+-- verdicts; or it ended with 6 or 7
 pub record SaysTheSame (report : File → ReportSample → List Verdict → List ℕ) (proved : File → List ℕ → List ℕ) (told : Told) (name : List ℕ) (before after : State) (number : ℕ) (begun ended : State) : Type 0 where
   pub file : File
   pub is_file : IsFile (in_files told) name file
@@ -83,8 +83,8 @@ pub record SaysTheSame (report : File → ReportSample → List Verdict → List
   pub reported : after.out.written ≡ with_text before.out.written (report file sample verdicts)
   pub accepted : SaysOrFails (proved file (safe_numbers file verdicts)) number begun ended
 
--- what `verify FILE --certificate OUT` put with status 0, 1 or 2 `check FILE OUT` accepts over the files as they were left: so it
--- never ends with 3, 4 or 5, and with 0 it says that just the patterns are proved that were reported safe
+-- what `verify FILE --certificate OUT` put with status 0, 1 or 2 is accepted by `check FILE OUT` over the files as they were left: it never
+-- ends with 3, 4 or 5, and with 0 it says that exactly the patterns are proved that were reported safe
 abbrev pub WrittenIsAccepted : Type 0
 WrittenIsAccepted =
     (words : List (List ℕ)) (first : ℕ) (before after : State) → Runs (request_of words) first before after
@@ -94,19 +94,20 @@ WrittenIsAccepted =
     → (second : ℕ) (begun ended : State) → begun.shelf.files ≡ Some told → Runs (request_of again) second begun ended
     → SaysTheSame (report_of asked.json) check_text told asked.file before after second begun ended
 
--- what `rest FILE --certificate OUT` put with status 0, 1 or 2 `rest-check FILE OUT` accepts over the files as they were left: so it
--- never ends with 3, 4 or 5, and with 0 it says that just the patterns are proved that were reported safe at rest
+-- what `rest FILE --certificate OUT` put with status 0, 1 or 2 is accepted by `rest-check FILE OUT`, with the same silent names, over the
+-- files as they were left: it never ends with 3, 4 or 5, and with 0 it says that exactly the patterns are proved that were reported safe at
+-- rest
 abbrev pub WrittenAtRestIsAccepted : Type 0
 WrittenAtRestIsAccepted =
     (words : List (List ℕ)) (first : ℕ) (before after : State) → Runs (request_of words) first before after
-    → (asked : VerifyWords) (out : List ℕ) → rest_of words ≡ Some asked → asked.out ≡ Some out → first ≤ 2
+    → (asked : RestWords) (out : List ℕ) → rest_of words ≡ Some asked → asked.out ≡ Some out → first ≤ 2
     → (told : Told) → after.shelf.files ≡ Some told
-    → (again : List (List ℕ)) → rest_check_of again ≡ Some (record { file = asked.file; other = out; silent = None })
+    → (again : List (List ℕ)) → rest_check_of again ≡ Some (record { file = asked.file; other = out; silent = asked.silent })
     → (second : ℕ) (begun ended : State) → begun.shelf.files ≡ Some told → Runs (request_of again) second begun ended
     → SaysTheSame rest_text rest_check_text told asked.file before after second begun ended
 
--- a first run reported the search of FILE, a template, whose last values were found; OUT2 holds FILE's body with these values, which means a
--- file; and a second run said that each of its patterns is proved, or it ended with 6 or 7
+-- a first run reported the search of FILE, a template, and its last values were found; OUT2 holds FILE's body with these values, which
+-- means a file; and a second run said that each of its patterns is proved, or it ended with 6 or 7
 pub record ProvesFound (told : Told) (name filled : List ℕ) (before after : State) (number : ℕ) (begun ended : State) : Type 0 where
   pub template : Template
   pub is_template : IsTemplate (in_files told) name template
@@ -117,9 +118,9 @@ pub record ProvesFound (told : Told) (name filled : List ℕ) (before after : St
   pub is_file : IsFile (in_files told) filled last.found.file
   pub accepted : SaysOrFails (check_text last.found.file (range_with_len 0 (length last.found.file.patterns))) number begun ended
 
--- what `search FILE --certificate OUT --filled OUT2` put with status 0 `check OUT2 OUT` accepts over the files as they were left: so it
--- never ends with 3, 4 or 5, and with 0 it says that every pattern of OUT2 is proved. OUT, OUT2 and FILE differ: words in which two of these
--- are the same are no command's
+-- what `search FILE --certificate OUT --filled OUT2` put with status 0 is accepted by `check OUT2 OUT` over the files as they were left: it
+-- never ends with 3, 4 or 5, and with 0 it says that every pattern of OUT2 is proved. OUT, OUT2 and FILE differ: a command line in which
+-- two of them are equal is refused
 abbrev pub FoundIsAccepted : Type 0
 FoundIsAccepted =
     (words : List (List ℕ)) (before after : State) → Runs (request_of words) 0 before after

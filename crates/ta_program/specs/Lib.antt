@@ -23,6 +23,7 @@ pub mod SearchSeen
 pub mod Show
 pub mod Requests
 pub mod Headline
+pub mod Understood
 pub mod Printed
 pub mod Program
 pub mod Laws

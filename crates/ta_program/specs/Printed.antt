@@ -1,4 +1,4 @@
--- What the output of `verify` and of `rest` says of a safe and of an unsafe pattern (this project's profile)
+-- What the output of `verify` and of `rest` says of a safe and of an unsafe pattern.
 use Rattle.std.specs.Prelude.{ℕ, ◌≡◌, ◌≤◌, Bool, List, length, slice_get, Option, Some}
 use Rattle.ta_automaton.specs.declared.automaton.Automaton.{Automaton}
 use Rattle.ta_automaton.specs.declared.file.File.{File}
@@ -13,7 +13,7 @@ use Rattle.ta_program.specs.declared.limits.TheConstants.{RUN}
 use Rattle.ta_program.specs.Headline.{HoldsFile}
 use Rattle.ta_program.specs.Kinds.{ShowsRun}
 
--- how a report tells of unsafe patterns: that the pattern of a name is unsafe, and that bytes are the text of its run
+-- how a report says that the pattern with this name is unsafe, and that bytes are the text of its run
 pub record Telling : Type 1 where
   pub unsafe_ : (name text : List ℕ) → Type 0
   pub run : (name bytes text : List ℕ) → Type 0
@@ -25,8 +25,8 @@ verify_telling json = record { unsafe_ = TellsUnsafe json; run = TellsRun json }
 abbrev pub rest_telling : Telling
 rest_telling = record { unsafe_ = TellsRestUnsafe; run = TellsRestRun }
 
--- what a text tells as the run of the pattern of a number is the text of a run that shows it, within the limit of RUN; and from a first
--- configuration with its parameters and start counts the pattern happens so in its steps: it occurs, or it does and comes to rest
+-- what a text gives as the run of the pattern with this number is the text of a run that shows it, within the limit of RUN; from a first
+-- configuration with its parameters and start counts the pattern happens in its steps: it occurs, or it occurs and the run comes to rest
 pub record UnsafePrinted (Happens : Automaton → Pattern → runs.Config → List ℕ → Type 0) (telling : Telling) (file : File) (number : ℕ) (p : Pattern) (text : List ℕ) : Type 0 where
   pub bytes : List ℕ
   pub stands : telling.run p.name bytes text
@@ -39,7 +39,7 @@ pub record UnsafePrinted (Happens : Automaton → Pattern → runs.Config → Li
   pub begins : IsFirstConfig file.automaton run first
   pub happens : Happens file.automaton p first (unit_steps run.lines)
 
--- a name holds a file, and each pattern of it that the output tells is unsafe is so
+-- the bytes under a name mean a file, and each pattern of it that the output calls unsafe is unsafe
 pub record EachPrintedUnsafe (Happens : Automaton → Pattern → runs.Config → List ℕ → Type 0) (telling : Telling) (view : View) (name : List ℕ) (written written' : Option (List ℕ)) : Type 0 where
   pub file : File
   pub holds : HoldsFile view name file
@@ -47,7 +47,7 @@ pub record EachPrintedUnsafe (Happens : Automaton → Pattern → runs.Config �
   pub gained : written' ≡ with_text written text
   pub unsafe_ : (number : ℕ) (p : Pattern) → slice_get file.patterns number ≡ Some p → telling.unsafe_ p.name text → UnsafePrinted Happens telling file number p text
 
--- a name holds a file, and each pattern of it that the output tells is safe occurs in no run
+-- the bytes under a name mean a file, and each pattern of it that the output calls safe occurs in no run
 pub record EachToldSafe (json : Bool) (view : View) (name : List ℕ) (written written' : Option (List ℕ)) : Type 0 where
   pub file : File
   pub holds : HoldsFile view name file

@@ -1,4 +1,4 @@
--- The command `replay` (this project's profile)
+-- The command `replay`: a run shows its pattern.
 use Rattle.std.specs.Prelude.{ℕ, ◌≡◌, List, [], codes, slice_get, Option, Some}
 use Rattle.ta_automaton.specs.declared.file.File.{File}
 use Rattle.ta_automaton.specs.declared.pattern.Pattern.{Pattern}

@@ -1,4 +1,4 @@
--- What `verify` writes (this project's profile)
+-- The report that `verify` writes.
 use Rattle.std.specs.Prelude.{ℕ, ◌≤◌, ◌≡◌, Bool, List, length, Option, Some}
 use Rattle.ta_automaton.specs.declared.file.File.{File}
 use Rattle.ta_check.specs.Certificate.{Certificate}
@@ -13,20 +13,23 @@ use Rattle.ta_shell.specs.Commands.{Meaning}
 use Rattle.ta_shell.specs.Making.{TellsFile}
 use Rattle.ta_shell.specs.Puts.{HoldsText, may_put}
 use Rattle.ta_shell.specs.Sights.{View}
-use Rattle.ta_shell.specs.Stages.{after, settles}
+use Rattle.ta_shell.specs.Sparing.{spared}
+use Rattle.ta_shell.specs.Stages.{settles}
 use Rattle.ta_program.specs.declared.limits.TheConstants.{CERTIFICATE}
 use Rattle.ta_verdict.specs.Certificates.{CertificateOf, safe_numbers}
 use Rattle.ta_program.specs.Certified.{HindersCertificate, PutsCertificate}
 use Rattle.ta_program.specs.Asked.{Asked, ask}
 use Rattle.ta_program.specs.Kinds.{IsFile, file_kind}
 use Rattle.ta_verdict.specs.Verdicts.{AreVerdicts, IsSample}
+use Rattle.ta_verdict.specs.declared.budget.Budget.{Budget}
 use Rattle.ta_program.specs.Statuses.{verdicts_number}
 use Rattle.ta_program.specs.VerifyWords.{verify_words}
 
--- the report of the sample and of such verdicts, in JSON or not, with the number that the verdicts give, and the certificate that is asked for
-pub record Reports (file : File) (budget : ℕ) (json : Bool) (out : Option (List ℕ)) (answer : Answer) : Type 0 where
+-- the report of the sample and of such verdicts, in JSON or not, with the status that the verdicts give, and the certificate that is asked
+-- for
+pub record Reports (file : File) (budget : Budget) (json : Bool) (out : Option (List ℕ)) (answer : Answer) : Type 0 where
   pub sample : ReportSample
-  pub is_sample : IsSample file budget sample
+  pub is_sample : IsSample file budget.nodes sample
   pub verdicts : List Verdict
   pub are : AreVerdicts file budget verdicts
   pub numbered : answer.number ≡ verdicts_number verdicts
@@ -34,30 +37,30 @@ pub record Reports (file : File) (budget : ℕ) (json : Bool) (out : Option (Lis
   pub puts : PutsCertificate file budget verdicts out answer.puts
 
 -- the report says what is known of the parameters and of each pattern, unless the certificate that is asked for is too long
-abbrev pub report_meaning : File → ℕ → Bool → Option (List ℕ) → Meaning
+abbrev pub report_meaning : File → Budget → Bool → Option (List ℕ) → Meaning
 report_meaning file budget json out = settles (may_put out) (Reports file budget json out) (HindersCertificate file budget out)
 
--- FILE is read, and the report says what is known
-abbrev pub verify_meaning : List ℕ → ℕ → Bool → Option (List ℕ) → Meaning
-verify_meaning name budget json out = after file_kind name (may_put out) (λ file. report_meaning file budget json out)
+-- FILE is read, OUT is compared with it, and the report says what is known
+abbrev pub verify_meaning : List ℕ → Budget → Bool → Option (List ℕ) → Meaning
+verify_meaning name budget json out = spared file_kind name (may_put out) (λ file. report_meaning file budget json out)
 
 abbrev pub verify_asked : List (List ℕ) → Asked
-verify_asked words = ask (λ asked. Some asked.file) (λ asked. verify_meaning asked.file asked.nodes asked.json asked.out) (verify_words words)
+verify_asked words = ask (λ asked. Some asked.file) (λ asked. verify_meaning asked.file asked.budget asked.json asked.out) (verify_words words)
 
--- FILE is legal, what is said of the parameters holds, each verdict holds, the verdicts give the number, and the output gained the report
-pub record ReportHolds (number : ℕ) (view : View) (name : List ℕ) (budget : ℕ) (json : Bool) (written written' : Option (List ℕ)) : Type 0 where
+-- FILE is legal, what is said of the parameters holds, each verdict holds, the verdicts give the status, and the output gained the report
+pub record ReportHolds (number : ℕ) (view : View) (name : List ℕ) (budget : Budget) (json : Bool) (written written' : Option (List ℕ)) : Type 0 where
   pub file : File
   pub is_file : IsFile view name file
   pub sample : ReportSample
-  pub is_sample : IsSample file budget sample
+  pub is_sample : IsSample file budget.nodes sample
   pub verdicts : List Verdict
   pub are : AreVerdicts file budget verdicts
   pub numbered : verdicts_number verdicts ≡ number
   pub wrote : written' ≡ with_text written (report_of json file sample verdicts)
 
--- the report holds; OUT holds the certificate of the patterns that it says are safe, every other file is as it was, and the calls put exactly this text in the
--- place of OUT, whole; and that text is a certificate of FILE that proves exactly these patterns, so `check` accepts it
-pub record CertificateStands (number : ℕ) (view : View) (name : List ℕ) (budget : ℕ) (json : Bool) (out : List ℕ) (files files' : Option Told) (written written' : Option (List ℕ)) (made : List Put) : Type 0 where
+-- the report holds; OUT holds the certificate of the patterns that it calls safe, every other file is unchanged, and the calls put exactly
+-- this text in the place of OUT, whole; the text is a certificate of FILE that proves exactly these patterns, so `check` accepts it
+pub record CertificateStands (number : ℕ) (view : View) (name : List ℕ) (budget : Budget) (json : Bool) (out : List ℕ) (files files' : Option Told) (written written' : Option (List ℕ)) (made : List Put) : Type 0 where
   pub report : ReportHolds number view name budget json written written'
   pub text : List ℕ
   pub certificate : CertificateOf report.file budget report.verdicts text

@@ -1,4 +1,4 @@
--- The table of commands: one row a command
+-- The table of commands: one row for each command.
 use Rattle.std.specs.Prelude.{ℕ, List, [], ◌∷◌, codes}
 use Rattle.ta_program.specs.Asked.{Asked, row}
 use Rattle.ta_program.specs.Asked.Asked.{NoCommand}
@@ -14,7 +14,7 @@ use Rattle.ta_program.specs.RestCheck.{rest_check_asked}
 use Rattle.ta_program.specs.Search.{search_asked}
 use Rattle.ta_program.specs.Show.{show_asked}
 
--- what words ask for: the first is the command
+-- what a command line asks for: its first word is the command
 abbrev pub request_of : List (List ℕ) → Asked
 request_of [] = NoCommand
 request_of (word ∷ words) =

@@ -1,4 +1,4 @@
--- FILE of the commands on runs that come to rest (this project's profile)
+-- FILE of `rest` and `rest-check`: its cycles are self-loops, and each pattern is replaced by its ending.
 use Rattle.std.specs.Prelude.{ℕ, ◌≡◌, ◌++◌, List, codes, decimal}
 use Rattle.ta_automaton.specs.declared.file.File.{File}
 use Rattle.ta_rest.specs.Faults.{EndingsOf}
@@ -21,8 +21,8 @@ pub record FileEndings : Type 0 where
 abbrev pub ends_of : RestFile → FileEndings
 ends_of rest = record { ending = rest.ending.file; added = rest.added }
 
--- every cycle of the file's rules is a self-loop, so each run has at most as many steps of other rules as the number of processes times the
--- number of locations but one; and these are the endings of its patterns
+-- every cycle of the file's rules is a self-loop, so a run has at most as many steps of other rules as the number of processes times one
+-- less than the number of locations; and these are the endings of its patterns
 pub record IsEnds (file : File) (ends : FileEndings) : Type 0 where
   pub loops : LoopsAlone file.automaton
   pub few : FewMoves file.automaton
@@ -32,16 +32,20 @@ pub record IsEnds (file : File) (ends : FileEndings) : Type 0 where
 abbrev pub cycle_text : ℕ → List ℕ
 cycle_text rule = codes "F14 longer cycle at rule " ++ decimal rule
 
--- a rule lies on a cycle of two or more locations, and this is the first; so says the line, with the number of FILE
+-- a rule lies on a cycle of two or more locations, and this is the first such rule; the line says it, with the status for FILE
 pub record CycleHinders (name : List ℕ) (file : File) (number : ℕ) (line : List ℕ) : Type 0 where
   pub numbered : number ≡ FILE.number
   pub rule : ℕ
   pub first : FirstLongerCycle file.automaton rule
   pub said : line ≡ file_line name (cycle_text rule)
 
--- FILE is read, its endings are found, and then comes what these ask for; the files of these names may be put
+-- the endings of FILE are computed, and then comes what is asked for them; the files with these names may be put
+abbrev pub at_ends : List ℕ → List (List ℕ) → (File → FileEndings → Meaning) → File → Meaning
+at_ends name puts rest file = finds (IsEnds file) (CycleHinders name file) puts (rest file)
+
+-- FILE is read, and then its endings are computed
 abbrev pub with_ends : List ℕ → List (List ℕ) → (File → FileEndings → Meaning) → Meaning
-with_ends name puts rest = after file_kind name puts (λ file. finds (IsEnds file) (CycleHinders name file) puts (rest file))
+with_ends name puts rest = after file_kind name puts (at_ends name puts rest)
 
 -- FILE means an automaton whose cycles of rules are self-loops
 pub record LegalAtRest (name : List ℕ) (told : Told) : Type 0 where

@@ -1,27 +1,37 @@
--- The words of `rest` and of `rest-check` (this project's profile)
-use Rattle.std.specs.Prelude.{false, List, [], ◌∷◌, codes, option_and_then, option_map, Option, ℕ}
+-- The command-line words of `rest` and of `rest-check`.
+use Rattle.std.specs.Prelude.{ℕ, ◌||◌, Bool, List, [], ◌∷◌, codes, if◌then◌else◌, is_some, not, option_and_then, option_map, Option, None}
 use Rattle.ta_program.specs.SilentNames.{names_of}
 use Rattle.ta_program.specs.Values.{budget_of, file_name_of, out_of}
-use Rattle.ta_program.specs.VerifyWords.{VerifyWords}
-use Rattle.ta_program.specs.Words.{Form, Taken, behind_name, plain_of, taken_by, option_value, valued}
+use Rattle.ta_verdict.specs.declared.budget.Budget.{Budget}
+use Rattle.ta_program.specs.Words.{Form, Taken, behind_name, flag, plain_of, taken_by, option_value, valued}
+
+-- what `rest` asks for: the names of FILE and of OUT, if it is given, the budget for each pattern, and the names that are to be silent
+pub record RestWords : Type 0 where
+  pub file : List ℕ
+  pub budget : Budget
+  pub out : Option (List ℕ)
+  pub silent : Option (List ℕ)
 
 abbrev pub rest_form : Form
-rest_form = record { plain = 1; options = valued (codes "--nodes") ∷ valued (codes "--certificate") ∷ [] }
+rest_form = record { plain = 1; options = valued (codes "--nodes") ∷ valued (codes "--certificate") ∷ flag (codes "--lazy") ∷ valued (codes "--silent") ∷ [] }
 
--- what `rest` asks for: the same as `verify` without JSON
-abbrev pub rest_taken : Taken → Option VerifyWords
+-- names may be silent only with moments on demand
+abbrev pub quiet_names : Bool → Option (List ℕ) → Option (Option (List ℕ))
+quiet_names lazy names = if lazy || not (is_some names) then names_of names else None
+
+abbrev pub rest_taken : Taken → Option RestWords
 rest_taken taken =
-    option_and_then (λ file.
-    option_and_then (λ nodes.
-    option_map (λ out. record { file = file; nodes = nodes; out = out; json = false })
-    (out_of file (option_value taken 1))) (budget_of (option_value taken 0))) (file_name_of (plain_of taken 0))
+    option_and_then (λ file. option_and_then (λ nodes. option_and_then (λ out.
+    option_map (λ silent. record { file = file; budget = record { nodes = nodes; lazy = is_some (option_value taken 2) }; out = out; silent = silent })
+    (quiet_names (is_some (option_value taken 2)) (option_value taken 3))) (out_of file (option_value taken 1))) (budget_of (option_value taken 0)))
+    (file_name_of (plain_of taken 0))
 
--- of the words behind the name
-abbrev pub rest_words : List (List ℕ) → Option VerifyWords
+-- the request of the words after the command's name
+abbrev pub rest_words : List (List ℕ) → Option RestWords
 rest_words words = option_and_then rest_taken (taken_by rest_form words)
 
--- `rest FILE [--nodes N] [--certificate OUT]`
-abbrev pub rest_of : List (List ℕ) → Option VerifyWords
+-- `rest FILE [--nodes N] [--certificate OUT] [--lazy [--silent NAMES]]`
+abbrev pub rest_of : List (List ℕ) → Option RestWords
 rest_of = behind_name (codes "rest") rest_words
 
 -- what `rest-check` asks for: the names of FILE and of CERT, and the names that are to be silent
@@ -40,7 +50,7 @@ rest_check_taken taken =
     option_map (λ silent. record { file = file; other = other; silent = silent })
     (names_of (option_value taken 0))) (file_name_of (plain_of taken 1))) (file_name_of (plain_of taken 0))
 
--- of the words behind the name
+-- the request of the words after the command's name
 abbrev pub rest_check_words : List (List ℕ) → Option RestCheckWords
 rest_check_words words = option_and_then rest_check_taken (taken_by rest_check_form words)
 

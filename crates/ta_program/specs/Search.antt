@@ -1,4 +1,4 @@
--- The command `search` (this project's profile)
+-- The command `search`: values for the holes of a template with which every pattern is safe.
 use Rattle.std.specs.Prelude.{ℕ, ◌<◌, ◌≤◌, ◌≡◌, ◌≢◌, ◌++◌, Bool, true, false, List, [], ◌∷◌, codes, decimal, length, map, Option, None, Some, IsSome, if◌then◌else◌}
 use Rattle.std.specs.List.{list_any}
 use Rattle.ta_search.specs.declared.fault.TemplateFault.{TemplateFault}
@@ -21,13 +21,15 @@ use Rattle.ta_shell.specs.Commands.{Meaning}
 use Rattle.ta_shell.specs.Making.{PutWhole}
 use Rattle.ta_shell.specs.Puts.{PutText, may_put, put_text}
 use Rattle.ta_shell.specs.Sights.{View, in_files}
-use Rattle.ta_shell.specs.Stages.{FileMeans, Kind, after, settles}
+use Rattle.ta_shell.specs.Sparing.{spared}
+use Rattle.ta_shell.specs.Stages.{FileMeans, Kind, settles}
+use Rattle.ta_verdict.specs.declared.budget.Budget.{Budget}
 use Rattle.ta_program.specs.declared.limits.TheConstants.{CERTIFICATE, FILE}
 use Rattle.ta_program.specs.Asked.{Asked, ask_where}
 use Rattle.ta_program.specs.Certified.{long_line}
 use Rattle.ta_program.specs.SearchWords.{SearchWords, search_words}
 
--- why a text is no template, in words; want of memory is never told
+-- why a text is not a template, in words; out of memory is never printed so
 abbrev pub template_fault_text : TemplateFault → List ℕ
 template_fault_text (fault.Line line) = codes "S1 malformed at line " ++ decimal line
 template_fault_text (fault.Repeated line) = codes "S2 repeated hole at line " ++ decimal line
@@ -40,11 +42,11 @@ template_fault_text fault.Memory = codes "out of memory"
 abbrev pub IsTemplateText : List ℕ → Template → Type 0
 IsTemplateText bytes template = template_text template ≡ bytes
 
--- FILE of `search`: the text of a template, or one with a first fault
+-- FILE of `search`: the text of a template, or one with a first error
 abbrev pub template_kind : Kind Template TemplateFault
 template_kind = record { limit = FILE; means = IsTemplateText; at_fault = FirstTemplateFault; broken = λ bytes fault. ⊥; words = template_fault_text }
 
--- the bytes of a name are the text of this template
+-- the bytes under this name are the text of this template
 abbrev pub IsTemplate : View → List ℕ → Template → Type 0
 IsTemplate view name template = FileMeans template_kind view name template
 
@@ -58,51 +60,51 @@ leaves_unknown (outcome.Unsafe name run) = false
 leaves_unknown (outcome.Unknown name v) = true
 leaves_unknown (outcome.Safe certificate) = false
 
--- 0 where values were found, else 2 where some outcome is unknown, else 1
+-- 0 if values were found, otherwise 2 if some outcome is unknown, otherwise 1
 abbrev pub end_number : SearchEnd → ℕ
 end_number end = if end.found then 0 else (if list_any (λ x. leaves_unknown x.outcome) end.tried then 2 else 1)
 
--- a file of this text in front of others, where a name is given
+-- a file with this text in front of others, if a name is given
 abbrev pub with_given : Option (List ℕ) → List ℕ → List PutText → List PutText
 with_given None text rest = rest
 with_given (Some name) text rest = record { name = name; text = text } ∷ rest
 
--- the files that are put where values were found: OUT with the certificate, and OUT2 with the filled text, which comes into its place before
--- it, as far as their names are given
+-- the files that are put if values were found: OUT with the certificate, and OUT2 with the filled text, which is put in its place first, as
+-- far as their names are given
 abbrev pub found_files : Option (List ℕ) → Option (List ℕ) → List ℕ → List ℕ → List PutText
 found_files filled out text certificate = with_given out certificate (with_given filled text [])
 
--- values were found, and these files are put; the certificate that is asked for isn't longer than one may be
+-- values were found, and these files are put; the certificate that is asked for is within its limit
 pub record PutsFound (template : Template) (end : SearchEnd) (asked : SearchWords) (puts : List answer.Put) : Type 0 where
   pub last : LastIsFound template end
   pub are : map put_text puts ≡ found_files asked.filled asked.out (filled_text template last.last.values) last.certificate
   pub within : IsSome asked.out → length last.certificate ≤ CERTIFICATE.bytes
 
--- the text of the search's end with the number that it gives, and the files of what was found; where nothing was, no file
+-- the text of the search's end with the status that it gives, and the files of the values; if no values were found, no file
 pub record Finds (template : Template) (asked : SearchWords) (answer : Answer) : Type 0 where
   pub end : SearchEnd
-  pub is_end : IsSearchEnd template asked.nodes end
+  pub is_end : IsSearchEnd template asked.budget end
   pub numbered : answer.number ≡ end_number end
   pub written : answer.text ≡ search_text template end
   pub found : end.found ≡ true → PutsFound template end asked answer.puts
   pub nothing : end.found ≡ false → answer.puts ≡ []
 
 -- values were found, and their certificate is longer than a certificate may be
-pub record LongFound (template : Template) (budget : ℕ) : Type 0 where
+pub record LongFound (template : Template) (budget : Budget) : Type 0 where
   pub end : SearchEnd
   pub is_end : IsSearchEnd template budget end
   pub found : end.found ≡ true
   pub last : LastIsFound template end
   pub longer : CERTIFICATE.bytes < length last.certificate
 
--- and hinders
-pub record IsLongFound (template : Template) (budget : ℕ) (out : List ℕ) (number : ℕ) (line : List ℕ) : Type 0 where
+-- a certificate that is too long is refused
+pub record IsLongFound (template : Template) (budget : Budget) (out : List ℕ) (number : ℕ) (line : List ℕ) : Type 0 where
   pub numbered : number ≡ CERTIFICATE.number
   pub said : line ≡ long_line out
   pub long : LongFound template budget
 
--- what hinders the certificate that is asked for
-abbrev pub HindersFound : Template → ℕ → Option (List ℕ) → ℕ → List ℕ → Type 0
+-- why the certificate that is asked for is refused
+abbrev pub HindersFound : Template → Budget → Option (List ℕ) → ℕ → List ℕ → Type 0
 HindersFound template budget None number line = ⊥
 HindersFound template budget (Some out) number line = IsLongFound template budget out number line
 
@@ -112,11 +114,11 @@ found_names asked = may_put asked.filled ++ may_put asked.out
 
 -- the search of a template ends so, unless the certificate that is asked for is too long
 abbrev pub found_meaning : SearchWords → Template → Meaning
-found_meaning asked template = settles (found_names asked) (Finds template asked) (HindersFound template asked.nodes asked.out)
+found_meaning asked template = settles (found_names asked) (Finds template asked) (HindersFound template asked.budget asked.out)
 
--- FILE is read, and its holes are searched
+-- FILE is read, OUT2 and OUT are compared with it, and its holes are searched
 abbrev pub search_meaning : SearchWords → Meaning
-search_meaning asked = after template_kind asked.file (found_names asked) (found_meaning asked)
+search_meaning asked = spared template_kind asked.file (found_names asked) (found_meaning asked)
 
 -- FILE is a template
 abbrev pub LegalTemplate : SearchWords → Told → Type 0
@@ -125,7 +127,7 @@ LegalTemplate asked told = (template : Template) × IsTemplate (in_files told) a
 abbrev pub search_asked : List (List ℕ) → Asked
 search_asked words = ask_where LegalTemplate search_meaning (search_words words)
 
--- OUT2 holds the one text and OUT the other, as far as their names are given, and every other file is as it was
+-- OUT2 holds the first text and OUT the second, as far as their names are given, and every other file is unchanged
 pub record HoldFound (filled out : Option (List ℕ)) (text certificate : List ℕ) (before after : Told) : Type 0 where
   pub first : (name : List ℕ) → filled ≡ Some name → after name ≡ Some text
   pub second : (name : List ℕ) → out ≡ Some name → after name ≡ Some certificate
@@ -140,13 +142,13 @@ pub record FoundStands (template : Template) (end : SearchEnd) (asked : SearchWo
   pub within : IsSome asked.out → length last.certificate ≤ CERTIFICATE.bytes
 
 -- FILE is a template whose vectors were tried in order, each with an outcome that holds, up to the first that is Safe; the output gained
--- the text that lists them, and the number is 0 where values were found, else 2 where some outcome is unknown, else 1. With 0 what was
--- found stands; else every file is as it was, and no call changed one
+-- the text that lists them, and the status is 0 if values were found, otherwise 2 if some outcome is unknown, otherwise 1. With 0 the files
+-- of the values were put; otherwise every file is unchanged, and no call changed one
 pub record SearchHolds (number : ℕ) (view : View) (asked : SearchWords) (files files' : Option Told) (written written' : Option (List ℕ)) (made : List Put) : Type 0 where
   pub template : Template
   pub is_template : IsTemplate view asked.file template
   pub end : SearchEnd
-  pub is_end : IsSearchEnd template asked.nodes end
+  pub is_end : IsSearchEnd template asked.budget end
   pub numbered : end_number end ≡ number
   pub wrote : written' ≡ with_text written (search_text template end)
   pub found : number ≡ 0 → FoundStands template end asked files files' made

@@ -1,8 +1,6 @@
--- The command `show` (this project's profile)
+-- The command `show`: it prints a file as it was understood.
 use Rattle.std.specs.Prelude.{ℕ, ◌≡◌, List, [], map, codes, Option, Some, option_and_then}
-use Rattle.std.specs.List.{AllByRecursion}
 use Rattle.ta_automaton.specs.declared.file.File.{File}
-use Rattle.ta_automaton.specs.Runs.{Safe}
 use Rattle.ta_cert.specs.Certificates.{pair_of}
 use Rattle.ta_cert.specs.declared.line.Order.{Order}
 use Rattle.ta_meaning.specs.Reading.{Legal}
@@ -48,9 +46,9 @@ show_of = behind_name (codes "show") show_words
 abbrev pub show_asked : List (List ℕ) → Asked
 show_asked words = ask (λ name. Some name) show_meaning (show_words words)
 
--- what `show FILE` prints where these are FILE's bytes: the text of the file that they mean. Whoever has that text before him need not read
--- what a text means, since no other file has it
-pub record IsPrintedOf (bytes text : List ℕ) : Type 0 where
+-- what `show FILE` prints if these are FILE's bytes: the text of the file that they mean. Who has that text need not read what a text
+-- means, since no other file has it
+pub record ShowPrints (bytes text : List ℕ) : Type 0 where
   pub file : File
   pub legal : Legal bytes file
   pub is : IsFileText file text
@@ -60,15 +58,5 @@ pub record ShowHolds (view : View) (name : List ℕ) (written written' : Option 
   pub bytes : List ℕ
   pub held : view name (Whole bytes)
   pub text : List ℕ
-  pub printed : IsPrintedOf bytes text
+  pub printed : ShowPrints bytes text
   pub wrote : written' ≡ with_text written text
-
--- each file that has this text has patterns that occur in no run
-abbrev pub EachSafeIn : List ℕ → Type 0
-EachSafeIn text = (file : File) (orders : List (ℕ × ℕ)) → show_text file orders ≡ text → AllByRecursion (Safe file.automaton) file.patterns
-
--- a name has bytes, and so is each file whose text is printed of them
-pub record SafeAsPrinted (view : View) (name : List ℕ) : Type 0 where
-  pub bytes : List ℕ
-  pub held : view name (Whole bytes)
-  pub safe : (text : List ℕ) → IsPrintedOf bytes text → EachSafeIn text

@@ -1,4 +1,4 @@
--- What was taken of the words, by their texts
+-- What was taken of the command line, by its texts.
 use Rattle.std.specs.Prelude.{ℕ, List, map, option_map, take}
 use Rattle.ta_program.specs.declared.values.TwoNames.{TwoNames as Names}
 use Rattle.ta_program.specs.declared.words.OptionWord.{OptionWord}

@@ -1,4 +1,4 @@
--- What plain words and values of options may be (this project's profile)
+-- Which names of files and which budgets a command line may have.
 use Rattle.std.specs.Prelude.{ℕ, ◌&&◌, nat_lt, nat_le, Bool, false, List, [], length, not, Option, None, Some, if◌then◌else◌, option_and_then, option_map}
 use Rattle.std.specs.Char.{is_ascii_digit}
 use Rattle.std.specs.List.{list_all}
@@ -7,7 +7,7 @@ use Rattle.std.specs.Str.Parse.{digits_value}
 use Rattle.ta_base.specs.declared.limits.TheConstants.{DEFAULT_NODES, MOST_NODES}
 use Rattle.ta_program.specs.Words.{plain_of, taken_by}
 
--- the name of a file, which isn't empty
+-- the name of a file, which is not empty
 abbrev pub file_name_of : List ℕ → Option (List ℕ)
 file_name_of name = if nat_lt 0 (length name) then Some name else None
 
@@ -15,12 +15,12 @@ file_name_of name = if nat_lt 0 (length name) then Some name else None
 abbrev pub is_budget : List ℕ → Bool
 is_budget text = nat_lt 0 (length text) && nat_le (length text) 10 && list_all is_ascii_digit text && nat_le 1 (digits_value 10 text) && nat_le (digits_value 10 text) MOST_NODES
 
--- the budget that is asked for: 1,000,000 where none is given
+-- the budget that is asked for: 1,000,000 if none is given
 abbrev pub budget_of : Option (List ℕ) → Option ℕ
 budget_of None = Some DEFAULT_NODES
 budget_of (Some text) = if is_budget text then Some (digits_value 10 text) else None
 
--- the name of the file OUT, where it is given: it isn't empty, and differs from that of FILE
+-- the name of the file OUT, if it is given: it is not empty, and differs from that of FILE
 abbrev pub out_of : List ℕ → Option (List ℕ) → Option (Option (List ℕ))
 out_of file None = Some None
 out_of file (Some out) = if nat_lt 0 (length out) && not (bytes_eq out file) then Some (Some out) else None
@@ -30,7 +30,7 @@ abbrev pub are_same : Option (List ℕ) → Option (List ℕ) → Bool
 are_same (Some name) (Some other) = bytes_eq name other
 are_same _ _ = false
 
--- the name of the file OUT2, where it is given: it isn't empty, and differs from those of FILE and of OUT
+-- the name of the file OUT2, if it is given: it is not empty, and differs from those of FILE and of OUT
 abbrev pub filled_of : List ℕ → Option (List ℕ) → Option (List ℕ) → Option (Option (List ℕ))
 filled_of file out filled = if are_same out filled then None else out_of file filled
 

@@ -1,29 +1,31 @@
--- The words of `verify` (this project's profile)
+-- The command-line words of `verify`.
 use Rattle.std.specs.Prelude.{ℕ, Bool, List, [], ◌∷◌, codes, is_some, option_and_then, option_map, Option}
+use Rattle.ta_verdict.specs.declared.budget.Budget.{Budget}
 use Rattle.ta_program.specs.Values.{budget_of, file_name_of, out_of}
 use Rattle.ta_program.specs.Words.{Form, Taken, behind_name, flag, plain_of, taken_by, option_value, valued}
 
--- what they ask for: the names of FILE and of OUT, if it is given, the budget of nodes, and whether the report is to be in JSON
+-- what they ask for: the names of FILE and of OUT, if it is given, the budget for each pattern, and whether the report is to be in JSON
 pub record VerifyWords : Type 0 where
   pub file : List ℕ
-  pub nodes : ℕ
+  pub budget : Budget
   pub out : Option (List ℕ)
   pub json : Bool
 
 abbrev pub verify_form : Form
-verify_form = record { plain = 1; options = valued (codes "--nodes") ∷ valued (codes "--certificate") ∷ flag (codes "--json") ∷ [] }
+verify_form = record { plain = 1; options = valued (codes "--nodes") ∷ valued (codes "--certificate") ∷ flag (codes "--json") ∷ flag (codes "--lazy") ∷ [] }
 
 abbrev pub verify_taken : Taken → Option VerifyWords
 verify_taken taken =
     option_and_then (λ file.
     option_and_then (λ nodes.
-    option_map (λ out. record { file = file; nodes = nodes; out = out; json = is_some (option_value taken 2) })
+    option_map (λ out.
+    record { file = file; budget = record { nodes = nodes; lazy = is_some (option_value taken 3) }; out = out; json = is_some (option_value taken 2) })
     (out_of file (option_value taken 1))) (budget_of (option_value taken 0))) (file_name_of (plain_of taken 0))
 
--- of the words behind the name
+-- the request of the words after the command's name
 abbrev pub verify_words : List (List ℕ) → Option VerifyWords
 verify_words words = option_and_then verify_taken (taken_by verify_form words)
 
--- `verify FILE [--nodes N] [--certificate OUT] [--json]`
+-- `verify FILE [--nodes N] [--certificate OUT] [--json] [--lazy]`
 abbrev pub verify_of : List (List ℕ) → Option VerifyWords
 verify_of = behind_name (codes "verify") verify_words

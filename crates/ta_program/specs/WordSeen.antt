@@ -1,4 +1,4 @@
--- What is asked of a word, by the texts of the command line
+-- Which schema is asked for, by the texts of the command line.
 use Rattle.ta_smt.specs.declared.named.NamedWord.{NamedWord}
 use Rattle.ta_smt.specs.Admit.{AskedWord, asked}
 use Rattle.ta_smt.specs.WordText.{elements_in}

@@ -29,7 +29,7 @@ use ta_scope::ScopedFile;
 use ta_shelf::Shelf;
 use ta_shell::{Answer, Command, Outputs, Refusal};
 use ta_syntax::print_tree;
-use ta_verdict::{is_unknown, is_unsafe, judge_file};
+use ta_verdict::{Budget, is_unknown, is_unsafe, judge_file};
 
 /// What `bench` is asked for: a number of the family.
 #[derive(Drop)]
@@ -86,7 +86,7 @@ fn family_number(word: &str) -> Option<u32>
     }
 }
 
-/// The answer of `bench`. A fault of the family's text, an unsafe pattern or a certificate that is
+/// The answer of `bench`. An error of the family's text, an unsafe pattern or a certificate that is
 /// refused would be an error of this program and does not come about; then it is as for want of
 /// memory.
 fn answer_bench<'a, R: Threads + Sync>(rt: &R, alloc: Global, k: u32) -> Result<Answer, Refusal<'a>>
@@ -104,7 +104,11 @@ fn bench_family<R: Threads + Sync>(rt: &R, alloc: Global, k: u32) -> Result<Answ
     ensures { IfOk result (SaysBench k) }
 {
     let scoped = read_family(alloc, k)?;
-    let judged = judge_file(rt, alloc, &scoped, DEFAULT_NODES, true)?;
+    let budget = Budget {
+        nodes: DEFAULT_NODES,
+        lazy: false,
+    };
+    let judged = judge_file(rt, alloc, &scoped, budget, true)?;
     if accept(alloc, &scoped, judged.certificate.as_slice()).is_err() {
         return Err(AllocError);
     }

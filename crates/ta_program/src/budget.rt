@@ -1,4 +1,4 @@
-//! A budget of nodes.
+//! What may be spent on a pattern.
 #![tactic(auto)]
 
 ghost use Rattle.std.specs.Prelude.{◌≤◌};
@@ -6,10 +6,11 @@ ghost use Rattle.ta_base.specs.declared.limits.TheConstants.{MOST_NODES};
 
 use ta_base::limits::MOST_NODES;
 
-/// How many nodes `verify` may visit for each pattern.
+/// What words allow to be spent on each pattern: a number of nodes within the limits, of one tree or
+/// the other.
 #[derive(Drop)]
 pub(crate) struct Budget {
-    pub nodes: u64,
-    pub ghost some: { 1 ≤ nodes },
-    pub ghost few: { nodes ≤ MOST_NODES },
+    pub given: ta_verdict::Budget,
+    pub ghost some: { 1 ≤ given.nodes },
+    pub ghost few: { given.nodes ≤ MOST_NODES },
 }

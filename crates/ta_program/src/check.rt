@@ -74,7 +74,7 @@ fn judge_certificate<'a, S: Shelf>(
     }
 }
 
-/// Reads a certificate and judges it. It is read in pieces, and up to its first fault.
+/// Reads a certificate and judges it. It is read in pieces, and up to its first error.
 pub(crate) fn read_certificate<'a, S: Shelf>(
     shelf: &mut S,
     checker: Checker<'_>,

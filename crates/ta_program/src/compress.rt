@@ -128,7 +128,7 @@ fn read_long(alloc: Global, file: &File, bytes: &[u8]) -> Result<Run, CompressFa
     }
 }
 
-/// The fault of a text as a run.
+/// The error of a text as a run.
 fn of_run(fault: RunFault) -> CompressFault
     ensures { result ≡ of_run fault }
 {

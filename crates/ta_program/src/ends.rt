@@ -1,4 +1,4 @@
-//! The endings of a file's patterns, for the commands on runs that come to rest.
+//! The endings of a file's patterns, for the commands on runs that end in a deadlock.
 #![tactic(auto)]
 
 ghost use Rattle.std.specs.Prelude.{◌≡◌, IfErr, IfOk};

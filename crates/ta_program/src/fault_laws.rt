@@ -1,5 +1,5 @@
-//! What the files that a command refuses have to do with what it tells. The functions do nothing but
-//! cite the laws of the crates below: their contracts state the laws.
+//! What the files that a command refuses have to do with what it tells. The functions do nothing
+//! but cite the laws of the crates below: their contracts state the laws.
 #![tactic(auto)]
 
 ghost use Rattle.ta_automaton.specs.declared.file.File.{File};
@@ -14,7 +14,7 @@ ghost use Rattle.ta_program.specs.Search.{template_kind};
 use ta_meaning::meanings_are_unique;
 
 /// The bytes of FILE, of CERT, of RUN for `replay` and for `compress`, of VALUES and of a template have
-/// one fault at most, which is the first.
+/// one error at most, which is the first.
 pub fn faults_are_determined()
     ensures file { OneFault file_kind }
     ensures certificate { (subject : Subject) → OneFault (certificate_kind subject) }

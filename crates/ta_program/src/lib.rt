@@ -20,6 +20,7 @@ mod rest_check;
 mod running;
 mod search;
 mod show;
+mod silent_budget;
 mod silent_names;
 mod spelled;
 mod two_files;

@@ -1,11 +1,12 @@
 //! The command `rest`.
 #![tactic(auto)]
 
-ghost use Rattle.std.specs.Prelude.{◌≡◌, [], IfOk, length, map, Option, option_map};
+ghost use Rattle.std.specs.Prelude.{◌≡◌, [], false, IfOk, IfSome, length, map, None, Option, option_map};
 ghost use Rattle.std.specs.List.{AllByRecursion};
 ghost use Rattle.ta_automaton.specs.declared.file.File.{File};
 ghost use Rattle.ta_report.specs.Report.{VerdictFits};
 ghost use Rattle.ta_rest.specs.Faults.{EndingsOf};
+ghost use Rattle.ta_verdict.specs.Rest.Budgets.{resting};
 ghost use Rattle.ta_shelf.specs.Calls.{Grew};
 ghost use Rattle.ta_shelf.specs.Put.{Told};
 ghost use Rattle.ta_shell.specs.Commands.{Says};
@@ -13,37 +14,41 @@ ghost use Rattle.ta_shell.specs.Puts.{may_put};
 ghost use Rattle.ta_shell.specs.Reading.{ReadCause};
 ghost use Rattle.ta_shell.specs.Stages.{finds};
 ghost use Rattle.ta_program.specs.Inside.Reported.{RestReported};
-ghost use Rattle.ta_program.specs.Rest.{rest_meaning, rest_report_meaning};
+ghost use Rattle.ta_program.specs.Rest.{rest_meaning, rest_quietly, rest_report_meaning};
 ghost use Rattle.ta_program.specs.RestEnds.{CycleHinders, IsEnds, ends_of};
 ghost use Rattle.ta_program.specs.RestSeen.{rest_seen};
-ghost use Rattle.ta_program.specs.RestWords.{rest_taken, rest_words};
+ghost use Rattle.ta_program.specs.RestWords.{quiet_names, rest_taken, rest_words};
 ghost use Rattle.ta_program.specs.Taken.{taken_of};
 
 use crate::budget::Budget;
 use crate::certified::answer_certified;
 use crate::ends::find_ends;
-use crate::reading::read_legal;
+use crate::reading::read_spared;
 use crate::request::Request;
+use crate::silent_budget::SilentBudget;
+use crate::silent_names::{find_silent, names_of};
 use crate::values::{budget_of, file_name_of, out_of};
 use crate::verify::number_of;
-use crate::words::{CERTIFICATE_OPTION, NODES_OPTION, Taken, take_words};
+use crate::words::{
+    CERTIFICATE_OPTION, LAZY_OPTION, NODES_OPTION, SILENT_OPTION, Taken, take_words,
+};
 use std::alloc::{AllocError, Global};
 use std::thread::Threads;
 use ta_automaton::File;
 use ta_base::Text;
 use ta_report::{Said, Verdict, rest_text};
 use ta_rest::RestFile;
-use ta_rest_verdict::judge_rest;
 use ta_scope::ScopedFile;
 use ta_shelf::Shelf;
 use ta_shell::{Answer, Command, Outputs, Refusal};
+use ta_verdict::rest::judge_rest;
 use ta_verdict::{Judged, sample_of};
 
 /// What `rest` is asked for.
 #[derive(Drop)]
 pub(crate) struct Rest<'a> {
     file: &'a str,
-    budget: Budget,
+    silent: SilentBudget<'a>,
     out: Option<&'a str>,
 }
 
@@ -61,7 +66,7 @@ impl<'a> Command for Rest<'a> {
     ghost use Rattle.std.specs.Prelude.{option_map};
     ghost use Rattle.ta_program.specs.Rest.{rest_meaning};
 
-    ghost meaning = { λ command. rest_meaning command.file.now command.budget.nodes (option_map (λ w. w.now) command.out) };
+    ghost meaning = { λ command. rest_meaning command.file.now command.silent.budget.given (option_map (λ w. w.now) command.out) (option_map (λ w. w.now) command.silent.names) };
 
     fn outputs(&self) -> Outputs<'_> {
         Outputs::one(self.out)
@@ -73,7 +78,7 @@ impl<'a> Command for Rest<'a> {
         alloc: Global,
         shelf: &mut S,
     ) -> Result<Answer, Refusal<'_>> {
-        judge_file(rt, alloc, shelf, self.file, &self.budget, self.out)
+        judge_file(rt, alloc, shelf, self.file, &self.silent, self.out)
     }
 }
 
@@ -81,7 +86,7 @@ impl<'a> Command for Rest<'a> {
 fn read_rest<'a>(words: &[&'a str]) -> Option<Rest<'a>>
     ensures { option_map rest_seen result ≡ rest_words (map (λ w. w.now) words.now) }
 {
-    let options = [NODES_OPTION, CERTIFICATE_OPTION];
+    let options = [NODES_OPTION, CERTIFICATE_OPTION, LAZY_OPTION, SILENT_OPTION];
     rest_taken(take_words(1, &options, words)?)
 }
 
@@ -92,30 +97,49 @@ fn rest_taken(taken: Taken<'_>) -> Option<Rest<'_>>
     let file = file_name_of(taken.plain(0))?;
     let nodes = budget_of(taken.value(0))?;
     let out = out_of(file, taken.value(1))?;
+    let lazy = taken.value(2).is_some();
+    let names = quiet_names(lazy, taken.value(3))?;
     Some(Rest {
         file,
-        budget: Budget { nodes },
+        silent: SilentBudget {
+            budget: Budget {
+                given: ta_verdict::Budget { nodes, lazy },
+            },
+            names,
+        },
         out,
     })
 }
 
-/// Reads a file, gives a sample of its parameters and says of each of its patterns whether a run in
-/// which it occurs comes to rest, and puts the certificate of those that are safe in the file OUT,
-/// where that is asked for.
+/// The names that are to be silent, where they are given: with moments on demand alone.
+fn quiet_names(lazy: bool, names: Option<&str>) -> Option<Option<&str>>
+    ensures asked { option_map (λ o. option_map (λ w. w.now) o) result ≡ quiet_names lazy (option_map (λ w. w.now) names.entry) }
+    ensures quiet { IfSome result (λ quiet. lazy ≡ false → quiet ≡ None) }
+{
+    match names {
+        None => Some(None),
+        Some(_) if lazy => names_of(names),
+        Some(_) => None,
+    }
+}
+
+/// Reads a file, which OUT is not to destroy, gives a sample of its parameters and says of each of its
+/// patterns whether a run in which it occurs comes to rest, and puts the certificate of those that are
+/// safe in the file OUT, where that is asked for. Rest does not count on the silent names.
 fn judge_file<'a, R: Threads + Sync, S: Shelf>(
     rt: &R,
     alloc: Global,
     shelf: &mut S,
     file: &'a str,
-    budget: &Budget,
+    silent: &SilentBudget<'_>,
     out: Option<&'a str>,
 ) -> Result<Answer, Refusal<'a>>
-    ensures says { Grew (Says (rest_meaning file.now budget.now.nodes (option_map (λ w. w.now) out.entry)) (S.files shelf.old) result) (S.calls shelf.old) (S.calls shelf.new) }
+    ensures says { Grew (Says (rest_meaning file.now silent.now.budget.given (option_map (λ w. w.now) out.entry) (option_map (λ w. w.now) silent.now.names)) (S.files shelf.old) result) (S.calls shelf.old) (S.calls shelf.new) }
     ensures cause { ReadCause result (S.faults shelf.old) (S.faults shelf.new) }
     ensures kept { S.files shelf.new ≡ S.files shelf.old }
 {
-    match read_legal(alloc, shelf, file) {
-        Ok(scoped) => answer_scoped(rt, alloc, file, scoped, budget, out),
+    match read_spared(alloc, shelf, file, &Outputs::one(out)) {
+        Ok(scoped) => answer_scoped(rt, alloc, file, scoped, silent, out),
         Err(refusal) => Err(refusal),
     }
 }
@@ -126,14 +150,32 @@ fn answer_scoped<'a, R: Threads + Sync>(
     alloc: Global,
     name: &'a str,
     scoped: ScopedFile,
-    budget: &Budget,
+    silent: &SilentBudget<'_>,
     out: Option<&'a str>,
 ) -> Result<Answer, Refusal<'a>>
-    ensures says { (files : Option Told) → Says (finds (IsEnds scoped.file) (CycleHinders name.now scoped.file) (may_put (option_map (λ w. w.now) out.entry)) (rest_report_meaning budget.now.nodes (option_map (λ w. w.now) out.entry) scoped.file)) files result [] }
+    ensures says { (files : Option Told) → Says (finds (IsEnds scoped.file) (CycleHinders name.now scoped.file) (may_put (option_map (λ w. w.now) out.entry)) (rest_quietly name.now silent.now.budget.given (option_map (λ w. w.now) out.entry) (option_map (λ w. w.now) silent.now.names) scoped.file)) files result [] }
     ensures cause { ReadCause result 0 0 }
 {
     match find_ends(alloc, name, scoped) {
-        Ok(rest) => answer_rest(rt, alloc, &rest, budget, out),
+        Ok(rest) => answer_quietly(rt, alloc, name, &rest, silent, out),
+        Err(refusal) => Err(refusal),
+    }
+}
+
+/// The answer of the endings of a file of a name, unless the names may not be silent in it.
+fn answer_quietly<'a, R: Threads + Sync>(
+    rt: &R,
+    alloc: Global,
+    name: &'a str,
+    rest: &RestFile,
+    silent: &SilentBudget<'_>,
+    out: Option<&'a str>,
+) -> Result<Answer, Refusal<'a>>
+    ensures says { (files : Option Told) (file : File) → EndingsOf file rest.now.ending.file rest.now.added → Says (rest_quietly name.now silent.now.budget.given (option_map (λ w. w.now) out.entry) (option_map (λ w. w.now) silent.now.names) file (ends_of rest.now)) files result [] }
+    ensures cause { ReadCause result 0 0 }
+{
+    match find_silent(alloc, name, &rest.ending.file.automaton, silent.names) {
+        Ok(places) => answer_rest(rt, alloc, rest, &silent.budget, places.as_slice(), out),
         Err(refusal) => Err(refusal),
     }
 }
@@ -145,12 +187,14 @@ fn answer_rest<'a, R: Threads + Sync>(
     alloc: Global,
     rest: &RestFile,
     budget: &Budget,
+    silent: &[u32],
     out: Option<&'a str>,
 ) -> Result<Answer, Refusal<'a>>
-    ensures says { (files : Option Told) (file : File) → EndingsOf file rest.now.ending.file rest.now.added → Says (rest_report_meaning budget.now.nodes (option_map (λ w. w.now) out.entry) file (ends_of rest.now)) files result [] }
+    requires words { budget.now.given.lazy ≡ false → silent.now ≡ [] }
+    ensures says { (files : Option Told) (file : File) → EndingsOf file rest.now.ending.file rest.now.added → Says (rest_report_meaning (resting budget.now.given silent.now) (option_map (λ w. w.now) out.entry) file (ends_of rest.now)) files result [] }
     ensures cause { ReadCause result 0 0 }
 {
-    let Ok(judged) = judge_rest(rt, alloc, rest, budget.nodes, out.is_some()) else {
+    let Ok(judged) = judge_rest(rt, alloc, rest, budget.given, silent, out.is_some()) else {
         return Err(Refusal::Memory);
     };
     let Judged {
@@ -176,9 +220,9 @@ fn report(
 ) -> Result<Text, AllocError>
     requires all { length verdicts.now ≡ length ending.now.patterns }
     requires fit { AllByRecursion (VerdictFits ending.now) verdicts.now }
-    ensures { IfOk result (RestReported ending.now budget.now.nodes verdicts.now) }
+    ensures { IfOk result (RestReported ending.now budget.now.given.nodes verdicts.now) }
 {
-    let sample = sample_of(alloc, ending, budget.nodes)?;
+    let sample = sample_of(alloc, ending, budget.given.nodes)?;
     let said = Said {
         file: ending,
         sample: &sample,

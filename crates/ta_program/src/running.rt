@@ -5,9 +5,10 @@ ghost use Rattle.std.specs.Prelude.{◌≡◌, map};
 ghost use Rattle.ta_shell.specs.Ends.{Quiet, SinkState, Tells, state};
 ghost use Rattle.ta_program.specs.Asked.{Runs, usage_line};
 ghost use Rattle.ta_program.specs.Headline.{StatusTells};
-ghost use Rattle.ta_program.specs.Program.{Admitting, Benches, CertificateWritten, CheckProves, Completes, ExactlySo, Exports, KeepsFiles, Opens, PrintedHolds, ReplayShows, RestProves, RestsReport, RunShortens, Searches, Tellings, UsageExactly, VerifyReports};
-ghost use Rattle.ta_program.specs.Program.{SafeAsShown, ShowsFile};
+ghost use Rattle.ta_program.specs.Program.{Admitting, Benches, CertificateWritten, CheckProves, Completes, ExactlySo, Exports, KeepsFiles, Opens, PrintedHolds, ReplayShows, RestProves, RestsReport, RunShortens, Searches, SparesRead, Tellings, UsageExactly, VerifyReports};
+ghost use Rattle.ta_program.specs.Program.{ShowsFile};
 ghost use Rattle.ta_program.specs.Requests.{request_of};
+ghost use Rattle.ta_program.specs.Understood.{Understood};
 
 use crate::admit::Admit;
 use crate::bench::Bench;
@@ -29,17 +30,18 @@ use ta_shell::{perform, tell_line};
 
 /// The line where the words are no command's.
 const USAGE: &str =
-    "tav: usage: verify FILE [--nodes N] [--certificate OUT] [--json], check FILE CERT, replay FILE RUN, compress FILE RUN, bench K, rest FILE [--nodes N] [--certificate OUT], rest-check FILE CERT, search FILE [--nodes N] [--certificate OUT] [--filled OUT2], show FILE, export FILE PATTERN START WORD, admit FILE PATTERN START WORD VALUES, --silent NAMES with rest-check\n";
+    "tav: usage: verify FILE [--nodes N] [--certificate OUT] [--json], check FILE CERT, replay FILE RUN, compress FILE RUN, bench K, rest FILE [--nodes N] [--certificate OUT], rest-check FILE CERT, search FILE [--nodes N] [--certificate OUT] [--filled OUT2], show FILE, export FILE PATTERN START WORD, admit FILE PATTERN START WORD VALUES, --lazy with verify, rest or search, --silent NAMES with rest or rest-check\n";
 
 /// Does what the words ask for, and answers the number that the process ends with: 0 where all is
 /// done, 1 where some pattern is unsafe or no values were found, 2 where that isn't known, 3 where FILE hinders, 4
-/// where CERT, RUN, VALUES or a word does, or the certificate is too long, 5 where the words are no command's, 6 where
-/// the shelf or the output failed, and 7 for want of memory.
+/// where CERT, RUN, VALUES or a word does, or the certificate is too long, or OUT holds what was read, 5 where the words
+/// are no command's, 6 where the shelf or the output failed, and 7 for want of memory.
 ///
 /// A file is read and judged whole before the next one is opened, and a text is made whole before
-/// it is written. A certificate and a filled text are begun before anything is read, made before the
-/// report is written, and put in their places behind it, and nothing else is ever put on the shelf. A
-/// failing `err` changes nothing.
+/// it is written. A certificate and a filled text are begun before anything is read; what their names
+/// hold is compared with FILE's bytes before anything is searched; they are made before the report is
+/// written, and put in their places behind it, and nothing else is ever put on the shelf. A failing
+/// `err` changes nothing.
 pub fn run<R: Threads + Sync, S: Shelf, O: Sink, E: Sink>(
     rt: &R,
     alloc: Global,
@@ -48,6 +50,15 @@ pub fn run<R: Threads + Sync, S: Shelf, O: Sink, E: Sink>(
     out: &mut O,
     err: &mut E,
 ) -> u8
+    ensures understood { Understood (record {
+      status = result;
+      words = map (λ w. w.now) words.now;
+      files = S.files shelf.old;
+      calls = S.calls shelf.old;
+      calls' = S.calls shelf.new;
+      written = O.written out.old;
+      written' = O.written out.new;
+    }) }
     ensures headline { StatusTells result (map (λ w. w.now) words.now) (S.files shelf.old) (S.calls shelf.old) (S.calls shelf.new) (O.written out.old) (O.written out.new) }
     ensures verify { VerifyReports result (map (λ w. w.now) words.now) (S.files shelf.old) (S.calls shelf.old) (S.calls shelf.new) (O.written out.old) (O.written out.new) }
     ensures certificate { CertificateWritten result (map (λ w. w.now) words.now) (S.files shelf.old) (S.files shelf.new) (S.calls shelf.old) (S.calls shelf.new) (O.written out.old) (O.written out.new) }
@@ -61,13 +72,13 @@ pub fn run<R: Threads + Sync, S: Shelf, O: Sink, E: Sink>(
     ensures rest_proves { RestProves result (map (λ w. w.now) words.now) (S.files shelf.old) (S.calls shelf.old) (S.calls shelf.new) (O.written out.old) (O.written out.new) }
     ensures searches { Searches result (map (λ w. w.now) words.now) (S.files shelf.old) (S.files shelf.new) (S.calls shelf.old) (S.calls shelf.new) (O.written out.old) (O.written out.new) }
     ensures shows { ShowsFile result (map (λ w. w.now) words.now) (S.files shelf.old) (S.calls shelf.old) (S.calls shelf.new) (O.written out.old) (O.written out.new) }
-    ensures understood { SafeAsShown result (map (λ w. w.now) words.now) (S.files shelf.old) (S.calls shelf.old) (S.calls shelf.new) }
     ensures printed { PrintedHolds result (map (λ w. w.now) words.now) (S.files shelf.old) (S.calls shelf.old) (S.calls shelf.new) (O.written out.old) (O.written out.new) }
     ensures usage { UsageExactly result (request_of (map (λ w. w.now) words.now)) }
     ensures exact { ExactlySo result (request_of (map (λ w. w.now) words.now)) (S.files shelf.old) }
     ensures kept { KeepsFiles result (map (λ w. w.now) words.now)
         (record { files = S.files shelf.old; calls = S.calls shelf.old; faults = S.faults shelf.old })
         (record { files = S.files shelf.new; calls = S.calls shelf.new; faults = S.faults shelf.new }) }
+    ensures spares { SparesRead (map (λ w. w.now) words.now) (S.files shelf.old) (S.calls shelf.old) (S.calls shelf.new) }
     ensures opened { Opens (request_of (map (λ w. w.now) words.now)) (S.calls shelf.old) (S.calls shelf.new) }
     ensures runs { Runs (request_of (map (λ w. w.now) words.now)) result
         (state (S.files shelf.old) (S.calls shelf.old) (S.faults shelf.old) (O.written out.old) (O.faults out.old) (O.stalls out.old) (E.written err.old) (E.faults err.old) (E.stalls err.old))

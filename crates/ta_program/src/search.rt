@@ -2,20 +2,19 @@
 #![tactic(auto)]
 
 ghost use Rattle.std.specs.List.{concat};
-ghost use Rattle.std.specs.Prelude.{◌≡◌, ◌≢◌, ◌≤◌, ◌<◌, ◌++◌, [], decimal, IfErr, IfOk, IfSome, IsSome, length, map, MatchOption, OnOk, Option, option_map, Some};
-ghost use Rattle.ta_search.specs.declared.fault.TemplateFault.TheVariants as fault;
+ghost use Rattle.std.specs.Prelude.{◌≡◌, ◌≤◌, ◌<◌, ◌++◌, [], decimal, IfOk, IfSome, IsSome, length, map, MatchOption, OnOk, Option, option_map, Some};
 ghost use Rattle.ta_search.specs.Filling.{filled_text};
-ghost use Rattle.ta_search.specs.TemplateFaults.{FirstTemplateFault};
 ghost use Rattle.ta_shelf.specs.Calls.{Grew};
 ghost use Rattle.ta_shelf.specs.Put.{Told};
 ghost use Rattle.ta_shell.specs.Commands.{Says};
 ghost use Rattle.ta_shell.specs.Lines.{phrase_text};
-ghost use Rattle.ta_shell.specs.Puts.{content_bytes, put_text};
+ghost use Rattle.ta_shell.specs.Puts.{content_bytes, output_names, put_text};
 ghost use Rattle.ta_shell.specs.Reading.{ReadCause};
-ghost use Rattle.ta_shell.specs.Stages.{Stage};
+ghost use Rattle.ta_shell.specs.Sparing.{SparedStage};
+ghost use Rattle.ta_shell.specs.Stages.{MeantBy};
 ghost use Rattle.ta_program.specs.declared.limits.TheConstants.{CERTIFICATE as CERTIFICATE_LIMIT};
 ghost use Rattle.ta_program.specs.Inside.FoundFiles.{IsFoundEnd, FoundBy, LastGives};
-ghost use Rattle.ta_program.specs.Search.{IsTemplateText, end_number, found_files, found_meaning, leaves_unknown, search_meaning, template_fault_text, template_kind, with_given};
+ghost use Rattle.ta_program.specs.Search.{end_number, found_files, found_meaning, leaves_unknown, search_meaning, template_fault_text, template_kind, with_given};
 ghost use Rattle.ta_program.specs.SearchSeen.{search_seen};
 ghost use Rattle.ta_program.specs.SearchWords.{search_taken, search_words};
 ghost use Rattle.ta_program.specs.Taken.{taken_of};
@@ -25,7 +24,7 @@ use crate::certified::{are_within, long_certificate, put_of};
 use crate::limits::{CERTIFICATE, FILE};
 use crate::request::Request;
 use crate::values::{budget_of, file_name_of, filled_of, out_of};
-use crate::words::{CERTIFICATE_OPTION, NODES_OPTION, OptionWord, Taken, take_words};
+use crate::words::{CERTIFICATE_OPTION, LAZY_OPTION, NODES_OPTION, OptionWord, Taken, take_words};
 use std::alloc::{AllocError, Global};
 use std::thread::Threads;
 use ta_base::limits::FILE_BYTES;
@@ -35,7 +34,7 @@ use ta_search::{
     searches_are_determined,
 };
 use ta_shelf::Shelf;
-use ta_shell::{Answer, Command, Content, Outputs, Phrase, Put, Refusal, read_text};
+use ta_shell::{Answer, Command, Content, Outputs, Phrase, Put, Refusal, read_text, spare_read};
 
 /// What `search` is asked for.
 #[derive(Drop)]
@@ -65,10 +64,7 @@ impl<'a> Command for Search<'a> {
     ghost meaning = { λ command. search_meaning (search_seen command) };
 
     fn outputs(&self) -> Outputs<'_> {
-        Outputs {
-            first: self.filled,
-            second: self.out,
-        }
+        self.may_put()
     }
 
     fn judge<R: Threads + Sync, S: Shelf>(
@@ -78,6 +74,23 @@ impl<'a> Command for Search<'a> {
         shelf: &mut S,
     ) -> Result<Answer, Refusal<'_>> {
         judge_search(rt, alloc, shelf, self)
+    }
+}
+
+impl<'a> Search<'a> {
+    ghost use Rattle.std.specs.Prelude.{◌≡◌};
+    ghost use Rattle.ta_program.specs.Search.{found_names};
+    ghost use Rattle.ta_program.specs.SearchSeen.{search_seen};
+    ghost use Rattle.ta_shell.specs.Puts.{output_names};
+
+    /// The names of the files that it may put on the shelf.
+    fn may_put(&self) -> Outputs<'a>
+        ensures { output_names result ≡ found_names (search_seen self.now) }
+    {
+        Outputs {
+            first: self.filled,
+            second: self.out,
+        }
     }
 }
 
@@ -92,6 +105,7 @@ fn read_search<'a>(words: &[&'a str]) -> Option<Search<'a>>
             word: "--filled",
             valued: true,
         },
+        LAZY_OPTION,
     ];
     search_taken(take_words(1, &options, words)?)
 }
@@ -106,14 +120,19 @@ fn search_taken(taken: Taken<'_>) -> Option<Search<'_>>
     let filled = filled_of(file, out, taken.value(2))?;
     Some(Search {
         file,
-        budget: Budget { nodes },
+        budget: Budget {
+            given: ta_verdict::Budget {
+                nodes,
+                lazy: taken.value(3).is_some(),
+            },
+        },
         out,
         filled,
     })
 }
 
-/// Reads a template, tries values in its holes, and puts what was found in the files that are asked
-/// for.
+/// Reads a template, which OUT2 and OUT are not to destroy, tries values in its holes, and puts what was
+/// found in the files that are asked for.
 fn judge_search<'a, R: Threads + Sync, S: Shelf>(
     rt: &R,
     alloc: Global,
@@ -124,45 +143,49 @@ fn judge_search<'a, R: Threads + Sync, S: Shelf>(
     ensures cause { ReadCause result (S.faults shelf.old) (S.faults shelf.new) }
     ensures kept { S.files shelf.new ≡ S.files shelf.old }
 {
-    match read_searched(alloc, shelf, asked.file) {
+    match read_searched(alloc, shelf, asked.file, &asked.may_put()) {
         Ok(template) => answer_search(rt, alloc, &template, asked),
         Err(refusal) => Err(refusal),
     }
 }
 
-/// The template that a name's bytes are the text of.
+/// The template that a name's bytes are the text of, unless an output holds just these bytes.
 fn read_searched<'a, S: Shelf>(
     alloc: Global,
     shelf: &mut S,
     name: &'a str,
+    outputs: &Outputs<'a>,
 ) -> Result<Template, Refusal<'a>>
-    ensures stage { Grew (Stage template_kind (λ template. template) (S.files shelf.old) name.now result) (S.calls shelf.old) (S.calls shelf.new) }
+    ensures stage { Grew (SparedStage template_kind (λ template. template) (S.files shelf.old) name.now (output_names outputs.now) result) (S.calls shelf.old) (S.calls shelf.new) }
     ensures cause { ReadCause result (S.faults shelf.old) (S.faults shelf.new) }
     ensures kept { S.files shelf.new ≡ S.files shelf.old }
 {
     match read_text(alloc, shelf, name, FILE) {
-        Ok(bytes) => match template_of(alloc, bytes.as_slice()) {
-            Ok(template) => Ok(template),
-            Err(TemplateFault::Memory) => Err(Refusal::Memory),
-            Err(fault) => Err(Refusal::Refused {
-                number: FILE.number,
-                name,
-                why: template_fault_phrase(&fault),
-            }),
+        Ok(bytes) => match template_of(alloc, name, bytes.as_slice()) {
+            Ok(template) => match spare_read(shelf, outputs, bytes.as_slice()) {
+                Ok(()) => Ok(template),
+                Err(refusal) => Err(refusal),
+            },
+            Err(refusal) => Err(refusal),
         },
         Err(refusal) => Err(refusal),
     }
 }
 
-/// The template that bytes are the text of.
-fn template_of(alloc: Global, bytes: &[u8]) -> Result<Template, TemplateFault>
+/// The template that bytes of a name are the text of.
+fn template_of<'a>(alloc: Global, name: &'a str, bytes: &[u8]) -> Result<Template, Refusal<'a>>
     requires { length bytes.now ≤ FILE_BYTES }
-    ensures text { IfOk result (IsTemplateText bytes.now) }
-    ensures fault { IfErr result (λ found. found ≢ fault.Memory → FirstTemplateFault bytes.now found) }
+    ensures meant { MeantBy template_kind (λ template. template) name.now bytes.now result }
+    ensures cause { ReadCause result 0 0 }
 {
     match read_template(alloc, bytes) {
         Ok(template) => Ok(template),
-        Err(fault) => Err(fault),
+        Err(TemplateFault::Memory) => Err(Refusal::Memory),
+        Err(fault) => Err(Refusal::Refused {
+            number: FILE.number,
+            name,
+            why: template_fault_phrase(&fault),
+        }),
     }
 }
 
@@ -201,7 +224,7 @@ fn answer_search<'a, R: Threads + Sync>(
     ensures says { (files : Option Told) → Says (found_meaning (search_seen asked.now) template.now) files result [] }
     ensures cause { ReadCause result 0 0 }
 {
-    let Ok(end) = search(rt, alloc, template, asked.budget.nodes) else {
+    let Ok(end) = search(rt, alloc, template, asked.budget.given) else {
         return Err(Refusal::Memory);
     };
     let Ok(lines) = search_text(alloc, template, &end) else {
@@ -247,7 +270,7 @@ fn answer_found<'a>(
     text: Text,
     asked: &Search<'a>,
 ) -> Result<Answer, Refusal<'a>>
-    requires { IsFoundEnd template.now asked.now.budget.nodes end text }
+    requires { IsFoundEnd template.now asked.now.budget.given end text }
     ensures says { (files : Option Told) → Says (found_meaning (search_seen asked.now) template.now) files result [] }
     ensures cause { ReadCause result 0 0 }
 {
@@ -291,7 +314,7 @@ fn put_last<'a>(
     text: Text,
     asked: &Search<'a>,
 ) -> Result<Answer, Refusal<'a>>
-    requires { FoundBy template.now asked.now.budget.nodes last.values (concat last.pieces) text }
+    requires { FoundBy template.now asked.now.budget.given last.values (concat last.pieces) text }
     ensures says { (files : Option Told) → Says (found_meaning (search_seen asked.now) template.now) files result [] }
     ensures cause { ReadCause result 0 0 }
 {
@@ -310,7 +333,7 @@ fn put_short<'a>(
     text: Text,
     asked: &Search<'a>,
 ) -> Result<Answer, Refusal<'a>>
-    requires found { FoundBy template.now asked.now.budget.nodes last.values (concat last.pieces) text }
+    requires found { FoundBy template.now asked.now.budget.given last.values (concat last.pieces) text }
     requires within { IsSome (search_seen asked.now).out → length (concat last.pieces) ≤ CERTIFICATE_LIMIT.bytes }
     ensures says { (files : Option Told) → Says (found_meaning (search_seen asked.now) template.now) files result [] }
     ensures cause { ReadCause result 0 0 }

@@ -16,10 +16,10 @@ ghost use Rattle.ta_program.specs.VerifyWords.{verify_taken, verify_words};
 
 use crate::budget::Budget;
 use crate::certified::answer_certified;
-use crate::reading::read_legal;
+use crate::reading::read_spared;
 use crate::request::Request;
 use crate::values::{budget_of, file_name_of, out_of};
-use crate::words::{CERTIFICATE_OPTION, NODES_OPTION, OptionWord, Taken, take_words};
+use crate::words::{CERTIFICATE_OPTION, LAZY_OPTION, NODES_OPTION, OptionWord, Taken, take_words};
 use std::alloc::{AllocError, Global};
 use std::thread::Threads;
 use ta_automaton::File;
@@ -53,7 +53,7 @@ impl<'a> Command for Verify<'a> {
     ghost use Rattle.std.specs.Prelude.{option_map};
     ghost use Rattle.ta_program.specs.Reporting.{verify_meaning};
 
-    ghost meaning = { λ command. verify_meaning command.file.now command.budget.nodes command.json (option_map (λ w. w.now) command.out) };
+    ghost meaning = { λ command. verify_meaning command.file.now command.budget.given command.json (option_map (λ w. w.now) command.out) };
 
     fn outputs(&self) -> Outputs<'_> {
         Outputs::one(self.out)
@@ -88,6 +88,7 @@ fn read_verify<'a>(words: &[&'a str]) -> Option<Verify<'a>>
             word: "--json",
             valued: false,
         },
+        LAZY_OPTION,
     ];
     verify_taken(take_words(1, &options, words)?)
 }
@@ -101,14 +102,19 @@ fn verify_taken(taken: Taken<'_>) -> Option<Verify<'_>>
     let out = out_of(file, taken.value(1))?;
     Some(Verify {
         file,
-        budget: Budget { nodes },
+        budget: Budget {
+            given: ta_verdict::Budget {
+                nodes,
+                lazy: taken.value(3).is_some(),
+            },
+        },
         out,
         json: taken.value(2).is_some(),
     })
 }
 
-/// Reads a file, gives a sample of its parameters and a verdict on each of its patterns, and puts the certificate of those that are
-/// safe in the file OUT, where that is asked for.
+/// Reads a file, which OUT is not to destroy, gives a sample of its parameters and a verdict on each of its patterns, and puts the
+/// certificate of those that are safe in the file OUT, where that is asked for.
 fn judge_verify<'a, R: Threads + Sync, S: Shelf>(
     rt: &R,
     alloc: Global,
@@ -118,11 +124,11 @@ fn judge_verify<'a, R: Threads + Sync, S: Shelf>(
     json: bool,
     out: Option<&'a str>,
 ) -> Result<Answer, Refusal<'a>>
-    ensures says { Grew (Says (verify_meaning file.now budget.now.nodes json (option_map (λ w. w.now) out.entry)) (S.files shelf.old) result) (S.calls shelf.old) (S.calls shelf.new) }
+    ensures says { Grew (Says (verify_meaning file.now budget.now.given json (option_map (λ w. w.now) out.entry)) (S.files shelf.old) result) (S.calls shelf.old) (S.calls shelf.new) }
     ensures cause { ReadCause result (S.faults shelf.old) (S.faults shelf.new) }
     ensures kept { S.files shelf.new ≡ S.files shelf.old }
 {
-    match read_legal(alloc, shelf, file) {
+    match read_spared(alloc, shelf, file, &Outputs::one(out)) {
         Ok(scoped) => answer_report(rt, alloc, &scoped, budget, json, out),
         Err(refusal) => Err(refusal),
     }
@@ -137,10 +143,10 @@ fn answer_report<'a, R: Threads + Sync>(
     json: bool,
     out: Option<&'a str>,
 ) -> Result<Answer, Refusal<'a>>
-    ensures says { (files : Option Told) → Says (report_meaning scoped.now.file budget.now.nodes json (option_map (λ w. w.now) out.entry)) files result [] }
+    ensures says { (files : Option Told) → Says (report_meaning scoped.now.file budget.now.given json (option_map (λ w. w.now) out.entry)) files result [] }
     ensures cause { ReadCause result 0 0 }
 {
-    let Ok(judged) = judge_file(rt, alloc, scoped, budget.nodes, out.is_some()) else {
+    let Ok(judged) = judge_file(rt, alloc, scoped, budget.given, out.is_some()) else {
         return Err(Refusal::Memory);
     };
     let Judged {
@@ -165,10 +171,10 @@ fn report(
     budget: &Budget,
     verdicts: &[Verdict],
 ) -> Result<Text, AllocError>
-    requires { AreVerdicts file.now budget.now.nodes verdicts.now }
-    ensures { IfOk result (SampleReported json file.now budget.now.nodes verdicts.now) }
+    requires { AreVerdicts file.now budget.now.given verdicts.now }
+    ensures { IfOk result (SampleReported json file.now budget.now.given verdicts.now) }
 {
-    let sample = sample_of(alloc, file, budget.nodes)?;
+    let sample = sample_of(alloc, file, budget.given.nodes)?;
     let said = Said {
         file,
         sample: &sample,

@@ -24,6 +24,12 @@ pub(crate) const CERTIFICATE_OPTION: OptionWord<'static> = OptionWord {
     valued: true,
 };
 
+/// That moments are asked about on demand, in place of a list of words.
+pub(crate) const LAZY_OPTION: OptionWord<'static> = OptionWord {
+    word: "--lazy",
+    valued: false,
+};
+
 /// The names that are to be silent.
 pub(crate) const SILENT_OPTION: OptionWord<'static> = OptionWord {
     word: "--silent",

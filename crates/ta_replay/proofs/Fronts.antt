@@ -1,4 +1,4 @@
--- The first fault of a text.
+-- The first error of a text.
 use Rattle.ta_replay.proofs.Common.{ℕ, ℤ, zero, suc, pos, ◌+◌, ◌-◌, ◌<◌, ◌≡◌, ◌≢◌, ◌⊎◌, List, [], ◌∷◌, ◌++◌, length, map, replicate, refl, sym, ap, subst, ◌∙◌, Some, None, Option, inl, inr, append_assoc, length-append, arith, codes, length-map, length-replicate, append_cancel_left, slice_get_within, slice_get_past, AllByRecursion, each_append, each_at, some_at, Automaton, Pattern, File, pattern_name, Value, Run, RunLine, RunFault, Fits, LineFits, Slot, name_at, valued_line, slots, value_lines, line_of, head_line, run_lines, lines_text, IsValued, FormFor, IsFront, IsMalformedRun, IsMisnamed, TextFault, Avoids, SplitAt, HeadRead, NoValue, OtherValue, ValueRefused, ValuesRead, ValuesStopped, ValuesFault, IsStatement, StatementRefused, StepRefused, StepsBegun, StepsStopped, StepsFault, Unfinished, Refused, Trailing, slice_get}
 use Rattle.ta_replay.specs.declared.fault.RunFault.TheVariants as fault
 use Rattle.ta_replay.proofs.NumberedNames.{one_name}

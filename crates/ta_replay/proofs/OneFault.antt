@@ -1,4 +1,4 @@
--- A text has one first fault.
+-- A text has one first error.
 use Rattle.ta_replay.proofs.Common.{ℕ, ◌+◌, ◌≡◌, ◌⊎◌, List, [], ◌∷◌, ◌++◌, length, refl, sym, ap, subst, ◌∙◌, inl, inr, append_assoc, append-nil, AllByRecursion, each_back, first_byte, not_parted, File, Run, RunFault, Fits, run_lines, lines_text, FormAt, LinesGoOn, IsTrailingRun, IsUnfinishedRun, IsMisformed, IsMalformedRun, IsMisnamed, TextFault, Avoids}
 use Rattle.ta_replay.specs.declared.fault.RunFault.TheVariants as fault
 use Rattle.ta_replay.proofs.OneRun.{run_clear, run_formed, not_longer, begun_clear, fault_clear, formed_clear}
@@ -11,7 +11,7 @@ Begun file ls = (ls ≡ []) ⊎ ((run : Run) × (later : List (List ℕ)) × Fit
 Stops : File → List (List ℕ) → List ℕ → Type 0
 Stops file ls rest = (run : Run) (line behind : List ℕ) (later : List (List ℕ)) → Fits file run → run_lines file run ≡ ls ++ (line ∷ later) → rest ≡ line ++ (10 ∷ behind) → ⊥
 
--- what is known of the lines before a fault
+-- what is known of the lines before an error
 record Stands (file : File) (bytes : List ℕ) (ls : List (List ℕ)) (rest : List ℕ) : Type 0 where
   text : bytes ≡ lines_text ls ++ rest
   begun : Begun file ls
@@ -115,7 +115,7 @@ one_misnamed file bytes m n a b =
     let same = one_stop file bytes a.ls b.ls (a.line ++ (10 ∷ a.behind)) (b.line ++ (10 ∷ b.behind)) (misnamed_stands file bytes m a) (misnamed_stands file bytes n b) in
     a.place ∙ ap (λ ls. length ls + 1) same.0 ∙ sym b.place
 
--- at one place a text has one fault
+-- at one place a text has one error
 one_kind : (file : File) (ls : List (List ℕ)) (rest line behind : List ℕ) → IsTrailingRun file ls rest ⊎ (IsUnfinishedRun file ls rest ⊎ IsMisformed file ls rest) → LinesGoOn file ls → FormAt file.automaton (length ls) line → rest ≡ line ++ (10 ∷ behind) → ⊥
 one_kind file ls rest line behind (inl trailing) (inl none) form next = let whole = trailing.whole.lines ∙ none in cc
 one_kind file ls rest line behind (inl trailing) (inr front) form next =

@@ -33,7 +33,7 @@ may_not_fail a ps cs start.OutOfRange m (inl s) = condition_clash (point_of ps) 
 may_not_fail a ps cs start.OutOfRange m (inr (passes, inl leaves)) = leaves m.processes_stay
 may_not_fail a ps cs start.OutOfRange m (inr (passes, inr leaves)) = leaves m.sum_stays
 
--- as a fault of the run
+-- as an error of the run
 of_start : StartFault → RunFault
 of_start (start.Resilience k) = Resilience k
 of_start start.Processes = Processes
@@ -75,7 +75,7 @@ condition_not p vs (Start k) passes s = condition_clash (point_of vs) (RowFails 
 condition_not p vs (Overflow k) passes s = condition_clash (point_of vs) (RowOutOfRange (point_of vs)) (leaves_clash (point_of vs)) p.start s.1.0 passes s.1.1
 condition_not p vs _ passes s = s
 
--- a step's checks before `empty`: as a fault of the line with a number
+-- a step's checks before `empty`: as an error of the line with a number
 of_step : ℕ → StepFault → RunFault
 of_step n step.Count = Count n
 of_step n (step.OutOfRange place) = Overflow n

@@ -1,4 +1,4 @@
--- A text is that of at most one run, and has then no fault.
+-- A text is that of at most one run, and has then no error.
 use Rattle.ta_replay.proofs.Common.{ℕ, ℤ, zero, suc, ◌+◌, ◌<◌, ◌≡◌, ◌⊎◌, List, [], ◌∷◌, ◌++◌, length, map, refl, sym, ap, subst, ◌∙◌, Some, None, Option, inl, inr, append_assoc, append-nil, arith, codes, signed_decimal, length-map, append_cancel_left, same_from_push, slice_get_within, AllByRecursion, each_append, each_at, each_back, each_front, last_only, word_avoids, avoids-append, avoids_known, differ, first_byte, not_parted, same_parts, pattern_within, Automaton, Pattern, File, EachFrom, event_name, pattern_name, EventWithin, PatternWithin, Event, name_of, Value, Run, RunLine, Step, Mark, RunFault, Fits, LineFits, Slot, name_at, named_line, valued_line, slots, value_lines, line_of, head_line, run_lines, lines_text, IsRunText, FormFor, FormAt, LinesGoOn, IsTrailingRun, IsUnfinishedRun, IsMisformed, IsMalformedRun, IsMisnamed, TextFault, Avoids, IsWord, slice_get}
 use Rattle.ta_replay.specs.declared.fault.RunFault.TheVariants as fault
 use Rattle.ta_replay.proofs.NumberedNames.{one_name}
@@ -249,7 +249,7 @@ unfaulted file run ls (m ∷ ms) rest fits e text (inr (inr misformed)) =
     let parts = first_byte 10 m misformed.line (lines_text ms) misformed.behind plain misformed.no_feed (sym text ∙ misformed.next) in
     misformed.other (subst (FormAt file.automaton (length ls)) parts.0 (run_formed file run ls m ms fits e))
 
--- the lines before a fault have no line feed
+-- the lines before an error have no line feed
 pub fault_clear : (file : File) (ls : List (List ℕ)) (rest : List ℕ) → IsTrailingRun file ls rest ⊎ (IsUnfinishedRun file ls rest ⊎ IsMisformed file ls rest) → AllByRecursion (Avoids 10) ls
 fault_clear file ls rest (inl trailing) = let whole = trailing.whole in subst (AllByRecursion (Avoids 10)) whole.lines (run_clear file whole.run whole.fits)
 fault_clear file ls rest (inr (inl unfinished)) = begun_clear file ls unfinished.begun
@@ -285,7 +285,7 @@ not_misnamed file run bytes n is bad =
     let found = lines_begin (run_lines file run) bad.ls (bad.line ++ (10 ∷ bad.behind)) (run_clear file run is.fits) (begun_clear file bad.ls bad.begun) (sym is.text ∙ bad.text) in
     misnamed_line file run bad.ls found.0 bad.line bad.behind is.fits found.1 found.2 bad.begun (formed_clear file.automaton (length bad.ls) bad.line bad.form) bad.unnamed
 
--- a text that is a run's has no fault
+-- a text that is a run's has no error
 pub no_fault : (file : File) (run : Run) (bytes : List ℕ) (e : RunFault) → IsRunText file run bytes → TextFault file bytes e → e ≡ fault.Memory
 no_fault file run bytes (fault.Line n) is bad = absurd (not_malformed file run bytes n is bad)
 no_fault file run bytes (fault.Name n) is bad = absurd (not_misnamed file run bytes n is bad)

@@ -1,4 +1,4 @@
--- A text is that of a run, or has a first fault at a line.
+-- A text is that of a run, or has a first error at a line.
 use Rattle.ta_replay.proofs.Common.{◌≡◌, ◌⊎◌, ℕ, zero, suc, ◌+◌, ◌<◌, List, [], ◌∷◌, ◌++◌, length, inl, inr, ⊎_elim, refl, sym, ap, ◌∙◌, append_assoc, append-nil, length-append, arith, File, Run, Fits, run_lines, lines_text, LinesGoOn, IsTrailingRun, IsUnfinishedRun, IsMisformed, Avoids, SplitAt}
 use Rattle.ta_base.proofs.ByteLists.{split_or}
 use Rattle.ta_replay.specs.declared.fault.RunFault.TheVariants as fault

@@ -1,4 +1,4 @@
--- That each text and each run has one answer (this project's profile)
+-- Each text, and each run, has at most one answer.
 use Rattle.std.specs.Prelude.{ℕ, ◌≡◌, ◌≢◌, List}
 use Rattle.ta_automaton.specs.declared.file.File.{File}
 use Rattle.ta_replay.specs.declared.run.Run.{Run}
@@ -11,13 +11,13 @@ use Rattle.ta_replay.specs.RunText.{IsRunText}
 use Rattle.ta_replay.specs.Shows.{Shows}
 use Rattle.ta_replay.specs.TextFaults.{TextFault}
 
--- a text is that of one run at most, it has one first fault at most, and not both
+-- a text is that of at most one run, has at most one first error, and never both
 pub record TextsAreDetermined : Type 0 where
   pub run : (file : File) (bytes : List ℕ) (run other : Run) → IsRunText file run bytes → IsRunText file other bytes → run ≡ other
   pub fault : (file : File) (bytes : List ℕ) (e f : RunFault) → e ≢ Memory → f ≢ Memory → TextFault file bytes e → TextFault file bytes f → e ≡ f
   pub apart : (file : File) (bytes : List ℕ) (run : Run) (e : RunFault) → IsRunText file run bytes → e ≢ Memory → ¬ TextFault file bytes e
 
--- a run that fits has one first refusal at most, and none where it shows its pattern in a replay that stays in range
+-- a run that fits has at most one first refusal, and none if it shows its pattern in a replay that stays in range
 pub record RefusalsAreDetermined : Type 0 where
   pub one : (file : File) (run : Run) (e f : RunFault) → Fits file run → ReplayFault file run e → ReplayFault file run f → e ≡ f
   pub none : (file : File) (run : Run) (e : RunFault) → Fits file run → Shows file run → ReplayStays file run → ¬ ReplayFault file run e

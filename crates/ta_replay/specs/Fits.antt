@@ -1,4 +1,4 @@
--- Runs that fit a file (this project's profile)
+-- Runs that fit a file: what they refer to exists.
 use Rattle.std.specs.Prelude.{pos, ◌<◌, ◌≤ℤ◌, ◌≡◌, length, slice_get, Some}
 use Rattle.std.specs.List.{AllByRecursion}
 use Rattle.ta_linear.specs.Numbers.{InRange}
@@ -15,7 +15,7 @@ abbrev pub LineFits : Automaton → Pattern → RunLine → Type 0
 LineFits a p (Step rule factor) = (rule < length a.rules) × (pos 1 ≤ℤ factor) × InRange factor
 LineFits a p (Mark event) = event < length p.events
 
--- the run's numbers exist, it has a natural value in range for each parameter and a count for each initial location
+-- the run's numbers exist in the file, and it has a natural value in range for each parameter and a count for each initial location
 pub record Fits (file : File) (run : Run) : Type 0 where
   pub pattern : Pattern
   pub named : slice_get file.patterns run.pattern ≡ Some pattern

@@ -1,4 +1,4 @@
--- What stands between two cuts of a run, and the lines that it makes (this project's profile)
+-- The pieces of a run between two cuts, and the lines that they make.
 use Rattle.std.specs.Prelude.{ℕ, ℤ, pos, ◌+◌, ◌*◌, ◌<◌, ◌≤◌, ◌≡◌, List, [], ◌∷◌, ◌++◌, length, map, take, slice_get, Option, None, Some, IsBitSet}
 use Rattle.std.specs.List.{AllByRecursion}
 use Rattle.ta_automaton.specs.declared.automaton.Automaton.{Automaton}
@@ -14,8 +14,8 @@ use Rattle.ta_replay.specs.declared.run.RunLine.{RunLine}
 use Rattle.ta_replay.specs.declared.run.RunLine.TheVariants.{Step, Mark}
 use Rattle.ta_replay.specs.Shows.{unit_steps, IsFirstConfig, ShowsPattern}
 
--- what stands between two cuts: steps, each a rule with how often it fires; then, where the piece ends with a fall, the
--- one step that makes it; then the events that are marked where the piece ends
+-- a piece between two cuts: steps, each a rule with how often it fires; then, if the piece ends with a fall, the one step that makes it;
+-- then the events that are marked at the end of the piece
 pub record Piece : Type 0 where
   pub steps : List (ℕ × ℤ)
   pub last : Option ℕ
@@ -58,7 +58,7 @@ pub record OncePerRule (a : Automaton) (piece : Piece) : Type 0 where
   pub exist : AllByRecursion (λ (step : ℕ × ℤ). step.0 < length a.rules) piece.steps
   pub once : (r : ℕ) → times_in r (map rule_of piece.steps) ≤ 1
 
--- pieces with at most one step of each rule have at most one step more than there are rules, each
+-- pieces with at most one step of each rule have each at most one step more than there are rules
 abbrev pub PiecesAreShort : Type 0
 PiecesAreShort =
     (a : Automaton) (pieces : List Piece) → AllByRecursion (OncePerRule a) pieces
@@ -68,12 +68,12 @@ PiecesAreShort =
 abbrev pub HasFewSteps : Automaton → Pattern → List RunLine → Type 0
 HasFewSteps a p lines = steps_count lines ≤ (length a.rise + length a.fall + length p.events) * (length a.rules + 1)
 
--- how many unit steps stand before the marks of piece k
+-- how many unit steps come before the marks of piece k
 abbrev pub steps_until : List Piece → ℕ → ℕ
 steps_until pieces k = length (unit_steps (pieces_lines (take (k + 1) pieces)))
 
--- the lines of pieces are a run from the run's configuration: the start condition holds at its beginning, `empty` is kept
--- throughout, and each event that a piece marks happens where that piece ends
+-- the lines of pieces are a run from the run's configuration: the start condition holds at its beginning, `empty` is kept throughout, and
+-- each event that a piece marks happens at the end of that piece
 pub record PiecesHappen (a : Automaton) (p : Pattern) (run : Run) (pieces : List Piece) : Type 0 where
   pub lines : run.lines ≡ pieces_lines pieces
   pub first : runs.Config

@@ -1,4 +1,4 @@
--- What the parts of a text's reader find
+-- Natural numbers in the text of a run.
 use Rattle.std.specs.Prelude.{ℕ, ℤ, ◌≡◌, List}
 use Rattle.std.specs.Fmt.{signed_decimal}
 use Rattle.ta_counter.specs.Values.{Value}

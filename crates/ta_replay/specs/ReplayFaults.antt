@@ -1,4 +1,4 @@
--- The first check of a replay that refuses (this project's profile)
+-- The first check of a replay that refuses the run.
 use Rattle.std.specs.Prelude.{ℕ, ℤ, ◌+◌, ◌<◌, ◌≡◌, ◌⊎◌, List, length, take, slice_get, Some}
 use Rattle.ta_linear.specs.Values.{point_of}
 use Rattle.ta_linear.specs.declared.row.Row.{Row}
@@ -61,7 +61,7 @@ abbrev pub LineRefuses : Automaton → Pattern → (ℕ → Type 0) → List ℤ
 LineRefuses a p Marked values (Step r factor) number fault = StepRefuses a p values r factor number fault
 LineRefuses a p Marked values (Mark e) number fault = MarkRefuses p Marked values e number fault
 
--- line i refuses, and no check before it does
+-- line i refuses, and each earlier check passes
 pub record LineStops (a : Automaton) (p : Pattern) (run : Run) (fault : RunFault) : Type 0 where
   pub may_follow : MayTakeLines a p run
   pub i : ℕ
@@ -111,7 +111,7 @@ pub record LacksMark (a : Automaton) (p : Pattern) (run : Run) (e : ℕ) : Type 
   pub missing : ¬ IsMarked run.lines e
   pub before : (f : ℕ) → f < e → IsMarked run.lines f
 
--- the first check of the replay for a pattern that refuses; none wants memory
+-- the first check of the replay for a pattern that refuses; it is never out of memory
 abbrev pub FirstRefusal : Automaton → Pattern → Run → RunFault → Type 0
 FirstRefusal a p run (Line line) = ⊥
 FirstRefusal a p run (Name line) = ⊥
@@ -132,7 +132,7 @@ FirstRefusal a p run Memory = ⊥
 abbrev pub ReplayFault : File → Run → RunFault → Type 0
 ReplayFault file run fault = (p : Pattern) → slice_get file.patterns run.pattern ≡ Some p → FirstRefusal file.automaton p run fault
 
--- how a run that shows its pattern is refused: only where some number leaves the range
+-- how a run that shows its pattern can be refused: only if some number leaves the range
 abbrev pub RefusedThough : File → Run → RunFault → Type 0
 RefusedThough file run (Overflow line) = ¬ ReplayStays file run
 RefusedThough file run _ = ⊥

@@ -1,4 +1,4 @@
--- The numbers of a replay, and its lines' checks (this project's profile)
+-- The values along a replay, and the checks of its lines.
 use Rattle.std.specs.Prelude.{ℕ, ℤ, pos, ◌<◌, ◌≡◌, ◌+ℤ◌, ◌*ℤ◌, List, length, take, slice_get, Some, IsBitSet}
 use Rattle.ta_base.specs.Sums.{total}
 use Rattle.ta_linear.specs.Numbers.{InRange}
@@ -34,11 +34,11 @@ pub record ValuesAfter (a : Automaton) (run : Run) (lines : List RunLine) (value
   pub places : length values ≡ length first
   pub changed : (place : ℕ) → point_of values place ≡ (point_of first place +ℤ total (line_change a place) lines)
 
--- no location of a mask has a process
+-- the locations of a mask are empty
 abbrev pub EmptyAt : Automaton → ℕ → List ℤ → Type 0
 EmptyAt a mask values = (l : ℕ) → IsBitSet mask l → point_of values (location_place a l) ≡ pos 0
 
--- an event isn't marked yet, and each that it comes after is
+-- an event is not marked so far, and each event that it comes after is
 pub record InOrder (p : Pattern) (Marked : ℕ → Type 0) (e : ℕ) : Type 0 where
   pub new : ¬ Marked e
   pub after : (event : Event) (f : ℕ) → slice_get p.events e ≡ Some event → IsBitSet event.after f → Marked f
@@ -64,7 +64,7 @@ pub record LinePasses (a : Automaton) (p : Pattern) (run : Run) (i : ℕ) (line 
   pub reached : ValuesAfter a run (take i run.lines) values
   pub takes : LineTakes a p (IsMarked (take i run.lines)) values line after
 
--- no initial location of `empty` has a process
+-- all initial locations of `empty` are empty
 abbrev pub NoneFilled : Automaton → Pattern → Run → Type 0
 NoneFilled a p run = (j l : ℕ) → slice_get a.initial j ≡ Some l → IsBitSet p.empty l → point_of run.counts j ≡ pos 0
 
@@ -76,7 +76,7 @@ pub record FirstFilled (a : Automaton) (p : Pattern) (run : Run) (j : ℕ) : Typ
   pub some : ¬ (point_of run.counts j ≡ pos 0)
   pub before : (i l : ℕ) → i < j → slice_get a.initial i ≡ Some l → IsBitSet p.empty l → point_of run.counts i ≡ pos 0
 
--- no check before the lines refuses: the run may start, the start condition holds, and no location of `empty` has a process
+-- each check before the lines passes: the run may start, the start condition holds, and the locations of `empty` are empty
 pub record MayTakeLines (a : Automaton) (p : Pattern) (run : Run) : Type 0 where
   pub may_start : MayStart a run.parameters run.counts
   pub first : List ℤ
@@ -104,7 +104,7 @@ abbrev pub LineStays : Automaton → Pattern → List ℤ → RunLine → Type 0
 LineStays a p values (Step r factor) = (rule : Rule) → slice_get a.rules r ≡ Some rule → StepStays a rule factor values
 LineStays a p values (Mark e) = (event : Event) → slice_get p.events e ≡ Some event → ConditionStays (point_of values) event.condition
 
--- no number of the replay of a run for a pattern leaves the range
+-- all numbers in the replay of a run for a pattern stay in range
 pub record NumbersStay (a : Automaton) (p : Pattern) (run : Run) : Type 0 where
   pub resilience : ConditionStays (point_of run.parameters) a.resilience
   pub processes : ProcessesStay a run.parameters
@@ -112,6 +112,6 @@ pub record NumbersStay (a : Automaton) (p : Pattern) (run : Run) : Type 0 where
   pub start : (first : List ℤ) → StartsAt a run.parameters run.counts first → ConditionStays (point_of first) p.start
   pub lines : (i : ℕ) (line : RunLine) (values : List ℤ) → slice_get run.lines i ≡ Some line → ValuesAfter a run (take i run.lines) values → LineStays a p values line
 
--- no number of the run's replay leaves the range
+-- all numbers in the run's replay stay in range
 abbrev pub ReplayStays : File → Run → Type 0
 ReplayStays file run = (p : Pattern) → slice_get file.patterns run.pattern ≡ Some p → NumbersStay file.automaton p run

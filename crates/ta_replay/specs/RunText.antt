@@ -1,4 +1,4 @@
--- The text of a run (this project's profile)
+-- The text of a run.
 use Rattle.std.specs.Prelude.{ℕ, ℤ, ◌≡◌, List, [], ◌∷◌, ◌++◌, map, codes, slice_get, slice_index_or, Option, None, Some}
 use Rattle.std.specs.Fmt.{signed_decimal}
 use Rattle.ta_automaton.specs.declared.automaton.Automaton.{Automaton}
@@ -55,7 +55,7 @@ abbrev pub line_of : Automaton → Pattern → RunLine → List ℕ
 line_of a p (Step rule factor) = valued_line (codes "step ") (name_at (map name_of a.rules) rule) factor
 line_of a p (Mark event) = named_line (codes "mark ") (name_at (map event_name p.events) event)
 
--- the lines of steps and marks, where there is such a pattern
+-- the lines of steps and marks, if there is such a pattern
 abbrev pub lines_of : Automaton → Option Pattern → List RunLine → List (List ℕ)
 lines_of a None lines = []
 lines_of a (Some p) lines = map (line_of a p) lines

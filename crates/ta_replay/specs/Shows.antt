@@ -1,4 +1,5 @@
--- When a run shows its pattern (this project's profile)
+-- When a run shows its pattern, and so is a counterexample. Source of steps with a factor: Konnov, Lazić, Veith, Widder, POPL 2017
+-- (accelerated transitions).
 use Rattle.std.specs.Prelude.{ℕ, ◌+◌, ◌-◌, ◌^◌, ◌<◌, ◌≡◌, List, [], ◌∷◌, ◌++◌, length, take, replicate, slice_get, slice_index, unsigned_abs, min, Some, IsBitSet}
 use Rattle.ta_automaton.specs.declared.automaton.Automaton.{Automaton}
 use Rattle.ta_automaton.specs.declared.pattern.Event.{Event}
@@ -19,7 +20,7 @@ unit_steps [] = []
 unit_steps (Step rule factor ∷ lines) = replicate (unsigned_abs factor) rule ++ unit_steps lines
 unit_steps (Mark event ∷ lines) = unit_steps lines
 
--- how many unit steps stand before line i
+-- how many unit steps come before line i
 abbrev pub steps_before : List RunLine → ℕ → ℕ
 steps_before lines i = length (unit_steps (take i lines))
 
@@ -61,7 +62,7 @@ pub record Shows (file : File) (run : Run) : Type 0 where
   pub named : slice_get file.patterns run.pattern ≡ Some pattern
   pub shows : ShowsPattern file.automaton pattern run
 
--- a run that shows its pattern is an occurrence of it, with all steps one by one
+-- if a run shows its pattern, the pattern occurs in its unit steps
 abbrev pub ShownRunsOccur : Type 0
 ShownRunsOccur =
     (file : File) (run : Run) (shown : Shows file run)
@@ -83,6 +84,6 @@ marks_count [] = 0
 marks_count (Step rule factor ∷ lines) = marks_count lines
 marks_count (Mark event ∷ lines) = 1 + marks_count lines
 
--- the sum of the factors, or 2^64 - 1 where it is larger, and the number of marks
+-- the sum of the factors, or 2^64 - 1 if it is larger, and the number of marks
 abbrev pub shown_of : Run → Shown
 shown_of run = record { steps = min (factors_sum run.lines) (2 ^ 64 - 1); marks = marks_count run.lines }

@@ -1,4 +1,4 @@
--- The first fault of a text that is no run of a file (this project's profile)
+-- The first error of a text that is not a run of a file.
 use Rattle.std.specs.Prelude.{ℕ, ℤ, zero, suc, pos, ◌+◌, ◌≡◌, ◌≢◌, ◌≤ℤ◌, ◌⊎◌, List, [], ◌∷◌, ◌++◌, length, codes, slice_get, Option, None, Some}
 use Rattle.ta_automaton.specs.declared.automaton.Automaton.{Automaton}
 use Rattle.ta_automaton.specs.declared.file.File.{File}
@@ -31,12 +31,12 @@ HasValue word line = (name : List ℕ) × (value : ℤ) × IsValued word line na
 abbrev pub HasFactor : List ℕ → List ℕ → Type 0
 HasFactor word line = (name : List ℕ) × (factor : ℤ) × IsValued word line name factor × (pos 1 ≤ℤ factor)
 
--- the forms of a line for a value, and those behind the values
+-- the form of a line for a value, and the forms of the lines after the values
 abbrev pub FormFor : Option Slot → List ℕ → Type 0
 FormFor (Some slot) line = HasValue slot.word line
 FormFor None line = HasFactor (codes "step ") line ⊎ (HasName (codes "mark ") line ⊎ (line ≡ codes "end"))
 
--- the line is of a form that may stand behind so many lines
+-- the line is of a form that may come after this many lines
 abbrev pub FormAt : Automaton → ℕ → List ℕ → Type 0
 FormAt a zero line = HasName (codes "run ") line
 FormAt a (suc before) line = FormFor (slice_get (slots a) before) line
@@ -47,7 +47,7 @@ pub record IsWholeRun (file : File) (ls : List (List ℕ)) : Type 0 where
   pub fits : Fits file run
   pub lines : run_lines file run ≡ ls
 
--- a run begins with the lines, and they aren't all of it
+-- a run begins with the lines, and has more
 pub record IsFront (file : File) (ls : List (List ℕ)) : Type 0 where
   pub run : Run
   pub next : List ℕ
@@ -55,11 +55,11 @@ pub record IsFront (file : File) (ls : List (List ℕ)) : Type 0 where
   pub fits : Fits file run
   pub lines : run_lines file run ≡ ls ++ (next ∷ later)
 
--- no line yet, or lines that a run begins with and that aren't all of it
+-- no line so far, or lines with which a run begins and after which it has more
 abbrev pub LinesGoOn : File → List (List ℕ) → Type 0
 LinesGoOn file ls = (ls ≡ []) ⊎ IsFront file ls
 
--- something stands behind the end
+-- something comes after the end
 pub record IsTrailingRun (file : File) (ls : List (List ℕ)) (rest : List ℕ) : Type 0 where
   pub whole : IsWholeRun file ls
   pub some : rest ≢ []
@@ -78,7 +78,7 @@ pub record IsMisformed (file : File) (ls : List (List ℕ)) (rest : List ℕ) : 
   pub no_feed : Avoids 10 line
   pub other : FormAt file.automaton (length ls) line → ⊥
 
--- N1: the first fault is in the form of this line, or in its place
+-- N1: the first error is the form of this line, or its place
 pub record IsMalformedRun (file : File) (bytes : List ℕ) (number : ℕ) : Type 0 where
   pub ls : List (List ℕ)
   pub rest : List ℕ
@@ -86,7 +86,7 @@ pub record IsMalformedRun (file : File) (bytes : List ℕ) (number : ℕ) : Type
   pub fault : IsTrailingRun file ls rest ⊎ (IsUnfinishedRun file ls rest ⊎ IsMisformed file ls rest)
   pub place : number ≡ length ls + 1
 
--- N2: the first fault is that this line's form may stand there, but no run goes on with it
+-- N2: the first error is that no run continues with this line, although its form may stand there
 pub record IsMisnamed (file : File) (bytes : List ℕ) (number : ℕ) : Type 0 where
   pub ls : List (List ℕ)
   pub line : List ℕ
@@ -97,7 +97,7 @@ pub record IsMisnamed (file : File) (bytes : List ℕ) (number : ℕ) : Type 0 w
   pub unnamed : (run : Run) (later : List (List ℕ)) → Fits file run → run_lines file run ≡ ls ++ (line ∷ later) → ⊥
   pub place : number ≡ length ls + 1
 
--- why a text is refused: by the form or by the name of a line, and nothing is said of memory
+-- why a text is refused: for the form or for the name of a line; "out of memory" is always allowed
 abbrev pub TextFault : File → List ℕ → RunFault → Type 0
 TextFault file bytes (fault.Line number) = IsMalformedRun file bytes number
 TextFault file bytes (fault.Name number) = IsMisnamed file bytes number

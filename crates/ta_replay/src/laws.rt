@@ -22,12 +22,12 @@ pub fn pieces_show()
     ensures { PiecesShow }
 {}
 
-/// A text is that of a run of the file, or has a first fault at a line.
+/// A text is that of a run of the file, or has a first error at a line.
 pub fn texts_have_answers()
     ensures { RunTextsHaveAnswers }
 {}
 
-/// A text is that of one run, or has one first fault, and not both.
+/// A text is that of one run, or has one first error, and not both.
 pub fn texts_are_determined()
     ensures { TextsAreDetermined }
 {}

@@ -19,7 +19,7 @@ use ta_base::bytes::split_at_byte;
 const LEAST: i128 = 1;
 
 /// Reads the text of a run: a line for its pattern, one for each parameter and each initial
-/// location in file order, its steps and marks, and `end`. The first line at fault is refused by N1
+/// location in file order, its steps and marks, and `end`. The first wrong line is refused by N1
 /// where its form may not stand there, and else by N2 where no run goes on with its name.
 pub fn read_run(alloc: Global, file: &File, bytes: &[u8]) -> Result<Run, RunFault>
     ensures text { IfOk result (λ run. IsRunText file.now run bytes.now) }

@@ -1,4 +1,4 @@
-//! Following a run.
+//! Follows a run line by line and checks what it claims: its start, its steps, its marks.
 #![tactic(auto)]
 
 ghost use Rattle.std.specs.Prelude.{ℕ, pos, ◌≤ℤ◌, ◌≡◌, ◌<◌, ◌≤◌, ◌^◌, ◌-◌, ◌↔◌, length, min, IsTrue, IsBitSet, IfErr, IfOk, OnOk, IfSome, IfNone};
@@ -35,7 +35,7 @@ pub fn replay(file: &File, run: &Run) -> Result<Shown, RunFault>
 {
     let pattern = &file.patterns.as_slice()[run.pattern as usize];
     replay_pattern(&file.automaton, pattern, run)?;
-    // AllByRecursion event has exactly one mark now.
+    // Each event has exactly one mark now.
     Ok(Shown {
         steps: steps_of(run.lines.as_slice()),
         marks: pattern.events.as_slice().len() as u32,

@@ -1,4 +1,4 @@
--- What is wrong in a file, in a certificate or in a run, in words (this project's profile)
+-- The errors of files, of certificates and of runs, in words.
 use Rattle.std.specs.Prelude.{ℕ, List, ◌++◌, codes, decimal}
 use Rattle.ta_syntax.specs.declared.fault.FileFault.{FileFault}
 use Rattle.ta_syntax.specs.declared.fault.FileFault.TheVariants as file
@@ -7,7 +7,7 @@ use Rattle.ta_cert.specs.declared.fault.CertFault.TheVariants as cert
 use Rattle.ta_replay.specs.declared.fault.RunFault.{RunFault}
 use Rattle.ta_replay.specs.declared.fault.RunFault.TheVariants as run
 
--- what is wrong in a file
+-- the errors of a file
 abbrev pub file_fault_text : FileFault → List ℕ
 file_fault_text (file.Byte at) = codes "F1 byte at offset " ++ decimal at
 file_fault_text (file.Syntax at) = codes "F2 syntax at offset " ++ decimal at
@@ -22,7 +22,7 @@ file_fault_text (file.CycleUpdates rule) = codes "F11 cycle with updates at rule
 file_fault_text (file.NoInitial at) = codes "F12 no initial location at offset " ++ decimal at
 file_fault_text file.Memory = codes "out of memory"
 
--- what is wrong in a certificate; the last two are never told
+-- the errors of a certificate; the last two are never printed
 abbrev pub cert_fault_text : CertFault → List ℕ
 cert_fault_text (cert.Line line) = codes "C1 malformed at line " ++ decimal line
 cert_fault_text (cert.Truncated line) = codes "C2 truncated at line " ++ decimal line
@@ -40,7 +40,7 @@ cert_fault_text (cert.Question line) = codes "C15 no such question at line " ++ 
 cert_fault_text cert.Failed = codes "C12 failed"
 cert_fault_text cert.Memory = codes "out of memory"
 
--- what is wrong in a run
+-- the errors of a run
 abbrev pub run_fault_text : RunFault → List ℕ
 run_fault_text (run.Line line) = codes "N1 malformed at line " ++ decimal line
 run_fault_text (run.Name line) = codes "N2 name at line " ++ decimal line

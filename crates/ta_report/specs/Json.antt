@@ -1,5 +1,5 @@
--- The report of `verify` as one line of JSON (RFC 8259; this project's profile): an object whose members stand in the byte order of
--- their keys. A number is the text of its digits.
+-- The report of `verify` as one line of JSON (RFC 8259): an object whose members are in the byte order of their keys. A number is the text
+-- of its digits.
 use Rattle.std.specs.Prelude.{ℕ, ℤ, ◌≡◌, List, [], ◌∷◌, ◌++◌, codes, decimal, length, slice_get, Some}
 use Rattle.std.specs.Fmt.{signed_decimal}
 use Rattle.std.specs.List.{AllByRecursion}
@@ -41,11 +41,11 @@ values_data (n ∷ ns) (v ∷ vs) = json.item (value_data n v) (values_data ns v
 abbrev pub one_member : List ℕ → json.Data → json.Members
 one_member key d = json.member key d json.no_members
 
--- the verdict, behind the other members
+-- the verdict, after the other members
 abbrev pub verdict_member : List ℕ → json.Members
 verdict_member word = one_member (codes "verdict") (json.string word)
 
--- a node and the place in it where a number left 128 bits
+-- a node, and where in it a number left the range
 abbrev pub place_members : ℕ → ReportKind → json.Members
 place_members node kind =
     json.member (codes "node") (digits_data node)
@@ -99,7 +99,7 @@ json_text file s verdicts = compact_text (report_data file s verdicts) ++ codes 
 abbrev pub JsonIsRead : Type 0
 JsonIsRead = (file : File) (s : ReportSample) (verdicts : List Verdict) → read (compact_text (report_data file s verdicts)) ≡ Some (report_data file s verdicts)
 
--- two lines of a file with one text have the same sample and the same verdicts, and the same runs inside
+-- if the lines of two results for a file have one text, they have the same sample and the same verdicts, with the same runs
 abbrev pub JsonIsDistinct : Type 0
 JsonIsDistinct =
     (file : File) (s t : ReportSample) (vs ws : List Verdict) → length vs ≡ length file.patterns → length ws ≡ length file.patterns
@@ -128,21 +128,21 @@ pub record JsonRun (name bytes text : List ℕ) : Type 0 where
   pub has : get (codes "run") says.found ≡ Some (json.array (texts_data lines))
   pub bytes_are : bytes ≡ lines_text lines
 
--- a pattern that is said to be safe has the verdict Safe
+-- a pattern that the line calls safe has the verdict Safe
 abbrev pub JsonSafe : Type 0
 JsonSafe =
     (file : File) (s : ReportSample) (verdicts : List Verdict) (number : ℕ) (pattern : Pattern) → slice_get file.patterns number ≡ Some pattern
     → JsonSays pattern.name (codes "safe") (json_text file s verdicts)
     → (nodes : ℕ) × (leaves : ℕ) × (slice_get verdicts number ≡ Some (Safe nodes leaves))
 
--- one that is said to be unsafe has the verdict Unsafe, and the lines of its run are there
+-- a pattern that the line calls unsafe has the verdict Unsafe, and the lines of its run are there
 abbrev pub JsonUnsafe : Type 0
 JsonUnsafe =
     (file : File) (s : ReportSample) (verdicts : List Verdict) (number : ℕ) (pattern : Pattern) → slice_get file.patterns number ≡ Some pattern
     → JsonSays pattern.name (codes "unsafe") (json_text file s verdicts)
     → (nodes : ℕ) × (run : Run) × (slice_get verdicts number ≡ Some (Unsafe nodes run)) × JsonRun pattern.name (run_text file run) (json_text file s verdicts)
 
--- and nothing else is there as its run
+-- and only these lines are there as its run
 abbrev pub JsonRuns : Type 0
 JsonRuns =
     (file : File) (s : ReportSample) (verdicts : List Verdict) (number : ℕ) (pattern : Pattern) → slice_get file.patterns number ≡ Some pattern

@@ -1,4 +1,4 @@
--- What a printed line of a pattern says (this project's profile)
+-- What a printed line says of its pattern.
 use Rattle.std.specs.Prelude.{ℕ, ◌≡◌, ◌⊎◌, List, ◌∷◌, ◌++◌, codes, slice_get, Some, IsTrue}
 use Rattle.std.specs.List.{AllByRecursion}
 use Rattle.ta_automaton.specs.declared.file.File.{File}
@@ -10,7 +10,7 @@ use Rattle.ta_report.specs.declared.verdict.ReportSample.{ReportSample}
 use Rattle.ta_report.specs.declared.verdict.Verdict.{Verdict}
 use Rattle.ta_report.specs.declared.verdict.Verdict.TheVariants.{Safe, Unsafe}
 
--- a line of a text begins so, with this behind it: the first line, or one behind a line feed
+-- a line of a text begins so, with these bytes after it: the first line, or one after a line feed
 abbrev pub LineAt : List ℕ → List ℕ → List ℕ → Type 0
 LineAt front behind text = (text ≡ front ++ behind) ⊎ ((before : List ℕ) × (text ≡ before ++ (10 ∷ (front ++ behind))))
 
@@ -38,14 +38,14 @@ PrintedUnsafe =
     → HasLine (told_of pattern.name (codes "unsafe, ")) (report_text file sample verdicts)
     → (nodes : ℕ) × (run : Run) × (slice_get verdicts number ≡ Some (Unsafe nodes run))
 
--- a pattern that the text of `check` prints as proved is among the proved ones
+-- a pattern that the text of `check` prints as proved is one of the proved ones
 abbrev pub PrintedProved : Type 0
 PrintedProved =
     (file : File) (numbers : List ℕ) (number : ℕ) (pattern : Pattern) → slice_get file.patterns number ≡ Some pattern
     → HasLine (told_of pattern.name (codes "proved")) (check_text file numbers)
     → IsTrue (is_proved numbers number)
 
--- the same of the report of `rest`: a pattern that it prints as safe at rest has the verdict Safe
+-- a pattern that the report of `rest` prints as safe at rest has the verdict Safe
 abbrev pub PrintedRestSafe : Type 0
 PrintedRestSafe =
     (file : File) (sample : ReportSample) (verdicts : List Verdict) (number : ℕ) (pattern : Pattern) → slice_get file.patterns number ≡ Some pattern
@@ -53,7 +53,7 @@ PrintedRestSafe =
     → HasLine (told_of pattern.name (codes "rest safe, ")) (rest_text file sample verdicts)
     → (nodes : ℕ) × (leaves : ℕ) × (slice_get verdicts number ≡ Some (Safe nodes leaves))
 
--- one that it prints as unsafe at rest has the verdict Unsafe
+-- a pattern that the report of `rest` prints as unsafe at rest has the verdict Unsafe
 abbrev pub PrintedRestUnsafe : Type 0
 PrintedRestUnsafe =
     (file : File) (sample : ReportSample) (verdicts : List Verdict) (number : ℕ) (pattern : Pattern) → slice_get file.patterns number ≡ Some pattern
@@ -61,7 +61,7 @@ PrintedRestUnsafe =
     → HasLine (told_of pattern.name (codes "rest unsafe, ")) (rest_text file sample verdicts)
     → (nodes : ℕ) × (run : Run) × (slice_get verdicts number ≡ Some (Unsafe nodes run))
 
--- and one that the text of `rest-check` prints as proved is among the proved ones
+-- a pattern that the text of `rest-check` prints as proved is one of the proved ones
 abbrev pub PrintedRestProved : Type 0
 PrintedRestProved =
     (file : File) (numbers : List ℕ) (number : ℕ) (pattern : Pattern) → slice_get file.patterns number ≡ Some pattern

@@ -1,4 +1,4 @@
--- The runs in a report (this project's profile)
+-- The runs in a report.
 use Rattle.std.specs.Prelude.{ℕ, ◌≡◌, ◌⊎◌, Bool, true, false, List, [], ◌∷◌, ◌++◌, codes, slice_get, Some}
 use Rattle.std.specs.List.{AllByRecursion}
 use Rattle.ta_automaton.specs.declared.file.File.{File}
@@ -16,18 +16,17 @@ use Rattle.ta_report.specs.declared.verdict.Verdict.TheVariants.{Unsafe}
 abbrev pub BeginsText : List ℕ → List ℕ → Type 0
 BeginsText front text = (behind : List ℕ) × (text ≡ front ++ behind)
 
--- a line, without its line feed, that tells of no pattern
+-- a line, without its line feed, that is not about a pattern
 pub record IsPlain (line : List ℕ) : Type 0 where
   pub no_feed : Avoids 10 line
   pub other : ¬ BeginsText (codes "pattern ") line
 
--- how a report begins what it says of an unsafe pattern, and how that of `rest` does
+-- how a report, and that of `rest`, begin the line of an unsafe pattern
 abbrev pub unsafe_words : Bool → List ℕ
 unsafe_words false = codes "unsafe, "
 unsafe_words true = codes "rest unsafe, "
 
--- the bytes are the lines of a text behind the line of this pattern whose words begin so, up to the next line that tells of a
--- pattern, or to the end
+-- the bytes are the lines of a text after the line of this pattern that begins so, up to the next line about a pattern, or to the end
 pub record RunPart (word name bytes text : List ℕ) : Type 0 where
   pub lines : List (List ℕ)
   pub bytes_are : bytes ≡ lines_text lines
@@ -38,7 +37,7 @@ pub record RunPart (word name bytes text : List ℕ) : Type 0 where
   pub ends : (behind ≡ []) ⊎ BeginsText (codes "pattern ") behind
   pub stands : LineAt (told_of name (word ++ words)) (10 ∷ (bytes ++ behind)) text
 
--- behind the line of an unsafe pattern stands the text of its run, in a report and in that of `rest`
+-- after the line of an unsafe pattern comes the text of its run, in both reports
 abbrev pub RunsArePrinted : Type 0
 RunsArePrinted =
     (rest : Bool) (file : File) (sample : ReportSample) (verdicts : List Verdict) (number : ℕ) (pattern : Pattern) → slice_get file.patterns number ≡ Some pattern
@@ -46,7 +45,7 @@ RunsArePrinted =
     → (nodes : ℕ) (run : Run) → slice_get verdicts number ≡ Some (Unsafe nodes run)
     → RunPart (unsafe_words rest) pattern.name (run_text file run) (told_text rest file sample verdicts)
 
--- and nothing else does: what is found there is the text of its run
+-- what is found there is the text of its run
 abbrev pub PrintedRuns : Type 0
 PrintedRuns =
     (rest : Bool) (file : File) (sample : ReportSample) (verdicts : List Verdict) (number : ℕ) (pattern : Pattern) → slice_get file.patterns number ≡ Some pattern

@@ -1,4 +1,4 @@
--- The reports of `verify` and `rest` (this project's profile)
+-- The reports of `verify` and `rest`.
 use Rattle.std.specs.Prelude.{ℕ, ℤ, ◌≡◌, ◌<◌, ◌^◌, Bool, true, false, List, [], ◌∷◌, ◌++◌, codes, decimal, length}
 use Rattle.std.specs.Fmt.{signed_decimal}
 use Rattle.std.specs.List.{AllByRecursion}
@@ -14,13 +14,13 @@ use Rattle.ta_report.specs.declared.verdict.ReportSample.TheVariants as sample
 use Rattle.ta_report.specs.declared.verdict.Verdict.{Verdict}
 use Rattle.ta_report.specs.declared.verdict.Verdict.TheVariants.{Safe, Unsafe, Spent, Overflow}
 
--- where a number left 128 bits
+-- where a number left the range
 abbrev pub place_text : ReportKind → List ℕ
 place_text (kind.Pivot pivot) = codes "pivot " ++ decimal pivot
 place_text kind.Leaf = codes "leaf"
 place_text kind.Run = codes "run"
 
--- what is said where the budget was spent, and where a number left 128 bits
+-- the words for an exhausted budget, and for a number that left the range
 abbrev pub spent_text : ℕ → List ℕ
 spent_text nodes = codes "unknown, " ++ (decimal nodes ++ codes " nodes spent")
 
@@ -44,21 +44,21 @@ sample_text file (sample.Overflow node kind) = overflow_text node kind
 abbrev pub sample_line : File → ReportSample → List ℕ
 sample_line file s = codes "parameters: " ++ (sample_text file s ++ codes "\n")
 
--- what is said behind a pattern's name
+-- the words after a pattern's name
 abbrev pub verdict_text : Verdict → List ℕ
 verdict_text (Safe nodes leaves) = codes "safe, " ++ (decimal nodes ++ (codes " nodes, " ++ (decimal leaves ++ codes " leaves")))
 verdict_text (Unsafe nodes run) = codes "unsafe, " ++ (decimal nodes ++ codes " nodes")
 verdict_text (Spent nodes) = spent_text nodes
 verdict_text (Overflow node kind) = overflow_text node kind
 
--- what the report of `rest` says before a verdict that decides
+-- the word of the report of `rest` before a verdict that decides
 abbrev pub rest_word : Verdict → List ℕ
 rest_word (Safe nodes leaves) = codes "rest "
 rest_word (Unsafe nodes run) = codes "rest "
 rest_word (Spent nodes) = []
 rest_word (Overflow node kind) = []
 
--- what a report says before a verdict: nothing, or that of `rest`
+-- the word before a verdict: none, or that of `rest`
 abbrev pub word_before : Bool → Verdict → List ℕ
 word_before false v = []
 word_before true v = rest_word v
@@ -70,7 +70,7 @@ told_line rest p v = codes "pattern " ++ (p.name ++ (codes ": " ++ (word_before 
 abbrev pub verdict_line : Pattern → Verdict → List ℕ
 verdict_line p v = told_line false p v
 
--- what stands behind the line of a pattern: the text of its run, where it has one
+-- what comes after the line of a pattern: the text of its run, if it has one
 abbrev pub run_part : File → Verdict → List ℕ
 run_part file (Safe nodes leaves) = []
 run_part file (Unsafe nodes run) = run_text file run
@@ -98,7 +98,7 @@ report_text file s verdicts = told_text false file s verdicts
 abbrev pub rest_text : File → ReportSample → List Verdict → List ℕ
 rest_text file s verdicts = told_text true file s verdicts
 
--- the numbers are those of 64 bits, as the program's are: `decimal` writes 64 digits at most
+-- the numbers fit 64 bits, as the program's do: `decimal` writes at most 64 digits
 abbrev pub PlaceFits : ReportKind → Type 0
 PlaceFits (kind.Pivot pivot) = pivot < 2 ^ 64
 PlaceFits kind.Leaf = Unit {0}
@@ -118,7 +118,7 @@ VerdictFits file (Unsafe nodes run) = (nodes < 2 ^ 64) × Fits file run
 VerdictFits file (Spent nodes) = nodes < 2 ^ 64
 VerdictFits file (Overflow node kind) = (node < 2 ^ 64) × PlaceFits kind
 
--- two reports of a file with one text have the same sample and the same verdicts, and the same runs inside
+-- two results of a file with the same report have the same sample and the same verdicts, with the same runs
 abbrev pub ReportsAreDistinct : Type 0
 ReportsAreDistinct =
     (file : File) (s t : ReportSample) (vs ws : List Verdict) → length vs ≡ length file.patterns → length ws ≡ length file.patterns

@@ -1,4 +1,4 @@
--- The line of `replay` (this project's profile)
+-- The line that `replay` prints.
 use Rattle.std.specs.Prelude.{ℕ, List, ◌++◌, codes, decimal}
 use Rattle.ta_replay.specs.declared.run.Shown.{Shown}
 

@@ -1,4 +1,4 @@
--- What a report tells, in either form (this project's profile)
+-- What a report says, as lines or as JSON.
 use Rattle.std.specs.Prelude.{ℕ, Bool, true, false, List, codes}
 use Rattle.ta_automaton.specs.declared.file.File.{File}
 use Rattle.ta_report.specs.Json.{JsonRun, JsonSays, json_text}
@@ -13,7 +13,7 @@ abbrev pub report_of : Bool → File → ReportSample → List Verdict → List 
 report_of true file sample verdicts = json_text file sample verdicts
 report_of false file sample verdicts = report_text file sample verdicts
 
--- a text tells that the pattern of a name is safe, and that it is unsafe
+-- a text says that the pattern with this name is safe, and that it is unsafe
 abbrev pub TellsSafe : Bool → List ℕ → List ℕ → Type 0
 TellsSafe true name text = JsonSays name (codes "safe") text
 TellsSafe false name text = HasLine (told_of name (codes "safe, ")) text
@@ -22,12 +22,12 @@ abbrev pub TellsUnsafe : Bool → List ℕ → List ℕ → Type 0
 TellsUnsafe true name text = JsonSays name (codes "unsafe") text
 TellsUnsafe false name text = HasLine (told_of name (codes "unsafe, ")) text
 
--- and bytes are the text of the run that it tells of an unsafe pattern
+-- bytes are the text of the run that a text gives of an unsafe pattern
 abbrev pub TellsRun : Bool → List ℕ → List ℕ → List ℕ → Type 0
 TellsRun true name bytes text = JsonRun name bytes text
 TellsRun false name bytes text = RunPart (codes "unsafe, ") name bytes text
 
--- the report of `rest` tells that the pattern of a name is unsafe, and bytes are the text of the run that it tells of it
+-- the report of `rest` says that the pattern with this name is unsafe, and bytes are the text of the run that it gives of it
 abbrev pub TellsRestUnsafe : List ℕ → List ℕ → Type 0
 TellsRestUnsafe name text = HasLine (told_of name (codes "rest unsafe, ")) text
 

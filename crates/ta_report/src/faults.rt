@@ -10,7 +10,7 @@ use ta_replay::RunFault;
 use ta_shell::Phrase;
 use ta_syntax::FileFault;
 
-/// The words for a file's fault; a number is an offset in bytes from 0, or a rule's number.
+/// The words for a file's error; a number is an offset in bytes from 0, or a rule's number.
 pub fn file_fault_phrase(fault: &FileFault) -> Phrase
     ensures { phrase_text result ≡ file_fault_text fault.now }
 {
@@ -30,7 +30,7 @@ pub fn file_fault_phrase(fault: &FileFault) -> Phrase
     }
 }
 
-/// The words for a certificate's fault; lines count from 1, rows, unknowns and columns from 0.
+/// The words for a certificate's error; lines count from 1, rows, unknowns and columns from 0.
 pub fn cert_fault_phrase(fault: &CertFault) -> Phrase
     ensures { phrase_text result ≡ cert_fault_text fault.now }
 {
@@ -63,7 +63,7 @@ pub fn cert_fault_phrase(fault: &CertFault) -> Phrase
     }
 }
 
-/// The words for a run's fault; lines count from 1, comparisons, guards and events from 0.
+/// The words for a run's error; lines count from 1, comparisons, guards and events from 0.
 pub fn run_fault_phrase(fault: &RunFault) -> Phrase
     ensures { phrase_text result ≡ run_fault_text fault.now }
 {

@@ -1,4 +1,4 @@
-//! Verdicts and faults as texts.
+//! Verdicts and errors as texts.
 #![tactic(auto)]
 
 mod check;

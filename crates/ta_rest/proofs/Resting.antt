@@ -1,4 +1,8 @@
 -- a run that has come to rest solves the system of rest of its word
+--
+-- The word of the run (`Reorder` of ta_encode) ends with its last event, and its last configuration is that of the deadlock. There
+-- the rise guards in the word hold and the others fail, and the fall guards that have not fallen hold. A rule between two locations
+-- whose guards hold by the word could step if somebody were at its source; so nobody is, which is what the further rows say.
 use Rattle.ta_rest.proofs.Common.{◌≡◌, inl, inr, ℕ, zero, suc, ◌+◌, ◌-◌, ◌≤◌, ◌^◌, pos, List, [], ◌∷◌, map, length, eqb, cond, Bool, true, false, not, arith, sym, ap, ◌∙◌, refl, subst, slice_get, get_or, Some, None, Option, reverse, filter, ints, false≢true, true≢false, cases_Bool, and_parts, eq-eqb, not-false, not-true, slice_get_within, same_Some, all_below-at, all_below-false, bit_true, implies-at, cond_child, in_filter, value_of, RowHolds, Row, Rule, Automaton, Pattern, has_bit, all_below, implies, range_with_len, In, Whole, location_place, Config, MaskedHold, Steps, value_at, Fits, value_at-location, run_length, Element, LegalWord, children, has_fallen, has_rise, is_complete, EndsAt, LinearRow, AllHold, counter_row, guard_rows, negated, opposite, word_rows, meanings, AllHold-append, AllHold-left, Moment, RowFails, guards_fail, opposite_value, SolvesAlong, extend, none_along, prefix_legal, prefix_rows, take_apart, AtRest, end_rows, leads_out, must_be_left, rest_rows, rest_search, RestingRunsSolve, RefutedEndingsRest, RefutedEndingsShow, eqb-true}
 use Rattle.ta_encode.proofs.Asking.{answers_each, closed}
 use Rattle.std.proofs.lemmas.List.{append-nil}

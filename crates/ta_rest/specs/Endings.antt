@@ -1,4 +1,4 @@
--- The ending of a pattern: the pattern whose last event comes after all its others (this project's profile)
+-- The ending of a pattern: the same pattern, with its last event after all its other events.
 use Rattle.std.specs.Prelude.{ℕ, ◌+◌, ◌-◌, ◌^◌, ◌≤◌, ◌≡◌, ◌⊎◌, List, [], ◌∷◌, ◌++◌, length, slice_get, Some}
 use Rattle.std.proofs.Props.{props}
 use Rattle.std.specs.List.{AllByRecursion, AllByRecursion-prop}
@@ -24,7 +24,7 @@ pub record LastMoved (old new : List Event) : Type 0 where
 abbrev pub rest_name : List ℕ
 rest_name = 114 ∷ 101 ∷ 115 ∷ 116 ∷ []
 
--- no event, and in its place one that is named `rest` and has an empty condition
+-- a pattern without events gets one event, which is named `rest` and has an empty condition
 pub record RestAdded (old new : List Event) : Type 0 where
   pub none : old ≡ []
   pub event : Event
@@ -52,7 +52,7 @@ Endings (p ∷ ps) (ending ∷ endings) = IsEnding p ending × Endings ps ending
 Endings [] (ending ∷ endings) = ⊥
 Endings (p ∷ ps) [] = ⊥
 
--- a pattern that has events, the last of which comes after all others, as an ending has
+-- a pattern that has events, the last of which comes after all others, as in an ending
 pub record ComesLast (p : Pattern) : Type 0 where
   pub some : 1 ≤ length p.events
   pub last : (e : ℕ) (event : Event) → e + 1 ≡ length p.events → slice_get p.events e ≡ Some event → event.after ≡ events_below e

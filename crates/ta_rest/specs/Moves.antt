@@ -1,4 +1,4 @@
--- How many steps between locations a run can have (this project's profile)
+-- A bound on the number of steps between locations in a run.
 use Rattle.std.specs.Prelude.{ℕ, pos, ◌+◌, ◌-◌, ◌*ℤ◌, ◌≤ℤ◌, ◌==◌, Bool, false, not, if◌then◌else◌, List, [], ◌∷◌, length, slice_get, Option, Some, None}
 use Rattle.ta_linear.specs.Values.{value_of}
 use Rattle.ta_automaton.specs.declared.rule.Rule.{Rule}
@@ -16,13 +16,13 @@ unfoldable pub moves_count : Automaton → List ℕ → ℕ
 moves_count a [] = 0
 moves_count a (r ∷ rules) = (if is_move (slice_get a.rules r) then 1 else 0) + moves_count a rules
 
--- every run, of any length, has at most as many steps of rules that aren't self-loops as the number of processes times the number of
--- locations but one
+-- every run, of any length, has at most as many steps of rules other than self-loops as the number of processes times one less than the
+-- number of locations
 abbrev pub FewMoves : Automaton → Type 0
 FewMoves a =
     (first : Config) (rules : List ℕ) (later : List Config) → Run a first rules later
     → pos (moves_count a rules) ≤ℤ (value_of (number_at first.parameters) a.processes *ℤ pos (length a.locations - 1))
 
--- so it is where every cycle of rules is a self-loop
+-- this holds if every cycle of rules is a self-loop
 abbrev pub MovesAreBounded : Type 0
 MovesAreBounded = (a : Automaton) → LoopsAlone a → FewMoves a

@@ -1,4 +1,5 @@
--- Rest that doesn't count on silent places: runs in which every rule that must move has moved (this project's profile)
+-- Quiet rest: no rule must move. A rule must move only if its guards hold whatever the silent places give; silent places model Byzantine
+-- senders that may stay silent.
 use Rattle.std.specs.Prelude.{Bool, true, not, ℕ, ℤ, pos, ◌==◌, ◌≡◌, ◌≢◌, ◌≤◌, ◌≤ℤ◌, ◌<ℤ◌, ◌⊎◌, List, filter, if◌then◌else◌, slice_get, slice_index, Some, IsBitSet}
 use Rattle.std.specs.List.{list_any}
 use Rattle.ta_linear.specs.Terms.{coefficient}
@@ -14,7 +15,7 @@ use Rattle.ta_rest.specs.Rest.{ComesTo}
 abbrev pub is_silent : List ℕ → ℕ → Bool
 is_silent silent place = list_any (λ quiet. quiet == place) silent
 
--- the values at the places, with 0 at the silent ones
+-- the values at the places, with 0 at the silent places
 abbrev pub without : List ℕ → (ℕ → ℤ) → ℕ → ℤ
 without silent point place = if is_silent silent place then pos 0 else point place
 
@@ -26,11 +27,12 @@ loud_terms silent ts = filter (λ t. not (is_silent silent t.0)) ts
 abbrev pub QuietlyHolds : List ℕ → Config → Row → Type 0
 QuietlyHolds silent c row = RowHolds (without silent (value_at c)) row
 
--- so do all rows that a mask names
+-- all rows that a mask names hold so
 abbrev pub MaskedQuietlyHold : List ℕ → ℕ → List Row → Config → Type 0
 MaskedQuietlyHold silent mask rows c = (i : ℕ) (row : Row) → slice_get rows i ≡ Some row → IsBitSet mask i → QuietlyHolds silent c row
 
--- a rule that must move: it leads from one location to another, a process is at its source, and the guards hold whatever the silent places give
+-- a rule that must move: it leads from one location to another, a process is at its source, and its guards hold whatever the silent places
+-- give
 pub record MustMove (a : Automaton) (silent : List ℕ) (rule : Rule) (c : Config) : Type 0 where
   pub apart : rule.from ≢ rule.to
   pub some : 1 ≤ slice_index c.counters rule.from
@@ -41,7 +43,7 @@ pub record MustMove (a : Automaton) (silent : List ℕ) (rule : Rule) (c : Confi
 abbrev pub QuietRest : Automaton → List ℕ → Config → Type 0
 QuietRest a silent c = (r : ℕ) (rule : Rule) → slice_get a.rules r ≡ Some rule → ¬ MustMove a silent rule c
 
--- a row that a mask names fails, even though no silent place counts
+-- a row that a mask names fails, even without its terms of silent places
 pub record OneFails (silent : List ℕ) (mask : ℕ) (rows : List Row) (c : Config) : Type 0 where
   pub number : ℕ
   pub row : Row
@@ -49,7 +51,7 @@ pub record OneFails (silent : List ℕ) (mask : ℕ) (rows : List Row) (c : Conf
   pub is_set : IsBitSet mask number
   pub fails : value_of (without silent (value_at c)) row.form <ℤ pos 0
 
--- why a rule need not move: nobody is at its source, or one of its guards fails
+-- why a rule need not move: its source is empty, or one of its guards fails
 abbrev pub Stuck : Automaton → List ℕ → Rule → Config → Type 0
 Stuck a silent rule c = (slice_index c.counters rule.from ≡ 0) ⊎ (OneFails silent rule.rise a.rise c ⊎ OneFails silent rule.fall a.fall c)
 
@@ -57,7 +59,7 @@ Stuck a silent rule c = (slice_index c.counters rule.from ≡ 0) ⊎ (OneFails s
 abbrev pub QuietRestOccurs : Automaton → List ℕ → Pattern → Config → List ℕ → Type 0
 QuietRestOccurs a silent = ComesTo (QuietRest a silent) a
 
--- it does so in no run, for any admissible parameters and any number of steps
+-- the pattern occurs in no such run, for any admissible parameters and any number of steps
 abbrev pub QuietRestSafe : Automaton → List ℕ → Pattern → Type 0
 QuietRestSafe a silent p = (first : Config) (rules : List ℕ) → QuietRestOccurs a silent p first rules → ⊥
 

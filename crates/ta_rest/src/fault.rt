@@ -1,4 +1,4 @@
-//! Why runs of an automaton need not come to rest.
+//! Why runs of an automaton need not reach a deadlock.
 #![tactic(auto)]
 
 ghost use Rattle.std.specs.Prelude.{◌≡◌};

@@ -1,4 +1,5 @@
-//! Runs that have come to rest, the endings of patterns, and the systems of the words that describe such runs.
+//! Runs that end in a deadlock, the endings of patterns, and the systems of the schemas that
+//! describe such runs.
 #![tactic(auto)]
 
 mod endings;

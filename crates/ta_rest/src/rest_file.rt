@@ -1,4 +1,4 @@
-//! Files whose runs come to rest, with the endings of their patterns.
+//! Files whose runs all reach a deadlock, with the endings of their patterns.
 #![tactic(auto)]
 
 ghost use Rattle.std.specs.Prelude.{◌≡◌};

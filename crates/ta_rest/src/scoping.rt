@@ -1,4 +1,4 @@
-//! Which files have runs that all come to rest.
+//! Which files have runs that all reach a deadlock.
 #![tactic(auto)]
 
 ghost use Rattle.std.specs.Prelude.{IfOk, IfErr};

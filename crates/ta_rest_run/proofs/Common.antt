@@ -4,7 +4,7 @@ pub use Rattle.std.proofs.lemmas.Bool.{cases_Bool, false≢true, true≢false}
 pub use Rattle.std.proofs.lemmas.List.{append_cancel_right, ext_get_or, reverse-append, reverse-reverse}
 pub use Rattle.std.proofs.lemmas.Option.{same_Some, slice_get-get_or, slice_get_within}
 pub use Rattle.std.specs.List.{AllByRecursion}
-pub use Rattle.std.specs.Prelude.{option_to_list, slice_index}
+pub use Rattle.std.specs.Prelude.{IsTrue, option_to_list, slice_index, ◌↔◌}
 pub use Rattle.ta_automaton.proofs.Thresholds.{after_earlier, pattern_within}
 pub use Rattle.ta_automaton.specs.Runs.{At, Config, Holds, InScope, Initial}
 pub use Rattle.ta_automaton.specs.declared.automaton.Automaton.{Automaton}
@@ -27,7 +27,7 @@ pub use Rattle.ta_rest.specs.Endings.{ComesLast, Endings, IsEnding, LastMoved, R
 pub use Rattle.ta_rest.specs.Faults.{EndingsOf}
 pub use Rattle.ta_rest.specs.Rest.{AtRest, ComeAfterEarlier, RestOccurs}
 pub use Rattle.ta_rest_run.specs.Laws.{OwnRunsRest, RestSolutionsSolve, RestWitnessesAreDetermined, RestWitnessesRest}
-pub use Rattle.ta_rest_run.specs.Runs.{ComesToRest, IsRestSolution, OccursAtRest, RestWitnessOf, ending_run, marked_at_end}
+pub use Rattle.ta_rest_run.specs.Runs.{ComesToRest, EndsAsAdded, IsRestSolution, OccursAtRest, RestWitnessOf, ending_run, marked_at_end}
 pub use Rattle.ta_witness.proofs.Backward.{PiecesBack, piece_rules, pieces_back, pieces_fire, values_of}
 pub use Rattle.ta_witness.proofs.Witnesses.{Parts, parts_of}
 pub use Rattle.ta_witness.specs.Witness.{IsShortRun, WitnessOf}

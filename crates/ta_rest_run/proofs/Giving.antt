@@ -1,5 +1,8 @@
 -- what is known of the run that is given
-use Rattle.ta_rest_run.proofs.Common.{◌≡◌, inl, inr, ℕ, true, cond, List, ◌∷◌, [], ◌++◌, sym, ap, ◌∙◌, subst, slice_get, Some, cases_Bool, AllByRecursion, File, has_bit, InScope, Solution, ComesLast, EndingsOf, Run, RunLine, Mark, Fits, ReplayStays, Shows, IsShortRun, WitnessOf, ComesToRest, IsRestSolution, OccursAtRest, RestWitnessOf, ending_run, marked_at_end}
+use Rattle.ta_rest_run.proofs.Common.{◌≡◌, inl, inr, ℕ, Bool, IsBitSet, IsTrue, ◌↔◌, true, false, false≢true, bit_set, cond, List, ◌∷◌, [], ◌++◌, sym, ap, ◌∙◌}
+use Rattle.ta_rest_run.proofs.Common.{subst, slice_get, Some, cases_Bool, AllByRecursion, File, has_bit, InScope, Solution, ComesLast, EndingsOf, Run, RunLine}
+use Rattle.ta_rest_run.proofs.Common.{Mark, Fits, ReplayStays, Shows, IsShortRun, WitnessOf, ComesToRest, EndsAsAdded, IsRestSolution, OccursAtRest}
+use Rattle.ta_rest_run.proofs.Common.{RestWitnessOf, ending_run, marked_at_end}
 use Rattle.ta_rest_run.proofs.LastMark.{ends_with_mark}
 use Rattle.ta_rest_run.proofs.OwnRuns.{ending_steps, own_occurs, own_rest}
 use Rattle.ta_rest_run.proofs.Resting.{solution_occurs, witnesses_rest}
@@ -31,15 +34,24 @@ own_of file ending added ends solution marked run r e =
       occurs = λ p at. own_occurs file ending added ends run p q at named occurs;
     }
 
--- where no event was added
-pub own_plain : (file ending : File) (added : ℕ) → EndingsOf file ending added → (solution : Solution) (run : Run) → Replayed ending solution run → ¬ (has_bit added run.pattern ≡ true) → RestWitnessOf file ending added solution run
-own_plain file ending added ends solution run r none =
-    own_of file ending added ends solution run run r (elim (cases_Bool (has_bit added run.pattern)) [ inl t ↦ absurd (none t) | inr f ↦ ap (λ b. cond b (marked_at_end run) run) f ])
-
--- where one was, less its mark
-pub own_marked : (file ending : File) (added : ℕ) → EndingsOf file ending added → (solution : Solution) (marked run : Run) → Replayed ending solution marked → has_bit added marked.pattern ≡ true → ((lines : List RunLine) → marked.lines ≡ lines ++ Mark 0 ∷ [] → marked ≡ marked_at_end run) → RestWitnessOf file ending added solution run
-own_marked file ending added ends solution marked run r bit less =
-    let mark = ends_with_mark file ending added ends solution r.solved marked r.fits r.witness bit in
+-- a run of an ending, less the mark of an added event, is the run of the file's own pattern
+pub marked_own : (added : ℕ) (marked run : Run) → EndsAsAdded added marked → has_bit added marked.pattern ≡ true
+    → ((lines : List RunLine) → marked.lines ≡ lines ++ Mark 0 ∷ [] → marked ≡ marked_at_end run) → marked ≡ ending_run added run
+marked_own added marked run ends bit less =
+    let mark = ends bit in
     let is = less mark.0 mark.1 in
     let same : has_bit added run.pattern ≡ true = sym (ap (λ (x : Run). has_bit added x.pattern) is) ∙ bit in
-    own_of file ending added ends solution marked run r (ap (λ b. cond b (marked_at_end run) run) same ∙ sym is)
+    is ∙ sym (ap (λ b. cond b (marked_at_end run) run) same)
+
+pub plain_own : (added : ℕ) (run : Run) (answer : Bool) → IsTrue answer ↔ IsBitSet added run.pattern → answer ≡ false → run ≡ ending_run added run
+plain_own added run answer is none =
+    elim (cases_Bool (has_bit added run.pattern)) [
+      | inl t ↦ absurd (false≢true (sym none ∙ is.1 (bit_set added run.pattern t)))
+      | inr f ↦ sym (ap (λ b. cond b (marked_at_end run) run) f)
+    ]
+
+-- the run of a solution's own pattern
+pub own_given : (file ending : File) (added : ℕ) → EndingsOf file ending added → (solution : Solution) (marked run : Run) → Replayed ending solution marked
+    → (EndsAsAdded added marked → marked ≡ ending_run added run) → RestWitnessOf file ending added solution run
+own_given file ending added ends solution marked run r is =
+    own_of file ending added ends solution marked run r (sym (is (λ bit. ends_with_mark file ending added ends solution r.solved marked r.fits r.witness bit)))

@@ -8,10 +8,10 @@ use Rattle.ta_rest_run.proofs.OwnRuns.{ending_at}
 use Rattle.ta_rest_run.proofs.Resting.{rest_at, solutions_solve}
 
 -- lines that end with the mark of an event
-abbrev EndsWithMark : ℕ → List RunLine → Type 0
+abbrev pub EndsWithMark : ℕ → List RunLine → Type 0
 EndsWithMark e lines = (front : List RunLine) × (lines ≡ front ++ Mark e ∷ [])
 
-marked_piece : (piece : Piece) (e : ℕ) → piece.last ≡ None → piece.marks ≡ e ∷ [] → piece_lines piece ≡ map step_line piece.steps ++ Mark e ∷ []
+pub marked_piece : (piece : Piece) (e : ℕ) → piece.last ≡ None → piece.marks ≡ e ∷ [] → piece_lines piece ≡ map step_line piece.steps ++ Mark e ∷ []
 marked_piece piece e last marks = λ i. map step_line piece.steps ++ (last_lines (last i) ++ map Mark (marks i))
 
 newest_marked : (a : Automaton) (value : Meaning → ℤ) (e : ℕ) (older : List Element) (newest : List Piece) → PiecesBack a value (Event e ∷ older) newest → EndsWithMark e (pieces_lines (reverse newest))

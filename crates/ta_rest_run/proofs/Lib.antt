@@ -2,7 +2,7 @@
 pub mod Ends
 pub mod Resting
 pub mod OwnRuns
-mod LastMark
+pub mod LastMark
 pub mod Once
 mod Giving
 mod Common

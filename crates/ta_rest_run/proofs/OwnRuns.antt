@@ -1,5 +1,11 @@
 -- a run of an ending is, less the mark of an added event, a run of the pattern itself
-use Rattle.ta_rest_run.proofs.Common.{◌≡◌, inl, inr, ℕ, zero, suc, ◌+◌, ◌<◌, ℤ, Bool, true, false, List, [], ◌∷◌, ◌++◌, length, length-append, append-nil, cond, take, get_or, arith, sym, ap, ◌∙◌, refl, subst, slice_get, Some, IsBitSet, slice_index, cases_Bool, false≢true, same_Some, slice_get-get_or, slice_get_within, AllByRecursion, at_set, bit_set, bit_true, each_at, each_from, each_front, Automaton, Pattern, File, has_bit, At, Config, Holds, after_earlier, pattern_within, Endings, IsEnding, LastMoved, RestAdded, events_below, EndingsOf, AtRest, ComeAfterEarlier, RestOccurs, back_of, endings_rest, moved_count, Run, RunLine, Step, Mark, LineFits, ConditionStays, LineStays, NumbersStay, ValuesAfter, IsFirstConfig, MarkedOnce, MarksAt, ShowsPattern, unit_steps, OwnRunsRest, OccursAtRest, ending_run, marked_at_end, Event}
+use Rattle.ta_rest_run.proofs.Common.{◌≡◌, inl, inr, ℕ, zero, suc, ◌+◌, ◌<◌, ℤ, Bool, true, false, List, [], ◌∷◌, ◌++◌, length, length-append, append-nil, cond}
+use Rattle.ta_rest_run.proofs.Common.{take, get_or, arith, sym, ap, ◌∙◌, refl, subst, slice_get, Some, IsBitSet, slice_index, cases_Bool, false≢true, same_Some}
+use Rattle.ta_rest_run.proofs.Common.{slice_get-get_or, slice_get_within, AllByRecursion, at_set, bit_set, bit_true, each_at, each_from, each_front, Automaton}
+use Rattle.ta_rest_run.proofs.Common.{Pattern, File, has_bit, At, Config, Holds, after_earlier, pattern_within, Endings, IsEnding, LastMoved, RestAdded}
+use Rattle.ta_rest_run.proofs.Common.{events_below, EndingsOf, AtRest, ComeAfterEarlier, RestOccurs, back_of, endings_rest, moved_count, Run, RunLine, Step}
+use Rattle.ta_rest_run.proofs.Common.{Mark, Fits, LineFits, ConditionStays, LineStays, NumbersStay, ReplayStays, Shows, ValuesAfter, IsFirstConfig, MarkedOnce}
+use Rattle.ta_rest_run.proofs.Common.{MarksAt, ShowsPattern, unit_steps, OwnRunsRest, OccursAtRest, ending_run, marked_at_end, Event}
 use Rattle.std.proofs.lemmas.Nat.Bits.{bit_at_ones}
 use Rattle.ta_base.proofs.Lists.{slice_get_left, slice_get_right, none_of_empty}
 use Rattle.ta_linear.specs.Values.{point_of}
@@ -184,6 +190,15 @@ begins_moved a r s c same b = record {
   counts = λ j l at. b.counts j l at ∙ ap (λ (zs : List ℤ). slice_index (naturals zs) j) (sym same.counts);
 }
 
+-- the run of the pattern itself begins as that of its ending
+pub begins_own : (added : ℕ) (run : Run) (a : Automaton) (c : Config) → IsFirstConfig a (ending_run added run) c → IsFirstConfig a run c
+begins_own added run a c b =
+    let same = ending_steps added run in
+    record {
+      parameters = b.parameters ∙ ap naturals same.parameters;
+      counts = λ j l initial. b.counts j l initial ∙ ap (λ (zs : List ℤ). slice_index (naturals zs) j) same.counts;
+    }
+
 -- where an ending comes to rest in its run, the file's own pattern does in its own
 pub own_occurs : (file ending : File) (added : ℕ) → EndingsOf file ending added → (run : Run) (p q : Pattern) → slice_get file.patterns run.pattern ≡ Some p → slice_get ending.patterns run.pattern ≡ Some q → OccursAtRest ending.automaton q (ending_run added run) → OccursAtRest file.automaton p run
 own_occurs file ending added ends run p q named at o =
@@ -194,10 +209,7 @@ own_occurs file ending added ends run p q named at o =
     let there : OccursAtRest file.automaton q r = subst (λ (a : Automaton). OccursAtRest a q r) ends.automaton o in
     record {
       first = there.first;
-      begins = record {
-        parameters = there.begins.parameters ∙ ap naturals same.parameters;
-        counts = λ j l initial. there.begins.counts j l initial ∙ ap (λ (zs : List ℤ). slice_index (naturals zs) j) same.counts;
-      };
+      begins = begins_own added run file.automaton there.first there.begins;
       occurs = (endings_rest file.automaton p q is there.first (unit_steps run.lines)).1 (subst (RestOccurs file.automaton q there.first) same.steps there.occurs);
     }
 
@@ -214,19 +226,29 @@ end_there a p r x =
     let n = length (unit_steps r.lines) in
     (get_or (x.first ∷ x.later) n x.first, slice_get-get_or (x.first ∷ x.later) n x.first (omega (arith, run_length a x.first (unit_steps r.lines) x.later x.follows.steps)))
 
--- wherever a run shows a pattern its end is at rest
-AlwaysRests : Automaton → Pattern → Run → Type 0
-AlwaysRests a q r = (x : ShowsPattern a q r) (c : Config) → At x.first x.later (length (unit_steps r.lines)) c → AtRest a c
+-- wherever a run shows a pattern its end is at rest, whatever rest is
+AlwaysRests : (Automaton → Config → Type 0) → Automaton → Pattern → Run → Type 0
+AlwaysRests Rests a q r = (x : ShowsPattern a q r) (c : Config) → At x.first x.later (length (unit_steps r.lines)) c → Rests a c
 
-rests_alike : (a : Automaton) (p q : Pattern) (r s : Run) → SameSteps r s → ShowsPattern a q r → AlwaysRests a q r → AlwaysRests a p s
+rests_alike : (Rests : Automaton → Config → Type 0) (a : Automaton) (p q : Pattern) (r s : Run) → SameSteps r s → ShowsPattern a q r → AlwaysRests Rests a q r
+    → AlwaysRests Rests a p s
 unfolding AlwaysRests
-rests_alike a p q r s same x rests y d there =
+rests_alike Rests a p q r s same x rests y d there =
     let end = end_there a q r x in
-    subst (AtRest a) (end_alike a q p r s same x y end.0 d end.1 there) (rests x end.0 end.1)
+    subst (Rests a) (end_alike a q p r s same x y end.0 d end.1 there) (rests x end.0 end.1)
 
-pub own_rest : OwnRunsRest
+-- the run fits the file, it shows the pattern that it names, no number of its replay leaves the range, and its last configuration rests
+pub record ComesToAny (Rests : Automaton → Config → Type 0) (file : File) (run : Run) : Type 0 where
+  pub fits : Fits file run
+  pub shows : Shows file run
+  pub stays : ReplayStays file run
+  pub rests : (shown : Shows file run) (c : Config) → At shown.shows.first shown.shows.later (length (unit_steps run.lines)) c → Rests file.automaton c
+
+-- a run of an ending that comes to rest is, less the mark of an added event, one of the file's own pattern that does
+pub own_comes : (Rests : Automaton → Config → Type 0) (file ending : File) (added : ℕ) → EndingsOf file ending added → (run : Run)
+    → ComesToAny Rests ending (ending_run added run) → ComesToAny Rests file run
 unfolding AlwaysRests
-own_rest file ending added ends run c =
+own_comes Rests file ending added ends run c =
     let r = ending_run added run in
     let same = ending_steps added run in
     let q = c.fits.pattern in
@@ -238,8 +260,8 @@ own_rest file ending added ends run c =
     let all : Accepted ending.automaton q r = record { lines = c.fits.lines; shows = shown; stays = c.stays q c.fits.named } in
     let there : Accepted file.automaton q r = subst (λ (a : Automaton). Accepted a q r) ends.automaton all in
     let own : Accepted file.automaton p run = accepted_own file ending added ends run p q w.1 w.2 there in
-    let rest : AlwaysRests ending.automaton q r = (λ x d end. c.rests (record { pattern = q; named = c.fits.named; shows = x }) d end) in
-    let rests : AlwaysRests file.automaton q r = subst (λ (a : Automaton). AlwaysRests a q r) ends.automaton rest in
+    let rest : AlwaysRests Rests ending.automaton q r = (λ x d end. c.rests (record { pattern = q; named = c.fits.named; shows = x }) d end) in
+    let rests : AlwaysRests Rests file.automaton q r = subst (λ (a : Automaton). AlwaysRests Rests a q r) ends.automaton rest in
     record {
       fits = record {
         pattern = p;
@@ -252,5 +274,10 @@ own_rest file ending added ends run c =
       };
       shows = record { pattern = p; named = w.1; shows = own.shows };
       stays = λ x named. subst (λ (z : Pattern). NumbersStay file.automaton z run) (same_Some p x (sym w.1 ∙ named)) own.stays;
-      rests = λ other d end. rests_alike file.automaton other.pattern q r run same there.shows rests other.shows d end;
+      rests = λ other d end. rests_alike Rests file.automaton other.pattern q r run same there.shows rests other.shows d end;
     }
+
+pub own_rest : OwnRunsRest
+own_rest file ending added ends run c =
+    let own = own_comes AtRest file ending added ends run (record { fits = c.fits; shows = c.shows; stays = c.stays; rests = c.rests }) in
+    record { fits = own.fits; shows = own.shows; stays = own.stays; rests = own.rests }

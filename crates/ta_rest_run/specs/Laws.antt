@@ -1,4 +1,4 @@
--- What the runs of solutions of systems of rest say
+-- The runs of solutions of systems of rest come to rest.
 use Rattle.std.specs.Prelude.{ℕ, ◌≡◌}
 use Rattle.std.specs.List.{AllByRecursion}
 use Rattle.ta_automaton.specs.declared.file.File.{File}
@@ -10,7 +10,7 @@ use Rattle.ta_replay.specs.declared.run.Run.{Run}
 use Rattle.ta_witness.specs.Witness.{IsSolution, WitnessOf}
 use Rattle.ta_rest_run.specs.Runs.{ComesToRest, EndRests, IsRestSolution, ending_run}
 
--- a solution of a word's system of rest solves the word's system
+-- a solution of a schema's system of rest solves the schema's system
 abbrev pub RestSolutionsSolve : Type 0
 RestSolutionsSolve =
     (file : File) (solution : Solution) → IsRestSolution file solution → IsSolution file solution
@@ -23,14 +23,14 @@ RestWitnessesRest =
     → (run : Run) → WitnessOf file solution run
     → EndRests file run
 
--- a run of an ending that comes to rest is, less the mark of an added event, one of the file's own pattern that does
+-- a run of an ending that comes to rest is, without the mark of an added event, a run of the file's own pattern that comes to rest
 abbrev pub OwnRunsRest : Type 0
 OwnRunsRest =
     (file ending : File) (added : ℕ) → EndingsOf file ending added
     → (run : Run) → ComesToRest ending (ending_run added run)
     → ComesToRest file run
 
--- a solution of a system of rest has one run less the mark
+-- a solution of a system of rest has one run without the mark
 abbrev pub RestWitnessesAreDetermined : Type 0
 RestWitnessesAreDetermined =
     (ending : File) (added : ℕ) (solution : Solution) (r s : Run) → IsRestSolution ending solution

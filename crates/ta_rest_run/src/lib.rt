@@ -1,4 +1,5 @@
-//! From a solution of a word's system of rest to a run of the file's own pattern that comes to rest.
+//! From a solution of a schema's system of rest to a run of the file's own pattern that ends in a
+//! deadlock.
 #![tactic(auto)]
 
 mod laws;
@@ -7,4 +8,4 @@ mod witnessing;
 pub use laws::{
     own_runs_rest, rest_solutions_solve, rest_witnesses_are_determined, rest_witnesses_rest,
 };
-pub use witnessing::rest_witness;
+pub use witnessing::{own_run, rest_witness};

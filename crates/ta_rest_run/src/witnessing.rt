@@ -7,7 +7,7 @@ ghost use Rattle.ta_replay.specs.declared.run.RunLine.{RunLine};
 ghost use Rattle.ta_replay.specs.declared.run.RunLine.TheVariants.{Mark};
 ghost use Rattle.ta_replay.specs.Fits.{Fits};
 ghost use Rattle.ta_witness.specs.Witness.{WitnessFaultOf};
-ghost use Rattle.ta_rest_run.specs.Runs.{IsRestSolution, OwnWitness, marked_at_end};
+ghost use Rattle.ta_rest_run.specs.Runs.{EndsAsAdded, IsRestSolution, OwnWitness, ending_run, marked_at_end};
 
 use std::alloc::Global;
 use ta_base::List;
@@ -29,10 +29,20 @@ pub fn rest_witness(
     ensures fault { IfErr result (WitnessFaultOf rest.now.ending.file solution.now) }
 {
     let run = witness(alloc, &rest.ending, solution)?;
+    Ok(own_run(rest, run))
+}
+
+/// The run of the file's own pattern that a run of its ending stands for: less its last line, the mark
+/// of the event, where one was added to the pattern, else the run as it is.
+pub fn own_run(rest: &RestFile, run: Run) -> Run
+    requires named { run.pattern < 16 }
+    ensures is { EndsAsAdded rest.now.added run → run ≡ ending_run rest.now.added result }
+    ensures fits { (file : File) → Fits file run → Fits file result }
+{
     if has_pattern(rest.added, run.pattern) {
-        return Ok(without_last(run));
+        return without_last(run);
     }
-    Ok(run)
+    run
 }
 
 /// Whether a mask of patterns has a number.

@@ -1,4 +1,8 @@
 -- arranged steps are legal
+--
+-- They go forward, each from a location where nobody arrives any more, and their end is that of the counts. If the counters at this
+-- end are natural, none is negative on the way. Rise guards are asked for at the beginning and stay true. Fall guards are asked for
+-- at the end, so they hold before every step, the last one among them.
 use Rattle.ta_scope.proofs.Common.{◌≡◌, ℕ, ℤ, pos, ◌+ℤ◌, ◌≤ℤ◌, List, [], ◌∷◌, ◌++◌, inl, arith, sym, ap, ◌∙◌, refl, subst, slice_get, Some, ints, without_last, In-right, last_of, Rule, Automaton, In, location_place, Config, value_at, InScope, total, total-append, terms_value-same, fall_back, change_of, Onward, Piece, after, later_after, fire_in_order, each_rule_from, AreRuleCounts, ArrangedOf, count_at, steps_along, ArrangedStepsAreLegal, ArrangedStepsReachTheEnd, GuardsHold, Passable, LeadsToEnd, arranged_steps, fall_mask, value_after_steps, value_at_end, falls as falls_rows}
 use Rattle.ta_linear.specs.Values.{RowHolds}
 use Rattle.ta_scope.proofs.Circulations.{Rest, rest_same, rest_all, weighted}

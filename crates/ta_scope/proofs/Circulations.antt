@@ -1,4 +1,8 @@
 -- taking circulations out leaves natural counts with the same end
+--
+-- A circulation is a cycle of rules with a count above 0; the least of its counts is subtracted from each. In scope its rules have
+-- no updates, and each location on it is entered as often as it is left, so no place has another value at the end. The counts that
+-- are left are natural, since nothing greater than the least was taken, and their sum is less: so taking out ends.
 use Rattle.ta_scope.proofs.Common.{◌≡◌, inl, inr, ℕ, ◌<◌, ◌≤◌, ℤ, pos, ◌+ℤ◌, ◌*ℤ◌, ◌≤ℤ◌, List, [], ◌∷◌, length, arith, sym, ap, ◌∙◌, refl, subst, IsBitSet, ints, slice_get_within, *ℤ-zero, AllByRecursion, each_in, each_weaker, by_one, distributes, mul_left_comm, Automaton, Distinct, in_or, range_with_len, Walk, InScope, total, times_in, total-same, total-add, total-times, change_of, circuit_pure, NoCycle, IsLeastCycle, count_at, AreRuleCounts, Support, LeastCount, SubtractsFrom, TakenOut, AllTakenOut}
 use Rattle.ta_base.proofs.Times.{EachOnce, times-distinct, times-none, times-numbers, total-by_times}
 use Rattle.ta_automaton.proofs.Circuits.{circuit_total}

@@ -1,14 +1,14 @@
--- rules at fault and scope
+-- rules that put an automaton out of scope
 use Rattle.ta_scope.proofs.Common.{◌≡◌, ◌≢◌, inl, inr, ℕ, ℤ, pos, ◌≤ℤ◌, List, [], ◌∷◌, length, arith, refl, sym, slice_get, get_or, Some, IsBitSet, ◌↔◌, ints, eqb_tells, AllByRecursion, zero_or_more, Rule, Automaton, InScope, LoopsPure, rule_within, natural_terms, updates_natural, to_within, every_rule, IsReachTable, AtFault}
 use Rattle.ta_linear.specs.Terms.{coefficient}
 use Rattle.ta_automaton.specs.Shape.{Update}
 use Rattle.ta_scope.proofs.Reaching.{every_walk}
 
--- where no rule is at fault, the automaton is in scope
+-- where no rule is in error, the automaton is in scope
 pub in_scope : (a : Automaton) → ((r : ℕ) (rule : Rule) → slice_get a.rules r ≡ Some rule → ¬ AtFault a rule) → InScope a
 in_scope a none r rule named updates walk back = none r rule named (record { updates = updates; walk = walk; back = back })
 
--- an automaton with a rule at fault is out of scope
+-- an automaton with a rule in error is out of scope
 pub fault_out : (a : Automaton) (r : ℕ) (rule : Rule) → slice_get a.rules r ≡ Some rule → AtFault a rule → ¬ InScope a
 fault_out a r rule named f scope = scope r rule named f.updates f.walk f.back
 
@@ -31,7 +31,7 @@ first_update shared (t ∷ ts) h some =
     let rest = natural_terms shared ts t.0 h.1 in
     (t.0, elim (eqb_tells t.0 t.0) [ inl e ↦ rw e.0 (omega (arith, ints)) | inr ne ↦ absurd (ne.1 refl) ])
 
--- a rule is at fault exactly where it has updates and the table of all rules leads from its target back to its source
+-- a rule is in error exactly where it has updates and the table of all rules leads from its target back to its source
 pub fault_exactly : (a : Automaton) (table : List ℕ) (r : ℕ) (rule : Rule) → IsReachTable a every_rule table → slice_get a.rules r ≡ Some rule → ((rule.updates ≢ []) × IsBitSet (get_or table rule.to 0) rule.from) ↔ AtFault a rule
 fault_exactly a table r rule leads named =
     let exact = leads.exact rule.to rule.from (to_within a r rule named) in (

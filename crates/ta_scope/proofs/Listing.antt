@@ -1,4 +1,8 @@
 -- steps along an order of the locations go forward, and have the end of the counts
+--
+-- Each location comes in the order only when no rule of the support leads to it from another one that is left. So a later step
+-- leads neither to a location that was left before nor to the one that is left now. Each rule has one source, which stands once in
+-- the order: so it stands once among the steps, with its whole count, and sums over the steps are sums over the counts.
 use Rattle.ta_scope.proofs.Common.{◌≡◌, ◌≢◌, inl, inr, ℕ, ◌+◌, ◌<◌, ℤ, pos, ◌*ℤ◌, ◌≤ℤ◌, List, [], ◌∷◌, ◌++◌, map, length, replicate, eqb, cond, Bool, true, false, ◌&&◌, arith, sym, ap, ◌∙◌, refl, subst, slice_get, Option, Some, None, IsBitSet, Contains, append_assoc, append-nil, zero-add, filter, int_lt, unsigned_abs, ints, cases_Bool, and_parts, false≢true, eqb-true, eqb_tells, map-append, *ℤ-zero, zero-*ℤ, same_Some, above_zero, abs_natural, by_one, not_above_zero, filter_false, filter_true, get_middle, one_step, in_append, in_replicate, Rule, Automaton, In, range_with_len, rule_change, total, times_in, total-append, total-same, total-zero, total-swap, from_within, change_of, NoneInto, Onward, none_from, NoCycle, Next, IsBuilt, IsLocationOrder, count_at, Support, is_step_from, steps_along, arranged_steps, steps_from, take_at, filter-append, Contains-append_left}
 use Rattle.std.proofs.lemmas.Grind.{flat_map-append}
 use Rattle.std.proofs.Math.IntN.{*ℤ_comm}

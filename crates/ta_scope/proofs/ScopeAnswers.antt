@@ -1,9 +1,9 @@
--- An automaton is in scope, or has a first rule at fault.
+-- An automaton is in scope, or has a first rule that puts it out of scope.
 use Rattle.ta_scope.proofs.Common.{◌≡◌, ℕ, zero, suc, ◌+◌, ◌<◌, ◌≤◌, length, slice_get, Some, ⊎_elim, subst, arith, cases_lt, slice_get_within, InScope, Rule, Automaton, AtFault, FirstRuleFault}
 use Rattle.ta_syntax.specs.AnswerLaws.{Either}
 
 module _ (a : Automaton) where
-  -- no rule below k is at fault
+  -- no rule below k is in error
   abbrev NoneBelow : ℕ → Type 0
   NoneBelow k = (q : ℕ) (earlier : Rule) → q < k → slice_get a.rules q ≡ Some earlier → ¬ AtFault a earlier
 

@@ -1,4 +1,4 @@
--- Arranged steps: counts of rules without their circulations, as steps that go forward (this project's profile)
+-- Arranged steps: counts of rules, with circulations removed, as accelerated steps that go forward.
 use Rattle.std.specs.Prelude.{ℕ, ℤ, pos, ◌<◌, ◌≡◌, ◌≤ℤ◌, ◌-ℤ◌, ◌⊎◌, ◌↔◌, ◌&&◌, Bool, List, [], ◌∷◌, length, map, filter, flat_map, int_lt, slice_get, slice_index_or, Some, IsBitSet}
 use Rattle.std.specs.List.{AllByRecursion, range_with_len}
 use Rattle.ta_automaton.specs.declared.rule.Rule.{Rule}
@@ -22,13 +22,13 @@ pub record AreRuleCounts (a : Automaton) (counts : List ℤ) : Type 0 where
 abbrev pub Support : List ℤ → ℕ → Type 0
 Support counts rules = (r : ℕ) → IsBitSet rules r ↔ (pos 1 ≤ℤ count_at counts r)
 
--- the first list of numbers comes no later than the second in the order of the dictionary
+-- the first list of numbers is not after the second in lexicographic order
 abbrev pub NotAbove : List ℕ → List ℕ → Type 0
 NotAbove [] qs = Unit {0}
 NotAbove (r ∷ rs) [] = ⊥
 NotAbove (r ∷ rs) (q ∷ qs) = (r < q) ⊎ ((r ≡ q) × NotAbove rs qs)
 
--- fewer rules, or as many in a list that isn't above the other
+-- fewer rules; or as many, in a list that is not after the other
 abbrev pub NoLater : List ℕ → List ℕ → Type 0
 NoLater rs qs = (length rs < length qs) ⊎ ((length rs ≡ length qs) × NotAbove rs qs)
 

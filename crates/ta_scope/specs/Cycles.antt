@@ -1,4 +1,4 @@
--- Walks and cycles of some of an automaton's rules (this project's profile). A mask says which rules: bit r names rule r
+-- Walks and cycles along some of an automaton's rules. A mask says which rules: bit r is rule r.
 use Rattle.std.specs.Prelude.{ℕ, ◌-◌, ◌^◌, ◌<◌, ◌≡◌, ◌↔◌, List, length, slice_get, slice_index, Some, IsBitSet}
 use Rattle.std.specs.List.{AllByRecursion}
 use Rattle.ta_automaton.specs.declared.rule.Rule.{Rule}

@@ -1,4 +1,5 @@
--- What puts an automaton out of scope (this project's profile)
+-- What puts an automaton out of scope: a rule with an update on a cycle. Source: Konnov, Lazić, Veith, Widder, POPL 2017 (canonical
+-- threshold automata).
 use Rattle.std.specs.Prelude.{ℕ, ◌<◌, ◌≡◌, List, slice_get, Some}
 use Rattle.std.proofs.Props.{props}
 use Rattle.ta_automaton.specs.declared.rule.Rule.{Rule}
@@ -16,14 +17,14 @@ pub record AtFault (a : Automaton) (rule : Rule) : Type 0 where
   pub walk : List ℕ
   pub back : Walk a rule.to walk rule.from
 
--- the number of the first rule at fault
+-- the number of the first such rule
 pub record FirstRuleFault (a : Automaton) (number : ℕ) : Type 0 where
   pub rule : Rule
   pub named : slice_get a.rules number ≡ Some rule
   pub at_fault : AtFault a rule
   pub first : (q : ℕ) (earlier : Rule) → q < number → slice_get a.rules q ≡ Some earlier → ¬ AtFault a earlier
 
--- the first rule at fault, or want of memory
+-- the first such rule, or out of memory
 abbrev pub ScopeFaultOf : Automaton → ScopeFault → Type 0
 ScopeFaultOf a (CycleUpdates number) = FirstRuleFault a number
 ScopeFaultOf a Memory = Unit {0}

@@ -1,4 +1,5 @@
--- Arranged steps are legal (this project's profile)
+-- Arranged steps are legal, and lead where their counts lead. Source of reordering and acceleration: Konnov, Lazić, Veith, Widder, POPL
+-- 2017.
 use Rattle.std.specs.Prelude.{ℕ, ℤ, pos, ◌<◌, ◌≡◌, ◌≤ℤ◌, ◌+ℤ◌, ◌*ℤ◌, ◌≤◌, List, [], ◌∷◌, ◌++◌, length, map, flat_map, replicate, unsigned_abs, slice_get, Some, IsBitSet}
 use Rattle.ta_base.specs.Sums.{total, times_in}
 use Rattle.std.specs.List.{AllByRecursion, range_with_len}
@@ -44,7 +45,7 @@ pub record Passable (a : Automaton) (c : Config) (counts : List ℤ) (steps : Li
   pub fall : (front : List ℕ) (last : ℕ) → steps ≡ front ++ last ∷ [] → GuardsHold a counts fall_mask a.fall (value_after_steps a c front)
   pub natural : (l : ℕ) → l < length a.locations → pos 0 ≤ℤ value_at_end a c counts (location_place a l)
 
--- unit steps are legal one after another, and their end is the end that counts have
+-- unit steps are legal one after another, and their end is the end of the counts
 pub record LeadsToEnd (a : Automaton) (c : Config) (counts : List ℤ) (steps : List ℕ) : Type 0 where
   pub later : List Config
   pub legal : Steps a c steps later
@@ -53,8 +54,8 @@ pub record LeadsToEnd (a : Automaton) (c : Config) (counts : List ℤ) (steps : 
   pub whole : Whole a last
   pub values : (place : ℕ) → value_at last place ≡ value_at_end a c counts place
 
--- arranged steps are legal, and their end is the end of the counts, where the guards of the support hold until before the
--- last step and the counters at the end of the counts are natural
+-- arranged steps are legal, and their end is the end of the counts, if the guards of the support hold until before the last step and the
+-- counters at the end of the counts are natural
 abbrev pub ArrangedStepsAreLegal : Type 0
 ArrangedStepsAreLegal =
     (a : Automaton) → InScope a
@@ -63,7 +64,7 @@ ArrangedStepsAreLegal =
     → (c : Config) → Passable a c counts (arranged_steps steps)
     → LeadsToEnd a c counts (arranged_steps steps)
 
--- the same where the fall guards of the support hold at the end of the counts
+-- the same if the fall guards of the support hold at the end of the counts
 abbrev pub ArrangedStepsReachTheEnd : Type 0
 ArrangedStepsReachTheEnd =
     (a : Automaton) → InScope a
@@ -85,7 +86,7 @@ pub record StepsWithin (a : Automaton) (counts : List ℤ) (steps : List (ℕ ×
   pub once : (r : ℕ) → times_in r (map (λ (step : ℕ × ℤ). step.0) steps) ≤ 1
   pub factors : AllByRecursion (λ (step : ℕ × ℤ). (pos 1 ≤ℤ step.1) × (step.1 ≤ℤ count_at counts step.0)) steps
 
--- arranged steps are such steps of their counts
+-- arranged steps are such steps within their counts
 abbrev pub ArrangedStepsAreWithin : Type 0
 ArrangedStepsAreWithin =
     (a : Automaton) → InScope a

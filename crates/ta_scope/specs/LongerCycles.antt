@@ -1,4 +1,4 @@
--- Cycles of two or more locations (this project's profile)
+-- Cycles of two or more locations.
 use Rattle.std.specs.Prelude.{ℕ, ◌<◌, ◌≡◌, ◌≢◌, List, slice_get, Some}
 use Rattle.std.proofs.Props.{props}
 use Rattle.ta_automaton.specs.declared.rule.Rule.{Rule}

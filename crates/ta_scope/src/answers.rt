@@ -3,7 +3,7 @@
 
 ghost use Rattle.ta_scope.specs.Answers.{ScopesHaveAnswers};
 
-/// An automaton is in scope, or has a first rule at fault.
+/// An automaton is in scope, or has a first rule that puts it out.
 pub fn scopes_have_answers()
     ensures { ScopesHaveAnswers }
 {}

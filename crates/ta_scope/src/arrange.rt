@@ -1,4 +1,14 @@
-//! Counts of rules as steps that go forward.
+//! Turns how often each rule fires into steps that go forward.
+//!
+//! First circulations are taken out (circulation.rt): in scope no rule on a cycle has an update, so
+//! firings round a cycle change nothing together. The rules that are left have no cycle, so the
+//! locations have an order in which each rule leads forward (order.rt). The rules are listed by
+//! their sources in that order, each with its count.
+//!
+//! Why the steps are possible: when the rules of a location fire, nothing that still has to fire
+//! leads into it. So its counter rises first and then falls to its value at the end; if that is
+//! natural, no process is missing on the way (proofs/ArrangedLaws.antt). Each rule stands at most
+//! once in the list, which makes runs short.
 #![tactic(auto)]
 
 ghost use Rattle.std.specs.Prelude.{ℕ, ℤ, pos, ◌<◌, ◌≡◌, ◌==◌, ◌&&◌, if◌then◌else◌, int_lt, List, [], ◌∷◌, ◌++◌, length, IfOk, IsOk};

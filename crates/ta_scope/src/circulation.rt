@@ -1,4 +1,9 @@
-//! Taking circulations out of counts.
+//! Takes circulations out of counts.
+//!
+//! While the rules with a count above 0 have a cycle, the least rule on one, with the first path
+//! from its target back to its source, is such a cycle, and the least of its counts is subtracted
+//! from each of them. Each location of a cycle is entered as often as it is left, so the end of the
+//! counts stays the same. One count becomes 0 each time: there are no more rounds than rules.
 #![tactic(auto)]
 
 ghost use Rattle.std.specs.Prelude.{ℕ, ℤ, pos, ◌<◌, ◌≤◌, ◌≡◌, ◌⊎◌, ◌↔◌, ◌≤ℤ◌, length, slice_get, Some, IsTrue, IfOk, IfSome, IfNone, IsBitSet};

@@ -1,4 +1,4 @@
-//! Which rule is at fault.
+//! Which rule puts an automaton out of scope.
 #![tactic(auto)]
 
 ghost use Rattle.std.specs.Prelude.{◌≢◌, ◌<◌, ◌↔◌, [], length, slice_index, IsTrue, IsBitSet, OnOk, IfErr};
@@ -12,7 +12,7 @@ use crate::reach::{is_on_cycle, leads};
 use std::alloc::Global;
 use ta_automaton::{Automaton, Rule};
 
-/// Ok where an automaton is in scope, else its first rule at fault.
+/// Ok where an automaton is in scope, else the first rule that puts it out.
 pub fn judge(alloc: Global, automaton: &Automaton) -> Result<(), ScopeFault>
     ensures ok { OnOk result (InScope automaton.now) }
     ensures fault { IfErr result (λ fault. ScopeFaultOf automaton.now fault) }
@@ -22,7 +22,7 @@ pub fn judge(alloc: Global, automaton: &Automaton) -> Result<(), ScopeFault>
     first_at_fault(automaton, table.as_slice())
 }
 
-/// Ok where no rule is at fault by a table of all rules, else the first one that is.
+/// Ok where no rule puts it out of scope by a table of all rules, else the first one that does.
 fn first_at_fault(automaton: &Automaton, table: &[u32]) -> Result<(), ScopeFault>
     requires { IsReachTable automaton.now every_rule table.now }
     ensures ok { OnOk result (InScope automaton.now) }

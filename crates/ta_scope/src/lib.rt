@@ -1,4 +1,10 @@
-//! The shape of an automaton's cycles, and the order of its locations.
+//! The cycles of an automaton: which files are in scope, and how counts of rules become steps.
+//!
+//! A file is in scope if no rule with an update lies on a cycle of rules (`judge`). Then how often
+//! each rule fires can be turned into an order of firings (`arrange`), by which the run of a
+//! solution and a shorter run are made.
+//!
+//! Source: POPL 2017, canonical threshold automata and accelerated transitions.
 #![tactic(auto)]
 
 mod answers;

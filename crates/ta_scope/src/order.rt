@@ -1,4 +1,5 @@
-//! The order of locations by some of the rules.
+//! The locations in an order in which every rule leads forward: a topological order, least location
+//! first.
 #![tactic(auto)]
 
 ghost use Rattle.std.specs.Prelude.{ℕ, ◌<◌, ◌↔◌, length, IsTrue, IsBitSet, Contains, IfOk, IfSome, IfNone};

@@ -1,4 +1,10 @@
-//! The first path between two locations by some of the rules.
+//! The first path between two locations by some of the rules: the fewest rules, and of these lists
+//! the least.
+//!
+//! The distance is the number of rounds in which a mask of locations comes to have the target, if
+//! each round adds where the rules lead from it. Then the path is followed from its beginning: at
+//! each location the least rule that leads to one from which the distance is one less. So the path
+//! is determined, and with it the run of a solution.
 #![tactic(auto)]
 
 ghost use Rattle.std.specs.Prelude.{ℕ, ◌+◌, ◌<◌, ◌≤◌, ◌≡◌, ◌⊎◌, ◌↔◌, length, slice_get, Some, IsTrue, IfOk, IfSome, IfNone, IsBitSet};

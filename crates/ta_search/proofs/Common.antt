@@ -40,3 +40,4 @@ pub use Rattle.ta_search.specs.declared.template.Template.{Template}
 pub use Rattle.ta_syntax.specs.declared.fault.FileFault.{FileFault}
 pub use Rattle.ta_verdict.specs.Certificates.{CertificateOf, CertificatesAreDetermined, SafeOne, safe_numbers, safe_ones}
 pub use Rattle.ta_verdict.specs.Verdicts.{AreVerdicts, IsSample, SamplesAreDetermined, VerdictHolds, VerdictsAreDetermined, VerdictsHold, is_unknown}
+pub use Rattle.ta_verdict.specs.declared.budget.Budget.{Budget}

@@ -1,4 +1,4 @@
--- A text is that of a template, or has a first fault.
+-- A text is that of a template, or has a first error.
 use Rattle.ta_search.proofs.Common.{ℕ, ◌+◌, ◌<◌, ◌≤◌, ◌≡◌, ◌⊎◌, ◌++◌, inl, inr, List, [], ◌∷◌, length, codes, Option, None, Some, refl, sym, ap, subst, ◌∙◌, append_assoc, arith, bytes_eq, cases_Bool, cases_eq, cases_lt, false≢true, bytes_eq-Decides, SplitAt, Avoids, avoids-append, Hole, AreHoles, AreTooMany, HoleInRange, IsSpelledHole, head_text, hole_line, is_among, unknown_place, vector_count}
 use Rattle.ta_search.specs.declared.fault.TemplateFault.TheVariants as fault
 use Rattle.ta_search.specs.Laws.{HasTemplate, HasTemplateFault}

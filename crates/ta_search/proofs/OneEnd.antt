@@ -1,5 +1,5 @@
 -- a template has one end of its search
-use Rattle.ta_search.proofs.Common.{◌≡◌, ◌∙◌, ◌⊎◌, inl, inr, ℕ, ◌<◌, Bool, true, List, [], ◌∷◌, length, Some, slice_get, refl, sym, ap, subst, false≢true, AllByRecursion, each_at, not_long, File, Pattern, Verdict, Safe, Unsafe, Spent, Overflow, FileFault, CertificateOf, CertificatesAreDetermined, AreVerdicts, SamplesAreDetermined, VerdictsAreDetermined, is_unknown, Outcome, Tried, Template, filled_text, HasVerdicts, IsOfPattern, IsRefusedFilling, IsSampled, IsUnknown, IsUnsafe, OutcomeHolds, is_safe, is_unsampled, safe_before, AreTried, IsTried, SearchesAreDetermined, is_found, vectors}
+use Rattle.ta_search.proofs.Common.{◌≡◌, ◌∙◌, ◌⊎◌, inl, inr, ℕ, ◌<◌, Bool, true, List, [], ◌∷◌, length, Some, slice_get, refl, sym, ap, subst, false≢true, AllByRecursion, each_at, not_long, File, Pattern, Verdict, Safe, Unsafe, Spent, Overflow, FileFault, CertificateOf, CertificatesAreDetermined, AreVerdicts, SamplesAreDetermined, VerdictsAreDetermined, is_unknown, Outcome, Tried, Template, filled_text, HasVerdicts, IsOfPattern, IsRefusedFilling, IsSampled, IsUnknown, IsUnsafe, OutcomeHolds, is_safe, is_unsampled, safe_before, AreTried, IsTried, SearchesAreDetermined, is_found, vectors, Budget}
 use Rattle.ta_meaning.specs.Laws.{FilesAreUnique, FirstFaultsAreUnique}
 use Rattle.ta_report.specs.declared.verdict.ReportSample.{ReportSample}
 use Rattle.ta_report.specs.declared.verdict.ReportSample.TheVariants as sample
@@ -24,24 +24,24 @@ record Decided (file : File) (vs : List Verdict) (o : Outcome) : Type 0 where
   is : IsOfPattern file p v o
 
 -- or all are Safe
-record Proved (file : File) (budget : ℕ) (vs : List Verdict) (o : Outcome) : Type 0 where
+record Proved (file : File) (budget : Budget) (vs : List Verdict) (o : Outcome) : Type 0 where
   text : List ℕ
   all : AllByRecursion (λ v. is_safe v ≡ true) vs
   certificate : CertificateOf file budget vs text
   is : o ≡ outcome.Safe text
 
-record ByVerdicts (file : File) (budget : ℕ) (o : Outcome) : Type 0 where
+record ByVerdicts (file : File) (budget : Budget) (o : Outcome) : Type 0 where
   verdicts : List Verdict
   are : AreVerdicts file budget verdicts
   gives : Decided file verdicts o ⊎ Proved file budget verdicts o
 
-abbrev BySample : File → ℕ → ReportSample → Outcome → Type 0
+abbrev BySample : File → Budget → ReportSample → Outcome → Type 0
 BySample file budget (sample.Sample values) o = ByVerdicts file budget o
 BySample file budget sample.Empty o = o ≡ outcome.Empty
 BySample file budget (sample.Spent count) o = o ≡ outcome.SampleUnknown (sample.Spent count)
 BySample file budget (sample.Overflow node kind) o = o ≡ outcome.SampleUnknown (sample.Overflow node kind)
 
-record ByText (bytes : List ℕ) (budget : ℕ) (o : Outcome) : Type 0 where
+record ByText (bytes : List ℕ) (budget : Budget) (o : Outcome) : Type 0 where
   file : File
   s : ReportSample
   sampled : IsSampled bytes budget file s
@@ -56,10 +56,10 @@ record ByLength (bytes : List ℕ) (o : Outcome) : Type 0 where
   long : 1048576 < length bytes
   is : o ≡ outcome.Long
 
-abbrev By : List ℕ → ℕ → Outcome → Type 0
+abbrev By : List ℕ → Budget → Outcome → Type 0
 By bytes budget o = ByLength bytes o ⊎ (ByFault bytes o ⊎ ByText bytes budget o)
 
-unsampled : (file : File) (budget : ℕ) (s : ReportSample) → is_unsampled s ≡ true → BySample file budget s (outcome.SampleUnknown s)
+unsampled : (file : File) (budget : Budget) (s : ReportSample) → is_unsampled s ≡ true → BySample file budget s (outcome.SampleUnknown s)
 unsampled file budget (sample.Sample values) said = absurd (false≢true said)
 unsampled file budget sample.Empty said = absurd (false≢true said)
 unsampled file budget (sample.Spent count) said = refl
@@ -71,7 +71,9 @@ of_unknown file p (Unsafe nodes run) name said named = absurd (false≢true said
 of_unknown file p (Spent nodes) name said named = ap (λ (n : List ℕ). outcome.Unknown n (Spent nodes)) named
 of_unknown file p (Overflow node kind) name said named = ap (λ (n : List ℕ). outcome.Unknown n (Overflow node kind)) named
 
-by_verdicts : {bytes : List ℕ} {budget : ℕ} {file : File} {verdicts : List Verdict} (o : Outcome) → HasVerdicts bytes budget file verdicts → Decided file verdicts o ⊎ Proved file budget verdicts o → By bytes budget o
+by_verdicts :
+    {bytes : List ℕ} {budget : Budget} {file : File} {verdicts : List Verdict} (o : Outcome) → HasVerdicts bytes budget file verdicts
+    → Decided file verdicts o ⊎ Proved file budget verdicts o → By bytes budget o
 by_verdicts {bytes} {budget} {file} {verdicts} o judged gives = inr (inr (record {
   file = file;
   s = sample.Sample judged.values;
@@ -79,16 +81,16 @@ by_verdicts {bytes} {budget} {file} {verdicts} o judged gives = inr (inr (record
   gives = record { verdicts = verdicts; are = judged.verdicts; gives = gives };
 }))
 
-by_unsafe : (bytes : List ℕ) (budget : ℕ) (name run : List ℕ) → IsUnsafe bytes budget name run → By bytes budget (outcome.Unsafe name run)
+by_unsafe : (bytes : List ℕ) (budget : Budget) (name run : List ℕ) → IsUnsafe bytes budget name run → By bytes budget (outcome.Unsafe name run)
 by_unsafe bytes budget name run h =
     let is = ap (λ (n : List ℕ). outcome.Unsafe n run) h.named ∙ ap (outcome.Unsafe h.p.name) h.shown in
     by_verdicts (outcome.Unsafe name run) h.judged (inl (record { p = h.p; v = Unsafe h.nodes h.run; pattern = h.decides.pattern; verdict = h.decides.verdict; is = is }))
 
-by_unknown : (bytes : List ℕ) (budget : ℕ) (name : List ℕ) (v : Verdict) → IsUnknown bytes budget name v → By bytes budget (outcome.Unknown name v)
+by_unknown : (bytes : List ℕ) (budget : Budget) (name : List ℕ) (v : Verdict) → IsUnknown bytes budget name v → By bytes budget (outcome.Unknown name v)
 by_unknown bytes budget name v h =
     by_verdicts (outcome.Unknown name v) h.judged (inl (record { p = h.p; v = v; pattern = h.decides.pattern; verdict = h.decides.verdict; is = of_unknown h.file h.p v name h.unknown h.named }))
 
-by : (bytes : List ℕ) (budget : ℕ) (o : Outcome) → OutcomeHolds bytes budget o → By bytes budget o
+by : (bytes : List ℕ) (budget : Budget) (o : Outcome) → OutcomeHolds bytes budget o → By bytes budget o
 by bytes budget outcome.Long h = inl (record { long = h; is = refl })
 by bytes budget (outcome.Refused e) h = inr (inl (record { e = e; refused = h; is = refl }))
 by bytes budget outcome.Empty h = inr (inr (record { file = h.file; s = sample.Empty; sampled = h.sampled; gives = refl }))
@@ -119,28 +121,30 @@ decided_once file vs a b h k =
     let first = subst (λ (q : Pattern). IsOfPattern file q h.v a) p h.is in
     pattern_once file k.p k.v a b (subst (λ (w : Verdict). IsOfPattern file k.p w a) v first) k.is
 
-never_both : (file : File) (budget : ℕ) (vs : List Verdict) (a b : Outcome) → Decided file vs a → Proved file budget vs b → ⊥
+never_both : (file : File) (budget : Budget) (vs : List Verdict) (a b : Outcome) → Decided file vs a → Proved file budget vs b → ⊥
 never_both file budget vs a b h k = not_safe file h.p h.v a h.is (each_at (λ v. is_safe v ≡ true) vs (safe_before vs) h.v k.all h.verdict)
 
-gives_once : Laws → (file : File) (budget : ℕ) (vs : List Verdict) (a b : Outcome) → AreVerdicts file budget vs → Decided file vs a ⊎ Proved file budget vs a → Decided file vs b ⊎ Proved file budget vs b → a ≡ b
+gives_once :
+    Laws → (file : File) (budget : Budget) (vs : List Verdict) (a b : Outcome) → AreVerdicts file budget vs → Decided file vs a ⊎ Proved file budget vs a
+    → Decided file vs b ⊎ Proved file budget vs b → a ≡ b
 gives_once laws file budget vs a b are (inl h) (inl k) = decided_once file vs a b h k
 gives_once laws file budget vs a b are (inl h) (inr k) = absurd (never_both file budget vs a b h k)
 gives_once laws file budget vs a b are (inr h) (inl k) = absurd (never_both file budget vs b a k h)
 gives_once laws file budget vs a b are (inr h) (inr k) =
     h.is ∙ ap (λ (text : List ℕ). outcome.Safe text) (laws.certificates file budget vs vs h.text k.text are are h.certificate k.certificate) ∙ sym k.is
 
-verdicts_give : Laws → (file : File) (budget : ℕ) (a b : Outcome) → ByVerdicts file budget a → ByVerdicts file budget b → a ≡ b
+verdicts_give : Laws → (file : File) (budget : Budget) (a b : Outcome) → ByVerdicts file budget a → ByVerdicts file budget b → a ≡ b
 verdicts_give laws file budget a b h k =
     let same = laws.verdicts file budget h.verdicts k.verdicts h.are k.are in
     gives_once laws file budget k.verdicts a b k.are (subst (λ (vs : List Verdict). Decided file vs a ⊎ Proved file budget vs a) same h.gives) k.gives
 
-sample_gives : Laws → (file : File) (budget : ℕ) (s : ReportSample) (a b : Outcome) → BySample file budget s a → BySample file budget s b → a ≡ b
+sample_gives : Laws → (file : File) (budget : Budget) (s : ReportSample) (a b : Outcome) → BySample file budget s a → BySample file budget s b → a ≡ b
 sample_gives laws file budget (sample.Sample values) a b h k = verdicts_give laws file budget a b h k
 sample_gives laws file budget sample.Empty a b h k = h ∙ sym k
 sample_gives laws file budget (sample.Spent count) a b h k = h ∙ sym k
 sample_gives laws file budget (sample.Overflow node kind) a b h k = h ∙ sym k
 
-text_gives : Laws → (bytes : List ℕ) (budget : ℕ) (a b : Outcome) → ByText bytes budget a → ByText bytes budget b → a ≡ b
+text_gives : Laws → (bytes : List ℕ) (budget : Budget) (a b : Outcome) → ByText bytes budget a → ByText bytes budget b → a ≡ b
 text_gives laws bytes budget a b h k =
     let mine = h.sampled in
     let yours = k.sampled in
@@ -148,7 +152,7 @@ text_gives laws bytes budget a b h k =
     let other = yours.legal in
     let files = laws.files bytes h.file k.file legal.means other.means in
     let moved = subst (λ (file : File). IsSampled bytes budget file h.s) files mine in
-    let samples = laws.samples k.file budget h.s k.s moved.sample yours.sample in
+    let samples = laws.samples k.file budget.nodes h.s k.s moved.sample yours.sample in
     let gives = subst (λ (file : File). BySample file budget h.s a) files h.gives in
     sample_gives laws k.file budget k.s a b (subst (λ (s : ReportSample). BySample k.file budget s a) samples gives) k.gives
 
@@ -158,10 +162,10 @@ refused_once laws bytes a b h k =
     let yours = k.refused in
     h.is ∙ ap (λ (e : FileFault). outcome.Refused e) (laws.faults bytes h.e k.e mine.first yours.first) ∙ sym k.is
 
-not_legal : (bytes : List ℕ) (budget : ℕ) (a b : Outcome) → ByFault bytes a → ByText bytes budget b → ⊥
+not_legal : (bytes : List ℕ) (budget : Budget) (a b : Outcome) → ByFault bytes a → ByText bytes budget b → ⊥
 not_legal bytes budget a b h k = let refused = h.refused in let sampled = k.sampled in let legal = sampled.legal in legal.no_fault h.e refused.first
 
-outcome_once : Laws → (bytes : List ℕ) (budget : ℕ) (a b : Outcome) → By bytes budget a → By bytes budget b → a ≡ b
+outcome_once : Laws → (bytes : List ℕ) (budget : Budget) (a b : Outcome) → By bytes budget a → By bytes budget b → a ≡ b
 outcome_once laws bytes budget a b (inl h) (inl k) = h.is ∙ sym k.is
 outcome_once laws bytes budget a b (inl h) (inr (inl k)) = let refused = k.refused in absurd (not_long bytes h.long refused.within)
 outcome_once laws bytes budget a b (inl h) (inr (inr k)) = let sampled = k.sampled in absurd (not_long bytes h.long sampled.within)
@@ -173,7 +177,7 @@ outcome_once laws bytes budget a b (inr (inr h)) (inr (inl k)) = absurd (not_leg
 outcome_once laws bytes budget a b (inr (inr h)) (inr (inr k)) = text_gives laws bytes budget a b h k
 
 -- ---- one end
-tried_once : Laws → (t : Template) (budget : ℕ) (v : List ℕ) (x y : Tried) → IsTried t budget v x → IsTried t budget v y → x ≡ y
+tried_once : Laws → (t : Template) (budget : Budget) (v : List ℕ) (x y : Tried) → IsTried t budget v x → IsTried t budget v y → x ≡ y
 tried_once laws t budget v x y h k =
     let values : x.values ≡ y.values = h.values ∙ sym k.values in
     let bytes = filled_text t v in
@@ -185,7 +189,9 @@ record Same (xs ys : List Tried) (found other : Bool) : Type 0 where
   lists : xs ≡ ys
   ends : found ≡ other
 
-all_once : Laws → (t : Template) (budget : ℕ) (vs : List (List ℕ)) (xs ys : List Tried) (found other : Bool) → AreTried t budget vs xs found → AreTried t budget vs ys other → Same xs ys found other
+all_once :
+    Laws → (t : Template) (budget : Budget) (vs : List (List ℕ)) (xs ys : List Tried) (found other : Bool) → AreTried t budget vs xs found
+    → AreTried t budget vs ys other → Same xs ys found other
 all_once laws t budget [] [] [] found other h k = record { lists = refl; ends = h ∙ sym k }
 all_once laws t budget [] [] (y ∷ ys) found other h k = absurd k
 all_once laws t budget [] (x ∷ xs) ys found other h k = absurd h

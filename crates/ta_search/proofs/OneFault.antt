@@ -1,4 +1,4 @@
--- A text is that of one template at most, or has one first fault.
+-- A text is that of one template at most, or has one first error.
 use Rattle.ta_search.proofs.Common.{ℕ, ◌+◌, ◌≤◌, ◌≡◌, ◌⊎◌, ◌++◌, inl, inr, false, List, [], ◌∷◌, length, codes, None, Some, refl, sym, ap, subst, ◌∙◌, length-append, append_assoc, arith, bytes_eq, false≢true, mul-le, same_Some, AllByRecursion, Distinct, Avoids, each_back, first_byte, not_parted, Hole, Template, TemplateFault, AreHoles, HoleInRange, IsSpelledHole, head_text, hole_line, hole_lines, hole_names, is_among, unknown_place, value_count, vector_count, FirstTemplateFault, HasHole, IsOtherLine, AddsHole, HoleRefused}
 use Rattle.ta_search.specs.declared.fault.TemplateFault.TheVariants as fault
 use Rattle.ta_search.specs.Templates.{template_text}
@@ -221,7 +221,7 @@ placed bytes (fault.UnknownHole k) is = record {
 }
 placed bytes fault.Memory is = absurd is
 
--- a text has one first fault at most
+-- a text has one first error at most
 pub one_fault : (bytes : List ℕ) (e f : TemplateFault) → FirstTemplateFault bytes e → FirstTemplateFault bytes f → e ≡ f
 one_fault bytes e f is are =
     let p = placed bytes e is in
@@ -252,7 +252,7 @@ no_end t r e is (at_body body place start unknown same) =
     let none : Some place ≡ None = sym unknown ∙ ap (unknown_place t.holes) bodies ∙ t.known in
     absurd (cc)
 
--- a template's text has no fault
+-- a template's text has no error
 pub no_fault : (t : Template) (e : TemplateFault) → FirstTemplateFault (template_text t) e → ⊥
 no_fault t e is =
     let p = placed (template_text t) e is in

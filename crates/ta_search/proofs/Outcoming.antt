@@ -1,5 +1,5 @@
 -- what comes of a file by its verdicts
-use Rattle.ta_search.proofs.Common.{◌≡◌, ◌≢◌, ◌∙◌, ◌⊎◌, inl, inr, ℕ, suc, ◌+◌, ◌<◌, ◌≤◌, ℤ, false, true, List, [], ◌∷◌, length, Some, None, slice_get, IfOk, Result, refl, sym, ap, subst, arith, get_or_from_slice_get, slice_get_within, AllByRecursion, some_at, File, Pattern, Certificate, Verdict, Safe, Unsafe, Spent, Overflow, FileFault, CertificateOf, safe_numbers, AreVerdicts, Outcome, IsOfPattern, IsFirstNotSafe, HasVerdicts, IsRefusedFilling, IsSafe, IsSampled, OutcomeHolds, is_safe, safe_before, VerdictHolds}
+use Rattle.ta_search.proofs.Common.{◌≡◌, ◌≢◌, ◌∙◌, ◌⊎◌, inl, inr, ℕ, suc, ◌+◌, ◌<◌, ◌≤◌, ℤ, false, true, List, [], ◌∷◌, length, Some, None, slice_get, IfOk, Result, refl, sym, ap, subst, arith, get_or_from_slice_get, slice_get_within, AllByRecursion, some_at, File, Pattern, Certificate, Verdict, Safe, Unsafe, Spent, Overflow, FileFault, CertificateOf, safe_numbers, AreVerdicts, Outcome, IsOfPattern, IsFirstNotSafe, HasVerdicts, IsRefusedFilling, IsSafe, IsSampled, OutcomeHolds, is_safe, safe_before, VerdictHolds, Budget}
 use Rattle.std.proofs.lemmas.List.Sums.{prefix_len_stops}
 use Rattle.std.proofs.lemmas.Result.{IfOk-weaker}
 use Rattle.ta_meaning.specs.FirstFault.{FirstFault}
@@ -8,7 +8,7 @@ use Rattle.ta_syntax.specs.declared.fault.FileFault.TheVariants as fault
 use Rattle.ta_verdict.proofs.VerdictsMade.{as_many}
 use Rattle.ta_automaton.specs.Numbered.{OfPattern}
 
--- a fault that isn't want of memory refuses a text
+-- an error that isn't want of memory refuses a text
 pub refused_by : (bytes : List ℕ) (e : FileFault) → length bytes ≤ 1048576 → (e ≡ fault.Memory) ⊎ FirstFault bytes e → e ≢ fault.Memory → IsRefusedFilling bytes e
 refused_by bytes e within (inl same) other = absurd (other same)
 refused_by bytes e within (inr first) other = record { within = within; first = first; told = other }
@@ -30,14 +30,18 @@ all_before (Unsafe nodes run ∷ vs) none = cc
 all_before (Spent nodes ∷ vs) none = cc
 all_before (Overflow node kind ∷ vs) none = cc
 
-pub numbered : (file : File) (budget : ℕ) (vs : List Verdict) (v : Verdict) (place : ℕ) → AreVerdicts file budget vs → slice_get vs place ≡ Some v → place < length file.patterns
+pub numbered :
+    (file : File) (budget : Budget) (vs : List Verdict) (v : Verdict) (place : ℕ) → AreVerdicts file budget vs → slice_get vs place ≡ Some v
+    → place < length file.patterns
 numbered file budget vs v place are at =
     let within = slice_get_within vs place v at in
     let same = as_many (VerdictHolds file budget) 0 file.patterns vs are.hold in
     omega arith
 
 -- the outcome of the pattern that decides holds
-decided : (bytes : List ℕ) (budget : ℕ) (file : File) (vs : List Verdict) (p : Pattern) (v : Verdict) (o : Outcome) → HasVerdicts bytes budget file vs → IsFirstNotSafe file vs p v → IsOfPattern file p v o → OutcomeHolds bytes budget o
+decided :
+    (bytes : List ℕ) (budget : Budget) (file : File) (vs : List Verdict) (p : Pattern) (v : Verdict) (o : Outcome) → HasVerdicts bytes budget file vs
+    → IsFirstNotSafe file vs p v → IsOfPattern file p v o → OutcomeHolds bytes budget o
 decided bytes budget file vs p (Safe nodes leaves) o judged decides is = absurd is
 decided bytes budget file vs p (Unsafe nodes run) o judged decides is =
     subst (OutcomeHolds bytes budget) (sym is) (record { file = file; verdicts = vs; judged = judged; p = p; nodes = nodes; run = run; decides = decides; named = refl; shown = refl })
@@ -46,17 +50,25 @@ decided bytes budget file vs p (Spent nodes) o judged decides is =
 decided bytes budget file vs p (Overflow node kind) o judged decides is =
     subst (OutcomeHolds bytes budget) (sym is) (record { file = file; verdicts = vs; judged = judged; p = p; decides = decides; unknown = refl; named = refl })
 
-judged_by : (bytes : List ℕ) (budget : ℕ) (file : File) (vs : List Verdict) (values : List ℤ) → IsSampled bytes budget file (sample.Sample values) → AreVerdicts file budget vs → HasVerdicts bytes budget file vs
+judged_by :
+    (bytes : List ℕ) (budget : Budget) (file : File) (vs : List Verdict) (values : List ℤ) → IsSampled bytes budget file (sample.Sample values)
+    → AreVerdicts file budget vs → HasVerdicts bytes budget file vs
 judged_by bytes budget file vs values sampled are = record { values = values; sampled = sampled; verdicts = are }
 
-pub pattern_holds : {E : Type 0} (bytes : List ℕ) (budget : ℕ) (file : File) (vs : List Verdict) (v : Verdict) (place : ℕ) (values : List ℤ) (result : Result Outcome E) → IsSampled bytes budget file (sample.Sample values) → AreVerdicts file budget vs → place ≡ safe_before vs → slice_get vs place ≡ Some v → OfPattern file place (λ p. IfOk result (IsOfPattern file p v)) → IfOk result (OutcomeHolds bytes budget)
+pub pattern_holds :
+    {E : Type 0} (bytes : List ℕ) (budget : Budget) (file : File) (vs : List Verdict) (v : Verdict) (place : ℕ) (values : List ℤ) (result : Result Outcome E)
+    → IsSampled bytes budget file (sample.Sample values) → AreVerdicts file budget vs → place ≡ safe_before vs → slice_get vs place ≡ Some v
+    → OfPattern file place (λ p. IfOk result (IsOfPattern file p v)) → IfOk result (OutcomeHolds bytes budget)
 pattern_holds bytes budget file vs v place values result sampled are same at of =
     let here : slice_get vs (safe_before vs) ≡ Some v = ap (slice_get vs) (sym same) ∙ at in
     let p = some_at file.patterns (safe_before vs) (numbered file budget vs v (safe_before vs) are here) in
     let decides : IsFirstNotSafe file vs p.0 v = record { pattern = p.1; verdict = here } in
     IfOk-weaker result (IsOfPattern file p.0 v) (OutcomeHolds bytes budget) (λ o is. decided bytes budget file vs p.0 v o (judged_by bytes budget file vs values sampled are) decides is) (of p.0 (ap (slice_get file.patterns) same ∙ p.1))
 
-pub safe_holds : (bytes : List ℕ) (budget : ℕ) (file : File) (vs : List Verdict) (place : ℕ) (values : List ℤ) (text : List ℕ) → IsSampled bytes budget file (sample.Sample values) → AreVerdicts file budget vs → place ≡ safe_before vs → slice_get vs place ≡ None → CertificateOf file budget vs text → Certificate file text (safe_numbers file vs) → IsSafe bytes budget text
+pub safe_holds :
+    (bytes : List ℕ) (budget : Budget) (file : File) (vs : List Verdict) (place : ℕ) (values : List ℤ) (text : List ℕ)
+    → IsSampled bytes budget file (sample.Sample values) → AreVerdicts file budget vs → place ≡ safe_before vs → slice_get vs place ≡ None
+    → CertificateOf file budget vs text → Certificate file text (safe_numbers file vs) → IsSafe bytes budget text
 safe_holds bytes budget file vs place values text sampled are same none certificate accepted =
     record {
       file = file;

@@ -1,4 +1,4 @@
--- A template's body with values in its holes (this project's profile)
+-- A template's body with values in its holes.
 use Rattle.std.specs.Prelude.{ℕ, ◌==◌, ◌&&◌, ◌++◌, Bool, true, false, List, [], ◌∷◌, decimal, if◌then◌else◌}
 use Rattle.std.specs.Str.{bytes_eq}
 use Rattle.ta_base.specs.Bytes.{is_word}
@@ -12,7 +12,7 @@ hole_value [] values word = 0
 hole_value (h ∷ hs) [] word = 0
 hole_value (h ∷ hs) (value ∷ values) word = if bytes_eq word h.name then value else hole_value hs values word
 
--- a `$` gives the value of the hole whose name stands behind it, in decimal; the letters, digits and `_` directly behind it (`named`) give
+-- a `$` gives the value of the hole whose name comes after it, in decimal; the letters, digits and `_` directly after it (`named`) give
 -- nothing; every other byte gives itself
 abbrev pub filled_body : List Hole → List ℕ → Bool → List ℕ → List ℕ
 filled_body hs values named [] = []

@@ -1,4 +1,4 @@
--- Holes for coefficients, and the lines that declare them (this project's profile)
+-- Holes for coefficients, and the lines that declare them.
 use Rattle.std.specs.Prelude.{ℕ, suc, ◌-◌, ◌*◌, ◌^◌, ◌<◌, ◌≤◌, ◌==◌, ◌≡◌, ◌⊎◌, ◌&&◌, ◌++◌, Bool, true, not, List, [], ◌∷◌, length, map, take, codes, decimal, Option, None, Some, if◌then◌else◌, option_map}
 use Rattle.std.specs.List.{list_any, prefix_len, AllByRecursion, AllByRecursion-prop}
 use Rattle.std.specs.Str.{bytes_eq}
@@ -21,7 +21,7 @@ pub record IsSpelledHole (h : Hole) : Type 0 where
   pub low_digits : h.low < 10 ^ 10
   pub high_digits : h.high < 10 ^ 10
 
--- some value, and none above 1,000,000,000
+-- there is some value, and none above 1,000,000,000
 pub record HoleInRange (h : Hole) : Type 0 where
   pub some : h.low ≤ h.high
   pub small : h.high ≤ LARGEST_VALUE
@@ -30,12 +30,12 @@ pub record HoleInRange (h : Hole) : Type 0 where
 abbrev pub value_count : Hole → ℕ
 value_count h = suc h.high - h.low
 
--- how many choices there are of a value for each hole
+-- the number of vectors: choices of a value for each hole
 abbrev pub vector_count : List Hole → ℕ
 vector_count [] = 1
 vector_count (h ∷ hs) = value_count h * vector_count hs
 
--- at most four holes, each spelled so and in range, no two of a name, with at most 10,000 choices
+-- at most four holes, each spelled so and in range, with distinct names and at most 10,000 choices
 pub record AreHoles (hs : List Hole) : Type 0 where
   pub spelled : AllByRecursion IsSpelledHole hs
   pub ranges : AllByRecursion HoleInRange hs
@@ -47,7 +47,7 @@ pub record AreHoles (hs : List Hole) : Type 0 where
 abbrev pub AreTooMany : List Hole → Type 0
 AreTooMany hs = (MOST_HOLES < length hs) ⊎ (MOST_VECTORS < vector_count hs)
 
--- the letters, digits and `_` that stand first
+-- the letters, digits and `_` with which the bytes begin
 abbrev pub word_at : List ℕ → List ℕ
 word_at bs = take (prefix_len is_word bs) bs
 
@@ -55,7 +55,7 @@ word_at bs = take (prefix_len is_word bs) bs
 abbrev pub is_among : List Hole → List ℕ → Bool
 is_among hs word = list_any (λ h. bytes_eq word h.name) hs
 
--- the place of the first `$` of a body behind which no name of a hole stands
+-- the place of the first `$` of a body that no name of a hole follows
 abbrev pub unknown_place : List Hole → List ℕ → Option ℕ
 unknown_place hs [] = None
 unknown_place hs (b ∷ bs) = if b == 36 && not (is_among hs (word_at bs)) then Some 0 else option_map suc (unknown_place hs bs)
@@ -78,10 +78,10 @@ spelled-prop h = hlevel props
 range-prop : (h : Hole) → IsProp (HoleInRange h)
 range-prop h = hlevel props
 
--- that holes are legal is a proposition
+-- a proof that holes are legal is unique
 pub AreHoles-prop : (hs : List Hole) → IsProp (AreHoles hs)
 AreHoles-prop hs = hlevel (props, AllByRecursion-prop IsSpelledHole spelled-prop hs, AllByRecursion-prop HoleInRange range-prop hs, Distinct-prop (hole_names hs))
 
--- so is that a body has no `$` but before names of holes
+-- a proof that each `$` of a body is before a name of a hole is unique
 pub unknown-prop : (hs : List Hole) (body : List ℕ) → IsProp (unknown_place hs body ≡ None)
 unknown-prop hs body = hlevel props

@@ -1,4 +1,4 @@
--- What comes of a template with values in its holes, within a budget of nodes (this project's profile)
+-- The outcome of a template with values in its holes, within a budget.
 use Rattle.std.specs.Prelude.{ℕ, ℤ, ◌<◌, ◌≤◌, ◌≡◌, ◌≢◌, Bool, true, false, List, length, slice_get, Some}
 use Rattle.std.specs.List.{prefix_len, AllByRecursion}
 use Rattle.ta_base.specs.declared.limits.TheConstants.{FILE_BYTES}
@@ -19,6 +19,7 @@ use Rattle.ta_verdict.specs.Certificates.{CertificateOf, safe_numbers}
 use Rattle.ta_verdict.specs.Verdicts.{AreVerdicts, IsSample, is_unknown}
 use Rattle.ta_search.specs.declared.outcome.Outcome.{Outcome}
 use Rattle.ta_search.specs.declared.outcome.Outcome.TheVariants as outcome
+use Rattle.ta_verdict.specs.declared.budget.Budget.{Budget}
 
 -- whether a verdict says that a pattern is safe
 abbrev pub is_safe : Verdict → Bool
@@ -27,47 +28,47 @@ is_safe (Unsafe nodes run) = false
 is_safe (Spent nodes) = false
 is_safe (Overflow node kind) = false
 
--- whether the search for a sample gave none, and didn't refute that there is one
+-- whether the search for a sample found none, without refuting that there is one
 abbrev pub is_unsampled : ReportSample → Bool
 is_unsampled (sample.Sample values) = false
 is_unsampled sample.Empty = false
 is_unsampled (sample.Spent count) = true
 is_unsampled (sample.Overflow node kind) = true
 
--- the filled text is refused for this fault
+-- the filled text is refused for this error
 pub record IsRefusedFilling (bytes : List ℕ) (e : FileFault) : Type 0 where
   pub within : length bytes ≤ FILE_BYTES
   pub first : FirstFault bytes e
   pub told : e ≢ fault.Memory
 
 -- the filled text means this file, and this is the sample of its parameters
-pub record IsSampled (bytes : List ℕ) (budget : ℕ) (file : File) (s : ReportSample) : Type 0 where
+pub record IsSampled (bytes : List ℕ) (budget : Budget) (file : File) (s : ReportSample) : Type 0 where
   pub within : length bytes ≤ FILE_BYTES
   pub legal : Legal bytes file
-  pub sample : IsSample file budget s
+  pub sample : IsSample file budget.nodes s
 
 -- its sample is this one
-pub record HasSample (bytes : List ℕ) (budget : ℕ) (s : ReportSample) : Type 0 where
+pub record HasSample (bytes : List ℕ) (budget : Budget) (s : ReportSample) : Type 0 where
   pub file : File
   pub sampled : IsSampled bytes budget file s
 
 -- there are parameters with an initial configuration, and each pattern of the file has its verdict
-pub record HasVerdicts (bytes : List ℕ) (budget : ℕ) (file : File) (vs : List Verdict) : Type 0 where
+pub record HasVerdicts (bytes : List ℕ) (budget : Budget) (file : File) (vs : List Verdict) : Type 0 where
   pub values : List ℤ
   pub sampled : IsSampled bytes budget file (sample.Sample values)
   pub verdicts : AreVerdicts file budget vs
 
--- how many verdicts stand before the first that isn't Safe
+-- how many verdicts come before the first that is not Safe
 abbrev pub safe_before : List Verdict → ℕ
 safe_before vs = prefix_len is_safe vs
 
--- the first pattern in the order of the file whose verdict isn't Safe is this one, with this verdict
+-- this is the first pattern in the order of the file whose verdict is not Safe, with this verdict
 pub record IsFirstNotSafe (file : File) (verdicts : List Verdict) (p : Pattern) (v : Verdict) : Type 0 where
   pub pattern : slice_get file.patterns (safe_before verdicts) ≡ Some p
   pub verdict : slice_get verdicts (safe_before verdicts) ≡ Some v
 
 -- that pattern has this name, and is unsafe with a run of this text
-pub record IsUnsafe (bytes : List ℕ) (budget : ℕ) (name text : List ℕ) : Type 0 where
+pub record IsUnsafe (bytes : List ℕ) (budget : Budget) (name text : List ℕ) : Type 0 where
   pub file : File
   pub verdicts : List Verdict
   pub judged : HasVerdicts bytes budget file verdicts
@@ -79,7 +80,7 @@ pub record IsUnsafe (bytes : List ℕ) (budget : ℕ) (name text : List ℕ) : T
   pub shown : text ≡ run_text file run
 
 -- that pattern has this name, and is unknown with this verdict
-pub record IsUnknown (bytes : List ℕ) (budget : ℕ) (name : List ℕ) (v : Verdict) : Type 0 where
+pub record IsUnknown (bytes : List ℕ) (budget : Budget) (name : List ℕ) (v : Verdict) : Type 0 where
   pub file : File
   pub verdicts : List Verdict
   pub judged : HasVerdicts bytes budget file verdicts
@@ -88,8 +89,8 @@ pub record IsUnknown (bytes : List ℕ) (budget : ℕ) (name : List ℕ) (v : Ve
   pub unknown : is_unknown v ≡ true
   pub named : name ≡ p.name
 
--- every verdict is Safe, and this is the text of their certificate, which a judge accepts as one of exactly these patterns
-pub record IsSafe (bytes : List ℕ) (budget : ℕ) (text : List ℕ) : Type 0 where
+-- every verdict is Safe, and this is the text of their certificate, which the checker accepts as one of exactly these patterns
+pub record IsSafe (bytes : List ℕ) (budget : Budget) (text : List ℕ) : Type 0 where
   pub file : File
   pub verdicts : List Verdict
   pub judged : HasVerdicts bytes budget file verdicts
@@ -97,8 +98,8 @@ pub record IsSafe (bytes : List ℕ) (budget : ℕ) (text : List ℕ) : Type 0 w
   pub certificate : CertificateOf file budget verdicts text
   pub accepted : Certificate file text (safe_numbers file verdicts)
 
--- the outcome of a filled text holds, for a budget of nodes
-abbrev pub OutcomeHolds : List ℕ → ℕ → Outcome → Type 0
+-- the outcome of a filled text holds, for a budget
+abbrev pub OutcomeHolds : List ℕ → Budget → Outcome → Type 0
 OutcomeHolds bytes budget outcome.Long = FILE_BYTES < length bytes
 OutcomeHolds bytes budget (outcome.Refused e) = IsRefusedFilling bytes e
 OutcomeHolds bytes budget outcome.Empty = HasSample bytes budget sample.Empty

@@ -1,4 +1,4 @@
--- The text of a search (this project's profile)
+-- The text that `search` prints.
 use Rattle.std.specs.Prelude.{ℕ, Bool, List, [], ◌∷◌, ◌++◌, codes, decimal, if◌then◌else◌}
 use Rattle.ta_report.specs.Faults.{file_fault_text}
 use Rattle.ta_report.specs.Report.{place_text}
@@ -14,34 +14,34 @@ use Rattle.ta_search.specs.declared.outcome.Tried.{Tried}
 use Rattle.ta_search.specs.declared.template.Hole.{Hole}
 use Rattle.ta_search.specs.declared.template.Template.{Template}
 
--- a value for each hole, behind its name
+-- a value for each hole, after its name
 abbrev pub choice_text : List Hole → List ℕ → List ℕ
 choice_text [] values = []
 choice_text (h ∷ hs) [] = []
 choice_text (h ∷ hs) (value ∷ values) = codes " " ++ (h.name ++ (codes "=" ++ (decimal value ++ choice_text hs values)))
 
--- why the budget didn't do, or where a number left 128 bits
+-- why the budget was not enough, or where a number left the range
 abbrev pub spent_words : ℕ → List ℕ
 spent_words nodes = decimal nodes ++ codes " nodes spent"
 
 abbrev pub overflow_words : ℕ → ReportKind → List ℕ
 overflow_words node kind = codes "outside 128 bits at node " ++ (decimal node ++ (codes ", " ++ place_text kind))
 
--- why a sample is unknown; of one that is known nothing is said
+-- why a sample is unknown; nothing for one that is known
 abbrev pub sample_words : ReportSample → List ℕ
 sample_words (sample.Sample values) = []
 sample_words sample.Empty = []
 sample_words (sample.Spent count) = spent_words count
 sample_words (sample.Overflow node kind) = overflow_words node kind
 
--- why a pattern is unknown; of one that is known nothing is said
+-- why a pattern is unknown; nothing for one that is known
 abbrev pub verdict_words : Verdict → List ℕ
 verdict_words (Safe nodes leaves) = []
 verdict_words (Unsafe nodes run) = []
 verdict_words (Spent nodes) = spent_words nodes
 verdict_words (Overflow node kind) = overflow_words node kind
 
--- what is said of an outcome behind the vector, up to the end of the line; behind the line of an unsafe pattern stands the text of its run
+-- the words for an outcome after the vector, up to the end of the line; after the line of an unsafe pattern comes the text of its run
 abbrev pub outcome_text : Outcome → List ℕ
 outcome_text outcome.Long = codes " long\n"
 outcome_text (outcome.Refused e) = codes " refused, " ++ (file_fault_text e ++ codes "\n")

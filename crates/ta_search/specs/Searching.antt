@@ -1,4 +1,4 @@
--- The search for values of a template's holes with which every pattern is safe (this project's profile)
+-- The search for values of a template's holes with which every pattern is safe.
 use Rattle.std.specs.Prelude.{ℕ, ◌≡◌, Bool, true, false, List, [], ◌∷◌, ◌++◌, length, ◌⊎◌}
 use Rattle.std.specs.List.{AllByRecursion, range_with_len}
 use Rattle.ta_automaton.specs.declared.file.File.{File}
@@ -14,6 +14,7 @@ use Rattle.ta_search.specs.declared.template.Template.{Template}
 use Rattle.ta_search.specs.Filling.{filled_text}
 use Rattle.ta_search.specs.Outcomes.{OutcomeHolds}
 use Rattle.ta_search.specs.Vectors.{vectors}
+use Rattle.ta_verdict.specs.declared.budget.Budget.{Budget}
 
 -- whether an outcome is Safe
 abbrev pub is_found : Outcome → Bool
@@ -26,29 +27,29 @@ is_found (outcome.Unknown name v) = false
 is_found (outcome.Safe certificate) = true
 
 -- a vector was tried: it is listed with the outcome that holds
-pub record IsTried (t : Template) (budget : ℕ) (vector : List ℕ) (x : Tried) : Type 0 where
+pub record IsTried (t : Template) (budget : Budget) (vector : List ℕ) (x : Tried) : Type 0 where
   pub values : x.values ≡ vector
   pub holds : OutcomeHolds (filled_text t vector) budget x.outcome
 
--- the outcome is Safe: the search has found, and nothing is tried behind it
+-- the outcome is Safe: the values are found, and no later vector is tried
 pub record EndsHere (x : Tried) (behind : List Tried) (found : Bool) : Type 0 where
   pub safe : is_found x.outcome ≡ true
   pub last : behind ≡ []
   pub has_found : found ≡ true
 
--- these vectors are tried in order, each once, up to the first whose outcome is Safe. Where none is Safe, all are tried, and nothing is found.
-abbrev pub AreTried : Template → ℕ → List (List ℕ) → List Tried → Bool → Type 0
+-- these vectors are tried in order, each once, up to the first whose outcome is Safe. If none is Safe, all are tried, and nothing is found.
+abbrev pub AreTried : Template → Budget → List (List ℕ) → List Tried → Bool → Type 0
 AreTried t budget [] [] found = found ≡ false
 AreTried t budget [] (x ∷ xs) found = ⊥
 AreTried t budget (v ∷ vs) [] found = ⊥
 AreTried t budget (v ∷ vs) (x ∷ xs) found = IsTried t budget v x × (EndsHere x xs found ⊎ ((is_found x.outcome ≡ false) × AreTried t budget vs xs found))
 
--- the end of the search of a template, for a budget of nodes: its vectors are tried
-abbrev pub IsSearchEnd : Template → ℕ → SearchEnd → Type 0
+-- the end of the search of a template, for a budget: its vectors are tried
+abbrev pub IsSearchEnd : Template → Budget → SearchEnd → Type 0
 IsSearchEnd t budget end = AreTried t budget (vectors t.holes) end.tried end.found
 
 -- the text is that of a file whose patterns are all safe, some parameters have an initial configuration, and these bytes are a certificate
--- that a judge accepts as one of all its patterns
+-- that the checker accepts as one of all its patterns
 pub record IsFound (bytes certificate : List ℕ) : Type 0 where
   pub file : File
   pub legal : Legal bytes file
@@ -68,4 +69,4 @@ pub record LastIsFound (t : Template) (end : SearchEnd) : Type 0 where
 
 -- a template has one end for a budget
 abbrev pub SearchesAreDetermined : Type 0
-SearchesAreDetermined = (t : Template) (budget : ℕ) (a b : SearchEnd) → IsSearchEnd t budget a → IsSearchEnd t budget b → a ≡ b
+SearchesAreDetermined = (t : Template) (budget : Budget) (a b : SearchEnd) → IsSearchEnd t budget a → IsSearchEnd t budget b → a ≡ b

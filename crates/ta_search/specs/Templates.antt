@@ -1,4 +1,4 @@
--- Templates: automaton files with holes for coefficients (this project's profile)
+-- Templates: automaton files with holes for coefficients.
 use Rattle.std.specs.Prelude.{ℕ, ◌++◌, List}
 use Rattle.ta_search.specs.declared.template.Template.{Template}
 use Rattle.ta_search.specs.Holes.{head_text}

@@ -1,4 +1,4 @@
--- The choices of a value for each hole of a template, in their order (this project's profile)
+-- The vectors of a template: a value for each hole, in lexicographic order.
 use Rattle.std.specs.Prelude.{ℕ, ◌<◌, ◌≤◌, ◌≡◌, ◌⊎◌, List, [], ◌∷◌, ◌++◌, map}
 use Rattle.std.specs.List.{AllByRecursion, range_with_len}
 use Rattle.ta_base.specs.Masks.{In}
@@ -33,12 +33,12 @@ IsBefore [] ws = ⊥
 IsBefore (v ∷ vs) [] = ⊥
 IsBefore (v ∷ vs) (w ∷ ws) = (v < w) ⊎ ((v ≡ w) × IsBefore vs ws)
 
--- each comes before all that stand behind it
+-- each comes before all later ones
 abbrev pub Ascend : List (List ℕ) → Type 0
 Ascend [] = Unit {0}
 Ascend (v ∷ vs) = AllByRecursion (IsBefore v) vs × Ascend vs
 
--- the vectors of a template are just the choices of a value for each hole, in lexicographic order
+-- the vectors of a template are exactly the choices of a value for each hole, in lexicographic order
 pub record AreChoices (t : Template) : Type 0 where
   pub ascend : Ascend (vectors t.holes)
   pub choices : AllByRecursion (IsChoice t.holes) (vectors t.holes)

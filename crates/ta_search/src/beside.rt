@@ -1,7 +1,16 @@
-//! The vectors of a template that are tried beside each other.
+//! Tries vectors of a template in parallel.
+//!
+//! At most four parts each take the next number from a board, up to that of a safe vector: with
+//! halves of the list one part would try vectors far behind a safe one. What comes of a vector
+//! depends on no other, so results are put at their numbers, and `search` goes over all numbers in
+//! order: it takes what is at hand and tries what is not. So no proof follows the board, and the
+//! end is that of one thread. Where there is no memory for a vector, none behind it is tried in
+//! parallel, and it is tried again alone.
+//!
+//! Cost: at worst 16 threads, since each vector's walk forks too, and three vectors tried in vain.
 #![tactic(auto)]
 
-ghost use Rattle.std.specs.Prelude.{◌≡◌, ◌≤◌, ◌<◌, ℕ, IfOk, IfSome};
+ghost use Rattle.std.specs.Prelude.{◌≡◌, ◌≤◌, ◌<◌, IfOk, IfSome};
 ghost use Rattle.std.specs.List.{AllByRecursion};
 ghost use denote.Param.Send.{IsSync};
 ghost use Rattle.ta_search.specs.declared.template.Template.{Template};
@@ -9,6 +18,7 @@ ghost use Rattle.ta_search.specs.Holes.{vector_count};
 ghost use Rattle.ta_search.specs.Inside.Beside.{AtHand, IsPlaced};
 ghost use Rattle.ta_search.specs.Inside.Trying.{vector_at};
 ghost use Rattle.ta_search.specs.Searching.{IsTried};
+ghost use Rattle.ta_verdict.specs.declared.budget.Budget.{Budget};
 
 use crate::outcome::Tried;
 use crate::template::Template;
@@ -17,6 +27,7 @@ use std::alloc::{AllocError, Global};
 use std::sync::atomic::{AtomicU64, Ordering};
 use std::thread::{Threads, join};
 use ta_base::limits::MOST_NODES;
+use ta_verdict::Budget;
 use ta_walk::most_beside;
 
 /// A vector that was tried, behind its number.
@@ -74,19 +85,19 @@ pub(crate) fn try_beside<R: Threads + Sync>(
     alloc: Global,
     template: &Template,
     count: u64,
-    nodes: u64,
+    budget: Budget,
 ) -> Result<Vec<Option<Tried>>, AllocError>
     requires count { count ≡ vector_count template.now.holes }
-    requires some { 0 < nodes }
-    requires limit { nodes ≤ MOST_NODES }
-    ensures { IfOk result (λ places. AtHand template.now nodes places.items) }
+    requires some { 0 < budget.nodes }
+    requires limit { budget.nodes ≤ MOST_NODES }
+    ensures { IfOk result (λ places. AtHand template.now budget places.items) }
 {
     let parts = (1 + most_beside(rt)).min(count);
     if parts < 2 {
         return Ok(Vec::new(alloc));
     }
     let board = Board::new(count);
-    let placed = try_parts(rt, alloc, template, &board, nodes, parts)?;
+    let placed = try_parts(rt, alloc, template, &board, budget, parts)?;
     in_places(alloc, count, placed)
 }
 
@@ -96,26 +107,26 @@ fn try_parts<R: Threads + Sync>(
     alloc: Global,
     template: &Template,
     board: &Board,
-    nodes: u64,
+    budget: Budget,
     parts: u64,
 ) -> Result<Vec<Placed>, AllocError>
     requires count { board.now.count ≡ vector_count template.now.holes }
-    requires some { 0 < nodes }
-    requires limit { nodes ≤ MOST_NODES }
-    ensures { IfOk result (λ placed. AllByRecursion (IsPlaced template.now nodes) placed.items) }
+    requires some { 0 < budget.nodes }
+    requires limit { budget.nodes ≤ MOST_NODES }
+    ensures { IfOk result (λ placed. AllByRecursion (IsPlaced template.now budget) placed.items) }
 {
     if parts < 2 {
-        return Ok(try_part(rt, alloc, template, board, nodes));
+        return Ok(try_part(rt, alloc, template, board, budget));
     }
     let others = parts - 1;
     let back = move || -> Result<Vec<Placed>, AllocError>
-        requires { IsSync R.row × (board.now.count ≡ vector_count template.now.holes) × (0 < nodes) × (nodes ≤ MOST_NODES) }
-        ensures { IfOk result (λ placed. AllByRecursion (IsPlaced template.entry.now nodes) placed.items) }
-    { try_parts(rt, alloc, template, board, nodes, others) };
+        requires { IsSync R.row × (board.now.count ≡ vector_count template.now.holes) × (0 < budget.nodes) × (budget.nodes ≤ MOST_NODES) }
+        ensures { IfOk result (λ placed. AllByRecursion (IsPlaced template.entry.now budget) placed.items) }
+    { try_parts(rt, alloc, template, board, budget, others) };
     let front = move || -> Vec<Placed>
-        requires { IsSync R.row × (board.now.count ≡ vector_count template.now.holes) × (0 < nodes) × (nodes ≤ MOST_NODES) }
-        ensures { AllByRecursion (IsPlaced template.entry.now nodes) result.items }
-    { try_part(rt, alloc, template, board, nodes) };
+        requires { IsSync R.row × (board.now.count ≡ vector_count template.now.holes) × (0 < budget.nodes) × (budget.nodes ≤ MOST_NODES) }
+        ensures { AllByRecursion (IsPlaced template.entry.now budget) result.items }
+    { try_part(rt, alloc, template, board, budget) };
     let (rest, mut placed) = join(rt, back, front);
     placed.append(&mut rest?)?;
     Ok(placed)
@@ -128,19 +139,19 @@ fn try_part<R: Threads + Sync>(
     alloc: Global,
     template: &Template,
     board: &Board,
-    nodes: u64,
+    budget: Budget,
 ) -> Vec<Placed>
     requires count { board.now.count ≡ vector_count template.now.holes }
-    requires some { 0 < nodes }
-    requires limit { nodes ≤ MOST_NODES }
-    ensures { AllByRecursion (IsPlaced template.now nodes) result.items }
+    requires some { 0 < budget.nodes }
+    requires limit { budget.nodes ≤ MOST_NODES }
+    ensures { AllByRecursion (IsPlaced template.now budget) result.items }
 {
     let mut placed = Vec::new(alloc);
     'vectors: for _ in 0..board.count {
         let Some(place) = board.take() else {
             return placed;
         };
-        let goes_on = add_tried(rt, alloc, template, place, nodes, &mut placed).unwrap_or(false);
+        let goes_on = add_tried(rt, alloc, template, place, budget, &mut placed).unwrap_or(false);
         if !goes_on {
             board.end_at(place);
         }
@@ -154,16 +165,16 @@ fn add_tried<R: Threads + Sync>(
     alloc: Global,
     template: &Template,
     place: u64,
-    nodes: u64,
+    budget: Budget,
     placed: &mut Vec<Placed>,
 ) -> Result<bool, AllocError>
     requires place { place < vector_count template.now.holes }
-    requires some { 0 < nodes }
-    requires limit { nodes ≤ MOST_NODES }
-    requires placed { AllByRecursion (IsPlaced template.now nodes) placed.old.items }
-    ensures { AllByRecursion (IsPlaced template.now nodes) placed.new.items }
+    requires some { 0 < budget.nodes }
+    requires limit { budget.nodes ≤ MOST_NODES }
+    requires placed { AllByRecursion (IsPlaced template.now budget) placed.old.items }
+    ensures { AllByRecursion (IsPlaced template.now budget) placed.new.items }
 {
-    let tried = try_vector(rt, alloc, template, place, nodes)?;
+    let tried = try_vector(rt, alloc, template, place, budget)?;
     let goes_on = !is_found(&tried.outcome);
     placed.push(Placed { place, tried })?;
     Ok(goes_on)
@@ -175,7 +186,7 @@ fn in_places(
     count: u64,
     placed: Vec<Placed>,
 ) -> Result<Vec<Option<Tried>>, AllocError>
-    ensures { (t : Template) (budget : ℕ) → AllByRecursion (IsPlaced t budget) placed.items → IfOk result (λ places. AtHand t budget places.items) }
+    ensures { (t : Template) (budget : Budget) → AllByRecursion (IsPlaced t budget) placed.items → IfOk result (λ places. AtHand t budget places.items) }
 {
     let mut places = empty_places(alloc, count)?;
     'placed: for Placed { place, tried } in placed {
@@ -186,7 +197,7 @@ fn in_places(
 
 /// So many empty places.
 fn empty_places(alloc: Global, count: u64) -> Result<Vec<Option<Tried>>, AllocError>
-    ensures { IfOk result (λ places. (t : Template) (budget : ℕ) → AtHand t budget places.items) }
+    ensures { IfOk result (λ places. (t : Template) (budget : Budget) → AtHand t budget places.items) }
 {
     let mut places = Vec::new(alloc);
     'numbers: for _ in 0..count {
@@ -197,7 +208,7 @@ fn empty_places(alloc: Global, count: u64) -> Result<Vec<Option<Tried>>, AllocEr
 
 /// Puts a vector that was tried to its place.
 fn put(places: &mut Vec<Option<Tried>>, place: u64, tried: Tried)
-    ensures { (t : Template) (budget : ℕ) → AtHand t budget places.old.items → IsTried t budget (vector_at t.holes place) tried → AtHand t budget places.new.items }
+    ensures { (t : Template) (budget : Budget) → AtHand t budget places.old.items → IsTried t budget (vector_at t.holes place) tried → AtHand t budget places.new.items }
 {
     if let Some(slot) = places.get_mut(place as usize) {
         *slot = Some(tried);
@@ -206,8 +217,8 @@ fn put(places: &mut Vec<Option<Tried>>, place: u64, tried: Tried)
 
 /// Takes the vector of a number, where it was tried.
 pub(crate) fn take(places: &mut Vec<Option<Tried>>, place: u64) -> Option<Tried>
-    ensures is { (t : Template) (budget : ℕ) → AtHand t budget places.old.items → IfSome result (λ tried. IsTried t budget (vector_at t.holes place) tried) }
-    ensures left { (t : Template) (budget : ℕ) → AtHand t budget places.old.items → AtHand t budget places.new.items }
+    ensures is { (t : Template) (budget : Budget) → AtHand t budget places.old.items → IfSome result (λ tried. IsTried t budget (vector_at t.holes place) tried) }
+    ensures left { (t : Template) (budget : Budget) → AtHand t budget places.old.items → AtHand t budget places.new.items }
 {
     places.get_mut(place as usize)?.take()
 }

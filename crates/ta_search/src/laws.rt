@@ -14,12 +14,12 @@ pub fn templates_are_determined()
     ensures { OneTemplate }
 {}
 
-/// A template's text has no fault, and another text one at most.
+/// A template's text has no error, and another text one at most.
 pub fn template_faults_are_determined()
     ensures { OneTemplateFault }
 {}
 
-/// Each text is that of a template, or has a first fault.
+/// Each text is that of a template, or has a first error.
 pub fn texts_are_templates()
     ensures { TemplatesHaveAnswers }
 {}

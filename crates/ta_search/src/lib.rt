@@ -1,5 +1,8 @@
-//! Templates: automaton files with holes for coefficients, and the search for values with which every
-//! pattern is safe.
+//! Templates: automaton files with holes for coefficients, and the search for values with which
+//! every pattern is safe.
+//!
+//! Vectors of values are tried in lexicographic order. A filled text is read, sampled and judged
+//! like any file; the first one whose patterns are all safe ends the search.
 #![tactic(auto)]
 
 mod beside;

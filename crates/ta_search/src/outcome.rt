@@ -6,12 +6,12 @@ use ta_base::{List, Text};
 use ta_report::{ReportSample, Verdict};
 use ta_syntax::FileFault;
 
-/// What comes of a vector of values, within a budget of nodes.
+/// What comes of a vector of values, within a budget.
 #[derive(Drop)]
 pub enum Outcome {
     /// The filled text is longer than an automaton file may be.
     Long,
-    /// The filled text has this fault, which is never want of memory.
+    /// The filled text has this error, which is never want of memory.
     Refused(FileFault),
     /// No admissible parameters have an initial configuration.
     Empty,

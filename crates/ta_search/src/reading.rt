@@ -15,7 +15,7 @@ use ta_base::List;
 use ta_base::bytes::{split_at_byte, word_len};
 use ta_base::limits::FILE_BYTES;
 
-/// The template that a text is. The first line at fault is refused, and then the first `$` of the
+/// The template that a text is. The first wrong line is refused, and then the first `$` of the
 /// body without a hole's name behind it.
 pub fn read_template(alloc: Global, bytes: &[u8]) -> Result<Template, TemplateFault>
     requires { length bytes.now ≤ FILE_BYTES }

@@ -16,26 +16,27 @@ use std::alloc::{AllocError, Global};
 use std::thread::Threads;
 use ta_base::List;
 use ta_base::limits::MOST_NODES;
+use ta_verdict::Budget;
 
 /// Tries the vectors of a template in lexicographic order, up to the first with which every pattern
-/// is safe, each within a budget of nodes. Where there are threads, vectors are tried beside each other;
+/// is safe, each within the budget. Where there are threads, vectors are tried beside each other;
 /// the end is that of one thread which tries them in order.
 pub fn search<R: Threads + Sync>(
     rt: &R,
     alloc: Global,
     template: &Template,
-    nodes: u64,
+    budget: Budget,
 ) -> Result<SearchEnd, AllocError>
-    requires some { 0 < nodes }
-    requires limit { nodes ≤ MOST_NODES }
-    ensures end { IfOk result (λ end. IsSearchEnd template.now nodes end) }
+    requires some { 0 < budget.nodes }
+    requires limit { budget.nodes ≤ MOST_NODES }
+    ensures end { IfOk result (λ end. IsSearchEnd template.now budget end) }
     ensures found { IfOk result (λ end. end.found ≡ true → LastIsFound template.now end) }
 {
     let count = vector_count(template.holes.as_slice());
-    let mut at_hand = try_beside(rt, alloc, template, count, nodes)?;
+    let mut at_hand = try_beside(rt, alloc, template, count, budget)?;
     let mut tried = Vec::new(alloc);
     'vectors: for place in 0..count {
-        let next = next_tried(rt, alloc, template, place, nodes, &mut at_hand)?;
+        let next = next_tried(rt, alloc, template, place, budget, &mut at_hand)?;
         let found = is_found(&next.outcome);
         tried.push(next)?;
         if found {
@@ -57,18 +58,18 @@ fn next_tried<R: Threads + Sync>(
     alloc: Global,
     template: &Template,
     place: u64,
-    nodes: u64,
+    budget: Budget,
     at_hand: &mut Vec<Option<Tried>>,
 ) -> Result<Tried, AllocError>
     requires place { place < vector_count template.now.holes }
-    requires some { 0 < nodes }
-    requires limit { nodes ≤ MOST_NODES }
-    requires at_hand { AtHand template.now nodes at_hand.old.items }
-    ensures tried { IfOk result (λ tried. IsTried template.now nodes (vector_at template.now.holes place) tried) }
-    ensures at_hand { AtHand template.now nodes at_hand.new.items }
+    requires some { 0 < budget.nodes }
+    requires limit { budget.nodes ≤ MOST_NODES }
+    requires at_hand { AtHand template.now budget at_hand.old.items }
+    ensures tried { IfOk result (λ tried. IsTried template.now budget (vector_at template.now.holes place) tried) }
+    ensures at_hand { AtHand template.now budget at_hand.new.items }
 {
     match take(at_hand, place) {
         Some(tried) => Ok(tried),
-        None => try_vector(rt, alloc, template, place, nodes),
+        None => try_vector(rt, alloc, template, place, budget),
     }
 }

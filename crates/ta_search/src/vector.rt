@@ -1,4 +1,4 @@
-//! What comes of one vector of a template.
+//! The outcome of one vector of a template's values.
 #![tactic(auto)]
 
 ghost use Rattle.std.specs.Prelude.{◌≡◌, ◌≤◌, ◌<◌, ◌++◌, IfOk, OnOk, List, ℕ, ℤ, false, length};
@@ -27,7 +27,7 @@ use ta_replay::print_run;
 use ta_report::{ReportSample, Verdict};
 use ta_scope::ScopedFile;
 use ta_syntax::FileFault;
-use ta_verdict::{judge_file, sample_of};
+use ta_verdict::{Budget, judge_file, sample_of};
 
 /// Whether an outcome says that every pattern is safe.
 pub(crate) fn is_found(outcome: &Outcome) -> bool
@@ -42,17 +42,17 @@ pub(crate) fn try_vector<R: Threads + Sync>(
     alloc: Global,
     template: &Template,
     place: u64,
-    nodes: u64,
+    budget: Budget,
 ) -> Result<Tried, AllocError>
     requires place { place < vector_count template.now.holes }
-    requires some { 0 < nodes }
-    requires limit { nodes ≤ MOST_NODES }
-    ensures { IfOk result (λ tried. IsTried template.now nodes (vector_at template.now.holes place) tried) }
+    requires some { 0 < budget.nodes }
+    requires limit { budget.nodes ≤ MOST_NODES }
+    ensures { IfOk result (λ tried. IsTried template.now budget (vector_at template.now.holes place) tried) }
 {
     let mut values = Vec::new(alloc);
     push_vector(&mut values, template.holes.as_slice(), place)?;
     let bytes = fill(alloc, template, values.as_slice())?;
-    let outcome = text_outcome(rt, alloc, bytes.as_slice(), nodes)?;
+    let outcome = text_outcome(rt, alloc, bytes.as_slice(), budget)?;
     Ok(Tried {
         values: List::from_vec(values),
         outcome,
@@ -79,17 +79,17 @@ fn text_outcome<R: Threads + Sync>(
     rt: &R,
     alloc: Global,
     bytes: &[u8],
-    nodes: u64,
+    budget: Budget,
 ) -> Result<Outcome, AllocError>
-    requires some { 0 < nodes }
-    requires limit { nodes ≤ MOST_NODES }
-    ensures { IfOk result (OutcomeHolds bytes.now nodes) }
+    requires some { 0 < budget.nodes }
+    requires limit { budget.nodes ≤ MOST_NODES }
+    ensures { IfOk result (OutcomeHolds bytes.now budget) }
 {
     if bytes.len() > FILE_BYTES {
         return Ok(Outcome::Long);
     }
     match read_file(alloc, bytes) {
-        Ok(scoped) => file_outcome(rt, alloc, &scoped, nodes),
+        Ok(scoped) => file_outcome(rt, alloc, &scoped, budget),
         Err(FileFault::Memory) => Err(AllocError),
         Err(fault) => Ok(Outcome::Refused(fault)),
     }
@@ -100,14 +100,14 @@ fn file_outcome<R: Threads + Sync>(
     rt: &R,
     alloc: Global,
     scoped: &ScopedFile,
-    nodes: u64,
+    budget: Budget,
 ) -> Result<Outcome, AllocError>
-    requires some { 0 < nodes }
-    requires limit { nodes ≤ MOST_NODES }
-    ensures { (bytes : List ℕ) → length bytes ≤ FILE_BYTES → Legal bytes scoped.now.file → IfOk result (OutcomeHolds bytes nodes) }
+    requires some { 0 < budget.nodes }
+    requires limit { budget.nodes ≤ MOST_NODES }
+    ensures { (bytes : List ℕ) → length bytes ≤ FILE_BYTES → Legal bytes scoped.now.file → IfOk result (OutcomeHolds bytes budget) }
 {
-    match sample_of(alloc, &scoped.file, nodes)? {
-        ReportSample::Sample(_) => patterns_outcome(rt, alloc, scoped, nodes),
+    match sample_of(alloc, &scoped.file, budget.nodes)? {
+        ReportSample::Sample(_) => patterns_outcome(rt, alloc, scoped, budget),
         ReportSample::Empty => Ok(Outcome::Empty),
         ReportSample::Spent { count } => {
             Ok(Outcome::SampleUnknown(ReportSample::Spent { count }))
@@ -123,13 +123,13 @@ fn patterns_outcome<R: Threads + Sync>(
     rt: &R,
     alloc: Global,
     scoped: &ScopedFile,
-    nodes: u64,
+    budget: Budget,
 ) -> Result<Outcome, AllocError>
-    requires some { 0 < nodes }
-    requires limit { nodes ≤ MOST_NODES }
-    ensures { (bytes : List ℕ) (values : List ℤ) → IsSampled bytes nodes scoped.now.file (Sample values) → IfOk result (OutcomeHolds bytes nodes) }
+    requires some { 0 < budget.nodes }
+    requires limit { budget.nodes ≤ MOST_NODES }
+    ensures { (bytes : List ℕ) (values : List ℤ) → IsSampled bytes budget scoped.now.file (Sample values) → IfOk result (OutcomeHolds bytes budget) }
 {
-    let judged = judge_file(rt, alloc, scoped, nodes, true)?;
+    let judged = judge_file(rt, alloc, scoped, budget, true)?;
     let verdicts = judged.verdicts.as_slice();
     let place = safe_before(verdicts);
     match verdicts.get(place) {

@@ -1,4 +1,4 @@
--- what takes the bytes of a file in the making on the disk
+-- What takes the bytes of a staged file on the disk.
 use Rattle.std.specs.Prelude.{ℕ, ◌≡◌, List, Option}
 use Rattle.std.specs.Io.KnownBytes.{Appends}
 use Rattle.ta_shelf.specs.Calls.{bytes_put}
@@ -16,7 +16,7 @@ abbrev pub IsNewFile : {F : Type 0} → Making F → Type 0
 IsNewFile (Beside opened target taken) = opened.access ≡ Access.New
 IsNewFile (Within held) = Unit {0}
 
--- where a file takes them, these were handed to it
+-- if a file takes them, these bytes were given to it
 abbrev pub FileTakes : {F : Type 0} → (F → Option (List ℕ)) → Making F → Making F → List ℕ → Type 0
 FileTakes contents (Beside opened target taken) (Beside opened' target' taken') bytes = Appends (contents opened.file) (contents opened'.file) bytes
 FileTakes contents (Within held) (Within held') bytes = Unit {0}

@@ -18,8 +18,8 @@ use std::rt::Files;
 /// what it was handed and took.
 ///
 /// A file to be read is missing where the system says that it isn't there; whatever else refuses a
-/// call, as a folder in its place or a right that lacks, is a fault, but for want of memory. The count
-/// of faults rises up to the greatest `u64`.
+/// call, as a folder in its place or a right that lacks, is a failure, but for want of memory. The count
+/// of failures rises up to the greatest `u64`.
 ///
 /// The file that was read last stays open, and a call that goes on where the one before ended takes
 /// its bytes from there. So a file that is read front to back is opened once: its bytes are those of

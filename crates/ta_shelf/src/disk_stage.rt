@@ -1,4 +1,11 @@
 //! A file in the making, on the disk.
+//!
+//! Its bytes go to a new file beside the target, under the first free name `TARGET.tav-0`,
+//! `TARGET.tav-1`, and so on. To publish it the file is synced and renamed, and its folder synced:
+//! a reader of the target finds what it held or all new bytes. Links are followed first
+//! (system/links.rt), since a rename would replace them. A name of no regular file, as a pipe or
+//! `/dev/stdout`, can't be replaced so: its bytes wait in memory and are appended at the end
+//! (system/held.rt).
 #![tactic(auto)]
 
 ghost use Rattle.std.specs.Prelude.{◌≡◌, ◌++◌, ◌∷◌, [], IfOk, Ok, OnOk};

@@ -1,4 +1,13 @@
-//! Files by name.
+//! Files by name, as the program sees them: the trait of real files and of files in memory.
+//!
+//! All that is read and written goes through a shelf, so contracts can speak of files. A shelf in
+//! memory tells what its files hold. The real one can't, since others may change a file at any
+//! time; so each call is logged: for reads the name, the offset, how much was asked for and what
+//! came, for changes the bytes and whether they were taken. The top contract speaks of the bytes of
+//! the log. Without it a body that reads a file twice and judges the second text would be proved.
+//!
+//! Commands make a file as a stage: begun, added to, and then published whole or abandoned. A stage
+//! is a value, since two outputs may be in the making.
 #![tactic(auto)]
 
 ghost use Rattle.std.specs.Prelude.{◌≡◌, ◌≤◌, ◌++◌, ◌∷◌, [], ℕ, List, length, IfOk, IfSome, IsErrOf, IsTrue, MatchBool, Ok};

@@ -1,5 +1,5 @@
 -- from how a command ends to what is said of each
-use Rattle.ta_shell.proofs.Common.{◌≡◌, ◌≢◌, ◌∙◌, ◌≤◌, ◌⊎◌, ◌++◌, ℕ, List, [], ◌∷◌, Option, Some, None, refl, sym, subst, inl, inr, rules, arith, Contains, Call, PutCall, Acts, OthersStay, Told, WhereTold, Put, Decides, Exact, Meaning, IsAnswered, End, Ends, SinkFaltered, FailureTold, IsHindered, Performs, Quiet, State, Telling, Done, NoMemory, Stopped, Unbegun, Unput, Unread, Unwritten, HoldsEither, HoldsPut, KeptBut, Stand, StopAt, PutsWithin, View, seen, with_text, Calm, Spares, put_bytes, ap, append-nil, map, reads, puts, Event, Grew, AreStaging, AreOfStages, PutWhole, PutText, put_text, StopsPublishing, TellsFile, published, names_put, each_append}
+use Rattle.ta_shell.proofs.Common.{◌≡◌, ◌≢◌, ◌∙◌, ◌≤◌, ◌⊎◌, ◌++◌, ℕ, List, [], ◌∷◌, Option, Some, None, refl, sym, subst, inl, inr, rules, arith, Contains, Call, PutCall, Acts, OthersStay, Told, WhereTold, Put, Decides, Exact, Meaning, IsAnswered, End, Ends, SinkFaltered, FailureTold, IsHindered, Performs, Quiet, State, Telling, Done, NoMemory, Stopped, Unbegun, Unput, Unread, Unwritten, HoldsEither, HoldsPut, KeptBut, Stand, StopAt, PutsWithin, View, seen, with_text, Calm, Spares, put_bytes, ap, append-nil, map, reads, puts, Event, Grew, AreStaging, AreOfStages, PutWhole, PutText, put_text, StopsPublishing, TellsFile, published, names_put, each_append, Answer}
 use Rattle.ta_shell.proofs.Ended.{within_puts}
 use Rattle.ta_shell.proofs.Making.{of_stages_within, staging_of_stages}
 use Rattle.ta_shell.proofs.Settling.{whole_of_stages}
@@ -206,6 +206,16 @@ made_of_stages m view number before after made (Unbegun h) = subst (AreOfStages 
 made_of_stages m view number before after made (Unput h) = elim h.halted [ inl u ↦ staging_of_stages m.puts made u.0.staging | inr u ↦ stops_of_stages m.puts made u.refused ]
 made_of_stages m view number before after made (Unwritten h) = staging_of_stages m.puts made h.unstaged.staging
 made_of_stages m view number before after made (NoMemory h) = elim h.stopped [ inl u ↦ staging_of_stages m.puts made u.0.staging | inr u ↦ stops_of_stages m.puts made u.stopped.refused ]
+
+-- an answer holds, or no call changed a file
+pub held_or_staged : (m : Meaning) (view : View) (number : ℕ) (before after : State) (made : List PutCall) → End m view number before after made → ((answer : Answer) × m.answers view answer) ⊎ AreStaging m.puts made
+held_or_staged m view number before after made (Done a) = inl (a.answer, a.holds.holds)
+held_or_staged m view number before after made (Stopped h) = inr (subst (AreStaging m.puts) (sym h.none) tt)
+held_or_staged m view number before after made (Unread h) = inr (subst (AreStaging m.puts) (sym h.none) tt)
+held_or_staged m view number before after made (Unbegun h) = inr (subst (AreStaging m.puts) (sym h.none) tt)
+held_or_staged m view number before after made (Unput h) = inl (h.answer, h.holds.holds)
+held_or_staged m view number before after made (Unwritten h) = inl (h.answer, h.holds.holds)
+held_or_staged m view number before after made (NoMemory h) = elim h.stopped [ inl u ↦ inr u.0.staging | inr u ↦ inl (u.answer, u.holds.holds) ]
 
 -- with 3, 4 and 5 every file stays
 pub kept_refused : (m : Meaning) (number : ℕ) (before after : State) → Ends m number before after → 3 ≤ number → number ≤ 5 → after.shelf.files ≡ before.shelf.files

@@ -1,5 +1,5 @@
 -- how a command ends, by what its judgement, its files and its text answered
-use Rattle.ta_shell.proofs.Common.{◌≡◌, ◌∙◌, ◌∷◌, [], ℕ, List, Result, Ok, Err, refl, sym, subst, inl, inr, arith, map, Contains, contains_cases, Answer, Refusal, Refused, ReadFailed, PutFailed, Memory, AnswerHolds, JudgementHolds, Meaning, End, State, Tells, Done, NoMemory, Stopped, Unbegun, Unput, Unread, Unwritten, refusal_line, refusal_number, ReadCause, View, PutCall, Put, PutsWithin, names_put, BeginCause, BeginRefuses, Settled, SettledCause, Halt, Unpublished, Unstaged, StopsPublishing, AreStaging}
+use Rattle.ta_shell.proofs.Common.{◌≡◌, ◌∷◌, [], ℕ, List, Result, Ok, Err, refl, subst, inl, inr, arith, Contains, contains_cases, Answer, Refusal, Refused, ReadFailed, PutFailed, Memory, AnswerHolds, JudgementHolds, Meaning, End, State, Tells, Done, NoMemory, Stopped, Unbegun, Unput, Unread, Unwritten, refusal_line, refusal_number, ReadCause, View, PutCall, Put, PutsWithin, names_put, BeginCause, BeginRefuses, Settled, SettledCause, Halt, Unpublished, Unstaged}
 use Rattle.ta_shell.proofs.Making.{Within, of_stages_within, staging_within}
 use Rattle.ta_shell.specs.Finishing.{TellsEnd}
 use Rattle.ta_shell.specs.declared.putting.Halt.TheVariants as halt

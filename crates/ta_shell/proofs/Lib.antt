@@ -3,6 +3,7 @@ pub mod Compared
 pub mod Clauses
 pub mod Views
 pub mod Read
+pub mod Spared
 pub mod PiecesSeen
 mod Pieces
 mod ReadCalls

@@ -1,5 +1,5 @@
 -- logs of calls that change files
-use Rattle.ta_shell.proofs.Common.{◌≡◌, ◌∙◌, ℕ, List, [], ◌∷◌, ◌++◌, Result, Ok, Err, Refusal, Refused, ReadFailed, PutFailed, Memory, BeginRefuses, refl, sym, ap, subst, append_assoc, append-nil, ◌+◌, ◌<◌, length, take, take_more, get_or, concat, concat_more, AddsOr, PutFault, Contains, Contains-append_left, Contains-append_right, contains_here, AllByRecursion, each_append, each_weaker, Event, PutCall, Puts, puts, Changed, AreStaging, AreOfStages, LeavesFiles, IsOfStage, Stages, added, begun, Step}
+use Rattle.ta_shell.proofs.Common.{◌≡◌, ◌∙◌, ℕ, List, [], ◌∷◌, ◌++◌, Result, Ok, Err, Refusal, Refused, ReadFailed, PutFailed, Memory, BeginRefuses, refl, sym, ap, subst, append_assoc, append-nil, ◌+◌, ◌<◌, length, take, take_more, get_or, concat, concat_more, AddsOr, PutFault, Contains, Contains-append_left, Contains-append_right, contains_here, each_append, each_weaker, Event, PutCall, Puts, puts, Changed, AreStaging, AreOfStages, LeavesFiles, IsOfStage, Stages, added, begun, Step}
 use Rattle.ta_shelf.specs.declared.entry.Step.TheVariants.{Create, Append, Begin, Add, Publish, Abandon}
 
 pub puts-append : (first later : List PutCall) → puts (first ++ later) ≡ puts first ++ puts later

@@ -1,5 +1,6 @@
 -- commands that read one file after the other
 use Rattle.ta_shell.proofs.Common.{◌≡◌, ◌∙◌, ◌≤◌, ◌⊎◌, Bor, List, [], ◌++◌, ℕ, Option, Some, Result, Ok, Err, refl, sym, ap, subst, inl, inr, append_assoc, take, append-nil, Call, Event, Grew, reads, Told, Answer, Refusal, Refused, ReadFailed, PutFailed, Memory, Decides, IsSo, JudgementHolds, Meaning, Says, PutsWithin, file_line, phrase_text, IsUnreadable, ReadsFile, Absent, Begins, View, in_files, seen, ReadingGoesOn, Hinders, FileIsAtFault, IsBroken, FileMeans, Kind, Stage, after, finds, replies, settles}
+use Rattle.ta_shell.specs.Stages.{MeantBy}
 use Rattle.ta_shell.specs.declared.phrase.Phrase.{Phrase}
 use Rattle.ta_shelf.proofs.CallLemmas.{reads-append}
 use Rattle.ta_shell.proofs.Views.{Monotone, Sub, begins_some, has_more, not_absent, not_longer, sub_told, sub_within, whole_one}
@@ -219,6 +220,13 @@ module _ {A F T : Type 0} (kind : Kind A F) (value : T → A) (files : Option To
         };
       };
     }
+
+    -- its bytes are at a fault, or there was no memory
+    pub grew_meant : (refusal : Refusal) → MeantBy {T = T} kind value name bytes (Err refusal) → Grew (Stage {T = T} kind value files name (Err refusal)) before last
+    grew_meant (Refused number who why) m = grew_fault who why m.2 m.1 m.3 m.4 number m.0
+    grew_meant (ReadFailed who) m = absurd m
+    grew_meant (PutFailed who) m = absurd m
+    grew_meant Memory m = grew_memory
 
 -- nothing more is read
 pub grew_none : (m : Meaning) (files : Option Told) (result : Result Answer Refusal) (calls : List Event) → Says m files result [] → Grew (Says m files result) calls calls

@@ -1,5 +1,5 @@
 -- a publishing, refused or not
-use Rattle.ta_shell.proofs.Common.{◌≡◌, ℕ, List, [], ◌∷◌, Option, Some, None, Ok, Err, refl, sym, ap, subst, PutCall, Told, WhereTold, OthersStay, HoldsEither, HoldsText, PublishRefused, PutFault, Step}
+use Rattle.ta_shell.proofs.Common.{◌≡◌, ℕ, List, [], ◌∷◌, Option, Some, None, Err, ap, subst, Told, WhereTold, OthersStay, HoldsEither, PublishRefused, PutFault, Step}
 use Rattle.ta_shelf.specs.Stage.{Publishes}
 
 -- what is said of the file and of the others, in one

@@ -1,7 +1,7 @@
 -- files of an answer, one around the other
-use Rattle.ta_shell.proofs.Common.{◌≡◌, ◌∙◌, ◌⊎◌, ℕ, List, [], ◌∷◌, ◌++◌, Option, Result, Ok, Err, refl, sym, ap, subst, inl, inr, append_assoc, Bor, Changed, Event, Puts, puts, Contains, contains_here, AllByRecursion, each_append, PutCall, Told, WhereTold, Put, HoldsEither, HoldsText, Stand, StopAt, map, names_put, put_bytes, put_text, AreOfStages, AreStaging, PutWhole, StopsPublishing, Stages, published, Step, PutFault, Halt, length, arith, with_text, SinkState, Tells, Unpublished, Unstaged, PublishRefused, PublishesOne, Settled, WritesText}
+use Rattle.ta_shell.proofs.Common.{◌≡◌, ◌∙◌, ◌⊎◌, ℕ, List, [], ◌∷◌, ◌++◌, Option, Result, Ok, Err, refl, sym, ap, subst, inl, inr, append_assoc, Bor, Changed, Event, Puts, puts, Contains, contains_here, each_append, PutCall, Told, Put, map, names_put, put_bytes, put_text, AreOfStages, AreStaging, PutWhole, StopsPublishing, Stages, published, Step, Halt, length, arith, with_text, SinkState, Tells, Unpublished, Unstaged, PublishRefused, PublishesOne, Settled, WritesText}
 use Rattle.ta_shell.specs.declared.putting.Halt.TheVariants as halt
-use Rattle.ta_shell.proofs.Making.{Within, of_stages_within, puts-append, stages_staging, staging_of_stages, staging_within, within_first, within_later}
+use Rattle.ta_shell.proofs.Making.{of_stages_within, puts-append, stages_staging, staging_of_stages, staging_within, within_first, within_later}
 use Rattle.std.proofs.Math.Seq.{take-length}
 
 -- the call that lets a file go

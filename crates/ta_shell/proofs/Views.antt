@@ -1,4 +1,4 @@
--- what is seen in some calls is seen in more, and told files show one thing
+-- what is seen in some calls is seen in more, and known files show one thing
 use Rattle.ta_shell.proofs.Common.{◌≡◌, ◌+◌, ◌∙◌, List, ◌++◌, ℕ, length, length-append, Option, Some, None, sym, ap, arith, append_assoc, Call, Told, Meaning, Absent, Begins, HasBytes, HasMore, Part, Sight, Unlike, View, Whole, in_calls, in_files, seen, Answer}
 
 -- what is seen in one view is seen in another

@@ -1,4 +1,4 @@
--- How a command ends, whichever it is (this project's profile)
+-- How any command ends: with an answer, a refusal, a failed call or out of memory.
 use Rattle.std.specs.Prelude.{ℕ, ◌≡◌, ◌≢◌, ◌≤◌, ◌⊎◌, List, [], ◌++◌, codes, Contains, map, Option}
 use Rattle.ta_shelf.specs.Calls.{Call, Event, Put, puts, reads}
 use Rattle.ta_shelf.specs.Counts.{Faulted, Stalled}
@@ -13,13 +13,13 @@ use Rattle.ta_shell.specs.Making.{Acts, AreStaging, PutWhole, StopsPublishing}
 use Rattle.ta_shell.specs.Puts.{KeptBut, Stand, StopAt, put_text}
 use Rattle.ta_shell.specs.Sights.{View, seen}
 
--- a shelf's files, the calls on it so far, and its count of faults
+-- a shelf's files, the calls on it so far, and its count of failures
 pub record ShelfState : Type 0 where
   pub files : Option Told
   pub calls : List Event
   pub faults : ℕ
 
--- what was written to a sink so far, and its counts of faults and of stalls
+-- what was written to a sink so far, and its counts of failures and of stalls
 pub record SinkState : Type 0 where
   pub written : Option (List ℕ)
   pub faults : ℕ
@@ -47,24 +47,24 @@ SinkFaltered before after = Faulted before.faults after.faults ⊎ Stalled befor
 abbrev pub Calm : SinkState → SinkState → Type 0
 Calm before after = (after.faults ≡ before.faults) × (after.stalls ≡ before.stalls)
 
--- a prefix of a line was added, and the whole line where the sink neither failed nor stood still
+-- a prefix of a line was added, and the whole line if the sink neither failed nor stalled
 pub record Tells (line : List ℕ) (before after : SinkState) : Type 0 where
   pub begun : AddsPrefix line before.written after.written
   pub whole : (after.written ≡ with_text before.written line) ⊎ SinkFaltered before after
 
--- no file was put in its place: each is as it was
+-- no file was put in its place: each is unchanged
 pub record Unstaged (names : List (List ℕ)) (before after : Option Told) (made : List Put) : Type 0 where
   pub kept : after ≡ before
   pub staging : AreStaging names made
 
--- a text was written whole, and then files were put in their places up to that of a name
+-- a text was written whole, and then files were put in their places, up to that with this name
 pub record Unpublished (names : List (List ℕ)) (puts : List answer.Put) (name text : List ℕ) (before after : Option Told) (out out' : SinkState) (made : List Put) : Type 0 where
   pub stopped : StopAt name puts before after
   pub refused : StopsPublishing names made
   pub written : out'.written ≡ with_text out.written text
   pub calm : Calm out out'
 
--- an answer that holds: its text was written whole, and its files stand
+-- an answer that holds: its text was written whole, and its files were put
 pub record IsAnswered (m : Meaning) (view : View) (number : ℕ) (before after : State) (made : List Put) : Type 0 where
   pub answer : Answer
   pub holds : AnswerHolds m view answer
@@ -76,7 +76,7 @@ pub record IsAnswered (m : Meaning) (view : View) (number : ℕ) (before after :
   pub calm : Calm before.out after.out
   pub silent : after.err ≡ before.err
 
--- something hinders, which the line says
+-- a refusal, whose reason the line says
 pub record IsHindered (m : Meaning) (view : View) (number : ℕ) (before after : State) (made : List Put) : Type 0 where
   pub three : 3 ≤ number
   pub four : number ≤ 4
@@ -88,7 +88,7 @@ pub record IsHindered (m : Meaning) (view : View) (number : ℕ) (before after :
   pub nothing : after.out ≡ before.out
   pub told : Tells line before.err after.err
 
--- the file of a name failed to be read
+-- reading the file with this name failed
 pub record NotRead (m : Meaning) (view : View) (number : ℕ) (before after : State) (made : List Put) : Type 0 where
   pub six : number ≡ 6
   pub name : List ℕ
@@ -99,7 +99,7 @@ pub record NotRead (m : Meaning) (view : View) (number : ℕ) (before after : St
   pub nothing : after.out ≡ before.out
   pub told : Tells (file_line name (codes "read failed")) before.err after.err
 
--- the file of a name failed to be begun, and nothing else was done
+-- beginning the file with this name failed, and nothing else was done
 pub record NotBegun (m : Meaning) (number : ℕ) (before after : State) (made : List Put) : Type 0 where
   pub six : number ≡ 6
   pub name : List ℕ
@@ -110,7 +110,8 @@ pub record NotBegun (m : Meaning) (number : ℕ) (before after : State) (made : 
   pub nothing : after.out ≡ before.out
   pub told : Tells (file_line name (codes "write failed")) before.err after.err
 
--- the file of a name failed to be made, and the text was written all the same; or it failed to be put in its place behind the text
+-- staging the file with this name failed, and the text was written all the same; or putting it in its place failed, after the text was
+-- written
 pub record NotPut (m : Meaning) (view : View) (number : ℕ) (before after : State) (made : List Put) : Type 0 where
   pub six : number ≡ 6
   pub answer : Answer
@@ -122,7 +123,7 @@ pub record NotPut (m : Meaning) (view : View) (number : ℕ) (before after : Sta
   pub faulted : Faulted before.shelf.faults after.shelf.faults
   pub told : Tells (file_line name (codes "write failed")) before.err after.err
 
--- an answer that holds: its text was begun to be written, and every file is as it was
+-- an answer that holds: writing its text failed, and every file is unchanged
 pub record NotWritten (m : Meaning) (view : View) (number : ℕ) (before after : State) (made : List Put) : Type 0 where
   pub six : number ≡ 6
   pub answer : Answer
@@ -133,14 +134,14 @@ pub record NotWritten (m : Meaning) (view : View) (number : ℕ) (before after :
   pub failed : SinkFaltered before.out after.out
   pub told : Tells output_line before.err after.err
 
--- an answer that holds, whose text was written whole, and whose files were put in their places up to that of a name
+-- an answer that holds, whose text was written whole, and whose files were put in their places up to that with this name
 pub record PutsStop (m : Meaning) (view : View) (before after : State) (made : List Put) : Type 0 where
   pub answer : Answer
   pub holds : AnswerHolds m view answer
   pub name : List ℕ
   pub stopped : Unpublished m.puts answer.puts name answer.text before.shelf.files after.shelf.files before.out after.out made
 
--- there was no memory, to judge or to put a file; no call failed
+-- memory ran out, before the answer or when a file was put; no call failed
 pub record OutOfMemory (m : Meaning) (view : View) (number : ℕ) (before after : State) (made : List Put) : Type 0 where
   pub seven : number ≡ 7
   pub stopped : (Unstaged m.puts before.shelf.files after.shelf.files made × (after.out ≡ before.out)) ⊎ PutsStop m view before after made
@@ -157,8 +158,8 @@ pub data End (m : Meaning) (view : View) (number : ℕ) (before after : State) (
   Unwritten : NotWritten m view number before after made → End m view number before after made
   NoMemory : OutOfMemory m view number before after made → End m view number before after made
 
--- how a command ends that says this, by what is seen in the calls that it makes and in the files: the files of its outputs are begun
--- and let go again, then it reads, or is hindered from it, and then its files are put
+-- how a command ends, given what is seen in its calls and in the files: the files of its outputs are begun and discarded, then it reads, or
+-- is refused without reading, and then its files are put
 pub record Ends (m : Meaning) (number : ℕ) (before after : State) : Type 0 where
   pub tried : List Put
   pub read : List Call
@@ -168,8 +169,8 @@ pub record Ends (m : Meaning) (number : ℕ) (before after : State) : Type 0 whe
   pub opened : m.opens read ⊎ (read ≡ [])
   pub end : End m (seen before.shelf.files read) number before after made
 
--- nothing is written with 3, 4 and 5, and with 7 nothing or a whole text; no count rose with 0 to 5 and 7; and with 6 the shelf or the
--- output failed or the output stood still
+-- nothing is written with status 3, 4 and 5, and nothing or a whole text with 7; no call failed with 0 to 5 and 7; and with 6 the shelf or
+-- the output failed or the output stalled
 pub record Quiet (number : ℕ) (before after : State) : Type 0 where
   pub nothing_written : 3 ≤ number → number ≤ 5 → after.out.written ≡ before.out.written
   pub memory : number ≡ 7 → (after.out.written ≡ before.out.written) ⊎ ((text : List ℕ) × (after.out.written ≡ with_text before.out.written text))
@@ -177,7 +178,7 @@ pub record Quiet (number : ℕ) (before after : State) : Type 0 where
   pub out_calm : number ≢ 6 → Calm before.out after.out
   pub failed : number ≡ 6 → Faulted before.shelf.faults after.shelf.faults ⊎ SinkFaltered before.out after.out
 
--- with 6 it is told that the output failed, or which file failed to be read or put
+-- with status 6 the line says that the output failed, or which file could not be read or put
 abbrev pub FailureTold : Meaning → State → State → Type 0
 FailureTold m before after =
     (SinkFaltered before.out after.out × Tells output_line before.err after.err)
@@ -185,19 +186,19 @@ FailureTold m before after =
     × (Acts m.puts (λ read made. (made ≡ []) × (name : List ℕ) × m.reads (seen before.shelf.files read) name × Tells (file_line name (codes "read failed")) before.err after.err) before.shelf.calls after.shelf.calls
     ⊎ ((name : List ℕ) × Contains m.puts name × Tells (file_line name (codes "write failed")) before.err after.err)))
 
--- nothing is told with 0, 1 and 2; with 3 and 4 what hinders; with 6 what failed; and with 7 that there was no memory
+-- standard error: nothing with 0, 1 and 2; with 3 and 4 why the command was refused; with 6 what failed; and with 7 that memory ran out
 pub record Telling (m : Meaning) (number : ℕ) (before after : State) : Type 0 where
   pub silent : number ≤ 2 → after.err ≡ before.err
   pub hindered : 3 ≤ number → number ≤ 4 → Acts m.puts (λ read made. (made ≡ []) × (line : List ℕ) × m.refuses (seen before.shelf.files read) number line × Tells line before.err after.err) before.shelf.calls after.shelf.calls
   pub failed : number ≡ 6 → FailureTold m before after
   pub memory : number ≡ 7 → Tells memory_line before.err after.err
 
--- where the number isn't that of an answer, every file is as it was, unless a publishing was refused
+-- if the status is not that of an answer, every file is unchanged, unless a publishing was refused
 abbrev pub Spares : List (List ℕ) → ℕ → ShelfState → ShelfState → Type 0
 Spares names number before after = 3 ≤ number → (after.files ≡ before.files) ⊎ Acts names (λ read made. StopsPublishing names made) before.calls after.calls
 
--- how a command ends, and what that says whichever it is: nothing else is written or told, no other file changes, none does that isn't
--- put whole, and told files leave one number
+-- how a command ends, with what holds of every end: nothing else is written or printed, no other file changes, a file that changes is put
+-- whole, and known files determine the status
 pub record Performs (m : Meaning) (number : ℕ) (before after : State) : Type 0 where
   pub ends : Ends m number before after
   pub quiet : Quiet number before after

@@ -1,4 +1,4 @@
--- What finishing an answer gives
+-- What finishing an answer yields: its files, its text and the exit status.
 use Rattle.std.specs.Prelude.{ℕ, ◌≡◌, Result, Ok, Err}
 use Rattle.ta_shell.specs.declared.answer.Answer.{Answer}
 use Rattle.ta_shell.specs.declared.putting.Halt.{Halt}
@@ -7,12 +7,12 @@ use Rattle.ta_shell.specs.Lines.{halt_line, halt_number}
 use Rattle.ta_shell.specs.Making.{Changed}
 use Rattle.ta_shell.specs.Putting.{Settled, SettledCause}
 
--- what is told of how files and a text were put, with its number
+-- what is printed about how files and a text were put, with its status
 abbrev pub TellsEnd : ℕ → Result (Unit {0}) Halt → ℕ → SinkState → SinkState → Type 0
 TellsEnd answered (Ok u) number err err' = (number ≡ answered) × (err' ≡ err)
 TellsEnd answered (Err halt) number err err' = (number ≡ halt_number halt) × Tells (halt_line halt) err err'
 
--- the files and the text of an answer were put, or not, and the number and standard error say which
+-- the files and the text of an answer were put, or not, and the status and standard error say which
 pub record FinishedBy (answer : Answer) (number : ℕ) (before after : State) : Type 0 where
   pub result : Result (Unit {0}) Halt
   pub settled : Changed (Settled answer.puts answer.text result before.shelf.files after.shelf.files before.out after.out) before.shelf.calls after.shelf.calls

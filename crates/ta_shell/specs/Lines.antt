@@ -1,4 +1,4 @@
--- The one line on standard error, and the number that goes with it (this project's profile)
+-- The one line on standard error, and its exit status.
 use Rattle.std.specs.Prelude.{ℕ, List, [], ◌∷◌, ◌++◌, codes, decimal}
 use Rattle.ta_shell.specs.declared.phrase.Phrase.{Phrase}
 use Rattle.ta_shell.specs.declared.phrase.Phrase.TheVariants.{Plain, One, Two}
@@ -24,7 +24,7 @@ abbrev pub pieces_text : List Piece → List ℕ
 pieces_text [] = []
 pieces_text (p ∷ ps) = piece_text p ++ pieces_text ps
 
--- the line that says something of a file
+-- the line about a file
 abbrev pub file_line : List ℕ → List ℕ → List ℕ
 file_line name words = codes "tav: " ++ (name ++ (codes ": " ++ (words ++ codes "\n")))
 
@@ -34,7 +34,7 @@ missing = codes "missing"
 abbrev pub longer_than : ℕ → List ℕ
 longer_than limit = codes "longer than " ++ (decimal limit ++ codes " bytes")
 
--- of an output that is refused, so that it isn't destroyed
+-- an output is refused, so that it is not destroyed
 abbrev pub holds_read : List ℕ
 holds_read = codes "holds what was read"
 
@@ -47,27 +47,27 @@ output_line = codes "tav: output failed\n"
 abbrev pub memory_line : List ℕ
 memory_line = codes "tav: out of memory\n"
 
--- the line of what hinders
+-- the line of a refusal
 abbrev pub refusal_line : Refusal → List ℕ
 refusal_line (Refused number name why) = file_line name.now (phrase_text why)
 refusal_line (ReadFailed name) = file_line name.now (codes "read failed")
 refusal_line (PutFailed name) = file_line name.now (codes "write failed")
 refusal_line Memory = memory_line
 
--- its number
+-- its exit status
 abbrev pub refusal_number : Refusal → ℕ
 refusal_number (Refused number name why) = number
 refusal_number (ReadFailed name) = 6
 refusal_number (PutFailed name) = 6
 refusal_number Memory = 7
 
--- the line of why files or a text weren't put
+-- the line that says why files or a text were not put
 abbrev pub halt_line : Halt → List ℕ
 halt_line halt.Unwritten = output_line
 halt_line (halt.Unput name) = file_line name.now (codes "write failed")
 halt_line halt.Memory = memory_line
 
--- its number
+-- its exit status
 abbrev pub halt_number : Halt → ℕ
 halt_number halt.Unwritten = 6
 halt_number (halt.Unput name) = 6

@@ -1,4 +1,4 @@
--- The files that an answer puts on the shelf (this project's profile)
+-- The files that an answer writes.
 use Rattle.std.specs.Prelude.{ℕ, ◌≡◌, ◌⊎◌, List, [], ◌∷◌, ◌++◌, Contains, map, Option, None, Some, option_map}
 use Rattle.ta_shelf.specs.Put.{OthersStay, Told, WhereTold}
 use Rattle.ta_shell.specs.declared.answer.Content.{Content}
@@ -7,7 +7,7 @@ use Rattle.ta_shell.specs.declared.answer.Outputs.{Outputs}
 use Rattle.ta_shell.specs.declared.answer.Put.{Put}
 use Rattle.std.specs.List.{concat}
 
--- the bytes of a content: its texts, one behind the other, or its bytes
+-- the bytes of a content: its texts, one after the other, or its bytes
 abbrev pub content_bytes : Content → List ℕ
 content_bytes (Pieces texts) = concat texts
 content_bytes (Bytes bytes) = bytes
@@ -24,26 +24,26 @@ pub record PutText : Type 0 where
 abbrev pub put_text : Put → PutText
 put_text put = record { name = put.name; text = put_bytes put }
 
--- the file of a name holds this text, and every other file is as it was
+-- the file with this name holds this text, and every other file is unchanged
 pub record HoldsText (name text : List ℕ) (before after : Told) : Type 0 where
   pub held : after name ≡ Some text
   pub others : OthersStay name before after
 
--- a file holds what is put, and every other file is as it was
+-- a file holds what is put, and every other file is unchanged
 abbrev pub HoldsPut : Put → Told → Told → Type 0
 HoldsPut put before after = HoldsText put.name (put_bytes put) before after
 
--- each stands: those behind the first were put in their places before it
+-- each file is put; those after the first were put in their places before it
 abbrev pub Stand : List Put → Option Told → Option Told → Type 0
 Stand [] before after = after ≡ before
 Stand (put ∷ puts) before after = (middle : Option Told) × Stand puts before middle × WhereTold (HoldsPut put) middle after
 
--- the file of a name holds what it held, or this text whole, and every other file is as it was
+-- the file with this name holds what it held before, or the whole of this text, and every other file is unchanged
 pub record HoldsEither (name text : List ℕ) (before after : Told) : Type 0 where
   pub either : (after name ≡ before name) ⊎ (after name ≡ Some text)
   pub others : OthersStay name before after
 
--- those behind the file of a name stand; that file holds what it held, or what was to be put; every other file is as it was
+-- the files after that with this name are put; that file holds what it held before, or what was to be put; every other file is unchanged
 abbrev pub StopAt : List ℕ → List Put → Option Told → Option Told → Type 0
 StopAt name [] before after = ⊥
 StopAt name (put ∷ puts) before after =
@@ -55,13 +55,13 @@ abbrev pub PutsWithin : List (List ℕ) → List Put → Type 0
 PutsWithin names [] = Unit {0}
 PutsWithin names (put ∷ puts) = Contains names put.name × PutsWithin names puts
 
--- every file but those of these names is as it was; where there are none, all are
+-- every file except those of these names is unchanged; if the list is empty, all are
 abbrev pub KeptBut : List (List ℕ) → Option Told → Option Told → Type 0
 KeptBut [] before after = after ≡ before
 KeptBut (name ∷ names) before after =
     WhereTold (λ files files'. (other : List ℕ) → ¬ Contains (name ∷ names) other → files' other ≡ files other) before after
 
--- the name, where one is given
+-- the name, if one is given
 abbrev pub may_put : Option (List ℕ) → List (List ℕ)
 may_put None = []
 may_put (Some name) = name ∷ []

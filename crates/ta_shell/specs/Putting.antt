@@ -1,4 +1,4 @@
--- What putting files on the shelf answers (this project's profile)
+-- What writing files to a shelf answers.
 use Rattle.std.specs.Prelude.{ℕ, ◌≡◌, ◌⊎◌, ◌∷◌, [], Contains, List, map, Option, Result, Ok, Err}
 use Rattle.ta_shelf.specs.Calls.{Put}
 use Rattle.ta_shelf.specs.Counts.{Faulted}
@@ -18,7 +18,7 @@ use Rattle.ta_shell.specs.Ends.{Calm, SinkFaltered, SinkState, Tells, Unpublishe
 use Rattle.ta_shell.specs.Making.{AreStaging, PutWhole}
 use Rattle.ta_shell.specs.Puts.{HoldsEither, HoldsText, Stand, names_put, put_text}
 
--- that a file can't be begun is said of one of these names
+-- the refusal is about one of these names, whose file cannot be begun
 abbrev pub BeginRefuses : List (List ℕ) → Result (Unit {0}) Refusal → Type 0
 BeginRefuses names (Ok u) = Unit {0}
 BeginRefuses names (Err (Refused number name why)) = ⊥
@@ -26,7 +26,7 @@ BeginRefuses names (Err (ReadFailed name)) = ⊥
 BeginRefuses names (Err (PutFailed name)) = Contains names name.now
 BeginRefuses names (Err Memory) = Unit {0}
 
--- a file failed to be begun only where the shelf is faulted; else its count is as it was
+-- beginning a file failed only if the shelf counts a failure; otherwise its count is unchanged
 abbrev pub BeginCause : Result (Unit {0}) Refusal → ℕ → ℕ → Type 0
 BeginCause (Ok u) before after = after ≡ before
 BeginCause (Err (Refused number name why)) before after = ⊥
@@ -34,12 +34,12 @@ BeginCause (Err (ReadFailed name)) before after = ⊥
 BeginCause (Err (PutFailed name)) before after = Faulted before after
 BeginCause (Err Memory) before after = after ≡ before
 
--- a file in the making has these bytes; after a refusal no file is made
+-- a staged file has these bytes; after a refusal no file is staged
 abbrev pub StagesOr : {S : Type 0} → Result S PutFault → List ℕ → List ℕ → List Put → Type 0
 StagesOr (Ok stage) name bytes calls = Stages name bytes calls
 StagesOr (Err fault) name bytes calls = AreStaging (name ∷ []) calls
 
--- these bytes were added in pieces, one behind the other; after a refusal no file is made
+-- these bytes were added in pieces, one after the other; after a refusal no file is staged
 abbrev pub AddsOr : Result (Unit {0}) PutFault → List ℕ → List ℕ → List Put → Type 0
 AddsOr (Ok u) name bytes calls = (pieces : List (List ℕ)) × (bytes ≡ concat pieces) × (calls ≡ added name pieces)
 AddsOr (Err fault) name bytes calls = AreStaging (name ∷ []) calls
@@ -51,7 +51,7 @@ WritesText (Err halt.Unwritten) text out out' = AddsPrefix text out.written out'
 WritesText (Err (halt.Unput name)) text out out' = ⊥
 WritesText (Err halt.Memory) text out out' = ⊥
 
--- the file of a name holds these bytes; after a refusal those, or what it held
+-- the file with this name holds these bytes; after a refusal these, or what it held before
 pub record PublishRefused (name bytes : List ℕ) (files files' : Option Told) (made : List Put) : Type 0 where
   pub why : PutFault
   pub call : made ≡ record { name = name; step = Step.Publish; bytes = []; answer = Err why } ∷ []
@@ -63,7 +63,7 @@ PublishesOne (Err halt.Unwritten) name bytes files files' made = ⊥
 PublishesOne (Err (halt.Unput who)) name bytes files files' made = (who.now ≡ name) × PublishRefused name bytes files files' made
 PublishesOne (Err halt.Memory) name bytes files files' made = PublishRefused name bytes files files' made
 
--- files stand, and a text was written whole, or not, by such calls
+-- files are put, and a text was written whole, or not, by such calls
 abbrev pub Settled : List answer.Put → List ℕ → Result (Unit {0}) Halt → Option Told → Option Told → SinkState → SinkState → List Put → Type 0
 Settled puts text (Ok u) files files' out out' made = Stand puts files files' × PutWhole (map put_text puts) made × (out'.written ≡ with_text out.written text) × Calm out out'
 Settled puts text (Err halt.Unwritten) files files' out out' made = Unstaged (names_put puts) files files' made × AddsPrefix text out.written out'.written × SinkFaltered out out'
@@ -75,7 +75,7 @@ Settled puts text (Err halt.Memory) files files' out out' made =
     (Unstaged (names_put puts) files files' made × (out' ≡ out))
     ⊎ ((name : List ℕ) × Unpublished (names_put puts) puts name text files files' out out' made)
 
--- a file failed to be put only where the shelf is faulted; else its count is as it was
+-- putting a file failed only if the shelf counts a failure; otherwise its count is unchanged
 abbrev pub SettledCause : Result (Unit {0}) Halt → ℕ → ℕ → Type 0
 SettledCause (Ok u) before after = after ≡ before
 SettledCause (Err halt.Unwritten) before after = after ≡ before

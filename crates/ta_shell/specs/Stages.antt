@@ -1,4 +1,4 @@
--- Commands that read one file after the other (this project's profile)
+-- Commands that read one file after another.
 use Rattle.std.specs.Prelude.{ℕ, ◌≡◌, ◌≤◌, ◌⊎◌, List, [], ◌++◌, length, Option, Result, Ok, Err}
 use Rattle.ta_shelf.specs.Calls.{Call, Spells}
 use Rattle.ta_shelf.specs.Put.{Told}
@@ -11,8 +11,8 @@ use Rattle.ta_shell.specs.Lines.{file_line, phrase_text}
 use Rattle.ta_shell.specs.Reading.{IsReading, IsUnreadable}
 use Rattle.ta_shell.specs.Sights.{Begins, HasBytes, View, seen}
 
--- what the bytes of a file may be: a value of the one kind, or at a fault of the other, which has words; and the faults of first
--- bytes at which its reading ends, whatever comes behind them
+-- a kind of file: its bytes mean a value, or have an error, which is put in words; and for which errors reading ends, whatever bytes come
+-- after
 pub record Kind (A F : Type 0) : Type 1 where
   pub limit : Limit
   pub means : List ℕ → A → Type 0
@@ -20,13 +20,13 @@ pub record Kind (A F : Type 0) : Type 1 where
   pub broken : List ℕ → F → Type 0
   pub words : F → List ℕ
 
--- the bytes of a name mean a value
+-- the bytes under this name mean a value
 pub record FileMeans {A F : Type 0} (kind : Kind A F) (view : View) (name : List ℕ) (value : A) : Type 0 where
   pub bytes : List ℕ
   pub had : HasBytes view name kind.limit.bytes bytes
   pub means : kind.means bytes value
 
--- a fault is in the bytes of a name
+-- the bytes under this name have an error
 pub record FileIsAtFault {A F : Type 0} (kind : Kind A F) (view : View) (name words : List ℕ) : Type 0 where
   pub bytes : List ℕ
   pub had : HasBytes view name kind.limit.bytes bytes
@@ -34,7 +34,7 @@ pub record FileIsAtFault {A F : Type 0} (kind : Kind A F) (view : View) (name wo
   pub found : kind.at_fault bytes fault
   pub words_are : words ≡ kind.words fault
 
--- the first bytes of a name, no more than its kind allows, are at a fault, and no longer text means a value
+-- the first bytes under this name, no more than its kind allows, have an error, and no longer text means a value
 pub record IsBroken {A F : Type 0} (kind : Kind A F) (view : View) (name words : List ℕ) : Type 0 where
   pub bytes : List ℕ
   pub seen : view name (Begins bytes)
@@ -44,19 +44,19 @@ pub record IsBroken {A F : Type 0} (kind : Kind A F) (view : View) (name words :
   pub hopeless : (more : List ℕ) (value : A) → ¬ kind.means (bytes ++ more) value
   pub words_are : words ≡ kind.words fault
 
--- reading goes on behind such bytes
+-- reading goes on after such bytes
 abbrev pub ReadingGoesOn : {A F : Type 0} → Kind A F → List ℕ → Type 0
 ReadingGoesOn {A} {F} kind bytes = (fault : F) → ¬ kind.broken bytes fault
 
--- the file of a name is no use: the number is that of its kind, and the line says why. A fault before the limit comes before "too
--- long"
+-- the file with this name is refused: the status is that of its kind, and the line says why. An error before the limit is reported before
+-- "too long"
 pub record Hinders {A F : Type 0} (kind : Kind A F) (view : View) (name : List ℕ) (number : ℕ) (line : List ℕ) : Type 0 where
   pub numbered : number ≡ kind.limit.number
   pub words : List ℕ
   pub said : line ≡ file_line name words
   pub wrong : IsUnreadable view name kind.limit.bytes (ReadingGoesOn kind) words ⊎ (FileIsAtFault kind view name words ⊎ IsBroken kind view name words)
 
--- the calls read a file whole, and its bytes mean a value, and then come other calls
+-- the calls read a file whole, its bytes mean a value, and then other calls follow
 pub record Then {A F : Type 0} (kind : Kind A F) (name : List ℕ) (rest : A → List Call → Type 0) (calls : List Call) : Type 0 where
   pub first : List Call
   pub second : List Call
@@ -67,7 +67,7 @@ pub record Then {A F : Type 0} (kind : Kind A F) (name : List ℕ) (rest : A →
   pub means : kind.means bytes value
   pub then : rest value second
 
--- a file is read, and then comes what its value asks for; the files of these names may be put
+-- a file is read, and then comes what its value asks for; the files with these names may be put
 abbrev pub after : {A F : Type 0} → Kind A F → List ℕ → List (List ℕ) → (A → Meaning) → Meaning
 after {A} {F} kind name puts rest = record {
   answers = λ view answer. (value : A) × FileMeans kind view name value × (rest value).answers view answer;
@@ -77,8 +77,8 @@ after {A} {F} kind name puts rest = record {
   puts = puts;
 }
 
--- nothing is read: a value is so, and then comes what it asks for; or something hinders, with this number and this line; the files
--- of these names may be put
+-- nothing is read: a value has a property, and then comes what it asks for; or there is a refusal, with this status and this line; the
+-- files with these names may be put
 abbrev pub finds : {A : Type 0} → (A → Type 0) → (ℕ → List ℕ → Type 0) → List (List ℕ) → (A → Meaning) → Meaning
 finds {A} Is Wrong puts rest = record {
   answers = λ view answer. (value : A) × Is value × (rest value).answers view answer;
@@ -88,7 +88,7 @@ finds {A} Is Wrong puts rest = record {
   puts = puts;
 }
 
--- nothing more is read, and an answer is such
+-- nothing more is read, and the answer has this property
 abbrev pub replies : List (List ℕ) → (Answer → Type 0) → Meaning
 replies puts Such = record {
   answers = λ view answer. Such answer;
@@ -98,7 +98,7 @@ replies puts Such = record {
   puts = puts;
 }
 
--- the same, but that something may hinder: with this number and this line
+-- the same, or a refusal with this status and this line
 abbrev pub settles : List (List ℕ) → (Answer → Type 0) → (ℕ → List ℕ → Type 0) → Meaning
 settles puts Such Wrong = record {
   answers = λ view answer. Such answer;
@@ -108,11 +108,20 @@ settles puts Such Wrong = record {
   puts = puts;
 }
 
--- this text with this number, and no file is put
+-- this text with this status, and no file is put
 pub record Writes (number : ℕ) (text : List ℕ) (answer : Answer) : Type 0 where
   pub numbered : answer.number ≡ number
   pub written : answer.text ≡ text
   pub no_put : answer.puts ≡ []
+
+-- what the bytes of a name give: a value, or a refusal that says at which fault they are
+abbrev pub MeantBy : {A F T : Type 0} → Kind A F → (T → A) → List ℕ → List ℕ → Result T Refusal → Type 0
+MeantBy {A} {F} {T} kind value name bytes (Ok given) = kind.means bytes (value given)
+MeantBy {A} {F} {T} kind value name bytes (Err (Refused number who why)) =
+    (number ≡ kind.limit.number) × (who.now ≡ name) × (fault : F) × kind.at_fault bytes fault × (phrase_text why ≡ kind.words fault)
+MeantBy {A} {F} {T} kind value name bytes (Err (ReadFailed who)) = ⊥
+MeantBy {A} {F} {T} kind value name bytes (Err (PutFailed who)) = ⊥
+MeantBy {A} {F} {T} kind value name bytes (Err Memory) = Unit {0}
 
 -- what reading a file of a kind gives of what is seen in its calls and in the files
 abbrev pub Yields : {A F T : Type 0} → Kind A F → (T → A) → Option Told → List ℕ → Result T Refusal → List Call → Type 0

@@ -1,4 +1,5 @@
-//! How every command is done: its outputs begun, judged, made, its text written, its files published, told.
+//! How every command is done: its outputs are tried, its files read and judged, its answer's files
+//! made, its text written, these files published; a refusal is told.
 #![tactic(auto)]
 
 mod answer;
@@ -16,5 +17,5 @@ pub use command::Command;
 pub use performing::perform;
 pub use phrase::Phrase;
 pub use reading::{Limit, read_text, too_long, unread};
-pub use sparing::{spare, spare_read};
+pub use sparing::spare_read;
 pub use telling::tell_line;

@@ -1,4 +1,4 @@
--- The text of a file as it was understood (this project's profile)
+-- The text of a file as it was understood.
 use Rattle.std.specs.Prelude.{ℕ, ℤ, pos, negsuc, unsigned_abs, ◌+◌, ◌==◌, Bool, true, false, List, [], ◌∷◌, ◌++◌, length, codes, decimal, filter, slice_index_or}
 use Rattle.std.specs.Fmt.{signed_decimal}
 use Rattle.std.specs.List.{range_with_len}
@@ -13,7 +13,7 @@ use Rattle.ta_automaton.specs.declared.pattern.Event.{Event}
 use Rattle.ta_automaton.specs.declared.pattern.Pattern.{Pattern}
 use Rattle.ta_automaton.specs.declared.rule.Rule.{Rule}
 
--- the texts of items, one behind the other
+-- the texts of items, one after the other
 abbrev pub each : {X : Type 0} → (X → List ℕ) → List X → List ℕ
 each f [] = []
 each f (x ∷ xs) = f x ++ each f xs
@@ -35,7 +35,7 @@ name_at names number = slice_index_or names number []
 abbrev pub place_name : Automaton → ℕ → List ℕ
 place_name a place = name_at (a.parameters ++ a.shared ++ a.locations) place
 
--- the numbers of a mask, each behind a space
+-- the numbers of a mask, each after a space
 abbrev pub mask_number : ℕ → List ℕ
 mask_number k = 32 ∷ decimal k
 
@@ -50,16 +50,16 @@ name_text name = name ++ (10 ∷ [])
 abbrev pub location_text : Automaton → ℕ → List ℕ
 location_text a location = name_at a.locations location ++ (10 ∷ [])
 
--- how many of a place, where it isn't one
+-- this many times a place; without the factor if it is one
 abbrev pub many : Bool → ℕ → List ℕ
 many true n = []
 many false n = decimal n ++ codes "*"
 
--- so many of a place, without the sign
+-- this many times a place, without the sign
 abbrev pub amount_text : Automaton → ℕ × ℤ → List ℕ
 amount_text a t = many (unsigned_abs t.1 == 1) (unsigned_abs t.1) ++ (place_name a t.0 ++ (32 ∷ []))
 
--- the sign of what stands first, and of what stands behind something
+-- the sign of what comes first, and of what comes after something
 abbrev pub first_sign : ℤ → List ℕ
 first_sign (pos n) = []
 first_sign (negsuc n) = codes "-"
@@ -68,14 +68,14 @@ abbrev pub next_sign : ℤ → List ℕ
 next_sign (pos n) = codes "+ "
 next_sign (negsuc n) = codes "- "
 
--- a term that stands first, and one behind something
+-- a term that comes first, and one that comes after something
 abbrev pub first_text : Automaton → ℕ × ℤ → List ℕ
 first_text a t = first_sign t.1 ++ amount_text a t
 
 abbrev pub term_text : Automaton → ℕ × ℤ → List ℕ
 term_text a t = next_sign t.1 ++ amount_text a t
 
--- a constant behind terms, where it isn't 0
+-- a constant after terms, if it is not 0
 abbrev pub constant_text : Bool → ℤ → List ℕ
 constant_text true z = []
 constant_text false z = next_sign z ++ (decimal (unsigned_abs z) ++ (32 ∷ []))
@@ -93,11 +93,11 @@ sum_text a f = summands_text a f.terms f.constant
 abbrev pub row_text : Automaton → Row → List ℕ
 row_text a r = sum_text a r.form ++ (codes ">= 0" ++ (10 ∷ []))
 
--- a comparison: its rows, which all have to hold
+-- a comparison: its rows, all of which have to hold
 abbrev pub comparison_text : Automaton → Comparison → List ℕ
 comparison_text a k = listed (codes "rows ") (row_text a) k.rows
 
--- a condition: its comparisons, which all have to hold
+-- a condition: its comparisons, all of which have to hold
 abbrev pub condition_text : List ℕ → Automaton → Condition → List ℕ
 condition_text word a c = listed word (comparison_text a) c.comparisons
 
@@ -121,7 +121,7 @@ event_text a e = (e.name ++ codes " after") ++ (mask_text e.after ++ ((10 ∷ []
 abbrev pub pattern_text : Automaton → Pattern → List ℕ
 pattern_text a p = (p.name ++ codes " empty") ++ (mask_text p.empty ++ ((10 ∷ []) ++ (condition_text (codes "start ") a p.start ++ listed (codes "events ") (event_text a) p.events)))
 
--- a pair of rise guards, of which the first comes before the second
+-- a pair of rise guards; the first comes before the second
 abbrev pub order_text : ℕ × ℕ → List ℕ
 order_text o = decimal o.0 ++ (32 ∷ (decimal o.1 ++ (10 ∷ [])))
 

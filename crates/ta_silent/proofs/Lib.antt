@@ -1,3 +1,3 @@
 -- lemmas for the crates above
-mod NoneNegative
+pub mod NoneNegative
 mod Places

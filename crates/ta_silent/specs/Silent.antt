@@ -1,4 +1,4 @@
--- Names that are to be silent in a file: the places that they are, and why they may not be silent (this project's profile)
+-- Names that are to be silent in a file: which places they are, or why they may not be silent.
 use Rattle.std.specs.Prelude.{ℕ, ℤ, ◌+◌, ◌==◌, ◌≡◌, ◌&&◌, Bool, is_some, List, length, Option, Some, None, Result, Ok, Err, if◌then◌else◌}
 use Rattle.std.specs.List.{filter_map, find, list_any, position, slice_split}
 use Rattle.std.specs.Option.{option_and_then, option_map, option_or}
@@ -14,7 +14,7 @@ use Rattle.ta_silent.specs.declared.fault.SilentFault.TheVariants as fault
 abbrev pub names_in : List ℕ → List (List ℕ)
 names_in text = slice_split (λ c. c == 44) text
 
--- the number of the first of some names that is this one
+-- the number of the first of some names that equals this one
 abbrev pub number_among : List ℕ → List (List ℕ) → Option ℕ
 number_among name names = position (λ other. bytes_eq other name) names
 
@@ -22,13 +22,13 @@ number_among name names = position (λ other. bytes_eq other name) names
 abbrev pub place_named : Automaton → List ℕ → Option ℕ
 place_named a name = option_or (number_among name a.parameters) (option_map (λ number. length a.parameters + number) (number_among name a.shared))
 
--- why a name may not be silent: it is a location's, or none of the file's
+-- why a name may not be silent: it is a location's, or not a name of the file
 abbrev pub fault_of_name : Automaton → List ℕ → Option SilentFault
 fault_of_name a name =
     if is_some (place_named a name) then None
     else Some (if is_some (number_among name a.locations) then fault.WrongKind else fault.Unknown)
 
--- the fault of the first name that may not
+-- the error of the first name that may not be silent
 abbrev pub first_fault : Automaton → List (List ℕ) → Option SilentFault
 first_fault a names = option_and_then (fault_of_name a) (find (λ name. is_some (fault_of_name a name)) names)
 
@@ -40,7 +40,7 @@ places_named a names = filter_map (place_named a) names
 abbrev pub subtracts : List ℕ → Row → Bool
 subtracts silent row = list_any (λ (term : ℕ × ℤ). is_silent silent term.0 && below_zero term.1) row.form.terms
 
--- the first guard that does, with the rise guards first
+-- the first guard that subtracts one, rise guards first
 abbrev pub guard_that_subtracts : Automaton → List ℕ → Option ℕ
 guard_that_subtracts a silent = option_or (position (subtracts silent) a.rise) (option_map (λ number. length a.rise + number) (position (subtracts silent) a.fall))
 
@@ -54,7 +54,7 @@ abbrev pub unless_faulty : Automaton → List ℕ → Option SilentFault → Res
 unless_faulty a places None = unless_subtracted places (guard_that_subtracts a places)
 unless_faulty a places (Some fault) = Err fault
 
--- the silent places of a text of names, or its first fault: of the names in order, then of the guards
+-- the silent places of a text of names, or its first error: of the names in order, then of the guards
 abbrev pub silent_in : Automaton → List ℕ → Result (List ℕ) SilentFault
 silent_in a text = unless_faulty a (places_named a (names_in text)) (first_fault a (names_in text))
 

@@ -46,7 +46,7 @@ fn fault_of_name(automaton: &Automaton, name: &str) -> Option<SilentFault>
     }
 }
 
-/// The fault of the first name of a text that may not be silent.
+/// The error of the first name of a text that may not be silent.
 pub(crate) fn first_fault(automaton: &Automaton, text: &str) -> Option<SilentFault>
     ensures { result ≡ first_fault automaton.now (names_in text.now) }
 {

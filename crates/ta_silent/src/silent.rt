@@ -11,7 +11,7 @@ use std::alloc::Global;
 use ta_automaton::Automaton;
 use ta_base::List;
 
-/// The places of the names of a text, which are to be silent in a file. A fault is the first of the
+/// The places of the names of a text, which are to be silent in a file. An error is the first of the
 /// names in order, then that of the first guard that subtracts one of them.
 pub fn silent_places(
     alloc: Global,

@@ -1,4 +1,4 @@
--- That each system's run ends (this project's profile)
+-- The least-index rule ends on every system, or a pivot leaves the range.
 use Rattle.std.specs.Prelude.{ℕ}
 use Rattle.ta_linear.specs.declared.row.System.{System}
 use Rattle.ta_dense.specs.Tableau.{Tableau}
@@ -15,7 +15,8 @@ RunEnds s = (steps : ℕ) × (t : Tableau) × Reached (slack_tableau s) steps t 
 abbrev pub RunOverflows : System → Type 0
 RunOverflows s = (count : ℕ) × OverflowsAt (slack_tableau s) count
 
--- the run of a system ends, or some pivot leaves the range: the two don't both fail. It is said so since no test of the specs tells whether a pivot stays in range.
+-- the run of a system ends, or some pivot leaves the range. (The logic is constructive, so this is stated as "not neither": no test of the
+-- specs tells which.)
 abbrev pub RunsHaveEnds : Type 0
 RunsHaveEnds = (s : System) → ¬ RunEnds s → ¬ RunOverflows s → ⊥
 

@@ -1,4 +1,4 @@
--- Systems that ended at vertices, each of which begins the next
+-- A branch: systems that ended at vertices, each a beginning of the next.
 use Rattle.std.specs.Prelude.{ℕ, ◌≤◌, ◌≡◌, List, [], ◌∷◌, length, map, reverse, take}
 use Rattle.ta_linear.specs.Rows.{AllBelow}
 use Rattle.ta_linear.specs.declared.row.Row.{Row}
@@ -9,12 +9,13 @@ use Rattle.ta_simplex.specs.Follows.{Follows}
 use Rattle.ta_simplex.specs.declared.branch.Branch.{Branch}
 use Rattle.ta_simplex.specs.declared.branch.Standing.{Standing}
 
--- these are the rows of a system, and the first of these pivots, so many, lead from its slacks to its dictionary
+-- these are the rows of a system, and the first pivots, as many as the system has, lead from its slacks to its dictionary
 pub record StandsOn {D K : Type 0} (tableau : D → Tableau) (ks : List KeptPivot) (rows : List Row) (o : Standing D K) : Type 0 where
   pub below : AllBelow o.unknowns rows
   pub follows : Follows (slack_tableau record { unknowns = o.unknowns; rows = rows; within = below }) ks o.pivots (tableau o.dictionary)
 
--- the systems, the last first, each with no more pivots and rows than the one after it: the first of all rows are its rows
+-- the systems, the last first, each with no more pivots and rows than the one after it in the branch; each has the first of all rows as its
+-- rows
 abbrev pub AreStanding : {D K : Type 0} (tableau : D → Tableau) → List KeptPivot → List Row → ℕ → ℕ → List (Standing D K) → Type 0
 AreStanding tableau ks rows count most [] = Unit {0}
 AreStanding tableau ks rows count most (o ∷ os) = (o.pivots ≤ count) × (o.rows ≤ most) × StandsOn tableau ks (take o.rows rows) o × AreStanding tableau ks rows o.pivots o.rows os
@@ -23,7 +24,7 @@ AreStanding tableau ks rows count most (o ∷ os) = (o.pivots ≤ count) × (o.r
 abbrev pub IsBranch : {D K : Type 0} (tableau : D → Tableau) (pivot_of : K → KeptPivot) → List Row → Branch D K → Type 0
 IsBranch tableau pivot_of rows b = AreStanding tableau (map pivot_of b.kept.items) rows (length b.kept.items) (length rows) (reverse b.systems.items)
 
--- a branch of other rows, so many of which are the same
+-- a branch over other rows, of which the first, this many, are the same as these
 pub record SharesRows {D K : Type 0} (tableau : D → Tableau) (pivot_of : K → KeptPivot) (b : Branch D K) (same : ℕ) (rows : List Row) : Type 0 where
   pub before : List Row
   pub branch : IsBranch tableau pivot_of before b

@@ -1,4 +1,4 @@
--- How solving ends
+-- How solving ends: refuted by a Farkas certificate, at a vertex, or with a pivot out of range.
 use Rattle.ta_linear.specs.declared.row.System.{System}
 use Rattle.ta_dense.specs.Slack.{slack_tableau}
 use Rattle.ta_simplex.specs.LeastIndex.{OverflowsAt}

@@ -1,4 +1,4 @@
--- The laws of the least-index rule
+-- The laws of the least-index rule: its end is unique and, at a vertex of natural numbers, solves the system.
 use Rattle.std.specs.Prelude.{ℕ, suc, ◌+◌, ◌-◌, ◌^◌, ◌<◌, ◌≤◌, ◌≡◌, List, ℤ, pos, ◌*ℤ◌, length, min, slice_get, slice_index, IsSomeAnd, ◌≤ℤ◌, All}
 use Rattle.ta_linear.specs.SameNumbers.{SameNumbers}
 use Rattle.ta_linear.specs.Values.{Solves}
@@ -16,13 +16,13 @@ use Rattle.ta_simplex.specs.Vertex.{MeetRows}
 use Rattle.ta_simplex.specs.declared.End.{End}
 use Rattle.ta_simplex.specs.declared.fraction.Fraction.{Fraction}
 
--- from the slacks on, the rule leads to one tableau for each number of steps, and it ends at one number of steps at most
+-- from the slacks on, the rule leads to one tableau for each number of steps, and it ends at no more than one number of steps
 pub record RunsAreDetermined : Type 0 where
   pub same : (s : System) (k : ℕ) (t t' : Tableau) → Reached (slack_tableau s) k t → Reached (slack_tableau s) k t' → t ≡ t'
   pub once : (s : System) (j k : ℕ) (t t' : Tableau) → Reached (slack_tableau s) j t → RuleEnds t → Reached (slack_tableau s) k t' → RuleEnds t' → j ≡ k
 
--- systems of the same numbers have one end, which is one list of multipliers or one of values; none where a pivot leaves the range; and the pivot
--- that does is of one number
+-- systems with the same numbers have one end: one list of multipliers or one of values; none if a pivot leaves the range; and the number of
+-- the pivot that leaves it is unique
 pub record EndsAreDetermined : Type 0 where
   pub one : (s z : System) → SameNumbers s z → (e f : End) → IsEnd s e → IsEnd z f → e ≡ f
   pub none : (s z : System) → SameNumbers s z → (e : End) (k : ℕ) → IsEnd s e → OverflowsAt (slack_tableau z) k → ⊥
@@ -34,7 +34,7 @@ WholeVerticesSolve =
     (s : System) (values : List Fraction) (numbers : List ℕ) → MeetRows s values → length numbers ≡ s.unknowns →
     ((x : ℕ) → x < s.unknowns → IsSomeAnd (slice_get values x) (λ f. f.top ≡ pos (slice_index numbers x) *ℤ f.bottom)) → Solves s numbers
 
--- where no row has a positive constant, the numbers over the common scale of a vertex solve the system themselves
+-- if no row has a positive constant, the numbers over the common scale of a vertex solve the system themselves
 abbrev pub ScaledVerticesSolve : Type 0
 ScaledVerticesSolve =
     (s : System) (values : List Fraction) (m : MeetRows s values) → All (λ (r : Row). r.form.constant ≤ℤ pos 0) s.rows → (numbers : List ℕ) → length numbers ≡ s.unknowns →
@@ -48,7 +48,8 @@ MultipliersAreFew = (s : System) (ts : List (ℕ × ℤ)) → IsRefuted s ts →
 pub record PrefixesGoFirst : Type 0 where
   -- each run has its list of pivots
   pub listed : (s : System) (k : ℕ) (t : Tableau) → Reached (slack_tableau s) k t → (ks : List KeptPivot) × (length ks ≡ k) × Follows (slack_tableau s) ks k t
-  -- the pivots with which the shorter's run begins are the longer's first, and lead to the extended tableau, where no new row leaves the range in them
+  -- the pivots with which the shorter's run begins are the longer's first, and lead to the extended tableau, where no new row leaves the
+  -- range in them
   pub first : (s l : System) (ks : List KeptPivot) (t : Tableau) → BeginsSystem s l → Follows (slack_tableau s) ks (length ks) t →
       StayInRange l.unknowns ks (length ks) (new_rows t l) → Follows (slack_tableau l) ks (length ks) (extended t ks l) × Reached (slack_tableau l) (length ks) (extended t ks l)
   -- the longer's run ends at the first of them in which a new row does

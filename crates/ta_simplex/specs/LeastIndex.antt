@@ -1,4 +1,5 @@
--- The least-index rule (Bland's rule, in its form for feasibility)
+-- The least-index rule of the simplex method, in its form for feasibility. Source: Bland, New Finite Pivoting Rules for the Simplex Method,
+-- 1977.
 use Rattle.std.specs.Prelude.{ℕ, zero, suc, ◌-◌, ◌^◌, ◌≡◌, ◌⊎◌, min}
 use Rattle.ta_dense.specs.Tableau.{Tableau, pivoted}
 pub use Rattle.ta_dense.specs.Leaving.{Leaves, NoneLeaves}
@@ -24,11 +25,11 @@ pub record Stuck (t : Tableau) (row : ℕ) : Type 0 where
   pub leaves : Leaves t row
   pub none_enters : NoneEnters t row
 
--- a count, which stands still at its type's end
+-- a count, which stops at its type's maximum
 abbrev pub IsCount : ℕ → ℕ → Type 0
 IsCount k count = count ≡ min k (2 ^ 64 - 1)
 
--- the pivot of this count leaves the range, and those before stay in it
+-- the pivot with this count leaves the range, and those before stay in it
 pub record OverflowsAt (start : Tableau) (count : ℕ) : Type 0 where
   pub steps : ℕ
   pub counted : IsCount (suc steps) count

@@ -1,3 +1,4 @@
+-- Where the least-index rule stops.
 use Rattle.std.specs.Prelude.{ℕ, Option, Some, None}
 use Rattle.ta_dense.specs.Tableau.{Tableau}
 use Rattle.ta_simplex.specs.LeastIndex.{NoneLeaves, Stuck}

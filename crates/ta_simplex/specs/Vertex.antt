@@ -1,4 +1,4 @@
--- The vertex at which the rule ends
+-- The vertex (basic feasible solution) at which the rule ends.
 use Rattle.std.specs.Prelude.{ℕ, ◌<◌, List, ℤ, pos, ◌*ℤ◌, ◌≤ℤ◌, ◌≡◌, length, map, slice_get, All, IsSomeAnd}
 use Rattle.ta_linear.specs.declared.row.System.{System}
 use Rattle.ta_dense.specs.Tableau.{Tableau, row_of, basic_of, non_basic_of}
@@ -25,7 +25,8 @@ pub record GivesValues (t : Tableau) (unknowns : ℕ) (values : List Fraction) :
   pub basic : (i : ℕ) → i < length t.rows → basic_of t i < unknowns → ValueIs values (basic_of t i) (row_of t i).constant (row_of t i).denominator
   pub non_basic : (j : ℕ) → j < length t.non_basic → non_basic_of t j < unknowns → ValueIs values (non_basic_of t j) (pos 0) (pos 1)
 
--- the values are at least 0 and meet every row: for a common scale, each is a whole number at least 0 over the scale, and at these numbers each row's linear part plus the scale times its constant is at least 0
+-- the values are at least 0 and meet every row: for a common scale, each is a natural number over the scale, and at these numbers each
+-- row's linear part plus the scale times its constant is at least 0
 pub record MeetRows (s : System) (values : List Fraction) : Type 0 where
   pub scale : ℕ
   pub numbers : ℕ → ℤ
@@ -35,7 +36,7 @@ pub record MeetRows (s : System) (values : List Fraction) : Type 0 where
   pub not_negative : (x : ℕ) → x < s.unknowns → IsSomeAnd (slice_get values x) (λ f. pos 0 ≤ℤ f.top)
   pub rows_hold : All (λ r. pos 0 ≤ℤ slack_at r (pos scale) numbers) s.rows
 
--- the rule ends where no constant is negative
+-- the rule ends with no negative constant
 pub record IsVertex (s : System) (values : List Fraction) : Type 0 where
   pub steps : ℕ
   pub tableau : Tableau

@@ -1,4 +1,16 @@
-//! Solving systems that come one after another, each beside the last ones that it begins with.
+//! Solves the systems of a branch of a tree, each from the dictionary of one above it.
+//!
+//! A child's system begins with its parent's rows; its new unknowns have coefficient 0 there, and
+//! its new slacks have greater numbers. So the pivots of the parent are the first pivots of the
+//! child (`prefixes_go_first`), and the child goes on from the parent's last dictionary, extended
+//! by the new rows, with the result that it has from nothing. The branch keeps the dictionaries of
+//! the nodes that ended at a basic feasible solution, and one list of pivots for all: those that
+//! led to a node are the first of the list.
+//!
+//! The caller says how many rows of a system are those of the system before. Dictionaries with more
+//! rows than these are given up, and the last one left is extended; where none is left, the system
+//! begins with its slacks. All together hold about 48 MB at most; beyond that the outermost are
+//! given up. No result depends on which are at hand.
 #![tactic(auto)]
 
 ghost use Rattle.std.specs.Prelude.{ℕ, ◌≡◌, ◌<◌, ◌^◌, List, IfOk, IfErr, IsTrue, length, map, reverse, []};

@@ -1,4 +1,18 @@
-//! Solving systems over natural unknowns in rational numbers, by the least-index rule.
+//! Feasibility of linear systems over nonnegative rationals: the simplex method with Bland's rule.
+//!
+//! At first every slack is basic. While a basic variable is negative, the least of these leaves,
+//! and the least nonbasic variable with a positive coefficient in its row enters. If none can
+//! enter, that row is a contradiction, and its coefficients are the multipliers of a Farkas
+//! certificate (multipliers.rt). If no basic variable is negative, the constants are a basic
+//! feasible solution (vertex.rt).
+//!
+//! Why it returns: no basis comes back (proofs/Bland.antt), so there are fewer pivots than sets of
+//! variables. The rule leaves no choice, so values, multipliers and the number of pivots are the
+//! same on every machine (`ends_are_determined`).
+//!
+//! Along a branch of a tree a child goes on from its parent's last dictionary (branch.rt).
+//!
+//! Source: Bland's rule, in its form for feasibility.
 #![tactic(auto)]
 
 use ta_base::List;

@@ -1,4 +1,10 @@
-//! The multipliers of a refuted row.
+//! The Farkas multipliers of a row in which nothing can enter.
+//!
+//! The row says `d*v = b + sum of c*x` with b negative and no c positive. So d times v plus each -c
+//! times its x is b, a sum of nonnegative parts that is negative. A slack has the value of its row,
+//! so the multiplier of a row is what its slack has in that sum: d for v, -c for x. The sum of the
+//! rows is then b less what the unknowns have in it: no coefficient is positive, and the constant
+//! is b.
 #![tactic(auto)]
 
 ghost use Rattle.std.specs.Prelude.{◌≡◌, ◌+◌, ◌^◌, ◌<◌, ◌≤◌, length, IfOk};

@@ -1,4 +1,4 @@
-//! The pivots of the least-index rule.
+//! The loop of Bland's rule: pivots until no basic variable is negative, or none can enter.
 #![tactic(auto)]
 
 ghost use Rattle.std.specs.Prelude.{◌≡◌, ◌++◌, ◌<◌, ◌^◌, ℕ, List, IfOk, IfErr, length, map};

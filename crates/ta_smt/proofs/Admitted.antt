@@ -106,7 +106,7 @@ solution_counts file word values s is solution =
       λ k d b. holds_same (λ x. pos (slice_index solution.values x)) (point_of values) alike (get_or s.rows k d) (solved.rows_hold k d b),
     )
 
--- admitted values have no fault
+-- admitted values have no error
 no_fault : (file : File) (word : AskedWord) (bytes : List ℕ) (run : Run) (found : AdmitFault) → Admits file word bytes run → found ≢ fault.Memory → AdmitFaultOf file word bytes found → ⊥
 no_fault file word bytes run fault.Incomplete is none bad =
     let same = same_pattern file word.pattern is.solution.pattern bad.pattern is.solution.named bad.named in

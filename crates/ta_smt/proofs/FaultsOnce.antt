@@ -1,4 +1,4 @@
--- A word and its values have one fault.
+-- A word and its values have one error.
 use Rattle.ta_smt.proofs.Common.{◌≡◌, ℕ, ℤ, true, List, length, reverse, arith, refl, sym, ap, subst, ◌∙◌, false≢true, same_pattern, point_of, Row, File, Pattern, RowFails, RowOutOfRange, RowPasses, RowsPass, is_complete, AdmitFault, AdmitFaultOf, AskedWord, FirstBadRow, IsCompleteWord, IsIncomplete, AdmittedRunOutOfRange, WrongCount, RowStops, NoChild, NoWhole, Spelling, WholeFaultOf, WordFaultOf, FirstStranger, ◌≢◌}
 use Rattle.ta_replay.proofs.FirstBad.{BothBad, RowClash, fails_clash, leaves_clash, meets, no_stop_at, not_both_bad}
 use Rattle.ta_smt.specs.declared.fault.AdmitFault.TheVariants as fault

@@ -41,7 +41,7 @@ whole_exact file spelled word whole fault.Incomplete bad =
     let same = one_named file spelled.name word.pattern bad.word.pattern whole.is.pattern bad.is.pattern whole.is.named bad.is.named in
     false≢true (sym bad.incomplete ∙ subst (λ (p : Pattern). is_complete p (reverse spelled.elements) ≡ true) same whole.complete)
 
--- what was found in the order of the faults
+-- what was found in the order of the errors
 pub no_start : (file : File) (name : List ℕ) (start : ℕ) (elements : List Element) (number : ℕ) → (pattern : Pattern) × IsNamed file.patterns name number pattern → 2 ^ length file.automaton.fall ≤ start → WordFaultOf file (record { name = name; start = start; elements = elements }) fault.Start
 no_start file name start elements number named beyond = record { number = number; pattern = named.0; named = named.1; beyond = beyond }
 

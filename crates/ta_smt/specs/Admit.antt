@@ -1,4 +1,4 @@
--- Values that others found for the unknowns of a word, and the run that they stand for (this project's profile)
+-- Values that another solver found for the unknowns of a schema, and the run that they stand for.
 use Rattle.std.specs.Prelude.{ℕ, ℤ, ◌≡◌, ◌≢◌, false, true, List, [], length, reverse, slice_get, Some}
 use Rattle.ta_linear.specs.declared.row.Row.{Row}
 use Rattle.ta_linear.specs.declared.row.System.{System}
@@ -20,7 +20,7 @@ use Rattle.ta_smt.specs.declared.fault.AdmitFault.{AdmitFault}
 use Rattle.ta_smt.specs.declared.fault.AdmitFault.TheVariants as fault
 use Rattle.ta_smt.specs.Values.{FirstBadLine, IsValuesText}
 
--- a word of a pattern and a start set
+-- a schema of a pattern and a start set
 pub record AskedWord : Type 0 where
   pub pattern : ℕ
   pub start : ℕ
@@ -29,11 +29,11 @@ pub record AskedWord : Type 0 where
 abbrev pub asked : ℕ → ℕ → List Element → AskedWord
 asked pattern start elements = record { pattern = pattern; start = start; elements = elements }
 
--- with values for its unknowns
+-- the solution of that schema with these values
 abbrev pub solution_of : AskedWord → List ℤ → Solution
 solution_of word values = record { pattern = word.pattern; start_mask = word.start; word = word.elements; values = values }
 
--- the system of the word, without bounds
+-- the system of the schema, without bounds
 pub record SystemAsked (file : File) (word : AskedWord) (system : System) : Type 0 where
   pub pattern : Pattern
   pub named : slice_get file.patterns word.pattern ≡ Some pattern
@@ -43,8 +43,8 @@ pub record SystemAsked (file : File) (word : AskedWord) (system : System) : Type
 abbrev pub SystemStays : List ℤ → System → Type 0
 SystemStays values system = AllPass (λ j (row : Row). StaysInRange (point_of values) row.form.constant row.form.terms) system.rows
 
--- the bytes are the text of values that solve the complete word's system, no number of the rows' evaluation or of the run's
--- replay leaves the range, and the run is that of this solution: it shows the pattern, and is short
+-- the bytes are the text of values that solve the complete schema's system, all numbers of the rows' evaluation and of the run's replay
+-- stay in range, and the run is that of this solution: it shows the pattern, and is short
 pub record Admits (file : File) (word : AskedWord) (bytes : List ℕ) (run : Run) : Type 0 where
   pub values : List ℤ
   pub spelled : IsValuesText values bytes
@@ -56,25 +56,25 @@ pub record Admits (file : File) (word : AskedWord) (bytes : List ℕ) (run : Run
   pub stays : ReplayStays file run
   pub short : IsShortRun file run
 
--- the word has not each event of the pattern
+-- the schema lacks an event of the pattern
 pub record IsIncomplete (file : File) (word : AskedWord) : Type 0 where
   pub pattern : Pattern
   pub named : slice_get file.patterns word.pattern ≡ Some pattern
   pub incomplete : is_complete pattern (reverse word.elements) ≡ false
 
--- the word has each event of the pattern
+-- the schema has each event of the pattern
 pub record IsCompleteWord (file : File) (word : AskedWord) : Type 0 where
   pub pattern : Pattern
   pub named : slice_get file.patterns word.pattern ≡ Some pattern
   pub complete : is_complete pattern (reverse word.elements) ≡ true
 
--- a complete word and its system
+-- a complete schema and its system
 pub record CompleteSystem (file : File) (word : AskedWord) : Type 0 where
   pub system : System
   pub is : SystemAsked file word system
   pub complete : IsCompleteWord file word
 
--- as many values as lines, which aren't as many as unknowns
+-- as many values as lines, which are not as many as unknowns
 pub record WrongCount (file : File) (word : AskedWord) (bytes : List ℕ) (lines : ℕ) : Type 0 where
   pub of : CompleteSystem file word
   pub values : List ℤ
@@ -82,7 +82,7 @@ pub record WrongCount (file : File) (word : AskedWord) (bytes : List ℕ) (lines
   pub counted : lines ≡ length values
   pub other : lines ≢ of.system.unknowns
 
--- as many values as unknowns, and row k is the first that is bad, where all before it hold in a range that they stay in
+-- as many values as unknowns, and row k is the first that is bad; all before it hold, and stay in range
 pub record FirstBadRow (file : File) (word : AskedWord) (bytes : List ℕ) (Bad : (ℕ → ℤ) → Row → Type 0) (k : ℕ) : Type 0 where
   pub of : CompleteSystem file word
   pub values : List ℤ
@@ -99,12 +99,12 @@ pub record AdmittedRunOutOfRange (file : File) (word : AskedWord) (bytes : List 
   pub solution : IsSolution file (solution_of word values)
   pub leaves : WitnessOutOfRange file (solution_of word values)
 
--- the first bad line of the values, where the word is complete
+-- the first bad line of the values, if the schema is complete
 pub record BadLine (file : File) (word : AskedWord) (bytes : List ℕ) (line : ℕ) : Type 0 where
   pub complete : IsCompleteWord file word
   pub first : FirstBadLine bytes line
 
--- why there is no run, in this order; want of memory is free
+-- why there is no run, in this order; "out of memory" is always allowed
 abbrev pub AdmitFaultOf : File → AskedWord → List ℕ → AdmitFault → Type 0
 AdmitFaultOf file word bytes fault.Incomplete = IsIncomplete file word
 AdmitFaultOf file word bytes (fault.Line line) = BadLine file word bytes line
@@ -114,7 +114,7 @@ AdmitFaultOf file word bytes (fault.Overflow k) = FirstBadRow file word bytes Ro
 AdmitFaultOf file word bytes fault.Run = AdmittedRunOutOfRange file word bytes
 AdmitFaultOf file word bytes fault.Memory = Unit {0}
 
--- values that a run is written for have no fault, and one run
+-- values with a run have no error, and one run
 abbrev pub AdmitsAreExact : Type 0
 AdmitsAreExact =
     (file : File) (word : AskedWord) (bytes : List ℕ) (run : Run) → Admits file word bytes run

@@ -1,4 +1,4 @@
--- What the text of a script says of values of its unknowns (SMT-LIB 2.6, theory of whole numbers)
+-- What the text of a script says of values of its unknowns (SMT-LIB 2.6, theory Ints).
 use Rattle.std.specs.Prelude.{ℕ, ℤ, pos, ◌≡◌, ◌+ℤ◌, ◌*ℤ◌, ◌≤ℤ◌, List, [], ◌∷◌, length}
 use Rattle.std.specs.List.{AllByRecursion}
 use Rattle.ta_linear.specs.Values.{point_of}

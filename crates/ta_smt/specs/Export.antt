@@ -1,4 +1,4 @@
--- The script of a system: its solutions are what its text denotes (this project's profile)
+-- The script of a system: what its text denotes are the solutions of the system.
 use Rattle.std.specs.Prelude.{ℕ, ℤ, suc, pos, negsuc, ◌≡◌, ◌==◌, ◌↔◌, if◌then◌else◌, List, [], ◌∷◌, ◌++◌, map, flat_map}
 use Rattle.ta_linear.specs.declared.form.Form.{Form}
 use Rattle.ta_linear.specs.declared.row.Row.{Row}
@@ -17,7 +17,7 @@ part Left (negsuc n) = 0
 part Right (pos n) = 0
 part Right (negsuc n) = suc n
 
--- so many times an unknown: nothing where it is 0, the unknown alone where it is 1
+-- this many times an unknown: nothing where it is 0, the unknown alone where it is 1
 abbrev pub multiple : ℕ → ℕ → List Summand
 multiple factor number = if factor == 0 then [] else (if factor == 1 then Unknown number ∷ [] else Product factor number ∷ [])
 
@@ -33,7 +33,7 @@ on_side side t = multiple (part side t.1) t.0
 abbrev pub summands : Side → Form → List Summand
 summands side form = flat_map (on_side side) form.terms ++ constant (part side form.constant)
 
--- no summand is `0`, one stands alone
+-- a sum of summands: `0` for none, a single one stands alone
 abbrev pub summed_term : List Summand → Term
 summed_term [] = Lone (Numeral 0)
 summed_term (s ∷ []) = Lone s
@@ -55,12 +55,12 @@ script_of system = record { unknowns = system.unknowns; asserted = map natural_c
 abbrev pub system_text : System → List ℕ
 system_text system = script_text (script_of system)
 
--- whole numbers that are natural and solve a system
+-- integers that are natural and solve a system
 pub record IsNaturalSolution (system : System) (values : List ℤ) : Type 0 where
   pub naturals : List ℕ
   pub are : values ≡ map pos naturals
   pub solve : Solves system naturals
 
--- the text denotes just the natural solutions of the system, whatever whole numbers are asked about
+-- the text denotes exactly the natural solutions of the system, among all lists of integers
 abbrev pub DenotesSolutions : System → List ℕ → Type 0
 DenotesSolutions system text = (values : List ℤ) → Denotes text values ↔ IsNaturalSolution system values

@@ -1,4 +1,4 @@
--- Words that a file has, by the name of their pattern, a start set and their elements, and why it hasn't one (this project's profile)
+-- Schemas of a file by the name of their pattern, a start set and their elements; and why a file does not have one.
 use Rattle.std.specs.Prelude.{ℕ, ℤ, pos, ◌<◌, ◌≤◌, ◌^◌, ◌≡◌, ◌↔◌, false, true, List, [], length, map, reverse, slice_get, Some}
 use Rattle.ta_linear.specs.declared.row.System.{System}
 use Rattle.ta_automaton.specs.declared.file.File.{File}
@@ -13,7 +13,7 @@ use Rattle.ta_smt.specs.Denotes.{Denotes}
 use Rattle.ta_smt.specs.Export.{system_text}
 use Rattle.ta_smt.specs.Spelling.{FirstStranger}
 
--- a word by names and numbers: its pattern's name, its start set, where bit j stands for fall guard j, and its elements
+-- a schema by names and numbers: its pattern's name, its start set, where bit j stands for fall guard j, and its elements
 pub record Spelling : Type 0 where
   pub name : List ℕ
   pub start : ℕ
@@ -27,11 +27,11 @@ pub record IsNamed (patterns : List Pattern) (name : List ℕ) (number : ℕ) (p
   pub at : slice_get patterns number ≡ Some pattern
   pub named : pattern.name ≡ name
 
--- the start set names guards of the file alone
+-- the start set names only guards of the file
 abbrev pub IsStartSet : File → ℕ → Type 0
 IsStartSet file start = start < 2 ^ length file.automaton.fall
 
--- the file has the word: a pattern with the name, fall guards for the start set, and each element is a child of those before it
+-- the file has the schema: a pattern with the name, fall guards for the start set, and each element is a child of those before it
 pub record IsWordOf (file : File) (spelled : Spelling) (word : AskedWord) : Type 0 where
   pub pattern : Pattern
   pub named : IsNamed file.patterns spelled.name word.pattern pattern
@@ -40,13 +40,13 @@ pub record IsWordOf (file : File) (spelled : Spelling) (word : AskedWord) : Type
   pub elements : word.elements ≡ spelled.elements
   pub legal : LegalWord file.automaton pattern spelled.start (reverse spelled.elements)
 
--- the word is one of a pattern of the file, and legal
+-- the schema is one of a pattern of the file, and legal
 pub record IsLegalWord (file : File) (word : AskedWord) : Type 0 where
   pub pattern : Pattern
   pub named : slice_get file.patterns word.pattern ≡ Some pattern
   pub legal : LegalWord file.automaton pattern word.start (reverse word.elements)
 
--- the file has the word, which has each event of the pattern
+-- the file has the schema, which has each event of the pattern
 pub record IsWholeWordOf (file : File) (spelled : Spelling) (word : AskedWord) : Type 0 where
   pub is : IsWordOf file spelled word
   pub complete : is_complete is.pattern (reverse spelled.elements) ≡ true
@@ -58,7 +58,7 @@ pub record HasNoStartSet (file : File) (spelled : Spelling) : Type 0 where
   pub named : IsNamed file.patterns spelled.name number pattern
   pub beyond : 2 ^ length file.automaton.fall ≤ spelled.start
 
--- the file has both, and element k is no child of those before it, which make a legal word
+-- the file has both, and element k is not a child of those before it, which make a legal schema
 pub record NoChild (file : File) (spelled : Spelling) (k : ℕ) : Type 0 where
   pub number : ℕ
   pub pattern : Pattern
@@ -66,25 +66,25 @@ pub record NoChild (file : File) (spelled : Spelling) (k : ℕ) : Type 0 where
   pub begins : IsStartSet file spelled.start
   pub stranger : FirstStranger file.automaton pattern spelled.start spelled.elements k
 
--- the file has the word, but it has not each event of the pattern
+-- the file has the schema, but it lacks an event of the pattern
 pub record NoWhole (file : File) (spelled : Spelling) : Type 0 where
   pub word : AskedWord
   pub is : IsWordOf file spelled word
   pub incomplete : is_complete is.pattern (reverse spelled.elements) ≡ false
 
--- why the file hasn't the word, in this order
+-- why the file does not have the schema, in this order
 abbrev pub WordFaultOf : File → Spelling → WordFault → Type 0
 WordFaultOf file spelled fault.Pattern = (number : ℕ) (pattern : Pattern) → ¬ IsNamed file.patterns spelled.name number pattern
 WordFaultOf file spelled fault.Start = HasNoStartSet file spelled
 WordFaultOf file spelled (fault.Element k) = NoChild file spelled k
 WordFaultOf file spelled fault.Incomplete = ⊥
 
--- why the file hasn't the word, or it isn't complete, in this order
+-- why the file does not have the schema, or it is not complete, in this order
 abbrev pub WholeFaultOf : File → Spelling → WordFault → Type 0
 WholeFaultOf file spelled fault.Incomplete = NoWhole file spelled
 WholeFaultOf file spelled found = WordFaultOf file spelled found
 
--- whole numbers that are natural and solve the system of a word, without bounds
+-- integers that are natural and solve the system of a schema, without bounds
 pub record SolvesAsked (file : File) (word : AskedWord) (values : List ℤ) : Type 0 where
   pub pattern : Pattern
   pub named : slice_get file.patterns word.pattern ≡ Some pattern
@@ -92,20 +92,20 @@ pub record SolvesAsked (file : File) (word : AskedWord) (values : List ℤ) : Ty
   pub are : values ≡ map pos naturals
   pub solves : SolvesWord file.automaton pattern word.start (reverse word.elements) [] naturals
 
--- the text is that of the word's system, and denotes just its natural solutions, whatever whole numbers are asked about
+-- the text is that of the schema's system, and denotes exactly its natural solutions, among all lists of integers
 pub record IsWordText (file : File) (word : AskedWord) (text : List ℕ) : Type 0 where
   pub system : System
   pub is : SystemAsked file word system
   pub written : text ≡ system_text system
   pub denotes : (values : List ℤ) → Denotes text values ↔ SolvesAsked file word values
 
--- a file has at most one word that is spelled so, and then no fault of it
+-- a file has at most one schema that is spelled so, and if it has one there is no error
 abbrev pub WordsAreExact : Type 0
 WordsAreExact =
     (file : File) (spelled : Spelling) (word : AskedWord) → IsWordOf file spelled word
     → ((found : WordFault) → ¬ WordFaultOf file spelled found)
     × ((other : AskedWord) → IsWordOf file spelled other → other ≡ word)
 
--- and a complete one has no fault of complete words
+-- the same for complete schemas
 abbrev pub WholeWordsAreExact : Type 0
 WholeWordsAreExact = (file : File) (spelled : Spelling) (word : AskedWord) → IsWholeWordOf file spelled word → (found : WordFault) → ¬ WholeFaultOf file spelled found

@@ -1,5 +1,4 @@
--- Scripts of SMT-LIB 2.6 in the logic QF_LIA, as far as systems of rows need them, and their texts (SMT-LIB 2.6; the layout is
--- this project's profile)
+-- Scripts in the logic QF_LIA, as far as systems of rows need them, and their texts. Source: SMT-LIB 2.6.
 use Rattle.std.specs.Prelude.{ℕ, ◌<◌, ◌^◌, List, [], ◌∷◌, ◌++◌, codes, decimal, map}
 use Rattle.std.specs.List.{AllByRecursion, range_with_len}
 use Rattle.ta_replay.specs.RunText.{lines_text}
@@ -20,7 +19,7 @@ pub record AtLeast : Type 0 where
   pub left : Term
   pub right : Term
 
--- how many unknowns are declared, each a whole number, and what is asserted, in order
+-- how many unknowns are declared, each an integer, and what is asserted, in order
 pub record Script : Type 0 where
   pub unknowns : ℕ
   pub asserted : List AtLeast

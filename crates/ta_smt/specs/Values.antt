@@ -1,4 +1,4 @@
--- The text of values, and its first bad line (this project's profile)
+-- The text of values, and its first bad line.
 use Rattle.std.specs.Prelude.{ℕ, ℤ, ◌+◌, ◌≡◌, ◌≢◌, ◌⊎◌, List, [], ◌∷◌, ◌++◌, length, map}
 use Rattle.std.specs.Fmt.{signed_decimal}
 use Rattle.std.specs.List.{AllByRecursion}
@@ -16,12 +16,12 @@ pub record IsValuesText (values : List ℤ) (bytes : List ℕ) : Type 0 where
   pub numbers : AllByRecursion Value values
   pub text : bytes ≡ values_text values
 
--- the first line isn't finished
+-- the first line is unfinished
 pub record IsUnfinished (rest : List ℕ) : Type 0 where
   pub some : rest ≢ []
   pub no_feed : Avoids 10 rest
 
--- the first line is no number
+-- the first line is not a number
 pub record IsNoNumber (rest : List ℕ) : Type 0 where
   pub line : List ℕ
   pub behind : List ℕ
@@ -29,7 +29,7 @@ pub record IsNoNumber (rest : List ℕ) : Type 0 where
   pub no_feed : Avoids 10 line
   pub other : (value : ℤ) → ¬ IsNumber line value
 
--- lines are counted from 1: those before this one are values, and it is none or isn't finished
+-- lines are counted from 1: those before this one are values, and it is not a value or is unfinished
 pub record FirstBadLine (bytes : List ℕ) (number : ℕ) : Type 0 where
   pub values : List ℤ
   pub rest : List ℕ

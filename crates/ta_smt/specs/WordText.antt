@@ -1,4 +1,4 @@
--- The texts by which a word is named: its pattern's name, its start set and its elements (this project's profile)
+-- The texts that name a schema: its pattern's name, its start set and its elements.
 use Rattle.std.specs.Prelude.{ℕ, zero, suc, ◌&&◌, ◌==◌, Bool, false, List, [], ◌∷◌, codes, decimal, not, Option, None, Some, if◌then◌else◌, option_and_then, option_map}
 use Rattle.std.specs.List.{list_all, list_any, slice_split}
 use Rattle.std.specs.Option.{unwrap_or}
@@ -7,7 +7,7 @@ use Rattle.ta_base.specs.Bytes.{is_letter, is_word}
 use Rattle.ta_words.specs.declared.element.Element.{Element}
 use Rattle.ta_words.specs.declared.element.Element.TheVariants.{Event, Rise, Fall}
 
--- the words that are no names
+-- the keywords, which are not names
 abbrev pub keywords : List (List ℕ)
 keywords =
     codes "automaton" ∷ codes "parameters" ∷ codes "shared" ∷ codes "locations" ∷ codes "initial" ∷ codes "processes" ∷ codes "resilience" ∷ codes "rule" ∷ codes "when"

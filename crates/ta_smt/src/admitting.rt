@@ -25,7 +25,7 @@ use ta_witness::{WitnessFault, witness};
 use ta_words::{Task, Word, is_complete};
 
 /// The run that the values of a text stand for, one for each unknown of a complete word's system. The
-/// faults come in the order of their names.
+/// errors come in the order of their names.
 pub fn admit(
     alloc: Global,
     scoped: &ScopedFile,

@@ -115,7 +115,7 @@ no_rule = many_avoids_mark mark.Rule mark.Pattern pattern_part nothing (λ e. cc
 start_ready : IsReady at_start
 start_ready = record { closed = refl; room = lit< tt }
 
--- a fault of the whole file
+-- an error of the whole file
 abbrev pub WholeStops : ℕ → List Token → FileFault → Type 0
 WholeStops end tokens e = IsStopped (Text whole_file) at_start end tokens e
 

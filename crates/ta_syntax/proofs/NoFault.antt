@@ -1,4 +1,4 @@
--- A text of the grammar within the limits has no fault.
+-- A text of the grammar within the limits has no error.
 use Rattle.ta_syntax.proofs.Common.{◌≡◌, ℕ, List, [], ◌∷◌, ◌++◌, length, refl, sym, ap, subst, ◌∙◌, PlainTree, FileText, file_kinds, Counts, at_start, run, counted_after, StaysWithin, IsDeep, IsMany, IsTreeWithin, AreTokens, kinds, SameStart, IsWrong, IsPast, FirstGrammarFault, plain_tree, IsTextOf, IsTreeOf, Kind, Tree, Token, FileFault}
 use Rattle.ta_syntax.specs.declared.fault.FileFault.TheVariants as fault
 use Rattle.ta_syntax.proofs.Steps.{kinds-append}

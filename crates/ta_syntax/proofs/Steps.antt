@@ -101,7 +101,7 @@ module _ {L M : GrammarPart} {c d : Counts} {tokens mid : List Token} {text : Li
         past = subst (λ (z : Counts). over z w.first.kind) (sym (ap (run c) whole ∙ run-append c text (kinds w.front) ∙ ap (λ (z : Counts). run z (kinds w.front)) a.counted)) w.past;
       }
 
-  -- a reader's fault is the fault of the reader around it
+  -- a reader's error is the error of the reader around it
   pub stops : (e : FileFault) → IsStopped (Text M) d end mid e → IsStopped (Text L) c end tokens e
   stops fault.Memory s = tt
   stops (fault.Syntax at) s = stops_wrong at s

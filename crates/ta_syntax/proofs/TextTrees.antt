@@ -1,4 +1,4 @@
--- A text has a tree, or a first fault of its tokens or its grammar.
+-- A text has a tree, or a first error of its tokens or its grammar.
 use Rattle.ta_syntax.proofs.Common.{ℕ, ◌≤◌, List, length, ⊎_elim, sym, subst, FileText, at_start, StaysWithin, AreTokens, IsRefused, kinds, IsTextOf, Either, HasTree, HasGrammarFault, Token}
 use Rattle.ta_syntax.specs.declared.fault.FileFault.TheVariants as fault
 use Rattle.ta_syntax.proofs.LegalTrees.{file_fault}

@@ -1,4 +1,4 @@
--- That each text has an answer (this project's profile)
+-- Each text has an answer: tokens and a tree, or a first error.
 use Rattle.std.specs.Prelude.{ℕ, ◌≤◌, ◌≡◌, ◌≢◌, ◌⊎◌, List, length}
 use Rattle.ta_base.specs.declared.limits.TheConstants.{FILE_BYTES}
 use Rattle.ta_syntax.specs.Tokens.{AreTokens, IsRefused}
@@ -13,7 +13,7 @@ use Rattle.ta_syntax.specs.declared.fault.FileFault.{FileFault}
 use Rattle.ta_syntax.specs.declared.fault.FileFault.TheVariants as fault
 use Rattle.ta_syntax.specs.declared.tree.Tree.{Tree}
 
--- one of the two holds: they don't both fail. It is said so where no test tells which of them it is.
+-- at least one of the two holds. (The logic is constructive, so this is stated as "not neither": no test tells which of them holds.)
 abbrev pub Either : Type 0 → Type 0 → Type 0
 Either A B = ¬ A → ¬ B → ⊥
 
@@ -25,11 +25,12 @@ TextsHaveTokens = (bytes : List ℕ) → ((ts : List Token) × AreTokens bytes t
 abbrev pub StopsReading : (List Kind → Type 0) → Counts → ℕ → List Token → Type 0
 StopsReading L c end ts = (e : FileFault) × (e ≢ fault.Memory) × IsStopped L c end ts e
 
--- tokens are those of a file and go past no limit, or they leave the grammar or its limits at a first token
+-- tokens are those of a file and stay within the limits, or they leave the grammar or its limits at a first token
 abbrev pub TokensHaveAnswers : Type 0
 TokensHaveAnswers = (end : ℕ) (ts : List Token) → Either (FileText (kinds ts) × StaysWithin at_start (kinds ts)) (StopsReading FileText at_start end ts)
 
--- the scan over the tokens of a tree of the grammar finds nothing past a limit exactly where the tree's lists and parentheses are within them
+-- the scan over the tokens of a tree of the grammar finds nothing past a limit exactly if the tree's lists and parentheses are within the
+-- limits
 abbrev pub LimitsAgree : Type 0
 LimitsAgree = (t : PlainTree) → IsTree t → (StaysWithin at_start (file_kinds t) → IsTreeWithin t) × (IsTreeWithin t → StaysWithin at_start (file_kinds t))
 
@@ -41,10 +42,10 @@ TreesExist = (bytes : List ℕ) (t : PlainTree) → length bytes ≤ FILE_BYTES 
 abbrev pub HasTree : List ℕ → Type 0
 HasTree bytes = (tree : Tree) × IsTreeOf bytes tree
 
--- a text has a first fault, as far as tokens and grammar go
+-- a text has a first error of its tokens or its grammar
 abbrev pub HasGrammarFault : List ℕ → Type 0
 HasGrammarFault bytes = (e : FileFault) × (e ≢ fault.Memory) × FirstGrammarFault bytes e
 
--- a text of at most 1,048,576 bytes has a tree, or a first fault of its tokens or its grammar
+-- a text of at most 1,048,576 bytes has a tree, or a first error of its tokens or its grammar
 abbrev pub TextsHaveTrees : Type 0
 TextsHaveTrees = (bytes : List ℕ) → length bytes ≤ FILE_BYTES → Either (HasTree bytes) (HasGrammarFault bytes)

@@ -1,4 +1,4 @@
--- The first token with which a text leaves the grammar or its limits (this project's profile)
+-- Parse errors: the first token with which a text leaves the grammar or its limits.
 use Rattle.std.specs.Prelude.{ℕ, ◌≡◌, List, [], ◌∷◌, ◌++◌, length}
 use Rattle.ta_syntax.specs.Grammar.{FileText}
 use Rattle.ta_syntax.specs.Limits.{Counts, at_start, run, StaysWithin, IsDeep, IsMany}
@@ -13,16 +13,16 @@ abbrev pub kinds : List Token → List Kind
 kinds [] = []
 kinds (t ∷ ts) = t.kind ∷ kinds ts
 
--- other begins with the same token as bad, or ends where it ends
+-- `other` begins with the same token as `bad`, or ends where it ends
 abbrev pub SameStart : List Kind → List Kind → Type 0
 SameStart [] other = other ≡ []
 SameStart (k ∷ ks) other = (more : List Kind) × (other ≡ k ∷ more)
 
--- front begins some text
+-- `front` begins some text
 abbrev pub Begins : (List Kind → Type 0) → List Kind → Type 0
 Begins L front = (more : List Kind) × L (front ++ more)
 
--- with the first token of bad front begins none, or where bad is empty front is none
+-- with the first token of `bad`, `front` begins no text; if `bad` is empty, `front` is no text
 abbrev pub Refuses : (List Kind → Type 0) → List Kind → List Kind → Type 0
 Refuses L front bad = (other : List Kind) → SameStart bad other → L (front ++ other) → ⊥
 
@@ -41,7 +41,7 @@ pub record IsWrong (L : List Kind → Type 0) (c : Counts) (end : ℕ) (tokens :
   pub refused : Refuses L (kinds front) (kinds bad)
   pub within : StaysWithin c (kinds front)
 
--- The first token past a limit, which is over at what was counted before it: with it the tokens still begin a text.
+-- The first token past a limit, as `over` says of what was counted before it: with it the tokens still begin a text.
 pub record IsPast (over : Counts → Kind → Type 0) (L : List Kind → Type 0) (c : Counts) (tokens : List Token) (at : ℕ) : Type 0 where
   pub front : List Token
   pub first : Token
@@ -66,7 +66,8 @@ pub record FaultOfTokens (bytes : List ℕ) (e : FileFault) : Type 0 where
   pub are : AreTokens bytes tokens
   pub stopped : IsStopped FileText at_start (length bytes) tokens e
 
--- The first fault of a text, as far as tokens and grammar go: the first refused byte, else the first token that is wrong or past a limit. Want of memory is free.
+-- The first error of a text's tokens or grammar: the first refused byte, otherwise the first token that is wrong or past a limit. "Out of
+-- memory" is always allowed.
 abbrev pub FirstGrammarFault : List ℕ → FileFault → Type 0
 FirstGrammarFault bytes fault.Memory = Unit {0}
 FirstGrammarFault bytes (fault.Byte at) = IsRefused bytes at

@@ -1,4 +1,4 @@
--- Automaton files as trees without offsets, and the tokens of each tree: one equation for each production of the grammar (this project's profile)
+-- The grammar of automaton files: trees without offsets, and the tokens of each tree, by one equation for each production.
 use Rattle.std.specs.Prelude.{ℕ, ◌≡◌, Bool, true, false, List, [], ◌∷◌, ◌++◌}
 use Rattle.std.specs.List.{AllByRecursion}
 use Rattle.ta_syntax.specs.Kinds.{IsNameText, IsDigits}
@@ -67,7 +67,7 @@ pub record PlainPattern : Type 0 where
   pub empty : List (List ℕ)
   pub events : List PlainEvent
 
--- an automaton file; a part that is absent is an empty list
+-- an automaton file; an absent part is an empty list
 pub record PlainTree : Type 0 where
   pub name : List ℕ
   pub parameters : List (List ℕ)

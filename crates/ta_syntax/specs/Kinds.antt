@@ -1,4 +1,4 @@
--- What a token is, in bytes (this project's profile)
+-- What a token is, in bytes.
 use Rattle.std.specs.Prelude.{ℕ, ◌≡◌, ◌==◌, ◌||◌, Bool, List, [], ◌∷◌, codes}
 use Rattle.std.specs.Char.{is_ascii_digit}
 use Rattle.std.specs.List.{AllByRecursion}
@@ -64,7 +64,7 @@ abbrev pub IsDigits : List ℕ → Type 0
 IsDigits [] = ⊥
 IsDigits (b ∷ bs) = AllByRecursion (λ c. IsTrue (is_ascii_digit c)) (b ∷ bs)
 
--- a name, and no keyword
+-- a name that is not a keyword
 pub record IsNameText (n : List ℕ) : Type 0 where
   pub first : BeginsByLetter n
   pub each : AllByRecursion (λ b. IsTrue (is_word b)) n
@@ -84,16 +84,16 @@ letter-prop : (bs : List ℕ) → IsProp (BeginsByLetter bs)
 letter-prop [] = hlevel props
 letter-prop (b ∷ bs) = hlevel props
 
--- that bytes are digits is a proposition
+-- a proof that bytes are digits is unique
 pub IsDigits-prop : (bs : List ℕ) → IsProp (IsDigits bs)
 IsDigits-prop [] = hlevel props
 IsDigits-prop (b ∷ bs) = all-prop is_ascii_digit (b ∷ bs)
 
--- so is that they are a name
+-- a proof that bytes are a name is unique
 pub IsNameText-prop : (n : List ℕ) → IsProp (IsNameText n)
 IsNameText-prop n = hlevel (props, letter-prop n, all-prop is_word n)
 
--- so is that a token can stand in a text
+-- a proof that a token can occur in a text is unique
 pub IsKind-prop : (k : Kind) → IsProp (IsKind k)
 IsKind-prop (kind.Name n) = IsNameText-prop n
 IsKind-prop (kind.Number d) = IsDigits-prop d

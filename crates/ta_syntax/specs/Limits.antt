@@ -1,4 +1,4 @@
--- The limits of lists and of depth: as one scan over the tokens, and in plain words over trees (this project's profile)
+-- The limits of lists and of nesting: as one scan over the tokens, and as conditions on trees.
 use Rattle.std.specs.Prelude.{ℕ, suc, ◌-◌, ◌≤◌, ◌⊎◌, List, [], ◌∷◌, length}
 use Rattle.std.specs.List.{AllByRecursion}
 use Rattle.ta_syntax.specs.Grammar.{PlainComparison, PlainRule, PlainEvent, PlainPattern, PlainTree}
@@ -8,7 +8,8 @@ use Rattle.ta_syntax.specs.declared.tokens.Kind.TheVariants as kind
 use Rattle.ta_syntax.specs.declared.tokens.Mark.{Mark}
 use Rattle.ta_syntax.specs.declared.tokens.Mark.TheVariants as mark
 
--- What was counted so far: open parentheses; the commas of the list that began last, with how many items it may have; rules, patterns, and the events of the last pattern.
+-- What was counted so far: open parentheses; the commas of the list that began last, with how many items it may have; rules, patterns, and
+-- the events of the last pattern.
 pub record Counts : Type 0 where
   pub open_now : ℕ
   pub commas : ℕ
@@ -68,16 +69,16 @@ IsBlockPast c (kind.Fixed mark.Pattern) = 16 ≤ c.patterns
 IsBlockPast c (kind.Fixed mark.Event) = 8 ≤ c.events
 IsBlockPast c _ = ⊥
 
--- the token with which a list goes past its limit: as many commas as items are allowed stand before it, or it begins a block too many
+-- the token with which a list exceeds its limit: as many commas as items are allowed come before it, or it begins one block too many
 abbrev pub IsMany : Counts → Kind → Type 0
 IsMany c k = (c.limit ≤ c.commas) ⊎ IsBlockPast c k
 
--- no token goes past a limit
+-- no token exceeds a limit
 abbrev pub StaysWithin : Counts → List Kind → Type 0
 StaysWithin c [] = Unit {0}
 StaysWithin c (k ∷ ks) = (IsDeep c k → ⊥) × (IsMany c k → ⊥) × StaysWithin (counted_after c k) ks
 
--- ---- the same in plain words
+-- ---- the same as conditions on trees
 
 -- at most 32 parentheses of a comparison are open at once
 pub record IsShallow (c : PlainComparison) : Type 0 where

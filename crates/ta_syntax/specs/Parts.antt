@@ -1,4 +1,5 @@
--- The grammar cut into parts, so that what may still come after some tokens is a part too (this project's profile). The readers' own contracts speak of parts; that the part of a file has the texts of the grammar's trees is proved.
+-- The grammar cut into parts, so that what may still come after some tokens is a part too. The contracts of the readers are about parts; a
+-- lemma shows that the part of a file has the texts of the grammar's trees.
 use Rattle.std.specs.Prelude.{ℕ, ◌≡◌, ◌⊎◌, List, [], ◌∷◌, ◌++◌}
 use Rattle.std.specs.List.{AllByRecursion}
 use Rattle.ta_syntax.specs.Kinds.{IsNameText, IsDigits}

@@ -1,4 +1,4 @@
--- A sum of the program without the offsets of its parts (this project's profile)
+-- A sum of the program without the offsets of its parts.
 use Rattle.std.specs.Prelude.{ℕ, suc, max, List, [], ◌∷◌, Option, Some, None}
 use Rattle.std.proofs.Props.{props}
 use Rattle.ta_syntax.specs.Kinds.{IsNameText-prop, IsDigits-prop}
@@ -72,7 +72,7 @@ abbrev mutual
   factor_depth (named n) = 0
   factor_depth (nested ts) = suc (sum_depth ts)
 
--- that parts are of the grammar is a proposition
+-- a proof that parts are of the grammar is unique
 mutual
   pub IsSum-prop : (ts : Terms) → IsProp (IsSum ts)
   IsSum-prop done = hlevel props

@@ -1,4 +1,4 @@
--- A tree of the program without the offsets of its parts (this project's profile)
+-- A tree of the program without the offsets of its parts.
 use Rattle.std.specs.Prelude.{ℕ, List, map}
 use Rattle.ta_syntax.specs.Grammar.{PlainComparison, PlainLocation, PlainUpdate, PlainRule, PlainEvent, PlainPattern, PlainTree}
 use Rattle.ta_syntax.specs.PlainSums.{plain_sum}

@@ -1,4 +1,4 @@
--- The offsets that a tree states: for each of its tokens, those that have to be the offset of that token (this project's profile)
+-- The offsets that a tree states for its tokens.
 use Rattle.std.specs.Prelude.{ℕ, ◌≡◌, Bool, true, false, List, [], ◌∷◌, ◌++◌, Option, Some, None}
 use Rattle.std.specs.List.{AllByRecursion}
 use Rattle.ta_syntax.specs.Grammar.{listed, led, ended, each}
@@ -35,12 +35,12 @@ abbrev pub at_first : ℕ → List Offsets → List Offsets
 at_first a [] = []
 at_first a (x ∷ xs) = (a ∷ x) ∷ xs
 
--- Terms with their signs, of which each makes something: the sign before the first stands only where it is minus.
+-- what a sum makes of the terms after the first, each with its sign before it
 abbrev pub more_of : {B : Type 0} → (Sign → B) → List (Sign × List B) → List B
 more_of signed [] = []
 more_of signed (t ∷ ts) = signed t.0 ∷ (t.1 ++ more_of signed ts)
 
--- the sign before the first term: none where it is plus
+-- the sign before the first term: none if it is plus
 abbrev pub leading : {B : Type 0} → (Sign → B) → Sign → List B
 leading signed sign.Plus = []
 leading signed sign.Minus = signed sign.Minus ∷ []
@@ -66,7 +66,7 @@ parts_stated (Some d) (Some f) = (d.at ∷ []) ∷ [] ∷ f
 parts_stated None (Some f) = f
 parts_stated None None = []
 
--- the offset of a term is that of its first token, which is behind its sign
+-- the offset of a term is that of its first token, which comes after its sign
 abbrev pub term_layer_stated : TreeTerm-F (List Offsets) (List Offsets) (List Offsets) → List Offsets
 term_layer_stated t = at_first t.at (parts_stated t.factor t.body)
 

@@ -1,4 +1,4 @@
--- Laws of tokens, of the grammar and of what is printed (this project's profile)
+-- A text has at most one list of tokens, and printed tokens are read back.
 use Rattle.std.specs.Prelude.{ℕ, ◌≡◌, List}
 use Rattle.std.specs.List.{AllByRecursion}
 use Rattle.ta_syntax.specs.Kinds.{IsKind}

@@ -1,4 +1,4 @@
--- The tokens of a text: the longest that fits, with white space and comments between (this project's profile)
+-- The tokens of a text: always the longest that fits, with white space and comments between them.
 use Rattle.std.specs.Prelude.{ℕ, ◌≡◌, ◌+◌, ◌==◌, ◌||◌, ◌&&◌, ◌⊎◌, Bool, true, false, List, [], ◌∷◌, ◌++◌, length}
 use Rattle.std.specs.Char.{is_ascii_digit}
 use Rattle.std.specs.List.{list_all}
@@ -10,7 +10,7 @@ use Rattle.ta_syntax.specs.declared.tokens.Kind.TheVariants as kind
 use Rattle.ta_syntax.specs.declared.tokens.Mark.TheVariants as mark
 use Rattle.ta_syntax.specs.declared.placed.Token.{Token}
 
--- whether a byte right after the token would make it a longer one: behind a word, one of a word
+-- whether a byte directly after the token would make it longer: after a word, a byte of a word
 abbrev pub lengthens : Kind → ℕ → Bool
 lengthens (kind.Name n) b = is_word b
 lengthens (kind.Number d) b = is_ascii_digit b
@@ -20,7 +20,7 @@ lengthens (kind.Fixed mark.Less) b = b == 61
 lengthens (kind.Fixed mark.More) b = b == 61
 lengthens (kind.Fixed m) b = list_all is_word (mark_bytes m) && is_word b
 
--- no longer token stands where this one ends
+-- the byte after the token, if there is one, does not make it longer
 abbrev pub IsLongest : Kind → List ℕ → Type 0
 IsLongest k [] = Unit {0}
 IsLongest k (b ∷ bs) = lengthens k b ≡ false
@@ -40,7 +40,7 @@ IsGap = IsSpace false false
 abbrev pub IsLastGap : List ℕ → Type 0
 IsLastGap = IsSpace true false
 
--- The tokens in order, each after a gap and the longest that fits, and what holds of the bytes that are left, with their offset.
+-- The tokens in order, each after a gap and the longest that fits; and a fact about the bytes that are left, with their offset.
 abbrev pub ScansTo : (ℕ → List ℕ → Type 0) → ℕ → List ℕ → List Token → Type 0
 ScansTo end at bytes [] = end at bytes
 ScansTo end at bytes (t ∷ ts) = (gap rest : List ℕ) × IsGap gap × (bytes ≡ gap ++ (kind_bytes t.kind ++ rest)) × (t.at ≡ at + length gap) × IsKind t.kind × IsLongest t.kind rest × ScansTo end (t.at + length (kind_bytes t.kind)) rest ts

@@ -1,4 +1,4 @@
--- The tree of a text (this project's profile)
+-- The tree of a text.
 use Rattle.std.specs.Prelude.{ℕ, ◌≡◌, List}
 use Rattle.ta_syntax.specs.Grammar.{PlainTree, IsTree, file_kinds}
 use Rattle.ta_syntax.specs.Limits.{IsTreeWithin}

@@ -14,7 +14,7 @@ pub fn tokens_have_answers()
     ensures limits { LimitsAgree }
 {}
 
-/// A text of the grammar within the limits has a tree, and each text has one or a first fault.
+/// A text of the grammar within the limits has a tree, and each text has one or a first error.
 pub fn texts_have_trees()
     ensures exist { TreesExist }
     ensures texts { TextsHaveTrees }

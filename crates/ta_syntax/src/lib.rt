@@ -1,4 +1,11 @@
 //! Automaton files: tokens, trees, reading and printing.
+//!
+//! The grammar is one function from trees to tokens for each production, so that tokens are of the
+//! grammar is an equation (`file_kinds`). How the first parse error is proved: each reader keeps
+//! what may still come, at first a file. A token that is taken shortens it, and a choice by the
+//! next token replaces a part by one of its alternatives. Every part has some text, so the tokens
+//! read so far always begin a file; a token with which no such text begins is the first wrong one.
+//! One token of lookahead suffices.
 #![tactic(auto)]
 
 mod answers;

@@ -30,7 +30,7 @@ pub trait Item: Sized + Drop {
         ensures { MatchResult result (λ x. TookItem part (spelled x.0) (stated x.0) tokens.now x.1.now) (λ e. ItemStops part end tokens.now e) };
 }
 
-/// The fault of the first token where as many items as there may be stand before it.
+/// The error of the first token where as many items as there may be stand before it.
 fn past_limit<T: Item>(tokens: &[Token], end: u32) -> FileFault
     ensures { PastStops T.part end tokens.now result }
 {

@@ -1,19 +1,24 @@
 -- the text of the trees of safe patterns is a certificate that a judge accepts
-use Rattle.ta_verdict.proofs.Common.{◌≡◌, ◌∙◌, ℕ, ◌+◌, ◌<◌, ◌≤◌, ◌^◌, suc, List, [], ◌∷◌, ◌++◌, length, map, Option, Some, None, slice_get, refl, sym, ap, subst, append_assoc, arith, codes, decimal, lit≤, lit<, AllByRecursion, slice_get_within, File, Pattern, LoopsPure, AreWritable, cert_lines, cert_text, head_text, order_lines, pair_of, proof_lines, proof_of, proofs_of, proofs_text, version_of, line_text, Node, Order, Proof, Verdict, refuted_hold, orders_once, orders_sound, IsShort, TreeIs, FoundOrders, pattern_search, AreTrees, AreTreesOf, CertificateOf, SafeOne, safe_numbers, safe_ones, tree_size, tree_under, with_safe, ended_line, Safe, above_apart, each_append, each_map, weaker, IsProof}
+use Rattle.ta_verdict.proofs.Common.{◌≡◌, ◌∙◌, ℕ, ◌+◌, ◌<◌, ◌≤◌, ◌^◌, suc, Bool, true, false, List, [], ◌∷◌, ◌++◌, length, map, Option, Some, None, slice_get, refl, sym, ap, subst, append_assoc, arith, codes, decimal, lit≤, lit<, AllByRecursion, slice_get_within, File, Pattern, LoopsPure, AreWritable, cert_lines, cert_text, head_text, order_lines, pair_of, proof_lines, proof_of, proofs_of, proofs_text, question_text, version_of, line_text, Node, Order, Proof, Verdict, refuted_hold, orders_once, orders_sound, IsShort, TreeIs, FoundOrders, pattern_search, AreTrees, AreTreesOf, CertificateOf, SafeOne, safe_numbers, safe_ones, text_by, tree_by, tree_size, with_safe, Budget, AreTreesOfFile, head_of, is_lazy, ended_line, Safe, above_apart, each_append, each_map, weaker, IsProof}
 use Rattle.ta_base.proofs.DecimalDigits.{row_short}
 use Rattle.ta_base.specs.Lists.{Distinct}
-use Rattle.ta_cert.proofs.Writing.{cert_parts}
+use Rattle.ta_cert.proofs.Writing.{cert_parts, lines_text-proofs}
 use Rattle.ta_cert.specs.Laws.{AreShort}
+use Rattle.ta_cert.specs.Lines.{cert_lines_text}
 use Rattle.ta_cert.specs.Streams.{line_limit}
 use Rattle.ta_cert.specs.Tree.{Tree, all_preorder}
 use Rattle.ta_cert.specs.declared.line.Line.{Line}
 use Rattle.ta_cert.specs.declared.line.Line.TheVariants as line
-use Rattle.ta_claim.specs.Claims.{search_for}
-use Rattle.ta_check.specs.Certificate.{Certificate, ProvesClaim, proof_number}
-use Rattle.ta_check.specs.Subjects.{Subject, Words, claiming}
+use Rattle.ta_check.specs.Certificate.{Certificate, CertificateFor, MayHave, ProvesClaim, ShowsPair, lines_of_kind, proof_number}
+use Rattle.ta_check.specs.Subjects.{Kind, Moments, Subject, Words, claiming, search_of}
 use Rattle.ta_check.proofs.Searches.{search_named}
 use Rattle.ta_cursor.specs.Range.{IsJudged}
 use Rattle.ta_encode.proofs.Preorders.{in_order}
+use Rattle.ta_implied.specs.Implied.{Good}
+use Rattle.ta_rest.proofs.Resting.{no_pairs_good}
+use Rattle.ta_moment_walk.proofs.NodesMade.{refuted_hold as moments_refuted}
+use Rattle.ta_verdict.specs.declared.trees.Trees.{Trees}
+use Rattle.ta_verdict.specs.declared.trees.Trees.TheVariants as which
 
 -- the numbers of those that are safe
 abbrev numbers : List SafeOne → List ℕ
@@ -57,33 +62,39 @@ lines_short : (ns : List Node) (ls : List Line) → AllByRecursion IsShort ns �
 lines_short ns ls short rest = each_append _ (map line.Tree ns) ls (each_map line.Tree IsShort _ ns (λ n is. is) short) rest
 
 -- so is the first line
-version_short : (k : ℕ) → k < 2 ^ 32 → length (codes "threshold-certificate " ++ decimal k) ≤ line_limit
+pub version_short : (k : ℕ) → k < 2 ^ 32 → length (codes "threshold-certificate " ++ decimal k) ≤ line_limit
 version_short k below = let digits = row_short k below in omega arith
 
 head_short : (os : List Order) → length (line_text (line.Header (version_of os))) ≤ line_limit
 head_short [] = version_short 1 (lit< tt)
 head_short (o ∷ os) = version_short 2 (lit< tt)
 
--- proofs by words of what is claimed of such patterns, whose nodes are these
-pub record Made (subject : Subject) (pairs : List (ℕ × ℕ)) (ones : List SafeOne) (trees : List Proof) : Type 0 where
+-- proofs of a kind of what is claimed of such patterns, whose nodes are these
+pub record Made (kind : Kind) (subject : Subject) (pairs : List (ℕ × ℕ)) (ones : List SafeOne) (trees : List Proof) : Type 0 where
   pub proofs : List (ℕ × List Tree)
   pub are : proofs_of proofs ≡ trees
-  pub prove : AllByRecursion (ProvesClaim Words subject pairs) proofs
+  pub prove : AllByRecursion (ProvesClaim kind subject pairs) proofs
   pub named : map proof_number proofs ≡ numbers ones
   pub writable : AreWritable trees
   pub short : AreShort (proof_lines trees)
 
-pub made : (subject : Subject) (pairs : List (ℕ × ℕ)) (Of : Pattern → List Node → ℕ → Type 0) → ((number : ℕ) (p : Pattern) → slice_get subject.file.patterns number ≡ Some p → (nodes : List Node) (count : ℕ) → Of p nodes count → IsProof (search_for subject.claim subject.file.automaton p pairs) nodes) → (ones : List SafeOne) (trees : List Proof) → AllByRecursion (λ one. slice_get subject.file.patterns one.number ≡ Some one.pattern) ones → AreTreesOf Of ones trees → Made subject pairs ones trees
-made subject pairs Of judgeable [] [] named are = record { proofs = []; are = refl; prove = tt; named = refl; writable = tt; short = (lit≤ tt, tt) }
-made subject pairs Of judgeable [] (t ∷ ts) named are = absurd are
-made subject pairs Of judgeable (one ∷ ones) [] named are = absurd are
-made subject pairs Of judgeable (one ∷ ones) (t ∷ ts) named are =
+pub made :
+    (kind : Kind) (subject : Subject) (pairs : List (ℕ × ℕ)) (Of : Pattern → List Node → ℕ → Type 0)
+    → ((number : ℕ) (p : Pattern) → slice_get subject.file.patterns number ≡ Some p
+    → (nodes : List Node) (count : ℕ) → Of p nodes count → IsProof (search_of kind subject pairs p) nodes)
+    → (ones : List SafeOne) (trees : List Proof)
+    → AllByRecursion (λ one. slice_get subject.file.patterns one.number ≡ Some one.pattern) ones → AreTreesOf Of ones trees
+    → Made kind subject pairs ones trees
+made kind subject pairs Of judgeable [] [] named are = record { proofs = []; are = refl; prove = tt; named = refl; writable = tt; short = (lit≤ tt, tt) }
+made kind subject pairs Of judgeable [] (t ∷ ts) named are = absurd are
+made kind subject pairs Of judgeable (one ∷ ones) [] named are = absurd are
+made kind subject pairs Of judgeable (one ∷ ones) (t ∷ ts) named are =
     let is = are.0 in
     let file = subject.file in
-    let search = search_for subject.claim file.automaton one.pattern pairs in
+    let search = search_of kind subject pairs one.pattern in
     let proof = judgeable one.number one.pattern named.0 t.nodes one.nodes is.is in
     let trees = (in_order IsJudged search t.nodes).0 proof.refutes in
-    let rest = made subject pairs Of judgeable ones ts named.1 are.1 in
+    let rest = made kind subject pairs Of judgeable ones ts named.1 are.1 in
     let number : one.number ≡ t.pattern = sym is.numbered in
     let nodes : all_preorder trees.0 ≡ t.nodes = trees.2 in
     let same : proof_of one.number trees.0 ≡ t = (λ i. record { pattern = number i; nodes = nodes i }) in
@@ -94,15 +105,18 @@ made subject pairs Of judgeable (one ∷ ones) (t ∷ ts) named are =
     record {
       proofs = (one.number, trees.0) ∷ rest.proofs;
       are = ap (λ (p : Proof). p ∷ proofs_of rest.proofs) same ∙ ap (λ (ps : List Proof). t ∷ ps) rest.are;
-      prove = (record { search = search; searched = search_named Words subject pairs one.number one.pattern named.0; proves = trees.1 }, rest.prove);
+      prove = (record { search = search; searched = search_named kind subject pairs one.number one.pattern named.0; proves = trees.1 }, rest.prove);
       named = ap (λ (ks : List ℕ). one.number ∷ ks) rest.named;
       writable = (record { pattern = below; nodes = proof.writable }, rest.writable);
       short = (pattern_short t.pattern below, lines_short t.nodes (proof_lines ts) proof.short rest.short);
     }
 
--- the nodes of trees under the orders that are found
-judgeable_under : (file : File) (orders : List Order) → FoundOrders file.automaton orders → (budget : ℕ) → LoopsPure file.automaton → budget ≤ 1000000000 → (number : ℕ) (p : Pattern) → slice_get file.patterns number ≡ Some p → (nodes : List Node) (count : ℕ) → tree_under file budget p nodes count → IsProof (pattern_search file.automaton p (map pair_of orders)) nodes
-judgeable_under file orders found budget loops within number p at nodes count is =
+-- the nodes of trees of words under the orders that are found
+judgeable_words :
+    (file : File) (orders : List Order) → FoundOrders file.automaton orders → (budget : ℕ) → LoopsPure file.automaton → budget ≤ 1000000000
+    → (number : ℕ) (p : Pattern) → slice_get file.patterns number ≡ Some p → (nodes : List Node) (count : ℕ) → tree_by false file budget p nodes count
+    → IsProof (pattern_search file.automaton p (map pair_of orders)) nodes
+judgeable_words file orders found budget loops within number p at nodes count is =
     let pairs = map pair_of orders in
     let same_orders = orders_once file.automaton is.orders orders is.found found in
     let tree = subst (λ (os : List Order). TreeIs (pattern_search file.automaton p (map pair_of os)) budget nodes count) same_orders is.holds in
@@ -116,30 +130,80 @@ safe_named file vs = ones_named file 0 file.patterns vs (λ k p given. let here 
 pub all_short : (orders : List Order) (trees : List Proof) → AreShort (order_lines orders) → AreShort (proof_lines trees) → AreShort (cert_lines orders trees)
 all_short orders trees before behind = (head_short orders, each_append _ (order_lines orders) (proof_lines trees) before behind)
 
-pub certificate_accepted : (file : File) (budget : ℕ) → LoopsPure file.automaton → budget ≤ 1000000000 → (vs : List Verdict) (text : List ℕ) → CertificateOf file budget vs text → Certificate file text (safe_numbers file vs)
-certificate_accepted file budget loops within vs text c =
-    let ones = safe_ones 0 file.patterns vs in
-    let sound = orders_sound file.automaton c.orders c.found in
-    let m = made (claiming Safe file) (map pair_of c.orders) (tree_under file budget) (judgeable_under file c.orders c.found budget loops within) ones c.trees (safe_named file vs) c.are in
+-- orders that a certificate with proofs of a kind may have
+pub record HasOrders (kind : Kind) (subject : Subject) (orders : List Order) : Type 0 where
+  pub may : MayHave kind subject orders
+  pub shown : AllByRecursion (ShowsPair subject.file.automaton) orders
+  pub good : Good subject.file.automaton (map pair_of orders)
+
+-- such proofs behind such orders are a certificate
+pub accepted :
+    (kind : Kind) (subject : Subject) (orders : List Order) → HasOrders kind subject orders → (ones : List SafeOne) → Distinct (numbers ones)
+    → (trees : List Proof) → Made kind subject (map pair_of orders) ones trees → AreShort (lines_of_kind kind orders trees) → (text : List ℕ)
+    → text ≡ cert_lines_text (lines_of_kind kind orders trees) → CertificateFor subject text (numbers ones)
+accepted kind subject orders has ones distinct trees m short text written =
     record {
-      kind = Words;
-      orders = c.orders;
+      kind = kind;
+      orders = orders;
       proofs = m.proofs;
-      written = c.written ∙ ap (cert_text c.orders) (sym m.are);
-      ordered = sound.writable;
+      written = written ∙ ap (λ (ps : List Proof). cert_lines_text (lines_of_kind kind orders ps)) (sym m.are);
+      ordered = has.may;
       legal = subst AreWritable (sym m.are) m.writable;
-      short = subst (λ (ts : List Proof). AreShort (cert_lines c.orders ts)) (sym m.are) (all_short c.orders c.trees sound.short m.short);
-      shown = sound.shown;
-      good = sound.good;
+      short = subst (λ (ts : List Proof). AreShort (lines_of_kind kind orders ts)) (sym m.are) short;
+      shown = has.shown;
+      good = has.good;
       prove = m.prove;
       named = sym m.named;
-      distinct = ones_distinct 0 file.patterns vs;
+      distinct = distinct;
     }
+
+accepted_by :
+    (lazy : Bool) (file : File) (budget : ℕ) → LoopsPure file.automaton → budget ≤ 1000000000
+    → (vs : List Verdict) (trees : List Proof) → AreTreesOf (tree_by lazy file budget) (safe_ones 0 file.patterns vs) trees → (text : List ℕ)
+    → text_by lazy file trees text → Certificate file text (safe_numbers file vs)
+accepted_by false file budget loops within vs trees are text is =
+    let ones = safe_ones 0 file.patterns vs in
+    let sound = orders_sound file.automaton is.orders is.found in
+    let subject = claiming Safe file in
+    let m = made Words subject (map pair_of is.orders) (tree_by false file budget) (judgeable_words file is.orders is.found budget loops within) ones trees
+    (safe_named file vs) are in
+    accepted Words subject is.orders (record { may = sound.writable; shown = sound.shown; good = sound.good }) ones (ones_distinct 0 file.patterns vs) trees
+    m (all_short is.orders trees sound.short m.short) text is.written
+accepted_by true file budget loops within vs trees are text is =
+    let ones = safe_ones 0 file.patterns vs in
+    let subject = claiming Safe file in
+    let m = made Moments subject [] (tree_by true file budget)
+    (λ number p at nodes count tree. (moments_refuted file number p at loops budget within nodes count tree).0) ones trees (safe_named file vs) are in
+    accepted Moments subject [] (record { may = refl; shown = tt; good = no_pairs_good file.automaton }) ones (ones_distinct 0 file.patterns vs) trees m
+    (version_short 3 (lit< tt), m.short) text is
+
+pub certificate_accepted :
+    (file : File) (budget : Budget) → LoopsPure file.automaton → budget.nodes ≤ 1000000000
+    → (vs : List Verdict) (text : List ℕ) → CertificateOf file budget vs text → Certificate file text (safe_numbers file vs)
+certificate_accepted file budget loops within vs text c = accepted_by budget.lazy file budget.nodes loops within vs c.trees c.are text c.text_is
 
 -- what stands in front of the proofs, the proofs and the end are the text of a certificate
 pub cert_written : (orders : List Order) (proofs : List Proof) → (head_text orders ++ proofs_text proofs) ++ ended_line line.End ≡ cert_text orders proofs
 cert_written orders proofs = append_assoc (head_text orders) (proofs_text proofs) (ended_line line.End) ∙ cert_parts orders proofs
 
+-- so are those of moments
+pub question_written : (proofs : List Proof) → (ended_line (line.Header 3) ++ proofs_text proofs) ++ ended_line line.End ≡ question_text proofs
+question_written proofs =
+    let first = line_text (line.Header 3) in
+    append_assoc (ended_line (line.Header 3)) (proofs_text proofs) (ended_line line.End)
+    ∙ append_assoc first (10 ∷ []) (proofs_text proofs ++ ended_line line.End)
+    ∙ ap (λ (xs : List ℕ). first ++ (10 ∷ xs)) (sym (lines_text-proofs proofs))
+
+text_made :
+    (file : File) (trees : Trees) → AreTreesOfFile file trees → (proofs : List Proof) (text : List ℕ)
+    → text ≡ (head_of trees ++ proofs_text proofs) ++ ended_line line.End → text_by (is_lazy trees) file proofs text
+text_made file (which.Words found) known proofs text is = record { orders = found.list; found = known.orders; written = is ∙ cert_written found.list proofs }
+text_made file which.Moments known proofs text is = is ∙ question_written proofs
+
 -- such a text is the certificate of verdicts whose trees the proofs are
-pub certificate_made : (file : File) (budget : ℕ) (vs : List Verdict) (orders : List Order) → FoundOrders file.automaton orders → (proofs : List Proof) → AreTrees file budget (safe_ones 0 file.patterns vs) proofs → (text : List ℕ) → text ≡ (head_text orders ++ proofs_text proofs) ++ ended_line line.End → CertificateOf file budget vs text
-certificate_made file budget vs orders found proofs trees text is = record { orders = orders; found = found; trees = proofs; are = trees; written = is ∙ cert_written orders proofs }
+pub certificate_made :
+    (file : File) (budget : Budget) (vs : List Verdict) (trees : Trees) → AreTreesOfFile file trees → is_lazy trees ≡ budget.lazy → (proofs : List Proof)
+    → AreTrees file budget (safe_ones 0 file.patterns vs) proofs → (text : List ℕ) → text ≡ (head_of trees ++ proofs_text proofs) ++ ended_line line.End
+    → CertificateOf file budget vs text
+certificate_made file budget vs trees known lazy proofs are text is =
+    record { trees = proofs; are = are; text_is = subst (λ (b : Bool). text_by b file proofs text) lazy (text_made file trees known proofs text is) }

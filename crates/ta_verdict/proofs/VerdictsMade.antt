@@ -1,6 +1,5 @@
 -- what is known of verdicts as they are made and counted
 use Rattle.ta_verdict.proofs.Common.{◌≡◌, ℕ, zero, suc, ◌+◌, ◌<◌, ◌≤◌, List, [], ◌∷◌, ◌++◌, length, map, reverse, take, arith, refl, sym, ap, subst, ◌∙◌, Some, slice_get, length-take-le, take_all, take_next, same_Some, slice_get_within, some_at, File, Pattern, LoopsPure, pair_of, Node, Order, OfPattern, Pending, Solution, PlaceKind, IsSpent, NodeOf, SolutionAt, TreeIs, leaf_count, FoundOrders, orders_sound, refuted_hold, ReportKind, Verdict, IsSolution, pattern_search, EachHolds, IsOutOfRangeIn, Question, SafeHolds, SpentHolds, UnderOrders, VerdictAnswers, safety_question, node_with, place_of, Err, IfOk, Ok, Result, AllocError, Safe as ClaimSafe, Overflow}
-use Rattle.ta_words.specs.declared.element.Element.{Element}
 use Rattle.ta_implied.specs.Implied.{Good}
 use Rattle.ta_words.proofs.Counts.{legal_under}
 use Rattle.ta_walk.specs.Visit.{IsOutOfRangeAt}
@@ -46,19 +45,26 @@ solution_found file number within pairs budget nodes solution found =
     solution_is file number at.0 at.1 pairs budget nodes solution (found at.0 at.1)
 
 -- where a walk says that a number leaves the range, it does
-out_of_range_in : (q : Question) (number : ℕ) (k : PlaceKind) (r : ReportKind) (w : Pending Element) → place_of r ≡ k → IsOutOfRangeAt q.search w k → IsOutOfRangeIn q number r w
+out_of_range_in :
+    {E S : Type 0} (q : Question E S) (number : ℕ) (k : PlaceKind) (r : ReportKind) (w : Pending E) → place_of r ≡ k → IsOutOfRangeAt q.search w k
+    → IsOutOfRangeIn q number r w
 out_of_range_in q number k (kind.Pivot pivot) w same leaves = subst (IsOutOfRangeAt q.search w) (sym same) leaves
 out_of_range_in q number k kind.Leaf w same leaves = subst (IsOutOfRangeAt q.search w) (sym same) leaves
 out_of_range_in q number k kind.Run w same leaves = absurd (subst (IsOutOfRangeAt q.search w) (sym same) leaves)
 
-pub overflow_holds : (q : Question) (number budget node : ℕ) (k : PlaceKind) (r : ReportKind) → place_of r ≡ k → NodeOf q.search budget node (λ w. IsOutOfRangeAt q.search w k) → VerdictAnswers q budget number (Overflow node r)
+pub overflow_holds :
+    {E S : Type 0} (q : Question E S) (number budget node : ℕ) (k : PlaceKind) (r : ReportKind) → place_of r ≡ k
+    → NodeOf q.search budget node (λ w. IsOutOfRangeAt q.search w k) → VerdictAnswers q budget number (Overflow node r)
 overflow_holds q number budget node k r same found =
     node_with q.search budget node (λ w. IsOutOfRangeAt q.search w k) (IsOutOfRangeIn q number r) found (out_of_range_in q number k r found.word same found.holds)
 
 -- the solution of the first whole node has a run whose replay leaves the range
-pub run_leaves : (q : Question) (number budget node : ℕ) (solution : Solution) → NodeOf q.search budget node (SolutionAt q.search number solution) → q.leaves solution → VerdictAnswers q budget number (Overflow node kind.Run)
+pub run_leaves :
+    {E S : Type 0} (q : Question E S) (number budget node : ℕ) (solution : S) → NodeOf q.search budget node (q.at number solution) → q.leaves solution
+    → VerdictAnswers q budget number (Overflow node kind.Run)
 run_leaves q number budget node solution found leaves =
-    node_with q.search budget node (SolutionAt q.search number solution) (IsOutOfRangeIn q number kind.Run) found (record { solution = solution; whole = found.holds; run = leaves })
+    node_with q.search budget node (q.at number solution) (IsOutOfRangeIn q number kind.Run) found
+    (record { solution = solution; whole = found.holds; run = leaves })
 
 -- what is said of each pattern of a number is said of the verdict on it
 pub said_of : (file : File) (number : ℕ) (r : Result Verdict AllocError) (P : Pattern → Verdict → Type 0) → OfPattern file number (λ p. IfOk r (P p)) → IfOk r (λ v. OfPattern file number (λ p. P p v))

@@ -1,5 +1,6 @@
 -- a question has one answer for one budget, and a pattern of a file one verdict
-use Rattle.ta_verdict.proofs.Common.{◌≡◌, ◌⊎◌, inl, inr, ◌+◌, ℕ, suc, List, [], ◌∷◌, Some, slice_get, map, refl, sym, ap, subst, ◌∙◌, arith, File, Pattern, Solution, PlaceKind, WalkEnd, IsWalkEnd, NodeOf, SolutionAt, leaf_count, Order, pair_of, orders_once, ends_once, Verdict, EachHolds, Question, VerdictAnswers, VerdictHolds, VerdictsAreDetermined, safety_question}
+use Rattle.ta_verdict.proofs.Common.{◌≡◌, ◌⊎◌, inl, inr, ◌+◌, ℕ, ℤ, suc, Bool, true, false, List, [], ◌∷◌, Some, slice_get, map, refl, sym, ap, subst, ◌∙◌, arith, File, Pattern, Solution, PlaceKind, Search, Pending, Ending, Whole, Solved, Stopped, Left, IsVisitEnding, WholeAt, NodeOf, SolutionAt, leaf_count, Order, pair_of, orders_once, ends_once, endings_once, node_with, Verdict, EachHolds, Question, VerdictAnswers, VerdictHolds, VerdictsAreDetermined, holds_by, safety_question, moment_question, Fact, Found, FoundAt, of_events}
+use Rattle.ta_words.specs.declared.element.Element.{Element}
 use Rattle.ta_replay.specs.declared.run.Run.{Run}
 use Rattle.ta_replay.specs.Replays.{ReplayStays}
 use Rattle.ta_walk.specs.declared.end.PlaceKind.TheVariants as place
@@ -7,12 +8,19 @@ use Rattle.ta_walk.specs.declared.end.WalkEnd.TheVariants as walk
 use Rattle.ta_report.specs.declared.verdict.ReportKind.TheVariants as kind
 use Rattle.ta_report.specs.declared.verdict.Verdict.TheVariants.{Safe, Unsafe, Spent, Overflow}
 use Rattle.ta_witness.proofs.WitnessOnce.{one_witness}
+use Rattle.ta_moment_walk.proofs.RunsOnce.{runs_once}
 use Rattle.ta_verdict.proofs.VerdictsMade.{solution_is}
 
+-- a solution that is found has values, those of a whole node; and there is one
+pub record HasOneSolution {E S : Type 0} (q : Question E S) (number budget : ℕ) : Type 0 where
+  pub values : S → List ℤ
+  pub whole : (w : Pending E) (solution : S) → q.at number solution w → WholeAt q.search w (values solution)
+  pub one : (i j : ℕ) (x y : S) → NodeOf q.search budget i (q.at number x) → NodeOf q.search budget j (q.at number y) → x ≡ y
+
 -- a solution that is found has one run, whose replay doesn't both stay in range and leave it
-pub record HasOneRun (q : Question) (number budget : ℕ) : Type 0 where
-  pub one : (count : ℕ) (solution : Solution) → NodeOf q.search budget count (SolutionAt q.search number solution) → (r s : Run) → q.shown solution r → q.shown solution s → r ≡ s
-  pub apart : (count : ℕ) (solution : Solution) → NodeOf q.search budget count (SolutionAt q.search number solution) → (r : Run) → q.shown solution r → q.leaves solution → ⊥
+pub record HasOneRun {E S : Type 0} (q : Question E S) (number budget : ℕ) : Type 0 where
+  pub one : (count : ℕ) (solution : S) → NodeOf q.search budget count (q.at number solution) → (r s : Run) → q.shown solution r → q.shown solution s → r ≡ s
+  pub apart : (count : ℕ) (solution : S) → NodeOf q.search budget count (q.at number solution) → (r : Run) → q.shown solution r → q.leaves solution → ⊥
 
 -- the verdict where a walk says that a number leaves the range
 abbrev SaysPlace : ℕ → PlaceKind → Verdict → Type 0
@@ -20,54 +28,120 @@ SaysPlace node (place.Pivot pivot) v = v ≡ Overflow node (kind.Pivot pivot)
 SaysPlace node place.Leaf v = v ≡ Overflow node kind.Leaf
 SaysPlace node place.Run v = ⊥
 
--- what the end of a walk makes of the verdict: of a solution its run, or that the replay of its run leaves the range
-abbrev Gives : Question → WalkEnd → Verdict → Type 0
-Gives q (walk.Refuted nodes count) v = v ≡ Safe count (leaf_count nodes)
-Gives q (walk.Found count solution) v = ((run : Run) × (v ≡ Unsafe count run) × q.shown solution run) ⊎ ((v ≡ Overflow count kind.Run) × q.leaves solution)
-Gives q (walk.Spent count) v = v ≡ Spent count
-Gives q (walk.Overflow node k) v = SaysPlace node k v
+-- what the solution of the first whole node makes of the verdict: its run, or that the replay of its run leaves the range
+abbrev SaysRun : {E S : Type 0} → Question E S → ℕ → S → Verdict → Type 0
+SaysRun q count solution v = ((run : Run) × (v ≡ Unsafe count run) × q.shown solution run) ⊎ ((v ≡ Overflow count kind.Run) × q.leaves solution)
 
--- the walk ends as a verdict says
-record EndOf (q : Question) (number budget : ℕ) (v : Verdict) : Type 0 where
-  end : WalkEnd
-  is : IsWalkEnd q.search number budget end
-  gives : Gives q end v
+record Decides {E S : Type 0} (q : Question E S) (number budget count : ℕ) (v : Verdict) : Type 0 where
+  solution : S
+  node : NodeOf q.search budget count (q.at number solution)
+  says : SaysRun q count solution v
 
-end_of : (q : Question) (number budget : ℕ) (v : Verdict) → VerdictAnswers q budget number v → EndOf q number budget v
-end_of q number budget (Safe nodes leaves) h = record { end = walk.Refuted h.tree nodes; is = h.is; gives = ap (Safe nodes) h.counted }
-end_of q number budget (Unsafe nodes run) h = record { end = walk.Found nodes h.solution; is = h.node; gives = inl (run, refl, h.is) }
-end_of q number budget (Spent nodes) h = record { end = walk.Spent nodes; is = h.is; gives = refl }
-end_of q number budget (Overflow node (kind.Pivot pivot)) h = record { end = walk.Overflow node (place.Pivot pivot); is = h; gives = refl }
-end_of q number budget (Overflow node kind.Leaf) h = record { end = walk.Overflow node place.Leaf; is = h; gives = refl }
-end_of q number budget (Overflow node kind.Run) h =
+-- what the end of a search makes of the verdict
+abbrev Gives : {E S : Type 0} → Question E S → ℕ → ℕ → Ending E → Verdict → Type 0
+Gives q number budget (Whole nodes count) v = v ≡ Safe count (leaf_count nodes)
+Gives q number budget (Solved count word values) v = Decides q number budget count v
+Gives q number budget (Stopped count) v = v ≡ Spent count
+Gives q number budget (Left node k) v = SaysPlace node k v
+
+-- the search ends as a verdict says
+record EndOf {E S : Type 0} (q : Question E S) (number budget : ℕ) (v : Verdict) : Type 0 where
+  end : Ending E
+  is : IsVisitEnding q.search budget end
+  gives : Gives q number budget end v
+
+-- where the first whole node has a solution
+solved_end :
+    {E S : Type 0} (q : Question E S) (number budget : ℕ) → HasOneSolution q number budget → (v : Verdict) (count : ℕ) (solution : S)
+    → NodeOf q.search budget count (q.at number solution) → SaysRun q count solution v → EndOf q number budget v
+solved_end q number budget has v count solution node says = record {
+  end = Solved count node.word (has.values solution);
+  is = node_with q.search budget count (q.at number solution) (λ w. (w ≡ node.word) × WholeAt q.search w (has.values solution)) node
+      (refl, has.whole node.word solution node.holds);
+  gives = record { solution = solution; node = node; says = says };
+}
+
+end_of :
+    {E S : Type 0} (q : Question E S) (number budget : ℕ) → HasOneSolution q number budget → (v : Verdict) → VerdictAnswers q budget number v
+    → EndOf q number budget v
+end_of q number budget has (Safe nodes leaves) h = record { end = Whole h.tree nodes; is = h.is; gives = ap (Safe nodes) h.counted }
+end_of q number budget has (Unsafe nodes run) h = solved_end q number budget has (Unsafe nodes run) nodes h.solution h.node (inl (run, refl, h.is))
+end_of q number budget has (Spent nodes) h = record { end = Stopped nodes; is = h.is; gives = refl }
+end_of q number budget has (Overflow node (kind.Pivot pivot)) h = record { end = Left node (place.Pivot pivot); is = h; gives = refl }
+end_of q number budget has (Overflow node kind.Leaf) h = record { end = Left node place.Leaf; is = h; gives = refl }
+end_of q number budget has (Overflow node kind.Run) h =
     let leaves = h.holds in
-    record {
-      end = walk.Found node leaves.solution;
-      is = record { before = h.before; number_is = h.number_is; within = h.within; word = h.word; visited = h.visited; holds = leaves.whole };
-      gives = inr (refl, leaves.run);
-    }
+    solved_end q number budget has (Overflow node kind.Run) node leaves.solution
+    (record { before = h.before; number_is = h.number_is; within = h.within; word = h.word; visited = h.visited; holds = leaves.whole })
+    (inr (refl, leaves.run))
 
 place_once : (node : ℕ) (k : PlaceKind) (v w : Verdict) → SaysPlace node k v → SaysPlace node k w → v ≡ w
 place_once node (place.Pivot pivot) v w a b = a ∙ sym b
 place_once node place.Leaf v w a b = a ∙ sym b
 place_once node place.Run v w a b = absurd a
 
-gives_once : (q : Question) (number budget : ℕ) → HasOneRun q number budget → (e : WalkEnd) (v w : Verdict) → IsWalkEnd q.search number budget e → Gives q e v → Gives q e w → v ≡ w
-gives_once q number budget has (walk.Refuted nodes count) v w is a b = a ∙ sym b
-gives_once q number budget has (walk.Found count solution) v w is (inl a) (inl b) = a.1 ∙ ap (Unsafe count) (has.one count solution is a.0 b.0 a.2 b.2) ∙ sym b.1
-gives_once q number budget has (walk.Found count solution) v w is (inl a) (inr b) = absurd (has.apart count solution is a.0 a.2 b.1)
-gives_once q number budget has (walk.Found count solution) v w is (inr a) (inl b) = absurd (has.apart count solution is b.0 b.2 a.1)
-gives_once q number budget has (walk.Found count solution) v w is (inr a) (inr b) = a.0 ∙ sym b.0
-gives_once q number budget has (walk.Spent count) v w is a b = a ∙ sym b
-gives_once q number budget has (walk.Overflow node k) v w is a b = place_once node k v w a b
+run_once :
+    {E S : Type 0} (q : Question E S) (number budget : ℕ) → HasOneRun q number budget → (count : ℕ) (solution : S)
+    → NodeOf q.search budget count (q.at number solution) → (v w : Verdict) → SaysRun q count solution v → SaysRun q count solution w → v ≡ w
+run_once q number budget has count solution node v w (inl a) (inl b) = a.1 ∙ ap (Unsafe count) (has.one count solution node a.0 b.0 a.2 b.2) ∙ sym b.1
+run_once q number budget has count solution node v w (inl a) (inr b) = absurd (has.apart count solution node a.0 a.2 b.1)
+run_once q number budget has count solution node v w (inr a) (inl b) = absurd (has.apart count solution node b.0 b.2 a.1)
+run_once q number budget has count solution node v w (inr a) (inr b) = a.0 ∙ sym b.0
+
+gives_once :
+    {E S : Type 0} (q : Question E S) (number budget : ℕ) → HasOneSolution q number budget → HasOneRun q number budget → (e : Ending E) (v w : Verdict)
+    → Gives q number budget e v → Gives q number budget e w → v ≡ w
+gives_once q number budget solved has (Whole nodes count) v w a b = a ∙ sym b
+gives_once q number budget solved has (Solved count word values) v w a b =
+    let same = solved.one count count a.solution b.solution a.node b.node in
+    run_once q number budget has count b.solution b.node v w (subst (λ x. SaysRun q count x v) same a.says) b.says
+gives_once q number budget solved has (Stopped count) v w a b = a ∙ sym b
+gives_once q number budget solved has (Left node k) v w a b = place_once node k v w a b
 
 -- a question has one answer
-pub answer_once : (q : Question) (number budget : ℕ) → HasOneRun q number budget → (v w : Verdict) → VerdictAnswers q budget number v → VerdictAnswers q budget number w → v ≡ w
-answer_once q number budget has v w h k =
-    let a = end_of q number budget v h in
-    let b = end_of q number budget w k in
-    let ends = ends_once q.search number budget a.end b.end a.is b.is in
-    gives_once q number budget has b.end v w b.is (subst (λ (e : WalkEnd). Gives q e v) ends a.gives) b.gives
+pub answer_once :
+    {E S : Type 0} (q : Question E S) (number budget : ℕ) → HasOneSolution q number budget → HasOneRun q number budget → (v w : Verdict)
+    → VerdictAnswers q budget number v → VerdictAnswers q budget number w → v ≡ w
+answer_once q number budget solved has v w h k =
+    let a = end_of q number budget solved v h in
+    let b = end_of q number budget solved w k in
+    let ends = endings_once q.search budget a.end b.end a.is b.is in
+    gives_once q number budget solved has b.end v w (subst (λ e. Gives q number budget e v) ends a.gives) b.gives
+
+-- words have one solution
+pub words_have_one :
+    (q : Question Element Solution) (number budget : ℕ) → ((x : Solution) (w : Pending Element) → q.at number x w → SolutionAt q.search number x w)
+    → HasOneSolution q number budget
+words_have_one q number budget at = record {
+  values = λ x. x.values;
+  whole = λ w x h. (at x w h).whole;
+  one = λ i j x y h k.
+      let first = node_with q.search budget i (q.at number x) (SolutionAt q.search number x) h (at x h.word h.holds) in
+      let second = node_with q.search budget j (q.at number y) (SolutionAt q.search number y) k (at y k.word k.holds) in
+      let same : walk.Found i x ≡ walk.Found j y = ends_once q.search number budget (walk.Found i x) (walk.Found j y) first second in
+      cc;
+}
+
+-- so have moments
+pub found_once : (s : Search Fact) (budget i j : ℕ) (x y : Found) → NodeOf s budget i (FoundAt s x) → NodeOf s budget j (FoundAt s y) → x ≡ y
+found_once s budget i j x y h k =
+    let first : IsVisitEnding s budget (Solved i x.pending x.numbers) = node_with s budget i (FoundAt s x) (λ w. (w ≡ x.pending) × WholeAt s w x.numbers) h
+    (sym h.holds.0, h.holds.1) in
+    let second : IsVisitEnding s budget (Solved j y.pending y.numbers) = node_with s budget j (FoundAt s y) (λ w. (w ≡ y.pending) × WholeAt s w y.numbers) k
+    (sym k.holds.0, k.holds.1) in
+    let same = endings_once s budget (Solved i x.pending x.numbers) (Solved j y.pending y.numbers) first second in
+    let nodes : x.pending ≡ y.pending = cc in
+    let values : x.numbers ≡ y.numbers = cc in
+    λ i. record { pending = nodes i; numbers = values i }
+
+pub moments_have_one : (file : File) (number budget : ℕ) (p : Pattern) → HasOneSolution (moment_question file number p) number budget
+moments_have_one file number budget p =
+    let q = moment_question file number p in
+    record {
+      values = λ x. x.numbers;
+      whole = λ w x h. h.1;
+      one = found_once q.search budget;
+    }
 
 -- where each pattern has one verdict, patterns have one list of verdicts
 verdicts_from : (Fact : ℕ → Pattern → Verdict → Type 0) (number : ℕ) (ps : List Pattern) (vs ws : List Verdict) → ((k : ℕ) (p : Pattern) (v w : Verdict) → slice_get ps k ≡ Some p → Fact (number + k) p v → Fact (number + k) p w → v ≡ w) → EachHolds Fact number ps vs → EachHolds Fact number ps ws → vs ≡ ws
@@ -88,20 +162,34 @@ pub verdicts_same : (Fact : ℕ → Pattern → Verdict → Type 0) (ps : List P
 verdicts_same Fact ps vs ws once h k =
     verdicts_from Fact 0 ps vs ws (λ j p v w named a b. let here : 0 + j ≡ j = omega arith in once j p v w named (subst (λ n. Fact n p v) here a) (subst (λ n. Fact n p w) here b)) h k
 
-has_one_run : (file : File) (pairs : List (ℕ × ℕ)) (number budget : ℕ) (p : Pattern) → slice_get file.patterns number ≡ Some p → HasOneRun (safety_question file pairs p) number budget
-has_one_run file pairs number budget p at = record {
+words_have_one_run :
+    (file : File) (pairs : List (ℕ × ℕ)) (number budget : ℕ) (p : Pattern) → slice_get file.patterns number ≡ Some p
+    → HasOneRun (safety_question file pairs p) number budget
+words_have_one_run file pairs number budget p at = record {
   one = λ count solution found r s a b. one_witness file solution r s (solution_is file number p at pairs budget count solution found) a.witness b.witness;
   apart = λ count solution found r a out.
       let same = one_witness file solution r out.run (solution_is file number p at pairs budget count solution found) a.witness out.is in
       out.leaves (subst (ReplayStays file) same a.stays);
 }
 
-verdict_once : (file : File) (budget number : ℕ) (p : Pattern) (v w : Verdict) → slice_get file.patterns number ≡ Some p → VerdictHolds file budget number p v → VerdictHolds file budget number p w → v ≡ w
-verdict_once file budget number p v w at h k =
+moments_have_one_run : (file : File) (number budget : ℕ) (p : Pattern) → HasOneRun (moment_question file number p) number budget
+moments_have_one_run file number budget p = record {
+  one = λ count found node r s a b. runs_once file number of_events found r s a.is b.is;
+  apart = λ count found node r a out. out.leaves r a.is a.stays;
+}
+
+verdict_by :
+    (lazy : Bool) (file : File) (budget number : ℕ) (p : Pattern) (v w : Verdict) → slice_get file.patterns number ≡ Some p
+    → holds_by lazy file budget number p v → holds_by lazy file budget number p w → v ≡ w
+verdict_by false file budget number p v w at h k =
     let pairs = map pair_of k.orders in
     let orders = orders_once file.automaton h.orders k.orders h.found k.found in
     let first = subst (λ (os : List Order). VerdictAnswers (safety_question file (map pair_of os) p) budget number v) orders h.holds in
-    answer_once (safety_question file pairs p) number budget (has_one_run file pairs number budget p at) v w first k.holds
+    let q = safety_question file pairs p in
+    answer_once q number budget (words_have_one q number budget (λ x w at. at)) (words_have_one_run file pairs number budget p at) v w first k.holds
+verdict_by true file budget number p v w at h k =
+    answer_once (moment_question file number p) number budget (moments_have_one file number budget p) (moments_have_one_run file number budget p) v w h k
 
 pub verdicts_once : VerdictsAreDetermined
-verdicts_once file budget vs ws h k = verdicts_same (VerdictHolds file budget) file.patterns vs ws (λ j p v w. verdict_once file budget j p v w) h.hold k.hold
+verdicts_once file budget vs ws h k =
+    verdicts_same (VerdictHolds file budget) file.patterns vs ws (λ j p v w. verdict_by budget.lazy file budget.nodes j p v w) h.hold k.hold

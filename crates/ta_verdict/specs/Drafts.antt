@@ -1,4 +1,4 @@
--- What a certificate is while it is written
+-- A certificate while it is written.
 use Rattle.std.specs.List.{concat}
 use Rattle.std.specs.Prelude.{ℕ, ◌≡◌, true, List, [], ◌∷◌, ◌++◌, string_bytes, Some}
 use Rattle.ta_automaton.specs.declared.pattern.Pattern.{Pattern}
@@ -16,7 +16,7 @@ use Rattle.ta_verdict.specs.Certificates.{AreTreesOf, SafeOne, tree_size, with_s
 abbrev pub pieces_text : Pieces → List ℕ
 pieces_text pieces = concat pieces.whole.items ++ string_bytes pieces.open
 
--- where lines are wanted, the draft has these
+-- if lines are wanted, the draft has these
 abbrev pub HasText : Draft → List ℕ → Type 0
 HasText draft text = draft.wanted ≡ true → pieces_text draft.lines ≡ text
 
@@ -25,7 +25,7 @@ pub record DraftKeeps (first now : Draft) (nodes : List Node) : Type 0 where
   pub wanted : now.wanted ≡ first.wanted
   pub text : (begun : List ℕ) → HasText first begun → HasText now (begun ++ nodes_text nodes)
 
--- the second is a draft of a later part, which has no line yet
+-- the second is a draft of a later part, which has no line so far
 pub record DraftBegins (first part : Draft) : Type 0 where
   pub wanted : part.wanted ≡ first.wanted
   pub empty : pieces_text part.lines ≡ []
@@ -34,18 +34,18 @@ pub record DraftBegins (first part : Draft) : Type 0 where
 abbrev pub ended_line : Line → List ℕ
 ended_line l = line_text l ++ (10 ∷ [])
 
--- a draft of a certificate with these proofs behind a text, before its end
+-- a draft of a certificate with these proofs after a text, before its end
 abbrev pub HasProofs : Draft → List ℕ → List Proof → Type 0
 HasProofs draft head proofs = HasText draft (head ++ proofs_text proofs)
 
--- the draft has the lines of nodes of which a fact holds for the pattern, where a verdict says that it is safe
+-- the draft has the lines of nodes with a fact about the pattern, if a verdict calls it safe
 abbrev pub DraftHasTree : (Pattern → List Node → ℕ → Type 0) → Pattern → Verdict → Draft → Draft → Type 0
 DraftHasTree Tree p verdict first now = (nodes : ℕ) → tree_size verdict ≡ Some nodes → (tree : List Node) × Tree p tree nodes × DraftKeeps first now tree
 
--- behind a text the draft has such nodes of these, and no other proofs
+-- after a text the draft has such nodes of these, and no other proofs
 abbrev pub HasTrees : (Pattern → List Node → ℕ → Type 0) → List ℕ → List SafeOne → Draft → Type 0
 HasTrees Tree head ones draft = (proofs : List Proof) × AreTreesOf Tree ones proofs × HasProofs draft head proofs
 
--- such nodes of a pattern were added where a verdict says that it is safe
+-- such nodes of a pattern were added, if a verdict calls it safe
 abbrev pub AddsTree : (Pattern → List Node → ℕ → Type 0) → ℕ → Pattern → Verdict → Draft → Draft → Type 0
 AddsTree Tree number p verdict first now = (head : List ℕ) (proofs : List Proof) → HasProofs first head proofs → (more : List Proof) × AreTreesOf Tree (with_safe number p (tree_size verdict) []) more × HasProofs now head (proofs ++ more)

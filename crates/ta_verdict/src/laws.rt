@@ -1,4 +1,4 @@
-//! What a file says of its verdicts. The functions do nothing: their contracts state the laws.
+//! Laws of verdicts. The functions do nothing: their contracts state the laws.
 #![tactic(auto)]
 
 ghost use Rattle.ta_verdict.specs.Certificates.{CertificatesAreDetermined};

@@ -1,4 +1,4 @@
-//! What is said of the parameters of a file.
+//! The sample of a file's parameters.
 #![tactic(auto)]
 
 ghost use Rattle.std.specs.Prelude.{◌≡◌, ◌<◌, ◌≤◌, IfOk};

@@ -1,4 +1,8 @@
 -- a budget that is large enough for the words is spent only where a node was split
+--
+-- Without splits a visit meets no word twice: the children of a word are distinct, and what goes on from one child goes on from no
+-- other (`SubtreesApart`). A legal word has at most 30 elements, so there are finitely many, and a visit without splits ends within
+-- their number.
 use Rattle.ta_walk.proofs.Common.{◌≡◌, inl, inr, ℕ, zero, suc, ◌+◌, ◌<◌, ◌≤◌, ◌^◌, List, [], ◌∷◌, ◌++◌, length, map, slice_get, Some, arith, refl, sym, ap, ◌∙◌, subst, length-map, AllByRecursion, each_from_in, each_in, no_more, In-left, In-map, In-right, in_map, In-numbers, in_numbers, Automaton, File, Pattern, Distinct, In, range_with_len, Node, Element, LegalUnder, children, all_starts, empty_word, pattern_search, Comes, Pending, Search, parts, LinearRow, comes_legal, IsSpent, IsVisited, HasAtMost, HasSplit, SpentNeedsSplits, WasSplit, Visits, pattern_within, ℤ, Option}
 use Rattle.ta_words.specs.Words.{is_complete}
 use Rattle.ta_encode.proofs.Asking.{answers_moved, distinct_answers}

@@ -1,4 +1,4 @@
--- That each search ends (this project's profile)
+-- For every budget a search terminates, provided that each schema has a constraint system.
 use Rattle.std.specs.Prelude.{ℕ, ◌≡◌, List, slice_get, Some, ◌≤◌, ◌∷◌}
 use Rattle.std.specs.List.{AllByRecursion}
 use Rattle.ta_linear.specs.declared.row.System.{System}
@@ -16,8 +16,8 @@ use Rattle.ta_walk.specs.Samples.{IsSampleEnd}
 use Rattle.ta_walk.specs.declared.end.SampleEnd.{SampleEnd}
 use Rattle.ta_walk.specs.declared.end.WalkEnd.{WalkEnd}
 
--- a search begins with words without bounds; a word that is longer by an answer has no fewer unknowns; and each word to which it comes
--- has a system, whatever bounds its unknowns have
+-- a search begins with schemas without bounds; a schema that is longer by an answer does not have fewer unknowns; and each schema to which
+-- the search comes has a system, whatever bounds its unknowns have
 pub record HasSystems {E : Type 0} (s : Search E) : Type 0 where
   pub unbounded : AllByRecursion IsUnbounded s.roots
   pub grow : (start : ℕ) (past : List E) (e : E) → Answers s start past e → s.unknowns start past ≤ s.unknowns start (e ∷ past)
@@ -27,16 +27,18 @@ pub record HasSystems {E : Type 0} (s : Search E) : Type 0 where
 abbrev pub HasEnding : {E : Type 0} → Search E → ℕ → Type 0
 HasEnding {E} s budget = (e : Ending E) × IsVisitEnding s budget e
 
--- such a search ends within each budget: it can't be that it doesn't. It is said so since no test of the specs tells whether a pivot stays in range.
+-- for every budget such a search terminates. (The logic is constructive, so this is stated as "not never": no test of the specs tells
+-- whether a pivot stays in range.)
 abbrev pub SearchesHaveEnds : Type 0 → Type 0
 SearchesHaveEnds E = (s : Search E) → HasSystems s → (budget : ℕ) → ¬ HasEnding s budget → ⊥
 
--- for each claim, under any pairs of rise guards, the words of each pattern of a file have systems, and so has the search for a sample
+-- for each claim, under any pairs of rise guards, the schemas of each pattern of a file have systems, and so does the search for a sample
 pub record WordsHaveSystems : Type 0 where
   pub patterns : (claim : Claim) (file : File) (number : ℕ) (p : Pattern) → slice_get file.patterns number ≡ Some p → (pairs : List (ℕ × ℕ)) → HasSystems (search_for claim file.automaton p pairs)
   pub samples : (a : Automaton) → HasSystems (sample_search a)
 
--- so for each claim, under any pairs of rise guards, the walk of each pattern ends within each budget, and so does the search for a sample
+-- so for each claim, under any pairs of rise guards, the walk of each pattern terminates for every budget, and so does the search for a
+-- sample
 pub record WalksHaveEnds : Type 0 where
   pub walks : (claim : Claim) (file : File) (number : ℕ) (p : Pattern) → slice_get file.patterns number ≡ Some p → (pairs : List (ℕ × ℕ)) (budget : ℕ) → ¬ ((e : WalkEnd) × IsWalkEnd (search_for claim file.automaton p pairs) number budget e) → ⊥
   pub samples : (a : Automaton) (budget : ℕ) → ¬ ((e : SampleEnd) × IsSampleEnd a budget e) → ⊥

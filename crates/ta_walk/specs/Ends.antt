@@ -1,4 +1,4 @@
--- How a search, a visit and the walk of a pattern end
+-- How a search, a visit and the walk of a pattern end.
 use Rattle.std.specs.Prelude.{ℕ, ℤ, pos, ◌+◌, ◌≤◌, ◌<◌, ◌^◌, ◌≡◌, List, [], ◌∷◌, length, map, reverse, slice_get, Some}
 use Rattle.std.specs.List.{AllByRecursion}
 use Rattle.ta_base.specs.declared.limits.TheConstants.{MOST_NODES, MOST_UNKNOWNS}
@@ -30,14 +30,14 @@ use Rattle.ta_walk.specs.declared.end.WalkEnd.TheVariants.{Refuted, Found, Spent
 use Rattle.ta_simplex.specs.declared.fraction.Fraction.{Fraction}
 use Rattle.ta_walk.specs.Visit.{Visits, VertexAt, WholeAt, IsOutOfRangeAt, parts_of}
 
--- how many nodes a visit visited that ended so
+-- how many nodes a visit with this end visited
 abbrev pub node_count : {E : Type 0} → TreeEnd E → ℕ
 node_count (tree.Refuted count leaves) = count
 node_count (tree.Found count start facts values) = count
 node_count (tree.Spent count) = count
 node_count (tree.Overflow node kind) = node
 
--- a word without bounds
+-- a schema without bounds
 abbrev pub IsUnbounded : {E : Type 0} → Pending E → Type 0
 IsUnbounded w = w.bounds ≡ []
 
@@ -47,7 +47,7 @@ pub record TreeIs {E : Type 0} (s : Search E) (budget : ℕ) (nodes : List Node)
   pub counted : count ≡ length nodes
   pub within : count ≤ budget
 
--- so many nodes were visited, and then a word is left
+-- this many nodes were visited, and then a schema is left
 pub record IsVisited {E : Type 0} (s : Search E) (count : ℕ) (w : Pending E) : Type 0 where
   pub nodes : List Node
   pub words : List (Pending E)
@@ -63,14 +63,14 @@ pub record NodeOf {E : Type 0} (s : Search E) (budget : ℕ) (number : ℕ) (fac
   pub visited : IsVisited s before word
   pub holds : fact word
 
--- some word is left behind the budget
+-- some schema is left when the budget is exhausted
 pub record IsSpent {E : Type 0} (s : Search E) (budget count : ℕ) : Type 0 where
   pub counted : count ≡ budget
   pub word : Pending E
   pub visited : IsVisited s budget word
 
--- an end of a search: the nodes of its tree and how many these are; the number of the first whole node, its word and its values; a
--- spent budget; or the number of the first node at which a number leaves the range, and where
+-- an end of a search: the nodes of its tree and how many these are; the number of the first whole node, its schema and its values; an
+-- exhausted budget; or the number of the first node at which a number leaves the range, and where
 pub data Ending (E : Type 0) : Type 0 where
   Whole : List Node → ℕ → Ending E
   Solved : ℕ → Pending E → List ℤ → Ending E
@@ -88,26 +88,26 @@ IsVisitEnding s budget (Left number kind) = NodeOf s budget number (λ w. IsOutO
 abbrev pub EndingsAreDetermined : Type 0 → Type 0
 EndingsAreDetermined E = (s : Search E) (budget : ℕ) (e f : Ending E) → IsVisitEnding s budget e → IsVisitEnding s budget f → e ≡ f
 
--- these are natural numbers that solve a word's system
+-- these are natural numbers that solve a schema's system
 abbrev pub AreSolution : {E : Type 0} → Search E → Pending E → List ℤ → Type 0
 AreSolution s w numbers = (values : List ℕ) × (numbers ≡ map pos values) × SolvesAt s w values
 
--- the whole values that a maker takes in place of a vertex's solve the system
+-- the integer values that a maker takes in place of a vertex's solve the system
 abbrev pub ScaledSolve : {E : Type 0} → Search E → Type 0
 ScaledSolve {E} s = (w : Pending E) (values : List Fraction) (numbers : List ℤ) → VertexAt s w values → s.scaled w (parts_of values) ≡ Some numbers → AreSolution s w numbers
 
--- then the values of each whole node are natural numbers that solve its word's system
+-- then the values of each whole node are natural numbers that solve its schema's system
 abbrev pub WholeNodesSolve : Type 0 → Type 0
 WholeNodesSolve E = (s : Search E) → ScaledSolve s → (w : Pending E) (numbers : List ℤ) → WholeAt s w numbers → AreSolution s w numbers
 
--- a solution at a word of a search, for the pattern of a number: its values are those of a whole node
+-- a solution at a schema of a search, for the pattern with this number: its values are those of a whole node
 pub record SolutionAt (s : Search Element) (number : ℕ) (solution : Solution) (w : Pending Element) : Type 0 where
   pub pattern : solution.pattern ≡ number
   pub start : solution.start_mask ≡ w.start
   pub word : reverse solution.word ≡ w.past
   pub whole : WholeAt s w solution.values
 
--- how the walk of a search whose words are those of the pattern of a number ends within a budget
+-- how the walk of a search whose schemas are those of the pattern with this number ends within a budget
 abbrev pub IsWalkEnd : Search Element → ℕ → ℕ → WalkEnd → Type 0
 IsWalkEnd s number budget (Refuted nodes count) = TreeIs s budget nodes count
 IsWalkEnd s number budget (Found count solution) = NodeOf s budget count (SolutionAt s number solution)
@@ -120,7 +120,7 @@ leaf_count [] = 0
 leaf_count (Leaf ts ∷ ns) = leaf_count ns + 1
 leaf_count (n ∷ ns) = leaf_count ns
 
--- the tree has so many nodes, within the budget, and so many of them are leaves; what was kept is what they leave
+-- the tree has this many nodes, within the budget, and this many of them are leaves; what was kept is what they leave
 pub record TreeKept {E : Type 0} (s : Search E) (budget : ℕ) (Keeps : List Node → Type 0) (count leaves : ℕ) : Type 0 where
   pub nodes : List Node
   pub is : TreeIs s budget nodes count
@@ -133,14 +133,14 @@ pub record WholeNode {E : Type 0} (s : Search E) (start : ℕ) (facts : List E) 
   pub facts_are : reverse facts ≡ w.past
   pub whole : WholeAt s w values
 
--- how a visit of a tree ends whose nodes were handed on: of the nodes of a whole tree the rest is kept
+-- how a visit of a tree ends: if the tree is refuted, `Keeps` holds of its nodes
 abbrev pub IsTreeEnd : {E : Type 0} → Search E → ℕ → (List Node → Type 0) → TreeEnd E → Type 0
 IsTreeEnd s budget Keeps (tree.Refuted count leaves) = TreeKept s budget Keeps count leaves
 IsTreeEnd s budget Keeps (tree.Found count start facts values) = NodeOf s budget count (WholeNode s start facts values)
 IsTreeEnd s budget Keeps (tree.Spent count) = IsSpent s budget count
 IsTreeEnd s budget Keeps (tree.Overflow node kind) = NodeOf s budget node (λ w. IsOutOfRangeAt s w kind)
 
--- the same of a pattern's tree: a walk ends so
+-- the same for a pattern's tree: a walk ends so
 abbrev pub IsVisitEnd : Search Element → ℕ → ℕ → (List Node → Type 0) → VisitEnd → Type 0
 IsVisitEnd s number budget Keeps (visit.Refuted count leaves) = TreeKept s budget Keeps count leaves
 IsVisitEnd s number budget Keeps (visit.Found count solution) = IsWalkEnd s number budget (Found count solution)
@@ -160,14 +160,15 @@ HasFewPairs n = Unit {0}
 abbrev pub IsShort : Node → Type 0
 IsShort n = length (node_text n) ≤ line_limit
 
--- nodes that are a proof which a judge accepts, and each of which can be written in a line
+-- nodes that are a proof which the checker accepts; each node can be written in a line
 pub record IsProof {E : Type 0} (s : Search E) (nodes : List Node) : Type 0 where
   pub refutes : RefutedInOrder s (IsJudged s) s.roots nodes
   pub writable : AllByRecursion IsNode nodes
   pub few : AllByRecursion HasFewPairs nodes
   pub short : AllByRecursion IsShort nodes
 
--- the nodes of a whole tree of a claim are such a proof, and the pattern is what is claimed, whichever good pairs of guards ordered its words
+-- the nodes of a whole tree of a claim are such a proof, and the claim holds of the pattern, whichever good pairs of guards ordered its
+-- schemas
 abbrev pub RefutedClaimsHold : Type 0
 RefutedClaimsHold =
     (claim : Claim) (file : File) (number : ℕ) (p : Pattern) → slice_get file.patterns number ≡ Some p → MayClaim claim p → LoopsPure file.automaton
@@ -176,7 +177,7 @@ RefutedClaimsHold =
     → (nodes : List Node) (count : ℕ) → TreeIs (search_for claim file.automaton p pairs) budget nodes count
     → IsProof (search_for claim file.automaton p pairs) nodes × claimed claim file.automaton p
 
--- what a walk finds is a complete word that is legal under the pairs, with natural values that solve its system
+-- what a walk finds is a complete schema that is legal under the pairs, with natural values that solve its system
 abbrev pub FoundWordsAreSolved : Type 0
 FoundWordsAreSolved =
     (a : Automaton) (p : Pattern) (pairs : List (ℕ × ℕ)) (number budget count : ℕ) (solution : Solution) → NodeOf (pattern_search a p pairs) budget count (SolutionAt (pattern_search a p pairs) number solution)

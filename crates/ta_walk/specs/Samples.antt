@@ -1,4 +1,4 @@
--- How the search for a sample of the parameters ends (this project's profile)
+-- How the search for a sample of the parameters ends.
 use Rattle.std.specs.Prelude.{ℕ, ℤ, pos, ◌≡◌, List, length, map, take}
 use Rattle.ta_words.specs.declared.element.Element.{Element}
 use Rattle.ta_automaton.specs.declared.automaton.Automaton.{Automaton}
@@ -34,7 +34,7 @@ IsSampleEnd a budget Empty = SampleRefuted a budget
 IsSampleEnd a budget (Spent count) = IsSpent (sample_search a) budget count
 IsSampleEnd a budget (Overflow node kind) = NodeOf (sample_search a) budget node (λ w. IsOutOfRangeAt (sample_search a) w kind)
 
--- it has one end
+-- the search for a sample has one end
 abbrev pub SampleEndsAreDetermined : Type 0
 SampleEndsAreDetermined = (a : Automaton) (budget : ℕ) (e f : SampleEnd) → IsSampleEnd a budget e → IsSampleEnd a budget f → e ≡ f
 

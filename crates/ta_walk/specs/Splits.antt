@@ -1,4 +1,4 @@
--- That a budget which is large enough for the words of a pattern is spent only where a node was split (this project's profile)
+-- A budget that is large enough for the schemas of a pattern is exhausted only if some node was split (integer branching).
 use Rattle.std.specs.Prelude.{ℕ, ℤ, ◌<◌, ◌≤◌, ◌^◌, ◌≡◌, List, length, slice_get, Some}
 use Rattle.ta_automaton.specs.declared.automaton.Automaton.{Automaton}
 use Rattle.ta_automaton.specs.declared.file.File.{File}
@@ -13,7 +13,8 @@ use Rattle.ta_encode.specs.Search.{Pending, Search}
 use Rattle.ta_walk.specs.Ends.{IsSpent, IsVisited}
 use Rattle.ta_walk.specs.Visit.{Visits}
 
--- there are at most so many pairs of a start set and a word that is legal under pairs of rise guards: a list of no more items has each of them
+-- there are at most this many pairs of a start set and a schema that is legal under pairs of rise guards: a list of at most this many items
+-- has all of them
 pub record HasAtMost (a : Automaton) (p : Pattern) (pairs : List (ℕ × ℕ)) (most : ℕ) : Type 0 where
   pub words : List (ℕ × List Element)
   pub short : length words ≤ most
@@ -25,7 +26,7 @@ pub record HasSplit (nodes : List Node) : Type 0 where
   pub floor : ℤ
   pub is : In (node.Split unknown floor) nodes
 
--- so many nodes were visited, and one of them was split
+-- this many nodes were visited, and one of them was split
 pub record WasSplit {E : Type 0} (s : Search E) (count : ℕ) : Type 0 where
   pub nodes : List Node
   pub left : List (Pending E)
@@ -33,8 +34,8 @@ pub record WasSplit {E : Type 0} (s : Search E) (count : ℕ) : Type 0 where
   pub counted : length nodes ≡ count
   pub split : HasSplit nodes
 
--- a pattern of a file has at most some number of such pairs; where there are no more than the budget, it is spent only where one of the
--- visited nodes was split; for without splits no two visited nodes have the same start set and word
+-- a pattern of a file has at most some number of such pairs; if there are no more than the budget, it is exhausted only if one of the
+-- visited nodes was split; for without splits any two visited nodes differ in the start set or the schema
 pub record SpentNeedsSplits : Type 0 where
   pub number : (file : File) (number : ℕ) (p : Pattern) → slice_get file.patterns number ≡ Some p → (pairs : List (ℕ × ℕ)) → (most : ℕ) × HasAtMost file.automaton p pairs most
   pub split : (a : Automaton) (p : Pattern) (pairs : List (ℕ × ℕ)) (budget count : ℕ) → HasAtMost a p pairs budget → IsSpent (pattern_search a p pairs) budget count → WasSplit (pattern_search a p pairs) budget

@@ -1,4 +1,10 @@
-//! The walk of a pattern whose parts are visited beside each other.
+//! The walk of a claim in parallel: the calls `walk` and `visit`.
+//!
+//! The tree is visited twice at most. The first visit may abandon parts (part.rt). Its end counts
+//! unless it says that the budget is spent at fewer nodes than the budget has: then a part was
+//! abandoned whose result matters. The second visit is patient: it abandons none, so its end is
+//! that of one thread. By the counts on the board it never happens, but no proof says so. The nodes
+//! of a visit go to a keeper of their own and are handed on once its end counts.
 #![tactic(auto)]
 
 ghost use Rattle.std.specs.Prelude.{◌≤◌, ◌≡◌, [], IfNone, IfOk, IfSome, is_some, true, false};

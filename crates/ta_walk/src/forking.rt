@@ -1,4 +1,22 @@
-//! Forks: the parts of a visit that may be visited beside each other.
+//! Explores the trees of a claim in parallel.
+//!
+//! A part of the visit is the visit of a search that begins with other nodes (`beginning`), so each
+//! function here has the contract of the whole visit. The list of start sets is cut into halves
+//! (`visit_list`): two threads visit them by `join` where a processor is free, else one thread
+//! visits one after the other. Inside a tree a part looks for a free processor now and then
+//! (`Watch`). Then the nodes that its outermost open nodes leave, whose trees are the largest,
+//! become a cursor of their own (`Cursor::share`), which another thread visits from nothing, while
+//! the first thread goes on from its dictionaries.
+//!
+//! Why the result is that of one thread: a part depends on its first nodes and on its budget alone.
+//! A later part does not know how many nodes the earlier ones need, so both have the budget that
+//! was left at the fork, and merging.rt puts the ends together in order: what comes behind an end
+//! that decides is dropped, and the numbers of the later nodes rise by the count of the earlier
+//! part. A part that is abandoned (part.rt) ends with a budget that is spent too early; if that
+//! reaches the whole visit, it is repeated without abandoning any (forked.rt).
+//!
+//! Cost: later parts may visit nodes that one thread would not reach, and each part keeps
+//! dictionaries of its own.
 #![tactic(auto)]
 
 ghost use Rattle.std.specs.Prelude.{◌+◌, ◌-◌, ◌<◌, ◌≤◌, ◌^◌, ◌≡◌, ◌++◌, [], ◌∷◌, IfOk, map, true, vec_len};

@@ -1,4 +1,8 @@
-//! What takes the nodes of a tree.
+//! What takes the nodes of a visit as they come: the nodes themselves, their lines, or nothing.
+//!
+//! A certificate may have millions of nodes, so the visit keeps none. In a parallel visit each
+//! later part has a keeper of its own, which the part before it appends to its own where the two
+//! join.
 #![tactic(auto)]
 
 use std::alloc::{AllocError, Global};

@@ -1,5 +1,20 @@
-//! The walk: the maker of refutations. It visits the tree of a pattern's words, refutes their
-//! systems, and ends with a proof, with a solution, or with the place where it had to give up.
+//! The maker of proofs (the walk): it visits the trees of a search and ends with a proof, with a
+//! solution, or with the node where it had to give up.
+//!
+//! The walk takes the nodes in preorder and solves the system of each over the rationals
+//! (ta_simplex). An infeasible system becomes a leaf, its Farkas certificate. At a basic feasible
+//! solution the node asks, and its answers are the children; or, if it asks nothing, the walk
+//! branches on the least unknown that is not integral; or all values are integral: then the node is
+//! whole, and the walk stops with its solution, which becomes a run (ta_witness, ta_moment_run).
+//!
+//! Why the nodes of a walk without a solution are a proof: proofs/ProofsMade.antt. They are the
+//! certificate as they stand, so the visit hands each on and keeps only what its open nodes need: a
+//! place (ta_cursor), rows (ta_encode, ta_moment_tree) and dictionaries (`Branch` of ta_simplex).
+//!
+//! `walking` visits with one thread, `forking` with several; the result is the same. `finding`
+//! looks for implications between guards, `sampling` for parameters with an initial configuration.
+//!
+//! Source: POPL 2017, schemas; branch and bound for integers.
 #![tactic(auto)]
 
 mod end;

@@ -1,4 +1,11 @@
-//! What a maker of refutations does at a vertex.
+//! What a maker of proofs does at a basic feasible solution: the trait `Maker`, and schemas as its
+//! instance.
+//!
+//! One loop visits every kind of search; kinds differ in what happens where a system is feasible.
+//! `question` says what the node asks there. Where it asks nothing and a value is not integral,
+//! `scaled` may give natural numbers in place of the values; else the walk branches. A schema asks
+//! for its next element until it is complete, whatever the values are, and has no scaled values. A
+//! node of moments asks what its values leave open (ta_moment_walk).
 #![tactic(auto)]
 
 use std::alloc::{AllocError, Global};

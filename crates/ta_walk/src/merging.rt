@@ -1,4 +1,9 @@
-//! How the ends of the parts of a visit are put together, in order.
+//! How the ends of two parts of a visit become one, in order.
+//!
+//! If the first part is not refuted, its end is that of both. Else the nodes of the second part
+//! come behind those of the first: their numbers rise by its count, and if they then exceed the
+//! budget, both together have spent it. So the second part need not know how many nodes the first
+//! one takes.
 #![tactic(auto)]
 
 ghost use Rattle.std.specs.Prelude.{ℕ, ◌+◌, ◌-◌, ◌<◌, ◌≤◌, ◌≡◌, ◌++◌, IfNone, IfOk, IfSome, List};

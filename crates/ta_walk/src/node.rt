@@ -1,4 +1,10 @@
-//! The node at a cursor.
+//! The node at a cursor: its system is written, solved and turned into a node.
+//!
+//! `grow` writes the system on from that of the node before and says how many rows both share;
+//! `solve_node` goes on from the last dictionary within these rows. Multipliers that refute the
+//! system are summed as the checker sums them (`check_leaf`) before the node becomes a leaf: that
+//! sum may leave 128 bits though no pivot did, and then the walk ends here. So the checker accepts
+//! each leaf that is handed on.
 #![tactic(auto)]
 
 ghost use Rattle.std.specs.Prelude.{◌≡◌, ◌<◌, ◌≤◌, ◌^◌, IfOk, length};

@@ -1,4 +1,18 @@
-//! Parts of a visit.
+//! What the parallel parts of a visit know of one another: a board of atomic numbers.
+//!
+//! Places order the parts as the sequential visit does: the whole has an interval of numbers, and
+//! at a fork each half takes half of it. The board has the least place of a part that decided, how
+//! many parts run, and how many nodes each part visited. A part is abandoned as soon as its result
+//! cannot affect the verdict: a part before it has decided, or the nodes of the parts before it and
+//! its own have exhausted the budget. It then ends as if its budget were spent, but with fewer
+//! nodes than it had.
+//!
+//! Counts of nodes are claimed behind a count of a smaller number, and added to that one when the
+//! part ends; they are read by rising number, so no node is ever counted twice. A part for which no
+//! count is free is not counted.
+//!
+//! No proof follows an atomic number, and none has to: a part that was abandoned by mistake costs
+//! time and no result (forked.rt).
 #![tactic(auto)]
 
 ghost use Rattle.std.specs.Prelude.{◌≡◌, true, false};

@@ -1,4 +1,4 @@
-//! Lists of starts with which trees begin.
+//! The starts of a search as a list.
 #![tactic(auto)]
 
 ghost use Rattle.std.specs.Prelude.{◌≡◌, ◌<◌, ◌≤◌, ◌^◌, [], ◌∷◌, ◌++◌, IfOk, List, Some, None, drop, map, true, vec_len};

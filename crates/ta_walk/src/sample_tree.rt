@@ -1,4 +1,4 @@
-//! The tree of the sample system.
+//! The sample system as a search: one node without facts, which asks nothing and may only branch.
 #![tactic(auto)]
 
 use crate::maker::Maker;

@@ -1,4 +1,4 @@
-//! The visit of the tree at a cursor, by one thread.
+//! The visit of the tree at a cursor by one thread, up to its end or to the next fork.
 #![tactic(auto)]
 
 ghost use Rattle.std.specs.Prelude.{◌+◌, ◌<◌, ◌≤◌, ◌≡◌, ◌++◌, [], ◌∷◌, IfOk, List, MatchOption, Some, None, true};

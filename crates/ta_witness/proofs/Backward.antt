@@ -1,4 +1,8 @@
 -- the pieces of a word, the newest first, and their firings
+--
+-- A word in definitions is its past, newest element first, while a run has its pieces in order. So the pieces are followed backward
+-- here: those of a longer word are one more in front. The unknowns of older elements keep their values, whatever elements come
+-- later.
 use Rattle.ta_witness.proofs.Common.{◌≡◌, inl, inr, ℕ, suc, ◌+◌, ◌<◌, ℤ, pos, ◌*ℤ◌, ◌≤ℤ◌, List, [], ◌∷◌, ◌++◌, map, length, drop, reverse, true, Option, Some, None, slice_get, arith, refl, sym, ap, ◌∙◌, subst, append-nil, ints, cases_lt, cases_Bool, length-map, slice_get_within, each_from_in, reverse_onto, item_at, no_item, Automaton, Pattern, range_with_len, In, InScope, AreRuleCounts, ArrangedOf, count_at, Element, Event, Rise, Fall, allowed_rules, may_fire, Meaning, Count, Single, meanings, place_coefficient, sum_of_products, FiresBefore, WordFires, Piece, unknown_value, same_meaning, PieceOf, PiecesOf, EndsPiece, counts_before, map_same, in_filter, length-range_with_len}
 use Rattle.ta_base.proofs.Totals.{total-within}
 use Rattle.ta_automaton.specs.Places.{rule_change}

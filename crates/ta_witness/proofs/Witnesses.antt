@@ -1,4 +1,9 @@
 -- the run of a solution shows the pattern, and is short
+--
+-- The pieces of the run, one for each element, fire as the solution says (`Backward`): arranged steps are an order that goes
+-- forward, and the last step of a Fall is the rule whose Single is 1. Firings of this kind give a run in which the pattern occurs
+-- (`Realize` of ta_encode), each event at the end of its element. The marks stand at these positions, each event once, those that
+-- it comes after before it (`Marks`). A piece has at most one step for each rule, and a Fall one more.
 use Rattle.ta_witness.proofs.Common.{◌≡◌, inl, inr, ℕ, ◌+◌, ◌≤◌, ℤ, List, ◌∷◌, map, length, reverse, true, Some, slice_get, unsigned_abs, arith, sym, ap, ◌∙◌, subst, slice_index, length-reverse, slice_get_within, get_or_from_slice_get, bit_set, each_from, get_map, some_at, count_most, number_here, Automaton, Pattern, File, has_bit, range_with_len, In, Config, HappensAt, InScope, pattern_within, after_earlier, arranged_within, Element, Event, Rise, Fall, has_event, has_rise, has_fallen, legal_weight, Solution, Meaning, Parameter, Start, meanings, SolvedWord, position_in, steps_of, Run, unit_steps, ShowsPattern, Piece, OncePerRule, HasFewSteps, PiecesHappen, pieces_lines, steps_count, are_short, show, unknown_value, IsSolution, PiecesOf, EndsPiece, WitnessOf, WitnessesShow, solution_value}
 use Rattle.ta_automaton.specs.Runs as runs
 use Rattle.ta_encode.proofs.Theorems.{these_run}

@@ -1,4 +1,4 @@
--- What the values of a solution say, by the meaning of the unknowns (this project's profile)
+-- What the values of a solution say, by the meaning of the unknowns.
 use Rattle.std.specs.Prelude.{ℤ, pos, ◌==◌, ◌&&◌, if◌then◌else◌, Bool, false, List, [], ◌∷◌}
 use Rattle.ta_encode.specs.declared.meaning.Meaning.{Meaning}
 use Rattle.ta_encode.specs.declared.meaning.Meaning.TheVariants.{Parameter, Start, Count, Single}

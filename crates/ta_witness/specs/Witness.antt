@@ -1,4 +1,4 @@
--- The run of a solution (this project's profile)
+-- The run (counterexample) of a solution of a schema's system.
 use Rattle.std.specs.Prelude.{ℕ, ℤ, pos, ◌≡◌, List, [], ◌∷◌, length, map, reverse, slice_get, None, Some}
 use Rattle.ta_automaton.specs.declared.automaton.Automaton.{Automaton}
 use Rattle.ta_automaton.specs.declared.pattern.Pattern.{Pattern}
@@ -22,8 +22,8 @@ use Rattle.ta_replay.specs.Pieces.{Piece, HasFewSteps, pieces_lines}
 use Rattle.ta_witness.specs.declared.fault.WitnessFault.{WitnessFault}
 use Rattle.ta_witness.specs.declared.fault.WitnessFault.TheVariants.{Overflow, Memory}
 
--- the word of a solution is complete and legal for its pattern and start set, and its values are natural numbers that solve
--- the word's system without bounds
+-- the schema of a solution is complete and legal for its pattern and start set, and its values are natural numbers that solve the schema's
+-- system without bounds
 pub record IsSolution (file : File) (solution : Solution) : Type 0 where
   pub pattern : Pattern
   pub named : slice_get file.patterns solution.pattern ≡ Some pattern
@@ -31,11 +31,11 @@ pub record IsSolution (file : File) (solution : Solution) : Type 0 where
   pub are : solution.values ≡ map pos values
   pub solved : SolvedWord file.automaton pattern solution.start_mask solution.word values
 
--- the value that a solution gives the unknown that stands for something, 0 where there is no such unknown
+-- the value that a solution gives the unknown that stands for something; 0 if there is no such unknown
 abbrev pub solution_value : Automaton → Pattern → Solution → Meaning → ℤ
 solution_value a p solution m = unknown_value (meanings a p solution.start_mask (reverse solution.word)) solution.values m
 
--- how often each rule fires before element k, where unknowns have these values
+-- how often each rule fires before element k, if the unknowns have these values
 abbrev pub counts_before : Automaton → (Meaning → ℤ) → ℕ → List ℤ
 counts_before a value k = map (λ r. value (Count k r)) (range_with_len 0 (length a.rules))
 
@@ -50,13 +50,13 @@ pub record PieceOf (a : Automaton) (value : Meaning → ℤ) (k : ℕ) (element 
   pub steps : ArrangedOf a (counts_before a value k) piece.steps
   pub ends : EndsPiece value k element piece
 
--- one piece for each element of a word, in order
+-- one piece for each element of a schema, in order
 pub record PiecesOf (a : Automaton) (value : Meaning → ℤ) (word : List Element) (pieces : List Piece) : Type 0 where
   pub count : length pieces ≡ length word
   pub each : (k : ℕ) (element : Element) (piece : Piece) → slice_get word k ≡ Some element → slice_get pieces k ≡ Some piece → PieceOf a value k element piece
 
--- the run of a solution: its parameters, its start counts (0 for an initial location that is kept empty), and for each
--- element of its word the element's piece
+-- the run of a solution: its parameters, its start counts (0 for an initial location that is kept empty), and for each element of its
+-- schema the element's piece
 pub record WitnessOf (file : File) (solution : Solution) (run : Run) : Type 0 where
   pub pattern : Pattern
   pub named : slice_get file.patterns solution.pattern ≡ Some pattern
@@ -93,7 +93,7 @@ pub record WitnessOutOfRange (file : File) (solution : Solution) : Type 0 where
   pub fits : Fits file run
   pub leaves : ¬ ReplayStays file run
 
--- why there is no run; want of memory is free
+-- why there is no run; "out of memory" is always allowed
 abbrev pub WitnessFaultOf : File → Solution → WitnessFault → Type 0
 WitnessFaultOf file solution Overflow = WitnessOutOfRange file solution
 WitnessFaultOf file solution Memory = Unit {0}

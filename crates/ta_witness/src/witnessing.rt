@@ -34,7 +34,7 @@ pub fn witness(alloc: Global, scoped: &ScopedFile, solution: &Solution) -> Resul
     match replay(&scoped.file, &run) {
         Ok(_) => Ok(run),
         Err(RunFault::Overflow(_)) => Err(WitnessFault::Overflow),
-        // Since the run shows the pattern, there is no other fault.
+        // Since the run shows the pattern, there is no other error.
         Err(_) => Err(WitnessFault::Memory),
     }
 }

@@ -1,4 +1,8 @@
 -- a legal word has at most as many elements as there are events and guards
+--
+-- The weight of a word is the number of its events, of its rise guards, and of the fall guards that have fallen. A child adds to
+-- it: its event or rise guard is new, or a fall guard of its nonempty set still stood. So a word has no more elements than its
+-- weight, and that is at most 8 + 16 + 6.
 use Rattle.ta_words.proofs.Common.{◌≡◌, ◌⊎◌, inl, inr, ℕ, ◌+◌, ◌-◌, ◌^◌, ◌<◌, ◌≤◌, List, [], ◌∷◌, ◌++◌, length, map, true, not, arith, ap, refl, subst, reverse, filter, ◌==◌, length-reverse, and_parts, eq-eqb, not-true, or_left, or_right, has_bit, implies, range_with_len, In, all_below-at, some_bit, implies-at, In-left, In-right, cond_more, in_append, in_more, count, count_most, count_new, Automaton, Pattern, has_event, has_rise, has_fallen, is_complete, is_due, is_ready, is_standing, may_rise, children, LegalWord, LegalUnder, Element, Event, Rise, Fall, Task}
 use Rattle.ta_base.proofs.Ranges.{in_passed, passed_more}
 

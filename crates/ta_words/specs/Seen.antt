@@ -1,4 +1,4 @@
--- what a word says of events and guards, as masks
+-- What a schema says of events and guards, as masks.
 use Rattle.std.specs.Prelude.{ℕ, ◌<◌, ◌≤◌, ◌^◌, ◌≡◌, ◌↔◌, IsTrue, List, length, slice_get, Some}
 use Rattle.ta_automaton.specs.declared.pattern.Event.{Event as PatternEvent}
 use Rattle.ta_automaton.specs.declared.pattern.Pattern.{Pattern}
@@ -7,7 +7,7 @@ use Rattle.ta_words.specs.Words.{has_event, has_rise, has_fallen}
 use Rattle.ta_words.specs.declared.element.Element.{Element}
 use Rattle.ta_words.specs.declared.seen.Seen.{Seen}
 
--- the masks of the events, the rise guards and the fallen fall guards of a word
+-- the masks of the events, the rise guards and the fallen fall guards of a schema
 pub record IsSeen (seen : Seen) (start : ℕ) (past : List Element) : Type 0 where
   pub events : (e : ℕ) → e < 32 → has_bit seen.events e ≡ has_event past e
   pub rises : (i : ℕ) → i < 32 → has_bit seen.rises i ≡ has_rise past i

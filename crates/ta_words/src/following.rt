@@ -1,4 +1,12 @@
-//! What may follow a word.
+//! What may follow a word: its children, and the rules that may fire behind it.
+//!
+//! Children come in one order: events, rises, falls, each by number. A proof has one tree for each,
+//! so the automaton determines how a certificate is read. An Event may follow if the events that it
+//! comes after are in the word, a Rise if the guards that its pairs put before it are, a Fall if
+//! each of its guards still holds. A rule may fire if its rise guards are in the word, none of its
+//! fall guards has fallen, and it leads from one location to another, none of them kept empty: a
+//! self-loop changes nothing. All of this depends on three masks (seen.rt) and not on the order of
+//! the word.
 #![tactic(auto)]
 
 ghost use Rattle.std.specs.Prelude.{ℕ, ◌≡◌, ◌<◌, ◌&&◌, length, not, reverse, slice_get};

@@ -1,4 +1,11 @@
-//! Words of events and guard switches, their children, and the rules that are allowed after them.
+//! Schemas (words) of events and guard switches, their children, and the rules that are allowed
+//! after them.
+//!
+//! A word lists what a condition can observe along a run, in order: a rise guard turns true, some
+//! fall guards turn false in one step, an event happens. Each guard switches at most once, so a
+//! word has at most 30 elements: 8 events, 16 rise guards, 6 fall guards.
+//!
+//! Source: POPL 2017, schemas; sets of fall guards that one step turns are this project's.
 #![tactic(auto)]
 
 mod child_list;

@@ -1,4 +1,4 @@
-//! What a word says of events and guards.
+//! What a word says of events and guards, as three masks.
 #![tactic(auto)]
 
 ghost use Rattle.std.specs.Prelude.{ℕ, ◌<◌, ◌≤◌, ◌^◌, ◌≡◌, ◌∷◌, ◌==◌, ◌&&◌, List, Some, length, not, reverse};

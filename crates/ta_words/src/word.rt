@@ -1,4 +1,4 @@
-//! Words.
+//! Words: lists of at most 30 elements.
 #![tactic(auto)]
 
 ghost use Rattle.std.specs.Prelude.{◌≡◌, ◌≤◌, ◌++◌, ◌∷◌, ◌↔◌, IsTrue, [], if◌then◌else◌, length as list_length, reverse, take};

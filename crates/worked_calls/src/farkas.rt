@@ -1,4 +1,4 @@
-//! Leaves of one system, and their first faults.
+//! Leaves of one system, and their first errors.
 
 ghost use Rattle.std.specs.Prelude.{◌^◌};
 ghost use Rattle.ta_linear.specs.Leaf.{AreMultipliers};
@@ -20,6 +20,15 @@ pub(crate) fn row(constant: i128, terms: Vec<(u32, i128)>) -> Row
     requires terms { IsNormal 0 3 terms.items }
     ensures { IsNormal 0 3 result.form.terms }
 {
+    row_over(3, constant, terms)
+}
+
+// A row over this many unknowns.
+fn row_over(unknowns: u32, constant: i128, terms: Vec<(u32, i128)>) -> Row
+    requires constant { InRange constant }
+    requires terms { IsNormal 0 unknowns terms.items }
+    ensures { IsNormal 0 unknowns result.form.terms }
+{
     let form = Form {
         constant,
         terms: List::from_vec(terms),
@@ -39,6 +48,19 @@ fn kept(alloc: Global) -> Result<System, AllocError> {
     ]?;
     Ok(System {
         unknowns: 3,
+        rows: List::from_vec(rows),
+    })
+}
+
+// Rows on both sides of the end of the first 64 columns.
+fn wide(alloc: Global) -> Result<System, AllocError> {
+    let rows = vec![in alloc;
+        row_over(70, 0, vec![in alloc; (63, -1), (64, -1)]?),
+        row_over(70, 0, vec![in alloc; (64, -1), (65, 1)]?),
+        row_over(70, -1, vec![in alloc; (65, -1), (69, -1)]?),
+    ]?;
+    Ok(System {
+        unknowns: 70,
         rows: List::from_vec(rows),
     })
 }
@@ -70,5 +92,18 @@ fn judges(rt: HostRuntime) -> Result<(), Fail> {
     expect(&rt, &system, &[(0, 1), (9, 1)], row_number);
     let overflow = Err(LeafFault::Overflow(0));
     expect(&rt, &system, &[(0, M), (1, M)], overflow);
+    Ok(())
+}
+
+#[test]
+fn judges_more_than_64_columns(rt: HostRuntime) -> Result<(), Fail> {
+    let system = wide(rt.alloc())?;
+    expect(&rt, &system, &[(0, 1), (1, 1), (2, 1)], Ok(()));
+    let positive = Err(LeafFault::Positive(65));
+    expect(&rt, &system, &[(0, 1), (1, 1)], positive);
+    let overflow = Err(LeafFault::Overflow(64));
+    expect(&rt, &system, &[(0, M), (1, M)], overflow);
+    let not_negative = Err(LeafFault::NotNegative);
+    expect(&rt, &system, &[(0, 1)], not_negative);
     Ok(())
 }

@@ -1,4 +1,4 @@
-//! The message of each fault: its name.
+//! The message of each error: its name.
 
 use std::alloc::{AllocError, Global};
 use std::fmt::Display;
@@ -9,7 +9,7 @@ use ta_maker::MakerFault;
 use ta_replay::RunFault;
 use ta_syntax::FileFault;
 
-/// Compares the message of each fault of a table with the one beside it.
+/// Compares the message of each error of a table with the one beside it.
 fn expect<F: Display>(
     rt: &impl Abort,
     alloc: Global,

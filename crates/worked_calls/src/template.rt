@@ -5,7 +5,7 @@ use std::process::Abort;
 use std::test::Fail;
 use ta_search::{TemplateFault, fill, read_template};
 
-/// Refused texts, each with its first fault.
+/// Refused texts, each with its first error.
 const REFUSED: &[(&str, TemplateFault)] = &[
     ("", TemplateFault::Line(1)),
     ("begin", TemplateFault::Line(1)),
@@ -31,7 +31,7 @@ const REFUSED: &[(&str, TemplateFault)] = &[
     ),
 ];
 
-/// Compares the fault of a text with the one beside it.
+/// Compares the error of a text with the one beside it.
 fn expect(rt: &impl Abort, alloc: Global, text: &str, fault: TemplateFault) {
     assert!(rt; text.len() <= 1_048_576);
     assert_eq!(rt; read_template(alloc, text.as_bytes()).err(), Some(fault));

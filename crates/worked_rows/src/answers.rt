@@ -1,7 +1,7 @@
 //! What each kind of row gives.
 #![tactic(auto)]
 
-use crate::commands::{cut, grown, perform};
+use crate::commands::{cut, grown, perform, put};
 use crate::files::{Files, unescaped};
 use crate::layers::of_file;
 use crate::lines::lines;
@@ -26,6 +26,7 @@ pub fn answer<R: Threads + Sync>(
     let given = match what {
         "run" => perform(rt, alloc, files, rest, false),
         "calls" => perform(rt, alloc, files, rest, true),
+        "put" => put(rt, alloc, files, rest),
         "cuts" => cut(rt, alloc, files, rest),
         "grown" => grown(rt, alloc, files, rest),
         "means" => meaning(alloc, files, rest),

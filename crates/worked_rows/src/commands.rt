@@ -6,9 +6,10 @@ use crate::growing::Growing;
 use crate::noting::Noting;
 use std::alloc::{AllocError, Global};
 use std::thread::Threads;
+use ta_base::limits::CERTIFICATE_BYTES;
 use ta_base::{List, Text};
 use ta_program::run;
-use ta_shelf::{MemoryShelf, MemorySink, are_distinct};
+use ta_shelf::{MemoryShelf, MemorySink, are_distinct, read_whole};
 
 /// What fails in a run: the calls of the shelf and of the output with these numbers, where 0 is
 /// none; how many bytes the output has room for, and how many it takes at once.
@@ -40,9 +41,33 @@ pub fn perform<R: Threads + Sync>(
     let mut setting = CALM;
     let words = words_of(alloc, rest, &mut setting)?;
     match shelf_of(alloc, files, setting.shelf)? {
-        Some(shelf) => perform_over(rt, alloc, shelf, setting, words.as_slice(), noted),
+        Some(mut shelf) => perform_over(rt, alloc, &mut shelf, setting, words.as_slice(), noted),
         None => String::from_str(alloc, "files of one name"),
     }
+}
+
+/// The same, and behind it the lines of the text that a file then has, each behind `> `; the text is kept.
+pub fn put<R: Threads + Sync>(
+    rt: &R,
+    alloc: Global,
+    files: &mut Files,
+    rest: &str,
+) -> Result<String, AllocError> {
+    let (name, rest) = rest.split_once(" ").unwrap_or((rest, ""));
+    let mut setting = CALM;
+    let words = words_of(alloc, rest, &mut setting)?;
+    let Some(mut shelf) = shelf_of(alloc, files, setting.shelf)? else {
+        return String::from_str(alloc, "files of one name");
+    };
+    let mut given = perform_over(rt, alloc, &mut shelf, setting, words.as_slice(), false)?;
+    let Ok(bytes) = read_whole(alloc, &mut shelf, name, CERTIFICATE_BYTES) else {
+        return Ok(given);
+    };
+    given.push_str("\n")?;
+    write_lines(&mut given, "> ", bytes.as_slice())?;
+    let text = String::from_utf8(bytes.into_vec()).unwrap_or(String::new(alloc));
+    files.set(alloc, name, text)?;
+    Ok(given)
 }
 
 /// The words behind the settings, which are taken.
@@ -64,14 +89,14 @@ fn words_of<'a>(
 fn perform_over<R: Threads + Sync>(
     rt: &R,
     alloc: Global,
-    mut shelf: Noting<MemoryShelf>,
+    shelf: &mut Noting<MemoryShelf>,
     setting: Setting,
     words: &[&str],
     noted: bool,
 ) -> Result<String, AllocError> {
     let mut out = sink_of(alloc, setting.room, setting.piece, setting.out)?;
     let mut err = sink_of(alloc, 4096, 4096, 0)?;
-    let number = run(rt, alloc, words, &mut shelf, &mut out, &mut err);
+    let number = run(rt, alloc, words, shelf, &mut out, &mut err);
     let calls = noted.then_some(shelf.noted.as_str());
     told(alloc, out.as_slice(), err.as_slice(), calls, number)
 }

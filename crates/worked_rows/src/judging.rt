@@ -10,7 +10,7 @@ use ta_cert::CertFault;
 use ta_check::{Accepted, Checker, check};
 use ta_scope::ScopedFile;
 
-/// The patterns that a certificate proves, or its first fault. It comes whole, in pieces of several
+/// The patterns that a certificate proves, or its first error. It comes whole, in pieces of several
 /// sizes, and in two pieces, cut behind each of its bytes; the answers have to be the same.
 pub fn judgement(alloc: Global, scoped: &ScopedFile, text: &str) -> Result<String, AllocError> {
     let bytes = text.as_bytes();
@@ -63,7 +63,7 @@ pub fn round<R: Threads + Sync>(
     format!(in alloc; "{first}, {lines} lines, {}", judged.as_str())
 }
 
-/// The faults of a text, of nothing behind it, and of its end.
+/// The errors of a text, of nothing behind it, and of its end.
 pub fn refusals(alloc: Global, scoped: &ScopedFile, text: &str) -> Result<String, AllocError> {
     let mut checker = Checker::new(alloc, scoped);
     let first = checker.feed(text.as_bytes()).err();

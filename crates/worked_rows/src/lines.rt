@@ -4,7 +4,7 @@
 use std::alloc::{AllocError, Global};
 use ta_cert::{CertFault, Line, Node, Reader};
 
-/// The lines of a text, a word or two each, or its first fault. It is read in pieces of several sizes,
+/// The lines of a text, a word or two each, or its first error. It is read in pieces of several sizes,
 /// which have to agree.
 pub fn lines(alloc: Global, text: &str) -> Result<String, AllocError> {
     let whole = lines_by(alloc, text, 1000)?;

@@ -9,7 +9,7 @@ use ta_counter::Config;
 use ta_scope::ScopedFile;
 
 /// The values of the configuration with one parameter and one start count, and behind each step,
-/// `RULE*FACTOR`, its fault, if any, and the values.
+/// `RULE*FACTOR`, its error, if any, and the values.
 pub fn steps(alloc: Global, automaton: &Automaton, rest: &str) -> Result<String, AllocError> {
     let mut words = rest.split(" ");
     let parameters = [i128::from(number_of(words.next().unwrap_or("")))];
@@ -30,7 +30,7 @@ pub fn steps(alloc: Global, automaton: &Automaton, rest: &str) -> Result<String,
     Ok(text)
 }
 
-/// Takes a rule so many times at once, and writes the fault, if any.
+/// Takes a rule so many times at once, and writes the error, if any.
 fn write_step(
     text: &mut String,
     automaton: &Automaton,

@@ -1,4 +1,4 @@
-//! Rows of texts: what they mean, and their first faults.
+//! Rows of texts: what they mean, and their first errors.
 #![tactic(auto)]
 
 use crate::describing::description;
@@ -22,7 +22,7 @@ fn file_of(alloc: Global, text: &str) -> Result<ScopedFile, FileFault> {
     read_file(alloc, bytes)
 }
 
-/// The first fault of a text, or `legal`.
+/// The first error of a text, or `legal`.
 pub fn fault(alloc: Global, text: &str) -> Result<String, AllocError> {
     match file_of(alloc, text) {
         Ok(_) => String::from_str(alloc, "legal"),

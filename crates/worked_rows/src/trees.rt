@@ -1,11 +1,11 @@
-//! Rows of trees: the first faults of texts, their cuts, their lists, and what is printed of them.
+//! Rows of trees: the first errors of texts, their cuts, their lists, and what is printed of them.
 #![tactic(auto)]
 
 use std::alloc::{AllocError, Global};
 use ta_base::limits::FILE_BYTES;
 use ta_syntax::{FileFault, Tree, print_then_read, print_tree, read_tree};
 
-/// The first fault of a text as a tree.
+/// The first error of a text as a tree.
 fn fault_of(alloc: Global, bytes: &[u8]) -> Option<FileFault> {
     if bytes.len() > FILE_BYTES {
         return Some(FileFault::Memory);
@@ -13,7 +13,7 @@ fn fault_of(alloc: Global, bytes: &[u8]) -> Option<FileFault> {
     read_tree(alloc, bytes).err()
 }
 
-/// The first fault of a text as a tree, or `a tree`.
+/// The first error of a text as a tree, or `a tree`.
 pub fn fault(alloc: Global, text: &str) -> Result<String, AllocError> {
     match fault_of(alloc, text.as_bytes()) {
         Some(fault) => format!(in alloc; "{fault:?}"),
@@ -72,7 +72,7 @@ fn past_limit(alloc: Global, text: &str) -> Option<u32> {
 }
 
 /// The lengths at which a text can't be cut: behind `resilience ..;`, a rule or a pattern it is a
-/// tree, and anywhere else there is a syntax fault; behind a space, at its end; and where it ends
+/// tree, and anywhere else there is a syntax error; behind a space, at its end; and where it ends
 /// with ` =`, a wrong byte.
 pub fn cuts(alloc: Global, text: &str) -> Result<String, AllocError> {
     let mut wrong = String::from_str(alloc, "as they should")?;

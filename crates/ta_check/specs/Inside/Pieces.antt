@@ -1,4 +1,4 @@
--- The lines of a piece, taken one after another
+-- What taking the lines of a piece, one after another, answers.
 use Rattle.std.specs.Prelude.{ℕ, ◌<◌, ◌≤◌, List, ◌++◌, length, take, Option, Some, None, Result, Ok, Err}
 use Rattle.ta_cert.specs.declared.fault.CertFault.{CertFault}
 use Rattle.ta_cert.specs.declared.fault.CertFault.TheVariants as fault
@@ -8,17 +8,17 @@ use Rattle.ta_check.specs.Subjects.{Subject}
 use Rattle.ta_check.specs.Checkers.{StandBehind}
 use Rattle.ta_check.specs.Faults.{IsLastingFor}
 
--- a reader and a position stand behind some text
+-- a reader and a position stand after some text
 abbrev pub StandSomewhere : Subject → Reader → Position → Type 0
 StandSomewhere subject reader position = (text : List ℕ) × StandBehind subject reader position text
 
--- where they stand behind a piece that makes the text this one; want of memory is free
+-- where they stand after a piece that makes the text this one; "out of memory" is always allowed
 abbrev pub TakenTo : Subject → List ℕ → Reader → Position → Result (Unit {0}) CertFault → Type 0
 TakenTo subject text reader position (Ok _) = StandBehind subject reader position text
 TakenTo subject text reader position (Err fault.Memory) = Unit {0}
 TakenTo subject text reader position (Err f) = IsLastingFor subject text f
 
--- where they stand behind the bytes up to the next line feed, so many, or behind all where there is none
+-- where they stand after this many bytes, up to the next line feed; or after all bytes where there is none
 abbrev pub NextTaken : Subject → List ℕ → List ℕ → Reader → Position → Result (Option ℕ) CertFault → Type 0
 NextTaken subject text bytes reader position (Ok None) = StandBehind subject reader position (text ++ bytes)
 NextTaken subject text bytes reader position (Ok (Some taken)) = (0 < taken) × (taken ≤ length bytes) × StandBehind subject reader position (text ++ take taken bytes)

@@ -1,4 +1,4 @@
--- A compressed run in the making (this project's profile)
+-- A compressed run while it is built.
 use Rattle.std.specs.Prelude.{ℕ, ℤ, pos, ◌<◌, ◌≤◌, ◌≡◌, ◌⊎◌, ◌+ℤ◌, ◌*ℤ◌, ◌≤ℤ◌, List, [], ◌∷◌, ◌++◌, length, map, replicate, unsigned_abs, slice_get, Some, IsBitSet}
 use Rattle.ta_base.specs.Sums.{one_if, times_in}
 use Rattle.ta_linear.specs.Values.{point_of}
@@ -36,7 +36,7 @@ repeated a r values times place = point_of values place +ℤ (pos times *ℤ rul
 abbrev pub RepeatsRule : Automaton → ℕ → List ℤ → ℕ → List ℤ → Type 0
 RepeatsRule a r values times after = (place : ℕ) → point_of after place ≡ repeated a r values times place
 
--- no check of so many unit steps in a row refuses, where all guards stay in range
+-- no check of this many unit steps in a row refuses, if all guards stay in range
 abbrev pub MayRepeat : Automaton → ℕ → ℕ → List ℤ → Type 0
 MayRepeat a r count values =
     (times : ℕ) (now : Config) → times < count → IsOf a now → RepeatsRule a r values times now.values.items → GuardsStay a (point_of now.values.items) → MayStep a r now.values.items
@@ -96,8 +96,7 @@ pub record Advances (a : Automaton) (r : ℕ) (old new : Draft) : Type 0 where
   pub ready : DraftIsReady a new
   pub counted : CountsStep a r (point_of old.config.values.items) (point_of new.config.values.items) old new
 
--- the draft has these unfolded lines behind it: pieces that are cut off and written, and the steps since the last cut, which
--- are counted
+-- the draft has these unfolded lines so far: pieces that are cut off and written, and the steps since the last cut, which are counted
 pub record DraftAt (a : Automaton) (first : List ℤ) (done : List RunLine) (draft : Draft) : Type 0 where
   pub ready : DraftIsReady a draft
   pub reached : (place : ℕ) → point_of draft.config.values.items place ≡ value_after a first done place
@@ -127,7 +126,7 @@ RepeatStops a r count values line Memory = Unit {0}
 abbrev pub SameGuards : Guards → Guards → Type 0
 SameGuards before now = (before.rise ≡ now.rise) × (before.fall ≡ now.fall)
 
--- a number of the first mask isn't in the second
+-- a number of the first mask is not in the second
 abbrev pub HasFallen : ℕ → ℕ → Type 0
 HasFallen before now = (j : ℕ) × IsBitSet before j × ¬ IsBitSet now j
 

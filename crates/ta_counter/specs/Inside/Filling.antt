@@ -1,4 +1,4 @@
--- The values of a first configuration while its counts are written (this project's profile)
+-- The values of a first configuration while its counts are written.
 use Rattle.std.specs.Prelude.{ℕ, ℤ, pos, ◌+◌, ◌<◌, ◌≡◌, List, length, take, slice_get, Some}
 use Rattle.std.specs.List.{AllByRecursion}
 use Rattle.ta_linear.specs.Values.{point_of}

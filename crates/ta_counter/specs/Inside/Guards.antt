@@ -1,4 +1,4 @@
--- How guards refuse (this project's profile)
+-- Which guard of a rule refuses a step, and why.
 use Rattle.std.specs.Prelude.{ℕ, ℤ, ◌+◌, ◌≡◌, List}
 use Rattle.ta_linear.specs.declared.row.Row.{Row}
 use Rattle.ta_automaton.specs.declared.rule.Rule.{Rule}

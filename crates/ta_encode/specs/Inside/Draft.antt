@@ -1,4 +1,4 @@
--- the unknowns and rows of the elements so far
+-- The unknowns and rows of a schema while it is encoded.
 use Rattle.std.specs.Prelude.{ℕ, ◌≡◌, List, ◌++◌, length, map}
 use Rattle.ta_linear.specs.declared.row.Row.{Row}
 use Rattle.ta_linear.specs.declared.row.System.{System}
@@ -12,29 +12,29 @@ use Rattle.ta_encode.specs.Inside.Lines.{AddsRows, AreWritten, IsBehind}
 use Rattle.ta_encode.specs.declared.draft.Draft.{Draft}
 use Rattle.ta_encode.specs.declared.origin.Origin.{Origin}
 
--- the unknowns and rows of a word
+-- the unknowns and rows of a schema
 pub record IsDraftOf (a : Automaton) (p : Pattern) (start : ℕ) (past : List Element) (unknowns : List Meaning) (rows : List Row) : Type 0 where
   pub unknowns_are : unknowns ≡ meanings a p start past
   pub rows_are : AreWritten (word_rows a p start past) (length unknowns) rows
 
--- a draft of a word
+-- a draft of a schema
 pub record IsDraft (o : Origin) (past : List Element) (draft : Draft) : Type 0 where
   pub automaton_is : draft.automaton.now ≡ o.task.automaton.now
   pub is : IsDraftOf o.task.automaton.now o.task.pattern.now o.start_mask past draft.meanings.items draft.rows.items
 
--- a draft of a word that begins with what was written before
+-- a draft of a schema that begins with what was written before
 pub record Continues (o : Origin) (past : List Element) (before after : Draft) : Type 0 where
   pub drafted : IsDraft o past after
   pub unknowns : IsBehind before.meanings.items after.meanings.items
   pub rows : IsBehind before.rows.items after.rows.items
 
--- writing rows over the unknowns so far behind others
+-- writing rows over the unknowns so far after others
 pub record Adds (rows_over : Automaton → List Meaning → List LinearRow) (before after : Draft) : Type 0 where
   pub automaton : after.automaton.now ≡ before.automaton.now
   pub unknowns : after.meanings.items ≡ before.meanings.items
   pub rows : AddsRows (rows_over before.automaton.now before.meanings.items) (length before.meanings.items) before.rows.items after.rows.items
 
--- writing unknowns behind others
+-- writing unknowns after others
 pub record AddsUnknowns (more : List Meaning) (before after : Draft) : Type 0 where
   pub automaton : after.automaton.now ≡ before.automaton.now
   pub unknowns : after.meanings.items ≡ before.meanings.items ++ more

@@ -1,4 +1,4 @@
--- Counts and Singles in one
+-- Counts and Singles by one function.
 use Rattle.std.specs.Prelude.{ℕ, Bool, true, false}
 use Rattle.ta_encode.specs.Unknowns.{Meaning, Count, Single}
 

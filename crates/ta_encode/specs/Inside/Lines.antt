@@ -1,4 +1,4 @@
--- Rows written from terms over places
+-- Rows of the code that are written from terms over places.
 use Rattle.std.specs.Prelude.{ℕ, ℤ, pos, ◌-◌, ◌≤◌, ◌-ℤ◌, unsigned_abs, Bool, true, false, List, ◌++◌, length, map, filter, not, slice_get, Some, ◌≡◌}
 use Rattle.std.specs.List.{AllByRecursion, range_with_len}
 use Rattle.ta_base.specs.declared.limits.TheConstants.{LARGEST_NUMBER}
@@ -44,7 +44,7 @@ SmallRows rows = AllByRecursion (λ (r : Row). SmallForm r.form) rows
 abbrev pub SmallCondition : Condition → Type 0
 SmallCondition condition = AllByRecursion (λ (k : Comparison). SmallRows k.rows) condition.comparisons
 
--- a row as it is, its opposite, or its negation
+-- a row unchanged, its opposite, or its negation
 abbrev pub in_sense : Sense → LinearRow → LinearRow
 in_sense Plain row = row
 in_sense Opposite row = opposite row

@@ -1,4 +1,4 @@
--- Coefficients of the firings of rules
+-- Coefficients of the firings of rules.
 use Rattle.std.specs.Prelude.{ℕ, ◌<◌, ◌≡◌, ℤ, pos, Bool, List, length, get_or, All}
 use Rattle.ta_linear.specs.Numbers.{InRange}
 use Rattle.ta_automaton.specs.declared.automaton.Automaton.{Automaton}

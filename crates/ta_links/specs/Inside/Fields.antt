@@ -1,3 +1,4 @@
+-- What the fields of a linked dictionary mean, and what they keep.
 use Rattle.std.specs.Prelude.{◌<◌, ◌^◌, ◌≡◌, length}
 use Rattle.ta_links.specs.declared.linked.LinkedDictionary.TheInside.{Inside}
 use Rattle.ta_links.specs.Linked.{Linked, table_rows, AreProperHeads}

@@ -1,4 +1,4 @@
--- Rules and guards while they are read: the guards so far, and what a comparison and a rule add to them (this project's profile)
+-- Rules and guards while they are read: the guards so far, and what a comparison and a rule add to them.
 use Rattle.std.specs.Prelude.{ℕ, ℤ, ◌<◌, ◌≤◌, ◌≡◌, ◌⊎◌, ◌↔◌, ◌&&◌, ◌||◌, Bool, true, false, nat_le, List, [], ◌∷◌, ◌++◌, length, map, slice_get, Some, Result, Ok, Err, IsBitSet, IsTrue, if◌then◌else◌}
 use Rattle.std.specs.List.{AllByRecursion, range_with_len}
 use Rattle.ta_linear.specs.Terms.{coefficient}
@@ -52,7 +52,7 @@ pub record SameAt (rows : List Row) (row : Row) (number : ℕ) : Type 0 where
 abbrev pub Has : List Row → Row → Type 0
 Has rows row = (number : ℕ) × SameAt rows row number
 
--- the number of a row among rows, or as one more: where it is none of them and there are no fewer than the limit, too many
+-- the number of a row among rows, or as the next one; too many, if it is none of them and they are as many as the limit
 abbrev pub RowAnswers : List Row → Row → ℕ → ℕ → List Row → Result ℕ FileFault → Type 0
 RowAnswers rows row limit at after (Ok number) =
     ((after ≡ rows) × SameAt rows row number)

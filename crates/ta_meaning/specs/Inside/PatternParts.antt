@@ -1,4 +1,4 @@
--- What the resolver gives for an event and for a pattern, and the names that are declared then (this project's profile)
+-- What the resolver answers for an event and for a pattern, and which names are declared then.
 use Rattle.std.specs.Prelude.{ℕ, ◌≡◌, ◌≤◌, List, [], ◌∷◌, ◌++◌, length, map}
 use Rattle.ta_syntax.specs.Grammar.{PlainEvent, PlainPattern}
 use Rattle.ta_automaton.specs.declared.pattern.Event.{Event}

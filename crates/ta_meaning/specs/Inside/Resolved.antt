@@ -1,4 +1,4 @@
--- What the parts of the resolver give: values that mean their part of the tree and keep the limits of a file (this project's profile)
+-- What the parts of the resolver answer: values that mean their part of the tree and keep the limits of a file.
 use Rattle.std.specs.Prelude.{ℕ, ◌+◌, ◌≤◌, List, length, take, drop, map}
 use Rattle.std.specs.List.{AllByRecursion}
 use Rattle.ta_linear.specs.declared.form.Form.{Form}
@@ -27,7 +27,7 @@ kinds_of places = record {
   locations = drop (places.parameters + places.shared) places.names;
 }
 
--- where the first places may stand
+-- where the first places may occur
 abbrev pub first_places : List (List ℕ) → ℕ → Scope
 first_places names allowed = record { places = names; allowed = take allowed names }
 

@@ -1,4 +1,4 @@
--- Rules while they are read, one after another (this project's profile)
+-- Rules while they are read, one after another.
 use Rattle.std.specs.Prelude.{ℕ, ◌≡◌, List, ◌∷◌, [], ◌++◌, length}
 use Rattle.std.specs.List.{AllByRecursion}
 use Rattle.ta_syntax.specs.Grammar.{PlainRule}

@@ -1,4 +1,4 @@
--- The parts of a sum: their faults, and the forms with their numbers (this project's profile)
+-- The parts of a sum: their errors, and the numbers of their forms.
 use Rattle.std.specs.Prelude.{ℕ, ℤ, pos, ◌≡◌, ◌+ℤ◌, Bool, false, ◌||◌, List, [], ◌∷◌, map, IsTrue, Option, Some, None}
 use Rattle.ta_linear.specs.Terms.{coefficient}
 use Rattle.ta_linear.specs.declared.form.Form.{Form}
@@ -16,11 +16,11 @@ use Rattle.ta_meaning.specs.Linear.{Linear, FormOf, is_large}
 use Rattle.ta_meaning.specs.Faults.{Scope, WithFaults, factor_judged, sum_judged, term_judged}
 use Rattle.ta_meaning.specs.SumParts.{IsDifference, FormWithin}
 
--- a term with its faults
+-- a term with its errors
 abbrev pub judged_term : Scope → TreeTerm → WithFaults Term
 judged_term s = fold-TreeTerm (WithFaults Factor) (WithFaults Terms) (WithFaults Term) (factor_judged s) (sum_judged s) (term_judged s)
 
--- a factor with its faults
+-- a factor with its errors
 abbrev pub judged_factor : Scope → TreeFactor → WithFaults Factor
 judged_factor s = fold-TreeFactor (WithFaults Factor) (WithFaults Terms) (WithFaults Term) (factor_judged s) (sum_judged s) (term_judged s)
 
@@ -28,7 +28,7 @@ judged_factor s = fold-TreeFactor (WithFaults Factor) (WithFaults Terms) (WithFa
 abbrev pub linear_factor : List (List ℕ) → Factor → Linear
 linear_factor names f = record { constant = factor_constant f; coefficients = map (λ x. factor_coefficient x f) names }
 
--- the number of a term, or another where it has none
+-- the number of a term, or another one if it has none
 abbrev pub number_or : ℕ → Option Digits → ℕ
 number_or other None = other
 number_or other (Some d) = number_of d.text
@@ -67,7 +67,7 @@ pub record FormDifference : Type 0 where
 abbrev pub form_minus : Form → Form → ℤ → FormDifference
 form_minus greater less shift = record { greater = greater; less = less; shift = shift }
 
--- the differences that are at least 0 exactly where one form is so compared with another
+-- the differences that are at least 0 exactly if one form is so compared with another
 abbrev pub form_differences : Relation → Form → Form → List FormDifference
 form_differences relation.Less l r = form_minus r l (pos 1) ∷ []
 form_differences relation.AtMost l r = form_minus r l (pos 0) ∷ []

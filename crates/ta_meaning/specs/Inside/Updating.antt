@@ -1,4 +1,4 @@
--- The updates of a rule while they are read (this project's profile)
+-- The updates of a rule while they are read.
 use Rattle.std.specs.Prelude.{ℕ, ℤ, pos, ◌≡◌, ◌≤◌, ◌==◌, List, [], ◌∷◌, ◌++◌, length, map, slice_get, slice_index_or, Contains, Some, Result, Ok, Err, if◌then◌else◌}
 use Rattle.std.specs.List.{AllByRecursion}
 use Rattle.ta_syntax.specs.Grammar.{PlainUpdate}
@@ -16,7 +16,7 @@ use Rattle.ta_meaning.specs.Meaning.{MeansUpdates}
 abbrev pub names_at : List (List ℕ) → List ℕ → List (List ℕ)
 names_at names numbers = map (λ x. slice_index_or names x []) numbers
 
--- an updated variable: F3 where it was updated before in the rule, else as each used name
+-- an updated variable: F3 if it was updated before in the rule, otherwise the errors of a used name
 abbrev pub variable_faults : Names → List (List ℕ) → Spelled → List FileFault
 variable_faults ns before n = else_ (where_ (has_name before n.name) (fault.Duplicate n.at)) (used_faults (all_names ns) ns.shared n)
 
@@ -25,7 +25,7 @@ pub record IsNewVariable (names : List (List ℕ)) (seen : List ℕ) (name : Lis
   pub named : slice_get names variable ≡ Some name
   pub new : Contains seen variable → ⊥
 
--- one more update, unless it is by 0; or want of memory
+-- one more update, unless it is by 0; or out of memory
 abbrev pub WithUpdate : List (ℕ × ℤ) → ℕ → ℕ → List (ℕ × ℤ) → Result (Unit {0}) FileFault → Type 0
 WithUpdate updates variable amount after (Ok done) = after ≡ (if amount == 0 then updates else updates ++ (variable, pos amount) ∷ [])
 WithUpdate updates variable amount after (Err e) = e ≡ fault.Memory

@@ -1,4 +1,4 @@
--- The lines of a run, stop by stop, from the lists of the code
+-- The lines of a run, stop by stop.
 use Rattle.std.specs.Prelude.{ℕ, ℤ, pos, ◌-ℤ◌, ◌≡◌, ◌<◌, ◌≤ℤ◌, cond, int_lt, List, [], ◌∷◌, ◌++◌, length, map, Option, None, Some}
 use Rattle.std.specs.List.{AllByRecursion, range_with_len}
 use Rattle.ta_automaton.specs.declared.automaton.Automaton.{Automaton}

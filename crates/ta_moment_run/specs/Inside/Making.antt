@@ -1,4 +1,4 @@
--- The stops of a run as the code makes them: numbers for each rule, and the event that is marked
+-- The stops of a run as the code makes them: numbers for each rule, and the event that is marked.
 use Rattle.std.specs.Prelude.{ℕ, ℤ, pos, ◌+◌, ◌≤◌, ◌≡◌, nat_lt, int_lt, take, drop, cond, Bool, List, [], ◌∷◌, ◌++◌, length, map, slice_get, Option, None, Some}
 use Rattle.std.specs.List.{AllByRecursion, range_with_len}
 use Rattle.ta_base.specs.Masks.{any_below}
@@ -36,7 +36,7 @@ MomentWithin n (Pair v w) = VectorWithin n v.items × VectorWithin n w.items
 abbrev pub form_values : List ℤ → List Form → List ℤ
 form_values numbers forms = map (λ (form : Form). value_of (point_of numbers) form) forms
 
--- a number leaves the range where a vector is evaluated; want of memory is free
+-- a number leaves the range when a vector is evaluated; "out of memory" is always allowed
 abbrev pub VectorFault : List ℤ → List Form → WitnessFault → Type 0
 VectorFault numbers forms Overflow = ¬ VectorStays numbers forms
 VectorFault numbers forms Memory = Unit {0}
@@ -65,7 +65,7 @@ Shape = List ℤ × Option ℕ
 abbrev pub shape : Stop → Shape
 shape stop = (stop.counts.items, stop.mark)
 
--- a stop in front of the first that isn't below it
+-- a stop inserted before the first that is not below it
 unfoldable pub with_shape : Shape → List Shape → List Shape
 with_shape s [] = s ∷ []
 with_shape s (t ∷ ts) = cond (is_below t.0 s.0) (t ∷ with_shape s ts) (s ∷ t ∷ ts)

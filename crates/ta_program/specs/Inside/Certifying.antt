@@ -1,4 +1,4 @@
--- What an answer with a certificate is
+-- When an answer comes with a certificate, and what is then written.
 use Rattle.std.specs.Prelude.{ℕ, ◌<◌, ◌≤◌, ◌≡◌, List, [], ◌∷◌, length, Result, Ok, Err}
 use Rattle.ta_shell.specs.declared.answer.Answer.{Answer}
 use Rattle.ta_shell.specs.declared.answer.Put.{Put}
@@ -9,7 +9,7 @@ use Rattle.ta_shell.specs.Puts.{put_bytes}
 use Rattle.ta_program.specs.declared.limits.TheConstants.{CERTIFICATE}
 use Rattle.ta_program.specs.Certified.{long_line}
 
--- the report is written with its number, and the text is put in the file of a name
+-- the report is written with its number, and the text is put in the file with this name
 pub record ReportsAndPuts (number : ℕ) (report name text : List ℕ) (answer : Answer) : Type 0 where
   pub numbered : answer.number ≡ number
   pub written : answer.text ≡ report
@@ -19,7 +19,7 @@ pub record ReportsAndPuts (number : ℕ) (report name text : List ℕ) (answer :
   pub holds : put_bytes put ≡ text
   pub within : length text ≤ CERTIFICATE.bytes
 
--- the refusal says that the certificate for the file of a name is too long
+-- the refusal says that the certificate for the file with this name is too long
 abbrev pub SaysLong : List ℕ → Refusal → Type 0
 SaysLong name (Refused n who why) = (n ≡ CERTIFICATE.number) × (file_line who.now (phrase_text why) ≡ long_line name)
 SaysLong name (ReadFailed who) = ⊥

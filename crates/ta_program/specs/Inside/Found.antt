@@ -1,4 +1,4 @@
--- What looking for a word of a file finds
+-- Refusals while FILE is read further: of a schema, of endings, of silent names.
 use Rattle.std.specs.Prelude.{ℕ, ◌≡◌, List, Option}
 use Rattle.ta_shell.specs.declared.answer.Refusal.{Refusal}
 use Rattle.ta_shell.specs.declared.answer.Refusal.TheVariants.{Refused, ReadFailed, PutFailed, Memory}
@@ -14,28 +14,28 @@ use Rattle.ta_program.specs.SilentNames.{NamesHinder, silent_fault_text}
 use Rattle.ta_program.specs.Export.{WordHinders}
 use Rattle.ta_program.specs.RestEnds.{CycleHinders}
 
--- the word hinders, or there was no memory
+-- the schema is refused, or memory ran out
 abbrev pub WordRefused : (WordFault → Type 0) → List ℕ → Refusal → Type 0
 WordRefused Of name (Refused number who why) = WordHinders Of name number (file_line who.now (phrase_text why))
 WordRefused Of name (ReadFailed who) = ⊥
 WordRefused Of name (PutFailed who) = ⊥
 WordRefused Of name Memory = Unit {0}
 
--- a rule lies on a longer cycle, or there was no memory
+-- a rule lies on a longer cycle, or memory ran out
 abbrev pub EndsRefused : List ℕ → File → Refusal → Type 0
 EndsRefused name file (Refused number who why) = CycleHinders name file number (file_line who.now (phrase_text why))
 EndsRefused name file (ReadFailed who) = ⊥
 EndsRefused name file (PutFailed who) = ⊥
 EndsRefused name file Memory = Unit {0}
 
--- names may not be silent in an automaton, or there was no memory
+-- names may not be silent in an automaton, or memory ran out
 abbrev pub SilentRefused : List ℕ → Automaton → Option (List ℕ) → Refusal → Type 0
 SilentRefused name a names (Refused number who why) = NamesHinder name a names number (file_line who.now (phrase_text why))
 SilentRefused name a names (ReadFailed who) = ⊥
 SilentRefused name a names (PutFailed who) = ⊥
 SilentRefused name a names Memory = Unit {0}
 
--- a refusal says so of this fault, or of want of memory
+-- a refusal names this error, or says that memory ran out
 abbrev pub TellsSilent : List ℕ → SilentFault → Refusal → Type 0
 TellsSilent name fault.Memory refusal = refusal ≡ Memory
 TellsSilent name f refusal = SaysOfFile FILE name (silent_fault_text f) refusal

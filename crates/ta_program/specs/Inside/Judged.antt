@@ -1,4 +1,4 @@
--- Judging a certificate while it is read
+-- Checking a certificate while it is read.
 use Rattle.std.specs.Prelude.{ℕ, ◌≡◌, ◌<◌, ◌≤◌, ◌⊎◌, Bool, true, false, List, ◌++◌, length, take, Option, None, Some, Result, Ok, Err}
 use Rattle.ta_cert.specs.declared.fault.CertFault.{CertFault}
 use Rattle.ta_cert.specs.declared.fault.CertFault.TheVariants as fault
@@ -19,35 +19,35 @@ use Rattle.ta_shell.specs.Stages.{ReadingGoesOn, Stage}
 use Rattle.ta_program.specs.declared.limits.TheConstants.{CERTIFICATE}
 use Rattle.ta_program.specs.Kinds.{certificate_kind}
 
--- the refusal says this fault of the file of a name
+-- the refusal names this error of the file with this name
 abbrev pub RefusedBy : List ℕ → CertFault → Refusal → Type 0
 RefusedBy name fault.Memory refusal = refusal ≡ Memory
 RefusedBy name f refusal = SaysOfFile CERTIFICATE name (cert_fault_text f) refusal
 
--- the calls so far read this text, with which the told file begins, and the checker stands for it
+-- the calls so far read this text, with which the known file begins, and the checker stands for it
 pub record JudgedTo (files : Option Told) (name : List ℕ) (first now : List Event) (checker : Checker) (text : List ℕ) : Type 0 where
   pub calls : Grew (λ read. ReadsFirst name read text) first now
   pub there : 0 < length text → where_told files name (Begins text)
   pub stands : CheckerStandsFor checker text
   pub within : length text ≤ CERTIFICATE.bytes
 
--- the calls spell this text, which the file holds, and the checker stands for it
+-- the calls read exactly this text, which the file holds, and the checker stands for it
 pub record JudgedWhole (files : Option Told) (name : List ℕ) (checker : Checker) (calls : List Call) : Type 0 where
   pub text : List ℕ
   pub spells : Spells name calls text
   pub had : HasBytes (seen files calls) name CERTIFICATE.bytes text
   pub stands : CheckerStandsFor checker text
 
--- the certificate is no use
+-- the certificate is refused
 abbrev pub IsUnproved : Subject → Option Told → List ℕ → Refusal → List Call → Type 0
 IsUnproved subject files name refusal calls = Stage {T = Accepted} (certificate_kind subject) (λ accepted. accepted.patterns) files name (Err refusal) calls
 
--- what judging all pieces gives
+-- what checking all pieces gives
 abbrev pub JudgingGives : Subject → Option Told → List ℕ → Result Checker Refusal → List Call → Type 0
 JudgingGives subject files name (Ok checker) calls = JudgedWhole files name checker calls × (subject_of checker ≡ subject)
 JudgingGives subject files name (Err refusal) calls = IsUnproved subject files name refusal calls
 
--- what judging one piece gives, which begins at an offset: the offset behind it, or that the file ended
+-- what checking one piece gives, which begins at an offset: the offset after it, or that the file ended
 abbrev pub Turn : Subject → Option Told → List ℕ → ℕ → List Event → List Event → Checker → Result (Option ℕ) Refusal → Type 0
 Turn subject files name at first now checker (Ok (Some next)) = (at < next) × (text : List ℕ) × (next ≡ length text) × JudgedTo files name first now checker text
 Turn subject files name at first now checker (Ok None) = Grew (JudgedWhole files name checker) first now
@@ -58,13 +58,13 @@ pub record IsAllowed (checker : Checker) (text : List ℕ) : Type 0 where
   pub stands : CheckerStandsFor checker text
   pub within : length text ≤ CERTIFICATE.bytes
 
--- a text is longer than a certificate, and what is allowed of it has no fault that lasts
+-- a text is longer than a certificate may be, and what is allowed of it has no lasting error
 pub record PassesLimit (subject : Subject) (name text : List ℕ) (refusal : Refusal) : Type 0 where
   pub longer : CERTIFICATE.bytes < length text
   pub goes_on : ReadingGoesOn (certificate_kind subject) (take CERTIFICATE.bytes text)
   pub says : SaysOfFile CERTIFICATE name (longer_than CERTIFICATE.bytes) refusal
 
--- the first bytes of a text, which the limit allows, have this fault, and it lasts
+-- the first bytes of a text, within the limit, have this error, and it lasts
 pub record Breaks (subject : Subject) (name text : List ℕ) (refusal : Refusal) : Type 0 where
   pub front : List ℕ
   pub behind : List ℕ
@@ -74,7 +74,7 @@ pub record Breaks (subject : Subject) (name text : List ℕ) (refusal : Refusal)
   pub lasting : IsLastingFor subject front fault
   pub says : SaysOfFile CERTIFICATE name (cert_fault_text fault) refusal
 
--- what a piece behind a text gives, which may end the file: the offset behind it, or that the file ended
+-- what a piece after a text gives, which may end the file: the offset after it, or that the file ended
 abbrev pub PieceFed : Subject → List ℕ → List ℕ → List ℕ → Bool → Checker → Result (Option ℕ) Refusal → Type 0
 PieceFed subject name text piece ended checker (Ok (Some next)) = (ended ≡ false) × (next ≡ length (text ++ piece)) × IsAllowed checker (text ++ piece)
 PieceFed subject name text piece ended checker (Ok None) = (ended ≡ true) × IsAllowed checker (text ++ piece)

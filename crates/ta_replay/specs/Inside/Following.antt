@@ -1,4 +1,4 @@
--- How far a replay has come (this project's profile)
+-- How far a replay has come.
 use Rattle.std.specs.Prelude.{ℕ, ◌<◌, ◌≡◌, ◌↔◌, ◌⊎◌, List, length, take, slice_get, Some, IsBitSet}
 use Rattle.std.specs.List.{AllByRecursion}
 use Rattle.ta_automaton.specs.declared.automaton.Automaton.{Automaton}
@@ -72,7 +72,7 @@ pub record FitsPattern (a : Automaton) (p : Pattern) (run : Run) : Type 0 where
   pub counts_natural : AllByRecursion Value run.counts
   pub lines : AllByRecursion (LineFits a p) run.lines
 
--- the first event that a mask doesn't name
+-- the first event that a mask does not name
 pub record FirstUnmarked (p : Pattern) (marks e : ℕ) : Type 0 where
   pub exists : e < length p.events
   pub missing : ¬ IsBitSet marks e

@@ -1,4 +1,4 @@
--- What the parts of a text's reader find
+-- What the parts of the reader of runs answer.
 use Rattle.std.specs.Prelude.{ℕ, ℤ, ◌+◌, ◌<◌, ◌≡◌, ◌≢◌, ◌⊎◌, List, [], ◌∷◌, ◌++◌, length, map, codes, slice_get, Option, None, Some}
 use Rattle.std.specs.List.{AllByRecursion}
 use Rattle.ta_automaton.specs.declared.automaton.Automaton.{Automaton}
@@ -49,7 +49,7 @@ pub record OtherValue (word expected bytes : List ℕ) : Type 0 where
   pub is : IsValued word line name value
   pub other : name ≢ expected
 
--- why the first line doesn't give the value that is asked for
+-- why the first line does not give the value that is asked for
 abbrev pub ValueRefused : List ℕ → List ℕ → List ℕ → ℕ → RunFault → Type 0
 ValueRefused word expected bytes number (fault.Line n) = (n ≡ number) × (Avoids 10 bytes ⊎ NoValue word bytes)
 ValueRefused word expected bytes number (fault.Name n) = (n ≡ number) × OtherValue word expected bytes
@@ -65,7 +65,7 @@ pub record ValuesRead (asked : List Slot) (bytes : List ℕ) (values : List ℤ)
   pub begun : ValuesBegun asked bytes values behind
   pub all : length values ≡ length asked
 
--- some values are given, and the next isn't
+-- some values are given, and the next is not
 pub record ValuesStopped (asked : List Slot) (bytes : List ℕ) (first : ℕ) (e : RunFault) : Type 0 where
   pub values : List ℤ
   pub rest : List ℕ
@@ -84,7 +84,7 @@ abbrev pub IsStatement : Automaton → Pattern → List ℕ → Option RunLine �
 IsStatement a p line (Some l) = LineFits a p l × (line ≡ line_of a p l)
 IsStatement a p line None = line ≡ codes "end"
 
--- why a line is none
+-- why a line is neither a step nor a mark of this pattern, nor the end
 abbrev pub StatementRefused : Automaton → Pattern → List ℕ → ℕ → RunFault → Type 0
 StatementRefused a p line number (fault.Line n) = (n ≡ number) × (FormFor None line → ⊥)
 StatementRefused a p line number (fault.Name n) = (n ≡ number) × FormFor None line × ((found : Option RunLine) → IsStatement a p line found → ⊥)
@@ -95,7 +95,7 @@ pub record StepRead (a : Automaton) (p : Pattern) (bytes : List ℕ) (l : RunLin
   pub fits : LineFits a p l
   pub read : bytes ≡ line_of a p l ++ (10 ∷ behind)
 
--- the first line isn't finished, or none that may stand there, or more stands behind the end
+-- the first line is unfinished, or may not stand there, or something stands after the end
 pub data StepRefused (a : Automaton) (p : Pattern) (bytes : List ℕ) (number : ℕ) (e : RunFault) : Type 0 where
   Unfinished : e ≡ fault.Line number → Avoids 10 bytes → StepRefused a p bytes number e
   Refused : (line behind : List ℕ) → SplitAt 10 bytes line behind → StatementRefused a p line number e → StepRefused a p bytes number e
@@ -110,14 +110,14 @@ pub record StepsBegun (a : Automaton) (p : Pattern) (bytes : List ℕ) (lines : 
 abbrev pub StepsRead : Automaton → Pattern → List ℕ → List RunLine → Type 0
 StepsRead a p bytes lines = StepsBegun a p bytes lines (codes "end" ++ (10 ∷ []))
 
--- some steps and marks are read, and what stands behind them is refused
+-- some steps and marks are read, and what comes after them is refused
 pub record StepsStopped (a : Automaton) (p : Pattern) (bytes : List ℕ) (first : ℕ) (e : RunFault) : Type 0 where
   pub lines : List RunLine
   pub rest : List ℕ
   pub begun : StepsBegun a p bytes lines rest
   pub refused : StepRefused a p rest (first + length lines) e
 
--- why the bytes aren't steps and marks with the end behind them
+-- why the bytes are not steps and marks with the end after them
 abbrev pub StepsFault : Automaton → Pattern → List ℕ → ℕ → RunFault → Type 0
 StepsFault a p bytes first fault.Memory = Unit {0}
 StepsFault a p bytes first e = StepsStopped a p bytes first e

@@ -1,4 +1,4 @@
--- How many of a mask's rules lead from one location to another (this project's profile)
+-- How many rules of a mask lead from one location to another.
 use Rattle.std.specs.Prelude.{ℕ, ◌<◌, ◌≤◌, ◌≡◌, ◌⊎◌, ◌↔◌, List, length, slice_get, Some, IsBitSet}
 use Rattle.std.specs.List.{AllByRecursion}
 use Rattle.ta_automaton.specs.declared.rule.Rule.{Rule}
@@ -19,7 +19,7 @@ pub record LeadsTo (rules mask location number : ℕ) (rule : Rule) : Type 0 whe
   pub from : IsBitSet mask rule.from
   pub to : rule.to ≡ location
 
--- some rule does
+-- some rule leads there
 pub record SomeRuleEnters (a : Automaton) (rules mask location : ℕ) : Type 0 where
   pub number : ℕ
   pub rule : Rule

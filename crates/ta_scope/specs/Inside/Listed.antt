@@ -1,4 +1,4 @@
--- The steps from a location, as far as the rules have been listed (this project's profile)
+-- The steps from a location, as far as the rules have been listed.
 use Rattle.std.specs.Prelude.{ℕ, ℤ, List, map, filter}
 use Rattle.ta_automaton.specs.declared.automaton.Automaton.{Automaton}
 use Rattle.std.specs.List.{range_with_len}

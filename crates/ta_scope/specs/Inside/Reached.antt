@@ -1,9 +1,9 @@
--- Masks of locations that grow along some of the rules (this project's profile)
+-- Masks of locations that grow along some of the rules.
 use Rattle.std.specs.Prelude.{ℕ, ◌≡◌, ◌⊎◌, slice_get, Some, IsBitSet}
 use Rattle.ta_automaton.specs.declared.rule.Rule.{Rule}
 use Rattle.ta_automaton.specs.declared.automaton.Automaton.{Automaton}
 
--- a rule of a mask, by its number, leads from a location of a mask of locations to one beside it
+-- a rule of a mask, by its number, leads from a location of a mask of locations to a location outside it
 pub record LeadsOut (rules mask number : ℕ) (rule : Rule) : Type 0 where
   pub member : IsBitSet rules number
   pub from : IsBitSet mask rule.from

@@ -1,4 +1,4 @@
--- What the parts of taking circulations out find (this project's profile)
+-- What the parts of removing circulations answer.
 use Rattle.std.specs.Prelude.{ℕ, ℤ, ◌≡◌, List, ◌∷◌, IsBitSet}
 use Rattle.ta_automaton.specs.declared.rule.Rule.{Rule}
 use Rattle.ta_automaton.specs.declared.automaton.Automaton.{Automaton}

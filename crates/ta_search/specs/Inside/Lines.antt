@@ -1,4 +1,4 @@
--- What the parts of a template's reader find
+-- What the parts of the reader of templates answer.
 use Rattle.std.specs.Prelude.{ℕ, ◌+◌, ◌<◌, ◌≤◌, ◌≡◌, ◌⊎◌, ◌++◌, List, [], ◌∷◌, length, true, false, Some}
 use Rattle.ta_base.specs.declared.limits.TheConstants.{LARGEST_VALUE, MOST_HOLES, MOST_VECTORS}
 use Rattle.ta_smt.specs.WordText.{is_name}
@@ -21,7 +21,7 @@ pub record Declares (line name : List ℕ) (low high : ℕ) : Type 0 where
   pub low_is : low ≡ h.low
   pub high_is : high ≡ h.high
 
--- a line that declares a hole which may stand behind these
+-- a line that declares a hole which may come after these
 pub record AddsHole (hs : List Hole) (line : List ℕ) (h : Hole) : Type 0 where
   pub spelled : IsSpelledHole h
   pub text : line ≡ hole_line h
@@ -30,7 +30,7 @@ pub record AddsHole (hs : List Hole) (line : List ℕ) (h : Hole) : Type 0 where
   pub few : length (hs ++ (h ∷ [])) ≤ MOST_HOLES
   pub vectors : vector_count (hs ++ (h ∷ [])) ≤ MOST_VECTORS
 
--- a line of a hole that may not stand behind these
+-- a line of a hole that may not come after these
 abbrev pub HoleRefused : List Hole → Hole → TemplateFault → ℕ → Type 0
 HoleRefused hs h (fault.Repeated k) number = (k ≡ number) × (is_among hs h.name ≡ true)
 HoleRefused hs h (fault.Range k) number = (k ≡ number) × (is_among hs h.name ≡ false) × ((h.high < h.low) ⊎ (LARGEST_VALUE < h.high))
@@ -38,13 +38,13 @@ HoleRefused hs h (fault.TooMany k) number =
     (k ≡ number) × (is_among hs h.name ≡ false) × HoleInRange h × AreTooMany (hs ++ (h ∷ []))
 HoleRefused hs h _ number = ⊥
 
--- why a line may not stand behind these holes; of memory nothing is said
+-- why a line may not come after these holes; "out of memory" is always allowed
 abbrev pub LineRefused : List Hole → List ℕ → ℕ → TemplateFault → Type 0
 LineRefused hs line number (fault.Line k) = (k ≡ number) × ((h : Hole) → IsSpelledHole h → line ≡ hole_line h → ⊥)
 LineRefused hs line number fault.Memory = Unit {0}
 LineRefused hs line number e = (h : Hole) × IsSpelledHole h × (line ≡ hole_line h) × HoleRefused hs h e number
 
--- why a body is refused that stands at this offset, behind these holes; of memory nothing is said
+-- why a body is refused that begins at this offset, after these holes; "out of memory" is always allowed
 abbrev pub BodyRefused : List Hole → ℕ → List ℕ → TemplateFault → Type 0
 BodyRefused hs offset body (fault.UnknownHole k) = (place : ℕ) × (unknown_place hs body ≡ Some place) × (k ≡ offset + place)
 BodyRefused hs offset body fault.Memory = Unit {0}

@@ -1,4 +1,4 @@
--- What the parts of a search find
+-- What the parts of a search answer.
 use Rattle.std.specs.Prelude.{ℕ, ◌+◌, ◌/◌, ◌%◌, ◌≡◌, List, [], ◌∷◌}
 use Rattle.ta_automaton.specs.declared.file.File.{File}
 use Rattle.ta_automaton.specs.declared.pattern.Pattern.{Pattern}
@@ -10,12 +10,12 @@ use Rattle.ta_search.specs.declared.outcome.Outcome.TheVariants as outcome
 use Rattle.ta_search.specs.declared.template.Hole.{Hole}
 use Rattle.ta_search.specs.Holes.{vector_count}
 
--- the vector of a number
+-- the vector with this number
 abbrev pub vector_at : List Hole → ℕ → List ℕ
 vector_at [] place = []
 vector_at (h ∷ hs) place = (h.low + place / vector_count hs) ∷ vector_at hs (place % vector_count hs)
 
--- what comes of a file by the verdict on a pattern, the first that isn't Safe
+-- the outcome of a file by the verdict on a pattern, the first that is not Safe
 abbrev pub IsOfPattern : File → Pattern → Verdict → Outcome → Type 0
 IsOfPattern file p (Unsafe nodes run) o = o ≡ outcome.Unsafe p.name (run_text file run)
 IsOfPattern file p (Spent nodes) o = o ≡ outcome.Unknown p.name (Spent nodes)

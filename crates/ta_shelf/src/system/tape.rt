@@ -32,7 +32,7 @@ impl Tape {
         }
     }
 
-    /// Counts a fault.
+    /// Counts a failure.
     fn count_fault(&mut self)
         ensures faults { Faulted self.old.faults self.new.faults }
         ensures log { self.new.log ≡ self.old.log }
@@ -40,7 +40,7 @@ impl Tape {
         self.faults = self.faults.saturating_add(1);
     }
 
-    /// Why a read is refused; a fault is counted.
+    /// Why a read is refused; a failure is counted.
     fn read_fault(&mut self, error: &Error) -> ShelfFault
         ensures cause { FailsOnlyFaulted (Err result) self.old.faults self.new.faults }
         ensures log { self.new.log ≡ self.old.log }
@@ -55,7 +55,7 @@ impl Tape {
         }
     }
 
-    /// Why a change is refused; a fault is counted.
+    /// Why a change is refused; a failure is counted.
     fn put_fault(&mut self, error: &Error) -> PutFault
         ensures cause { PutFailsOnlyFaulted (Err result) self.old.faults self.new.faults }
         ensures log { self.new.log ≡ self.old.log }
@@ -67,7 +67,7 @@ impl Tape {
         PutFault::Failed
     }
 
-    /// Logs a read that is refused, and says why; a fault is counted.
+    /// Logs a read that is refused, and says why; a failure is counted.
     pub fn refuse_read(&mut self, error: &Error, name: &str, at: u64, buf: &[u8]) -> ShelfFault
         ensures cause { FailsOnlyFaulted (Err result) self.old.faults self.new.faults }
         ensures log { self.new.log.calls ≡ self.old.log.calls ++ Reads (record { name = name.now; at = at; asked = length buf.now; gave = Err result }) ∷ [] }
@@ -77,7 +77,7 @@ impl Tape {
         fault
     }
 
-    /// Logs a change that is refused, and says why; a fault is counted.
+    /// Logs a change that is refused, and says why; a failure is counted.
     pub fn refuse_put(&mut self, error: &Error, name: &str, step: Step, bytes: &[u8]) -> PutFault
         ensures cause { PutFailsOnlyFaulted (Err result) self.old.faults self.new.faults }
         ensures log { self.new.log.calls ≡ self.old.log.calls ++ Puts (record { name = name.now; step = step; bytes = bytes.now; answer = Err result }) ∷ [] }

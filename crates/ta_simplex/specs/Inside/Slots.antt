@@ -1,4 +1,4 @@
--- Multipliers as a list with a place for each row
+-- Multipliers as a list with a place for each row.
 use Rattle.std.specs.Prelude.{ℕ, ◌-◌, ◌<◌, List, ℤ, pos, ◌≤ℤ◌, ◌≡◌, length, get_or, set, nat_lt, if◌then◌else◌}
 use Rattle.ta_linear.specs.Numbers.{InRange}
 use Rattle.ta_linear.specs.Terms.{coefficient, IsNormal}
@@ -9,7 +9,7 @@ use Rattle.ta_simplex.specs.Refuted.{GivesMultipliers}
 abbrev pub slot : List ℤ → ℕ → ℤ
 slot ms k = get_or ms k (pos 0)
 
--- a number put at the row of a slack; a variable that is no slack has no row
+-- a number put at the row of a slack; a variable other than a slack has no row
 abbrev pub put : ℕ → List ℤ → ℕ → ℤ → List ℤ
 put unknowns ms variable m = if nat_lt variable unknowns then ms else set ms (variable - unknowns) m
 

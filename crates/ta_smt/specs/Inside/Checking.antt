@@ -1,4 +1,4 @@
--- What the check of values finds, and what is made of them
+-- What the check of values finds, and what is made of them.
 use Rattle.std.specs.Prelude.{ℕ, ℤ, ◌≡◌, ◌≢◌, List, length}
 use Rattle.ta_linear.specs.declared.row.Row.{Row}
 use Rattle.ta_linear.specs.declared.row.System.{System}
@@ -34,20 +34,20 @@ RowFault point rows (fault.Row k) = RowStops point (RowFails point) rows k
 RowFault point rows (fault.Overflow k) = RowStops point (RowOutOfRange point) rows k
 RowFault point rows _ = ⊥
 
--- why values don't pass
+-- why values do not pass
 abbrev pub CheckFault : System → List ℤ → AdmitFault → Type 0
 CheckFault system values (fault.Count lines) = (lines ≡ length values) × (lines ≢ system.unknowns)
 CheckFault system values (fault.Row k) = (length values ≡ system.unknowns) × RowStops (point_of values) (RowFails (point_of values)) system.rows k
 CheckFault system values (fault.Overflow k) = (length values ≡ system.unknowns) × RowStops (point_of values) (RowOutOfRange (point_of values)) system.rows k
 CheckFault system values _ = ⊥
 
--- values pass the check of a word's system
+-- values pass the check of a schema's system
 pub record PassesCheck (file : File) (word : AskedWord) (values : List ℤ) : Type 0 where
   pub system : System
   pub is : SystemAsked file word system
   pub checked : IsChecked system values
 
--- or they don't; want of memory is free
+-- values do not pass; "out of memory" is always allowed
 pub record WordFails (file : File) (word : AskedWord) (values : List ℤ) (found : AdmitFault) : Type 0 where
   pub system : System
   pub is : SystemAsked file word system
@@ -57,7 +57,7 @@ abbrev pub WordFault : File → AskedWord → List ℤ → AdmitFault → Type 0
 WordFault file word values fault.Memory = Unit {0}
 WordFault file word values found = WordFails file word values found
 
--- the run of values that solve a word's system
+-- the run of values that solve a schema's system
 pub record IsRunOfValues (file : File) (word : AskedWord) (values : List ℤ) (run : Run) : Type 0 where
   pub witness : WitnessOf file (solution_of word values) run
   pub fits : Fits file run
@@ -65,7 +65,7 @@ pub record IsRunOfValues (file : File) (word : AskedWord) (values : List ℤ) (r
   pub stays : ReplayStays file run
   pub short : IsShortRun file run
 
--- why there is none
+-- why there is no run
 abbrev pub RunFault : File → AskedWord → List ℤ → AdmitFault → Type 0
 RunFault file word values fault.Run = WitnessOutOfRange file (solution_of word values)
 RunFault file word values fault.Memory = Unit {0}

@@ -1,4 +1,4 @@
--- Summands, each with a text before it
+-- Summands, each with a text before it.
 use Rattle.std.specs.Prelude.{ℕ, List, [], ◌∷◌, ◌++◌}
 use Rattle.ta_smt.specs.Script.{Summand, summand_text}
 

@@ -1,4 +1,4 @@
--- What the readers of optional lists, rules, patterns and events say (this project's profile)
+-- What the readers of optional lists, rules, patterns and events answer.
 use Rattle.std.specs.Prelude.{ℕ, ◌≡◌, ◌≤◌, List, [], ◌∷◌, ◌++◌, length}
 use Rattle.ta_syntax.specs.Grammar.{listed, led, ended, each}
 use Rattle.ta_syntax.specs.Stated.{Offsets, unplaced}
@@ -17,11 +17,11 @@ use Rattle.ta_syntax.specs.declared.names.Spelled.{Spelled}
 use Rattle.ta_syntax.specs.declared.placed.Token.{Token}
 use Rattle.ta_syntax.specs.declared.fault.FileFault.{FileFault}
 
--- no text of the part begins by the mark
+-- no text of the part begins with the mark
 abbrev pub AvoidsMark : Mark → GrammarPart → Type 0
 AvoidsMark m K = (w : List Kind) → Text K (kind.Fixed m ∷ w) → ⊥
 
--- no text of the part is empty or begins by the mark
+-- each text of the part is nonempty and begins otherwise than with the mark
 abbrev pub StartsOther : Mark → GrammarPart → Type 0
 StartsOther m p = (a b w : List Kind) → Text p a → a ++ b ≡ kind.Fixed m ∷ w → ⊥
 
@@ -39,7 +39,7 @@ pub record ReadsKept (L : GrammarPart) (c : Counts) (tokens rest : List Token) (
   pub kept : IsBetweenParts c counts
   pub reads : ReadsPart L c tokens rest M counts text stated
 
--- the keyword begins a list that may have so many items
+-- the keyword begins a list that may have this many items
 abbrev pub BeginsListOf : Mark → ℕ → Type 0
 BeginsListOf mark.Parameters n = n ≡ 16
 BeginsListOf mark.Shared n = n ≡ 16
@@ -61,13 +61,13 @@ pub record TookNameThen (m : Mark) (end : ℕ) (name : Spelled) (tokens rest : L
   pub marked : BeginsWithKind mid (kind.Fixed m) rest
   pub placed : name.at ≡ offset_of end tokens
 
--- there is no name with this mark behind it
+-- there is no name with this mark after it
 abbrev pub NameThenStops : Mark → ℕ → List Token → FileFault → Type 0
 NameThenStops m end tokens e = (K : GrammarPart) (c : Counts) → HasRoom c → IsStopped (Text (both a_name (both (a_mark m) K))) c end tokens e
 
 -- ---- a list and a semicolon
 
--- a list and the semicolon behind it were read
+-- a list and the semicolon after it were read
 pub record TookEnd {A : Type 0} (p : GrammarPart) (spelled : A → List Kind) (stated : A → List Offsets) (limit : ℕ) (items : List A) (tokens rest : List Token) : Type 0 where
   pub some : 1 ≤ length items
   pub few : length items ≤ limit
@@ -80,7 +80,7 @@ EndStops p limit end tokens e = (K : GrammarPart) (c : Counts) → IsFresh limit
 
 -- ---- [ keyword list ]
 
--- an optional list behind its keyword was read
+-- an optional list after its keyword was read
 pub record TookLed {A : Type 0} (m : Mark) (p : GrammarPart) (spelled : A → List Kind) (stated : A → List Offsets) (limit : ℕ) (items : List A) (tokens rest : List Token) : Type 0 where
   pub few : length items ≤ limit
   pub shorter : length rest ≤ length tokens
@@ -126,7 +126,7 @@ block_count mark.Pattern c = c.patterns
 block_count mark.Event c = c.events
 block_count _ c = 0
 
--- the keyword begins a block, of which there may be so many
+-- the keyword begins a block, of which there may be this many
 abbrev pub IsBlock : Mark → ℕ → Type 0
 IsBlock mark.Rule n = n ≡ 128
 IsBlock mark.Pattern n = n ≡ 16

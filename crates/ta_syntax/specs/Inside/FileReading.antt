@@ -1,4 +1,4 @@
--- What the readers of a file and of its head say (this project's profile)
+-- What the readers of a file and of its head answer.
 use Rattle.std.specs.Prelude.{ℕ, ◌≡◌, ◌≤◌, List, [], ◌∷◌, ◌++◌, length}
 use Rattle.ta_syntax.specs.Grammar.{file_kinds, sum_kinds, listed, IsSum}
 use Rattle.ta_syntax.specs.PlainSums.{plain_sum, sum_depth}
@@ -49,7 +49,7 @@ pub record TookProcesses (at : ℕ) (s : TreeSum) (tokens rest : List Token) : T
 abbrev pub ProcessesStop : ℕ → List Token → FileFault → Type 0
 ProcessesStop end tokens e = (K : GrammarPart) (c : Counts) → IsReady c → IsStopped (Text (processes_part K)) c end tokens e
 
--- the head of a file was read, part behind part
+-- the head of a file was read, part after part
 pub record TookHead (end : ℕ) (head : Head) (tokens rest : List Token) : Type 0 where
   pub begun : List Token
   pub after_name : List Token

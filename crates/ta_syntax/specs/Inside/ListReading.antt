@@ -1,4 +1,4 @@
--- What the readers of lists and of their items say (this project's profile)
+-- What the readers of lists and of their items answer.
 use Rattle.std.specs.Prelude.{ℕ, ◌≡◌, ◌-◌, ◌≤◌, Bool, true, false, List, length}
 use Rattle.ta_syntax.specs.Grammar.{listed}
 use Rattle.ta_syntax.specs.Stated.{Offsets, unplaced}
@@ -13,7 +13,7 @@ use Rattle.ta_syntax.specs.declared.tokens.Mark.TheVariants as mark
 use Rattle.ta_syntax.specs.declared.placed.Token.{Token}
 use Rattle.ta_syntax.specs.declared.fault.FileFault.{FileFault}
 
--- a token that would go on with a list or with its last item
+-- a token that would continue a list or its last item
 abbrev pub extends_list : Kind → Bool
 extends_list (kind.Fixed mark.Plus) = true
 extends_list (kind.Fixed mark.Minus) = true
@@ -22,21 +22,21 @@ extends_list (kind.Fixed mark.Initial) = true
 extends_list (kind.Fixed mark.Comma) = true
 extends_list _ = false
 
--- where the list has as many items as it may have, each with its comma
+-- the list has as many items as it may have, each with its comma
 abbrev pub PastStops : GrammarPart → ℕ → List Token → FileFault → Type 0
 PastStops p end tokens e = (K : GrammarPart) (c : Counts) → c.limit ≤ c.commas → IsStopped (Text (both p K)) c end tokens e
 
--- a list begins that may have so many items
+-- a list begins that may have this many items
 pub record IsFresh (limit : ℕ) (c : Counts) : Type 0 where
   pub closed : c.open_now ≡ 0
   pub none : c.commas ≡ 0
   pub limited : c.limit ≡ limit
 
--- the same counts with so many commas
+-- the same counts with this many commas
 abbrev pub with_commas : ℕ → Counts → Counts
 with_commas n c = record { open_now = c.open_now; commas = n; limit = c.limit; rules = c.rules; patterns = c.patterns; events = c.events }
 
--- a list was read, whatever part may come after that does not go on with it
+-- a list was read, whatever part may come after that does not continue it
 pub record TookList {A : Type 0} (p : GrammarPart) (spelled : A → List Kind) (stated : A → List Offsets) (limit : ℕ) (items : List A) (tokens rest : List Token) : Type 0 where
   pub some : 1 ≤ length items
   pub few : length items ≤ limit

@@ -1,4 +1,4 @@
--- The grammar cut into parts, so that what may still come after some tokens is a part too (this project's profile). The readers' own contracts speak of parts; that the part of a file has the texts of the grammar's trees is proved.
+-- The parts of the grammar: lists and their items, rules, events, patterns and the whole file.
 use Rattle.ta_syntax.specs.declared.tokens.Mark.TheVariants as mark
 use Rattle.ta_syntax.specs.Parts.{GrammarPart, a_mark, a_name, a_number, a_relation, a_sum, both, many, maybe, nothing, upto}
 
@@ -18,15 +18,15 @@ update_part = both a_name (both (a_mark mark.PlusEquals) a_number)
 abbrev pub comparison_part : GrammarPart
 comparison_part = both a_sum (both a_relation a_sum)
 
--- a rule behind its keyword
+-- a rule after its keyword
 abbrev pub rule_part : GrammarPart
 rule_part = both a_name (both (a_mark mark.Colon) (both a_name (both (a_mark mark.Arrow) (both a_name (both (maybe mark.When (list_part comparison_part)) (both (maybe mark.Do (list_part update_part)) (a_mark mark.Semicolon)))))))
 
--- an event behind its keyword
+-- an event after its keyword
 abbrev pub event_part : GrammarPart
 event_part = both a_name (both (maybe mark.After (list_part a_name)) (both (a_mark mark.Colon) (both (list_part comparison_part) (a_mark mark.Semicolon))))
 
--- a pattern behind its keyword
+-- a pattern after its keyword
 abbrev pub pattern_part : GrammarPart
 pattern_part = both a_name (both (a_mark mark.OpenBrace) (both (maybe mark.Start (both (list_part comparison_part) (a_mark mark.Semicolon))) (both (maybe mark.Empty (both (list_part a_name) (a_mark mark.Semicolon))) (both (many mark.Event event_part) (a_mark mark.CloseBrace)))))
 

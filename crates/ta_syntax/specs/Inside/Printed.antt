@@ -1,4 +1,4 @@
--- How tokens are printed (this project's profile)
+-- How tokens are printed.
 use Rattle.std.specs.Prelude.{ℕ, zero, suc, ◌≡◌, List, [], ◌∷◌, ◌++◌}
 use Rattle.ta_syntax.specs.declared.tokens.Kind.{Kind}
 use Rattle.ta_syntax.specs.declared.tokens.Kind.TheVariants as kind
@@ -8,11 +8,11 @@ use Rattle.ta_syntax.specs.declared.sums.Sign.TheVariants as sign
 use Rattle.ta_syntax.specs.Grammar.{PlainTree, sign_kind, listed, name_kinds, location_kinds}
 use Rattle.ta_syntax.specs.Printed.{printed}
 
--- what was there before, and behind it those tokens
+-- what was there before, and after it those tokens
 abbrev pub Prints : List ℕ → List ℕ → List Kind → Type 0
 Prints before after ks = after ≡ before ++ printed ks
 
--- the sign before the first term of a sum, which is no plus
+-- the sign before the first term of a sum, which is not a plus
 abbrev pub first_sign : Sign → List Kind
 first_sign sign.Plus = []
 first_sign sign.Minus = sign_kind sign.Minus ∷ []

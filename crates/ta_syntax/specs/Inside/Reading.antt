@@ -1,4 +1,5 @@
--- What the readers of parts say (this project's profile). Each reader takes the tokens that are left, and its clause holds whatever part may come after.
+-- What the readers of sums and of single tokens answer. Each reader takes the tokens that are left, and its clause holds whatever part may
+-- come after.
 use Rattle.std.specs.Prelude.{ℕ, ◌≡◌, ◌+◌, ◌≤◌, Bool, true, false, List, ◌∷◌, length}
 use Rattle.ta_syntax.specs.Grammar.{IsSum, IsTerm, IsFactor, sum_kinds, term_kinds, factor_kinds, relation_kind}
 use Rattle.ta_syntax.specs.PlainSums.{plain_sum, plain_term, plain_factor, sum_depth, term_depth, factor_depth}
@@ -20,18 +21,18 @@ use Rattle.ta_syntax.specs.declared.sums.TreeTerm.{TreeTerm}
 use Rattle.ta_syntax.specs.declared.sums.TreeFactor.{TreeFactor}
 use Rattle.ta_syntax.specs.Reading.{NeverBegins, BeginsWithKind, HasRoom, IsOther, ReadsPart}
 
--- a token that would go on with a number
+-- a token that would continue a number
 abbrev pub is_star : Kind → Bool
 is_star (kind.Fixed mark.Star) = true
 is_star _ = false
 
--- a token that would go on with a sum after a term
+-- a token that would continue a sum after a term
 abbrev pub is_sign : Kind → Bool
 is_sign (kind.Fixed mark.Plus) = true
 is_sign (kind.Fixed mark.Minus) = true
 is_sign _ = false
 
--- a token that would go on with a sum
+-- a token that would continue a sum
 abbrev pub is_operator : Kind → Bool
 is_operator (kind.Fixed mark.Plus) = true
 is_operator (kind.Fixed mark.Minus) = true
@@ -45,17 +46,17 @@ pub record MayOpen (left : ℕ) (c : Counts) : Type 0 where
 
 -- ---- single tokens
 
--- the sign before the first term: minus where a minus stands, else plus with nothing taken
+-- the sign before the first term: minus if a minus comes first, otherwise plus with nothing taken
 abbrev pub LeadingSign : List Token → Sign → List Token → Type 0
 LeadingSign tokens sign.Minus rest = BeginsWithKind tokens (kind.Fixed mark.Minus) rest
 LeadingSign tokens sign.Plus rest = IsOther tokens mark.Minus × (tokens ≡ rest)
 
--- the first token isn't a name
+-- the first token is not a name
 abbrev pub NoName : List Kind → Type 0
 NoName (kind.Name n ∷ ks) = ⊥
 NoName _ = Unit {0}
 
--- no name stands first, and the fault says so at its offset
+-- no name comes first, and the error says so at its offset
 abbrev pub IsUnnamed : ℕ → List Token → FileFault → Type 0
 IsUnnamed end tokens fault.Memory = Unit {0}
 IsUnnamed end tokens (fault.Syntax at) = NoName (kinds tokens) × (at ≡ offset_of end tokens)
@@ -87,14 +88,14 @@ pub record TookFactor (left : ℕ) (f : TreeFactor) (tokens rest : List Token) :
   pub shorter : length rest ≤ length tokens
   pub reads : (K : GrammarPart) (c : Counts) → MayOpen left c → ReadsPart (both a_factor K) c tokens rest K c (factor_kinds (plain_factor f)) (sum_factor_stated f)
 
--- a term was read, whatever part may come after that does not go on with it
+-- a term was read, whatever part may come after that does not continue it
 pub record TookTerm (left : ℕ) (t : TreeTerm) (tokens rest : List Token) : Type 0 where
   pub is : IsTerm (plain_term t)
   pub shallow : term_depth (plain_term t) ≤ left
   pub shorter : length rest ≤ length tokens
   pub reads : (K : GrammarPart) (c : Counts) → NeverBegins is_star K → MayOpen left c → ReadsPart (both a_term K) c tokens rest K c (term_kinds (plain_term t)) (sum_term_stated t)
 
--- a sum was read, whatever part may come after that does not go on with it
+-- a sum was read, whatever part may come after that does not continue it
 pub record TookSum (left : ℕ) (s : TreeSum) (tokens rest : List Token) : Type 0 where
   pub is : IsSum (plain_sum s)
   pub shallow : sum_depth (plain_sum s) ≤ left

@@ -1,4 +1,4 @@
--- Rules, events and patterns behind their keywords: their tokens, and the offsets that are stated for these (this project's profile)
+-- Rules, events and patterns after their keywords: their tokens, and the offsets that are stated for these.
 use Rattle.std.specs.Prelude.{List, [], ◌∷◌, ◌++◌}
 use Rattle.ta_syntax.specs.Grammar.{name_kinds, location_kinds, comparison_kinds, update_kinds, listed, led, ended, each}
 use Rattle.ta_syntax.specs.PlainTrees.{plain_location, plain_comparison, plain_update}
@@ -31,7 +31,7 @@ spell_location l = location_kinds (plain_location l)
 abbrev pub spell_update : TreeUpdate → List Kind
 spell_update u = update_kinds (plain_update u)
 
--- the tokens of a rule behind its keyword
+-- the tokens of a rule after its keyword
 abbrev pub rule_body : TreeRule → List Kind
 rule_body r =
     kind.Name r.name.name ∷ kind.Fixed mark.Colon ∷ kind.Name r.from.name ∷ kind.Fixed mark.Arrow ∷ kind.Name r.to.name
@@ -43,7 +43,7 @@ rule_body_stated r =
     (r.name.at ∷ []) ∷ [] ∷ (r.from.at ∷ []) ∷ [] ∷ (r.to.at ∷ [])
     ∷ (led unplaced mark.When comparison_stated r.guards ++ (led unplaced mark.Do update_stated r.updates ++ [] ∷ []))
 
--- the tokens of an event behind its keyword
+-- the tokens of an event after its keyword
 abbrev pub event_body : TreeEvent → List Kind
 event_body e = kind.Name e.name.name ∷ (led kind.Fixed mark.After spell_name e.after ++ kind.Fixed mark.Colon ∷ (listed kind.Fixed spell_comparison e.condition ++ kind.Fixed mark.Semicolon ∷ []))
 
@@ -51,7 +51,7 @@ event_body e = kind.Name e.name.name ∷ (led kind.Fixed mark.After spell_name e
 abbrev pub event_body_stated : TreeEvent → List Offsets
 event_body_stated e = (e.name.at ∷ []) ∷ (led unplaced mark.After name_stated e.after ++ [] ∷ (listed unplaced comparison_stated e.condition ++ [] ∷ []))
 
--- the tokens of a pattern behind its keyword
+-- the tokens of a pattern after its keyword
 abbrev pub pattern_body : TreePattern → List Kind
 pattern_body p =
     kind.Name p.name.name ∷ kind.Fixed mark.OpenBrace

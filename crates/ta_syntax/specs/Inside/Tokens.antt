@@ -1,4 +1,4 @@
--- The tokens of a text: the longest that fits, with white space and comments between (this project's profile)
+-- Reading one token: the longest that fits, after white space and comments.
 use Rattle.std.specs.Prelude.{ℕ, ◌≡◌, ◌⊎◌, false, List, [], ◌∷◌, ◌++◌}
 use Rattle.std.specs.Char.{is_ascii_digit}
 use Rattle.std.specs.List.{AllByRecursion}
@@ -12,7 +12,7 @@ use Rattle.ta_syntax.specs.declared.fault.FileFault.{FileFault}
 use Rattle.ta_syntax.specs.declared.fault.FileFault.TheVariants as fault
 use Rattle.ta_syntax.specs.Tokens.{IsGap, IsLastGap, IsLongest, IsRefused, begins_mark}
 
--- the mark stands first, and is the longest that fits
+-- the mark comes first, and is the longest that fits
 abbrev pub MarkAt : List ℕ → Mark → List ℕ → Type 0
 MarkAt bytes m rest = (bytes ≡ mark_bytes m ++ rest) × IsLongest (kind.Fixed m) rest
 
@@ -25,12 +25,12 @@ BeginsNoGap (b ∷ bs) = (is_white b ≡ false) × (b ≡ 35 → ⊥)
 abbrev pub SkipsComment : List ℕ → List ℕ → Type 0
 SkipsComment bytes rest = (text : List ℕ) × AllByRecursion (λ b. b ≡ 10 → ⊥) text × ((bytes ≡ text ++ 10 ∷ rest) ⊎ ((bytes ≡ text) × (rest ≡ [])))
 
--- one white byte, or one comment, was gone past
+-- one white byte, or one comment, was skipped
 abbrev pub SkipsPiece : List ℕ → List ℕ → Type 0
 SkipsPiece [] rest = ⊥
 SkipsPiece (b ∷ bs) rest = (IsTrue (is_white b) × (bs ≡ rest)) ⊎ ((b ≡ 35) × SkipsComment bs rest)
 
--- a gap, and nothing but the end after a comment that isn't ended
+-- a gap; after an unfinished comment nothing but the end
 abbrev pub SkipsGap : List ℕ → List ℕ → Type 0
 SkipsGap bytes rest = (gap : List ℕ) × (bytes ≡ gap ++ rest) × (IsGap gap ⊎ (IsLastGap gap × (rest ≡ [])))
 
@@ -39,7 +39,7 @@ abbrev pub BeginsByDigit : List ℕ → Type 0
 BeginsByDigit [] = ⊥
 BeginsByDigit (b ∷ bs) = IsTrue (is_ascii_digit b)
 
--- a token stands first, and is the longest that fits
+-- a token comes first, and is the longest that fits
 pub record TokenFrom (bytes : List ℕ) (k : Kind) (rest : List ℕ) : Type 0 where
   pub split : bytes ≡ kind_bytes k ++ rest
   pub is : IsKind k

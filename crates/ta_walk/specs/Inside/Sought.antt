@@ -1,4 +1,4 @@
--- The orders so far, as a list and as masks
+-- The orders found so far, as a list and as masks.
 use Rattle.std.specs.Prelude.{ℕ, ◌+◌, ◌<◌, ◌≡◌, ◌⊎◌, map}
 use Rattle.std.specs.List.{AllByRecursion}
 use Rattle.ta_automaton.specs.declared.automaton.Automaton.{Automaton}
@@ -20,7 +20,7 @@ pub record PairTried (a : Automaton) (before after : ℕ) (old new : Sought) : T
   pub tried : TryAnswers a old.list.items before after new.list.items
   pub kept : MasksAgree (before + 1) after new
 
--- so many guards were tried before one
+-- this many guards were tried before one
 pub record GuardTried (a : Automaton) (count after : ℕ) (old new : Sought) : Type 0 where
   pub found : FoundBefore a old.list.items after count new.list.items
   pub kept : MasksAgree count after new

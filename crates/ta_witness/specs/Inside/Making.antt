@@ -1,4 +1,4 @@
--- How far the making of a run has come
+-- A run while it is made from a solution.
 use Rattle.std.specs.Prelude.{ℕ, ℤ, pos, ◌<◌, ◌≤ℤ◌, ◌≡◌, List, ◌++◌, length, map, reverse, slice_get, Option, Some}
 use Rattle.std.specs.List.{AllByRecursion, range_with_len}
 use Rattle.ta_automaton.specs.declared.automaton.Automaton.{Automaton}
@@ -41,7 +41,7 @@ MayEnd a p value k (Event e) = e < length p.events
 MayEnd a p value k (Rise i) = Unit {0}
 MayEnd a p value k (Fall mask) = (r : ℕ) × IsSingle a value k r
 
--- each element of a word may end
+-- each element of a schema may end
 abbrev pub EachMayEnd : Automaton → Pattern → (Meaning → ℤ) → List Element → Type 0
 EachMayEnd a p value word = (k : ℕ) (element : Element) → slice_get word k ≡ Some element → MayEnd a p value k element
 
@@ -60,14 +60,14 @@ pub record AddsPiece (a : Automaton) (p : Pattern) (value : Meaning → ℤ) (k 
   pub added : after ≡ before ++ piece_lines piece
   pub fit : AllByRecursion (LineFits a p) (piece_lines piece)
 
--- the lines of the pieces of a word
+-- the lines of the pieces of a schema
 pub record AddsPieces (a : Automaton) (p : Pattern) (value : Meaning → ℤ) (word : List Element) (lines : List RunLine) : Type 0 where
   pub pieces : List Piece
   pub are : PiecesOf a value word pieces
   pub made : lines ≡ pieces_lines pieces
   pub fit : AllByRecursion (LineFits a p) lines
 
--- what a run is made from: the pattern of a solution, what its unknowns stand for, and its values, which solve the word
+-- what a run is made from: the pattern of a solution, what its unknowns stand for, and its values, which solve the schema
 pub record IsMadeFrom (file : File) (p : Pattern) (ms : List Meaning) (solution : Solution) : Type 0 where
   pub named : slice_get file.patterns solution.pattern ≡ Some p
   pub unknowns : ms ≡ meanings file.automaton p solution.start_mask (reverse solution.word)

@@ -15,7 +15,7 @@ returns-in-Err-clause-says g c = λ file ends.
     let name = c.args.name.now in
     let names = option_map (λ w. w.now) c.args.silent in
     let refused = subst (λ (a : Automaton). SilentRefused name a names c.in-Err.refusal) ends.automaton c.in-Err.ensures.refusal in
-    grew_none _ _ _ _ (names_refused name file.automaton names (rest_proved_meaning c.args.certificate.now file (ends_of c.args.rest.now)) (g.S.Shelf.files c.args.shelf.now) c.in-Err.refusal refused)
+    grew_none _ _ _ _ (names_refused name file.automaton names [] (rest_proved_meaning c.args.certificate.now file (ends_of c.args.rest.now)) (g.S.Shelf.files c.args.shelf.now) c.in-Err.refusal refused)
 
 pub returns-in-Err-clause-cause : goal.returns-in-Err-clause-cause
 returns-in-Err-clause-cause g c = names_cause Answer c.args.name.now c.args.rest.now.ending.file.automaton (option_map (λ w. w.now) c.args.silent) c.in-Err.refusal _ c.in-Err.ensures.refusal

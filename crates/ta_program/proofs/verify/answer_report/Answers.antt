@@ -3,12 +3,12 @@ use Rattle.ta_program.proofs.Certifying.{certified_says}
 use Rattle.ta_program.proofs.verify.answer_report.Goals as goal
 
 pub report-requires : goal.report-requires
-report-requires g c = subst (AreVerdicts c.args.scoped.now.file c.args.budget.now.nodes) (sym c.as_slice-2.ensures) c.in-Ok.ensures.verdicts
+report-requires g c = subst (AreVerdicts c.args.scoped.now.file c.args.budget.now.given) (sym c.as_slice-2.ensures) c.in-Ok.ensures.verdicts
 
 pub returns-clause-says : goal.returns-clause-says
 returns-clause-says g c = λ files.
     let file = c.args.scoped.now.file in
-    let budget = c.args.budget.now.nodes in
+    let budget = c.args.budget.now.given in
     let judged = c.in-Ok.judged in
     let asked : c.is_some.result ≡ true = c.is_some.ensures ∙ ap is_some c.in-Some.is in
     let vs = judged.verdicts in

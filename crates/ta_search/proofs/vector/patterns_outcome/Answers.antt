@@ -9,8 +9,9 @@ pattern_outcome-requires-clause-exists g c =
     let vs = c.as_slice-verdicts.result.now in
     let v = c.in-Some.verdict.now in
     let found = c.in-Some.ensures.lookup in
-    let are = subst (AreVerdicts c.args.scoped.now.file c.args.nodes) (sym c.as_slice-verdicts.ensures) c.in_ok-judged.ensures.verdicts in
-    numbered c.args.scoped.now.file c.args.nodes vs v c.safe_before-place.result are (slice_get_read vs (length vs) c.safe_before-place.result v refl found.3.0 found.1)
+    let are = subst (AreVerdicts c.args.scoped.now.file c.args.budget) (sym c.as_slice-verdicts.ensures) c.in_ok-judged.ensures.verdicts in
+    numbered c.args.scoped.now.file c.args.budget vs v c.safe_before-place.result are
+    (slice_get_read vs (length vs) c.safe_before-place.result v refl found.3.0 found.1)
 
 pub pattern_outcome-requires-clause-other : goal.pattern_outcome-requires-clause-other
 pattern_outcome-requires-clause-other g c =
@@ -24,13 +25,14 @@ returns-in-Some g c = λ bytes values sampled.
     let vs = c.as_slice-verdicts.result.now in
     let v = c.in-Some.verdict.now in
     let found = c.in-Some.ensures.lookup in
-    let are = subst (AreVerdicts c.args.scoped.now.file c.args.nodes) (sym c.as_slice-verdicts.ensures) c.in_ok-judged.ensures.verdicts in
-    pattern_holds bytes c.args.nodes c.args.scoped.now.file vs v c.safe_before-place.result values c.pattern_outcome.result sampled are c.safe_before-place.ensures (slice_get_read vs (length vs) c.safe_before-place.result v refl found.3.0 found.1) c.pattern_outcome.ensures
+    let are = subst (AreVerdicts c.args.scoped.now.file c.args.budget) (sym c.as_slice-verdicts.ensures) c.in_ok-judged.ensures.verdicts in
+    pattern_holds bytes c.args.budget c.args.scoped.now.file vs v c.safe_before-place.result values c.pattern_outcome.result sampled are
+    c.safe_before-place.ensures (slice_get_read vs (length vs) c.safe_before-place.result v refl found.3.0 found.1) c.pattern_outcome.ensures
 
 pub returns-in-None : goal.returns-in-None
 returns-in-None g c = λ bytes values sampled.
     let file = c.args.scoped.now.file in
-    let budget = c.args.nodes in
+    let budget = c.args.budget in
     let vs = c.as_slice-verdicts.result.now in
     let place = c.safe_before-place.result in
     let past : length vs ≤ place = ltb-false place (length vs) (sym c.in-None.ensures.lookup.0) in

@@ -1,4 +1,4 @@
-use Rattle.ta_shell.proofs.Common.{◌≡◌, ◌∷◌, [], ◌++◌, List, AreStaging, contains_here, each_append}
+use Rattle.ta_shell.proofs.Common.{◌∷◌, [], AreStaging, contains_here, each_append}
 use Rattle.ta_shell.proofs.Making.{changed_one, changed_then}
 use Rattle.ta_shell.proofs.beginning.try_name.Goals as goal
 

@@ -1,5 +1,5 @@
-use Rattle.ta_shell.proofs.Common.{◌++◌, Err, List, AreStaging, Contains-append_left, Contains-append_right, each_append, may_put, option_map}
-use Rattle.ta_shell.proofs.Making.{Within, begin_within, changed_both, changed_weaker, staging_within}
+use Rattle.ta_shell.proofs.Common.{◌++◌, Err, AreStaging, Contains-append_left, Contains-append_right, each_append, may_put, option_map}
+use Rattle.ta_shell.proofs.Making.{begin_within, changed_both, changed_weaker, staging_within}
 use Rattle.ta_shell.proofs.beginning.try_outputs.Goals as goal
 
 pub returns-in-Ok-clause-refuses : goal.returns-in-Ok-clause-refuses

@@ -1,4 +1,3 @@
-use Rattle.ta_shell.proofs.Common.{◌∷◌, Changed, Settled}
 use Rattle.ta_shell.proofs.Settling.{log_halted, log_published, log_unmade, log_unstaged}
 use Rattle.ta_shell.proofs.putting.+put_all.Goals as goal
 

@@ -1,4 +1,4 @@
-use Rattle.ta_shell.proofs.Common.{◌≡◌, ◌∙◌, ◌∷◌, [], ◌+◌, ◌++◌, List, Event, PutCall, Puts, take, take_more, puts, added, append_assoc, concat, sym, ap, contains_here, Changed, AreStaging}
+use Rattle.ta_shell.proofs.Common.{◌∙◌, sym}
 use Rattle.ta_shell.proofs.Making.{added_more, grown_more, refused_adding}
 use Rattle.ta_shell.proofs.putting.add_pieces.Goals as goal
 

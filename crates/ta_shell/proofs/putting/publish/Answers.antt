@@ -1,4 +1,4 @@
-use Rattle.ta_shell.proofs.Common.{◌≡◌, ◌∷◌, [], List, refl, sym, ap, subst, Put}
+use Rattle.ta_shell.proofs.Common.{refl}
 use Rattle.ta_shell.proofs.Making.{changed_one}
 use Rattle.ta_shell.proofs.Refusing.{refused_publish}
 use Rattle.ta_shell.proofs.putting.publish.Goals as goal

@@ -1,5 +1,5 @@
-use Rattle.ta_shell.proofs.Common.{◌∷◌, [], Ok, Stages, AddsOr, AreStaging, contains_here, each_append}
-use Rattle.ta_shell.proofs.Making.{added_all, changed_one, changed_then, changed_behind}
+use Rattle.ta_shell.proofs.Common.{◌∷◌, [], AreStaging, contains_here}
+use Rattle.ta_shell.proofs.Making.{added_all, changed_one, changed_behind}
 use Rattle.ta_shell.proofs.putting.stage_put.Goals as goal
 
 pub returns-in-Err-clause-log : goal.returns-in-Err-clause-log

@@ -3,4 +3,5 @@ use Rattle.ta_verdict.proofs.JudgedSoFar.{JudgedSoFar}
 use Rattle.ta_verdict.proofs.judging.verdicts_on.Given as goal
 
 abbrev pub invariant-loop-pattern : goal.invariant-loop-pattern
-invariant-loop-pattern g l = JudgedSoFar (VerdictHolds l.scoped.file l.nodes) (tree_under l.scoped.file l.nodes) l.scoped.file l.count l.pattern l.verdicts.items l.fn.draft l.draft
+invariant-loop-pattern g l =
+    JudgedSoFar (VerdictHolds l.scoped.file l.budget) (tree_under l.scoped.file l.budget) l.scoped.file l.count l.pattern l.verdicts.items l.fn.draft l.draft

@@ -1,0 +1,315 @@
+-- what a run says of the file that `show` prints
+use Rattle.ta_program.proofs.Common.{arith, ◌≡◌, ◌≤◌, ◌∙◌, ◌++◌, ◌∷◌, ℕ, Bool, true, false, List, [], Option, None, Some, refl, sym, ap, subst, map, codes}
+use Rattle.ta_program.proofs.Common.{append_assoc, option_map, option_and_then_some, list_any, AllByRecursion, nat_lt, length, is_some}
+use Rattle.ta_program.proofs.Common.{Acts, Call, LegalFile, LegalSilently, CheckHolds, Event, IsFile, Meaning, PutCall, ReplayHolds, ReportHolds}
+use Rattle.ta_program.proofs.Common.{RestCheckHolds, RestReportHolds, Runs, ShowHolds, State, Told, View, ask_where, pair_of, reads, reads-append, report_of}
+use Rattle.ta_program.proofs.Common.{request_of, rest_text, seen, where_told, with_text}
+use Rattle.ta_program.proofs.Common.{File, ReportSample, Verdict, RestCheckWords, RestWords, TwoNames, VerifyWords, budget_of, check_meaning, check_of}
+use Rattle.ta_program.proofs.Common.{check_text, file_name_of, is_unknown, is_unsafe, one_legal, option_value, out_of, plain_of, quiet_names, replay_meaning}
+use Rattle.ta_program.proofs.Common.{replay_of, rest_check_meaning, rest_check_of, rest_check_text, rest_check_words, rest_meaning, rest_of, rest_taken}
+use Rattle.ta_program.proofs.Common.{rest_words, show_meaning, show_of, show_words, shown_line, shown_of, taken_by, two_names, unit_steps, verify_meaning}
+use Rattle.ta_program.proofs.Common.{verify_of, verify_taken, verify_words, rest_form, verify_form}
+use Rattle.std.proofs.lemmas.Option.{cond_some, none-some}
+use Rattle.ta_automaton.specs.Runs as runs
+use Rattle.ta_replay.proofs.Occurring.{shown_occurs}
+use Rattle.ta_report.specs.Printed.{HasLine, told_of}
+use Rattle.ta_report.specs.Telling.{TellsSafe, TellsUnsafe}
+use Rattle.ta_shelf.specs.Calls.{puts}
+use Rattle.ta_shell.specs.Sights.{Whole}
+use Rattle.ta_show.proofs.FileTells.{file_same}
+use Rattle.ta_program.proofs.Clauses.{ZeroSays, as_check, as_replay, as_rest, as_rest_check, as_show, as_verify, at_rest, each_safe, gives_some, proved}
+use Rattle.ta_program.proofs.Clauses.{reported, rest_checked, shown, shown_file, tells_proved, tells_rest_proved, tells_rest_safe, tells_safe}
+use Rattle.ta_program.proofs.FirstWord.{first_plain, second_plain}
+use Rattle.ta_program.proofs.JsonLines.{no_line_told}
+use Rattle.ta_program.proofs.NeverResting.{never_rests}
+use Rattle.ta_program.proofs.UnsafePrinted.{unsafe_printed}
+use Rattle.ta_program.specs.RestWords.{rest_check_form, rest_check_taken}
+use Rattle.ta_program.specs.SilentNames.{names_of}
+use Rattle.ta_program.specs.Understood.{Asks, EachLine, Ended, NeverRests, OccursSomewhere, Prints, ReadsWhole, RunOccurs, Says, Understood}
+use Rattle.ta_program.specs.Words.{is_dashed}
+
+-- ---- what words of a command name: right behind the command's name stands FILE
+named_so : (given name file : List ℕ) → given ≡ name → file_name_of given ≡ Some file → file ≡ name
+named_so given name file same is = sym (cond_some (nat_lt 0 (length given)) given file is).1 ∙ same
+
+-- what a command asks for that is made of something if that is there
+made_of : {X W : Type 0} (f : X → W) (o : Option X) (asked : W) → option_map f o ≡ Some asked → (x : X) × (o ≡ Some x) × (f x ≡ asked)
+made_of f None asked is = absurd (none-some asked is)
+made_of f (Some x) asked is = let e : f x ≡ asked = cc in (x, refl, e)
+
+file_of_verify : (name : List ℕ) (more : List (List ℕ)) (asked : VerifyWords) → is_dashed name ≡ false → verify_words (name ∷ more) ≡ Some asked
+    → asked.file ≡ name
+file_of_verify name more asked plain is = option_and_then_some verify_taken (taken_by verify_form (name ∷ more)) asked is (λ taken by taken_is.
+    option_and_then_some _ (file_name_of (plain_of taken 0)) asked taken_is (λ file named file_is.
+    option_and_then_some _ (budget_of (option_value taken 0)) asked file_is (λ nodes counted nodes_is.
+    let made = made_of _ (out_of file (option_value taken 1)) asked nodes_is in
+    sym (ap (λ (w : VerifyWords). w.file) made.2) ∙ named_so (plain_of taken 0) name file (first_plain verify_form refl name more taken plain by) named)))
+
+file_of_rest : (name : List ℕ) (more : List (List ℕ)) (asked : RestWords) → is_dashed name ≡ false → rest_words (name ∷ more) ≡ Some asked → asked.file ≡ name
+file_of_rest name more asked plain is = option_and_then_some rest_taken (taken_by rest_form (name ∷ more)) asked is (λ taken by taken_is.
+    option_and_then_some _ (file_name_of (plain_of taken 0)) asked taken_is (λ file named file_is.
+    option_and_then_some _ (budget_of (option_value taken 0)) asked file_is (λ nodes counted nodes_is.
+    option_and_then_some _ (out_of file (option_value taken 1)) asked nodes_is (λ out given out_is.
+    let made = made_of _ (quiet_names (is_some (option_value taken 2)) (option_value taken 3)) asked out_is in
+    sym (ap (λ (w : RestWords). w.file) made.2) ∙ named_so (plain_of taken 0) name file (first_plain rest_form refl name more taken plain by) named))))
+
+file_of_rest_check : (name : List ℕ) (more : List (List ℕ)) (asked : RestCheckWords) → is_dashed name ≡ false → rest_check_words (name ∷ more) ≡ Some asked
+    → asked.file ≡ name
+file_of_rest_check name more asked plain is = option_and_then_some rest_check_taken (taken_by rest_check_form (name ∷ more)) asked is (λ taken by taken_is.
+    option_and_then_some _ (file_name_of (plain_of taken 0)) asked taken_is (λ file named file_is.
+    option_and_then_some _ (file_name_of (plain_of taken 1)) asked file_is (λ other behind other_is.
+    let made = made_of _ (names_of (option_value taken 0)) asked other_is in
+    sym (ap (λ (w : RestCheckWords). w.file) made.2)
+    ∙ named_so (plain_of taken 0) name file (first_plain rest_check_form refl name more taken plain by) named)))
+
+file_of_two : (name : List ℕ) (more : List (List ℕ)) (asked : TwoNames) → is_dashed name ≡ false → two_names (name ∷ more) ≡ Some asked → asked.file ≡ name
+file_of_two name more asked plain is = option_and_then_some _ (taken_by (record { plain = 2; options = [] }) (name ∷ more)) asked is (λ taken by taken_is.
+    option_and_then_some _ (file_name_of (plain_of taken 0)) asked taken_is (λ file named file_is.
+    let made = made_of _ (file_name_of (plain_of taken 1)) asked file_is in
+    sym (ap (λ (w : TwoNames). w.file) made.2)
+    ∙ named_so (plain_of taken 0) name file (first_plain (record { plain = 2; options = [] }) refl name more taken plain by) named))
+
+other_of_two : (name other : List ℕ) (asked : TwoNames) → is_dashed name ≡ false → two_names (name ∷ other ∷ []) ≡ Some asked → asked.other ≡ other
+other_of_two name other asked plain is = option_and_then_some _ (taken_by (record { plain = 2; options = [] }) (name ∷ other ∷ [])) asked is
+    (λ taken by taken_is.
+    option_and_then_some _ (file_name_of (plain_of taken 0)) asked taken_is (λ file named file_is.
+    let made = made_of _ (file_name_of (plain_of taken 1)) asked file_is in
+    sym (ap (λ (w : TwoNames). w.other) made.2)
+    ∙ named_so (plain_of taken 1) other made.0 (second_plain (record { plain = 2; options = [] }) refl refl name other taken plain by) made.1))
+
+file_of_show : (name : List ℕ) (more : List (List ℕ)) (asked : List ℕ) → is_dashed name ≡ false → show_words (name ∷ more) ≡ Some asked → asked ≡ name
+file_of_show name more asked plain is = option_and_then_some _ (taken_by (record { plain = 1; options = [] }) (name ∷ more)) asked is (λ taken by taken_is.
+    named_so (plain_of taken 0) name asked (first_plain (record { plain = 1; options = [] }) refl name more taken plain by) taken_is)
+
+-- words with which a command ends so are its words
+were_asked : {W : Type 0} (legal : W → Told → Type 0) (says : W → Meaning) (o : Option W) (number : ℕ) (before after : State)
+    → Runs (ask_where legal says o) number before after → number ≤ 2 → (asked : W) × (o ≡ Some asked)
+were_asked legal says None number before after h low = absurd (omega (arith, h.five, low))
+were_asked legal says (Some words) number before after h low = (words, refl)
+
+-- ---- what is seen in the log of a run
+parts_of : (tried before those after made : List Event) → tried ++ ((before ++ (those ++ after)) ++ made) ≡ (tried ++ before) ++ (those ++ (after ++ made))
+parts_of tried before those after made =
+    ap (λ (es : List Event). tried ++ es) (append_assoc before (those ++ after) made ∙ ap (λ (es : List Event). before ++ es) (append_assoc those after made))
+    ∙ sym (append_assoc tried before (those ++ (after ++ made)))
+
+read_so : (r : Ended) (tried made : List PutCall) (read : List Call) → r.calls' ≡ r.calls ++ (puts tried ++ (reads read ++ puts made)) → (name bytes : List ℕ)
+    → seen r.files read name (Whole bytes) → ReadsWhole r name bytes
+read_so r tried made read grown name bytes sees =
+    let part = sees.0 in
+    let split : reads read ≡ reads part.before ++ (reads part.those ++ reads part.after) = ap reads part.all
+    ∙ reads-append part.before (part.those ++ part.after) ∙ ap (λ (es : List Event). reads part.before ++ es) (reads-append part.those part.after) in
+    record {
+      front = puts tried ++ reads part.before;
+      those = part.those;
+      behind = reads part.after ++ puts made;
+      logged = grown ∙ ap (λ (es : List Event). r.calls ++ (puts tried ++ (es ++ puts made))) split
+          ∙ ap (λ (es : List Event). r.calls ++ es) (parts_of (puts tried) (reads part.before) (reads part.those) (reads part.after) (puts made));
+      gave = part.such;
+      held = λ told is. subst (λ (files : Option Told). where_told files name (Whole bytes)) is sees.1;
+    }
+
+-- what is seen whole was read whole
+abbrev Sees : Ended → View → Type 0
+Sees r view = (name bytes : List ℕ) → view name (Whole bytes) → ReadsWhole r name bytes
+
+of_calls : {names : List (List ℕ)} {Goal : Type 0} (r : Ended) (Of : View → Type 0) → ((view : View) → Sees r view → Of view → Goal)
+    → Acts names (λ read made. Of (seen r.files read)) r.calls r.calls' → Goal
+of_calls r Of goal a = goal (seen r.files a.read) (λ name bytes sees. read_so r a.tried a.made a.read a.grown name bytes sees) a.such
+
+-- what is so of the file that FILE means, is so of each file that `show` prints of FILE's bytes
+says : (r : Ended) (Such : List ℕ → File → Type 0) (name : List ℕ) (view : View) → Sees r view → (file : File) → IsFile view name file → (text : List ℕ)
+    → r.written' ≡ with_text r.written text → Such text file → Says Such r name
+says r Such name view sees file is_file text gained such = record {
+  bytes = is_file.bytes;
+  read = sees name is_file.bytes is_file.had.seen;
+  text = text;
+  gained = gained;
+  such = λ shown other orders printed e.
+      let same : file ≡ other = one_legal is_file.bytes file printed.file is_file.means printed.legal
+      ∙ file_same printed.file other (map pair_of printed.is.orders) orders (sym printed.is.shown ∙ sym e) in
+      subst (Such text) same such;
+}
+
+-- no line of JSON tells of a pattern
+tells_by_line : (json : Bool) (file : File) (s : ReportSample) (vs : List Verdict) (name : List ℕ)
+    → HasLine (told_of name (codes "safe, ")) (report_of json file s vs) → TellsSafe json name (report_of json file s vs)
+tells_by_line true file s vs name line = absurd (no_line_told file s vs name (codes "safe, ") line)
+tells_by_line false file s vs name line = line
+
+tells_unsafe_by_line : (json : Bool) (file : File) (s : ReportSample) (vs : List Verdict) (name : List ℕ)
+    → HasLine (told_of name (codes "unsafe, ")) (report_of json file s vs) → TellsUnsafe json name (report_of json file s vs)
+tells_unsafe_by_line true file s vs name line = absurd (no_line_told file s vs name (codes "unsafe, ") line)
+tells_unsafe_by_line false file s vs name line = line
+
+module _ (words : List (List ℕ)) (number : ℕ) (before after : State) (h : Runs (request_of words) number before after) where
+  abbrev ended : Ended
+  ended = record {
+    status = number;
+    words = words;
+    files = before.shelf.files;
+    calls = before.shelf.calls;
+    calls' = after.shelf.calls;
+    written =
+        before.out.written;
+    written' = after.out.written;
+  }
+
+  -- the words ask for a command
+  abbrev runs_so : List (List ℕ) → Type 0
+  runs_so ws = Runs (request_of ws) number before after
+
+  of_verify : (Such : List ℕ → File → Type 0) (name : List ℕ) (more : List (List ℕ)) → Asks ended (codes "verify") name more → number ≤ 2
+      → ((asked : VerifyWords) (view : View) (r : ReportHolds number view asked.file asked.budget asked.json before.out.written after.out.written)
+      → Such (report_of asked.json r.file r.sample r.verdicts) r.file)
+      → Says Such ended name
+  of_verify Such name more asks low such =
+      let so : runs_so (codes "verify" ∷ name ∷ more) = subst runs_so asks.are h in
+      let found = were_asked (λ a told. LegalFile told (Some a.file)) (λ a. verify_meaning a.file a.budget a.json a.out)
+      (verify_words (name ∷ more)) number before after so low in
+      let asked = found.0 in
+      let is : verify_of words ≡ Some asked = ap verify_of asks.are ∙ found.1 in
+      let Of : View → Type 0 = λ view. ReportHolds number view asked.file asked.budget asked.json before.out.written after.out.written in
+      subst (Says Such ended) (file_of_verify name more asked asks.plain found.1)
+      (of_calls ended Of (λ view sees r. says ended Such asked.file view sees r.file r.is_file (report_of asked.json r.file r.sample r.verdicts) r.wrote
+      (such asked view r))
+      (gives_some words number before after h (verify_meaning asked.file asked.budget asked.json asked.out)
+      (as_verify words number before after h asked is) low Of
+      (λ view made a. reported words number before after h asked.file asked.budget asked.json asked.out view made a)))
+
+  of_check : (Such : List ℕ → File → Type 0) (name : List ℕ) (more : List (List ℕ)) → Asks ended (codes "check") name more → number ≤ 0
+      → ((asked : TwoNames) (view : View) (r : CheckHolds view asked.file asked.other before.out.written after.out.written)
+      → Such (check_text r.file r.numbers) r.file)
+      → Says Such ended name
+  of_check Such name more asks none such =
+      let so : runs_so (codes "check" ∷ name ∷ more) = subst runs_so asks.are h in
+      let low : number ≤ 2 = omega (arith, none) in
+      let found = were_asked (λ a told. LegalFile told (Some a.file)) (λ a. check_meaning a.file a.other)
+      (two_names (name ∷ more)) number before after so low in
+      let asked = found.0 in
+      let is : check_of words ≡ Some asked = ap check_of asks.are ∙ found.1 in
+      let Of : View → Type 0 = λ view. CheckHolds view asked.file asked.other before.out.written after.out.written in
+      subst (Says Such ended) (file_of_two name more asked asks.plain found.1)
+      (of_calls ended Of (λ view sees r. says ended Such asked.file view sees r.file r.is_file (check_text r.file r.numbers) r.wrote (such asked view r))
+      (gives_some words number before after h (check_meaning asked.file asked.other) (as_check words number before after h asked is) low Of
+      (λ view made a. proved words number before after h asked.file asked.other view made a)))
+
+  of_rest : (Such : List ℕ → File → Type 0) (name : List ℕ) (more : List (List ℕ)) → Asks ended (codes "rest") name more → number ≤ 2
+      → ((asked : RestWords) → rest_of words ≡ Some asked → (view : View) (r : RestReportHolds number view asked before.out.written after.out.written)
+      → Such (rest_text r.file r.sample r.verdicts) r.file)
+      → Says Such ended name
+  of_rest Such name more asks low such =
+      let so : runs_so (codes "rest" ∷ name ∷ more) = subst runs_so asks.are h in
+      let found = were_asked (λ a. LegalSilently a.file a.silent) (λ a. rest_meaning a.file a.budget a.out a.silent)
+      (rest_words (name ∷ more)) number before after so low in
+      let asked = found.0 in
+      let is : rest_of words ≡ Some asked = ap rest_of asks.are ∙ found.1 in
+      let Of : View → Type 0 = λ view. RestReportHolds number view asked before.out.written after.out.written in
+      subst (Says Such ended) (file_of_rest name more asked asks.plain found.1)
+      (of_calls ended Of (λ view sees r. says ended Such asked.file view sees r.file r.is_file (rest_text r.file r.sample r.verdicts) r.wrote
+      (such asked is view r))
+      (gives_some words number before after h (rest_meaning asked.file asked.budget asked.out asked.silent)
+      (as_rest words number before after h asked is) low Of (λ view made a. at_rest words number before after h asked asked.out view made a)))
+
+  of_rest_check : (Such : List ℕ → File → Type 0) (name : List ℕ) (more : List (List ℕ)) → Asks ended (codes "rest-check") name more → number ≤ 0
+      → ((asked : RestCheckWords) (view : View) (r : RestCheckHolds view asked.file asked.other asked.silent before.out.written after.out.written)
+      → Such (rest_check_text r.file r.numbers) r.file)
+      → Says Such ended name
+  of_rest_check Such name more asks none such =
+      let so : runs_so (codes "rest-check" ∷ name ∷ more) = subst runs_so asks.are h in
+      let low : number ≤ 2 = omega (arith, none) in
+      let found = were_asked (λ a. LegalSilently a.file a.silent) (λ a. rest_check_meaning a.file a.other a.silent)
+      (rest_check_words (name ∷ more)) number before after so low in
+      let asked = found.0 in
+      let is : rest_check_of words ≡ Some asked = ap rest_check_of asks.are ∙ found.1 in
+      let Of : View → Type 0 = λ view. RestCheckHolds view asked.file asked.other asked.silent before.out.written after.out.written in
+      subst (Says Such ended) (file_of_rest_check name more asked asks.plain found.1)
+      (of_calls ended Of (λ view sees r. says ended Such asked.file view sees r.file r.is_file (rest_check_text r.file r.numbers) r.wrote (such asked view r))
+      (gives_some words number before after h (rest_check_meaning asked.file asked.other asked.silent)
+      (as_rest_check words number before after h asked is) low Of
+      (λ view made a. rest_checked words number before after h asked.file asked.other asked.silent view made a)))
+
+  -- RUN is seen, too
+  run_occurs : (view : View) → Sees ended view → (name run_name : List ℕ) (r : ReplayHolds view name run_name before.out.written after.out.written)
+      → RunOccurs ended run_name r.file
+  run_occurs view sees name run_name r =
+      let s = r.is_run.means in
+      record {
+        bytes = r.is_run.bytes;
+        read = sees run_name r.is_run.bytes r.is_run.had.seen;
+        run = r.run;
+        is = s.text;
+        pattern = s.shows.pattern;
+        named = s.shows.named;
+        first = s.shows.shows.first;
+        begins = s.shows.shows.begins;
+        occurs = shown_occurs r.file r.run s.shows;
+      }
+
+  of_replay : (name run_name : List ℕ) → Asks ended (codes "replay") name (run_name ∷ []) → number ≡ 0
+      → Says (λ text file. RunOccurs ended run_name file) ended name
+  of_replay name run_name asks none =
+      let so : runs_so (codes "replay" ∷ name ∷ run_name ∷ []) = subst runs_so asks.are h in
+      let low : number ≤ 2 = omega (arith, none) in
+      let found = were_asked (λ a told. LegalFile told (Some a.file)) (λ a. replay_meaning a.file a.other)
+      (two_names (name ∷ run_name ∷ [])) number before after so low in
+      let asked = found.0 in
+      let is : replay_of words ≡ Some asked = ap replay_of asks.are ∙ found.1 in
+      let Of : View → Type 0 = λ view. ReplayHolds view asked.file asked.other before.out.written after.out.written in
+      let run_is = other_of_two name run_name asked asks.plain found.1 in
+      subst (Says (λ text file. RunOccurs ended run_name file) ended) (file_of_two name (run_name ∷ []) asked asks.plain found.1)
+      (of_calls ended Of (λ view sees r. says ended (λ text file. RunOccurs ended run_name file) asked.file view sees r.file r.is_file
+      (shown_line r.pattern.name (shown_of r.run)) r.wrote
+      (subst (λ (n : List ℕ). RunOccurs ended n r.file) run_is (run_occurs view sees asked.file asked.other r)))
+      (gives_some words number before after h (replay_meaning asked.file asked.other) (as_replay words number before after h asked is) low Of
+      (λ view made a. shown words number before after h asked.file asked.other view made a)))
+
+  prints_so : (name : List ℕ) (view : View) → Sees ended view → ShowHolds view name before.out.written after.out.written → Prints ended name
+  prints_so name view sees r = record {
+    bytes = r.bytes;
+    read = sees name r.bytes r.held;
+    text = r.text;
+    gained = r.wrote;
+    printed = r.printed;
+    file = r.printed.file;
+    orders = map pair_of r.printed.is.orders;
+    is = r.printed.is.shown;
+  }
+
+  of_show : (name : List ℕ) (more : List (List ℕ)) → Asks ended (codes "show") name more → number ≡ 0 → Prints ended name
+  of_show name more asks none =
+      let so : runs_so (codes "show" ∷ name ∷ more) = subst runs_so asks.are h in
+      let low : number ≤ 2 = omega (arith, none) in
+      let found = were_asked (λ n told. LegalFile told (Some n)) show_meaning (show_words (name ∷ more)) number before after so low in
+      let asked = found.0 in
+      let is : show_of words ≡ Some asked = ap show_of asks.are ∙ found.1 in
+      let Of : View → Type 0 = λ view. ShowHolds view asked before.out.written after.out.written in
+      subst (Prints ended) (file_of_show name more asked asks.plain found.1)
+      (of_calls ended Of (λ view sees r. prints_so asked view sees r)
+      (gives_some words number before after h (show_meaning asked) (as_show words number before after h asked is) low Of
+      (λ view made a. shown_file words number before after h asked view made a)))
+
+  pub understood : ZeroSays → Understood ended
+  understood zero_says = record {
+    shows = of_show;
+    safe = λ name more asks none. of_verify (λ text file. AllByRecursion (runs.Safe file.automaton) file.patterns) name more asks (omega (arith, none))
+        (λ asked view r.
+        let kinds = zero_says (list_any is_unsafe r.verdicts) (list_any is_unknown r.verdicts) (r.numbered ∙ none) in
+        each_safe r.file asked.budget 0 r.file.patterns r.verdicts kinds.0 kinds.1 r.are.hold);
+    safe_lines = λ name more asks low. of_verify (EachLine runs.Safe (codes "safe, ")) name more asks low (λ asked view r k p named line.
+        tells_safe words number before after h asked.file asked.budget asked.json view r k p named
+        (tells_by_line asked.json r.file r.sample r.verdicts p.name line));
+    unsafe_lines = λ name more asks low. of_verify (EachLine OccursSomewhere (codes "unsafe, ")) name more asks low (λ asked view r k p named line.
+        let u = unsafe_printed asked.json r.file asked.budget r.sample r.is_sample r.verdicts r.are k p named
+        (tells_unsafe_by_line asked.json r.file r.sample r.verdicts p.name line) in
+        (u.first, unit_steps u.run.lines, u.happens));
+    proved = λ name more asks none. of_check (EachLine runs.Safe (codes "proved")) name more asks none
+        (λ asked view r. tells_proved words number before after h asked.file asked.other view r);
+    rest_safe = λ name more asks low. of_rest (EachLine NeverRests (codes "rest safe, ")) name more asks low (λ asked is view r k p named line.
+        never_rests r.is_file.bytes r.file r.is_file.means r.are_ends.loops k p named asked.silent
+        (tells_rest_safe words number before after h asked is view r k p named line));
+    rest_proved = λ name more asks none. of_rest_check (EachLine NeverRests (codes "rest proved")) name more asks none (λ asked view r k p named line.
+        never_rests r.is_file.bytes r.file r.is_file.means r.are_ends.loops k p named asked.silent
+        (tells_rest_proved words number before after h asked.file asked.other asked.silent view r k p named line));
+    shown = of_replay;
+  }
