@@ -31,7 +31,7 @@ use Rattle.ta_program.specs.SilentNames.{AreSilent, FairlySafeBut, RestOccursBut
 use Rattle.ta_program.specs.Reporting.{CertificateStands, ReportHolds}
 use Rattle.ta_program.specs.Search.{SearchHolds, found_names}
 use Rattle.ta_program.specs.SearchWords.{SearchWords, search_of}
-use Rattle.ta_program.specs.Show.{ShowHolds, show_of}
+use Rattle.ta_program.specs.Show.{SafeAsPrinted, ShowHolds, show_of}
 use Rattle.ta_verdict.specs.Rest.Budgets.{resting}
 use Rattle.ta_verdict.specs.Verdicts.{IsKnown}
 use Rattle.ta_verdict.specs.declared.budget.Budget.{Budget}
@@ -126,6 +126,13 @@ abbrev pub ShowsFile : ℕ → List (List ℕ) → Option Told → List Event �
 ShowsFile number words files calls calls' written written' =
     (name : List ℕ) → show_of words ≡ Some name → number ≡ 0
     → Grew (λ read. ShowHolds (seen files read) name written written') calls calls'
+
+-- `verify FILE` with status 0, its words in any order: if `show FILE` prints a text for FILE's bytes, the patterns of each file with this
+-- text occur in no run
+abbrev pub SafeAsShown : ℕ → List (List ℕ) → Option Told → List Event → List Event → Type 0
+SafeAsShown number words files calls calls' =
+    (asked : VerifyWords) → verify_of words ≡ Some asked → number ≡ 0
+    → Acts (may_put asked.out) (λ read made. SafeAsPrinted (seen files read) asked.file) calls calls'
 
 -- with status 0, 1 or 2 of `verify` a pattern that the report calls safe, by its line or in JSON, is safe, and one that it calls unsafe
 -- occurs in the run whose text it prints; with status 0 of `check` a pattern that is `proved` is safe. For `rest` and `rest-check`: of a

@@ -1,6 +1,8 @@
 -- The command `show`: it prints a file as it was understood.
 use Rattle.std.specs.Prelude.{ℕ, ◌≡◌, List, [], map, codes, Option, Some, option_and_then}
+use Rattle.std.specs.List.{AllByRecursion}
 use Rattle.ta_automaton.specs.declared.file.File.{File}
+use Rattle.ta_automaton.specs.Runs.{Safe}
 use Rattle.ta_cert.specs.Certificates.{pair_of}
 use Rattle.ta_cert.specs.declared.line.Order.{Order}
 use Rattle.ta_meaning.specs.Reading.{Legal}
@@ -60,3 +62,13 @@ pub record ShowHolds (view : View) (name : List ℕ) (written written' : Option 
   pub text : List ℕ
   pub printed : ShowPrints bytes text
   pub wrote : written' ≡ with_text written text
+
+-- the patterns of each file with this text occur in no run
+abbrev pub EachSafeIn : List ℕ → Type 0
+EachSafeIn text = (file : File) (orders : List (ℕ × ℕ)) → show_text file orders ≡ text → AllByRecursion (Safe file.automaton) file.patterns
+
+-- the patterns of each file whose text is printed for the bytes under a name occur in no run
+pub record SafeAsPrinted (view : View) (name : List ℕ) : Type 0 where
+  pub bytes : List ℕ
+  pub held : view name (Whole bytes)
+  pub safe : (text : List ℕ) → ShowPrints bytes text → EachSafeIn text

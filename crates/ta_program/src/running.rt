@@ -6,7 +6,7 @@ ghost use Rattle.ta_shell.specs.Ends.{Quiet, SinkState, Tells, state};
 ghost use Rattle.ta_program.specs.Asked.{Runs, usage_line};
 ghost use Rattle.ta_program.specs.Headline.{StatusTells};
 ghost use Rattle.ta_program.specs.Program.{Admitting, Benches, CertificateWritten, CheckProves, Completes, ExactlySo, Exports, KeepsFiles, Opens, PrintedHolds, ReplayShows, RestProves, RestsReport, RunShortens, Searches, SparesRead, Tellings, UsageExactly, VerifyReports};
-ghost use Rattle.ta_program.specs.Program.{ShowsFile};
+ghost use Rattle.ta_program.specs.Program.{SafeAsShown, ShowsFile};
 ghost use Rattle.ta_program.specs.Requests.{request_of};
 ghost use Rattle.ta_program.specs.Understood.{Understood};
 
@@ -72,6 +72,7 @@ pub fn run<R: Threads + Sync, S: Shelf, O: Sink, E: Sink>(
     ensures rest_proves { RestProves result (map (λ w. w.now) words.now) (S.files shelf.old) (S.calls shelf.old) (S.calls shelf.new) (O.written out.old) (O.written out.new) }
     ensures searches { Searches result (map (λ w. w.now) words.now) (S.files shelf.old) (S.files shelf.new) (S.calls shelf.old) (S.calls shelf.new) (O.written out.old) (O.written out.new) }
     ensures shows { ShowsFile result (map (λ w. w.now) words.now) (S.files shelf.old) (S.calls shelf.old) (S.calls shelf.new) (O.written out.old) (O.written out.new) }
+    ensures shown_safe { SafeAsShown result (map (λ w. w.now) words.now) (S.files shelf.old) (S.calls shelf.old) (S.calls shelf.new) }
     ensures printed { PrintedHolds result (map (λ w. w.now) words.now) (S.files shelf.old) (S.calls shelf.old) (S.calls shelf.new) (O.written out.old) (O.written out.new) }
     ensures usage { UsageExactly result (request_of (map (λ w. w.now) words.now)) }
     ensures exact { ExactlySo result (request_of (map (λ w. w.now) words.now)) (S.files shelf.old) }

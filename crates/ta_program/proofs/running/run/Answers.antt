@@ -1,6 +1,6 @@
 use Rattle.ta_program.proofs.Common.{◌≡◌, true, false, arith, refl, map, state, request_of}
 use Rattle.ta_program.proofs.Clauses.{number_by, admitting, benches, certificate_written, check_proves, exactly_so, exports, keeps_files, opens, printed_holds, quiet, replay_shows, rest_proves, rests_report, run_shortens, searches, spares_read, verify_reports, status_tells}
-use Rattle.ta_program.proofs.Clauses.{shows_file}
+use Rattle.ta_program.proofs.Clauses.{safe_as_shown, shows_file}
 use Rattle.ta_program.proofs.WhatIsShown.{understood}
 use Rattle.ta_program.proofs.Complete.{completes}
 use Rattle.ta_program.proofs.running.run.Goals as goal
@@ -14,6 +14,13 @@ returns-clause-headline g c = status_tells (map (λ w. w.now) c.args.words.now) 
 
 pub returns-clause-understood : goal.returns-clause-understood
 returns-clause-understood g c = understood (map (λ w. w.now) c.args.words.now) c.obey.result (state (g.S.Shelf.files c.args.shelf.now) (g.S.Shelf.calls c.args.shelf.now) (g.S.Shelf.faults c.args.shelf.now) (g.O.Sink.written c.args.out.now) (g.O.Sink.faults c.args.out.now) (g.O.Sink.stalls c.args.out.now) (g.E.Sink.written c.args.err.now) (g.E.Sink.faults c.args.err.now) (g.E.Sink.stalls c.args.err.now)) (state (g.S.Shelf.files c.obey.new.shelf) (g.S.Shelf.calls c.obey.new.shelf) (g.S.Shelf.faults c.obey.new.shelf) (g.O.Sink.written c.obey.new.out) (g.O.Sink.faults c.obey.new.out) (g.O.Sink.stalls c.obey.new.out) (g.E.Sink.written c.obey.new.err) (g.E.Sink.faults c.obey.new.err) (g.E.Sink.stalls c.obey.new.err)) c.obey.ensures (λ found unknown.
+    elim found as (λ f. number_by f unknown ≡ 0 → (f ≡ false) × (unknown ≡ false)) [
+      | true ↦ λ e. absurd (omega (arith, e))
+      | false ↦ elim unknown as (λ u. number_by false u ≡ 0 → (false ≡ false) × (u ≡ false)) [ true ↦ λ e. absurd (omega (arith, e)) | false ↦ λ e. (refl, refl) ]
+    ])
+
+pub returns-clause-shown_safe : goal.returns-clause-shown_safe
+returns-clause-shown_safe g c = safe_as_shown (map (λ w. w.now) c.args.words.now) c.obey.result (state (g.S.Shelf.files c.args.shelf.now) (g.S.Shelf.calls c.args.shelf.now) (g.S.Shelf.faults c.args.shelf.now) (g.O.Sink.written c.args.out.now) (g.O.Sink.faults c.args.out.now) (g.O.Sink.stalls c.args.out.now) (g.E.Sink.written c.args.err.now) (g.E.Sink.faults c.args.err.now) (g.E.Sink.stalls c.args.err.now)) (state (g.S.Shelf.files c.obey.new.shelf) (g.S.Shelf.calls c.obey.new.shelf) (g.S.Shelf.faults c.obey.new.shelf) (g.O.Sink.written c.obey.new.out) (g.O.Sink.faults c.obey.new.out) (g.O.Sink.stalls c.obey.new.out) (g.E.Sink.written c.obey.new.err) (g.E.Sink.faults c.obey.new.err) (g.E.Sink.stalls c.obey.new.err)) c.obey.ensures (λ found unknown.
     elim found as (λ f. number_by f unknown ≡ 0 → (f ≡ false) × (unknown ≡ false)) [
       | true ↦ λ e. absurd (omega (arith, e))
       | false ↦ elim unknown as (λ u. number_by false u ≡ 0 → (false ≡ false) × (u ≡ false)) [ true ↦ λ e. absurd (omega (arith, e)) | false ↦ λ e. (refl, refl) ]
