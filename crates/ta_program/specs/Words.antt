@@ -7,7 +7,7 @@ pub record OptionForm : Type 0 where
   pub word : List ℕ
   pub valued : Bool
 
--- the form of a command's words: how many plain words there are, at most five, and the options, at most four
+-- the form of a command's words: how many plain words there are, at most five, and the options, at most eight
 pub record Form : Type 0 where
   pub plain : ℕ
   pub options : List OptionForm
@@ -35,7 +35,7 @@ pub record Taken : Type 0 where
 
 -- before the first word
 abbrev pub nothing : Taken
-nothing = record { plain = []; values = None ∷ None ∷ None ∷ None ∷ []; ended = false; awaits = None }
+nothing = record { plain = []; values = None ∷ None ∷ None ∷ None ∷ None ∷ None ∷ None ∷ None ∷ []; ended = false; awaits = None }
 
 -- one more plain word, if the form has one more
 abbrev pub with_plain : ℕ → Taken → List ℕ → Option Taken

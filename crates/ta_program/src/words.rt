@@ -36,14 +36,14 @@ pub(crate) const SILENT_OPTION: OptionWord<'static> = OptionWord {
     valued: true,
 };
 
-/// What the words of a form give: at most five plain words, and at most four options.
+/// What the words of a form give: at most five plain words, and at most eight options.
 pub(crate) fn take_words<'a>(
     plain: usize,
     options: &[OptionWord<'_>],
     words: &[&'a str],
 ) -> Option<Taken<'a>>
     requires plain { plain ≤ 5 }
-    requires options { length options.now ≤ 4 }
+    requires options { length options.now ≤ 8 }
     ensures { option_map taken_of result ≡ taken_by (form_of plain options.now) (map (λ w. w.now) words.now) }
 {
     Taken::nothing()
@@ -57,7 +57,7 @@ pub(crate) fn take_words<'a>(
 pub(crate) struct Taken<'a> {
     plain: [&'a str; 5],
     count: usize,
-    values: [Option<&'a str>; 4],
+    values: [Option<&'a str>; 8],
     ended: bool,
     awaits: Option<usize>,
 }
@@ -70,7 +70,7 @@ impl<'a> Taken<'a> {
         Taken {
             plain: [""; 5],
             count: 0,
-            values: [None; 4],
+            values: [None; 8],
             ended: false,
             awaits: None,
         }
@@ -97,7 +97,7 @@ impl<'a> Taken<'a> {
 
     /// With the value of the option of a number, where it wasn't given.
     fn with_value(self, number: usize, value: &'a str) -> Option<Taken<'a>>
-        requires { number < 4 }
+        requires { number < 8 }
         ensures taken { option_map taken_of result ≡ with_value (taken_of self.entry) number value.now }
         ensures none { IfSome result (λ taken. taken.awaits ≡ None) }
     {
@@ -123,10 +123,10 @@ impl<'a> Taken<'a> {
         word: &'a str,
     ) -> Option<Taken<'a>>
         requires plain { plain ≤ 5 }
-        requires options { number + length options.now ≤ 4 }
+        requires options { number + length options.now ≤ 8 }
         requires waits { self.awaits ≡ None }
         ensures taken { option_map taken_of result ≡ with_word (options_of options.now) number plain (taken_of self.entry) word.now }
-        ensures inside { IfSome result (λ taken. IfSome taken.awaits (λ n. n < 4)) }
+        ensures inside { IfSome result (λ taken. IfSome taken.awaits (λ n. n < 8)) }
     {
         let Some((option, more)) = options.split_first() else {
             return if is_dashed(word) {
@@ -167,7 +167,7 @@ impl<'a> Taken<'a> {
 
     /// The value of the option of a number.
     pub(crate) fn value(&self, number: usize) -> Option<&'a str>
-        requires { number < 4 }
+        requires { number < 8 }
         ensures { option_map (λ w. w.now) result ≡ option_value (taken_of self.now) number }
     {
         self.values[number]
@@ -176,10 +176,10 @@ impl<'a> Taken<'a> {
     /// With one more word.
     fn with(self, plain: usize, options: &[OptionWord<'_>], word: &'a str) -> Option<Taken<'a>>
         requires plain { plain ≤ 5 }
-        requires options { length options.now ≤ 4 }
-        requires inside { IfSome self.awaits (λ n. n < 4) }
+        requires options { length options.now ≤ 8 }
+        requires inside { IfSome self.awaits (λ n. n < 8) }
         ensures taken { option_map taken_of result ≡ take_by self.entry.awaits (form_of plain options.now) (taken_of self.entry) word.now }
-        ensures inside { IfSome result (λ taken. IfSome taken.awaits (λ n. n < 4)) }
+        ensures inside { IfSome result (λ taken. IfSome taken.awaits (λ n. n < 8)) }
     {
         match self.awaits {
             Some(number) => self.with_awaited(number, word),
@@ -193,7 +193,7 @@ impl<'a> Taken<'a> {
     }
 
     /// With all words, from the left. Each one that is taken is plain, an option, its value or `--`, so
-    /// there are at most 14 calls in one another.
+    /// there are at most 22 calls in one another.
     fn with_all(
         self,
         plain: usize,
@@ -201,8 +201,8 @@ impl<'a> Taken<'a> {
         words: &[&'a str],
     ) -> Option<Taken<'a>>
         requires plain { plain ≤ 5 }
-        requires options { length options.now ≤ 4 }
-        requires inside { IfSome self.awaits (λ n. n < 4) }
+        requires options { length options.now ≤ 8 }
+        requires inside { IfSome self.awaits (λ n. n < 8) }
         ensures { option_map taken_of result ≡ take_all (form_of plain options.now) (taken_of self.entry) (map (λ w. w.now) words.now) }
     {
         match words.split_first() {
@@ -227,7 +227,7 @@ impl<'a> Taken<'a> {
 
     /// With the value of the option of a number.
     fn with_awaited(self, number: usize, word: &'a str) -> Option<Taken<'a>>
-        requires { number < 4 }
+        requires { number < 8 }
         ensures taken { option_map taken_of result ≡ (if is_dashed word.now then None else with_value (taken_of self.entry) number word.now) }
         ensures none { IfSome result (λ taken. taken.awaits ≡ None) }
     {
