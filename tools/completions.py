@@ -2,7 +2,8 @@
 script: tools/install imports it.
 
 A form of the usage line is a command, the words it takes at their places, and its options. What a word completes to hangs on
-its kind, the word in capitals: a file whose name ends so, the name of a pattern of FILE, or a number of guards.
+its kind, the word in capitals: a file whose name ends so, the name of a pattern of FILE (PATTERN, or NAME behind an option), or a
+number of guards.
 """
 
 import re
@@ -102,7 +103,7 @@ _tav() {{
     case $word in
     *.*) _tav_files "${{word#*.}}" ;;
     {written}) _tav_files "" ;;
-    PATTERN) _tav_words "$(sed -n '{patterns}' "$file" 2>/dev/null)" ;;
+    PATTERN | NAME) _tav_words "$(sed -n '{patterns}' "$file" 2>/dev/null)" ;;
     K) _tav_words "{guards}" ;;
     esac
 }}
@@ -155,7 +156,7 @@ def zsh_action(form, kind):
         return f'_files -g "*.{ending_of(form, kind)}"'
     if kind in WRITTEN:
         return "_files"
-    return {"PATTERN": "_tav_patterns", "K": f"({GUARDS})"}.get(kind, " ")
+    return {"PATTERN": "_tav_patterns", "NAME": "_tav_patterns", "K": f"({GUARDS})"}.get(kind, " ")
 
 
 def zsh(forms):
@@ -214,6 +215,7 @@ def fish(forms):
                 lines.append(f"complete -c tav -n '__tav_is_at {form.command} {at}' -a '{offered}' -d {kind}")
         for name, kind in form.options:
             more = f" -r -F -d {kind}" if kind in WRITTEN else f" -x -d {kind}" if kind else ""
+            more += " -a '(__tav_patterns)'" if kind == "NAME" else ""
             lines.append(f"complete -c tav -n '__fish_seen_subcommand_from {form.command}' -l {name[2:]}{more}")
     valued = sorted({name for form in forms for name, kind in form.options if kind})
     return FISH.format(head=HEAD.format("fish"), patterns=PATTERNS.replace("\\", "\\\\"), valued=" ".join(valued), lines="\n".join(lines))
