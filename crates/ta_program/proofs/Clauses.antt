@@ -1,5 +1,5 @@
 -- from how a run ends to its clauses
-use Rattle.ta_program.proofs.Common.{verdict_safe, Budget, ◌≡◌, ◌≢◌, ◌≤◌, ◌+◌, ℕ, zero, Bool, true, false, List, [], ◌∷◌, Option, None, Some, refl, sym, ap, subst, ◌∙◌, inl, arith, rules, codes, if◌then◌else◌, list_any, AllByRecursion, bytes_eq, or_parts, File, Pattern, PatternSafe, one_legal, printed_proved, printed_rest_proved, printed_rest_safe, told_safe, check_text, rest_check_text, report_of, Verdict, Safe, Unsafe, Spent, Overflow, filled_text, Grew, OthersStay, Told, WhereTold, with_text, answered, hindered, kept_refused, never_five, whole_one, Decides, Meaning, IsAnswered, Performs, Quiet, ShelfState, SinkState, State, HoldsPut, HoldsText, KeptBut, Stand, put_bytes, View, in_files, seen, run_text, unit_steps, Answer, Put, plain_tree, Asked, LegalFile, Runs, ask, ask_where, Command, NoCommand, BenchHolds, bench_meaning, bench_of, bench_status, bench_words, CheckHolds, check_meaning, check_of, IsFile, file_kind, EachPrintedUnsafe, EachToldSafe, rest_telling, verify_telling, AdmitAsked, AdmitHolds, admit_meaning, admit_of, admit_words, ExportHolds, export_meaning, export_of, export_words, Admitting, Benches, CertificateWritten, CheckProves, ExactlySo, Exports, KeepsFiles, PassesLegal, PrintedHolds, ReplayShows, RestProves, RestsReport, RunShortens, Searches, VerifyReports, put_by, CompressHolds, compress_meaning, compress_of, ReplayHolds, replay_meaning, replay_of, request_of, ClaimHolds, claiming, rest_text, RestCertificateStands, RestReportHolds, rest_meaning, RestCheckHolds, rest_check_meaning, rest_check_of, rest_of, rest_words, CertificateStands, ReportHolds, verify_meaning, VerdictHolds, VerdictsHold, is_unsafe, is_unknown, LegalTemplate, SearchHolds, end_number, leaves_unknown, search_meaning, SearchWords, search_of, search_words, TwoNames, two_names, VerifyWords, verify_of, verify_words, WordAsked, behind_name, map, pair_of, held, held_by, false_from_ne_true, Call, Event, PutCall, PutText, PutWhole, Acts, TellsFile, acts, grew_alone, may_put, put_text, tells_file, Spares, ◌⊎◌, AreOfStages, made_of_stages, Opens, AreStaging, ComparesFirst, Differ, Kind, SparesRead, at_ends, found_meaning, found_names, held_or_staged, report_meaning, rest_quietly, spared, template_kind, inr}
+use Rattle.ta_program.proofs.Common.{verdict_safe, Budget, ◌≡◌, ◌≢◌, ◌≤◌, ◌+◌, ℕ, Bool, true, false, List, [], ◌∷◌, Option, None, Some, refl, sym, ap, subst, ◌∙◌, inl, arith, rules, codes, if◌then◌else◌, list_any, AllByRecursion, bytes_eq, or_parts, File, Pattern, PatternSafe, one_legal, printed_proved, printed_rest_proved, printed_rest_safe, told_safe, check_text, rest_check_text, report_of, Verdict, Safe, Unsafe, Spent, Overflow, filled_text, Grew, OthersStay, Told, WhereTold, with_text, answered, hindered, kept_refused, never_five, whole_one, Decides, Meaning, IsAnswered, Performs, Quiet, ShelfState, SinkState, State, HoldsPut, HoldsText, KeptBut, Stand, put_bytes, View, in_files, seen, run_text, unit_steps, Answer, Put, plain_tree, Asked, LegalFile, Runs, ask, ask_where, Command, NoCommand, BenchHolds, bench_meaning, bench_of, bench_status, bench_words, CheckHolds, check_meaning, check_of, IsFile, file_kind, EachPrintedUnsafe, EachToldSafe, rest_telling, verify_telling, AdmitAsked, AdmitHolds, admit_meaning, admit_of, admit_words, ExportHolds, export_meaning, export_of, export_words, Admitting, Benches, CertificateWritten, CheckProves, ExactlySo, Exports, KeepsFiles, PassesLegal, PrintedHolds, ReplayShows, RestProves, RestsReport, RunShortens, Searches, VerifyReports, put_by, CompressHolds, compress_meaning, compress_of, ReplayHolds, replay_meaning, replay_of, request_of, ClaimHolds, rest_text, RestCertificateStands, RestReportHolds, rest_meaning, RestCheckHolds, rest_check_meaning, rest_check_of, rest_of, rest_words, CertificateStands, ReportHolds, verify_meaning, VerdictHolds, VerdictsHold, is_unsafe, is_unknown, LegalTemplate, SearchHolds, end_number, leaves_unknown, search_meaning, SearchWords, search_of, search_words, TwoNames, two_names, VerifyWords, verify_of, verify_words, WordAsked, behind_name, map, pair_of, held, held_by, false_from_ne_true, Call, Event, PutCall, PutText, PutWhole, Acts, TellsFile, acts, grew_alone, may_put, put_text, tells_file, Spares, ◌⊎◌, AreOfStages, made_of_stages, Opens, AreStaging, ComparesFirst, Differ, Kind, SparesRead, at_ends, found_meaning, found_names, held_or_staged, report_meaning, rest_quietly, spared, template_kind, inr}
 use Rattle.ta_program.proofs.Common.{ShowHolds, show_meaning, show_of, show_words, slice_get}
 use Rattle.ta_program.specs.Program.{SafeAsShown, ShowsFile}
 use Rattle.ta_program.specs.Show.{SafeAsPrinted}
@@ -14,6 +14,7 @@ use Rattle.ta_program.proofs.Common.{AreSilent, FairlySafeBut, LegalSilently, Re
 use Rattle.ta_program.proofs.FairAtRest.{fair_but}
 use Rattle.ta_program.proofs.SilentPlaces.{none_silent, safe_but}
 use Rattle.ta_verdict.specs.Rest.Said.{IsLoudByWords}
+use Rattle.ta_program.proofs.Compressing.{answers_so, refused_so}
 use Rattle.ta_program.proofs.FoundStands.{found_stands}
 use Rattle.ta_program.proofs.WordsDiffer.{Apart, names_apart, rest_said}
 use Rattle.ta_report.specs.Printed.{HasLine, told_of}
@@ -106,7 +107,7 @@ module _ (words : List (List ℕ)) (number : ℕ) (before after : State) (h : Ru
   pub as_check : (asked : TwoNames) → check_of words ≡ Some asked → Performs (check_meaning asked.file asked.other) number before after
   as_check asked is = performed (codes "check") two_names (λ a. Some a.file) (λ a. check_meaning a.file a.other) number before after (λ rest r. r) words asked is h
 
-  as_compress : (asked : TwoNames) → compress_of words ≡ Some asked → Performs (compress_meaning asked.file asked.other) number before after
+  pub as_compress : (asked : TwoNames) → compress_of words ≡ Some asked → Performs (compress_meaning asked.file asked.other) number before after
   as_compress asked is = performed (codes "compress") two_names (λ a. Some a.file) (λ a. compress_meaning a.file a.other) number before after (λ rest r. r) words asked is h
 
   pub as_replay : (asked : TwoNames) → replay_of words ≡ Some asked → Performs (replay_meaning asked.file asked.other) number before after
@@ -173,13 +174,17 @@ module _ (words : List (List ℕ)) (number : ℕ) (before after : State) (h : Ru
   pub check_proves : CheckProves number words before.shelf.files before.shelf.calls after.shelf.calls before.out.written after.out.written
   check_proves asked is none = gives (check_meaning asked.file asked.other) refl (as_check asked is) (omega (arith, none)) (λ view. CheckHolds view asked.file asked.other before.out.written after.out.written) (proved asked.file asked.other)
 
-  shortened : (name run : List ℕ) (view : View) (made : List PutCall) → IsAnswered (compress_meaning name run) view number before after made → CompressHolds view name run before.out.written after.out.written
+  pub shortened : (name run : List ℕ) (view : View) (made : List PutCall) → IsAnswered (compress_meaning name run) view number before after made → CompressHolds view name run before.out.written after.out.written
   shortened name run view made a =
       let rest = a.holds.holds.2 in
       record { file = a.holds.holds.0; is_file = a.holds.holds.1; run = rest.0; is_run = rest.1; short = rest.2.short; is_short = rest.2.is; wrote = a.written ∙ ap (with_text before.out.written) rest.2.writes.written }
 
   pub run_shortens : RunShortens number words before.shelf.files before.shelf.calls after.shelf.calls before.out.written after.out.written
-  run_shortens asked is none = gives (compress_meaning asked.file asked.other) refl (as_compress asked is) (omega (arith, none)) (λ view. CompressHolds view asked.file asked.other before.out.written after.out.written) (shortened asked.file asked.other)
+  run_shortens = record {
+    holds = λ asked is none. gives (compress_meaning asked.file asked.other) refl (as_compress asked is) (omega (arith, none)) (λ view. CompressHolds view asked.file asked.other before.out.written after.out.written) (shortened asked.file asked.other);
+    exact = λ asked told is files can. answers_so number before after asked (as_compress asked is) told files can;
+    outside = λ asked told line is files leaves. refused_so number before after asked (as_compress asked is) told files line leaves;
+  }
 
   pub shown : (name run : List ℕ) (view : View) (made : List PutCall) → IsAnswered (replay_meaning name run) view number before after made → ReplayHolds view name run before.out.written after.out.written
   shown name run view made a =
@@ -233,12 +238,12 @@ module _ (words : List (List ℕ)) (number : ℕ) (before after : State) (h : Ru
   shown_file name view made a =
       let is = a.holds.holds.1 in
       let says = a.holds.holds.2 in
-      record { bytes = is.bytes; held = is.had.seen; text = says.text; printed = record { file = a.holds.holds.0; legal = is.means; is = says.is }; wrote = a.written ∙ ap (with_text before.out.written) says.writes.written }
+      record { bytes = is.bytes; held = is.had.seen; text = says.is.text; printed = record { file = a.holds.holds.0; legal = is.means; is = says.is.is }; wrote = a.written ∙ ap (with_text before.out.written) (says.writes.written ∙ says.is.whole) }
 
   pub shows_file : ShowsFile number words before.shelf.files before.shelf.calls after.shelf.calls before.out.written after.out.written
   shows_file name is none = gives (show_meaning name) refl (as_show name is) (omega (arith, none)) (λ view. ShowHolds view name before.out.written after.out.written) (shown_file name)
 
-  admitted : (all : AdmitAsked) (view : View) (made : List PutCall) → IsAnswered (admit_meaning all) view number before after made → AdmitHolds view all before.out.written after.out.written
+  pub admitted : (all : AdmitAsked) (view : View) (made : List PutCall) → IsAnswered (admit_meaning all) view number before after made → AdmitHolds view all before.out.written after.out.written
   admitted all view made a =
       let file = a.holds.holds.0 in
       let found = a.holds.holds.2 in

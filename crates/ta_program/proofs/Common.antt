@@ -32,7 +32,7 @@ pub use Rattle.ta_program.specs.Bench.{BUDGET, BenchHolds, IsBench, SaysBench, b
 unfoldable pub use Rattle.ta_program.specs.Bench.{family_text}
 pub use Rattle.ta_program.specs.Certified.{HindersCertificate, LongCertificate, long_line}
 pub use Rattle.ta_program.specs.Check.{CheckHolds, check_meaning, check_of, proved_meaning}
-pub use Rattle.ta_program.specs.Compress.{CompressFaultIn, CompressHolds, IsRefusedRun, IsTextFault, SaysShort, ShortOf, compress_meaning, compress_of, long_kind, of_run, short_meaning}
+pub use Rattle.ta_program.specs.Compress.{CanCompress, CompressFaultIn, CompressHolds, Compresses, IsRefusedRun, IsTextFault, LeavesRange, SaysShort, ShortOf, compress_meaning, compress_of, long_kind, of_run, out_of_range_line, short_meaning}
 pub use Rattle.ta_program.specs.Export.{ExportHolds, SaysSystem, WordHinders, export_meaning, export_of, export_words, system_meaning, word_fault_text}
 pub use Rattle.ta_program.specs.Faults.{FaultsAreNamed, HinderAlike, HinderOnce, NamesFault, OfCommand, OneFault}
 pub use Rattle.ta_program.specs.Inside.Certifying.{Certifies, ReportsAndPuts, SaysLong}

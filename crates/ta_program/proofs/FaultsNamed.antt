@@ -66,7 +66,7 @@ module _ (unique : FirstFaultsAreUnique) (told : Told) where
       after_last (run_kind file) (settled (run_kind file) (λ bytes f none. none) (run_once file)) run [] (λ shown. replies [] (SaysShown file shown)) (λ shown. replies_monotone [] (SaysShown file shown)) told 4 refl (omega arith) (omega arith)
       (λ bytes shown fault shows found. found.shows_nothing shown shows) (λ shown number line none. none))
 
-  compress_once : (name run : List ℕ) → HinderOnce (compress_meaning name run) told
+  pub compress_once : (name run : List ℕ) → HinderOnce (compress_meaning name run) told
   compress_once name run =
       file_first name [] (λ file. short_meaning file run) (λ file. short_monotone file run) (λ file.
       after_last (long_kind file) (settled (long_kind file) (λ bytes f none. none) (long_once file)) run [] (λ long. replies [] (SaysShort file long)) (λ long. replies_monotone [] (SaysShort file long)) told 4 refl (omega arith) (omega arith)
@@ -207,7 +207,7 @@ module _ (m : Meaning) (told : Told) (number : ℕ) (before after : State) (is :
     | inr other ↦ inr other
   ]
 
-  names_fault : NamesFault m told number before.err after.err
+  pub names_fault : NamesFault m told number before.err after.err
   names_fault = record { hindered = told_line; just = just }
 
 named_by : (asked : Asked) (told : Told) (number : ℕ) (before after : State) → Runs asked number before after → before.shelf.files ≡ Some told → OfCommand (λ m. HinderOnce m told) asked → OfCommand (λ m. NamesFault m told number before.err after.err) asked

@@ -15,6 +15,7 @@ mod WordsDiffer
 mod FoundStands
 mod AtRest
 mod FairAtRest
+mod Compressing
 mod Clauses
 mod FirstWord
 mod JsonLines
@@ -34,4 +35,5 @@ mod Same
 mod StageOf
 mod FaultsOnce
 mod FaultsNamed
+mod RangeNamed
 mod Common

@@ -1,10 +1,11 @@
--- What `verify` prints as a run `replay` shows.
+-- What is printed as a run `replay` shows.
 use Rattle.ta_program.proofs.Common.{◌≡◌, ◌⊎◌, inl, ℕ, List, [], Option, Some, refl, sym, ◌∙◌, subst, length, ◌≤◌, File, Run, shown_of, report_of, shown_line, Told, Answer, Performs, State, in_files, seen, FileMeans, RUN, IsFile, ShowsRun, run_kind, PrintedRunsAreReplayed, SaysShown, replay_meaning, ReportHolds, resting}
 use Rattle.ta_program.proofs.AtRest.{rest_unsafe_printed}
-use Rattle.ta_program.proofs.Clauses.{as_replay, loud_by_words, rests_report, verify_reports}
+use Rattle.ta_program.proofs.Clauses.{admitting, as_replay, loud_by_words, rests_report, run_shortens, verify_reports}
 use Rattle.ta_program.proofs.Meanings.{replay_decides}
-use Rattle.ta_program.proofs.UnsafePrinted.{unsafe_printed}
-use Rattle.ta_program.specs.Laws.{PrintedRestRunsAreReplayed}
+use Rattle.ta_program.proofs.UnsafePrinted.{run_within, unsafe_printed}
+use Rattle.ta_program.proofs.Common.{AdmitHolds, Call, CompressHolds, run_text}
+use Rattle.ta_program.specs.Laws.{AdmittedRunsAreReplayed, CompressedRunsAreReplayed, IsReplayed, PrintedRestRunsAreReplayed}
 use Rattle.ta_program.specs.Rest.{RestReportHolds}
 use Rattle.ta_report.specs.Report.{rest_text}
 
@@ -21,6 +22,19 @@ shown_number told name run_name file run is_file is_run number before after is p
     let answer = shown_answer file run is_run.bytes is_run.means in
     p.exact (replay_decides name run_name) told is 0 (inl (answer.0, answer.1, (file, is_file, (run, is_run, answer.2))))
 
+-- what is seen of a file is what the known files hold
+told_file : (told : Told) (calls : List Call) (name : List ℕ) (file : File) → IsFile (seen (Some told) calls) name file → IsFile (in_files told) name file
+told_file told calls name file h = record { bytes = h.bytes; had = record { seen = h.had.seen.1; within = h.had.within }; means = h.means }
+
+-- the text of a run that shows its pattern is replayed
+replays : (told : Told) (name : List ℕ) (file : File) (run : Run) (bytes : List ℕ) → IsFile (in_files told) name file → ShowsRun file bytes run → length bytes ≤ RUN.bytes → IsReplayed told name bytes
+replays told name file run bytes h shows within again names asks named_so later same has second begun ended begun_is done =
+    let run_name = names.other in
+    let performs = subst (λ (n : List ℕ). Performs (replay_meaning n run_name) second begun ended) named_so (as_replay again second begun ended done names asks) in
+    let is_file : IsFile (in_files later) name file = record { bytes = h.bytes; had = record { seen = same ∙ h.had.seen; within = h.had.within }; means = h.means } in
+    let is_run : FileMeans (run_kind file) (in_files later) run_name run = record { bytes = bytes; had = record { seen = has; within = within }; means = shows } in
+    shown_number later name run_name file run is_file is_run second begun ended begun_is performs
+
 pub runs_replayed : PrintedRunsAreReplayed
 runs_replayed words number before after h asked asks low told is =
     let name = asked.file in
@@ -31,15 +45,10 @@ runs_replayed words number before after h asked asks low told is =
       file = r.file;
       text = report_of asked.json r.file r.sample r.verdicts;
       gained = r.wrote;
-      replayed = λ k p named line bytes part again names replays named_so later same has second begun ended begun_is done.
-          let run_name = names.other in
-          let performs = subst (λ (n : List ℕ). Performs (replay_meaning n run_name) second begun ended) named_so (as_replay again second begun ended done names replays) in
+      replayed = λ k p named line bytes part.
           let printed = unsafe_printed asked.json r.file budget r.sample r.is_sample r.verdicts r.are k p named line in
-          let shows : ShowsRun r.file bytes printed.run = subst (λ (bs : List ℕ). ShowsRun r.file bs printed.run) (sym (printed.only bytes part)) printed.shows in
-          let within : length bytes ≤ RUN.bytes = subst (λ (bs : List ℕ). length bs ≤ RUN.bytes) (sym (printed.only bytes part)) printed.within in
-          let is_file : IsFile (in_files later) name r.file = record { bytes = r.is_file.bytes; had = record { seen = same ∙ r.is_file.had.seen.1; within = r.is_file.had.within }; means = r.is_file.means } in
-          let is_run : FileMeans (run_kind r.file) (in_files later) run_name printed.run = record { bytes = bytes; had = record { seen = has; within = within }; means = shows } in
-          shown_number later name run_name r.file printed.run is_file is_run second begun ended begun_is performs;
+          let same = sym (printed.only bytes part) in
+          replays told name r.file printed.run bytes (told_file told reports.read name r.file r.is_file) (subst (λ (bs : List ℕ). ShowsRun r.file bs printed.run) same printed.shows) (subst (λ (bs : List ℕ). length bs ≤ RUN.bytes) same printed.within);
     }
 
 pub rest_runs_replayed : PrintedRestRunsAreReplayed
@@ -51,13 +60,36 @@ rest_runs_replayed words number before after h asked asks low told is =
       file = r.file;
       text = rest_text r.file r.sample r.verdicts;
       gained = r.wrote;
-      replayed = λ k p named line bytes part again names replays named_so later same has second begun ended begun_is done.
-          let run_name = names.other in
-          let performs = subst (λ (n : List ℕ). Performs (replay_meaning n run_name) second begun ended) named_so (as_replay again second begun ended done names replays) in
+      replayed = λ k p named line bytes part.
           let printed = rest_unsafe_printed asked.silent r.file r.ends.ending r.ends.added (resting asked.budget r.silent) r.are_silent (loud_by_words words number before after h asked asks r.file r.silent r.are_silent) r.sample r.is_sample r.verdicts r.are k p named line in
-          let shows : ShowsRun r.file bytes printed.run = subst (λ (bs : List ℕ). ShowsRun r.file bs printed.run) (sym (printed.only bytes part)) printed.shows in
-          let within : length bytes ≤ RUN.bytes = subst (λ (bs : List ℕ). length bs ≤ RUN.bytes) (sym (printed.only bytes part)) printed.within in
-          let is_file : IsFile (in_files later) name r.file = record { bytes = r.is_file.bytes; had = record { seen = same ∙ r.is_file.had.seen.1; within = r.is_file.had.within }; means = r.is_file.means } in
-          let is_run : FileMeans (run_kind r.file) (in_files later) run_name printed.run = record { bytes = bytes; had = record { seen = has; within = within }; means = shows } in
-          shown_number later name run_name r.file printed.run is_file is_run second begun ended begun_is performs;
+          let same = sym (printed.only bytes part) in
+          replays told name r.file printed.run bytes (told_file told reports.read name r.file r.is_file) (subst (λ (bs : List ℕ). ShowsRun r.file bs printed.run) same printed.shows) (subst (λ (bs : List ℕ). length bs ≤ RUN.bytes) same printed.within);
+    }
+
+pub admitted_replayed : AdmittedRunsAreReplayed
+admitted_replayed words before after h all asks told is =
+    let name = all.asked.file in
+    let holds = (admitting words 0 before after h).holds all asks refl in
+    let r = subst (λ (files : Option Told). AdmitHolds (seen files holds.added) all before.out.written after.out.written) is holds.such in
+    record {
+      text = run_text r.file r.run;
+      gained = r.wrote;
+      replayed = replays told name r.file r.run (run_text r.file r.run) (told_file told holds.added name r.file r.is_file) r.shows r.within;
+    }
+
+pub compressed_replayed : CompressedRunsAreReplayed
+compressed_replayed words before after h asked asks told is =
+    let name = asked.file in
+    let holds = (run_shortens words 0 before after h).holds asked asks refl in
+    let r = subst (λ (files : Option Told). CompressHolds (seen files holds.added) name asked.other before.out.written after.out.written) is holds.such in
+    let is_file = told_file told holds.added name r.file r.is_file in
+    let short = r.is_short in
+    record {
+      file = r.file;
+      is_file = is_file;
+      run = r.short;
+      gained = r.wrote;
+      replayed = λ stays.
+          let shows : ShowsRun r.file (run_text r.file r.short) r.short = record { text = record { fits = short.fits; text = refl }; shows = short.shows; stays = stays } in
+          replays told name r.file r.short (run_text r.file r.short) is_file shows (run_within r.file r.short short.fits short.shows short.is_short);
     }

@@ -17,6 +17,7 @@ use Rattle.ta_report.specs.Telling.{TellsSafe, TellsUnsafe}
 use Rattle.ta_shelf.specs.Calls.{puts}
 use Rattle.ta_shell.specs.Sights.{Whole}
 use Rattle.ta_show.proofs.FileTells.{file_same}
+use Rattle.ta_show.specs.Unknowns.{unknowns_text}
 use Rattle.ta_program.proofs.Clauses.{ZeroSays, as_check, as_replay, as_rest, as_rest_check, as_show, as_verify, at_rest, each_safe, gives_some, proved}
 use Rattle.ta_program.proofs.Clauses.{reported, rest_checked, shown, shown_file, tells_proved, tells_rest_proved, tells_rest_safe, tells_safe}
 use Rattle.ta_program.proofs.FirstWord.{first_plain, second_plain}
@@ -269,6 +270,7 @@ module _ (words : List (List ℕ)) (number : ℕ) (before after : State) (h : Ru
     bytes = r.bytes;
     read = sees name r.bytes r.held;
     text = r.text;
+    more = unknowns_text r.printed.file;
     gained = r.wrote;
     printed = r.printed;
     file = r.printed.file;

@@ -1,9 +1,9 @@
 -- The command `compress`: it shortens a run.
-use Rattle.std.specs.Prelude.{ℕ, ◌≡◌, ◌≢◌, ◌⊎◌, List, [], ◌++◌, codes, decimal, unsigned_abs, Option, Some}
+use Rattle.std.specs.Prelude.{ℕ, ◌≡◌, ◌≢◌, ◌≤◌, ◌⊎◌, List, [], ◌++◌, codes, decimal, unsigned_abs, Option, Some}
 use Rattle.ta_automaton.specs.declared.file.File.{File}
 use Rattle.ta_compress.specs.declared.fault.CompressFault.{CompressFault}
 use Rattle.ta_compress.specs.declared.fault.CompressFault.TheVariants as fault
-use Rattle.ta_compress.specs.Faults.{Compressible, CompressFaultOf, IsShortRun}
+use Rattle.ta_compress.specs.Faults.{Compressible, CompressFaultOf, GuardsOutOfRangeAt, IsShortRun, ReplaysInRange}
 use Rattle.ta_compress.specs.Pieces.{CompressOf}
 use Rattle.ta_compress.specs.Tales.{SameTale}
 use Rattle.ta_replay.specs.declared.fault.RunFault.{RunFault}
@@ -11,13 +11,15 @@ use Rattle.ta_replay.specs.declared.fault.RunFault.TheVariants as runs
 use Rattle.ta_replay.specs.declared.run.Run.{Run}
 use Rattle.ta_replay.specs.Fits.{Fits}
 use Rattle.ta_replay.specs.RunText.{IsRunText, run_text}
-use Rattle.ta_replay.specs.Shows.{Shows}
+use Rattle.ta_replay.specs.Shows.{Shows, factors_sum}
 use Rattle.ta_replay.specs.TextFaults.{TextFault}
 use Rattle.ta_report.specs.Faults.{run_fault_text}
+use Rattle.ta_shelf.specs.Put.{Told}
 use Rattle.ta_shelf.specs.Sink.{with_text}
 use Rattle.ta_shell.specs.declared.answer.Answer.{Answer}
 use Rattle.ta_shell.specs.Commands.{Meaning}
-use Rattle.ta_shell.specs.Sights.{View}
+use Rattle.ta_shell.specs.Lines.{file_line}
+use Rattle.ta_shell.specs.Sights.{HasBytes, View, in_files}
 use Rattle.ta_shell.specs.Stages.{FileMeans, Kind, Writes, after, replies}
 use Rattle.ta_program.specs.declared.limits.TheConstants.{RUN}
 use Rattle.ta_program.specs.Asked.{Asked, ask}
@@ -102,3 +104,27 @@ pub record CompressHolds (view : View) (file_name run_name : List ℕ) (written 
   pub short : Run
   pub is_short : ShortOf file run short
   pub wrote : written' ≡ with_text written (run_text file short)
+
+-- known files that have a legal FILE and the text of a run of it that can be compressed
+pub record CanCompress (told : Told) (asked : TwoNames) : Type 0 where
+  pub file : File
+  pub is_file : IsFile (in_files told) asked.file file
+  pub run : Run
+  pub is_run : FileMeans (long_kind file) (in_files told) asked.other run
+
+-- known files that have a legal FILE and the text of a run of it that shows its pattern in range and has few steps, but at this line a guard
+-- of FILE leaves the range first
+pub record LeavesRange (told : Told) (asked : TwoNames) (line : ℕ) : Type 0 where
+  pub file : File
+  pub is_file : IsFile (in_files told) asked.file file
+  pub bytes : List ℕ
+  pub had : HasBytes (in_files told) asked.other RUN.bytes bytes
+  pub run : Run
+  pub text : IsRunText file run bytes
+  pub replayed : ReplaysInRange file run
+  pub few : factors_sum run.lines ≤ 1000000
+  pub leaves : GuardsOutOfRangeAt file.automaton run line
+
+-- what is printed of that
+abbrev pub out_of_range_line : List ℕ → ℕ → List ℕ
+out_of_range_line name line = file_line name (codes "N11 outside 128 bits at line " ++ decimal line)

@@ -1,8 +1,11 @@
 -- How commands fit together: `replay` shows what is printed as a run, and `check` accepts what is written as a certificate.
-use Rattle.std.specs.Prelude.{ℕ, ◌≡◌, ◌≤◌, ◌⊎◌, Bool, List, length, slice_get, None, Some}
+use Rattle.std.specs.Prelude.{ℕ, ◌≡◌, ◌≤◌, ◌⊎◌, Bool, List, length, slice_get, Some}
 use Rattle.ta_automaton.specs.declared.file.File.{File}
 use Rattle.ta_automaton.specs.declared.pattern.Pattern.{Pattern}
 use Rattle.std.specs.List.{range_with_len}
+use Rattle.ta_replay.specs.declared.run.Run.{Run}
+use Rattle.ta_replay.specs.Replays.{ReplayStays}
+use Rattle.ta_replay.specs.RunText.{run_text}
 use Rattle.ta_report.specs.Check.{check_text, rest_check_text}
 use Rattle.ta_report.specs.Report.{rest_text}
 use Rattle.ta_report.specs.Telling.{TellsRun, TellsUnsafe, report_of}
@@ -15,11 +18,13 @@ use Rattle.ta_search.specs.Searching.{LastIsFound}
 use Rattle.ta_search.specs.SearchText.{search_text}
 use Rattle.ta_shelf.specs.Put.{Told}
 use Rattle.ta_shelf.specs.Sink.{with_text}
-use Rattle.ta_shell.specs.Ends.{State}
+use Rattle.ta_shell.specs.Ends.{State, Tells}
 use Rattle.ta_shell.specs.Sights.{in_files}
+use Rattle.ta_program.specs.Admit.{AdmitAsked, admit_of}
 use Rattle.ta_program.specs.Asked.{Runs}
 use Rattle.ta_verdict.specs.Certificates.{safe_numbers}
 use Rattle.ta_program.specs.Check.{check_of}
+use Rattle.ta_program.specs.Compress.{LeavesRange, compress_of, out_of_range_line}
 use Rattle.ta_program.specs.Kinds.{IsFile}
 use Rattle.ta_program.specs.Printed.{Telling, rest_telling}
 use Rattle.ta_program.specs.Replay.{replay_of}
@@ -68,6 +73,46 @@ PrintedRestRunsAreReplayed =
     → (asked : RestWords) → rest_of words ≡ Some asked → number ≤ 2
     → (told : Told) → before.shelf.files ≡ Some told
     → TellsReplayed rest_telling told asked.file before after
+
+-- the output gained a text, which is replayed
+pub record WritesReplayed (told : Told) (name : List ℕ) (before after : State) : Type 0 where
+  pub text : List ℕ
+  pub gained : after.out.written ≡ with_text before.out.written text
+  pub replayed : IsReplayed told name text
+
+-- what `admit FILE PATTERN START WORD VALUES` prints with status 0 over known files, `replay` shows
+abbrev pub AdmittedRunsAreReplayed : Type 0
+AdmittedRunsAreReplayed =
+    (words : List (List ℕ)) (before after : State) → Runs (request_of words) 0 before after
+    → (all : AdmitAsked) → admit_of words ≡ Some all
+    → (told : Told) → before.shelf.files ≡ Some told
+    → WritesReplayed told all.asked.file before after
+
+-- the output gained the text of a run of FILE, which is replayed if no number of its replay leaves the range
+pub record WritesReplayedInRange (told : Told) (name : List ℕ) (before after : State) : Type 0 where
+  pub file : File
+  pub is_file : IsFile (in_files told) name file
+  pub run : Run
+  pub gained : after.out.written ≡ with_text before.out.written (run_text file run)
+  pub replayed : ReplayStays file run → IsReplayed told name (run_text file run)
+
+-- what `compress FILE RUN` prints with status 0 over known files, `replay` shows, if no number of its replay leaves the range
+abbrev pub CompressedRunsAreReplayed : Type 0
+CompressedRunsAreReplayed =
+    (words : List (List ℕ)) (before after : State) → Runs (request_of words) 0 before after
+    → (asked : TwoNames) → compress_of words ≡ Some asked
+    → (told : Told) → before.shelf.files ≡ Some told
+    → WritesReplayedInRange told asked.file before after
+
+-- if the run of known files is replayed and has few steps, but a guard leaves the range on its way, `compress` prints N11 with the line where
+-- one does first, 6 and 7 aside
+abbrev pub CompressNamesTheRange : Type 0
+CompressNamesTheRange =
+    (words : List (List ℕ)) (number : ℕ) (before after : State) → Runs (request_of words) number before after
+    → (asked : TwoNames) → compress_of words ≡ Some asked
+    → (told : Told) → before.shelf.files ≡ Some told
+    → (line : ℕ) → LeavesRange told asked line
+    → ((number ≡ 4) × Tells (out_of_range_line asked.other line) before.err after.err) ⊎ ((number ≡ 6) ⊎ (number ≡ 7))
 
 -- a run ended with status 0 and the output gained this text; or it ended with 6 or 7
 abbrev pub SaysOrFails : List ℕ → ℕ → State → State → Type 0

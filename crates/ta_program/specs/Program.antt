@@ -17,7 +17,7 @@ use Rattle.ta_program.specs.Admit.{AdmitAsked, AdmitHolds, IsAdmitted, admit_of}
 use Rattle.ta_program.specs.Bench.{BenchHolds, bench_of}
 use Rattle.ta_program.specs.Certified.{LongCertificate}
 use Rattle.ta_program.specs.Check.{CheckHolds, check_of}
-use Rattle.ta_program.specs.Compress.{CompressHolds, compress_of}
+use Rattle.ta_program.specs.Compress.{CanCompress, CompressHolds, LeavesRange, compress_of}
 use Rattle.ta_program.specs.Export.{ExportHolds, export_of}
 use Rattle.ta_program.specs.Headline.{EachPrinted}
 use Rattle.ta_program.specs.Kinds.{IsFile}
@@ -63,11 +63,12 @@ CheckProves number words files calls calls' written written' =
     → Grew (λ read. CheckHolds (seen files read) asked.file asked.other written written') calls calls'
 
 -- `compress FILE RUN` with status 0: FILE is legal, RUN is the text of a run that can be compressed, and the output gained the text
--- of the compressed run, which shows the pattern, marks the same events at the same configurations, and is short
-abbrev pub RunShortens : ℕ → List (List ℕ) → Option Told → List Event → List Event → Option (List ℕ) → Option (List ℕ) → Type 0
-RunShortens number words files calls calls' written written' =
-    (asked : TwoNames) → compress_of words ≡ Some asked → number ≡ 0
-    → Grew (λ read. CompressHolds (seen files read) asked.file asked.other written written') calls calls'
+-- of the compressed run, which shows the pattern, marks the same events at the same configurations, and is short. If known files have all
+-- that, the status is 0; if the run is replayed and has few steps, but a guard leaves the range on its way, it is 4; 6 and 7 aside
+pub record RunShortens (number : ℕ) (words : List (List ℕ)) (files : Option Told) (calls calls' : List Event) (written written' : Option (List ℕ)) : Type 0 where
+  pub holds : (asked : TwoNames) → compress_of words ≡ Some asked → number ≡ 0 → Grew (λ read. CompressHolds (seen files read) asked.file asked.other written written') calls calls'
+  pub exact : (asked : TwoNames) (told : Told) → compress_of words ≡ Some asked → files ≡ Some told → CanCompress told asked → (number ≡ 0) ⊎ ((number ≡ 6) ⊎ (number ≡ 7))
+  pub outside : (asked : TwoNames) (told : Told) (line : ℕ) → compress_of words ≡ Some asked → files ≡ Some told → LeavesRange told asked line → (number ≡ 4) ⊎ ((number ≡ 6) ⊎ (number ≡ 7))
 
 -- `replay FILE RUN` with status 0: FILE is legal, RUN is the text of a run that shows its pattern, and the output gained the line
 -- that says so
@@ -121,7 +122,8 @@ Searches number words files files' calls calls' written written' =
     → Acts (found_names asked) (λ read made. SearchHolds number (seen files read) asked files files' written written' made) calls calls'
 
 -- `show FILE` with status 0: FILE is legal, and the output gained the text of the file that its bytes mean, and of the orders of its guards
--- that are found. No two files have the same text (`shows_differ` of ta_show)
+-- that are found; and behind it the unknowns of its patterns' nodes without facts, by name. No two files have the same text, and none
+-- begins with that of another (`shows_differ` of ta_show); the names are those of the unknowns (`unknowns_are_named`)
 abbrev pub ShowsFile : ℕ → List (List ℕ) → Option Told → List Event → List Event → Option (List ℕ) → Option (List ℕ) → Type 0
 ShowsFile number words files calls calls' written written' =
     (name : List ℕ) → show_of words ≡ Some name → number ≡ 0

@@ -1,5 +1,5 @@
 -- The command `show`: it prints a file as it was understood.
-use Rattle.std.specs.Prelude.{ℕ, ◌≡◌, List, [], map, codes, Option, Some, option_and_then}
+use Rattle.std.specs.Prelude.{ℕ, ◌≡◌, List, [], ◌++◌, map, codes, Option, Some, option_and_then}
 use Rattle.std.specs.List.{AllByRecursion}
 use Rattle.ta_automaton.specs.declared.file.File.{File}
 use Rattle.ta_automaton.specs.Runs.{Safe}
@@ -12,6 +12,7 @@ use Rattle.ta_shell.specs.Commands.{Meaning}
 use Rattle.ta_shell.specs.Sights.{View, Whole}
 use Rattle.ta_shell.specs.Stages.{Writes, after, replies}
 use Rattle.ta_show.specs.Show.{show_text}
+use Rattle.ta_show.specs.Unknowns.{unknowns_text}
 use Rattle.ta_walk.specs.FoundOrders.{FoundOrders}
 use Rattle.ta_program.specs.Asked.{Asked, ask}
 use Rattle.ta_program.specs.Kinds.{file_kind}
@@ -24,11 +25,16 @@ pub record IsFileText (file : File) (text : List ℕ) : Type 0 where
   pub found : FoundOrders file.automaton orders
   pub shown : text ≡ show_text file (map pair_of orders)
 
--- that text is written
-pub record SaysFile (file : File) (answer : Answer) : Type 0 where
+-- that text is written, and behind it the unknowns of the file's patterns, by name
+pub record IsShown (file : File) (written : List ℕ) : Type 0 where
   pub text : List ℕ
   pub is : IsFileText file text
-  pub writes : Writes 0 text answer
+  pub whole : written ≡ text ++ unknowns_text file
+
+pub record SaysFile (file : File) (answer : Answer) : Type 0 where
+  pub written : List ℕ
+  pub is : IsShown file written
+  pub writes : Writes 0 written answer
 
 abbrev pub file_meaning : File → Meaning
 file_meaning file = replies [] (SaysFile file)
@@ -48,20 +54,21 @@ show_of = behind_name (codes "show") show_words
 abbrev pub show_asked : List (List ℕ) → Asked
 show_asked words = ask (λ name. Some name) show_meaning (show_words words)
 
--- what `show FILE` prints if these are FILE's bytes: the text of the file that they mean. Who has that text need not read what a text
--- means, since no other file has it
+-- what `show FILE` prints first if these are FILE's bytes: the text of the file that they mean. Who has that text need not read what a
+-- text means, since no other file has it
 pub record ShowPrints (bytes text : List ℕ) : Type 0 where
   pub file : File
   pub legal : Legal bytes file
   pub is : IsFileText file text
 
--- FILE has bytes that mean a file, and the output gained the text that is printed of them
+-- FILE has bytes that mean a file, and the output gained the text that is printed of them, and behind it the unknowns of the file's
+-- patterns by name
 pub record ShowHolds (view : View) (name : List ℕ) (written written' : Option (List ℕ)) : Type 0 where
   pub bytes : List ℕ
   pub held : view name (Whole bytes)
   pub text : List ℕ
   pub printed : ShowPrints bytes text
-  pub wrote : written' ≡ with_text written text
+  pub wrote : written' ≡ with_text written (text ++ unknowns_text printed.file)
 
 -- the patterns of each file with this text occur in no run
 abbrev pub EachSafeIn : List ℕ → Type 0

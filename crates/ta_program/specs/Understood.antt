@@ -45,12 +45,13 @@ pub record ReadsWhole (r : Ended) (name bytes : List ℕ) : Type 0 where
   pub gave : Spells name those bytes
   pub held : (told : Told) → r.files ≡ Some told → told name ≡ Some bytes
 
--- FILE was read, and the output gained what `show` prints of its bytes, which is the text of a file
+-- FILE was read, and the output gained what `show` prints of its bytes, which is the text of a file; and behind it more
 pub record Prints (r : Ended) (name : List ℕ) : Type 0 where
   pub bytes : List ℕ
   pub read : ReadsWhole r name bytes
   pub text : List ℕ
-  pub gained : r.written' ≡ with_text r.written text
+  pub more : List ℕ
+  pub gained : r.written' ≡ with_text r.written (text ++ more)
   pub printed : ShowPrints bytes text
   pub file : File
   pub orders : List (ℕ × ℕ)

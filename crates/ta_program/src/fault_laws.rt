@@ -7,6 +7,7 @@ ghost use Rattle.ta_smt.specs.Admit.{AskedWord};
 ghost use Rattle.ta_program.specs.Admit.{values_kind};
 ghost use Rattle.ta_program.specs.Compress.{long_kind};
 ghost use Rattle.ta_program.specs.Faults.{FaultsAreNamed, OneFault};
+ghost use Rattle.ta_program.specs.Laws.{CompressNamesTheRange};
 ghost use Rattle.ta_check.specs.Subjects.{Subject};
 ghost use Rattle.ta_program.specs.Kinds.{certificate_kind, file_kind, run_kind};
 ghost use Rattle.ta_program.specs.Search.{template_kind};
@@ -30,6 +31,14 @@ pub fn faults_are_determined()
 /// and tells that line, 6 and 7 aside.
 pub fn faults_are_named()
     ensures { FaultsAreNamed }
+{
+    meanings_are_unique()
+}
+
+/// A run whose guards leave the range on its way is refused by `compress` with N11 and the line of the
+/// first that does, 6 and 7 aside.
+pub fn compress_names_the_range()
+    ensures { CompressNamesTheRange }
 {
     meanings_are_unique()
 }

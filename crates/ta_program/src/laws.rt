@@ -3,6 +3,8 @@
 #![tactic(auto)]
 
 ghost use Rattle.ta_program.specs.Laws.{
+  AdmittedRunsAreReplayed,
+  CompressedRunsAreReplayed,
   FoundIsAccepted,
   PrintedRestRunsAreReplayed,
   PrintedRunsAreReplayed,
@@ -18,6 +20,15 @@ pub fn printed_runs_are_replayed()
 /// What `rest` prints as a run `replay` shows.
 pub fn printed_rest_runs_are_replayed()
     ensures { PrintedRestRunsAreReplayed }
+{}
+
+/// What the four commands that print runs print as a run `replay` shows; of a compressed run, if its
+/// replay stays in range.
+pub fn runs_are_replayed()
+    ensures verify { PrintedRunsAreReplayed }
+    ensures rest { PrintedRestRunsAreReplayed }
+    ensures admit { AdmittedRunsAreReplayed }
+    ensures compress { CompressedRunsAreReplayed }
 {}
 
 /// The certificate that `verify` puts `check` accepts, for exactly the patterns that it reports safe.

@@ -7,7 +7,7 @@ ghost use Rattle.ta_shelf.specs.Calls.{Grew};
 ghost use Rattle.ta_shelf.specs.Put.{Told};
 ghost use Rattle.ta_shell.specs.Commands.{Says};
 ghost use Rattle.ta_shell.specs.Reading.{ReadCause};
-ghost use Rattle.ta_program.specs.Show.{IsFileText, file_meaning, show_meaning, show_words};
+ghost use Rattle.ta_program.specs.Show.{IsShown, file_meaning, show_meaning, show_words};
 
 use crate::reading::read_legal;
 use crate::request::Request;
@@ -95,13 +95,14 @@ fn answer_show<'a>(alloc: Global, scoped: &ScopedFile) -> Result<Answer, Refusal
     }
 }
 
-/// The text of a file, and of the orders that are found of its guards.
+/// The text of a file and of the orders that are found of its guards, and the unknowns of its patterns.
 fn file_text(alloc: Global, scoped: &ScopedFile) -> Result<Text, AllocError>
-    ensures { IfOk result (IsFileText scoped.now.file) }
+    ensures { IfOk result (IsShown scoped.now.file) }
 {
     let found = find_orders::<NarrowDictionary>(alloc, scoped)?;
     let pairs = pairs_of(alloc, found.list.as_slice())?;
-    ta_show::show(alloc, &scoped.file, &pairs)
+    let text = ta_show::show(alloc, &scoped.file, &pairs)?;
+    Ok(text)
 }
 
 /// The pairs of orders.

@@ -1,5 +1,5 @@
 -- A text is of one file.
-use Rattle.std.proofs.Common.{ℕ, ℤ, pos, unsigned_abs, ◌+◌, ◌<◌, ◌≤◌, ◌≤ℤ◌, ◌^◌, ◌≡◌, ◌∙◌, List, [], ◌∷◌, ◌++◌, length, ap, sym, refl, arith, codes, decimal, append_assoc, append-nil, length-append}
+use Rattle.std.proofs.Common.{ℕ, ℤ, pos, unsigned_abs, ◌+◌, ◌<◌, ◌≤◌, ◌≤ℤ◌, ◌^◌, ◌≡◌, ◌∙◌, List, [], ◌∷◌, ◌++◌, length, ap, sym, refl, arith, codes, decimal, append_assoc, length-append}
 use Rattle.std.specs.Fmt.{signed_decimal}
 use Rattle.std.specs.List.{AllByRecursion}
 use Rattle.std.proofs.lemmas.List.{append_cancel_left}
@@ -324,9 +324,12 @@ automaton_same a b r s e =
     (automaton-equal a b (record { name = name.0; parameters = parameters.0; shared = shared.0; locations = locations.0; initial = initial.0; processes = processes.0; resilience = resilience.0; rise = rise.0; fall = fall.0; rules = rules.0 }), rules.1)
 
 -- ---- files
--- a text is of one file, whatever pairs stand behind it
-module _ (f g : File) (orders others : List (ℕ × ℕ)) (e : show_text f orders ≡ show_text g others) where
-  parts : (f ≡ g) × (listed (codes "orders ") order_text orders ≡ listed (codes "orders ") order_text others)
+file_out : (x u1 u2 more : List ℕ) → (x ++ (u1 ++ u2)) ++ more ≡ x ++ (u1 ++ (u2 ++ more))
+file_out x u1 u2 more = append_assoc x (u1 ++ u2) more ∙ ap (λ xs. x ++ xs) (append_assoc u1 u2 more)
+
+-- a text is of one file, whatever pairs and whatever else stand behind it
+module _ (f g : File) (orders others : List (ℕ × ℕ)) (more rest : List ℕ) (e : show_text f orders ++ more ≡ show_text g others ++ rest) where
+  pub parts : (f ≡ g) × (listed (codes "orders ") order_text orders ++ more ≡ listed (codes "orders ") order_text others ++ rest)
   parts =
       let a = f.automaton in
       let b = g.automaton in
@@ -334,20 +337,20 @@ module _ (f g : File) (orders others : List (ℕ × ℕ)) (e : show_text f order
       let v1 : List ℕ = listed (codes "patterns ") (pattern_text b) g.patterns in
       let u2 : List ℕ = listed (codes "orders ") order_text orders in
       let v2 : List ℕ = listed (codes "orders ") order_text others in
-      let automaton = automaton_same a b (u1 ++ u2) (v1 ++ v2) e in
+      let whole = sym (file_out (automaton_text a) u1 u2 more) ∙ e ∙ file_out (automaton_text b) v1 v2 rest in
+      let automaton = automaton_same a b (u1 ++ (u2 ++ more)) (v1 ++ (v2 ++ rest)) whole in
       let same : SameNames a b = record { parameters = (λ i. (automaton.0 i).parameters); shared = (λ i. (automaton.0 i).shared); locations = (λ i. (automaton.0 i).locations) } in
       let few = f.shape.limit in
       let some = g.shape.limit in
-      let patterns = listed_same (codes "patterns ") (pattern_text a) (pattern_text b) (PatternOf a) (PatternOf b) (pattern_tells a b same) f.patterns g.patterns u2 v2 (omega arith) (omega arith) f.shape.within g.shape.within automaton.1 in
+      let patterns = listed_same (codes "patterns ") (pattern_text a) (pattern_text b) (PatternOf a) (PatternOf b) (pattern_tells a b same) f.patterns g.patterns (u2 ++ more) (v2 ++ rest)
+      (omega arith) (omega arith) f.shape.within g.shape.within automaton.1 in
       (file-equal f g automaton.0 patterns.0, patterns.1)
 
-  pub file_same : f ≡ g
-  file_same = parts.0
+pub file_same : (f g : File) (orders others : List (ℕ × ℕ)) → show_text f orders ≡ show_text g others → f ≡ g
+file_same f g orders others e = (parts f g orders others [] [] (ap (λ text. text ++ []) e)).0
 
 pub texts_differ : ShowsDiffer
-texts_differ f g orders others p q e =
-    let files = parts f g orders others e in
-    let u : List ℕ = listed (codes "orders ") order_text orders in
-    let v : List ℕ = listed (codes "orders ") order_text others in
-    let pairs = listed_same (codes "orders ") order_text order_text PairFits PairFits order_tells orders others [] [] p.count q.count p.fit q.fit (append-nil u ∙ files.1 ∙ sym (append-nil v)) in
-    (files.0, pairs.0)
+texts_differ f g orders others more rest p q e =
+    let files = parts f g orders others more rest e in
+    let pairs = listed_same (codes "orders ") order_text order_text PairFits PairFits order_tells orders others more rest p.count q.count p.fit q.fit files.1 in
+    (files.0, pairs.0, pairs.1)

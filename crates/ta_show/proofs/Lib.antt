@@ -2,3 +2,4 @@ mod Showing
 mod Tells
 mod Sums
 pub mod FileTells
+mod UnknownNames

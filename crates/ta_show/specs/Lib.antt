@@ -1,2 +1,4 @@
 pub mod Show
 pub mod Determined
+pub mod Unknowns
+pub mod Named

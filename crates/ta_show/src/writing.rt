@@ -3,23 +3,26 @@
 
 ghost use Rattle.std.specs.Prelude.{◌≡◌, ◌++◌, OnOk, IfOk, string_bytes};
 ghost use Rattle.ta_show.specs.Show.{automaton_text, comparison_text, condition_text, event_text, location_text, name_text, order_text, pattern_text, row_text, rule_text, show_text, update_text, way_text};
+ghost use Rattle.ta_show.specs.Unknowns.{unknowns_text};
 
 use crate::shown::{Shown, name_at, show_listed, show_mask, show_sum};
+use crate::unknowns::show_unknowns;
 use std::alloc::{AllocError, Global};
 use ta_automaton::{Automaton, Comparison, Condition, Event, File, Pattern, Rule};
 use ta_base::{List, Text};
 use ta_linear::Row;
 
 /// The text of a file as it was understood, and of pairs of rise guards of which the first comes
-/// before the second.
+/// before the second; and behind it the unknowns of each pattern's node without facts.
 pub fn show(alloc: Global, file: &File, orders: &List<(u32, u32)>) -> Result<Text, AllocError>
-    ensures { IfOk result (λ text. text ≡ show_text file.now orders.now) }
+    ensures { IfOk result (λ text. text ≡ show_text file.now orders.now ++ unknowns_text file.now) }
 {
     let automaton = &file.automaton;
     let mut text = String::new(alloc);
     show_automaton(automaton, &mut text)?;
     show_listed("patterns ", &file.patterns, automaton, &mut text)?;
     show_listed("orders ", orders, automaton, &mut text)?;
+    show_unknowns(alloc, automaton, file.patterns.as_slice(), &mut text)?;
     Ok(Text::from_string(text))
 }
 
