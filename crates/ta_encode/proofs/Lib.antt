@@ -16,6 +16,7 @@ pub mod Whole
 mod Running
 mod Changes
 mod Sparse
+mod CounterRows
 mod Adding
 mod Smallness
 mod Masked

@@ -1,10 +1,6 @@
 -- a row's terms, unknown by unknown
 use Rattle.ta_encode.proofs.Common.{◌≡◌, ◌≢◌, inl, inr, ℕ, ℤ, pos, ◌+◌, ◌<◌, List, [], ◌∷◌, ◌++◌, length, map, get_or, arith, sym, ap, ◌∙◌, subst, ints, get_past, below_or_last, InRange, coefficient, IsNormal, IsNormal-push, IsNormal-higher, coefficient-append, coefficient-above, get_or-map, cond_apart, cond_same, cases_lt}
-
--- terms of the first n unknowns whose coefficients are a function of the meanings
-pub record Sparse {M : Type 0} (f : M → ℤ) (ms : List M) (n : ℕ) (ts : List (ℕ × ℤ)) : Type 0 where
-  pub normal : IsNormal 0 n ts
-  pub coefficients : (u : ℕ) → u < n → coefficient ts u ≡ get_or (map f ms) u (pos 0)
+use Rattle.ta_encode.specs.Inside.Sparse.{Sparse}
 
 pub sparse_push : {M : Type 0} (f : M → ℤ) (ms : List M) (n : ℕ) (ts next : List (ℕ × ℤ)) (d : M) (z : ℤ) → Sparse f ms n ts → n < length ms → z ≡ f (get_or ms n d) → z ≢ pos 0 → InRange z → next ≡ ts ++ (n, z) ∷ [] → Sparse f ms (n + 1) next
 sparse_push f ms n ts next d z h b same some fits e = record {

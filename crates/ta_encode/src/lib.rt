@@ -14,6 +14,7 @@
 #![tactic(auto)]
 
 mod count;
+mod counters;
 mod draft;
 mod elements;
 mod encoded;

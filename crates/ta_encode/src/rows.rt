@@ -144,6 +144,16 @@ impl<'a> Draft<'a> {
     pub(crate) fn push_counters(&mut self, empty: u32, sense: Sense) -> Result<(), AllocError>
         ensures { OnOk result (Adds (λ a ms. map (λ l. in_sense sense (counter_row a ms l)) (filter (λ l. not (has_bit empty l)) (range_with_len 0 (length a.locations)))) self.old self.new) }
     {
+        match sense {
+            Sense::Plain => self.push_all_counters(empty),
+            Sense::Opposite | Sense::Negated => self.push_each_counter(empty, sense),
+        }
+    }
+
+    /// The counters of the locations outside a set, row by row.
+    fn push_each_counter(&mut self, empty: u32, sense: Sense) -> Result<(), AllocError>
+        ensures { OnOk result (Adds (λ a ms. map (λ l. in_sense sense (counter_row a ms l)) (filter (λ l. not (has_bit empty l)) (range_with_len 0 (length a.locations)))) self.old self.new) }
+    {
         let automaton = self.automaton;
         for location in 0..automaton.locations.as_slice().len() {
             if empty & (1 << location) == 0 {

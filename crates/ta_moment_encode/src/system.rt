@@ -1,7 +1,7 @@
 //! The system of a node with bounds.
 #![tactic(auto)]
 
-ghost use Rattle.std.specs.Prelude.{ℕ, ◌^◌, ◌<◌, ◌≡◌, ◌≤ℤ◌, ◌<ℤ◌, ◌≤◌, IfOk, List as Items, OnOk, Option, length, pos, unsigned_abs};
+ghost use Rattle.std.specs.Prelude.{ℕ, ◌^◌, ◌<◌, ◌≡◌, ◌≤ℤ◌, ◌<ℤ◌, ◌≤◌, IfOk, List as Items, OnOk, Option, length, pos, take, unsigned_abs};
 ghost use Rattle.ta_encode.specs.Code.{SystemAt};
 ghost use Rattle.ta_encode.specs.Inside.Lines.{IsBehind, bound_constant, bound_sense};
 ghost use Rattle.ta_encode.specs.Lines.{BoundsWithin, coefficient_in_sense};
@@ -36,15 +36,21 @@ fn copy_row(alloc: Global, row: &Row) -> Result<Row, AllocError>
     })
 }
 
-/// Rows once more.
-fn copy_rows(alloc: Global, some: &[Row]) -> Result<Vec<Row>, AllocError>
-    ensures { IfOk result (λ rows. rows.items ≡ some.now) }
+/// Copies of the rows from a number on, behind the first of them.
+fn push_copies(
+    alloc: Global,
+    some: &[Row],
+    from: usize,
+    rows: &mut Vec<Row>,
+) -> Result<(), AllocError>
+    requires from { from ≤ length some.now }
+    requires first { rows.old.items ≡ take from some.now }
+    ensures { OnOk result (rows.new.items ≡ some.now) }
 {
-    let mut rows = Vec::with_capacity(alloc, some.len())?;
-    for row in some {
-        rows.push(copy_row(alloc, row)?)?;
+    for number in from..some.len() {
+        rows.push(copy_row(alloc, &some[number])?)?;
     }
-    Ok(rows)
+    Ok(())
 }
 
 /// What stands before the unknown of a bound.
@@ -127,8 +133,36 @@ impl<'a> MomentEncoding<'a> {
         ensures rows { IfOk result (λ system. IsBehind self.now.draft.rows.items system.rows) }
         ensures same { IfOk result (λ system. (above before : Items WrittenRow) → IsBehind above self.now.draft.rows.items → IsBehind above before → SameRows before (length above) system.rows) }
     {
+        let nothing = System {
+            unknowns: 0,
+            rows: List::from_vec(Vec::new(self.plan.alloc)),
+        };
+        self.system_from(nothing, 0, bounds)
+    }
+
+    /// As `system`, written on from another system whose first rows, this many, are the node's: these
+    /// aren't copied.
+    pub fn system_from(
+        &self,
+        before: System,
+        same: usize,
+        bounds: &[Bound],
+    ) -> Result<System, AllocError>
+        requires node { IsAnyNode self.now }
+        requires room { self.now.draft.unknowns < 2 ^ 32 }
+        requires bounds { BoundsWithin self.now.draft.unknowns bounds.now }
+        requires first { SameRows before.rows same self.now.draft.rows.items }
+        ensures system { IfOk result (λ system. (asking : Asking) (candidate : Option ℕ) (past : Items Fact) → IsNode asking.silent candidate past self.now
+            → NodeSystem self.now.plan.task.automaton.now self.now.plan.task.pattern.now asking (bounded_node candidate past bounds.now) system) }
+        ensures search { IfOk result (λ system. (asking : Asking) (maker : Maker) (candidate : Option ℕ) (past : Items Fact) → IsNode asking.silent candidate past self.now
+            → SystemAt (moment_search self.now.plan.task.automaton.now self.now.plan.task.pattern.now asking maker) (pending_of (bounded_node candidate past bounds.now)) system) }
+        ensures rows { IfOk result (λ system. IsBehind self.now.draft.rows.items system.rows) }
+    {
         let alloc = self.plan.alloc;
-        let mut rows = copy_rows(alloc, self.draft.rows.as_slice())?;
+        let System { unknowns: _, rows } = before;
+        let mut rows = rows.into_vec();
+        rows.truncate(same);
+        push_copies(alloc, self.draft.rows.as_slice(), same, &mut rows)?;
         push_bounds(alloc, bounds, &mut rows)?;
         Ok(System {
             unknowns: self.draft.unknowns as u32,

@@ -4,7 +4,6 @@ use Rattle.ta_automaton.specs.declared.automaton.Automaton.{Automaton}
 use Rattle.ta_automaton.specs.declared.pattern.Pattern.{Pattern}
 use Rattle.ta_encode.specs.Inside.Lines.{IsBehind}
 use Rattle.ta_encode.specs.Marks.{SameRows}
-use Rattle.ta_linear.specs.declared.row.Row.{Row}
 use Rattle.ta_moments.specs.declared.fact.Fact.{Fact}
 use Rattle.ta_moments.specs.Moments.{known}
 use Rattle.ta_moments.specs.Searched.{candidate_of}
@@ -49,8 +48,8 @@ pub record IsKeptAt (a : Automaton) (p : Pattern) (silent : List ℕ) (candidate
 
 -- what is already written of a node with these facts, in order: the node of the first of them, with its marks, and how many of its rows are
 -- those of the system before
-pub record IsPart (a : Automaton) (p : Pattern) (silent : List ℕ) (start : ℕ) (facts : List Fact) (before : List Row) (part : Part) : Type 0 where
+pub record IsPart (a : Automaton) (p : Pattern) (silent : List ℕ) (start : ℕ) (facts : List Fact) (part : Part) : Type 0 where
   pub within : part.from ≤ length facts
   pub is : NodeIs a p silent (candidate_of start) (reverse (take part.from facts)) part.node
   pub marks : AreMarks a p silent (candidate_of start) facts part.from part.marks.items
-  pub same : SameRows before part.same part.node.draft.rows.items
+  pub same : SameRows part.system.rows part.same part.node.draft.rows.items

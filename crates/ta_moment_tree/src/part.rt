@@ -3,8 +3,8 @@
 //! Each fact writes behind what is there, so two nodes of one candidate share what their common
 //! first facts have written. A mark after each fact says how much that was: the node before is cut
 //! to the mark of the last fact that both share, and the other facts are written behind it. How
-//! many rows stayed is handed on, for the dictionaries (`Branch` of ta_simplex). Rows of bounds
-//! stand last and are written anew.
+//! many rows stayed is handed on, for the dictionaries (`Branch` of ta_simplex), and so many of the
+//! system before are taken over as they are. Rows of bounds stand last and are written anew.
 #![tactic(auto)]
 
 ghost use Rattle.std.specs.Prelude.{◌≡◌, ◌≤◌, ◌↔◌, IfOk, IsTrue, List, length, reverse, take};
@@ -16,7 +16,6 @@ ghost use Rattle.ta_cursor.specs.Cursors.{node_at};
 ghost use Rattle.ta_moments.specs.Searched.{candidate_of};
 ghost use Rattle.ta_moment_tree.specs.Kept.{IsPart};
 ghost use Rattle.ta_moment_tree.specs.Trees.{IsAt, IsKeptFor, search_of_moments};
-ghost use Rattle.ta_linear.specs.declared.row.Row.{Row};
 
 use crate::kept::MomentKept;
 use crate::moment_tree::MomentTree;
@@ -24,6 +23,7 @@ use crate::start::candidate_of;
 use std::alloc::{AllocError, Global};
 use ta_cursor::Written;
 use ta_encode::Bound;
+use ta_linear::System;
 use ta_moment_encode::{MomentEncoding, NodeMark};
 use ta_moments::Fact;
 
@@ -34,7 +34,9 @@ pub(crate) struct Part<'a> {
     marks: Vec<NodeMark>,
     /// How many of its facts are written.
     from: usize,
-    /// How many rows are those of the node before.
+    /// The system of the node before.
+    system: System,
+    /// How many of its rows are those of that system.
     same: usize,
 }
 
@@ -62,9 +64,10 @@ fn shared_length(left: &[Fact], right: &[Fact]) -> usize
 
 impl<'a> MomentTree<'a> {
     /// What is written at the start.
-    fn begin(&self, alloc: Global, start: u8) -> Result<Part<'a>, AllocError>
+    fn begin(&self, alloc: Global, start: u8, system: System) -> Result<Part<'a>, AllocError>
         requires { (facts : List Fact) × Comes (search_of_moments self.now) start facts }
-        ensures { IfOk result (λ part. (facts : List Fact) (before : List Row) → IsPart self.now.task.automaton.now self.now.task.pattern.now self.now.silent.now start facts before part) }
+        ensures part { IfOk result (λ part. (facts : List Fact) → IsPart self.now.task.automaton.now self.now.task.pattern.now self.now.silent.now start facts part) }
+        ensures before { IfOk result (λ part. part.system.rows ≡ system.rows) }
     {
         let node = MomentEncoding::first(alloc, self.task, candidate_of(start))?;
         let mut marks = Vec::new(alloc);
@@ -73,6 +76,7 @@ impl<'a> MomentTree<'a> {
             node,
             marks,
             from: 0,
+            system,
             same: 0,
         })
     }
@@ -87,14 +91,15 @@ impl<'a> MomentTree<'a> {
     ) -> Result<Part<'a>, AllocError>
         requires comes { Comes (search_of_moments self.now) start (reverse facts.now) }
         requires kept { IsKeptFor self.now kept }
-        ensures { IfOk result (IsPart self.now.task.automaton.now self.now.task.pattern.now self.now.silent.now start facts.now kept.entry.system.rows) }
+        ensures part { IfOk result (IsPart self.now.task.automaton.now self.now.task.pattern.now self.now.silent.now start facts.now) }
+        ensures before { IfOk result (λ part. part.system.rows ≡ kept.entry.system.rows) }
     {
         let MomentKept {
             start: was,
             facts: written,
             mut marks,
             node,
-            system: _,
+            system,
         } = kept;
         let shared = shared_length(written.as_slice(), facts);
         match node {
@@ -105,24 +110,27 @@ impl<'a> MomentTree<'a> {
                     node: node.cut(mark),
                     marks,
                     from: shared,
+                    system,
                     same: mark.rows,
                 })
             }
-            _ => self.begin(alloc, start),
+            _ => self.begin(alloc, start, system),
         }
     }
 
     /// The node with all its facts, and a mark after each.
     fn grown(&self, start: u8, facts: &[Fact], part: Part<'a>) -> Result<Part<'a>, AllocError>
         requires comes { Comes (search_of_moments self.now) start (reverse facts.now) }
-        requires part { IsPart self.now.task.automaton.now self.now.task.pattern.now self.now.silent.now start facts.now part.node.draft.rows.items part }
+        requires part { IsPart self.now.task.automaton.now self.now.task.pattern.now self.now.silent.now start facts.now part }
         ensures from { IfOk result (λ grown. grown.from ≡ length facts.now) }
-        ensures part { (before : List Row) → IsPart self.now.task.automaton.now self.now.task.pattern.now self.now.silent.now start facts.now before part.entry → IfOk result (IsPart self.now.task.automaton.now self.now.task.pattern.now self.now.silent.now start facts.now before) }
+        ensures part { IfOk result (IsPart self.now.task.automaton.now self.now.task.pattern.now self.now.silent.now start facts.now) }
+        ensures before { IfOk result (λ grown. (grown.system.rows ≡ part.entry.system.rows) × (grown.same ≡ part.entry.same)) }
     {
         let Part {
             mut node,
             mut marks,
             from,
+            system,
             same,
         } = part;
         for number in from..facts.len() {
@@ -133,6 +141,7 @@ impl<'a> MomentTree<'a> {
             node,
             marks,
             from: facts.len(),
+            system,
             same,
         })
     }
@@ -159,9 +168,10 @@ impl<'a> MomentTree<'a> {
             node,
             marks,
             from: _,
+            system: before,
             same,
         } = self.grown(start, facts, part)?;
-        let system = node.system(bounds)?;
+        let system = node.system_from(before, same, bounds)?;
         let kept = MomentKept {
             start,
             facts: Vec::from_slice(alloc, facts)?,

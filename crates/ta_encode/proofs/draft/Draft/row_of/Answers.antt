@@ -1,6 +1,7 @@
 use Rattle.ta_encode.proofs.Common.{List, map, pos, ◌≡◌, ◌+◌, ◌≤◌, ◌^◌, ◌++◌, ◌∷◌, [], length, arith, sym, ap, ◌∙◌, subst, is_none, not_none, to_z_range, InRange, IsNormal, coefficient, IsNormal-higher, slice_index_or, Meaning, line_coefficient}
 use Rattle.ta_encode.specs.declared.meaning.Meaning.TheVariants.{Parameter}
-use Rattle.ta_encode.proofs.Sparse.{Sparse, sparse_push, sparse_skip, sparse_all}
+use Rattle.ta_encode.specs.Inside.Sparse.{Sparse}
+use Rattle.ta_encode.proofs.Sparse.{sparse_push, sparse_skip, sparse_all}
 use Rattle.ta_encode.proofs.draft.Draft.row_of.Goals as goal
 use Rattle.ta_encode.proofs.draft.Draft.row_of.Goals.{then-coefficient-ne0+in_ok-push, else-coefficient-ne0}
 

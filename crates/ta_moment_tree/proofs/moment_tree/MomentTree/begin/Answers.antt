@@ -20,8 +20,8 @@ first-requires c =
     let p = t.task.pattern.now in
     subst (λ (o : Option ℕ). In o (candidates p)) (sym c.candidate_of.ensures) (comes_listed a p (asking_of t) (moment_maker a p (asking_of t)) c.args.start c.requires.0 c.requires.1)
 
-pub returns : goal.returns
-returns c = λ facts before.
+pub returns-clause-part : goal.returns-clause-part
+returns-clause-part c = λ facts.
     let t = c.args.self.now in
     let a = t.task.automaton.now in
     let p = t.task.pattern.now in
@@ -34,5 +34,5 @@ returns c = λ facts before.
       within = omega arith;
       is = record { automaton = ap (λ (k : Task). k.automaton.now) task; pattern = ap (λ (k : Task). k.pattern.now) task; is = is };
       marks = marks_first a p silent (candidate_of c.args.start) facts c.mark.result c.push.new.self.items (c.in_ok-push.ensures.items ∙ ap (λ (ms : List NodeMark). ms ++ c.mark.result ∷ []) c.new-marks.ensures.items) mark;
-      same = same_nothing before node.draft.rows.items;
+      same = same_nothing c.args.system.rows node.draft.rows.items;
     }

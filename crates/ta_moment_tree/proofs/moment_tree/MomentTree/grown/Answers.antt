@@ -1,4 +1,5 @@
-use Rattle.std.proofs.Common.{◌+◌, reverse, take, arith}
+use Rattle.std.proofs.Common.{◌+◌, [], reverse, take, arith, sym}
+use Rattle.std.proofs.lemmas.List.{append-nil}
 use Rattle.ta_moment_encode.proofs.Cutting.{front_on}
 use Rattle.ta_moments.specs.Searched.{candidate_of}
 use Rattle.ta_moment_tree.specs.Makers.{moment_maker}
@@ -44,3 +45,8 @@ loop-number-preserved c =
       marks = marks_more a p silent o facts number c.mark.result c.loop-number.marks.items c.push.new.self.items inv.marks c.in_ok-push.ensures.items mark;
       rows = (let more = c.in_ok-node.ensures.rows in front_on c.args.part.node.draft.rows.items old.draft.rows.items new.draft.rows.items more.more inv.rows more.is);
     }
+
+pub loop-number-init : goal.loop-number-init
+loop-number-init c =
+    let part = c.requires.part in
+    record { within = part.within; is = part.is; marks = part.marks; rows = record { more = []; is = sym (append-nil c.args.part.node.draft.rows.items) } }

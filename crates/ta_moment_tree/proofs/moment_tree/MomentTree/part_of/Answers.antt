@@ -8,8 +8,8 @@ use Rattle.ta_moment_tree.specs.Kept.{AreMarks, KeepsIfSome, NodeIs}
 use Rattle.ta_moment_tree.proofs.Parts.{mark_within, marks_cut, node_cut, same_cut}
 use Rattle.ta_moment_tree.proofs.moment_tree.MomentTree.part_of.Goals as goal
 
-pub returns-in-Some : goal.returns-in-Some
-returns-in-Some c =
+pub returns-in-Some-clause-part : goal.returns-in-Some-clause-part
+returns-in-Some-clause-part c =
     let t = c.args.self.now in
     let a = t.task.automaton.now in
     let p = t.task.pattern.now in

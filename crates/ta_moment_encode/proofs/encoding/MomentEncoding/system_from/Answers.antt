@@ -7,12 +7,12 @@ use Rattle.ta_moment_encode.specs.Forms.{forms_of}
 use Rattle.ta_moment_encode.specs.Systems.{bound_forms}
 use Rattle.ta_moment_encode.proofs.Adding.{adds_forms}
 use Rattle.ta_moment_encode.proofs.Systems.{back, floors_within, rows_of_forms, rows_of_lines, system_below}
-use Rattle.ta_moment_encode.proofs.encoding.MomentEncoding.system.Goals as goal
-use Rattle.ta_moment_encode.proofs.encoding.MomentEncoding.system.Goals.{In_ok-push_bounds}
+use Rattle.ta_moment_encode.proofs.encoding.MomentEncoding.system_from.Goals as goal
+use Rattle.ta_moment_encode.proofs.encoding.MomentEncoding.system_from.Goals.{In_ok-push_bounds}
 
 -- what is written: the node's rows, and those of the bounds
 written : (c : In_ok-push_bounds) → forms_of c.push_bounds.new.rows.items ≡ forms_of c.args.self.now.draft.rows.items ++ bound_forms c.args.bounds.now
-written c = adds_forms (bound_forms c.args.bounds.now) _ _ c.in_ok-push_bounds.ensures ∙ ap (λ (rs : List Row). forms_of rs ++ bound_forms c.args.bounds.now) (c.in_ok-rows.ensures ∙ c.as_slice.ensures.value)
+written c = adds_forms (bound_forms c.args.bounds.now) _ _ c.in_ok-push_bounds.ensures ∙ ap (λ (rs : List Row). forms_of rs ++ bound_forms c.args.bounds.now) (c.in_ok-push_copies.ensures ∙ c.as_slice.ensures.value)
 
 pub push_bounds-requires : goal.push_bounds-requires
 push_bounds-requires c = floors_within c.args.self.now.draft.unknowns c.args.bounds.now c.requires.bounds
