@@ -672,7 +672,7 @@ def judged(options, silent, name, cert):
         report = [f"automaton {automaton.name}"] + ([parameters] if "--parameters" in options else [])
         for number, pattern in enumerate(automaton.patterns):
             report.append(f"pattern {pattern.name}: {'' if number in proved else 'not '}{'rest ' if rest else ''}proved")
-        is_whole = len(proved) == len(automaton.patterns) and parameters.startswith("parameters: sample")
+        is_whole = 0 < len(proved) == len(automaton.patterns) and parameters.startswith("parameters: sample")
         return report, None, 2 if "--all" in options and not is_whole else 0
     except (Fault, OSError) as fault:
         told = f"{fault} at line {lines.number}" if lines and not str(fault).startswith("longer") else fault

@@ -6,3 +6,8 @@ pub use Rattle.std.specs.Prelude.{codes}
 pub use Rattle.ta_maker.specs.Family.{lone, name, numbered, rules_of, sender, waiter}
 pub use Rattle.ta_syntax.specs.Grammar.{IsSum, PlainRule, Term, Terms}
 pub use Rattle.ta_syntax.specs.PlainTrees.{plain_location, plain_name, plain_rule}
+pub use Rattle.std.specs.List.{AllByRecursion}
+pub use Rattle.ta_maker.specs.Made.{IsFamilyNumber}
+pub use Rattle.ta_syntax.specs.Kinds.{IsDigits}
+pub use Rattle.std.proofs.Common.{negsuc, ◌^◌, None, Option, Some, ltb, not, pos, ℤ, ◌+ℤ◌, ◌-ℤ◌, ◌*ℤ◌, ◌≤ℤ◌, ◌⊎◌, inl, inr, slice_get, get_or, fold, sum}
+pub use Rattle.std.specs.Prelude.{if◌then◌else◌, nat_eq, slice_index_or}

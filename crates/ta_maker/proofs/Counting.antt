@@ -14,7 +14,7 @@ more_rules plain items first second i k all within is is' h =
     ∙ ap (λ ns. map plain items ++ rules_of ns) (sym (counted_on i k within))
     ∙ h
 
-twice : (ns : List ℕ) → length (rules_of ns) ≡ length ns + length ns
+pub twice : (ns : List ℕ) → length (rules_of ns) ≡ length ns + length ns
 twice [] = refl
 twice (n ∷ ns) = let e = twice ns in omega (arith, e)
 

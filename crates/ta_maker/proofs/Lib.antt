@@ -1,3 +1,7 @@
 mod Naming
 mod Counting
+mod FamilyTrees
+mod FineTrees
+mod FamilySafe
+mod Flawless
 mod Common

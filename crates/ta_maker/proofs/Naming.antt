@@ -52,7 +52,7 @@ named (c ∷ cs) e =
     record { first = letter.0; each = words (c ∷ cs) rest.0; free = free (c ∷ cs) rest.1 }
 
 -- a fact of each number of the family
-of_each : (P : ℕ → Type 0) → P 1 → P 2 → P 3 → P 4 → P 5 → P 6 → P 7 → (k : ℕ) → IsFamilyNumber k → P k
+pub of_each : (P : ℕ → Type 0) → P 1 → P 2 → P 3 → P 4 → P 5 → P 6 → P 7 → (k : ℕ) → IsFamilyNumber k → P k
 of_each P a b c d e f g zero is = let low = is.low in absurd (omega (arith, low))
 of_each P a b c d e f g (suc zero) is = a
 of_each P a b c d e f g (suc (suc zero)) is = b
@@ -85,6 +85,22 @@ name_g k is = with_digit (codes "g") k is (of_each (λ j. is_name (codes "g" ++ 
 pub name_family : (k : ℕ) → IsFamilyNumber k → IsNameText (numbered (codes "family") k)
 unfolding is_name are_words no_mark ends_with_digit
 name_family k is = with_digit (codes "family") k is (of_each (λ j. is_name (codes "family" ++ (48 + j) ∷ []) ≡ true) refl refl refl refl refl refl refl k is)
+
+pub name_n : IsNameText (codes "n")
+unfolding is_name are_words no_mark ends_with_digit
+name_n = named (codes "n") refl
+
+pub name_A : IsNameText (codes "A")
+unfolding is_name are_words no_mark ends_with_digit
+name_A = named (codes "A") refl
+
+pub name_B : IsNameText (codes "B")
+unfolding is_name are_words no_mark ends_with_digit
+name_B = named (codes "B") refl
+
+pub name_lost : IsNameText (codes "lost")
+unfolding is_name are_words no_mark ends_with_digit
+name_lost = named (codes "lost") refl
 
 -- a sum that is a name
 pub is_lone : (ts : Terms) (t : Term) (text : List ℕ) → ts ≡ lone t → t ≡ name text → IsNameText text → IsSum ts

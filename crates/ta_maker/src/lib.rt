@@ -3,8 +3,10 @@
 
 mod family;
 mod fault;
+mod laws;
 mod names;
 mod sums;
 
 pub use family::make_family;
 pub use fault::MakerFault;
+pub use laws::family_is_flawless;

@@ -1,5 +1,5 @@
 -- what `rest` puts `rest-check` accepts
-use Rattle.ta_program.proofs.Common.{None, ◌≡◌, ◌∙◌, ◌≤◌, ◌+◌, ℕ, List, [], ◌∷◌, length, map, Option, Some, slice_get, refl, sym, ap, subst, inl, Automaton, File, Pattern, rest_check_text, Verdict, Endings, IsEnding, RestSafe, EachHolds, EndingVerdictHolds, some_at, slice_get_within, arith, Told, WhereTold, is_more, sub_told, IsSo, Performs, State, HoldsText, in_files, seen, FileMeans, Answer, SafeOne, safe_numbers, safe_ones, tree_size, with_safe, CERTIFICATE, IsFile, certificate_kind, file_kind, SaysOrFails, WrittenAtRestIsAccepted, rest_check_meaning, FileEndings, IsEnds, held, endings_count, AllQuietRestSafe, QuietRestCertificate, AreSilent, RestBudget, claiming_with, resting}
+use Rattle.ta_program.proofs.Common.{true, None, ◌≡◌, ◌∙◌, ◌≤◌, ◌+◌, ℕ, List, [], ◌∷◌, length, map, Option, Some, slice_get, refl, sym, ap, subst, inl, Automaton, File, Pattern, Verdict, Endings, IsEnding, RestSafe, EachHolds, EndingVerdictHolds, some_at, slice_get_within, arith, Told, WhereTold, is_more, sub_told, IsSo, Performs, State, HoldsText, in_files, seen, FileMeans, Answer, SafeOne, safe_numbers, safe_ones, tree_size, with_safe, CERTIFICATE, IsFile, certificate_kind, file_kind, SaysOrFails, WrittenAtRestIsAccepted, rest_check_meaning, FileEndings, IsEnds, held, endings_count, AllQuietRestSafe, QuietRestCertificate, AreSilent, RestBudget, claiming_with, resting}
 use Rattle.ta_verdict.proofs.rest.VerdictsTold.{ending_of_own}
 use Rattle.ta_claim.specs.declared.claim.Claim.TheVariants as claim
 use Rattle.ta_check.specs.Subjects.{claimed_with}
@@ -8,6 +8,9 @@ use Rattle.ta_rest.proofs.QuietResting.{quiet_endings}
 use Rattle.ta_rest.specs.Quiet.{QuietRestSafe}
 use Rattle.ta_program.proofs.Accepted.{told_before}
 use Rattle.ta_check.proofs.Accepting.{one_list}
+use Rattle.ta_program.proofs.ProofsSaid.{says_plain}
+use Rattle.ta_program.specs.CheckWords.{no_options}
+use Rattle.ta_program.specs.Proofs.{rest_check_text}
 use Rattle.ta_verdict.proofs.rest.RestSaid.{tree_claims}
 use Rattle.ta_verdict.specs.Rest.Said.{IsLoudByWords}
 use Rattle.ta_program.proofs.SilentPlaces.{silent_once}
@@ -17,6 +20,7 @@ use Rattle.ta_program.proofs.EndsOnce.{ends_once}
 use Rattle.ta_program.proofs.RestMeanings.{rest_check_decides}
 use Rattle.ta_program.proofs.WordsDiffer.{rest_said}
 use Rattle.ta_base.proofs.Lists.{get_from_none}
+use Rattle.ta_report.specs.declared.pick.Pick.TheVariants.{All}
 
 -- what is claimed of a pattern is so of its ending
 ending_claimed :
@@ -54,12 +58,12 @@ module _ (name out : List ℕ) (names : Option (List ℕ)) (told : Told) (file :
   is_certificate : FileMeans (certificate_kind (claiming_with claim.RestSafe ends.ending silent)) (in_files told) out numbers
   is_certificate = record { bytes = text; had = record { seen = held; within = within }; means = record { accepted = accepted; safe = safe } }
 
-  is_so : IsSo (rest_check_meaning name out names) (in_files told) 0
-  is_so = inl (record { number = 0; text = rest_check_text file numbers; puts = [] }, refl, (file, is_file, (ends, are_ends, (silent, are_silent, (numbers, is_certificate, record { numbered = refl; written = refl; no_put = refl })))))
+  is_so : IsSo (rest_check_meaning name out names no_options) (in_files told) 0
+  is_so = inl (record { number = 0; text = rest_check_text file numbers; puts = [] }, refl, (file, is_file, (ends, are_ends, (silent, are_silent, (numbers, is_certificate, says_plain true file numbers)))))
 
   -- what it says, where it answers
-  says_just_these : (answer : Answer) → (rest_check_meaning name out names).answers (in_files told) answer → answer.text ≡ rest_check_text file numbers
-  says_just_these answer (other, is, (found_ends, are, (places, quiet, (found, proved, writes)))) =
+  says_just_these : (answer : Answer) → (rest_check_meaning name out names no_options).answers (in_files told) answer → answer.text ≡ rest_check_text file numbers
+  says_just_these answer (other, is, (found_ends, are, (places, quiet, (found, proved, says)))) =
       let same : other ≡ file = same_file told name file other is is_file in
       let one : found_ends ≡ ends = ends_once file found_ends ends (subst (λ (f : File). IsEnds f found_ends) same are) are_ends in
       let there : places ≡ silent = silent_once file.automaton names places silent (subst (λ (f : File). AreSilent f.automaton names places) same quiet) are_silent in
@@ -67,10 +71,10 @@ module _ (name out : List ℕ) (names : Option (List ℕ)) (told : Told) (file :
       let first = subst (λ (ps : List ℕ). QuietRestCertificate found_ends.ending ps proved.bytes found) there proved.means.accepted in
       let second = subst (λ (t : List ℕ). QuietRestCertificate found_ends.ending silent t found) texts first in
       let moved = subst (λ (e : FileEndings). QuietRestCertificate e.ending silent text found) one second in
-      writes.written ∙ ap (λ (f : File). rest_check_text f found) same ∙ ap (rest_check_text file) (one_list (claiming_with claim.RestSafe ends.ending silent) text found numbers moved accepted)
+      says.tells.told ∙ ap (λ (f : File). rest_check_text f found) same ∙ ap (rest_check_text file) (one_list (claiming_with claim.RestSafe ends.ending silent) text found numbers moved accepted)
 
-  rest_checks : (second : ℕ) (begun ended : State) → begun.shelf.files ≡ Some told → Performs (rest_check_meaning name out names) second begun ended → SaysOrFails (rest_check_text file numbers) second begun ended
-  rest_checks second begun ended is h = says_or_fails (rest_check_meaning name out names) (rest_check_decides name out names) told (rest_check_text file numbers) is_so says_just_these second begun ended is h
+  rest_checks : (second : ℕ) (begun ended : State) → begun.shelf.files ≡ Some told → Performs (rest_check_meaning name out names no_options) second begun ended → SaysOrFails (rest_check_text file numbers) second begun ended
+  rest_checks second begun ended is h = says_or_fails (rest_check_meaning name out names no_options) (rest_check_decides name out names no_options) told (rest_check_text file numbers) is_so says_just_these second begun ended is h
 
 pub written_at_rest_is_accepted : WrittenAtRestIsAccepted
 written_at_rest_is_accepted words first before after h asked out is given low told after_told again checked second begun ended begun_told done =
@@ -89,11 +93,12 @@ written_at_rest_is_accepted words first before after h asked out is given low to
     let loud = loud_by_words words first before after h asked is r.file r.silent r.are_silent in
     let at = safe_at r.file ending r.ends.added (resting asked.budget r.silent) loud endings.automaton r.verdicts endings.patterns r.are.hold in
     let safe = ones_hold (claiming_with claim.RestSafe ending r.silent) 0 ending.patterns r.verdicts at (get_from_none ending.patterns) in
-    let performs = as_rest_check again second begun ended done (record { file = name; other = out; silent = names }) checked in
+    let performs = as_rest_check again second begun ended done (record { file = name; other = out; silent = names; options = no_options }) checked in
     let accepted = rest_checks name out names told r.file r.ends r.silent (safe_numbers ending r.verdicts) c.text is_now r.are_ends r.are_silent files.2.held c.within c.accepted safe second begun ended begun_told performs in
     record {
       file = r.file;
       is_file = is_now;
+      pick = All;
       sample = r.sample;
       verdicts = r.verdicts;
       reported = r.wrote;

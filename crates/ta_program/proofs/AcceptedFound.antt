@@ -7,6 +7,7 @@ use Rattle.ta_program.proofs.Accepted.{checks, told_before}
 use Rattle.ta_program.proofs.Accepting.{each_holds, is_kept}
 use Rattle.ta_program.proofs.Clauses.{as_check, searches}
 use Rattle.ta_program.proofs.WordsDiffer.{names_apart}
+use Rattle.ta_program.specs.CheckWords.{no_options}
 use Rattle.ta_base.proofs.Lists.{no_end, get_from_none}
 
 -- the outcome of the last vector that was tried holds
@@ -55,5 +56,5 @@ found_is_accepted words before after h asked out filled is out_is filled_is told
       last = last;
       held = held;
       is_file = is_file;
-      accepted = checks filled out told file (range_with_len 0 (length file.patterns)) last.certificate is_file (holds.second out out_is) short last.found.accepted safe second begun ended begun_told (as_check again second begun ended done (record { file = filled; other = out }) checked);
+      accepted = checks filled out told file (range_with_len 0 (length file.patterns)) last.certificate is_file (holds.second out out_is) short last.found.accepted safe second begun ended begun_told (as_check again second begun ended done (record { file = filled; other = out; options = no_options }) checked);
     }

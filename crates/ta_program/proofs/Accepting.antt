@@ -1,5 +1,5 @@
 -- what a judge makes of a certificate that was put
-use Rattle.ta_program.proofs.Common.{◌≡◌, ◌∙◌, ◌+◌, ℕ, suc, List, [], ◌∷◌, length, map, Option, None, Some, slice_get, refl, sym, ap, subst, inl, inr, arith, AllByRecursion, Pattern, range_with_len, proofs_of, AllClaimsHold, CertificateFor, proof_number, Subject, Verdict, Told, with_text, answered, Decides, IsSo, Meaning, Performs, State, in_files, seen, FileMeans, Kind, Answer, SafeOne, safe_ones, tree_size, with_safe, SaysOrFails}
+use Rattle.ta_program.proofs.Common.{◌≡◌, ◌∙◌, ◌+◌, ℕ, suc, List, [], ◌∷◌, length, map, Option, None, Some, slice_get, refl, ap, subst, inl, inr, arith, AllByRecursion, Pattern, range_with_len, AllClaimsHold, Subject, Verdict, Told, with_text, answered, Decides, IsSo, Meaning, Performs, State, in_files, seen, FileMeans, Kind, Answer, SafeOne, safe_ones, tree_size, with_safe, SaysOrFails}
 use Rattle.ta_check.specs.Subjects.{claimed_with}
 
 -- a name means in told files what it meant in others in which its bytes are the same

@@ -1,10 +1,22 @@
 -- from how a run ends to its clauses
-use Rattle.ta_program.proofs.Common.{verdict_safe, Budget, ◌≡◌, ◌≢◌, ◌≤◌, ◌+◌, ℕ, Bool, true, false, List, [], ◌∷◌, Option, None, Some, refl, sym, ap, subst, ◌∙◌, inl, arith, rules, codes, if◌then◌else◌, list_any, AllByRecursion, bytes_eq, or_parts, File, Pattern, PatternSafe, one_legal, printed_proved, printed_rest_proved, printed_rest_safe, told_safe, check_text, rest_check_text, report_of, Verdict, Safe, Unsafe, Spent, Overflow, filled_text, Grew, OthersStay, Told, WhereTold, with_text, answered, hindered, kept_refused, never_five, whole_one, Decides, Meaning, IsAnswered, Performs, Quiet, ShelfState, SinkState, State, HoldsPut, HoldsText, KeptBut, Stand, put_bytes, View, in_files, seen, run_text, unit_steps, Answer, Put, plain_tree, Asked, LegalFile, Runs, ask, ask_where, Command, NoCommand, BenchHolds, bench_meaning, bench_of, bench_status, bench_words, CheckHolds, check_meaning, check_of, IsFile, file_kind, EachPrintedUnsafe, EachToldSafe, rest_telling, verify_telling, AdmitAsked, AdmitHolds, admit_meaning, admit_of, admit_words, ExportHolds, export_meaning, export_of, export_words, Admitting, Benches, CertificateWritten, CheckProves, ExactlySo, Exports, KeepsFiles, PassesLegal, PrintedHolds, ReplayShows, RestProves, RestsReport, RunShortens, Searches, VerifyReports, put_by, CompressHolds, compress_meaning, compress_of, ReplayHolds, replay_meaning, replay_of, request_of, ClaimHolds, rest_text, RestCertificateStands, RestReportHolds, rest_meaning, RestCheckHolds, rest_check_meaning, rest_check_of, rest_of, rest_words, CertificateStands, ReportHolds, verify_meaning, VerdictHolds, VerdictsHold, is_unsafe, is_unknown, LegalTemplate, SearchHolds, end_number, leaves_unknown, search_meaning, SearchWords, search_of, search_words, TwoNames, two_names, VerifyWords, verify_of, verify_words, WordAsked, behind_name, map, pair_of, held, held_by, false_from_ne_true, Call, Event, PutCall, PutText, PutWhole, Acts, TellsFile, acts, grew_alone, may_put, put_text, tells_file, Spares, ◌⊎◌, AreOfStages, made_of_stages, Opens, AreStaging, ComparesFirst, Differ, Kind, SparesRead, at_ends, found_meaning, found_names, held_or_staged, report_meaning, rest_quietly, spared, template_kind, inr}
+use Rattle.ta_program.proofs.Common.{verdict_safe, Budget, ◌≡◌, ◌≢◌, ◌≤◌, ◌+◌, ℕ, Bool, true, false, List, [], ◌∷◌, Option, None, Some, refl, sym, ap, subst, ◌∙◌, inl, arith, rules, codes, if◌then◌else◌, list_any, AllByRecursion, bytes_eq, or_parts, File, Pattern, PatternSafe, one_legal, printed_rest_safe, told_safe, report_of, Verdict, Safe, Unsafe, Spent, Overflow, filled_text, Grew, OthersStay, Told, WhereTold, with_text, answered, hindered, kept_refused, never_five, whole_one, Decides, Meaning, IsAnswered, Performs, Quiet, ShelfState, SinkState, State, HoldsPut, HoldsText, KeptBut, Stand, put_bytes, View, in_files, seen, run_text, unit_steps, Answer, Put, plain_tree, Asked, LegalFile, Runs, ask, ask_where, Command, NoCommand, BenchHolds, bench_meaning, bench_of, bench_status, bench_words, CheckHolds, check_meaning, IsFile, file_kind, EachPrintedUnsafe, EachToldSafe, AdmitAsked, AdmitHolds, admit_meaning, admit_of, admit_words, ExportHolds, export_meaning, export_of, export_words, Admitting, Benches, CertificateWritten, CheckProves, ExactlySo, Exports, KeepsFiles, PassesLegal, PrintedHolds, ReplayShows, RestProves, RestsReport, RunShortens, Searches, VerifyReports, put_by, CompressHolds, compress_meaning, compress_of, ReplayHolds, replay_meaning, request_of, ClaimHolds, rest_text, RestCertificateStands, RestReportHolds, rest_meaning, RestCheckHolds, rest_check_meaning, rest_check_of, rest_of, rest_words, CertificateStands, ReportHolds, verify_meaning, VerdictHolds, VerdictsHold, is_unsafe, is_unknown, LegalTemplate, SearchHolds, end_number, leaves_unknown, search_meaning, SearchWords, search_of, search_words, TwoNames, two_names, VerifyWords, verify_of, verify_words, WordAsked, behind_name, map, pair_of, held_by, false_from_ne_true, Call, Event, PutCall, PutText, PutWhole, Acts, TellsFile, acts, grew_alone, may_put, put_text, tells_file, Spares, ◌⊎◌, AreOfStages, made_of_stages, Opens, AreStaging, ComparesFirst, Differ, Kind, SparesRead, at_ends, found_meaning, found_names, held_or_staged, rest_quietly, spared, template_kind, inr}
 use Rattle.ta_program.proofs.Common.{ShowHolds, show_meaning, show_of, show_words, slice_get}
 use Rattle.ta_program.specs.Program.{SafeAsShown, ShowsFile}
 use Rattle.ta_program.specs.Show.{SafeAsPrinted}
+use Rattle.ta_program.specs.Version.{VersionPrints, version_meaning, version_of, version_text, version_words}
+use Rattle.ta_program.proofs.Common.{cases_order}
 use Rattle.ta_show.proofs.FileTells.{file_same}
 use Rattle.ta_automaton.specs.Runs as runs
+use Rattle.std.specs.Prelude.{IsTrue}
+use Rattle.ta_report.specs.Check.{is_proved}
+use Rattle.ta_report.specs.CheckJson.{TellsProved}
+use Rattle.ta_program.proofs.JsonLines.{proved_by_line}
+use Rattle.ta_program.proofs.ProofsSaid.{all_proved, every_one, starts, told_in}
+use Rattle.ta_program.specs.CheckWords.{CheckWords, ReplayWords, check_of, check_words, replay_of, replay_words}
+use Rattle.ta_program.specs.Printed.{EachToldProved}
+use Rattle.ta_program.specs.Proofs.{TellsProofs, printed_sample, wants_sample}
+use Rattle.ta_program.specs.declared.proof_options.ProofOptions.{ProofOptions}
+use Rattle.ta_program.specs.Proofs.{EveryPattern}
 use Rattle.ta_program.specs.Headline.{EachPatternSafe, EachPrinted, HoldsFile, ShownOccurs, SomePatternOccurs, StatusTells}
 use Rattle.ta_replay.proofs.Occurring.{shown_occurs}
 use Rattle.ta_check.proofs.OwnPatterns.{all_own}
@@ -19,10 +31,17 @@ use Rattle.ta_program.proofs.FoundStands.{found_stands}
 use Rattle.ta_program.proofs.WordsDiffer.{Apart, names_apart, rest_said}
 use Rattle.ta_report.specs.Printed.{HasLine, told_of}
 use Rattle.ta_report.specs.Telling.{TellsSafe}
+use Rattle.ta_program.proofs.TriesPrinted.{tries_printed}
+use Rattle.ta_program.specs.Bench.{FamilySafe}
+use Rattle.ta_program.specs.Tries.{EachTried}
 use Rattle.ta_program.proofs.UnsafePrinted.{run_within, unsafe_occurs, unsafe_printed, unsafe_there}
 use Rattle.ta_program.proofs.WordMeanings.{admit_decides}
 use Rattle.ta_base.proofs.Members.{listed}
 use Rattle.ta_base.proofs.Booleans.{first_passed}
+use Rattle.ta_program.proofs.Common.{All, EachPicked, LegalPicked, first_picked, held_entry, picked, picked_meaning, telling_of}
+use Rattle.ta_program.proofs.PatternPicks.{each_picked_of, picked_name}
+use Rattle.ta_program.proofs.StrictNumbers.{number_other}
+use Rattle.ta_program.specs.Certified.{PutsCertificate}
 
 -- the number of a report is 0 only where nothing is unsafe and nothing unknown, 1 only where something is unsafe, and 2 only where
 -- something is unknown
@@ -71,7 +90,7 @@ performed_where name read legal says number before after row (word ∷ rest) ask
 performed : {W : Type 0} (name : List ℕ) (read : List (List ℕ) → Option W) (file : W → Option (List ℕ)) (says : W → Meaning) (number : ℕ) (before after : State) → ((rest : List (List ℕ)) → Runs (request_of (name ∷ rest)) number before after → Runs (ask file says (read rest)) number before after) → (words : List (List ℕ)) (asked : W) → behind_name name read words ≡ Some asked → Runs (request_of words) number before after → Performs (says asked) number before after
 performed name read file says = performed_where name read (λ asked told. LegalFile told (file asked)) says
 
-holds_file : (view : View) (name : List ℕ) (file : File) → IsFile view name file → HoldsFile view name file
+pub holds_file : (view : View) (name : List ℕ) (file : File) → IsFile view name file → HoldsFile view name file
 holds_file view name file h =
     let tree = h.means.means.is_tree in
     record {
@@ -101,17 +120,17 @@ acts_named : {out name : Option (List ℕ)} {Such : List Call → List PutCall �
 acts_named {out} {name} {Such} {first} {last} is h = subst (λ (o : Option (List ℕ)). Acts (may_put o) Such first last) (sym is) h
 
 module _ (words : List (List ℕ)) (number : ℕ) (before after : State) (h : Runs (request_of words) number before after) where
-  pub as_verify : (asked : VerifyWords) → verify_of words ≡ Some asked → Performs (verify_meaning asked.file asked.budget asked.json asked.out) number before after
-  as_verify asked is = performed (codes "verify") verify_words (λ a. Some a.file) (λ a. verify_meaning a.file a.budget a.json a.out) number before after (λ rest r. r) words asked is h
+  pub as_verify : (asked : VerifyWords) → verify_of words ≡ Some asked → Performs (verify_meaning asked) number before after
+  as_verify asked is = performed_where (codes "verify") verify_words (λ a. LegalPicked a.file a.pattern) verify_meaning number before after (λ rest r. r) words asked is h
 
-  pub as_check : (asked : TwoNames) → check_of words ≡ Some asked → Performs (check_meaning asked.file asked.other) number before after
-  as_check asked is = performed (codes "check") two_names (λ a. Some a.file) (λ a. check_meaning a.file a.other) number before after (λ rest r. r) words asked is h
+  pub as_check : (asked : CheckWords) → check_of words ≡ Some asked → Performs (check_meaning asked.file asked.other asked.options) number before after
+  as_check asked is = performed (codes "check") check_words (λ a. Some a.file) (λ a. check_meaning a.file a.other a.options) number before after (λ rest r. r) words asked is h
 
   pub as_compress : (asked : TwoNames) → compress_of words ≡ Some asked → Performs (compress_meaning asked.file asked.other) number before after
   as_compress asked is = performed (codes "compress") two_names (λ a. Some a.file) (λ a. compress_meaning a.file a.other) number before after (λ rest r. r) words asked is h
 
-  pub as_replay : (asked : TwoNames) → replay_of words ≡ Some asked → Performs (replay_meaning asked.file asked.other) number before after
-  as_replay asked is = performed (codes "replay") two_names (λ a. Some a.file) (λ a. replay_meaning a.file a.other) number before after (λ rest r. r) words asked is h
+  pub as_replay : (asked : ReplayWords) → replay_of words ≡ Some asked → Performs (replay_meaning asked.file asked.other asked.json) number before after
+  as_replay asked is = performed (codes "replay") replay_words (λ a. Some a.file) (λ a. replay_meaning a.file a.other a.json) number before after (λ rest r. r) words asked is h
 
   as_bench : (k : ℕ) → bench_of words ≡ Some k → Performs (bench_meaning k) number before after
   as_bench k is = performed (codes "bench") bench_words (λ k. None) bench_meaning number before after (λ rest r. r) words k is h
@@ -131,26 +150,37 @@ module _ (words : List (List ℕ)) (number : ℕ) (before after : State) (h : Ru
       let ends = performs.ends in
       grew_alone m number before after ends none low (λ read. Of (seen before.shelf.files read)) (from (seen before.shelf.files ends.read) ends.made (answered m (seen before.shelf.files ends.read) number before after ends.made ends.end low))
 
-  gives_verify : (asked : VerifyWords) → verify_of words ≡ Some asked → number ≤ 2 → (Of : View → Type 0) → ((view : View) (made : List PutCall) → IsAnswered (verify_meaning asked.file asked.budget asked.json asked.out) view number before after made → Of view) → Acts (may_put asked.out) (λ read made. Of (seen before.shelf.files read)) before.shelf.calls after.shelf.calls
-  gives_verify asked is low Of from = gives_some (verify_meaning asked.file asked.budget asked.json asked.out) (as_verify asked is) low Of from
+  gives_verify : (asked : VerifyWords) → verify_of words ≡ Some asked → number ≤ 2 → (Of : View → Type 0) → ((view : View) (made : List PutCall) → IsAnswered (verify_meaning asked) view number before after made → Of view) → Acts (may_put asked.out) (λ read made. Of (seen before.shelf.files read)) before.shelf.calls after.shelf.calls
+  gives_verify asked is low Of from = gives_some (verify_meaning asked) (as_verify asked is) low Of from
 
-  pub reported : (name : List ℕ) (budget : Budget) (json : Bool) (out : Option (List ℕ)) (view : View) (made : List PutCall) → IsAnswered (verify_meaning name budget json out) view number before after made → ReportHolds number view name budget json before.out.written after.out.written
-  reported name budget json out view made a =
-      let file = a.holds.holds.0 in
-      let reports = a.holds.holds.2.1 in
-      record { file = file; is_file = a.holds.holds.1; sample = reports.sample; is_sample = reports.is_sample; verdicts = reports.verdicts; are = reports.are; numbered = sym reports.numbered ∙ sym a.numbered; wrote = a.written ∙ ap (with_text before.out.written) reports.written }
+  pub reported : (asked : VerifyWords) (view : View) (made : List PutCall) → IsAnswered (verify_meaning asked) view number before after made → ReportHolds number view asked before.out.written after.out.written
+  reported asked view made a =
+      let found = a.holds.holds.2.1 in
+      let reports = found.2 in
+      record {
+        file = a.holds.holds.0;
+        is_file = a.holds.holds.1;
+        pick = found.0;
+        is_pick = found.1;
+        sample = reports.sample;
+        is_sample = reports.is_sample;
+        verdicts = reports.verdicts;
+        are = reports.are;
+        numbered = sym reports.numbered ∙ sym a.numbered;
+        wrote = a.written ∙ ap (with_text before.out.written) reports.written;
+      }
 
   pub verify_reports : VerifyReports number words before.shelf.files before.shelf.calls after.shelf.calls before.out.written after.out.written
-  verify_reports asked is low = gives_verify asked is low (λ view. ReportHolds number view asked.file asked.budget asked.json before.out.written after.out.written) (reported asked.file asked.budget asked.json asked.out)
+  verify_reports asked is low = gives_verify asked is low (λ view. ReportHolds number view asked before.out.written after.out.written) (reported asked)
 
-  certified : (name : List ℕ) (budget : Budget) (json : Bool) (out : List ℕ) (view : View) (made : List PutCall) → IsAnswered (verify_meaning name budget json (Some out)) view number before after made → CertificateStands number view name budget json out before.shelf.files after.shelf.files before.out.written after.out.written made
-  certified name budget json out view made a =
-      let file = a.holds.holds.0 in
-      let reports = a.holds.holds.2.1 in
-      let puts = reports.puts in
+  certified : (asked : VerifyWords) (out : List ℕ) → asked.out ≡ Some out → (view : View) (made : List PutCall) → IsAnswered (verify_meaning asked) view number before after made → CertificateStands number view asked out before.shelf.files after.shelf.files before.out.written after.out.written made
+  unfolding reported
+  certified asked out given view made a =
+      let report = reported asked view made a in
+      let puts = subst (λ (o : Option (List ℕ)). PutsCertificate report.file report.pick asked.budget report.verdicts o a.answer.puts) given a.holds.holds.2.1.2.puts in
       let stand : Stand (puts.put ∷ []) before.shelf.files after.shelf.files = subst (λ (ps : List Put). Stand ps before.shelf.files after.shelf.files) puts.only a.stand in
       record {
-        report = record { file = file; is_file = a.holds.holds.1; sample = reports.sample; is_sample = reports.is_sample; verdicts = reports.verdicts; are = reports.are; numbered = sym reports.numbered ∙ sym a.numbered; wrote = a.written ∙ ap (with_text before.out.written) reports.written };
+        report = report;
         text = put_bytes puts.put;
         certificate = puts.certificate;
         within = puts.within;
@@ -161,18 +191,22 @@ module _ (words : List (List ℕ)) (number : ℕ) (before after : State) (h : Ru
 
   pub certificate_written : CertificateWritten number words before.shelf.files after.shelf.files before.shelf.calls after.shelf.calls before.out.written after.out.written
   certificate_written asked out is given low =
-      let name = asked.file in
-      let budget = asked.budget in
-      let performs = subst (λ (o : Option (List ℕ)). Performs (verify_meaning name budget asked.json o) number before after) given (as_verify asked is) in
-      acts_named given (gives_all (verify_meaning name budget asked.json (Some out)) performs low (λ view made. CertificateStands number view name budget asked.json out before.shelf.files after.shelf.files before.out.written after.out.written made) (λ view made a. certified name budget asked.json out view made a))
+      gives_all (verify_meaning asked) (as_verify asked is) low (λ view made. CertificateStands number view asked out before.shelf.files after.shelf.files before.out.written after.out.written made)
+      (λ view made a. certified asked out given view made a)
 
-  pub proved : (name certificate : List ℕ) (view : View) (made : List PutCall) → IsAnswered (check_meaning name certificate) view number before after made → CheckHolds view name certificate before.out.written after.out.written
-  proved name certificate view made a =
+  pub proved : (name certificate : List ℕ) (options : ProofOptions) (view : View) (made : List PutCall) → IsAnswered (check_meaning name certificate options) view number before after made → CheckHolds number view name certificate options before.out.written after.out.written
+  proved name certificate options view made a =
+      let file = a.holds.holds.0 in
       let rest = a.holds.holds.2 in
-      record { file = a.holds.holds.0; is_file = a.holds.holds.1; numbers = rest.0; certificate = rest.1; wrote = a.written ∙ ap (with_text before.out.written) rest.2.written }
-
-  pub check_proves : CheckProves number words before.shelf.files before.shelf.calls after.shelf.calls before.out.written after.out.written
-  check_proves asked is none = gives (check_meaning asked.file asked.other) refl (as_check asked is) (omega (arith, none)) (λ view. CheckHolds view asked.file asked.other before.out.written after.out.written) (proved asked.file asked.other)
+      record {
+        file = file;
+        is_file = a.holds.holds.1;
+        numbers = rest.0;
+        certificate = rest.1;
+        text = a.answer.text;
+        tells = subst (λ (n : ℕ). TellsProofs false file options rest.0 n a.answer.text) (sym a.numbered) rest.2.tells;
+        wrote = a.written;
+      }
 
   pub shortened : (name run : List ℕ) (view : View) (made : List PutCall) → IsAnswered (compress_meaning name run) view number before after made → CompressHolds view name run before.out.written after.out.written
   shortened name run view made a =
@@ -186,13 +220,13 @@ module _ (words : List (List ℕ)) (number : ℕ) (before after : State) (h : Ru
     outside = λ asked told line is files leaves. refused_so number before after asked (as_compress asked is) told files line leaves;
   }
 
-  pub shown : (name run : List ℕ) (view : View) (made : List PutCall) → IsAnswered (replay_meaning name run) view number before after made → ReplayHolds view name run before.out.written after.out.written
-  shown name run view made a =
+  pub shown : (name run : List ℕ) (json : Bool) (view : View) (made : List PutCall) → IsAnswered (replay_meaning name run json) view number before after made → ReplayHolds view name run json before.out.written after.out.written
+  shown name run json view made a =
       let rest = a.holds.holds.2 in
       record { file = a.holds.holds.0; is_file = a.holds.holds.1; run = rest.0; is_run = rest.1; pattern = rest.2.pattern; named = rest.2.named; wrote = a.written ∙ ap (with_text before.out.written) rest.2.writes.written }
 
   pub replay_shows : ReplayShows number words before.shelf.files before.shelf.calls after.shelf.calls before.out.written after.out.written
-  replay_shows asked is none = gives (replay_meaning asked.file asked.other) refl (as_replay asked is) (omega (arith, none)) (λ view. ReplayHolds view asked.file asked.other before.out.written after.out.written) (shown asked.file asked.other)
+  replay_shows asked is none = gives (replay_meaning asked.file asked.other asked.json) refl (as_replay asked is) (omega (arith, none)) (λ view. ReplayHolds view asked.file asked.other asked.json before.out.written after.out.written) (shown asked.file asked.other asked.json)
 
   benched : (k : ℕ) → Performs (bench_meaning k) number before after → number ≤ 2 → BenchHolds number k before.out.written after.out.written
   benched k performs low =
@@ -215,6 +249,32 @@ module _ (words : List (List ℕ)) (number : ℕ) (before after : State) (h : Ru
     holds = λ k is low. benched k (as_bench k is) low;
     others = λ k is. (λ one. let b = benched k (as_bench k is) (omega (arith, one)) in status_of b.verdict (b.numbered ∙ one), λ three. never k (as_bench k is) (omega (arith, three)) (omega (arith, three)), λ four. never k (as_bench k is) (omega (arith, four)) (omega (arith, four)));
   }
+
+  as_version : (asked : Unit {0}) → version_of words ≡ Some asked → Performs version_meaning number before after
+  as_version asked is = performed (codes "version") version_words (λ a. None) (λ a. version_meaning) number before after (λ rest r. r) words asked is h
+
+  -- an answer of `version`; it is never hindered
+  version_printed : Performs version_meaning number before after → number ≤ 2 → (number ≡ 0) × (after.out.written ≡ with_text before.out.written version_text)
+  version_printed performs low =
+      let a = answered version_meaning (seen before.shelf.files performs.ends.read) number before after performs.ends.made performs.ends.end low in
+      (a.numbered ∙ a.holds.holds.numbered, a.written ∙ ap (with_text before.out.written) a.holds.holds.written)
+
+  pub version_prints : VersionPrints number words before.out.written after.out.written
+  version_prints asked is five =
+      let performs = as_version asked is in
+      elim (cases_order number 5) [
+        | inl e ↦ absurd (never_five version_meaning number before after performs.ends e)
+        | inr other ↦ elim other [
+          | inl less ↦ elim (cases_order 2 number) [
+            | inl e ↦ version_printed performs (omega (arith, e))
+            | inr o ↦ elim o [
+              | inl more ↦ absurd ((hindered version_meaning number before after performs.ends (omega (arith, more)) (omega (arith, less))).1)
+              | inr low ↦ version_printed performs (omega (arith, low))
+            ]
+          ]
+          | inr more ↦ absurd (omega (arith, more, five))
+        ]
+      ]
 
   as_export : (asked : WordAsked) → export_of words ≡ Some asked → Performs (export_meaning asked) number before after
   as_export asked is = performed (codes "export") export_words (λ a. Some a.file) export_meaning number before after (λ rest r. r) words asked is h
@@ -274,8 +334,8 @@ module _ (words : List (List ℕ)) (number : ℕ) (before after : State) (h : Ru
   pub as_rest : (asked : RestWords) → rest_of words ≡ Some asked → Performs (rest_meaning asked.file asked.budget asked.out asked.silent) number before after
   as_rest asked is = performed_where (codes "rest") rest_words (λ a. LegalSilently a.file a.silent) (λ a. rest_meaning a.file a.budget a.out a.silent) number before after (λ rest r. r) words asked is h
 
-  pub as_rest_check : (asked : RestCheckWords) → rest_check_of words ≡ Some asked → Performs (rest_check_meaning asked.file asked.other asked.silent) number before after
-  as_rest_check asked is = performed_where (codes "rest-check") rest_check_words (λ a. LegalSilently a.file a.silent) (λ a. rest_check_meaning a.file a.other a.silent) number before after (λ rest r. r) words asked is h
+  pub as_rest_check : (asked : RestCheckWords) → rest_check_of words ≡ Some asked → Performs (rest_check_meaning asked.file asked.other asked.silent asked.options) number before after
+  as_rest_check asked is = performed_where (codes "rest-check") rest_check_words (λ a. LegalSilently a.file a.silent) (λ a. rest_check_meaning a.file a.other a.silent a.options) number before after (λ rest r. r) words asked is h
 
   pub at_rest : (asked : RestWords) (out : Option (List ℕ)) (view : View) (made : List PutCall) → IsAnswered (rest_meaning asked.file asked.budget out asked.silent) view number before after made → RestReportHolds number view asked before.out.written after.out.written
   at_rest asked out view made a =
@@ -313,8 +373,8 @@ module _ (words : List (List ℕ)) (number : ℕ) (before after : State) (h : Ru
         acts_named given (gives_all (rest_meaning asked.file asked.budget (Some out) asked.silent) performs low (λ view made. RestCertificateStands number view asked out before.shelf.files after.shelf.files before.out.written after.out.written made) (λ view made a. rest_certified asked out view made a));
   }
 
-  pub rest_checked : (name certificate : List ℕ) (names : Option (List ℕ)) (view : View) (made : List PutCall) → IsAnswered (rest_check_meaning name certificate names) view number before after made → RestCheckHolds view name certificate names before.out.written after.out.written
-  rest_checked name certificate names view made a =
+  pub rest_checked : (name certificate : List ℕ) (names : Option (List ℕ)) (options : ProofOptions) (view : View) (made : List PutCall) → IsAnswered (rest_check_meaning name certificate names options) view number before after made → RestCheckHolds number view name certificate names options before.out.written after.out.written
+  rest_checked name certificate names options view made a =
       let found = a.holds.holds.2 in
       let silent = found.2 in
       let rest = silent.2 in
@@ -329,11 +389,17 @@ module _ (words : List (List ℕ)) (number : ℕ) (before after : State) (h : Ru
         numbers = rest.0;
         certificate = rest.1;
         safe = all_own silent.0 a.holds.holds.0 found.0.ending found.0.added rest.0 ends.endings rest.1.means.safe;
-        wrote = a.written ∙ ap (with_text before.out.written) rest.2.written;
+        text = a.answer.text;
+        tells = subst (λ (n : ℕ). TellsProofs true a.holds.holds.0 options rest.0 n a.answer.text) (sym a.numbered) rest.2.tells;
+        wrote = a.written;
       }
 
-  pub rest_proves : RestProves number words before.shelf.files before.shelf.calls after.shelf.calls before.out.written after.out.written
-  rest_proves asked is none = gives (rest_check_meaning asked.file asked.other asked.silent) refl (as_rest_check asked is) (omega (arith, none)) (λ view. RestCheckHolds view asked.file asked.other asked.silent before.out.written after.out.written) (rest_checked asked.file asked.other asked.silent)
+  -- what an answer of `check`, and one of `rest-check`, says
+  gives_check : (asked : CheckWords) → check_of words ≡ Some asked → number ≤ 2 → (Of : View → Type 0) → ((view : View) → CheckHolds number view asked.file asked.other asked.options before.out.written after.out.written → Of view) → Grew (λ read. Of (seen before.shelf.files read)) before.shelf.calls after.shelf.calls
+  gives_check asked is low Of from = gives (check_meaning asked.file asked.other asked.options) refl (as_check asked is) low Of (λ view made a. from view (proved asked.file asked.other asked.options view made a))
+
+  gives_rest_check : (asked : RestCheckWords) → rest_check_of words ≡ Some asked → number ≤ 2 → (Of : View → Type 0) → ((view : View) → RestCheckHolds number view asked.file asked.other asked.silent asked.options before.out.written after.out.written → Of view) → Grew (λ read. Of (seen before.shelf.files read)) before.shelf.calls after.shelf.calls
+  gives_rest_check asked is low Of from = gives (rest_check_meaning asked.file asked.other asked.silent asked.options) refl (as_rest_check asked is) low Of (λ view made a. from view (rest_checked asked.file asked.other asked.silent asked.options view made a))
 
   pub as_search : (asked : SearchWords) → search_of words ≡ Some asked → Performs (search_meaning asked) number before after
   as_search asked is = performed_where (codes "search") search_words LegalTemplate search_meaning number before after (λ rest r. r) words asked is h
@@ -365,44 +431,69 @@ module _ (words : List (List ℕ)) (number : ℕ) (before after : State) (h : Ru
       gives_all (search_meaning asked) (as_search asked is) low (λ view made. SearchHolds number view asked before.shelf.files after.shelf.files before.out.written after.out.written made) (λ view made a. searched asked (names_apart words asked is).puts view made a)
 
   -- a pattern that a report tells is safe is so
-  pub tells_safe : (name : List ℕ) (budget : Budget) (json : Bool) (view : View) (r : ReportHolds number view name budget json before.out.written after.out.written) (k : ℕ) (p : Pattern) → slice_get r.file.patterns k ≡ Some p → TellsSafe json p.name (report_of json r.file r.sample r.verdicts) → runs.Safe r.file.automaton p
-  tells_safe name budget json view r k p named line =
-      let said = told_safe r.file r.sample r.verdicts k p named r.is_sample.fits r.are.fit json line in
-      verdict_safe r.file budget k p said.0 said.1 (held (VerdictHolds r.file budget) r.file.patterns r.verdicts r.are.hold k p (Safe said.0 said.1) named said.2)
+  pub tells_safe : (asked : VerifyWords) (view : View) (r : ReportHolds number view asked before.out.written after.out.written) (k : ℕ) (p : Pattern) → slice_get r.file.patterns k ≡ Some p → TellsSafe false asked.json p.name (report_of false asked.json r.file r.pick r.sample r.verdicts) → runs.Safe r.file.automaton p
+  tells_safe asked view r k p named line =
+      let said = told_safe r.file r.pick r.sample r.verdicts k p named r.is_sample.fits r.are.fit false asked.json line in
+      verdict_safe r.file asked.budget k p said.0 said.1 (held_entry (VerdictHolds r.file asked.budget) r.pick r.file.patterns r.verdicts r.are.hold k p (Safe said.0 said.1) named said.2)
 
-  printed_verify : (name : List ℕ) (budget : Budget) (json : Bool) (view : View) → ReportHolds number view name budget json before.out.written after.out.written → EachToldSafe json view name before.out.written after.out.written
-  printed_verify name budget json view r = record {
+  printed_verify : (asked : VerifyWords) (view : View) → ReportHolds number view asked before.out.written after.out.written → EachToldSafe runs.Safe false asked.json view asked.file before.out.written after.out.written
+  printed_verify asked view r = record {
     file = r.file;
-    holds = holds_file view name r.file r.is_file;
-    text = report_of json r.file r.sample r.verdicts;
+    holds = holds_file view asked.file r.file r.is_file;
+    text = report_of false asked.json r.file r.pick r.sample r.verdicts;
     gained = r.wrote;
-    safe = tells_safe name budget json view r;
+    safe = tells_safe asked view r;
   }
 
   -- so is one of which the text of `check` tells that it is proved
-  pub tells_proved : (name certificate : List ℕ) (view : View) (r : CheckHolds view name certificate before.out.written after.out.written) (k : ℕ) (p : Pattern) → slice_get r.file.patterns k ≡ Some p → HasLine (told_of p.name (codes "proved")) (check_text r.file r.numbers) → runs.Safe r.file.automaton p
-  tells_proved name certificate view r k p named line =
-      let found : PatternSafe r.file k = listed (PatternSafe r.file) k r.numbers r.certificate.means.safe (printed_proved r.file r.numbers k p named line) in
+  -- a pattern that `check` calls proved is safe
+  proved_safe : (name certificate : List ℕ) (options : ProofOptions) (view : View) (r : CheckHolds number view name certificate options before.out.written after.out.written) (k : ℕ) (p : Pattern) → slice_get r.file.patterns k ≡ Some p → IsTrue (is_proved r.numbers k) → runs.Safe r.file.automaton p
+  proved_safe name certificate options view r k p named is_there =
+      let found : PatternSafe r.file k = listed (PatternSafe r.file) k r.numbers r.certificate.means.safe is_there in
       let same : Some found.pattern ≡ Some p = sym found.named ∙ named in
       let is : found.pattern ≡ p = cc in
       subst (runs.Safe r.file.automaton) is found.safe
 
-  printed_check : (name certificate : List ℕ) (view : View) → CheckHolds view name certificate before.out.written after.out.written → EachPrinted runs.Safe (codes "proved") view name before.out.written after.out.written
-  printed_check name certificate view r = record {
+  tells_proved : (name certificate : List ℕ) (options : ProofOptions) (view : View) (r : CheckHolds number view name certificate options before.out.written after.out.written) (k : ℕ) (p : Pattern) → slice_get r.file.patterns k ≡ Some p → TellsProved options.json false p.name r.text → runs.Safe r.file.automaton p
+  tells_proved name certificate options view r k p named told = proved_safe name certificate options view r k p named (told_in false r.file options r.numbers number r.text r.tells k p named told)
+
+  pub line_proved : (name certificate : List ℕ) (options : ProofOptions) (view : View) (r : CheckHolds number view name certificate options before.out.written after.out.written) (k : ℕ) (p : Pattern) → slice_get r.file.patterns k ≡ Some p → HasLine (told_of p.name (codes "proved")) r.text → runs.Safe r.file.automaton p
+  line_proved name certificate options view r k p named line =
+      tells_proved name certificate options view r k p named (proved_by_line options.json false r.file (printed_sample options.parameters r.tells.sample) r.numbers r.text p.name r.tells.told line)
+
+  printed_check : (name certificate : List ℕ) (options : ProofOptions) (view : View) → CheckHolds number view name certificate options before.out.written after.out.written → EachToldProved runs.Safe options.json false view name before.out.written after.out.written
+  printed_check name certificate options view r = record {
     file = r.file;
     holds = holds_file view name r.file r.is_file;
-    text = check_text r.file r.numbers;
+    text = r.text;
     gained = r.wrote;
-    holds_of = tells_proved name certificate view r;
+    holds_of = tells_proved name certificate options view r;
   }
 
-  printed_unsafes : (name : List ℕ) (budget : Budget) (json : Bool) (view : View) → ReportHolds number view name budget json before.out.written after.out.written → EachPrintedUnsafe runs.Occurs (verify_telling json) view name before.out.written after.out.written
-  printed_unsafes name budget json view r = record {
+  lines_of_check : (name certificate : List ℕ) (options : ProofOptions) (view : View) → CheckHolds number view name certificate options before.out.written after.out.written → EachPrinted runs.Safe (codes "proved") view name before.out.written after.out.written
+  lines_of_check name certificate options view r = record {
     file = r.file;
     holds = holds_file view name r.file r.is_file;
-    text = report_of json r.file r.sample r.verdicts;
+    text = r.text;
     gained = r.wrote;
-    unsafe_ = unsafe_printed json r.file budget r.sample r.is_sample r.verdicts r.are;
+    holds_of = line_proved name certificate options view r;
+  }
+
+  -- with `--all` and status 0 every pattern is
+  every_check : (name certificate : List ℕ) (options : ProofOptions) (view : View) → options.all ≡ true → number ≡ 0 → CheckHolds number view name certificate options before.out.written after.out.written → EveryPattern runs.Safe view name
+  every_check name certificate options view all none r =
+      let both = all_proved false r.file options r.numbers number r.text r.tells all none in
+      let start = starts (wants_sample options) r.file r.tells.sample r.tells.is_sample both.0 in
+      let each = every_one (runs.Safe r.file.automaton) r.file r.numbers both.1 (proved_safe name certificate options view r) in
+      record { file = r.file; holds = holds_file view name r.file r.is_file; first = each.first; is_first = each.is_first; each = each.each; start = start.0; initial = start.1 }
+
+  printed_unsafes : (asked : VerifyWords) (view : View) → ReportHolds number view asked before.out.written after.out.written → EachPrintedUnsafe runs.Occurs (telling_of false asked.json) view asked.file before.out.written after.out.written
+  printed_unsafes asked view r = record {
+    file = r.file;
+    holds = holds_file view asked.file r.file r.is_file;
+    text = report_of false asked.json r.file r.pick r.sample r.verdicts;
+    gained = r.wrote;
+    unsafe_ = unsafe_printed asked.json r.file r.pick asked.budget r.sample r.is_sample r.verdicts r.are;
   }
 
   -- by words no places are silent
@@ -410,36 +501,72 @@ module _ (words : List (List ℕ)) (number : ℕ) (before after : State) (h : Ru
   loud_by_words asked is file places silent = λ by_words. none_silent file.automaton asked.silent places ((rest_said words asked is).quiet by_words) silent
 
   -- the same of `rest`
-  pub tells_rest_safe : (asked : RestWords) → rest_of words ≡ Some asked → (view : View) (r : RestReportHolds number view asked before.out.written after.out.written) (k : ℕ) (p : Pattern) → slice_get r.file.patterns k ≡ Some p → HasLine (told_of p.name (codes "rest safe, ")) (rest_text r.file r.sample r.verdicts) → RestSafeBut asked.silent r.file.automaton p
+  pub tells_rest_safe : (asked : RestWords) → rest_of words ≡ Some asked → (view : View) (r : RestReportHolds number view asked before.out.written after.out.written) (k : ℕ) (p : Pattern) → slice_get r.file.patterns k ≡ Some p → HasLine (told_of p.name (codes "rest safe, ")) (rest_text r.file All r.sample r.verdicts) → RestSafeBut asked.silent r.file.automaton p
   tells_rest_safe asked is view r k p named line =
-      let said = printed_rest_safe r.file r.sample r.verdicts k p named r.is_sample.fits r.are.fit line in
+      let said = printed_rest_safe r.file All r.sample r.verdicts k p named r.is_sample.fits r.are.fit line in
       let loud = loud_by_words asked is r.file r.silent r.are_silent in
-      safe_but asked.silent r.file.automaton p r.silent r.are_silent (rest_safe_at r.file r.ends.ending r.ends.added (resting asked.budget r.silent) loud r.verdicts r.are k p said.0 said.1 named said.2)
+      safe_but asked.silent r.file.automaton p r.silent r.are_silent (rest_safe_at r.file r.ends.ending r.ends.added All (resting asked.budget r.silent) loud r.verdicts r.are k p said.0 said.1 named said.2)
 
   printed_rest : (asked : RestWords) → rest_of words ≡ Some asked → (view : View) → RestReportHolds number view asked before.out.written after.out.written → EachPrinted (RestSafeBut asked.silent) (codes "rest safe, ") view asked.file before.out.written after.out.written
   printed_rest asked is view r = record {
     file = r.file;
     holds = holds_file view asked.file r.file r.is_file;
-    text = rest_text r.file r.sample r.verdicts;
+    text = rest_text r.file All r.sample r.verdicts;
     gained = r.wrote;
     holds_of = tells_rest_safe asked is view r;
   }
 
   -- and of `rest-check`
-  pub tells_rest_proved : (name certificate : List ℕ) (names : Option (List ℕ)) (view : View) (r : RestCheckHolds view name certificate names before.out.written after.out.written) (k : ℕ) (p : Pattern) → slice_get r.file.patterns k ≡ Some p → HasLine (told_of p.name (codes "rest proved")) (rest_check_text r.file r.numbers) → RestSafeBut names r.file.automaton p
-  tells_rest_proved name certificate names view r k p named line =
-      let found : ClaimHolds (claiming_with claim.RestSafe r.file r.silent) k = listed (ClaimHolds (claiming_with claim.RestSafe r.file r.silent)) k r.numbers r.safe (printed_rest_proved r.file r.numbers k p named line) in
+  -- a pattern that `rest-check` calls proved is safe at quiet rest
+  rest_proved_safe : (name certificate : List ℕ) (names : Option (List ℕ)) (options : ProofOptions) (view : View) (r : RestCheckHolds number view name certificate names options before.out.written after.out.written) (k : ℕ) (p : Pattern) → slice_get r.file.patterns k ≡ Some p → IsTrue (is_proved r.numbers k) → RestSafeBut names r.file.automaton p
+  rest_proved_safe name certificate names options view r k p named is_there =
+      let found : ClaimHolds (claiming_with claim.RestSafe r.file r.silent) k = listed (ClaimHolds (claiming_with claim.RestSafe r.file r.silent)) k r.numbers r.safe is_there in
       let same : Some found.pattern ≡ Some p = sym found.named ∙ named in
       let is : found.pattern ≡ p = cc in
       subst (RestSafeBut names r.file.automaton) is (safe_but names r.file.automaton found.pattern r.silent r.are_silent found.safe)
 
-  printed_rest_check : (name certificate : List ℕ) (names : Option (List ℕ)) (view : View) → RestCheckHolds view name certificate names before.out.written after.out.written → EachPrinted (RestSafeBut names) (codes "rest proved") view name before.out.written after.out.written
-  printed_rest_check name certificate names view r = record {
+  tells_rest_proved : (name certificate : List ℕ) (names : Option (List ℕ)) (options : ProofOptions) (view : View) (r : RestCheckHolds number view name certificate names options before.out.written after.out.written) (k : ℕ) (p : Pattern) → slice_get r.file.patterns k ≡ Some p → TellsProved options.json true p.name r.text → RestSafeBut names r.file.automaton p
+  tells_rest_proved name certificate names options view r k p named told = rest_proved_safe name certificate names options view r k p named (told_in true r.file options r.numbers number r.text r.tells k p named told)
+
+  pub line_rest_proved : (name certificate : List ℕ) (names : Option (List ℕ)) (options : ProofOptions) (view : View) (r : RestCheckHolds number view name certificate names options before.out.written after.out.written) (k : ℕ) (p : Pattern) → slice_get r.file.patterns k ≡ Some p → HasLine (told_of p.name (codes "rest proved")) r.text → RestSafeBut names r.file.automaton p
+  line_rest_proved name certificate names options view r k p named line =
+      tells_rest_proved name certificate names options view r k p named (proved_by_line options.json true r.file (printed_sample options.parameters r.tells.sample) r.numbers r.text p.name r.tells.told line)
+
+  printed_rest_check : (name certificate : List ℕ) (names : Option (List ℕ)) (options : ProofOptions) (view : View) → RestCheckHolds number view name certificate names options before.out.written after.out.written → EachToldProved (RestSafeBut names) options.json true view name before.out.written after.out.written
+  printed_rest_check name certificate names options view r = record {
     file = r.file;
     holds = holds_file view name r.file r.is_file;
-    text = rest_check_text r.file r.numbers;
+    text = r.text;
     gained = r.wrote;
-    holds_of = tells_rest_proved name certificate names view r;
+    holds_of = tells_rest_proved name certificate names options view r;
+  }
+
+  lines_of_rest_check : (name certificate : List ℕ) (names : Option (List ℕ)) (options : ProofOptions) (view : View) → RestCheckHolds number view name certificate names options before.out.written after.out.written → EachPrinted (RestSafeBut names) (codes "rest proved") view name before.out.written after.out.written
+  lines_of_rest_check name certificate names options view r = record {
+    file = r.file;
+    holds = holds_file view name r.file r.is_file;
+    text = r.text;
+    gained = r.wrote;
+    holds_of = line_rest_proved name certificate names options view r;
+  }
+
+  every_rest_check : (name certificate : List ℕ) (names : Option (List ℕ)) (options : ProofOptions) (view : View) → options.all ≡ true → number ≡ 0 → RestCheckHolds number view name certificate names options before.out.written after.out.written → EveryPattern (RestSafeBut names) view name
+  every_rest_check name certificate names options view all none r =
+      let both = all_proved true r.file options r.numbers number r.text r.tells all none in
+      let start = starts (wants_sample options) r.file r.tells.sample r.tells.is_sample both.0 in
+      let each = every_one (RestSafeBut names r.file.automaton) r.file r.numbers both.1 (rest_proved_safe name certificate names options view r) in
+      record { file = r.file; holds = holds_file view name r.file r.is_file; first = each.first; is_first = each.is_first; each = each.each; start = start.0; initial = start.1 }
+
+  pub check_proves : CheckProves number words before.shelf.files before.shelf.calls after.shelf.calls before.out.written after.out.written
+  check_proves = record {
+    holds = λ asked is low. gives_check asked is low (λ view. CheckHolds number view asked.file asked.other asked.options before.out.written after.out.written) (λ view r. r);
+    every = λ asked is all none. gives_check asked is (omega (arith, none)) (λ view. EveryPattern runs.Safe view asked.file) (λ view r. every_check asked.file asked.other asked.options view all none r);
+  }
+
+  pub rest_proves : RestProves number words before.shelf.files before.shelf.calls after.shelf.calls before.out.written after.out.written
+  rest_proves = record {
+    holds = λ asked is low. gives_rest_check asked is low (λ view. RestCheckHolds number view asked.file asked.other asked.silent asked.options before.out.written after.out.written) (λ view r. r);
+    every = λ asked is all none. gives_rest_check asked is (omega (arith, none)) (λ view. EveryPattern (RestSafeBut asked.silent) view asked.file) (λ view r. every_rest_check asked.file asked.other asked.silent asked.options view all none r);
   }
 
   printed_rest_fair : (asked : RestWords) → rest_of words ≡ Some asked → (view : View) → RestReportHolds number view asked before.out.written after.out.written → EachPrinted (FairlySafeBut asked.silent) (codes "rest safe, ") view asked.file before.out.written after.out.written
@@ -447,61 +574,73 @@ module _ (words : List (List ℕ)) (number : ℕ) (before after : State) (h : Ru
       record {
         file = r.file;
         holds = holds_file view asked.file r.file r.is_file;
-        text = rest_text r.file r.sample r.verdicts;
+        text = rest_text r.file All r.sample r.verdicts;
         gained = r.wrote;
         holds_of = λ k p named line. fair_but r.is_file.bytes r.file r.is_file.means r.are_ends.loops k p named asked.silent (tells_rest_safe asked is view r k p named line);
       }
 
-  printed_rest_check_fair : (name certificate : List ℕ) (names : Option (List ℕ)) (view : View) → RestCheckHolds view name certificate names before.out.written after.out.written → EachPrinted (FairlySafeBut names) (codes "rest proved") view name before.out.written after.out.written
-  printed_rest_check_fair name certificate names view r =
+  printed_rest_check_fair : (name certificate : List ℕ) (names : Option (List ℕ)) (options : ProofOptions) (view : View) → RestCheckHolds number view name certificate names options before.out.written after.out.written → EachToldProved (FairlySafeBut names) options.json true view name before.out.written after.out.written
+  printed_rest_check_fair name certificate names options view r =
       record {
         file = r.file;
         holds = holds_file view name r.file r.is_file;
-        text = rest_check_text r.file r.numbers;
+        text = r.text;
         gained = r.wrote;
-        holds_of = λ k p named line. fair_but r.is_file.bytes r.file r.is_file.means r.are_ends.loops k p named names (tells_rest_proved name certificate names view r k p named line);
+        holds_of = λ k p named told. fair_but r.is_file.bytes r.file r.is_file.means r.are_ends.loops k p named names (tells_rest_proved name certificate names options view r k p named told);
       }
 
-  printed_rest_unsafes : (asked : RestWords) → rest_of words ≡ Some asked → (view : View) → RestReportHolds number view asked before.out.written after.out.written → EachPrintedUnsafe (RestOccursBut asked.silent) rest_telling view asked.file before.out.written after.out.written
+  printed_rest_unsafes : (asked : RestWords) → rest_of words ≡ Some asked → (view : View) → RestReportHolds number view asked before.out.written after.out.written → EachPrintedUnsafe (RestOccursBut asked.silent) (telling_of true false) view asked.file before.out.written after.out.written
   printed_rest_unsafes asked is view r = record {
     file = r.file;
     holds = holds_file view asked.file r.file r.is_file;
-    text = rest_text r.file r.sample r.verdicts;
+    text = rest_text r.file All r.sample r.verdicts;
     gained = r.wrote;
-    unsafe_ = rest_unsafe_printed asked.silent r.file r.ends.ending r.ends.added (resting asked.budget r.silent) r.are_silent (loud_by_words asked is r.file r.silent r.are_silent) r.sample r.is_sample r.verdicts r.are;
+    unsafe_ = rest_unsafe_printed asked.silent false r.file r.ends.ending r.ends.added All (resting asked.budget r.silent) r.are_silent (loud_by_words asked is r.file r.silent r.are_silent) r.sample r.is_sample r.verdicts r.are;
   }
+
+  bench_safe : (k : ℕ) → BenchHolds number k before.out.written after.out.written → FamilySafe k
+  bench_safe k b = record { file = b.is.file; legal = b.is.legal; safe = b.is.safe }
+
+  tried : (asked : SearchWords) → search_of words ≡ Some asked → number ≤ 2 → Acts (found_names asked) (λ read made. EachTried number (seen before.shelf.files read) asked.file before.out.written after.out.written) before.shelf.calls after.shelf.calls
+  tried asked is low =
+      gives_some (search_meaning asked) (as_search asked is) low (λ view. EachTried number view asked.file before.out.written after.out.written)
+      (λ view made a. tries_printed number view asked before.shelf.files after.shelf.files before.out.written after.out.written made (searched asked (names_apart words asked is).puts view made a))
 
   pub printed_holds : PrintedHolds number words before.shelf.files before.shelf.calls after.shelf.calls before.out.written after.out.written
   printed_holds = record {
-    safe = λ asked is low. gives_verify asked is low (λ view. EachToldSafe asked.json view asked.file before.out.written after.out.written) (λ view made a. printed_verify asked.file asked.budget asked.json view (reported asked.file asked.budget asked.json asked.out view made a));
-    unsafe_ = λ asked is low. gives_verify asked is low (λ view. EachPrintedUnsafe runs.Occurs (verify_telling asked.json) view asked.file before.out.written after.out.written) (λ view made a. printed_unsafes asked.file asked.budget asked.json view (reported asked.file asked.budget asked.json asked.out view made a));
+    tried = tried;
+    benched = λ k is low. bench_safe k (benches.holds k is low);
+    safe = λ asked is low. gives_verify asked is low (λ view. EachToldSafe runs.Safe false asked.json view asked.file before.out.written after.out.written) (λ view made a. printed_verify asked view (reported asked view made a));
+    unsafe_ = λ asked is low. gives_verify asked is low (λ view. EachPrintedUnsafe runs.Occurs (telling_of false asked.json) view asked.file before.out.written after.out.written) (λ view made a. printed_unsafes asked view (reported asked view made a));
     rest_safe = λ asked is low. gives_rest asked is low (λ view. EachPrinted (RestSafeBut asked.silent) (codes "rest safe, ") view asked.file before.out.written after.out.written) (printed_rest asked is);
-    rest_unsafe = λ asked is low. gives_rest asked is low (λ view. EachPrintedUnsafe (RestOccursBut asked.silent) rest_telling view asked.file before.out.written after.out.written) (printed_rest_unsafes asked is);
-    rest_proved = λ asked is none. gives (rest_check_meaning asked.file asked.other asked.silent) refl (as_rest_check asked is) (omega (arith, none)) (λ view. EachPrinted (RestSafeBut asked.silent) (codes "rest proved") view asked.file before.out.written after.out.written) (λ view made a. printed_rest_check asked.file asked.other asked.silent view (rest_checked asked.file asked.other asked.silent view made a));
+    rest_unsafe = λ asked is low. gives_rest asked is low (λ view. EachPrintedUnsafe (RestOccursBut asked.silent) (telling_of true false) view asked.file before.out.written after.out.written) (printed_rest_unsafes asked is);
+    rest_proved = λ asked is low. gives_rest_check asked is low (λ view. EachToldProved (RestSafeBut asked.silent) asked.options.json true view asked.file before.out.written after.out.written) (printed_rest_check asked.file asked.other asked.silent asked.options);
     rest_fair = λ asked is low. gives_rest asked is low (λ view. EachPrinted (FairlySafeBut asked.silent) (codes "rest safe, ") view asked.file before.out.written after.out.written) (printed_rest_fair asked is);
-    rest_proved_fair = λ asked is none. gives (rest_check_meaning asked.file asked.other asked.silent) refl (as_rest_check asked is) (omega (arith, none)) (λ view. EachPrinted (FairlySafeBut asked.silent) (codes "rest proved") view asked.file before.out.written after.out.written) (λ view made a. printed_rest_check_fair asked.file asked.other asked.silent view (rest_checked asked.file asked.other asked.silent view made a));
-    proved = λ asked is none. gives (check_meaning asked.file asked.other) refl (as_check asked is) (omega (arith, none)) (λ view. EachPrinted runs.Safe (codes "proved") view asked.file before.out.written after.out.written) (λ view made a. printed_check asked.file asked.other view (proved asked.file asked.other view made a));
+    rest_proved_fair = λ asked is low. gives_rest_check asked is low (λ view. EachToldProved (FairlySafeBut asked.silent) asked.options.json true view asked.file before.out.written after.out.written) (printed_rest_check_fair asked.file asked.other asked.silent asked.options);
+    proved = λ asked is low. gives_check asked is low (λ view. EachToldProved runs.Safe asked.options.json false view asked.file before.out.written after.out.written) (printed_check asked.file asked.other asked.options);
   }
 
-  -- some pattern of a file whose report has the number 1 occurs in a run
-  some_occurring : (name : List ℕ) (budget : Budget) (json : Bool) (view : View) → number ≡ 1 → ReportHolds number view name budget json before.out.written after.out.written → SomePatternOccurs view name
-  some_occurring name budget json view one r =
-      let some = unsafe_there r.verdicts (kind_of_one (list_any is_unsafe r.verdicts) (list_any is_unknown r.verdicts) (r.numbered ∙ one)) in
-      let by = held_by (VerdictHolds r.file budget) r.file.patterns r.verdicts r.are.hold some.0 (Unsafe some.1 some.2) some.3 in
-      let occurrence = unsafe_occurs r.file budget some.0 by.0 some.1 some.2 by.1 by.2 in
+  -- some picked pattern of a file whose report has the number 1 occurs in a run
+  some_occurring : (asked : VerifyWords) (view : View) → number ≡ 1 → ReportHolds number view asked before.out.written after.out.written → SomePatternOccurs view asked.file asked.pattern
+  some_occurring asked view one r =
+      let own = number_other asked.all r.sample r.verdicts 1 (λ e. omega (arith, e)) (r.numbered ∙ one) in
+      let some = unsafe_there r.verdicts (kind_of_one (list_any is_unsafe r.verdicts) (list_any is_unknown r.verdicts) own) in
+      let by = held_by (VerdictHolds r.file asked.budget) r.pick r.file.patterns r.verdicts r.are.hold some.0 (Unsafe some.1 some.2) some.3 in
+      let occurrence = unsafe_occurs r.file asked.budget (first_picked r.pick + some.0) by.0 some.1 some.2 by.2 by.3 in
       record {
         file = r.file;
-        holds = holds_file view name r.file r.is_file;
-        number = some.0;
+        holds = holds_file view asked.file r.file r.is_file;
+        number = first_picked r.pick + some.0;
         pattern = by.0;
-        among = by.1;
+        among = by.2;
+        named = picked_name r.file asked.pattern r.pick r.is_pick some.0 by.0 by.1;
         first = occurrence.first;
         rules = unit_steps some.2.lines;
         occurs = occurrence.occurs;
       }
 
-  occurs_shown : (name run : List ℕ) (view : View) → ReplayHolds view name run before.out.written after.out.written → ShownOccurs view name run
-  occurs_shown name run view r =
+  occurs_shown : (name run : List ℕ) (json : Bool) (view : View) → ReplayHolds view name run json before.out.written after.out.written → ShownOccurs view name run
+  occurs_shown name run json view r =
       let s = r.is_run.means in
       record {
         file = r.file;
@@ -517,39 +656,40 @@ module _ (words : List (List ℕ)) (number : ℕ) (before after : State) (h : Ru
         occurs = shown_occurs r.file r.run s.shows;
       }
 
-  safe_in_lines : (name : List ℕ) (budget : Budget) (view : View) → ReportHolds number view name budget false before.out.written after.out.written → EachPrinted runs.Safe (codes "safe, ") view name before.out.written after.out.written
-  safe_in_lines name budget view r =
-      let e = printed_verify name budget false view r in
-      record { file = e.file; holds = e.holds; text = e.text; gained = e.gained; holds_of = e.safe }
+  -- with status 0 each picked pattern is safe
+  pub picked_safe : ZeroSays → (asked : VerifyWords) (view : View) (r : ReportHolds number view asked before.out.written after.out.written) → number ≡ 0 → EachPicked runs.Safe asked.pattern r.file
+  picked_safe zero_says asked view r none =
+      let own = number_other asked.all r.sample r.verdicts 0 (λ e. omega (arith, e)) (r.numbered ∙ none) in
+      let kinds = zero_says (list_any is_unsafe r.verdicts) (list_any is_unknown r.verdicts) own in
+      each_picked_of runs.Safe r.file asked.pattern r.pick r.is_pick
+      (each_safe r.file asked.budget (first_picked r.pick) (picked r.pick r.file.patterns) r.verdicts kinds.0 kinds.1 r.are.hold)
 
   pub safe_as_shown : ZeroSays → SafeAsShown number words before.shelf.files before.shelf.calls after.shelf.calls
-  safe_as_shown zero_says = λ asked is none. gives_verify asked is (omega (arith, none)) (λ view. SafeAsPrinted view asked.file) (λ view made a.
-      let budget = asked.budget in
-      let r = reported asked.file budget asked.json asked.out view made a in
-      let kinds = zero_says (list_any is_unsafe r.verdicts) (list_any is_unknown r.verdicts) (r.numbered ∙ none) in
-      let safe = each_safe r.file budget 0 r.file.patterns r.verdicts kinds.0 kinds.1 r.are.hold in
+  safe_as_shown zero_says = λ asked is none. gives_verify asked is (omega (arith, none)) (λ view. SafeAsPrinted view asked.file asked.pattern) (λ view made a.
+      let r = reported asked view made a in
+      let safe = picked_safe zero_says asked view r none in
       record {
         bytes = r.is_file.bytes;
         held = r.is_file.had.seen;
         safe = λ text printed file orders e.
             let same : r.file ≡ file = one_legal r.is_file.bytes r.file printed.file r.is_file.means printed.legal ∙ file_same printed.file file (map pair_of printed.is.orders) orders (sym printed.is.shown ∙ sym e) in
-            subst (λ (f : File). AllByRecursion (runs.Safe f.automaton) f.patterns) same safe;
+            subst (EachPicked runs.Safe asked.pattern) same safe;
       })
 
   pub status_tells : ZeroSays → StatusTells number words before.shelf.files before.shelf.calls after.shelf.calls before.out.written after.out.written
   status_tells zero_says = record {
-    safe = λ asked is none. gives_verify asked is (omega (arith, none)) (λ view. EachPatternSafe view asked.file) (λ view made a.
-        let name = asked.file in
-        let budget = asked.budget in
-        let r = reported name budget asked.json asked.out view made a in
-        let kinds = zero_says (list_any is_unsafe r.verdicts) (list_any is_unknown r.verdicts) (r.numbered ∙ none) in
-        record { file = r.file; holds = holds_file view name r.file r.is_file; safe = each_safe r.file budget 0 r.file.patterns r.verdicts kinds.0 kinds.1 r.are.hold });
-    occurs = λ asked is one. gives_verify asked is (omega (arith, one)) (λ view. SomePatternOccurs view asked.file) (λ view made a. some_occurring asked.file asked.budget asked.json view one (reported asked.file asked.budget asked.json asked.out view made a));
-    proved = printed_holds.proved;
+    safe = λ asked is none. gives_verify asked is (omega (arith, none)) (λ view. EachPatternSafe view asked.file asked.pattern) (λ view made a.
+        let r = reported asked view made a in
+        record { file = r.file; holds = holds_file view asked.file r.file r.is_file; safe = picked_safe zero_says asked view r none });
+    occurs = λ asked is one. gives_verify asked is (omega (arith, one)) (λ view. SomePatternOccurs view asked.file asked.pattern) (λ view made a. some_occurring asked view one (reported asked view made a));
+    proved = λ asked is low. gives_check asked is low (λ view. EachPrinted runs.Safe (codes "proved") view asked.file before.out.written after.out.written) (lines_of_check asked.file asked.other asked.options);
     rest_safe = λ asked is alone low. subst (λ (names : Option (List ℕ)). Acts (may_put asked.out) (λ read made. EachPrinted (RestSafeBut names) (codes "rest safe, ") (seen before.shelf.files read) asked.file before.out.written after.out.written) before.shelf.calls after.shelf.calls) alone (printed_holds.rest_safe asked is low);
-    rest_proved = λ asked is alone none. subst (λ (names : Option (List ℕ)). Grew (λ read. EachPrinted (RestSafeBut names) (codes "rest proved") (seen before.shelf.files read) asked.file before.out.written after.out.written) before.shelf.calls after.shelf.calls) alone (printed_holds.rest_proved asked is none);
-    safe_lines = λ asked is plain low. gives_verify asked is low (λ view. EachPrinted runs.Safe (codes "safe, ") view asked.file before.out.written after.out.written) (λ view made a. safe_in_lines asked.file asked.budget view (subst (λ (json : Bool). ReportHolds number view asked.file asked.budget json before.out.written after.out.written) plain (reported asked.file asked.budget asked.json asked.out view made a)));
-    shown = λ asked is none. gives (replay_meaning asked.file asked.other) refl (as_replay asked is) (omega (arith, none)) (λ view. ShownOccurs view asked.file asked.other) (λ view made a. occurs_shown asked.file asked.other view (shown asked.file asked.other view made a));
+    rest_proved = λ asked is alone low. subst (λ (names : Option (List ℕ)). Grew (λ read. EachPrinted (RestSafeBut names) (codes "rest proved") (seen before.shelf.files read) asked.file before.out.written after.out.written) before.shelf.calls after.shelf.calls) alone
+        (gives_rest_check asked is low (λ view. EachPrinted (RestSafeBut asked.silent) (codes "rest proved") view asked.file before.out.written after.out.written) (lines_of_rest_check asked.file asked.other asked.silent asked.options));
+    safe_lines = λ asked is plain low. gives_verify asked is low (λ view. EachPrinted runs.Safe (codes "safe, ") view asked.file before.out.written after.out.written) (λ view made a.
+        let e = printed_verify asked view (reported asked view made a) in
+        record { file = e.file; holds = e.holds; text = e.text; gained = e.gained; holds_of = λ k p named line. e.safe k p named (subst (λ (json : Bool). TellsSafe false json p.name e.text) (sym plain) line) });
+    shown = λ asked is none. gives (replay_meaning asked.file asked.other asked.json) refl (as_replay asked is) (omega (arith, none)) (λ view. ShownOccurs view asked.file asked.other) (λ view made a. occurs_shown asked.file asked.other asked.json view (shown asked.file asked.other asked.json view made a));
   }
 
 pub quiet : (asked : Asked) (number : ℕ) (before after : State) → Runs asked number before after → Quiet number before after
@@ -586,7 +726,7 @@ differs kind name outs rest number before after performs =
 
 pub spares_read : (words : List (List ℕ)) (number : ℕ) (before after : State) → Runs (request_of words) number before after → SparesRead words before.shelf.files before.shelf.calls after.shelf.calls
 spares_read words number before after h = record {
-  verify = λ asked is. differs file_kind asked.file (may_put asked.out) (λ file. report_meaning file asked.budget asked.json asked.out) number before after (as_verify words number before after h asked is);
+  verify = λ asked is. differs file_kind asked.file (may_put asked.out) (picked_meaning asked) number before after (as_verify words number before after h asked is);
   rest = λ asked is. differs file_kind asked.file (may_put asked.out) (at_ends asked.file (may_put asked.out) (rest_quietly asked.file asked.budget asked.out asked.silent)) number before after (as_rest words number before after h asked is);
   search = λ asked is. differs template_kind asked.file (found_names asked) (found_meaning asked) number before after (as_search words number before after h asked is);
 }

@@ -28,23 +28,24 @@ pub use Rattle.ta_meaning.proofs.OneTree.{one_legal}
 pub use Rattle.ta_program.specs.Admit.{AdmitAsked, AdmitHolds, admit_meaning, admit_of, admit_words, run_meaning, values_kind, values_meaning}
 pub use Rattle.ta_program.specs.Asked.{Asked, IsAskedFor, LegalFile, Passes, PassesWhere, Runs, ask, ask_where, choose}
 pub use Rattle.ta_program.specs.Asked.Asked.{Command, NoCommand}
-pub use Rattle.ta_program.specs.Bench.{BUDGET, BenchHolds, IsBench, SaysBench, bench_meaning, bench_of, bench_status, bench_text, bench_words}
+pub use Rattle.ta_program.specs.Bench.{BUDGET, BenchHolds, IsBench, IsCertified, SaysBench, bench_meaning, bench_of, bench_status, bench_text, bench_words}
 unfoldable pub use Rattle.ta_program.specs.Bench.{family_text}
 pub use Rattle.ta_program.specs.Certified.{HindersCertificate, LongCertificate, long_line}
-pub use Rattle.ta_program.specs.Check.{CheckHolds, check_meaning, check_of, proved_meaning}
+pub use Rattle.ta_program.specs.Check.{CheckHolds, check_meaning, proved_meaning}
 pub use Rattle.ta_program.specs.Compress.{CanCompress, CompressFaultIn, CompressHolds, Compresses, IsRefusedRun, IsTextFault, LeavesRange, SaysShort, ShortOf, compress_meaning, compress_of, long_kind, of_run, out_of_range_line, short_meaning}
 pub use Rattle.ta_program.specs.Export.{ExportHolds, SaysSystem, WordHinders, export_meaning, export_of, export_words, system_meaning, word_fault_text}
 pub use Rattle.ta_program.specs.Faults.{FaultsAreNamed, HinderAlike, HinderOnce, NamesFault, OfCommand, OneFault}
-pub use Rattle.ta_program.specs.Inside.Certifying.{Certifies, ReportsAndPuts, SaysLong}
-pub use Rattle.ta_program.specs.Inside.Found.{EndsRefused, WordRefused}
+pub use Rattle.ta_program.specs.Inside.Certifying.{Certifies, ReportsAndPuts}
+pub use Rattle.ta_program.specs.Inside.Found.{EndsRefused, PickRefused, WordRefused}
 pub use Rattle.ta_program.specs.Inside.Judged.{Breaks, IsAllowed, IsUnproved, JudgedTo, JudgedWhole, PassesLimit, PieceFed, RefusedBy, Turn}
-pub use Rattle.ta_program.specs.Inside.Reported.{RestReported, SampleReported}
+pub use Rattle.ta_program.specs.Inside.Reported.{SampleReported}
 pub use Rattle.ta_program.specs.Kinds.{IsFile, IsReplayFault, ShowsRun, certificate_kind, file_kind, run_kind}
 pub use Rattle.ta_program.specs.Laws.{FoundIsAccepted, PrintedRunsAreReplayed, SaysOrFails, WrittenAtRestIsAccepted, WrittenIsAccepted}
-pub use Rattle.ta_program.specs.Printed.{EachPrintedUnsafe, EachToldSafe, UnsafePrinted, rest_telling, verify_telling}
+pub use Rattle.ta_program.specs.Printed.{EachPrintedUnsafe, EachToldSafe, UnsafePrinted, telling_of}
 pub use Rattle.ta_program.specs.Program.{Admitting, Benches, CertificateWritten, CheckProves, ComparesFirst, Completes, EndsSo, ExactlySo, Exports, HoldsSame, KeepsFiles, Opens, PassesLegal, PrintedHolds, ReplayShows, RestProves, RestsReport, RunShortens, Searches, SparesRead, VerifyReports, put_by}
-pub use Rattle.ta_program.specs.Replay.{ReplayHolds, SaysShown, replay_meaning, replay_of, shown_meaning}
-pub use Rattle.ta_program.specs.Reporting.{CertificateStands, ReportHolds, Reports, report_meaning, verify_meaning}
+pub use Rattle.ta_program.specs.Replay.{ReplayHolds, SaysShown, replay_meaning, shown_meaning}
+pub use Rattle.ta_program.specs.Reporting.{CertificateStands, ReportHolds, Reports, report_meaning, verify_meaning, IsDecided, picked_meaning}
+pub use Rattle.ta_program.specs.PatternOption.{EachPicked, HasName, IsPick, LegalPicked, PickHinders, given_pattern, with_pick}
 pub use Rattle.ta_program.specs.Requests.{request_of}
 pub use Rattle.ta_program.specs.Rest.{HindersRest, IsKnownAtRest, LongAtRest, LongRest, RestCertificateStands, RestReportHolds, RestReports, rest_meaning, rest_quietly, rest_report_meaning}
 pub use Rattle.ta_program.specs.RestCheck.{RestCheckHolds, quietly_meaning, rest_check_meaning, rest_proved_meaning}
@@ -55,7 +56,7 @@ pub use Rattle.ta_program.specs.Search.{Finds, HindersFound, HoldFound, IsTempla
 pub use Rattle.ta_program.specs.SearchSeen.{search_seen}
 pub use Rattle.ta_program.specs.SearchWords.{SearchWords, search_form, search_of, search_taken, search_words}
 pub use Rattle.ta_program.specs.Show.{IsFileText, SaysFile, ShowHolds, file_meaning, show_meaning, show_of, show_words}
-pub use Rattle.ta_program.specs.Statuses.{verdicts_number}
+pub use Rattle.ta_program.specs.Statuses.{report_number, tells_nothing, verdicts_number}
 pub use Rattle.ta_program.specs.Taken.{names_seen}
 pub use Rattle.ta_program.specs.Values.{TwoNames, are_same, budget_of, file_name_of, filled_of, is_budget, out_of, two_names}
 pub use Rattle.ta_program.specs.VerifyWords.{VerifyWords, verify_form, verify_of, verify_taken, verify_words}
@@ -67,12 +68,15 @@ pub use Rattle.ta_replay.proofs.TextsShort.{lines_counted, run_text_short}
 pub use Rattle.ta_replay.specs.RunText.{IsRunText, run_text}
 pub use Rattle.ta_replay.specs.Shows.{IsFirstConfig, Shows, ShowsPattern, shown_of, unit_steps}
 pub use Rattle.ta_replay.specs.declared.run.Run.{Run}
-pub use Rattle.ta_report.proofs.Printed.{printed_proved, printed_rest_proved, printed_rest_safe, printed_rest_unsafe, printed_runs, runs_printed}
+pub use Rattle.ta_report.proofs.Printed.{printed_rest_safe, printed_rest_unsafe, printed_runs, runs_printed}
 pub use Rattle.ta_report.proofs.Tellings.{run_told, told_run, told_safe, told_unsafe}
-pub use Rattle.ta_report.specs.Check.{check_text, proofs_told, rest_check_text, word_told}
+pub use Rattle.ta_report.specs.Check.{proofs_told, word_told}
 pub use Rattle.ta_report.specs.Report.{VerdictFits, rest_text}
-pub use Rattle.ta_report.specs.Shown.{shown_line}
-pub use Rattle.ta_report.specs.Telling.{TellsRestUnsafe, TellsUnsafe, report_of}
+pub use Rattle.ta_report.specs.Telling.{TellsUnsafe, report_of, TellsSafe}
+pub use Rattle.ta_report.specs.Picked.{entry_of, first_picked, picked}
+pub use Rattle.ta_report.specs.declared.pick.Pick.{Pick}
+pub use Rattle.ta_report.specs.declared.pick.Pick.TheVariants.{All, One}
+pub use Rattle.ta_program.specs.declared.telling.Form.{Form}
 pub use Rattle.ta_report.specs.declared.verdict.ReportSample.{ReportSample}
 pub use Rattle.ta_report.specs.declared.verdict.Verdict.{Verdict}
 pub use Rattle.ta_report.specs.declared.verdict.Verdict.TheVariants.{Overflow, Safe, Spent, Unsafe}
@@ -118,10 +122,17 @@ pub use Rattle.ta_smt.specs.Admit.{AskedWord}
 pub use Rattle.ta_smt.specs.Named.{IsWholeWordOf, IsWordOf, Spelling, WholeFaultOf, WordFaultOf}
 pub use Rattle.ta_smt.specs.declared.fault.WordFault.{WordFault}
 pub use Rattle.ta_syntax.specs.PlainTrees.{plain_tree}
-pub use Rattle.ta_verdict.proofs.VerdictsMade.{as_many, held, held_by}
+pub use Rattle.ta_verdict.proofs.VerdictsMade.{as_many, held, held_by, held_entry, held_number}
 pub use Rattle.ta_verdict.proofs.VerdictsSaid.{tree_safe, verdict_run, verdict_safe}
-pub use Rattle.ta_verdict.specs.Certificates.{CertificateOf, SafeOne, safe_numbers, safe_ones, tree_size, with_safe}
+pub use Rattle.ta_verdict.specs.Certificates.{CertificateOf, CertificateOn, SafeOne, safe_among, safe_numbers, safe_ones, safe_picked, tree_size, with_safe}
 pub use Rattle.ta_verdict.specs.declared.budget.Budget.{Budget}
-pub use Rattle.ta_verdict.specs.Verdicts.{AreVerdicts, EachHolds, IsKnown, IsSample, NoSample, SampleReal, UnsafeHolds, VerdictHolds, VerdictsHold, is_unknown, is_unsafe, place_of}
+pub use Rattle.ta_verdict.specs.Verdicts.{AreVerdicts, AreVerdictsOn, EachHolds, IsKnown, IsSample, NoSample, SampleReal, UnsafeHolds, VerdictHolds, VerdictsHold, is_unknown, is_unsafe, place_of}
 pub use Rattle.ta_shell.specs.Making.{Acts, AreOfStages, AreStaging, PutWhole, TellsFile}
 pub use Rattle.ta_shelf.proofs.CallLemmas.{reads-append}
+pub use Rattle.ta_shell.specs.Reading.{SaysLong}
+pub use Rattle.ta_shell.specs.Staging.{Begun, HasNoAnswer, SaysAndStages, SettlesFile, StagedBy, StagedInPart, StagedOr, StagedSoFar, result_seen}
+pub use Rattle.ta_shell.specs.declared.staged_answer.StagedAnswer.{StagedAnswer}
+pub use Rattle.ta_shell.specs.declared.staged_file.StagedFile.{StagedFile}
+pub use Rattle.ta_shell.specs.Ends.{LetGo}
+pub use Rattle.ta_shell.specs.Making.{Changed}
+pub use Rattle.std.specs.declared.alloc.AllocError.{AllocError}

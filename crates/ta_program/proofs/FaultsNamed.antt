@@ -1,5 +1,5 @@
 -- What is printed names the error.
-use Rattle.ta_program.proofs.Common.{Budget, ◌≡◌, ◌∙◌, ◌≤◌, ℕ, Bool, true, false, List, [], ◌∷◌, Option, None, Some, refl, sym, ap, subst, inl, inr, arith, codes, bytes_eq, File, one_legal, check_text, rest_check_text, run_text, Template, one_fault, Told, replies_monotone, Monotone, Decides, Meaning, Performs, State, Tells, file_line, in_files, seen, Writes, after, finds, replies, whole_faults_once, word_faults_once, whole_exact, words_exact, IsWholeWordOf, IsWordOf, Spelling, WholeFaultOf, WordFaultOf, WordFault, claiming, AdmitAsked, admit_meaning, admit_words, run_meaning, values_kind, values_meaning, Asked, LegalFile, Runs, ask, ask_where, choose, Command, NoCommand, SaysBench, bench_meaning, bench_words, HindersCertificate, may_put, check_meaning, proved_meaning, SaysShort, compress_meaning, long_kind, short_meaning, SaysSystem, WordHinders, export_meaning, export_words, system_meaning, word_fault_text, FaultsAreNamed, HinderOnce, NamesFault, OfCommand, certificate_kind, file_kind, run_kind, SaysShown, replay_meaning, shown_meaning, Reports, report_meaning, verify_meaning, request_of, HindersRest, RestReports, rest_meaning, rest_report_meaning, rest_check_meaning, rest_proved_meaning, CycleHinders, FileEndings, IsEnds, cycle_text, with_ends, rest_words, Finds, HindersFound, LegalTemplate, found_meaning, found_names, search_meaning, template_kind, SearchWords, search_words, two_names, verify_words, WordAsked, ◌⊎◌, AskedWord as Word, RestBudget, resting, rest_quietly, with_silent, at_ends}
+use Rattle.ta_program.proofs.Common.{Budget, ◌≡◌, ◌∙◌, ◌≤◌, ℕ, Bool, true, false, List, [], ◌∷◌, Option, None, Some, refl, sym, ap, subst, inl, inr, arith, codes, bytes_eq, File, one_legal, run_text, Template, one_fault, Told, replies_monotone, Monotone, Decides, Meaning, Performs, State, Tells, file_line, in_files, seen, Writes, after, finds, replies, whole_faults_once, word_faults_once, whole_exact, words_exact, IsWholeWordOf, IsWordOf, Spelling, WholeFaultOf, WordFaultOf, WordFault, claiming, AdmitAsked, admit_meaning, admit_words, run_meaning, values_kind, values_meaning, Asked, LegalFile, Runs, ask, ask_where, choose, Command, NoCommand, SaysBench, bench_meaning, bench_words, HindersCertificate, may_put, check_meaning, proved_meaning, SaysShort, compress_meaning, long_kind, short_meaning, SaysSystem, WordHinders, export_meaning, export_words, system_meaning, word_fault_text, FaultsAreNamed, HinderOnce, NamesFault, OfCommand, certificate_kind, file_kind, run_kind, SaysShown, replay_meaning, shown_meaning, Reports, report_meaning, verify_meaning, request_of, HindersRest, RestReports, rest_meaning, rest_report_meaning, rest_check_meaning, rest_proved_meaning, CycleHinders, FileEndings, IsEnds, cycle_text, with_ends, rest_words, Finds, HindersFound, LegalTemplate, found_meaning, found_names, search_meaning, template_kind, SearchWords, search_words, two_names, verify_words, WordAsked, ◌⊎◌, AskedWord as Word, RestBudget, resting, rest_quietly, with_silent, at_ends}
 use Rattle.ta_program.proofs.Common.{SaysFile, file_meaning, show_meaning, show_words}
 use Rattle.ta_meaning.specs.Laws.{FirstFaultsAreUnique}
 use Rattle.ta_claim.specs.declared.claim.Claim.TheVariants as claim
@@ -7,11 +7,17 @@ use Rattle.ta_program.proofs.EndsOnce.{ends_once}
 use Rattle.ta_program.proofs.RestMeanings.{cycle_rule, ends_monotone, hinders_rest, no_cycle, quietly_monotone, rest_quietly_monotone}
 use Rattle.ta_program.proofs.SilentPlaces.{silent_fits, silent_line, silent_number, silent_once}
 use Rattle.ta_program.proofs.Common.{AreSilent, LegalSilently, NamesHinder, claiming_with, quietly_meaning, rest_check_words}
+use Rattle.ta_program.specs.CheckWords.{check_words, replay_words}
+use Rattle.ta_program.specs.Proofs.{SaysProofs}
+use Rattle.ta_program.specs.declared.proof_options.ProofOptions.{ProofOptions}
+use Rattle.ta_program.specs.Version.{version_meaning, version_text, version_words}
 use Rattle.ta_program.proofs.FaultsOnce.{certificate_settled, long_once, run_once, settled, values_once}
-use Rattle.ta_program.proofs.Meanings.{hinders_long, proved_monotone, report_monotone, short_monotone, shown_monotone}
+use Rattle.ta_program.proofs.Meanings.{hinders_long, picked_monotone, proved_monotone, short_monotone, shown_monotone}
 use Rattle.ta_program.proofs.SearchMeanings.{found_monotone, hinders_four, one_text, template_fits}
 use Rattle.ta_program.proofs.OneLine.{after_last, after_once, finds_once, replies_hinder, settles_once, spared_once}
 use Rattle.ta_program.proofs.WordMeanings.{run_monotone, system_monotone}
+use Rattle.ta_program.proofs.Common.{LegalPicked, Pick, VerifyWords, picked_meaning}
+use Rattle.ta_program.proofs.PatternPicks.{picks_once}
 
 -- a line that says why a file hasn't a word
 module _ (Of : WordFault → Type 0) (name : List ℕ) where
@@ -25,9 +31,9 @@ module _ (Of : WordFault → Type 0) (name : List ℕ) where
   )
 
 -- a line that says that a certificate is too long
-long_certificate : (file : File) (budget : Budget) (out : Option (List ℕ)) (line words : List ℕ) (number other : ℕ) → HindersCertificate file budget out number line → HindersCertificate file budget out other words → line ≡ words
-long_certificate file budget None line words number other h k = absurd h
-long_certificate file budget (Some out) line words number other h k = h.said ∙ sym k.said
+long_certificate : (file : File) (pick : Pick) (budget : Budget) (out : Option (List ℕ)) (line words : List ℕ) (number other : ℕ) → HindersCertificate file pick budget out number line → HindersCertificate file pick budget out other words → line ≡ words
+long_certificate file pick budget None line words number other h k = absurd h
+long_certificate file pick budget (Some out) line words number other h k = h.said ∙ sym k.said
 
 long_found : (t : Template) (budget : Budget) (out : Option (List ℕ)) (line words : List ℕ) (number other : ℕ) → HindersFound t budget out number line → HindersFound t budget out other words → line ≡ words
 long_found t budget None line words number other h k = absurd h
@@ -43,27 +49,31 @@ module _ (unique : FirstFaultsAreUnique) (told : Told) where
   file_first name puts rest rests later =
       after_once file_kind (settled file_kind (λ bytes f none. none) unique) name puts rest rests told 3 refl (omega arith) (omega arith) (λ bytes file fault legal found. legal.no_fault fault found) later one_legal
 
-  report_once : (file : File) (budget : Budget) (json : Bool) (out : Option (List ℕ)) → HinderOnce (report_meaning file budget json out) told
-  report_once file budget json out =
-      settles_once (may_put out) (Reports file budget json out) (HindersCertificate file budget out) told
-      (λ number line h. let is = (hinders_long file budget out number line h).0 in (omega (arith, is), omega (arith, is)))
-      (λ number other line words h k. ((hinders_long file budget out number line h).0 ∙ sym (hinders_long file budget out other words k).0, long_certificate file budget out line words number other h k))
+  report_once : (asked : VerifyWords) (file : File) (pick : Pick) → HinderOnce (report_meaning asked file pick) told
+  report_once asked file pick =
+      settles_once (may_put asked.out) (Reports asked file pick) (HindersCertificate file pick asked.budget asked.out) told
+      (λ number line h. let is = (hinders_long file pick asked.budget asked.out number line h).0 in (omega (arith, is), omega (arith, is)))
+      (λ number other line words h k. (
+        (hinders_long file pick asked.budget asked.out number line h).0 ∙ sym (hinders_long file pick asked.budget asked.out other words k).0,
+        long_certificate file pick asked.budget asked.out line words number other h k,
+      ))
 
-  verify_once : (name : List ℕ) (budget : Budget) (json : Bool) (out : Option (List ℕ)) → HinderOnce (verify_meaning name budget json out) told
-  verify_once name budget json out =
-      spared_once file_kind name (may_put out) (λ file. report_meaning file budget json out) (λ file. report_monotone file budget json out) told (λ bytes file fault legal found. legal.no_fault fault found)
-      (file_first name (may_put out) (λ file. report_meaning file budget json out) (λ file. report_monotone file budget json out) (λ file. report_once file budget json out))
+  verify_once : (asked : VerifyWords) → HinderOnce (verify_meaning asked) told
+  verify_once asked =
+      spared_once file_kind asked.file (may_put asked.out) (picked_meaning asked) (picked_monotone asked) told (λ bytes file fault legal found. legal.no_fault fault found)
+      (file_first asked.file (may_put asked.out) (picked_meaning asked) (picked_monotone asked) (λ file.
+      picks_once asked.file asked.pattern (may_put asked.out) file (report_meaning asked file) told (report_once asked file)))
 
-  check_once : (name certificate : List ℕ) → HinderOnce (check_meaning name certificate) told
-  check_once name certificate =
-      file_first name [] (λ file. proved_meaning file certificate) (λ file. proved_monotone file certificate) (λ file.
-      after_last (certificate_kind (claiming claim.Safe file)) (certificate_settled (claiming claim.Safe file)) certificate [] (λ numbers. replies [] (Writes 0 (check_text file numbers))) (λ numbers. replies_monotone [] (Writes 0 (check_text file numbers))) told 4 refl (omega arith) (omega arith)
+  check_once : (name certificate : List ℕ) (options : ProofOptions) → HinderOnce (check_meaning name certificate options) told
+  check_once name certificate options =
+      file_first name [] (λ file. proved_meaning file options certificate) (λ file. proved_monotone file options certificate) (λ file.
+      after_last (certificate_kind (claiming claim.Safe file)) (certificate_settled (claiming claim.Safe file)) certificate [] (λ numbers. replies [] (SaysProofs false file options numbers)) (λ numbers. replies_monotone [] (SaysProofs false file options numbers)) told 4 refl (omega arith) (omega arith)
       (λ bytes numbers fault proves found. found.no_certificate numbers proves.accepted) (λ numbers number line none. none))
 
-  replay_once : (name run : List ℕ) → HinderOnce (replay_meaning name run) told
-  replay_once name run =
-      file_first name [] (λ file. shown_meaning file run) (λ file. shown_monotone file run) (λ file.
-      after_last (run_kind file) (settled (run_kind file) (λ bytes f none. none) (run_once file)) run [] (λ shown. replies [] (SaysShown file shown)) (λ shown. replies_monotone [] (SaysShown file shown)) told 4 refl (omega arith) (omega arith)
+  replay_once : (name run : List ℕ) (json : Bool) → HinderOnce (replay_meaning name run json) told
+  replay_once name run json =
+      file_first name [] (λ file. shown_meaning file json run) (λ file. shown_monotone file json run) (λ file.
+      after_last (run_kind file) (settled (run_kind file) (λ bytes f none. none) (run_once file)) run [] (λ shown. replies [] (SaysShown file json shown)) (λ shown. replies_monotone [] (SaysShown file json shown)) told 4 refl (omega arith) (omega arith)
       (λ bytes shown fault shows found. found.shows_nothing shown shows) (λ shown number line none. none))
 
   pub compress_once : (name run : List ℕ) → HinderOnce (compress_meaning name run) told
@@ -150,15 +160,15 @@ module _ (unique : FirstFaultsAreUnique) (told : Told) where
       names_once name names (may_put out) file (λ places. rest_report_meaning (resting budget places) out file ends) (λ places.
       rest_report_once (resting budget places) out file ends)))
 
-  proved_once : (certificate : List ℕ) (file : File) (ends : FileEndings) (silent : List ℕ) → HinderOnce (rest_proved_meaning certificate file ends silent) told
-  proved_once certificate file ends silent =
-      after_last (certificate_kind (claiming_with claim.RestSafe ends.ending silent)) (certificate_settled (claiming_with claim.RestSafe ends.ending silent)) certificate [] (λ numbers. replies [] (Writes 0 (rest_check_text file numbers))) (λ numbers. replies_monotone [] (Writes 0 (rest_check_text file numbers))) told 4 refl (omega arith) (omega arith)
+  proved_once : (certificate : List ℕ) (options : ProofOptions) (file : File) (ends : FileEndings) (silent : List ℕ) → HinderOnce (rest_proved_meaning certificate options file ends silent) told
+  proved_once certificate options file ends silent =
+      after_last (certificate_kind (claiming_with claim.RestSafe ends.ending silent)) (certificate_settled (claiming_with claim.RestSafe ends.ending silent)) certificate [] (λ numbers. replies [] (SaysProofs true file options numbers)) (λ numbers. replies_monotone [] (SaysProofs true file options numbers)) told 4 refl (omega arith) (omega arith)
       (λ bytes numbers fault proves found. found.no_certificate numbers proves.accepted) (λ numbers number line none. none)
 
-  rest_check_once : (name certificate : List ℕ) (names : Option (List ℕ)) → HinderOnce (rest_check_meaning name certificate names) told
-  rest_check_once name certificate names =
-      ends_line name [] (quietly_meaning name certificate names) (quietly_monotone name certificate names) (λ file ends.
-      names_once name names [] file (rest_proved_meaning certificate file ends) (proved_once certificate file ends))
+  rest_check_once : (name certificate : List ℕ) (names : Option (List ℕ)) (options : ProofOptions) → HinderOnce (rest_check_meaning name certificate names options) told
+  rest_check_once name certificate names options =
+      ends_line name [] (quietly_meaning name certificate names options) (quietly_monotone name certificate names options) (λ file ends.
+      names_once name names [] file (rest_proved_meaning certificate options file ends) (proved_once certificate options file ends))
 
   -- what words ask for, row by row
   asked_where_once : {W : Type 0} (legal : W → Told → Type 0) (says : W → Meaning) (words : Option W) → ((w : W) → HinderOnce (says w) told) → OfCommand (λ m. HinderOnce m told) (ask_where legal says words)
@@ -177,22 +187,23 @@ module _ (unique : FirstFaultsAreUnique) (told : Told) where
   request_once (word ∷ words) =
       row_once (bytes_eq word (codes "admit")) _ _ (asked_once (λ all. Some all.asked.file) admit_meaning (admit_words words) admit_once)
       (row_once (bytes_eq word (codes "bench")) _ _ (asked_once (λ k. None) bench_meaning (bench_words words) (λ k. replies_hinder [] (SaysBench k) told))
-      (row_once (bytes_eq word (codes "check")) _ _ (asked_once (λ names. Some names.file) (λ names. check_meaning names.file names.other) (two_names words) (λ names. check_once names.file names.other))
+      (row_once (bytes_eq word (codes "check")) _ _ (asked_once (λ a. Some a.file) (λ a. check_meaning a.file a.other a.options) (check_words words) (λ a. check_once a.file a.other a.options))
       (row_once (bytes_eq word (codes "compress")) _ _ (asked_once (λ names. Some names.file) (λ names. compress_meaning names.file names.other) (two_names words) (λ names. compress_once names.file names.other))
       (row_once (bytes_eq word (codes "export")) _ _ (asked_once (λ asked. Some asked.file) export_meaning (export_words words) export_once)
-      (row_once (bytes_eq word (codes "replay")) _ _ (asked_once (λ names. Some names.file) (λ names. replay_meaning names.file names.other) (two_names words) (λ names. replay_once names.file names.other))
+      (row_once (bytes_eq word (codes "replay")) _ _ (asked_once (λ a. Some a.file) (λ a. replay_meaning a.file a.other a.json) (replay_words words) (λ a. replay_once a.file a.other a.json))
       (row_once (bytes_eq word (codes "rest")) _ _ (asked_where_once (λ a. LegalSilently a.file a.silent) (λ a. rest_meaning a.file a.budget a.out a.silent) (rest_words words) (λ a. rest_once a.file a.budget a.out a.silent))
-      (row_once (bytes_eq word (codes "rest-check")) _ _ (asked_where_once (λ a. LegalSilently a.file a.silent) (λ a. rest_check_meaning a.file a.other a.silent) (rest_check_words words) (λ a. rest_check_once a.file a.other a.silent))
+      (row_once (bytes_eq word (codes "rest-check")) _ _ (asked_where_once (λ a. LegalSilently a.file a.silent) (λ a. rest_check_meaning a.file a.other a.silent a.options) (rest_check_words words) (λ a. rest_check_once a.file a.other a.silent a.options))
       (row_once (bytes_eq word (codes "search")) _ _ (asked_where_once LegalTemplate search_meaning (search_words words) search_once)
       (row_once (bytes_eq word (codes "show")) _ _ (asked_once (λ name. Some name) show_meaning (show_words words) show_once)
-      (row_once (bytes_eq word (codes "verify")) _ NoCommand (asked_once (λ asked. Some asked.file) (λ asked. verify_meaning asked.file asked.budget asked.json asked.out) (verify_words words) (λ asked. verify_once asked.file asked.budget asked.json asked.out)) tt))))))))))
+      (row_once (bytes_eq word (codes "verify")) _ _ (asked_where_once (λ a. LegalPicked a.file a.pattern) verify_meaning (verify_words words) verify_once)
+      (row_once (bytes_eq word (codes "version")) _ NoCommand (asked_once (λ asked. None) (λ asked. version_meaning) (version_words words) (λ asked. replies_hinder [] (Writes 0 version_text) told)) tt)))))))))))
 
 -- what a run tells of told files
 module _ (m : Meaning) (told : Told) (number : ℕ) (before after : State) (is : before.shelf.files ≡ Some told) (performs : Performs m number before after) (decides : Decides m) (once : HinderOnce m told) where
   told_line : 3 ≤ number → number ≤ 4 → (line : List ℕ) × m.refuses (in_files told) number line × Tells line before.err after.err
   told_line three four =
       let h = performs.telling.hindered three four in
-      let line = h.such.1 in
+      let line = h.such.0 in
       (line, decides.refuses told h.read number line (subst (λ (files : Option Told). m.refuses (seen files h.read) number line) is h.such.2), h.such.3)
 
   just : (expected : ℕ) (line : List ℕ) → m.refuses (in_files told) expected line → ((number ≡ expected) × Tells line before.err after.err) ⊎ ((number ≡ 6) ⊎ (number ≡ 7))

@@ -28,7 +28,7 @@ heads_differ c e dash plain = false_from_ne_true (c == e) (λ same. elim (eqb_te
 ])
 
 -- and doesn't begin with one
-not_behind : (other word : List ℕ) → is_dashed word ≡ false → is_dashed other ≡ true → behind other word ≡ None
+pub not_behind : (other word : List ℕ) → is_dashed word ≡ false → is_dashed other ≡ true → behind other word ≡ None
 not_behind [] word plain dashed = absurd (cc)
 not_behind (c ∷ []) word plain dashed = absurd (cc)
 not_behind (c ∷ d ∷ cs) [] plain dashed = refl

@@ -14,10 +14,15 @@ use Rattle.ta_automaton.specs.declared.pattern.Pattern.{Pattern}
 use Rattle.ta_base.specs.Bytes.{Avoids}
 use Rattle.ta_base.proofs.Lists.{avoids-append, avoids_known, behind_line, either_clear, heads_apart}
 use Rattle.ta_replay.specs.RunText.{run_lines}
+use Rattle.std.specs.Prelude.{Option, None, Some}
+use Rattle.ta_report.specs.Check.{word_told}
+use Rattle.ta_report.specs.CheckJson.{TellsProved, given_members, proofs_data, proofs_json, proofs_member, proofs_of, proved_word, told_data}
 use Rattle.ta_report.specs.Json.{json_text, place_members, report_data, sample_data, spent_members, texts_data, value_data, values_data, verdict_data}
 use Rattle.ta_report.specs.Json.{verdict_member, verdicts_data}
 use Rattle.ta_report.specs.Printed.{HasLine, LineAt, told_of}
-use Rattle.ta_report.specs.Report.{place_text}
+use Rattle.ta_report.specs.Picked.{picked}
+use Rattle.ta_report.specs.Report.{place_text, safe_word, unsafe_word}
+use Rattle.ta_report.specs.declared.pick.Pick.{Pick}
 use Rattle.ta_report.specs.declared.verdict.ReportKind.{ReportKind}
 use Rattle.ta_report.specs.declared.verdict.ReportSample.{ReportSample}
 use Rattle.ta_report.specs.declared.verdict.ReportSample.TheVariants as sample
@@ -149,42 +154,42 @@ sample_clear file sample.Empty = object_clear (verdict_member (codes "none")) (v
 sample_clear file (sample.Spent count) = object_clear (spent_members count) (spent_clear count)
 sample_clear file (sample.Overflow node kind) = object_clear (place_members node kind) (place_clear node kind)
 
-pattern_clear : (file : File) (p : Pattern) (v : Verdict) → Clear (verdict_data file p v)
-pattern_clear file p (Safe nodes leaves) =
-    let behind = json.member (codes "nodes") (json.string (decimal nodes)) (verdict_member (codes "safe")) in
+pattern_clear : (rest : Bool) (file : File) (p : Pattern) (v : Verdict) → Clear (verdict_data rest file p v)
+pattern_clear rest file p (Safe nodes leaves) =
+    let behind = json.member (codes "nodes") (json.string (decimal nodes)) (verdict_member (safe_word rest)) in
     let named = json.member (codes "name") (json.string p.name) behind in
     object_clear (json.member (codes "leaves") (json.string (decimal leaves)) named)
     (said_clear (codes "leaves") (decimal leaves) named
     (said_clear (codes "name") p.name behind
-    (said_clear (codes "nodes") (decimal nodes) (verdict_member (codes "safe")) (verdict_clear (codes "safe")))))
-pattern_clear file p (Unsafe nodes run) =
+    (said_clear (codes "nodes") (decimal nodes) (verdict_member (safe_word rest)) (verdict_clear (safe_word rest)))))
+pattern_clear rest file p (Unsafe nodes run) =
     let lines = json.array (texts_data (run_lines file run)) in
-    let ran = json.member (codes "run") lines (verdict_member (codes "unsafe")) in
+    let ran = json.member (codes "run") lines (verdict_member (unsafe_word rest)) in
     let behind = json.member (codes "nodes") (json.string (decimal nodes)) ran in
     object_clear (json.member (codes "name") (json.string p.name) behind)
     (said_clear (codes "name") p.name behind
     (said_clear (codes "nodes") (decimal nodes) ran
-    (member_clear (codes "run") lines (verdict_member (codes "unsafe")) (array_clear (texts_data (run_lines file run)) (texts_clear (run_lines file run)))
-    (verdict_clear (codes "unsafe")))))
-pattern_clear file p (Spent nodes) = object_clear (json.member (codes "name") (json.string p.name) (spent_members nodes))
+    (member_clear (codes "run") lines (verdict_member (unsafe_word rest)) (array_clear (texts_data (run_lines file run)) (texts_clear (run_lines file run)))
+    (verdict_clear (unsafe_word rest)))))
+pattern_clear rest file p (Spent nodes) = object_clear (json.member (codes "name") (json.string p.name) (spent_members nodes))
     (said_clear (codes "name") p.name (spent_members nodes) (spent_clear nodes))
-pattern_clear file p (Overflow node kind) = object_clear (json.member (codes "name") (json.string p.name) (place_members node kind))
+pattern_clear rest file p (Overflow node kind) = object_clear (json.member (codes "name") (json.string p.name) (place_members node kind))
     (said_clear (codes "name") p.name (place_members node kind) (place_clear node kind))
 
-patterns_clear : (file : File) (ps : List Pattern) (vs : List Verdict) → ClearItems (verdicts_data file ps vs)
-patterns_clear file [] vs = no_items_clear
-patterns_clear file (p ∷ ps) [] = no_items_clear
-patterns_clear file (p ∷ ps) (v ∷ vs) = item_clear (verdict_data file p v) (verdicts_data file ps vs) (pattern_clear file p v) (patterns_clear file ps vs)
+patterns_clear : (rest : Bool) (file : File) (ps : List Pattern) (vs : List Verdict) → ClearItems (verdicts_data rest file ps vs)
+patterns_clear rest file [] vs = no_items_clear
+patterns_clear rest file (p ∷ ps) [] = no_items_clear
+patterns_clear rest file (p ∷ ps) (v ∷ vs) = item_clear (verdict_data rest file p v) (verdicts_data rest file ps vs) (pattern_clear rest file p v) (patterns_clear rest file ps vs)
 
-report_clear : (file : File) (s : ReportSample) (vs : List Verdict) → Clear (report_data file s vs)
-report_clear file s vs =
-    let items = verdicts_data file file.patterns vs in
+report_clear : (rest : Bool) (file : File) (pick : Pick) (s : ReportSample) (vs : List Verdict) → Clear (report_data rest file pick s vs)
+report_clear rest file pick s vs =
+    let items = verdicts_data rest file (picked pick file.patterns) vs in
     let patterns = json.member (codes "patterns") (json.array items) json.no_members in
     let parameters = json.member (codes "parameters") (sample_data file s) patterns in
     object_clear (json.member (codes "automaton") (json.string file.automaton.name) parameters)
     (said_clear (codes "automaton") file.automaton.name parameters
     (member_clear (codes "parameters") (sample_data file s) patterns (sample_clear file s)
-    (member_clear (codes "patterns") (json.array items) json.no_members (array_clear items (patterns_clear file file.patterns vs)) no_members_clear)))
+    (member_clear (codes "patterns") (json.array items) json.no_members (array_clear items (patterns_clear rest file (picked pick file.patterns) vs)) no_members_clear)))
 
 nothing_told : (name word behind : List ℕ) → [] ≡ told_of name word ++ behind → ⊥
 nothing_told name word behind e = cc
@@ -206,8 +211,41 @@ object_told : (ms : json.Members) (name word behind : List ℕ) → Clear (json.
 object_told ms name word behind clear at = one_line (members_text false ms) name word behind clear at
 
 -- so no line tells of a pattern
-pub no_line_told : (file : File) (s : ReportSample) (vs : List Verdict) (name word : List ℕ) → HasLine (told_of name word) (json_text file s vs) → ⊥
-no_line_told file s vs name word has = object_told
+pub no_line_told : (rest : Bool) (file : File) (pick : Pick) (s : ReportSample) (vs : List Verdict) (name word : List ℕ)
+    → HasLine (told_of name word) (json_text rest file pick s vs) → ⊥
+no_line_told rest file pick s vs name word has = object_told
     (json.member (codes "automaton") (json.string file.automaton.name)
-    (json.member (codes "parameters") (sample_data file s) (json.member (codes "patterns") (json.array (verdicts_data file file.patterns vs)) json.no_members)))
-    name word has.0 (report_clear file s vs) has.1
+    (json.member (codes "parameters") (sample_data file s) (json.member (codes "patterns") (json.array (verdicts_data rest file (picked pick file.patterns) vs)) json.no_members)))
+    name word has.0 (report_clear rest file pick s vs) has.1
+
+-- ---- the line of JSON of `check` and of `rest-check`
+proof_clear : (name word : List ℕ) → Clear (told_data name word)
+proof_clear name word = object_clear (json.member (codes "name") (json.string name) (verdict_member word)) (said_clear (codes "name") name (verdict_member word) (verdict_clear word))
+
+proofs_clear : (rest : Bool) (numbers : List ℕ) (number : ℕ) (ps : List Pattern) → ClearItems (proofs_data rest numbers number ps)
+proofs_clear rest numbers number [] = no_items_clear
+proofs_clear rest numbers number (p ∷ ps) =
+    item_clear (told_data p.name (word_told rest numbers number)) (proofs_data rest numbers (number + 1) ps) (proof_clear p.name (word_told rest numbers number)) (proofs_clear rest numbers (number + 1) ps)
+
+given_clear : (file : File) (s : Option ReportSample) (ms : json.Members) → ClearMembers ms → ClearMembers (given_members file s ms)
+given_clear file None ms clear = clear
+given_clear file (Some s) ms clear = member_clear (codes "parameters") (sample_data file s) ms (sample_clear file s) clear
+
+proofs_members_clear : (rest : Bool) (file : File) (s : Option ReportSample) (numbers : List ℕ)
+    → ClearMembers (json.member (codes "automaton") (json.string file.automaton.name) (given_members file s (proofs_member rest numbers file.patterns)))
+proofs_members_clear rest file s numbers =
+    let items = proofs_data rest numbers 0 file.patterns in
+    let patterns = json.member (codes "patterns") (json.array items) json.no_members in
+    said_clear (codes "automaton") file.automaton.name (given_members file s patterns)
+    (given_clear file s patterns (member_clear (codes "patterns") (json.array items) json.no_members (array_clear items (proofs_clear rest numbers 0 file.patterns)) no_members_clear))
+
+no_proof_told : (rest : Bool) (file : File) (s : Option ReportSample) (numbers name word : List ℕ) → HasLine (told_of name word) (proofs_json rest file s numbers) → ⊥
+no_proof_told rest file s numbers name word has =
+    let ms = json.member (codes "automaton") (json.string file.automaton.name) (given_members file s (proofs_member rest numbers file.patterns)) in
+    object_told ms name word has.0 (object_clear ms (proofs_members_clear rest file s numbers)) has.1
+
+-- so what a line tells as proved is told as proved
+pub proved_by_line : (in_json rest : Bool) (file : File) (s : Option ReportSample) (numbers text name : List ℕ) → text ≡ proofs_of in_json rest file s numbers
+    → HasLine (told_of name (proved_word rest)) text → TellsProved in_json rest name text
+proved_by_line true rest file s numbers text name e line = absurd (no_proof_told rest file s numbers name (proved_word rest) (subst (HasLine (told_of name (proved_word rest))) e line))
+proved_by_line false rest file s numbers text name e line = line

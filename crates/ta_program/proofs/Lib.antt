@@ -1,7 +1,13 @@
 mod Prefixes
 mod WordsBudget
 mod Certifying
+mod OptionUnset
+mod StrictNumbers
 mod UnsafePrinted
+mod PatternPicks
+mod ProofsSaid
+mod TriesPrinted
+mod ReportsExact
 mod Meanings
 mod WordMeanings
 mod ShowMeanings

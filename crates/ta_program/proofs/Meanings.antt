@@ -1,14 +1,22 @@
 -- what each command says grows with what is seen, and known files leave one number
-use Rattle.ta_program.proofs.Common.{Budget, ◌≡◌, ◌∙◌, ℕ, List, [], length, slice_get, Option, None, Some, refl, sym, ap, subst, inl, inr, arith, Bool, IsSome, File, Pattern, one_legal, check_text, Verdict, Told, Decides, IsSo, Meaning, put_bytes, View, in_files, Answer, Kind, Writes, after, replies, after_monotone, decides, no_hindrance, one_number, replies_monotone, replies_one, settles_monotone, Monotone, IsAskedFor, LegalFile, Passes, PassesWhere, ask, ask_where, claiming, BUDGET, IsBench, SaysBench, bench_meaning, bench_status, family_text, check_meaning, proved_meaning, SaysShort, compress_meaning, long_kind, short_meaning, certificate_kind, file_kind, run_kind, SaysShown, replay_meaning, shown_meaning, HindersCertificate, LongCertificate, may_put, Reports, report_meaning, verify_meaning, AreVerdicts, verdicts_number, option_map, spared_decides, spared_passes}
+use Rattle.ta_program.proofs.Common.{Budget, ◌≡◌, ◌∙◌, ℕ, List, [], length, slice_get, Option, None, Some, refl, sym, ap, subst, inl, inr, arith, Bool, IsSome, File, Pattern, one_legal, Verdict, Told, Decides, IsSo, Meaning, put_bytes, View, in_files, Answer, Kind, Writes, after, replies, after_monotone, decides, no_hindrance, one_number, replies_monotone, replies_one, settles_monotone, Monotone, IsAskedFor, LegalFile, Passes, PassesWhere, ask, ask_where, claiming, BUDGET, IsBench, SaysBench, bench_meaning, bench_status, family_text, check_meaning, proved_meaning, SaysShort, compress_meaning, long_kind, short_meaning, certificate_kind, file_kind, run_kind, SaysShown, replay_meaning, shown_meaning, HindersCertificate, LongCertificate, may_put, Reports, report_meaning, verify_meaning, AreVerdicts, option_map, spared_decides, spared_passes, All, AreVerdictsOn, LegalPicked, Pick, Put, ReportSample, VerifyWords, picked_meaning, report_number, false, whole_one}
+use Rattle.ta_check.proofs.Accepting.{one_list}
+use Rattle.ta_program.proofs.ProofsSaid.{says_number}
+use Rattle.ta_program.specs.Proofs.{SaysProofs}
+use Rattle.ta_program.specs.declared.proof_options.ProofOptions.{ProofOptions}
+use Rattle.ta_program.specs.Version.{version_meaning, version_text}
+use Rattle.ta_program.proofs.PatternPicks.{pick_monotone, pick_one, pick_passes}
+use Rattle.ta_program.specs.Certified.{PutsCertificate}
+use Rattle.ta_verdict.proofs.SamplesMade.{samples_once}
 use Rattle.ta_claim.specs.declared.claim.Claim.TheVariants as claim
 use Rattle.ta_verdict.proofs.CertificatesOnce.{certificates_once}
 use Rattle.ta_verdict.proofs.VerdictsOnce.{verdicts_once}
 
-pub proved_monotone : (file : File) (name : List ℕ) → Monotone (proved_meaning file name)
-proved_monotone file name = after_monotone (certificate_kind (claiming claim.Safe file)) name [] (λ numbers. replies [] (Writes 0 (check_text file numbers))) (λ numbers. replies_monotone [] (Writes 0 (check_text file numbers)))
+pub proved_monotone : (file : File) (options : ProofOptions) (name : List ℕ) → Monotone (proved_meaning file options name)
+proved_monotone file options name = after_monotone (certificate_kind (claiming claim.Safe file)) name [] (λ numbers. replies [] (SaysProofs false file options numbers)) (λ numbers. replies_monotone [] (SaysProofs false file options numbers))
 
-pub shown_monotone : (file : File) (name : List ℕ) → Monotone (shown_meaning file name)
-shown_monotone file name = after_monotone (run_kind file) name [] (λ run. replies [] (SaysShown file run)) (λ run. replies_monotone [] (SaysShown file run))
+pub shown_monotone : (file : File) (json : Bool) (name : List ℕ) → Monotone (shown_meaning file json name)
+shown_monotone file json name = after_monotone (run_kind file) name [] (λ run. replies [] (SaysShown file json run)) (λ run. replies_monotone [] (SaysShown file json run))
 
 pub short_monotone : (file : File) (name : List ℕ) → Monotone (short_meaning file name)
 short_monotone file name = after_monotone (long_kind file) name [] (λ run. replies [] (SaysShort file run)) (λ run. replies_monotone [] (SaysShort file run))
@@ -20,34 +28,47 @@ file_decides name puts rest rests ones =
     one_number file_kind name puts rest rests told (λ bytes file fault legal found. legal.no_fault fault found) (λ bytes v w m n number other so so'.
     ones w told number other (subst (λ (file : File). IsSo (rest file) (in_files told) number) (one_legal bytes v w m n) so) so'))
 
-pub report_monotone : (file : File) (budget : Budget) (json : Bool) (out : Option (List ℕ)) → Monotone (report_meaning file budget json out)
-report_monotone file budget json out = settles_monotone (may_put out) (Reports file budget json out) (HindersCertificate file budget out)
+pub report_monotone : (asked : VerifyWords) (file : File) (pick : Pick) → Monotone (report_meaning asked file pick)
+report_monotone asked file pick = settles_monotone (may_put asked.out) (Reports asked file pick) (HindersCertificate file pick asked.budget asked.out)
+
+pub picked_monotone : (asked : VerifyWords) (file : File) → Monotone (picked_meaning asked file)
+picked_monotone asked file = pick_monotone asked.file asked.pattern (may_put asked.out) file (report_meaning asked file) (report_monotone asked file)
 
 -- only a certificate that is too long hinders a report, with 4
-pub hinders_long : (file : File) (budget : Budget) (out : Option (List ℕ)) (number : ℕ) (line : List ℕ) → HindersCertificate file budget out number line → (number ≡ 4) × IsSome out × LongCertificate file budget
-hinders_long file budget None number line h = absurd h
-hinders_long file budget (Some out) number line h = (h.numbered, refl, h.long)
+pub hinders_long : (file : File) (pick : Pick) (budget : Budget) (out : Option (List ℕ)) (number : ℕ) (line : List ℕ) → HindersCertificate file pick budget out number line → (number ≡ 4) × IsSome out × LongCertificate file pick budget
+hinders_long file pick budget None number line h = absurd h
+hinders_long file pick budget (Some out) number line h = (h.numbered, refl, h.long)
 
 -- no certificate is both put and too long
-not_both : (file : File) (budget : Budget) (json : Bool) (out : Option (List ℕ)) (answer : Answer) (number : ℕ) (line : List ℕ) → Reports file budget json out answer → HindersCertificate file budget out number line → ⊥
-not_both file budget json None answer number line r h = h
-not_both file budget json (Some out) answer number line r h =
+not_both :
+    (file : File) (pick : Pick) (budget : Budget) (vs : List Verdict) → AreVerdictsOn file pick budget vs → (out : Option (List ℕ)) (puts : List Put) (number : ℕ) (line : List ℕ)
+    → PutsCertificate file pick budget vs out puts → HindersCertificate file pick budget out number line → ⊥
+not_both file pick budget vs are None puts number line p h = h
+not_both file pick budget vs are (Some out) puts number line p h =
     let long = h.long in
-    let puts = r.puts in
-    let same = certificates_once file budget r.verdicts long.verdicts (put_bytes puts.put) long.text r.are long.are puts.certificate long.certificate in
-    let within = puts.within in
+    let same = certificates_once file pick budget vs long.verdicts (put_bytes p.put) long.text are long.are p.certificate long.certificate in
+    let within = p.within in
     let longer = long.longer in
     omega (arith, ap length same)
 
-reports_one : (file : File) (budget : Budget) (json : Bool) (out : Option (List ℕ)) (told : Told) (number other : ℕ) → IsSo (report_meaning file budget json out) (in_files told) number → IsSo (report_meaning file budget json out) (in_files told) other → number ≡ other
-reports_one file budget json out told number other so so' = elim so [
+-- a report has one number
+number_once :
+    (asked : VerifyWords) (file : File) (pick : Pick) (answer other : Answer) → Reports asked file pick answer → Reports asked file pick other
+    → answer.number ≡ other.number
+number_once asked file pick answer other a b =
+    let samples = samples_once file asked.budget.nodes a.sample b.sample a.is_sample b.is_sample in
+    let verdicts = verdicts_once file pick asked.budget a.verdicts b.verdicts a.are b.are in
+    a.numbered ∙ ap (λ (s : ReportSample). report_number asked.all s a.verdicts) samples ∙ ap (report_number asked.all b.sample) verdicts ∙ sym b.numbered
+
+reports_one : (asked : VerifyWords) (file : File) (pick : Pick) (told : Told) (number other : ℕ) → IsSo (report_meaning asked file pick) (in_files told) number → IsSo (report_meaning asked file pick) (in_files told) other → number ≡ other
+reports_one asked file pick told number other so so' = elim so [
   | inl a ↦ elim so' [
-    | inl b ↦ sym a.1 ∙ (a.2.numbered ∙ ap verdicts_number (verdicts_once file budget a.2.verdicts b.2.verdicts a.2.are b.2.are) ∙ sym b.2.numbered) ∙ b.1
-    | inr r ↦ absurd (not_both file budget json out a.0 other r.0 a.2 r.1)
+    | inl b ↦ sym a.1 ∙ number_once asked file pick a.0 b.0 a.2 b.2 ∙ b.1
+    | inr r ↦ absurd (not_both file pick asked.budget a.2.verdicts a.2.are asked.out a.0.puts other r.0 a.2.puts r.1)
   ]
   | inr q ↦ elim so' [
-    | inl b ↦ absurd (not_both file budget json out b.0 number q.0 b.2 q.1)
-    | inr r ↦ (hinders_long file budget out number q.0 q.1).0 ∙ sym (hinders_long file budget out other r.0 r.1).0
+    | inl b ↦ absurd (not_both file pick asked.budget b.2.verdicts b.2.are asked.out b.0.puts number q.0 b.2.puts q.1)
+    | inr r ↦ (hinders_long file pick asked.budget asked.out number q.0 q.1).0 ∙ sym (hinders_long file pick asked.budget asked.out other r.0 r.1).0
   ]
 ]
 
@@ -75,17 +96,18 @@ asked_where seen legal says decides passes (Some c) words is = subst (λ (o : Op
 pub asked_for : {C W : Type 0} (seen : C → W) (file : W → Option (List ℕ)) (says : W → Meaning) → ((w : W) → Decides (says w)) → ((w : W) → Passes (file w) (says w)) → (result : Option C) (words : Option W) → option_map seen result ≡ words → IsAskedFor (λ c. says (seen c)) (ask file says words) result
 asked_for seen file says = asked_where seen (λ w told. LegalFile told (file w)) says
 
-pub check_decides : (name certificate : List ℕ) → Decides (check_meaning name certificate)
-check_decides name certificate =
-    file_decides name [] (λ file. proved_meaning file certificate) (λ file. proved_monotone file certificate) (λ file told.
-    one_number (certificate_kind (claiming claim.Safe file)) certificate [] (λ numbers. replies [] (Writes 0 (check_text file numbers))) (λ numbers. replies_monotone [] (Writes 0 (check_text file numbers))) told
+pub check_decides : (name certificate : List ℕ) (options : ProofOptions) → Decides (check_meaning name certificate options)
+check_decides name certificate options =
+    file_decides name [] (λ file. proved_meaning file options certificate) (λ file. proved_monotone file options certificate) (λ file told.
+    one_number (certificate_kind (claiming claim.Safe file)) certificate [] (λ numbers. replies [] (SaysProofs false file options numbers)) (λ numbers. replies_monotone [] (SaysProofs false file options numbers)) told
     (λ bytes numbers fault proves found. found.no_certificate numbers proves.accepted)
-    (λ bytes v w m n. replies_one [] (Writes 0 (check_text file v)) (Writes 0 (check_text file w)) (in_files told) (λ a b x y. x.numbered ∙ sym y.numbered)))
+    (λ bytes v w m n. replies_one [] (SaysProofs false file options v) (SaysProofs false file options w) (in_files told)
+    (λ a b x y. says_number false file options v w (one_list (claiming claim.Safe file) bytes v w m.accepted n.accepted) a b x y)))
 
-pub check_passes : (name certificate : List ℕ) → Passes (Some name) (check_meaning name certificate)
-check_passes name certificate =
-    file_passes name [] (λ file. proved_meaning file certificate) (λ file. proved_monotone file certificate)
-    (λ file told. second_passes (certificate_kind (claiming claim.Safe file)) certificate (λ numbers. replies [] (Writes 0 (check_text file numbers))) refl (λ numbers view line none. none) (in_files told))
+pub check_passes : (name certificate : List ℕ) (options : ProofOptions) → Passes (Some name) (check_meaning name certificate options)
+check_passes name certificate options =
+    file_passes name [] (λ file. proved_meaning file options certificate) (λ file. proved_monotone file options certificate)
+    (λ file told. second_passes (certificate_kind (claiming claim.Safe file)) certificate (λ numbers. replies [] (SaysProofs false file options numbers)) refl (λ numbers view line none. none) (in_files told))
 
 pub compress_decides : (name run : List ℕ) → Decides (compress_meaning name run)
 compress_decides name run =
@@ -99,36 +121,43 @@ compress_passes name run =
     file_passes name [] (λ file. short_meaning file run) (λ file. short_monotone file run)
     (λ file told. second_passes (long_kind file) run (λ long. replies [] (SaysShort file long)) refl (λ long view line none. none) (in_files told))
 
-pub replay_decides : (name run : List ℕ) → Decides (replay_meaning name run)
-replay_decides name run =
-    file_decides name [] (λ file. shown_meaning file run) (λ file. shown_monotone file run) (λ file told.
-    one_number (run_kind file) run [] (λ shown. replies [] (SaysShown file shown)) (λ shown. replies_monotone [] (SaysShown file shown)) told
+pub replay_decides : (name run : List ℕ) (json : Bool) → Decides (replay_meaning name run json)
+replay_decides name run json =
+    file_decides name [] (λ file. shown_meaning file json run) (λ file. shown_monotone file json run) (λ file told.
+    one_number (run_kind file) run [] (λ shown. replies [] (SaysShown file json shown)) (λ shown. replies_monotone [] (SaysShown file json shown)) told
     (λ bytes shown fault shows found. found.shows_nothing shown shows)
-    (λ bytes v w m n. replies_one [] (SaysShown file v) (SaysShown file w) (in_files told) (λ a b x y. x.writes.numbered ∙ sym y.writes.numbered)))
+    (λ bytes v w m n. replies_one [] (SaysShown file json v) (SaysShown file json w) (in_files told) (λ a b x y. x.writes.numbered ∙ sym y.writes.numbered)))
 
-pub replay_passes : (name run : List ℕ) → Passes (Some name) (replay_meaning name run)
-replay_passes name run =
-    file_passes name [] (λ file. shown_meaning file run) (λ file. shown_monotone file run)
-    (λ file told. second_passes (run_kind file) run (λ shown. replies [] (SaysShown file shown)) refl (λ shown view line none. none) (in_files told))
+pub replay_passes : (name run : List ℕ) (json : Bool) → Passes (Some name) (replay_meaning name run json)
+replay_passes name run json =
+    file_passes name [] (λ file. shown_meaning file json run) (λ file. shown_monotone file json run)
+    (λ file told. second_passes (run_kind file) run (λ shown. replies [] (SaysShown file json shown)) refl (λ shown view line none. none) (in_files told))
 
-pub verify_decides : (name : List ℕ) (budget : Budget) (json : Bool) (out : Option (List ℕ)) → Decides (verify_meaning name budget json out)
-verify_decides name budget json out =
-    spared_decides file_kind name (may_put out) (λ file. report_meaning file budget json out) (λ file. report_monotone file budget json out) (λ bytes file fault legal found. legal.no_fault fault found)
-    (file_decides name (may_put out) (λ file. report_meaning file budget json out) (λ file. report_monotone file budget json out) (λ file told. reports_one file budget json out told))
+pub verify_decides : (asked : VerifyWords) → Decides (verify_meaning asked)
+verify_decides asked =
+    spared_decides file_kind asked.file (may_put asked.out) (picked_meaning asked) (picked_monotone asked) (λ bytes file fault legal found. legal.no_fault fault found)
+    (file_decides asked.file (may_put asked.out) (picked_meaning asked) (picked_monotone asked) (λ file told.
+    pick_one asked.file asked.pattern (may_put asked.out) file (report_meaning asked file) told (λ pick. reports_one asked file pick told)))
 
-pub verify_passes : (name : List ℕ) (budget : Budget) (json : Bool) (out : Option (List ℕ)) → Passes (Some name) (verify_meaning name budget json out)
-verify_passes name budget json out told line legal =
-    spared_passes file_kind name (may_put out) (λ file. report_meaning file budget json out) (in_files told) line
-    (file_passes name (may_put out) (λ file. report_meaning file budget json out) (λ file. report_monotone file budget json out)
-    (λ file told line hinders. let four = (hinders_long file budget out 3 line hinders).0 in absurd (omega (arith, four)))
-    told line legal)
+pub verify_passes : (asked : VerifyWords) → PassesWhere (LegalPicked asked.file asked.pattern) (verify_meaning asked)
+verify_passes asked told line legal =
+    spared_passes file_kind asked.file (may_put asked.out) (picked_meaning asked) (in_files told) line (λ refuses.
+    elim refuses [
+      | inl own ↦ no_hindrance file_kind asked.file (may_put asked.out) (picked_meaning asked) (picked_monotone asked) told (λ bytes f fault means found. means.no_fault fault found) legal.file 3 line legal.is_file own
+      | inr r ↦
+          let is = legal.is_file in
+          let same : r.0 ≡ legal.file = one_legal is.bytes r.0 legal.file (subst (λ (bytes : List ℕ). file_kind.means bytes r.0) (whole_one told asked.file file_kind.limit.bytes r.1.bytes is.bytes r.1.had is.had) r.1.means) is.means in
+          pick_passes asked.file asked.pattern (may_put asked.out) legal.file (report_meaning asked legal.file) told legal.pick legal.is_pick line
+          (λ found hinders. let four = (hinders_long legal.file found asked.budget asked.out 3 line hinders).0 in absurd (omega (arith, four)))
+          (subst (λ (f : File). (picked_meaning asked f).refuses (in_files told) 3 line) same r.2)
+    ])
 
 -- two files of one number have one verdict on their pattern
 bench_one : (k : ℕ) (p q : Pattern) (v w : Verdict) → IsBench k p v → IsBench k q w → v ≡ w
 bench_one k p q v w a b =
     let files : a.file ≡ b.file = one_legal (family_text k) a.file b.file a.legal b.legal in
     let are : AreVerdicts b.file BUDGET a.verdicts = subst (λ (f : File). AreVerdicts f BUDGET a.verdicts) files a.are in
-    let lists : a.verdicts ≡ b.verdicts = verdicts_once b.file BUDGET a.verdicts b.verdicts are b.are in
+    let lists : a.verdicts ≡ b.verdicts = verdicts_once b.file All BUDGET a.verdicts b.verdicts are b.are in
     let e : Some v ≡ Some w = sym a.given ∙ ap (λ vs. slice_get vs 0) lists ∙ b.given in
     cc
 
@@ -139,3 +168,10 @@ bench_decides k =
 
 pub bench_passes : (k : ℕ) → Passes None (bench_meaning k)
 bench_passes k told line legal none = none
+
+pub version_decides : Decides version_meaning
+version_decides =
+    decides version_meaning (replies_monotone [] (Writes 0 version_text)) (λ told. replies_one [] (Writes 0 version_text) (Writes 0 version_text) (in_files told) (λ a b x y. x.numbered ∙ sym y.numbered))
+
+pub version_passes : Passes None version_meaning
+version_passes told line legal none = none

@@ -1,5 +1,5 @@
 -- a certificate that is judged while it is read
-use Rattle.ta_program.proofs.Common.{◌≡◌, ◌∙◌, ◌+◌, ◌-◌, ◌<◌, ◌≤◌, ◌⊎◌, ℕ, Bool, true, false, List, [], ◌++◌, length, take, drop, min, Option, None, Some, Result, Ok, Err, refl, sym, ap, subst, inl, inr, arith, append_assoc, length-append, ltb-false, ltb-true, take-append-add, append-nil, length-drop, length-take-le, take-append-drop, Subject, CertFault, Accepted, Checker, AllClaimsHold, CheckerFeedAnswers, CheckerFinishAnswers, IsExactCheck, IsExactFeed, CheckerStandsFor, subject_of, IsFirstFaultFor, IsLastingFor, no_longer_certificate, Call, Grew, PieceBy, ReadsFirst, Spells, Told, Refusal, Refused, ReadFailed, PutFailed, Memory, longer_than, IsReading, ReadCause, SaysOfFile, UnreadBy, Begins, seen, where_told, Stage, CERTIFICATE, IsAllowed, Breaks, JudgedTo, JudgedWhole, PassesLimit, PieceFed, RefusedBy, Turn, IsUnproved, certificate_kind, Event, reads-append}
+use Rattle.ta_program.proofs.Common.{◌≡◌, ◌∙◌, ◌+◌, ◌-◌, ◌<◌, ◌≤◌, ◌⊎◌, ℕ, Bool, true, false, List, [], ◌++◌, length, take, drop, min, Option, None, Some, Result, Ok, Err, refl, sym, ap, subst, inl, inr, arith, append_assoc, length-append, ltb-true, take-append-add, append-nil, length-drop, length-take-le, take-append-drop, Subject, CertFault, Accepted, Checker, AllClaimsHold, CheckerFeedAnswers, CheckerFinishAnswers, IsExactCheck, IsExactFeed, CheckerStandsFor, subject_of, IsFirstFaultFor, IsLastingFor, no_longer_certificate, Call, Grew, PieceBy, ReadsFirst, Spells, Told, Refusal, Refused, ReadFailed, PutFailed, Memory, longer_than, IsReading, ReadCause, SaysOfFile, UnreadBy, Begins, seen, where_told, Stage, CERTIFICATE, IsAllowed, Breaks, JudgedTo, JudgedWhole, PassesLimit, PieceFed, RefusedBy, Turn, IsUnproved, certificate_kind, Event, reads-append}
 use Rattle.std.specs.Option.{IfSome}
 use Rattle.std.specs.Result.{IsOk}
 use Rattle.ta_cert.specs.declared.fault.CertFault.TheVariants as fault

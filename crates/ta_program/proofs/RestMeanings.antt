@@ -1,11 +1,16 @@
 -- what `rest` and `rest-check` say grows with what is seen, and known files leave one number
-use Rattle.ta_program.proofs.Common.{◌≡◌, ◌∙◌, ℕ, List, [], length, Option, None, Some, refl, sym, ap, subst, inl, inr, arith, IsSome, cases_order, Automaton, File, FirstLongerCycle, claiming_with, one_legal, rest_check_text, Verdict, RestCertificateOf, Told, Decides, IsSo, Meaning, put_bytes, in_files, Answer, Writes, finds, replies, after_monotone, finds_monotone, finds_one, no_hindrance, one_number, replies_monotone, replies_one, settles_monotone, Monotone, whole_one, PassesWhere, may_put, certificate_kind, file_kind, HindersRest, LongRest, RestReports, rest_meaning, rest_report_meaning, quietly_meaning, rest_check_meaning, rest_proved_meaning, AreSilent, LegalSilently, NamesHinder, CycleHinders, FileEndings, IsEnds, LegalAtRest, with_ends, verdicts_number, Budget, RestBudget, resting, rest_quietly, with_silent, at_ends, spared_decides, spared_passes}
+use Rattle.ta_program.proofs.Common.{true, ◌≡◌, ◌∙◌, ℕ, List, [], length, Option, None, Some, refl, sym, ap, subst, inl, inr, arith, IsSome, cases_order, Automaton, File, FirstLongerCycle, claiming_with, one_legal, Verdict, RestCertificateOf, Told, Decides, IsSo, Meaning, put_bytes, in_files, Answer, finds, replies, after_monotone, finds_monotone, finds_one, no_hindrance, one_number, replies_monotone, replies_one, settles_monotone, Monotone, whole_one, PassesWhere, may_put, certificate_kind, file_kind, HindersRest, LongRest, RestReports, rest_meaning, rest_report_meaning, quietly_meaning, rest_check_meaning, rest_proved_meaning, AreSilent, LegalSilently, NamesHinder, CycleHinders, FileEndings, IsEnds, LegalAtRest, with_ends, verdicts_number, Budget, RestBudget, resting, rest_quietly, with_silent, at_ends, spared_decides, spared_passes}
 use Rattle.ta_claim.specs.declared.claim.Claim.TheVariants.{RestSafe}
 use Rattle.ta_verdict.proofs.rest.VerdictsOnce.{verdicts_once}
 use Rattle.ta_verdict.proofs.rest.CertificatesOnce.{rest_certificates_once}
+use Rattle.ta_check.proofs.Accepting.{one_list}
+use Rattle.ta_program.proofs.ProofsSaid.{says_number}
+use Rattle.ta_program.specs.Proofs.{SaysProofs}
+use Rattle.ta_program.specs.declared.proof_options.ProofOptions.{ProofOptions}
 use Rattle.ta_program.proofs.EndsOnce.{ends_once}
 use Rattle.ta_program.proofs.SilentPlaces.{silent_fits, silent_number, silent_once}
 use Rattle.ta_program.proofs.Meanings.{file_decides, second_passes}
+use Rattle.ta_report.specs.declared.pick.Pick.TheVariants.{All}
 
 -- a longer cycle has one first rule, and there is none where there are endings
 cycle_number : (name : List ℕ) (file : File) (number other : ℕ) (line words : List ℕ) → CycleHinders name file number line → CycleHinders name file other words → number ≡ other
@@ -93,9 +98,9 @@ not_both file ends budget None answer number line is r h = h
 not_both file ends budget (Some out) answer number line is r h =
     let long = h.long in
     let puts = r.puts in
-    let verdicts = verdicts_once file ends.ending ends.added budget is.endings r.verdicts long.verdicts r.are long.are in
-    let own = subst (λ (vs : List Verdict). RestCertificateOf ends.ending budget vs (put_bytes puts.put)) verdicts puts.certificate in
-    let same = rest_certificates_once ends.ending budget long.verdicts (put_bytes puts.put) long.text own long.certificate in
+    let verdicts = verdicts_once file ends.ending ends.added All budget is.endings r.verdicts long.verdicts r.are long.are in
+    let own = subst (λ (vs : List Verdict). RestCertificateOf ends.ending All budget vs (put_bytes puts.put)) verdicts puts.certificate in
+    let same = rest_certificates_once ends.ending All budget long.verdicts (put_bytes puts.put) long.text own long.certificate in
     let within = puts.within in
     let longer = long.longer in
     omega (arith, ap length same)
@@ -103,7 +108,7 @@ not_both file ends budget (Some out) answer number line is r h =
 rest_one : (budget : RestBudget) (out : Option (List ℕ)) (file : File) (ends : FileEndings) → IsEnds file ends → (told : Told) (number other : ℕ) → IsSo (rest_report_meaning budget out file ends) (in_files told) number → IsSo (rest_report_meaning budget out file ends) (in_files told) other → number ≡ other
 rest_one budget out file ends is told number other so so' = elim so [
   | inl a ↦ elim so' [
-    | inl b ↦ sym a.1 ∙ (a.2.numbered ∙ ap verdicts_number (verdicts_once file ends.ending ends.added budget is.endings a.2.verdicts b.2.verdicts a.2.are b.2.are) ∙ sym b.2.numbered) ∙ b.1
+    | inl b ↦ sym a.1 ∙ (a.2.numbered ∙ ap verdicts_number (verdicts_once file ends.ending ends.added All budget is.endings a.2.verdicts b.2.verdicts a.2.are b.2.are) ∙ sym b.2.numbered) ∙ b.1
     | inr r ↦ absurd (not_both file ends budget out a.0 other r.0 is a.2 r.1)
   ]
   | inr q ↦ elim so' [
@@ -138,29 +143,30 @@ rest_passes name budget out names told line legal =
           absurd (omega (arith, four))),
     )) told line legal)
 
-pub rest_proved_monotone : (name : List ℕ) (file : File) (ends : FileEndings) (silent : List ℕ) → Monotone (rest_proved_meaning name file ends silent)
-rest_proved_monotone name file ends silent =
-    after_monotone (certificate_kind (claiming_with RestSafe ends.ending silent)) name [] (λ numbers. replies [] (Writes 0 (rest_check_text file numbers))) (λ numbers. replies_monotone [] (Writes 0 (rest_check_text file numbers)))
+pub rest_proved_monotone : (name : List ℕ) (options : ProofOptions) (file : File) (ends : FileEndings) (silent : List ℕ) → Monotone (rest_proved_meaning name options file ends silent)
+rest_proved_monotone name options file ends silent =
+    after_monotone (certificate_kind (claiming_with RestSafe ends.ending silent)) name [] (λ numbers. replies [] (SaysProofs true file options numbers)) (λ numbers. replies_monotone [] (SaysProofs true file options numbers))
 
-pub quietly_monotone : (name certificate : List ℕ) (names : Option (List ℕ)) (file : File) (ends : FileEndings) → Monotone (quietly_meaning name certificate names file ends)
-quietly_monotone name certificate names file ends = names_monotone name names [] file (rest_proved_meaning certificate file ends) (rest_proved_monotone certificate file ends)
+pub quietly_monotone : (name certificate : List ℕ) (names : Option (List ℕ)) (options : ProofOptions) (file : File) (ends : FileEndings) → Monotone (quietly_meaning name certificate names options file ends)
+quietly_monotone name certificate names options file ends = names_monotone name names [] file (rest_proved_meaning certificate options file ends) (rest_proved_monotone certificate options file ends)
 
-proved_one : (certificate : List ℕ) (file : File) (ends : FileEndings) (silent : List ℕ) (told : Told) (number other : ℕ) → IsSo (rest_proved_meaning certificate file ends silent) (in_files told) number → IsSo (rest_proved_meaning certificate file ends silent) (in_files told) other → number ≡ other
-proved_one certificate file ends silent told =
-    one_number (certificate_kind (claiming_with RestSafe ends.ending silent)) certificate [] (λ numbers. replies [] (Writes 0 (rest_check_text file numbers))) (λ numbers. replies_monotone [] (Writes 0 (rest_check_text file numbers))) told
+proved_one : (certificate : List ℕ) (options : ProofOptions) (file : File) (ends : FileEndings) (silent : List ℕ) (told : Told) (number other : ℕ) → IsSo (rest_proved_meaning certificate options file ends silent) (in_files told) number → IsSo (rest_proved_meaning certificate options file ends silent) (in_files told) other → number ≡ other
+proved_one certificate options file ends silent told =
+    one_number (certificate_kind (claiming_with RestSafe ends.ending silent)) certificate [] (λ numbers. replies [] (SaysProofs true file options numbers)) (λ numbers. replies_monotone [] (SaysProofs true file options numbers)) told
     (λ bytes numbers fault proves found. found.no_certificate numbers proves.accepted)
-    (λ bytes v w m n. replies_one [] (Writes 0 (rest_check_text file v)) (Writes 0 (rest_check_text file w)) (in_files told) (λ a b x y. x.numbered ∙ sym y.numbered))
+    (λ bytes v w m n. replies_one [] (SaysProofs true file options v) (SaysProofs true file options w) (in_files told)
+    (λ a b x y. says_number true file options v w (one_list (claiming_with RestSafe ends.ending silent) bytes v w m.accepted n.accepted) a b x y))
 
-pub rest_check_decides : (name certificate : List ℕ) (names : Option (List ℕ)) → Decides (rest_check_meaning name certificate names)
-rest_check_decides name certificate names =
-    ends_decides name [] (quietly_meaning name certificate names) (quietly_monotone name certificate names) (λ file ends is told.
-    names_one name names [] file (rest_proved_meaning certificate file ends) told (λ places. proved_one certificate file ends places told))
+pub rest_check_decides : (name certificate : List ℕ) (names : Option (List ℕ)) (options : ProofOptions) → Decides (rest_check_meaning name certificate names options)
+rest_check_decides name certificate names options =
+    ends_decides name [] (quietly_meaning name certificate names options) (quietly_monotone name certificate names options) (λ file ends is told.
+    names_one name names [] file (rest_proved_meaning certificate options file ends) told (λ places. proved_one certificate options file ends places told))
 
 -- where the names may be silent neither they nor CERT hinder with 3
-pub rest_check_passes : (name certificate : List ℕ) (names : Option (List ℕ)) → PassesWhere (LegalSilently name names) (rest_check_meaning name certificate names)
-rest_check_passes name certificate names =
-    ends_passes_where name [] (quietly_meaning name certificate names) (quietly_monotone name certificate names) (LegalSilently name names) (λ told legal. (
+pub rest_check_passes : (name certificate : List ℕ) (names : Option (List ℕ)) (options : ProofOptions) → PassesWhere (LegalSilently name names) (rest_check_meaning name certificate names options)
+rest_check_passes name certificate names options =
+    ends_passes_where name [] (quietly_meaning name certificate names options) (quietly_monotone name certificate names options) (LegalSilently name names) (λ told legal. (
       record { file = legal.file; is_file = legal.is_file; loops = legal.loops },
-      λ ends line. names_pass name names [] legal.file (rest_proved_meaning certificate legal.file ends) told legal.places legal.are_silent line (λ places.
-          second_passes (certificate_kind (claiming_with RestSafe ends.ending places)) certificate (λ numbers. replies [] (Writes 0 (rest_check_text legal.file numbers))) refl (λ numbers view line none. none) (in_files told) line),
+      λ ends line. names_pass name names [] legal.file (rest_proved_meaning certificate options legal.file ends) told legal.places legal.are_silent line (λ places.
+          second_passes (certificate_kind (claiming_with RestSafe ends.ending places)) certificate (λ numbers. replies [] (SaysProofs true legal.file options numbers)) refl (λ numbers view line none. none) (in_files told) line),
     ))

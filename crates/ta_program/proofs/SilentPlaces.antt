@@ -1,5 +1,5 @@
 -- silent places, and the names of them that are given
-use Rattle.ta_program.proofs.Common.{◌≡◌, ◌∙◌, ◌≤◌, ℕ, List, [], ◌∷◌, Option, None, Some, Result, Ok, Err, refl, sym, ap, subst, arith, Automaton, Pattern, Refusal, Refused, ReadFailed, PutFailed, Memory, Meaning, Says, SaysOfFile, ReadCause, file_line, finds, finds_memory, finds_wrong, phrase_text, Told, FILE, Run, IsFirstConfig, unit_steps, length}
+use Rattle.ta_program.proofs.Common.{◌≡◌, ◌∙◌, ℕ, List, [], ◌∷◌, Option, None, Some, Result, Ok, Err, refl, sym, ap, subst, arith, Automaton, Pattern, Refusal, Refused, ReadFailed, PutFailed, Memory, Meaning, Says, SaysOfFile, ReadCause, file_line, finds, finds_memory, finds_wrong, phrase_text, Told, FILE, Run, IsFirstConfig, unit_steps, length}
 use Rattle.ta_check.specs.Subjects.{claimed_with}
 use Rattle.ta_claim.specs.declared.claim.Claim.TheVariants as claim
 use Rattle.ta_automaton.specs.Runs.{Config}

@@ -1,5 +1,5 @@
 -- What the report says of unsafe patterns
-use Rattle.ta_program.proofs.Common.{verdict_run, Budget, ◌≡◌, ◌∙◌, ◌+◌, ◌≤◌, ℕ, suc, true, length, List, [], ◌∷◌, Some, slice_get, Bool, refl, sym, ap, subst, arith, list_any, each_at, File, Pattern, Run, run_text, IsFirstConfig, Shows, ShowsPattern, unit_steps, lines_counted, run_text_short, VerdictFits, TellsUnsafe, report_of, ReportSample, Verdict, Safe, Unsafe, Spent, Overflow, run_told, told_run, told_unsafe, RUN, UnsafePrinted, verify_telling, AreVerdicts, IsSample, VerdictHolds, is_unsafe, held}
+use Rattle.ta_program.proofs.Common.{verdict_run, Budget, ◌≡◌, ◌∙◌, ◌+◌, ◌≤◌, ℕ, suc, true, false, length, List, [], ◌∷◌, Some, slice_get, Bool, refl, sym, ap, subst, arith, list_any, each_at, File, Pattern, Run, run_text, IsFirstConfig, Shows, ShowsPattern, unit_steps, lines_counted, run_text_short, VerdictFits, TellsUnsafe, report_of, ReportSample, Verdict, Safe, Unsafe, Spent, Overflow, run_told, told_run, told_unsafe, RUN, UnsafePrinted, telling_of, AreVerdictsOn, Pick, IsSample, VerdictHolds, is_unsafe, held_entry}
 use Rattle.std.proofs.Math.Nat.{mul-le-mul_right}
 use Rattle.ta_automaton.proofs.Thresholds.{pattern_within}
 use Rattle.ta_automaton.specs.Runs as runs
@@ -7,6 +7,7 @@ use Rattle.ta_replay.specs.Fits.{Fits}
 use Rattle.ta_replay.proofs.Counting.{marks_are_events}
 use Rattle.ta_replay.proofs.Occurring.{shown_occurs}
 use Rattle.ta_witness.specs.Witness.{IsShortRun}
+use Rattle.ta_report.proofs.Picks.{entry_place}
 
 -- a pattern occurs in the steps of a run, from a first configuration with its parameters and start counts
 pub record Occurrence (file : File) (p : Pattern) (run : Run) : Type 0 where
@@ -55,20 +56,25 @@ pub run_within : (file : File) (run : Run) → Fits file run → Shows file run 
 run_within file run fits shows short = let text = run_text_short file run fits (few_lines file run fits shows short) in omega (arith, text)
 
 -- a pattern that a report tells is unsafe, and its run
-pub unsafe_printed : (json : Bool) (file : File) (budget : Budget) (x : ReportSample) → IsSample file budget.nodes x → (vs : List Verdict) → AreVerdicts file budget vs → (k : ℕ) (p : Pattern) → slice_get file.patterns k ≡ Some p → TellsUnsafe json p.name (report_of json file x vs) → UnsafePrinted runs.Occurs (verify_telling json) file k p (report_of json file x vs)
-unsafe_printed json file budget x sampled vs are k p named line =
-    let said = told_unsafe file x vs k p named sampled.fits are.fit json line in
+pub unsafe_printed :
+    (json : Bool) (file : File) (pick : Pick) (budget : Budget) (x : ReportSample) → IsSample file budget.nodes x → (vs : List Verdict)
+    → AreVerdictsOn file pick budget vs → (k : ℕ) (p : Pattern) → slice_get file.patterns k ≡ Some p
+    → TellsUnsafe false json p.name (report_of false json file pick x vs)
+    → UnsafePrinted runs.Occurs (telling_of false json) file k p (report_of false json file pick x vs)
+unsafe_printed json file pick budget x sampled vs are k p named line =
+    let said = told_unsafe file pick x vs k p named sampled.fits are.fit false json line in
     let nodes = said.0 in
     let run = said.1 in
-    let v = held (VerdictHolds file budget) file.patterns vs are.hold k p (Unsafe nodes run) named said.2 in
-    let fit : VerdictFits file (Unsafe nodes run) = each_at (VerdictFits file) vs k (Unsafe nodes run) are.fit said.2 in
+    let v = held_entry (VerdictHolds file budget) pick file.patterns vs are.hold k p (Unsafe nodes run) named said.2 in
+    let place = entry_place pick vs k (Unsafe nodes run) said.2 in
+    let fit : VerdictFits file (Unsafe nodes run) = each_at (VerdictFits file) vs place.0 (Unsafe nodes run) are.fit place.1 in
     let known = verdict_run file budget k p nodes run v in
     let occurs = unsafe_occurs file budget k p nodes run named v in
     record {
       bytes = run_text file run;
-      stands = run_told file x vs k p named sampled.fits are.fit json nodes run said.2 line;
+      stands = run_told file pick x vs k p named sampled.fits are.fit false json nodes run said.2 line;
       only = λ other part.
-          let found = told_run file x vs k p named sampled.fits are.fit json other part in
+          let found = told_run file pick x vs k p named sampled.fits are.fit false json other part in
           let verdicts : Some (Unsafe found.0 found.1) ≡ Some (Unsafe nodes run) = sym found.2 ∙ said.2 in
           let same : found.1 ≡ run = cc in
           found.3 ∙ ap (run_text file) same;

@@ -1,13 +1,10 @@
 -- what a run says of the file that `show` prints
 use Rattle.ta_program.proofs.Common.{arith, ◌≡◌, ◌≤◌, ◌∙◌, ◌++◌, ◌∷◌, ℕ, Bool, true, false, List, [], Option, None, Some, refl, sym, ap, subst, map, codes}
-use Rattle.ta_program.proofs.Common.{append_assoc, option_map, option_and_then_some, list_any, AllByRecursion, nat_lt, length, is_some}
+use Rattle.ta_program.proofs.Common.{append_assoc, option_map, option_and_then_some, AllByRecursion, nat_lt, length, is_some}
 use Rattle.ta_program.proofs.Common.{Acts, Call, LegalFile, LegalSilently, CheckHolds, Event, IsFile, Meaning, PutCall, ReplayHolds, ReportHolds}
 use Rattle.ta_program.proofs.Common.{RestCheckHolds, RestReportHolds, Runs, ShowHolds, State, Told, View, ask_where, pair_of, reads, reads-append, report_of}
 use Rattle.ta_program.proofs.Common.{request_of, rest_text, seen, where_told, with_text}
-use Rattle.ta_program.proofs.Common.{File, ReportSample, Verdict, RestCheckWords, RestWords, TwoNames, VerifyWords, budget_of, check_meaning, check_of}
-use Rattle.ta_program.proofs.Common.{check_text, file_name_of, is_unknown, is_unsafe, one_legal, option_value, out_of, plain_of, quiet_names, replay_meaning}
-use Rattle.ta_program.proofs.Common.{replay_of, rest_check_meaning, rest_check_of, rest_check_text, rest_check_words, rest_meaning, rest_of, rest_taken}
-use Rattle.ta_program.proofs.Common.{rest_words, show_meaning, show_of, show_words, shown_line, shown_of, taken_by, two_names, unit_steps, verify_meaning}
+use Rattle.ta_program.proofs.Common.{File, ReportSample, Verdict, RestCheckWords, RestWords, VerifyWords, budget_of, check_meaning, file_name_of, one_legal, option_value, out_of, plain_of, quiet_names, replay_meaning, rest_check_meaning, rest_check_of, rest_check_words, rest_meaning, rest_of, rest_taken, rest_words, show_meaning, show_of, show_words, shown_of, taken_by, unit_steps, verify_meaning}
 use Rattle.ta_program.proofs.Common.{verify_of, verify_taken, verify_words, rest_form, verify_form}
 use Rattle.std.proofs.lemmas.Option.{cond_some, none-some}
 use Rattle.ta_automaton.specs.Runs as runs
@@ -18,16 +15,21 @@ use Rattle.ta_shelf.specs.Calls.{puts}
 use Rattle.ta_shell.specs.Sights.{Whole}
 use Rattle.ta_show.proofs.FileTells.{file_same}
 use Rattle.ta_show.specs.Unknowns.{unknowns_text}
-use Rattle.ta_program.proofs.Clauses.{ZeroSays, as_check, as_replay, as_rest, as_rest_check, as_show, as_verify, at_rest, each_safe, gives_some, proved}
-use Rattle.ta_program.proofs.Clauses.{reported, rest_checked, shown, shown_file, tells_proved, tells_rest_proved, tells_rest_safe, tells_safe}
-use Rattle.ta_program.proofs.FirstWord.{first_plain, second_plain}
+use Rattle.ta_program.proofs.Clauses.{ZeroSays, as_check, as_replay, as_rest, as_rest_check, as_show, as_verify, at_rest, gives_some, proved, reported, rest_checked, shown, shown_file, line_proved, line_rest_proved, tells_rest_safe, tells_safe, picked_safe}
+use Rattle.ta_program.proofs.FirstWord.{first_plain, second_plain, not_behind}
 use Rattle.ta_program.proofs.JsonLines.{no_line_told}
 use Rattle.ta_program.proofs.NeverResting.{never_rests}
 use Rattle.ta_program.proofs.UnsafePrinted.{unsafe_printed}
+use Rattle.ta_report.specs.CheckJson.{shown_text}
+use Rattle.ta_program.specs.CheckWords.{CheckWords, ReplayWords, check_form, check_of, check_taken, check_words, replay_form, replay_of, replay_taken}
+use Rattle.ta_program.specs.CheckWords.{replay_words}
 use Rattle.ta_program.specs.RestWords.{rest_check_form, rest_check_taken}
 use Rattle.ta_program.specs.SilentNames.{names_of}
-use Rattle.ta_program.specs.Understood.{Asks, EachLine, Ended, NeverRests, OccursSomewhere, Prints, ReadsWhole, RunOccurs, Says, Understood}
-use Rattle.ta_program.specs.Words.{is_dashed}
+use Rattle.ta_program.specs.Understood.{Asks, EachLine, Ended, IsOfAll, NeverRests, OccursSomewhere, Prints, ReadsWhole, RunOccurs, Says, Understood}
+use Rattle.ta_program.specs.Words.{OptionForm, is_dashed, valued}
+use Rattle.ta_program.proofs.Common.{All, EachPicked, LegalPicked, Pick, given_pattern, slice_get}
+use Rattle.ta_program.proofs.OptionUnset.{option_unset_of}
+use Rattle.ta_report.specs.PrintedRuns.{safe_words, unsafe_words}
 
 -- ---- what words of a command name: right behind the command's name stands FILE
 named_so : (given name file : List ℕ) → given ≡ name → file_name_of given ≡ Some file → file ≡ name
@@ -43,8 +45,27 @@ file_of_verify : (name : List ℕ) (more : List (List ℕ)) (asked : VerifyWords
 file_of_verify name more asked plain is = option_and_then_some verify_taken (taken_by verify_form (name ∷ more)) asked is (λ taken by taken_is.
     option_and_then_some _ (file_name_of (plain_of taken 0)) asked taken_is (λ file named file_is.
     option_and_then_some _ (budget_of (option_value taken 0)) asked file_is (λ nodes counted nodes_is.
-    let made = made_of _ (out_of file (option_value taken 1)) asked nodes_is in
-    sym (ap (λ (w : VerifyWords). w.file) made.2) ∙ named_so (plain_of taken 0) name file (first_plain verify_form refl name more taken plain by) named)))
+    option_and_then_some _ (out_of file (option_value taken 1)) asked nodes_is (λ out put out_is.
+    let made = made_of _ (given_pattern (option_value taken 4)) asked out_is in
+    sym (ap (λ (w : VerifyWords). w.file) made.2) ∙ named_so (plain_of taken 0) name file (first_plain verify_form refl name more taken plain by) named))))
+
+-- where no word begins with `--pattern`, none is asked for alone
+none_given : (o given : Option (List ℕ)) → o ≡ None → given_pattern o ≡ Some given → given ≡ None
+none_given o given none is = let e : Some None ≡ Some given = sym (ap given_pattern none) ∙ is in cc
+
+fifth_option : (o : OptionForm) → slice_get verify_form.options 4 ≡ Some o → o.word ≡ codes "--pattern"
+fifth_option o at = let same : valued (codes "--pattern") ≡ o = cc in sym (ap (λ (f : OptionForm). f.word) same)
+
+of_all : (words : List (List ℕ)) (asked : VerifyWords) → AllByRecursion IsOfAll words → verify_words words ≡ Some asked → asked.pattern ≡ None
+of_all words asked none is = option_and_then_some verify_taken (taken_by verify_form words) asked is (λ taken by taken_is.
+    option_and_then_some _ (file_name_of (plain_of taken 0)) asked taken_is (λ file named file_is.
+    option_and_then_some _ (budget_of (option_value taken 0)) asked file_is (λ nodes counted nodes_is.
+    option_and_then_some _ (out_of file (option_value taken 1)) asked nodes_is (λ out put out_is.
+    let made = made_of _ (given_pattern (option_value taken 4)) asked out_is in
+    let unset = option_unset_of (codes "--pattern") 4 verify_form words taken
+    (λ i o there e. let four : i ≡ 4 = omega (arith, e) in fifth_option o (subst (λ (n : ℕ). slice_get verify_form.options n ≡ Some o) four there))
+    none refl by in
+    sym (ap (λ (w : VerifyWords). w.pattern) made.2) ∙ none_given (option_value taken 4) made.0 unset made.1))))
 
 file_of_rest : (name : List ℕ) (more : List (List ℕ)) (asked : RestWords) → is_dashed name ≡ false → rest_words (name ∷ more) ≡ Some asked → asked.file ≡ name
 file_of_rest name more asked plain is = option_and_then_some rest_taken (taken_by rest_form (name ∷ more)) asked is (λ taken by taken_is.
@@ -63,20 +84,26 @@ file_of_rest_check name more asked plain is = option_and_then_some rest_check_ta
     sym (ap (λ (w : RestCheckWords). w.file) made.2)
     ∙ named_so (plain_of taken 0) name file (first_plain rest_check_form refl name more taken plain by) named)))
 
-file_of_two : (name : List ℕ) (more : List (List ℕ)) (asked : TwoNames) → is_dashed name ≡ false → two_names (name ∷ more) ≡ Some asked → asked.file ≡ name
-file_of_two name more asked plain is = option_and_then_some _ (taken_by (record { plain = 2; options = [] }) (name ∷ more)) asked is (λ taken by taken_is.
+file_of_check : (name : List ℕ) (more : List (List ℕ)) (asked : CheckWords) → is_dashed name ≡ false → check_words (name ∷ more) ≡ Some asked → asked.file ≡ name
+file_of_check name more asked plain is = option_and_then_some check_taken (taken_by check_form (name ∷ more)) asked is (λ taken by taken_is.
     option_and_then_some _ (file_name_of (plain_of taken 0)) asked taken_is (λ file named file_is.
     let made = made_of _ (file_name_of (plain_of taken 1)) asked file_is in
-    sym (ap (λ (w : TwoNames). w.file) made.2)
-    ∙ named_so (plain_of taken 0) name file (first_plain (record { plain = 2; options = [] }) refl name more taken plain by) named))
+    sym (ap (λ (w : CheckWords). w.file) made.2)
+    ∙ named_so (plain_of taken 0) name file (first_plain check_form refl name more taken plain by) named))
 
-other_of_two : (name other : List ℕ) (asked : TwoNames) → is_dashed name ≡ false → two_names (name ∷ other ∷ []) ≡ Some asked → asked.other ≡ other
-other_of_two name other asked plain is = option_and_then_some _ (taken_by (record { plain = 2; options = [] }) (name ∷ other ∷ [])) asked is
-    (λ taken by taken_is.
+file_of_replay : (name : List ℕ) (more : List (List ℕ)) (asked : ReplayWords) → is_dashed name ≡ false → replay_words (name ∷ more) ≡ Some asked → asked.file ≡ name
+file_of_replay name more asked plain is = option_and_then_some replay_taken (taken_by replay_form (name ∷ more)) asked is (λ taken by taken_is.
     option_and_then_some _ (file_name_of (plain_of taken 0)) asked taken_is (λ file named file_is.
     let made = made_of _ (file_name_of (plain_of taken 1)) asked file_is in
-    sym (ap (λ (w : TwoNames). w.other) made.2)
-    ∙ named_so (plain_of taken 1) other made.0 (second_plain (record { plain = 2; options = [] }) refl refl name other taken plain by) made.1))
+    sym (ap (λ (w : ReplayWords). w.file) made.2)
+    ∙ named_so (plain_of taken 0) name file (first_plain replay_form refl name more taken plain by) named))
+
+run_of_replay : (name other : List ℕ) (asked : ReplayWords) → is_dashed name ≡ false → replay_words (name ∷ other ∷ []) ≡ Some asked → asked.other ≡ other
+run_of_replay name other asked plain is = option_and_then_some replay_taken (taken_by replay_form (name ∷ other ∷ [])) asked is (λ taken by taken_is.
+    option_and_then_some _ (file_name_of (plain_of taken 0)) asked taken_is (λ file named file_is.
+    let made = made_of _ (file_name_of (plain_of taken 1)) asked file_is in
+    sym (ap (λ (w : ReplayWords). w.other) made.2)
+    ∙ named_so (plain_of taken 1) other made.0 (second_plain replay_form refl refl name other taken plain by) made.1))
 
 file_of_show : (name : List ℕ) (more : List (List ℕ)) (asked : List ℕ) → is_dashed name ≡ false → show_words (name ∷ more) ≡ Some asked → asked ≡ name
 file_of_show name more asked plain is = option_and_then_some _ (taken_by (record { plain = 1; options = [] }) (name ∷ more)) asked is (λ taken by taken_is.
@@ -133,15 +160,15 @@ says r Such name view sees file is_file text gained such = record {
 }
 
 -- no line of JSON tells of a pattern
-tells_by_line : (json : Bool) (file : File) (s : ReportSample) (vs : List Verdict) (name : List ℕ)
-    → HasLine (told_of name (codes "safe, ")) (report_of json file s vs) → TellsSafe json name (report_of json file s vs)
-tells_by_line true file s vs name line = absurd (no_line_told file s vs name (codes "safe, ") line)
-tells_by_line false file s vs name line = line
+tells_by_line : (rest json : Bool) (file : File) (pick : Pick) (s : ReportSample) (vs : List Verdict) (name : List ℕ)
+    → HasLine (told_of name (safe_words rest)) (report_of rest json file pick s vs) → TellsSafe rest json name (report_of rest json file pick s vs)
+tells_by_line rest true file pick s vs name line = absurd (no_line_told rest file pick s vs name (safe_words rest) line)
+tells_by_line rest false file pick s vs name line = line
 
-tells_unsafe_by_line : (json : Bool) (file : File) (s : ReportSample) (vs : List Verdict) (name : List ℕ)
-    → HasLine (told_of name (codes "unsafe, ")) (report_of json file s vs) → TellsUnsafe json name (report_of json file s vs)
-tells_unsafe_by_line true file s vs name line = absurd (no_line_told file s vs name (codes "unsafe, ") line)
-tells_unsafe_by_line false file s vs name line = line
+tells_unsafe_by_line : (rest json : Bool) (file : File) (pick : Pick) (s : ReportSample) (vs : List Verdict) (name : List ℕ)
+    → HasLine (told_of name (unsafe_words rest)) (report_of rest json file pick s vs) → TellsUnsafe rest json name (report_of rest json file pick s vs)
+tells_unsafe_by_line rest true file pick s vs name line = absurd (no_line_told rest file pick s vs name (unsafe_words rest) line)
+tells_unsafe_by_line rest false file pick s vs name line = line
 
 module _ (words : List (List ℕ)) (number : ℕ) (before after : State) (h : Runs (request_of words) number before after) where
   abbrev ended : Ended
@@ -161,43 +188,40 @@ module _ (words : List (List ℕ)) (number : ℕ) (before after : State) (h : Ru
   runs_so ws = Runs (request_of ws) number before after
 
   of_verify : (Such : List ℕ → File → Type 0) (name : List ℕ) (more : List (List ℕ)) → Asks ended (codes "verify") name more → number ≤ 2
-      → ((asked : VerifyWords) (view : View) (r : ReportHolds number view asked.file asked.budget asked.json before.out.written after.out.written)
-      → Such (report_of asked.json r.file r.sample r.verdicts) r.file)
+      → ((asked : VerifyWords) → verify_words (name ∷ more) ≡ Some asked → (view : View) (r : ReportHolds number view asked before.out.written after.out.written)
+      → Such (report_of false asked.json r.file r.pick r.sample r.verdicts) r.file)
       → Says Such ended name
   of_verify Such name more asks low such =
       let so : runs_so (codes "verify" ∷ name ∷ more) = subst runs_so asks.are h in
-      let found = were_asked (λ a told. LegalFile told (Some a.file)) (λ a. verify_meaning a.file a.budget a.json a.out)
-      (verify_words (name ∷ more)) number before after so low in
+      let found = were_asked (λ a. LegalPicked a.file a.pattern) verify_meaning (verify_words (name ∷ more)) number before after so low in
       let asked = found.0 in
       let is : verify_of words ≡ Some asked = ap verify_of asks.are ∙ found.1 in
-      let Of : View → Type 0 = λ view. ReportHolds number view asked.file asked.budget asked.json before.out.written after.out.written in
+      let Of : View → Type 0 = λ view. ReportHolds number view asked before.out.written after.out.written in
       subst (Says Such ended) (file_of_verify name more asked asks.plain found.1)
-      (of_calls ended Of (λ view sees r. says ended Such asked.file view sees r.file r.is_file (report_of asked.json r.file r.sample r.verdicts) r.wrote
-      (such asked view r))
-      (gives_some words number before after h (verify_meaning asked.file asked.budget asked.json asked.out)
-      (as_verify words number before after h asked is) low Of
-      (λ view made a. reported words number before after h asked.file asked.budget asked.json asked.out view made a)))
+      (of_calls ended Of (λ view sees r. says ended Such asked.file view sees r.file r.is_file (report_of false asked.json r.file r.pick r.sample r.verdicts) r.wrote
+      (such asked found.1 view r))
+      (gives_some words number before after h (verify_meaning asked) (as_verify words number before after h asked is) low Of
+      (λ view made a. reported words number before after h asked view made a)))
 
-  of_check : (Such : List ℕ → File → Type 0) (name : List ℕ) (more : List (List ℕ)) → Asks ended (codes "check") name more → number ≤ 0
-      → ((asked : TwoNames) (view : View) (r : CheckHolds view asked.file asked.other before.out.written after.out.written)
-      → Such (check_text r.file r.numbers) r.file)
+  of_check : (Such : List ℕ → File → Type 0) (name : List ℕ) (more : List (List ℕ)) → Asks ended (codes "check") name more → number ≤ 2
+      → ((asked : CheckWords) (view : View) (r : CheckHolds number view asked.file asked.other asked.options before.out.written after.out.written)
+      → Such r.text r.file)
       → Says Such ended name
-  of_check Such name more asks none such =
+  of_check Such name more asks low such =
       let so : runs_so (codes "check" ∷ name ∷ more) = subst runs_so asks.are h in
-      let low : number ≤ 2 = omega (arith, none) in
-      let found = were_asked (λ a told. LegalFile told (Some a.file)) (λ a. check_meaning a.file a.other)
-      (two_names (name ∷ more)) number before after so low in
+      let found = were_asked (λ a told. LegalFile told (Some a.file)) (λ a. check_meaning a.file a.other a.options)
+      (check_words (name ∷ more)) number before after so low in
       let asked = found.0 in
       let is : check_of words ≡ Some asked = ap check_of asks.are ∙ found.1 in
-      let Of : View → Type 0 = λ view. CheckHolds view asked.file asked.other before.out.written after.out.written in
-      subst (Says Such ended) (file_of_two name more asked asks.plain found.1)
-      (of_calls ended Of (λ view sees r. says ended Such asked.file view sees r.file r.is_file (check_text r.file r.numbers) r.wrote (such asked view r))
-      (gives_some words number before after h (check_meaning asked.file asked.other) (as_check words number before after h asked is) low Of
-      (λ view made a. proved words number before after h asked.file asked.other view made a)))
+      let Of : View → Type 0 = λ view. CheckHolds number view asked.file asked.other asked.options before.out.written after.out.written in
+      subst (Says Such ended) (file_of_check name more asked asks.plain found.1)
+      (of_calls ended Of (λ view sees r. says ended Such asked.file view sees r.file r.is_file r.text r.wrote (such asked view r))
+      (gives_some words number before after h (check_meaning asked.file asked.other asked.options) (as_check words number before after h asked is) low Of
+      (λ view made a. proved words number before after h asked.file asked.other asked.options view made a)))
 
   of_rest : (Such : List ℕ → File → Type 0) (name : List ℕ) (more : List (List ℕ)) → Asks ended (codes "rest") name more → number ≤ 2
       → ((asked : RestWords) → rest_of words ≡ Some asked → (view : View) (r : RestReportHolds number view asked before.out.written after.out.written)
-      → Such (rest_text r.file r.sample r.verdicts) r.file)
+      → Such (rest_text r.file All r.sample r.verdicts) r.file)
       → Says Such ended name
   of_rest Such name more asks low such =
       let so : runs_so (codes "rest" ∷ name ∷ more) = subst runs_so asks.are h in
@@ -207,33 +231,34 @@ module _ (words : List (List ℕ)) (number : ℕ) (before after : State) (h : Ru
       let is : rest_of words ≡ Some asked = ap rest_of asks.are ∙ found.1 in
       let Of : View → Type 0 = λ view. RestReportHolds number view asked before.out.written after.out.written in
       subst (Says Such ended) (file_of_rest name more asked asks.plain found.1)
-      (of_calls ended Of (λ view sees r. says ended Such asked.file view sees r.file r.is_file (rest_text r.file r.sample r.verdicts) r.wrote
+      (of_calls ended Of (λ view sees r. says ended Such asked.file view sees r.file r.is_file (rest_text r.file All r.sample r.verdicts) r.wrote
       (such asked is view r))
       (gives_some words number before after h (rest_meaning asked.file asked.budget asked.out asked.silent)
       (as_rest words number before after h asked is) low Of (λ view made a. at_rest words number before after h asked asked.out view made a)))
 
-  of_rest_check : (Such : List ℕ → File → Type 0) (name : List ℕ) (more : List (List ℕ)) → Asks ended (codes "rest-check") name more → number ≤ 0
-      → ((asked : RestCheckWords) (view : View) (r : RestCheckHolds view asked.file asked.other asked.silent before.out.written after.out.written)
-      → Such (rest_check_text r.file r.numbers) r.file)
+  of_rest_check : (Such : List ℕ → File → Type 0) (name : List ℕ) (more : List (List ℕ)) → Asks ended (codes "rest-check") name more → number ≤ 2
+      → ((asked : RestCheckWords) (view : View)
+      (r : RestCheckHolds number view asked.file asked.other asked.silent asked.options before.out.written after.out.written)
+      → Such r.text r.file)
       → Says Such ended name
-  of_rest_check Such name more asks none such =
+  of_rest_check Such name more asks low such =
       let so : runs_so (codes "rest-check" ∷ name ∷ more) = subst runs_so asks.are h in
-      let low : number ≤ 2 = omega (arith, none) in
-      let found = were_asked (λ a. LegalSilently a.file a.silent) (λ a. rest_check_meaning a.file a.other a.silent)
+      let found = were_asked (λ a. LegalSilently a.file a.silent) (λ a. rest_check_meaning a.file a.other a.silent a.options)
       (rest_check_words (name ∷ more)) number before after so low in
       let asked = found.0 in
       let is : rest_check_of words ≡ Some asked = ap rest_check_of asks.are ∙ found.1 in
-      let Of : View → Type 0 = λ view. RestCheckHolds view asked.file asked.other asked.silent before.out.written after.out.written in
+      let Of : View → Type 0 = λ view.
+      RestCheckHolds number view asked.file asked.other asked.silent asked.options before.out.written after.out.written in
       subst (Says Such ended) (file_of_rest_check name more asked asks.plain found.1)
-      (of_calls ended Of (λ view sees r. says ended Such asked.file view sees r.file r.is_file (rest_check_text r.file r.numbers) r.wrote (such asked view r))
-      (gives_some words number before after h (rest_check_meaning asked.file asked.other asked.silent)
+      (of_calls ended Of (λ view sees r. says ended Such asked.file view sees r.file r.is_file r.text r.wrote (such asked view r))
+      (gives_some words number before after h (rest_check_meaning asked.file asked.other asked.silent asked.options)
       (as_rest_check words number before after h asked is) low Of
-      (λ view made a. rest_checked words number before after h asked.file asked.other asked.silent view made a)))
+      (λ view made a. rest_checked words number before after h asked.file asked.other asked.silent asked.options view made a)))
 
   -- RUN is seen, too
-  run_occurs : (view : View) → Sees ended view → (name run_name : List ℕ) (r : ReplayHolds view name run_name before.out.written after.out.written)
+  run_occurs : (view : View) → Sees ended view → (name run_name : List ℕ) (json : Bool) (r : ReplayHolds view name run_name json before.out.written after.out.written)
       → RunOccurs ended run_name r.file
-  run_occurs view sees name run_name r =
+  run_occurs view sees name run_name json r =
       let s = r.is_run.means in
       record {
         bytes = r.is_run.bytes;
@@ -252,18 +277,18 @@ module _ (words : List (List ℕ)) (number : ℕ) (before after : State) (h : Ru
   of_replay name run_name asks none =
       let so : runs_so (codes "replay" ∷ name ∷ run_name ∷ []) = subst runs_so asks.are h in
       let low : number ≤ 2 = omega (arith, none) in
-      let found = were_asked (λ a told. LegalFile told (Some a.file)) (λ a. replay_meaning a.file a.other)
-      (two_names (name ∷ run_name ∷ [])) number before after so low in
+      let found = were_asked (λ a told. LegalFile told (Some a.file)) (λ a. replay_meaning a.file a.other a.json)
+      (replay_words (name ∷ run_name ∷ [])) number before after so low in
       let asked = found.0 in
       let is : replay_of words ≡ Some asked = ap replay_of asks.are ∙ found.1 in
-      let Of : View → Type 0 = λ view. ReplayHolds view asked.file asked.other before.out.written after.out.written in
-      let run_is = other_of_two name run_name asked asks.plain found.1 in
-      subst (Says (λ text file. RunOccurs ended run_name file) ended) (file_of_two name (run_name ∷ []) asked asks.plain found.1)
+      let Of : View → Type 0 = λ view. ReplayHolds view asked.file asked.other asked.json before.out.written after.out.written in
+      let run_is = run_of_replay name run_name asked asks.plain found.1 in
+      subst (Says (λ text file. RunOccurs ended run_name file) ended) (file_of_replay name (run_name ∷ []) asked asks.plain found.1)
       (of_calls ended Of (λ view sees r. says ended (λ text file. RunOccurs ended run_name file) asked.file view sees r.file r.is_file
-      (shown_line r.pattern.name (shown_of r.run)) r.wrote
-      (subst (λ (n : List ℕ). RunOccurs ended n r.file) run_is (run_occurs view sees asked.file asked.other r)))
-      (gives_some words number before after h (replay_meaning asked.file asked.other) (as_replay words number before after h asked is) low Of
-      (λ view made a. shown words number before after h asked.file asked.other view made a)))
+      (shown_text asked.json r.file.automaton.name r.pattern.name (shown_of r.run)) r.wrote
+      (subst (λ (n : List ℕ). RunOccurs ended n r.file) run_is (run_occurs view sees asked.file asked.other asked.json r)))
+      (gives_some words number before after h (replay_meaning asked.file asked.other asked.json) (as_replay words number before after h asked is) low Of
+      (λ view made a. shown words number before after h asked.file asked.other asked.json view made a)))
 
   prints_so : (name : List ℕ) (view : View) → Sees ended view → ShowHolds view name before.out.written after.out.written → Prints ended name
   prints_so name view sees r = record {
@@ -294,24 +319,24 @@ module _ (words : List (List ℕ)) (number : ℕ) (before after : State) (h : Ru
   pub understood : ZeroSays → Understood ended
   understood zero_says = record {
     shows = of_show;
-    safe = λ name more asks none. of_verify (λ text file. AllByRecursion (runs.Safe file.automaton) file.patterns) name more asks (omega (arith, none))
-        (λ asked view r.
-        let kinds = zero_says (list_any is_unsafe r.verdicts) (list_any is_unknown r.verdicts) (r.numbered ∙ none) in
-        each_safe r.file asked.budget 0 r.file.patterns r.verdicts kinds.0 kinds.1 r.are.hold);
-    safe_lines = λ name more asks low. of_verify (EachLine runs.Safe (codes "safe, ")) name more asks low (λ asked view r k p named line.
-        tells_safe words number before after h asked.file asked.budget asked.json view r k p named
-        (tells_by_line asked.json r.file r.sample r.verdicts p.name line));
-    unsafe_lines = λ name more asks low. of_verify (EachLine OccursSomewhere (codes "unsafe, ")) name more asks low (λ asked view r k p named line.
-        let u = unsafe_printed asked.json r.file asked.budget r.sample r.is_sample r.verdicts r.are k p named
-        (tells_unsafe_by_line asked.json r.file r.sample r.verdicts p.name line) in
+    safe = λ name more asks all none. of_verify (λ text file. AllByRecursion (runs.Safe file.automaton) file.patterns) name more asks (omega (arith, none))
+        (λ asked is view r.
+        let unasked = of_all (name ∷ more) asked (not_behind (codes "--pattern") name asks.plain refl, all) is in
+        subst (λ (given : Option (List ℕ)). EachPicked runs.Safe given r.file) unasked (picked_safe words number before after h zero_says asked view r none));
+    safe_lines = λ name more asks low. of_verify (EachLine runs.Safe (codes "safe, ")) name more asks low (λ asked is view r k p named line.
+        tells_safe words number before after h asked view r k p named
+        (tells_by_line false asked.json r.file r.pick r.sample r.verdicts p.name line));
+    unsafe_lines = λ name more asks low. of_verify (EachLine OccursSomewhere (codes "unsafe, ")) name more asks low (λ asked is view r k p named line.
+        let u = unsafe_printed asked.json r.file r.pick asked.budget r.sample r.is_sample r.verdicts r.are k p named
+        (tells_unsafe_by_line false asked.json r.file r.pick r.sample r.verdicts p.name line) in
         (u.first, unit_steps u.run.lines, u.happens));
-    proved = λ name more asks none. of_check (EachLine runs.Safe (codes "proved")) name more asks none
-        (λ asked view r. tells_proved words number before after h asked.file asked.other view r);
+    proved = λ name more asks low. of_check (EachLine runs.Safe (codes "proved")) name more asks low
+        (λ asked view r. line_proved words number before after h asked.file asked.other asked.options view r);
     rest_safe = λ name more asks low. of_rest (EachLine NeverRests (codes "rest safe, ")) name more asks low (λ asked is view r k p named line.
         never_rests r.is_file.bytes r.file r.is_file.means r.are_ends.loops k p named asked.silent
         (tells_rest_safe words number before after h asked is view r k p named line));
-    rest_proved = λ name more asks none. of_rest_check (EachLine NeverRests (codes "rest proved")) name more asks none (λ asked view r k p named line.
+    rest_proved = λ name more asks low. of_rest_check (EachLine NeverRests (codes "rest proved")) name more asks low (λ asked view r k p named line.
         never_rests r.is_file.bytes r.file r.is_file.means r.are_ends.loops k p named asked.silent
-        (tells_rest_proved words number before after h asked.file asked.other asked.silent view r k p named line));
+        (line_rest_proved words number before after h asked.file asked.other asked.silent asked.options view r k p named line));
     shown = of_replay;
   }

@@ -1,8 +1,9 @@
 -- the files that a command puts are not its FILE, and not each other
-use Rattle.ta_program.proofs.Common.{Budget, ◌≡◌, ◌≢◌, ◌∙◌, ℕ, Bool, true, false, ◌&&◌, not, List, [], ◌∷◌, length, Option, None, Some, refl, sym, subst, rules, option_and_then_some, option_and_then, if◌then◌else◌, bytes_eq, rest_form, rest_of, rest_taken, rest_words, SearchWords, search_form, search_of, search_taken, search_words, are_same, budget_of, filled_of, file_name_of, out_of, VerifyWords, verify_form, verify_of, verify_taken, verify_words, Taken, behind_name, plain_of, taken_by, option_value, codes, is_some, nat_lt, option_map, RestWords, quiet_names}
+use Rattle.ta_program.proofs.Common.{Budget, ◌≡◌, ◌≢◌, ◌∙◌, ℕ, Bool, true, false, ◌&&◌, not, List, [], ◌∷◌, length, Option, None, Some, refl, sym, subst, rules, option_and_then_some, if◌then◌else◌, bytes_eq, rest_form, rest_of, rest_taken, rest_words, SearchWords, search_form, search_of, search_taken, search_words, are_same, budget_of, filled_of, file_name_of, out_of, VerifyWords, verify_form, verify_of, verify_taken, verify_words, Taken, behind_name, plain_of, taken_by, option_value, codes, is_some, nat_lt, option_map, RestWords, quiet_names}
 use Rattle.std.proofs.lemmas.Option.{cond_some, none-some}
 use Rattle.ta_base.proofs.Booleans.{not_chosen}
 use Rattle.ta_base.proofs.Options.{some_where}
+use Rattle.ta_program.proofs.Common.{given_pattern}
 
 -- two names that are both given differ
 abbrev pub Apart : Option (List ℕ) → Option (List ℕ) → Type 0
@@ -30,25 +31,26 @@ behind Such name read such (word ∷ words) asked is = such words asked (some_wh
 abbrev Differs : VerifyWords → Type 0
 Differs asked = Apart (Some asked.file) asked.out
 
-by_out : (file : List ℕ) (budget : Budget) (json : Bool) (given : Option (List ℕ)) (out : Option (Option (List ℕ))) → out_of file given ≡ out → (asked : VerifyWords) → option_map (λ o. record { file = file; budget = budget; out = o; json = json }) out ≡ Some asked → Differs asked
-by_out file budget json given None from asked is = absurd (cc)
-by_out file budget json given (Some out) from asked is =
-    let words : VerifyWords = record { file = file; budget = budget; out = out; json = json } in
-    let same : words ≡ asked = cc in
-    subst Differs same (file_apart file given out from)
+-- what is asked for of a pattern changes neither name
+abbrev budget_with : ℕ → Taken → Budget
+budget_with nodes taken = record { nodes = nodes; lazy = is_some (option_value taken 3) }
 
-read_differs :
-    (file : Option (List ℕ)) (nodes : Option ℕ) (lazy json : Bool) (given : Option (List ℕ)) (asked : VerifyWords)
-    → option_and_then (λ f.
-    option_and_then (λ n. option_map (λ o. record { file = f; budget = record { nodes = n; lazy = lazy }; out = o; json = json }) (out_of f given)) nodes) file ≡ Some asked
-    → Differs asked
-read_differs None nodes lazy json given asked is = absurd (cc)
-read_differs (Some file) None lazy json given asked is = absurd (cc)
-read_differs (Some file) (Some nodes) lazy json given asked is = by_out file (record { nodes = nodes; lazy = lazy }) json given (out_of file given) refl asked is
+made_differs :
+    (file : List ℕ) (out : Option (List ℕ)) → Apart (Some file) out → (budget : Budget) (json all : Bool) (given : Option (Option (List ℕ))) (asked : VerifyWords)
+    → option_map (λ p. record { file = file; budget = budget; out = out; json = json; pattern = p; all = all }) given ≡ Some asked → Differs asked
+made_differs file out apart budget json all None asked is = absurd (none-some asked is)
+made_differs file out apart budget json all (Some pattern) asked is =
+    let words : VerifyWords = record { file = file; budget = budget; out = out; json = json; pattern = pattern; all = all } in
+    let same : words ≡ asked = cc in
+    subst Differs same apart
 
 verify_differs : (words : List (List ℕ)) (asked : VerifyWords) → verify_words words ≡ Some asked → Differs asked
 verify_differs words asked is = option_and_then_some verify_taken (taken_by verify_form words) asked is (λ taken by taken_is.
-    read_differs (file_name_of (plain_of taken 0)) (budget_of (option_value taken 0)) (is_some (option_value taken 3)) (is_some (option_value taken 2)) (option_value taken 1) asked taken_is)
+    option_and_then_some _ (file_name_of (plain_of taken 0)) asked taken_is (λ file named file_is.
+    option_and_then_some _ (budget_of (option_value taken 0)) asked file_is (λ nodes counted nodes_is.
+    option_and_then_some _ (out_of file (option_value taken 1)) asked nodes_is (λ out took out_is.
+    made_differs file out (file_apart file (option_value taken 1) out took) (budget_with nodes taken) (is_some (option_value taken 2)) (is_some (option_value taken 5))
+    (given_pattern (option_value taken 4)) asked out_is))))
 
 pub out_differs : (words : List (List ℕ)) (asked : VerifyWords) (out : List ℕ) → verify_of words ≡ Some asked → asked.out ≡ Some out → asked.file ≢ out
 out_differs words asked out is given = behind Differs (codes "verify") verify_words verify_differs words asked is asked.file out refl given

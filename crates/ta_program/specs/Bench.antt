@@ -1,7 +1,10 @@
 -- The command `bench`: it makes a test automaton, verifies it and checks the certificate.
-use Rattle.std.specs.Prelude.{ℕ, ◌*◌, ◌-◌, ◌≡◌, ◌&&◌, nat_le, Bool, true, false, List, [], ◌∷◌, ◌++◌, codes, decimal, slice_get, Option, None, Some, if◌then◌else◌, option_and_then}
+use Rattle.std.specs.Prelude.{ℕ, ◌*◌, ◌-◌, ◌≡◌, ◌&&◌, nat_le, Bool, true, false, List, [], ◌∷◌, ◌++◌, codes, decimal, slice_get, Option, None, Some}
+use Rattle.std.specs.Prelude.{if◌then◌else◌, option_and_then}
+use Rattle.std.specs.List.{AllByRecursion}
 use Rattle.ta_base.specs.declared.limits.TheConstants.{DEFAULT_NODES}
 use Rattle.ta_automaton.specs.declared.file.File.{File}
+use Rattle.ta_automaton.specs.Runs as runs
 use Rattle.ta_automaton.specs.declared.pattern.Pattern.{Pattern}
 use Rattle.ta_check.specs.Certificate.{Certificate}
 use Rattle.ta_maker.specs.Family.{family}
@@ -48,14 +51,20 @@ accepted_line false = codes "certificate: accepted\n"
 
 -- the number of the family, how many rules there are, the line of the pattern, and that the certificate was accepted
 abbrev pub bench_text : ℕ → Pattern → Verdict → List ℕ
-bench_text k p v = codes "bench " ++ (decimal k ++ (codes "\nrules " ++ (decimal (2 * k) ++ (codes "\n" ++ (verdict_line p v ++ accepted_line (is_unknown v))))))
+bench_text k p v = codes "bench " ++
+    (decimal k ++ (codes "\nrules " ++ (decimal (2 * k) ++ (codes "\n" ++ (verdict_line p v ++ accepted_line (is_unknown v))))))
 
--- the automaton with this number means a file; its verdicts hold, and the one on its pattern is not unsafe; the text is a certificate of
--- the patterns that are safe by these verdicts, so `check` accepts it
+-- the text is a certificate of some patterns of the file
+abbrev pub IsCertified : File → List ℕ → Type 0
+IsCertified file text = (numbers : List ℕ) × Certificate file text numbers
+
+-- the automaton with this number means a file, whose patterns occur in no run; its verdicts hold, and the one on its pattern is not unsafe; the
+-- text is a certificate of the patterns that are safe by these verdicts, so `check` accepts it
 pub record IsBench (k : ℕ) (p : Pattern) (v : Verdict) : Type 0 where
   pub file : File
   pub legal : Legal (family_text k) file
   pub named : slice_get file.patterns 0 ≡ Some p
+  pub safe : AllByRecursion (runs.Safe file.automaton) file.patterns
   pub verdicts : List Verdict
   pub are : AreVerdicts file BUDGET verdicts
   pub given : slice_get verdicts 0 ≡ Some v
@@ -89,3 +98,9 @@ pub record BenchHolds (number k : ℕ) (written written' : Option (List ℕ)) : 
   pub is : IsBench k pattern verdict
   pub numbered : bench_status verdict ≡ number
   pub wrote : written' ≡ with_text written (bench_text k pattern verdict)
+
+-- the text of the automaton with this number means a file, each of whose patterns occurs in no run
+pub record FamilySafe (k : ℕ) : Type 0 where
+  pub file : File
+  pub legal : Legal (family_text k) file
+  pub safe : AllByRecursion (runs.Safe file.automaton) file.patterns

@@ -1,8 +1,8 @@
 -- What an exit status claims, and no more. `verify FILE` with status 0: FILE holds a text that means an automaton with patterns, and each
--- of these patterns occurs in no run; with status 1: some pattern occurs in a run. `check FILE CERT` with status 0: each pattern that is
--- printed as proved occurs in no run. `rest FILE` and `rest-check FILE CERT`, without silent names: of each pattern that is printed as safe
--- or proved, no run in which it occurs is at rest (a deadlock) where its last event happens. To believe this, read these definitions and
--- those that they name, and no others.
+-- of these patterns occurs in no run; with status 1: some pattern occurs in a run. With `--pattern NAME`: the pattern with this name.
+-- `check FILE CERT` with status 0 or 2: each pattern that is printed as proved occurs in no run. `rest FILE` and `rest-check FILE CERT`,
+-- without silent names: of each pattern that is printed as safe or proved, no run in which it occurs is at rest (a deadlock) where its last
+-- event happens. To believe this, read these definitions and those that they name, and no others.
 use Rattle.std.specs.Prelude.{ℕ, ◌≤◌, ◌≡◌, false, List, codes, slice_get, Option, None, Some}
 use Rattle.std.specs.List.{AllByRecursion}
 use Rattle.ta_syntax.specs.Grammar.{PlainTree}
@@ -23,10 +23,9 @@ use Rattle.ta_shell.specs.Making.{Acts}
 use Rattle.ta_shell.specs.Puts.{may_put}
 use Rattle.ta_shell.specs.Sights.{View, Whole, seen}
 use Rattle.ta_rest.specs.Rest.{RestSafe}
-use Rattle.ta_program.specs.Check.{check_of}
-use Rattle.ta_program.specs.Replay.{replay_of}
+use Rattle.ta_program.specs.CheckWords.{CheckWords, ReplayWords, check_of, replay_of}
+use Rattle.ta_program.specs.PatternOption.{EachPicked, HasName}
 use Rattle.ta_program.specs.RestWords.{RestCheckWords, RestWords, rest_check_of, rest_of}
-use Rattle.ta_program.specs.Values.{TwoNames}
 use Rattle.ta_program.specs.VerifyWords.{VerifyWords, verify_of}
 
 -- the bytes under a name are a text of the grammar, whose tree means this file
@@ -37,19 +36,20 @@ pub record HoldsFile (view : View) (name : List ℕ) (file : File) : Type 0 wher
   pub text : IsTextOf bytes tree
   pub means : MeansTree tree file
 
--- the bytes under a name mean a file, and each of its patterns occurs in no run
-pub record EachPatternSafe (view : View) (name : List ℕ) : Type 0 where
+-- the bytes under a name mean a file, and each of its patterns, or the one with the name that is given, occurs in no run
+pub record EachPatternSafe (view : View) (name : List ℕ) (given : Option (List ℕ)) : Type 0 where
   pub file : File
   pub holds : HoldsFile view name file
-  pub safe : AllByRecursion (runs.Safe file.automaton) file.patterns
+  pub safe : EachPicked runs.Safe given file
 
--- the bytes under a name mean a file, and some pattern of it occurs in a run
-pub record SomePatternOccurs (view : View) (name : List ℕ) : Type 0 where
+-- the bytes under a name mean a file, and some pattern of it, or the one with the name that is given, occurs in a run
+pub record SomePatternOccurs (view : View) (name : List ℕ) (given : Option (List ℕ)) : Type 0 where
   pub file : File
   pub holds : HoldsFile view name file
   pub number : ℕ
   pub pattern : Pattern
   pub among : slice_get file.patterns number ≡ Some pattern
+  pub named : HasName given pattern
   pub first : runs.Config
   pub rules : List ℕ
   pub occurs : runs.Occurs file.automaton pattern first rules
@@ -79,10 +79,10 @@ pub record ShownOccurs (view : View) (name run_name : List ℕ) : Type 0 where
 
 -- what each status claims, of what is seen in the calls of the run and in the files
 pub record StatusTells (number : ℕ) (words : List (List ℕ)) (files : Option Told) (calls calls' : List Event) (written written' : Option (List ℕ)) : Type 0 where
-  pub safe : (asked : VerifyWords) → verify_of words ≡ Some asked → number ≡ 0 → Acts (may_put asked.out) (λ read made. EachPatternSafe (seen files read) asked.file) calls calls'
-  pub occurs : (asked : VerifyWords) → verify_of words ≡ Some asked → number ≡ 1 → Acts (may_put asked.out) (λ read made. SomePatternOccurs (seen files read) asked.file) calls calls'
-  pub proved : (asked : TwoNames) → check_of words ≡ Some asked → number ≡ 0 → Grew (λ read. EachPrinted runs.Safe (codes "proved") (seen files read) asked.file written written') calls calls'
+  pub safe : (asked : VerifyWords) → verify_of words ≡ Some asked → number ≡ 0 → Acts (may_put asked.out) (λ read made. EachPatternSafe (seen files read) asked.file asked.pattern) calls calls'
+  pub occurs : (asked : VerifyWords) → verify_of words ≡ Some asked → number ≡ 1 → Acts (may_put asked.out) (λ read made. SomePatternOccurs (seen files read) asked.file asked.pattern) calls calls'
+  pub proved : (asked : CheckWords) → check_of words ≡ Some asked → number ≤ 2 → Grew (λ read. EachPrinted runs.Safe (codes "proved") (seen files read) asked.file written written') calls calls'
   pub rest_safe : (asked : RestWords) → rest_of words ≡ Some asked → asked.silent ≡ None → number ≤ 2 → Acts (may_put asked.out) (λ read made. EachPrinted RestSafe (codes "rest safe, ") (seen files read) asked.file written written') calls calls'
-  pub rest_proved : (asked : RestCheckWords) → rest_check_of words ≡ Some asked → asked.silent ≡ None → number ≡ 0 → Grew (λ read. EachPrinted RestSafe (codes "rest proved") (seen files read) asked.file written written') calls calls'
+  pub rest_proved : (asked : RestCheckWords) → rest_check_of words ≡ Some asked → asked.silent ≡ None → number ≤ 2 → Grew (λ read. EachPrinted RestSafe (codes "rest proved") (seen files read) asked.file written written') calls calls'
   pub safe_lines : (asked : VerifyWords) → verify_of words ≡ Some asked → asked.json ≡ false → number ≤ 2 → Acts (may_put asked.out) (λ read made. EachPrinted runs.Safe (codes "safe, ") (seen files read) asked.file written written') calls calls'
-  pub shown : (asked : TwoNames) → replay_of words ≡ Some asked → number ≡ 0 → Grew (λ read. ShownOccurs (seen files read) asked.file asked.other) calls calls'
+  pub shown : (asked : ReplayWords) → replay_of words ≡ Some asked → number ≡ 0 → Grew (λ read. ShownOccurs (seen files read) asked.file asked.other) calls calls'

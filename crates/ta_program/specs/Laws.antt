@@ -1,14 +1,14 @@
 -- How commands fit together: `replay` shows what is printed as a run, and `check` accepts what is written as a certificate.
-use Rattle.std.specs.Prelude.{ℕ, ◌≡◌, ◌≤◌, ◌⊎◌, Bool, List, length, slice_get, Some}
+use Rattle.std.specs.Prelude.{ℕ, ◌≡◌, ◌≤◌, ◌⊎◌, Bool, true, false, List, length, slice_get, Some}
 use Rattle.ta_automaton.specs.declared.file.File.{File}
 use Rattle.ta_automaton.specs.declared.pattern.Pattern.{Pattern}
 use Rattle.std.specs.List.{range_with_len}
 use Rattle.ta_replay.specs.declared.run.Run.{Run}
 use Rattle.ta_replay.specs.Replays.{ReplayStays}
 use Rattle.ta_replay.specs.RunText.{run_text}
-use Rattle.ta_report.specs.Check.{check_text, rest_check_text}
 use Rattle.ta_report.specs.Report.{rest_text}
 use Rattle.ta_report.specs.Telling.{TellsRun, TellsUnsafe, report_of}
+use Rattle.ta_report.specs.declared.pick.Pick.{Pick}
 use Rattle.ta_report.specs.declared.verdict.ReportSample.{ReportSample}
 use Rattle.ta_report.specs.declared.verdict.Verdict.{Verdict}
 use Rattle.ta_search.specs.declared.outcome.SearchEnd.{SearchEnd}
@@ -22,12 +22,12 @@ use Rattle.ta_shell.specs.Ends.{State, Tells}
 use Rattle.ta_shell.specs.Sights.{in_files}
 use Rattle.ta_program.specs.Admit.{AdmitAsked, admit_of}
 use Rattle.ta_program.specs.Asked.{Runs}
-use Rattle.ta_verdict.specs.Certificates.{safe_numbers}
-use Rattle.ta_program.specs.Check.{check_of}
+use Rattle.ta_verdict.specs.Certificates.{safe_among}
+use Rattle.ta_program.specs.CheckWords.{ReplayWords, check_of, no_options, replay_of}
 use Rattle.ta_program.specs.Compress.{LeavesRange, compress_of, out_of_range_line}
 use Rattle.ta_program.specs.Kinds.{IsFile}
-use Rattle.ta_program.specs.Printed.{Telling, rest_telling}
-use Rattle.ta_program.specs.Replay.{replay_of}
+use Rattle.ta_program.specs.Printed.{Telling, telling_of}
+use Rattle.ta_program.specs.Proofs.{check_text, rest_check_text}
 use Rattle.ta_program.specs.Requests.{request_of}
 use Rattle.ta_program.specs.RestWords.{RestWords, rest_check_of, rest_of}
 use Rattle.ta_program.specs.Search.{IsTemplate}
@@ -39,7 +39,7 @@ use Rattle.ta_program.specs.VerifyWords.{VerifyWords, verify_of}
 -- it: it ends with status 0, or with 6 or 7
 abbrev pub IsReplayed : Told → List ℕ → List ℕ → Type 0
 IsReplayed told name bytes =
-    (words : List (List ℕ)) (asked : TwoNames) → replay_of words ≡ Some asked → asked.file ≡ name
+    (words : List (List ℕ)) (asked : ReplayWords) → replay_of words ≡ Some asked → asked.file ≡ name
     → (later : Told) → later name ≡ told name → later asked.other ≡ Some bytes
     → (number : ℕ) (before after : State) → before.shelf.files ≡ Some later → Runs (request_of words) number before after
     → (number ≡ 0) ⊎ ((number ≡ 6) ⊎ (number ≡ 7))
@@ -49,7 +49,7 @@ pub record PrintsReplayed (json : Bool) (told : Told) (name : List ℕ) (before 
   pub file : File
   pub text : List ℕ
   pub gained : after.out.written ≡ with_text before.out.written text
-  pub replayed : (number : ℕ) (p : Pattern) → slice_get file.patterns number ≡ Some p → TellsUnsafe json p.name text → (bytes : List ℕ) → TellsRun json p.name bytes text → IsReplayed told name bytes
+  pub replayed : (number : ℕ) (p : Pattern) → slice_get file.patterns number ≡ Some p → TellsUnsafe false json p.name text → (bytes : List ℕ) → TellsRun false json p.name bytes text → IsReplayed told name bytes
 
 -- what `verify FILE` prints as a run with status 0, 1 or 2 over known files, `replay` shows
 abbrev pub PrintedRunsAreReplayed : Type 0
@@ -72,7 +72,7 @@ PrintedRestRunsAreReplayed =
     (words : List (List ℕ)) (number : ℕ) (before after : State) → Runs (request_of words) number before after
     → (asked : RestWords) → rest_of words ≡ Some asked → number ≤ 2
     → (told : Told) → before.shelf.files ≡ Some told
-    → TellsReplayed rest_telling told asked.file before after
+    → TellsReplayed (telling_of true false) told asked.file before after
 
 -- the output gained a text, which is replayed
 pub record WritesReplayed (told : Told) (name : List ℕ) (before after : State) : Type 0 where
@@ -118,15 +118,16 @@ CompressNamesTheRange =
 abbrev pub SaysOrFails : List ℕ → ℕ → State → State → Type 0
 SaysOrFails text number before after = ((number ≡ 0) × (after.out.written ≡ with_text before.out.written text)) ⊎ ((number ≡ 6) ⊎ (number ≡ 7))
 
--- a first run reported a sample and verdicts on FILE, and a second run said that exactly the patterns are proved that are safe by these
+-- a first run reported a sample and verdicts on picked patterns of FILE, and a second run said that exactly the patterns are proved that are safe by these
 -- verdicts; or it ended with 6 or 7
-pub record SaysTheSame (report : File → ReportSample → List Verdict → List ℕ) (proved : File → List ℕ → List ℕ) (told : Told) (name : List ℕ) (before after : State) (number : ℕ) (begun ended : State) : Type 0 where
+pub record SaysTheSame (report : File → Pick → ReportSample → List Verdict → List ℕ) (proved : File → List ℕ → List ℕ) (told : Told) (name : List ℕ) (before after : State) (number : ℕ) (begun ended : State) : Type 0 where
   pub file : File
   pub is_file : IsFile (in_files told) name file
+  pub pick : Pick
   pub sample : ReportSample
   pub verdicts : List Verdict
-  pub reported : after.out.written ≡ with_text before.out.written (report file sample verdicts)
-  pub accepted : SaysOrFails (proved file (safe_numbers file verdicts)) number begun ended
+  pub reported : after.out.written ≡ with_text before.out.written (report file pick sample verdicts)
+  pub accepted : SaysOrFails (proved file (safe_among file pick verdicts)) number begun ended
 
 -- what `verify FILE --certificate OUT` put with status 0, 1 or 2 is accepted by `check FILE OUT` over the files as they were left: it never
 -- ends with 3, 4 or 5, and with 0 it says that exactly the patterns are proved that were reported safe
@@ -135,9 +136,9 @@ WrittenIsAccepted =
     (words : List (List ℕ)) (first : ℕ) (before after : State) → Runs (request_of words) first before after
     → (asked : VerifyWords) (out : List ℕ) → verify_of words ≡ Some asked → asked.out ≡ Some out → first ≤ 2
     → (told : Told) → after.shelf.files ≡ Some told
-    → (again : List (List ℕ)) → check_of again ≡ Some (record { file = asked.file; other = out })
+    → (again : List (List ℕ)) → check_of again ≡ Some (record { file = asked.file; other = out; options = no_options })
     → (second : ℕ) (begun ended : State) → begun.shelf.files ≡ Some told → Runs (request_of again) second begun ended
-    → SaysTheSame (report_of asked.json) check_text told asked.file before after second begun ended
+    → SaysTheSame (report_of false asked.json) check_text told asked.file before after second begun ended
 
 -- what `rest FILE --certificate OUT` put with status 0, 1 or 2 is accepted by `rest-check FILE OUT`, with the same silent names, over the
 -- files as they were left: it never ends with 3, 4 or 5, and with 0 it says that exactly the patterns are proved that were reported safe at
@@ -147,7 +148,7 @@ WrittenAtRestIsAccepted =
     (words : List (List ℕ)) (first : ℕ) (before after : State) → Runs (request_of words) first before after
     → (asked : RestWords) (out : List ℕ) → rest_of words ≡ Some asked → asked.out ≡ Some out → first ≤ 2
     → (told : Told) → after.shelf.files ≡ Some told
-    → (again : List (List ℕ)) → rest_check_of again ≡ Some (record { file = asked.file; other = out; silent = asked.silent })
+    → (again : List (List ℕ)) → rest_check_of again ≡ Some (record { file = asked.file; other = out; silent = asked.silent; options = no_options })
     → (second : ℕ) (begun ended : State) → begun.shelf.files ≡ Some told → Runs (request_of again) second begun ended
     → SaysTheSame rest_text rest_check_text told asked.file before after second begun ended
 
@@ -171,6 +172,6 @@ FoundIsAccepted =
     (words : List (List ℕ)) (before after : State) → Runs (request_of words) 0 before after
     → (asked : SearchWords) (out filled : List ℕ) → search_of words ≡ Some asked → asked.out ≡ Some out → asked.filled ≡ Some filled
     → (told : Told) → after.shelf.files ≡ Some told
-    → (again : List (List ℕ)) → check_of again ≡ Some (record { file = filled; other = out })
+    → (again : List (List ℕ)) → check_of again ≡ Some (record { file = filled; other = out; options = no_options })
     → (second : ℕ) (begun ended : State) → begun.shelf.files ≡ Some told → Runs (request_of again) second begun ended
     → ProvesFound told asked.file filled before after second begun ended

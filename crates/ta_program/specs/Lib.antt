@@ -4,6 +4,9 @@ pub mod Taken
 pub mod Kinds
 pub mod Asked
 pub mod Asking
+pub mod CheckWords
+pub mod CheckSeen
+pub mod Proofs
 pub mod Check
 pub mod Compress
 pub mod Replay
@@ -14,6 +17,7 @@ pub mod Reporting
 pub mod Bench
 pub mod WordAsked
 pub mod WordSeen
+pub mod PatternOption
 pub mod Export
 pub mod Admit
 pub mod AdmitSeen
@@ -21,10 +25,13 @@ pub mod SearchWords
 pub mod Search
 pub mod SearchSeen
 pub mod Show
+pub mod Version
 pub mod Requests
 pub mod Headline
 pub mod Understood
 pub mod Printed
+pub mod Tries
+pub mod Reported
 pub mod Program
 pub mod Laws
 pub mod Faults

@@ -1,5 +1,5 @@
 -- What a run of the program says, command by command and status by status.
-use Rattle.std.specs.Prelude.{ℕ, ◌≡◌, ◌≢◌, ◌≤◌, ◌⊎◌, List, [], codes, Option, None, Some, IsSome}
+use Rattle.std.specs.Prelude.{ℕ, ◌≡◌, ◌≢◌, ◌≤◌, ◌⊎◌, List, [], codes, Option, None, Some, IsSome, true, false}
 use Rattle.ta_automaton.specs.declared.file.File.{File}
 use Rattle.ta_automaton.specs.Runs as runs
 use Rattle.ta_shelf.specs.Calls.{Event, Grew}
@@ -14,27 +14,30 @@ use Rattle.ta_shell.specs.Sparing.{Differ}
 use Rattle.ta_program.specs.Asked.{Asked, IsNoCommand, usage_line}
 use Rattle.ta_program.specs.Asked.Asked.{Command, NoCommand}
 use Rattle.ta_program.specs.Admit.{AdmitAsked, AdmitHolds, IsAdmitted, admit_of}
-use Rattle.ta_program.specs.Bench.{BenchHolds, bench_of}
+use Rattle.ta_program.specs.Bench.{BenchHolds, FamilySafe, bench_of}
 use Rattle.ta_program.specs.Certified.{LongCertificate}
-use Rattle.ta_program.specs.Check.{CheckHolds, check_of}
+use Rattle.ta_program.specs.Check.{CheckHolds}
+use Rattle.ta_program.specs.CheckWords.{CheckWords, ReplayWords, check_of, replay_of}
 use Rattle.ta_program.specs.Compress.{CanCompress, CompressHolds, LeavesRange, compress_of}
 use Rattle.ta_program.specs.Export.{ExportHolds, export_of}
 use Rattle.ta_program.specs.Headline.{EachPrinted}
 use Rattle.ta_program.specs.Kinds.{IsFile}
-use Rattle.ta_program.specs.Printed.{EachPrintedUnsafe, EachToldSafe, rest_telling, verify_telling}
-use Rattle.ta_program.specs.Replay.{ReplayHolds, replay_of}
+use Rattle.ta_program.specs.Printed.{EachPrintedUnsafe, EachToldProved, EachToldSafe, telling_of}
+use Rattle.ta_program.specs.Proofs.{EveryPattern}
+use Rattle.ta_program.specs.Replay.{ReplayHolds}
+use Rattle.ta_program.specs.PatternOption.{IsPick}
 use Rattle.ta_program.specs.Requests.{request_of}
 use Rattle.ta_program.specs.Rest.{IsKnownAtRest, LongAtRest, RestCertificateStands, RestReportHolds}
 use Rattle.ta_program.specs.RestCheck.{RestCheckHolds}
 use Rattle.ta_program.specs.RestWords.{RestCheckWords, RestWords, rest_check_of, rest_of}
 use Rattle.ta_program.specs.SilentNames.{AreSilent, FairlySafeBut, RestOccursBut, RestSafeBut}
-use Rattle.ta_program.specs.Reporting.{CertificateStands, ReportHolds}
+use Rattle.ta_program.specs.Reporting.{CertificateStands, IsDecided, ReportHolds}
 use Rattle.ta_program.specs.Search.{SearchHolds, found_names}
 use Rattle.ta_program.specs.SearchWords.{SearchWords, search_of}
 use Rattle.ta_program.specs.Show.{SafeAsPrinted, ShowHolds, show_of}
+use Rattle.ta_program.specs.Tries.{EachTried}
 use Rattle.ta_verdict.specs.Rest.Budgets.{resting}
-use Rattle.ta_verdict.specs.Verdicts.{IsKnown}
-use Rattle.ta_verdict.specs.declared.budget.Budget.{Budget}
+use Rattle.ta_report.specs.declared.pick.Pick.{Pick}
 use Rattle.ta_program.specs.Values.{TwoNames}
 use Rattle.ta_program.specs.VerifyWords.{VerifyWords, verify_of}
 use Rattle.ta_program.specs.WordAsked.{WordAsked}
@@ -45,7 +48,7 @@ use Rattle.ta_program.specs.WordAsked.{WordAsked}
 abbrev pub VerifyReports : ℕ → List (List ℕ) → Option Told → List Event → List Event → Option (List ℕ) → Option (List ℕ) → Type 0
 VerifyReports number words files calls calls' written written' =
     (asked : VerifyWords) → verify_of words ≡ Some asked → number ≤ 2
-    → Acts (may_put asked.out) (λ read made. ReportHolds number (seen files read) asked.file asked.budget asked.json written written') calls calls'
+    → Acts (may_put asked.out) (λ read made. ReportHolds number (seen files read) asked written written') calls calls'
 
 -- `verify FILE --certificate OUT` with status 0, 1 or 2: the report holds, OUT holds the certificate of the patterns that it calls safe,
 -- which `check` accepts as one of exactly these, and every other file is unchanged; the log records that exactly this text was put in the
@@ -53,14 +56,16 @@ VerifyReports number words files calls calls' written written' =
 abbrev pub CertificateWritten : ℕ → List (List ℕ) → Option Told → Option Told → List Event → List Event → Option (List ℕ) → Option (List ℕ) → Type 0
 CertificateWritten number words files files' calls calls' written written' =
     (asked : VerifyWords) (out : List ℕ) → verify_of words ≡ Some asked → asked.out ≡ Some out → number ≤ 2
-    → Acts (may_put asked.out) (λ read made. CertificateStands number (seen files read) asked.file asked.budget asked.json out files files' written written' made) calls calls'
+    → Acts (may_put asked.out) (λ read made. CertificateStands number (seen files read) asked out files files' written written' made) calls calls'
 
--- `check FILE CERT` with status 0: FILE is legal, CERT is a certificate of it, each pattern that it proves is safe, and the output gained
--- the text that says which patterns these are
-abbrev pub CheckProves : ℕ → List (List ℕ) → Option Told → List Event → List Event → Option (List ℕ) → Option (List ℕ) → Type 0
-CheckProves number words files calls calls' written written' =
-    (asked : TwoNames) → check_of words ≡ Some asked → number ≡ 0
-    → Grew (λ read. CheckHolds (seen files read) asked.file asked.other written written') calls calls'
+-- `check FILE CERT` with status 0, 1 or 2, whatever its options: FILE is legal, CERT is a certificate of it, each pattern that it proves is
+-- safe, and the output gained the text that says which patterns these are, with what is known of the parameters, where that is asked for.
+-- The status is 2 exactly if `--all` is asked for and some pattern is not proved, or there is none, or no parameters are known that have an
+-- initial configuration; otherwise it is 0. So with `--all` and 0 FILE has patterns, each of them is safe, and some initial configuration
+-- exists
+pub record CheckProves (number : ℕ) (words : List (List ℕ)) (files : Option Told) (calls calls' : List Event) (written written' : Option (List ℕ)) : Type 0 where
+  pub holds : (asked : CheckWords) → check_of words ≡ Some asked → number ≤ 2 → Grew (λ read. CheckHolds number (seen files read) asked.file asked.other asked.options written written') calls calls'
+  pub every : (asked : CheckWords) → check_of words ≡ Some asked → asked.options.all ≡ true → number ≡ 0 → Grew (λ read. EveryPattern runs.Safe (seen files read) asked.file) calls calls'
 
 -- `compress FILE RUN` with status 0: FILE is legal, RUN is the text of a run that can be compressed, and the output gained the text
 -- of the compressed run, which shows the pattern, marks the same events at the same configurations, and is short. If known files have all
@@ -70,12 +75,12 @@ pub record RunShortens (number : ℕ) (words : List (List ℕ)) (files : Option 
   pub exact : (asked : TwoNames) (told : Told) → compress_of words ≡ Some asked → files ≡ Some told → CanCompress told asked → (number ≡ 0) ⊎ ((number ≡ 6) ⊎ (number ≡ 7))
   pub outside : (asked : TwoNames) (told : Told) (line : ℕ) → compress_of words ≡ Some asked → files ≡ Some told → LeavesRange told asked line → (number ≡ 4) ⊎ ((number ≡ 6) ⊎ (number ≡ 7))
 
--- `replay FILE RUN` with status 0: FILE is legal, RUN is the text of a run that shows its pattern, and the output gained the line
+-- `replay FILE RUN` with status 0: FILE is legal, RUN is the text of a run that shows its pattern, and the output gained the text
 -- that says so
 abbrev pub ReplayShows : ℕ → List (List ℕ) → Option Told → List Event → List Event → Option (List ℕ) → Option (List ℕ) → Type 0
 ReplayShows number words files calls calls' written written' =
-    (asked : TwoNames) → replay_of words ≡ Some asked → number ≡ 0
-    → Grew (λ read. ReplayHolds (seen files read) asked.file asked.other written written') calls calls'
+    (asked : ReplayWords) → replay_of words ≡ Some asked → number ≡ 0
+    → Grew (λ read. ReplayHolds (seen files read) asked.file asked.other asked.json written written') calls calls'
 
 -- `bench K` with status 0 or 2: the automaton with this number was verified, and the output gained the lines that say so; 0 if its pattern
 -- is safe, and 2 if it is unknown. It never ends with 1, 3 or 4
@@ -104,13 +109,15 @@ pub record RestsReport (number : ℕ) (words : List (List ℕ)) (files files' : 
   pub report : (asked : RestWords) → rest_of words ≡ Some asked → number ≤ 2 → Acts (may_put asked.out) (λ read made. RestReportHolds number (seen files read) asked written written') calls calls'
   pub certificate : (asked : RestWords) (out : List ℕ) → rest_of words ≡ Some asked → asked.out ≡ Some out → number ≤ 2 → Acts (may_put asked.out) (λ read made. RestCertificateStands number (seen files read) asked out files files' written written' made) calls calls'
 
--- `rest-check FILE CERT` with status 0: FILE is legal and its cycles are self-loops, CERT is a certificate for its endings, no run comes to
--- rest where the last event of a pattern that CERT proves happens, and the output gained the text that says which patterns these are. With
--- `--silent NAMES` no guard of FILE subtracts one of these names, and no run comes to quiet rest there, where their places are silent
-abbrev pub RestProves : ℕ → List (List ℕ) → Option Told → List Event → List Event → Option (List ℕ) → Option (List ℕ) → Type 0
-RestProves number words files calls calls' written written' =
-    (asked : RestCheckWords) → rest_check_of words ≡ Some asked → number ≡ 0
-    → Grew (λ read. RestCheckHolds (seen files read) asked.file asked.other asked.silent written written') calls calls'
+-- `rest-check FILE CERT` with status 0, 1 or 2, whatever its options: FILE is legal and its cycles are self-loops, CERT is a certificate for
+-- its endings, no run comes to rest where the last event of a pattern that CERT proves happens, and the output gained the text that says
+-- which patterns these are. With `--silent NAMES` no guard of FILE subtracts one of these names, and no run comes to quiet rest there, where
+-- their places are silent. The status is 2 exactly if `--all` is asked for and some pattern is not proved, or there is none, or no
+-- parameters are known that have an initial configuration; otherwise it is 0. So with `--all` and 0 FILE has patterns, each of them is safe
+-- at rest, and some initial configuration exists
+pub record RestProves (number : ℕ) (words : List (List ℕ)) (files : Option Told) (calls calls' : List Event) (written written' : Option (List ℕ)) : Type 0 where
+  pub holds : (asked : RestCheckWords) → rest_check_of words ≡ Some asked → number ≤ 2 → Grew (λ read. RestCheckHolds number (seen files read) asked.file asked.other asked.silent asked.options written written') calls calls'
+  pub every : (asked : RestCheckWords) → rest_check_of words ≡ Some asked → asked.options.all ≡ true → number ≡ 0 → Grew (λ read. EveryPattern (RestSafeBut asked.silent) (seen files read) asked.file) calls calls'
 
 -- `search FILE` with status 0, 1 or 2, whatever its options: FILE is a template, and the output gained the text of the search for values of
 -- its holes: its vectors were tried in order, each is listed once with an outcome that holds, up to the first that is Safe. With 0 every
@@ -130,26 +137,30 @@ ShowsFile number words files calls calls' written written' =
     → Grew (λ read. ShowHolds (seen files read) name written written') calls calls'
 
 -- `verify FILE` with status 0, its words in any order: if `show FILE` prints a text for FILE's bytes, the patterns of each file with this
--- text occur in no run
+-- text, or the one that is asked for, occur in no run
 abbrev pub SafeAsShown : ℕ → List (List ℕ) → Option Told → List Event → List Event → Type 0
 SafeAsShown number words files calls calls' =
     (asked : VerifyWords) → verify_of words ≡ Some asked → number ≡ 0
-    → Acts (may_put asked.out) (λ read made. SafeAsPrinted (seen files read) asked.file) calls calls'
+    → Acts (may_put asked.out) (λ read made. SafeAsPrinted (seen files read) asked.file asked.pattern) calls calls'
 
 -- with status 0, 1 or 2 of `verify` a pattern that the report calls safe, by its line or in JSON, is safe, and one that it calls unsafe
--- occurs in the run whose text it prints; with status 0 of `check` a pattern that is `proved` is safe. For `rest` and `rest-check`: of a
+-- occurs in the run whose text it prints; with status 0, 1 or 2 of `check` a pattern that it calls `proved`, by its line or in JSON, is
+-- safe. For `rest` and `rest-check`: of a
 -- pattern that is `rest safe` or `rest proved` no run comes to rest with its last event at the end, and it occurs for ever in no fair
 -- infinite run; of one that is `rest unsafe` the printed run comes to rest so. With `--silent NAMES` the same holds of quiet rest, and of
--- runs that are fair where these are silent
+-- runs that are fair where these are silent. With status 0, 1 or 2 of `search` each outcome that it lists is so of the filled text, and its
+-- last line is `found` exactly with 0; with status 0 or 2 of `bench` the pattern of its automaton is safe
 pub record PrintedHolds (number : ℕ) (words : List (List ℕ)) (files : Option Told) (calls calls' : List Event) (written written' : Option (List ℕ)) : Type 0 where
-  pub safe : (asked : VerifyWords) → verify_of words ≡ Some asked → number ≤ 2 → Acts (may_put asked.out) (λ read made. EachToldSafe asked.json (seen files read) asked.file written written') calls calls'
-  pub unsafe_ : (asked : VerifyWords) → verify_of words ≡ Some asked → number ≤ 2 → Acts (may_put asked.out) (λ read made. EachPrintedUnsafe runs.Occurs (verify_telling asked.json) (seen files read) asked.file written written') calls calls'
-  pub proved : (asked : TwoNames) → check_of words ≡ Some asked → number ≡ 0 → Grew (λ read. EachPrinted runs.Safe (codes "proved") (seen files read) asked.file written written') calls calls'
+  pub safe : (asked : VerifyWords) → verify_of words ≡ Some asked → number ≤ 2 → Acts (may_put asked.out) (λ read made. EachToldSafe runs.Safe false asked.json (seen files read) asked.file written written') calls calls'
+  pub unsafe_ : (asked : VerifyWords) → verify_of words ≡ Some asked → number ≤ 2 → Acts (may_put asked.out) (λ read made. EachPrintedUnsafe runs.Occurs (telling_of false asked.json) (seen files read) asked.file written written') calls calls'
+  pub proved : (asked : CheckWords) → check_of words ≡ Some asked → number ≤ 2 → Grew (λ read. EachToldProved runs.Safe asked.options.json false (seen files read) asked.file written written') calls calls'
   pub rest_safe : (asked : RestWords) → rest_of words ≡ Some asked → number ≤ 2 → Acts (may_put asked.out) (λ read made. EachPrinted (RestSafeBut asked.silent) (codes "rest safe, ") (seen files read) asked.file written written') calls calls'
-  pub rest_unsafe : (asked : RestWords) → rest_of words ≡ Some asked → number ≤ 2 → Acts (may_put asked.out) (λ read made. EachPrintedUnsafe (RestOccursBut asked.silent) rest_telling (seen files read) asked.file written written') calls calls'
-  pub rest_proved : (asked : RestCheckWords) → rest_check_of words ≡ Some asked → number ≡ 0 → Grew (λ read. EachPrinted (RestSafeBut asked.silent) (codes "rest proved") (seen files read) asked.file written written') calls calls'
+  pub rest_unsafe : (asked : RestWords) → rest_of words ≡ Some asked → number ≤ 2 → Acts (may_put asked.out) (λ read made. EachPrintedUnsafe (RestOccursBut asked.silent) (telling_of true false) (seen files read) asked.file written written') calls calls'
+  pub rest_proved : (asked : RestCheckWords) → rest_check_of words ≡ Some asked → number ≤ 2 → Grew (λ read. EachToldProved (RestSafeBut asked.silent) asked.options.json true (seen files read) asked.file written written') calls calls'
   pub rest_fair : (asked : RestWords) → rest_of words ≡ Some asked → number ≤ 2 → Acts (may_put asked.out) (λ read made. EachPrinted (FairlySafeBut asked.silent) (codes "rest safe, ") (seen files read) asked.file written written') calls calls'
-  pub rest_proved_fair : (asked : RestCheckWords) → rest_check_of words ≡ Some asked → number ≡ 0 → Grew (λ read. EachPrinted (FairlySafeBut asked.silent) (codes "rest proved") (seen files read) asked.file written written') calls calls'
+  pub rest_proved_fair : (asked : RestCheckWords) → rest_check_of words ≡ Some asked → number ≤ 2 → Grew (λ read. EachToldProved (FairlySafeBut asked.silent) asked.options.json true (seen files read) asked.file written written') calls calls'
+  pub tried : (asked : SearchWords) → search_of words ≡ Some asked → number ≤ 2 → Acts (found_names asked) (λ read made. EachTried number (seen files read) asked.file written written') calls calls'
+  pub benched : (k : ℕ) → bench_of words ≡ Some k → number ≤ 2 → FamilySafe k
 
 -- 5 exactly if the words are no command's
 pub record UsageExactly (number : ℕ) (asked : Asked) : Type 0 where
@@ -212,11 +223,12 @@ pub record EndsSo (number : ℕ) (out : Option (List ℕ)) (Known Long Same : Ty
   pub long : IsSome out → Long → (number ≡ 4) ⊎ ((number ≡ 6) ⊎ (number ≡ 7))
   pub same : Same → (number ≡ 4) ⊎ ((number ≡ 6) ⊎ (number ≡ 7))
 
--- the same for a command with these words, if known files hold a legal FILE
-abbrev pub ReportEnds : ℕ → Option Told → Option VerifyWords → (Known Long : File → Budget → Type 0) → Type 0
-ReportEnds number files words Known Long =
-    (told : Told) (asked : VerifyWords) (file : File) → files ≡ Some told → words ≡ Some asked → IsFile (in_files told) asked.file file
-    → EndsSo number asked.out (Known file asked.budget) (Long file asked.budget) (HoldsSame told asked.file asked.out)
+-- the same for `verify`, if known files hold a legal FILE that has the pattern that is asked for
+abbrev pub ReportEnds : ℕ → Option Told → Option VerifyWords → Type 0
+ReportEnds number files words =
+    (told : Told) (asked : VerifyWords) (file : File) (pick : Pick) → files ≡ Some told → words ≡ Some asked → IsFile (in_files told) asked.file file
+    → IsPick file asked.pattern pick
+    → EndsSo number asked.out (IsDecided asked file pick) (LongCertificate file pick asked.budget) (HoldsSame told asked.file asked.out)
 
 -- the same for `rest`, if the names may be silent in FILE
 abbrev pub RestReportEnds : ℕ → Option Told → Option RestWords → Type 0
@@ -225,12 +237,13 @@ RestReportEnds number files words =
     → AreSilent file.automaton asked.silent places
     → EndsSo number asked.out (IsKnownAtRest file (resting asked.budget places)) (LongAtRest file (resting asked.budget places)) (HoldsSame told asked.file asked.out)
 
--- a legal FILE passes; for `rest` and `rest-check`, one whose cycles are self-loops, with names that may be silent in it. With known files
+-- a legal FILE passes; for `verify`, one that has the pattern that is asked for; for `rest` and `rest-check`, one whose cycles are
+-- self-loops, with names that may be silent in it. With known files
 -- the status is neither 3 nor 5; if no call failed or stalled, it is not 6; for `verify` and `rest`, if no verdict holds that leaves a
 -- pattern unknown, it is not 2; and it is 4 exactly if the certificate that is asked for is too long, or its
 -- file holds what FILE does
 pub record Completes (number : ℕ) (words : List (List ℕ)) (before after : State) : Type 0 where
   pub passes : PassesLegal (request_of words) number before.shelf.files
   pub calm : ¬ Faulted before.shelf.faults after.shelf.faults → ¬ SinkFaltered before.out after.out → number ≢ 6
-  pub verify : ReportEnds number before.shelf.files (verify_of words) IsKnown LongCertificate
+  pub verify : ReportEnds number before.shelf.files (verify_of words)
   pub rest : RestReportEnds number before.shelf.files (rest_of words)

@@ -13,6 +13,7 @@ use Rattle.ta_program.specs.Rest.{rest_asked}
 use Rattle.ta_program.specs.RestCheck.{rest_check_asked}
 use Rattle.ta_program.specs.Search.{search_asked}
 use Rattle.ta_program.specs.Show.{show_asked}
+use Rattle.ta_program.specs.Version.{version_asked}
 
 -- what a command line asks for: its first word is the command
 abbrev pub request_of : List (List ℕ) → Asked
@@ -29,4 +30,5 @@ request_of (word ∷ words) =
     (row (codes "search") word (search_asked words)
     (row (codes "show") word (show_asked words)
     (row (codes "verify") word (verify_asked words)
-    NoCommand))))))))))
+    (row (codes "version") word (version_asked words)
+    NoCommand)))))))))))

@@ -6,6 +6,7 @@ use Rattle.ta_check.specs.Certificate.{QuietRestCertificate}
 use Rattle.ta_report.specs.declared.verdict.ReportSample.{ReportSample}
 use Rattle.ta_report.specs.declared.verdict.Verdict.{Verdict}
 use Rattle.ta_report.specs.Report.{rest_text}
+use Rattle.ta_report.specs.declared.pick.Pick.TheVariants.{All}
 use Rattle.ta_verdict.specs.Rest.Verdicts.{AreRestVerdicts, RestVerdictHolds}
 use Rattle.ta_verdict.specs.Rest.Budgets.{RestBudget, resting}
 use Rattle.ta_verdict.specs.Rest.Certificates.{RestCertificateOf}
@@ -37,7 +38,7 @@ pub record PutsRestOne (ending : File) (budget : RestBudget) (verdicts : List Ve
   pub put : Put
   pub only : puts ≡ put ∷ []
   pub named : put.name ≡ out
-  pub certificate : RestCertificateOf ending budget verdicts (put_bytes put)
+  pub certificate : RestCertificateOf ending All budget verdicts (put_bytes put)
   pub within : length (put_bytes put) ≤ CERTIFICATE.bytes
   pub accepted : QuietRestCertificate ending budget.silent (put_bytes put) (safe_numbers ending verdicts)
 
@@ -51,17 +52,17 @@ pub record RestReports (file : File) (ends : FileEndings) (budget : RestBudget) 
   pub sample : ReportSample
   pub is_sample : IsSample file budget.nodes sample
   pub verdicts : List Verdict
-  pub are : AreRestVerdicts file ends.ending ends.added budget verdicts
+  pub are : AreRestVerdicts file ends.ending ends.added All budget verdicts
   pub numbered : answer.number ≡ verdicts_number verdicts
-  pub written : answer.text ≡ rest_text file sample verdicts
+  pub written : answer.text ≡ rest_text file All sample verdicts
   pub puts : PutsRest ends.ending budget verdicts out answer.puts
 
 -- the certificate of a file is longer than a certificate may be
 pub record LongRest (file : File) (ends : FileEndings) (budget : RestBudget) : Type 0 where
   pub verdicts : List Verdict
-  pub are : AreRestVerdicts file ends.ending ends.added budget verdicts
+  pub are : AreRestVerdicts file ends.ending ends.added All budget verdicts
   pub text : List ℕ
-  pub certificate : RestCertificateOf ends.ending budget verdicts text
+  pub certificate : RestCertificateOf ends.ending All budget verdicts text
   pub longer : CERTIFICATE.bytes < length text
 
 -- a certificate that is too long is refused
@@ -115,16 +116,16 @@ pub record RestReportHolds (number : ℕ) (view : View) (asked : RestWords) (wri
   pub sample : ReportSample
   pub is_sample : IsSample file asked.budget.nodes sample
   pub verdicts : List Verdict
-  pub are : AreRestVerdicts file ends.ending ends.added (resting asked.budget silent) verdicts
+  pub are : AreRestVerdicts file ends.ending ends.added All (resting asked.budget silent) verdicts
   pub numbered : verdicts_number verdicts ≡ number
-  pub wrote : written' ≡ with_text written (rest_text file sample verdicts)
+  pub wrote : written' ≡ with_text written (rest_text file All sample verdicts)
 
 -- the report holds; OUT holds the certificate of the patterns that it calls safe at rest, every other file is unchanged, and the calls put
 -- exactly this text in the place of OUT, whole; the text is a certificate that proves exactly these patterns, so `rest-check` accepts it
 pub record RestCertificateStands (number : ℕ) (view : View) (asked : RestWords) (out : List ℕ) (files files' : Option Told) (written written' : Option (List ℕ)) (made : List calls.Put) : Type 0 where
   pub report : RestReportHolds number view asked written written'
   pub text : List ℕ
-  pub certificate : RestCertificateOf report.ends.ending (resting asked.budget report.silent) report.verdicts text
+  pub certificate : RestCertificateOf report.ends.ending All (resting asked.budget report.silent) report.verdicts text
   pub within : length text ≤ CERTIFICATE.bytes
   pub stands : WhereTold (HoldsText out text) files files'
   pub told : TellsFile out text made

@@ -1,5 +1,6 @@
 -- The command-line words of `rest` and of `rest-check`.
-use Rattle.std.specs.Prelude.{ℕ, ◌||◌, Bool, List, [], ◌∷◌, codes, if◌then◌else◌, is_some, not, option_and_then, option_map, Option, None}
+use Rattle.std.specs.Prelude.{ℕ, ◌||◌, Bool, List, [], ◌∷◌, codes, if◌then◌else◌, is_some, not, option_and_then, option_map, Option, None, false}
+use Rattle.ta_program.specs.declared.proof_options.ProofOptions.{ProofOptions}
 use Rattle.ta_program.specs.SilentNames.{names_of}
 use Rattle.ta_program.specs.Values.{budget_of, file_name_of, out_of}
 use Rattle.ta_verdict.specs.declared.budget.Budget.{Budget}
@@ -34,26 +35,29 @@ rest_words words = option_and_then rest_taken (taken_by rest_form words)
 abbrev pub rest_of : List (List ℕ) → Option RestWords
 rest_of = behind_name (codes "rest") rest_words
 
--- what `rest-check` asks for: the names of FILE and of CERT, and the names that are to be silent
+-- what `rest-check` asks for: the names of FILE and of CERT, the names that are to be silent, whether all patterns are to be proved, and
+-- whether JSON is to be printed
 pub record RestCheckWords : Type 0 where
   pub file : List ℕ
   pub other : List ℕ
   pub silent : Option (List ℕ)
+  pub options : ProofOptions
 
 abbrev pub rest_check_form : Form
-rest_check_form = record { plain = 2; options = valued (codes "--silent") ∷ [] }
+rest_check_form = record { plain = 2; options = valued (codes "--silent") ∷ flag (codes "--all") ∷ flag (codes "--json") ∷ [] }
 
 abbrev pub rest_check_taken : Taken → Option RestCheckWords
 rest_check_taken taken =
     option_and_then (λ file.
     option_and_then (λ other.
-    option_map (λ silent. record { file = file; other = other; silent = silent })
+    option_map (λ silent.
+    record { file = file; other = other; silent = silent; options = record { all = is_some (option_value taken 1); parameters = false; json = is_some (option_value taken 2) } })
     (names_of (option_value taken 0))) (file_name_of (plain_of taken 1))) (file_name_of (plain_of taken 0))
 
 -- the request of the words after the command's name
 abbrev pub rest_check_words : List (List ℕ) → Option RestCheckWords
 rest_check_words words = option_and_then rest_check_taken (taken_by rest_check_form words)
 
--- `rest-check FILE CERT [--silent NAMES]`
+-- `rest-check FILE CERT [--silent NAMES] [--all] [--json]`
 abbrev pub rest_check_of : List (List ℕ) → Option RestCheckWords
 rest_check_of = behind_name (codes "rest-check") rest_check_words

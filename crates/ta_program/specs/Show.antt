@@ -1,6 +1,5 @@
 -- The command `show`: it prints a file as it was understood.
 use Rattle.std.specs.Prelude.{ℕ, ◌≡◌, List, [], ◌++◌, map, codes, Option, Some, option_and_then}
-use Rattle.std.specs.List.{AllByRecursion}
 use Rattle.ta_automaton.specs.declared.file.File.{File}
 use Rattle.ta_automaton.specs.Runs.{Safe}
 use Rattle.ta_cert.specs.Certificates.{pair_of}
@@ -16,6 +15,7 @@ use Rattle.ta_show.specs.Unknowns.{unknowns_text}
 use Rattle.ta_walk.specs.FoundOrders.{FoundOrders}
 use Rattle.ta_program.specs.Asked.{Asked, ask}
 use Rattle.ta_program.specs.Kinds.{file_kind}
+use Rattle.ta_program.specs.PatternOption.{EachPicked}
 use Rattle.ta_program.specs.Values.{file_name_of}
 use Rattle.ta_program.specs.Words.{behind_name, plain_of, taken_by}
 
@@ -70,12 +70,12 @@ pub record ShowHolds (view : View) (name : List ℕ) (written written' : Option 
   pub printed : ShowPrints bytes text
   pub wrote : written' ≡ with_text written (text ++ unknowns_text printed.file)
 
--- the patterns of each file with this text occur in no run
-abbrev pub EachSafeIn : List ℕ → Type 0
-EachSafeIn text = (file : File) (orders : List (ℕ × ℕ)) → show_text file orders ≡ text → AllByRecursion (Safe file.automaton) file.patterns
+-- the patterns of each file with this text, or the one with the name that is given, occur in no run
+abbrev pub EachSafeIn : Option (List ℕ) → List ℕ → Type 0
+EachSafeIn given text = (file : File) (orders : List (ℕ × ℕ)) → show_text file orders ≡ text → EachPicked Safe given file
 
--- the patterns of each file whose text is printed for the bytes under a name occur in no run
-pub record SafeAsPrinted (view : View) (name : List ℕ) : Type 0 where
+-- the patterns of each file whose text is printed for the bytes under a name, or the one with the name that is given, occur in no run
+pub record SafeAsPrinted (view : View) (name : List ℕ) (given : Option (List ℕ)) : Type 0 where
   pub bytes : List ℕ
   pub held : view name (Whole bytes)
-  pub safe : (text : List ℕ) → ShowPrints bytes text → EachSafeIn text
+  pub safe : (text : List ℕ) → ShowPrints bytes text → EachSafeIn given text

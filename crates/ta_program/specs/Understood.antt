@@ -1,6 +1,6 @@
 -- The short headline: what a run of the program says of the file that `show` prints. It names neither the grammar nor what a text means:
 -- whoever has read what `tav show FILE` prints knows of which file the other commands speak.
-use Rattle.std.specs.Prelude.{ℕ, ◌≡◌, ◌≤◌, false, List, [], ◌∷◌, ◌++◌, codes, slice_get, Option, Some}
+use Rattle.std.specs.Prelude.{ℕ, ◌≡◌, ◌≤◌, false, List, [], ◌∷◌, ◌++◌, codes, slice_get, Option, None, Some}
 use Rattle.std.specs.List.{AllByRecursion}
 use Rattle.ta_automaton.specs.declared.automaton.Automaton.{Automaton}
 use Rattle.ta_automaton.specs.declared.file.File.{File}
@@ -17,7 +17,7 @@ use Rattle.ta_shelf.specs.Put.{Told}
 use Rattle.ta_shelf.specs.Sink.{with_text}
 use Rattle.ta_show.specs.Show.{show_text}
 use Rattle.ta_program.specs.Show.{ShowPrints}
-use Rattle.ta_program.specs.Words.{is_dashed}
+use Rattle.ta_program.specs.Words.{behind, is_dashed}
 
 -- a run of the program: its status, its words, what the shelf tells of its files, the shelf's log before and after, and what the output
 -- took before and after
@@ -44,6 +44,10 @@ pub record ReadsWhole (r : Ended) (name bytes : List ℕ) : Type 0 where
   pub logged : r.calls' ≡ r.calls ++ (front ++ (reads those ++ behind))
   pub gave : Spells name those bytes
   pub held : (told : Told) → r.files ≡ Some told → told name ≡ Some bytes
+
+-- a word does not begin with `--pattern`, so it asks for no pattern alone
+abbrev pub IsOfAll : List ℕ → Type 0
+IsOfAll word = behind (codes "--pattern") word ≡ None
 
 -- FILE was read, and the output gained what `show` prints of its bytes, which is the text of a file; and behind it more
 pub record Prints (r : Ended) (name : List ℕ) : Type 0 where
@@ -97,11 +101,11 @@ pub record RunOccurs (r : Ended) (run_name : List ℕ) (file : File) : Type 0 wh
 -- what each command says of the file that `show` prints, with these statuses
 pub record Understood (r : Ended) : Type 0 where
   pub shows : (name : List ℕ) (more : List (List ℕ)) → Asks r (codes "show") name more → r.status ≡ 0 → Prints r name
-  pub safe : (name : List ℕ) (more : List (List ℕ)) → Asks r (codes "verify") name more → r.status ≡ 0
+  pub safe : (name : List ℕ) (more : List (List ℕ)) → Asks r (codes "verify") name more → AllByRecursion IsOfAll more → r.status ≡ 0
       → Says (λ text file. AllByRecursion (runs.Safe file.automaton) file.patterns) r name
   pub safe_lines : LinesHold r (codes "verify") 2 (codes "safe, ") runs.Safe
   pub unsafe_lines : LinesHold r (codes "verify") 2 (codes "unsafe, ") OccursSomewhere
-  pub proved : LinesHold r (codes "check") 0 (codes "proved") runs.Safe
+  pub proved : LinesHold r (codes "check") 2 (codes "proved") runs.Safe
   pub rest_safe : LinesHold r (codes "rest") 2 (codes "rest safe, ") NeverRests
-  pub rest_proved : LinesHold r (codes "rest-check") 0 (codes "rest proved") NeverRests
+  pub rest_proved : LinesHold r (codes "rest-check") 2 (codes "rest proved") NeverRests
   pub shown : (name run_name : List ℕ) → Asks r (codes "replay") name (run_name ∷ []) → r.status ≡ 0 → Says (λ text file. RunOccurs r run_name file) r name

@@ -1,18 +1,20 @@
 //! The command `bench`.
 #![tactic(auto)]
 
-ghost use Rattle.std.specs.List.{concat};
-ghost use Rattle.std.specs.Prelude.{◌≡◌, [], IfOk, length, map, option_map, Option, slice_get, Some, string_bytes};
+ghost use Rattle.std.specs.List.{AllByRecursion, concat};
+ghost use Rattle.std.specs.Prelude.{◌≡◌, ◌≤◌, [], IfOk, IfSome, length, map, option_map, Option};
+ghost use Rattle.ta_automaton.specs.Runs as runs;
 ghost use Rattle.ta_check.specs.Certificate.{Certificate};
+ghost use Rattle.ta_maker.specs.Family.{family};
 ghost use Rattle.ta_maker.specs.Made.{IsFamilyNumber};
 ghost use Rattle.ta_meaning.specs.Reading.{Legal};
 ghost use Rattle.ta_shelf.specs.Put.{Told};
 ghost use Rattle.ta_shell.specs.Commands.{Says};
 ghost use Rattle.ta_shell.specs.Reading.{ReadCause};
 ghost use Rattle.ta_shell.specs.Stages.{Writes};
-ghost use Rattle.ta_program.specs.Bench.{SaysBench, bench_meaning, bench_status, bench_text, bench_words, family_number, family_text};
+ghost use Rattle.ta_syntax.specs.PlainTrees.{plain_tree};
+ghost use Rattle.ta_program.specs.Bench.{IsCertified, SaysBench, bench_meaning, bench_status, bench_text, bench_words, family_number, family_text};
 
-use crate::limits::FILE;
 use crate::request::Request;
 use crate::words::take_words;
 use std::alloc::{AllocError, Global};
@@ -22,19 +24,21 @@ use ta_base::Text;
 use ta_base::limits::DEFAULT_NODES;
 use ta_cert::CertFault;
 use ta_check::{Accepted, Checker};
-use ta_maker::make_family;
+use ta_maker::{MakerFault, family_is_flawless, make_family};
 use ta_meaning::read_file;
 use ta_report::Verdict;
 use ta_scope::ScopedFile;
 use ta_shelf::Shelf;
 use ta_shell::{Answer, Command, Outputs, Refusal};
-use ta_syntax::print_tree;
-use ta_verdict::{Budget, is_unknown, is_unsafe, judge_file};
+use ta_syntax::{FileFault, Tree, print_tree};
+use ta_verdict::{Budget, is_unknown, judge_file};
 
 /// What `bench` is asked for: a number of the family.
 #[derive(Drop)]
 pub(crate) struct Bench {
     k: u32,
+    ghost low: { 1 ≤ k },
+    ghost high: { k ≤ 7 },
 }
 
 impl<'a> Request<'a> for Bench {
@@ -78,7 +82,9 @@ fn read_bench(words: &[&str]) -> Option<Bench>
 
 /// The number that a word is: `1` to `7`.
 fn family_number(word: &str) -> Option<u32>
-    ensures { result ≡ family_number word.now }
+    ensures value { result ≡ family_number word.now }
+    ensures low { IfSome result (λ k. 1 ≤ k) }
+    ensures high { IfSome result (λ k. k ≤ 7) }
 {
     match word.as_bytes() {
         [digit] if b'1' <= *digit && *digit <= b'7' => Some(u32::from(*digit - b'0')),
@@ -86,10 +92,9 @@ fn family_number(word: &str) -> Option<u32>
     }
 }
 
-/// The answer of `bench`. An error of the family's text, an unsafe pattern or a certificate that is
-/// refused would be an error of this program and does not come about; then it is as for want of
-/// memory.
+/// The answer of `bench`.
 fn answer_bench<'a, R: Threads + Sync>(rt: &R, alloc: Global, k: u32) -> Result<Answer, Refusal<'a>>
+    requires { IsFamilyNumber k }
     ensures says { (files : Option Told) → Says (bench_meaning k) files result [] }
     ensures cause { ReadCause result 0 0 }
 {
@@ -99,8 +104,10 @@ fn answer_bench<'a, R: Threads + Sync>(rt: &R, alloc: Global, k: u32) -> Result<
     }
 }
 
-/// Makes the automaton of a number, prints and reads it, verifies it, and checks its certificate.
+/// Makes the automaton of a number, prints and reads it, verifies it, and checks its certificate. Only
+/// want of memory hinders: its text has no error, its pattern is safe, and its certificate is accepted.
 fn bench_family<R: Threads + Sync>(rt: &R, alloc: Global, k: u32) -> Result<Answer, AllocError>
+    requires { IsFamilyNumber k }
     ensures { IfOk result (SaysBench k) }
 {
     let scoped = read_family(alloc, k)?;
@@ -109,48 +116,84 @@ fn bench_family<R: Threads + Sync>(rt: &R, alloc: Global, k: u32) -> Result<Answ
         lazy: false,
     };
     let judged = judge_file(rt, alloc, &scoped, budget, true)?;
-    if accept(alloc, &scoped, judged.certificate.as_slice()).is_err() {
-        return Err(AllocError);
-    }
-    match (
-        scoped.file.patterns.as_slice().first(),
-        judged.verdicts.as_slice().first(),
-    ) {
-        (Some(pattern), Some(verdict)) if !is_unsafe(verdict) => {
-            answer_text(alloc, k, pattern, verdict)
-        }
-        _ => Err(AllocError),
-    }
+    let _ = accept(alloc, &scoped, judged.certificate.as_slice())?;
+    let Some(pattern) = scoped.file.patterns.as_slice().first() else {
+        unreachable!()
+    };
+    let Some(verdict) = judged.verdicts.as_slice().first() else {
+        unreachable!()
+    };
+    answer_text(alloc, k, pattern, verdict)
 }
 
 /// The file of the automaton of a number.
 fn read_family(alloc: Global, k: u32) -> Result<ScopedFile, AllocError>
-    ensures number { IfOk result (λ scoped. IsFamilyNumber k) }
+    requires { IsFamilyNumber k }
     ensures legal { IfOk result (λ scoped. Legal (family_text k) scoped.file) }
+    ensures one { IfOk result (λ scoped. length scoped.file.patterns ≡ 1) }
+    ensures safe { IfOk result (λ scoped. AllByRecursion (runs.Safe scoped.file.automaton) scoped.file.patterns) }
 {
-    let Ok(tree) = make_family(alloc, k) else {
-        return Err(AllocError);
-    };
+    // the law of the family; the call does nothing
+    family_is_flawless();
+    let tree = made_family(alloc, k)?;
     let text = print_tree(alloc, &tree)?;
-    let bytes = text.as_str().as_bytes();
-    if bytes.len() as u64 > FILE.bytes {
-        return Err(AllocError);
-    }
-    match read_file(alloc, bytes) {
+    match read_file(alloc, text.as_str().as_bytes()) {
         Ok(scoped) => Ok(scoped),
-        Err(_) => Err(AllocError),
+        Err(fault) => Err(file_memory(&fault)),
     }
 }
 
-/// Judges a certificate that comes in pieces.
-fn accept(alloc: Global, scoped: &ScopedFile, pieces: &[Text]) -> Result<Accepted, CertFault>
+/// The automaton of a number.
+fn made_family(alloc: Global, k: u32) -> Result<Tree, AllocError>
+    requires { IsFamilyNumber k }
+    ensures { IfOk result (λ tree. plain_tree tree ≡ family k) }
+{
+    match make_family(alloc, k) {
+        Ok(tree) => Ok(tree),
+        Err(fault) => Err(maker_memory(&fault)),
+    }
+}
+
+/// Want of memory, the one error of making an automaton of the family.
+fn maker_memory(fault: &MakerFault) -> AllocError
+    requires { fault.now ≡ MakerFault.Memory }
+{
+    let _ = fault;
+    AllocError
+}
+
+/// Want of memory, the one error of reading a text that has no error.
+fn file_memory(fault: &FileFault) -> AllocError
+    requires { fault.now ≡ FileFault.Memory }
+{
+    let _ = fault;
+    AllocError
+}
+
+/// Want of memory, the one error of judging a certificate that is one.
+fn certificate_memory(fault: &CertFault) -> AllocError
+    requires { fault.now ≡ CertFault.Memory }
+{
+    let _ = fault;
+    AllocError
+}
+
+/// Judges a certificate that comes in pieces, and is one.
+fn accept(alloc: Global, scoped: &ScopedFile, pieces: &[Text]) -> Result<Accepted, AllocError>
+    requires { IsCertified scoped.now.file (concat pieces.now) }
     ensures { IfOk result (λ accepted. Certificate scoped.now.file (concat pieces.now) accepted.patterns) }
 {
     let mut checker = Checker::new(alloc, scoped);
     for piece in pieces {
-        checker.feed(piece.as_str().as_bytes())?;
+        match checker.feed(piece.as_str().as_bytes()) {
+            Ok(()) => {}
+            Err(fault) => return Err(certificate_memory(&fault)),
+        }
     }
-    checker.finish()
+    match checker.finish() {
+        Ok(accepted) => Ok(accepted),
+        Err(fault) => Err(certificate_memory(&fault)),
+    }
 }
 
 /// The answer with the lines.

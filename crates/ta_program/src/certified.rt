@@ -1,52 +1,53 @@
-//! The certificate of `verify`.
+//! The certificate of `verify` and of `rest`.
 #![tactic(auto)]
 
 ghost use Rattle.std.specs.List.{concat};
-ghost use Rattle.std.specs.Prelude.{◌≡◌, ◌≤◌, ◌↔◌, IfOk, IsTrue, length};
-ghost use Rattle.ta_shell.specs.Reading.{ReadCause};
-ghost use Rattle.ta_program.specs.Inside.Certifying.{Certifies, SaysLong};
+ghost use Rattle.std.specs.Prelude.{◌≡◌, ◌≤◌, ◌↔◌, ◌∷◌, [], IfOk, IsTrue, length, List, OnOk, ℕ};
+ghost use Rattle.ta_shell.specs.Ends.{ShelfState};
+ghost use Rattle.ta_shell.specs.Making.{Changed};
+ghost use Rattle.ta_shell.specs.Staging.{Begun, result_seen, StagedBy, StagedOr, StagedSoFar};
+ghost use Rattle.ta_program.specs.Inside.Certifying.{CertifiesReport, IsPlain};
 
-use crate::limits::CERTIFICATE;
+use crate::telling::Report;
 use std::alloc::{AllocError, Global};
-use ta_base::{List, Text};
-use ta_shell::{Answer, Content, Phrase, Put, Refusal};
+use ta_base::Text;
+use ta_shelf::Shelf;
+use ta_shell::{
+    Content, Put, Refusal, StagedAnswer, StagedFile, StagedOutput, answer_staged, let_go,
+};
 
-/// The answer that puts the pieces of a certificate in the file of a name and writes a report, unless
-/// the certificate is too long.
-pub(crate) fn answer_certified<'a>(
-    alloc: Global,
-    number: u8,
-    report: Text,
-    name: &'a str,
-    pieces: List<Text>,
-) -> Result<Answer, Refusal<'a>>
-    ensures certified { Certifies number report name.now (concat pieces) result }
-    ensures cause { ReadCause result 0 0 }
+/// The answer that writes a report, and puts no file.
+pub(crate) fn answer_plain<'a, T: Drop>(
+    report: Result<Report, AllocError>,
+) -> Result<StagedAnswer<'a, T>, Refusal<'a>>
+    ensures { IsPlain report result }
 {
-    if !are_within(pieces.as_slice(), CERTIFICATE.bytes) {
-        return Err(long_certificate(name));
-    }
-    let Ok(put) = put_of(alloc, name, Content::Pieces(pieces)) else {
-        return Err(Refusal::Memory);
-    };
-    match Answer::putting(alloc, number, report, put) {
-        Ok(answer) => Ok(answer),
-        Err(_) => Err(Refusal::Memory),
+    match report {
+        Ok(Report { number, text }) => Ok(StagedAnswer {
+            number,
+            text,
+            output: StagedOutput::Unasked,
+        }),
+        Err(AllocError) => Err(Refusal::Memory),
     }
 }
 
-/// That a certificate is too long, told of the file that it is for.
-pub(crate) fn long_certificate<'a>(name: &'a str) -> Refusal<'a>
-    ensures { SaysLong name.now result }
+/// The answer that writes a report and puts the certificate that was staged meanwhile, unless it is too
+/// long.
+pub(crate) fn answer_certified<'a, S: Shelf>(
+    shelf: &mut S,
+    name: &'a str,
+    file: StagedFile<S::Stage>,
+    report: Result<Report, AllocError>,
+) -> Result<StagedAnswer<'a, S::Stage>, Refusal<'a>>
+    ensures certified { (begun : Begun) (written : List ℕ) → begun.name ≡ name.now → OnOk report (StagedSoFar S.stage_name S.stage_bytes begun file (record { files = S.files shelf.old; calls = S.calls shelf.old; faults = S.faults shelf.old }) written) → CertifiesReport report name.now written (result_seen S.stage_bytes written result) }
+    ensures staged { (begun : Begun) (written : List ℕ) → begun.name ≡ name.now → StagedOr S.stage_name S.stage_bytes begun report file (record { files = S.files shelf.old; calls = S.calls shelf.old; faults = S.faults shelf.old }) written
+        → Changed (StagedBy (name.now ∷ []) S.stage_name S.stage_bytes result begun.before.faults (S.faults shelf.new)) begun.before.calls (S.calls shelf.new) }
+    ensures kept { S.files shelf.new ≡ S.files shelf.old }
 {
-    Refusal::Refused {
-        number: CERTIFICATE.number,
-        name,
-        why: Phrase::One {
-            head: "certificate longer than ",
-            number: CERTIFICATE.bytes as u128,
-            tail: " bytes",
-        },
+    match report {
+        Ok(Report { number, text }) => answer_staged(shelf, number, text, name, file),
+        Err(AllocError) => Err(let_go(shelf, name, file)),
     }
 }
 

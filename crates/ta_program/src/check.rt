@@ -1,60 +1,117 @@
 //! The command `check`.
 #![tactic(auto)]
 
-ghost use Rattle.std.specs.Prelude.{ℕ, ◌≡◌, ◌≤◌, List, [], length, Option};
+ghost use Rattle.std.specs.Prelude.{ℕ, ◌≡◌, ◌≤◌, List, [], length, map, option_map};
 ghost use Rattle.ta_check.specs.Checkers.{IsSoundChecker, CheckerStandsFor, subject_of};
-ghost use Rattle.ta_report.specs.Check.{check_text};
 ghost use Rattle.ta_shelf.specs.Calls.{Event, Grew};
-ghost use Rattle.ta_shelf.specs.Put.{Told};
 ghost use Rattle.ta_shell.specs.Commands.{Says};
 ghost use Rattle.ta_shell.specs.Reading.{ReadCause};
-ghost use Rattle.ta_shell.specs.Stages.{Stage, Writes, replies};
-ghost use Rattle.ta_program.specs.Check.{proved_meaning};
+ghost use Rattle.ta_shell.specs.Stages.{Stage};
+ghost use Rattle.ta_program.specs.Check.{check_meaning, proved_meaning};
+ghost use Rattle.ta_program.specs.CheckSeen.{check_seen};
+ghost use Rattle.ta_program.specs.CheckWords.{check_taken, check_words};
 ghost use Rattle.ta_program.specs.Inside.Judged.{JudgingGives, JudgedTo, PieceFed, RefusedBy, Turn};
 ghost use Rattle.ta_program.specs.Kinds.{certificate_kind};
+ghost use Rattle.ta_program.specs.Taken.{taken_of};
 
 use crate::limits::CERTIFICATE;
+use crate::proof_options::ProofOptions;
+use crate::proofs_said::answer_proofs;
 use crate::reading::read_legal;
-use crate::two_files::OfTwoFiles;
-use std::alloc::{AllocError, Global};
-use ta_automaton::File;
-use ta_base::Text;
+use crate::request::Request;
+use crate::values::file_name_of;
+use crate::words::{ALL_OPTION, JSON_OPTION, PARAMETERS_OPTION, Taken, take_words};
+use std::alloc::Global;
+use std::thread::Threads;
 use ta_cert::CertFault;
 use ta_check::{Accepted, Checker};
-use ta_report::{cert_fault_phrase, check_text};
+use ta_report::cert_fault_phrase;
 use ta_scope::ScopedFile;
 use ta_shelf::{Shelf, read_piece};
-use ta_shell::{Answer, Refusal, too_long, unread};
+use ta_shell::{Answer, Command, Outputs, Refusal, too_long, unread};
 
 /// How many bytes of a certificate are read at once.
 const PIECE: usize = 65_536;
 
-/// Reads a file, then a certificate, and says which patterns are proved.
+/// What `check` is asked for.
 #[derive(Drop)]
-pub(crate) struct Check;
+pub(crate) struct Check<'a> {
+    file: &'a str,
+    certificate: &'a str,
+    options: ProofOptions,
+}
 
-impl OfTwoFiles for Check {
-    ghost use Rattle.std.specs.Prelude.{Some};
-    ghost use Rattle.ta_program.specs.Asked.{LegalFile};
+impl<'a> Request<'a> for Check<'a> {
+    ghost use Rattle.ta_program.specs.Check.{check_asked};
+
+    ghost asked = { check_asked };
+
+    fn read(words: &[&'a str]) -> Option<Check<'a>> {
+        read_check(words)
+    }
+}
+
+impl<'a> Command for Check<'a> {
     ghost use Rattle.ta_program.specs.Check.{check_meaning};
 
-    ghost legal = { λ name told. LegalFile told (Some name) };
+    ghost meaning = { λ command. check_meaning command.file.now command.certificate.now command.options };
 
-    ghost stated = { check_meaning };
-
-    fn judge_files<'a, S: Shelf>(
-        alloc: Global,
-        shelf: &mut S,
-        file: &'a str,
-        other: &'a str,
-    ) -> Result<Answer, Refusal<'a>> {
-        match read_legal(alloc, shelf, file) {
-            Ok(scoped) => judge_certificate(alloc, shelf, &scoped, other),
-            Err(refusal) => Err(refusal),
-        }
+    fn outputs(&self) -> Outputs<'_> {
+        Outputs::none()
     }
 
-    fn is_determined() {}
+    fn judge<R: Threads + Sync, S: Shelf>(
+        &self,
+        rt: &R,
+        alloc: Global,
+        shelf: &mut S,
+    ) -> Result<Answer, Refusal<'_>> {
+        let _ = rt;
+        judge_files(alloc, shelf, self.file, self.certificate, self.options)
+    }
+}
+
+/// Reads the words of `check`.
+fn read_check<'a>(words: &[&'a str]) -> Option<Check<'a>>
+    ensures { option_map check_seen result ≡ check_words (map (λ w. w.now) words.now) }
+{
+    let options = [ALL_OPTION, PARAMETERS_OPTION, JSON_OPTION];
+    check_taken(take_words(2, &options, words)?)
+}
+
+/// What is asked for by what was taken of the words.
+fn check_taken(taken: Taken<'_>) -> Option<Check<'_>>
+    ensures { option_map check_seen result ≡ check_taken (taken_of taken.entry) }
+{
+    let file = file_name_of(taken.plain(0))?;
+    let certificate = file_name_of(taken.plain(1))?;
+    Some(Check {
+        file,
+        certificate,
+        options: ProofOptions {
+            all: taken.value(0).is_some(),
+            parameters: taken.value(1).is_some(),
+            json: taken.value(2).is_some(),
+        },
+    })
+}
+
+/// Reads a file, then a certificate, and says which patterns are proved.
+fn judge_files<'a, S: Shelf>(
+    alloc: Global,
+    shelf: &mut S,
+    file: &'a str,
+    certificate: &'a str,
+    options: ProofOptions,
+) -> Result<Answer, Refusal<'a>>
+    ensures says { Grew (Says (check_meaning file.now certificate.now options) (S.files shelf.old) result) (S.calls shelf.old) (S.calls shelf.new) }
+    ensures cause { ReadCause result (S.faults shelf.old) (S.faults shelf.new) }
+    ensures kept { S.files shelf.new ≡ S.files shelf.old }
+{
+    match read_legal(alloc, shelf, file) {
+        Ok(scoped) => judge_certificate(alloc, shelf, &scoped, certificate, options),
+        Err(refusal) => Err(refusal),
+    }
 }
 
 /// Reads a certificate of a file, and says which patterns are proved.
@@ -63,13 +120,17 @@ fn judge_certificate<'a, S: Shelf>(
     shelf: &mut S,
     scoped: &ScopedFile,
     name: &'a str,
+    options: ProofOptions,
 ) -> Result<Answer, Refusal<'a>>
-    ensures says { Grew (Says (proved_meaning scoped.now.file name.now) (S.files shelf.old) result) (S.calls shelf.old) (S.calls shelf.new) }
+    ensures says { Grew (Says (proved_meaning scoped.now.file options name.now) (S.files shelf.old) result) (S.calls shelf.old) (S.calls shelf.new) }
     ensures cause { ReadCause result (S.faults shelf.old) (S.faults shelf.new) }
     ensures kept { S.files shelf.new ≡ S.files shelf.old }
 {
     match read_certificate(shelf, Checker::new(alloc, scoped), name) {
-        Ok(accepted) => answer_proved(alloc, scoped.file(), accepted.patterns.as_slice()),
+        Ok(accepted) => {
+            let numbers = accepted.patterns.as_slice();
+            answer_proofs(alloc, false, scoped.file(), options, numbers)
+        }
         Err(refusal) => Err(refusal),
     }
 }
@@ -185,19 +246,5 @@ fn refused<'a>(name: &'a str, fault: &CertFault) -> Refusal<'a>
             name,
             why: cert_fault_phrase(fault),
         },
-    }
-}
-
-/// The answer that says which patterns of a file are proved: those of these numbers.
-fn answer_proved<'a>(alloc: Global, file: &File, numbers: &[u32]) -> Result<Answer, Refusal<'a>>
-    ensures says { (files : Option Told) → Says (replies [] (Writes 0 (check_text file.now numbers.now))) files result [] }
-    ensures cause { ReadCause result 0 0 }
-{
-    match check_text(alloc, file, numbers) {
-        Ok(text) => {
-            let text = Text::from_string(text.into_string());
-            Ok(Answer::writing(alloc, 0, text))
-        }
-        Err(AllocError) => Err(Refusal::Memory),
     }
 }

@@ -1,70 +1,124 @@
 //! The command `replay`.
 #![tactic(auto)]
 
-ghost use Rattle.std.specs.Prelude.{◌≡◌, ◌≢◌, [], IfOk, IfErr, Option};
+ghost use Rattle.std.specs.Prelude.{◌≡◌, ◌≢◌, [], map, option_map, IfOk, IfErr, Option};
 ghost use Rattle.ta_replay.specs.declared.fault.RunFault.TheVariants as fault;
 ghost use Rattle.ta_replay.specs.Fits.{Fits};
 ghost use Rattle.ta_replay.specs.Shows.{shown_of};
+ghost use Rattle.ta_report.specs.CheckJson.{shown_text};
 ghost use Rattle.ta_shelf.specs.Calls.{Grew};
 ghost use Rattle.ta_shelf.specs.Put.{Told};
 ghost use Rattle.ta_shell.specs.Commands.{Says};
 ghost use Rattle.ta_shell.specs.Reading.{ReadCause};
 ghost use Rattle.ta_shell.specs.Stages.{Stage, replies};
+ghost use Rattle.ta_program.specs.CheckSeen.{replay_seen};
+ghost use Rattle.ta_program.specs.CheckWords.{replay_taken, replay_words};
 ghost use Rattle.ta_program.specs.Kinds.{RunFaultIn, ShowsRun, run_kind};
-ghost use Rattle.ta_program.specs.Replay.{SaysShown, shown_meaning};
+ghost use Rattle.ta_program.specs.Replay.{SaysShown, replay_meaning, shown_meaning};
+ghost use Rattle.ta_program.specs.Taken.{taken_of};
 
 use crate::limits::RUN;
 use crate::reading::read_legal;
-use crate::two_files::OfTwoFiles;
+use crate::request::Request;
+use crate::values::file_name_of;
+use crate::words::{JSON_OPTION, Taken, take_words};
 use std::alloc::{AllocError, Global};
+use std::thread::Threads;
 use ta_automaton::File;
 use ta_base::Text;
 use ta_replay::{Run, RunFault, Shown, read_run, replay};
-use ta_report::{run_fault_phrase, shown_line};
+use ta_report::{run_fault_phrase, shown_json, shown_line};
 use ta_shelf::Shelf;
-use ta_shell::{Answer, Refusal, read_text};
+use ta_shell::{Answer, Command, Outputs, Refusal, read_text};
 
-/// Reads a file, then a run, and says that the run shows its pattern.
+/// What `replay` is asked for.
 #[derive(Drop)]
-pub(crate) struct Replay;
-
-impl OfTwoFiles for Replay {
-    ghost use Rattle.std.specs.Prelude.{Some};
-    ghost use Rattle.ta_program.specs.Asked.{LegalFile};
-    ghost use Rattle.ta_program.specs.Replay.{replay_meaning};
-
-    ghost legal = { λ name told. LegalFile told (Some name) };
-
-    ghost stated = { replay_meaning };
-
-    fn judge_files<'a, S: Shelf>(
-        alloc: Global,
-        shelf: &mut S,
-        file: &'a str,
-        other: &'a str,
-    ) -> Result<Answer, Refusal<'a>> {
-        match read_legal(alloc, shelf, file) {
-            Ok(scoped) => judge_run(alloc, shelf, scoped.file(), other),
-            Err(refusal) => Err(refusal),
-        }
-    }
-
-    fn is_determined() {}
+pub(crate) struct Replay<'a> {
+    file: &'a str,
+    run: &'a str,
+    json: bool,
 }
 
-/// Reads a run of a file, and says that it shows its pattern.
+impl<'a> Request<'a> for Replay<'a> {
+    ghost use Rattle.ta_program.specs.Replay.{replay_asked};
+
+    ghost asked = { replay_asked };
+
+    fn read(words: &[&'a str]) -> Option<Replay<'a>> {
+        read_replay(words)
+    }
+}
+
+impl<'a> Command for Replay<'a> {
+    ghost use Rattle.ta_program.specs.Replay.{replay_meaning};
+
+    ghost meaning = { λ command. replay_meaning command.file.now command.run.now command.json };
+
+    fn outputs(&self) -> Outputs<'_> {
+        Outputs::none()
+    }
+
+    fn judge<R: Threads + Sync, S: Shelf>(
+        &self,
+        rt: &R,
+        alloc: Global,
+        shelf: &mut S,
+    ) -> Result<Answer, Refusal<'_>> {
+        let _ = rt;
+        judge_files(alloc, shelf, self.file, self.run, self.json)
+    }
+}
+
+/// Reads the words of `replay`.
+fn read_replay<'a>(words: &[&'a str]) -> Option<Replay<'a>>
+    ensures { option_map replay_seen result ≡ replay_words (map (λ w. w.now) words.now) }
+{
+    let options = [JSON_OPTION];
+    replay_taken(take_words(2, &options, words)?)
+}
+
+/// What is asked for by what was taken of the words.
+fn replay_taken(taken: Taken<'_>) -> Option<Replay<'_>>
+    ensures { option_map replay_seen result ≡ replay_taken (taken_of taken.entry) }
+{
+    let file = file_name_of(taken.plain(0))?;
+    let run = file_name_of(taken.plain(1))?;
+    let json = taken.value(0).is_some();
+    Some(Replay { file, run, json })
+}
+
+/// Reads a file, then a run, and says that the run shows its pattern.
+fn judge_files<'a, S: Shelf>(
+    alloc: Global,
+    shelf: &mut S,
+    file: &'a str,
+    run: &'a str,
+    json: bool,
+) -> Result<Answer, Refusal<'a>>
+    ensures says { Grew (Says (replay_meaning file.now run.now json) (S.files shelf.old) result) (S.calls shelf.old) (S.calls shelf.new) }
+    ensures cause { ReadCause result (S.faults shelf.old) (S.faults shelf.new) }
+    ensures kept { S.files shelf.new ≡ S.files shelf.old }
+{
+    match read_legal(alloc, shelf, file) {
+        Ok(scoped) => judge_run(alloc, shelf, scoped.file(), run, json),
+        Err(refusal) => Err(refusal),
+    }
+}
+
+/// Reads a run of a file and follows it, and says that it shows its pattern.
 fn judge_run<'a, S: Shelf>(
     alloc: Global,
     shelf: &mut S,
     file: &File,
     name: &'a str,
+    json: bool,
 ) -> Result<Answer, Refusal<'a>>
-    ensures says { Grew (Says (shown_meaning file.now name.now) (S.files shelf.old) result) (S.calls shelf.old) (S.calls shelf.new) }
+    ensures says { Grew (Says (shown_meaning file.now json name.now) (S.files shelf.old) result) (S.calls shelf.old) (S.calls shelf.new) }
     ensures cause { ReadCause result (S.faults shelf.old) (S.faults shelf.new) }
     ensures kept { S.files shelf.new ≡ S.files shelf.old }
 {
     match read_shown(alloc, shelf, file, name) {
-        Ok(shown) => answer_shown(alloc, file, &shown),
+        Ok(shown) => answer_shown(alloc, file, json, &shown),
         Err(refusal) => Err(refusal),
     }
 }
@@ -114,18 +168,38 @@ fn follow(alloc: Global, file: &File, bytes: &[u8]) -> Result<ShownRun, RunFault
 }
 
 /// The answer that says that a run of a file shows its pattern.
-fn answer_shown<'a>(alloc: Global, file: &File, shown: &ShownRun) -> Result<Answer, Refusal<'a>>
+fn answer_shown<'a>(
+    alloc: Global,
+    file: &File,
+    json: bool,
+    shown: &ShownRun,
+) -> Result<Answer, Refusal<'a>>
     requires fits { Fits file.now shown.now.run }
     requires shown { shown.now.shown ≡ shown_of shown.now.run }
-    ensures says { (files : Option Told) → Says (replies [] (SaysShown file.now shown.now.run)) files result [] }
+    ensures says { (files : Option Told) → Says (replies [] (SaysShown file.now json shown.now.run)) files result [] }
     ensures cause { ReadCause result 0 0 }
 {
     let pattern = &file.patterns.as_slice()[shown.run.pattern as usize];
-    match shown_line(alloc, pattern.name.as_str(), shown.shown) {
-        Ok(text) => {
-            let text = Text::from_string(text.into_string());
-            Ok(Answer::writing(alloc, 0, text))
-        }
+    let automaton = file.automaton.name.as_str();
+    match text_of(alloc, json, automaton, pattern.name.as_str(), shown.shown) {
+        Ok(text) => Ok(Answer::writing(alloc, 0, text)),
         Err(AllocError) => Err(Refusal::Memory),
+    }
+}
+
+/// The text that says so, in JSON where that is asked for.
+fn text_of(
+    alloc: Global,
+    json: bool,
+    automaton: &str,
+    name: &str,
+    shown: Shown,
+) -> Result<Text, AllocError>
+    ensures { IfOk result (λ text. text ≡ shown_text json automaton.now name.now shown) }
+{
+    if json {
+        shown_json(alloc, automaton, name, shown)
+    } else {
+        shown_line(alloc, name, shown)
     }
 }

@@ -1,19 +1,19 @@
 //! The command `rest`.
 #![tactic(auto)]
 
-ghost use Rattle.std.specs.Prelude.{◌≡◌, [], false, IfOk, IfSome, length, map, None, Option, option_map};
-ghost use Rattle.std.specs.List.{AllByRecursion};
+ghost use Rattle.std.specs.Prelude.{◌≡◌, [], false, IfErr, IfOk, IfSome, map, None, Option, option_map, true};
+ghost use Rattle.ta_report.specs.declared.pick.Pick.TheVariants.{All};
 ghost use Rattle.ta_automaton.specs.declared.file.File.{File};
-ghost use Rattle.ta_report.specs.Report.{VerdictFits};
 ghost use Rattle.ta_rest.specs.Faults.{EndingsOf};
 ghost use Rattle.ta_verdict.specs.Rest.Budgets.{resting};
-ghost use Rattle.ta_shelf.specs.Calls.{Grew};
 ghost use Rattle.ta_shelf.specs.Put.{Told};
-ghost use Rattle.ta_shell.specs.Commands.{Says};
+ghost use Rattle.ta_shell.specs.Ends.{ShelfState};
+ghost use Rattle.ta_shell.specs.Making.{Changed};
 ghost use Rattle.ta_shell.specs.Puts.{may_put};
-ghost use Rattle.ta_shell.specs.Reading.{ReadCause};
+ghost use Rattle.ta_shell.specs.Staging.{Begun, SaysAndStages, StagedBy};
 ghost use Rattle.ta_shell.specs.Stages.{finds};
-ghost use Rattle.ta_program.specs.Inside.Reported.{RestReported};
+ghost use Rattle.ta_program.specs.Inside.Certifying.{SaysStaged};
+ghost use Rattle.ta_program.specs.Inside.Reported.{RestReportedTo};
 ghost use Rattle.ta_program.specs.Rest.{rest_meaning, rest_quietly, rest_report_meaning};
 ghost use Rattle.ta_program.specs.RestEnds.{CycleHinders, IsEnds, ends_of};
 ghost use Rattle.ta_program.specs.RestSeen.{rest_seen};
@@ -21,28 +21,26 @@ ghost use Rattle.ta_program.specs.RestWords.{quiet_names, rest_taken, rest_words
 ghost use Rattle.ta_program.specs.Taken.{taken_of};
 
 use crate::budget::Budget;
-use crate::certified::answer_certified;
+use crate::certified::{answer_certified, answer_plain};
 use crate::ends::find_ends;
 use crate::reading::read_spared;
-use crate::request::Request;
+use crate::request::StagingRequest;
 use crate::silent_budget::SilentBudget;
 use crate::silent_names::{find_silent, names_of};
+use crate::telling::{Form, Report, tell};
 use crate::values::{budget_of, file_name_of, out_of};
-use crate::verify::number_of;
 use crate::words::{
     CERTIFICATE_OPTION, LAZY_OPTION, NODES_OPTION, SILENT_OPTION, Taken, take_words,
 };
 use std::alloc::{AllocError, Global};
 use std::thread::Threads;
-use ta_automaton::File;
-use ta_base::Text;
-use ta_report::{Said, Verdict, rest_text};
+use ta_report::Pick;
 use ta_rest::RestFile;
 use ta_scope::ScopedFile;
 use ta_shelf::Shelf;
-use ta_shell::{Answer, Command, Outputs, Refusal};
-use ta_verdict::rest::judge_rest;
-use ta_verdict::{Judged, sample_of};
+use ta_shell::{Outputs, Refusal, StagedAnswer, StagingCommand, begin_file};
+use ta_verdict::rest::judge_rest_to;
+use ta_verdict::{Draft, Target};
 
 /// What `rest` is asked for.
 #[derive(Drop)]
@@ -52,7 +50,7 @@ pub(crate) struct Rest<'a> {
     out: Option<&'a str>,
 }
 
-impl<'a> Request<'a> for Rest<'a> {
+impl<'a> StagingRequest<'a> for Rest<'a> {
     ghost use Rattle.ta_program.specs.Rest.{rest_asked};
 
     ghost asked = { rest_asked };
@@ -62,7 +60,7 @@ impl<'a> Request<'a> for Rest<'a> {
     }
 }
 
-impl<'a> Command for Rest<'a> {
+impl<'a> StagingCommand for Rest<'a> {
     ghost use Rattle.std.specs.Prelude.{option_map};
     ghost use Rattle.ta_program.specs.Rest.{rest_meaning};
 
@@ -77,7 +75,7 @@ impl<'a> Command for Rest<'a> {
         rt: &R,
         alloc: Global,
         shelf: &mut S,
-    ) -> Result<Answer, Refusal<'_>> {
+    ) -> Result<StagedAnswer<'_, S::Stage>, Refusal<'_>> {
         judge_file(rt, alloc, shelf, self.file, &self.silent, self.out)
     }
 }
@@ -124,8 +122,8 @@ fn quiet_names(lazy: bool, names: Option<&str>) -> Option<Option<&str>>
 }
 
 /// Reads a file, which OUT is not to destroy, gives a sample of its parameters and says of each of its
-/// patterns whether a run in which it occurs comes to rest, and puts the certificate of those that are
-/// safe in the file OUT, where that is asked for. Rest does not count on the silent names.
+/// patterns whether a run in which it occurs comes to rest, and stages the certificate of those that are
+/// safe for the file OUT, where that is asked for. Rest does not count on the silent names.
 fn judge_file<'a, R: Threads + Sync, S: Shelf>(
     rt: &R,
     alloc: Global,
@@ -133,101 +131,126 @@ fn judge_file<'a, R: Threads + Sync, S: Shelf>(
     file: &'a str,
     silent: &SilentBudget<'_>,
     out: Option<&'a str>,
-) -> Result<Answer, Refusal<'a>>
-    ensures says { Grew (Says (rest_meaning file.now silent.now.budget.given (option_map (λ w. w.now) out.entry) (option_map (λ w. w.now) silent.now.names)) (S.files shelf.old) result) (S.calls shelf.old) (S.calls shelf.new) }
-    ensures cause { ReadCause result (S.faults shelf.old) (S.faults shelf.new) }
+) -> Result<StagedAnswer<'a, S::Stage>, Refusal<'a>>
+    ensures says { SaysAndStages (rest_meaning file.now silent.now.budget.given (option_map (λ w. w.now) out.entry) (option_map (λ w. w.now) silent.now.names)) S.stage_name S.stage_bytes result
+        (record { files = S.files shelf.old; calls = S.calls shelf.old; faults = S.faults shelf.old })
+        (record { files = S.files shelf.new; calls = S.calls shelf.new; faults = S.faults shelf.new }) }
     ensures kept { S.files shelf.new ≡ S.files shelf.old }
 {
     match read_spared(alloc, shelf, file, &Outputs::one(out)) {
-        Ok(scoped) => answer_scoped(rt, alloc, file, scoped, silent, out),
+        Ok(scoped) => answer_scoped(rt, alloc, shelf, file, scoped, silent, out),
         Err(refusal) => Err(refusal),
     }
 }
 
 /// The answer of a file of a name, unless a rule lies on a longer cycle.
-fn answer_scoped<'a, R: Threads + Sync>(
+fn answer_scoped<'a, R: Threads + Sync, S: Shelf>(
     rt: &R,
     alloc: Global,
+    shelf: &mut S,
     name: &'a str,
     scoped: ScopedFile,
     silent: &SilentBudget<'_>,
     out: Option<&'a str>,
-) -> Result<Answer, Refusal<'a>>
-    ensures says { (files : Option Told) → Says (finds (IsEnds scoped.file) (CycleHinders name.now scoped.file) (may_put (option_map (λ w. w.now) out.entry)) (rest_quietly name.now silent.now.budget.given (option_map (λ w. w.now) out.entry) (option_map (λ w. w.now) silent.now.names) scoped.file)) files result [] }
-    ensures cause { ReadCause result 0 0 }
+) -> Result<StagedAnswer<'a, S::Stage>, Refusal<'a>>
+    ensures says { (files : Option Told) → SaysStaged (finds (IsEnds scoped.file) (CycleHinders name.now scoped.file) (may_put (option_map (λ w. w.now) out.entry)) (rest_quietly name.now silent.now.budget.given (option_map (λ w. w.now) out.entry) (option_map (λ w. w.now) silent.now.names) scoped.file)) S.stage_bytes files result }
+    ensures staged { Changed (StagedBy (may_put (option_map (λ w. w.now) out.entry)) S.stage_name S.stage_bytes result (S.faults shelf.old) (S.faults shelf.new)) (S.calls shelf.old) (S.calls shelf.new) }
+    ensures kept { S.files shelf.new ≡ S.files shelf.old }
 {
     match find_ends(alloc, name, scoped) {
-        Ok(rest) => answer_quietly(rt, alloc, name, &rest, silent, out),
+        Ok(rest) => answer_quietly(rt, alloc, shelf, name, &rest, silent, out),
         Err(refusal) => Err(refusal),
     }
 }
 
 /// The answer of the endings of a file of a name, unless the names may not be silent in it.
-fn answer_quietly<'a, R: Threads + Sync>(
+fn answer_quietly<'a, R: Threads + Sync, S: Shelf>(
     rt: &R,
     alloc: Global,
+    shelf: &mut S,
     name: &'a str,
     rest: &RestFile,
     silent: &SilentBudget<'_>,
     out: Option<&'a str>,
-) -> Result<Answer, Refusal<'a>>
-    ensures says { (files : Option Told) (file : File) → EndingsOf file rest.now.ending.file rest.now.added → Says (rest_quietly name.now silent.now.budget.given (option_map (λ w. w.now) out.entry) (option_map (λ w. w.now) silent.now.names) file (ends_of rest.now)) files result [] }
-    ensures cause { ReadCause result 0 0 }
+) -> Result<StagedAnswer<'a, S::Stage>, Refusal<'a>>
+    ensures says { (files : Option Told) (file : File) → EndingsOf file rest.now.ending.file rest.now.added → SaysStaged (rest_quietly name.now silent.now.budget.given (option_map (λ w. w.now) out.entry) (option_map (λ w. w.now) silent.now.names) file (ends_of rest.now)) S.stage_bytes files result }
+    ensures staged { Changed (StagedBy (may_put (option_map (λ w. w.now) out.entry)) S.stage_name S.stage_bytes result (S.faults shelf.old) (S.faults shelf.new)) (S.calls shelf.old) (S.calls shelf.new) }
+    ensures kept { S.files shelf.new ≡ S.files shelf.old }
 {
     match find_silent(alloc, name, &rest.ending.file.automaton, silent.names) {
-        Ok(places) => answer_rest(rt, alloc, rest, &silent.budget, places.as_slice(), out),
+        Ok(places) => answer_rest(
+            rt,
+            alloc,
+            shelf,
+            rest,
+            &silent.budget,
+            places.as_slice(),
+            out,
+        ),
         Err(refusal) => Err(refusal),
     }
 }
 
 /// The answer with a sample of the parameters and a verdict on each pattern of a file, and the
 /// certificate that is asked for.
-fn answer_rest<'a, R: Threads + Sync>(
+fn answer_rest<'a, R: Threads + Sync, S: Shelf>(
+    rt: &R,
+    alloc: Global,
+    shelf: &mut S,
+    rest: &RestFile,
+    budget: &Budget,
+    silent: &[u32],
+    out: Option<&'a str>,
+) -> Result<StagedAnswer<'a, S::Stage>, Refusal<'a>>
+    requires words { budget.now.given.lazy ≡ false → silent.now ≡ [] }
+    ensures says { (files : Option Told) (file : File) → EndingsOf file rest.now.ending.file rest.now.added → SaysStaged (rest_report_meaning (resting budget.now.given silent.now) (option_map (λ w. w.now) out.entry) file (ends_of rest.now)) S.stage_bytes files result }
+    ensures staged { Changed (StagedBy (may_put (option_map (λ w. w.now) out.entry)) S.stage_name S.stage_bytes result (S.faults shelf.old) (S.faults shelf.new)) (S.calls shelf.old) (S.calls shelf.new) }
+    ensures kept { S.files shelf.new ≡ S.files shelf.old }
+{
+    match out {
+        None => {
+            let mut none = Draft::new(alloc, false);
+            answer_plain(report_to(rt, alloc, rest, budget, silent, &mut (), &mut none))
+        }
+        Some(name) => match begin_file(shelf, name) {
+            Ok(mut file) => {
+                let report = report_to(rt, alloc, rest, budget, silent, shelf, &mut file);
+                answer_certified(shelf, name, file, report)
+            }
+            Err(AllocError) => Err(Refusal::Memory),
+        },
+    }
+}
+
+/// The report of a sample of the parameters and of a verdict on each pattern of a file of endings, whose
+/// certificate goes to a target.
+fn report_to<R: Threads + Sync, P, T: Target<P>>(
     rt: &R,
     alloc: Global,
     rest: &RestFile,
     budget: &Budget,
     silent: &[u32],
-    out: Option<&'a str>,
-) -> Result<Answer, Refusal<'a>>
+    place: &mut P,
+    target: &mut T,
+) -> Result<Report, AllocError>
     requires words { budget.now.given.lazy ≡ false → silent.now ≡ [] }
-    ensures says { (files : Option Told) (file : File) → EndingsOf file rest.now.ending.file rest.now.added → Says (rest_report_meaning (resting budget.now.given silent.now) (option_map (λ w. w.now) out.entry) file (ends_of rest.now)) files result [] }
-    ensures cause { ReadCause result 0 0 }
+    ensures reports { (begun : Begun) → T.has begun target.old place.old [] → IfOk result (λ report. RestReportedTo (record { rest = true; json = false; all = false }) rest.now All (resting budget.now.given silent.now) report.number report.text (T.has begun target.new place.new)) }
+    ensures stops { (begun : Begun) → T.has begun target.old place.old [] → IfErr result (λ _. T.stopped begun target.new place.new) }
 {
-    let Ok(judged) = judge_rest(rt, alloc, rest, budget.given, silent, out.is_some()) else {
-        return Err(Refusal::Memory);
+    let form = Form {
+        rest: true,
+        json: false,
+        all: false,
     };
-    let Judged {
-        verdicts,
-        certificate,
-    } = judged;
-    let number = number_of(verdicts.as_slice());
-    let Ok(text) = report(alloc, &rest.ending.file, budget, verdicts.as_slice()) else {
-        return Err(Refusal::Memory);
-    };
-    match out {
-        None => Ok(Answer::writing(alloc, number, text)),
-        Some(name) => answer_certified(alloc, number, text, name, certificate),
-    }
-}
-
-/// The report of a sample of the parameters and of these verdicts, for a file of endings.
-fn report(
-    alloc: Global,
-    ending: &File,
-    budget: &Budget,
-    verdicts: &[Verdict],
-) -> Result<Text, AllocError>
-    requires all { length verdicts.now ≡ length ending.now.patterns }
-    requires fit { AllByRecursion (VerdictFits ending.now) verdicts.now }
-    ensures { IfOk result (RestReported ending.now budget.now.given.nodes verdicts.now) }
-{
-    let sample = sample_of(alloc, ending, budget.given.nodes)?;
-    let said = Said {
-        file: ending,
-        sample: &sample,
-        verdicts,
-    };
-    let lines = rest_text(alloc, &said)?;
-    Ok(Text::from_string(lines.into_string()))
+    let pick = Pick::All;
+    let verdicts = judge_rest_to(rt, alloc, rest, pick, budget.given, silent, place, target)?;
+    let report = tell(
+        alloc,
+        form,
+        &rest.ending.file,
+        pick,
+        budget,
+        verdicts.as_slice(),
+    )?;
+    Ok(report)
 }

@@ -1,15 +1,13 @@
 //! The command `rest-check`.
 #![tactic(auto)]
 
-ghost use Rattle.std.specs.Prelude.{◌≡◌, [], map, option_map, Option};
+ghost use Rattle.std.specs.Prelude.{◌≡◌, [], map, option_map};
 ghost use Rattle.ta_automaton.specs.declared.file.File.{File};
-ghost use Rattle.ta_report.specs.Check.{rest_check_text};
 ghost use Rattle.ta_rest.specs.Faults.{EndingsOf};
 ghost use Rattle.ta_shelf.specs.Calls.{Grew};
-ghost use Rattle.ta_shelf.specs.Put.{Told};
 ghost use Rattle.ta_shell.specs.Commands.{Says};
 ghost use Rattle.ta_shell.specs.Reading.{ReadCause};
-ghost use Rattle.ta_shell.specs.Stages.{Writes, finds, replies};
+ghost use Rattle.ta_shell.specs.Stages.{finds};
 ghost use Rattle.ta_program.specs.RestCheck.{quietly_meaning, rest_check_meaning, rest_proved_meaning};
 ghost use Rattle.ta_program.specs.RestEnds.{CycleHinders, IsEnds, ends_of};
 ghost use Rattle.ta_program.specs.RestSeen.{rest_check_seen};
@@ -18,17 +16,16 @@ ghost use Rattle.ta_program.specs.Taken.{taken_of};
 
 use crate::check::read_certificate;
 use crate::ends::find_ends;
+use crate::proof_options::ProofOptions;
+use crate::proofs_said::answer_proofs;
 use crate::reading::read_legal;
 use crate::request::Request;
 use crate::silent_names::{find_silent, names_of};
 use crate::values::file_name_of;
-use crate::words::{SILENT_OPTION, Taken, take_words};
-use std::alloc::{AllocError, Global};
+use crate::words::{ALL_OPTION, JSON_OPTION, SILENT_OPTION, Taken, take_words};
+use std::alloc::Global;
 use std::thread::Threads;
-use ta_automaton::File as FileOf;
-use ta_base::Text;
 use ta_check::Checker;
-use ta_report::rest_check_text;
 use ta_rest::RestFile;
 use ta_scope::ScopedFile;
 use ta_shelf::Shelf;
@@ -40,6 +37,7 @@ pub(crate) struct RestCheck<'a> {
     file: &'a str,
     certificate: &'a str,
     silent: Option<&'a str>,
+    options: ProofOptions,
 }
 
 impl<'a> Request<'a> for RestCheck<'a> {
@@ -56,7 +54,7 @@ impl<'a> Command for RestCheck<'a> {
     ghost use Rattle.std.specs.Prelude.{option_map};
     ghost use Rattle.ta_program.specs.RestCheck.{rest_check_meaning};
 
-    ghost meaning = { λ command. rest_check_meaning command.file.now command.certificate.now (option_map (λ w. w.now) command.silent) };
+    ghost meaning = { λ command. rest_check_meaning command.file.now command.certificate.now (option_map (λ w. w.now) command.silent) command.options };
 
     fn outputs(&self) -> Outputs<'_> {
         Outputs::none()
@@ -69,7 +67,14 @@ impl<'a> Command for RestCheck<'a> {
         shelf: &mut S,
     ) -> Result<Answer, Refusal<'_>> {
         let _ = rt;
-        judge_files(alloc, shelf, self.file, self.certificate, self.silent)
+        judge_files(
+            alloc,
+            shelf,
+            self.file,
+            self.certificate,
+            self.silent,
+            self.options,
+        )
     }
 }
 
@@ -77,7 +82,7 @@ impl<'a> Command for RestCheck<'a> {
 fn read_rest_check<'a>(words: &[&'a str]) -> Option<RestCheck<'a>>
     ensures { option_map rest_check_seen result ≡ rest_check_words (map (λ w. w.now) words.now) }
 {
-    let options = [SILENT_OPTION];
+    let options = [SILENT_OPTION, ALL_OPTION, JSON_OPTION];
     rest_check_taken(take_words(2, &options, words)?)
 }
 
@@ -92,6 +97,11 @@ fn rest_check_taken(taken: Taken<'_>) -> Option<RestCheck<'_>>
         file,
         certificate,
         silent,
+        options: ProofOptions {
+            all: taken.value(1).is_some(),
+            parameters: false,
+            json: taken.value(2).is_some(),
+        },
     })
 }
 
@@ -103,13 +113,14 @@ fn judge_files<'a, S: Shelf>(
     file: &'a str,
     certificate: &'a str,
     silent: Option<&'a str>,
+    options: ProofOptions,
 ) -> Result<Answer, Refusal<'a>>
-    ensures says { Grew (Says (rest_check_meaning file.now certificate.now (option_map (λ w. w.now) silent.entry)) (S.files shelf.old) result) (S.calls shelf.old) (S.calls shelf.new) }
+    ensures says { Grew (Says (rest_check_meaning file.now certificate.now (option_map (λ w. w.now) silent.entry) options) (S.files shelf.old) result) (S.calls shelf.old) (S.calls shelf.new) }
     ensures cause { ReadCause result (S.faults shelf.old) (S.faults shelf.new) }
     ensures kept { S.files shelf.new ≡ S.files shelf.old }
 {
     match read_legal(alloc, shelf, file) {
-        Ok(scoped) => judge_scoped(alloc, shelf, file, scoped, certificate, silent),
+        Ok(scoped) => judge_scoped(alloc, shelf, file, scoped, certificate, silent, options),
         Err(refusal) => Err(refusal),
     }
 }
@@ -122,13 +133,14 @@ fn judge_scoped<'a, S: Shelf>(
     scoped: ScopedFile,
     certificate: &'a str,
     silent: Option<&'a str>,
+    options: ProofOptions,
 ) -> Result<Answer, Refusal<'a>>
-    ensures says { Grew (Says (finds (IsEnds scoped.file) (CycleHinders name.now scoped.file) [] (quietly_meaning name.now certificate.now (option_map (λ w. w.now) silent.entry) scoped.file)) (S.files shelf.old) result) (S.calls shelf.old) (S.calls shelf.new) }
+    ensures says { Grew (Says (finds (IsEnds scoped.file) (CycleHinders name.now scoped.file) [] (quietly_meaning name.now certificate.now (option_map (λ w. w.now) silent.entry) options scoped.file)) (S.files shelf.old) result) (S.calls shelf.old) (S.calls shelf.new) }
     ensures cause { ReadCause result (S.faults shelf.old) (S.faults shelf.new) }
     ensures kept { S.files shelf.new ≡ S.files shelf.old }
 {
     match find_ends(alloc, name, scoped) {
-        Ok(rest) => judge_quietly(alloc, shelf, name, &rest, certificate, silent),
+        Ok(rest) => judge_quietly(alloc, shelf, name, &rest, certificate, silent, options),
         Err(refusal) => Err(refusal),
     }
 }
@@ -141,13 +153,14 @@ fn judge_quietly<'a, S: Shelf>(
     rest: &RestFile,
     certificate: &'a str,
     silent: Option<&'a str>,
+    options: ProofOptions,
 ) -> Result<Answer, Refusal<'a>>
-    ensures says { (file : File) → EndingsOf file rest.now.ending.file rest.now.added → Grew (Says (quietly_meaning name.now certificate.now (option_map (λ w. w.now) silent.entry) file (ends_of rest.now)) (S.files shelf.old) result) (S.calls shelf.old) (S.calls shelf.new) }
+    ensures says { (file : File) → EndingsOf file rest.now.ending.file rest.now.added → Grew (Says (quietly_meaning name.now certificate.now (option_map (λ w. w.now) silent.entry) options file (ends_of rest.now)) (S.files shelf.old) result) (S.calls shelf.old) (S.calls shelf.new) }
     ensures cause { ReadCause result (S.faults shelf.old) (S.faults shelf.new) }
     ensures kept { S.files shelf.new ≡ S.files shelf.old }
 {
     match find_silent(alloc, name, &rest.ending.file.automaton, silent) {
-        Ok(places) => judge_rest(alloc, shelf, rest, places.as_slice(), certificate),
+        Ok(places) => judge_rest(alloc, shelf, rest, places.as_slice(), certificate, options),
         Err(refusal) => Err(refusal),
     }
 }
@@ -159,33 +172,17 @@ fn judge_rest<'a, S: Shelf>(
     rest: &RestFile,
     silent: &[u32],
     name: &'a str,
+    options: ProofOptions,
 ) -> Result<Answer, Refusal<'a>>
-    ensures says { (file : File) → EndingsOf file rest.now.ending.file rest.now.added → Grew (Says (rest_proved_meaning name.now file (ends_of rest.now) silent.now) (S.files shelf.old) result) (S.calls shelf.old) (S.calls shelf.new) }
+    ensures says { (file : File) → EndingsOf file rest.now.ending.file rest.now.added → Grew (Says (rest_proved_meaning name.now options file (ends_of rest.now) silent.now) (S.files shelf.old) result) (S.calls shelf.old) (S.calls shelf.new) }
     ensures cause { ReadCause result (S.faults shelf.old) (S.faults shelf.new) }
     ensures kept { S.files shelf.new ≡ S.files shelf.old }
 {
     match read_certificate(shelf, Checker::resting_silently(alloc, rest, silent), name) {
         Ok(accepted) => {
-            answer_rest_proved(alloc, &rest.ending.file, accepted.patterns.as_slice())
+            let numbers = accepted.patterns.as_slice();
+            answer_proofs(alloc, true, &rest.ending.file, options, numbers)
         }
         Err(refusal) => Err(refusal),
-    }
-}
-
-/// The answer that says which patterns of a file are proved: those of these numbers.
-fn answer_rest_proved<'a>(
-    alloc: Global,
-    ending: &FileOf,
-    numbers: &[u32],
-) -> Result<Answer, Refusal<'a>>
-    ensures says { (files : Option Told) → Says (replies [] (Writes 0 (rest_check_text ending.now numbers.now))) files result [] }
-    ensures cause { ReadCause result 0 0 }
-{
-    match rest_check_text(alloc, ending, numbers) {
-        Ok(text) => {
-            let text = Text::from_string(text.into_string());
-            Ok(Answer::writing(alloc, 0, text))
-        }
-        Err(AllocError) => Err(Refusal::Memory),
     }
 }

@@ -7,8 +7,10 @@ ghost use Rattle.ta_program.specs.Asked.{Runs, usage_line};
 ghost use Rattle.ta_program.specs.Headline.{StatusTells};
 ghost use Rattle.ta_program.specs.Program.{Admitting, Benches, CertificateWritten, CheckProves, Completes, ExactlySo, Exports, KeepsFiles, Opens, PrintedHolds, ReplayShows, RestProves, RestsReport, RunShortens, Searches, SparesRead, Tellings, UsageExactly, VerifyReports};
 ghost use Rattle.ta_program.specs.Program.{SafeAsShown, ShowsFile};
+ghost use Rattle.ta_program.specs.Reported.{ReportsExactly};
 ghost use Rattle.ta_program.specs.Requests.{request_of};
 ghost use Rattle.ta_program.specs.Understood.{Understood};
+ghost use Rattle.ta_program.specs.Version.{VersionPrints};
 
 use crate::admit::Admit;
 use crate::bench::Bench;
@@ -16,21 +18,23 @@ use crate::check::Check;
 use crate::compress::Compress;
 use crate::export::Export;
 use crate::replay::Replay;
-use crate::request::Request;
+use crate::request::{Request, StagingRequest};
 use crate::rest::Rest;
 use crate::rest_check::RestCheck;
 use crate::search::Search;
 use crate::show::Show;
 use crate::two_files::TwoFiles;
 use crate::verify::Verify;
+use crate::version::Version;
 use std::alloc::Global;
 use std::thread::Threads;
+use ta_report::reports_are_distinct;
 use ta_shelf::{Shelf, Sink};
-use ta_shell::{perform, tell_line};
+use ta_shell::{perform, perform_staging, tell_line};
 
 /// The line where the words are no command's.
 const USAGE: &str =
-    "tav: usage: verify FILE [--nodes N] [--certificate OUT] [--json], check FILE CERT, replay FILE RUN, compress FILE RUN, bench K, rest FILE [--nodes N] [--certificate OUT], rest-check FILE CERT, search FILE [--nodes N] [--certificate OUT] [--filled OUT2], show FILE, export FILE PATTERN START WORD, admit FILE PATTERN START WORD VALUES, version, --lazy with verify, rest or search, --silent NAMES with rest or rest-check, --json with rest, check, rest-check, replay or search, --pattern NAME with verify or rest, --all with verify, rest, check or rest-check, --parameters with check\n";
+    "tav: usage: verify FILE [--nodes N] [--certificate OUT] [--json], check FILE CERT, replay FILE RUN, compress FILE RUN, bench K, rest FILE [--nodes N] [--certificate OUT], rest-check FILE CERT, search FILE [--nodes N] [--certificate OUT] [--filled OUT2], show FILE, export FILE PATTERN START WORD, admit FILE PATTERN START WORD VALUES, version, --lazy with verify, rest or search, --silent NAMES with rest or rest-check, --json with check, rest-check or replay, --pattern NAME with verify, --all with verify, check or rest-check, --parameters with check\n";
 
 /// Does what the words ask for, and answers the number that the process ends with: 0 where all is
 /// done, 1 where some pattern is unsafe or no values were found, 2 where that isn't known, 3 where FILE hinders, 4
@@ -40,7 +44,8 @@ const USAGE: &str =
 /// A file is read and judged whole before the next one is opened, and a text is made whole before
 /// it is written. A certificate and a filled text are begun before anything is read; what their names
 /// hold is compared with FILE's bytes before anything is searched; they are made before the report is
-/// written, and put in their places behind it, and nothing else is ever put on the shelf. A failing
+/// written, the certificate of `verify` and of `rest` pattern by pattern while these are judged, and put
+/// in their places behind it, and nothing else is ever put on the shelf. A failing
 /// `err` changes nothing.
 pub fn run<R: Threads + Sync, S: Shelf, O: Sink, E: Sink>(
     rt: &R,
@@ -73,7 +78,9 @@ pub fn run<R: Threads + Sync, S: Shelf, O: Sink, E: Sink>(
     ensures searches { Searches result (map (λ w. w.now) words.now) (S.files shelf.old) (S.files shelf.new) (S.calls shelf.old) (S.calls shelf.new) (O.written out.old) (O.written out.new) }
     ensures shows { ShowsFile result (map (λ w. w.now) words.now) (S.files shelf.old) (S.calls shelf.old) (S.calls shelf.new) (O.written out.old) (O.written out.new) }
     ensures shown_safe { SafeAsShown result (map (λ w. w.now) words.now) (S.files shelf.old) (S.calls shelf.old) (S.calls shelf.new) }
+    ensures version { VersionPrints result (map (λ w. w.now) words.now) (O.written out.old) (O.written out.new) }
     ensures printed { PrintedHolds result (map (λ w. w.now) words.now) (S.files shelf.old) (S.calls shelf.old) (S.calls shelf.new) (O.written out.old) (O.written out.new) }
+    ensures reported { ReportsExactly result (map (λ w. w.now) words.now) (S.files shelf.old) (S.calls shelf.old) (S.calls shelf.new) (O.written out.old) (O.written out.new) }
     ensures usage { UsageExactly result (request_of (map (λ w. w.now) words.now)) }
     ensures exact { ExactlySo result (request_of (map (λ w. w.now) words.now)) (S.files shelf.old) }
     ensures kept { KeepsFiles result (map (λ w. w.now) words.now)
@@ -94,6 +101,8 @@ pub fn run<R: Threads + Sync, S: Shelf, O: Sink, E: Sink>(
         (state (S.files shelf.old) (S.calls shelf.old) (S.faults shelf.old) (O.written out.old) (O.faults out.old) (O.stalls out.old) (E.written err.old) (E.faults err.old) (E.stalls err.old))
         (state (S.files shelf.new) (S.calls shelf.new) (S.faults shelf.new) (O.written out.new) (O.faults out.new) (O.stalls out.new) (E.written err.new) (E.faults err.new) (E.stalls err.new)) }
 {
+    // the law by which the text of a report tells its verdicts; the call does nothing
+    reports_are_distinct();
     obey(rt, alloc, words, shelf, out, err)
 }
 
@@ -116,17 +125,18 @@ fn obey<R: Threads + Sync, S: Shelf, O: Sink, E: Sink>(
     match *name {
         "admit" => attempt::<Admit<'_>, R, S, O, E>(rt, alloc, words, shelf, out, err),
         "bench" => attempt::<Bench, R, S, O, E>(rt, alloc, words, shelf, out, err),
-        "check" => attempt::<TwoFiles<'_, Check>, R, S, O, E>(rt, alloc, words, shelf, out, err),
+        "check" => attempt::<Check<'_>, R, S, O, E>(rt, alloc, words, shelf, out, err),
         "compress" => attempt::<TwoFiles<'_, Compress>, R, S, O, E>(
             rt, alloc, words, shelf, out, err,
         ),
         "export" => attempt::<Export<'_>, R, S, O, E>(rt, alloc, words, shelf, out, err),
-        "replay" => attempt::<TwoFiles<'_, Replay>, R, S, O, E>(rt, alloc, words, shelf, out, err),
-        "rest" => attempt::<Rest<'_>, R, S, O, E>(rt, alloc, words, shelf, out, err),
+        "replay" => attempt::<Replay<'_>, R, S, O, E>(rt, alloc, words, shelf, out, err),
+        "rest" => attempt_staging::<Rest<'_>, R, S, O, E>(rt, alloc, words, shelf, out, err),
         "rest-check" => attempt::<RestCheck<'_>, R, S, O, E>(rt, alloc, words, shelf, out, err),
         "search" => attempt::<Search<'_>, R, S, O, E>(rt, alloc, words, shelf, out, err),
         "show" => attempt::<Show<'_>, R, S, O, E>(rt, alloc, words, shelf, out, err),
-        "verify" => attempt::<Verify<'_>, R, S, O, E>(rt, alloc, words, shelf, out, err),
+        "verify" => attempt_staging::<Verify<'_>, R, S, O, E>(rt, alloc, words, shelf, out, err),
+        "version" => attempt::<Version, R, S, O, E>(rt, alloc, words, shelf, out, err),
         _ => refuse(err),
     }
 }
@@ -146,6 +156,25 @@ fn attempt<'a, C: Request<'a>, R: Threads + Sync, S: Shelf, O: Sink, E: Sink>(
 {
     match C::read(words) {
         Some(command) => perform(rt, alloc, &command, shelf, out, err),
+        None => refuse(err),
+    }
+}
+
+/// The same of a command that stages its output while it judges.
+fn attempt_staging<'a, C: StagingRequest<'a>, R: Threads + Sync, S: Shelf, O: Sink, E: Sink>(
+    rt: &R,
+    alloc: Global,
+    words: &[&'a str],
+    shelf: &mut S,
+    out: &mut O,
+    err: &mut E,
+) -> u8
+    ensures { Runs (C.asked (map (λ w. w.now) words.now)) result
+        (state (S.files shelf.old) (S.calls shelf.old) (S.faults shelf.old) (O.written out.old) (O.faults out.old) (O.stalls out.old) (E.written err.old) (E.faults err.old) (E.stalls err.old))
+        (state (S.files shelf.new) (S.calls shelf.new) (S.faults shelf.new) (O.written out.new) (O.faults out.new) (O.stalls out.new) (E.written err.new) (E.faults err.new) (E.stalls err.new)) }
+{
+    match C::read(words) {
+        Some(command) => perform_staging(rt, alloc, &command, shelf, out, err),
         None => refuse(err),
     }
 }

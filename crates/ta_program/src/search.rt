@@ -20,7 +20,7 @@ ghost use Rattle.ta_program.specs.SearchWords.{search_taken, search_words};
 ghost use Rattle.ta_program.specs.Taken.{taken_of};
 
 use crate::budget::Budget;
-use crate::certified::{are_within, long_certificate, put_of};
+use crate::certified::{are_within, put_of};
 use crate::limits::{CERTIFICATE, FILE};
 use crate::request::Request;
 use crate::values::{budget_of, file_name_of, filled_of, out_of};
@@ -34,7 +34,10 @@ use ta_search::{
     searches_are_determined,
 };
 use ta_shelf::Shelf;
-use ta_shell::{Answer, Command, Content, Outputs, Phrase, Put, Refusal, read_text, spare_read};
+use ta_shell::{
+    Answer, Command, Content, Outputs, Phrase, Put, Refusal, long_certificate, read_text,
+    spare_read,
+};
 
 /// What `search` is asked for.
 #[derive(Drop)]

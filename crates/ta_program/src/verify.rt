@@ -1,34 +1,37 @@
 //! The command `verify`.
 #![tactic(auto)]
 
-ghost use Rattle.std.specs.Prelude.{◌≡◌, [], IfOk, map, Option, option_map};
-ghost use Rattle.ta_shelf.specs.Calls.{Grew};
+ghost use Rattle.std.specs.Prelude.{◌≡◌, [], false, IfErr, IfOk, map, Option, option_map};
 ghost use Rattle.ta_shelf.specs.Put.{Told};
-ghost use Rattle.ta_shell.specs.Commands.{Says};
-ghost use Rattle.ta_shell.specs.Reading.{ReadCause};
-ghost use Rattle.ta_verdict.specs.Verdicts.{AreVerdicts};
-ghost use Rattle.ta_program.specs.Inside.Reported.{SampleReported};
-ghost use Rattle.ta_program.specs.Reporting.{report_meaning, verify_meaning};
-ghost use Rattle.ta_program.specs.Statuses.{verdicts_number};
+ghost use Rattle.ta_shell.specs.Ends.{ShelfState};
+ghost use Rattle.ta_shell.specs.Making.{Changed};
+ghost use Rattle.ta_shell.specs.Puts.{may_put};
+ghost use Rattle.ta_shell.specs.Staging.{Begun, SaysAndStages, StagedBy};
+ghost use Rattle.ta_program.specs.Inside.Certifying.{SaysStaged};
+ghost use Rattle.ta_program.specs.Inside.Reported.{ReportedTo};
+ghost use Rattle.ta_program.specs.Reporting.{picked_meaning, report_meaning, verify_meaning};
 ghost use Rattle.ta_program.specs.Asking.{verify_seen};
 ghost use Rattle.ta_program.specs.Taken.{taken_of};
 ghost use Rattle.ta_program.specs.VerifyWords.{verify_taken, verify_words};
 
 use crate::budget::Budget;
-use crate::certified::answer_certified;
+use crate::certified::{answer_certified, answer_plain};
+use crate::pattern_option::{find_pick, given_pattern};
 use crate::reading::read_spared;
-use crate::request::Request;
+use crate::request::StagingRequest;
+use crate::telling::{Form, Report, tell};
 use crate::values::{budget_of, file_name_of, out_of};
-use crate::words::{CERTIFICATE_OPTION, LAZY_OPTION, NODES_OPTION, OptionWord, Taken, take_words};
+use crate::words::{
+    ALL_OPTION, CERTIFICATE_OPTION, JSON_OPTION, LAZY_OPTION, NODES_OPTION, PATTERN_OPTION, Taken,
+    take_words,
+};
 use std::alloc::{AllocError, Global};
 use std::thread::Threads;
-use ta_automaton::File;
-use ta_base::Text;
-use ta_report::{Said, Verdict, report_json, report_text};
+use ta_report::Pick;
 use ta_scope::ScopedFile;
 use ta_shelf::Shelf;
-use ta_shell::{Answer, Command, Outputs, Refusal};
-use ta_verdict::{Judged, is_unknown, is_unsafe, judge_file, sample_of};
+use ta_shell::{Outputs, Refusal, StagedAnswer, StagingCommand, begin_file};
+use ta_verdict::{Draft, Target, judge_picked_to};
 
 /// What `verify` is asked for.
 #[derive(Drop)]
@@ -37,9 +40,11 @@ pub(crate) struct Verify<'a> {
     budget: Budget,
     out: Option<&'a str>,
     json: bool,
+    pattern: Option<&'a str>,
+    all: bool,
 }
 
-impl<'a> Request<'a> for Verify<'a> {
+impl<'a> StagingRequest<'a> for Verify<'a> {
     ghost use Rattle.ta_program.specs.Reporting.{verify_asked};
 
     ghost asked = { verify_asked };
@@ -49,11 +54,11 @@ impl<'a> Request<'a> for Verify<'a> {
     }
 }
 
-impl<'a> Command for Verify<'a> {
-    ghost use Rattle.std.specs.Prelude.{option_map};
+impl<'a> StagingCommand for Verify<'a> {
+    ghost use Rattle.ta_program.specs.Asking.{verify_seen};
     ghost use Rattle.ta_program.specs.Reporting.{verify_meaning};
 
-    ghost meaning = { λ command. verify_meaning command.file.now command.budget.given command.json (option_map (λ w. w.now) command.out) };
+    ghost meaning = { λ command. verify_meaning (verify_seen command) };
 
     fn outputs(&self) -> Outputs<'_> {
         Outputs::one(self.out)
@@ -64,16 +69,8 @@ impl<'a> Command for Verify<'a> {
         rt: &R,
         alloc: Global,
         shelf: &mut S,
-    ) -> Result<Answer, Refusal<'_>> {
-        judge_verify(
-            rt,
-            alloc,
-            shelf,
-            self.file,
-            &self.budget,
-            self.json,
-            self.out,
-        )
+    ) -> Result<StagedAnswer<'_, S::Stage>, Refusal<'_>> {
+        judge_verify(rt, alloc, shelf, self)
     }
 }
 
@@ -84,11 +81,10 @@ fn read_verify<'a>(words: &[&'a str]) -> Option<Verify<'a>>
     let options = [
         NODES_OPTION,
         CERTIFICATE_OPTION,
-        OptionWord {
-            word: "--json",
-            valued: false,
-        },
+        JSON_OPTION,
         LAZY_OPTION,
+        PATTERN_OPTION,
+        ALL_OPTION,
     ];
     verify_taken(take_words(1, &options, words)?)
 }
@@ -100,6 +96,7 @@ fn verify_taken(taken: Taken<'_>) -> Option<Verify<'_>>
     let file = file_name_of(taken.plain(0))?;
     let nodes = budget_of(taken.value(0))?;
     let out = out_of(file, taken.value(1))?;
+    let pattern = given_pattern(taken.value(4))?;
     Some(Verify {
         file,
         budget: Budget {
@@ -110,94 +107,106 @@ fn verify_taken(taken: Taken<'_>) -> Option<Verify<'_>>
         },
         out,
         json: taken.value(2).is_some(),
+        pattern,
+        all: taken.value(5).is_some(),
     })
 }
 
-/// Reads a file, which OUT is not to destroy, gives a sample of its parameters and a verdict on each of its patterns, and puts the
-/// certificate of those that are safe in the file OUT, where that is asked for.
+/// Reads a file, which OUT is not to destroy, gives a sample of its parameters and a verdict on each
+/// pattern that is asked for, and stages the certificate of those that are safe for the file OUT, where
+/// that is asked for.
 fn judge_verify<'a, R: Threads + Sync, S: Shelf>(
     rt: &R,
     alloc: Global,
     shelf: &mut S,
-    file: &'a str,
-    budget: &Budget,
-    json: bool,
-    out: Option<&'a str>,
-) -> Result<Answer, Refusal<'a>>
-    ensures says { Grew (Says (verify_meaning file.now budget.now.given json (option_map (λ w. w.now) out.entry)) (S.files shelf.old) result) (S.calls shelf.old) (S.calls shelf.new) }
-    ensures cause { ReadCause result (S.faults shelf.old) (S.faults shelf.new) }
+    asked: &Verify<'a>,
+) -> Result<StagedAnswer<'a, S::Stage>, Refusal<'a>>
+    ensures says { SaysAndStages (verify_meaning (verify_seen asked.now)) S.stage_name S.stage_bytes result
+        (record { files = S.files shelf.old; calls = S.calls shelf.old; faults = S.faults shelf.old })
+        (record { files = S.files shelf.new; calls = S.calls shelf.new; faults = S.faults shelf.new }) }
     ensures kept { S.files shelf.new ≡ S.files shelf.old }
 {
-    match read_spared(alloc, shelf, file, &Outputs::one(out)) {
-        Ok(scoped) => answer_report(rt, alloc, &scoped, budget, json, out),
+    match read_spared(alloc, shelf, asked.file, &Outputs::one(asked.out)) {
+        Ok(scoped) => answer_picked(rt, alloc, shelf, &scoped, asked),
         Err(refusal) => Err(refusal),
     }
 }
 
-/// The answer with a sample of the parameters and a verdict on each pattern of a file, and the certificate that is asked for.
-fn answer_report<'a, R: Threads + Sync>(
+/// The answer of a file, unless it has no pattern with the name that is asked for.
+fn answer_picked<'a, R: Threads + Sync, S: Shelf>(
+    rt: &R,
+    alloc: Global,
+    shelf: &mut S,
+    scoped: &ScopedFile,
+    asked: &Verify<'a>,
+) -> Result<StagedAnswer<'a, S::Stage>, Refusal<'a>>
+    ensures says { (files : Option Told) → SaysStaged (picked_meaning (verify_seen asked.now) scoped.now.file) S.stage_bytes files result }
+    ensures staged { Changed (StagedBy (may_put (option_map (λ w. w.now) asked.now.out)) S.stage_name S.stage_bytes result (S.faults shelf.old) (S.faults shelf.new)) (S.calls shelf.old) (S.calls shelf.new) }
+    ensures kept { S.files shelf.new ≡ S.files shelf.old }
+{
+    match find_pick(asked.file, &scoped.file, asked.pattern) {
+        Ok(pick) => answer_report(rt, alloc, shelf, scoped, pick, asked),
+        Err(refusal) => Err(refusal),
+    }
+}
+
+/// The answer with a sample of the parameters and a verdict on each picked pattern of a file, and the
+/// certificate that is asked for.
+fn answer_report<'a, R: Threads + Sync, S: Shelf>(
+    rt: &R,
+    alloc: Global,
+    shelf: &mut S,
+    scoped: &ScopedFile,
+    pick: Pick,
+    asked: &Verify<'a>,
+) -> Result<StagedAnswer<'a, S::Stage>, Refusal<'a>>
+    ensures says { (files : Option Told) → SaysStaged (report_meaning (verify_seen asked.now) scoped.now.file pick) S.stage_bytes files result }
+    ensures staged { Changed (StagedBy (may_put (option_map (λ w. w.now) asked.now.out)) S.stage_name S.stage_bytes result (S.faults shelf.old) (S.faults shelf.new)) (S.calls shelf.old) (S.calls shelf.new) }
+    ensures kept { S.files shelf.new ≡ S.files shelf.old }
+{
+    match asked.out {
+        None => {
+            let mut none = Draft::new(alloc, false);
+            answer_plain(report_to(rt, alloc, scoped, pick, asked, &mut (), &mut none))
+        }
+        Some(name) => match begin_file(shelf, name) {
+            Ok(mut file) => {
+                let report = report_to(rt, alloc, scoped, pick, asked, shelf, &mut file);
+                answer_certified(shelf, name, file, report)
+            }
+            Err(AllocError) => Err(Refusal::Memory),
+        },
+    }
+}
+
+/// The report of a sample of the parameters and of a verdict on each picked pattern of a file, whose
+/// certificate goes to a target.
+fn report_to<R: Threads + Sync, P, T: Target<P>>(
     rt: &R,
     alloc: Global,
     scoped: &ScopedFile,
-    budget: &Budget,
-    json: bool,
-    out: Option<&'a str>,
-) -> Result<Answer, Refusal<'a>>
-    ensures says { (files : Option Told) → Says (report_meaning scoped.now.file budget.now.given json (option_map (λ w. w.now) out.entry)) files result [] }
-    ensures cause { ReadCause result 0 0 }
+    pick: Pick,
+    asked: &Verify<'_>,
+    place: &mut P,
+    target: &mut T,
+) -> Result<Report, AllocError>
+    ensures reports { (begun : Begun) → T.has begun target.old place.old [] → IfOk result (λ report. ReportedTo (record { rest = false; json = asked.now.json; all = asked.now.all }) scoped.now.file pick asked.now.budget.given report.number report.text (T.has begun target.new place.new)) }
+    ensures stops { (begun : Begun) → T.has begun target.old place.old [] → IfErr result (λ _. T.stopped begun target.new place.new) }
 {
-    let Ok(judged) = judge_file(rt, alloc, scoped, budget.given, out.is_some()) else {
-        return Err(Refusal::Memory);
+    let form = Form {
+        rest: false,
+        json: asked.json,
+        all: asked.all,
     };
-    let Judged {
-        verdicts,
-        certificate,
-    } = judged;
-    let number = number_of(verdicts.as_slice());
-    let Ok(text) = report(alloc, json, &scoped.file, budget, verdicts.as_slice()) else {
-        return Err(Refusal::Memory);
-    };
-    match out {
-        None => Ok(Answer::writing(alloc, number, text)),
-        Some(name) => answer_certified(alloc, number, text, name, certificate),
-    }
-}
-
-/// The report of a sample of the parameters and of these verdicts, in JSON where that is asked for.
-fn report(
-    alloc: Global,
-    json: bool,
-    file: &File,
-    budget: &Budget,
-    verdicts: &[Verdict],
-) -> Result<Text, AllocError>
-    requires { AreVerdicts file.now budget.now.given verdicts.now }
-    ensures { IfOk result (SampleReported json file.now budget.now.given verdicts.now) }
-{
-    let sample = sample_of(alloc, file, budget.given.nodes)?;
-    let said = Said {
-        file,
-        sample: &sample,
-        verdicts,
-    };
-    if json {
-        let line = report_json(alloc, &said)?;
-        Ok(Text::from_string(line.into_string()))
-    } else {
-        let lines = report_text(alloc, &said)?;
-        Ok(Text::from_string(lines.into_string()))
-    }
-}
-
-/// The number of a report: 1 where some pattern is unsafe, else 2 where some is unknown, else 0.
-pub(crate) fn number_of(verdicts: &[Verdict]) -> u8
-    ensures { result ≡ verdicts_number verdicts.now }
-{
-    if verdicts.iter().any(|verdict| is_unsafe(verdict)) {
-        1
-    } else if verdicts.iter().any(|verdict| is_unknown(verdict)) {
-        2
-    } else {
-        0
-    }
+    let budget = asked.budget.given;
+    let verdicts = judge_picked_to(rt, alloc, scoped, pick, budget, place, target)?;
+    let report = tell(
+        alloc,
+        form,
+        &scoped.file,
+        pick,
+        &asked.budget,
+        verdicts.as_slice(),
+    )?;
+    Ok(report)
 }

@@ -42,7 +42,7 @@ pub(crate) fn asked_of<'a>(taken: &Taken<'a>) -> Option<WordAsked<'a>>
 }
 
 /// The name of a pattern that a word is, where it is no keyword.
-fn pattern_of(word: &str) -> Option<&str>
+pub(crate) fn pattern_of(word: &str) -> Option<&str>
     ensures { option_map (λ w. w.now) result ≡ pattern_of word.now }
 {
     if is_name(word) { Some(word) } else { None }

@@ -30,10 +30,34 @@ pub(crate) const LAZY_OPTION: OptionWord<'static> = OptionWord {
     valued: false,
 };
 
+/// That the output is to be a line of JSON.
+pub(crate) const JSON_OPTION: OptionWord<'static> = OptionWord {
+    word: "--json",
+    valued: false,
+};
+
+/// The name of the pattern that a report is about, alone.
+pub(crate) const PATTERN_OPTION: OptionWord<'static> = OptionWord {
+    word: "--pattern",
+    valued: true,
+};
+
+/// That status 0 is to say something of all patterns.
+pub(crate) const ALL_OPTION: OptionWord<'static> = OptionWord {
+    word: "--all",
+    valued: false,
+};
+
 /// The names that are to be silent.
 pub(crate) const SILENT_OPTION: OptionWord<'static> = OptionWord {
     word: "--silent",
     valued: true,
+};
+
+/// That the parameters are to be printed.
+pub(crate) const PARAMETERS_OPTION: OptionWord<'static> = OptionWord {
+    word: "--parameters",
+    valued: false,
 };
 
 /// What the words of a form give: at most five plain words, and at most eight options.

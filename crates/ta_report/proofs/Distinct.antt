@@ -1,5 +1,5 @@
 -- Reports of a file with one text have the same sample and the same verdicts.
-use Rattle.ta_report.proofs.Common.{ℕ, ℤ, ◌<◌, ◌^◌, ◌≡◌, List, [], ◌∷◌, ◌++◌, length, codes, decimal, refl, sym, ap, ◌∙◌, append_assoc, arith, inl, inr, lit<, lit≤, signed_decimal, append_cancel_left, AllByRecursion, number_other, number_same, apart_third, first_byte, heads_apart, Pattern, File, Value, run_text, number_avoids, run_front, ReportKind, Pivot, Leaf, Run, ReportSample, Verdict, Safe, Unsafe, Spent, Overflow, PlaceFits, ReportsAreDistinct, SampleFits, VerdictFits, overflow_text, place_text, run_part, sample_line, sample_text, spent_text, values_text, verdict_line, verdict_lines, verdict_text}
+use Rattle.ta_report.proofs.Common.{ℕ, ℤ, ◌<◌, ◌^◌, ◌≡◌, List, [], ◌∷◌, ◌++◌, length, codes, decimal, refl, sym, ap, ◌∙◌, append_assoc, arith, inl, inr, lit<, lit≤, signed_decimal, append_cancel_left, AllByRecursion, number_other, number_same, apart_third, first_byte, heads_apart, Pattern, File, Value, run_text, number_avoids, run_front, ReportKind, Pivot, Leaf, Run, ReportSample, Verdict, Safe, Unsafe, Spent, Overflow, PlaceFits, ReportsAreDistinct, SampleFits, VerdictFits, picked, overflow_text, place_text, run_part, sample_line, sample_text, spent_text, values_text, verdict_line, verdict_lines, verdict_text}
 use Rattle.ta_replay.specs.declared.run.Run.{Run as RunOf}
 use Rattle.ta_replay.proofs.Decimals.{number_same as value_once}
 use Rattle.ta_report.specs.declared.verdict.ReportSample.TheVariants as sample
@@ -150,7 +150,7 @@ lines_same file (p ∷ ps) (v ∷ vs) (w ∷ ws) cv cw fv fw e =
     ap (λ x. x ∷ vs) parts.0 ∙ ap (λ xs. w ∷ xs) rest
 
 pub reports_distinct : ReportsAreDistinct
-reports_distinct file x y vs ws cv cw fx fy fv fw e =
+reports_distinct file pick x y vs ws cv cw fx fy fv fw e =
     let lines = append_cancel_left (codes "\n") _ _ (append_cancel_left file.automaton.name _ _ (append_cancel_left (codes "automaton ") _ _ e)) in
     let parts = sample_line_same file x y _ _ fx fy lines in
-    (parts.0, lines_same file file.patterns vs ws cv cw fv fw parts.1)
+    (parts.0, lines_same file (picked pick file.patterns) vs ws cv cw fv fw parts.1)

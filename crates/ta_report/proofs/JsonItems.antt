@@ -1,5 +1,5 @@
 -- The items of an array of JSON, as they are pushed.
-use Rattle.ta_report.proofs.Common.{ℕ, ℤ, zero, suc, ◌+◌, ◌-◌, ◌<◌, ◌≤◌, ◌≡◌, false, ◌||◌, List, [], ◌∷◌, ◌++◌, map, length, take, get_or, refl, sym, ap, ◌∙◌, arith, length-append, ◌==◌, slice_split, take-map, AllByRecursion, map-append, length-map, take_all, take_more, take-append-le, items_of, items_view, view, has_float, items_have_float, split_line, File, Pattern, lines_text, run_lines, Avoids, ReportSample, Verdict, Safe, Unsafe, Spent, Overflow, report_data, sample_data, texts_data, value_data, values_data, verdict_data, verdicts_data}
+use Rattle.ta_report.proofs.Common.{ℕ, ℤ, zero, suc, ◌+◌, ◌-◌, ◌<◌, ◌≤◌, ◌≡◌, false, ◌||◌, List, [], ◌∷◌, ◌++◌, map, length, take, get_or, refl, sym, ap, ◌∙◌, arith, length-append, ◌==◌, slice_split, take-map, AllByRecursion, map-append, length-map, take_all, take_more, take-append-le, items_of, items_view, view, has_float, items_have_float, split_line, File, Pattern, Pick, picked, Bool, lines_text, run_lines, Avoids, ReportSample, Verdict, Safe, Unsafe, Spent, Overflow, report_data, sample_data, texts_data, value_data, values_data, verdict_data, verdicts_data}
 use Rattle.std.proofs.Math.Seq.{take-length}
 use Rattle.serde_json.specs.Data as json
 use Rattle.serde_json.specs.declared.value.Value.{Value}
@@ -20,15 +20,15 @@ values_listed [] vs = refl
 values_listed (n ∷ ns) [] = refl
 values_listed (n ∷ ns) (v ∷ vs) = ap (json.item (value_data n v)) (values_listed ns vs)
 
-abbrev pub verdicts_list : File → List Pattern → List Verdict → List json.Data
-verdicts_list file [] vs = []
-verdicts_list file (p ∷ ps) [] = []
-verdicts_list file (p ∷ ps) (v ∷ vs) = verdict_data file p v ∷ verdicts_list file ps vs
+abbrev pub verdicts_list : Bool → File → List Pattern → List Verdict → List json.Data
+verdicts_list rest file [] vs = []
+verdicts_list rest file (p ∷ ps) [] = []
+verdicts_list rest file (p ∷ ps) (v ∷ vs) = verdict_data rest file p v ∷ verdicts_list rest file ps vs
 
-pub verdicts_listed : (file : File) (ps : List Pattern) (vs : List Verdict) → items_of (verdicts_list file ps vs) ≡ verdicts_data file ps vs
-verdicts_listed file [] vs = refl
-verdicts_listed file (p ∷ ps) [] = refl
-verdicts_listed file (p ∷ ps) (v ∷ vs) = ap (json.item (verdict_data file p v)) (verdicts_listed file ps vs)
+pub verdicts_listed : (rest : Bool) (file : File) (ps : List Pattern) (vs : List Verdict) → items_of (verdicts_list rest file ps vs) ≡ verdicts_data rest file ps vs
+verdicts_listed rest file [] vs = refl
+verdicts_listed rest file (p ∷ ps) [] = refl
+verdicts_listed rest file (p ∷ ps) (v ∷ vs) = ap (json.item (verdict_data rest file p v)) (verdicts_listed rest file ps vs)
 
 -- the item at a place
 pub value_at : (ns : List (List ℕ)) (vs : List ℤ) (i : ℕ) (d : json.Data) (n : List ℕ) (v : ℤ) → length vs ≡ length ns → i < length vs → n ≡ get_or ns i n → v ≡ get_or vs i v → (i < length (values_list ns vs)) × (value_data n v ≡ get_or (values_list ns vs) i d)
@@ -38,22 +38,22 @@ value_at (m ∷ ns) [] i d n v count within is are = absurd (omega arith)
 value_at (m ∷ ns) (w ∷ vs) zero d n v count within is are = (omega arith, ap (λ k. value_data k v) is ∙ ap (value_data m) are)
 value_at (m ∷ ns) (w ∷ vs) (suc i) d n v count within is are = let more = value_at ns vs i d n v (omega arith) (omega arith) is are in let low = more.0 in (omega arith, more.1)
 
-pub verdict_at : (file : File) (ps : List Pattern) (vs : List Verdict) (i : ℕ) (d : json.Data) (p : Pattern) (v : Verdict) → length vs ≡ length ps → i < length vs → p ≡ get_or ps i p → v ≡ get_or vs i v → (i < length (verdicts_list file ps vs)) × (verdict_data file p v ≡ get_or (verdicts_list file ps vs) i d)
-verdict_at file [] [] i d p v count within is are = absurd (omega arith)
-verdict_at file [] (w ∷ vs) i d p v count within is are = absurd (omega arith)
-verdict_at file (m ∷ ps) [] i d p v count within is are = absurd (omega arith)
-verdict_at file (m ∷ ps) (w ∷ vs) zero d p v count within is are = (omega arith, ap (λ k. verdict_data file k v) is ∙ ap (verdict_data file m) are)
-verdict_at file (m ∷ ps) (w ∷ vs) (suc i) d p v count within is are = let more = verdict_at file ps vs i d p v (omega arith) (omega arith) is are in let low = more.0 in (omega arith, more.1)
+pub verdict_at : (rest : Bool) (file : File) (ps : List Pattern) (vs : List Verdict) (i : ℕ) (d : json.Data) (p : Pattern) (v : Verdict) → length vs ≡ length ps → i < length vs → p ≡ get_or ps i p → v ≡ get_or vs i v → (i < length (verdicts_list rest file ps vs)) × (verdict_data rest file p v ≡ get_or (verdicts_list rest file ps vs) i d)
+verdict_at rest file [] [] i d p v count within is are = absurd (omega arith)
+verdict_at rest file [] (w ∷ vs) i d p v count within is are = absurd (omega arith)
+verdict_at rest file (m ∷ ps) [] i d p v count within is are = absurd (omega arith)
+verdict_at rest file (m ∷ ps) (w ∷ vs) zero d p v count within is are = (omega arith, ap (λ k. verdict_data rest file k v) is ∙ ap (verdict_data rest file m) are)
+verdict_at rest file (m ∷ ps) (w ∷ vs) (suc i) d p v count within is are = let more = verdict_at rest file ps vs i d p v (omega arith) (omega arith) is are in let low = more.0 in (omega arith, more.1)
 
 pub values_count : (ns : List (List ℕ)) (vs : List ℤ) → length (values_list ns vs) ≤ length vs
 values_count [] vs = omega arith
 values_count (n ∷ ns) [] = omega arith
 values_count (n ∷ ns) (v ∷ vs) = omega (arith, values_count ns vs)
 
-pub verdicts_count : (file : File) (ps : List Pattern) (vs : List Verdict) → length (verdicts_list file ps vs) ≤ length vs
-verdicts_count file [] vs = omega arith
-verdicts_count file (p ∷ ps) [] = omega arith
-verdicts_count file (p ∷ ps) (v ∷ vs) = omega (arith, verdicts_count file ps vs)
+pub verdicts_count : (rest : Bool) (file : File) (ps : List Pattern) (vs : List Verdict) → length (verdicts_list rest file ps vs) ≤ length vs
+verdicts_count rest file [] vs = omega arith
+verdicts_count rest file (p ∷ ps) [] = omega arith
+verdicts_count rest file (p ∷ ps) (v ∷ vs) = omega (arith, verdicts_count rest file ps vs)
 
 -- one item more is pushed
 pub pushed : (all : List json.Data) (i : ℕ) (before after : List Value) (v : Value) (d : json.Data) → map view before ≡ take i all → after ≡ before ++ v ∷ [] → i < length all → view v ≡ get_or all i d → map view after ≡ take (i + 1) all
@@ -91,22 +91,22 @@ no_value_floats [] vs = refl
 no_value_floats (n ∷ ns) [] = refl
 no_value_floats (n ∷ ns) (v ∷ vs) = no_value_floats ns vs
 
-no_sample_floats : (file : File) (s : ReportSample) → has_float (sample_data file s) ≡ false
+pub no_sample_floats : (file : File) (s : ReportSample) → has_float (sample_data file s) ≡ false
 no_sample_floats file (sample.Sample values) = ap (λ b. b || false) (no_value_floats file.automaton.parameters values)
 no_sample_floats file sample.Empty = refl
 no_sample_floats file (sample.Spent count) = refl
 no_sample_floats file (sample.Overflow node kind) = refl
 
-no_verdict_float : (file : File) (p : Pattern) (v : Verdict) → has_float (verdict_data file p v) ≡ false
-no_verdict_float file p (Safe nodes leaves) = refl
-no_verdict_float file p (Unsafe nodes run) = ap (λ b. b || false) (no_text_floats (run_lines file run))
-no_verdict_float file p (Spent nodes) = refl
-no_verdict_float file p (Overflow node kind) = refl
+no_verdict_float : (rest : Bool) (file : File) (p : Pattern) (v : Verdict) → has_float (verdict_data rest file p v) ≡ false
+no_verdict_float rest file p (Safe nodes leaves) = refl
+no_verdict_float rest file p (Unsafe nodes run) = ap (λ b. b || false) (no_text_floats (run_lines file run))
+no_verdict_float rest file p (Spent nodes) = refl
+no_verdict_float rest file p (Overflow node kind) = refl
 
-no_verdict_floats : (file : File) (ps : List Pattern) (vs : List Verdict) → items_have_float (verdicts_data file ps vs) ≡ false
-no_verdict_floats file [] vs = refl
-no_verdict_floats file (p ∷ ps) [] = refl
-no_verdict_floats file (p ∷ ps) (v ∷ vs) = ap (λ b. b || items_have_float (verdicts_data file ps vs)) (no_verdict_float file p v) ∙ no_verdict_floats file ps vs
+no_verdict_floats : (rest : Bool) (file : File) (ps : List Pattern) (vs : List Verdict) → items_have_float (verdicts_data rest file ps vs) ≡ false
+no_verdict_floats rest file [] vs = refl
+no_verdict_floats rest file (p ∷ ps) [] = refl
+no_verdict_floats rest file (p ∷ ps) (v ∷ vs) = ap (λ b. b || items_have_float (verdicts_data rest file ps vs)) (no_verdict_float rest file p v) ∙ no_verdict_floats rest file ps vs
 
-pub no_floats : (file : File) (s : ReportSample) (vs : List Verdict) → has_float (report_data file s vs) ≡ false
-no_floats file s vs = ap (λ b. b || (items_have_float (verdicts_data file file.patterns vs) || false)) (no_sample_floats file s) ∙ ap (λ b. b || false) (no_verdict_floats file file.patterns vs)
+pub no_floats : (rest : Bool) (file : File) (pick : Pick) (s : ReportSample) (vs : List Verdict) → has_float (report_data rest file pick s vs) ≡ false
+no_floats rest file pick s vs = ap (λ b. b || (items_have_float (verdicts_data rest file (picked pick file.patterns) vs) || false)) (no_sample_floats file s) ∙ ap (λ b. b || false) (no_verdict_floats rest file (picked pick file.patterns) vs)

@@ -1,14 +1,18 @@
 -- What a printed line of a pattern says.
-use Rattle.ta_report.proofs.Common.{ℕ, ℤ, zero, suc, ◌+◌, ◌<◌, ◌^◌, ◌≡◌, ◌⊎◌, inl, inr, Bool, true, false, List, [], ◌∷◌, ◌++◌, map, codes, decimal, refl, sym, ap, subst, ◌∙◌, append_assoc, arith, lit<, slice_get, Some, signed_decimal, append_cancel_left, AllByRecursion, between, number_clear, each_at, each_front, word_avoids, apart_third, avoids-append, avoids_known, behind_line, differ, either_clear, first_byte, heads_apart, File, Pattern, PatternWithin, pattern_name, Value, lines_text, named_line, run_lines, run_text, valued_line, Avoids, number_avoids, each_run_line, run_clear, ReportKind, Pivot, Leaf, Run, ReportSample, Verdict, Safe, Unsafe, Spent, Overflow, is_proved, proofs_text, proofs_told, word_told, PlaceFits, SampleFits, VerdictFits, overflow_text, place_text, rest_word, run_part, sample_line, sample_text, spent_text, told_lines, told_text, values_text, verdict_text, word_before}
+use Rattle.ta_report.proofs.Common.{ℕ, ℤ, zero, suc, ◌+◌, ◌<◌, ◌^◌, ◌≡◌, ◌⊎◌, inl, inr, Bool, true, false, List, [], ◌∷◌, ◌++◌, map, codes, decimal, refl, sym, ap, subst, ◌∙◌, append_assoc, arith, lit<, slice_get, Some, signed_decimal, append_cancel_left, AllByRecursion, between, number_clear, each_at, each_front, word_avoids, apart_third, avoids-append, avoids_known, behind_line, differ, either_clear, first_byte, heads_apart, File, Pattern, Pick, entry_of, first_picked, picked, distinct_map_at, PatternWithin, pattern_name, Value, lines_text, named_line, run_lines, run_text, valued_line, Avoids, number_avoids, each_run_line, run_clear, ReportKind, Pivot, Leaf, Run, ReportSample, Verdict, Safe, Unsafe, Spent, Overflow, is_proved, proofs_text, proofs_told, word_told, PlaceFits, SampleFits, VerdictFits, overflow_text, place_text, rest_word, run_part, sample_line, sample_text, spent_text, told_lines, told_text, values_text, verdict_text, word_before}
 use Rattle.ta_base.specs.Lists.{Distinct}
 use Rattle.ta_automaton.specs.Names.{Name}
 use Rattle.ta_replay.specs.declared.run.Run.{Run as RunOf}
 use Rattle.ta_replay.specs.Fits.{Fits}
 use Rattle.ta_replay.proofs.Statements.{word_of}
 use Rattle.ta_report.specs.declared.verdict.ReportSample.TheVariants as sample
-use Rattle.ta_report.specs.Printed.{LineAt, PrintedProved, PrintedRestProved, PrintedRestSafe, PrintedRestUnsafe, PrintedSafe, PrintedUnsafe, told_of}
+use Rattle.std.specs.Prelude.{Option, None, IfSome, IsTrue}
+use Rattle.ta_report.specs.Check.{given_line}
+use Rattle.ta_report.specs.CheckJson.{proved_word}
+use Rattle.ta_report.specs.Printed.{HasLine, LineAt, PrintedRestSafe, PrintedRestUnsafe, PrintedSafe, PrintedUnsafe, told_of}
 use Rattle.ta_report.specs.PrintedRuns.{BeginsText, IsPlain, PrintedRuns, RunsArePrinted, unsafe_words}
 use Rattle.ta_report.proofs.Distinct.{sample_flat}
+use Rattle.ta_report.proofs.Picks.{each_picked, entry_picked, entry_there, picked_there}
 use Rattle.ta_base.proofs.Lists.{first_chosen}
 
 -- a line begins so, or one behind it does
@@ -148,6 +152,41 @@ said_at (q ∷ ps) (w ∷ ws) (suc k) p front behind names are distinct clears i
       | inr later ↦ (
           let found = said_at ps ws k p front behind names are.1 distinct.1 clears.1 is at later in
           record { said = found.said; at = found.at; rest = found.rest; next = found.next; same = found.same })
+    ]
+
+-- the pattern that a line tells of, and what the line says
+pub record SaidOf (ps : List Pattern) (ws : List Said) (name front behind : List ℕ) : Type 0 where
+  pub place : ℕ
+  pub pattern : Pattern
+  pub here : slice_get ps place ≡ Some pattern
+  pub named : pattern.name ≡ name
+  pub is : SaidAt ws place front behind
+
+said_of_line :
+    {P : Pattern → Type 0} (ps : List Pattern) (ws : List Said) (name front behind : List ℕ) → ((q : Pattern) → P q → Name q.name) → AllByRecursion P ps
+    → AllByRecursion IsSaid ws → Name name → LineAt (told_of name front) behind (lines_of ps ws) → SaidOf ps ws name front behind
+said_of_line [] ws name front behind names are clears is has = absurd (no_line (told_of name front) behind 112 _ refl has)
+said_of_line (q ∷ ps) [] name front behind names are clears is has = absurd (no_line (told_of name front) behind 112 _ refl has)
+said_of_line (q ∷ ps) (w ∷ ws) name front behind names are clears is has =
+    elim (first_or_later q w (lines_of ps ws) name front behind (names q are.0) clears.0 has) [
+      | inl here ↦ (
+          let same = told_same q.name name w.word front (10 ∷ (lines_text w.more ++ lines_of ps ws)) behind (names q are.0) is here in
+          record {
+            place = 0;
+            pattern = q;
+            here = refl;
+            named = same.0;
+            is = record { said = w; at = refl; rest = lines_of ps ws; next = lines_next ps ws; same = same.1 };
+          })
+      | inr later ↦ (
+          let found = said_of_line ps ws name front behind names are.1 clears.1 is later in
+          record {
+            place = suc found.place;
+            pattern = found.pattern;
+            here = found.here;
+            named = found.named;
+            is = record { said = found.is.said; at = found.is.at; rest = found.is.rest; next = found.is.next; same = found.is.same };
+          })
     ]
 
 -- the line of a pattern, and what stands behind it
@@ -327,57 +366,70 @@ within_name : (places locations : ℕ) (p : Pattern) → PatternWithin places lo
 within_name places locations p is = is.name
 
 -- the first lines of a report, and those behind them
-report_flat : (rest : Bool) (file : File) (x : ReportSample) (vs : List Verdict) → told_text rest file x vs ≡ (codes "automaton " ++ file.automaton.name) ++ (10 ∷ (first_plain file x ++ (10 ∷ lines_of file.patterns (map (said_of rest file) vs))))
-report_flat rest file x vs =
-    sym (append_assoc (codes "automaton ") file.automaton.name (10 ∷ (sample_line file x ++ told_lines rest file file.patterns vs)))
-    ∙ ap (λ behind. (codes "automaton " ++ file.automaton.name) ++ (10 ∷ behind)) (sample_flat file x (told_lines rest file file.patterns vs) ∙ ap (λ lines. first_plain file x ++ (10 ∷ lines)) (told_lines_are rest file file.patterns vs))
+report_flat :
+    (rest : Bool) (file : File) (pick : Pick) (x : ReportSample) (vs : List Verdict)
+    → told_text rest file pick x vs
+    ≡ (codes "automaton " ++ file.automaton.name) ++ (10 ∷ (first_plain file x ++ (10 ∷ lines_of (picked pick file.patterns) (map (said_of rest file) vs))))
+report_flat rest file pick x vs =
+    let ps = picked pick file.patterns in
+    sym (append_assoc (codes "automaton ") file.automaton.name (10 ∷ (sample_line file x ++ told_lines rest file ps vs)))
+    ∙ ap (λ behind. (codes "automaton " ++ file.automaton.name) ++ (10 ∷ behind)) (sample_flat file x (told_lines rest file ps vs) ∙ ap (λ lines. first_plain file x ++ (10 ∷ lines)) (told_lines_are rest file ps vs))
 
 -- the verdict that a line of a report tells, and what stands behind it
-pub record Told (rest : Bool) (file : File) (vs : List Verdict) (k : ℕ) (front behind : List ℕ) : Type 0 where
+pub record Told (rest : Bool) (file : File) (pick : Pick) (vs : List Verdict) (k : ℕ) (front behind : List ℕ) : Type 0 where
   pub verdict : Verdict
-  pub at : slice_get vs k ≡ Some verdict
+  pub at : entry_of pick vs k ≡ Some verdict
+  pub fit : VerdictFits file verdict
   pub later : List ℕ
   pub next : IsNext later
   pub same : (word_before rest verdict ++ verdict_text verdict) ++ (10 ∷ (lines_text (run_more file verdict) ++ later)) ≡ front ++ behind
 
-told_at : (rest : Bool) (file : File) (x : ReportSample) (vs : List Verdict) (k : ℕ) (p : Pattern) (front behind : List ℕ) → slice_get file.patterns k ≡ Some p → SampleFits file x → AllByRecursion (VerdictFits file) vs → LineAt (told_of p.name front) behind (told_text rest file x vs) → Told rest file vs k front behind
-told_at rest file x vs k p front behind at fit fits has =
-    let lines_behind = lines_of file.patterns (map (said_of rest file) vs) in
-    let later = behind_first file front behind (told_text rest file x vs) (first_plain file x ++ (10 ∷ lines_behind)) file.automaton.shape.name_legal (report_flat rest file x vs) p.name has in
+told_at :
+    (rest : Bool) (file : File) (pick : Pick) (x : ReportSample) (vs : List Verdict) (k : ℕ) (p : Pattern) (front behind : List ℕ)
+    → slice_get file.patterns k ≡ Some p → SampleFits file x → AllByRecursion (VerdictFits file) vs
+    → LineAt (told_of p.name front) behind (told_text rest file pick x vs) → Told rest file pick vs k front behind
+told_at rest file pick x vs k p front behind at fit fits has =
+    let ps = picked pick file.patterns in
+    let lines_behind = lines_of ps (map (said_of rest file) vs) in
+    let later = behind_first file front behind (told_text rest file pick x vs) (first_plain file x ++ (10 ∷ lines_behind)) file.automaton.shape.name_legal (report_flat rest file pick x vs) p.name has in
     let more : List (List ℕ) = first_plain file x ∷ [] in
     let lines = past_plain p.name front behind lines_behind more (sample_plain file x fit, tt) (subst (LineAt (told_of p.name front) behind) (sym (append_assoc (first_plain file x) (10 ∷ []) lines_behind)) later) in
     let name = within_name _ _ p (each_at _ file.patterns k p file.shape.within at) in
-    let found = said_at file.patterns (map (said_of rest file) vs) k p front behind (within_name _ _) file.shape.within file.shape.distinct (verdicts_clear rest file vs fits) name at lines in
-    let verdict = said_get rest file vs k found.said found.at in
+    let within = each_picked _ pick file.patterns file.shape.within in
+    let found = said_of_line ps (map (said_of rest file) vs) p.name front behind (within_name _ _) within (verdicts_clear rest file vs fits) name lines in
+    let verdict = said_get rest file vs found.place found.is.said found.is.at in
+    let there = picked_there pick file.patterns found.place found.pattern found.here in
+    let number : first_picked pick + found.place ≡ k = distinct_map_at pattern_name file.patterns (first_picked pick + found.place) k found.pattern p file.shape.distinct there at found.named in
     record {
       verdict = verdict.0;
-      at = verdict.1;
-      later = found.rest;
-      next = found.next;
-      same = ap (λ (s : Said). s.word ++ (10 ∷ (lines_text s.more ++ found.rest))) verdict.2 ∙ found.same;
+      at = ap (entry_of pick vs) (sym number) ∙ entry_there pick file.patterns vs found.place found.pattern verdict.0 found.here verdict.1;
+      fit = each_at (VerdictFits file) vs found.place verdict.0 fits verdict.1;
+      later = found.is.rest;
+      next = found.is.next;
+      same = ap (λ (s : Said). s.word ++ (10 ∷ (lines_text s.more ++ found.is.rest))) verdict.2 ∙ found.is.same;
     }
 
 pub printed_safe : PrintedSafe
-printed_safe file x vs k p at fit fits has =
-    let told = told_at false file x vs k p (codes "safe, ") has.0 at fit fits has.1 in
+printed_safe file pick x vs k p at fit fits has =
+    let told = told_at false file pick x vs k p (codes "safe, ") has.0 at fit fits has.1 in
     let word = safe_word told.verdict (lines_text (run_more file told.verdict) ++ told.later) has.0 told.same in
     (word.0, word.1, told.at ∙ ap Some word.2)
 
 pub printed_unsafe : PrintedUnsafe
-printed_unsafe file x vs k p at fit fits has =
-    let told = told_at false file x vs k p (codes "unsafe, ") has.0 at fit fits has.1 in
+printed_unsafe file pick x vs k p at fit fits has =
+    let told = told_at false file pick x vs k p (codes "unsafe, ") has.0 at fit fits has.1 in
     let word = unsafe_word told.verdict (lines_text (run_more file told.verdict) ++ told.later) has.0 told.same in
     (word.0, word.1, told.at ∙ ap Some word.2)
 
 pub printed_rest_safe : PrintedRestSafe
-printed_rest_safe file x vs k p at fit fits has =
-    let told = told_at true file x vs k p (codes "rest safe, ") has.0 at fit fits has.1 in
+printed_rest_safe file pick x vs k p at fit fits has =
+    let told = told_at true file pick x vs k p (codes "rest safe, ") has.0 at fit fits has.1 in
     let word = rest_safe_word told.verdict (lines_text (run_more file told.verdict) ++ told.later) has.0 told.same in
     (word.0, word.1, told.at ∙ ap Some word.2)
 
 pub printed_rest_unsafe : PrintedRestUnsafe
-printed_rest_unsafe file x vs k p at fit fits has =
-    let told = told_at true file x vs k p (codes "rest unsafe, ") has.0 at fit fits has.1 in
+printed_rest_unsafe file pick x vs k p at fit fits has =
+    let told = told_at true file pick x vs k p (codes "rest unsafe, ") has.0 at fit fits has.1 in
     let word = rest_unsafe_word told.verdict (lines_text (run_more file told.verdict) ++ told.later) has.0 told.same in
     (word.0, word.1, told.at ∙ ap Some word.2)
 
@@ -388,15 +440,17 @@ unsafe_said true nodes run = refl
 
 -- the text of a run stands behind the line of its pattern
 pub runs_printed : RunsArePrinted
-runs_printed rest file x vs k p at fit fits nodes run is =
+runs_printed rest file pick x vs k p at fit fits nodes run is =
     let v : Verdict = Unsafe nodes run in
-    let fit_of : VerdictFits file v = each_at (VerdictFits file) vs k v fits is in
-    let found = stands_at file.patterns (map (said_of rest file) vs) k p (said_of rest file v) at (verdict_get rest file vs k v is) in
+    let ps = picked pick file.patterns in
+    let here = entry_picked pick file.patterns vs k p v at is in
+    let fit_of : VerdictFits file v = each_at (VerdictFits file) vs here.place v fits here.entry in
+    let found = stands_at ps (map (said_of rest file) vs) here.place p (said_of rest file v) here.item (verdict_get rest file vs here.place v here.entry) in
     let front = told_of p.name (word_before rest v ++ verdict_text v) in
     let words = decimal nodes ++ codes " nodes" in
     let behind = 10 ∷ (run_text file run ++ found.rest) in
-    let lines = lines_of file.patterns (map (said_of rest file) vs) in
-    let stands = subst (LineAt front behind) (sym (report_flat rest file x vs)) (later_line front behind (codes "automaton " ++ file.automaton.name) (first_plain file x ++ (10 ∷ lines)) (later_line front behind (first_plain file x) lines found.stands)) in
+    let lines = lines_of ps (map (said_of rest file) vs) in
+    let stands = subst (LineAt front behind) (sym (report_flat rest file pick x vs)) (later_line front behind (codes "automaton " ++ file.automaton.name) (first_plain file x ++ (10 ∷ lines)) (later_line front behind (first_plain file x) lines found.stands)) in
     record {
       lines = run_lines file run;
       bytes_are = refl;
@@ -405,7 +459,7 @@ runs_printed rest file x vs k p at fit fits nodes run is =
       no_feed = avoids-append 10 (decimal nodes) (codes " nodes") (number_clear nodes fit_of.0) (avoids_known 10 (codes " nodes") refl);
       behind = found.rest;
       ends = found.next;
-      stands = subst (λ (said : List ℕ). LineAt (told_of p.name said) behind (told_text rest file x vs)) (unsafe_said rest nodes run) stands;
+      stands = subst (λ (said : List ℕ). LineAt (told_of p.name said) behind (told_text rest file pick x vs)) (unsafe_said rest nodes run) stands;
     }
 
 -- plain lines up to the next pattern, or to the end, are determined
@@ -440,10 +494,9 @@ run_of_word rest file v later words bytes behind fits free lines are plain next 
     (is.0, is.1, is.2, are ∙ sym same ∙ sym (more_text file v) ∙ ap (run_part file) is.2)
 
 pub printed_runs : PrintedRuns
-printed_runs rest file x vs k p at fit_sample fits bytes part =
-    let told = told_at rest file x vs k p (unsafe_words rest ++ part.words) (10 ∷ (bytes ++ part.behind)) at fit_sample fits part.stands in
-    let fit : VerdictFits file told.verdict = each_at (VerdictFits file) vs k told.verdict fits told.at in
-    let is = run_of_word rest file told.verdict told.later part.words bytes part.behind fit part.no_feed part.lines part.bytes_are part.plain told.next part.ends told.same in
+printed_runs rest file pick x vs k p at fit_sample fits bytes part =
+    let told = told_at rest file pick x vs k p (unsafe_words rest ++ part.words) (10 ∷ (bytes ++ part.behind)) at fit_sample fits part.stands in
+    let is = run_of_word rest file told.verdict told.later part.words bytes part.behind told.fit part.no_feed part.lines part.bytes_are part.plain told.next part.ends told.same in
     (is.0, is.1, told.at ∙ ap Some is.2, is.3)
 
 -- the lines of `check`, and of `rest-check`
@@ -474,25 +527,36 @@ record ProofTold (rest : Bool) (numbers : List ℕ) (k : ℕ) (front behind : Li
   later : List ℕ
   same : word_told rest numbers k ++ (10 ∷ later) ≡ front ++ behind
 
-proof_told : (rest : Bool) (file : File) (numbers : List ℕ) (k : ℕ) (p : Pattern) (front behind : List ℕ) → slice_get file.patterns k ≡ Some p → LineAt (told_of p.name front) behind (proofs_text rest file numbers) → ProofTold rest numbers k front behind
-proof_told rest file numbers k p front behind at has =
+-- the line of the parameters, if it is there, tells of no pattern
+given_past : (file : File) (x : Option ReportSample) (told name front behind : List ℕ) → IfSome x (SampleFits file)
+    → LineAt (told_of name front) behind (given_line file x ++ told) → LineAt (told_of name front) behind told
+given_past file None told name front behind fits at = at
+given_past file (Some x) told name front behind fits at =
+    past_plain name front behind told (first_plain file x ∷ []) (sample_plain file x fits, tt)
+    (subst (LineAt (told_of name front) behind) (sample_flat file x told ∙ sym (append_assoc (first_plain file x) (10 ∷ []) told)) at)
+
+proof_told : (rest : Bool) (file : File) (x : Option ReportSample) (numbers : List ℕ) (k : ℕ) (p : Pattern) (front behind : List ℕ) → slice_get file.patterns k ≡ Some p → IfSome x (SampleFits file)
+    → LineAt (told_of p.name front) behind (proofs_text rest file x numbers) → ProofTold rest numbers k front behind
+proof_told rest file x numbers k p front behind at fits has =
     let told = proofs_told rest numbers 0 file.patterns in
-    let flat : (codes "automaton " ++ (file.automaton.name ++ codes "\n")) ++ told ≡ (codes "automaton " ++ file.automaton.name) ++ (10 ∷ told) =
-    ap (λ t. codes "automaton " ++ t) (append_assoc file.automaton.name (codes "\n") told) ∙ sym (append_assoc (codes "automaton ") file.automaton.name (10 ∷ told)) in
-    let lines = subst (LineAt (told_of p.name front) behind) (proofs_told_are rest numbers 0 file.patterns) (behind_first file front behind _ told file.automaton.shape.name_legal flat p.name has) in
+    let more = given_line file x ++ told in
+    let flat : (codes "automaton " ++ (file.automaton.name ++ codes "\n")) ++ more ≡ (codes "automaton " ++ file.automaton.name) ++ (10 ∷ more) =
+    ap (λ t. codes "automaton " ++ t) (append_assoc file.automaton.name (codes "\n") more) ∙ sym (append_assoc (codes "automaton ") file.automaton.name (10 ∷ more)) in
+    let later = behind_first file front behind _ more file.automaton.shape.name_legal flat p.name has in
+    let lines = subst (LineAt (told_of p.name front) behind) (proofs_told_are rest numbers 0 file.patterns) (given_past file x told p.name front behind fits later) in
     let name = within_name _ _ p (each_at _ file.patterns k p file.shape.within at) in
     let found = said_at file.patterns (words_from rest numbers 0 file.patterns) k p front behind (within_name _ _) file.shape.within file.shape.distinct (words_clear rest numbers 0 file.patterns) name at lines in
     let word = word_at rest numbers 0 file.patterns k found.said found.at in
-    let later = lines_text found.said.more ++ found.rest in
+    let after = lines_text found.said.more ++ found.rest in
     let number : 0 + k ≡ k = omega arith in
-    record { later = later; same = ap (λ (n : ℕ). word_told rest numbers n ++ (10 ∷ later)) (sym number) ∙ ap (λ w. w ++ (10 ∷ later)) word ∙ found.same }
+    record { later = after; same = ap (λ (n : ℕ). word_told rest numbers n ++ (10 ∷ after)) (sym number) ∙ ap (λ w. w ++ (10 ∷ after)) word ∙ found.same }
 
-pub printed_proved : PrintedProved
-printed_proved file numbers k p at has =
-    let told = proof_told false file numbers k p (codes "proved") has.0 at has.1 in
+-- a pattern that a line calls proved is one of the proved ones
+pub printed_proved : (rest : Bool) (file : File) (x : Option ReportSample) (numbers : List ℕ) (k : ℕ) (p : Pattern) → slice_get file.patterns k ≡ Some p → IfSome x (SampleFits file)
+    → HasLine (told_of p.name (proved_word rest)) (proofs_text rest file x numbers) → IsTrue (is_proved numbers k)
+printed_proved false file x numbers k p at fits has =
+    let told = proof_told false file x numbers k p (codes "proved") has.0 at fits has.1 in
     first_chosen (is_proved numbers k) (codes "proved") (codes "not proved") (10 ∷ told.later) has.0 told.same (heads_apart 110 112 _ _ (inl (lit< tt)))
-
-pub printed_rest_proved : PrintedRestProved
-printed_rest_proved file numbers k p at has =
-    let told = proof_told true file numbers k p (codes "rest proved") has.0 at has.1 in
+printed_proved true file x numbers k p at fits has =
+    let told = proof_told true file x numbers k p (codes "rest proved") has.0 at fits has.1 in
     first_chosen (is_proved numbers k) (codes "rest proved") (codes "not rest proved") (10 ∷ told.later) has.0 told.same (heads_apart 110 114 _ _ (inl (lit< tt)))

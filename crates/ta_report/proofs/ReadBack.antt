@@ -1,5 +1,5 @@
 -- The line of JSON is read as the report.
-use Rattle.ta_report.proofs.Common.{ℕ, ℤ, suc, ◌≤◌, ◌≡◌, List, [], ◌∷◌, ◌++◌, codes, refl, sym, ap, ◌∙◌, arith, append-nil, Option, Some, option_map, option_and_then, signed_decimal, read, of_json, of_items, of_members, compact_text, outline, items_outline, members_outline, File, Pattern, run_lines, ReportSample, Verdict, Safe, Unsafe, Spent, Overflow, JsonIsRead, digits_data, report_data, sample_data, texts_data, value_data, values_data, verdict_data, verdict_member, verdicts_data}
+use Rattle.ta_report.proofs.Common.{ℕ, ℤ, suc, ◌≤◌, ◌≡◌, List, [], ◌∷◌, ◌++◌, codes, refl, sym, ap, ◌∙◌, arith, append-nil, Option, Some, option_map, option_and_then, signed_decimal, read, of_json, of_items, of_members, compact_text, outline, items_outline, members_outline, Bool, File, Pattern, Pick, picked, unsafe_word, run_lines, ReportSample, Verdict, Safe, Unsafe, Spent, Overflow, JsonIsRead, digits_data, report_data, sample_data, texts_data, value_data, values_data, verdict_data, verdict_member, verdicts_data}
 use Rattle.json.specs.Token.{Token}
 use Rattle.json.specs.Lex.{tokens}
 use Rattle.json.specs.Json as grammar
@@ -21,13 +21,13 @@ pub record AreRead (ds : json.Items) (deep : ℕ) : Type 0 where
   pub shallow : items_depth (items_outline ds) ≤ deep
   pub same : of_items (items_outline ds) ≡ Some ds
 
-text_read : (text : List ℕ) (deep : ℕ) → IsRead (json.string text) deep
+pub text_read : (text : List ℕ) (deep : ℕ) → IsRead (json.string text) deep
 text_read text deep = record { numbers = tt; shallow = omega arith; same = refl }
 
-none_read : (deep : ℕ) → AreRead json.no_items deep
+pub none_read : (deep : ℕ) → AreRead json.no_items deep
 none_read deep = record { numbers = tt; shallow = omega arith; same = refl }
 
-item_read : (d : json.Data) (ds : json.Items) (deep : ℕ) → IsRead d deep → AreRead ds deep → AreRead (json.item d ds) deep
+pub item_read : (d : json.Data) (ds : json.Items) (deep : ℕ) → IsRead d deep → AreRead ds deep → AreRead (json.item d ds) deep
 item_read d ds deep is are =
     let low = is.shallow in
     let lows = are.shallow in
@@ -37,14 +37,14 @@ item_read d ds deep is are =
       same = ap (option_and_then (λ e. option_map (json.item e) (of_items (items_outline ds)))) is.same ∙ ap (option_map (json.item d)) are.same;
     }
 
-array_read : (ds : json.Items) (deep : ℕ) → AreRead ds deep → IsRead (json.array ds) (suc deep)
+pub array_read : (ds : json.Items) (deep : ℕ) → AreRead ds deep → IsRead (json.array ds) (suc deep)
 array_read ds deep are = let low = are.shallow in record { numbers = are.numbers; shallow = omega arith; same = ap (option_map json.array) are.same }
 
 -- one member of an object is read
-member_step : (k : List ℕ) (d : json.Data) (deep : ℕ) (ms found : json.Members) → IsRead d deep → of_members (members_outline (json.member k d ms)) found ≡ of_members (members_outline ms) (json.put k d found)
+pub member_step : (k : List ℕ) (d : json.Data) (deep : ℕ) (ms found : json.Members) → IsRead d deep → of_members (members_outline (json.member k d ms)) found ≡ of_members (members_outline ms) (json.put k d found)
 member_step k d deep ms found is = ap (option_and_then (λ e. of_members (members_outline ms) (json.put k e found))) is.same
 
-object_same : (ms : json.Members) → of_members (members_outline ms) json.no_members ≡ Some ms → of_json (outline (json.object ms)) ≡ Some (json.object ms)
+pub object_same : (ms : json.Members) → of_members (members_outline ms) json.no_members ≡ Some ms → of_json (outline (json.object ms)) ≡ Some (json.object ms)
 object_same ms e = ap (option_map json.object) e
 
 texts_read : (texts : List (List ℕ)) (deep : ℕ) → AreRead (texts_data texts) deep
@@ -56,7 +56,7 @@ values_read [] vs = none_read 1
 values_read (n ∷ ns) [] = none_read 1
 values_read (n ∷ ns) (v ∷ vs) = item_read (value_data n v) (values_data ns vs) 1 (array_read (texts_data (n ∷ signed_decimal v ∷ [])) 0 (texts_read (n ∷ signed_decimal v ∷ []) 0)) (values_read ns vs)
 
-sample_read : (file : File) (s : ReportSample) → IsRead (sample_data file s) 3
+pub sample_read : (file : File) (s : ReportSample) → IsRead (sample_data file s) 3
 sample_read file (sample.Sample values) =
     let first = array_read (values_data file.automaton.parameters values) 1 (values_read file.automaton.parameters values) in
     let low = first.shallow in
@@ -72,16 +72,16 @@ sample_read file sample.Empty = record { numbers = (tt, tt); shallow = omega ari
 sample_read file (sample.Spent count) = record { numbers = (tt, (tt, tt)); shallow = omega arith; same = refl }
 sample_read file (sample.Overflow node kind) = record { numbers = (tt, (tt, (tt, tt))); shallow = omega arith; same = refl }
 
-verdict_read : (file : File) (p : Pattern) (v : Verdict) → IsRead (verdict_data file p v) 2
-verdict_read file p (Safe nodes leaves) = record { numbers = (tt, (tt, (tt, (tt, tt)))); shallow = omega arith; same = refl }
-verdict_read file p (Unsafe nodes run) =
+verdict_read : (rest : Bool) (file : File) (p : Pattern) (v : Verdict) → IsRead (verdict_data rest file p v) 2
+verdict_read rest file p (Safe nodes leaves) = record { numbers = (tt, (tt, (tt, (tt, tt)))); shallow = omega arith; same = refl }
+verdict_read rest file p (Unsafe nodes run) =
     let lines = texts_data (run_lines file run) in
     let third = array_read lines 0 (texts_read (run_lines file run) 0) in
     let low = third.shallow in
     let name = json.string p.name in
     let number = digits_data nodes in
     let after_two = json.member (codes "name") name (json.member (codes "nodes") number json.no_members) in
-    let last = verdict_member (codes "unsafe") in
+    let last = verdict_member (unsafe_word rest) in
     let two : of_members (members_outline (json.member (codes "name") name (json.member (codes "nodes") number (json.member (codes "run") (json.array lines) last)))) json.no_members ≡ of_members (members_outline (json.member (codes "run") (json.array lines) last)) after_two = refl in
     record {
       numbers = (tt, (tt, (third.numbers, (tt, tt))));
@@ -89,23 +89,23 @@ verdict_read file p (Unsafe nodes run) =
       same = object_same (json.member (codes "name") name (json.member (codes "nodes") number (json.member (codes "run") (json.array lines) last)))
           (two ∙ member_step (codes "run") (json.array lines) 1 last after_two third);
     }
-verdict_read file p (Spent nodes) = record { numbers = (tt, (tt, (tt, tt))); shallow = omega arith; same = refl }
-verdict_read file p (Overflow node kind) = record { numbers = (tt, (tt, (tt, (tt, tt)))); shallow = omega arith; same = refl }
+verdict_read rest file p (Spent nodes) = record { numbers = (tt, (tt, (tt, tt))); shallow = omega arith; same = refl }
+verdict_read rest file p (Overflow node kind) = record { numbers = (tt, (tt, (tt, (tt, tt)))); shallow = omega arith; same = refl }
 
-verdicts_read : (file : File) (ps : List Pattern) (vs : List Verdict) → AreRead (verdicts_data file ps vs) 2
-verdicts_read file [] vs = none_read 2
-verdicts_read file (p ∷ ps) [] = none_read 2
-verdicts_read file (p ∷ ps) (v ∷ vs) = item_read (verdict_data file p v) (verdicts_data file ps vs) 2 (verdict_read file p v) (verdicts_read file ps vs)
+verdicts_read : (rest : Bool) (file : File) (ps : List Pattern) (vs : List Verdict) → AreRead (verdicts_data rest file ps vs) 2
+verdicts_read rest file [] vs = none_read 2
+verdicts_read rest file (p ∷ ps) [] = none_read 2
+verdicts_read rest file (p ∷ ps) (v ∷ vs) = item_read (verdict_data rest file p v) (verdicts_data rest file ps vs) 2 (verdict_read rest file p v) (verdicts_read rest file ps vs)
 
-report_read : (file : File) (s : ReportSample) (vs : List Verdict) → IsRead (report_data file s vs) 4
-report_read file s vs =
+report_read : (rest : Bool) (file : File) (pick : Pick) (s : ReportSample) (vs : List Verdict) → IsRead (report_data rest file pick s vs) 4
+report_read rest file pick s vs =
     let second = sample_read file s in
-    let third = array_read (verdicts_data file file.patterns vs) 2 (verdicts_read file file.patterns vs) in
+    let third = array_read (verdicts_data rest file (picked pick file.patterns) vs) 2 (verdicts_read rest file (picked pick file.patterns) vs) in
     let low = second.shallow in
     let lows = third.shallow in
     let name = json.string file.automaton.name in
     let parameters = sample_data file s in
-    let patterns = json.array (verdicts_data file file.patterns vs) in
+    let patterns = json.array (verdicts_data rest file (picked pick file.patterns) vs) in
     let last = json.member (codes "patterns") patterns json.no_members in
     let one = json.member (codes "automaton") name json.no_members in
     let two = json.member (codes "automaton") name (json.member (codes "parameters") parameters json.no_members) in
@@ -118,7 +118,7 @@ report_read file s vs =
     }
 
 -- what is read back
-read_back : (d : json.Data) (deep : ℕ) → deep ≤ 127 → IsRead d deep → read (compact_text d) ≡ Some d
+pub read_back : (d : json.Data) (deep : ℕ) → deep ≤ 127 → IsRead d deep → read (compact_text d) ≡ Some d
 read_back d deep most is =
     let low = is.shallow in
     let j = outline d in
@@ -127,4 +127,4 @@ read_back d deep most is =
     ap (λ ts. whole (grammar.value 127 ts)) texts ∙ ap whole (value-json_tokens j 127 [] (omega arith)) ∙ is.same
 
 pub json_read : JsonIsRead
-json_read file s vs = read_back (report_data file s vs) 4 (omega arith) (report_read file s vs)
+json_read rest file pick s vs = read_back (report_data rest file pick s vs) 4 (omega arith) (report_read rest file pick s vs)

@@ -1,8 +1,10 @@
 -- The texts that `check` and `rest-check` print.
-use Rattle.std.specs.Prelude.{ℕ, ◌+◌, ◌==◌, Bool, true, false, List, [], ◌∷◌, ◌++◌, codes, if◌then◌else◌}
+use Rattle.std.specs.Prelude.{ℕ, ◌+◌, ◌==◌, Bool, true, false, List, [], ◌∷◌, ◌++◌, codes, if◌then◌else◌, Option, None, Some}
 use Rattle.std.specs.List.{list_any}
 use Rattle.ta_automaton.specs.declared.pattern.Pattern.{Pattern}
 use Rattle.ta_automaton.specs.declared.file.File.{File}
+use Rattle.ta_report.specs.declared.verdict.ReportSample.{ReportSample}
+use Rattle.ta_report.specs.Report.{sample_line}
 
 -- whether a number is one of those of the patterns that are proved
 abbrev pub is_proved : List ℕ → ℕ → Bool
@@ -18,14 +20,12 @@ abbrev pub proofs_told : Bool → List ℕ → ℕ → List Pattern → List ℕ
 proofs_told rest numbers number [] = []
 proofs_told rest numbers number (p ∷ ps) = (codes "pattern " ++ (p.name ++ (codes ": " ++ (word_told rest numbers number ++ codes "\n")))) ++ proofs_told rest numbers (number + 1) ps
 
--- the text that says which patterns of a file are proved
-abbrev pub proofs_text : Bool → File → List ℕ → List ℕ
-proofs_text rest file numbers = (codes "automaton " ++ (file.automaton.name ++ codes "\n")) ++ proofs_told rest numbers 0 file.patterns
+-- the line of the parameters, if a sample of them is given
+abbrev pub given_line : File → Option ReportSample → List ℕ
+given_line file None = []
+given_line file (Some s) = sample_line file s
 
--- the text of `check` where the patterns of these numbers are proved
-abbrev pub check_text : File → List ℕ → List ℕ
-check_text file numbers = proofs_text false file numbers
-
--- that of `rest-check`, with `rest proved` and `not rest proved`
-abbrev pub rest_check_text : File → List ℕ → List ℕ
-rest_check_text file numbers = proofs_text true file numbers
+-- the text that says which patterns of a file are proved: those of these numbers; as `check` says it, or with `rest proved` and
+-- `not rest proved`, as `rest-check` does
+abbrev pub proofs_text : Bool → File → Option ReportSample → List ℕ → List ℕ
+proofs_text rest file s numbers = (codes "automaton " ++ (file.automaton.name ++ codes "\n")) ++ (given_line file s ++ proofs_told rest numbers 0 file.patterns)

@@ -1,6 +1,6 @@
--- The report of `verify` as one line of JSON (RFC 8259): an object whose members are in the byte order of their keys. A number is the text
--- of its digits.
-use Rattle.std.specs.Prelude.{ℕ, ℤ, ◌≡◌, List, [], ◌∷◌, ◌++◌, codes, decimal, length, slice_get, Some}
+-- The report of `verify`, or that of `rest`, as one line of JSON (RFC 8259): an object whose members are in the byte order of their keys. A
+-- number is the text of its digits.
+use Rattle.std.specs.Prelude.{ℕ, ℤ, ◌≡◌, Bool, List, [], ◌∷◌, ◌++◌, codes, decimal, length, slice_get, Some}
 use Rattle.std.specs.Fmt.{signed_decimal}
 use Rattle.std.specs.List.{AllByRecursion}
 use Rattle.serde_json.specs.Data as json
@@ -11,12 +11,14 @@ use Rattle.ta_automaton.specs.declared.file.File.{File}
 use Rattle.ta_automaton.specs.declared.pattern.Pattern.{Pattern}
 use Rattle.ta_replay.specs.declared.run.Run.{Run}
 use Rattle.ta_replay.specs.RunText.{lines_text, run_lines, run_text}
+use Rattle.ta_report.specs.Picked.{entry_of, picked}
+use Rattle.ta_report.specs.declared.pick.Pick.{Pick}
 use Rattle.ta_report.specs.declared.verdict.ReportKind.{ReportKind}
 use Rattle.ta_report.specs.declared.verdict.ReportSample.{ReportSample}
 use Rattle.ta_report.specs.declared.verdict.ReportSample.TheVariants as sample
 use Rattle.ta_report.specs.declared.verdict.Verdict.{Verdict}
 use Rattle.ta_report.specs.declared.verdict.Verdict.TheVariants.{Safe, Unsafe, Spent, Overflow}
-use Rattle.ta_report.specs.Report.{SampleFits, VerdictFits, place_text}
+use Rattle.ta_report.specs.Report.{SampleFits, VerdictFits, place_text, safe_word, unsafe_word}
 
 -- a number
 abbrev pub digits_data : ℕ → json.Data
@@ -64,47 +66,50 @@ sample_data file (sample.Spent count) = json.object (spent_members count)
 sample_data file (sample.Overflow node kind) = json.object (place_members node kind)
 
 -- what is said of a pattern
-abbrev pub verdict_data : File → Pattern → Verdict → json.Data
-verdict_data file p (Safe nodes leaves) =
+abbrev pub verdict_data : Bool → File → Pattern → Verdict → json.Data
+verdict_data rest file p (Safe nodes leaves) =
     json.object (json.member (codes "leaves") (digits_data leaves)
     (json.member (codes "name") (json.string p.name)
     (json.member (codes "nodes") (digits_data nodes)
-    (verdict_member (codes "safe")))))
-verdict_data file p (Unsafe nodes run) =
+    (verdict_member (safe_word rest)))))
+verdict_data rest file p (Unsafe nodes run) =
     json.object (json.member (codes "name") (json.string p.name)
     (json.member (codes "nodes") (digits_data nodes)
     (json.member (codes "run") (json.array (texts_data (run_lines file run)))
-    (verdict_member (codes "unsafe")))))
-verdict_data file p (Spent nodes) = json.object (json.member (codes "name") (json.string p.name) (spent_members nodes))
-verdict_data file p (Overflow node kind) = json.object (json.member (codes "name") (json.string p.name) (place_members node kind))
+    (verdict_member (unsafe_word rest)))))
+verdict_data rest file p (Spent nodes) = json.object (json.member (codes "name") (json.string p.name) (spent_members nodes))
+verdict_data rest file p (Overflow node kind) = json.object (json.member (codes "name") (json.string p.name) (place_members node kind))
 
 -- for each pattern, in order
-abbrev pub verdicts_data : File → List Pattern → List Verdict → json.Items
-verdicts_data file [] vs = json.no_items
-verdicts_data file (p ∷ ps) [] = json.no_items
-verdicts_data file (p ∷ ps) (v ∷ vs) = json.item (verdict_data file p v) (verdicts_data file ps vs)
+abbrev pub verdicts_data : Bool → File → List Pattern → List Verdict → json.Items
+verdicts_data rest file [] vs = json.no_items
+verdicts_data rest file (p ∷ ps) [] = json.no_items
+verdicts_data rest file (p ∷ ps) (v ∷ vs) = json.item (verdict_data rest file p v) (verdicts_data rest file ps vs)
 
--- the report of a sample of the parameters and a verdict for each pattern
-abbrev pub report_data : File → ReportSample → List Verdict → json.Data
-report_data file s verdicts =
+-- the report of a sample of the parameters and a verdict for each picked pattern, or that of `rest`
+abbrev pub report_data : Bool → File → Pick → ReportSample → List Verdict → json.Data
+report_data rest file pick s verdicts =
     json.object (json.member (codes "automaton") (json.string file.automaton.name)
     (json.member (codes "parameters") (sample_data file s)
-    (one_member (codes "patterns") (json.array (verdicts_data file file.patterns verdicts)))))
+    (one_member (codes "patterns") (json.array (verdicts_data rest file (picked pick file.patterns) verdicts)))))
 
 -- its line
-abbrev pub json_text : File → ReportSample → List Verdict → List ℕ
-json_text file s verdicts = compact_text (report_data file s verdicts) ++ codes "\n"
+abbrev pub json_text : Bool → File → Pick → ReportSample → List Verdict → List ℕ
+json_text rest file pick s verdicts = compact_text (report_data rest file pick s verdicts) ++ codes "\n"
 
 -- the line is read as the report
 abbrev pub JsonIsRead : Type 0
-JsonIsRead = (file : File) (s : ReportSample) (verdicts : List Verdict) → read (compact_text (report_data file s verdicts)) ≡ Some (report_data file s verdicts)
+JsonIsRead =
+    (rest : Bool) (file : File) (pick : Pick) (s : ReportSample) (verdicts : List Verdict)
+    → read (compact_text (report_data rest file pick s verdicts)) ≡ Some (report_data rest file pick s verdicts)
 
 -- if the lines of two results for a file have one text, they have the same sample and the same verdicts, with the same runs
 abbrev pub JsonIsDistinct : Type 0
 JsonIsDistinct =
-    (file : File) (s t : ReportSample) (vs ws : List Verdict) → length vs ≡ length file.patterns → length ws ≡ length file.patterns
+    (rest : Bool) (file : File) (pick : Pick) (s t : ReportSample) (vs ws : List Verdict)
+    → length vs ≡ length (picked pick file.patterns) → length ws ≡ length (picked pick file.patterns)
     → SampleFits file s → SampleFits file t → AllByRecursion (VerdictFits file) vs → AllByRecursion (VerdictFits file) ws
-    → json_text file s vs ≡ json_text file t ws
+    → json_text rest file pick s vs ≡ json_text rest file pick t ws
     → (s ≡ t) × (vs ≡ ws)
 
 -- a text is a line that is read as an object, which has an object in its list `patterns` with this name and this verdict
@@ -121,9 +126,9 @@ pub record JsonSays (name verdict text : List ℕ) : Type 0 where
   pub named : get (codes "name") found ≡ Some (json.string name)
   pub told : get (codes "verdict") found ≡ Some (json.string verdict)
 
--- and the object has these lines as its run
-pub record JsonRun (name bytes text : List ℕ) : Type 0 where
-  pub says : JsonSays name (codes "unsafe") text
+-- and the object, whose verdict is this word, has these lines as its run
+pub record JsonRun (verdict name bytes text : List ℕ) : Type 0 where
+  pub says : JsonSays name verdict text
   pub lines : List (List ℕ)
   pub has : get (codes "run") says.found ≡ Some (json.array (texts_data lines))
   pub bytes_are : bytes ≡ lines_text lines
@@ -131,20 +136,24 @@ pub record JsonRun (name bytes text : List ℕ) : Type 0 where
 -- a pattern that the line calls safe has the verdict Safe
 abbrev pub JsonSafe : Type 0
 JsonSafe =
-    (file : File) (s : ReportSample) (verdicts : List Verdict) (number : ℕ) (pattern : Pattern) → slice_get file.patterns number ≡ Some pattern
-    → JsonSays pattern.name (codes "safe") (json_text file s verdicts)
-    → (nodes : ℕ) × (leaves : ℕ) × (slice_get verdicts number ≡ Some (Safe nodes leaves))
+    (rest : Bool) (file : File) (pick : Pick) (s : ReportSample) (verdicts : List Verdict) (number : ℕ) (pattern : Pattern)
+    → slice_get file.patterns number ≡ Some pattern
+    → JsonSays pattern.name (safe_word rest) (json_text rest file pick s verdicts)
+    → (nodes : ℕ) × (leaves : ℕ) × (entry_of pick verdicts number ≡ Some (Safe nodes leaves))
 
 -- a pattern that the line calls unsafe has the verdict Unsafe, and the lines of its run are there
 abbrev pub JsonUnsafe : Type 0
 JsonUnsafe =
-    (file : File) (s : ReportSample) (verdicts : List Verdict) (number : ℕ) (pattern : Pattern) → slice_get file.patterns number ≡ Some pattern
-    → JsonSays pattern.name (codes "unsafe") (json_text file s verdicts)
-    → (nodes : ℕ) × (run : Run) × (slice_get verdicts number ≡ Some (Unsafe nodes run)) × JsonRun pattern.name (run_text file run) (json_text file s verdicts)
+    (rest : Bool) (file : File) (pick : Pick) (s : ReportSample) (verdicts : List Verdict) (number : ℕ) (pattern : Pattern)
+    → slice_get file.patterns number ≡ Some pattern
+    → JsonSays pattern.name (unsafe_word rest) (json_text rest file pick s verdicts)
+    → (nodes : ℕ) × (run : Run) × (entry_of pick verdicts number ≡ Some (Unsafe nodes run))
+    × JsonRun (unsafe_word rest) pattern.name (run_text file run) (json_text rest file pick s verdicts)
 
 -- and only these lines are there as its run
 abbrev pub JsonRuns : Type 0
 JsonRuns =
-    (file : File) (s : ReportSample) (verdicts : List Verdict) (number : ℕ) (pattern : Pattern) → slice_get file.patterns number ≡ Some pattern
-    → (bytes : List ℕ) → JsonRun pattern.name bytes (json_text file s verdicts)
-    → (nodes : ℕ) × (run : Run) × (slice_get verdicts number ≡ Some (Unsafe nodes run)) × (bytes ≡ run_text file run)
+    (rest : Bool) (file : File) (pick : Pick) (s : ReportSample) (verdicts : List Verdict) (number : ℕ) (pattern : Pattern)
+    → slice_get file.patterns number ≡ Some pattern
+    → (bytes : List ℕ) → JsonRun (unsafe_word rest) pattern.name bytes (json_text rest file pick s verdicts)
+    → (nodes : ℕ) × (run : Run) × (entry_of pick verdicts number ≡ Some (Unsafe nodes run)) × (bytes ≡ run_text file run)

@@ -1,3 +1,4 @@
+pub mod Picked
 pub mod Report
 pub mod Json
 pub mod Faults
@@ -6,3 +7,4 @@ pub mod Shown
 pub mod Printed
 pub mod PrintedRuns
 pub mod Telling
+pub mod CheckJson

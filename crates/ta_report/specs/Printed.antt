@@ -1,10 +1,11 @@
 -- What a printed line says of its pattern.
-use Rattle.std.specs.Prelude.{ℕ, ◌≡◌, ◌⊎◌, List, ◌∷◌, ◌++◌, codes, slice_get, Some, IsTrue}
+use Rattle.std.specs.Prelude.{ℕ, ◌≡◌, ◌⊎◌, List, ◌∷◌, ◌++◌, codes, slice_get, Some}
 use Rattle.std.specs.List.{AllByRecursion}
 use Rattle.ta_automaton.specs.declared.file.File.{File}
 use Rattle.ta_automaton.specs.declared.pattern.Pattern.{Pattern}
-use Rattle.ta_report.specs.Check.{check_text, is_proved, rest_check_text}
 use Rattle.ta_replay.specs.declared.run.Run.{Run}
+use Rattle.ta_report.specs.Picked.{entry_of}
+use Rattle.ta_report.specs.declared.pick.Pick.{Pick}
 use Rattle.ta_report.specs.Report.{SampleFits, VerdictFits, report_text, rest_text}
 use Rattle.ta_report.specs.declared.verdict.ReportSample.{ReportSample}
 use Rattle.ta_report.specs.declared.verdict.Verdict.{Verdict}
@@ -25,45 +26,35 @@ told_of name word = codes "pattern " ++ (name ++ (codes ": " ++ word))
 -- a pattern that a report prints as safe has the verdict Safe
 abbrev pub PrintedSafe : Type 0
 PrintedSafe =
-    (file : File) (sample : ReportSample) (verdicts : List Verdict) (number : ℕ) (pattern : Pattern) → slice_get file.patterns number ≡ Some pattern
+    (file : File) (pick : Pick) (sample : ReportSample) (verdicts : List Verdict) (number : ℕ) (pattern : Pattern)
+    → slice_get file.patterns number ≡ Some pattern
     → SampleFits file sample → AllByRecursion (VerdictFits file) verdicts
-    → HasLine (told_of pattern.name (codes "safe, ")) (report_text file sample verdicts)
-    → (nodes : ℕ) × (leaves : ℕ) × (slice_get verdicts number ≡ Some (Safe nodes leaves))
+    → HasLine (told_of pattern.name (codes "safe, ")) (report_text file pick sample verdicts)
+    → (nodes : ℕ) × (leaves : ℕ) × (entry_of pick verdicts number ≡ Some (Safe nodes leaves))
 
 -- a pattern that a report prints as unsafe has the verdict Unsafe
 abbrev pub PrintedUnsafe : Type 0
 PrintedUnsafe =
-    (file : File) (sample : ReportSample) (verdicts : List Verdict) (number : ℕ) (pattern : Pattern) → slice_get file.patterns number ≡ Some pattern
+    (file : File) (pick : Pick) (sample : ReportSample) (verdicts : List Verdict) (number : ℕ) (pattern : Pattern)
+    → slice_get file.patterns number ≡ Some pattern
     → SampleFits file sample → AllByRecursion (VerdictFits file) verdicts
-    → HasLine (told_of pattern.name (codes "unsafe, ")) (report_text file sample verdicts)
-    → (nodes : ℕ) × (run : Run) × (slice_get verdicts number ≡ Some (Unsafe nodes run))
-
--- a pattern that the text of `check` prints as proved is one of the proved ones
-abbrev pub PrintedProved : Type 0
-PrintedProved =
-    (file : File) (numbers : List ℕ) (number : ℕ) (pattern : Pattern) → slice_get file.patterns number ≡ Some pattern
-    → HasLine (told_of pattern.name (codes "proved")) (check_text file numbers)
-    → IsTrue (is_proved numbers number)
+    → HasLine (told_of pattern.name (codes "unsafe, ")) (report_text file pick sample verdicts)
+    → (nodes : ℕ) × (run : Run) × (entry_of pick verdicts number ≡ Some (Unsafe nodes run))
 
 -- a pattern that the report of `rest` prints as safe at rest has the verdict Safe
 abbrev pub PrintedRestSafe : Type 0
 PrintedRestSafe =
-    (file : File) (sample : ReportSample) (verdicts : List Verdict) (number : ℕ) (pattern : Pattern) → slice_get file.patterns number ≡ Some pattern
+    (file : File) (pick : Pick) (sample : ReportSample) (verdicts : List Verdict) (number : ℕ) (pattern : Pattern)
+    → slice_get file.patterns number ≡ Some pattern
     → SampleFits file sample → AllByRecursion (VerdictFits file) verdicts
-    → HasLine (told_of pattern.name (codes "rest safe, ")) (rest_text file sample verdicts)
-    → (nodes : ℕ) × (leaves : ℕ) × (slice_get verdicts number ≡ Some (Safe nodes leaves))
+    → HasLine (told_of pattern.name (codes "rest safe, ")) (rest_text file pick sample verdicts)
+    → (nodes : ℕ) × (leaves : ℕ) × (entry_of pick verdicts number ≡ Some (Safe nodes leaves))
 
 -- a pattern that the report of `rest` prints as unsafe at rest has the verdict Unsafe
 abbrev pub PrintedRestUnsafe : Type 0
 PrintedRestUnsafe =
-    (file : File) (sample : ReportSample) (verdicts : List Verdict) (number : ℕ) (pattern : Pattern) → slice_get file.patterns number ≡ Some pattern
+    (file : File) (pick : Pick) (sample : ReportSample) (verdicts : List Verdict) (number : ℕ) (pattern : Pattern)
+    → slice_get file.patterns number ≡ Some pattern
     → SampleFits file sample → AllByRecursion (VerdictFits file) verdicts
-    → HasLine (told_of pattern.name (codes "rest unsafe, ")) (rest_text file sample verdicts)
-    → (nodes : ℕ) × (run : Run) × (slice_get verdicts number ≡ Some (Unsafe nodes run))
-
--- a pattern that the text of `rest-check` prints as proved is one of the proved ones
-abbrev pub PrintedRestProved : Type 0
-PrintedRestProved =
-    (file : File) (numbers : List ℕ) (number : ℕ) (pattern : Pattern) → slice_get file.patterns number ≡ Some pattern
-    → HasLine (told_of pattern.name (codes "rest proved")) (rest_check_text file numbers)
-    → IsTrue (is_proved numbers number)
+    → HasLine (told_of pattern.name (codes "rest unsafe, ")) (rest_text file pick sample verdicts)
+    → (nodes : ℕ) × (run : Run) × (entry_of pick verdicts number ≡ Some (Unsafe nodes run))

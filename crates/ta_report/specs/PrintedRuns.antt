@@ -7,6 +7,8 @@ use Rattle.ta_replay.specs.declared.run.Run.{Run}
 use Rattle.ta_replay.specs.RunText.{lines_text, run_text}
 use Rattle.ta_base.specs.Bytes.{Avoids}
 use Rattle.ta_report.specs.Printed.{LineAt, told_of}
+use Rattle.ta_report.specs.Picked.{entry_of}
+use Rattle.ta_report.specs.declared.pick.Pick.{Pick}
 use Rattle.ta_report.specs.Report.{SampleFits, VerdictFits, told_text}
 use Rattle.ta_report.specs.declared.verdict.ReportSample.{ReportSample}
 use Rattle.ta_report.specs.declared.verdict.Verdict.{Verdict}
@@ -21,7 +23,11 @@ pub record IsPlain (line : List ℕ) : Type 0 where
   pub no_feed : Avoids 10 line
   pub other : ¬ BeginsText (codes "pattern ") line
 
--- how a report, and that of `rest`, begin the line of an unsafe pattern
+-- how a report, and that of `rest`, begin the line of a safe pattern, and of an unsafe one, after its name
+abbrev pub safe_words : Bool → List ℕ
+safe_words false = codes "safe, "
+safe_words true = codes "rest safe, "
+
 abbrev pub unsafe_words : Bool → List ℕ
 unsafe_words false = codes "unsafe, "
 unsafe_words true = codes "rest unsafe, "
@@ -40,15 +46,17 @@ pub record RunPart (word name bytes text : List ℕ) : Type 0 where
 -- after the line of an unsafe pattern comes the text of its run, in both reports
 abbrev pub RunsArePrinted : Type 0
 RunsArePrinted =
-    (rest : Bool) (file : File) (sample : ReportSample) (verdicts : List Verdict) (number : ℕ) (pattern : Pattern) → slice_get file.patterns number ≡ Some pattern
+    (rest : Bool) (file : File) (pick : Pick) (sample : ReportSample) (verdicts : List Verdict) (number : ℕ) (pattern : Pattern)
+    → slice_get file.patterns number ≡ Some pattern
     → SampleFits file sample → AllByRecursion (VerdictFits file) verdicts
-    → (nodes : ℕ) (run : Run) → slice_get verdicts number ≡ Some (Unsafe nodes run)
-    → RunPart (unsafe_words rest) pattern.name (run_text file run) (told_text rest file sample verdicts)
+    → (nodes : ℕ) (run : Run) → entry_of pick verdicts number ≡ Some (Unsafe nodes run)
+    → RunPart (unsafe_words rest) pattern.name (run_text file run) (told_text rest file pick sample verdicts)
 
 -- what is found there is the text of its run
 abbrev pub PrintedRuns : Type 0
 PrintedRuns =
-    (rest : Bool) (file : File) (sample : ReportSample) (verdicts : List Verdict) (number : ℕ) (pattern : Pattern) → slice_get file.patterns number ≡ Some pattern
+    (rest : Bool) (file : File) (pick : Pick) (sample : ReportSample) (verdicts : List Verdict) (number : ℕ) (pattern : Pattern)
+    → slice_get file.patterns number ≡ Some pattern
     → SampleFits file sample → AllByRecursion (VerdictFits file) verdicts
-    → (bytes : List ℕ) → RunPart (unsafe_words rest) pattern.name bytes (told_text rest file sample verdicts)
-    → (nodes : ℕ) × (run : Run) × (slice_get verdicts number ≡ Some (Unsafe nodes run)) × (bytes ≡ run_text file run)
+    → (bytes : List ℕ) → RunPart (unsafe_words rest) pattern.name bytes (told_text rest file pick sample verdicts)
+    → (nodes : ℕ) × (run : Run) × (entry_of pick verdicts number ≡ Some (Unsafe nodes run)) × (bytes ≡ run_text file run)

@@ -7,6 +7,8 @@ use Rattle.ta_automaton.specs.declared.pattern.Pattern.{Pattern}
 use Rattle.ta_counter.specs.Values.{Value}
 use Rattle.ta_replay.specs.Fits.{Fits}
 use Rattle.ta_replay.specs.RunText.{run_text}
+use Rattle.ta_report.specs.Picked.{picked}
+use Rattle.ta_report.specs.declared.pick.Pick.{Pick}
 use Rattle.ta_report.specs.declared.verdict.ReportKind.{ReportKind}
 use Rattle.ta_report.specs.declared.verdict.ReportKind.TheVariants as kind
 use Rattle.ta_report.specs.declared.verdict.ReportSample.{ReportSample}
@@ -86,17 +88,27 @@ told_lines rest file (p ∷ ps) (v ∷ vs) = told_line rest p v ++ (run_part fil
 abbrev pub verdict_lines : File → List Pattern → List Verdict → List ℕ
 verdict_lines file ps vs = told_lines false file ps vs
 
--- the report of a sample of the parameters and a verdict for each pattern, or that of `rest`
-abbrev pub told_text : Bool → File → ReportSample → List Verdict → List ℕ
-told_text rest file s verdicts = codes "automaton " ++ (file.automaton.name ++ (codes "\n" ++ (sample_line file s ++ told_lines rest file file.patterns verdicts)))
+-- the report of a sample of the parameters and a verdict for each picked pattern, or that of `rest`
+abbrev pub told_text : Bool → File → Pick → ReportSample → List Verdict → List ℕ
+told_text rest file pick s verdicts =
+    codes "automaton " ++ (file.automaton.name ++ (codes "\n" ++ (sample_line file s ++ told_lines rest file (picked pick file.patterns) verdicts)))
 
 -- the report of `verify`
-abbrev pub report_text : File → ReportSample → List Verdict → List ℕ
-report_text file s verdicts = told_text false file s verdicts
+abbrev pub report_text : File → Pick → ReportSample → List Verdict → List ℕ
+report_text file pick s verdicts = told_text false file pick s verdicts
 
 -- that of `rest`, with `rest safe` and `rest unsafe` in place of `safe` and `unsafe`
-abbrev pub rest_text : File → ReportSample → List Verdict → List ℕ
-rest_text file s verdicts = told_text true file s verdicts
+abbrev pub rest_text : File → Pick → ReportSample → List Verdict → List ℕ
+rest_text file pick s verdicts = told_text true file pick s verdicts
+
+-- the words for a safe and for an unsafe pattern, in a report and in that of `rest`
+abbrev pub safe_word : Bool → List ℕ
+safe_word false = codes "safe"
+safe_word true = codes "rest safe"
+
+abbrev pub unsafe_word : Bool → List ℕ
+unsafe_word false = codes "unsafe"
+unsafe_word true = codes "rest unsafe"
 
 -- the numbers fit 64 bits, as the program's do: `decimal` writes at most 64 digits
 abbrev pub PlaceFits : ReportKind → Type 0
@@ -121,7 +133,8 @@ VerdictFits file (Overflow node kind) = (node < 2 ^ 64) × PlaceFits kind
 -- two results of a file with the same report have the same sample and the same verdicts, with the same runs
 abbrev pub ReportsAreDistinct : Type 0
 ReportsAreDistinct =
-    (file : File) (s t : ReportSample) (vs ws : List Verdict) → length vs ≡ length file.patterns → length ws ≡ length file.patterns
+    (file : File) (pick : Pick) (s t : ReportSample) (vs ws : List Verdict)
+    → length vs ≡ length (picked pick file.patterns) → length ws ≡ length (picked pick file.patterns)
     → SampleFits file s → SampleFits file t → AllByRecursion (VerdictFits file) vs → AllByRecursion (VerdictFits file) ws
-    → report_text file s vs ≡ report_text file t ws
+    → report_text file pick s vs ≡ report_text file pick t ws
     → (s ≡ t) × (vs ≡ ws)

@@ -1,8 +1,9 @@
 //! What a text tells. The functions do nothing: their contracts state the laws.
 #![tactic(auto)]
 
+ghost use Rattle.ta_report.specs.CheckJson.{ProofsAreRead, ToldProved};
 ghost use Rattle.ta_report.specs.Json.{JsonIsDistinct, JsonIsRead, JsonRuns, JsonSafe, JsonUnsafe};
-ghost use Rattle.ta_report.specs.Printed.{PrintedProved, PrintedRestProved, PrintedRestSafe, PrintedRestUnsafe, PrintedSafe, PrintedUnsafe};
+ghost use Rattle.ta_report.specs.Printed.{PrintedRestSafe, PrintedRestUnsafe, PrintedSafe, PrintedUnsafe};
 ghost use Rattle.ta_report.specs.PrintedRuns.{PrintedRuns, RunsArePrinted};
 ghost use Rattle.ta_report.specs.Report.{ReportsAreDistinct};
 
@@ -14,19 +15,16 @@ pub fn reports_are_distinct()
 {}
 
 /// It does nothing: its contract states that a pattern that is printed as safe has the verdict
-/// Safe, one printed as unsafe the verdict Unsafe, and that one printed as proved is among the
-/// proved ones.
+/// Safe, and one printed as unsafe the verdict Unsafe.
 pub fn lines_tell()
     ensures safe { PrintedSafe }
     ensures unsafe_ { PrintedUnsafe }
-    ensures proved { PrintedProved }
 {}
 
-/// It does nothing: its contract states the same of the reports of `rest` and `rest-check`.
+/// It does nothing: its contract states the same of the reports of `rest`.
 pub fn rest_lines_tell()
     ensures safe { PrintedRestSafe }
     ensures unsafe_ { PrintedRestUnsafe }
-    ensures proved { PrintedRestProved }
 {}
 
 /// It does nothing: its contract states that the lines behind that of an unsafe pattern, up to the
@@ -34,6 +32,13 @@ pub fn rest_lines_tell()
 pub fn runs_are_printed()
     ensures there { RunsArePrinted }
     ensures only { PrintedRuns }
+{}
+
+/// It does nothing: its contract states that a pattern that the text of `check` or `rest-check`
+/// calls proved is among the proved ones, and that its line of JSON is read as what it says.
+pub fn proofs_tell()
+    ensures proved { ToldProved }
+    ensures read { ProofsAreRead }
 {}
 
 /// It does nothing: its contract states that the line of JSON is read as the report, that a pattern

@@ -1,4 +1,4 @@
-//! The report of `verify` as a line of JSON.
+//! The report of `verify`, or that of `rest`, as a line of JSON.
 #![tactic(auto)]
 
 ghost use Rattle.std.specs.Prelude.{◌≡◌, IfOk, codes, length};
@@ -8,7 +8,8 @@ ghost use Rattle.serde_json.specs.View.{view};
 ghost use Rattle.ta_replay.specs.Fits.{Fits};
 ghost use Rattle.ta_replay.specs.RunText.{run_lines};
 ghost use Rattle.ta_report.specs.Json.{digits_data, json_text, place_members, report_data, sample_data, texts_data, value_data, values_data, verdict_data, verdicts_data};
-ghost use Rattle.ta_report.specs.Report.{SampleFits, VerdictFits, place_text};
+ghost use Rattle.ta_report.specs.Picked.{picked};
+ghost use Rattle.ta_report.specs.Report.{SampleFits, VerdictFits, place_text, safe_word, unsafe_word};
 ghost use Rattle.ta_report.specs.declared.verdict.Verdict.TheVariants.{Overflow, Safe, Spent, Unsafe};
 
 use crate::said::Said;
@@ -19,30 +20,31 @@ use ta_automaton::{File, Pattern};
 use ta_base::Text;
 use ta_replay::{Run, print_run};
 
-/// The report of a sample of the parameters and of one verdict for each pattern, in the order of the
-/// file, as the compact text of one JSON object and a line feed. All numbers are strings of decimal
-/// digits, and a run is the list of its lines.
-pub fn report_json(alloc: Global, said: &Said<'_>) -> Result<Text, AllocError>
+/// The report of a sample of the parameters and of one verdict for each picked pattern, in the order of
+/// the file, or that of `rest`, as the compact text of one JSON object and a line feed. All numbers are
+/// strings of decimal digits, and a run is the list of its lines.
+pub fn report_json(alloc: Global, rest: bool, said: &Said<'_>) -> Result<Text, AllocError>
     requires sample { SampleFits said.now.file.now said.now.sample.now }
-    requires all { length said.now.verdicts.now ≡ length said.now.file.now.patterns }
+    requires all { length said.now.verdicts.now ≡ length (picked said.now.pick said.now.file.now.patterns) }
     requires fit { AllByRecursion (VerdictFits said.now.file.now) said.now.verdicts.now }
-    ensures { IfOk result (λ text. text ≡ json_text said.now.file.now said.now.sample.now said.now.verdicts.now) }
+    ensures { IfOk result (λ text. text ≡ json_text rest said.now.file.now said.now.pick said.now.sample.now said.now.verdicts.now) }
 {
-    let report = report_value(alloc, said)?;
+    let report = report_value(alloc, rest, said)?;
     let mut text = report.to_string(alloc)?;
     text.push_str("\n")?;
     Ok(Text::from_string(text))
 }
 
 /// The report as a value.
-fn report_value(alloc: Global, said: &Said<'_>) -> Result<Value, AllocError>
+fn report_value(alloc: Global, rest: bool, said: &Said<'_>) -> Result<Value, AllocError>
     requires sample { SampleFits said.now.file.now said.now.sample.now }
-    requires all { length said.now.verdicts.now ≡ length said.now.file.now.patterns }
+    requires all { length said.now.verdicts.now ≡ length (picked said.now.pick said.now.file.now.patterns) }
     requires fit { AllByRecursion (VerdictFits said.now.file.now) said.now.verdicts.now }
-    ensures { IfOk result (λ value. view value ≡ report_data said.now.file.now said.now.sample.now said.now.verdicts.now) }
+    ensures { IfOk result (λ value. view value ≡ report_data rest said.now.file.now said.now.pick said.now.sample.now said.now.verdicts.now) }
 {
     let parameters = sample_value(alloc, said.file, said.sample)?;
-    let patterns = verdict_values(alloc, said.file, said.verdicts)?;
+    let told = said.pick.of(said.file.patterns.as_slice());
+    let patterns = verdict_values(alloc, rest, said.file, told, said.verdicts)?;
     let automaton = said.file.automaton.name.as_str();
     json!(in alloc; {
         "automaton": automaton,
@@ -52,7 +54,7 @@ fn report_value(alloc: Global, said: &Said<'_>) -> Result<Value, AllocError>
 }
 
 /// A number: the text of its digits.
-fn digits_value(alloc: Global, number: u64) -> Result<Value, AllocError>
+pub(crate) fn digits_value(alloc: Global, number: u64) -> Result<Value, AllocError>
     ensures { IfOk result (λ value. view value ≡ digits_data number) }
 {
     Ok(Value::String(format!(in alloc; "{number}")?))
@@ -66,7 +68,11 @@ fn place_value(alloc: Global, kind: ReportKind) -> Result<Value, AllocError>
 }
 
 /// What is said of the parameters.
-fn sample_value(alloc: Global, file: &File, sample: &ReportSample) -> Result<Value, AllocError>
+pub(crate) fn sample_value(
+    alloc: Global,
+    file: &File,
+    sample: &ReportSample,
+) -> Result<Value, AllocError>
     requires { SampleFits file.now sample.now }
     ensures { IfOk result (λ value. view value ≡ sample_data file.now sample.now) }
 {
@@ -110,15 +116,20 @@ fn parameter_value(alloc: Global, name: &str, value: i128) -> Result<Value, Allo
 }
 
 /// What is said of each pattern.
-fn verdict_values(alloc: Global, file: &File, verdicts: &[Verdict]) -> Result<Value, AllocError>
-    requires all { length verdicts.now ≡ length file.now.patterns }
+fn verdict_values(
+    alloc: Global,
+    rest: bool,
+    file: &File,
+    patterns: &[Pattern],
+    verdicts: &[Verdict],
+) -> Result<Value, AllocError>
+    requires all { length verdicts.now ≡ length patterns.now }
     requires fit { AllByRecursion (VerdictFits file.now) verdicts.now }
-    ensures { IfOk result (λ value. view value ≡ array (verdicts_data file.now file.now.patterns verdicts.now)) }
+    ensures { IfOk result (λ value. view value ≡ array (verdicts_data rest file.now patterns.now verdicts.now)) }
 {
-    let patterns = file.patterns.as_slice();
     let mut items = Vec::new(alloc);
     for (number, verdict) in verdicts.iter().enumerate() {
-        items.push(verdict_value(alloc, file, &patterns[number], verdict)?)?;
+        items.push(verdict_value(alloc, rest, file, &patterns[number], verdict)?)?;
     }
     Ok(Value::Array(items))
 }
@@ -126,24 +137,27 @@ fn verdict_values(alloc: Global, file: &File, verdicts: &[Verdict]) -> Result<Va
 /// What is said of a pattern.
 fn verdict_value(
     alloc: Global,
+    rest: bool,
     file: &File,
     pattern: &Pattern,
     verdict: &Verdict,
 ) -> Result<Value, AllocError>
     requires { VerdictFits file.now verdict.now }
-    ensures { IfOk result (λ value. view value ≡ verdict_data file.now pattern.now verdict.now) }
+    ensures { IfOk result (λ value. view value ≡ verdict_data rest file.now pattern.now verdict.now) }
 {
     let name = pattern.name.as_str();
     match verdict {
         Verdict::Safe { nodes, leaves } => {
             let nodes = digits_value(alloc, *nodes)?;
             let leaves = digits_value(alloc, *leaves)?;
-            json!(in alloc; {"leaves": leaves, "name": name, "nodes": nodes, "verdict": "safe"})
+            let word = safe_word(rest);
+            json!(in alloc; {"leaves": leaves, "name": name, "nodes": nodes, "verdict": word})
         }
         Verdict::Unsafe { nodes, run } => {
             let nodes = digits_value(alloc, *nodes)?;
             let lines = run_value(alloc, file, run)?;
-            json!(in alloc; {"name": name, "nodes": nodes, "run": lines, "verdict": "unsafe"})
+            let word = unsafe_word(rest);
+            json!(in alloc; {"name": name, "nodes": nodes, "run": lines, "verdict": word})
         }
         Verdict::Spent { nodes } => {
             let nodes = digits_value(alloc, *nodes)?;
@@ -151,6 +165,20 @@ fn verdict_value(
         }
         Verdict::Overflow { node, kind } => overflow_value(alloc, name, *node, *kind),
     }
+}
+
+/// The word for a safe pattern.
+fn safe_word(rest: bool) -> &'static str
+    ensures { result.now ≡ safe_word rest }
+{
+    if rest { "rest safe" } else { "safe" }
+}
+
+/// The word for an unsafe pattern.
+fn unsafe_word(rest: bool) -> &'static str
+    ensures { result.now ≡ unsafe_word rest }
+{
+    if rest { "rest unsafe" } else { "unsafe" }
 }
 
 /// What is said of a pattern where a number left 128 bits.

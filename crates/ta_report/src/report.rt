@@ -4,6 +4,7 @@
 ghost use Rattle.std.specs.Prelude.{◌≡◌, ◌++◌, IfOk, OnOk, length, string_bytes};
 ghost use Rattle.std.specs.List.{AllByRecursion};
 ghost use Rattle.ta_counter.specs.Values.{Value};
+ghost use Rattle.ta_report.specs.Picked.{picked};
 ghost use Rattle.ta_report.specs.Report.{SampleFits, VerdictFits, report_text, rest_text, run_part, sample_line, told_text, values_text, word_before};
 
 use crate::said::Said;
@@ -13,13 +14,13 @@ use ta_automaton::File;
 use ta_base::Text;
 use ta_replay::print_run;
 
-/// The report of a sample of the parameters, in a line, and of one verdict for each pattern, in the
-/// order of the file: a line, and behind it the text of the run where there is one.
+/// The report of a sample of the parameters, in a line, and of one verdict for each picked
+/// pattern, in the order of the file: a line, and behind it the text of the run where there is one.
 pub fn report_text(alloc: Global, said: &Said<'_>) -> Result<Text, AllocError>
     requires sample { SampleFits said.now.file.now said.now.sample.now }
-    requires all { length said.now.verdicts.now ≡ length said.now.file.now.patterns }
+    requires all { length said.now.verdicts.now ≡ length (picked said.now.pick said.now.file.now.patterns) }
     requires fit { AllByRecursion (VerdictFits said.now.file.now) said.now.verdicts.now }
-    ensures { IfOk result (λ text. text ≡ report_text said.now.file.now said.now.sample.now said.now.verdicts.now) }
+    ensures { IfOk result (λ text. text ≡ report_text said.now.file.now said.now.pick said.now.sample.now said.now.verdicts.now) }
 {
     told_text(alloc, false, said)
 }
@@ -28,9 +29,9 @@ pub fn report_text(alloc: Global, said: &Said<'_>) -> Result<Text, AllocError>
 /// `unsafe`.
 pub fn rest_text(alloc: Global, said: &Said<'_>) -> Result<Text, AllocError>
     requires sample { SampleFits said.now.file.now said.now.sample.now }
-    requires all { length said.now.verdicts.now ≡ length said.now.file.now.patterns }
+    requires all { length said.now.verdicts.now ≡ length (picked said.now.pick said.now.file.now.patterns) }
     requires fit { AllByRecursion (VerdictFits said.now.file.now) said.now.verdicts.now }
-    ensures { IfOk result (λ text. text ≡ rest_text said.now.file.now said.now.sample.now said.now.verdicts.now) }
+    ensures { IfOk result (λ text. text ≡ rest_text said.now.file.now said.now.pick said.now.sample.now said.now.verdicts.now) }
 {
     told_text(alloc, true, said)
 }
@@ -39,11 +40,12 @@ pub fn rest_text(alloc: Global, said: &Said<'_>) -> Result<Text, AllocError>
 fn told_text(alloc: Global, rest: bool, said: &Said<'_>) -> Result<Text, AllocError>
     requires sample { SampleFits said.now.file.now said.now.sample.now }
     requires fit { AllByRecursion (VerdictFits said.now.file.now) said.now.verdicts.now }
-    ensures { IfOk result (λ text. text ≡ told_text rest said.now.file.now said.now.sample.now said.now.verdicts.now) }
+    ensures { IfOk result (λ text. text ≡ told_text rest said.now.file.now said.now.pick said.now.sample.now said.now.verdicts.now) }
 {
     let mut text = format!(in alloc; "automaton {}\n", said.file.automaton.name.as_str())?;
     write_sample(&mut text, said.file, said.sample)?;
-    for (pattern, verdict) in said.file.patterns.as_slice().iter().zip(said.verdicts) {
+    let patterns = said.pick.of(said.file.patterns.as_slice());
+    for (pattern, verdict) in patterns.iter().zip(said.verdicts) {
         let word = word_before(rest, verdict);
         write!(text, "pattern {}: {word}{verdict}\n", pattern.name.as_str())?;
         write_run(alloc, &mut text, said.file, verdict)?;
@@ -65,7 +67,11 @@ fn word_before(rest: bool, verdict: &Verdict) -> &'static str
 }
 
 /// Writes the line of the parameters.
-fn write_sample(text: &mut String, file: &File, sample: &ReportSample) -> Result<(), AllocError>
+pub(crate) fn write_sample(
+    text: &mut String,
+    file: &File,
+    sample: &ReportSample,
+) -> Result<(), AllocError>
     requires { SampleFits file.now sample.now }
     ensures { OnOk result (string_bytes text.new ≡ string_bytes text.old ++ sample_line file.now sample.now) }
 {

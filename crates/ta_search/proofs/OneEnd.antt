@@ -4,6 +4,7 @@ use Rattle.ta_meaning.specs.Laws.{FilesAreUnique, FirstFaultsAreUnique}
 use Rattle.ta_report.specs.declared.verdict.ReportSample.{ReportSample}
 use Rattle.ta_report.specs.declared.verdict.ReportSample.TheVariants as sample
 use Rattle.ta_search.specs.declared.outcome.Outcome.TheVariants as outcome
+use Rattle.ta_report.specs.declared.pick.Pick.TheVariants.{All}
 
 -- the laws of the crates below on which it rests
 pub record Laws : Type 0 where
@@ -131,11 +132,11 @@ gives_once laws file budget vs a b are (inl h) (inl k) = decided_once file vs a 
 gives_once laws file budget vs a b are (inl h) (inr k) = absurd (never_both file budget vs a b h k)
 gives_once laws file budget vs a b are (inr h) (inl k) = absurd (never_both file budget vs b a k h)
 gives_once laws file budget vs a b are (inr h) (inr k) =
-    h.is ∙ ap (λ (text : List ℕ). outcome.Safe text) (laws.certificates file budget vs vs h.text k.text are are h.certificate k.certificate) ∙ sym k.is
+    h.is ∙ ap (λ (text : List ℕ). outcome.Safe text) (laws.certificates file All budget vs vs h.text k.text are are h.certificate k.certificate) ∙ sym k.is
 
 verdicts_give : Laws → (file : File) (budget : Budget) (a b : Outcome) → ByVerdicts file budget a → ByVerdicts file budget b → a ≡ b
 verdicts_give laws file budget a b h k =
-    let same = laws.verdicts file budget h.verdicts k.verdicts h.are k.are in
+    let same = laws.verdicts file All budget h.verdicts k.verdicts h.are k.are in
     gives_once laws file budget k.verdicts a b k.are (subst (λ (vs : List Verdict). Decided file vs a ⊎ Proved file budget vs a) same h.gives) k.gives
 
 sample_gives : Laws → (file : File) (budget : Budget) (s : ReportSample) (a b : Outcome) → BySample file budget s a → BySample file budget s b → a ≡ b

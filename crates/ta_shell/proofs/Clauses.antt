@@ -1,5 +1,5 @@
 -- from how a command ends to what is said of each
-use Rattle.ta_shell.proofs.Common.{◌≡◌, ◌≢◌, ◌∙◌, ◌≤◌, ◌⊎◌, ◌++◌, ℕ, List, [], ◌∷◌, Option, Some, None, refl, sym, subst, inl, inr, rules, arith, Contains, Call, PutCall, Acts, OthersStay, Told, WhereTold, Put, Decides, Exact, Meaning, IsAnswered, End, Ends, SinkFaltered, FailureTold, IsHindered, Performs, Quiet, State, Telling, Done, NoMemory, Stopped, Unbegun, Unput, Unread, Unwritten, HoldsEither, HoldsPut, KeptBut, Stand, StopAt, PutsWithin, View, seen, with_text, Calm, Spares, put_bytes, ap, append-nil, map, reads, puts, Event, Grew, AreStaging, AreOfStages, PutWhole, PutText, put_text, StopsPublishing, TellsFile, published, names_put, each_append, Answer}
+use Rattle.ta_shell.proofs.Common.{◌≡◌, ◌≢◌, ◌∙◌, ◌≤◌, ◌⊎◌, ◌++◌, ℕ, List, [], ◌∷◌, Option, Some, None, refl, sym, subst, inl, inr, rules, arith, Contains, Call, PutCall, Acts, OthersStay, Told, WhereTold, Put, Decides, Exact, Meaning, IsAnswered, End, Ends, SinkFaltered, FailureTold, IsHindered, LetGo, Performs, Quiet, State, Telling, Done, NoMemory, Stopped, Unbegun, Unput, Unread, Unwritten, HoldsEither, HoldsPut, KeptBut, Stand, StopAt, PutsWithin, View, seen, with_text, Calm, Spares, put_bytes, ap, append-nil, map, reads, puts, Event, Grew, AreStaging, AreOfStages, PutWhole, PutText, put_text, StopsPublishing, TellsFile, published, names_put, each_append, Answer}
 use Rattle.ta_shell.proofs.Ended.{within_puts}
 use Rattle.ta_shell.proofs.Making.{of_stages_within, staging_of_stages}
 use Rattle.ta_shell.proofs.Settling.{whole_of_stages}
@@ -141,7 +141,7 @@ module _ (m : Meaning) (number : ℕ) (before after : State) (e : Ends m number 
   told_by (Stopped h) =
       let above = h.three in
       let below = h.four in
-      record { silent = λ low. absurd (omega arith); hindered = λ three four. acts _ (h.none, h.line, h.holds, h.told); failed = λ six. absurd (omega arith); memory = λ seven. absurd (omega arith) }
+      record { silent = λ low. absurd (omega arith); hindered = λ three four. acts _ (h.line, h.let_go, h.holds, h.told); failed = λ six. absurd (omega arith); memory = λ seven. absurd (omega arith) }
   told_by (Unread h) = telling_six m number before after h.six (inr (h.faulted, inl (acts _ (h.none, h.name, h.read, h.told))))
   told_by (Unbegun h) = telling_six m number before after h.six (inr (h.faulted, inr (h.name, h.among, h.told)))
   told_by (Unput h) = telling_six m number before after h.six (inr (h.faulted, inr (h.name, h.among, h.told)))
@@ -197,12 +197,16 @@ tells_file file calls whole =
 stops_of_stages : (names : List (List ℕ)) (calls : List PutCall) → StopsPublishing names calls → AreOfStages names calls
 stops_of_stages names calls s = subst (AreOfStages names) (sym s.all) (each_append _ s.front _ s.before ((s.named, tt), staging_of_stages names s.behind s.after))
 
+-- what was let go leaves each file
+let_go_staging : (names : List (List ℕ)) (line : List ℕ) (made : List PutCall) → LetGo names line made → AreStaging names made
+let_go_staging names line made h = elim h [ inl none ↦ subst (AreStaging names) (sym none) tt | inr some ↦ some.0 ]
+
 -- the calls that change files are of the command's outputs, whatever the end
 pub made_of_stages : (m : Meaning) (view : View) (number : ℕ) (before after : State) (made : List PutCall) → End m view number before after made → AreOfStages m.puts made
 made_of_stages m view number before after made (Done a) = of_stages_within (names_put a.answer.puts) m.puts made (within_puts m.puts a.answer.puts a.holds.within) (whole_of_stages a.answer.puts made a.whole)
-made_of_stages m view number before after made (Stopped h) = subst (AreOfStages m.puts) (sym h.none) tt
+made_of_stages m view number before after made (Stopped h) = staging_of_stages m.puts made (let_go_staging m.puts h.line made h.let_go)
 made_of_stages m view number before after made (Unread h) = subst (AreOfStages m.puts) (sym h.none) tt
-made_of_stages m view number before after made (Unbegun h) = subst (AreOfStages m.puts) (sym h.none) tt
+made_of_stages m view number before after made (Unbegun h) = staging_of_stages m.puts made h.staging
 made_of_stages m view number before after made (Unput h) = elim h.halted [ inl u ↦ staging_of_stages m.puts made u.0.staging | inr u ↦ stops_of_stages m.puts made u.refused ]
 made_of_stages m view number before after made (Unwritten h) = staging_of_stages m.puts made h.unstaged.staging
 made_of_stages m view number before after made (NoMemory h) = elim h.stopped [ inl u ↦ staging_of_stages m.puts made u.0.staging | inr u ↦ stops_of_stages m.puts made u.stopped.refused ]
@@ -210,9 +214,9 @@ made_of_stages m view number before after made (NoMemory h) = elim h.stopped [ i
 -- an answer holds, or no call changed a file
 pub held_or_staged : (m : Meaning) (view : View) (number : ℕ) (before after : State) (made : List PutCall) → End m view number before after made → ((answer : Answer) × m.answers view answer) ⊎ AreStaging m.puts made
 held_or_staged m view number before after made (Done a) = inl (a.answer, a.holds.holds)
-held_or_staged m view number before after made (Stopped h) = inr (subst (AreStaging m.puts) (sym h.none) tt)
+held_or_staged m view number before after made (Stopped h) = inr (let_go_staging m.puts h.line made h.let_go)
 held_or_staged m view number before after made (Unread h) = inr (subst (AreStaging m.puts) (sym h.none) tt)
-held_or_staged m view number before after made (Unbegun h) = inr (subst (AreStaging m.puts) (sym h.none) tt)
+held_or_staged m view number before after made (Unbegun h) = inr h.staging
 held_or_staged m view number before after made (Unput h) = inl (h.answer, h.holds.holds)
 held_or_staged m view number before after made (Unwritten h) = inl (h.answer, h.holds.holds)
 held_or_staged m view number before after made (NoMemory h) = elim h.stopped [ inl u ↦ inr u.0.staging | inr u ↦ inl (u.answer, u.holds.holds) ]

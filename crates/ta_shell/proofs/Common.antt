@@ -10,7 +10,7 @@ pub use Rattle.ta_shelf.specs.ReadPiece.{BeginsWith, FillsFrom, GivesFirst, Read
 pub use Rattle.ta_shelf.specs.ReadWhole.{IsLonger, ReadsWhole}
 pub use Rattle.ta_shelf.specs.declared.fault.WholeFault.TheVariants.{Missing, TooLong}
 pub use Rattle.ta_shell.specs.Commands.{AnswerHolds, Decides, Exact, IsSo, JudgementHolds, Meaning, Says}
-pub use Rattle.ta_shell.specs.Ends.{Calm, End, Ends, FailureTold, IsAnswered, IsHindered, Performs, Quiet, SinkFaltered, SinkState, State, Telling, Tells}
+pub use Rattle.ta_shell.specs.Ends.{Calm, End, Ends, FailureTold, IsAnswered, IsHindered, LetGo, Performs, ShelfState, Quiet, SinkFaltered, SinkState, State, Telling, Tells}
 pub use Rattle.ta_shell.specs.Ends.End.{Done, NoMemory, Stopped, Unbegun, Unput, Unread, Unwritten}
 pub use Rattle.ta_shell.specs.Lines.{file_line, longer_than, missing, phrase_text, piece_text, pieces_text, refusal_line, refusal_number}
 pub use Rattle.ta_shell.specs.Puts.{HoldsEither, HoldsPut, HoldsText, KeptBut, PutsWithin, Stand, StopAt, may_put, names_put, output_names, put_bytes, PutText, put_text}
@@ -38,3 +38,10 @@ pub use Rattle.ta_shelf.specs.Counts.{Faulted}
 pub use Rattle.ta_shell.specs.declared.putting.Halt.{Halt}
 pub use Rattle.ta_shell.specs.Putting.{AddsOr, BeginCause, BeginRefuses, PublishRefused, PublishesOne, Settled, SettledCause, StagesOr, WritesText}
 pub use Rattle.ta_base.proofs.Lists.{concat_more}
+pub use Rattle.ta_base.specs.declared.limits.TheConstants.{CERTIFICATE_BYTES}
+pub use Rattle.ta_shell.specs.Reading.{SaysLong}
+pub use Rattle.ta_shell.specs.Staging.{Begun, HasNoAnswer, IsOutputOf, IsStagedBy, LeavesRoom, LostByFault, OutputNamed, OutputStaged, SaysAndStages, SettlesFile, StagedBy, StagedInPart, StagedOr, StagedSoFar, answer_seen, output_puts, result_seen}
+pub use Rattle.ta_shell.specs.declared.staged_answer.StagedAnswer.{StagedAnswer}
+pub use Rattle.ta_shell.specs.declared.staged_answer.StagedOutput.{StagedOutput}
+pub use Rattle.ta_shell.specs.declared.staged_answer.StagedOutput.TheVariants.{Unasked, Staged, Lost}
+pub use Rattle.ta_shell.specs.declared.staged_file.StagedFile.{StagedFile}

@@ -12,3 +12,5 @@ mod Making
 mod Settling
 mod Refusing
 mod Ended
+pub mod StagedMore
+mod StagedPut

@@ -7,7 +7,7 @@ use Rattle.ta_shelf.specs.Sink.{with_text}
 use Rattle.ta_shelf.specs.WriteWhole.{AddsPrefix}
 use Rattle.ta_shell.specs.declared.answer.Answer.{Answer}
 use Rattle.ta_shell.specs.Commands.{AnswerHolds, Decides, Exact, Meaning}
-use Rattle.ta_shell.specs.Lines.{file_line, memory_line, output_line}
+use Rattle.ta_shell.specs.Lines.{file_line, long_certificate, memory_line, output_line}
 use Rattle.ta_shell.specs.declared.answer.Put as answer
 use Rattle.ta_shell.specs.Making.{Acts, AreStaging, PutWhole, StopsPublishing}
 use Rattle.ta_shell.specs.Puts.{KeptBut, Stand, StopAt, put_text}
@@ -76,6 +76,11 @@ pub record IsAnswered (m : Meaning) (view : View) (number : ℕ) (before after :
   pub calm : Calm before.out after.out
   pub silent : after.err ≡ before.err
 
+-- nothing was staged; or the line says that a certificate for a file with one of these names is too long, and what was staged of it is
+-- discarded
+abbrev pub LetGo : List (List ℕ) → List ℕ → List Put → Type 0
+LetGo names line made = (made ≡ []) ⊎ (AreStaging names made × (name : List ℕ) × Contains names name × (line ≡ file_line name long_certificate))
+
 -- a refusal, whose reason the line says
 pub record IsHindered (m : Meaning) (view : View) (number : ℕ) (before after : State) (made : List Put) : Type 0 where
   pub three : 3 ≤ number
@@ -83,7 +88,7 @@ pub record IsHindered (m : Meaning) (view : View) (number : ℕ) (before after :
   pub line : List ℕ
   pub holds : m.refuses view number line
   pub kept : after.shelf.files ≡ before.shelf.files
-  pub none : made ≡ []
+  pub let_go : LetGo m.puts line made
   pub no_fault : after.shelf.faults ≡ before.shelf.faults
   pub nothing : after.out ≡ before.out
   pub told : Tells line before.err after.err
@@ -99,13 +104,14 @@ pub record NotRead (m : Meaning) (view : View) (number : ℕ) (before after : St
   pub nothing : after.out ≡ before.out
   pub told : Tells (file_line name (codes "read failed")) before.err after.err
 
--- beginning the file with this name failed, and nothing else was done
+-- beginning the file with this name failed, and nothing else was done; or adding to it failed, and then memory ran out or it grew too long.
+-- Nothing was written, and each file is unchanged
 pub record NotBegun (m : Meaning) (number : ℕ) (before after : State) (made : List Put) : Type 0 where
   pub six : number ≡ 6
   pub name : List ℕ
   pub among : Contains m.puts name
   pub kept : after.shelf.files ≡ before.shelf.files
-  pub none : made ≡ []
+  pub staging : AreStaging m.puts made
   pub faulted : Faulted before.shelf.faults after.shelf.faults
   pub nothing : after.out ≡ before.out
   pub told : Tells (file_line name (codes "write failed")) before.err after.err
@@ -189,7 +195,7 @@ FailureTold m before after =
 -- standard error: nothing with 0, 1 and 2; with 3 and 4 why the command was refused; with 6 what failed; and with 7 that memory ran out
 pub record Telling (m : Meaning) (number : ℕ) (before after : State) : Type 0 where
   pub silent : number ≤ 2 → after.err ≡ before.err
-  pub hindered : 3 ≤ number → number ≤ 4 → Acts m.puts (λ read made. (made ≡ []) × (line : List ℕ) × m.refuses (seen before.shelf.files read) number line × Tells line before.err after.err) before.shelf.calls after.shelf.calls
+  pub hindered : 3 ≤ number → number ≤ 4 → Acts m.puts (λ read made. (line : List ℕ) × LetGo m.puts line made × m.refuses (seen before.shelf.files read) number line × Tells line before.err after.err) before.shelf.calls after.shelf.calls
   pub failed : number ≡ 6 → FailureTold m before after
   pub memory : number ≡ 7 → Tells memory_line before.err after.err
 

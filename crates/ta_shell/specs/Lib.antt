@@ -9,3 +9,4 @@ pub mod Putting
 pub mod Finishing
 pub mod Stages
 pub mod Sparing
+pub mod Staging

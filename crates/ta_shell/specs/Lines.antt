@@ -1,5 +1,6 @@
 -- The one line on standard error, and its exit status.
 use Rattle.std.specs.Prelude.{ℕ, List, [], ◌∷◌, ◌++◌, codes, decimal}
+use Rattle.ta_base.specs.declared.limits.TheConstants.{CERTIFICATE_BYTES}
 use Rattle.ta_shell.specs.declared.phrase.Phrase.{Phrase}
 use Rattle.ta_shell.specs.declared.phrase.Phrase.TheVariants.{Plain, One, Two}
 use Rattle.ta_shell.specs.declared.phrase.Piece.{Piece}
@@ -33,6 +34,9 @@ missing = codes "missing"
 
 abbrev pub longer_than : ℕ → List ℕ
 longer_than limit = codes "longer than " ++ (decimal limit ++ codes " bytes")
+
+abbrev pub long_certificate : List ℕ
+long_certificate = codes "certificate longer than " ++ (decimal CERTIFICATE_BYTES ++ codes " bytes")
 
 -- an output is refused, so that it is not destroyed
 abbrev pub holds_read : List ℕ

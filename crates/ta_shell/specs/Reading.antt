@@ -8,7 +8,7 @@ use Rattle.ta_shelf.specs.declared.fault.ShelfFault.TheVariants as shelf
 use Rattle.ta_shell.specs.declared.answer.Refusal.{Refusal}
 use Rattle.ta_shell.specs.declared.answer.Refusal.TheVariants.{Refused, ReadFailed, PutFailed, Memory}
 use Rattle.ta_shell.specs.declared.reading.Limit.{Limit}
-use Rattle.ta_shell.specs.Lines.{longer_than, missing, phrase_text}
+use Rattle.ta_shell.specs.Lines.{file_line, long_certificate, longer_than, missing, phrase_text}
 use Rattle.ta_shell.specs.Sights.{Absent, HasBytes, HasMore, View, seen}
 
 -- a file is missing, or it is too long and begins with these bytes, as many as it may have; and the words say so
@@ -19,6 +19,13 @@ IsUnreadable view name limit Such words = (view name Absent × (words ≡ missin
 abbrev pub SaysOfFile : Limit → List ℕ → List ℕ → Refusal → Type 0
 SaysOfFile limit name words (Refused number who why) = (number ≡ limit.number) × (who.now ≡ name) × (phrase_text why ≡ words)
 SaysOfFile limit name words _ = ⊥
+
+-- the refusal says that the certificate for the file with this name is too long
+abbrev pub SaysLong : List ℕ → Refusal → Type 0
+SaysLong name (Refused number who why) = (number ≡ 4) × (file_line who.now (phrase_text why) ≡ file_line name long_certificate)
+SaysLong name (ReadFailed who) = ⊥
+SaysLong name (PutFailed who) = ⊥
+SaysLong name Memory = ⊥
 
 -- the refusal says why a read of the file with this name was refused
 abbrev pub UnreadBy : Limit → List ℕ → ShelfFault → Refusal → Type 0

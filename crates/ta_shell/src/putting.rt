@@ -5,15 +5,18 @@
 #![tactic(auto)]
 
 ghost use Rattle.std.specs.List.{concat};
-ghost use Rattle.std.specs.Prelude.{◌≡◌, ◌++◌, IfOk, OnOk};
+ghost use Rattle.std.specs.Prelude.{◌≡◌, ◌++◌, IfOk, List, OnOk, ℕ};
+ghost use Rattle.ta_shelf.specs.Calls.{Event};
 ghost use Rattle.ta_shelf.specs.Put.{PutFailsOnlyFaulted};
 ghost use Rattle.ta_shelf.specs.Stage.{answer_of};
 ghost use Rattle.ta_shell.specs.Ends.{SinkState};
 ghost use Rattle.ta_shell.specs.Making.{Changed};
 ghost use Rattle.ta_shell.specs.Puts.{content_bytes, put_bytes};
 ghost use Rattle.ta_shell.specs.Putting.{AddsOr, PublishesOne, Settled, SettledCause, StagesOr, WritesText};
+ghost use Rattle.ta_shell.specs.Staging.{output_puts, OutputNamed, OutputStaged};
 
 use crate::answer::{Content, Put};
+use crate::staged_answer::StagedOutput;
 use ta_base::Text;
 use ta_shelf::{PutFault, Shelf, Sink, write_whole};
 
@@ -60,6 +63,38 @@ pub(crate) fn put_all<'a, S: Shelf, O: Sink>(
             })
         }
         Err(PutFault::Memory) => Err(Halt::Memory),
+    }
+}
+
+/// Writes a text, and puts an output that is staged already in its place.
+///
+/// Where the output couldn't be staged, the text is written all the same.
+pub(crate) fn put_staged<'a, S: Shelf, O: Sink>(
+    shelf: &mut S,
+    output: StagedOutput<'a, S::Stage>,
+    out: &mut O,
+    text: &str,
+) -> Result<(), Halt<'a>>
+    requires { OutputNamed S.stage_name output }
+    ensures settled { (lost : List ℕ) (first : List Event) (faults : ℕ) → Changed (OutputStaged S.stage_name S.stage_bytes output.entry faults (S.faults shelf.old)) first (S.calls shelf.old)
+        → Changed (Settled (output_puts S.stage_bytes output.entry lost) text.now result (S.files shelf.old) (S.files shelf.new)
+        (record { written = O.written out.old; faults = O.faults out.old; stalls = O.stalls out.old })
+        (record { written = O.written out.new; faults = O.faults out.new; stalls = O.stalls out.new })) first (S.calls shelf.new) }
+    ensures cause { (first : List Event) (faults : ℕ) → Changed (OutputStaged S.stage_name S.stage_bytes output.entry faults (S.faults shelf.old)) first (S.calls shelf.old) → SettledCause result faults (S.faults shelf.new) }
+{
+    match output {
+        StagedOutput::Unasked => write_text(out, text),
+        StagedOutput::Staged { name, stage } => match write_text(out, text) {
+            Ok(()) => publish(shelf, stage, name),
+            Err(halt) => {
+                shelf.abandon(stage);
+                Err(halt)
+            }
+        },
+        StagedOutput::Lost { name } => {
+            let _ = write_text(out, text);
+            Err(Halt::Unput { name })
+        }
     }
 }
 

@@ -4,7 +4,7 @@
 ghost use Rattle.std.specs.Prelude.{◌≡◌, ◌≤◌};
 ghost use Rattle.ta_shelf.specs.Calls.{Grew};
 ghost use Rattle.ta_shell.specs.Lines.{longer_than, missing as missing_words};
-ghost use Rattle.ta_shell.specs.Reading.{ReadCause, ReadsFile, SaysOfFile, UnreadBy};
+ghost use Rattle.ta_shell.specs.Reading.{ReadCause, ReadsFile, SaysLong, SaysOfFile, UnreadBy};
 
 use crate::answer::Refusal;
 use crate::phrase::Phrase;
@@ -62,6 +62,21 @@ pub fn too_long<'a>(name: &'a str, limit: Limit) -> Refusal<'a>
         why: Phrase::One {
             head: "longer than ",
             number: limit.bytes as u128,
+            tail: " bytes",
+        },
+    }
+}
+
+/// That a certificate is too long, told of the file that it is for.
+pub fn long_certificate<'a>(name: &'a str) -> Refusal<'a>
+    ensures { SaysLong name.now result }
+{
+    Refusal::Refused {
+        number: 4,
+        name,
+        why: Phrase::One {
+            head: "certificate longer than ",
+            number: CERTIFICATE_BYTES as u128,
             tail: " bytes",
         },
     }

@@ -15,6 +15,6 @@ pub use admitting::admit;
 pub use export::smt_text;
 pub use fault::{AdmitFault, WordFault};
 pub use laws::{admits_are_exact, faults_are_determined, scripts_are_determined, words_are_exact};
-pub use named::{NamedWord, named_word, whole_word, word_text};
+pub use named::{NamedWord, named_word, pattern_named, whole_word, word_text};
 pub use reading::{are_elements, are_names, is_name, read_elements, start_of};
 pub use spelling::word_of;

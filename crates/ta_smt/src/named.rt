@@ -72,8 +72,8 @@ fn begins(file: &File, start_mask: u8) -> bool
     (start_mask as usize) < 1 << file.automaton.fall.as_slice().len()
 }
 
-/// The number of the pattern with a name.
-fn pattern_named(patterns: &[Pattern], name: &str) -> Option<u32>
+/// The number of the pattern with a name, if there is one.
+pub fn pattern_named(patterns: &[Pattern], name: &str) -> Option<u32>
     requires { length patterns.now ≤ 2 ^ 32 }
     ensures { MatchOption result ((number : ℕ) (pattern : Pattern) → ¬ IsNamed patterns.now name.now number pattern) (λ number. (pattern : Pattern) × IsNamed patterns.now name.now number pattern) }
 {

@@ -1,5 +1,5 @@
 -- the text of the trees of safe patterns is a certificate that a judge accepts
-use Rattle.ta_verdict.proofs.Common.{◌≡◌, ◌∙◌, ℕ, ◌+◌, ◌<◌, ◌≤◌, ◌^◌, suc, Bool, true, false, List, [], ◌∷◌, ◌++◌, length, map, Option, Some, None, slice_get, refl, sym, ap, subst, append_assoc, arith, codes, decimal, lit≤, lit<, AllByRecursion, slice_get_within, File, Pattern, LoopsPure, AreWritable, cert_lines, cert_text, head_text, order_lines, pair_of, proof_lines, proof_of, proofs_of, proofs_text, question_text, version_of, line_text, Node, Order, Proof, Verdict, refuted_hold, orders_once, orders_sound, IsShort, TreeIs, FoundOrders, pattern_search, AreTrees, AreTreesOf, CertificateOf, SafeOne, safe_numbers, safe_ones, text_by, tree_by, tree_size, with_safe, Budget, AreTreesOfFile, head_of, is_lazy, ended_line, Safe, above_apart, each_append, each_map, weaker, IsProof}
+use Rattle.ta_verdict.proofs.Common.{◌≡◌, ◌∙◌, ℕ, ◌+◌, ◌<◌, ◌≤◌, ◌^◌, suc, Bool, true, false, List, [], ◌∷◌, ◌++◌, length, map, Option, Some, None, slice_get, refl, sym, ap, subst, append_assoc, arith, codes, decimal, lit≤, lit<, AllByRecursion, slice_get_within, File, Pattern, LoopsPure, AreWritable, cert_lines, cert_text, head_text, order_lines, pair_of, proof_lines, proof_of, proofs_of, proofs_text, question_text, version_of, line_text, Node, Order, Proof, Verdict, refuted_hold, orders_once, orders_sound, IsShort, TreeIs, FoundOrders, pattern_search, AreTrees, AreTreesOf, CertificateOn, SafeOne, safe_among, safe_ones, safe_picked, Pick, first_picked, picked, picked_there, text_by, tree_by, tree_size, with_safe, Budget, AreTreesOfFile, head_of, is_lazy, ended_line, Safe, above_apart, each_append, each_map, weaker, IsProof}
 use Rattle.ta_base.proofs.DecimalDigits.{row_short}
 use Rattle.ta_base.specs.Lists.{Distinct}
 use Rattle.ta_cert.proofs.Writing.{cert_parts, lines_text-proofs}
@@ -123,8 +123,12 @@ judgeable_words file orders found budget loops within number p at nodes count is
     (refuted_hold Safe file number p at tt loops pairs (orders_sound file.automaton orders found).good budget within nodes count tree).0
 
 -- the numbers of those of a file that are safe are distinct and name their patterns
-pub safe_named : (file : File) (vs : List Verdict) → AllByRecursion (λ one. slice_get file.patterns one.number ≡ Some one.pattern) (safe_ones 0 file.patterns vs)
-safe_named file vs = ones_named file 0 file.patterns vs (λ k p given. let here : k ≡ 0 + k = omega arith in subst (λ (n : ℕ). slice_get file.patterns n ≡ Some p) here given)
+pub safe_named :
+    (file : File) (pick : Pick) (vs : List Verdict) → AllByRecursion (λ one. slice_get file.patterns one.number ≡ Some one.pattern) (safe_picked file pick vs)
+safe_named file pick vs = ones_named file (first_picked pick) (picked pick file.patterns) vs (picked_there pick file.patterns)
+
+pub safe_distinct : (file : File) (pick : Pick) (vs : List Verdict) → Distinct (numbers (safe_picked file pick vs))
+safe_distinct file pick vs = ones_distinct (first_picked pick) (picked pick file.patterns) vs
 
 -- the lines of a certificate with such proofs are short
 pub all_short : (orders : List Order) (trees : List Proof) → AreShort (order_lines orders) → AreShort (proof_lines trees) → AreShort (cert_lines orders trees)
@@ -158,29 +162,29 @@ accepted kind subject orders has ones distinct trees m short text written =
     }
 
 accepted_by :
-    (lazy : Bool) (file : File) (budget : ℕ) → LoopsPure file.automaton → budget ≤ 1000000000
-    → (vs : List Verdict) (trees : List Proof) → AreTreesOf (tree_by lazy file budget) (safe_ones 0 file.patterns vs) trees → (text : List ℕ)
-    → text_by lazy file trees text → Certificate file text (safe_numbers file vs)
-accepted_by false file budget loops within vs trees are text is =
-    let ones = safe_ones 0 file.patterns vs in
+    (lazy : Bool) (file : File) (pick : Pick) (budget : ℕ) → LoopsPure file.automaton → budget ≤ 1000000000
+    → (vs : List Verdict) (trees : List Proof) → AreTreesOf (tree_by lazy file budget) (safe_picked file pick vs) trees → (text : List ℕ)
+    → text_by lazy file trees text → Certificate file text (safe_among file pick vs)
+accepted_by false file pick budget loops within vs trees are text is =
+    let ones = safe_picked file pick vs in
     let sound = orders_sound file.automaton is.orders is.found in
     let subject = claiming Safe file in
     let m = made Words subject (map pair_of is.orders) (tree_by false file budget) (judgeable_words file is.orders is.found budget loops within) ones trees
-    (safe_named file vs) are in
-    accepted Words subject is.orders (record { may = sound.writable; shown = sound.shown; good = sound.good }) ones (ones_distinct 0 file.patterns vs) trees
+    (safe_named file pick vs) are in
+    accepted Words subject is.orders (record { may = sound.writable; shown = sound.shown; good = sound.good }) ones (safe_distinct file pick vs) trees
     m (all_short is.orders trees sound.short m.short) text is.written
-accepted_by true file budget loops within vs trees are text is =
-    let ones = safe_ones 0 file.patterns vs in
+accepted_by true file pick budget loops within vs trees are text is =
+    let ones = safe_picked file pick vs in
     let subject = claiming Safe file in
     let m = made Moments subject [] (tree_by true file budget)
-    (λ number p at nodes count tree. (moments_refuted file number p at loops budget within nodes count tree).0) ones trees (safe_named file vs) are in
-    accepted Moments subject [] (record { may = refl; shown = tt; good = no_pairs_good file.automaton }) ones (ones_distinct 0 file.patterns vs) trees m
+    (λ number p at nodes count tree. (moments_refuted file number p at loops budget within nodes count tree).0) ones trees (safe_named file pick vs) are in
+    accepted Moments subject [] (record { may = refl; shown = tt; good = no_pairs_good file.automaton }) ones (safe_distinct file pick vs) trees m
     (version_short 3 (lit< tt), m.short) text is
 
 pub certificate_accepted :
-    (file : File) (budget : Budget) → LoopsPure file.automaton → budget.nodes ≤ 1000000000
-    → (vs : List Verdict) (text : List ℕ) → CertificateOf file budget vs text → Certificate file text (safe_numbers file vs)
-certificate_accepted file budget loops within vs text c = accepted_by budget.lazy file budget.nodes loops within vs c.trees c.are text c.text_is
+    (file : File) (pick : Pick) (budget : Budget) → LoopsPure file.automaton → budget.nodes ≤ 1000000000
+    → (vs : List Verdict) (text : List ℕ) → CertificateOn file pick budget vs text → Certificate file text (safe_among file pick vs)
+certificate_accepted file pick budget loops within vs text c = accepted_by budget.lazy file pick budget.nodes loops within vs c.trees c.are text c.text_is
 
 -- what stands in front of the proofs, the proofs and the end are the text of a certificate
 pub cert_written : (orders : List Order) (proofs : List Proof) → (head_text orders ++ proofs_text proofs) ++ ended_line line.End ≡ cert_text orders proofs
@@ -202,8 +206,8 @@ text_made file which.Moments known proofs text is = is ∙ question_written proo
 
 -- such a text is the certificate of verdicts whose trees the proofs are
 pub certificate_made :
-    (file : File) (budget : Budget) (vs : List Verdict) (trees : Trees) → AreTreesOfFile file trees → is_lazy trees ≡ budget.lazy → (proofs : List Proof)
-    → AreTrees file budget (safe_ones 0 file.patterns vs) proofs → (text : List ℕ) → text ≡ (head_of trees ++ proofs_text proofs) ++ ended_line line.End
-    → CertificateOf file budget vs text
-certificate_made file budget vs trees known lazy proofs are text is =
+    (file : File) (pick : Pick) (budget : Budget) (vs : List Verdict) (trees : Trees) → AreTreesOfFile file trees → is_lazy trees ≡ budget.lazy → (proofs : List Proof)
+    → AreTrees file budget (safe_picked file pick vs) proofs → (text : List ℕ) → text ≡ (head_of trees ++ proofs_text proofs) ++ ended_line line.End
+    → CertificateOn file pick budget vs text
+certificate_made file pick budget vs trees known lazy proofs are text is =
     record { trees = proofs; are = are; text_is = subst (λ (b : Bool). text_by b file proofs text) lazy (text_made file trees known proofs text is) }

@@ -1,5 +1,5 @@
 -- a file has one certificate for a budget
-use Rattle.ta_verdict.proofs.Common.{◌≡◌, ◌∙◌, Bool, true, false, List, [], ◌∷◌, ℕ, map, refl, sym, ap, subst, File, Pattern, cert_text, question_text, pair_of, Node, Order, Proof, Search, of_events, pattern_search, TreeIs, orders_once, AreTrees, AreTreesOf, CertificatesAreDetermined, SafeOne, safe_ones, text_by, tree_by, tree_under, endings_once, Ending, Left, Solved, Stopped, Whole}
+use Rattle.ta_verdict.proofs.Common.{◌≡◌, ◌∙◌, Bool, true, false, List, [], ◌∷◌, ℕ, map, refl, sym, ap, subst, File, Pattern, cert_text, question_text, pair_of, Node, Order, Proof, Search, of_events, pattern_search, TreeIs, orders_once, AreTrees, AreTreesOf, CertificatesAreDetermined, SafeOne, safe_picked, text_by, tree_by, tree_under, endings_once, Ending, Left, Solved, Stopped, Whole}
 use Rattle.ta_moment_tree.specs.Makers.{moments_of}
 use Rattle.ta_verdict.proofs.VerdictsOnce.{verdicts_once}
 
@@ -46,8 +46,8 @@ one_text false file ps qs text other trees c d =
 one_text true file ps qs text other trees c d = c ∙ ap question_text trees ∙ sym d
 
 pub certificates_once : CertificatesAreDetermined
-certificates_once file budget vs ws text other h k c d =
-    let ones = ap (safe_ones 0 file.patterns) (verdicts_once file budget vs ws h k) in
-    let trees = trees_once (tree_under file budget) (one_tree budget.lazy file budget.nodes) (safe_ones 0 file.patterns ws) c.trees d.trees
+certificates_once file pick budget vs ws text other h k c d =
+    let ones = ap (safe_picked file pick) (verdicts_once file pick budget vs ws h k) in
+    let trees = trees_once (tree_under file budget) (one_tree budget.lazy file budget.nodes) (safe_picked file pick ws) c.trees d.trees
     (subst (λ (xs : List SafeOne). AreTrees file budget xs c.trees) ones c.are) d.are in
     one_text budget.lazy file c.trees d.trees text other trees c.text_is d.text_is

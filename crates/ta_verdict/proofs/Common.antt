@@ -22,12 +22,16 @@ pub use Rattle.ta_encode.specs.declared.encoded.Solution.{Solution}
 pub use Rattle.ta_moment_walk.specs.Found.{Found, FoundAt}
 pub use Rattle.ta_moments.specs.Refutes.{of_events}
 pub use Rattle.ta_moments.specs.declared.fact.Fact.{Fact}
+pub use Rattle.ta_report.proofs.Picks.{entry_picked, entry_place, picked_count, picked_there}
+pub use Rattle.ta_report.specs.Picked.{entry_of, first_picked, listed, picked}
 pub use Rattle.ta_report.specs.Report.{VerdictFits}
+pub use Rattle.ta_report.specs.declared.pick.Pick.{Pick}
+pub use Rattle.ta_report.specs.declared.pick.Pick.TheVariants.{All, One}
 pub use Rattle.ta_report.specs.declared.verdict.ReportKind.{ReportKind}
 pub use Rattle.ta_report.specs.declared.verdict.Verdict.{Verdict}
 pub use Rattle.ta_report.specs.declared.verdict.Verdict.TheVariants.{Overflow}
 pub use Rattle.ta_scope.proofs.Judging.{loops_pure}
-pub use Rattle.ta_verdict.specs.Certificates.{AreTrees, AreTreesOf, CertificateOf, CertificatesAreDetermined, SafeOne, safe_numbers, safe_ones, text_by, tree_by, tree_size, tree_under, with_safe}
+pub use Rattle.ta_verdict.specs.Certificates.{AreTrees, AreTreesOf, CertificateOf, CertificateOn, CertificatesAreDetermined, SafeOne, safe_among, safe_numbers, safe_ones, safe_picked, text_by, tree_by, tree_size, tree_under, with_safe}
 pub use Rattle.ta_verdict.specs.Drafts.{AddsTree, DraftBegins, DraftHasTree, DraftKeeps, HasProofs, HasText, HasTrees, ended_line, pieces_text}
 pub use Rattle.ta_verdict.specs.Trees.{AreOrdersOf, AreTreesOfFile, head_of, is_lazy}
 pub use Rattle.ta_verdict.specs.Verdicts.{EachHolds, IsOutOfRangeIn, IsSample, Question, SafeHolds, SampleHolds, SamplesAreDetermined, SpentHolds, UnderOrders, VerdictAnswers, VerdictHolds, VerdictsAreDetermined, holds_by, moment_question, place_of, safety_question}
@@ -42,3 +46,4 @@ pub use Rattle.ta_walk.specs.FoundOrders.{FoundOrders}
 pub use Rattle.ta_walk.specs.Visit.{WholeAt}
 pub use Rattle.ta_walk.specs.declared.end.PlaceKind.{PlaceKind}
 pub use Rattle.ta_witness.specs.Witness.{IsSolution, WitnessFaultOf}
+pub use Rattle.ta_shell.specs.Staging.{Begun}

@@ -54,9 +54,9 @@ proofs_more [] qs = refl
 proofs_more (p ∷ ps) qs = ap (λ (xs : List ℕ). proof_text p ++ xs) (proofs_more ps qs) ∙ sym (append_assoc (proof_text p) (proofs_text ps) (proofs_text qs))
 
 -- one that does adds the tree
-adds_by : (Tree : Pattern → List Node → ℕ → Type 0) (number : ℕ) (p : Pattern) (size : Option ℕ) (first begun proof next : Draft) → is_some size ≡ true → ((nodes : ℕ) → size ≡ Some nodes → (tree : List Node) × Tree p tree nodes × DraftKeeps begun proof tree) → HasText begun (ended_line (line.Pattern number)) → ((text more : List ℕ) → HasText first text → HasText proof more → HasText next (text ++ more)) → (head : List ℕ) (proofs : List Proof) → HasProofs first head proofs → (more : List Proof) × AreTreesOf Tree (with_safe number p size []) more × HasProofs next head (proofs ++ more)
-adds_by Tree number p None first begun proof next is drafted begins added head proofs has = absurd (false≢true is)
-adds_by Tree number p (Some nodes) first begun proof next is drafted begins added head proofs has =
+adds_by : (Tree : Pattern → List Node → ℕ → Type 0) (number : ℕ) (p : Pattern) (size : Option ℕ) (Had Has : List ℕ → Type 0) (begun proof : Draft) → is_some size ≡ true → ((nodes : ℕ) → size ≡ Some nodes → (tree : List Node) × Tree p tree nodes × DraftKeeps begun proof tree) → HasText begun (ended_line (line.Pattern number)) → ((text more : List ℕ) → Had text → HasText proof more → Has (text ++ more)) → (head : List ℕ) (proofs : List Proof) → HasProofs Had head proofs → (more : List Proof) × AreTreesOf Tree (with_safe number p size []) more × HasProofs Has head (proofs ++ more)
+adds_by Tree number p None Had Has begun proof is drafted begins added head proofs has = absurd (false≢true is)
+adds_by Tree number p (Some nodes) Had Has begun proof is drafted begins added head proofs has =
     let d = drafted nodes refl in
     let one : Proof = record { pattern = number; nodes = d.0 } in
     let text : HasText proof (ended_line (line.Pattern number) ++ nodes_text d.0) = d.2.text (ended_line (line.Pattern number)) begins in
@@ -66,10 +66,10 @@ adds_by Tree number p (Some nodes) first begun proof next is drafted begins adde
     append_assoc head (proofs_text proofs) (ended_line (line.Pattern number) ++ nodes_text d.0)
     ∙ ap (λ (xs : List ℕ). head ++ (proofs_text proofs ++ xs)) same
     ∙ ap (λ (xs : List ℕ). head ++ xs) (sym (proofs_more proofs (one ∷ []))) in
-    (one ∷ [], (record { numbered = refl; is = d.1 }, tt), subst (HasText next) joined whole)
+    (one ∷ [], (record { numbered = refl; is = d.1 }, tt), subst Has joined whole)
 
-pub adds_tree : (Tree : Pattern → List Node → ℕ → Type 0) (number : ℕ) (p : Pattern) (v : Verdict) (first begun proof next : Draft) → is_some (tree_size v) ≡ true → DraftHasTree Tree p v begun proof → HasText begun (ended_line (line.Pattern number)) → ((text more : List ℕ) → HasText first text → HasText proof more → HasText next (text ++ more)) → AddsTree Tree number p v first next
-adds_tree Tree number p v first begun proof next is drafted begins added head proofs has = adds_by Tree number p (tree_size v) first begun proof next is drafted begins added head proofs has
+pub adds_tree : (Tree : Pattern → List Node → ℕ → Type 0) (number : ℕ) (p : Pattern) (v : Verdict) (Had Has : List ℕ → Type 0) (begun proof : Draft) → is_some (tree_size v) ≡ true → DraftHasTree Tree p v begun proof → HasText begun (ended_line (line.Pattern number)) → ((text more : List ℕ) → Had text → HasText proof more → Has (text ++ more)) → AddsTree Tree number p v Had Has
+adds_tree Tree number p v Had Has begun proof is drafted begins added head proofs has = adds_by Tree number p (tree_size v) Had Has begun proof is drafted begins added head proofs has
 
 wanted_by : (Tree : Pattern → List Node → ℕ → Type 0) (p : Pattern) (size : Option ℕ) (begun proof : Draft) → is_some size ≡ true → ((nodes : ℕ) → size ≡ Some nodes → (tree : List Node) × Tree p tree nodes × DraftKeeps begun proof tree) → proof.wanted ≡ begun.wanted
 wanted_by Tree p None begun proof is drafted = absurd (false≢true is)
@@ -101,8 +101,8 @@ ones_more number (q ∷ ps) (w ∷ vs) p v same =
     ∙ with_append number q (tree_size w) (safe_ones (number + 1) ps vs) (with_safe (number + length (q ∷ ps)) p (tree_size v) [])
 
 -- one more verdict, whose tree is added
-pub trees_more : (file : File) (Tree : Pattern → List Node → ℕ → Type 0) (head : List ℕ) (done : ℕ) (vs : List Verdict) (v : Verdict) (draft next : Draft) → done < length file.patterns → length vs ≡ done → HasTrees Tree head (safe_ones 0 (take done file.patterns) vs) draft → OfPattern file done (λ p. AddsTree Tree done p v draft next) → HasTrees Tree head (safe_ones 0 (take (done + 1) file.patterns) (vs ++ v ∷ [])) next
-trees_more file Tree head done vs v draft next within counted has adds =
+pub trees_more : (file : File) (Tree : Pattern → List Node → ℕ → Type 0) (head : List ℕ) (done : ℕ) (vs : List Verdict) (v : Verdict) (Had Has : List ℕ → Type 0) → done < length file.patterns → length vs ≡ done → HasTrees Tree head (safe_ones 0 (take done file.patterns) vs) Had → OfPattern file done (λ p. AddsTree Tree done p v Had Has) → HasTrees Tree head (safe_ones 0 (take (done + 1) file.patterns) (vs ++ v ∷ [])) Has
+trees_more file Tree head done vs v Had Has within counted has adds =
     let ps = file.patterns in
     let at = some_at ps done within in
     let p = at.0 in

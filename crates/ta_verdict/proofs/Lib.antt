@@ -3,8 +3,10 @@ pub mod VerdictsMade
 pub mod VerdictsSaid
 pub mod VerdictsOnce
 pub mod DraftsMade
+mod TargetsMade
 pub mod JudgedSoFar
 mod MomentVerdicts
+mod Alone
 pub mod CertificatesMade
 pub mod CertificatesOnce
 pub mod SamplesMade

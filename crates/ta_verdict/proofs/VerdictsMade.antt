@@ -1,5 +1,5 @@
 -- what is known of verdicts as they are made and counted
-use Rattle.ta_verdict.proofs.Common.{◌≡◌, ℕ, zero, suc, ◌+◌, ◌<◌, ◌≤◌, List, [], ◌∷◌, ◌++◌, length, map, reverse, take, arith, refl, sym, ap, subst, ◌∙◌, Some, slice_get, length-take-le, take_all, take_next, same_Some, slice_get_within, some_at, File, Pattern, LoopsPure, pair_of, Node, Order, OfPattern, Pending, Solution, PlaceKind, IsSpent, NodeOf, SolutionAt, TreeIs, leaf_count, FoundOrders, orders_sound, refuted_hold, ReportKind, Verdict, IsSolution, pattern_search, EachHolds, IsOutOfRangeIn, Question, SafeHolds, SpentHolds, UnderOrders, VerdictAnswers, safety_question, node_with, place_of, Err, IfOk, Ok, Result, AllocError, Safe as ClaimSafe, Overflow}
+use Rattle.ta_verdict.proofs.Common.{◌≡◌, ℕ, zero, suc, ◌+◌, ◌<◌, ◌≤◌, List, [], ◌∷◌, ◌++◌, length, map, reverse, take, arith, refl, sym, ap, subst, ◌∙◌, Some, slice_get, length-take-le, take_all, take_next, same_Some, slice_get_within, some_at, File, Pattern, Pick, entry_of, entry_picked, entry_place, first_picked, picked, picked_there, LoopsPure, pair_of, Node, Order, OfPattern, Pending, Solution, PlaceKind, IsSpent, NodeOf, SolutionAt, TreeIs, leaf_count, FoundOrders, orders_sound, refuted_hold, ReportKind, Verdict, IsSolution, pattern_search, EachHolds, IsOutOfRangeIn, Question, SafeHolds, SpentHolds, UnderOrders, VerdictAnswers, safety_question, node_with, place_of, Err, IfOk, Ok, Result, AllocError, Safe as ClaimSafe, Overflow}
 use Rattle.ta_implied.specs.Implied.{Good}
 use Rattle.ta_words.proofs.Counts.{legal_under}
 use Rattle.ta_walk.specs.Visit.{IsOutOfRangeAt}
@@ -99,10 +99,32 @@ held_at Fact number (q ∷ ps) (w ∷ vs) hold (suc k) p v named said =
 pub held : (Fact : ℕ → Pattern → Verdict → Type 0) (ps : List Pattern) (vs : List Verdict) → EachHolds Fact 0 ps vs → (k : ℕ) (p : Pattern) (v : Verdict) → slice_get ps k ≡ Some p → slice_get vs k ≡ Some v → Fact k p v
 held Fact ps vs hold k p v named said = let here : 0 + k ≡ k = omega arith in subst (λ n. Fact n p v) here (held_at Fact 0 ps vs hold k p v named said)
 
-pub held_by : (Fact : ℕ → Pattern → Verdict → Type 0) (ps : List Pattern) (vs : List Verdict) → EachHolds Fact 0 ps vs → (k : ℕ) (v : Verdict) → slice_get vs k ≡ Some v → (p : Pattern) × (slice_get ps k ≡ Some p) × Fact k p v
-held_by Fact ps vs hold k v said =
-    let at = some_at ps k (omega (arith, slice_get_within vs k v said, as_many Fact 0 ps vs hold)) in
-    (at.0, at.1, held Fact ps vs hold k at.0 v at.1 said)
+-- where verdicts are on picked patterns, the verdict at a place is one on the picked pattern there
+pub held_by :
+    (Fact : ℕ → Pattern → Verdict → Type 0) (pick : Pick) (ps : List Pattern) (vs : List Verdict) → EachHolds Fact (first_picked pick) (picked pick ps) vs
+    → (place : ℕ) (v : Verdict) → slice_get vs place ≡ Some v
+    → (p : Pattern) × (slice_get (picked pick ps) place ≡ Some p) × (slice_get ps (first_picked pick + place) ≡ Some p) × Fact (first_picked pick + place) p v
+held_by Fact pick ps vs hold place v said =
+    let qs = picked pick ps in
+    let at = some_at qs place (omega (arith, slice_get_within vs place v said, as_many Fact (first_picked pick) qs vs hold)) in
+    (at.0, at.1, picked_there pick ps place at.0 at.1, held_at Fact (first_picked pick) qs vs hold place at.0 v at.1 said)
+
+-- the entry for a number is a verdict on the pattern with this number
+pub held_number :
+    (Fact : ℕ → Pattern → Verdict → Type 0) (pick : Pick) (ps : List Pattern) (vs : List Verdict) → EachHolds Fact (first_picked pick) (picked pick ps) vs
+    → (number : ℕ) (v : Verdict) → entry_of pick vs number ≡ Some v → (p : Pattern) × (slice_get ps number ≡ Some p) × Fact number p v
+held_number Fact pick ps vs hold number v said =
+    let here = entry_place pick vs number v said in
+    let by = held_by Fact pick ps vs hold here.0 v here.1 in
+    (by.0, subst (λ (n : ℕ). slice_get ps n ≡ Some by.0) here.2 by.2, subst (λ (n : ℕ). Fact n by.0 v) here.2 by.3)
+
+-- the entry for a pattern is a verdict on it
+pub held_entry :
+    (Fact : ℕ → Pattern → Verdict → Type 0) (pick : Pick) (ps : List Pattern) (vs : List Verdict) → EachHolds Fact (first_picked pick) (picked pick ps) vs
+    → (number : ℕ) (p : Pattern) (v : Verdict) → slice_get ps number ≡ Some p → entry_of pick vs number ≡ Some v → Fact number p v
+held_entry Fact pick ps vs hold number p v at said =
+    let here = entry_picked pick ps vs number p v at said in
+    subst (λ (n : ℕ). Fact n p v) here.number_is (held_at Fact (first_picked pick) (picked pick ps) vs hold here.place p v here.item here.entry)
 
 -- what follows from a fact of each holds of each
 pub holds_weaker : (Fact Other : ℕ → Pattern → Verdict → Type 0) (number : ℕ) (ps : List Pattern) (vs : List Verdict) → ((k : ℕ) (p : Pattern) (v : Verdict) → Fact k p v → Other k p v) → EachHolds Fact number ps vs → EachHolds Other number ps vs

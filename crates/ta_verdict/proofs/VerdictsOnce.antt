@@ -1,5 +1,5 @@
 -- a question has one answer for one budget, and a pattern of a file one verdict
-use Rattle.ta_verdict.proofs.Common.{◌≡◌, ◌⊎◌, inl, inr, ◌+◌, ℕ, ℤ, suc, Bool, true, false, List, [], ◌∷◌, Some, slice_get, map, refl, sym, ap, subst, ◌∙◌, arith, File, Pattern, Solution, PlaceKind, Search, Pending, Ending, Whole, Solved, Stopped, Left, IsVisitEnding, WholeAt, NodeOf, SolutionAt, leaf_count, Order, pair_of, orders_once, ends_once, endings_once, node_with, Verdict, EachHolds, Question, VerdictAnswers, VerdictHolds, VerdictsAreDetermined, holds_by, safety_question, moment_question, Fact, Found, FoundAt, of_events}
+use Rattle.ta_verdict.proofs.Common.{◌≡◌, ◌⊎◌, inl, inr, ◌+◌, ℕ, ℤ, suc, Bool, true, false, List, [], ◌∷◌, Some, slice_get, map, refl, sym, ap, subst, ◌∙◌, arith, File, Pattern, Solution, PlaceKind, Search, Pending, Ending, Whole, Solved, Stopped, Left, IsVisitEnding, WholeAt, NodeOf, SolutionAt, leaf_count, Order, pair_of, orders_once, ends_once, endings_once, node_with, Verdict, EachHolds, Question, VerdictAnswers, VerdictHolds, VerdictsAreDetermined, holds_by, safety_question, moment_question, Fact, Found, FoundAt, of_events, Pick, first_picked, picked, picked_there}
 use Rattle.ta_words.specs.declared.element.Element.{Element}
 use Rattle.ta_replay.specs.declared.run.Run.{Run}
 use Rattle.ta_replay.specs.Replays.{ReplayStays}
@@ -158,9 +158,12 @@ verdicts_from Fact number (p ∷ ps) (v ∷ vs) (w ∷ ws) once h k =
     let rest = verdicts_from Fact (number + 1) ps vs ws later h.1 k.1 in
     ap (λ (x : Verdict). x ∷ vs) first ∙ ap (λ (xs : List Verdict). w ∷ xs) rest
 
-pub verdicts_same : (Fact : ℕ → Pattern → Verdict → Type 0) (ps : List Pattern) (vs ws : List Verdict) → ((k : ℕ) (p : Pattern) (v w : Verdict) → slice_get ps k ≡ Some p → Fact k p v → Fact k p w → v ≡ w) → EachHolds Fact 0 ps vs → EachHolds Fact 0 ps ws → vs ≡ ws
-verdicts_same Fact ps vs ws once h k =
-    verdicts_from Fact 0 ps vs ws (λ j p v w named a b. let here : 0 + j ≡ j = omega arith in once j p v w named (subst (λ n. Fact n p v) here a) (subst (λ n. Fact n p w) here b)) h k
+pub picked_same :
+    (Fact : ℕ → Pattern → Verdict → Type 0) (pick : Pick) (ps : List Pattern) (vs ws : List Verdict)
+    → ((k : ℕ) (p : Pattern) (v w : Verdict) → slice_get ps k ≡ Some p → Fact k p v → Fact k p w → v ≡ w)
+    → EachHolds Fact (first_picked pick) (picked pick ps) vs → EachHolds Fact (first_picked pick) (picked pick ps) ws → vs ≡ ws
+picked_same Fact pick ps vs ws once h k =
+    verdicts_from Fact (first_picked pick) (picked pick ps) vs ws (λ j p v w named a b. once (first_picked pick + j) p v w (picked_there pick ps j p named) a b) h k
 
 words_have_one_run :
     (file : File) (pairs : List (ℕ × ℕ)) (number budget : ℕ) (p : Pattern) → slice_get file.patterns number ≡ Some p
@@ -191,5 +194,5 @@ verdict_by true file budget number p v w at h k =
     answer_once (moment_question file number p) number budget (moments_have_one file number budget p) (moments_have_one_run file number budget p) v w h k
 
 pub verdicts_once : VerdictsAreDetermined
-verdicts_once file budget vs ws h k =
-    verdicts_same (VerdictHolds file budget) file.patterns vs ws (λ j p v w. verdict_by budget.lazy file budget.nodes j p v w) h.hold k.hold
+verdicts_once file pick budget vs ws h k =
+    picked_same (VerdictHolds file budget) pick file.patterns vs ws (λ j p v w. verdict_by budget.lazy file budget.nodes j p v w) h.hold k.hold

@@ -6,14 +6,18 @@ use Rattle.ta_cert.specs.Certificates.{cert_text, question_text}
 use Rattle.ta_cert.specs.declared.line.Node.{Node}
 use Rattle.ta_cert.specs.declared.line.Order.{Order}
 use Rattle.ta_cert.specs.declared.line.Proof.{Proof}
+use Rattle.ta_check.specs.Certificate.{Certificate}
 use Rattle.ta_encode.specs.PatternSearch.{pattern_search}
 use Rattle.ta_moments.specs.Refutes.{of_events}
 use Rattle.ta_moment_tree.specs.Makers.{moments_of}
+use Rattle.ta_report.specs.Picked.{first_picked, picked}
+use Rattle.ta_report.specs.declared.pick.Pick.{Pick}
+use Rattle.ta_report.specs.declared.pick.Pick.TheVariants.{All}
 use Rattle.ta_report.specs.declared.verdict.Verdict.{Verdict}
 use Rattle.ta_report.specs.declared.verdict.Verdict.TheVariants.{Safe, Unsafe, Spent, Overflow}
 use Rattle.ta_walk.specs.Ends.{TreeIs}
 use Rattle.ta_walk.specs.FoundOrders.{FoundOrders}
-use Rattle.ta_verdict.specs.Verdicts.{AreVerdicts, UnderOrders}
+use Rattle.ta_verdict.specs.Verdicts.{AreVerdictsOn, UnderOrders}
 use Rattle.ta_verdict.specs.declared.budget.Budget.{Budget}
 
 -- how many nodes the tree of a pattern has that a verdict calls safe
@@ -39,9 +43,17 @@ safe_ones number [] vs = []
 safe_ones number (p ∷ ps) [] = []
 safe_ones number (p ∷ ps) (v ∷ vs) = with_safe number p (tree_size v) (safe_ones (number + 1) ps vs)
 
+-- the picked patterns of a file that verdicts call safe
+abbrev pub safe_picked : File → Pick → List Verdict → List SafeOne
+safe_picked file pick vs = safe_ones (first_picked pick) (picked pick file.patterns) vs
+
+-- their numbers
+abbrev pub safe_among : File → Pick → List Verdict → List ℕ
+safe_among file pick vs = map (λ one. one.number) (safe_picked file pick vs)
+
 -- the numbers of a file's patterns that verdicts call safe
 abbrev pub safe_numbers : File → List Verdict → List ℕ
-safe_numbers file vs = map (λ one. one.number) (safe_ones 0 file.patterns vs)
+safe_numbers file vs = safe_among file All vs
 
 -- for a pattern that is called safe: a fact about the pattern, the nodes, and how many these are
 pub record HasNodes (Tree : Pattern → List Node → ℕ → Type 0) (one : SafeOne) (proof : Proof) : Type 0 where
@@ -78,14 +90,26 @@ abbrev pub text_by : Bool → File → List Proof → List ℕ → Type 0
 text_by false file trees text = WordsText file trees text
 text_by true file trees text = text ≡ question_text trees
 
--- the certificate of the patterns that verdicts call safe: the text of their trees, in the order of the file
-pub record CertificateOf (file : File) (budget : Budget) (verdicts : List Verdict) (text : List ℕ) : Type 0 where
+-- the certificate of the picked patterns that verdicts call safe: the text of their trees, in the order of the file
+pub record CertificateOn (file : File) (pick : Pick) (budget : Budget) (verdicts : List Verdict) (text : List ℕ) : Type 0 where
   pub trees : List Proof
-  pub are : AreTrees file budget (safe_ones 0 file.patterns verdicts) trees
+  pub are : AreTrees file budget (safe_picked file pick verdicts) trees
   pub text_is : text_by budget.lazy file trees text
 
--- a file has one certificate for a budget
+-- that of the patterns that verdicts call safe
+abbrev pub CertificateOf : File → Budget → List Verdict → List ℕ → Type 0
+CertificateOf file budget verdicts text = CertificateOn file All budget verdicts text
+
+-- what has a text has the certificate of the picked patterns that verdicts call safe, which the checker accepts as one of exactly these
+pub record Certified (file : File) (pick : Pick) (budget : Budget) (verdicts : List Verdict) (Has : List ℕ → Type 0) : Type 0 where
+  pub text : List ℕ
+  pub has : Has text
+  pub certificate : CertificateOn file pick budget verdicts text
+  pub accepted : Certificate file text (safe_among file pick verdicts)
+
+-- a file has one certificate of its picked patterns for a budget
 abbrev pub CertificatesAreDetermined : Type 0
 CertificatesAreDetermined =
-    (file : File) (budget : Budget) (vs ws : List Verdict) (text other : List ℕ) → AreVerdicts file budget vs → AreVerdicts file budget ws
-    → CertificateOf file budget vs text → CertificateOf file budget ws other → text ≡ other
+    (file : File) (pick : Pick) (budget : Budget) (vs ws : List Verdict) (text other : List ℕ)
+    → AreVerdictsOn file pick budget vs → AreVerdictsOn file pick budget ws
+    → CertificateOn file pick budget vs text → CertificateOn file pick budget ws other → text ≡ other

@@ -34,18 +34,18 @@ pub record DraftBegins (first part : Draft) : Type 0 where
 abbrev pub ended_line : Line → List ℕ
 ended_line l = line_text l ++ (10 ∷ [])
 
--- a draft of a certificate with these proofs after a text, before its end
-abbrev pub HasProofs : Draft → List ℕ → List Proof → Type 0
-HasProofs draft head proofs = HasText draft (head ++ proofs_text proofs)
+-- something has a text, which is a certificate before its end: these proofs after a text
+abbrev pub HasProofs : (List ℕ → Type 0) → List ℕ → List Proof → Type 0
+HasProofs Has head proofs = Has (head ++ proofs_text proofs)
 
 -- the draft has the lines of nodes with a fact about the pattern, if a verdict calls it safe
 abbrev pub DraftHasTree : (Pattern → List Node → ℕ → Type 0) → Pattern → Verdict → Draft → Draft → Type 0
 DraftHasTree Tree p verdict first now = (nodes : ℕ) → tree_size verdict ≡ Some nodes → (tree : List Node) × Tree p tree nodes × DraftKeeps first now tree
 
--- after a text the draft has such nodes of these, and no other proofs
-abbrev pub HasTrees : (Pattern → List Node → ℕ → Type 0) → List ℕ → List SafeOne → Draft → Type 0
-HasTrees Tree head ones draft = (proofs : List Proof) × AreTreesOf Tree ones proofs × HasProofs draft head proofs
+-- after a text there are such nodes of these, and no other proofs
+abbrev pub HasTrees : (Pattern → List Node → ℕ → Type 0) → List ℕ → List SafeOne → (List ℕ → Type 0) → Type 0
+HasTrees Tree head ones Has = (proofs : List Proof) × AreTreesOf Tree ones proofs × HasProofs Has head proofs
 
--- such nodes of a pattern were added, if a verdict calls it safe
-abbrev pub AddsTree : (Pattern → List Node → ℕ → Type 0) → ℕ → Pattern → Verdict → Draft → Draft → Type 0
-AddsTree Tree number p verdict first now = (head : List ℕ) (proofs : List Proof) → HasProofs first head proofs → (more : List Proof) × AreTreesOf Tree (with_safe number p (tree_size verdict) []) more × HasProofs now head (proofs ++ more)
+-- such nodes of a pattern were added to what had a text, if a verdict calls it safe
+abbrev pub AddsTree : (Pattern → List Node → ℕ → Type 0) → ℕ → Pattern → Verdict → (List ℕ → Type 0) → (List ℕ → Type 0) → Type 0
+AddsTree Tree number p verdict Had Has = (head : List ℕ) (proofs : List Proof) → HasProofs Had head proofs → (more : List Proof) × AreTreesOf Tree (with_safe number p (tree_size verdict) []) more × HasProofs Has head (proofs ++ more)

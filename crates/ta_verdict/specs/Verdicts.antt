@@ -24,6 +24,9 @@ use Rattle.ta_walk.specs.Visit.{IsOutOfRangeAt}
 use Rattle.ta_walk.specs.Ends.{IsProof, IsSpent, NodeOf, SolutionAt, TreeIs, leaf_count}
 use Rattle.ta_walk.specs.FoundOrders.{FoundOrders}
 use Rattle.ta_walk.specs.Splits.{HasAtMost, WasSplit}
+use Rattle.ta_report.specs.Picked.{first_picked, picked}
+use Rattle.ta_report.specs.declared.pick.Pick.{Pick}
+use Rattle.ta_report.specs.declared.pick.Pick.TheVariants.{All}
 use Rattle.ta_report.specs.declared.verdict.ReportKind.{ReportKind}
 use Rattle.ta_report.specs.declared.verdict.ReportKind.TheVariants as kind
 use Rattle.ta_report.specs.declared.verdict.Verdict.{Verdict}
@@ -198,15 +201,22 @@ is_unknown (Unsafe nodes run) = false
 is_unknown (Spent nodes) = true
 is_unknown (Overflow node kind) = true
 
--- a verdict on each pattern of a file, in order: each holds, its numbers are below 2^64, and its run fits the file
-pub record AreVerdicts (file : File) (budget : Budget) (verdicts : List Verdict) : Type 0 where
-  pub hold : VerdictsHold file budget 0 file.patterns verdicts
+-- a verdict on each picked pattern of a file, in order: each holds, its numbers are below 2^64, and its run fits the file
+pub record AreVerdictsOn (file : File) (pick : Pick) (budget : Budget) (verdicts : List Verdict) : Type 0 where
+  pub hold : VerdictsHold file budget (first_picked pick) (picked pick file.patterns) verdicts
   pub fit : AllByRecursion (VerdictFits file) verdicts
 
--- a file has one list of verdicts for a budget
-abbrev pub VerdictsAreDetermined : Type 0
-VerdictsAreDetermined = (file : File) (budget : Budget) (vs ws : List Verdict) → AreVerdicts file budget vs → AreVerdicts file budget ws → vs ≡ ws
+-- a verdict on each pattern
+abbrev pub AreVerdicts : File → Budget → List Verdict → Type 0
+AreVerdicts file budget verdicts = AreVerdictsOn file All budget verdicts
 
--- no verdict holds that leaves a pattern unknown
-abbrev pub IsKnown : File → Budget → Type 0
-IsKnown file budget = (number : ℕ) (p : Pattern) (v : Verdict) → slice_get file.patterns number ≡ Some p → is_unknown v ≡ true → ¬ VerdictHolds file budget number p v
+-- a file has one list of verdicts on its picked patterns for a budget
+abbrev pub VerdictsAreDetermined : Type 0
+VerdictsAreDetermined =
+    (file : File) (pick : Pick) (budget : Budget) (vs ws : List Verdict) → AreVerdictsOn file pick budget vs → AreVerdictsOn file pick budget ws → vs ≡ ws
+
+-- no verdict holds that leaves a picked pattern unknown
+abbrev pub IsKnown : File → Pick → Budget → Type 0
+IsKnown file pick budget =
+    (place : ℕ) (p : Pattern) (v : Verdict) → slice_get (picked pick file.patterns) place ≡ Some p → is_unknown v ≡ true
+    → ¬ VerdictHolds file budget (first_picked pick + place) p v

@@ -4,7 +4,6 @@
 ghost use Rattle.std.specs.List.{concat};
 ghost use Rattle.std.specs.Prelude.{◌≡◌, ◌++◌, [], IfOk, OnOk, List, ℕ, false, true};
 ghost use Rattle.ta_cert.specs.Certificates.{head_text};
-ghost use Rattle.ta_cert.specs.declared.line.Line.TheVariants.{End};
 ghost use Rattle.ta_verdict.specs.Drafts.{DraftKeeps, HasText, ended_line};
 
 use crate::pieces::Pieces;
@@ -22,6 +21,17 @@ pub struct Draft {
 }
 
 impl Draft {
+    /// A draft without lines. It takes no memory.
+    pub fn new(alloc: Global, wanted: bool) -> Draft
+        ensures wanted { result.wanted ≡ wanted }
+        ensures text { HasText result [] }
+    {
+        Draft {
+            wanted,
+            lines: Pieces::new(alloc),
+        }
+    }
+
     /// A draft that begins with a line.
     pub fn begin(alloc: Global, wanted: bool, line: &Line) -> Result<Draft, AllocError>
         ensures wanted { IfOk result (λ draft. draft.wanted ≡ wanted) }
@@ -49,7 +59,7 @@ impl Draft {
     }
 
     /// Adds the lines of another draft.
-    pub fn add(&mut self, alloc: Global, other: Draft) -> Result<(), AllocError>
+    pub fn join(&mut self, alloc: Global, other: Draft) -> Result<(), AllocError>
         requires { self.old.wanted ≡ other.wanted }
         ensures wanted { OnOk result (self.new.wanted ≡ self.old.wanted) }
         ensures text { (begun more : List ℕ) → HasText self.old begun → HasText other more → OnOk result (HasText self.new (begun ++ more)) }
@@ -60,16 +70,15 @@ impl Draft {
         self.lines.append(alloc, other.lines)
     }
 
-    /// The pieces, with the line `end` behind them; none where no lines are wanted.
-    pub fn end(self, alloc: Global) -> Result<List<Text>, AllocError>
-        ensures text { self.wanted ≡ true → (begun : List ℕ) → HasText self begun → IfOk result (λ texts. concat texts ≡ begun ++ ended_line End) }
+    /// The pieces; none where no lines are wanted.
+    pub fn into_pieces(self, alloc: Global) -> Result<List<Text>, AllocError>
+        ensures text { self.wanted ≡ true → (text : List ℕ) → HasText self text → IfOk result (λ texts. concat texts ≡ text) }
         ensures unwanted { self.wanted ≡ false → IfOk result (λ texts. texts ≡ []) }
     {
         if !self.wanted {
             return Ok(List::from_vec(Vec::new(alloc)));
         }
         let mut lines = self.lines;
-        lines.write(alloc, &Line::End)?;
         lines.close(alloc)?;
         Ok(List::from_vec(lines.whole))
     }

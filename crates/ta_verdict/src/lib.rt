@@ -8,7 +8,8 @@
 //!
 //! A tree is written line by line as its nodes come, into a draft in pieces of 64 KB, so no node
 //! stays in memory and no long text is copied as it grows. The draft of a pattern joins the
-//! certificate if the pattern is safe, and is dropped otherwise.
+//! certificate if the pattern is safe, and is dropped otherwise. The certificate is written to a file
+//! that is staged, or held in memory.
 #![tactic(auto)]
 
 mod budget;
@@ -21,11 +22,13 @@ mod pieces;
 pub mod rest;
 mod sampling;
 mod saying;
+mod target;
 mod trees;
 
 pub use budget::Budget;
 pub use draft::Draft;
-pub use judging::{Judged, judge_file};
+pub use judging::{Judged, judge_file, judge_picked_to};
 pub use laws::{certificates_are_determined, verdicts_are_determined};
 pub use sampling::{report_kind, sample_of};
 pub use saying::{is_safe, is_unknown, is_unsafe, unwitnessed};
+pub use target::Target;

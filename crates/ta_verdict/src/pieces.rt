@@ -12,8 +12,9 @@ use std::mem;
 use ta_base::Text;
 use ta_cert::{Line, Order, write_head, write_line};
 
-/// How long a piece grows before the next one is begun, in bytes.
-const PIECE: usize = 65_536;
+/// How long a piece grows before the next one is begun, in bytes: a line less than the 64 KB to which a
+/// text grows by doubling, so that little of a piece's memory is left over.
+const PIECE: usize = 61_440;
 
 /// Lines of a certificate, one behind the other, in pieces: so a long text is never copied as it
 /// grows. The last piece is still open.

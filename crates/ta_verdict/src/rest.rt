@@ -7,7 +7,7 @@ mod laws;
 mod quiet_verdict;
 mod verdict;
 
-pub use judging::judge_rest;
+pub use judging::{judge_rest, judge_rest_to};
 pub use laws::{
     rest_certificates_are_determined, rest_texts_are_alike, rest_verdicts_are_determined,
     rest_verdicts_are_told, rests_are_solved,

@@ -11,6 +11,7 @@ use Rattle.ta_silent.specs.declared.fault.SilentFault.{SilentFault}
 use Rattle.ta_silent.specs.declared.fault.SilentFault.TheVariants as fault
 use Rattle.ta_program.specs.declared.limits.TheConstants.{FILE}
 use Rattle.ta_program.specs.SilentNames.{NamesHinder, silent_fault_text}
+use Rattle.ta_program.specs.PatternOption.{PickHinders}
 use Rattle.ta_program.specs.Export.{WordHinders}
 use Rattle.ta_program.specs.RestEnds.{CycleHinders}
 
@@ -34,6 +35,13 @@ SilentRefused name a names (Refused number who why) = NamesHinder name a names n
 SilentRefused name a names (ReadFailed who) = ⊥
 SilentRefused name a names (PutFailed who) = ⊥
 SilentRefused name a names Memory = Unit {0}
+
+-- a file has no pattern with the name that is given
+abbrev pub PickRefused : List ℕ → File → Option (List ℕ) → Refusal → Type 0
+PickRefused name file pattern (Refused number who why) = PickHinders name file pattern number (file_line who.now (phrase_text why))
+PickRefused name file pattern (ReadFailed who) = ⊥
+PickRefused name file pattern (PutFailed who) = ⊥
+PickRefused name file pattern Memory = ⊥
 
 -- a refusal names this error, or says that memory ran out
 abbrev pub TellsSilent : List ℕ → SilentFault → Refusal → Type 0

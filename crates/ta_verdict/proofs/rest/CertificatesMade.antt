@@ -1,6 +1,6 @@
 -- the text of the trees of safe endings is a certificate that a judge accepts
 use Rattle.ta_verdict.proofs.rest.Common.{◌≡◌, ◌∙◌, ℕ, ◌≤◌, Bool, true, false, List, [], ◌++◌, Some, slice_get, refl, subst, sym, File, Pattern, Node, Proof}
-use Rattle.ta_verdict.proofs.rest.Common.{Verdict, moments_of, of_rest, rest_search, AreTreesOf, safe_numbers, safe_ones, ended_line, RestBudget}
+use Rattle.ta_verdict.proofs.rest.Common.{Verdict, moments_of, of_rest, rest_search, AreTreesOf, Pick, safe_among, safe_picked, ended_line, RestBudget}
 use Rattle.ta_verdict.proofs.rest.Common.{RestCertificateOf, rest_head, rest_text_by, rest_tree, rest_tree_by, RestSafe, no_pairs_good, pattern_within}
 use Rattle.ta_verdict.proofs.rest.Common.{proof_made, proofs_text, IsProof}
 use Rattle.std.proofs.Common.{lit<}
@@ -9,7 +9,7 @@ use Rattle.ta_check.specs.Certificate.{QuietRestCertificate}
 use Rattle.ta_check.specs.Subjects.{Moments, Words, claiming_with}
 use Rattle.ta_moment_tree.specs.Makers.{moment_maker}
 use Rattle.ta_moment_walk.proofs.NodesMade.{proof_made as moments_proof}
-use Rattle.ta_verdict.proofs.CertificatesMade.{accepted, all_short, cert_written, made, ones_distinct, question_written, safe_named, version_short}
+use Rattle.ta_verdict.proofs.CertificatesMade.{accepted, all_short, cert_written, made, question_written, safe_distinct, safe_named, version_short}
 
 -- the nodes of such a tree
 words_judged : (ending : File) (budget : RestBudget) → budget.nodes ≤ 1000000000 → (number : ℕ) (p : Pattern) → slice_get ending.patterns number ≡ Some p
@@ -23,34 +23,34 @@ moments_judged ending budget within number p at nodes count tree =
     let asking = of_rest budget.silent in
     moments_proof ending.automaton p asking (moment_maker ending.automaton p asking) (pattern_within ending number p at) budget.nodes within nodes count tree
 
-accepted_by : (lazy : Bool) (ending : File) (budget : RestBudget) → (lazy ≡ false → budget.silent ≡ []) → budget.nodes ≤ 1000000000
-    → (vs : List Verdict) (trees : List Proof) → AreTreesOf (rest_tree_by lazy ending budget) (safe_ones 0 ending.patterns vs) trees → (text : List ℕ)
-    → text ≡ rest_text_by lazy trees → QuietRestCertificate ending budget.silent text (safe_numbers ending vs)
-accepted_by false ending budget words within vs trees are text written =
-    let ones = safe_ones 0 ending.patterns vs in
+accepted_by : (lazy : Bool) (ending : File) (pick : Pick) (budget : RestBudget) → (lazy ≡ false → budget.silent ≡ []) → budget.nodes ≤ 1000000000
+    → (vs : List Verdict) (trees : List Proof) → AreTreesOf (rest_tree_by lazy ending budget) (safe_picked ending pick vs) trees → (text : List ℕ)
+    → text ≡ rest_text_by lazy trees → QuietRestCertificate ending budget.silent text (safe_among ending pick vs)
+accepted_by false ending pick budget words within vs trees are text written =
+    let ones = safe_picked ending pick vs in
     let subject = claiming_with RestSafe ending [] in
-    let m = made Words subject [] (rest_tree_by false ending budget) (words_judged ending budget within) ones trees (safe_named ending vs) are in
-    subst (λ (silent : List ℕ). QuietRestCertificate ending silent text (safe_numbers ending vs)) (sym (words refl))
-    (accepted Words subject [] (record { may = refl; shown = tt; good = no_pairs_good ending.automaton }) ones (ones_distinct 0 ending.patterns vs) trees m
+    let m = made Words subject [] (rest_tree_by false ending budget) (words_judged ending budget within) ones trees (safe_named ending pick vs) are in
+    subst (λ (silent : List ℕ). QuietRestCertificate ending silent text (safe_among ending pick vs)) (sym (words refl))
+    (accepted Words subject [] (record { may = refl; shown = tt; good = no_pairs_good ending.automaton }) ones (safe_distinct ending pick vs) trees m
     (all_short [] trees tt m.short) text written)
-accepted_by true ending budget words within vs trees are text written =
-    let ones = safe_ones 0 ending.patterns vs in
+accepted_by true ending pick budget words within vs trees are text written =
+    let ones = safe_picked ending pick vs in
     let subject = claiming_with RestSafe ending budget.silent in
-    let m = made Moments subject [] (rest_tree_by true ending budget) (moments_judged ending budget within) ones trees (safe_named ending vs) are in
-    accepted Moments subject [] (record { may = refl; shown = tt; good = no_pairs_good ending.automaton }) ones (ones_distinct 0 ending.patterns vs) trees m
+    let m = made Moments subject [] (rest_tree_by true ending budget) (moments_judged ending budget within) ones trees (safe_named ending pick vs) are in
+    accepted Moments subject [] (record { may = refl; shown = tt; good = no_pairs_good ending.automaton }) ones (safe_distinct ending pick vs) trees m
     (version_short 3 (lit< tt), m.short) text written
 
 -- a certificate of words is one for rest alone, without silent places
-pub rest_accepted : (ending : File) (budget : RestBudget) → (budget.lazy ≡ false → budget.silent ≡ []) → budget.nodes ≤ 1000000000
-    → (vs : List Verdict) (text : List ℕ) → RestCertificateOf ending budget vs text → QuietRestCertificate ending budget.silent text (safe_numbers ending vs)
-rest_accepted ending budget words within vs text c = accepted_by budget.lazy ending budget words within vs c.trees c.are text c.written
+pub rest_accepted : (ending : File) (pick : Pick) (budget : RestBudget) → (budget.lazy ≡ false → budget.silent ≡ []) → budget.nodes ≤ 1000000000
+    → (vs : List Verdict) (text : List ℕ) → RestCertificateOf ending pick budget vs text → QuietRestCertificate ending budget.silent text (safe_among ending pick vs)
+rest_accepted ending pick budget words within vs text c = accepted_by budget.lazy ending pick budget words within vs c.trees c.are text c.written
 
 text_made : (lazy : Bool) (proofs : List Proof) → (rest_head lazy ++ proofs_text proofs) ++ ended_line line.End ≡ rest_text_by lazy proofs
 text_made false proofs = cert_written [] proofs
 text_made true proofs = question_written proofs
 
 -- the first line, the proofs and the end are such a certificate
-pub rest_made : (ending : File) (budget : RestBudget) (vs : List Verdict) (proofs : List Proof)
-    → AreTreesOf (rest_tree ending budget) (safe_ones 0 ending.patterns vs) proofs → (text : List ℕ)
-    → text ≡ (rest_head budget.lazy ++ proofs_text proofs) ++ ended_line line.End → RestCertificateOf ending budget vs text
-rest_made ending budget vs proofs trees text is = record { trees = proofs; are = trees; written = is ∙ text_made budget.lazy proofs }
+pub rest_made : (ending : File) (pick : Pick) (budget : RestBudget) (vs : List Verdict) (proofs : List Proof)
+    → AreTreesOf (rest_tree ending budget) (safe_picked ending pick vs) proofs → (text : List ℕ)
+    → text ≡ (rest_head budget.lazy ++ proofs_text proofs) ++ ended_line line.End → RestCertificateOf ending pick budget vs text
+rest_made ending pick budget vs proofs trees text is = record { trees = proofs; are = trees; written = is ∙ text_made budget.lazy proofs }

@@ -1,6 +1,6 @@
 -- The names that the proofs of this crate cite, passed on from one place. Declares nothing.
-pub use Rattle.std.proofs.Common.{Bool, Err, List, Ok, Option, Result, Some, [], ap, append-nil, arith, codes, false, inl, inr, length, map, refl, rules}
-pub use Rattle.std.proofs.Common.{slice_get, subst, suc, sym, true, zero, ℕ, ◌++◌, ◌<◌, ◌∙◌, ◌∷◌, ◌≡◌, ◌≤◌}
+pub use Rattle.std.proofs.Common.{Bool, Err, List, None, Ok, Option, Result, Some, [], ap, append-nil, arith, codes, false, inl, inr, length, map, refl, rules}
+pub use Rattle.std.proofs.Common.{slice_get, subst, suc, sym, true, zero, ℕ, ◌+◌, ◌++◌, ◌<◌, ◌∙◌, ◌∷◌, ◌≡◌, ◌≤◌}
 pub use Rattle.std.proofs.lemmas.List.{map-append}
 pub use Rattle.std.proofs.lemmas.Option.{same_Some, slice_get_within}
 pub use Rattle.std.specs.List.{AllByRecursion}
@@ -23,7 +23,12 @@ pub use Rattle.ta_encode.specs.Refutes.{IsLeaf}
 pub use Rattle.ta_encode.specs.Search.{Search}
 pub use Rattle.ta_encode.specs.declared.encoded.Solution.{Solution}
 pub use Rattle.ta_replay.specs.declared.run.Run.{Run}
-pub use Rattle.ta_report.specs.Report.{VerdictFits, rest_word, run_part, sample_line, told_line, told_lines, values_text, verdict_text}
+pub use Rattle.ta_report.proofs.Picks.{picked_count, picked_there}
+pub use Rattle.ta_report.specs.Json.{json_text, sample_data, texts_data, verdict_data, verdicts_data}
+pub use Rattle.ta_report.specs.Picked.{first_picked, listed, picked}
+pub use Rattle.ta_report.specs.declared.pick.Pick.{Pick}
+pub use Rattle.ta_report.specs.declared.pick.Pick.TheVariants.{All, One}
+pub use Rattle.ta_report.specs.Report.{VerdictFits, rest_word, run_part, sample_line, told_line, told_lines, told_text, values_text, verdict_text}
 pub use Rattle.ta_report.specs.declared.verdict.Verdict.{Verdict}
 pub use Rattle.ta_report.specs.declared.verdict.Verdict.TheVariants.{Overflow, Safe, Spent, Unsafe}
 pub use Rattle.ta_rest.proofs.EndingShapes.{endings_count, endings_names}
@@ -43,12 +48,13 @@ pub use Rattle.ta_verdict.specs.Rest.Laws.{RestTextsAreAlike, RestVerdictsAreDet
 pub use Rattle.ta_verdict.specs.Rest.Verdicts.{EndingVerdictHolds, IsNotSafe, KeepsSafe, OwnVerdict, OwnVerdicts, RestVerdictHolds, quiet_question}
 pub use Rattle.ta_verdict.specs.Rest.Verdicts.{rest_holds_by, rest_question}
 pub use Rattle.ta_verdict.proofs.DraftsMade.{adds_tree, wanted_same}
-pub use Rattle.ta_verdict.proofs.JudgedSoFar.{JudgedSoFar, judged_all, judged_more}
+pub use Rattle.ta_verdict.proofs.JudgedSoFar.{JudgedSoFar}
 pub use Rattle.ta_verdict.proofs.VerdictsMade.{as_many, held_by, holds_weaker, overflow_holds, run_leaves, said_of, so_many}
-pub use Rattle.ta_verdict.specs.Certificates.{AreTreesOf, safe_numbers, safe_ones}
+pub use Rattle.ta_verdict.specs.Certificates.{AreTreesOf, safe_among, safe_ones, safe_picked}
 pub use Rattle.ta_verdict.specs.Drafts.{DraftHasTree, DraftKeeps, ended_line}
 pub use Rattle.ta_verdict.specs.Verdicts.{EachHolds}
 pub use Rattle.ta_walk.proofs.ProofsMade.{proof_made}
 pub use Rattle.ta_walk.proofs.WordsVisited.{left_wait, starts_wait}
 pub use Rattle.ta_walk.specs.Ends.{IsProof, IsSpent, NodeOf, SolutionAt, TreeIs, TreeKept}
 pub use Rattle.ta_witness.specs.Witness.{WitnessFaultOf}
+pub use Rattle.ta_shell.specs.Staging.{Begun}

@@ -12,7 +12,6 @@ use Rattle.ta_moment_run.proofs.Resting.{runs_rest}
 use Rattle.ta_moment_tree.specs.Makers.{node_of}
 use Rattle.ta_moment_walk.specs.Found.{RunAt, ShownRun}
 use Rattle.ta_replay.specs.Fits.{Fits}
-use Rattle.ta_replay.specs.Shows.{unit_steps}
 use Rattle.ta_rest.specs.Endings.{ComesLast}
 use Rattle.ta_rest.specs.Quiet.{QuietRest, QuietRestOccurs}
 use Rattle.ta_rest_run.proofs.OwnRuns.{ComesToAny, begins_own, ending_steps, own_comes}

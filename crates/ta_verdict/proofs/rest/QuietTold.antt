@@ -1,6 +1,6 @@
 -- what is known of verdicts by moments on runs that come to quiet rest, as they are made
-use Rattle.ta_verdict.proofs.rest.Common.{◌≡◌, ℕ, ◌≤◌, List, [], ◌∷◌, Some, slice_get, sym, subst, Automaton, File, Pattern, Node, Run, EndingsOf, RestFile}
-use Rattle.ta_verdict.proofs.rest.Common.{Verdict, Safe, Unsafe, Spent, Overflow, IsSpent, NodeOf, TreeKept, OwnVerdict, Found, FoundAt, Fact, moments_of}
+use Rattle.ta_verdict.proofs.rest.Common.{◌≡◌, ℕ, ◌≤◌, List, [], ◌∷◌, Some, slice_get, sym, subst, Automaton, File, Pattern, Node, Run, RestFile}
+use Rattle.ta_verdict.proofs.rest.Common.{Safe, Unsafe, Spent, Overflow, IsSpent, TreeKept, OwnVerdict, moments_of}
 use Rattle.ta_verdict.proofs.rest.Common.{of_rest, EndsAsAdded, ending_run, moments_within, quiet_question, run_leaves}
 use Rattle.ta_automaton.specs.Runs.{LoopsPure}
 use Rattle.ta_check.specs.Subjects.{claimed_with}

@@ -1,6 +1,6 @@
 -- what a verdict at rest that holds says of a file's own pattern, by either tree
 use Rattle.ta_verdict.proofs.rest.Common.{◌≡◌, ◌∙◌, ℕ, Bool, true, false, List, [], ◌∷◌, length, Some, slice_get, refl, sym, ap, subst, Automaton, File}
-use Rattle.ta_verdict.proofs.rest.Common.{Pattern, Run, Verdict, Safe, Unsafe, Spent, Overflow, RestBudget, RestVerdictHolds, ending_run, rest_holds_by}
+use Rattle.ta_verdict.proofs.rest.Common.{Pattern, Run, Verdict, Safe, Unsafe, Spent, Overflow, RestBudget, RestVerdictHolds, rest_holds_by}
 use Rattle.ta_automaton.specs.Runs.{Config}
 use Rattle.ta_check.specs.Subjects.{claimed_with}
 use Rattle.ta_claim.specs.declared.claim.Claim.TheVariants as claim

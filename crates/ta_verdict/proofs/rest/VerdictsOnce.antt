@@ -6,7 +6,7 @@ use Rattle.ta_moment_walk.proofs.RunsOnce.{runs_once}
 use Rattle.ta_replay.specs.Replays.{ReplayStays}
 use Rattle.ta_rest_run.proofs.Once.{marks_once, one_rest_witness}
 use Rattle.ta_rest_run.proofs.Resting.{solutions_solve}
-use Rattle.ta_verdict.proofs.VerdictsOnce.{HasOneRun, HasOneSolution, answer_once, found_once, verdicts_same, words_have_one}
+use Rattle.ta_verdict.proofs.VerdictsOnce.{HasOneRun, HasOneSolution, answer_once, found_once, picked_same, words_have_one}
 use Rattle.ta_witness.proofs.WitnessOnce.{one_witness}
 use Rattle.ta_verdict.proofs.rest.RestsSolved.{found_solved}
 
@@ -53,5 +53,5 @@ verdict_once file ending added budget same k p v w at h g =
     verdict_by budget.lazy file ending added budget k own.0 p v w at (h own.0 own.1) (g own.0 own.1)
 
 pub verdicts_once : RestVerdictsAreDetermined
-verdicts_once file ending added budget ends vs ws h k =
-    verdicts_same (EndingVerdictHolds file ending added budget) ending.patterns vs ws (verdict_once file ending added budget (endings_count file.patterns ending.patterns ends.patterns)) h.hold k.hold
+verdicts_once file ending added pick budget ends vs ws h k =
+    picked_same (EndingVerdictHolds file ending added budget) pick ending.patterns vs ws (verdict_once file ending added budget (endings_count file.patterns ending.patterns ends.patterns)) h.hold k.hold

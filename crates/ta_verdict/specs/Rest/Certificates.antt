@@ -6,9 +6,11 @@ use Rattle.ta_cert.specs.Certificates.{cert_text, head_text, question_text}
 use Rattle.ta_cert.specs.declared.line.Line.TheVariants as line
 use Rattle.ta_cert.specs.declared.line.Node.{Node}
 use Rattle.ta_cert.specs.declared.line.Proof.{Proof}
+use Rattle.ta_check.specs.Certificate.{QuietRestCertificate}
+use Rattle.ta_report.specs.declared.pick.Pick.{Pick}
 use Rattle.ta_report.specs.declared.verdict.Verdict.{Verdict}
 use Rattle.ta_rest.specs.RestSearch.{rest_search}
-use Rattle.ta_verdict.specs.Certificates.{AreTreesOf, safe_ones}
+use Rattle.ta_verdict.specs.Certificates.{AreTreesOf, safe_among, safe_picked}
 use Rattle.ta_verdict.specs.Drafts.{ended_line}
 use Rattle.ta_walk.specs.Ends.{TreeIs}
 use Rattle.ta_moment_tree.specs.Makers.{moments_of}
@@ -33,14 +35,21 @@ abbrev pub rest_head : Bool → List ℕ
 rest_head false = head_text []
 rest_head true = ended_line (line.Header 3)
 
--- the certificate of the patterns that verdicts say are safe: the text of the trees of their endings, in the order of the file
-pub record RestCertificateOf (ending : File) (budget : RestBudget) (verdicts : List Verdict) (text : List ℕ) : Type 0 where
+-- the certificate of the picked patterns that verdicts say are safe: the text of the trees of their endings, in the order of the file
+pub record RestCertificateOf (ending : File) (pick : Pick) (budget : RestBudget) (verdicts : List Verdict) (text : List ℕ) : Type 0 where
   pub trees : List Proof
-  pub are : AreTreesOf (rest_tree ending budget) (safe_ones 0 ending.patterns verdicts) trees
+  pub are : AreTreesOf (rest_tree ending budget) (safe_picked ending pick verdicts) trees
   pub written : text ≡ rest_text_by budget.lazy trees
+
+-- what has a text has the certificate of the picked patterns that verdicts say are safe, which the checker accepts as one of exactly these
+pub record RestCertified (ending : File) (pick : Pick) (budget : RestBudget) (verdicts : List Verdict) (Has : List ℕ → Type 0) : Type 0 where
+  pub text : List ℕ
+  pub has : Has text
+  pub certificate : RestCertificateOf ending pick budget verdicts text
+  pub accepted : QuietRestCertificate ending budget.silent text (safe_among ending pick verdicts)
 
 -- a file of endings has one certificate for verdicts within a budget
 abbrev pub RestCertificatesAreDetermined : Type 0
 RestCertificatesAreDetermined =
-    (ending : File) (budget : RestBudget) (vs : List Verdict) (text other : List ℕ)
-    → RestCertificateOf ending budget vs text → RestCertificateOf ending budget vs other → text ≡ other
+    (ending : File) (pick : Pick) (budget : RestBudget) (vs : List Verdict) (text other : List ℕ)
+    → RestCertificateOf ending pick budget vs text → RestCertificateOf ending pick budget vs other → text ≡ other

@@ -1,10 +1,12 @@
 -- What visits of schemas of rest find, and that verdicts at rest are unique.
-use Rattle.std.specs.Prelude.{ℕ, ◌≡◌, List, slice_get, Some}
+use Rattle.std.specs.Prelude.{ℕ, ◌≡◌, Bool, true, List, slice_get, Some}
 use Rattle.std.specs.List.{AllByRecursion}
 use Rattle.ta_automaton.specs.declared.file.File.{File}
 use Rattle.ta_automaton.specs.declared.pattern.Pattern.{Pattern}
 use Rattle.ta_encode.specs.declared.encoded.Solution.{Solution}
-use Rattle.ta_report.specs.Report.{VerdictFits, rest_text}
+use Rattle.ta_report.specs.Report.{VerdictFits}
+use Rattle.ta_report.specs.Telling.{report_of}
+use Rattle.ta_report.specs.declared.pick.Pick.{Pick}
 use Rattle.ta_report.specs.declared.verdict.ReportSample.{ReportSample}
 use Rattle.ta_report.specs.declared.verdict.Verdict.{Verdict}
 use Rattle.ta_rest.specs.Faults.{EndingsOf}
@@ -21,16 +23,16 @@ RestsAreSolved =
     → (budget count : ℕ) (solution : Solution) → NodeOf (rest_search file.automaton p) budget count (SolutionAt (rest_search file.automaton p) number solution)
     → IsRestSolution file solution
 
--- a file has one list of verdicts for a budget
+-- a file has one list of verdicts on its picked patterns for a budget
 abbrev pub RestVerdictsAreDetermined : Type 0
 RestVerdictsAreDetermined =
-    (file ending : File) (added : ℕ) (budget : RestBudget) → EndingsOf file ending added
-    → (vs ws : List Verdict) → AreRestVerdicts file ending added budget vs → AreRestVerdicts file ending added budget ws
+    (file ending : File) (added : ℕ) (pick : Pick) (budget : RestBudget) → EndingsOf file ending added
+    → (vs ws : List Verdict) → AreRestVerdicts file ending added pick budget vs → AreRestVerdicts file ending added pick budget ws
     → vs ≡ ws
 
 -- the report of a file's own patterns is that of their endings: these have the same names, and so have their events
 abbrev pub RestTextsAreAlike : Type 0
 RestTextsAreAlike =
     (file ending : File) (added : ℕ) → EndingsOf file ending added
-    → (sample : ReportSample) (vs : List Verdict) → AllByRecursion (VerdictFits file) vs
-    → rest_text ending sample vs ≡ rest_text file sample vs
+    → (json : Bool) (pick : Pick) (sample : ReportSample) (vs : List Verdict) → AllByRecursion (VerdictFits file) vs
+    → report_of true json ending pick sample vs ≡ report_of true json file pick sample vs

@@ -11,6 +11,8 @@ use Rattle.ta_rest.specs.Rest.{RestSafe}
 use Rattle.ta_rest.specs.RestSearch.{rest_search}
 use Rattle.ta_rest.specs.declared.rest_file.RestFile.{RestFile}
 use Rattle.ta_rest_run.specs.Runs.{RestWitnessOf}
+use Rattle.ta_report.specs.Picked.{first_picked, picked}
+use Rattle.ta_report.specs.declared.pick.Pick.{Pick}
 use Rattle.ta_report.specs.declared.verdict.Verdict.{Verdict}
 use Rattle.ta_report.specs.declared.verdict.Verdict.TheVariants.{Safe, Unsafe, Spent, Overflow}
 use Rattle.ta_report.specs.Report.{VerdictFits}
@@ -86,13 +88,13 @@ IsNotSafe (Unsafe nodes run) = Unit {0}
 IsNotSafe (Spent nodes) = Unit {0}
 IsNotSafe (Overflow node kind) = Unit {0}
 
--- a verdict on each pattern of a file, in order, one for each: it holds, its numbers are below 2^64, and its run fits the file
-pub record AreRestVerdicts (file ending : File) (added : ℕ) (budget : RestBudget) (verdicts : List Verdict) : Type 0 where
-  pub each : length verdicts ≡ length file.patterns
-  pub hold : EachHolds (EndingVerdictHolds file ending added budget) 0 ending.patterns verdicts
+-- a verdict on each picked pattern of a file, in order, one for each: it holds, its numbers are below 2^64, and its run fits the file
+pub record AreRestVerdicts (file ending : File) (added : ℕ) (pick : Pick) (budget : RestBudget) (verdicts : List Verdict) : Type 0 where
+  pub each : length verdicts ≡ length (picked pick file.patterns)
+  pub hold : EachHolds (EndingVerdictHolds file ending added budget) (first_picked pick) (picked pick ending.patterns) verdicts
   pub fit : AllByRecursion (VerdictFits file) verdicts
 
--- a verdict on each pattern of each file that has these endings
-abbrev pub OwnVerdicts : RestFile → RestBudget → List Verdict → Type 0
-OwnVerdicts rest budget verdicts =
-    (file : File) → EndingsOf file rest.ending.file rest.added → AreRestVerdicts file rest.ending.file rest.added budget verdicts
+-- a verdict on each picked pattern of each file that has these endings
+abbrev pub OwnVerdicts : RestFile → Pick → RestBudget → List Verdict → Type 0
+OwnVerdicts rest pick budget verdicts =
+    (file : File) → EndingsOf file rest.ending.file rest.added → AreRestVerdicts file rest.ending.file rest.added pick budget verdicts

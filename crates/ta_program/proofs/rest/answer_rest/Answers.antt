@@ -1,29 +1,45 @@
-use Rattle.ta_program.proofs.Common.{◌≡◌, ◌∙◌, List, ap, length, subst, sym, true, is_some, AllByRecursion, Verdict, VerdictFits, concat, RestReported, resting, verdicts_number}
-use Rattle.ta_program.proofs.Resting.{certified_says, plain_says}
+use Rattle.ta_program.proofs.Common.{◌∙◌, refl, Some, None, Begun, RestReports, HindersRest, ends_of, resting}
+use Rattle.ta_program.proofs.Resting.{rest_certified, rest_plain, rest_text_has}
+use Rattle.ta_program.proofs.Certifying.{kept_or, memory_says, none_staged, nowhere, plain_says, plain_staged, refused_staged, staged_or, staged_says}
 use Rattle.ta_program.proofs.rest.answer_rest.Goals as goal
-
-pub report-requires-clause-all : goal.report-requires-clause-all
-report-requires-clause-all g c = subst (λ (vs : List Verdict). length vs ≡ length c.args.rest.now.ending.file.patterns) (sym c.as_slice-2.ensures) c.in-Ok.ensures.all
-
-pub report-requires-clause-fit : goal.report-requires-clause-fit
-report-requires-clause-fit g c = subst (AllByRecursion (VerdictFits c.args.rest.now.ending.file)) (sym c.as_slice-2.ensures) c.in-Ok.ensures.fit
 
 pub returns-in-None-clause-says : goal.returns-in-None-clause-says
 returns-in-None-clause-says g c = λ files file ends.
     let rest = c.args.rest.now in
     let budget = resting c.args.budget.now.given c.args.silent.now in
-    let vs = c.in-Ok.judged.verdicts in
-    let number : c.number_of-number.result ≡ verdicts_number vs = c.number_of-number.ensures ∙ ap verdicts_number c.as_slice.ensures in
-    let reported = subst (λ (ws : List Verdict). RestReported rest.ending.file budget.nodes ws c.in-Ok-report.text) c.as_slice-2.ensures c.in-Ok-report.ensures in
-    rw c.in-None.is (plain_says rest file ends budget vs (c.in-Ok.ensures.verdicts file ends) c.number_of-number.result c.in-Ok-report.text number reported files c.writing.result c.writing.ensures.numbered c.writing.ensures.written c.writing.ensures.no_put)
+    let to = rest_plain rest file ends budget _ c.report_to.result (c.report_to.ensures.reports nowhere c.new-none.ensures.text) in
+    rw c.in-None.is (plain_says (RestReports file (ends_of rest) budget None) (HindersRest file (ends_of rest) budget None) g.S.Shelf.stage_bytes c.report_to.result c.answer_plain.result to c.answer_plain.ensures files)
 
-pub returns-clause-says : goal.returns-clause-says
-returns-clause-says g c = λ files file ends.
+pub returns-in-None-clause-staged : goal.returns-in-None-clause-staged
+returns-in-None-clause-staged g c =
+    rw c.in-None.is (none_staged _ _ (plain_staged g.S.Shelf.stage_name g.S.Shelf.stage_bytes c.report_to.result c.answer_plain.result _ c.answer_plain.ensures))
+
+pub returns-in-Ok-clause-says : goal.returns-in-Ok-clause-says
+returns-in-Ok-clause-says g c = λ files file ends.
     let rest = c.args.rest.now in
     let budget = resting c.args.budget.now.given c.args.silent.now in
-    let judged = c.in-Ok.judged in
-    let vs = judged.verdicts in
-    let number : c.number_of-number.result ≡ verdicts_number vs = c.number_of-number.ensures ∙ ap verdicts_number c.as_slice.ensures in
-    let reported = subst (λ (ws : List Verdict). RestReported rest.ending.file budget.nodes ws c.in-Ok-report.text) c.as_slice-2.ensures c.in-Ok-report.ensures in
-    let wanted : c.is_some.result ≡ true = c.is_some.ensures ∙ ap is_some c.in-Some.is in
-    rw c.in-Some.is (certified_says rest file ends budget vs (c.in-Ok.ensures.verdicts file ends) c.number_of-number.result c.in-Ok-report.text number reported files c.in-Some.name.now (concat judged.certificate) (c.in-Ok.ensures.certificate wanted) (c.in-Ok.ensures.accepted wanted) c.answer_certified.result c.answer_certified.ensures.certified)
+    let name = c.in-Some.name.now in
+    let begun : Begun = record { name = name; before = record { files = g.S.Shelf.files c.args.shelf.now; calls = g.S.Shelf.calls c.args.shelf.now; faults = g.S.Shelf.faults c.args.shelf.now } } in
+    let to = c.report_to-report.ensures.reports begun c.in-Ok.ensures.begun in
+    rw c.in-Some.is (staged_says name (RestReports file (ends_of rest) budget (Some name)) (HindersRest file (ends_of rest) budget (Some name)) g.S.Shelf.stage_bytes c.report_to-report.result c.answer_certified.result _
+    (rest_certified rest file ends budget _ name c.report_to-report.result to) (λ written done. c.answer_certified.ensures.certified begun written refl done) files)
+
+pub returns-in-Ok-clause-staged : goal.returns-in-Ok-clause-staged
+returns-in-Ok-clause-staged g c =
+    let begun : Begun = record { name = c.in-Some.name.now; before = record { files = g.S.Shelf.files c.args.shelf.now; calls = g.S.Shelf.calls c.args.shelf.now; faults = g.S.Shelf.faults c.args.shelf.now } } in
+    let to = c.report_to-report.ensures.reports begun c.in-Ok.ensures.begun in
+    let so = staged_or g.S.Shelf.stage_name g.S.Shelf.stage_bytes begun c.report_to-report.result c.report_to-report.new.target _ (rest_text_has c.args.rest.now (resting c.args.budget.now.given c.args.silent.now) _ c.report_to-report.result to) (c.report_to-report.ensures.stops begun c.in-Ok.ensures.begun) in
+    rw c.in-Some.is (c.answer_certified.ensures.staged begun so.0 refl so.1)
+
+pub returns-in-Ok-clause-kept : goal.returns-in-Ok-clause-kept
+returns-in-Ok-clause-kept g c =
+    let begun : Begun = record { name = c.in-Some.name.now; before = record { files = g.S.Shelf.files c.args.shelf.now; calls = g.S.Shelf.calls c.args.shelf.now; faults = g.S.Shelf.faults c.args.shelf.now } } in
+    let to = c.report_to-report.ensures.reports begun c.in-Ok.ensures.begun in
+    let so = staged_or g.S.Shelf.stage_name g.S.Shelf.stage_bytes begun c.report_to-report.result c.report_to-report.new.target _ (rest_text_has c.args.rest.now (resting c.args.budget.now.given c.args.silent.now) _ c.report_to-report.result to) (c.report_to-report.ensures.stops begun c.in-Ok.ensures.begun) in
+    c.answer_certified.ensures.kept ∙ kept_or g.S.Shelf.stage_name g.S.Shelf.stage_bytes begun c.report_to-report.result c.report_to-report.new.target _ so.0 so.1
+
+pub returns-in-Err-clause-says : goal.returns-in-Err-clause-says
+returns-in-Err-clause-says g c = λ files file ends. rw c.in-Some.is (memory_says _ _ _ g.S.Shelf.stage_bytes files)
+
+pub returns-in-Err-clause-staged : goal.returns-in-Err-clause-staged
+returns-in-Err-clause-staged g c = rw c.in-Some.is (refused_staged c.in-Some.name.now g.S.Shelf.stage_name g.S.Shelf.stage_bytes _ _ _ _ c.in-Err.ensures.refused c.in-Err.ensures.calm)

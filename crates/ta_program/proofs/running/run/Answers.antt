@@ -1,6 +1,7 @@
 use Rattle.ta_program.proofs.Common.{◌≡◌, true, false, arith, refl, map, state, request_of}
 use Rattle.ta_program.proofs.Clauses.{number_by, admitting, benches, certificate_written, check_proves, exactly_so, exports, keeps_files, opens, printed_holds, quiet, replay_shows, rest_proves, rests_report, run_shortens, searches, spares_read, verify_reports, status_tells}
-use Rattle.ta_program.proofs.Clauses.{safe_as_shown, shows_file}
+use Rattle.ta_program.proofs.Clauses.{safe_as_shown, shows_file, version_prints}
+use Rattle.ta_program.proofs.ReportsExact.{reported_exactly}
 use Rattle.ta_program.proofs.WhatIsShown.{understood}
 use Rattle.ta_program.proofs.Complete.{completes}
 use Rattle.ta_program.proofs.running.run.Goals as goal
@@ -38,6 +39,9 @@ returns-clause-kept g c = keeps_files (map (λ w. w.now) c.args.words.now) c.obe
 pub returns-clause-bench : goal.returns-clause-bench
 returns-clause-bench g c = benches (map (λ w. w.now) c.args.words.now) c.obey.result (state (g.S.Shelf.files c.args.shelf.now) (g.S.Shelf.calls c.args.shelf.now) (g.S.Shelf.faults c.args.shelf.now) (g.O.Sink.written c.args.out.now) (g.O.Sink.faults c.args.out.now) (g.O.Sink.stalls c.args.out.now) (g.E.Sink.written c.args.err.now) (g.E.Sink.faults c.args.err.now) (g.E.Sink.stalls c.args.err.now)) (state (g.S.Shelf.files c.obey.new.shelf) (g.S.Shelf.calls c.obey.new.shelf) (g.S.Shelf.faults c.obey.new.shelf) (g.O.Sink.written c.obey.new.out) (g.O.Sink.faults c.obey.new.out) (g.O.Sink.stalls c.obey.new.out) (g.E.Sink.written c.obey.new.err) (g.E.Sink.faults c.obey.new.err) (g.E.Sink.stalls c.obey.new.err)) c.obey.ensures
 
+pub returns-clause-version : goal.returns-clause-version
+returns-clause-version g c = version_prints (map (λ w. w.now) c.args.words.now) c.obey.result (state (g.S.Shelf.files c.args.shelf.now) (g.S.Shelf.calls c.args.shelf.now) (g.S.Shelf.faults c.args.shelf.now) (g.O.Sink.written c.args.out.now) (g.O.Sink.faults c.args.out.now) (g.O.Sink.stalls c.args.out.now) (g.E.Sink.written c.args.err.now) (g.E.Sink.faults c.args.err.now) (g.E.Sink.stalls c.args.err.now)) (state (g.S.Shelf.files c.obey.new.shelf) (g.S.Shelf.calls c.obey.new.shelf) (g.S.Shelf.faults c.obey.new.shelf) (g.O.Sink.written c.obey.new.out) (g.O.Sink.faults c.obey.new.out) (g.O.Sink.stalls c.obey.new.out) (g.E.Sink.written c.obey.new.err) (g.E.Sink.faults c.obey.new.err) (g.E.Sink.stalls c.obey.new.err)) c.obey.ensures
+
 pub returns-clause-check : goal.returns-clause-check
 returns-clause-check g c = check_proves (map (λ w. w.now) c.args.words.now) c.obey.result (state (g.S.Shelf.files c.args.shelf.now) (g.S.Shelf.calls c.args.shelf.now) (g.S.Shelf.faults c.args.shelf.now) (g.O.Sink.written c.args.out.now) (g.O.Sink.faults c.args.out.now) (g.O.Sink.stalls c.args.out.now) (g.E.Sink.written c.args.err.now) (g.E.Sink.faults c.args.err.now) (g.E.Sink.stalls c.args.err.now)) (state (g.S.Shelf.files c.obey.new.shelf) (g.S.Shelf.calls c.obey.new.shelf) (g.S.Shelf.faults c.obey.new.shelf) (g.O.Sink.written c.obey.new.out) (g.O.Sink.faults c.obey.new.out) (g.O.Sink.stalls c.obey.new.out) (g.E.Sink.written c.obey.new.err) (g.E.Sink.faults c.obey.new.err) (g.E.Sink.stalls c.obey.new.err)) c.obey.ensures
 
@@ -67,6 +71,9 @@ returns-clause-searches g c = searches (map (λ w. w.now) c.args.words.now) c.ob
 
 pub returns-clause-printed : goal.returns-clause-printed
 returns-clause-printed g c = printed_holds (map (λ w. w.now) c.args.words.now) c.obey.result (state (g.S.Shelf.files c.args.shelf.now) (g.S.Shelf.calls c.args.shelf.now) (g.S.Shelf.faults c.args.shelf.now) (g.O.Sink.written c.args.out.now) (g.O.Sink.faults c.args.out.now) (g.O.Sink.stalls c.args.out.now) (g.E.Sink.written c.args.err.now) (g.E.Sink.faults c.args.err.now) (g.E.Sink.stalls c.args.err.now)) (state (g.S.Shelf.files c.obey.new.shelf) (g.S.Shelf.calls c.obey.new.shelf) (g.S.Shelf.faults c.obey.new.shelf) (g.O.Sink.written c.obey.new.out) (g.O.Sink.faults c.obey.new.out) (g.O.Sink.stalls c.obey.new.out) (g.E.Sink.written c.obey.new.err) (g.E.Sink.faults c.obey.new.err) (g.E.Sink.stalls c.obey.new.err)) c.obey.ensures
+
+pub returns-clause-reported : goal.returns-clause-reported
+returns-clause-reported g c = reported_exactly c.reports_are_distinct.ensures.text c.reports_are_distinct.ensures.json (map (λ w. w.now) c.args.words.now) c.obey.result (state (g.S.Shelf.files c.args.shelf.now) (g.S.Shelf.calls c.args.shelf.now) (g.S.Shelf.faults c.args.shelf.now) (g.O.Sink.written c.args.out.now) (g.O.Sink.faults c.args.out.now) (g.O.Sink.stalls c.args.out.now) (g.E.Sink.written c.args.err.now) (g.E.Sink.faults c.args.err.now) (g.E.Sink.stalls c.args.err.now)) (state (g.S.Shelf.files c.obey.new.shelf) (g.S.Shelf.calls c.obey.new.shelf) (g.S.Shelf.faults c.obey.new.shelf) (g.O.Sink.written c.obey.new.out) (g.O.Sink.faults c.obey.new.out) (g.O.Sink.stalls c.obey.new.out) (g.E.Sink.written c.obey.new.err) (g.E.Sink.faults c.obey.new.err) (g.E.Sink.stalls c.obey.new.err)) c.obey.ensures
 
 pub returns-clause-exact : goal.returns-clause-exact
 returns-clause-exact g c = exactly_so (request_of (map (λ w. w.now) c.args.words.now)) c.obey.result (state (g.S.Shelf.files c.args.shelf.now) (g.S.Shelf.calls c.args.shelf.now) (g.S.Shelf.faults c.args.shelf.now) (g.O.Sink.written c.args.out.now) (g.O.Sink.faults c.args.out.now) (g.O.Sink.stalls c.args.out.now) (g.E.Sink.written c.args.err.now) (g.E.Sink.faults c.args.err.now) (g.E.Sink.stalls c.args.err.now)) (state (g.S.Shelf.files c.obey.new.shelf) (g.S.Shelf.calls c.obey.new.shelf) (g.S.Shelf.faults c.obey.new.shelf) (g.O.Sink.written c.obey.new.out) (g.O.Sink.faults c.obey.new.out) (g.O.Sink.stalls c.obey.new.out) (g.E.Sink.written c.obey.new.err) (g.E.Sink.faults c.obey.new.err) (g.E.Sink.stalls c.obey.new.err)) c.obey.ensures

@@ -1,18 +1,31 @@
-use Rattle.ta_program.proofs.Common.{arith, option_map, refl, ScopedFile, grew_kept, grew_spared, may_put, file_kind, report_meaning}
-use Rattle.ta_program.proofs.Meanings.{report_monotone}
+use Rattle.ta_program.proofs.Common.{[], ℕ, Err, sym, arith, option_map, refl, subst, Changed, List, StagedBy, ScopedFile, Grew, Says, Result, Answer, Refusal, grew_kept, grew_spared, may_put, file_kind, picked_meaning, verify_meaning, result_seen}
+use Rattle.ta_program.specs.Asking.{verify_seen}
+use Rattle.ta_program.proofs.Certifying.{none_staged, unread_seen, unread_staged}
+use Rattle.ta_program.proofs.Meanings.{picked_monotone}
 use Rattle.ta_program.proofs.verify.judge_verify.Goals as goal
 
 pub returns-in-Ok-clause-says : goal.returns-in-Ok-clause-says
 returns-in-Ok-clause-says g c =
-    let budget = c.args.budget.now.given in
-    let out = option_map (λ w. w.now) c.args.out in
+    let asked = verify_seen c.args.asked.now in
     let files = g.S.Shelf.files c.args.shelf.now in
-    grew_spared file_kind (λ (s : ScopedFile). s.file) files c.args.file.now (may_put out) (λ file. report_meaning file budget c.args.json out) (λ file. report_monotone file budget c.args.json out) (λ v. refl) c.in-Ok.scoped c.answer_report.result _ _
-    (rw c.one.ensures at c.in-Ok.ensures.stage) (c.answer_report.ensures.says files)
+    let so = c.answer_picked.ensures.says files in
+    record {
+      lost = so.lost;
+      middle = _;
+      says = grew_spared file_kind (λ (s : ScopedFile). s.file) files asked.file (may_put asked.out) (picked_meaning asked) (picked_monotone asked) (λ v. refl) c.in-Ok.scoped (result_seen g.S.Shelf.stage_bytes so.lost c.answer_picked.result) _ _
+          (rw c.one.ensures at c.in-Ok.ensures.stage) so.says;
+      staged = subst (λ (n : ℕ). Changed (StagedBy (may_put asked.out) g.S.Shelf.stage_name g.S.Shelf.stage_bytes c.answer_picked.result n (g.S.Shelf.faults c.answer_picked.new.shelf)) (g.S.Shelf.calls c.read_spared.new.shelf) (g.S.Shelf.calls c.answer_picked.new.shelf)) c.in-Ok.ensures.cause c.answer_picked.ensures.staged;
+    }
 
 pub returns-in-Err-clause-says : goal.returns-in-Err-clause-says
 returns-in-Err-clause-says g c =
-    let budget = c.args.budget.now.given in
-    let out = option_map (λ w. w.now) c.args.out in
-    grew_kept file_kind (λ (s : ScopedFile). s.file) (g.S.Shelf.files c.args.shelf.now) c.args.file.now (may_put out) (λ file. report_meaning file budget c.args.json out) (omega arith) (omega arith) c.in-Err.refusal _ _
-    (rw c.one.ensures at c.in-Err.ensures.stage)
+    let asked = verify_seen c.args.asked.now in
+    let files = g.S.Shelf.files c.args.shelf.now in
+    let m = verify_meaning asked in
+    record {
+      lost = [];
+      middle = _;
+      says = subst (λ (seen : Result Answer Refusal). Grew (Says m files seen) (g.S.Shelf.calls c.args.shelf.now) (g.S.Shelf.calls c.read_spared.new.shelf)) (sym (unread_seen ScopedFile g.S.Shelf.stage_bytes [] c.in-Err.refusal _ _ c.in-Err.ensures.cause))
+          (grew_kept file_kind (λ (s : ScopedFile). s.file) files asked.file (may_put asked.out) (picked_meaning asked) (omega arith) (omega arith) c.in-Err.refusal _ _ (rw c.one.ensures at c.in-Err.ensures.stage));
+      staged = none_staged _ _ (unread_staged ScopedFile m.puts g.S.Shelf.stage_name g.S.Shelf.stage_bytes c.in-Err.refusal _ _ c.in-Err.ensures.cause);
+    }

@@ -1,4 +1,4 @@
-use Rattle.ta_report.proofs.Printed.{printed_proved, printed_safe, printed_unsafe}
+use Rattle.ta_report.proofs.Printed.{printed_safe, printed_unsafe}
 use Rattle.ta_report.proofs.laws.lines_tell.Goals as goal
 
 pub returns-clause-safe : goal.returns-clause-safe
@@ -6,6 +6,3 @@ returns-clause-safe c = printed_safe
 
 pub returns-clause-unsafe_ : goal.returns-clause-unsafe_
 returns-clause-unsafe_ c = printed_unsafe
-
-pub returns-clause-proved : goal.returns-clause-proved
-returns-clause-proved c = printed_proved

@@ -1,12 +1,7 @@
-use Rattle.ta_shell.proofs.Common.{◌≡◌, ◌∙◌, ◌++◌, [], List, Event, PutCall, puts, reads, refl, sym, ap, subst, inl, inr, append_assoc, append-nil, ℕ, Option, Err, Told, Answer, ReadCause, JudgementHolds, seen, BeginRefuses}
+use Rattle.ta_shell.proofs.Common.{◌∙◌, ◌++◌, [], List, Event, puts, reads, refl, sym, ap, subst, inl, inr, append-nil, ℕ, Option, Err, Told, Answer, ReadCause, JudgementHolds, seen, BeginRefuses}
 use Rattle.ta_shell.proofs.Clauses.{performs}
-use Rattle.ta_shell.proofs.Ended.{not_begun, refused, settled}
+use Rattle.ta_shell.proofs.Ended.{grown_by, not_begun, refused, settled}
 use Rattle.ta_shell.proofs.performing.perform.Goals as goal
-
--- a log that grew by tries, by reads, and by what was made
-grown_by : (first second third fourth : List Event) (tried : List PutCall) (read made : List Event) → second ≡ first ++ puts tried → third ≡ second ++ read → fourth ≡ third ++ made → fourth ≡ first ++ (puts tried ++ (read ++ made))
-grown_by first second third fourth tried read made one two three =
-    three ∙ ap (λ (events : List Event). events ++ made) (two ∙ ap (λ (events : List Event). events ++ read) one) ∙ append_assoc (first ++ puts tried) read made ∙ append_assoc first (puts tried) (read ++ made)
 
 pub returns-in-Ok-judge : goal.returns-in-Ok-judge
 returns-in-Ok-judge g c =

@@ -1,21 +1,22 @@
-use Rattle.std.specs.List.{concat}
-use Rattle.ta_verdict.proofs.rest.Common.{◌∙◌, ◌++◌, List, append-nil, subst, sym, proofs_text, Verdict, AreTreesOf, safe_ones, rest_head, rest_tree, resting}
-use Rattle.ta_verdict.proofs.rest.CertificatesMade.{rest_accepted, rest_made}
+use Rattle.ta_verdict.proofs.rest.Common.{◌∙◌, [], Begun, None, subst, sym, List, ℕ, RestCertificateOf, resting, safe_among}
+use Rattle.ta_check.specs.Certificate.{QuietRestCertificate}
 use Rattle.ta_verdict.proofs.rest.judging.judge_rest.Goals as goal
+
+-- in memory it doesn't matter where it was begun
+nowhere : Begun
+nowhere = record { name = []; before = record { files = None; calls = []; faults = 0 } }
 
 pub returns-clause-certificate : goal.returns-clause-certificate
 returns-clause-certificate g c = λ wanted.
-    let file = c.args.rest.now.ending.file in
-    let budget = resting c.args.budget c.args.silent.now in
-    let head = rest_head c.args.budget.lazy in
-    let begins = c.in_ok-draft.ensures.text in
-    let has = c.in_ok-verdicts.ensures.trees head (λ w. begins w ∙ sym (append-nil head)) in
-    let trees = subst (λ (vs : List Verdict). AreTreesOf (rest_tree file budget) (safe_ones 0 file.patterns vs) has.0) (sym c.from_vec.ensures) has.1 in
-    let same = c.in_ok-verdicts.ensures.wanted ∙ c.in_ok-draft.ensures.wanted ∙ wanted in
-    let text = c.in_ok-certificate.ensures.text same (head ++ proofs_text has.0) has.2 in
-    rest_made file budget c.from_vec.result has.0 trees (concat c.in_ok-certificate.certificate) text
+    let made = c.in_ok-verdicts.ensures.certificate nowhere c.new-draft.ensures.text in
+    let same = c.in_ok-certificate.ensures.text (c.in_ok-verdicts.ensures.wanted ∙ c.new-draft.ensures.wanted ∙ wanted) made.text made.has in
+    subst (λ (text : List ℕ). RestCertificateOf c.args.rest.now.ending.file c.args.pick (resting c.args.budget c.args.silent.now) c.in_ok-verdicts.verdicts text) (sym same) made.certificate
 
 pub returns-clause-accepted : goal.returns-clause-accepted
 returns-clause-accepted g c = λ wanted.
-    rest_accepted c.args.rest.now.ending.file (resting c.args.budget c.args.silent.now) c.requires.words c.requires.limit c.from_vec.result
-    (concat c.in_ok-certificate.certificate) (returns-clause-certificate g c wanted)
+    let made = c.in_ok-verdicts.ensures.certificate nowhere c.new-draft.ensures.text in
+    let same = c.in_ok-certificate.ensures.text (c.in_ok-verdicts.ensures.wanted ∙ c.new-draft.ensures.wanted ∙ wanted) made.text made.has in
+    subst (λ (text : List ℕ). QuietRestCertificate c.args.rest.now.ending.file c.args.silent.now text (safe_among c.args.rest.now.ending.file c.args.pick c.in_ok-verdicts.verdicts)) (sym same) made.accepted
+
+pub returns-clause-unwanted : goal.returns-clause-unwanted
+returns-clause-unwanted g c = λ none. c.in_ok-certificate.ensures.unwanted (c.in_ok-verdicts.ensures.wanted ∙ c.new-draft.ensures.wanted ∙ none)

@@ -1,0 +1,11 @@
+use Rattle.ta_program.proofs.Common.{map, Some, check_meaning}
+use Rattle.ta_program.specs.CheckSeen.{check_seen}
+use Rattle.ta_program.specs.CheckWords.{check_words}
+use Rattle.ta_program.proofs.Meanings.{asked_for, check_decides, check_passes}
+use Rattle.ta_program.proofs.check.CheckRequest.read.Goals as goal
+
+pub returns : goal.returns
+returns c =
+    asked_for check_seen (λ asked. Some asked.file) (λ asked. check_meaning asked.file asked.other asked.options)
+    (λ asked. check_decides asked.file asked.other asked.options) (λ asked. check_passes asked.file asked.other asked.options)
+    c.read_check.result (check_words (map (λ w. w.now) c.args.words.now)) c.read_check.ensures

@@ -1,9 +1,0 @@
-use Rattle.ta_program.proofs.Common.{[], refl, ScopedFile, grew_then, file_kind, shown_meaning}
-use Rattle.ta_program.proofs.Meanings.{shown_monotone}
-use Rattle.ta_program.proofs.replay.ReplayOfTwoFiles.judge_files.Goals as goal
-
-pub returns-in-Ok-clause-says : goal.returns-in-Ok-clause-says
-returns-in-Ok-clause-says g c =
-    let name = c.args.other.now in
-    grew_then file_kind c.args.file.now [] (λ file. shown_meaning file name) (λ file. shown_monotone file name) (λ (s : ScopedFile). s.file) _ c.in-Ok.scoped c.judge_run.result _ _ _ (λ v. refl)
-    c.in-Ok.ensures.stage (rw (c.in-Ok.ensures.kept, c.file.ensures) at c.judge_run.ensures.says)

@@ -1,0 +1,11 @@
+use Rattle.ta_program.proofs.Common.{map, Some, replay_meaning}
+use Rattle.ta_program.specs.CheckSeen.{replay_seen}
+use Rattle.ta_program.specs.CheckWords.{replay_words}
+use Rattle.ta_program.proofs.Meanings.{asked_for, replay_decides, replay_passes}
+use Rattle.ta_program.proofs.replay.ReplayRequest.read.Goals as goal
+
+pub returns : goal.returns
+returns c =
+    asked_for replay_seen (λ asked. Some asked.file) (λ asked. replay_meaning asked.file asked.other asked.json)
+    (λ asked. replay_decides asked.file asked.other asked.json) (λ asked. replay_passes asked.file asked.other asked.json)
+    c.read_replay.result (replay_words (map (λ w. w.now) c.args.words.now)) c.read_replay.ensures
