@@ -199,20 +199,45 @@ def killed_at_calls(program, folder, tried, file, command):
     each_call(tried, room, "signal=KILL", take)
 
 
-def killed_searches(program, folder, tried):
-    """A search that is killed at a call of the system: OUT and OUT2 are old or new, and OUT2 is new before OUT is."""
+def search_room(program, folder):
+    """A room whose command is a search with OUT and OUT2, and a function that says what these hold."""
     room = Room(program, os.path.join(folder, "calls"), "examples/echo_threshold.template", "search")
-    filled, old = os.path.join(room.folder, "filled.ta"), b"# old\n"
+    filled = os.path.join(room.folder, "filled.ta")
     room.words += ["--filled", filled]
     answer(room.words)
     new = room.held(filled)
+    return room, lambda: [
+        {room.old: "old", room.new: "new"}.get(room.held(), "torn"),
+        {None: "none", new: "new"}.get(room.held(filled), "torn"),
+    ]
+
+
+def killed_searches(program, folder, tried):
+    """A search that is killed at a call of the system: OUT and OUT2 are old or new, and OUT2 is new before OUT is."""
+    room, held = search_room(program, folder)
 
     def take(call, number, ended):
-        both = [{room.old: "old", room.new: "new"}.get(room.held(), "torn"), {None: "none", old: "old", new: "new"}.get(room.held(filled), "torn")]
+        both = held()
         good = "torn" not in both and (both[0] == "old" or both[1] == "new")
         tried.take(f"{both[0]} and {both[1]}", good, f"search killed at {call} {number}: {both} {ended}")
 
     each_call(tried, room, "signal=KILL", take)
+
+
+def failing_searches(program, folder, tried):
+    """Each call of the system fails in turn in a search: with status 6 OUT and OUT2 are as before, or OUT2 is new, or both are, where
+    the last steps failed; nothing is left beside them."""
+    room, held = search_room(program, folder)
+
+    def take(call, number, ended):
+        status, out, err = ended
+        ended = status, out, re.sub(rb"(?m)^==.*\n", b"", err)
+        both, left = held(), room.left() if not call.startswith("unlink") else []
+        fits = "torn" not in both and (both[0] == "old" or both[1] == "new") and room.right[1].startswith(out)
+        good = ended == room.right and both == ["new", "new"] or status == 6 and fits or status == 127 and both == ["old", "none"]
+        tried.take(f"status {status}", good and not left, f"search, {call} {number} fails: {both} {left} {ended}")
+
+    each_call(tried, room, "error=EIO", take)
 
 
 # ---- calls that fail
@@ -386,7 +411,7 @@ def names(program, folder, tried):
 
 
 def searches(program, room, inside, fresh, take):
-    """`search` with OUT and OUT2: neither is the template, and they aren't one file."""
+    """`search` with OUT and OUT2: neither is the template, and they don't lead to one place."""
     template = "examples/echo_threshold.template"
     fresh()
     search = lambda filled, out: [program, "search", template, "--filled", filled, "--certificate", out]
@@ -394,11 +419,31 @@ def searches(program, room, inside, fresh, take):
     filled, new = room.held(inside("filled.ta")), room.held()
     fresh()
     take("search", answer(search(inside("filled.ta"), room.out)), right, new, filled=room.held(inside("filled.ta")) == filled and bool(filled))
+    # OUT and OUT2 lead to one place, whether a file is there or not: each is as before
+    for there in (True, False):
+        for out in ("same", "./filled.ta", "sub/../filled.ta", "way/filled.ta", "way/same", "twice"):
+            fresh()
+            os.symlink("filled.ta", inside("same"))
+            os.symlink("same", inside("twice"))
+            os.symlink(".", inside("way"))
+            if there:
+                written(inside("filled.ta"), b"old\n")
+            told = b"tav: %s: holds what was written\n" % os.fsencode(inside(out))
+            ended, held = answer(search(inside("filled.ta"), inside(out))), b"old\n" if there else None
+            take(f"OUT is OUT2 as {out}", ended, (4, b"", told), filled=room.held(inside("filled.ta")) == held)
+            ended = answer(search(inside(out), inside("filled.ta")))
+            told = b"tav: %s: holds what was written\n" % os.fsencode(inside("filled.ta"))
+            take(f"OUT2 is OUT as {out}", ended, (4, b"", told), filled=room.held(inside("filled.ta")) == held)
+    # a hard link is another name in the folder: both texts stand
     fresh()
-    os.symlink("filled.ta", inside("same"))
     written(inside("filled.ta"), b"old\n")
-    # the two are compared by spelling alone: the certificate comes last, and stands
-    take("OUT is OUT2 by a link", answer(search(inside("filled.ta"), inside("same"))), right, filled=room.held(inside("filled.ta")) == new)
+    os.link(inside("filled.ta"), inside("hard.cert"))
+    ended = answer(search(inside("filled.ta"), inside("hard.cert")))
+    take("OUT is OUT2 by a hard link", ended, right, filled=room.held(inside("filled.ta")) == filled, out=room.held(inside("hard.cert")) == new)
+    # what is no regular file takes both, OUT2 first
+    fresh()
+    ended = answer(search("/dev/stdout", "/dev/fd/1"))
+    take("OUT and OUT2 are standard output", ended, (right[0], right[1] + filled + new, b""))
     for which in ("filled", "out"):
         fresh()
         here, there = written(inside("t.template"), content_of(template)), inside("l.template")

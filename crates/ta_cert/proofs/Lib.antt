@@ -6,7 +6,5 @@ pub mod Written
 pub mod CertLines
 pub mod Writing
 pub mod Examples
-pub mod Relations
-pub mod Exact
-pub mod Unique
+pub mod Standing
 mod Common

@@ -66,15 +66,18 @@ next_line : (n : ℕ) → next (line_number n) ≡ line_number (n + 1)
 next_line n = omega arith
 
 -- one line
-pub line_read : (l : Line) (n : ℕ) (begun : Bool) → IsLine l → length (line_text l) ≤ line_limit → beq (is_header l) begun ≡ false → steps (line_text l ++ 10 ∷ []) (at_line n begun false) ≡ Ok ((line_number n, l) ∷ [], at_line (n + 1) true (is_end l))
+pub line_read : (l : Line) (n : ℕ) (begun : Bool) → IsLine l → length (line_text l) ≤ line_limit → beq (is_header l) begun ≡ false
+    → steps (line_text l ++ 10 ∷ []) (at_line n begun false) ≡ ((line_number n, l) ∷ [], Ok (at_line (n + 1) true (is_end l)))
 line_read l n begun form short place =
     let s : State = record { line = line_text l; number = line_number n; begun = begun; ended = false } in
-    let held : steps (line_text l) (at_line n begun false) ≡ Ok ([], s) = kept (line_text l) (at_line n begun false) (line_unbroken l form) refl (omega (arith, short)) in
+    let held : steps (line_text l) (at_line n begun false) ≡ ([], Ok s) = kept (line_text l) (at_line n begun false) (line_unbroken l form) refl
+    (omega (arith, short)) in
     fed (line_text l) (at_line n begun false) s held refl
     ∙ ap (line_feed s) (line_complete l form)
-    ∙ rw place (ap (λ k. Ok ((line_number n, l) ∷ [], record { line = []; number = k; begun = true; ended = is_end l })) (next_line n))
+    ∙ rw place (ap (λ k. ((line_number n, l) ∷ [], Ok (record { line = []; number = k; begun = true; ended = is_end l }))) (next_line n))
 
-on_line : (l : Line) (ls : List Line) (s t : State) (found : List (ℕ × Line)) → steps (line_text l ++ 10 ∷ []) s ≡ Ok (found, t) → steps (cert_lines_text (l ∷ ls)) s ≡ add_lines found (steps (cert_lines_text ls) t)
+on_line : (l : Line) (ls : List Line) (s t : State) (found : List (ℕ × Line)) → steps (line_text l ++ 10 ∷ []) s ≡ (found, Ok t)
+    → steps (cert_lines_text (l ∷ ls)) s ≡ add_lines found (steps (cert_lines_text ls) t)
 on_line l ls s t found is =
     ap (λ bytes. steps bytes s) (sym (append_assoc (line_text l) (10 ∷ []) (cert_lines_text ls)))
     ∙ steps-append (line_text l ++ 10 ∷ []) (cert_lines_text ls) s
@@ -84,13 +87,17 @@ header_other : (l : Line) → is_header l ≡ false → beq (is_header l) true �
 header_other l e = rw e refl
 
 -- lines behind the first
-pub later_read : (ls : List Line) (n : ℕ) → AreLater ls → steps (cert_lines_text ls) (at_line n true false) ≡ Ok (numbered_lines n ls, at_line (n + length ls) true (has_end ls))
-later_read [] n later = let e : n ≡ n + 0 = omega arith in ap (λ k. Ok ([], at_line k true false)) e
+pub later_read : (ls : List Line) (n : ℕ) → AreLater ls
+    → steps (cert_lines_text ls) (at_line n true false) ≡ (numbered_lines n ls, Ok (at_line (n + length ls) true (has_end ls)))
+later_read [] n later = let e : n ≡ n + 0 = omega arith in ap (λ k. ([], Ok (at_line k true false))) e
 later_read (l ∷ ls) n later =
     on_line l ls (at_line n true false) (at_line (n + 1) true (is_end l)) ((line_number n, l) ∷ []) (line_read l n true later.0 later.1 (header_other l later.2))
     ∙ by_end (is_end l) refl ls n later.3 (λ m. later_read ls m later.4)
   where
-    by_end : (ends : Bool) → is_end l ≡ ends → (ks : List Line) (n : ℕ) → (is_end l ≡ true → ks ≡ []) → ((m : ℕ) → steps (cert_lines_text ks) (at_line m true false) ≡ Ok (numbered_lines m ks, at_line (m + length ks) true (has_end ks))) → add_lines ((line_number n, l) ∷ []) (steps (cert_lines_text ks) (at_line (n + 1) true ends)) ≡ Ok (numbered_lines n (l ∷ ks), at_line (n + length (l ∷ ks)) true (has_end (l ∷ ks)))
+    by_end : (ends : Bool) → is_end l ≡ ends → (ks : List Line) (n : ℕ) → (is_end l ≡ true → ks ≡ [])
+        → ((m : ℕ) → steps (cert_lines_text ks) (at_line m true false) ≡ (numbered_lines m ks, Ok (at_line (m + length ks) true (has_end ks))))
+        → add_lines ((line_number n, l) ∷ []) (steps (cert_lines_text ks) (at_line (n + 1) true ends)) ≡
+        (numbered_lines n (l ∷ ks), Ok (at_line (n + length (l ∷ ks)) true (has_end (l ∷ ks))))
     by_end false is ks n none more = let e : n + 1 + length ks ≡ n + length (l ∷ ks) = omega arith in ap (add_lines ((line_number n, l) ∷ [])) (more (n + 1)) ∙ rw (is, e) refl
     by_end true is [] n none more = rw is refl
     by_end true is (k ∷ ks) n none more = let nothing = none is in absurd cc
@@ -104,7 +111,7 @@ header_short (line.Header v) form e = omega (arith, length-append (codes "thresh
 header_short _ form e = absurd (false≢true e)
 
 -- the first line and those behind it
-pub lines_read : (ls : List Line) → AreLines ls → steps (cert_lines_text ls) start ≡ Ok (numbered_lines 0 ls, at_line (length ls) (has_line ls) (has_end ls))
+pub lines_read : (ls : List Line) → AreLines ls → steps (cert_lines_text ls) start ≡ (numbered_lines 0 ls, Ok (at_line (length ls) (has_line ls) (has_end ls)))
 lines_read [] are = refl
 lines_read (l ∷ ls) are =
     let first = are.0 in
@@ -114,8 +121,8 @@ lines_read (l ∷ ls) are =
     on_line l ls start (at_line 1 true (is_end l)) ((1, l) ∷ []) (line_read l 0 false first.0 (header_short l first.0 first.1) (rw first.1 refl))
     ∙ ap (λ b. add_lines ((1, l) ∷ []) (steps (cert_lines_text ls) (at_line 1 true b))) ends
     ∙ ap (add_lines ((1, l) ∷ [])) (later_read ls 1 are.1)
-    ∙ ap (λ k. Ok ((1, l) ∷ numbered_lines 1 ls, at_line k true (has_end ls))) e
-    ∙ ap (λ b. Ok ((1, l) ∷ numbered_lines 1 ls, at_line (length (l ∷ ls)) true b)) same
+    ∙ ap (λ k. ((1, l) ∷ numbered_lines 1 ls, Ok (at_line k true (has_end ls)))) e
+    ∙ ap (λ b. ((1, l) ∷ numbered_lines 1 ls, Ok (at_line (length (l ∷ ls)) true b))) same
 
 pub written_is_read : (ls : List Line) → AreLines ls → has_end ls ≡ true → text_lines (cert_lines_text ls) ≡ Ok (numbered_lines 0 ls)
 written_is_read ls are ends = ap finished (lines_read ls are) ∙ rw ends refl
@@ -123,8 +130,8 @@ written_is_read ls are ends = ap finished (lines_read ls are) ∙ rw ends refl
 -- ---- pieces
 
 on_same : (o : Outcome) (f g : State → Outcome) → ((t : State) → f t ≡ g t) → on o f ≡ on o g
-on_same (Ok x) f g same = ap (add_lines x.0) (same x.1)
-on_same (Err e) f g same = refl
+on_same (xs, Ok s) f g same = ap (add_lines xs) (same s)
+on_same (xs, Err e) f g same = refl
 
 pub pieces_same : (pieces : List (List ℕ)) (s : State) → by_pieces pieces s ≡ steps (concat pieces) s
 pieces_same [] s = refl

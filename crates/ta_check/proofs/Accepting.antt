@@ -12,7 +12,15 @@
 -- out no run, so no run meets what is refuted (`moments_hold`).
 -- The other way, the lines of a certificate follow each other, whoever wrote it (`lines_of`): the standing is computed
 -- from the lines alone, and only a number that leaves the range, or memory, can stop the checker before its end.
-use Rattle.ta_check.proofs.Common.{◌≡◌, inl, inr, ℕ, zero, suc, ◌≤◌, List, [], ◌∷◌, ◌++◌, map, length, reverse, Some, slice_get, arith, sym, ap, ◌∙◌, refl, subst, append-nil, lit≤, false≢true, reverse-reverse, AllByRecursion, Automaton, File, Pattern, Distinct, Line, Node, Order, Tree, all_preorder, IsVersion, line_text, cert_lines_text, AreLater, AreWritable, IsComplete, line_limit, AreOrders, cert_lines, order_lines, pair_of, proof_lines, proofs_of, question_lines, version_of, AreShort, Good, Search, in_order, weaker_proof, IsJudged, MayClaim, search_for, Claim, Safe, RestSafe, ComesLast, HasVersion, Kind, Words, Moments, Subject, asking_for, claimed_with, claiming, claiming_with, fact_of, kind_of, moments_of, search_of, version_for, AllClaimsHold, AllSafe, AllUnsolved, Certificate, CertificateFor, CertificatesNameOneList, CertificatesShow, ClaimsHold, MayClaimAll, MayHave, PatternUnsolved, ProvesClaim, ProvesPattern, ShowsPair, lines_of_kind, may_have, proof_number, Standing, OpensCertificate, first_standing, LeadThrough, MayFollow, In, each_all, read_complete, reads_unique}
+use Rattle.ta_check.proofs.Common.{◌≡◌, inl, inr, ℕ, zero, suc, ◌≤◌, List, [], ◌∷◌, ◌++◌, map, length, reverse, Some, Ok, slice_get, arith, sym, ap, ◌∙◌, refl}
+use Rattle.ta_check.proofs.Common.{subst, append-nil, lit≤, false≢true, reverse-reverse, AllByRecursion, Automaton, File, Pattern, Distinct, Line, Node, Order}
+use Rattle.ta_check.proofs.Common.{Tree, all_preorder, IsVersion, line_text, cert_lines_text, IsWhole, text_lines, numbered_lines, unnumbered, lines_numbered}
+use Rattle.ta_check.proofs.Common.{AreLater, AreWritable, line_limit, AreOrders, order_lines, pair_of, proof_lines, proofs_of}
+use Rattle.ta_check.proofs.Common.{version_of, AreShort, Good, Search, in_order, weaker_proof, IsJudged, MayClaim, search_for, Claim, Safe, RestSafe, ComesLast}
+use Rattle.ta_check.proofs.Common.{HasVersion, Kind, Words, Moments, Subject, asking_for, claimed_with, claiming, claiming_with, fact_of, kind_of, moments_of}
+use Rattle.ta_check.proofs.Common.{search_of, version_for, AllClaimsHold, AllSafe, AllUnsolved, Certificate, CertificateFor, CertificatesNameOneList}
+use Rattle.ta_check.proofs.Common.{CertificatesShow, ClaimsHold, MayClaimAll, MayHave, PatternUnsolved, ProvesClaim, ProvesPattern, ShowsPair, lines_of_kind}
+use Rattle.ta_check.proofs.Common.{may_have, proof_number, Standing, OpensCertificate, first_standing, LeadThrough, In, each_all}
 use Rattle.ta_cert.specs.declared.line.Proof.{Proof}
 use Rattle.ta_automaton.proofs.Thresholds.{after_earlier, pattern_within}
 use Rattle.ta_rest.proofs.QuietResting.{rest_safe_is}
@@ -241,16 +249,18 @@ certificate_behind subject text version ls s has is fits later written h =
     }
 
 -- a complete text whose lines may follow each other is a certificate of the patterns that began
-pub certificate_of : (subject : Subject) (text : List ℕ) (ls : List Line) (s : Standing) → IsComplete text ls → LeadThrough subject first_standing ls s → CertificateFor subject text (reverse s.begun)
-certificate_of subject text [] s complete lead = absurd (false≢true complete.ended)
-certificate_of subject text (line.Pattern k ∷ ls) s complete lead = absurd (false≢true complete.reads.legal.0.1)
-certificate_of subject text (line.Tree n ∷ ls) s complete lead = absurd (false≢true complete.reads.legal.0.1)
-certificate_of subject text (line.End ∷ ls) s complete lead = absurd (false≢true complete.reads.legal.0.1)
-certificate_of subject text (line.Header version ∷ ls) s complete lead =
-    let form : IsVersion version = complete.reads.legal.0.0 in
-    let later = complete.reads.legal.1 in
+pub certificate_of : (subject : Subject) (text : List ℕ) (ls : List Line) (s : Standing) → IsWhole text ls → LeadThrough subject first_standing ls s
+    → CertificateFor subject text (reverse s.begun)
+certificate_of subject text [] s whole lead = absurd (false≢true whole.ended)
+certificate_of subject text (line.Pattern k ∷ ls) s whole lead = absurd (false≢true whole.legal.0.1)
+certificate_of subject text (line.Tree n ∷ ls) s whole lead = absurd (false≢true whole.legal.0.1)
+certificate_of subject text (line.End ∷ ls) s whole lead = absurd (false≢true whole.legal.0.1)
+certificate_of subject text (line.Header version ∷ ls) s whole lead =
+    let form : IsVersion version = whole.legal.0.0 in
+    let later = whole.legal.1 in
     let through : LeadThrough subject (standing version [] [] []) ls s = subst (λ (t : Standing). LeadThrough subject t ls s) lead.1.leads lead.2 in
-    certificate_behind subject text version ls s lead.1.has form (header_short (line.Header version) form refl) later (complete.reads.whole ∙ append-nil (cert_lines_text (line.Header version ∷ ls))) (heads subject version [] ls s later complete.ended through)
+    certificate_behind subject text version ls s lead.1.has form (header_short (line.Header version) form refl) later whole.whole
+    (heads subject version [] ls s later whole.ended through)
 
 -- the version of a certificate of a kind
 abbrev pub version_in : Kind → List Order → ℕ
@@ -285,34 +295,43 @@ have_version Moments RestSafe (place ∷ silent) orders have = refl
 
 -- lines of a certificate, read from its text, and where they lead
 record Followed (subject : Subject) (kind : Kind) (orders : List Order) (proofs : List (ℕ × List Tree)) : Type 0 where
-  pub complete : IsComplete (cert_lines_text (lines_of_kind kind orders (proofs_of proofs))) (lines_of_kind kind orders (proofs_of proofs))
-  pub follow : MayFollow subject (lines_of_kind kind orders (proofs_of proofs))
+  pub read : text_lines (cert_lines_text (lines_of_kind kind orders (proofs_of proofs))) ≡ Ok (numbered_lines 0 (lines_of_kind kind orders (proofs_of proofs)))
+  pub after : Standing
+  pub lead : LeadThrough subject first_standing (lines_of_kind kind orders (proofs_of proofs)) after
 
 followed : (kind : Kind) (subject : Subject) (orders : List Order) (proofs : List (ℕ × List Tree)) → MayHave kind subject orders → AreWritable (proofs_of proofs) → AreShort (lines_of_kind kind orders (proofs_of proofs)) → Good subject.file.automaton (map pair_of orders) → AllByRecursion (ShowsPair subject.file.automaton) orders → AllByRecursion (ProvesClaim kind subject (map pair_of orders)) proofs → Distinct (map proof_number proofs) → Followed subject kind orders proofs
 followed Words subject orders proofs have legal short good shown prove distinct =
     let lead = lead_words subject orders proofs good shown prove distinct in
     let opens : OpensCertificate subject first_standing (version_of orders) (standing (version_of orders) [] [] []) = record { has = have_version Words subject.claim subject.silent orders have; leads = refl } in
     record {
-      complete = read_complete _ (cert_lines orders (proofs_of proofs)) (cert_read orders (proofs_of proofs) (have_orders subject.claim subject.silent orders have) legal short);
-      follow = (lead.0, (standing (version_of orders) [] [] [], opens, lead.1));
+      read = cert_read orders (proofs_of proofs) (have_orders subject.claim subject.silent orders have) legal short;
+      after = lead.0;
+      lead = (standing (version_of orders) [] [] [], opens, lead.1);
     }
 followed Moments subject orders proofs have legal short good shown prove distinct =
     let lead = lead_moments subject orders proofs have prove distinct in
     let opens : OpensCertificate subject first_standing 3 (standing 3 [] [] []) = record { has = have_version Moments subject.claim subject.silent orders have; leads = refl } in
     record {
-      complete = read_complete _ (question_lines (proofs_of proofs)) (questions_read (proofs_of proofs) legal short);
-      follow = (lead.0, (standing 3 [] [] [], opens, lead.1));
+      read = questions_read (proofs_of proofs) legal short;
+      after = lead.0;
+      lead = (standing 3 [] [] [], opens, lead.1);
     }
 
--- a certificate is a complete text, and its lines may follow each other
 followed_text : (subject : Subject) (text numbers : List ℕ) (c : CertificateFor subject text numbers) → Followed subject c.kind c.orders c.proofs
-followed_text subject text numbers c = followed c.kind subject c.orders c.proofs c.ordered c.legal c.short c.good c.shown c.prove (subst (λ (ks : List ℕ). Distinct ks) c.named c.distinct)
+followed_text subject text numbers c =
+    followed c.kind subject c.orders c.proofs c.ordered c.legal c.short c.good c.shown c.prove (subst (λ (ks : List ℕ). Distinct ks) c.named c.distinct)
 
-complete_text : (subject : Subject) (text numbers : List ℕ) (c : CertificateFor subject text numbers) → IsComplete text (lines_of_kind c.kind c.orders (proofs_of c.proofs))
-complete_text subject text numbers c = subst (λ (t : List ℕ). IsComplete t (lines_of_kind c.kind c.orders (proofs_of c.proofs))) (sym c.written) (followed_text subject text numbers c).complete
+-- a certificate is read as its lines
+read_text : (subject : Subject) (text numbers : List ℕ) (c : CertificateFor subject text numbers)
+    → text_lines text ≡ Ok (numbered_lines 0 (lines_of_kind c.kind c.orders (proofs_of c.proofs)))
+read_text subject text numbers c = ap text_lines c.written ∙ (followed_text subject text numbers c).read
 
-pub lines_of : (subject : Subject) (text numbers : List ℕ) → CertificateFor subject text numbers → (ls : List Line) × IsComplete text ls × MayFollow subject ls
-lines_of subject text numbers c = (lines_of_kind c.kind c.orders (proofs_of c.proofs), complete_text subject text numbers c, (followed_text subject text numbers c).follow)
+-- and these may follow each other
+pub lines_of : (subject : Subject) (text numbers : List ℕ) → CertificateFor subject text numbers
+    → (ls : List Line) × (text_lines text ≡ Ok (numbered_lines 0 ls)) × (after : Standing) × LeadThrough subject first_standing ls after
+lines_of subject text numbers c =
+    let f = followed_text subject text numbers c in
+    (lines_of_kind c.kind c.orders (proofs_of c.proofs), read_text subject text numbers c, f.after, f.lead)
 
 -- ---- a text is a certificate of one list of patterns
 -- the numbers of the patterns that lines name
@@ -345,5 +364,9 @@ lines_name Moments orders proofs = proofs_name proofs
 
 pub one_list : CertificatesNameOneList
 one_list subject text ns ms c d =
-    let same = (reads_unique text _ _ [] [] (complete_text subject text ns c).reads (complete_text subject text ms d).reads).0 in
+    let ls = lines_of_kind c.kind c.orders (proofs_of c.proofs) in
+    let ks = lines_of_kind d.kind d.orders (proofs_of d.proofs) in
+    let read = sym (read_text subject text ns c) ∙ read_text subject text ms d in
+    let numbered : numbered_lines 0 ls ≡ numbered_lines 0 ks = cc in
+    let same : ls ≡ ks = sym (lines_numbered 0 ls) ∙ ap unnumbered numbered ∙ lines_numbered 0 ks in
     c.named ∙ sym (lines_name c.kind c.orders c.proofs) ∙ ap numbers_in same ∙ lines_name d.kind d.orders d.proofs ∙ sym d.named

@@ -1,11 +1,14 @@
 -- what the judge's answer excludes and proves
-use Rattle.ta_check.proofs.Common.{ℕ, ◌≡◌, ◌≢◌, ◌⊎◌, inl, inr, false, List, [], ◌++◌, Result, Ok, Err, IfOk, IfErr, IsErrOf, is_err, refl, sym, ap, ◌∙◌, subst, false≢true, CertFault, IsErrOrMemory, Reader, reads_malformed, reads_trailing, Subject, Accepted, CertificateFor, MayClaimAll, Position, StandBehind, CheckerStandsFor, IsSoundChecker, CheckerFeedAnswers, IsExactFeed, CheckerFinishAnswers, IsExactCheck, subject_of, TakenTo, LineAtFault, IsFirstFaultFor, IsLastingFor, FinishAnswers as ReaderFinished}
+use Rattle.ta_check.proofs.Common.{ℕ, ◌≡◌, ◌≢◌, ◌⊎◌, inl, inr, false, List, [], ◌++◌, Result, Ok, Err, IfOk, IfErr, IsErrOf, is_err, refl, sym, ap, ◌∙◌, subst}
+use Rattle.ta_check.proofs.Common.{false≢true, CertFault, IsErrOrMemory, Outcome, state, Reader, Subject, Accepted, CertificateFor, MayClaimAll, Position}
+use Rattle.ta_check.proofs.Common.{StandBehind, CheckerStandsFor, IsSoundChecker, CheckerFeedAnswers, IsExactFeed, CheckerFinishAnswers, IsExactCheck}
+use Rattle.ta_check.proofs.Common.{subject_of, TakenTo, FirstFaultAlong, IsFirstFaultFor, IsLastingFor, first_standing}
 use Rattle.ta_cert.specs.declared.fault.CertFault.TheVariants as fault
 use Rattle.ta_check.specs.declared.checker.Checker.{Checker}
-use Rattle.ta_check.proofs.OneFault.{one_fault}
-use Rattle.ta_check.proofs.Refusing.{no_certificate}
-use Rattle.ta_check.proofs.Pieces.{end_fails, memory_or_not}
-use Rattle.ta_check.proofs.Stopping.{read_breaks, line_or_text}
+use Rattle.ta_check.proofs.Lasting.{first_of_lasting}
+use Rattle.ta_check.proofs.OneFault.{one_fault, one_lasting}
+use Rattle.ta_check.proofs.Refusing.{no_certificate, none_along}
+use Rattle.ta_check.proofs.Pieces.{memory_or_not}
 
 abbrev Accepts : Subject → List ℕ → Result Accepted CertFault → Type 0
 Accepts subject text answer = IfOk answer (λ accepted. CertificateFor subject text accepted.patterns)
@@ -26,52 +29,24 @@ exact_answer subject text (Err other) a h f first = elim (memory_or_not other) [
   | inr not ↦ inl (ap Err (one_fault subject text other f (h not) first))
 ]
 
--- no line is in error where a text is read so far
-no_line_fault : (subject : Subject) (reader : Reader) (position : Position) (text : List ℕ) (f : CertFault) → StandBehind subject reader position text → LineAtFault subject text f → ⊥
-no_line_fault subject reader position text f h line = line_or_text subject text f line (read_breaks subject text h.ls reader.line h.read.reads (h.at, h.leads))
-
 -- a text that is read so far has no lasting error
 none_lasting : (subject : Subject) (reader : Reader) (position : Position) (text : List ℕ) (f : CertFault) → StandBehind subject reader position text → IsLastingFor subject text f → ⊥
-none_lasting subject reader position text (fault.Truncated n) h lasting = lasting
-none_lasting subject reader position text (fault.Line n) h lasting = elim lasting [ inl line ↦ no_line_fault subject reader position text (fault.Line n) h line | inr own ↦ reads_malformed text h.ls reader.line n h.read.reads own.0 ]
-none_lasting subject reader position text (fault.Trailing n) h lasting = elim lasting [ inl line ↦ no_line_fault subject reader position text (fault.Trailing n) h line | inr own ↦ reads_trailing text h.ls reader.line n h.read.reads own.0 ]
-none_lasting subject reader position text (fault.UnknownPattern n) h lasting = elim lasting [ inl line ↦ no_line_fault subject reader position text (fault.UnknownPattern n) h line | inr own ↦ own ]
-none_lasting subject reader position text (fault.Row n row) h lasting = elim lasting [ inl line ↦ no_line_fault subject reader position text (fault.Row n row) h line | inr own ↦ own ]
-none_lasting subject reader position text (fault.Positive n unknown) h lasting = elim lasting [ inl line ↦ no_line_fault subject reader position text (fault.Positive n unknown) h line | inr own ↦ own ]
-none_lasting subject reader position text (fault.NotNegative n) h lasting = elim lasting [ inl line ↦ no_line_fault subject reader position text (fault.NotNegative n) h line | inr own ↦ own ]
-none_lasting subject reader position text (fault.Overflow n column) h lasting = elim lasting [ inl line ↦ no_line_fault subject reader position text (fault.Overflow n column) h line | inr own ↦ own ]
-none_lasting subject reader position text (fault.ExtendComplete n) h lasting = elim lasting [ inl line ↦ no_line_fault subject reader position text (fault.ExtendComplete n) h line | inr own ↦ own ]
-none_lasting subject reader position text (fault.SplitVariable n) h lasting = elim lasting [ inl line ↦ no_line_fault subject reader position text (fault.SplitVariable n) h line | inr own ↦ own ]
-none_lasting subject reader position text (fault.RepeatedPattern n) h lasting = elim lasting [ inl line ↦ no_line_fault subject reader position text (fault.RepeatedPattern n) h line | inr own ↦ own ]
-none_lasting subject reader position text (fault.Pair n) h lasting = elim lasting [ inl line ↦ no_line_fault subject reader position text (fault.Pair n) h line | inr own ↦ own ]
-none_lasting subject reader position text (fault.Question n) h lasting = elim lasting [ inl line ↦ no_line_fault subject reader position text (fault.Question n) h line | inr own ↦ own ]
-none_lasting subject reader position text fault.Failed h lasting = elim lasting [ inl line ↦ no_line_fault subject reader position text fault.Failed h line | inr own ↦ own ]
-none_lasting subject reader position text fault.Memory h lasting = elim lasting [ inl line ↦ no_line_fault subject reader position text fault.Memory h line | inr own ↦ own ]
-
--- a lasting error is a first one
-pub first_of_lasting : (subject : Subject) (text : List ℕ) (f : CertFault) → IsLastingFor subject text f → IsFirstFaultFor subject text f
-first_of_lasting subject text (fault.Truncated n) h = absurd h
-first_of_lasting subject text _ h = h
+none_lasting subject reader position text f h lasting =
+    none_along subject first_standing h.at h.lines (Ok (state reader)) (state reader) f h.leads refl
+    (subst (λ (o : Outcome). FirstFaultAlong subject first_standing o.0 o.1 f) h.read lasting)
 
 -- the answer to a piece is the one that is so of the text
 pub exact_feed : (subject : Subject) (reader : Reader) (position : Position) (text : List ℕ) (answer : Result (Unit {0}) CertFault) → TakenTo subject text reader position answer → IsExactFeed subject text answer
 exact_feed subject reader position text (Ok u) taken f lasting = absurd (none_lasting subject reader position text f taken lasting)
-exact_feed subject reader position text (Err e) taken f lasting = elim (told e taken) [
+exact_feed subject reader position text (Err e) taken f lasting = elim (memory_or_not e) [
   | inl memory ↦ inr (ap Err memory)
-  | inr is ↦ inl (ap Err (one_fault subject text e f (first_of_lasting subject text e is) (first_of_lasting subject text f lasting)))
+  | inr other ↦ inl (ap Err (one_lasting subject text e f (taken.lasts other) lasting))
 ]
-  where
-    told : (e : CertFault) → TakenTo subject text reader position (Err e) → (e ≡ fault.Memory) ⊎ IsLastingFor subject text e
-    told fault.Memory h = inl refl
-    told _ h = inr h
 
 -- a call on a checker that was not refused before doesn't say that it was
 pub never_failed : (subject : Subject) (reader : Reader) (position : Position) (text : List ℕ) (answer : Result (Unit {0}) CertFault) → TakenTo subject text reader position answer → IsErrOf answer fault.Failed → ⊥
 never_failed subject reader position text (Ok u) taken is = cc
-never_failed subject reader position text (Err e) taken is =
-    let same : e ≡ fault.Failed = cc in
-    let lasting : IsLastingFor subject text fault.Failed = subst (λ f. TakenTo subject text reader position (Err f)) same taken in
-    elim lasting [ inl line ↦ line.at_fault | inr own ↦ own ]
+never_failed subject reader position text (Err e) taken is = let same : e ≡ fault.Failed = cc in taken.fresh same
 
 -- the answer at the end is the one that is so of the text
 pub exact_end : (subject : Subject) (text : List ℕ) (answer : Result Accepted CertFault) → CheckerFinishAnswers subject text answer → IsExactCheck subject text answer
@@ -99,17 +74,12 @@ stands_somewhere s going_on (inr stands) = stands
 pub fed : (new : Checker) (text piece : List ℕ) (answer : Result (Unit {0}) CertFault) → MayClaimAll (subject_of new) → new.failed ≡ is_err answer → TakenTo (subject_of new) (text ++ piece) new.reader new.position answer → CheckerFeedAnswers text piece new answer
 fed new text piece (Ok u) may failed taken = record { may = may; going_on = failed; stand = taken }
 fed new text piece (Err fault.Memory) may failed taken = tt
-fed new text piece (Err _) may failed taken = taken
+fed new text piece (Err _) may failed taken = taken.lasts (λ e. absurd cc)
 
 -- a checker is sound after each piece
 pub still_sound : (new : Checker) (text : List ℕ) (answer : Result (Unit {0}) CertFault) → MayClaimAll (subject_of new) → new.failed ≡ is_err answer → TakenTo (subject_of new) text new.reader new.position answer → IsSoundChecker new
 still_sound new text (Ok u) may failed taken = inr (text, record { may = may; going_on = failed; stand = taken })
 still_sound new text (Err e) may failed taken = inl failed
-
--- what a reader answers at the end is what the checker does
-pub end_refused : (subject : Subject) (reader : Reader) (position : Position) (text : List ℕ) (e : CertFault) → (h : StandBehind subject reader position text) → ReaderFinished text h.ls (Err e) → CheckerFinishAnswers subject text (Err e)
-end_refused subject reader position text (fault.Truncated n) h f = end_fails subject reader position text n h f
-end_refused subject reader position text _ h f = absurd f
 
 -- what a finished checker refused is a first error
 pub finished_faults : (subject : Subject) (text : List ℕ) (answer : Result Accepted CertFault) → CheckerFinishAnswers subject text answer → Faults subject text answer

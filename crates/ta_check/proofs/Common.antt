@@ -1,5 +1,6 @@
 -- The names that the proofs of this crate cite, passed on from one place. Declares nothing.
-pub use Rattle.std.proofs.Common.{Bool, Err, FitsSigned, IfErr, IfOk, IsErrOf, List, None, Ok, Option, Result, Some, [], ap, append-nil, append_assoc, arith, cond, drop, false, get_or, inl, inr, is_err, length, length-drop, lit≤, map, nat_lt, of_z, pos, refl, reverse, rules, slice_get, subst, suc, sym, take, take-append-drop, to_z, true, unsigned_abs, zero, ℕ, ℤ, ◌*ℤ◌, ◌++◌, ◌+ℤ◌, ◌+◌, ◌<ℤ◌, ◌<◌, ◌^◌, ◌∙◌, ◌∷◌, ◌≡◌, ◌≢◌, ◌≤ℤ◌, ◌≤◌, ◌⊎◌}
+pub use Rattle.std.proofs.Common.{Bool, Err, FitsSigned, IfErr, IfOk, IsErrOf, List, None, Ok, Option, Result, Some, [], ap, append-nil, append_assoc, arith, cond, drop, false, get_or, inl, inr, is_err, length, length-append, length-drop, lit≤, map, nat_lt, of_z, pos, refl, reverse, rules, slice_get, subst, suc, sym, take, take-append-drop, to_z, true, unsigned_abs, zero, ℕ, ℤ, ◌*ℤ◌, ◌++◌, ◌+ℤ◌, ◌+◌, ◌<ℤ◌, ◌<◌, ◌^◌, ◌∙◌, ◌∷◌, ◌≡◌, ◌≢◌, ◌≤ℤ◌, ◌≤◌, ◌⊎◌}
+pub use Rattle.std.proofs.Math.Seq.{take-append_seam}
 pub use Rattle.std.proofs.lemmas.Bool.{cases_lt, false_from_ne_true, false≢true, not-true, not_from_false}
 pub use Rattle.std.proofs.lemmas.Int.{fits_signed_from_abs, ints, to_z-of_z}
 pub use Rattle.std.proofs.lemmas.List.{reverse-append, reverse-reverse}
@@ -11,21 +12,17 @@ pub use Rattle.ta_automaton.specs.declared.automaton.Automaton.{Automaton}
 pub use Rattle.ta_automaton.specs.declared.file.File.{File}
 pub use Rattle.ta_automaton.specs.declared.pattern.Pattern.{Pattern}
 pub use Rattle.ta_base.proofs.Each.{apart_before, each_all, each_back, older_new, others, still_new}
-pub use Rattle.ta_base.proofs.Lists.{first_byte, reverse_onto, some_at}
+pub use Rattle.ta_base.proofs.Lists.{reverse_onto, some_at}
 pub use Rattle.ta_base.proofs.Members.{In-left, In-right, in_append, known_first}
 pub use Rattle.ta_base.proofs.Options.{none_of}
 pub use Rattle.ta_base.specs.Lists.{Distinct, SameMembers}
 pub use Rattle.ta_base.specs.Masks.{In}
-pub use Rattle.ta_cert.proofs.Relations.{legal_last, read_complete, one_reading as reads_unique}
-pub use Rattle.ta_cert.proofs.Unique.{compare, legal_forms, legal_prefix, malformed_place, malformed_stuck, malformed_trailing, reads_malformed, reads_stuck, reads_trailing, trailing_place, trailing_stuck}
-unfoldable pub use Rattle.ta_cert.proofs.Unique.{GoesOn, Stuck}
-pub use Rattle.ta_cert.specs.Certificates.{AreOrders, AreWritable, cert_lines, order_lines, pair_of, proof_lines, proofs_of, question_lines, version_of}
-pub use Rattle.ta_cert.proofs.Writing.{lines_text-append}
-pub use Rattle.ta_cert.proofs.Written.{line_unbroken, line_unique}
-pub use Rattle.ta_cert.specs.Laws.{AreLater, AreLines, AreShort, line_number}
-pub use Rattle.ta_cert.specs.Relations.{FeedLineAnswers, FinishAnswers, IsComplete, IsErrOrMemory, IsMalformed, IsRefusedBehind, IsTrailing, ReadsLines, StandsAt}
+pub use Rattle.ta_cert.proofs.Standing.{lines_numbered}
+pub use Rattle.ta_cert.specs.Certificates.{AreOrders, AreWritable, order_lines, pair_of, proof_lines, proofs_of, version_of}
+pub use Rattle.ta_cert.specs.Laws.{AreLater, AreShort, IsWhole, numbered_lines, unnumbered}
 pub use Rattle.ta_cert.specs.Lines.{ArePairs, IsLine, IsNode, IsVersion, cert_lines_text, has_end, line_text}
-pub use Rattle.ta_cert.specs.Streams.{GivesLine, finish, first_line, line_limit, start, state, steps}
+pub use Rattle.ta_cert.specs.Streams.{Fails, GivesLine, IsErrOrMemory, Outcome, State, add_lines, end_of, failed, finish, first_line, line_limit, on, start}
+pub use Rattle.ta_cert.specs.Streams.{state, steps, text_lines}
 pub use Rattle.ta_cert.specs.Tree.{Tree, all_preorder}
 pub use Rattle.ta_cert.specs.declared.fault.CertFault.{CertFault}
 pub use Rattle.ta_cert.specs.declared.line.Line.{Line}
@@ -34,11 +31,13 @@ pub use Rattle.ta_cert.specs.declared.line.Order.{Order}
 pub use Rattle.ta_cert.specs.declared.reader.Reader.{Reader}
 pub use Rattle.ta_check.specs.Certificate.{AllClaimsHold, AllQuietRestSafe, AllRestSafe, AllSafe, AllUnsolved, Certificate, CertificateFor, CertificatesNameOneList, CertificatesShow, ClaimsHold, MayClaimAll, MayHave, PatternUnsolved, ProvesClaim, ProvesPattern, ShowsPair, lines_of_kind, may_have, proof_number}
 pub use Rattle.ta_check.specs.Checkers.{CheckerFeedAnswers, CheckerFinishAnswers, CheckerStandsFor, IsExactCheck, IsExactFeed, IsSoundChecker, StandBehind, subject_of}
-pub use Rattle.ta_check.specs.Faults.{AsksInVain, AtSomeWord, FirstLeafFault, HasNoForm, IsAtFault, IsFirstFaultFor, IsIdle, IsLastingFor, IsMisplaced, IsMisplacedNode, IsNoPair, IsUnawaited, IsWaiting, LastingFaultsLast, LeafFails, LineAtFault, PairFails, TextAtFault}
+pub use Rattle.ta_check.specs.Faults.{AsksInVain, AtSomeWord, FirstFaultAlong, FirstLeafFault, HasNoForm, IsAtFault, IsFirstFaultFor, IsIdle, IsLastingFor}
+pub use Rattle.ta_check.specs.Faults.{IsMisplaced, IsMisplacedNode, IsNoPair, IsUnawaited, IsWaiting, LastingFaultsLast, LeafFails, PairFails}
 pub use Rattle.ta_check.specs.Forms.{HasForm, IsNoLeaf, IsQuestion}
 pub use Rattle.ta_check.specs.Inside.Leaves.{WithoutBounds, renumbered}
-pub use Rattle.ta_check.specs.Inside.Pieces.{NextTaken, StandSomewhere, TakenTo}
-pub use Rattle.ta_check.specs.Lines.{AtWord, BeginsProof, EndsCertificate, FactAt, LeadThrough, Leads, MayFollow, NothingIsLeft, OpensCertificate, ShowsWaiting, Standing, Stands, TakesOrder, Waits, first_standing, opened, search_there}
+pub use Rattle.ta_check.specs.Inside.Pieces.{IsToldOf, NextTaken, StandSomewhere, TakenTo}
+pub use Rattle.ta_check.specs.Lines.{AtWord, BeginsProof, EndsCertificate, FactAt, LeadThrough, Leads, NothingIsLeft, OpensCertificate, ShowsWaiting, Standing}
+pub use Rattle.ta_check.specs.Lines.{Stands, TakesOrder, Waits, first_standing, opened, search_there}
 pub use Rattle.ta_check.specs.Positions.{Between, InNewest, IsKeptIn, IsPositionAt, IsSomewhere, LeafRefused, LeafTaken, LeafTold, LineAnswers, NodeStood, NodeTaken, NodeTold, SplitsNone, fault_at, place_of, unasked_in}
 pub use Rattle.ta_check.specs.Subjects.{HasVersion, Kind, Moments, Subject, Words, asking_for, claimed_with, claiming, claiming_with, fact_of, kind_of, moments_of, search_at, search_in, search_of, version_for}
 pub use Rattle.ta_check.specs.declared.accepted.Accepted.{Accepted}

@@ -1,5 +1,9 @@
 -- Lines lead to one standing, and those that lead on have no error
-use Rattle.ta_check.proofs.Common.{◌≡◌, ◌⊎◌, inl, inr, ℕ, ◌<◌, ℤ, List, [], ◌∷◌, ◌++◌, length, None, Some, refl, sym, ap, subst, ◌∙◌, arith, Line, Node, CertFault, IsShown, Pending, Search, MayAsk, parts, MayStand, leaf_back, LeafFault, no_fault, IsJudged, Subject, kind_of, Standing, FactAt, search_there, AtWord, BeginsProof, ShowsWaiting, Stands, TakesOrder, Leads, LeadThrough, AtSomeWord, HasForm, IsNoPair, IsQuestion, IsMisplaced, IsNoLeaf, FirstLeafFault, LeafFails, PairFails, IsAtFault, check_stays, none-some, IsMisplacedNode, MayJoin, Waits}
+use Rattle.ta_check.proofs.Common.{◌≡◌, ◌⊎◌, inl, inr, ℕ, ◌<◌, ℤ, List, [], ◌∷◌, ◌++◌, length, None, Some, sym, ap, subst, ◌∙◌, arith, Line, Node}
+use Rattle.ta_check.proofs.Common.{CertFault, IsShown, Pending, Search, MayAsk, parts, MayStand, leaf_back, LeafFault, no_fault, IsJudged, Subject, kind_of}
+use Rattle.ta_check.proofs.Common.{Standing, FactAt, search_there, AtWord, BeginsProof, ShowsWaiting, Stands, TakesOrder, Leads, AtSomeWord, HasForm, IsNoPair}
+use Rattle.ta_check.proofs.Common.{IsQuestion, IsMisplaced, IsNoLeaf, FirstLeafFault, LeafFails, PairFails, IsAtFault, check_stays, none-some, IsMisplacedNode}
+use Rattle.ta_check.proofs.Common.{MayJoin, Waits}
 use Rattle.ta_cert.specs.declared.line.Line.TheVariants as line
 use Rattle.ta_encode.proofs.Asking.{none_asked}
 use Rattle.ta_cert.specs.declared.line.Node.TheVariants as node
@@ -75,20 +79,6 @@ leads_once subject s (line.Tree n) x y (inr (inr a)) (inl b) = absurd (early_wor
 leads_once subject s (line.Tree n) x y (inr (inr a)) (inr (inl b)) = absurd (none-some b.pair (sym a.takes.none ∙ b.waits))
 leads_once subject s (line.Tree n) x y (inr (inr a)) (inr (inr b)) = pair_once subject s n x y a b
 leads_once subject s line.End x y a b = a.leads ∙ sym b.leads
-
--- so do lines
-pub leads_through_once : (subject : Subject) (s : Standing) (ls : List Line) (x y : Standing) → LeadThrough subject s ls x → LeadThrough subject s ls y → x ≡ y
-leads_through_once subject s [] x y a b = a ∙ sym b
-leads_through_once subject s (l ∷ ls) x y (m, a, rest) (n, b, other) =
-    let same = leads_once subject s l m n a b in
-    leads_through_once subject n ls x y (subst (λ t. LeadThrough subject t ls x) same rest) other
-
--- lines that lead on do so in two parts
-pub through_parts : (subject : Subject) (s : Standing) (ls ms : List Line) (after : Standing) → LeadThrough subject s (ls ++ ms) after → (between : Standing) × LeadThrough subject s ls between × LeadThrough subject between ms after
-through_parts subject s [] ms after h = (s, refl, h)
-through_parts subject s (l ∷ ls) ms after (next, first, rest) =
-    let parts = through_parts subject next ls ms after rest in
-    (parts.0, (next, first, parts.1), parts.2)
 
 -- a node that stands does so at the first word that is left
 may_stand : (subject : Subject) (s : Standing) (n : Node) (after : Standing) (p : Search (FactAt s)) (w : Pending (FactAt s)) (ws : List (Pending (FactAt s))) → AtWord subject s p w ws → Stands subject s n after → MayStand p (IsJudged p) w n

@@ -1,34 +1,43 @@
 -- An error that lasts
-use Rattle.ta_check.proofs.Common.{◌∙◌, ℕ, List, [], ◌∷◌, ◌++◌, inl, inr, refl, sym, ap, subst, append_assoc, CertFault, cert_lines_text, MayFollow, Subject, CertificateFor, IsLastingFor, LastingFaultsLast, LineAtFault, TextAtFault}
-use Rattle.ta_cert.proofs.Relations.{behind_more}
-use Rattle.ta_cert.specs.declared.fault.CertFault.TheVariants as fault
+use Rattle.ta_check.proofs.Common.{ℕ, List, [], ◌∷◌, ◌++◌, Result, Ok, Err, IsErrOf, inl, inr, sym, ap, subst, CertFault, Line, State, Outcome, on, end_of}
+use Rattle.ta_check.proofs.Common.{start, steps, Subject, Standing, first_standing, CertificateFor, FirstFaultAlong, IsFirstFaultFor, IsLastingFor}
+use Rattle.ta_check.proofs.Common.{LastingFaultsLast}
+use Rattle.ta_cert.proofs.Streaming.{steps-append}
 use Rattle.ta_check.proofs.Refusing.{no_certificate}
 
-line_more : (subject : Subject) (text more : List ℕ) (f : CertFault) → LineAtFault subject text f → LineAtFault subject (text ++ more) f
-line_more subject text more f e = record {
-  ls = e.ls;
-  line = e.line;
-  after = e.after ++ more;
-  whole = ap (λ xs. xs ++ more) e.whole ∙ append_assoc (cert_lines_text (e.ls ++ e.line ∷ [])) e.after more;
-  legal = e.legal;
-  standing = e.standing;
-  leads = e.leads;
-  at_fault = e.at_fault;
-}
+-- the same error at another end
+other_end : {A B : Type 0} (subject : Subject) (s : Standing) (xs : List (ℕ × Line)) (end : Result A CertFault) (last : Result B CertFault) (f : CertFault)
+    → (IsErrOf end f → IsErrOf last f) → FirstFaultAlong subject s xs end f → FirstFaultAlong subject s xs last f
+other_end subject s [] end last f same is = same is
+other_end subject s (x ∷ xs) end last f same (inl at) = inl at
+other_end subject s (x ∷ xs) end last f same (inr (next, leads, later)) = inr (next, leads, other_end subject next xs end last f same later)
 
--- an error of the text itself
-malformed_more : (subject : Subject) (text more : List ℕ) (n : ℕ) → TextAtFault subject text (fault.Line n) → TextAtFault subject (text ++ more) (fault.Line n)
-malformed_more subject text more n (m, follow) = let on = behind_more m.ls text more (fault.Line n) (m, refl) in (on.0, subst (MayFollow subject) (sym on.1) follow)
+-- an error of lines is the same before more of them
+more_lines : {A : Type 0} (subject : Subject) (s : Standing) (xs ys : List (ℕ × Line)) (t : State) (end : Result A CertFault) (f : CertFault)
+    → FirstFaultAlong {A = State} subject s xs (Ok t) f → FirstFaultAlong subject s (xs ++ ys) end f
+more_lines subject s [] ys t end f is = absurd cc
+more_lines subject s (x ∷ xs) ys t end f (inl at) = inl at
+more_lines subject s (x ∷ xs) ys t end f (inr (next, leads, later)) = inr (next, leads, more_lines subject next xs ys t end f later)
 
-trailing_more : (subject : Subject) (text more : List ℕ) (n : ℕ) → TextAtFault subject text (fault.Trailing n) → TextAtFault subject (text ++ more) (fault.Trailing n)
-trailing_more subject text more n (t, follow) = let on = behind_more t.ls text more (fault.Trailing n) (t, refl) in (on.0, subst (MayFollow subject) (sym on.1) follow)
+on_lasts : (subject : Subject) (s : Standing) (o : Outcome) (g : State → Outcome) (f : CertFault) → FirstFaultAlong subject s o.0 o.1 f
+    → FirstFaultAlong subject s (on o g).0 (on o g).1 f
+on_lasts subject s (xs, Ok t) g f is = more_lines subject s xs (g t).0 t (g t).1 f is
+on_lasts subject s (xs, Err e) g f is = is
+
+-- a longer text keeps it
+pub lasting_more : (subject : Subject) (text more : List ℕ) (f : CertFault) → IsLastingFor subject text f → IsLastingFor subject (text ++ more) f
+lasting_more subject text more f h = subst (λ (o : Outcome). FirstFaultAlong subject first_standing o.0 o.1 f) (sym (steps-append text more start))
+    (on_lasts subject first_standing (steps text start) (steps more) f h)
+
+-- it is a first one
+pub first_of_lasting : (subject : Subject) (text : List ℕ) (f : CertFault) → IsLastingFor subject text f → IsFirstFaultFor subject text f
+first_of_lasting subject text f h = other_end subject first_standing (steps text start).0 (steps text start).1 (end_of (steps text start).1) f
+    (λ is. ap end_of is) h
 
 pub lasting_faults_last : LastingFaultsLast
-lasting_faults_last subject text more (fault.Truncated n) h = absurd h
-lasting_faults_last subject text more (fault.Line n) h = elim h [ inl line ↦ inl (line_more subject text more (fault.Line n) line) | inr own ↦ inr (malformed_more subject text more n own) ]
-lasting_faults_last subject text more (fault.Trailing n) h = elim h [ inl line ↦ inl (line_more subject text more (fault.Trailing n) line) | inr own ↦ inr (trailing_more subject text more n own) ]
-lasting_faults_last subject text more f h = elim h [ inl line ↦ inl (line_more subject text more f line) | inr own ↦ absurd own ]
+lasting_faults_last subject text more f h = first_of_lasting subject (text ++ more) f (lasting_more subject text more f h)
 
 -- no text that goes on behind a lasting error is a certificate
-pub no_longer_certificate : (subject : Subject) (text : List ℕ) (f : CertFault) → IsLastingFor subject text f → (more numbers : List ℕ) → ¬ CertificateFor subject (text ++ more) numbers
+pub no_longer_certificate : (subject : Subject) (text : List ℕ) (f : CertFault) → IsLastingFor subject text f → (more numbers : List ℕ)
+    → ¬ CertificateFor subject (text ++ more) numbers
 no_longer_certificate subject text f h more = no_certificate subject (text ++ more) f (lasting_faults_last subject text more f h)

@@ -5,7 +5,6 @@ pub mod Searches
 mod Behind
 mod Heads
 pub mod Accepting
-mod Stopping
 mod LeafFaults
 mod Reasons
 mod Refusing

@@ -1,140 +1,169 @@
 -- a certificate that is judged piece by piece
-use Rattle.ta_check.proofs.Common.{ℕ, ◌<◌, ◌≤◌, ◌≡◌, ◌⊎◌, List, [], ◌∷◌, ◌++◌, length, take, drop, reverse, Option, Some, Result, Ok, Err, refl, sym, ap, subst, ◌∙◌, inl, inr, append_assoc, take-append-drop, reverse-reverse, IsLine, cert_lines_text, StandsAt, IsRefusedBehind, FeedLineAnswers, Line, CertFault, Reader, legal_last, reads_unique, Subject, Position, CertificateFor, StandBehind, IsAtFault, LineAtFault, IsFirstFaultFor, IsLastingFor, NextTaken, StandSomewhere, TakenTo, Standing, first_standing, Leads, LeadThrough, MayFollow, IsPositionAt, LineAnswers, FinishAnswers as ReaderFinished, GivesLine, finish, first_line, start, state, steps, None, false, ◌≢◌}
+use Rattle.ta_check.proofs.Common.{ℕ, ◌<◌, ◌≤◌, ◌≡◌, ◌≢◌, ◌⊎◌, List, [], ◌∷◌, ◌++◌, length, take, drop, reverse, Option, None, Some, Result, Ok, Err}
+use Rattle.ta_check.proofs.Common.{Bool, true, false, refl, sym, ap, subst, ◌∙◌, inl, inr, arith, append_assoc, append-nil, length-append}
+use Rattle.ta_check.proofs.Common.{take-append-drop, take-append_seam, reverse-reverse, false≢true, IsLine, Fails, GivesLine, Outcome, State, add_lines, failed}
+use Rattle.ta_check.proofs.Common.{finish, first_line, on, start, state, steps, end_of, unnumbered, lines_numbered, Line, CertFault, Reader, Subject, Position}
+use Rattle.ta_check.proofs.Common.{CertificateFor, StandBehind, IsAtFault, FirstFaultAlong, IsLastingFor, IsToldOf, NextTaken, StandSomewhere}
+use Rattle.ta_check.proofs.Common.{TakenTo, Standing, first_standing, Leads, LeadThrough, IsPositionAt, LineAnswers, CheckerFinishAnswers}
 use Rattle.ta_cert.specs.declared.fault.CertFault.TheVariants as fault
 use Rattle.ta_cert.specs.declared.reader.Ended.{Ended}
-use Rattle.ta_cert.proofs.Relations.{begins, ends_say, line_feeds_say}
+use Rattle.ta_cert.proofs.Standing.{last_line, stands, whole_at}
+use Rattle.ta_cert.proofs.Streaming.{faults_stay, first_parts, steps-append}
 use Rattle.ta_check.proofs.Accepting.{certificate_of}
 
 -- before the first piece
-pub stands_first : (subject : Subject) (reader : Reader) (position : Position) → state reader ≡ start → reader.failed ≡ false → IsPositionAt subject position first_standing → StandBehind subject reader position []
+pub stands_first : (subject : Subject) (reader : Reader) (position : Position) → state reader ≡ start → reader.failed ≡ false
+    → IsPositionAt subject position first_standing → StandBehind subject reader position []
 stands_first subject reader position is going_on place = record {
-  ls = [];
+  lines = [];
   at = first_standing;
   going_on = going_on;
-  read = subst (λ s. StandsAt s [] []) (sym is) begins;
+  read = ap (λ (s : State). ([], Ok s)) (sym is);
   leads = refl;
   place = place;
 }
 
 -- one line more
-leads_push : (subject : Subject) (s after next : Standing) (ls : List Line) (l : Line) → LeadThrough subject s ls after → Leads subject after l next → LeadThrough subject s (ls ++ (l ∷ [])) next
-leads_push subject s after next [] l leads more = (next, subst (λ t. Leads subject t l next) leads more, refl)
-leads_push subject s after next (m ∷ ls) l (between, first, leads) more = (between, first, leads_push subject between after next ls l leads more)
+leads_push : (subject : Subject) (s after next : Standing) (xs : List (ℕ × Line)) (x : ℕ × Line) → LeadThrough subject s (unnumbered xs) after
+    → Leads subject after x.1 next → LeadThrough subject s (unnumbered (xs ++ (x ∷ []))) next
+leads_push subject s after next [] x leads more = (next, subst (λ t. Leads subject t x.1 next) leads more, refl)
+leads_push subject s after next (y ∷ xs) x (between, first, leads) more = (between, first, leads_push subject between after next xs x leads more)
 
--- a line that is none, behind lines that may follow each other
-lasting_text : (subject : Subject) (ls : List Line) (text : List ℕ) (e : CertFault) → MayFollow subject ls → IsRefusedBehind ls text e → IsLastingFor subject text e
-lasting_text subject ls text (fault.Line n) may (m, same) = inr (m, subst (MayFollow subject) (sym same) may)
-lasting_text subject ls text (fault.Trailing n) may (t, same) = inr (t, subst (MayFollow subject) (sym same) may)
-lasting_text subject ls text _ may r = absurd r
+-- the first error behind lines that may follow each other
+behind_lines : {A : Type 0} (subject : Subject) (s after : Standing) (xs ys : List (ℕ × Line)) (end : Result A CertFault) (f : CertFault)
+    → LeadThrough subject s (unnumbered xs) after → FirstFaultAlong subject after ys end f → FirstFaultAlong subject s (xs ++ ys) end f
+behind_lines subject s after [] ys end f leads is = subst (λ (t : Standing). FirstFaultAlong subject t ys end f) leads is
+behind_lines subject s after (x ∷ xs) ys end f (next, first, leads) is = inr (next, first, behind_lines subject next after xs ys end f leads is)
 
 -- whether an error is want of memory
 pub memory_or_not : (f : CertFault) → (f ≡ fault.Memory) ⊎ (f ≢ fault.Memory)
 memory_or_not fault.Memory = inl refl
-memory_or_not (fault.Line n) = inr (λ e. absurd (cc))
-memory_or_not (fault.Truncated n) = inr (λ e. absurd (cc))
-memory_or_not (fault.UnknownPattern n) = inr (λ e. absurd (cc))
-memory_or_not (fault.Row n row) = inr (λ e. absurd (cc))
-memory_or_not (fault.Positive n unknown) = inr (λ e. absurd (cc))
-memory_or_not (fault.NotNegative n) = inr (λ e. absurd (cc))
-memory_or_not (fault.Overflow n column) = inr (λ e. absurd (cc))
-memory_or_not (fault.ExtendComplete n) = inr (λ e. absurd (cc))
-memory_or_not (fault.SplitVariable n) = inr (λ e. absurd (cc))
-memory_or_not (fault.Trailing n) = inr (λ e. absurd (cc))
-memory_or_not (fault.RepeatedPattern n) = inr (λ e. absurd (cc))
-memory_or_not (fault.Pair n) = inr (λ e. absurd (cc))
-memory_or_not (fault.Question n) = inr (λ e. absurd (cc))
-memory_or_not fault.Failed = inr (λ e. absurd (cc))
+memory_or_not _ = inr (λ e. absurd cc)
 
--- what isn't want of memory is told
-next_taken : (subject : Subject) (text bytes : List ℕ) (reader : Reader) (position : Position) (e : CertFault) → (e ≡ fault.Memory) ⊎ IsLastingFor subject (text ++ bytes) e → NextTaken subject text bytes reader position (Err e)
-next_taken subject text bytes reader position fault.Memory h = tt
-next_taken subject text bytes reader position (fault.Line n) h = elim h [ inl memory ↦ absurd (cc) | inr lasting ↦ lasting ]
-next_taken subject text bytes reader position (fault.Truncated n) h = elim h [ inl memory ↦ absurd (cc) | inr lasting ↦ lasting ]
-next_taken subject text bytes reader position (fault.UnknownPattern n) h = elim h [ inl memory ↦ absurd (cc) | inr lasting ↦ lasting ]
-next_taken subject text bytes reader position (fault.Row n row) h = elim h [ inl memory ↦ absurd (cc) | inr lasting ↦ lasting ]
-next_taken subject text bytes reader position (fault.Positive n unknown) h = elim h [ inl memory ↦ absurd (cc) | inr lasting ↦ lasting ]
-next_taken subject text bytes reader position (fault.NotNegative n) h = elim h [ inl memory ↦ absurd (cc) | inr lasting ↦ lasting ]
-next_taken subject text bytes reader position (fault.Overflow n column) h = elim h [ inl memory ↦ absurd (cc) | inr lasting ↦ lasting ]
-next_taken subject text bytes reader position (fault.ExtendComplete n) h = elim h [ inl memory ↦ absurd (cc) | inr lasting ↦ lasting ]
-next_taken subject text bytes reader position (fault.SplitVariable n) h = elim h [ inl memory ↦ absurd (cc) | inr lasting ↦ lasting ]
-next_taken subject text bytes reader position (fault.Trailing n) h = elim h [ inl memory ↦ absurd (cc) | inr lasting ↦ lasting ]
-next_taken subject text bytes reader position (fault.RepeatedPattern n) h = elim h [ inl memory ↦ absurd (cc) | inr lasting ↦ lasting ]
-next_taken subject text bytes reader position (fault.Pair n) h = elim h [ inl memory ↦ absurd (cc) | inr lasting ↦ lasting ]
-next_taken subject text bytes reader position (fault.Question n) h = elim h [ inl memory ↦ absurd (cc) | inr lasting ↦ lasting ]
-next_taken subject text bytes reader position fault.Failed h = elim h [ inl memory ↦ absurd (cc) | inr lasting ↦ lasting ]
+-- what a text says with more bytes
+more_read : (subject : Subject) (reader : Reader) (position : Position) (text bytes : List ℕ) → (h : StandBehind subject reader position text)
+    → steps (text ++ bytes) start ≡ add_lines h.lines (steps bytes (state reader))
+more_read subject reader position text bytes h = steps-append text bytes start ∙ ap (λ (o : Outcome). on o (steps bytes)) h.read
 
--- what a reader answers to the bytes of a piece up to its first line feed, wherever it stands
-abbrev pub Feeds : Reader → List ℕ → Reader → Result (Option Ended) CertFault → Type 0
-Feeds reader piece new answer = (text : List ℕ) (ls : List Line) → StandsAt (state reader) text ls → FeedLineAnswers text ls piece new answer
-
--- what `feed_line` promises says so
-pub feeds_of : (subject : Subject) (reader new : Reader) (position : Position) (piece : List ℕ) (answer : Result (Option Ended) CertFault) → StandSomewhere subject reader position → (reader.failed ≡ false → GivesLine piece (steps (first_line piece) (state reader)) new answer) → Feeds reader piece new answer
-feeds_of subject reader new position piece answer (text, h) gives = λ others ls at. line_feeds_say reader new others piece ls answer at (gives h.going_on)
+-- an error of the bytes behind a text
+lasts_behind : (subject : Subject) (reader : Reader) (position : Position) (text bytes : List ℕ) (o : Outcome) (f : CertFault)
+    → (h : StandBehind subject reader position text) → steps bytes (state reader) ≡ o → FirstFaultAlong subject h.at o.0 o.1 f
+    → IsLastingFor subject (text ++ bytes) f
+lasts_behind subject reader position text bytes o f h is first =
+    subst (λ (p : Outcome). FirstFaultAlong subject first_standing p.0 p.1 f) (sym (more_read subject reader position text bytes h ∙ ap (add_lines h.lines) is))
+    (behind_lines subject first_standing h.at h.lines o.0 o.1 f h.leads first)
 
 -- the reader refuses
-pub next_refused : (subject : Subject) (reader new : Reader) (position : Position) (bytes : List ℕ) (e : CertFault) → Feeds reader bytes new (Err e) → (text : List ℕ) → StandBehind subject reader position text → NextTaken subject text bytes new position (Err e)
-next_refused subject reader new position bytes e feeds text h =
-    next_taken subject text bytes new position e (elim (memory_or_not e) [
-      | inl memory ↦ inl memory
-      | inr other ↦ inr (lasting_text subject h.ls (text ++ bytes) e (h.at, h.leads) (feeds text h.ls h.read other))
-    ])
+pub next_refused : (subject : Subject) (reader new : Reader) (position : Position) (bytes : List ℕ) (e : CertFault)
+    → (reader.failed ≡ false → Fails (steps (first_line bytes) (state reader)) e) → (e ≡ fault.Failed → reader.failed ≡ true) → (text : List ℕ)
+    → StandBehind subject reader position text → NextTaken subject text bytes new position (Err e)
+next_refused subject reader new position bytes e fails was text h = record {
+  fresh = λ is. false≢true (sym h.going_on ∙ was is);
+  lasts = λ other.
+      let first = fails h.going_on other in
+      let rest = first_parts bytes in
+      let all : steps bytes (state reader) ≡ failed e = ap (λ (xs : List ℕ). steps xs (state reader)) rest.1
+      ∙ faults_stay (first_line bytes) rest.0 (state reader) e (ap (λ (o : Outcome). o.1) first) ∙ first in
+      lasts_behind subject reader position text bytes (failed e) e h all refl;
+}
 
 -- the unfinished line goes on
-pub next_none : (subject : Subject) (reader new : Reader) (position : Position) (bytes : List ℕ) → new.failed ≡ false → Feeds reader bytes new (Ok None) → (text : List ℕ) → StandBehind subject reader position text → NextTaken subject text bytes new position (Ok None)
-next_none subject reader new position bytes going_on feeds text h = record { ls = h.ls; at = h.at; going_on = going_on; read = feeds text h.ls h.read; leads = h.leads; place = h.place }
+pub next_none : (subject : Subject) (reader new : Reader) (position : Position) (bytes : List ℕ) → new.failed ≡ false
+    → (reader.failed ≡ false → GivesLine bytes (steps (first_line bytes) (state reader)) new (Ok None)) → (text : List ℕ)
+    → StandBehind subject reader position text → NextTaken subject text bytes new position (Ok None)
+next_none subject reader new position bytes going_on gives text h =
+    let kept = gives h.going_on in
+    record {
+      lines = h.lines;
+      at = h.at;
+      going_on = going_on;
+      read = more_read subject reader position text bytes h
+          ∙ ap (add_lines h.lines) (subst (λ (xs : List ℕ). steps xs (state reader) ≡ ([], Ok (state new))) kept.1 kept.0)
+          ∙ ap (λ (xs : List (ℕ × Line)). (xs, Ok (state new))) (append-nil h.lines);
+      leads = h.leads;
+      place = h.place;
+    }
 
--- a line that ended has its form
-pub line_is : (subject : Subject) (reader new : Reader) (position : Position) (bytes : List ℕ) (found : Ended) → StandSomewhere subject reader position → Feeds reader bytes new (Ok (Some found)) → IsLine found.line
-line_is subject reader new position bytes found (text, h) feeds = (legal_last h.ls found.line (feeds text h.ls h.read).stands.reads.legal).0
+-- bytes up to a line feed were read as a line
+pub record LineRead (reader new : Reader) (bytes : List ℕ) (found : Ended) : Type 0 where
+  pub read : steps (take found.taken bytes) (state reader) ≡ ((found.number, found.line) ∷ [], Ok (state new))
+  pub some : 0 < found.taken
+  pub within : found.taken ≤ length bytes
+
+some_taken : (bytes : List ℕ) (s : State) (x : ℕ × Line) (t : State) → steps bytes s ≡ (x ∷ [], Ok t) → 0 < length bytes
+some_taken [] s x t e = let none : [] ≡ (x ∷ []) = ap (λ (o : Outcome). o.0) e in absurd cc
+some_taken (b ∷ bs) s x t e = omega arith
+
+pub line_read : (reader new : Reader) (bytes : List ℕ) (found : Ended) → GivesLine bytes (steps (first_line bytes) (state reader)) new (Ok (Some found))
+    → LineRead reader new bytes found
+line_read reader new bytes found gives =
+    let rest = first_parts bytes in
+    let front : take found.taken bytes ≡ first_line bytes = ap (λ k. take k bytes) gives.1 ∙ ap (take (length (first_line bytes))) rest.1
+    ∙ take-append_seam (first_line bytes) rest.0 in
+    record {
+      read = ap (λ (xs : List ℕ). steps xs (state reader)) front ∙ gives.0;
+      some = omega (arith, gives.1, some_taken (first_line bytes) (state reader) (found.number, found.line) (state new) gives.0);
+      within = omega (arith, gives.1, ap length rest.1, length-append (first_line bytes) rest.0);
+    }
+
+-- with the text
+line_behind : (subject : Subject) (reader new : Reader) (position : Position) (text bytes : List ℕ) (found : Ended)
+    → (h : StandBehind subject reader position text) → LineRead reader new bytes found
+    → steps (text ++ take found.taken bytes) start ≡ (h.lines ++ (found.number, found.line) ∷ [], Ok (state new))
+line_behind subject reader new position text bytes found h read = more_read subject reader position text (take found.taken bytes) h
+    ∙ ap (add_lines h.lines) read.read
+
+-- the line has its form
+pub line_is : (subject : Subject) (reader new : Reader) (position : Position) (bytes : List ℕ) (found : Ended) → StandSomewhere subject reader position
+    → (reader.failed ≡ false → GivesLine bytes (steps (first_line bytes) (state reader)) new (Ok (Some found))) → IsLine found.line
+line_is subject reader new position bytes found (text, h) gives = last_line (text ++ take found.taken bytes) h.lines (found.number, found.line) (state new)
+    (line_behind subject reader new position text bytes found h (line_read reader new bytes found (gives h.going_on)))
 
 -- a line that may follow
-pub next_some : (subject : Subject) (reader new : Reader) (position after : Position) (bytes : List ℕ) (found : Ended) → new.failed ≡ false → Feeds reader bytes new (Ok (Some found)) → ((at : Standing) → IsPositionAt subject position at → LineAnswers subject at found.number found.line after (Ok tt)) → (text : List ℕ) → StandBehind subject reader position text → NextTaken subject text bytes new after (Ok (Some found.taken))
-next_some subject reader new position after bytes found going_on feeds takes text h =
-    let ends = feeds text h.ls h.read in
+pub next_some : (subject : Subject) (reader new : Reader) (position after : Position) (bytes : List ℕ) (found : Ended) → new.failed ≡ false
+    → (reader.failed ≡ false → GivesLine bytes (steps (first_line bytes) (state reader)) new (Ok (Some found)))
+    → ((at : Standing) → IsPositionAt subject position at → LineAnswers subject at found.number found.line after (Ok tt)) → (text : List ℕ)
+    → StandBehind subject reader position text → NextTaken subject text bytes new after (Ok (Some found.taken))
+next_some subject reader new position after bytes found going_on gives takes text h =
+    let read = line_read reader new bytes found (gives h.going_on) in
     let gone = takes h.at h.place in (
-      ends.some,
-      ends.within,
+      read.some,
+      read.within,
       record {
-        ls = h.ls ++ found.line ∷ [];
+        lines = h.lines ++ (found.number, found.line) ∷ [];
         at = gone.0;
         going_on = going_on;
-        read = ends.stands;
-        leads = leads_push subject first_standing h.at gone.0 h.ls found.line h.leads gone.1;
+        read = line_behind subject reader new position text bytes found h read;
+        leads = leads_push subject first_standing h.at gone.0 h.lines (found.number, found.line) h.leads gone.1;
         place = gone.2;
       },
     )
 
 -- why a line can't follow
-taken_fault : (subject : Subject) (at : Standing) (number : ℕ) (l : Line) (moved : Position) (e : CertFault) → LineAnswers subject at number l moved (Err e) → (e ≡ fault.Memory) ⊎ IsAtFault subject at number l e
+taken_fault : (subject : Subject) (at : Standing) (number : ℕ) (l : Line) (moved : Position) (e : CertFault) → LineAnswers subject at number l moved (Err e)
+    → (e ≡ fault.Memory) ⊎ IsAtFault subject at number l e
 taken_fault subject at number l moved fault.Memory taken = inl refl
 taken_fault subject at number l moved _ taken = inr taken
 
--- a line that can't follow is no early end
-lasting_line : (subject : Subject) (text : List ℕ) (e : CertFault) → LineAtFault subject text e → IsLastingFor subject text e
-lasting_line subject text (fault.Truncated n) h = h.at_fault
-lasting_line subject text _ h = inl h
-
-pub next_fails : (subject : Subject) (reader new : Reader) (position after : Position) (bytes : List ℕ) (found : Ended) (e : CertFault) → Feeds reader bytes new (Ok (Some found)) → ((at : Standing) → IsPositionAt subject position at → LineAnswers subject at found.number found.line after (Err e)) → (text : List ℕ) → StandBehind subject reader position text → NextTaken subject text bytes new after (Err e)
-next_fails subject reader new position after bytes found e feeds takes text h =
-    let ends = feeds text h.ls h.read in
+pub next_fails : (subject : Subject) (reader new : Reader) (position after : Position) (bytes : List ℕ) (found : Ended) (e : CertFault)
+    → (reader.failed ≡ false → GivesLine bytes (steps (first_line bytes) (state reader)) new (Ok (Some found)))
+    → ((at : Standing) → IsPositionAt subject position at → LineAnswers subject at found.number found.line after (Err e)) → (text : List ℕ)
+    → StandBehind subject reader position text → NextTaken subject text bytes new after (Err e)
+next_fails subject reader new position after bytes found e gives takes text h =
+    let read = line_read reader new bytes found (gives h.going_on) in
     let front = take found.taken bytes in
     let behind = drop found.taken bytes in
-    let all : text ++ bytes ≡ (text ++ front) ++ behind = ap (λ xs. text ++ xs) (sym (take-append-drop found.taken bytes)) ∙ sym (append_assoc text front behind) in
-    let lines = cert_lines_text (h.ls ++ found.line ∷ []) in
-    let whole : text ++ bytes ≡ lines ++ (new.line ++ behind) = all ∙ ap (λ xs. xs ++ behind) ends.stands.reads.whole ∙ append_assoc lines new.line behind in
-    next_taken subject text bytes new after e (elim (taken_fault subject h.at found.number found.line after e (takes h.at h.place)) [
-      | inl memory ↦ inl memory
-      | inr at_fault ↦ inr (lasting_line subject (text ++ bytes) e (record {
-        ls = h.ls;
-        line = found.line;
-        after = new.line ++ behind;
-        whole = whole;
-        legal = ends.stands.reads.legal;
-        standing = h.at;
-        leads = h.leads;
-        at_fault = subst (λ k. IsAtFault subject h.at k found.line e) ends.number at_fault;
-      }))
-    ])
+    let later = steps behind (state new) in
+    let all : steps bytes (state reader) ≡ add_lines ((found.number, found.line) ∷ []) later = ap (λ (xs : List ℕ). steps xs (state reader))
+    (sym (take-append-drop found.taken bytes)) ∙ steps-append front behind (state reader) ∙ ap (λ (o : Outcome). on o (steps behind)) read.read in
+    let answers = takes h.at h.place in
+    record {
+      fresh = λ is. subst (λ (f : CertFault). LineAnswers subject h.at found.number found.line after (Err f)) is answers;
+      lasts = λ other. elim (taken_fault subject h.at found.number found.line after e answers) [
+        | inl memory ↦ absurd (other memory)
+        | inr at_fault ↦ lasts_behind subject reader position text bytes (add_lines ((found.number, found.line) ∷ []) later) e h all (inl at_fault)
+      ];
+    }
 
 -- the front of a piece was taken, and wherever one stood before, one stands behind it
 pub record FrontTaken (subject : Subject) (reader : Reader) (position : Position) (piece rest : List ℕ) (new : Reader) (moved : Position) : Type 0 where
@@ -143,47 +172,69 @@ pub record FrontTaken (subject : Subject) (reader : Reader) (position : Position
   pub stands : (text : List ℕ) → StandBehind subject reader position text → StandBehind subject new moved (text ++ front)
 
 -- the text with the piece
-whole_is : (subject : Subject) (reader : Reader) (position : Position) (piece rest : List ℕ) (new : Reader) (moved : Position) (so : FrontTaken subject reader position piece rest new moved) (text : List ℕ) → (text ++ so.front) ++ rest ≡ text ++ piece
+whole_is : (subject : Subject) (reader : Reader) (position : Position) (piece rest : List ℕ) (new : Reader) (moved : Position)
+    (so : FrontTaken subject reader position piece rest new moved) (text : List ℕ) → (text ++ so.front) ++ rest ≡ text ++ piece
 whole_is subject reader position piece rest new moved so text = append_assoc text so.front rest ∙ ap (λ xs. text ++ xs) (sym so.split)
 
-pub somewhere : (subject : Subject) (reader new : Reader) (position moved : Position) (piece rest : List ℕ) → FrontTaken subject reader position piece rest new moved → StandSomewhere subject reader position → StandSomewhere subject new moved
+pub somewhere : (subject : Subject) (reader new : Reader) (position moved : Position) (piece rest : List ℕ)
+    → FrontTaken subject reader position piece rest new moved → StandSomewhere subject reader position → StandSomewhere subject new moved
 somewhere subject reader new position moved piece rest so (text, h) = (text ++ so.front, so.stands text h)
 
 -- what is answered to the bytes that are left, wherever one stands
 abbrev pub Goes : Subject → Reader → Position → List ℕ → Reader → Position → Result (Option ℕ) CertFault → Type 0
 Goes subject reader position bytes new moved answer = (text : List ℕ) → StandBehind subject reader position text → NextTaken subject text bytes new moved answer
 
-pub goes_on : (subject : Subject) (reader new last : Reader) (position moved after : Position) (piece rest behind : List ℕ) (taken : ℕ) → FrontTaken subject reader position piece rest new moved → Goes subject new moved rest last after (Ok (Some taken)) → behind ≡ drop taken rest → FrontTaken subject reader position piece behind last after
+pub goes_on : (subject : Subject) (reader new last : Reader) (position moved after : Position) (piece rest behind : List ℕ) (taken : ℕ)
+    → FrontTaken subject reader position piece rest new moved → Goes subject new moved rest last after (Ok (Some taken)) → behind ≡ drop taken rest
+    → FrontTaken subject reader position piece behind last after
 goes_on subject reader new last position moved after piece rest behind taken so goes same = record {
   front = so.front ++ take taken rest;
-  split = so.split ∙ ap (λ xs. so.front ++ xs) (sym (take-append-drop taken rest) ∙ ap (λ xs. take taken rest ++ xs) (sym same)) ∙ sym (append_assoc so.front (take taken rest) behind);
+  split = so.split ∙ ap (λ xs. so.front ++ xs) (sym (take-append-drop taken rest) ∙ ap (λ xs. take taken rest ++ xs) (sym same))
+      ∙ sym (append_assoc so.front (take taken rest) behind);
   stands = λ text h. subst (StandBehind subject last after) (append_assoc text so.front (take taken rest)) (goes (text ++ so.front) (so.stands text h)).2;
 }
 
-pub goes_within : (subject : Subject) (reader new last : Reader) (position moved after : Position) (piece rest : List ℕ) (taken : ℕ) → FrontTaken subject reader position piece rest new moved → StandSomewhere subject reader position → Goes subject new moved rest last after (Ok (Some taken)) → (0 < taken) × (taken ≤ length rest)
+pub goes_within : (subject : Subject) (reader new last : Reader) (position moved after : Position) (piece rest : List ℕ) (taken : ℕ)
+    → FrontTaken subject reader position piece rest new moved → StandSomewhere subject reader position
+    → Goes subject new moved rest last after (Ok (Some taken)) → (0 < taken) × (taken ≤ length rest)
 goes_within subject reader new last position moved after piece rest taken so (text, h) goes =
     let gone = goes (text ++ so.front) (so.stands text h) in
     (gone.0, gone.1)
 
 -- an error of the bytes that are left
-told_of : (subject : Subject) (text bytes : List ℕ) (reader : Reader) (position : Position) (e : CertFault) → NextTaken subject text bytes reader position (Err e) → TakenTo subject (text ++ bytes) reader position (Err e)
-told_of subject text bytes reader position fault.Memory h = tt
-told_of subject text bytes reader position _ h = h
-
-pub goes_wrong : (subject : Subject) (reader new last : Reader) (position moved after : Position) (piece rest : List ℕ) (e : CertFault) → FrontTaken subject reader position piece rest new moved → Goes subject new moved rest last after (Err e) → (text : List ℕ) → StandBehind subject reader position text → TakenTo subject (text ++ piece) last after (Err e)
+pub goes_wrong : (subject : Subject) (reader new last : Reader) (position moved after : Position) (piece rest : List ℕ) (e : CertFault)
+    → FrontTaken subject reader position piece rest new moved → Goes subject new moved rest last after (Err e) → (text : List ℕ)
+    → StandBehind subject reader position text → TakenTo subject (text ++ piece) last after (Err e)
 goes_wrong subject reader new last position moved after piece rest e so goes text h =
-    subst (λ t. TakenTo subject t last after (Err e)) (whole_is subject reader position piece rest new moved so text) (told_of subject (text ++ so.front) rest last after e (goes (text ++ so.front) (so.stands text h)))
-
--- what `finish` promises says how the text ends
-pub reader_ends : (subject : Subject) (reader : Reader) (position : Position) (text : List ℕ) (answer : Result (Unit {0}) CertFault) → (h : StandBehind subject reader position text) → (reader.failed ≡ false → answer ≡ finish (state reader)) → ReaderFinished text h.ls answer
-reader_ends subject reader position text answer h is = subst (ReaderFinished text h.ls) (sym (is h.going_on)) (ends_say (state reader) text h.ls h.read)
+    subst (λ t. IsToldOf subject t e) (whole_is subject reader position piece rest new moved so text) (goes (text ++ so.front) (so.stands text h))
 
 -- an early end
-pub end_fails : (subject : Subject) (reader : Reader) (position : Position) (text : List ℕ) (n : ℕ) → (h : StandBehind subject reader position text) → ReaderFinished text h.ls (Err (fault.Truncated n)) → IsFirstFaultFor subject text (fault.Truncated n)
-end_fails subject reader position text n h t = inr (t, subst (MayFollow subject) (reads_unique text h.ls t.ls reader.line t.rest h.read.reads t.reads).0 (h.at, h.leads))
+finish_fault : (s : State) (e : CertFault) → Err e ≡ finish s → fault.Truncated s.number ≡ e
+finish_fault s e is = by_end s.ended is
+  where
+    by_end : (t : Bool) → Err e ≡ finish (record { line = s.line; number = s.number; begun = s.begun; ended = t }) → fault.Truncated s.number ≡ e
+    by_end true is = absurd cc
+    by_end false is = cc
+
+pub end_refused : (subject : Subject) (reader : Reader) (position : Position) (text : List ℕ) (e : CertFault) → StandBehind subject reader position text
+    → (reader.failed ≡ false → Err e ≡ finish (state reader)) → CheckerFinishAnswers subject text (Err e)
+end_refused subject reader position text e h ends =
+    let is = ends h.going_on in
+    let same = finish_fault (state reader) e is in
+    let number = fault.Truncated reader.number in
+    let first : FirstFaultAlong {A = Unit {0}} subject first_standing h.lines (finish (state reader)) number =
+    subst (λ (xs : List (ℕ × Line)). FirstFaultAlong subject first_standing xs (finish (state reader)) number) (append-nil h.lines)
+    (behind_lines subject first_standing h.at h.lines [] (finish (state reader)) number h.leads (sym is ∙ ap Err (sym same))) in
+    subst (λ (f : CertFault). CheckerFinishAnswers subject text (Err f)) same
+    (subst (λ (o : Outcome). FirstFaultAlong subject first_standing o.0 (end_of o.1) number) (sym h.read) first)
 
 -- a complete end
-pub end_accepts : (subject : Subject) (reader : Reader) (position : Position) (text : List ℕ) → (h : StandBehind subject reader position text) → ReaderFinished text h.ls (Ok tt) → CertificateFor subject text position.proved.items
-end_accepts subject reader position text h end =
+pub end_accepts : (subject : Subject) (reader : Reader) (position : Position) (text : List ℕ) → StandBehind subject reader position text
+    → (reader.failed ≡ false → Ok tt ≡ finish (state reader)) → CertificateFor subject text position.proved.items
+end_accepts subject reader position text h ends =
+    let found = stands text h.lines (state reader) h.read in
+    let same : unnumbered h.lines ≡ found.0 = ap unnumbered found.2 ∙ lines_numbered 0 found.0 in
     let numbers : reverse h.at.begun ≡ position.proved.items = ap reverse h.place.begun ∙ reverse-reverse position.proved.items in
-    subst (CertificateFor subject text) numbers (certificate_of subject text h.ls h.at end h.leads)
+    subst (CertificateFor subject text) numbers
+    (certificate_of subject text found.0 h.at (whole_at (state reader) text found.0 found.1 (sym (ends h.going_on)))
+    (subst (λ (ls : List Line). LeadThrough subject first_standing ls h.at) same h.leads))

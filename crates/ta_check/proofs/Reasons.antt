@@ -1,5 +1,8 @@
 -- A line that can't follow has one error
-use Rattle.ta_check.proofs.Common.{◌≡◌, ℕ, ℤ, ◌<◌, ◌≤◌, ◌⊎◌, List, [], ◌∷◌, length, Some, inl, inr, refl, sym, ap, subst, ◌∙◌, arith, In, known_first, Line, Node, CertFault, FailsToShow, Pending, Search, LeafFault, Subject, kind_of, Standing, FactAt, NothingIsLeft, TakesOrder, Leads, LeadThrough, HasForm, IsNoPair, IsQuestion, IsUnawaited, IsMisplaced, AtSomeWord, FirstLeafFault, LeafFails, IsAtFault, fault_at, none-some, IsMisplacedNode}
+use Rattle.ta_check.proofs.Common.{◌≡◌, ℕ, ℤ, ◌<◌, ◌≤◌, ◌⊎◌, List, [], ◌∷◌, length, Some, inl, inr, refl, sym, ap, subst, ◌∙◌, arith, In, known_first, Line}
+use Rattle.ta_check.proofs.Common.{Node, CertFault, FailsToShow, Pending, Search, LeafFault, Subject, kind_of, Standing, FactAt, NothingIsLeft, TakesOrder}
+use Rattle.ta_check.proofs.Common.{Leads, HasForm, IsNoPair, IsQuestion, IsUnawaited, IsMisplaced, AtSomeWord, FirstLeafFault, LeafFails, IsAtFault, fault_at}
+use Rattle.ta_check.proofs.Common.{none-some, IsMisplacedNode}
 use Rattle.ta_check.proofs.Searches.{search_exists}
 use Rattle.ta_cert.specs.declared.line.Line.TheVariants as line
 use Rattle.ta_cert.specs.declared.line.Node.TheVariants as node
@@ -13,18 +16,13 @@ abbrev pub KnowsBegun : Subject → Standing → Type 0
 KnowsBegun subject s = (k : ℕ) → In k s.begun → k < length subject.file.patterns
 
 -- one line further it still does
-known_next : (subject : Subject) (s : Standing) (l : Line) (after : Standing) → KnowsBegun subject s → Leads subject s l after → KnowsBegun subject after
+pub known_next : (subject : Subject) (s : Standing) (l : Line) (after : Standing) → KnowsBegun subject s → Leads subject s l after → KnowsBegun subject after
 known_next subject s (line.Header version) after known leads = λ k began. known k (subst (λ t. In k t.begun) leads.leads began)
 known_next subject s (line.Pattern number) after known leads = λ k began. known_first number k (length subject.file.patterns) s.begun (search_exists (kind_of s.version) subject s.pairs number leads.search leads.searched) known (subst (λ t. In k t.begun) leads.leads began)
 known_next subject s (line.Tree n) after known (inl stands) = λ k began. known k (subst (λ t. In k t.begun) stands.leads began)
 known_next subject s (line.Tree n) after known (inr (inl shows)) = λ k began. known k (subst (λ t. In k t.begun) shows.leads began)
 known_next subject s (line.Tree n) after known (inr (inr waits)) = λ k began. known k (subst (λ t. In k t.begun) waits.leads began)
 known_next subject s line.End after known leads = subst (KnowsBegun subject) (sym leads.leads) known
-
--- so do lines
-pub known_through : (subject : Subject) (s : Standing) (ls : List Line) (after : Standing) → KnowsBegun subject s → LeadThrough subject s ls after → KnowsBegun subject after
-known_through subject s [] after known leads = subst (KnowsBegun subject) (sym leads) known
-known_through subject s (l ∷ ls) after known (next, first, rest) = known_through subject next ls after (known_next subject s l next known first) rest
 
 -- the error of a node at a word
 AtWordFault : {E : Type 0} → ℕ → Node → CertFault → Search E → Pending E → Type 0

@@ -4,8 +4,8 @@ use Rattle.ta_cert.specs.declared.fault.CertFault.{CertFault}
 use Rattle.ta_cert.specs.declared.fault.CertFault.TheVariants as fault
 use Rattle.ta_cert.specs.declared.line.Line.{Line}
 use Rattle.ta_cert.specs.declared.reader.Reader.{Reader}
-use Rattle.ta_cert.specs.Relations.{IsErrOrMemory, StandsAt}
-use Rattle.ta_cert.specs.Streams.{state}
+use Rattle.ta_cert.specs.Laws.{unnumbered}
+use Rattle.ta_cert.specs.Streams.{IsErrOrMemory, start, state, steps}
 use Rattle.ta_check.specs.declared.accepted.Accepted.{Accepted}
 use Rattle.ta_check.specs.declared.checker.Checker.{Checker}
 use Rattle.ta_check.specs.declared.position.Position.{Position}
@@ -15,14 +15,14 @@ use Rattle.ta_check.specs.Faults.{IsFirstFaultFor, IsLastingFor}
 use Rattle.ta_check.specs.Lines.{Standing, LeadThrough, first_standing}
 use Rattle.ta_check.specs.Positions.{IsPositionAt}
 
--- a reader and a position are those after a text: its complete lines may follow each other, the position is where they lead, and the reader
--- keeps the unfinished line
+-- a reader and a position are those after a text: the reader stands behind its lines, these may follow each other, and the position is where
+-- they lead
 pub record StandBehind (subject : Subject) (reader : Reader) (position : Position) (text : List ℕ) : Type 0 where
-  pub ls : List Line
+  pub lines : List (ℕ × Line)
   pub at : Standing
   pub going_on : reader.failed ≡ false
-  pub read : StandsAt (state reader) text ls
-  pub leads : LeadThrough subject first_standing ls at
+  pub read : steps text start ≡ (lines, Ok (state reader))
+  pub leads : LeadThrough subject first_standing (unnumbered lines) at
   pub place : IsPositionAt subject position at
 
 -- what a checker judges

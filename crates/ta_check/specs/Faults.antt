@@ -1,5 +1,5 @@
 -- The first error of a text that is not a certificate: its line, and the reason.
-use Rattle.std.specs.Prelude.{ℕ, ◌≡◌, ◌≤◌, ◌⊎◌, List, [], ◌∷◌, ◌++◌, length, ℤ, Some, None}
+use Rattle.std.specs.Prelude.{ℕ, ◌≡◌, ◌≤◌, ◌⊎◌, List, [], ◌∷◌, ◌++◌, length, ℤ, Some, None, Result, IsErrOf}
 use Rattle.ta_linear.specs.declared.row.System.{System}
 use Rattle.ta_automaton.specs.declared.file.File.{File}
 use Rattle.ta_base.specs.Masks.{In}
@@ -9,9 +9,7 @@ use Rattle.ta_cert.specs.declared.line.Node.{Node}
 use Rattle.ta_cert.specs.declared.line.Node.TheVariants as node
 use Rattle.ta_cert.specs.declared.fault.CertFault.{CertFault}
 use Rattle.ta_cert.specs.declared.fault.CertFault.TheVariants as fault
-use Rattle.ta_cert.specs.Lines.{cert_lines_text}
-use Rattle.ta_cert.specs.Laws.{AreLines, line_number}
-use Rattle.ta_cert.specs.Relations.{IsMalformed, IsTrailing, IsTruncated}
+use Rattle.ta_cert.specs.Streams.{end_of, start, steps}
 use Rattle.ta_implied.specs.Orders.{MayJoin}
 use Rattle.ta_implied.specs.Refused.{FailsToShow}
 use Rattle.ta_encode.specs.Code.{SystemAt}
@@ -23,7 +21,7 @@ use Rattle.ta_farkas.specs.declared.LeafFault.TheVariants as leaf
 use Rattle.ta_claim.specs.declared.claim.Claim.TheVariants.{Safe}
 use Rattle.ta_check.specs.Subjects.{HasVersion, Subject, claiming, kind_of}
 use Rattle.ta_check.specs.Forms.{HasForm, IsNoLeaf, IsQuestion}
-use Rattle.ta_check.specs.Lines.{Standing, AtWord, FactAt, NothingIsLeft, TakesOrder, first_standing, LeadThrough, MayFollow}
+use Rattle.ta_check.specs.Lines.{Standing, AtWord, FactAt, NothingIsLeft, TakesOrder, first_standing, Leads}
 
 -- a pair waits for its leaf
 pub record IsWaiting (s : Standing) : Type 0 where
@@ -129,33 +127,21 @@ IsAtFault subject s number l (fault.Positive n unknown) = (n ≡ number) × Leaf
 IsAtFault subject s number l (fault.NotNegative n) = (n ≡ number) × LeafFails subject s l leaf.NotNegative
 IsAtFault subject s number l _ = ⊥
 
--- a well-formed line that cannot follow the lines before it, which may follow each other
-pub record LineAtFault (subject : Subject) (text : List ℕ) (f : CertFault) : Type 0 where
-  pub ls : List Line
-  pub line : Line
-  pub after : List ℕ
-  pub whole : text ≡ cert_lines_text (ls ++ line ∷ []) ++ after
-  pub legal : AreLines (ls ++ line ∷ [])
-  pub standing : Standing
-  pub leads : LeadThrough subject first_standing ls standing
-  pub at_fault : IsAtFault subject standing (line_number (length ls)) line f
+-- the first error of lines with their numbers and of what ends them, from a standing on: that of the first line that cannot follow, or where
+-- all may, that of the end
+abbrev pub FirstFaultAlong : {A : Type 0} → Subject → Standing → List (ℕ × Line) → Result A CertFault → CertFault → Type 0
+FirstFaultAlong subject s [] end f = IsErrOf end f
+FirstFaultAlong subject s (x ∷ xs) end f = IsAtFault subject s x.0 x.1 f
+    ⊎ ((next : Standing) × Leads subject s x.1 next × FirstFaultAlong subject next xs end f)
 
--- an error of the text after lines that may follow each other: a line of no form or too long, a byte after the end, or the text's end
--- before the line `end`
-abbrev pub TextAtFault : Subject → List ℕ → CertFault → Type 0
-TextAtFault subject text (fault.Line n) = (m : IsMalformed text n) × MayFollow subject m.ls
-TextAtFault subject text (fault.Trailing n) = (t : IsTrailing text n) × MayFollow subject t.ls
-TextAtFault subject text (fault.Truncated n) = (t : IsTruncated text n) × MayFollow subject t.ls
-TextAtFault subject text _ = ⊥
-
--- the first line with an error
+-- the first error of a text: of a line, or of the text itself, which is a line of no form or too long, a byte after the end, or an end that
+-- comes too early
 abbrev pub IsFirstFaultFor : Subject → List ℕ → CertFault → Type 0
-IsFirstFaultFor subject text f = LineAtFault subject text f ⊎ TextAtFault subject text f
+IsFirstFaultFor subject text f = FirstFaultAlong subject first_standing (steps text start).0 (end_of (steps text start).1) f
 
 -- a first error that each longer text keeps: any but an end that comes too early
 abbrev pub IsLastingFor : Subject → List ℕ → CertFault → Type 0
-IsLastingFor subject text (fault.Truncated n) = ⊥
-IsLastingFor subject text f = IsFirstFaultFor subject text f
+IsLastingFor subject text f = FirstFaultAlong subject first_standing (steps text start).0 (steps text start).1 f
 
 -- the first error, where the claim is that patterns of a file are safe
 abbrev pub IsFirstFault : File → List ℕ → CertFault → Type 0

@@ -112,7 +112,3 @@ Leads subject s line.End after = EndsCertificate s after
 abbrev pub LeadThrough : Subject → Standing → List Line → Standing → Type 0
 LeadThrough subject s [] after = after ≡ s
 LeadThrough subject s (l ∷ ls) after = (between : Standing) × Leads subject s l between × LeadThrough subject between ls after
-
--- the lines may follow each other from the first on
-abbrev pub MayFollow : Subject → List Line → Type 0
-MayFollow subject ls = (after : Standing) × LeadThrough subject first_standing ls after

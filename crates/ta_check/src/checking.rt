@@ -3,7 +3,7 @@
 
 ghost use Rattle.std.specs.Prelude.{◌≡◌, ◌≢◌, ℕ, List, [], IfErr, IfOk};
 ghost use Rattle.ta_automaton.specs.declared.file.File.{File as FileValue};
-ghost use Rattle.ta_cert.specs.Relations.{IsErrOrMemory};
+ghost use Rattle.ta_cert.specs.Streams.{IsErrOrMemory};
 ghost use Rattle.ta_cert.specs.declared.fault.CertFault.{CertFault as AnyFault};
 ghost use Rattle.ta_cert.specs.declared.fault.CertFault.TheVariants.{Memory};
 ghost use Rattle.ta_claim.specs.declared.claim.Claim.TheVariants.{RestSafe, Safe};

@@ -1,12 +1,55 @@
 -- forms of the code are those of the definitions, and small ones stay in range
-use Rattle.std.proofs.Common.{mul-le-mul, ◌≢◌, cond, eqb, ◌≡◌, ◌∙◌, ℕ, ℤ, pos, negsuc, ◌+◌, ◌*◌, ◌<◌, ◌≤◌, ◌^◌, ◌+ℤ◌, ◌-ℤ◌, ◌*ℤ◌, unsigned_abs, Bool, true, false, List, [], ◌∷◌, inl, inr, refl, sym, ap, arith}
-use Rattle.std.specs.Prelude.{◌||◌, not}
+use Rattle.std.proofs.Common.{
+  mul-le-mul,
+  to_z,
+  of_z,
+  get_or,
+  length,
+  subst,
+  zero,
+  suc,
+  ◌++◌,
+  ◌≢◌,
+  cond,
+  eqb,
+  ◌≡◌,
+  ◌∙◌,
+  ℕ,
+  ℤ,
+  pos,
+  negsuc,
+  ◌+◌,
+  ◌*◌,
+  ◌<◌,
+  ◌≤◌,
+  ◌^◌,
+  ◌+ℤ◌,
+  ◌-ℤ◌,
+  ◌*ℤ◌,
+  unsigned_abs,
+  Bool,
+  true,
+  false,
+  List,
+  [],
+  ◌∷◌,
+  inl,
+  inr,
+  refl,
+  sym,
+  ap,
+  arith,
+}
+use Rattle.std.specs.Prelude.{◌||◌, ◌==◌, if◌then◌else◌, not, IfOk, Result, Ok, Err}
 use Rattle.std.proofs.lemmas.Int.{ints, unsigned_abs-mul}
-use Rattle.std.proofs.lemmas.Bool.{true≢false, false≢true, or_cases}
+use Rattle.std.proofs.Math.IntN.{*ℤ-zero}
+use Rattle.ta_linear.proofs.TermLemmas.{coefficient-append}
+use Rattle.std.proofs.lemmas.Bool.{eq-eqb, true≢false, false≢true, or_cases}
 use Rattle.std.proofs.Math.Nat.{lt_of_not-le}
 use Rattle.ta_linear.proofs.NormalTerms.{coefficient-first, coefficient-other}
 use Rattle.std.proofs.lemmas.Bool.Decides.{nat_tests}
-use Rattle.ta_base.proofs.Integers.{abs_minus, abs_sum}
+use Rattle.std.specs.Int.{w128}
+use Rattle.ta_base.proofs.Integers.{abs_minus, abs_sum, to_z_abs}
 use Rattle.ta_base.proofs.Bits.{all_below-from, any_below-at}
 use Rattle.ta_base.specs.Masks.{any_below}
 use Rattle.ta_linear.specs.Numbers.{InRange}
@@ -29,7 +72,12 @@ multiple_same multiple x factor h = form_same (form_of multiple) (times_form fac
 
 pub sum_stays : (x y : Form) → SmallBy (2 ^ 120) (form_of x) → SmallBy (2 ^ 120) (form_of y) → SumOutOfRange x y → ⊥
 sum_stays x y h k (inl leaves) = leaves (omega (arith, abs_sum x.constant y.constant (2 ^ 120) (2 ^ 120) h.constant k.constant))
-sum_stays x y h k (inr leaves) = leaves.1 (omega (arith, abs_sum (coefficient x.terms leaves.0) (coefficient y.terms leaves.0) (2 ^ 120) (2 ^ 120) (h.coefficients leaves.0) (k.coefficients leaves.0)))
+sum_stays x y h k (inr leaves) = leaves.1
+    (omega (
+      arith,
+      abs_sum (coefficient x.terms leaves.0) (coefficient y.terms leaves.0) (2 ^ 120) (2 ^ 120) (h.coefficients leaves.0)
+          (k.coefficients leaves.0),
+    ))
 
 product_fits : (z x : ℤ) → unsigned_abs z ≤ 2 ^ 40 → unsigned_abs x ≤ 2 ^ 80 → InRange (z *ℤ x)
 product_fits z x h k = rw (unsigned_abs-mul z x) (omega (arith, mul-le-mul h k))
@@ -43,7 +91,8 @@ minus_one : (x y : ℤ) → x +ℤ (negsuc 0 *ℤ y) ≡ x -ℤ y
 minus_one x y = omega (arith, ints)
 
 pub plus_turned : (f g : UnknownForm) → plus_form f (times_form (negsuc 0) g) ≡ minus_form f g
-plus_turned f g = form_same (plus_form f (times_form (negsuc 0) g)) (minus_form f g) (minus_one f.constant g.constant) (λ u. minus_one (f.coefficient u) (g.coefficient u))
+plus_turned f g = form_same (plus_form f (times_form (negsuc 0) g)) (minus_form f g) (minus_one f.constant g.constant)
+    (λ u. minus_one (f.coefficient u) (g.coefficient u))
 
 turned_small : (z : ℤ) (n : ℕ) → unsigned_abs z ≤ n → unsigned_abs (negsuc 0 *ℤ z) ≤ n
 turned_small z n h = omega (arith, ints)
@@ -55,16 +104,25 @@ pub small_more : (m n : ℕ) (f : UnknownForm) → m ≤ n → SmallBy m f → S
 small_more m n f le h = record { constant = (let c = h.constant in omega arith); coefficients = λ u. (let c = h.coefficients u in omega arith) }
 
 pub small_plus : (m n : ℕ) (f g : UnknownForm) → SmallBy m f → SmallBy n g → SmallBy (m + n) (plus_form f g)
-small_plus m n f g h k = record { constant = abs_sum f.constant g.constant m n h.constant k.constant; coefficients = λ u. abs_sum (f.coefficient u) (g.coefficient u) m n (h.coefficients u) (k.coefficients u) }
+small_plus m n f g h k = record {
+  constant = abs_sum f.constant g.constant m n h.constant k.constant;
+  coefficients = λ u. abs_sum (f.coefficient u) (g.coefficient u) m n (h.coefficients u)
+      (k.coefficients u);
+}
 
 pub small_minus : (m n : ℕ) (f g : UnknownForm) → SmallBy m f → SmallBy n g → SmallBy (m + n) (minus_form f g)
-small_minus m n f g h k = record { constant = abs_minus f.constant g.constant m n h.constant k.constant; coefficients = λ u. abs_minus (f.coefficient u) (g.coefficient u) m n (h.coefficients u) (k.coefficients u) }
+small_minus m n f g h k = record {
+  constant = abs_minus f.constant g.constant m n h.constant k.constant;
+  coefficients = λ u. abs_minus (f.coefficient u) (g.coefficient u) m n
+      (h.coefficients u) (k.coefficients u);
+}
 
 times_small : (z x : ℤ) (m n : ℕ) → unsigned_abs z ≤ m → unsigned_abs x ≤ n → unsigned_abs (z *ℤ x) ≤ m * n
 times_small z x m n h k = rw (unsigned_abs-mul z x) (mul-le-mul h k)
 
 pub small_times : (m n : ℕ) (z : ℤ) (f : UnknownForm) → unsigned_abs z ≤ m → SmallBy n f → SmallBy (m * n) (times_form z f)
-small_times m n z f h k = record { constant = times_small z f.constant m n h k.constant; coefficients = λ u. times_small z (f.coefficient u) m n h (k.coefficients u) }
+small_times m n z f h k = record
+    { constant = times_small z f.constant m n h k.constant; coefficients = λ u. times_small z (f.coefficient u) m n h (k.coefficients u) }
 
 pub small_number : (n : ℕ) (z : ℤ) → unsigned_abs z ≤ n → SmallBy n (number_form z)
 small_number n z h = record { constant = h; coefficients = λ u. omega (arith, ints) }
@@ -91,7 +149,8 @@ not_negative_if false z h = refl
 
 none_negative : (ts : List (ℕ × ℤ)) → has_negative ts ≡ false → (u : ℕ) → below_zero (coefficient ts u) ≡ false
 none_negative [] h u = refl
-none_negative (t ∷ ts) h u = not_negative_sum (cond (eqb t.0 u) t.1 (pos 0)) (coefficient ts u) (not_negative_if (eqb t.0 u) t.1 (or_none (below_zero t.1) (has_negative ts) h).0) (none_negative ts (or_none (below_zero t.1) (has_negative ts) h).1 u)
+none_negative (t ∷ ts) h u = not_negative_sum (cond (eqb t.0 u) t.1 (pos 0)) (coefficient ts u)
+    (not_negative_if (eqb t.0 u) t.1 (or_none (below_zero t.1) (has_negative ts) h).0) (none_negative ts (or_none (below_zero t.1) (has_negative ts) h).1 u)
   where
     or_none : (b c : Bool) → (b || c) ≡ false → (b ≡ false) × (c ≡ false)
     or_none true c e = absurd (true≢false e)
@@ -139,3 +198,59 @@ number_is f z e none = form_same (form_of f) (number_form z) e (λ u. ap (λ (us
 
 pub minus_speaks : (n : ℕ) (f g : UnknownForm) → Speaks n f → Speaks n g → Speaks n (minus_form f g)
 minus_speaks n f g h k u b = omega (arith, ints, h u b, k u b)
+
+-- a term's multiple
+times_term : (k c : ℤ) (u v : ℕ) → coefficient ((u, k *ℤ c) ∷ []) v ≡ (k *ℤ coefficient ((u, c) ∷ []) v)
+times_term k c u v = where_it_stands (u == v)
+  where
+    same : (y : ℤ) → (y +ℤ pos 0) ≡ y
+    same y = omega (arith, ints)
+
+    where_it_stands : (b : Bool) → ((if b then (k *ℤ c) else pos 0) +ℤ pos 0) ≡ (k *ℤ ((if b then c else pos 0) +ℤ pos 0))
+    where_it_stands true = same (k *ℤ c) ∙ sym (ap (λ y. k *ℤ y) (same c))
+    where_it_stands false = sym (*ℤ-zero k)
+
+-- a form that is one term, added behind another's terms
+pub term_added : (sum form x : Form) (factor product : ℤ) (t : ℕ × ℤ) → sum.constant ≡ form.constant → sum.terms ≡ form.terms ++ (t.0, product) ∷ []
+    → x.constant ≡ pos 0 → x.terms ≡ t ∷ [] → product ≡ (factor *ℤ t.1)
+    → form_of sum ≡ plus_form (form_of form) (times_form factor (form_of x))
+term_added sum form x factor product t e g h k same =
+    let none : form.constant ≡ (form.constant +ℤ pos 0) = omega (arith, ints) in
+    form_same _ _ (e ∙ none ∙ ap (λ z. form.constant +ℤ z) (sym (ap (λ z. factor *ℤ z) h ∙ *ℤ-zero factor)))
+    (λ u. ap (λ ts. coefficient ts u) (g ∙ ap (λ z. form.terms ++ (t.0, z) ∷ []) same) ∙ coefficient-append form.terms ((t.0, factor *ℤ t.1) ∷ []) u
+    ∙ ap (λ z. coefficient form.terms u +ℤ z) (times_term factor t.1 t.0 u ∙ ap (λ ts. factor *ℤ coefficient ts u) (sym k)))
+
+-- terms end before an unknown where the last of them does
+pub ends_before : (low high n : ℕ) (ts : List (ℕ × ℤ)) (i : ℕ) (d : ℕ × ℤ) → IsNormal low high ts → suc i ≡ length ts → (get_or ts i d).0 < n
+    → IsNormal low n ts
+ends_before low high n [] i d h e b = absurd (omega arith)
+ends_before low high n (t ∷ []) zero d h e b = (h.0, h.1, omega arith)
+ends_before low high n (t ∷ []) (suc i) d h e b = absurd (omega arith)
+ends_before low high n (t ∷ (s ∷ ts)) zero d h e b = absurd (omega arith)
+ends_before low high n (t ∷ (s ∷ ts)) (suc i) d h e b = (h.0, h.1, ends_before (t.0 + 1) high n (s ∷ ts) i d h.2 (omega arith) b)
+
+-- the numbers of a form that is one term are small
+pub term_small : (n : ℕ) (x : Form) (t : ℕ × ℤ) → x.terms ≡ t ∷ [] → SmallBy n (form_of x) → unsigned_abs t.1 ≤ n
+term_small n x t k h = subst (λ z. unsigned_abs z ≤ n) (ap (λ ts. coefficient ts t.0) k ∙ at_its_own) (h.coefficients t.0)
+  where
+    same : (y : ℤ) → (y +ℤ pos 0) ≡ y
+    same y = omega (arith, ints)
+
+    at_its_own : coefficient (t ∷ []) t.0 ≡ t.1
+    at_its_own = ap (λ b. (if b then t.1 else pos 0) +ℤ pos 0) (eq-eqb t.0 t.0 refl) ∙ same t.1
+
+-- the product of small numbers, as it is computed
+pub small_product : (z x : ℤ) → unsigned_abs z ≤ 17000000000 → unsigned_abs x ≤ 3 → unsigned_abs (z *ℤ x) ≤ 51000000000
+small_product z x h k = rw (unsigned_abs-mul z x) (omega (arith, mul-le-mul h k))
+
+pub product_is : (z x : ℤ) → unsigned_abs z ≤ 17000000000 → unsigned_abs x ≤ 3
+    → to_z w128 (of_z w128 (to_z w128 (of_z w128 z) *ℤ to_z w128 (of_z w128 x))) ≡ (z *ℤ x)
+product_is z x h k =
+    ap (λ y. to_z w128 (of_z w128 (y *ℤ to_z w128 (of_z w128 x)))) (to_z_abs z 17000000000 h (omega arith))
+    ∙ ap (λ y. to_z w128 (of_z w128 (z *ℤ y))) (to_z_abs x 3 k (omega arith))
+    ∙ to_z_abs (z *ℤ x) 51000000000 (small_product z x h k) (omega arith)
+
+-- two facts of a result give a third
+pub both_ok : {A E : Type 0} {P Q R : A → Type 0} (r : Result A E) → ((x : A) → P x → Q x → R x) → IfOk r P → IfOk r Q → IfOk r R
+both_ok (Ok x) f p q = f x p q
+both_ok (Err e) f p q = tt

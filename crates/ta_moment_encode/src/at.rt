@@ -10,7 +10,7 @@ ghost use Rattle.ta_moments.specs.Moments.{place_form, start_form};
 ghost use Rattle.ta_moment_encode.specs.Forms.{SmallBy, SmallVector, form_of, vector_of};
 ghost use Rattle.ta_moment_encode.specs.Plan.{IsPlan};
 
-use crate::form::{plus, times};
+use crate::form::{plus, plus_times, times};
 use crate::place::{change_of, place_coefficient};
 use crate::plan::Plan;
 use crate::vector::of_rule;
@@ -55,8 +55,7 @@ fn with_change(
         return Ok(form);
     }
     let zero = Form::constant_of(plan.alloc, 0);
-    let product = times(plan.alloc, change, of_rule(vector, &zero, rule))?;
-    let sum = plus(plan.alloc, &form, &product)?;
+    let sum = plus_times(plan.alloc, form, change, of_rule(vector, &zero, rule))?;
     Ok(sum)
 }
 

@@ -1,5 +1,5 @@
 -- what `rest` puts `rest-check` accepts
-use Rattle.ta_program.proofs.Common.{true, None, ◌≡◌, ◌∙◌, ◌≤◌, ◌+◌, ℕ, List, [], ◌∷◌, length, map, Option, Some, slice_get, refl, sym, ap, subst, inl, Automaton, File, Pattern, Verdict, Endings, IsEnding, RestSafe, EachHolds, EndingVerdictHolds, some_at, slice_get_within, arith, Told, WhereTold, is_more, sub_told, IsSo, Performs, State, HoldsText, in_files, seen, FileMeans, Answer, SafeOne, safe_numbers, safe_ones, tree_size, with_safe, CERTIFICATE, IsFile, certificate_kind, file_kind, SaysOrFails, WrittenAtRestIsAccepted, rest_check_meaning, FileEndings, IsEnds, held, endings_count, AllQuietRestSafe, QuietRestCertificate, AreSilent, RestBudget, claiming_with, resting}
+use Rattle.ta_program.proofs.Common.{true, None, ◌≡◌, ◌∙◌, ◌≤◌, ◌+◌, ℕ, List, [], ◌∷◌, length, map, Option, Some, slice_get, refl, sym, ap, subst, inl, Automaton, File, Pattern, Verdict, Endings, IsEnding, RestSafe, EachHolds, EndingVerdictHolds, some_at, slice_get_within, arith, Told, WhereTold, is_more, sub_told, IsSo, Performs, State, HoldsText, in_files, seen, FileMeans, Answer, SafeOne, as_many, first_picked, held_by, Pick, picked, safe_among, safe_ones, tree_size, with_safe, CERTIFICATE, IsFile, certificate_kind, file_kind, SaysOrFails, WrittenAtRestIsAccepted, rest_check_meaning, FileEndings, IsEnds, endings_count, AllQuietRestSafe, QuietRestCertificate, AreSilent, RestBudget, claiming_with, resting}
 use Rattle.ta_verdict.proofs.rest.VerdictsTold.{ending_of_own}
 use Rattle.ta_claim.specs.declared.claim.Claim.TheVariants as claim
 use Rattle.ta_check.specs.Subjects.{claimed_with}
@@ -19,8 +19,7 @@ use Rattle.ta_program.proofs.Clauses.{as_rest_check, loud_by_words, rests_report
 use Rattle.ta_program.proofs.EndsOnce.{ends_once}
 use Rattle.ta_program.proofs.RestMeanings.{rest_check_decides}
 use Rattle.ta_program.proofs.WordsDiffer.{rest_said}
-use Rattle.ta_base.proofs.Lists.{get_from_none}
-use Rattle.ta_report.specs.declared.pick.Pick.TheVariants.{All}
+use Rattle.ta_report.proofs.Picks.{picked_there}
 
 -- what is claimed of a pattern is so of its ending
 ending_claimed :
@@ -34,24 +33,29 @@ ending_claimed (place ∷ silent) a b p ending same is safe =
 
 -- the endings of the patterns that are said to be safe at rest are safe at rest
 module _ (file ending : File) (added : ℕ) (budget : RestBudget) (loud : IsLoudByWords budget) (same : ending.automaton ≡ file.automaton) where
-  safe_at : (vs : List Verdict) → Endings file.patterns ending.patterns → EachHolds (EndingVerdictHolds file ending added budget) 0 ending.patterns vs → (k : ℕ) (p : Pattern) (v : Verdict) (size : ℕ) → slice_get ending.patterns k ≡ Some p → slice_get vs k ≡ Some v → tree_size v ≡ Some size → claimed_with claim.RestSafe budget.silent ending.automaton p
-  safe_at vs are hold k p v size named given sized =
-      let own = some_at file.patterns k (omega (arith, slice_get_within ending.patterns k p named, endings_count file.patterns ending.patterns are)) in
-      let is = ending_of_own file.patterns ending.patterns are k own.0 p own.1 named in
-      let said = held (EndingVerdictHolds file ending added budget) ending.patterns vs hold k p v named given own.0 own.1 in
-      ending_claimed budget.silent file.automaton ending.automaton own.0 p same is (tree_claims file ending added budget loud k own.0 p v size sized said)
+  safe_at : (pick : Pick) (vs : List Verdict) → Endings file.patterns ending.patterns → EachHolds (EndingVerdictHolds file ending added budget) (first_picked pick) (picked pick ending.patterns) vs → (k : ℕ) (p : Pattern) (v : Verdict) (size : ℕ) → slice_get (picked pick ending.patterns) k ≡ Some p → slice_get vs k ≡ Some v → tree_size v ≡ Some size → claimed_with claim.RestSafe budget.silent ending.automaton p
+  safe_at pick vs are hold k p v size named given sized =
+      let number = first_picked pick + k in
+      let here = picked_there pick ending.patterns k p named in
+      let own = some_at file.patterns number (omega (arith, slice_get_within ending.patterns number p here, endings_count file.patterns ending.patterns are)) in
+      let is = ending_of_own file.patterns ending.patterns are number own.0 p own.1 here in
+      let by = held_by (EndingVerdictHolds file ending added budget) pick ending.patterns vs hold k v given in
+      let both : Some by.0 ≡ Some p = sym by.1 ∙ named in
+      let one : by.0 ≡ p = cc in
+      let said = subst (λ (q : Pattern). EndingVerdictHolds file ending added budget number q v) one by.3 own.0 own.1 in
+      ending_claimed budget.silent file.automaton ending.automaton own.0 p same is (tree_claims file ending added budget loud number own.0 p v size sized said)
 
 -- they have the numbers of the patterns themselves
 alike_one : (number : ℕ) (p q : Pattern) (size : Option ℕ) (xs ys : List SafeOne) → map (λ one. one.number) xs ≡ map (λ one. one.number) ys → map (λ one. one.number) (with_safe number q size xs) ≡ map (λ one. one.number) (with_safe number p size ys)
 alike_one number p q None xs ys same = same
 alike_one number p q (Some nodes) xs ys same = ap (λ (ns : List ℕ). number ∷ ns) same
 
-alike_ones : (number : ℕ) (ps qs : List Pattern) (vs : List Verdict) → Endings ps qs → map (λ one. one.number) (safe_ones number qs vs) ≡ map (λ one. one.number) (safe_ones number ps vs)
-alike_ones number [] [] vs are = refl
-alike_ones number [] (q ∷ qs) vs are = absurd are
-alike_ones number (p ∷ ps) [] vs are = absurd are
-alike_ones number (p ∷ ps) (q ∷ qs) [] are = refl
-alike_ones number (p ∷ ps) (q ∷ qs) (v ∷ vs) are = alike_one number p q (tree_size v) (safe_ones (number + 1) qs vs) (safe_ones (number + 1) ps vs) (alike_ones (number + 1) ps qs vs are.1)
+alike_ones : (number : ℕ) (ps qs : List Pattern) (vs : List Verdict) → length vs ≡ length ps → length vs ≡ length qs → map (λ one. one.number) (safe_ones number qs vs) ≡ map (λ one. one.number) (safe_ones number ps vs)
+alike_ones number [] [] vs e f = refl
+alike_ones number [] (q ∷ qs) vs e f = absurd (omega (arith, e, f))
+alike_ones number (p ∷ ps) [] vs e f = absurd (omega (arith, e, f))
+alike_ones number (p ∷ ps) (q ∷ qs) [] e f = refl
+alike_ones number (p ∷ ps) (q ∷ qs) (v ∷ vs) e f = alike_one number p q (tree_size v) (safe_ones (number + 1) qs vs) (safe_ones (number + 1) ps vs) (alike_ones (number + 1) ps qs vs (omega (arith, e)) (omega (arith, f)))
 
 -- `rest-check` of such files, with these names
 module _ (name out : List ℕ) (names : Option (List ℕ)) (told : Told) (file : File) (ends : FileEndings) (silent numbers text : List ℕ) (is_file : IsFile (in_files told) name file) (are_ends : IsEnds file ends) (are_silent : AreSilent file.automaton names silent) (held : told out ≡ Some text) (within : length text ≤ CERTIFICATE.bytes) (accepted : QuietRestCertificate ends.ending silent text numbers) (safe : AllQuietRestSafe ends.ending silent numbers) where
@@ -91,16 +95,18 @@ written_at_rest_is_accepted words first before after h asked out is given low to
     let is_first : IsFile (in_files files.0) name r.file = is_more file_kind (seen (Some files.0) read) (in_files files.0) (sub_told files.0 read) name r.file (subst (λ (o : Option Told). IsFile (seen o read) name r.file) files.1 r.is_file) in
     let is_now = is_kept file_kind files.0 told name r.file (files.2.others name (said.differs name out refl given)) is_first in
     let loud = loud_by_words words first before after h asked is r.file r.silent r.are_silent in
-    let at = safe_at r.file ending r.ends.added (resting asked.budget r.silent) loud endings.automaton r.verdicts endings.patterns r.are.hold in
-    let safe = ones_hold (claiming_with claim.RestSafe ending r.silent) 0 ending.patterns r.verdicts at (get_from_none ending.patterns) in
+    let pick = r.pick in
+    let at = safe_at r.file ending r.ends.added (resting asked.budget r.silent) loud endings.automaton pick r.verdicts endings.patterns r.are.hold in
+    let safe = ones_hold (claiming_with claim.RestSafe ending r.silent) (first_picked pick) (picked pick ending.patterns) r.verdicts at (picked_there pick ending.patterns) in
+    let many = as_many (EndingVerdictHolds r.file ending r.ends.added (resting asked.budget r.silent)) (first_picked pick) (picked pick ending.patterns) r.verdicts r.are.hold in
     let performs = as_rest_check again second begun ended done (record { file = name; other = out; silent = names; options = no_options }) checked in
-    let accepted = rest_checks name out names told r.file r.ends r.silent (safe_numbers ending r.verdicts) c.text is_now r.are_ends r.are_silent files.2.held c.within c.accepted safe second begun ended begun_told performs in
+    let accepted = rest_checks name out names told r.file r.ends r.silent (safe_among ending pick r.verdicts) c.text is_now r.are_ends r.are_silent files.2.held c.within c.accepted safe second begun ended begun_told performs in
     record {
       file = r.file;
       is_file = is_now;
-      pick = All;
+      pick = r.pick;
       sample = r.sample;
       verdicts = r.verdicts;
       reported = r.wrote;
-      accepted = subst (λ (ns : List ℕ). SaysOrFails (rest_check_text r.file ns) second begun ended) (alike_ones 0 r.file.patterns ending.patterns r.verdicts endings.patterns) accepted;
+      accepted = subst (λ (ns : List ℕ). SaysOrFails (rest_check_text r.file ns) second begun ended) (alike_ones (first_picked pick) (picked pick r.file.patterns) (picked pick ending.patterns) r.verdicts r.are.each many) accepted;
     }

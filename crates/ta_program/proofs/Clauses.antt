@@ -1,5 +1,5 @@
 -- from how a run ends to its clauses
-use Rattle.ta_program.proofs.Common.{verdict_safe, Budget, ◌≡◌, ◌≢◌, ◌≤◌, ◌+◌, ℕ, Bool, true, false, List, [], ◌∷◌, Option, None, Some, refl, sym, ap, subst, ◌∙◌, inl, arith, rules, codes, if◌then◌else◌, list_any, AllByRecursion, bytes_eq, or_parts, File, Pattern, PatternSafe, one_legal, printed_rest_safe, told_safe, report_of, Verdict, Safe, Unsafe, Spent, Overflow, filled_text, Grew, OthersStay, Told, WhereTold, with_text, answered, hindered, kept_refused, never_five, whole_one, Decides, Meaning, IsAnswered, Performs, Quiet, ShelfState, SinkState, State, HoldsPut, HoldsText, KeptBut, Stand, put_bytes, View, in_files, seen, run_text, unit_steps, Answer, Put, plain_tree, Asked, LegalFile, Runs, ask, ask_where, Command, NoCommand, BenchHolds, bench_meaning, bench_of, bench_status, bench_words, CheckHolds, check_meaning, IsFile, file_kind, EachPrintedUnsafe, EachToldSafe, AdmitAsked, AdmitHolds, admit_meaning, admit_of, admit_words, ExportHolds, export_meaning, export_of, export_words, Admitting, Benches, CertificateWritten, CheckProves, ExactlySo, Exports, KeepsFiles, PassesLegal, PrintedHolds, ReplayShows, RestProves, RestsReport, RunShortens, Searches, VerifyReports, put_by, CompressHolds, compress_meaning, compress_of, ReplayHolds, replay_meaning, request_of, ClaimHolds, rest_text, RestCertificateStands, RestReportHolds, rest_meaning, RestCheckHolds, rest_check_meaning, rest_check_of, rest_of, rest_words, CertificateStands, ReportHolds, verify_meaning, VerdictHolds, VerdictsHold, is_unsafe, is_unknown, LegalTemplate, SearchHolds, end_number, leaves_unknown, search_meaning, SearchWords, search_of, search_words, TwoNames, two_names, VerifyWords, verify_of, verify_words, WordAsked, behind_name, map, pair_of, held_by, false_from_ne_true, Call, Event, PutCall, PutText, PutWhole, Acts, TellsFile, acts, grew_alone, may_put, put_text, tells_file, Spares, ◌⊎◌, AreOfStages, made_of_stages, Opens, AreStaging, ComparesFirst, Differ, Kind, SparesRead, at_ends, found_meaning, found_names, held_or_staged, rest_quietly, spared, template_kind, inr}
+use Rattle.ta_program.proofs.Common.{verdict_safe, Budget, ◌≡◌, ◌≢◌, ◌≤◌, ◌+◌, ℕ, Bool, true, false, List, [], ◌∷◌, Option, None, Some, refl, sym, ap, subst, ◌∙◌, inl, arith, rules, codes, if◌then◌else◌, list_any, AllByRecursion, bytes_eq, or_parts, File, Pattern, PatternSafe, one_legal, told_safe, report_of, Verdict, Safe, Unsafe, Spent, Overflow, filled_text, Grew, OthersStay, Told, WhereTold, with_text, answered, hindered, kept_refused, never_five, whole_one, Decides, Meaning, IsAnswered, Performs, Quiet, ShelfState, SinkState, State, HoldsPut, HoldsText, KeptBut, Stand, put_bytes, View, in_files, seen, run_text, unit_steps, Answer, Put, plain_tree, Asked, LegalFile, Runs, ask, ask_where, Command, NoCommand, BenchHolds, bench_meaning, bench_of, bench_status, bench_words, CheckHolds, check_meaning, IsFile, file_kind, EachPrintedUnsafe, EachToldSafe, AdmitAsked, AdmitHolds, admit_meaning, admit_of, admit_words, ExportHolds, export_meaning, export_of, export_words, Admitting, Benches, CertificateWritten, CheckProves, ExactlySo, Exports, KeepsFiles, PassesLegal, PrintedHolds, ReplayShows, RestProves, RestsReport, RunShortens, Searches, VerifyReports, put_by, CompressHolds, compress_meaning, compress_of, ReplayHolds, replay_meaning, request_of, ClaimHolds, LegalRest, RestCertificateStands, RestReportHolds, rest_meaning, RestCheckHolds, rest_check_meaning, rest_check_of, rest_of, rest_words, CertificateStands, ReportHolds, verify_meaning, VerdictHolds, VerdictsHold, is_unsafe, is_unknown, LegalTemplate, SearchHolds, end_number, leaves_unknown, search_meaning, SearchWords, search_of, search_words, TwoNames, two_names, VerifyWords, verify_of, verify_words, WordAsked, behind_name, map, pair_of, held_by, false_from_ne_true, PutCall, PutText, PutWhole, Acts, TellsFile, acts, grew_alone, may_put, put_text, tells_file, Spares, ◌⊎◌, AreOfStages, made_of_stages, Opens, AreStaging, ComparesFirst, Differ, Kind, SparesRead, at_ends, found_meaning, found_names, held_or_staged, rest_quietly, spared, template_kind, inr}
 use Rattle.ta_program.proofs.Common.{ShowHolds, show_meaning, show_of, show_words, slice_get}
 use Rattle.ta_program.specs.Program.{SafeAsShown, ShowsFile}
 use Rattle.ta_program.specs.Show.{SafeAsPrinted}
@@ -10,7 +10,7 @@ use Rattle.ta_automaton.specs.Runs as runs
 use Rattle.std.specs.Prelude.{IsTrue}
 use Rattle.ta_report.specs.Check.{is_proved}
 use Rattle.ta_report.specs.CheckJson.{TellsProved}
-use Rattle.ta_program.proofs.JsonLines.{proved_by_line}
+use Rattle.ta_program.proofs.JsonLines.{proved_by_line, tells_by_line}
 use Rattle.ta_program.proofs.ProofsSaid.{all_proved, every_one, starts, told_in}
 use Rattle.ta_program.specs.CheckWords.{CheckWords, ReplayWords, check_of, check_words, replay_of, replay_words}
 use Rattle.ta_program.specs.Printed.{EachToldProved}
@@ -24,6 +24,7 @@ use Rattle.ta_claim.specs.declared.claim.Claim.TheVariants as claim
 use Rattle.ta_program.proofs.AtRest.{rest_safe_at, rest_unsafe_printed}
 use Rattle.ta_program.proofs.Common.{AreSilent, FairlySafeBut, LegalSilently, RestCheckWords, RestOccursBut, RestSafeBut, RestWords, claiming_with, rest_check_words, resting}
 use Rattle.ta_program.proofs.FairAtRest.{fair_but}
+use Rattle.ta_program.specs.Rest.{PutsRest}
 use Rattle.ta_program.proofs.SilentPlaces.{none_silent, safe_but}
 use Rattle.ta_verdict.specs.Rest.Said.{IsLoudByWords}
 use Rattle.ta_program.proofs.Compressing.{answers_so, refused_so}
@@ -114,10 +115,6 @@ holds_text put out named (Some b) (Some a) h = record {
 -- the calls that put it
 tells_put : (put : Put) (out : List ℕ) → put.name ≡ out → (calls : List PutCall) → PutWhole (put_text put ∷ []) calls → TellsFile out (put_bytes put) calls
 tells_put put out named calls whole = subst (λ (n : List ℕ). TellsFile n (put_bytes put) calls) named (tells_file (put_text put) calls whole)
-
--- what an output is named
-acts_named : {out name : Option (List ℕ)} {Such : List Call → List PutCall → Type 0} {first last : List Event} → out ≡ name → Acts (may_put name) Such first last → Acts (may_put out) Such first last
-acts_named {out} {name} {Such} {first} {last} is h = subst (λ (o : Option (List ℕ)). Acts (may_put o) Such first last) (sym is) h
 
 module _ (words : List (List ℕ)) (number : ℕ) (before after : State) (h : Runs (request_of words) number before after) where
   pub as_verify : (asked : VerifyWords) → verify_of words ≡ Some asked → Performs (verify_meaning asked) number before after
@@ -331,28 +328,31 @@ module _ (words : List (List ℕ)) (number : ℕ) (before after : State) (h : Ru
         (inl (answer, refl, (had.file, had.is_file, (had.word, had.is_word, (had.run, had.is_run, record { numbered = refl; written = refl; no_put = refl })))));
   }
 
-  pub as_rest : (asked : RestWords) → rest_of words ≡ Some asked → Performs (rest_meaning asked.file asked.budget asked.out asked.silent) number before after
-  as_rest asked is = performed_where (codes "rest") rest_words (λ a. LegalSilently a.file a.silent) (λ a. rest_meaning a.file a.budget a.out a.silent) number before after (λ rest r. r) words asked is h
+  pub as_rest : (asked : RestWords) → rest_of words ≡ Some asked → Performs (rest_meaning asked) number before after
+  as_rest asked is = performed_where (codes "rest") rest_words LegalRest rest_meaning number before after (λ rest r. r) words asked is h
 
   pub as_rest_check : (asked : RestCheckWords) → rest_check_of words ≡ Some asked → Performs (rest_check_meaning asked.file asked.other asked.silent asked.options) number before after
   as_rest_check asked is = performed_where (codes "rest-check") rest_check_words (λ a. LegalSilently a.file a.silent) (λ a. rest_check_meaning a.file a.other a.silent a.options) number before after (λ rest r. r) words asked is h
 
-  pub at_rest : (asked : RestWords) (out : Option (List ℕ)) (view : View) (made : List PutCall) → IsAnswered (rest_meaning asked.file asked.budget out asked.silent) view number before after made → RestReportHolds number view asked before.out.written after.out.written
-  at_rest asked out view made a =
+  pub at_rest : (asked : RestWords) (view : View) (made : List PutCall) → IsAnswered (rest_meaning asked) view number before after made → RestReportHolds number view asked before.out.written after.out.written
+  at_rest asked view made a =
       let found = a.holds.holds.2.1 in
       let quiet = found.2 in
-      let reports = quiet.2 in
-      record { file = a.holds.holds.0; is_file = a.holds.holds.1; ends = found.0; are_ends = found.1; silent = quiet.0; are_silent = quiet.1; sample = reports.sample; is_sample = reports.is_sample; verdicts = reports.verdicts; are = reports.are; numbered = sym reports.numbered ∙ sym a.numbered; wrote = a.written ∙ ap (with_text before.out.written) reports.written }
+      let one = quiet.2 in
+      let reports = one.2 in
+      record { file = a.holds.holds.0; is_file = a.holds.holds.1; ends = found.0; are_ends = found.1; silent = quiet.0; are_silent = quiet.1; pick = one.0; is_pick = one.1; sample = reports.sample; is_sample = reports.is_sample; verdicts = reports.verdicts; are = reports.are; numbered = sym reports.numbered ∙ sym a.numbered; wrote = a.written ∙ ap (with_text before.out.written) reports.written }
 
-  rest_certified : (asked : RestWords) (out : List ℕ) (view : View) (made : List PutCall) → IsAnswered (rest_meaning asked.file asked.budget (Some out) asked.silent) view number before after made → RestCertificateStands number view asked out before.shelf.files after.shelf.files before.out.written after.out.written made
-  rest_certified asked out view made a =
+  rest_certified : (asked : RestWords) (out : List ℕ) → asked.out ≡ Some out → (view : View) (made : List PutCall) → IsAnswered (rest_meaning asked) view number before after made → RestCertificateStands number view asked out before.shelf.files after.shelf.files before.out.written after.out.written made
+  unfolding at_rest
+  rest_certified asked out given view made a =
       let found = a.holds.holds.2.1 in
       let quiet = found.2 in
-      let reports = quiet.2 in
-      let puts = reports.puts in
+      let one = quiet.2 in
+      let reports = one.2 in
+      let puts = subst (λ (o : Option (List ℕ)). PutsRest found.0.ending one.0 (resting asked.budget quiet.0) reports.verdicts o a.answer.puts) given reports.puts in
       let stand : Stand (puts.put ∷ []) before.shelf.files after.shelf.files = subst (λ (ps : List Put). Stand ps before.shelf.files after.shelf.files) puts.only a.stand in
       record {
-        report = record { file = a.holds.holds.0; is_file = a.holds.holds.1; ends = found.0; are_ends = found.1; silent = quiet.0; are_silent = quiet.1; sample = reports.sample; is_sample = reports.is_sample; verdicts = reports.verdicts; are = reports.are; numbered = sym reports.numbered ∙ sym a.numbered; wrote = a.written ∙ ap (with_text before.out.written) reports.written };
+        report = at_rest asked view made a;
         text = put_bytes puts.put;
         certificate = puts.certificate;
         within = puts.within;
@@ -362,15 +362,15 @@ module _ (words : List (List ℕ)) (number : ℕ) (before after : State) (h : Ru
       }
 
   -- what an answer of `rest` says
-  gives_rest : (asked : RestWords) → rest_of words ≡ Some asked → number ≤ 2 → (Of : View → Type 0) → ((view : View) → RestReportHolds number view asked before.out.written after.out.written → Of view) → Acts (may_put asked.out) (λ read made. Of (seen before.shelf.files read)) before.shelf.calls after.shelf.calls
-  gives_rest asked is low Of from = gives_some (rest_meaning asked.file asked.budget asked.out asked.silent) (as_rest asked is) low Of (λ view made a. from view (at_rest asked asked.out view made a))
+  pub gives_rest : (asked : RestWords) → rest_of words ≡ Some asked → number ≤ 2 → (Of : View → Type 0) → ((view : View) → RestReportHolds number view asked before.out.written after.out.written → Of view) → Acts (may_put asked.out) (λ read made. Of (seen before.shelf.files read)) before.shelf.calls after.shelf.calls
+  gives_rest asked is low Of from = gives_some (rest_meaning asked) (as_rest asked is) low Of (λ view made a. from view (at_rest asked view made a))
 
   pub rests_report : RestsReport number words before.shelf.files after.shelf.files before.shelf.calls after.shelf.calls before.out.written after.out.written
   rests_report = record {
     report = λ asked is low. gives_rest asked is low (λ view. RestReportHolds number view asked before.out.written after.out.written) (λ view r. r);
     certificate = λ asked out is given low.
-        let performs = subst (λ (o : Option (List ℕ)). Performs (rest_meaning asked.file asked.budget o asked.silent) number before after) given (as_rest asked is) in
-        acts_named given (gives_all (rest_meaning asked.file asked.budget (Some out) asked.silent) performs low (λ view made. RestCertificateStands number view asked out before.shelf.files after.shelf.files before.out.written after.out.written made) (λ view made a. rest_certified asked out view made a));
+        gives_all (rest_meaning asked) (as_rest asked is) low (λ view made. RestCertificateStands number view asked out before.shelf.files after.shelf.files before.out.written after.out.written made)
+        (λ view made a. rest_certified asked out given view made a);
   }
 
   pub rest_checked : (name certificate : List ℕ) (names : Option (List ℕ)) (options : ProofOptions) (view : View) (made : List PutCall) → IsAnswered (rest_check_meaning name certificate names options) view number before after made → RestCheckHolds number view name certificate names options before.out.written after.out.written
@@ -501,19 +501,28 @@ module _ (words : List (List ℕ)) (number : ℕ) (before after : State) (h : Ru
   loud_by_words asked is file places silent = λ by_words. none_silent file.automaton asked.silent places ((rest_said words asked is).quiet by_words) silent
 
   -- the same of `rest`
-  pub tells_rest_safe : (asked : RestWords) → rest_of words ≡ Some asked → (view : View) (r : RestReportHolds number view asked before.out.written after.out.written) (k : ℕ) (p : Pattern) → slice_get r.file.patterns k ≡ Some p → HasLine (told_of p.name (codes "rest safe, ")) (rest_text r.file All r.sample r.verdicts) → RestSafeBut asked.silent r.file.automaton p
+  pub tells_rest_safe : (asked : RestWords) → rest_of words ≡ Some asked → (view : View) (r : RestReportHolds number view asked before.out.written after.out.written) (k : ℕ) (p : Pattern) → slice_get r.file.patterns k ≡ Some p → TellsSafe true asked.json p.name (report_of true asked.json r.file r.pick r.sample r.verdicts) → RestSafeBut asked.silent r.file.automaton p
   tells_rest_safe asked is view r k p named line =
-      let said = printed_rest_safe r.file All r.sample r.verdicts k p named r.is_sample.fits r.are.fit line in
+      let said = told_safe r.file r.pick r.sample r.verdicts k p named r.is_sample.fits r.are.fit true asked.json line in
       let loud = loud_by_words asked is r.file r.silent r.are_silent in
-      safe_but asked.silent r.file.automaton p r.silent r.are_silent (rest_safe_at r.file r.ends.ending r.ends.added All (resting asked.budget r.silent) loud r.verdicts r.are k p said.0 said.1 named said.2)
+      safe_but asked.silent r.file.automaton p r.silent r.are_silent (rest_safe_at r.file r.ends.ending r.ends.added r.pick (resting asked.budget r.silent) loud r.verdicts r.are k p said.0 said.1 named said.2)
 
-  printed_rest : (asked : RestWords) → rest_of words ≡ Some asked → (view : View) → RestReportHolds number view asked before.out.written after.out.written → EachPrinted (RestSafeBut asked.silent) (codes "rest safe, ") view asked.file before.out.written after.out.written
+  printed_rest : (asked : RestWords) → rest_of words ≡ Some asked → (view : View) → RestReportHolds number view asked before.out.written after.out.written → EachToldSafe (RestSafeBut asked.silent) true asked.json view asked.file before.out.written after.out.written
   printed_rest asked is view r = record {
     file = r.file;
     holds = holds_file view asked.file r.file r.is_file;
-    text = rest_text r.file All r.sample r.verdicts;
+    text = report_of true asked.json r.file r.pick r.sample r.verdicts;
     gained = r.wrote;
-    holds_of = tells_rest_safe asked is view r;
+    safe = tells_rest_safe asked is view r;
+  }
+
+  lines_of_rest : (asked : RestWords) → rest_of words ≡ Some asked → (view : View) → RestReportHolds number view asked before.out.written after.out.written → EachPrinted (RestSafeBut asked.silent) (codes "rest safe, ") view asked.file before.out.written after.out.written
+  lines_of_rest asked is view r = record {
+    file = r.file;
+    holds = holds_file view asked.file r.file r.is_file;
+    text = report_of true asked.json r.file r.pick r.sample r.verdicts;
+    gained = r.wrote;
+    holds_of = λ k p named line. tells_rest_safe asked is view r k p named (tells_by_line true asked.json r.file r.pick r.sample r.verdicts p.name line);
   }
 
   -- and of `rest-check`
@@ -569,14 +578,14 @@ module _ (words : List (List ℕ)) (number : ℕ) (before after : State) (h : Ru
     every = λ asked is all none. gives_rest_check asked is (omega (arith, none)) (λ view. EveryPattern (RestSafeBut asked.silent) view asked.file) (λ view r. every_rest_check asked.file asked.other asked.silent asked.options view all none r);
   }
 
-  printed_rest_fair : (asked : RestWords) → rest_of words ≡ Some asked → (view : View) → RestReportHolds number view asked before.out.written after.out.written → EachPrinted (FairlySafeBut asked.silent) (codes "rest safe, ") view asked.file before.out.written after.out.written
+  printed_rest_fair : (asked : RestWords) → rest_of words ≡ Some asked → (view : View) → RestReportHolds number view asked before.out.written after.out.written → EachToldSafe (FairlySafeBut asked.silent) true asked.json view asked.file before.out.written after.out.written
   printed_rest_fair asked is view r =
       record {
         file = r.file;
         holds = holds_file view asked.file r.file r.is_file;
-        text = rest_text r.file All r.sample r.verdicts;
+        text = report_of true asked.json r.file r.pick r.sample r.verdicts;
         gained = r.wrote;
-        holds_of = λ k p named line. fair_but r.is_file.bytes r.file r.is_file.means r.are_ends.loops k p named asked.silent (tells_rest_safe asked is view r k p named line);
+        safe = λ k p named line. fair_but r.is_file.bytes r.file r.is_file.means r.are_ends.loops k p named asked.silent (tells_rest_safe asked is view r k p named line);
       }
 
   printed_rest_check_fair : (name certificate : List ℕ) (names : Option (List ℕ)) (options : ProofOptions) (view : View) → RestCheckHolds number view name certificate names options before.out.written after.out.written → EachToldProved (FairlySafeBut names) options.json true view name before.out.written after.out.written
@@ -589,13 +598,13 @@ module _ (words : List (List ℕ)) (number : ℕ) (before after : State) (h : Ru
         holds_of = λ k p named told. fair_but r.is_file.bytes r.file r.is_file.means r.are_ends.loops k p named names (tells_rest_proved name certificate names options view r k p named told);
       }
 
-  printed_rest_unsafes : (asked : RestWords) → rest_of words ≡ Some asked → (view : View) → RestReportHolds number view asked before.out.written after.out.written → EachPrintedUnsafe (RestOccursBut asked.silent) (telling_of true false) view asked.file before.out.written after.out.written
+  printed_rest_unsafes : (asked : RestWords) → rest_of words ≡ Some asked → (view : View) → RestReportHolds number view asked before.out.written after.out.written → EachPrintedUnsafe (RestOccursBut asked.silent) (telling_of true asked.json) view asked.file before.out.written after.out.written
   printed_rest_unsafes asked is view r = record {
     file = r.file;
     holds = holds_file view asked.file r.file r.is_file;
-    text = rest_text r.file All r.sample r.verdicts;
+    text = report_of true asked.json r.file r.pick r.sample r.verdicts;
     gained = r.wrote;
-    unsafe_ = rest_unsafe_printed asked.silent false r.file r.ends.ending r.ends.added All (resting asked.budget r.silent) r.are_silent (loud_by_words asked is r.file r.silent r.are_silent) r.sample r.is_sample r.verdicts r.are;
+    unsafe_ = rest_unsafe_printed asked.silent asked.json r.file r.ends.ending r.ends.added r.pick (resting asked.budget r.silent) r.are_silent (loud_by_words asked is r.file r.silent r.are_silent) r.sample r.is_sample r.verdicts r.are;
   }
 
   bench_safe : (k : ℕ) → BenchHolds number k before.out.written after.out.written → FamilySafe k
@@ -612,10 +621,10 @@ module _ (words : List (List ℕ)) (number : ℕ) (before after : State) (h : Ru
     benched = λ k is low. bench_safe k (benches.holds k is low);
     safe = λ asked is low. gives_verify asked is low (λ view. EachToldSafe runs.Safe false asked.json view asked.file before.out.written after.out.written) (λ view made a. printed_verify asked view (reported asked view made a));
     unsafe_ = λ asked is low. gives_verify asked is low (λ view. EachPrintedUnsafe runs.Occurs (telling_of false asked.json) view asked.file before.out.written after.out.written) (λ view made a. printed_unsafes asked view (reported asked view made a));
-    rest_safe = λ asked is low. gives_rest asked is low (λ view. EachPrinted (RestSafeBut asked.silent) (codes "rest safe, ") view asked.file before.out.written after.out.written) (printed_rest asked is);
-    rest_unsafe = λ asked is low. gives_rest asked is low (λ view. EachPrintedUnsafe (RestOccursBut asked.silent) (telling_of true false) view asked.file before.out.written after.out.written) (printed_rest_unsafes asked is);
+    rest_safe = λ asked is low. gives_rest asked is low (λ view. EachToldSafe (RestSafeBut asked.silent) true asked.json view asked.file before.out.written after.out.written) (printed_rest asked is);
+    rest_unsafe = λ asked is low. gives_rest asked is low (λ view. EachPrintedUnsafe (RestOccursBut asked.silent) (telling_of true asked.json) view asked.file before.out.written after.out.written) (printed_rest_unsafes asked is);
     rest_proved = λ asked is low. gives_rest_check asked is low (λ view. EachToldProved (RestSafeBut asked.silent) asked.options.json true view asked.file before.out.written after.out.written) (printed_rest_check asked.file asked.other asked.silent asked.options);
-    rest_fair = λ asked is low. gives_rest asked is low (λ view. EachPrinted (FairlySafeBut asked.silent) (codes "rest safe, ") view asked.file before.out.written after.out.written) (printed_rest_fair asked is);
+    rest_fair = λ asked is low. gives_rest asked is low (λ view. EachToldSafe (FairlySafeBut asked.silent) true asked.json view asked.file before.out.written after.out.written) (printed_rest_fair asked is);
     rest_proved_fair = λ asked is low. gives_rest_check asked is low (λ view. EachToldProved (FairlySafeBut asked.silent) asked.options.json true view asked.file before.out.written after.out.written) (printed_rest_check_fair asked.file asked.other asked.silent asked.options);
     proved = λ asked is low. gives_check asked is low (λ view. EachToldProved runs.Safe asked.options.json false view asked.file before.out.written after.out.written) (printed_check asked.file asked.other asked.options);
   }
@@ -683,7 +692,8 @@ module _ (words : List (List ℕ)) (number : ℕ) (before after : State) (h : Ru
         record { file = r.file; holds = holds_file view asked.file r.file r.is_file; safe = picked_safe zero_says asked view r none });
     occurs = λ asked is one. gives_verify asked is (omega (arith, one)) (λ view. SomePatternOccurs view asked.file asked.pattern) (λ view made a. some_occurring asked view one (reported asked view made a));
     proved = λ asked is low. gives_check asked is low (λ view. EachPrinted runs.Safe (codes "proved") view asked.file before.out.written after.out.written) (lines_of_check asked.file asked.other asked.options);
-    rest_safe = λ asked is alone low. subst (λ (names : Option (List ℕ)). Acts (may_put asked.out) (λ read made. EachPrinted (RestSafeBut names) (codes "rest safe, ") (seen before.shelf.files read) asked.file before.out.written after.out.written) before.shelf.calls after.shelf.calls) alone (printed_holds.rest_safe asked is low);
+    rest_safe = λ asked is alone low. subst (λ (names : Option (List ℕ)). Acts (may_put asked.out) (λ read made. EachPrinted (RestSafeBut names) (codes "rest safe, ") (seen before.shelf.files read) asked.file before.out.written after.out.written) before.shelf.calls after.shelf.calls) alone
+        (gives_rest asked is low (λ view. EachPrinted (RestSafeBut asked.silent) (codes "rest safe, ") view asked.file before.out.written after.out.written) (lines_of_rest asked is));
     rest_proved = λ asked is alone low. subst (λ (names : Option (List ℕ)). Grew (λ read. EachPrinted (RestSafeBut names) (codes "rest proved") (seen before.shelf.files read) asked.file before.out.written after.out.written) before.shelf.calls after.shelf.calls) alone
         (gives_rest_check asked is low (λ view. EachPrinted (RestSafeBut asked.silent) (codes "rest proved") view asked.file before.out.written after.out.written) (lines_of_rest_check asked.file asked.other asked.silent asked.options));
     safe_lines = λ asked is plain low. gives_verify asked is low (λ view. EachPrinted runs.Safe (codes "safe, ") view asked.file before.out.written after.out.written) (λ view made a.
@@ -727,7 +737,7 @@ differs kind name outs rest number before after performs =
 pub spares_read : (words : List (List ℕ)) (number : ℕ) (before after : State) → Runs (request_of words) number before after → SparesRead words before.shelf.files before.shelf.calls after.shelf.calls
 spares_read words number before after h = record {
   verify = λ asked is. differs file_kind asked.file (may_put asked.out) (picked_meaning asked) number before after (as_verify words number before after h asked is);
-  rest = λ asked is. differs file_kind asked.file (may_put asked.out) (at_ends asked.file (may_put asked.out) (rest_quietly asked.file asked.budget asked.out asked.silent)) number before after (as_rest words number before after h asked is);
+  rest = λ asked is. differs file_kind asked.file (may_put asked.out) (at_ends asked.file (may_put asked.out) (rest_quietly asked)) number before after (as_rest words number before after h asked is);
   search = λ asked is. differs template_kind asked.file (found_names asked) (found_meaning asked) number before after (as_search words number before after h asked is);
 }
 

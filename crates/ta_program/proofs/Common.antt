@@ -17,7 +17,7 @@ pub use Rattle.ta_base.proofs.Lists.{none_not_some, one_content, piece_size, sam
 pub use Rattle.ta_base.specs.Masks.{has_bit}
 pub use Rattle.ta_cert.specs.Certificates.{pair_of, proofs_of}
 pub use Rattle.ta_cert.specs.declared.fault.CertFault.{CertFault}
-pub use Rattle.ta_check.proofs.Lasting.{lasting_faults_last, no_longer_certificate}
+pub use Rattle.ta_check.proofs.Lasting.{no_longer_certificate}
 pub use Rattle.ta_check.specs.Certificate.{AllClaimsHold, AllQuietRestSafe, AllSafe, Certificate, CertificateFor, PatternSafe, QuietRestCertificate, proof_number}
 pub use Rattle.ta_check.specs.Checkers.{CheckerFeedAnswers, CheckerFinishAnswers, CheckerStandsFor, IsExactCheck, IsExactFeed, subject_of}
 pub use Rattle.ta_check.specs.Faults.{IsFirstFaultFor, IsLastingFor}
@@ -45,9 +45,9 @@ pub use Rattle.ta_program.specs.Printed.{EachPrintedUnsafe, EachToldSafe, Unsafe
 pub use Rattle.ta_program.specs.Program.{Admitting, Benches, CertificateWritten, CheckProves, ComparesFirst, Completes, EndsSo, ExactlySo, Exports, HoldsSame, KeepsFiles, Opens, PassesLegal, PrintedHolds, ReplayShows, RestProves, RestsReport, RunShortens, Searches, SparesRead, VerifyReports, put_by}
 pub use Rattle.ta_program.specs.Replay.{ReplayHolds, SaysShown, replay_meaning, shown_meaning}
 pub use Rattle.ta_program.specs.Reporting.{CertificateStands, ReportHolds, Reports, report_meaning, verify_meaning, IsDecided, picked_meaning}
-pub use Rattle.ta_program.specs.PatternOption.{EachPicked, HasName, IsPick, LegalPicked, PickHinders, given_pattern, with_pick}
+pub use Rattle.ta_program.specs.PatternOption.{EachPicked, HasName, IsPick, LegalPicked, PickHinders, with_pick}
 pub use Rattle.ta_program.specs.Requests.{request_of}
-pub use Rattle.ta_program.specs.Rest.{HindersRest, IsKnownAtRest, LongAtRest, LongRest, RestCertificateStands, RestReportHolds, RestReports, rest_meaning, rest_quietly, rest_report_meaning}
+pub use Rattle.ta_program.specs.Rest.{HindersRest, IsDecidedAtRest, LegalRest, LongAtRest, LongRest, RestCertificateStands, RestReportHolds, RestReports, rest_meaning, rest_picked, rest_quietly, rest_report_meaning}
 pub use Rattle.ta_program.specs.RestCheck.{RestCheckHolds, quietly_meaning, rest_check_meaning, rest_proved_meaning}
 pub use Rattle.ta_program.specs.RestEnds.{CycleHinders, FileEndings, IsEnds, LegalAtRest, at_ends, cycle_text, ends_of, with_ends}
 pub use Rattle.ta_program.specs.RestWords.{RestCheckWords, RestWords, quiet_names, rest_check_of, rest_check_words, rest_form, rest_of, rest_taken, rest_words}

@@ -4,6 +4,7 @@ use Rattle.ta_program.proofs.Common.{SaysFile, file_meaning, show_meaning, show_
 use Rattle.ta_meaning.specs.Laws.{FirstFaultsAreUnique}
 use Rattle.ta_claim.specs.declared.claim.Claim.TheVariants as claim
 use Rattle.ta_program.proofs.EndsOnce.{ends_once}
+use Rattle.ta_program.proofs.Common.{LegalRest, RestWords, rest_picked}
 use Rattle.ta_program.proofs.RestMeanings.{cycle_rule, ends_monotone, hinders_rest, no_cycle, quietly_monotone, rest_quietly_monotone}
 use Rattle.ta_program.proofs.SilentPlaces.{silent_fits, silent_line, silent_number, silent_once}
 use Rattle.ta_program.proofs.Common.{AreSilent, LegalSilently, NamesHinder, claiming_with, quietly_meaning, rest_check_words}
@@ -39,9 +40,9 @@ long_found : (t : Template) (budget : Budget) (out : Option (List ℕ)) (line wo
 long_found t budget None line words number other h k = absurd h
 long_found t budget (Some out) line words number other h k = h.said ∙ sym k.said
 
-long_rest : (file : File) (ends : FileEndings) (budget : RestBudget) (out : Option (List ℕ)) (line words : List ℕ) (number other : ℕ) → HindersRest file ends budget out number line → HindersRest file ends budget out other words → line ≡ words
-long_rest file ends budget None line words number other h k = absurd h
-long_rest file ends budget (Some out) line words number other h k = h.said ∙ sym k.said
+long_rest : (file : File) (ends : FileEndings) (budget : RestBudget) (pick : Pick) (out : Option (List ℕ)) (line words : List ℕ) (number other : ℕ) → HindersRest file ends budget pick out number line → HindersRest file ends budget pick out other words → line ≡ words
+long_rest file ends budget pick None line words number other h k = absurd h
+long_rest file ends budget pick (Some out) line words number other h k = h.said ∙ sym k.said
 
 module _ (unique : FirstFaultsAreUnique) (told : Told) where
   -- of a command that reads FILE first
@@ -134,11 +135,12 @@ module _ (unique : FirstFaultsAreUnique) (told : Told) where
       (λ d e is are. sym (ends_once file d e is are))
       (later file))
 
-  rest_report_once : (budget : RestBudget) (out : Option (List ℕ)) (file : File) (ends : FileEndings) → HinderOnce (rest_report_meaning budget out file ends) told
-  rest_report_once budget out file ends =
-      settles_once (may_put out) (RestReports file ends budget out) (HindersRest file ends budget out) told
-      (λ number line h. let is = (hinders_rest file ends budget out number line h).0 in (omega (arith, is), omega (arith, is)))
-      (λ number other line words h k. ((hinders_rest file ends budget out number line h).0 ∙ sym (hinders_rest file ends budget out other words k).0, long_rest file ends budget out line words number other h k))
+  rest_report_once : (asked : RestWords) (file : File) (ends : FileEndings) (budget : RestBudget) (pick : Pick) → HinderOnce (rest_report_meaning asked file ends budget pick) told
+  rest_report_once asked file ends budget pick =
+      let out = asked.out in
+      settles_once (may_put out) (RestReports asked file ends budget pick) (HindersRest file ends budget pick out) told
+      (λ number line h. let is = (hinders_rest file ends budget pick out number line h).0 in (omega (arith, is), omega (arith, is)))
+      (λ number other line words h k. ((hinders_rest file ends budget pick out number line h).0 ∙ sym (hinders_rest file ends budget pick out other words k).0, long_rest file ends budget pick out line words number other h k))
 
   -- of commands that look for the places of names
   names_once : (name : List ℕ) (names : Option (List ℕ)) (puts : List (List ℕ)) (file : File) (rest : List ℕ → Meaning) → ((places : List ℕ) → HinderOnce (rest places) told) → HinderOnce (with_silent name names puts file rest) told
@@ -151,14 +153,17 @@ module _ (unique : FirstFaultsAreUnique) (told : Told) where
       (λ d e is are. sym (silent_once a names d e is are))
       later
 
-  rest_once : (name : List ℕ) (budget : Budget) (out names : Option (List ℕ)) → HinderOnce (rest_meaning name budget out names) told
-  rest_once name budget out names =
-      let quietly = rest_quietly name budget out names in
-      let monotone = rest_quietly_monotone name budget out names in
-      spared_once file_kind name (may_put out) (at_ends name (may_put out) quietly) (ends_monotone name (may_put out) quietly monotone) told (λ bytes file fault legal found. legal.no_fault fault found)
-      (ends_line name (may_put out) quietly monotone (λ file ends.
-      names_once name names (may_put out) file (λ places. rest_report_meaning (resting budget places) out file ends) (λ places.
-      rest_report_once (resting budget places) out file ends)))
+  rest_once : (asked : RestWords) → HinderOnce (rest_meaning asked) told
+  rest_once asked =
+      let name = asked.file in
+      let puts = may_put asked.out in
+      let quietly = rest_quietly asked in
+      let monotone = rest_quietly_monotone asked in
+      spared_once file_kind name puts (at_ends name puts quietly) (ends_monotone name puts quietly monotone) told (λ bytes file fault legal found. legal.no_fault fault found)
+      (ends_line name puts quietly monotone (λ file ends.
+      names_once name asked.silent puts file (λ places. rest_picked asked file ends (resting asked.budget places)) (λ places.
+      picks_once name asked.pattern puts file (rest_report_meaning asked file ends (resting asked.budget places)) told
+      (rest_report_once asked file ends (resting asked.budget places)))))
 
   proved_once : (certificate : List ℕ) (options : ProofOptions) (file : File) (ends : FileEndings) (silent : List ℕ) → HinderOnce (rest_proved_meaning certificate options file ends silent) told
   proved_once certificate options file ends silent =
@@ -191,7 +196,7 @@ module _ (unique : FirstFaultsAreUnique) (told : Told) where
       (row_once (bytes_eq word (codes "compress")) _ _ (asked_once (λ names. Some names.file) (λ names. compress_meaning names.file names.other) (two_names words) (λ names. compress_once names.file names.other))
       (row_once (bytes_eq word (codes "export")) _ _ (asked_once (λ asked. Some asked.file) export_meaning (export_words words) export_once)
       (row_once (bytes_eq word (codes "replay")) _ _ (asked_once (λ a. Some a.file) (λ a. replay_meaning a.file a.other a.json) (replay_words words) (λ a. replay_once a.file a.other a.json))
-      (row_once (bytes_eq word (codes "rest")) _ _ (asked_where_once (λ a. LegalSilently a.file a.silent) (λ a. rest_meaning a.file a.budget a.out a.silent) (rest_words words) (λ a. rest_once a.file a.budget a.out a.silent))
+      (row_once (bytes_eq word (codes "rest")) _ _ (asked_where_once LegalRest rest_meaning (rest_words words) rest_once)
       (row_once (bytes_eq word (codes "rest-check")) _ _ (asked_where_once (λ a. LegalSilently a.file a.silent) (λ a. rest_check_meaning a.file a.other a.silent a.options) (rest_check_words words) (λ a. rest_check_once a.file a.other a.silent a.options))
       (row_once (bytes_eq word (codes "search")) _ _ (asked_where_once LegalTemplate search_meaning (search_words words) search_once)
       (row_once (bytes_eq word (codes "show")) _ _ (asked_once (λ name. Some name) show_meaning (show_words words) show_once)

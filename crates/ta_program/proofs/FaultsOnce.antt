@@ -1,7 +1,8 @@
 -- Bytes have one error of each kind.
-use Rattle.ta_program.proofs.Common.{◌≡◌, ◌∙◌, ◌++◌, ℕ, List, sym, ap, subst, inl, inr, File, CertFault, IsFirstFaultFor, IsLastingFor, Subject, lasting_faults_last, Run, IsRunText, Kind, admit_faults_once, values_kind, CompressFaultIn, IsRefusedRun, IsTextFault, long_kind, of_run, OneFault, IsReplayFault, certificate_kind, run_kind, ◌≢◌, AskedWord}
-use Rattle.ta_check.proofs.Answering.{first_of_lasting}
-use Rattle.ta_cert.specs.declared.fault.CertFault.TheVariants as cert
+use Rattle.ta_program.proofs.Common.{◌≡◌, ◌∙◌, ℕ, List, sym, ap, subst, inl, inr, File, IsFirstFaultFor, Subject, Run, IsRunText, Kind, admit_faults_once}
+use Rattle.ta_program.proofs.Common.{values_kind, CompressFaultIn, IsRefusedRun, IsTextFault, long_kind, of_run, OneFault, IsReplayFault, certificate_kind}
+use Rattle.ta_program.proofs.Common.{run_kind, ◌≢◌, AskedWord}
+use Rattle.ta_check.proofs.Lasting.{first_of_lasting, lasting_more}
 use Rattle.ta_check.proofs.OneFault.{one_fault}
 use Rattle.ta_compress.specs.declared.fault.CompressFault.{CompressFault}
 use Rattle.ta_compress.specs.Faults.{CompressFaultOf}
@@ -56,17 +57,13 @@ values_once file word bytes e f a b = admit_faults_once file word bytes e f a.no
 pub certificate_once : (subject : Subject) → OneFault (certificate_kind subject)
 certificate_once subject bytes e f a b = one_fault subject bytes e f a.first b.first
 
-lasting_lasts : (subject : Subject) (bytes more : List ℕ) (f : CertFault) → IsLastingFor subject bytes f → IsLastingFor subject (bytes ++ more) f
-lasting_lasts subject bytes more (cert.Truncated n) h = absurd h
-lasting_lasts subject bytes more f h = lasting_faults_last subject bytes more f h
-
 pub certificate_settled : (subject : Subject) → Settled (certificate_kind subject)
 certificate_settled subject = record {
   First = IsFirstFaultFor subject;
   one = one_fault subject;
   of_fault = λ bytes f h. h.first;
   of_broken = first_of_lasting subject;
-  lasts = lasting_lasts subject;
+  lasts = lasting_more subject;
 }
 
 -- of a kind that is read whole before it is judged

@@ -21,6 +21,8 @@ use Rattle.ta_report.specs.Json.{json_text, place_members, report_data, sample_d
 use Rattle.ta_report.specs.Json.{verdict_member, verdicts_data}
 use Rattle.ta_report.specs.Printed.{HasLine, LineAt, told_of}
 use Rattle.ta_report.specs.Picked.{picked}
+use Rattle.ta_report.specs.PrintedRuns.{safe_words, unsafe_words}
+use Rattle.ta_report.specs.Telling.{TellsSafe, TellsUnsafe, report_of}
 use Rattle.ta_report.specs.Report.{place_text, safe_word, unsafe_word}
 use Rattle.ta_report.specs.declared.pick.Pick.{Pick}
 use Rattle.ta_report.specs.declared.verdict.ReportKind.{ReportKind}
@@ -211,12 +213,23 @@ object_told : (ms : json.Members) (name word behind : List ℕ) → Clear (json.
 object_told ms name word behind clear at = one_line (members_text false ms) name word behind clear at
 
 -- so no line tells of a pattern
-pub no_line_told : (rest : Bool) (file : File) (pick : Pick) (s : ReportSample) (vs : List Verdict) (name word : List ℕ)
+no_line_told : (rest : Bool) (file : File) (pick : Pick) (s : ReportSample) (vs : List Verdict) (name word : List ℕ)
     → HasLine (told_of name word) (json_text rest file pick s vs) → ⊥
 no_line_told rest file pick s vs name word has = object_told
     (json.member (codes "automaton") (json.string file.automaton.name)
     (json.member (codes "parameters") (sample_data file s) (json.member (codes "patterns") (json.array (verdicts_data rest file (picked pick file.patterns) vs)) json.no_members)))
     name word has.0 (report_clear rest file pick s vs) has.1
+
+-- so what a line tells of a pattern is told of it
+pub tells_by_line : (rest json : Bool) (file : File) (pick : Pick) (s : ReportSample) (vs : List Verdict) (name : List ℕ)
+    → HasLine (told_of name (safe_words rest)) (report_of rest json file pick s vs) → TellsSafe rest json name (report_of rest json file pick s vs)
+tells_by_line rest true file pick s vs name line = absurd (no_line_told rest file pick s vs name (safe_words rest) line)
+tells_by_line rest false file pick s vs name line = line
+
+pub tells_unsafe_by_line : (rest json : Bool) (file : File) (pick : Pick) (s : ReportSample) (vs : List Verdict) (name : List ℕ)
+    → HasLine (told_of name (unsafe_words rest)) (report_of rest json file pick s vs) → TellsUnsafe rest json name (report_of rest json file pick s vs)
+tells_unsafe_by_line rest true file pick s vs name line = absurd (no_line_told rest file pick s vs name (unsafe_words rest) line)
+tells_unsafe_by_line rest false file pick s vs name line = line
 
 -- ---- the line of JSON of `check` and of `rest-check`
 proof_clear : (name word : List ℕ) → Clear (told_data name word)

@@ -7,6 +7,7 @@ mod UnsafePrinted
 mod PatternPicks
 mod ProofsSaid
 mod TriesPrinted
+mod RestTexts
 mod ReportsExact
 mod Meanings
 mod WordMeanings

@@ -3,7 +3,7 @@ use Rattle.ta_program.proofs.Common.{◌≡◌, ◌∙◌, ◌+◌, ◌-◌, ◌
 use Rattle.std.specs.Option.{IfSome}
 use Rattle.std.specs.Result.{IsOk}
 use Rattle.ta_cert.specs.declared.fault.CertFault.TheVariants as fault
-use Rattle.ta_cert.specs.Relations.{IsErrOrMemory}
+use Rattle.ta_cert.specs.Streams.{IsErrOrMemory}
 use Rattle.ta_report.specs.Faults.{cert_fault_text}
 use Rattle.ta_shelf.specs.ReadPiece.{ReadsPiece}
 use Rattle.ta_shelf.specs.declared.fault.ShelfFault.{ShelfFault}

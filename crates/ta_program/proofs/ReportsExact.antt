@@ -1,20 +1,25 @@
 -- A report gives exactly the verdicts that hold, and exactly what holds of the parameters.
-use Rattle.ta_program.proofs.Common.{Budget, ◌≡◌, ◌∙◌, ◌+◌, ℕ, zero, suc, Bool, true, false, List, [], ◌∷◌, Option, Some, refl, sym, ap}
+use Rattle.ta_program.proofs.Common.{Budget, ◌≡◌, ◌⊎◌, ◌∙◌, ◌+◌, ℕ, zero, suc, Bool, true, false, List, [], ◌∷◌, Option, Some, refl, sym, ap, inl, inr}
 use Rattle.ta_program.proofs.Common.{None, subst, arith, AllByRecursion, File, Pattern, Verdict, VerdictHolds, VerdictFits, IsSample}
 use Rattle.ta_program.proofs.Common.{ReportSample, View, as_many, held_entry, report_of, slice_get, Runs, State, request_of, verify_meaning}
-use Rattle.ta_program.proofs.Common.{Pick, All, One, picked, HasName, IsPick, VerifyWords}
-use Rattle.ta_program.proofs.Clauses.{as_verify, gives_some, holds_file, reported}
-use Rattle.ta_program.specs.Reported.{EachReported, IsReportOf, ReportsExactly}
+use Rattle.ta_program.proofs.Common.{Pick, All, One, picked, HasName, IsPick, VerifyWords, EndingVerdictHolds, RestReportHolds}
+use Rattle.ta_program.proofs.Common.{RestWords, endings_count, resting}
+use Rattle.ta_program.proofs.Clauses.{as_verify, gives_rest, gives_some, holds_file, reported}
+use Rattle.ta_program.proofs.RestTexts.{rest_reports_distinct}
+use Rattle.ta_program.specs.Reported.{EachReported, EachReportedAtRest, GivesSample, GivesVerdict, IsReportOf, ReportsExactly}
 use Rattle.ta_program.specs.Reporting.{ReportHolds}
 use Rattle.ta_automaton.specs.Patterns.{pattern_name}
 use Rattle.ta_base.proofs.Each.{distinct_map_at}
-use Rattle.ta_report.proofs.Picks.{entry_there}
+use Rattle.ta_report.proofs.Picks.{entry_there, picked_count}
 use Rattle.ta_report.specs.Json.{JsonIsDistinct}
 use Rattle.ta_report.specs.Picked.{entry_of, first_picked, listed}
 use Rattle.ta_report.specs.Report.{ReportsAreDistinct}
 use Rattle.ta_verdict.proofs.SamplesMade.{samples_once}
 use Rattle.ta_verdict.proofs.VerdictsOnce.{verdicts_once}
-use Rattle.ta_verdict.specs.Verdicts.{AreVerdictsOn, EachHolds}
+use Rattle.ta_verdict.proofs.rest.VerdictsOnce.{verdicts_once as rest_verdicts_once}
+use Rattle.ta_verdict.specs.Rest.Verdicts.{RestVerdictHolds}
+use Rattle.ta_verdict.specs.Verdicts.{EachHolds}
+use Rattle.std.specs.Prelude.{◌↔◌}
 
 -- ---- a verdict that holds in place of another
 abbrev put_at : ℕ → Verdict → List Verdict → List Verdict
@@ -59,49 +64,79 @@ one_named ps number p at = record { place = 0; at = ap (λ (o : Option Pattern).
 all_named : (ps : List Pattern) (number : ℕ) (p : Pattern) → slice_get ps number ≡ Some p → PlaceOf All ps number p
 all_named ps number p at = record { place = number; at = at; number_is = omega arith }
 
-named_place : (file : File) (name : Option (List ℕ)) (pick : Pick) → IsPick file name pick → (number : ℕ) (p : Pattern) → slice_get file.patterns number ≡ Some p
-    → HasName name p → PlaceOf pick file.patterns number p
-named_place file None pick is number p at named = subst (λ (k : Pick). PlaceOf k file.patterns number p) (sym is) (all_named file.patterns number p at)
-named_place file (Some name) pick is number p at named =
+picks_named : (file : File) (name : Option (List ℕ)) (pick : Pick) → IsPick file name pick → (number : ℕ) (p : Pattern)
+    → slice_get file.patterns number ≡ Some p
+    → HasName name p → (pick ≡ All) ⊎ (pick ≡ One number)
+picks_named file None pick is number p at named = inl is
+picks_named file (Some name) pick is number p at named =
     let same = distinct_map_at pattern_name file.patterns is.number number is.pattern p file.shape.distinct is.is.at at (is.is.named ∙ sym named) in
-    subst (λ (k : Pick). PlaceOf k file.patterns number p) (ap One (sym same) ∙ sym is.one) (one_named file.patterns number p at)
+    inr (is.one ∙ ap One same)
 
--- ---- a verdict that holds is the one that was given
-given : (file : File) (pick : Pick) (budget : Budget) (vs : List Verdict) → AreVerdictsOn file pick budget vs → (number : ℕ) (p : Pattern) (v : Verdict)
-    → PlaceOf pick file.patterns number p → VerdictFits file v → VerdictHolds file budget number p v → entry_of pick vs number ≡ Some v
-given file pick budget vs are number p v there fit holds =
+named_place : (pick : Pick) (number : ℕ) → (pick ≡ All) ⊎ (pick ≡ One number) → (ps : List Pattern) (p : Pattern) → slice_get ps number ≡ Some p
+    → PlaceOf pick ps number p
+named_place pick number picks ps p at = elim picks [
+  | inl all ↦ subst (λ (k : Pick). PlaceOf k ps number p) (sym all) (all_named ps number p at)
+  | inr one ↦ subst (λ (k : Pick). PlaceOf k ps number p) (sym one) (one_named ps number p at)
+]
+
+-- ---- a verdict that holds is the one that was given, if no other verdicts hold
+given : (Fact : ℕ → Pattern → Verdict → Type 0) (file : File) (pick : Pick) (ps : List Pattern) (vs : List Verdict)
+    → ((ws : List Verdict) → EachHolds Fact (first_picked pick) (picked pick ps) ws → AllByRecursion (VerdictFits file) ws → vs ≡ ws)
+    → EachHolds Fact (first_picked pick) (picked pick ps) vs → AllByRecursion (VerdictFits file) vs → (number : ℕ) (p : Pattern) (v : Verdict)
+    → PlaceOf pick ps number p → VerdictFits file v → Fact number p v → entry_of pick vs number ≡ Some v
+given Fact file pick ps vs once hold all number p v there fit holds =
     let k = there.place in
-    let ps = picked pick file.patterns in
     let first = first_picked pick in
-    let fact = subst (λ (m : ℕ). VerdictHolds file budget m p v) (sym there.number_is) holds in
-    let others : AreVerdictsOn file pick budget (put_at k v vs) = record {
-      hold = still_hold (VerdictHolds file budget) first k ps vs p v are.hold there.at fact;
-      fit = still_fit file k v vs are.fit fit;
-    } in
-    let here = ap (λ (xs : List Verdict). slice_get xs k) (verdicts_once file pick budget vs (put_at k v vs) are others)
-    ∙ put_there (VerdictHolds file budget) first k ps vs p v are.hold there.at in
-    subst (λ (m : ℕ). entry_of pick vs m ≡ Some v) there.number_is (entry_there pick file.patterns vs k p v there.at here)
+    let fact = subst (λ (m : ℕ). Fact m p v) (sym there.number_is) holds in
+    let others = once (put_at k v vs) (still_hold Fact first k (picked pick ps) vs p v hold there.at fact) (still_fit file k v vs all fit) in
+    let here = ap (λ (xs : List Verdict). slice_get xs k) others ∙ put_there Fact first k (picked pick ps) vs p v hold there.at in
+    subst (λ (m : ℕ). entry_of pick vs m ≡ Some v) there.number_is (entry_there pick ps vs k p v there.at here)
+
+same_some : (x y : Pattern) → Some x ≡ Some y → x ≡ y
+same_some x y e = cc
 
 -- ---- two reports with one text
 module _ (lines_differ : ReportsAreDistinct) (json_differs : JsonIsDistinct) where
-  same_parts : (json : Bool) (file : File) (pick : Pick) (x y : ReportSample) (vs ws : List Verdict) (text : List ℕ) → IsReportOf json file pick x vs text
-      → IsReportOf json file pick y ws text → (x ≡ y) × (vs ≡ ws)
-  same_parts false file pick x y vs ws text a b =
+  same_parts : (rest json : Bool) (file : File) (pick : Pick) (x y : ReportSample) (vs ws : List Verdict) (text : List ℕ)
+      → IsReportOf rest json file pick x vs text → IsReportOf rest json file pick y ws text → (x ≡ y) × (vs ≡ ws)
+  same_parts false false file pick x y vs ws text a b =
       lines_differ file pick x y vs ws a.count b.count a.sample_fits b.sample_fits a.fit b.fit (sym a.is ∙ b.is)
-  same_parts true file pick x y vs ws text a b =
-      json_differs false file pick x y vs ws a.count b.count a.sample_fits b.sample_fits a.fit b.fit (sym a.is ∙ b.is)
+  same_parts true false file pick x y vs ws text a b =
+      rest_reports_distinct lines_differ file pick x y vs ws a.count b.count a.sample_fits b.sample_fits a.fit b.fit (sym a.is ∙ b.is)
+  same_parts rest true file pick x y vs ws text a b =
+      json_differs rest file pick x y vs ws a.count b.count a.sample_fits b.sample_fits a.fit b.fit (sym a.is ∙ b.is)
+
+  -- a report that is known gives its verdicts alone, and what it says of the parameters
+  module _ (rest json : Bool) (file : File) (pick : Pick) (sample : ReportSample) (vs : List Verdict) (text : List ℕ)
+      (made : IsReportOf rest json file pick sample vs text) where
+    verdict_told : (number : ℕ) (v : Verdict) → GivesVerdict rest json file pick number v text ↔ (entry_of pick vs number ≡ Some v)
+    verdict_told number v = (
+      λ gives.
+          let same = same_parts rest json file pick gives.sample sample gives.verdicts vs text gives.report made in
+          ap (λ (xs : List Verdict). entry_of pick xs number) (sym same.1) ∙ gives.at,
+      λ at. record { sample = sample; verdicts = vs; report = made; at = at },
+    )
+
+    sample_told : (nodes : ℕ) → IsSample file nodes sample → (x : ReportSample) → GivesSample rest json file pick x text ↔ IsSample file nodes x
+    sample_told nodes is x = (
+      λ gives.
+          let same = same_parts rest json file pick x sample gives.verdicts vs text gives.report made in
+          subst (λ (y : ReportSample). IsSample file nodes y) (sym same.0) is,
+      λ holds.
+          let same = samples_once file nodes sample x is holds in
+          record { verdicts = vs; report = subst (λ (y : ReportSample). IsReportOf rest json file pick y vs text) same made },
+    )
 
   pub reports_exactly : (number : ℕ) (view : View) (asked : VerifyWords) (written written' : Option (List ℕ)) → ReportHolds number view asked written written'
       → EachReported asked view written written'
   reports_exactly number view asked written written' r =
       let file = r.file in
       let pick = r.pick in
-      let budget = asked.budget in
-      let json = asked.json in
-      let text = report_of false json file pick r.sample r.verdicts in
-      let made : IsReportOf json file pick r.sample r.verdicts text = record {
+      let Fact = VerdictHolds file asked.budget in
+      let text = report_of false asked.json file pick r.sample r.verdicts in
+      let made : IsReportOf false asked.json file pick r.sample r.verdicts text = record {
         sample_fits = r.is_sample.fits;
-        count = as_many (VerdictHolds file budget) (first_picked pick) (picked pick file.patterns) r.verdicts r.are.hold;
+        count = as_many Fact (first_picked pick) (picked pick file.patterns) r.verdicts r.are.hold;
         fit = r.are.fit;
         is = refl;
       } in
@@ -112,32 +147,69 @@ module _ (lines_differ : ReportsAreDistinct) (json_differs : JsonIsDistinct) whe
         is_pick = r.is_pick;
         text = text;
         gained = r.wrote;
-        verdict = λ k p v at named fit. (
-          λ gives.
-              let same = same_parts json file pick gives.sample r.sample gives.verdicts r.verdicts text gives.report made in
-              held_entry (VerdictHolds file budget) pick file.patterns r.verdicts r.are.hold k p v at
-              (ap (λ (xs : List Verdict). entry_of pick xs k) (sym same.1) ∙ gives.at),
-          λ holds. record {
-            sample = r.sample;
-            verdicts = r.verdicts;
-            report = made;
-            at = given file pick budget r.verdicts r.are k p v (named_place file asked.pattern pick r.is_pick k p at named) fit holds;
-          },
-        );
-        parameters = λ x. (
-          λ gives.
-              let same = same_parts json file pick x r.sample gives.verdicts r.verdicts text gives.report made in
-              subst (λ (y : ReportSample). IsSample file budget.nodes y) (sym same.0) r.is_sample,
-          λ holds.
-              let same = samples_once file budget.nodes r.sample x r.is_sample holds in
-              record { verdicts = r.verdicts; report = subst (λ (y : ReportSample). IsReportOf json file pick y r.verdicts text) same made },
-        );
+        verdict = λ k p v at named fit.
+            let told = verdict_told false asked.json file pick r.sample r.verdicts text made k v in (
+              λ gives. held_entry Fact pick file.patterns r.verdicts r.are.hold k p v at (told.0 gives),
+              λ holds. told.1 (given Fact file pick file.patterns r.verdicts
+                  (λ ws hold fits. verdicts_once file pick asked.budget r.verdicts ws r.are (record { hold = hold; fit = fits })) r.are.hold r.are.fit
+                  k p v (named_place pick k (picks_named file asked.pattern pick r.is_pick k p at named) file.patterns p at) fit holds),
+            );
+        parameters = sample_told false asked.json file pick r.sample r.verdicts text made asked.budget.nodes r.is_sample;
       }
 
-  -- `verify` with status 0, 1 or 2
+  pub rests_exactly : (number : ℕ) (view : View) (asked : RestWords) (written written' : Option (List ℕ)) → RestReportHolds number view asked written written'
+      → EachReportedAtRest asked view written written'
+  rests_exactly number view asked written written' r =
+      let file = r.file in
+      let ending = r.ends.ending in
+      let pick = r.pick in
+      let budget = resting asked.budget r.silent in
+      let Fact = EndingVerdictHolds file ending r.ends.added budget in
+      let text = report_of true asked.json file pick r.sample r.verdicts in
+      let made : IsReportOf true asked.json file pick r.sample r.verdicts text = record {
+        sample_fits = r.is_sample.fits;
+        count = r.are.each;
+        fit = r.are.fit;
+        is = refl;
+      } in
+      let counts = picked_count pick ending.patterns file.patterns (endings_count file.patterns ending.patterns r.are_ends.endings.patterns) in
+      let once : (ws : List Verdict) → EachHolds Fact (first_picked pick) (picked pick ending.patterns) ws → AllByRecursion (VerdictFits file) ws
+      → r.verdicts ≡ ws =
+      λ ws hold fits. rest_verdicts_once file ending r.ends.added pick budget r.are_ends.endings r.verdicts ws r.are (record {
+        each = as_many Fact (first_picked pick) (picked pick ending.patterns) ws hold ∙ counts;
+        hold = hold;
+        fit = fits;
+      }) in
+      record {
+        file = file;
+        holds = holds_file view asked.file r.file r.is_file;
+        ends = r.ends;
+        are_ends = r.are_ends;
+        silent = r.silent;
+        are_silent = r.are_silent;
+        pick = pick;
+        is_pick = r.is_pick;
+        text = text;
+        gained = r.wrote;
+        verdict = λ k own p v at there named fit.
+            let told = verdict_told true asked.json file pick r.sample r.verdicts text made k v in (
+              λ gives. held_entry Fact pick ending.patterns r.verdicts r.are.hold k p v there (told.0 gives) own at,
+              λ holds. told.1 (given Fact file pick ending.patterns r.verdicts once r.are.hold r.are.fit k p v
+                  (named_place pick k (picks_named file asked.pattern pick r.is_pick k own at named) ending.patterns p there) fit
+                  (λ other is. subst (λ (q : Pattern). RestVerdictHolds file ending r.ends.added budget k q p v) (same_some own other (sym at ∙ is)) holds)),
+            );
+        parameters = sample_told true asked.json file pick r.sample r.verdicts text made asked.budget.nodes r.is_sample;
+      }
+
+  -- `verify` and `rest` with status 0, 1 or 2
   pub reported_exactly : (words : List (List ℕ)) (number : ℕ) (before after : State) → Runs (request_of words) number before after
       → ReportsExactly number words before.shelf.files before.shelf.calls after.shelf.calls before.out.written after.out.written
-  reported_exactly words number before after h asked is low =
-      gives_some words number before after h (verify_meaning asked) (as_verify words number before after h asked is) low
-      (λ view. EachReported asked view before.out.written after.out.written)
-      (λ view made a. reports_exactly number view asked before.out.written after.out.written (reported words number before after h asked view made a))
+  reported_exactly words number before after h = record {
+    verify = λ asked is low.
+        gives_some words number before after h (verify_meaning asked) (as_verify words number before after h asked is) low
+        (λ view. EachReported asked view before.out.written after.out.written)
+        (λ view made a. reports_exactly number view asked before.out.written after.out.written (reported words number before after h asked view made a));
+    rest = λ asked is low.
+        gives_rest words number before after h asked is low (λ view. EachReportedAtRest asked view before.out.written after.out.written)
+        (λ view r. rests_exactly number view asked before.out.written after.out.written r);
+  }

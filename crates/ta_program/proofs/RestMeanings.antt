@@ -1,5 +1,15 @@
 -- what `rest` and `rest-check` say grows with what is seen, and known files leave one number
-use Rattle.ta_program.proofs.Common.{true, ◌≡◌, ◌∙◌, ℕ, List, [], length, Option, None, Some, refl, sym, ap, subst, inl, inr, arith, IsSome, cases_order, Automaton, File, FirstLongerCycle, claiming_with, one_legal, Verdict, RestCertificateOf, Told, Decides, IsSo, Meaning, put_bytes, in_files, Answer, finds, replies, after_monotone, finds_monotone, finds_one, no_hindrance, one_number, replies_monotone, replies_one, settles_monotone, Monotone, whole_one, PassesWhere, may_put, certificate_kind, file_kind, HindersRest, LongRest, RestReports, rest_meaning, rest_report_meaning, quietly_meaning, rest_check_meaning, rest_proved_meaning, AreSilent, LegalSilently, NamesHinder, CycleHinders, FileEndings, IsEnds, LegalAtRest, with_ends, verdicts_number, Budget, RestBudget, resting, rest_quietly, with_silent, at_ends, spared_decides, spared_passes}
+use Rattle.ta_program.proofs.Common.{true, ◌≡◌, ◌∙◌, ℕ, List, [], length, Option, None, Some, refl, sym, ap, subst, inl, inr, arith, IsSome, cases_order}
+use Rattle.ta_program.proofs.Common.{Automaton, File, FirstLongerCycle, claiming_with, one_legal, Verdict, RestCertificateOf, Told, Decides, IsSo, Meaning}
+use Rattle.ta_program.proofs.Common.{put_bytes, in_files, Answer, finds, replies, after_monotone, finds_monotone, finds_one, no_hindrance, one_number}
+use Rattle.ta_program.proofs.Common.{replies_monotone, replies_one, settles_monotone, Monotone, whole_one, PassesWhere, may_put, certificate_kind, file_kind}
+use Rattle.ta_program.proofs.Common.{HindersRest, LongRest, RestReports, rest_meaning, rest_report_meaning, quietly_meaning, rest_check_meaning}
+use Rattle.ta_program.proofs.Common.{rest_proved_meaning, AreSilent, LegalSilently, NamesHinder, CycleHinders, FileEndings, IsEnds, LegalAtRest, with_ends}
+use Rattle.ta_program.proofs.Common.{RestBudget, resting, rest_picked, rest_quietly, with_silent, at_ends, spared_decides, spared_passes, AreRestVerdicts}
+use Rattle.ta_program.proofs.Common.{LegalRest, Pick, Put, ReportSample, RestWords, report_number}
+use Rattle.ta_program.specs.Rest.{PutsRest}
+use Rattle.ta_program.proofs.PatternPicks.{pick_monotone, pick_one, pick_passes}
+use Rattle.ta_verdict.proofs.SamplesMade.{samples_once}
 use Rattle.ta_claim.specs.declared.claim.Claim.TheVariants.{RestSafe}
 use Rattle.ta_verdict.proofs.rest.VerdictsOnce.{verdicts_once}
 use Rattle.ta_verdict.proofs.rest.CertificatesOnce.{rest_certificates_once}
@@ -10,10 +20,10 @@ use Rattle.ta_program.specs.declared.proof_options.ProofOptions.{ProofOptions}
 use Rattle.ta_program.proofs.EndsOnce.{ends_once}
 use Rattle.ta_program.proofs.SilentPlaces.{silent_fits, silent_number, silent_once}
 use Rattle.ta_program.proofs.Meanings.{file_decides, second_passes}
-use Rattle.ta_report.specs.declared.pick.Pick.TheVariants.{All}
 
 -- a longer cycle has one first rule, and there is none where there are endings
-cycle_number : (name : List ℕ) (file : File) (number other : ℕ) (line words : List ℕ) → CycleHinders name file number line → CycleHinders name file other words → number ≡ other
+cycle_number : (name : List ℕ) (file : File) (number other : ℕ) (line words : List ℕ) → CycleHinders name file number line → CycleHinders name file other words
+    → number ≡ other
 cycle_number name file number other line words h k = h.numbered ∙ sym k.numbered
 
 pub no_cycle : (name : List ℕ) (file : File) (ends : FileEndings) (number : ℕ) (line : List ℕ) → IsEnds file ends → ¬ CycleHinders name file number line
@@ -28,34 +38,42 @@ cycle_rule a r q x y = elim (cases_order r q) [
 ]
 
 -- of commands that look for the endings of FILE
-module _ (name : List ℕ) (puts : List (List ℕ)) (rest : File → FileEndings → Meaning) (rests : (file : File) (ends : FileEndings) → Monotone (rest file ends)) where
-  pub ends_monotone : (file : File) → Monotone (finds (IsEnds file) (CycleHinders name file) puts (rest file))
-  ends_monotone file = finds_monotone (IsEnds file) (CycleHinders name file) puts (rest file) (rests file)
+module _ (name : List ℕ) (puts : List (List ℕ)) (rest : File → FileEndings → Meaning) (rests : (file : File) (ends : FileEndings) → Monotone (rest file ends))
+  where
+    pub ends_monotone : (file : File) → Monotone (finds (IsEnds file) (CycleHinders name file) puts (rest file))
+    ends_monotone file = finds_monotone (IsEnds file) (CycleHinders name file) puts (rest file) (rests file)
 
-  pub ends_decides : ((file : File) (ends : FileEndings) → IsEnds file ends → (told : Told) (number other : ℕ) → IsSo (rest file ends) (in_files told) number → IsSo (rest file ends) (in_files told) other → number ≡ other) → Decides (with_ends name puts rest)
-  ends_decides ones =
-      file_decides name puts (λ file. finds (IsEnds file) (CycleHinders name file) puts (rest file)) ends_monotone (λ file told.
-      finds_one (IsEnds file) (CycleHinders name file) puts (rest file) (in_files told) (cycle_number name file) (λ ends number line is. no_cycle name file ends number line is) (λ d e is are number other so so'.
-      ones file d is told number other so (subst (λ (x : FileEndings). IsSo (rest file x) (in_files told) other) (sym (ends_once file d e is are)) so')))
+    pub ends_decides : ((file : File) (ends : FileEndings) → IsEnds file ends → (told : Told) (number other : ℕ) → IsSo (rest file ends) (in_files told) number
+        → IsSo (rest file ends) (in_files told) other → number ≡ other) → Decides (with_ends name puts rest)
+    ends_decides ones =
+        file_decides name puts (λ file. finds (IsEnds file) (CycleHinders name file) puts (rest file)) ends_monotone (λ file told.
+        finds_one (IsEnds file) (CycleHinders name file) puts (rest file) (in_files told) (cycle_number name file)
+        (λ ends number line is. no_cycle name file ends number line is) (λ d e is are number other so so'.
+        ones file d is told number other so (subst (λ (x : FileEndings). IsSo (rest file x) (in_files told) other) (sym (ends_once file d e is are)) so')))
 
-  -- a legal FILE without longer cycles is never refused with 3, if what comes then never is
-  pub ends_passes_where : (L : Told → Type 0) → ((told : Told) → L told → (legal : LegalAtRest name told) × ((ends : FileEndings) (line : List ℕ) → ¬ (rest legal.file ends).refuses (in_files told) 3 line)) → PassesWhere L (with_ends name puts rest)
-  ends_passes_where L at_rest told line l refuses =
-      let legal = (at_rest told l).0 in
-      let never = (at_rest told l).1 in
-      elim refuses [
-        | inl own ↦ no_hindrance file_kind name puts (λ file. finds (IsEnds file) (CycleHinders name file) puts (rest file)) ends_monotone told (λ bytes f fault legal found. legal.no_fault fault found) legal.file 3 line legal.is_file own
-        | inr r ↦
-            let is = legal.is_file in
-            let same : r.0 ≡ legal.file = one_legal is.bytes r.0 legal.file (subst (λ (bytes : List ℕ). file_kind.means bytes r.0) (whole_one told name file_kind.limit.bytes r.1.bytes is.bytes r.1.had is.had) r.1.means) is.means in
-            elim r.2 [
-              | inl cycle ↦
-                  let here = subst (λ (f : File). CycleHinders name f 3 line) same cycle in
-                  let found = here.first.cycle in
-                  found.apart (legal.loops here.rule here.first.rule here.first.named found.walk found.back)
-              | inr later ↦ never later.0 line (subst (λ (f : File). (rest f later.0).refuses (in_files told) 3 line) same later.2)
-            ]
-      ]
+    -- a legal FILE without longer cycles is never refused with 3, if what comes then never is
+    pub ends_passes_where : (L : Told → Type 0) →
+        ((told : Told) → L told → (legal : LegalAtRest name told)
+        × ((ends : FileEndings) (line : List ℕ) → ¬ (rest legal.file ends).refuses (in_files told) 3 line)) → PassesWhere L (with_ends name puts rest)
+    ends_passes_where L at_rest told line l refuses =
+        let legal = (at_rest told l).0 in
+        let never = (at_rest told l).1 in
+        elim refuses [
+          | inl own ↦ no_hindrance file_kind name puts (λ file. finds (IsEnds file) (CycleHinders name file) puts (rest file)) ends_monotone told
+              (λ bytes f fault legal found. legal.no_fault fault found) legal.file 3 line legal.is_file own
+          | inr r ↦
+              let is = legal.is_file in
+              let same : r.0 ≡ legal.file = one_legal is.bytes r.0 legal.file
+              (subst (λ (bytes : List ℕ). file_kind.means bytes r.0) (whole_one told name file_kind.limit.bytes r.1.bytes is.bytes r.1.had is.had) r.1.means)
+              is.means in
+              elim r.2 [
+                | inl cycle ↦
+                    let here = subst (λ (f : File). CycleHinders name f 3 line) same cycle in
+                    let found = here.first.cycle in
+                    found.apart (legal.loops here.rule here.first.rule here.first.named found.walk found.back)
+                | inr later ↦ never later.0 line (subst (λ (f : File). (rest f later.0).refuses (in_files told) 3 line) same later.2)
+              ]
+        ]
 
 -- of commands that look for the places of names
 module _ (name : List ℕ) (names : Option (List ℕ)) (puts : List (List ℕ)) (file : File) (rest : List ℕ → Meaning) where
@@ -65,7 +83,8 @@ module _ (name : List ℕ) (names : Option (List ℕ)) (puts : List (List ℕ)) 
   pub names_one :
       (told : Told)
       → ((places : List ℕ) (number other : ℕ) → IsSo (rest places) (in_files told) number → IsSo (rest places) (in_files told) other → number ≡ other)
-      → (number other : ℕ) → IsSo (with_silent name names puts file rest) (in_files told) number → IsSo (with_silent name names puts file rest) (in_files told) other
+      → (number other : ℕ) → IsSo (with_silent name names puts file rest) (in_files told) number
+      → IsSo (with_silent name names puts file rest) (in_files told) other
       → number ≡ other
   names_one told ones =
       let a = file.automaton in
@@ -84,89 +103,130 @@ module _ (name : List ℕ) (names : Option (List ℕ)) (puts : List (List ℕ)) 
     | inr r ↦ never r.0 r.2
   ]
 
-pub rest_report_monotone : (budget : RestBudget) (out : Option (List ℕ)) (file : File) (ends : FileEndings) → Monotone (rest_report_meaning budget out file ends)
-rest_report_monotone budget out file ends = settles_monotone (may_put out) (RestReports file ends budget out) (HindersRest file ends budget out)
+-- of what `rest` is asked for
+module _ (asked : RestWords) where
+  pub rest_report_monotone : (file : File) (ends : FileEndings) (budget : RestBudget) (pick : Pick) → Monotone (rest_report_meaning asked file ends budget pick)
+  rest_report_monotone file ends budget pick = settles_monotone (may_put asked.out) (RestReports asked file ends budget pick)
+      (HindersRest file ends budget pick asked.out)
+
+  pub rest_picked_monotone : (file : File) (ends : FileEndings) (budget : RestBudget) → Monotone (rest_picked asked file ends budget)
+  rest_picked_monotone file ends budget = pick_monotone asked.file asked.pattern (may_put asked.out) file (rest_report_meaning asked file ends budget)
+      (rest_report_monotone file ends budget)
+
+  pub rest_quietly_monotone : (file : File) (ends : FileEndings) → Monotone (rest_quietly asked file ends)
+  rest_quietly_monotone file ends =
+      names_monotone asked.file asked.silent (may_put asked.out) file (λ places. rest_picked asked file ends (resting asked.budget places))
+      (λ places. rest_picked_monotone file ends (resting asked.budget places))
 
 -- only a certificate that is too long hinders a report at rest, with 4
-pub hinders_rest : (file : File) (ends : FileEndings) (budget : RestBudget) (out : Option (List ℕ)) (number : ℕ) (line : List ℕ) → HindersRest file ends budget out number line → (number ≡ 4) × IsSome out × LongRest file ends budget
-hinders_rest file ends budget None number line h = absurd h
-hinders_rest file ends budget (Some out) number line h = (h.numbered, refl, h.long)
+pub hinders_rest : (file : File) (ends : FileEndings) (budget : RestBudget) (pick : Pick) (out : Option (List ℕ)) (number : ℕ) (line : List ℕ)
+    → HindersRest file ends budget pick out number line → (number ≡ 4) × IsSome out × LongRest file ends budget pick
+hinders_rest file ends budget pick None number line h = absurd h
+hinders_rest file ends budget pick (Some out) number line h = (h.numbered, refl, h.long)
 
 -- no certificate is both put and too long
-not_both : (file : File) (ends : FileEndings) (budget : RestBudget) (out : Option (List ℕ)) (answer : Answer) (number : ℕ) (line : List ℕ) → IsEnds file ends → RestReports file ends budget out answer → HindersRest file ends budget out number line → ⊥
-not_both file ends budget None answer number line is r h = h
-not_both file ends budget (Some out) answer number line is r h =
+not_both :
+    (file : File) (ends : FileEndings) (budget : RestBudget) (pick : Pick) → IsEnds file ends → (vs : List Verdict)
+    → AreRestVerdicts file ends.ending ends.added pick budget vs
+    → (out : Option (List ℕ)) (puts : List Put) (number : ℕ) (line : List ℕ) → PutsRest ends.ending pick budget vs out puts
+    → HindersRest file ends budget pick out number line → ⊥
+not_both file ends budget pick is vs are None puts number line p h = h
+not_both file ends budget pick is vs are (Some out) puts number line p h =
     let long = h.long in
-    let puts = r.puts in
-    let verdicts = verdicts_once file ends.ending ends.added All budget is.endings r.verdicts long.verdicts r.are long.are in
-    let own = subst (λ (vs : List Verdict). RestCertificateOf ends.ending All budget vs (put_bytes puts.put)) verdicts puts.certificate in
-    let same = rest_certificates_once ends.ending All budget long.verdicts (put_bytes puts.put) long.text own long.certificate in
-    let within = puts.within in
+    let verdicts = verdicts_once file ends.ending ends.added pick budget is.endings vs long.verdicts are long.are in
+    let own = subst (λ (ws : List Verdict). RestCertificateOf ends.ending pick budget ws (put_bytes p.put)) verdicts p.certificate in
+    let same = rest_certificates_once ends.ending pick budget long.verdicts (put_bytes p.put) long.text own long.certificate in
+    let within = p.within in
     let longer = long.longer in
     omega (arith, ap length same)
 
-rest_one : (budget : RestBudget) (out : Option (List ℕ)) (file : File) (ends : FileEndings) → IsEnds file ends → (told : Told) (number other : ℕ) → IsSo (rest_report_meaning budget out file ends) (in_files told) number → IsSo (rest_report_meaning budget out file ends) (in_files told) other → number ≡ other
-rest_one budget out file ends is told number other so so' = elim so [
+-- a report has one number
+number_once :
+    (asked : RestWords) (file : File) (ends : FileEndings) (budget : RestBudget) (pick : Pick) → IsEnds file ends → (answer other : Answer)
+    → RestReports asked file ends budget pick answer → RestReports asked file ends budget pick other → answer.number ≡ other.number
+number_once asked file ends budget pick is answer other a b =
+    let samples = samples_once file budget.nodes a.sample b.sample a.is_sample b.is_sample in
+    let verdicts = verdicts_once file ends.ending ends.added pick budget is.endings a.verdicts b.verdicts a.are b.are in
+    a.numbered ∙ ap (λ (s : ReportSample). report_number asked.all s a.verdicts) samples ∙ ap (report_number asked.all b.sample) verdicts ∙ sym b.numbered
+
+rest_one : (asked : RestWords) (file : File) (ends : FileEndings) → IsEnds file ends → (budget : RestBudget) (pick : Pick) (told : Told) (number other : ℕ)
+    → IsSo (rest_report_meaning asked file ends budget pick) (in_files told) number
+    → IsSo (rest_report_meaning asked file ends budget pick) (in_files told) other → number ≡ other
+rest_one asked file ends is budget pick told number other so so' = elim so [
   | inl a ↦ elim so' [
-    | inl b ↦ sym a.1 ∙ (a.2.numbered ∙ ap verdicts_number (verdicts_once file ends.ending ends.added All budget is.endings a.2.verdicts b.2.verdicts a.2.are b.2.are) ∙ sym b.2.numbered) ∙ b.1
-    | inr r ↦ absurd (not_both file ends budget out a.0 other r.0 is a.2 r.1)
+    | inl b ↦ sym a.1 ∙ number_once asked file ends budget pick is a.0 b.0 a.2 b.2 ∙ b.1
+    | inr r ↦ absurd (not_both file ends budget pick is a.2.verdicts a.2.are asked.out a.0.puts other r.0 a.2.puts r.1)
   ]
   | inr q ↦ elim so' [
-    | inl b ↦ absurd (not_both file ends budget out b.0 number q.0 is b.2 q.1)
-    | inr r ↦ (hinders_rest file ends budget out number q.0 q.1).0 ∙ sym (hinders_rest file ends budget out other r.0 r.1).0
+    | inl b ↦ absurd (not_both file ends budget pick is b.2.verdicts b.2.are asked.out b.0.puts number q.0 b.2.puts q.1)
+    | inr r ↦ (hinders_rest file ends budget pick asked.out number q.0 q.1).0 ∙ sym (hinders_rest file ends budget pick asked.out other r.0 r.1).0
   ]
 ]
 
-pub rest_quietly_monotone :
-    (name : List ℕ) (budget : Budget) (out names : Option (List ℕ)) (file : File) (ends : FileEndings) → Monotone (rest_quietly name budget out names file ends)
-rest_quietly_monotone name budget out names file ends =
-    names_monotone name names (may_put out) file (λ places. rest_report_meaning (resting budget places) out file ends)
-    (λ places. rest_report_monotone (resting budget places) out file ends)
+pub rest_decides : (asked : RestWords) → Decides (rest_meaning asked)
+rest_decides asked =
+    let puts = may_put asked.out in
+    let quietly = rest_quietly asked in
+    let monotone = rest_quietly_monotone asked in
+    spared_decides file_kind asked.file puts (at_ends asked.file puts quietly) (ends_monotone asked.file puts quietly monotone)
+    (λ bytes file fault legal found. legal.no_fault fault found)
+    (ends_decides asked.file puts quietly monotone (λ file ends is told.
+    names_one asked.file asked.silent puts file (λ places. rest_picked asked file ends (resting asked.budget places)) told (λ places.
+    pick_one asked.file asked.pattern puts file (rest_report_meaning asked file ends (resting asked.budget places)) told (λ pick.
+    rest_one asked file ends is (resting asked.budget places) pick told))))
 
-pub rest_decides : (name : List ℕ) (budget : Budget) (out names : Option (List ℕ)) → Decides (rest_meaning name budget out names)
-rest_decides name budget out names =
-    let quietly = rest_quietly name budget out names in
-    let monotone = rest_quietly_monotone name budget out names in
-    spared_decides file_kind name (may_put out) (at_ends name (may_put out) quietly) (ends_monotone name (may_put out) quietly monotone) (λ bytes file fault legal found. legal.no_fault fault found)
-    (ends_decides name (may_put out) quietly monotone (λ file ends is told.
-    names_one name names (may_put out) file (λ places. rest_report_meaning (resting budget places) out file ends) told (λ places.
-    rest_one (resting budget places) out file ends is told)))
-
--- where the names may be silent neither they nor the certificate hinder with 3
-pub rest_passes : (name : List ℕ) (budget : Budget) (out names : Option (List ℕ)) → PassesWhere (LegalSilently name names) (rest_meaning name budget out names)
-rest_passes name budget out names told line legal =
-    spared_passes file_kind name (may_put out) (at_ends name (may_put out) (rest_quietly name budget out names)) (in_files told) line
-    (ends_passes_where name (may_put out) (rest_quietly name budget out names) (rest_quietly_monotone name budget out names) (LegalSilently name names) (λ told legal. (
-      record { file = legal.file; is_file = legal.is_file; loops = legal.loops },
-      λ ends line. names_pass name names (may_put out) legal.file (λ places. rest_report_meaning (resting budget places) out legal.file ends) told legal.places legal.are_silent line (λ found hinders.
-          let four = (hinders_rest legal.file ends (resting budget found) out 3 line hinders).0 in
-          absurd (omega (arith, four))),
+-- where the names may be silent and the pattern is there, neither they nor the certificate hinder with 3
+pub rest_passes : (asked : RestWords) → PassesWhere (LegalRest asked) (rest_meaning asked)
+rest_passes asked told line legal =
+    let puts = may_put asked.out in
+    spared_passes file_kind asked.file puts (at_ends asked.file puts (rest_quietly asked)) (in_files told) line
+    (ends_passes_where asked.file puts (rest_quietly asked) (rest_quietly_monotone asked) (LegalRest asked) (λ told legal.
+    let quiet = legal.silently in (
+      record { file = quiet.file; is_file = quiet.is_file; loops = quiet.loops },
+      λ ends line. names_pass asked.file asked.silent puts quiet.file (λ places. rest_picked asked quiet.file ends (resting asked.budget places)) told
+          quiet.places quiet.are_silent line (λ places.
+          pick_passes asked.file asked.pattern puts quiet.file (rest_report_meaning asked quiet.file ends (resting asked.budget places)) told legal.pick
+          legal.is_pick line (λ found hinders.
+          let four = (hinders_rest quiet.file ends (resting asked.budget places) found asked.out 3 line hinders).0 in
+          absurd (omega (arith, four)))),
     )) told line legal)
 
-pub rest_proved_monotone : (name : List ℕ) (options : ProofOptions) (file : File) (ends : FileEndings) (silent : List ℕ) → Monotone (rest_proved_meaning name options file ends silent)
+pub rest_proved_monotone : (name : List ℕ) (options : ProofOptions) (file : File) (ends : FileEndings) (silent : List ℕ)
+    → Monotone (rest_proved_meaning name options file ends silent)
 rest_proved_monotone name options file ends silent =
-    after_monotone (certificate_kind (claiming_with RestSafe ends.ending silent)) name [] (λ numbers. replies [] (SaysProofs true file options numbers)) (λ numbers. replies_monotone [] (SaysProofs true file options numbers))
+    after_monotone (certificate_kind (claiming_with RestSafe ends.ending silent)) name [] (λ numbers. replies [] (SaysProofs true file options numbers))
+    (λ numbers. replies_monotone [] (SaysProofs true file options numbers))
 
-pub quietly_monotone : (name certificate : List ℕ) (names : Option (List ℕ)) (options : ProofOptions) (file : File) (ends : FileEndings) → Monotone (quietly_meaning name certificate names options file ends)
-quietly_monotone name certificate names options file ends = names_monotone name names [] file (rest_proved_meaning certificate options file ends) (rest_proved_monotone certificate options file ends)
+pub quietly_monotone : (name certificate : List ℕ) (names : Option (List ℕ)) (options : ProofOptions) (file : File) (ends : FileEndings)
+    → Monotone (quietly_meaning name certificate names options file ends)
+quietly_monotone name certificate names options file ends = names_monotone name names [] file (rest_proved_meaning certificate options file ends)
+    (rest_proved_monotone certificate options file ends)
 
-proved_one : (certificate : List ℕ) (options : ProofOptions) (file : File) (ends : FileEndings) (silent : List ℕ) (told : Told) (number other : ℕ) → IsSo (rest_proved_meaning certificate options file ends silent) (in_files told) number → IsSo (rest_proved_meaning certificate options file ends silent) (in_files told) other → number ≡ other
+proved_one : (certificate : List ℕ) (options : ProofOptions) (file : File) (ends : FileEndings) (silent : List ℕ) (told : Told) (number other : ℕ)
+    → IsSo (rest_proved_meaning certificate options file ends silent) (in_files told) number
+    → IsSo (rest_proved_meaning certificate options file ends silent) (in_files told) other → number ≡ other
 proved_one certificate options file ends silent told =
-    one_number (certificate_kind (claiming_with RestSafe ends.ending silent)) certificate [] (λ numbers. replies [] (SaysProofs true file options numbers)) (λ numbers. replies_monotone [] (SaysProofs true file options numbers)) told
+    one_number (certificate_kind (claiming_with RestSafe ends.ending silent)) certificate [] (λ numbers. replies [] (SaysProofs true file options numbers))
+    (λ numbers. replies_monotone [] (SaysProofs true file options numbers)) told
     (λ bytes numbers fault proves found. found.no_certificate numbers proves.accepted)
     (λ bytes v w m n. replies_one [] (SaysProofs true file options v) (SaysProofs true file options w) (in_files told)
     (λ a b x y. says_number true file options v w (one_list (claiming_with RestSafe ends.ending silent) bytes v w m.accepted n.accepted) a b x y))
 
-pub rest_check_decides : (name certificate : List ℕ) (names : Option (List ℕ)) (options : ProofOptions) → Decides (rest_check_meaning name certificate names options)
+pub rest_check_decides : (name certificate : List ℕ) (names : Option (List ℕ)) (options : ProofOptions)
+    → Decides (rest_check_meaning name certificate names options)
 rest_check_decides name certificate names options =
     ends_decides name [] (quietly_meaning name certificate names options) (quietly_monotone name certificate names options) (λ file ends is told.
     names_one name names [] file (rest_proved_meaning certificate options file ends) told (λ places. proved_one certificate options file ends places told))
 
 -- where the names may be silent neither they nor CERT hinder with 3
-pub rest_check_passes : (name certificate : List ℕ) (names : Option (List ℕ)) (options : ProofOptions) → PassesWhere (LegalSilently name names) (rest_check_meaning name certificate names options)
+pub rest_check_passes : (name certificate : List ℕ) (names : Option (List ℕ)) (options : ProofOptions)
+    → PassesWhere (LegalSilently name names) (rest_check_meaning name certificate names options)
 rest_check_passes name certificate names options =
-    ends_passes_where name [] (quietly_meaning name certificate names options) (quietly_monotone name certificate names options) (LegalSilently name names) (λ told legal. (
+    ends_passes_where name [] (quietly_meaning name certificate names options) (quietly_monotone name certificate names options) (LegalSilently name names)
+    (λ told legal. (
       record { file = legal.file; is_file = legal.is_file; loops = legal.loops },
-      λ ends line. names_pass name names [] legal.file (rest_proved_meaning certificate options legal.file ends) told legal.places legal.are_silent line (λ places.
-          second_passes (certificate_kind (claiming_with RestSafe ends.ending places)) certificate (λ numbers. replies [] (SaysProofs true legal.file options numbers)) refl (λ numbers view line none. none) (in_files told) line),
+      λ ends line. names_pass name names [] legal.file (rest_proved_meaning certificate options legal.file ends) told legal.places legal.are_silent line
+          (λ places.
+          second_passes (certificate_kind (claiming_with RestSafe ends.ending places)) certificate
+          (λ numbers. replies [] (SaysProofs true legal.file options numbers)) refl (λ numbers view line none. none) (in_files told) line),
     ))

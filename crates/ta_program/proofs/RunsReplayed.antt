@@ -1,5 +1,5 @@
 -- What is printed as a run `replay` shows.
-use Rattle.ta_program.proofs.Common.{◌≡◌, ◌⊎◌, inl, ℕ, Bool, List, [], Option, Some, refl, sym, ◌∙◌, subst, length, ◌≤◌, File, Run, shown_of, report_of, Told, Answer, Performs, State, in_files, seen, FileMeans, RUN, IsFile, ShowsRun, run_kind, PrintedRunsAreReplayed, SaysShown, replay_meaning, ReportHolds, resting, All, false}
+use Rattle.ta_program.proofs.Common.{◌≡◌, ◌⊎◌, inl, ℕ, Bool, List, [], Option, Some, refl, sym, ◌∙◌, subst, length, ◌≤◌, File, Run, shown_of, report_of, Told, Answer, Performs, State, in_files, seen, FileMeans, RUN, IsFile, ShowsRun, run_kind, PrintedRunsAreReplayed, SaysShown, replay_meaning, ReportHolds, resting, false, true}
 use Rattle.ta_program.proofs.AtRest.{rest_unsafe_printed}
 use Rattle.ta_program.proofs.Clauses.{admitting, as_replay, loud_by_words, rests_report, run_shortens, verify_reports}
 use Rattle.ta_program.proofs.Meanings.{replay_decides}
@@ -8,7 +8,6 @@ use Rattle.ta_program.proofs.Common.{AdmitHolds, Call, CompressHolds, run_text}
 use Rattle.ta_program.specs.Laws.{AdmittedRunsAreReplayed, CompressedRunsAreReplayed, IsReplayed, PrintedRestRunsAreReplayed}
 use Rattle.ta_program.specs.Rest.{RestReportHolds}
 use Rattle.ta_report.specs.CheckJson.{shown_text}
-use Rattle.ta_report.specs.Report.{rest_text}
 
 -- the answer that a run shows its pattern
 shown_answer : (json : Bool) (file : File) (run : Run) (bytes : List ℕ) → ShowsRun file bytes run → (answer : Answer) × (answer.number ≡ 0) × SaysShown file json run answer
@@ -58,10 +57,10 @@ rest_runs_replayed words number before after h asked asks low told is =
     let r = subst (λ (files : Option Told). RestReportHolds number (seen files reports.read) asked before.out.written after.out.written) is reports.such in
     record {
       file = r.file;
-      text = rest_text r.file All r.sample r.verdicts;
+      text = report_of true asked.json r.file r.pick r.sample r.verdicts;
       gained = r.wrote;
       replayed = λ k p named line bytes part.
-          let printed = rest_unsafe_printed asked.silent false r.file r.ends.ending r.ends.added All (resting asked.budget r.silent) r.are_silent (loud_by_words words number before after h asked asks r.file r.silent r.are_silent) r.sample r.is_sample r.verdicts r.are k p named line in
+          let printed = rest_unsafe_printed asked.silent asked.json r.file r.ends.ending r.ends.added r.pick (resting asked.budget r.silent) r.are_silent (loud_by_words words number before after h asked asks r.file r.silent r.are_silent) r.sample r.is_sample r.verdicts r.are k p named line in
           let same = sym (printed.only bytes part) in
           replays told name r.file printed.run bytes (told_file told reports.read name r.file r.is_file) (subst (λ (bs : List ℕ). ShowsRun r.file bs printed.run) same printed.shows) (subst (λ (bs : List ℕ). length bs ≤ RUN.bytes) same printed.within);
     }

@@ -1,23 +1,21 @@
 -- what a run says of the file that `show` prints
 use Rattle.ta_program.proofs.Common.{arith, ◌≡◌, ◌≤◌, ◌∙◌, ◌++◌, ◌∷◌, ℕ, Bool, true, false, List, [], Option, None, Some, refl, sym, ap, subst, map, codes}
-use Rattle.ta_program.proofs.Common.{append_assoc, option_map, option_and_then_some, AllByRecursion, nat_lt, length, is_some}
+use Rattle.ta_program.proofs.Common.{append_assoc, option_map, option_and_then_some, AllByRecursion, nat_lt, length}
 use Rattle.ta_program.proofs.Common.{Acts, Call, LegalFile, LegalSilently, CheckHolds, Event, IsFile, Meaning, PutCall, ReplayHolds, ReportHolds}
 use Rattle.ta_program.proofs.Common.{RestCheckHolds, RestReportHolds, Runs, ShowHolds, State, Told, View, ask_where, pair_of, reads, reads-append, report_of}
-use Rattle.ta_program.proofs.Common.{request_of, rest_text, seen, where_told, with_text}
-use Rattle.ta_program.proofs.Common.{File, ReportSample, Verdict, RestCheckWords, RestWords, VerifyWords, budget_of, check_meaning, file_name_of, one_legal, option_value, out_of, plain_of, quiet_names, replay_meaning, rest_check_meaning, rest_check_of, rest_check_words, rest_meaning, rest_of, rest_taken, rest_words, show_meaning, show_of, show_words, shown_of, taken_by, unit_steps, verify_meaning}
+use Rattle.ta_program.proofs.Common.{request_of, seen, where_told, with_text}
+use Rattle.ta_program.proofs.Common.{File, RestCheckWords, RestWords, VerifyWords, budget_of, check_meaning, file_name_of, one_legal, option_value, out_of, plain_of, quiet_names, replay_meaning, rest_check_meaning, rest_check_of, rest_check_words, rest_meaning, rest_of, rest_taken, rest_words, show_meaning, show_of, show_words, shown_of, taken_by, unit_steps, verify_meaning}
 use Rattle.ta_program.proofs.Common.{verify_of, verify_taken, verify_words, rest_form, verify_form}
 use Rattle.std.proofs.lemmas.Option.{cond_some, none-some}
 use Rattle.ta_automaton.specs.Runs as runs
 use Rattle.ta_replay.proofs.Occurring.{shown_occurs}
-use Rattle.ta_report.specs.Printed.{HasLine, told_of}
-use Rattle.ta_report.specs.Telling.{TellsSafe, TellsUnsafe}
 use Rattle.ta_shelf.specs.Calls.{puts}
 use Rattle.ta_shell.specs.Sights.{Whole}
 use Rattle.ta_show.proofs.FileTells.{file_same}
 use Rattle.ta_show.specs.Unknowns.{unknowns_text}
 use Rattle.ta_program.proofs.Clauses.{ZeroSays, as_check, as_replay, as_rest, as_rest_check, as_show, as_verify, at_rest, gives_some, proved, reported, rest_checked, shown, shown_file, line_proved, line_rest_proved, tells_rest_safe, tells_safe, picked_safe}
 use Rattle.ta_program.proofs.FirstWord.{first_plain, second_plain, not_behind}
-use Rattle.ta_program.proofs.JsonLines.{no_line_told}
+use Rattle.ta_program.proofs.JsonLines.{tells_by_line, tells_unsafe_by_line}
 use Rattle.ta_program.proofs.NeverResting.{never_rests}
 use Rattle.ta_program.proofs.UnsafePrinted.{unsafe_printed}
 use Rattle.ta_report.specs.CheckJson.{shown_text}
@@ -27,9 +25,8 @@ use Rattle.ta_program.specs.RestWords.{rest_check_form, rest_check_taken}
 use Rattle.ta_program.specs.SilentNames.{names_of}
 use Rattle.ta_program.specs.Understood.{Asks, EachLine, Ended, IsOfAll, NeverRests, OccursSomewhere, Prints, ReadsWhole, RunOccurs, Says, Understood}
 use Rattle.ta_program.specs.Words.{OptionForm, is_dashed, valued}
-use Rattle.ta_program.proofs.Common.{All, EachPicked, LegalPicked, Pick, given_pattern, slice_get}
+use Rattle.ta_program.proofs.Common.{Taken, EachPicked, LegalPicked, LegalRest, slice_get}
 use Rattle.ta_program.proofs.OptionUnset.{option_unset_of}
-use Rattle.ta_report.specs.PrintedRuns.{safe_words, unsafe_words}
 
 -- ---- what words of a command name: right behind the command's name stands FILE
 named_so : (given name file : List ℕ) → given ≡ name → file_name_of given ≡ Some file → file ≡ name
@@ -40,19 +37,19 @@ made_of : {X W : Type 0} (f : X → W) (o : Option X) (asked : W) → option_map
 made_of f None asked is = absurd (none-some asked is)
 made_of f (Some x) asked is = let e : f x ≡ asked = cc in (x, refl, e)
 
+file_taken : (name : List ℕ) (taken : Taken) (asked : VerifyWords) → plain_of taken 0 ≡ name → verify_taken taken ≡ Some asked → asked.file ≡ name
+file_taken name taken asked first is =
+    option_and_then_some _ (file_name_of (plain_of taken 0)) asked is (λ file named file_is.
+    option_and_then_some _ (budget_of (option_value taken 0)) asked file_is (λ nodes counted nodes_is.
+    let made = made_of _ (out_of file (option_value taken 1)) asked nodes_is in
+    sym (ap (λ (w : VerifyWords). w.file) made.2) ∙ named_so (plain_of taken 0) name file first named))
+
 file_of_verify : (name : List ℕ) (more : List (List ℕ)) (asked : VerifyWords) → is_dashed name ≡ false → verify_words (name ∷ more) ≡ Some asked
     → asked.file ≡ name
 file_of_verify name more asked plain is = option_and_then_some verify_taken (taken_by verify_form (name ∷ more)) asked is (λ taken by taken_is.
-    option_and_then_some _ (file_name_of (plain_of taken 0)) asked taken_is (λ file named file_is.
-    option_and_then_some _ (budget_of (option_value taken 0)) asked file_is (λ nodes counted nodes_is.
-    option_and_then_some _ (out_of file (option_value taken 1)) asked nodes_is (λ out put out_is.
-    let made = made_of _ (given_pattern (option_value taken 4)) asked out_is in
-    sym (ap (λ (w : VerifyWords). w.file) made.2) ∙ named_so (plain_of taken 0) name file (first_plain verify_form refl name more taken plain by) named))))
+    file_taken name taken asked (first_plain verify_form refl name more taken plain by) taken_is)
 
 -- where no word begins with `--pattern`, none is asked for alone
-none_given : (o given : Option (List ℕ)) → o ≡ None → given_pattern o ≡ Some given → given ≡ None
-none_given o given none is = let e : Some None ≡ Some given = sym (ap given_pattern none) ∙ is in cc
-
 fifth_option : (o : OptionForm) → slice_get verify_form.options 4 ≡ Some o → o.word ≡ codes "--pattern"
 fifth_option o at = let same : valued (codes "--pattern") ≡ o = cc in sym (ap (λ (f : OptionForm). f.word) same)
 
@@ -60,20 +57,17 @@ of_all : (words : List (List ℕ)) (asked : VerifyWords) → AllByRecursion IsOf
 of_all words asked none is = option_and_then_some verify_taken (taken_by verify_form words) asked is (λ taken by taken_is.
     option_and_then_some _ (file_name_of (plain_of taken 0)) asked taken_is (λ file named file_is.
     option_and_then_some _ (budget_of (option_value taken 0)) asked file_is (λ nodes counted nodes_is.
-    option_and_then_some _ (out_of file (option_value taken 1)) asked nodes_is (λ out put out_is.
-    let made = made_of _ (given_pattern (option_value taken 4)) asked out_is in
+    let made = made_of _ (out_of file (option_value taken 1)) asked nodes_is in
     let unset = option_unset_of (codes "--pattern") 4 verify_form words taken
     (λ i o there e. let four : i ≡ 4 = omega (arith, e) in fifth_option o (subst (λ (n : ℕ). slice_get verify_form.options n ≡ Some o) four there))
     none refl by in
-    sym (ap (λ (w : VerifyWords). w.pattern) made.2) ∙ none_given (option_value taken 4) made.0 unset made.1))))
+    sym (ap (λ (w : VerifyWords). w.pattern) made.2) ∙ unset)))
 
 file_of_rest : (name : List ℕ) (more : List (List ℕ)) (asked : RestWords) → is_dashed name ≡ false → rest_words (name ∷ more) ≡ Some asked → asked.file ≡ name
 file_of_rest name more asked plain is = option_and_then_some rest_taken (taken_by rest_form (name ∷ more)) asked is (λ taken by taken_is.
-    option_and_then_some _ (file_name_of (plain_of taken 0)) asked taken_is (λ file named file_is.
-    option_and_then_some _ (budget_of (option_value taken 0)) asked file_is (λ nodes counted nodes_is.
-    option_and_then_some _ (out_of file (option_value taken 1)) asked nodes_is (λ out given out_is.
-    let made = made_of _ (quiet_names (is_some (option_value taken 2)) (option_value taken 3)) asked out_is in
-    sym (ap (λ (w : RestWords). w.file) made.2) ∙ named_so (plain_of taken 0) name file (first_plain rest_form refl name more taken plain by) named))))
+    option_and_then_some _ (verify_taken taken) asked taken_is (λ v v_is silent_is.
+    let made = made_of _ (quiet_names v.budget.lazy (option_value taken 6)) asked silent_is in
+    sym (ap (λ (w : RestWords). w.file) made.2) ∙ file_taken name taken v (first_plain rest_form refl name more taken plain by) v_is))
 
 file_of_rest_check : (name : List ℕ) (more : List (List ℕ)) (asked : RestCheckWords) → is_dashed name ≡ false → rest_check_words (name ∷ more) ≡ Some asked
     → asked.file ≡ name
@@ -159,17 +153,6 @@ says r Such name view sees file is_file text gained such = record {
       subst (Such text) same such;
 }
 
--- no line of JSON tells of a pattern
-tells_by_line : (rest json : Bool) (file : File) (pick : Pick) (s : ReportSample) (vs : List Verdict) (name : List ℕ)
-    → HasLine (told_of name (safe_words rest)) (report_of rest json file pick s vs) → TellsSafe rest json name (report_of rest json file pick s vs)
-tells_by_line rest true file pick s vs name line = absurd (no_line_told rest file pick s vs name (safe_words rest) line)
-tells_by_line rest false file pick s vs name line = line
-
-tells_unsafe_by_line : (rest json : Bool) (file : File) (pick : Pick) (s : ReportSample) (vs : List Verdict) (name : List ℕ)
-    → HasLine (told_of name (unsafe_words rest)) (report_of rest json file pick s vs) → TellsUnsafe rest json name (report_of rest json file pick s vs)
-tells_unsafe_by_line rest true file pick s vs name line = absurd (no_line_told rest file pick s vs name (unsafe_words rest) line)
-tells_unsafe_by_line rest false file pick s vs name line = line
-
 module _ (words : List (List ℕ)) (number : ℕ) (before after : State) (h : Runs (request_of words) number before after) where
   abbrev ended : Ended
   ended = record {
@@ -221,20 +204,19 @@ module _ (words : List (List ℕ)) (number : ℕ) (before after : State) (h : Ru
 
   of_rest : (Such : List ℕ → File → Type 0) (name : List ℕ) (more : List (List ℕ)) → Asks ended (codes "rest") name more → number ≤ 2
       → ((asked : RestWords) → rest_of words ≡ Some asked → (view : View) (r : RestReportHolds number view asked before.out.written after.out.written)
-      → Such (rest_text r.file All r.sample r.verdicts) r.file)
+      → Such (report_of true asked.json r.file r.pick r.sample r.verdicts) r.file)
       → Says Such ended name
   of_rest Such name more asks low such =
       let so : runs_so (codes "rest" ∷ name ∷ more) = subst runs_so asks.are h in
-      let found = were_asked (λ a. LegalSilently a.file a.silent) (λ a. rest_meaning a.file a.budget a.out a.silent)
-      (rest_words (name ∷ more)) number before after so low in
+      let found = were_asked LegalRest rest_meaning (rest_words (name ∷ more)) number before after so low in
       let asked = found.0 in
       let is : rest_of words ≡ Some asked = ap rest_of asks.are ∙ found.1 in
       let Of : View → Type 0 = λ view. RestReportHolds number view asked before.out.written after.out.written in
       subst (Says Such ended) (file_of_rest name more asked asks.plain found.1)
-      (of_calls ended Of (λ view sees r. says ended Such asked.file view sees r.file r.is_file (rest_text r.file All r.sample r.verdicts) r.wrote
+      (of_calls ended Of (λ view sees r. says ended Such asked.file view sees r.file r.is_file (report_of true asked.json r.file r.pick r.sample r.verdicts) r.wrote
       (such asked is view r))
-      (gives_some words number before after h (rest_meaning asked.file asked.budget asked.out asked.silent)
-      (as_rest words number before after h asked is) low Of (λ view made a. at_rest words number before after h asked asked.out view made a)))
+      (gives_some words number before after h (rest_meaning asked) (as_rest words number before after h asked is) low Of
+      (λ view made a. at_rest words number before after h asked view made a)))
 
   of_rest_check : (Such : List ℕ → File → Type 0) (name : List ℕ) (more : List (List ℕ)) → Asks ended (codes "rest-check") name more → number ≤ 2
       → ((asked : RestCheckWords) (view : View)
@@ -334,7 +316,8 @@ module _ (words : List (List ℕ)) (number : ℕ) (before after : State) (h : Ru
         (λ asked view r. line_proved words number before after h asked.file asked.other asked.options view r);
     rest_safe = λ name more asks low. of_rest (EachLine NeverRests (codes "rest safe, ")) name more asks low (λ asked is view r k p named line.
         never_rests r.is_file.bytes r.file r.is_file.means r.are_ends.loops k p named asked.silent
-        (tells_rest_safe words number before after h asked is view r k p named line));
+        (tells_rest_safe words number before after h asked is view r k p named
+        (tells_by_line true asked.json r.file r.pick r.sample r.verdicts p.name line)));
     rest_proved = λ name more asks low. of_rest_check (EachLine NeverRests (codes "rest proved")) name more asks low (λ asked view r k p named line.
         never_rests r.is_file.bytes r.file r.is_file.means r.are_ends.loops k p named asked.silent
         (line_rest_proved words number before after h asked.file asked.other asked.silent asked.options view r k p named line));

@@ -3,7 +3,6 @@ use Rattle.ta_program.proofs.Common.{Budget, ◌≡◌, ◌≢◌, ◌∙◌, �
 use Rattle.std.proofs.lemmas.Option.{cond_some, none-some}
 use Rattle.ta_base.proofs.Booleans.{not_chosen}
 use Rattle.ta_base.proofs.Options.{some_where}
-use Rattle.ta_program.proofs.Common.{given_pattern}
 
 -- two names that are both given differ
 abbrev pub Apart : Option (List ℕ) → Option (List ℕ) → Type 0
@@ -36,21 +35,23 @@ abbrev budget_with : ℕ → Taken → Budget
 budget_with nodes taken = record { nodes = nodes; lazy = is_some (option_value taken 3) }
 
 made_differs :
-    (file : List ℕ) (out : Option (List ℕ)) → Apart (Some file) out → (budget : Budget) (json all : Bool) (given : Option (Option (List ℕ))) (asked : VerifyWords)
-    → option_map (λ p. record { file = file; budget = budget; out = out; json = json; pattern = p; all = all }) given ≡ Some asked → Differs asked
-made_differs file out apart budget json all None asked is = absurd (none-some asked is)
-made_differs file out apart budget json all (Some pattern) asked is =
+    (file : List ℕ) (given : Option (List ℕ)) (budget : Budget) (json all : Bool) (pattern : Option (List ℕ)) (out : Option (Option (List ℕ))) → out_of file given ≡ out
+    → (asked : VerifyWords) → option_map (λ o. record { file = file; budget = budget; out = o; json = json; pattern = pattern; all = all }) out ≡ Some asked → Differs asked
+made_differs file given budget json all pattern None took asked is = absurd (none-some asked is)
+made_differs file given budget json all pattern (Some out) took asked is =
     let words : VerifyWords = record { file = file; budget = budget; out = out; json = json; pattern = pattern; all = all } in
     let same : words ≡ asked = cc in
-    subst Differs same apart
+    subst Differs same (file_apart file given out took)
+
+taken_differs : (taken : Taken) (asked : VerifyWords) → verify_taken taken ≡ Some asked → Differs asked
+taken_differs taken asked is =
+    option_and_then_some _ (file_name_of (plain_of taken 0)) asked is (λ file named file_is.
+    option_and_then_some _ (budget_of (option_value taken 0)) asked file_is (λ nodes counted nodes_is.
+    made_differs file (option_value taken 1) (budget_with nodes taken) (is_some (option_value taken 2)) (is_some (option_value taken 5)) (option_value taken 4)
+    (out_of file (option_value taken 1)) refl asked nodes_is))
 
 verify_differs : (words : List (List ℕ)) (asked : VerifyWords) → verify_words words ≡ Some asked → Differs asked
-verify_differs words asked is = option_and_then_some verify_taken (taken_by verify_form words) asked is (λ taken by taken_is.
-    option_and_then_some _ (file_name_of (plain_of taken 0)) asked taken_is (λ file named file_is.
-    option_and_then_some _ (budget_of (option_value taken 0)) asked file_is (λ nodes counted nodes_is.
-    option_and_then_some _ (out_of file (option_value taken 1)) asked nodes_is (λ out took out_is.
-    made_differs file out (file_apart file (option_value taken 1) out took) (budget_with nodes taken) (is_some (option_value taken 2)) (is_some (option_value taken 5))
-    (given_pattern (option_value taken 4)) asked out_is))))
+verify_differs words asked is = option_and_then_some verify_taken (taken_by verify_form words) asked is (λ taken by taken_is. taken_differs taken asked taken_is)
 
 pub out_differs : (words : List (List ℕ)) (asked : VerifyWords) (out : List ℕ) → verify_of words ≡ Some asked → asked.out ≡ Some out → asked.file ≢ out
 out_differs words asked out is given = behind Differs (codes "verify") verify_words verify_differs words asked is asked.file out refl given
@@ -66,20 +67,18 @@ names_quiet false None silent is words = cc
 names_quiet false (Some names) silent is words = absurd (cc)
 
 by_names :
-    (file : List ℕ) (budget : Budget) (out given : Option (List ℕ)) → Apart (Some file) out → (names : Option (Option (List ℕ))) → quiet_names budget.lazy given ≡ names
-    → (asked : RestWords) → option_map (λ s. record { file = file; budget = budget; out = out; silent = s }) names ≡ Some asked → RestSaid asked
-by_names file budget out given apart None from asked is = absurd (cc)
-by_names file budget out given apart (Some silent) from asked is =
-    let words : RestWords = record { file = file; budget = budget; out = out; silent = silent } in
+    (v : VerifyWords) (given : Option (List ℕ)) → Differs v → (names : Option (Option (List ℕ))) → quiet_names v.budget.lazy given ≡ names → (asked : RestWords)
+    → option_map (λ s. record { file = v.file; budget = v.budget; out = v.out; silent = s; json = v.json; pattern = v.pattern; all = v.all }) names ≡ Some asked
+    → RestSaid asked
+by_names v given apart None from asked is = absurd (cc)
+by_names v given apart (Some silent) from asked is =
+    let words : RestWords = record { file = v.file; budget = v.budget; out = v.out; silent = silent; json = v.json; pattern = v.pattern; all = v.all } in
     let same : words ≡ asked = cc in
-    subst RestSaid same (record { differs = apart; quiet = names_quiet budget.lazy given silent from })
+    subst RestSaid same (record { differs = apart; quiet = names_quiet v.budget.lazy given silent from })
 
 rest_taken_says : (taken : Taken) (asked : RestWords) → rest_taken taken ≡ Some asked → RestSaid asked
-rest_taken_says taken asked is = option_and_then_some _ (file_name_of (plain_of taken 0)) asked is (λ file named file_is.
-    option_and_then_some _ (budget_of (option_value taken 0)) asked file_is (λ nodes counted nodes_is.
-    option_and_then_some _ (out_of file (option_value taken 1)) asked nodes_is (λ out took out_is.
-    let lazy = is_some (option_value taken 2) in
-    by_names file (record { nodes = nodes; lazy = lazy }) out (option_value taken 3) (file_apart file (option_value taken 1) out took) (quiet_names lazy (option_value taken 3)) refl asked out_is)))
+rest_taken_says taken asked is = option_and_then_some _ (verify_taken taken) asked is (λ v v_is silent_is.
+    by_names v (option_value taken 6) (taken_differs taken v v_is) (quiet_names v.budget.lazy (option_value taken 6)) refl asked silent_is)
 
 rest_says : (words : List (List ℕ)) (asked : RestWords) → rest_words words ≡ Some asked → RestSaid asked
 rest_says words asked is = option_and_then_some rest_taken (taken_by rest_form words) asked is (λ taken by taken_is. rest_taken_says taken asked taken_is)

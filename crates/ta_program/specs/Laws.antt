@@ -6,7 +6,6 @@ use Rattle.std.specs.List.{range_with_len}
 use Rattle.ta_replay.specs.declared.run.Run.{Run}
 use Rattle.ta_replay.specs.Replays.{ReplayStays}
 use Rattle.ta_replay.specs.RunText.{run_text}
-use Rattle.ta_report.specs.Report.{rest_text}
 use Rattle.ta_report.specs.Telling.{TellsRun, TellsUnsafe, report_of}
 use Rattle.ta_report.specs.declared.pick.Pick.{Pick}
 use Rattle.ta_report.specs.declared.verdict.ReportSample.{ReportSample}
@@ -72,7 +71,7 @@ PrintedRestRunsAreReplayed =
     (words : List (List ℕ)) (number : ℕ) (before after : State) → Runs (request_of words) number before after
     → (asked : RestWords) → rest_of words ≡ Some asked → number ≤ 2
     → (told : Told) → before.shelf.files ≡ Some told
-    → TellsReplayed (telling_of true false) told asked.file before after
+    → TellsReplayed (telling_of true asked.json) told asked.file before after
 
 -- the output gained a text, which is replayed
 pub record WritesReplayed (told : Told) (name : List ℕ) (before after : State) : Type 0 where
@@ -150,7 +149,7 @@ WrittenAtRestIsAccepted =
     → (told : Told) → after.shelf.files ≡ Some told
     → (again : List (List ℕ)) → rest_check_of again ≡ Some (record { file = asked.file; other = out; silent = asked.silent; options = no_options })
     → (second : ℕ) (begun ended : State) → begun.shelf.files ≡ Some told → Runs (request_of again) second begun ended
-    → SaysTheSame rest_text rest_check_text told asked.file before after second begun ended
+    → SaysTheSame (report_of true asked.json) rest_check_text told asked.file before after second begun ended
 
 -- a first run reported the search of FILE, a template, and its last values were found; OUT2 holds FILE's body with these values, which
 -- means a file; and a second run said that each of its patterns is proved, or it ended with 6 or 7

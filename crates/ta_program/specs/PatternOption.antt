@@ -1,5 +1,5 @@
 -- The option `--pattern`: which patterns of FILE a report is about.
-use Rattle.std.specs.Prelude.{ℕ, ◌≡◌, List, codes, slice_get, Option, None, Some, option_map}
+use Rattle.std.specs.Prelude.{ℕ, ◌≡◌, List, codes, slice_get, Option, None, Some}
 use Rattle.std.specs.List.{AllByRecursion}
 use Rattle.ta_automaton.specs.declared.automaton.Automaton.{Automaton}
 use Rattle.ta_automaton.specs.declared.file.File.{File}
@@ -14,12 +14,6 @@ use Rattle.ta_shell.specs.Stages.{finds}
 use Rattle.ta_smt.specs.Named.{IsNamed}
 use Rattle.ta_program.specs.declared.limits.TheConstants.{FILE}
 use Rattle.ta_program.specs.Kinds.{IsFile}
-use Rattle.ta_program.specs.WordAsked.{pattern_of}
-
--- the name that is given, if one is: that of a pattern
-abbrev pub given_pattern : Option (List ℕ) → Option (Option (List ℕ))
-given_pattern None = Some None
-given_pattern (Some text) = option_map (λ name. Some name) (pattern_of text)
 
 -- the pattern that is picked has this number and this name
 pub record PicksNamed (file : File) (name : List ℕ) (pick : Pick) : Type 0 where

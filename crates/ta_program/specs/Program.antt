@@ -1,5 +1,5 @@
 -- What a run of the program says, command by command and status by status.
-use Rattle.std.specs.Prelude.{ℕ, ◌≡◌, ◌≢◌, ◌≤◌, ◌⊎◌, List, [], codes, Option, None, Some, IsSome, true, false}
+use Rattle.std.specs.Prelude.{ℕ, ◌≡◌, ◌≢◌, ◌≤◌, ◌⊎◌, List, [], Option, None, Some, IsSome, true, false}
 use Rattle.ta_automaton.specs.declared.file.File.{File}
 use Rattle.ta_automaton.specs.Runs as runs
 use Rattle.ta_shelf.specs.Calls.{Event, Grew}
@@ -20,14 +20,13 @@ use Rattle.ta_program.specs.Check.{CheckHolds}
 use Rattle.ta_program.specs.CheckWords.{CheckWords, ReplayWords, check_of, replay_of}
 use Rattle.ta_program.specs.Compress.{CanCompress, CompressHolds, LeavesRange, compress_of}
 use Rattle.ta_program.specs.Export.{ExportHolds, export_of}
-use Rattle.ta_program.specs.Headline.{EachPrinted}
 use Rattle.ta_program.specs.Kinds.{IsFile}
 use Rattle.ta_program.specs.Printed.{EachPrintedUnsafe, EachToldProved, EachToldSafe, telling_of}
 use Rattle.ta_program.specs.Proofs.{EveryPattern}
 use Rattle.ta_program.specs.Replay.{ReplayHolds}
 use Rattle.ta_program.specs.PatternOption.{IsPick}
 use Rattle.ta_program.specs.Requests.{request_of}
-use Rattle.ta_program.specs.Rest.{IsKnownAtRest, LongAtRest, RestCertificateStands, RestReportHolds}
+use Rattle.ta_program.specs.Rest.{IsDecidedAtRest, LongAtRest, RestCertificateStands, RestReportHolds}
 use Rattle.ta_program.specs.RestCheck.{RestCheckHolds}
 use Rattle.ta_program.specs.RestWords.{RestCheckWords, RestWords, rest_check_of, rest_of}
 use Rattle.ta_program.specs.SilentNames.{AreSilent, FairlySafeBut, RestOccursBut, RestSafeBut}
@@ -145,7 +144,7 @@ SafeAsShown number words files calls calls' =
 
 -- with status 0, 1 or 2 of `verify` a pattern that the report calls safe, by its line or in JSON, is safe, and one that it calls unsafe
 -- occurs in the run whose text it prints; with status 0, 1 or 2 of `check` a pattern that it calls `proved`, by its line or in JSON, is
--- safe. For `rest` and `rest-check`: of a
+-- safe. For `rest` and `rest-check`, by lines or in JSON: of a
 -- pattern that is `rest safe` or `rest proved` no run comes to rest with its last event at the end, and it occurs for ever in no fair
 -- infinite run; of one that is `rest unsafe` the printed run comes to rest so. With `--silent NAMES` the same holds of quiet rest, and of
 -- runs that are fair where these are silent. With status 0, 1 or 2 of `search` each outcome that it lists is so of the filled text, and its
@@ -154,10 +153,10 @@ pub record PrintedHolds (number : ℕ) (words : List (List ℕ)) (files : Option
   pub safe : (asked : VerifyWords) → verify_of words ≡ Some asked → number ≤ 2 → Acts (may_put asked.out) (λ read made. EachToldSafe runs.Safe false asked.json (seen files read) asked.file written written') calls calls'
   pub unsafe_ : (asked : VerifyWords) → verify_of words ≡ Some asked → number ≤ 2 → Acts (may_put asked.out) (λ read made. EachPrintedUnsafe runs.Occurs (telling_of false asked.json) (seen files read) asked.file written written') calls calls'
   pub proved : (asked : CheckWords) → check_of words ≡ Some asked → number ≤ 2 → Grew (λ read. EachToldProved runs.Safe asked.options.json false (seen files read) asked.file written written') calls calls'
-  pub rest_safe : (asked : RestWords) → rest_of words ≡ Some asked → number ≤ 2 → Acts (may_put asked.out) (λ read made. EachPrinted (RestSafeBut asked.silent) (codes "rest safe, ") (seen files read) asked.file written written') calls calls'
-  pub rest_unsafe : (asked : RestWords) → rest_of words ≡ Some asked → number ≤ 2 → Acts (may_put asked.out) (λ read made. EachPrintedUnsafe (RestOccursBut asked.silent) (telling_of true false) (seen files read) asked.file written written') calls calls'
+  pub rest_safe : (asked : RestWords) → rest_of words ≡ Some asked → number ≤ 2 → Acts (may_put asked.out) (λ read made. EachToldSafe (RestSafeBut asked.silent) true asked.json (seen files read) asked.file written written') calls calls'
+  pub rest_unsafe : (asked : RestWords) → rest_of words ≡ Some asked → number ≤ 2 → Acts (may_put asked.out) (λ read made. EachPrintedUnsafe (RestOccursBut asked.silent) (telling_of true asked.json) (seen files read) asked.file written written') calls calls'
   pub rest_proved : (asked : RestCheckWords) → rest_check_of words ≡ Some asked → number ≤ 2 → Grew (λ read. EachToldProved (RestSafeBut asked.silent) asked.options.json true (seen files read) asked.file written written') calls calls'
-  pub rest_fair : (asked : RestWords) → rest_of words ≡ Some asked → number ≤ 2 → Acts (may_put asked.out) (λ read made. EachPrinted (FairlySafeBut asked.silent) (codes "rest safe, ") (seen files read) asked.file written written') calls calls'
+  pub rest_fair : (asked : RestWords) → rest_of words ≡ Some asked → number ≤ 2 → Acts (may_put asked.out) (λ read made. EachToldSafe (FairlySafeBut asked.silent) true asked.json (seen files read) asked.file written written') calls calls'
   pub rest_proved_fair : (asked : RestCheckWords) → rest_check_of words ≡ Some asked → number ≤ 2 → Grew (λ read. EachToldProved (FairlySafeBut asked.silent) asked.options.json true (seen files read) asked.file written written') calls calls'
   pub tried : (asked : SearchWords) → search_of words ≡ Some asked → number ≤ 2 → Acts (found_names asked) (λ read made. EachTried number (seen files read) asked.file written written') calls calls'
   pub benched : (k : ℕ) → bench_of words ≡ Some k → number ≤ 2 → FamilySafe k
@@ -195,11 +194,12 @@ pub record KeepsFiles (number : ℕ) (words : List (List ℕ)) (before after : S
   pub refused : 3 ≤ number → number ≤ 5 → after.files ≡ before.files
   pub spared : Spares (put_by (request_of words)) number before after
 
--- before a call changes a file, the reads of this run showed FILE's bytes, and that no output held just these
+-- before a call changes a file, the reads of this run showed FILE's bytes, that no output held just these, and that two outputs lead to
+-- different places
 abbrev pub ComparesFirst : Option Told → List ℕ → List (List ℕ) → List Event → List Event → Type 0
 ComparesFirst files name outs calls calls' = Acts outs (λ read made. Differ (seen files read) name outs ⊎ AreStaging outs made) calls calls'
 
--- what was read isn't destroyed, whatever the status: by no name, and by no link
+-- what was read or written isn't destroyed, whatever the status: by no name, and by no link
 pub record SparesRead (words : List (List ℕ)) (files : Option Told) (calls calls' : List Event) : Type 0 where
   pub verify : (asked : VerifyWords) → verify_of words ≡ Some asked → ComparesFirst files asked.file (may_put asked.out) calls calls'
   pub rest : (asked : RestWords) → rest_of words ≡ Some asked → ComparesFirst files asked.file (may_put asked.out) calls calls'
@@ -233,12 +233,12 @@ ReportEnds number files words =
 -- the same for `rest`, if the names may be silent in FILE
 abbrev pub RestReportEnds : ℕ → Option Told → Option RestWords → Type 0
 RestReportEnds number files words =
-    (told : Told) (asked : RestWords) (file : File) (places : List ℕ) → files ≡ Some told → words ≡ Some asked → IsFile (in_files told) asked.file file
-    → AreSilent file.automaton asked.silent places
-    → EndsSo number asked.out (IsKnownAtRest file (resting asked.budget places)) (LongAtRest file (resting asked.budget places)) (HoldsSame told asked.file asked.out)
+    (told : Told) (asked : RestWords) (file : File) (places : List ℕ) (pick : Pick) → files ≡ Some told → words ≡ Some asked → IsFile (in_files told) asked.file file
+    → AreSilent file.automaton asked.silent places → IsPick file asked.pattern pick
+    → EndsSo number asked.out (IsDecidedAtRest asked file (resting asked.budget places) pick) (LongAtRest file (resting asked.budget places) pick) (HoldsSame told asked.file asked.out)
 
--- a legal FILE passes; for `verify`, one that has the pattern that is asked for; for `rest` and `rest-check`, one whose cycles are
--- self-loops, with names that may be silent in it. With known files
+-- a legal FILE passes; for `verify` and `rest`, one that has the pattern that is asked for; for `rest` and `rest-check`, one whose cycles
+-- are self-loops, with names that may be silent in it. With known files
 -- the status is neither 3 nor 5; if no call failed or stalled, it is not 6; for `verify` and `rest`, if no verdict holds that leaves a
 -- pattern unknown, it is not 2; and it is 4 exactly if the certificate that is asked for is too long, or its
 -- file holds what FILE does

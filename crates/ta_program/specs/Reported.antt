@@ -1,6 +1,6 @@
--- What the output of `verify` says, both ways: the report says of each pattern that it is about exactly the verdict that holds, and of the
--- parameters exactly what holds of them.
-use Rattle.std.specs.Prelude.{ℕ, ◌≡◌, ◌≤◌, ◌↔◌, Bool, false, List, length, slice_get, Option, Some}
+-- What the output of `verify` and of `rest` says, both ways: the report says of each pattern that it is about exactly the verdict that
+-- holds, and of the parameters exactly what holds of them.
+use Rattle.std.specs.Prelude.{ℕ, ◌≡◌, ◌≤◌, ◌↔◌, Bool, true, false, List, length, slice_get, Option, Some}
 use Rattle.std.specs.List.{AllByRecursion}
 use Rattle.ta_automaton.specs.declared.file.File.{File}
 use Rattle.ta_automaton.specs.declared.pattern.Pattern.{Pattern}
@@ -16,29 +16,35 @@ use Rattle.ta_shelf.specs.Sink.{with_text}
 use Rattle.ta_shell.specs.Making.{Acts}
 use Rattle.ta_shell.specs.Puts.{may_put}
 use Rattle.ta_shell.specs.Sights.{View, seen}
+use Rattle.ta_verdict.specs.Rest.Budgets.{resting}
+use Rattle.ta_verdict.specs.Rest.Verdicts.{RestVerdictHolds}
 use Rattle.ta_verdict.specs.Verdicts.{IsSample, VerdictHolds}
 use Rattle.ta_program.specs.Headline.{HoldsFile}
 use Rattle.ta_program.specs.PatternOption.{HasName, IsPick}
+use Rattle.ta_program.specs.RestEnds.{FileEndings, IsEnds}
+use Rattle.ta_program.specs.RestWords.{RestWords, rest_of}
+use Rattle.ta_program.specs.SilentNames.{AreSilent}
 use Rattle.ta_program.specs.VerifyWords.{VerifyWords, verify_of}
 
--- the text is the report of the picked patterns of a file, in lines or as JSON, of these parts, whose numbers are below 2^64
-pub record IsReportOf (json : Bool) (file : File) (pick : Pick) (sample : ReportSample) (verdicts : List Verdict) (text : List ℕ) : Type 0 where
+-- the text is the report of the picked patterns of a file, or that of `rest`, in lines or as JSON, of these parts, whose numbers are below
+-- 2^64
+pub record IsReportOf (rest json : Bool) (file : File) (pick : Pick) (sample : ReportSample) (verdicts : List Verdict) (text : List ℕ) : Type 0 where
   pub sample_fits : SampleFits file sample
   pub count : length verdicts ≡ length (picked pick file.patterns)
   pub fit : AllByRecursion (VerdictFits file) verdicts
-  pub is : text ≡ report_of false json file pick sample verdicts
+  pub is : text ≡ report_of rest json file pick sample verdicts
 
 -- a report gives this verdict of the pattern with this number: as `unknown, 7 nodes spent` gives that the budget is spent at 7 nodes
-pub record GivesVerdict (json : Bool) (file : File) (pick : Pick) (number : ℕ) (v : Verdict) (text : List ℕ) : Type 0 where
+pub record GivesVerdict (rest json : Bool) (file : File) (pick : Pick) (number : ℕ) (v : Verdict) (text : List ℕ) : Type 0 where
   pub sample : ReportSample
   pub verdicts : List Verdict
-  pub report : IsReportOf json file pick sample verdicts text
+  pub report : IsReportOf rest json file pick sample verdicts text
   pub at : entry_of pick verdicts number ≡ Some v
 
 -- a report gives this of the parameters
-pub record GivesSample (json : Bool) (file : File) (pick : Pick) (sample : ReportSample) (text : List ℕ) : Type 0 where
+pub record GivesSample (rest json : Bool) (file : File) (pick : Pick) (sample : ReportSample) (text : List ℕ) : Type 0 where
   pub verdicts : List Verdict
-  pub report : IsReportOf json file pick sample verdicts text
+  pub report : IsReportOf rest json file pick sample verdicts text
 
 -- the bytes under FILE mean a file; the output gives of each pattern, or of the one with the name that is given, a verdict exactly if it
 -- holds, unknown ones too: `N nodes spent` exactly if the defined search visits N nodes within the budget and one is left, and `outside 128
@@ -52,11 +58,32 @@ pub record EachReported (asked : VerifyWords) (view : View) (written written' : 
   pub text : List ℕ
   pub gained : written' ≡ with_text written text
   pub verdict : (number : ℕ) (p : Pattern) (v : Verdict) → slice_get file.patterns number ≡ Some p → HasName asked.pattern p → VerdictFits file v
-      → GivesVerdict asked.json file pick number v text ↔ VerdictHolds file asked.budget number p v
-  pub parameters : (sample : ReportSample) → GivesSample asked.json file pick sample text ↔ IsSample file asked.budget.nodes sample
+      → GivesVerdict false asked.json file pick number v text ↔ VerdictHolds file asked.budget number p v
+  pub parameters : (sample : ReportSample) → GivesSample false asked.json file pick sample text ↔ IsSample file asked.budget.nodes sample
 
--- `verify FILE` with status 0, 1 or 2
-abbrev pub ReportsExactly : ℕ → List (List ℕ) → Option Told → List Event → List Event → Option (List ℕ) → Option (List ℕ) → Type 0
-ReportsExactly number words files calls calls' written written' =
-    (asked : VerifyWords) → verify_of words ≡ Some asked → number ≤ 2
-    → Acts (may_put asked.out) (λ read made. EachReported asked (seen files read) written written') calls calls'
+-- the same of runs that come to rest, with the silent places of the names that are given: the defined search is that of the pattern's ending,
+-- which has the pattern's number
+pub record EachReportedAtRest (asked : RestWords) (view : View) (written written' : Option (List ℕ)) : Type 0 where
+  pub file : File
+  pub holds : HoldsFile view asked.file file
+  pub ends : FileEndings
+  pub are_ends : IsEnds file ends
+  pub silent : List ℕ
+  pub are_silent : AreSilent file.automaton asked.silent silent
+  pub pick : Pick
+  pub is_pick : IsPick file asked.pattern pick
+  pub text : List ℕ
+  pub gained : written' ≡ with_text written text
+  pub verdict : (number : ℕ) (own p : Pattern) (v : Verdict) → slice_get file.patterns number ≡ Some own → slice_get ends.ending.patterns number ≡ Some p
+      → HasName asked.pattern own → VerdictFits file v
+      → GivesVerdict true asked.json file pick number v text
+      ↔ RestVerdictHolds file ends.ending ends.added (resting asked.budget silent) number own p v
+  pub parameters : (sample : ReportSample) → GivesSample true asked.json file pick sample text ↔ IsSample file asked.budget.nodes sample
+
+-- `verify FILE` and `rest FILE` with status 0, 1 or 2
+pub record ReportsExactly (number : ℕ) (words : List (List ℕ)) (files : Option Told) (calls calls' : List Event) (written written' : Option (List ℕ)) : Type 0
+  where
+    pub verify : (asked : VerifyWords) → verify_of words ≡ Some asked → number ≤ 2
+        → Acts (may_put asked.out) (λ read made. EachReported asked (seen files read) written written') calls calls'
+    pub rest : (asked : RestWords) → rest_of words ≡ Some asked → number ≤ 2
+        → Acts (may_put asked.out) (λ read made. EachReportedAtRest asked (seen files read) written written') calls calls'

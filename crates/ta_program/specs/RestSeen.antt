@@ -10,6 +10,9 @@ rest_seen command = record {
   budget = command.silent.budget.given;
   out = option_map (λ w. w.now) command.out;
   silent = option_map (λ w. w.now) command.silent.names;
+  json = command.json;
+  pattern = option_map (λ w. w.now) command.pattern;
+  all = command.all;
 }
 
 abbrev pub rest_check_seen : RestCheck → RestCheckWords

@@ -1,20 +1,25 @@
 -- The command-line words of `rest` and of `rest-check`.
-use Rattle.std.specs.Prelude.{ℕ, ◌||◌, Bool, List, [], ◌∷◌, codes, if◌then◌else◌, is_some, not, option_and_then, option_map, Option, None, false}
+use Rattle.std.specs.Prelude.{ℕ, ◌++◌, ◌||◌, Bool, List, [], ◌∷◌, codes, if◌then◌else◌, is_some, not, option_and_then, option_map, Option, None, false}
 use Rattle.ta_program.specs.declared.proof_options.ProofOptions.{ProofOptions}
 use Rattle.ta_program.specs.SilentNames.{names_of}
-use Rattle.ta_program.specs.Values.{budget_of, file_name_of, out_of}
+use Rattle.ta_program.specs.Values.{file_name_of}
 use Rattle.ta_verdict.specs.declared.budget.Budget.{Budget}
+use Rattle.ta_program.specs.VerifyWords.{verify_form, verify_taken}
 use Rattle.ta_program.specs.Words.{Form, Taken, behind_name, flag, plain_of, taken_by, option_value, valued}
 
--- what `rest` asks for: the names of FILE and of OUT, if it is given, the budget for each pattern, and the names that are to be silent
+-- what `rest` asks for: the same as `verify`, and the names that are to be silent, if they are given
 pub record RestWords : Type 0 where
   pub file : List ℕ
   pub budget : Budget
   pub out : Option (List ℕ)
   pub silent : Option (List ℕ)
+  pub json : Bool
+  pub pattern : Option (List ℕ)
+  pub all : Bool
 
+-- the options of `verify`, and `--silent`
 abbrev pub rest_form : Form
-rest_form = record { plain = 1; options = valued (codes "--nodes") ∷ valued (codes "--certificate") ∷ flag (codes "--lazy") ∷ valued (codes "--silent") ∷ [] }
+rest_form = record { plain = 1; options = verify_form.options ++ valued (codes "--silent") ∷ [] }
 
 -- names may be silent only with moments on demand
 abbrev pub quiet_names : Bool → Option (List ℕ) → Option (Option (List ℕ))
@@ -22,16 +27,22 @@ quiet_names lazy names = if lazy || not (is_some names) then names_of names else
 
 abbrev pub rest_taken : Taken → Option RestWords
 rest_taken taken =
-    option_and_then (λ file. option_and_then (λ nodes. option_and_then (λ out.
-    option_map (λ silent. record { file = file; budget = record { nodes = nodes; lazy = is_some (option_value taken 2) }; out = out; silent = silent })
-    (quiet_names (is_some (option_value taken 2)) (option_value taken 3))) (out_of file (option_value taken 1))) (budget_of (option_value taken 0)))
-    (file_name_of (plain_of taken 0))
+    option_and_then (λ v. option_map (λ silent. record {
+      file = v.file;
+      budget = v.budget;
+      out = v.out;
+      silent = silent;
+      json = v.json;
+      pattern = v.pattern;
+      all = v.all;
+    })
+    (quiet_names v.budget.lazy (option_value taken 6))) (verify_taken taken)
 
 -- the request of the words after the command's name
 abbrev pub rest_words : List (List ℕ) → Option RestWords
 rest_words words = option_and_then rest_taken (taken_by rest_form words)
 
--- `rest FILE [--nodes N] [--certificate OUT] [--lazy [--silent NAMES]]`
+-- `rest FILE [--nodes N] [--certificate OUT] [--lazy [--silent NAMES]] [--json] [--pattern NAME] [--all]`
 abbrev pub rest_of : List (List ℕ) → Option RestWords
 rest_of = behind_name (codes "rest") rest_words
 

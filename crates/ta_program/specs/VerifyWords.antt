@@ -1,7 +1,6 @@
 -- The command-line words of `verify`.
 use Rattle.std.specs.Prelude.{ℕ, Bool, List, [], ◌∷◌, codes, is_some, option_and_then, option_map, Option}
 use Rattle.ta_verdict.specs.declared.budget.Budget.{Budget}
-use Rattle.ta_program.specs.PatternOption.{given_pattern}
 use Rattle.ta_program.specs.Values.{budget_of, file_name_of, out_of}
 use Rattle.ta_program.specs.Words.{Form, Taken, behind_name, flag, plain_of, taken_by, option_value, valued}
 
@@ -20,19 +19,15 @@ verify_form = record { plain = 1; options = valued (codes "--nodes") ∷ valued 
 
 abbrev pub verify_taken : Taken → Option VerifyWords
 verify_taken taken =
-    option_and_then (λ file.
-    option_and_then (λ nodes.
-    option_and_then (λ out.
-    option_map (λ pattern.
-    record {
+    option_and_then (λ file. option_and_then (λ nodes. option_map (λ out. record {
       file = file;
       budget = record { nodes = nodes; lazy = is_some (option_value taken 3) };
       out = out;
       json = is_some (option_value taken 2);
-      pattern = pattern;
+      pattern = option_value taken 4;
       all = is_some (option_value taken 5);
     })
-    (given_pattern (option_value taken 4))) (out_of file (option_value taken 1))) (budget_of (option_value taken 0))) (file_name_of (plain_of taken 0))
+    (out_of file (option_value taken 1))) (budget_of (option_value taken 0))) (file_name_of (plain_of taken 0))
 
 -- the request of the words after the command's name
 abbrev pub verify_words : List (List ℕ) → Option VerifyWords

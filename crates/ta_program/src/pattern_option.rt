@@ -3,27 +3,13 @@
 
 ghost use Rattle.std.specs.Prelude.{◌≡◌, IfErr, IfOk, Some, option_map};
 ghost use Rattle.ta_program.specs.Inside.Found.{PickRefused};
-ghost use Rattle.ta_program.specs.PatternOption.{IsPick, PicksNamed, given_pattern};
+ghost use Rattle.ta_program.specs.PatternOption.{IsPick, PicksNamed};
 
 use crate::limits::FILE;
-use crate::word_asked::pattern_of;
 use ta_automaton::File;
 use ta_report::Pick;
 use ta_shell::{Phrase, Refusal};
 use ta_smt::pattern_named;
-
-/// The name that is given, where one is: that of a pattern, which is no keyword.
-pub(crate) fn given_pattern(pattern: Option<&str>) -> Option<Option<&str>>
-    ensures { option_map (λ o. option_map (λ w. w.now) o) result ≡ given_pattern (option_map (λ w. w.now) pattern.entry) }
-{
-    match pattern {
-        None => Some(None),
-        Some(text) => match pattern_of(text) {
-            Some(name) => Some(Some(name)),
-            None => None,
-        },
-    }
-}
 
 /// The patterns of the file of a name that are picked: all, or the one with the name that is given.
 pub(crate) fn find_pick<'a>(

@@ -34,19 +34,20 @@ use ta_shell::{perform, perform_staging, tell_line};
 
 /// The line where the words are no command's.
 const USAGE: &str =
-    "tav: usage: verify FILE [--nodes N] [--certificate OUT] [--json], check FILE CERT, replay FILE RUN, compress FILE RUN, bench K, rest FILE [--nodes N] [--certificate OUT], rest-check FILE CERT, search FILE [--nodes N] [--certificate OUT] [--filled OUT2], show FILE, export FILE PATTERN START WORD, admit FILE PATTERN START WORD VALUES, version, --lazy with verify, rest or search, --silent NAMES with rest or rest-check, --json with check, rest-check or replay, --pattern NAME with verify, --all with verify, check or rest-check, --parameters with check\n";
+    "tav: usage: verify FILE [--nodes N] [--certificate OUT] [--json], check FILE CERT, replay FILE RUN, compress FILE RUN, bench K, rest FILE [--nodes N] [--certificate OUT], rest-check FILE CERT, search FILE [--nodes N] [--certificate OUT] [--filled OUT2], show FILE, export FILE PATTERN START WORD, admit FILE PATTERN START WORD VALUES, version, --lazy with verify, rest or search, --silent NAMES with rest or rest-check, --json with rest, check, rest-check or replay, --pattern NAME with verify or rest, --all with verify, rest, check or rest-check, --parameters with check\n";
 
 /// Does what the words ask for, and answers the number that the process ends with: 0 where all is
 /// done, 1 where some pattern is unsafe or no values were found, 2 where that isn't known, 3 where FILE hinders, 4
-/// where CERT, RUN, VALUES or a word does, or the certificate is too long, or OUT holds what was read, 5 where the words
-/// are no command's, 6 where the shelf or the output failed, and 7 for want of memory.
+/// where CERT, RUN, VALUES or a word does, or the certificate is too long, or OUT holds what was read or
+/// leads to the place of OUT2, 5 where the words are no command's, 6 where the shelf or the output
+/// failed, and 7 for want of memory.
 ///
 /// A file is read and judged whole before the next one is opened, and a text is made whole before
 /// it is written. A certificate and a filled text are begun before anything is read; what their names
-/// hold is compared with FILE's bytes before anything is searched; they are made before the report is
-/// written, the certificate of `verify` and of `rest` pattern by pattern while these are judged, and put
-/// in their places behind it, and nothing else is ever put on the shelf. A failing
-/// `err` changes nothing.
+/// hold is compared with FILE's bytes, and the places to which they lead with one another, before
+/// anything is searched; they are made before the report is written, the certificate of `verify` and of
+/// `rest` pattern by pattern while these are judged, and put in their places behind it, and nothing else
+/// is ever put on the shelf. A failing `err` changes nothing.
 pub fn run<R: Threads + Sync, S: Shelf, O: Sink, E: Sink>(
     rt: &R,
     alloc: Global,

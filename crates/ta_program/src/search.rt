@@ -152,7 +152,8 @@ fn judge_search<'a, R: Threads + Sync, S: Shelf>(
     }
 }
 
-/// The template that a name's bytes are the text of, unless an output holds just these bytes.
+/// The template that a name's bytes are the text of, unless an output holds just these bytes, or two
+/// outputs lead to one place.
 fn read_searched<'a, S: Shelf>(
     alloc: Global,
     shelf: &mut S,

@@ -16,7 +16,7 @@ ghost use Rattle.ta_program.specs.VerifyWords.{verify_taken, verify_words};
 
 use crate::budget::Budget;
 use crate::certified::{answer_certified, answer_plain};
-use crate::pattern_option::{find_pick, given_pattern};
+use crate::pattern_option::find_pick;
 use crate::reading::read_spared;
 use crate::request::StagingRequest;
 use crate::telling::{Form, Report, tell};
@@ -96,7 +96,6 @@ fn verify_taken(taken: Taken<'_>) -> Option<Verify<'_>>
     let file = file_name_of(taken.plain(0))?;
     let nodes = budget_of(taken.value(0))?;
     let out = out_of(file, taken.value(1))?;
-    let pattern = given_pattern(taken.value(4))?;
     Some(Verify {
         file,
         budget: Budget {
@@ -107,7 +106,7 @@ fn verify_taken(taken: Taken<'_>) -> Option<Verify<'_>>
         },
         out,
         json: taken.value(2).is_some(),
-        pattern,
+        pattern: taken.value(4),
         all: taken.value(5).is_some(),
     })
 }

@@ -6,6 +6,7 @@ pub mod Entries
 pub mod Failing
 pub mod Files
 pub mod Making
+pub mod Place
 pub mod Put
 pub mod Shelf
 pub mod Sink

@@ -9,7 +9,7 @@ use crate::disk_stage::DiskStage;
 use crate::entry::Step;
 use crate::fault::{PutFault, ShelfFault};
 use crate::shelf::Shelf;
-use crate::system::{Access, Opened, Tape, target_of};
+use crate::system::{Access, Opened, Tape, lead_to_one, target_of};
 use std::alloc::AllocGlobal;
 use std::io;
 use std::rt::Files;
@@ -99,6 +99,16 @@ impl<R: Files + AllocGlobal + Clone + Drop> Shelf for DiskShelf<R> {
                 false
             }
             _ => true,
+        }
+    }
+
+    fn same_place(&mut self, name: &str, other: &str) -> Result<bool, ShelfFault> {
+        match lead_to_one(&self.rt, name, other) {
+            Ok(same) => {
+                self.tape.placed(name, other, same);
+                Ok(same)
+            }
+            Err(error) => Err(self.tape.refuse_place(&error, name, other)),
         }
     }
 

@@ -5,6 +5,7 @@ ghost use Rattle.std.specs.Prelude.{◌≡◌, ◌≤◌, ◌++◌, ◌∷◌, [
 ghost use Rattle.ta_shelf.specs.Calls.{Reads, Puts, filled};
 ghost use Rattle.ta_shelf.specs.Failing.{IsNextListed, next_calls};
 ghost use Rattle.ta_shelf.specs.Files.{AreDistinct, bytes_left, file_named};
+ghost use Rattle.ta_shelf.specs.Place.{asks_place, LeadsSo};
 ghost use Rattle.ta_shelf.specs.Put.{Creates, Appends, OthersStay, PutCountsFaults, PutFailsExactly};
 ghost use Rattle.ta_shelf.specs.Shelf.{ReadsAt, CountsFaults, FailsExactly};
 ghost use Rattle.ta_shelf.specs.Stage.{answer_of, AddsTo, Publishes};
@@ -86,6 +87,17 @@ impl Shelf for MemoryShelf {
         ensures same { self.new ≡ self.old }
     {
         true
+    }
+
+    // it never fails, and is no call that is numbered
+    fn same_place(&mut self, name: &str, other: &str) -> Result<bool, ShelfFault>
+        ensures leads { LeadsSo name.now other.now result }
+        ensures quiet { IsOk result }
+        ensures log { self.new.shelf.log.calls ≡ self.old.shelf.log.calls ++ Reads (asks_place name.now other.now result) ∷ [] }
+        ensures kept { self.new.shelf.files ≡ self.old.shelf.files }
+        ensures failing { self.new.failing ≡ self.old.failing }
+    {
+        self.shelf.same_place(name, other)
     }
 
     fn create(&mut self, name: &str) -> Result<(), PutFault>

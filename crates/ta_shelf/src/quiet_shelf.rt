@@ -4,6 +4,7 @@
 ghost use Rattle.std.specs.Prelude.{◌≡◌, ◌≤◌, ◌++◌, ◌∷◌, [], ℕ, length, min, take, drop, IsOk, IfOk, IfErr, IfSome, IsTrue, Ok, Some};
 ghost use Rattle.ta_shelf.specs.Calls.{Reads, Puts, filled};
 ghost use Rattle.ta_shelf.specs.Files.{AreDistinct, bytes_left, file_named};
+ghost use Rattle.ta_shelf.specs.Place.{asks_place, LeadsSo};
 ghost use Rattle.ta_shelf.specs.Put.{Creates, Appends, OthersStay, PutNeverFails};
 ghost use Rattle.ta_shelf.specs.Shelf.{ReadsAt, FailsOnlyFaulted, NeverFails};
 ghost use Rattle.ta_shelf.specs.Stage.{answer_of, AddsTo, Publishes};
@@ -78,6 +79,17 @@ impl Shelf for QuietShelf {
         ensures same { self.new ≡ self.old }
     {
         true
+    }
+
+    fn same_place(&mut self, name: &str, other: &str) -> Result<bool, ShelfFault>
+        ensures leads { LeadsSo name.now other.now result }
+        ensures quiet { IsOk result }
+        ensures log { self.new.log.calls ≡ self.old.log.calls ++ Reads (asks_place name.now other.now result) ∷ [] }
+        ensures kept { self.new.files ≡ self.old.files }
+    {
+        let answer = Ok(name == other);
+        self.log.ask_place(name, other, answer);
+        answer
     }
 
     fn create(&mut self, name: &str) -> Result<(), PutFault>

@@ -13,7 +13,8 @@
 ghost use Rattle.std.specs.Prelude.{◌≡◌, ◌≤◌, ◌++◌, ◌∷◌, [], ℕ, List, length, IfOk, IfSome, IsErrOf, IsTrue, MatchBool, Ok};
 ghost use Rattle.std.specs.declared.option.Option.{Option};
 ghost use Rattle.ta_shelf.specs.Calls.{Event, Reads, Puts, filled};
-ghost use Rattle.ta_shelf.specs.Compare.{asks_nothing};
+ghost use Rattle.ta_shelf.specs.Compare.{asks_nothing, CompareFailsOnlyFaulted};
+ghost use Rattle.ta_shelf.specs.Place.{asks_place, LeadsSo};
 ghost use Rattle.ta_shelf.specs.Put.{WhereTold, Creates, Appends, OthersStay, PutFailsOnlyFaulted};
 ghost use Rattle.ta_shelf.specs.Shelf.{ReadsAt, FailsOnlyFaulted};
 ghost use Rattle.ta_shelf.specs.Stage.{answer_of, AddsTo, Publishes};
@@ -64,6 +65,16 @@ pub trait Shelf {
         ensures faults { faults self.new ≡ faults self.old }
         // the log has a call that asks for nothing where they can't
         ensures log { MatchBool result (calls self.new ≡ calls self.old) (calls self.new ≡ calls self.old ++ Reads (asks_nothing name.now) ∷ []) }
+        ensures kept { files self.new ≡ files self.old };
+
+    /// Whether two names lead to the same place: a file that is published under the one then comes in the
+    /// place of the other's. Names of no regular file, as of a pipe, don't, since bytes published there
+    /// come behind what is there. It opens nothing.
+    fn same_place(&mut self, name: &str, other: &str) -> Result<bool, ShelfFault>
+        ensures told { IfSome (files self.old) (λ m. LeadsSo name.now other.now result) }
+        ensures cause { CompareFailsOnlyFaulted result (faults self.old) (faults self.new) }
+        ensures memory { IsErrOf result ShelfFault.Memory → wants_memory }
+        ensures log { calls self.new ≡ calls self.old ++ Reads (asks_place name.now other.now result) ∷ [] }
         ensures kept { files self.new ≡ files self.old };
 
     /// Makes the file of a name, which is empty then; one that is there is emptied.

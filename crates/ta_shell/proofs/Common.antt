@@ -15,7 +15,7 @@ pub use Rattle.ta_shell.specs.Ends.End.{Done, NoMemory, Stopped, Unbegun, Unput,
 pub use Rattle.ta_shell.specs.Lines.{file_line, longer_than, missing, phrase_text, piece_text, pieces_text, refusal_line, refusal_number}
 pub use Rattle.ta_shell.specs.Puts.{HoldsEither, HoldsPut, HoldsText, KeptBut, PutsWithin, Stand, StopAt, may_put, names_put, output_names, put_bytes, PutText, put_text}
 pub use Rattle.ta_shell.specs.Reading.{Gives, IsReading, IsUnreadable, ReadCause, ReadsFile, SaysOfFile, UnreadBy}
-pub use Rattle.ta_shell.specs.Sights.{Absent, Begins, HasBytes, HasMore, Part, Sight, Unlike, View, Whole, in_calls, in_files, seen, where_told}
+pub use Rattle.ta_shell.specs.Sights.{Absent, Begins, HasBytes, HasMore, Leads, Part, Sight, Unlike, View, Whole, in_calls, in_files, seen, where_told}
 pub use Rattle.ta_shell.specs.Stages.{FileIsAtFault, FileMeans, Hinders, IsBroken, Kind, ReadingGoesOn, Stage, after, finds, replies, settles}
 pub use Rattle.ta_shell.specs.declared.answer.Answer.{Answer}
 pub use Rattle.ta_shell.specs.declared.answer.Put.{Put}

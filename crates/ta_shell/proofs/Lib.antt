@@ -4,6 +4,7 @@ pub mod Clauses
 pub mod Views
 pub mod Read
 pub mod Spared
+mod Parted
 pub mod PiecesSeen
 mod Pieces
 mod ReadCalls

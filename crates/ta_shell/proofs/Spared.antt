@@ -3,17 +3,19 @@ use Rattle.ta_shell.proofs.Common.{◌≡◌, ◌∙◌, ◌≤◌, ◌⊎◌, L
 use Rattle.ta_shelf.proofs.CallLemmas.{reads-append}
 use Rattle.ta_shell.specs.Lines.{holds_read}
 use Rattle.ta_shell.specs.Stages.{Then}
-use Rattle.ta_shell.specs.Sparing.{AreComparing, AreUnlike, Compares, Differ, HoldsFirst, HoldsRead, SparedStage, SparedYields, spared, sparing}
-use Rattle.ta_shell.proofs.Compared.{holds_more, sub_before, sub_behind, unlike_more}
+use Rattle.ta_shell.specs.Sparing.{AreApart, AreSparing, AreUnlike, Destroys, Differ, HoldsFirst, HoldsRead, MeetsFirst, Protects, SparedStage, SparedYields, spared, sparing}
+use Rattle.ta_shell.proofs.Compared.{sub_before, sub_behind, unlike_more}
+use Rattle.ta_shell.proofs.Parted.{apart_more, destroys_more}
+use Rattle.std.proofs.lemmas.Bool.{true≢false}
 use Rattle.ta_shell.proofs.Read.{after_monotone, no_hindrance}
 use Rattle.ta_shell.proofs.Views.{Monotone, Sub, has_more, sub_told}
 
 -- what differs in one view differs in another, and what holds in one holds in the other
 pub differ_more : (v w : View) → Sub v w → (name : List ℕ) (outs : List (List ℕ)) → Differ v name outs → Differ w name outs
-differ_more v w sub name outs d = record { bytes = d.bytes; held = sub name (Whole d.bytes) d.held; unlike = unlike_more v w sub outs d.bytes d.unlike }
+differ_more v w sub name outs d = record { bytes = d.bytes; held = sub name (Whole d.bytes) d.held; unlike = unlike_more v w sub outs d.bytes d.unlike; apart = apart_more v w sub outs d.apart }
 
 pub holds_read_more : (v w : View) → Sub v w → (name : List ℕ) (outs : List (List ℕ)) (number : ℕ) (line : List ℕ) → HoldsRead v name outs number line → HoldsRead w name outs number line
-holds_read_more v w sub name outs number line h = record { numbered = h.numbered; bytes = h.bytes; held = sub name (Whole h.bytes) h.held; first = holds_more v w sub outs h.bytes holds_read line h.first }
+holds_read_more v w sub name outs number line h = record { numbered = h.numbered; bytes = h.bytes; held = sub name (Whole h.bytes) h.held; first = destroys_more v w sub outs h.bytes line h.first }
 
 pub sparing_monotone : (name : List ℕ) (outs : List (List ℕ)) (rest : Meaning) → Monotone rest → Monotone (sparing name outs rest)
 sparing_monotone name outs rest m = record {
@@ -32,9 +34,19 @@ none_first told [] bytes words line are h = h
 none_first told (out ∷ outs) bytes words line are (inl own) = are.0 own.0
 none_first told (out ∷ outs) bytes words line are (inr later) = none_first told outs bytes words line are.1 later.1
 
+-- in told files names that lead to different places don't lead to the same
+none_meets : (told : Told) (outs : List (List ℕ)) (line : List ℕ) → AreApart (in_files told) outs → MeetsFirst (in_files told) outs line → ⊥
+none_meets told [] line are h = h
+none_meets told (out ∷ []) line are h = h
+none_meets told (out ∷ other ∷ more) line are h = true≢false (sym (are.0.0.1 (h.0.0 refl)))
+
+none_destroys : (told : Told) (outs : List (List ℕ)) (bytes line : List ℕ) → AreUnlike (in_files told) outs bytes → AreApart (in_files told) outs → Destroys (in_files told) outs bytes line → ⊥
+none_destroys told outs bytes line are apart (inl own) = none_first told outs bytes holds_read line are own
+none_destroys told outs bytes line are apart (inr later) = none_meets told outs line apart later.1
+
 pub apart : (told : Told) (name : List ℕ) (outs : List (List ℕ)) (number : ℕ) (line : List ℕ) → Differ (in_files told) name outs → HoldsRead (in_files told) name outs number line → ⊥
 apart told name outs number line d h =
-    none_first told outs h.bytes holds_read line (subst (AreUnlike (in_files told) outs) (same_bytes told name d.bytes h.bytes d.held h.held) d.unlike) h.first
+    none_destroys told outs h.bytes line (subst (AreUnlike (in_files told) outs) (same_bytes told name d.bytes h.bytes d.held h.held) d.unlike) d.apart h.first
 
 -- and one is the first
 one_first : (told : Told) (outs : List (List ℕ)) (bytes words line other : List ℕ) → HoldsFirst (in_files told) outs bytes words line → HoldsFirst (in_files told) outs bytes words other → line ≡ other
@@ -44,9 +56,20 @@ one_first told (out ∷ outs) bytes words line other (inl h) (inr k) = absurd (k
 one_first told (out ∷ outs) bytes words line other (inr h) (inl k) = absurd (h.0 k.0)
 one_first told (out ∷ outs) bytes words line other (inr h) (inr k) = one_first told outs bytes words line other h.1 k.1
 
+one_meets : (told : Told) (outs : List (List ℕ)) (line other : List ℕ) → MeetsFirst (in_files told) outs line → MeetsFirst (in_files told) outs other → line ≡ other
+one_meets told [] line other h k = absurd h
+one_meets told (out ∷ []) line other h k = absurd h
+one_meets told (out ∷ second ∷ more) line other h k = h.1 ∙ sym k.1
+
+one_destroys : (told : Told) (outs : List (List ℕ)) (bytes line other : List ℕ) → Destroys (in_files told) outs bytes line → Destroys (in_files told) outs bytes other → line ≡ other
+one_destroys told outs bytes line other (inl h) (inl k) = one_first told outs bytes holds_read line other h k
+one_destroys told outs bytes line other (inl h) (inr k) = absurd (none_first told outs bytes holds_read line k.0 h)
+one_destroys told outs bytes line other (inr h) (inl k) = absurd (none_first told outs bytes holds_read other h.0 k)
+one_destroys told outs bytes line other (inr h) (inr k) = one_meets told outs line other h.1 k.1
+
 pub one_holds_line : (told : Told) (name : List ℕ) (outs : List (List ℕ)) (number other : ℕ) (line words : List ℕ) → HoldsRead (in_files told) name outs number line → HoldsRead (in_files told) name outs other words → line ≡ words
 one_holds_line told name outs number other line words h k =
-    one_first told outs k.bytes holds_read line words (subst (λ (bytes : List ℕ). HoldsFirst (in_files told) outs bytes holds_read line) (same_bytes told name h.bytes k.bytes h.held k.held) h.first) k.first
+    one_destroys told outs k.bytes line words (subst (λ (bytes : List ℕ). Destroys (in_files told) outs bytes line) (same_bytes told name h.bytes k.bytes h.held k.held) h.first) k.first
 
 module _ {A F : Type 0} (kind : Kind A F) (name : List ℕ) (outs : List (List ℕ)) (rest : A → Meaning) where
   -- what is answered is so without the comparison
@@ -130,7 +153,7 @@ module _ {A F T : Type 0} (kind : Kind A F) (value : T → A) (files : Option To
 
   -- the file means a value, and outputs are compared with its bytes
   module _ (bytes : List ℕ) (first second : List Call) (r : ReadsFile files name kind.limit (Ok bytes) first) (means : A) (is : kind.means bytes means) where
-    opened : AreComparing outs second → Then kind name (λ v. AreComparing outs) (first ++ second)
+    opened : AreSparing outs second → Then kind name (λ v. AreSparing outs) (first ++ second)
     opened are = record { first = first; second = second; all = refl; bytes = bytes; spells = r.gives.1; value = means; means = is; then = are }
 
     is_of : FileMeans kind (seen files (first ++ second)) name means
@@ -139,46 +162,51 @@ module _ {A F T : Type 0} (kind : Kind A F) (value : T → A) (files : Option To
     held : seen files (first ++ second) name (Whole bytes)
     held = sub_before files first second name (Whole bytes) r.gives.0.seen
 
-    compared : (given : T) → value given ≡ means → Compares files outs bytes holds_read (Ok tt) second → SparedStage kind value files name outs (Ok given) (first ++ second)
+    compared : (given : T) → value given ≡ means → Protects files outs bytes (Ok tt) second → SparedStage kind value files name outs (Ok given) (first ++ second)
     compared given same c = record {
-      opened = inr (opened c.comparing);
+      opened = inr (opened c.sparing);
       yields = (
         subst (FileMeans kind (seen files (first ++ second)) name) (sym same) is_of,
-        record { bytes = bytes; held = held; unlike = unlike_more (seen files second) (seen files (first ++ second)) (sub_behind files first second) outs bytes c.spares },
+        record {
+          bytes = bytes;
+          held = held;
+          unlike = unlike_more (seen files second) (seen files (first ++ second)) (sub_behind files first second) outs bytes c.protects.0;
+          apart = apart_more (seen files second) (seen files (first ++ second)) (sub_behind files first second) outs c.protects.1;
+        },
       );
     }
 
-    unspared : (refusal : Refusal) → Compares files outs bytes holds_read (Err refusal) second → SparedStage {T = T} kind value files name outs (Err refusal) (first ++ second)
+    unspared : (refusal : Refusal) → Protects files outs bytes (Err refusal) second → SparedStage {T = T} kind value files name outs (Err refusal) (first ++ second)
     unspared (Refused number who why) c = record {
-      opened = inr (opened c.comparing);
-      yields = inr (means, is_of, record { numbered = c.spares.0; bytes = bytes; held = held; first = holds_more (seen files second) (seen files (first ++ second)) (sub_behind files first second) outs bytes holds_read _ c.spares.1 });
+      opened = inr (opened c.sparing);
+      yields = inr (means, is_of, record { numbered = c.protects.0; bytes = bytes; held = held; first = destroys_more (seen files second) (seen files (first ++ second)) (sub_behind files first second) outs bytes _ c.protects.1 });
     }
-    unspared (ReadFailed who) c = record { opened = inr (opened c.comparing); yields = inr (means, is_of, c.spares) }
-    unspared (PutFailed who) c = absurd c.spares
-    unspared Memory c = record { opened = inr (opened c.comparing); yields = tt }
+    unspared (ReadFailed who) c = record { opened = inr (opened c.sparing); yields = inr (means, is_of, c.protects) }
+    unspared (PutFailed who) c = absurd c.protects
+    unspared Memory c = record { opened = inr (opened c.sparing); yields = tt }
 
   -- the same over logs
   module _ (bytes : List ℕ) (before middle last : List Event) (now : Option Told) (kept : now ≡ files) (r : Grew (ReadsFile files name kind.limit (Ok bytes)) before middle) where
     both : (added : List Call) → last ≡ middle ++ reads added → last ≡ before ++ reads (r.added ++ added)
     both added grown = grown ∙ ap (λ (events : List Event). events ++ reads added) r.grown ∙ append_assoc before (reads r.added) (reads added) ∙ ap (λ (events : List Event). before ++ events) (sym (reads-append r.added added))
 
-    pub grew_compared : (given : T) → kind.means bytes (value given) → Grew (Compares now outs bytes holds_read (Ok tt)) middle last → Grew (SparedStage kind value files name outs (Ok given)) before last
+    pub grew_compared : (given : T) → kind.means bytes (value given) → Grew (Protects now outs bytes (Ok tt)) middle last → Grew (SparedStage kind value files name outs (Ok given)) before last
     grew_compared given is c = record {
       added = r.added ++ c.added;
       grown = both c.added c.grown;
-      such = compared bytes r.added c.added r.such (value given) is given refl (subst (λ (o : Option Told). Compares o outs bytes holds_read (Ok tt) c.added) kept c.such);
+      such = compared bytes r.added c.added r.such (value given) is given refl (subst (λ (o : Option Told). Protects o outs bytes (Ok tt) c.added) kept c.such);
     }
 
-    pub grew_holds : (refusal : Refusal) (given : T) → kind.means bytes (value given) → Grew (Compares now outs bytes holds_read (Err refusal)) middle last → Grew (SparedStage {T = T} kind value files name outs (Err refusal)) before last
+    pub grew_holds : (refusal : Refusal) (given : T) → kind.means bytes (value given) → Grew (Protects now outs bytes (Err refusal)) middle last → Grew (SparedStage {T = T} kind value files name outs (Err refusal)) before last
     grew_holds refusal given is c = record {
       added = r.added ++ c.added;
       grown = both c.added c.grown;
-      such = unspared bytes r.added c.added r.such (value given) is refusal (subst (λ (o : Option Told). Compares o outs bytes holds_read (Err refusal) c.added) kept c.such);
+      such = unspared bytes r.added c.added r.such (value given) is refusal (subst (λ (o : Option Told). Protects o outs bytes (Err refusal) c.added) kept c.such);
     }
 
   -- and then comes what the value asks for, which reads nothing more
   module _ (rest : A → Meaning) (calls : List Call) where
-    opens : IsReading name calls ⊎ Then kind name (λ v. AreComparing outs) calls → (spared kind name outs rest).opens calls
+    opens : IsReading name calls ⊎ Then kind name (λ v. AreSparing outs) calls → (spared kind name outs rest).opens calls
     opens (inl reading) = inl reading
     opens (inr t) = inr (record { first = t.first; second = t.second; all = t.all; bytes = t.bytes; spells = t.spells; value = t.value; means = t.means; then = inl t.then })
 

@@ -1,5 +1,5 @@
 -- what is seen in some calls is seen in more, and known files show one thing
-use Rattle.ta_shell.proofs.Common.{◌≡◌, ◌+◌, ◌∙◌, List, ◌++◌, ℕ, length, length-append, Option, Some, None, sym, ap, arith, append_assoc, Call, Told, Meaning, Absent, Begins, HasBytes, HasMore, Part, Sight, Unlike, View, Whole, in_calls, in_files, seen, Answer}
+use Rattle.ta_shell.proofs.Common.{◌≡◌, ◌+◌, ◌∙◌, List, ◌++◌, ℕ, length, length-append, Option, Some, None, sym, ap, arith, append_assoc, Call, Told, Meaning, Absent, Begins, Leads, HasBytes, HasMore, Part, Sight, Unlike, View, Whole, in_calls, in_files, seen, Answer}
 
 -- what is seen in one view is seen in another
 abbrev pub Sub : View → View → Type 0
@@ -14,6 +14,7 @@ in_calls_within first calls later name (Whole bytes) p = part_within _ first cal
 in_calls_within first calls later name Absent p = part_within _ first calls later p
 in_calls_within first calls later name (Begins bytes) p = part_within _ first calls later p
 in_calls_within first calls later name (Unlike bytes) p = part_within _ first calls later p
+in_calls_within first calls later name (Leads other same) p = part_within _ first calls later p
 
 pub sub_within : (files : Option Told) (first calls later : List Call) → Sub (seen files calls) (seen files (first ++ (calls ++ later)))
 sub_within files first calls later name sight s = (in_calls_within first calls later name sight s.0, s.1)

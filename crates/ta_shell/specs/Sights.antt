@@ -1,18 +1,20 @@
 -- What is seen of files: what the calls of a run returned, and the files themselves where their contents are known.
-use Rattle.std.specs.Prelude.{ℕ, ◌≡◌, ◌≢◌, ◌<◌, ◌≤◌, List, ◌++◌, length, take, Option, None, Some}
+use Rattle.std.specs.Prelude.{ℕ, ◌≡◌, ◌≢◌, ◌<◌, ◌≤◌, Bool, Decides, List, [], ◌∷◌, ◌++◌, length, take, Option, None, Some, Ok}
 use Rattle.ta_shelf.specs.Calls.{Call, ReadsFirst, Spells, Stops}
 use Rattle.ta_shelf.specs.Compare.{TellsOther}
+use Rattle.ta_shelf.specs.Place.{asks_place}
 use Rattle.ta_shelf.specs.Put.{Told}
 use Rattle.ta_shelf.specs.ReadPiece.{BeginsWith}
 use Rattle.ta_shelf.specs.declared.fault.ShelfFault.TheVariants.{Missing}
 
 -- what is seen of a name: all bytes of its file, or that it has none, or the first bytes of its file, or that it does not hold exactly
--- these bytes
+-- these bytes; or whether it leads to the same place as this name
 pub data Sight : Type 0 where
   Whole : List ℕ → Sight
   Absent : Sight
   Begins : List ℕ → Sight
   Unlike : List ℕ → Sight
+  Leads : List ℕ → Bool → Sight
 
 -- what is seen of each name
 abbrev pub View : Type 1
@@ -24,6 +26,7 @@ in_files told name (Whole bytes) = told name ≡ Some bytes
 in_files told name Absent = told name ≡ None
 in_files told name (Begins bytes) = BeginsWith (told name) bytes
 in_files told name (Unlike bytes) = told name ≢ Some bytes
+in_files told name (Leads other same) = Decides same (name ≡ other)
 
 -- the same, if the files are known
 abbrev pub where_told : Option Told → View
@@ -44,6 +47,7 @@ in_calls calls name (Whole bytes) = Part (λ those. Spells name those bytes) cal
 in_calls calls name Absent = Part (λ those. Stops name those Missing) calls
 in_calls calls name (Begins bytes) = Part (λ those. (more : List ℕ) × ReadsFirst name those (bytes ++ more)) calls
 in_calls calls name (Unlike bytes) = Part (TellsOther name bytes) calls
+in_calls calls name (Leads other same) = Part (λ those. those ≡ asks_place name other (Ok same) ∷ []) calls
 
 -- in what the calls of a run returned, and in the files, if they are known
 abbrev pub seen : Option Told → List Call → View

@@ -1,5 +1,5 @@
 -- The names that the proofs of this crate cite, passed on from one place. Declares nothing.
-pub use Rattle.std.proofs.Common.{Bool, FitsSigned, IfOk, List, None, Ok, Option, Some, [], ap, append-nil, append_assoc, arith, codes, decimal, drop, false, get_or, inl, inr, length, length-append, lit<, map, nat_lt, negsuc, pos, refl, reverse, rules, slice_get, subst, suc, sym, take, true, zero, ℕ, ℤ, ◌*ℤ◌, ◌*◌, ◌++◌, ◌+ℤ◌, ◌+◌, ◌-◌, ◌<ℤ◌, ◌<◌, ◌^◌, ◌∙◌, ◌∷◌, ◌≡◌, ◌≤ℤ◌, ◌≤◌, ◌⊎◌}
+pub use Rattle.std.proofs.Common.{◌/◌, Bool, FitsSigned, IfOk, List, None, Ok, Option, Some, [], ap, append-nil, append_assoc, arith, codes, decimal, drop, false, get_or, inl, inr, length, length-append, lit<, map, nat_lt, negsuc, pos, refl, reverse, rules, slice_get, subst, suc, sym, take, true, zero, ℕ, ℤ, ◌*ℤ◌, ◌*◌, ◌++◌, ◌+ℤ◌, ◌+◌, ◌-◌, ◌<ℤ◌, ◌<◌, ◌^◌, ◌∙◌, ◌∷◌, ◌≡◌, ◌≤ℤ◌, ◌≤◌, ◌⊎◌}
 pub use Rattle.std.proofs.Math.IntN.{*ℤ_comm}
 pub use Rattle.std.proofs.lemmas.Bool.{cases_eq, cases_order, cond_both, false≢true, true≢false}
 pub use Rattle.std.proofs.lemmas.Bool.Decides.{nat_tests}
@@ -7,7 +7,7 @@ pub use Rattle.std.proofs.lemmas.Int.{by_lt_z, ints, to_z-of_z}
 pub use Rattle.std.proofs.lemmas.List.{length-map, map-append, reverse-reverse, take-append-drop, take_more}
 pub use Rattle.std.specs.Int.{int_div_euclid, int_rem_euclid, w128}
 pub use Rattle.std.specs.List.{AllByRecursion, take-map, range_with_len}
-pub use Rattle.std.specs.Prelude.{IsSomeAnd, filter, if◌then◌else◌, slice_index, unsigned_abs}
+pub use Rattle.std.specs.Prelude.{IsSomeAnd, min, filter, if◌then◌else◌, slice_index, unsigned_abs}
 pub use Rattle.ta_automaton.proofs.Thresholds.{pattern_within}
 pub use Rattle.ta_automaton.specs.Patterns.{PatternOver}
 pub use Rattle.ta_automaton.specs.declared.automaton.Automaton.{Automaton}
@@ -71,8 +71,10 @@ pub use Rattle.ta_simplex.specs.Refuted.{GivesMultipliers, IsRefuted}
 pub use Rattle.ta_simplex.specs.Vertex.{IsVertex}
 pub use Rattle.ta_simplex.specs.declared.fraction.Fraction.{Fraction}
 pub use Rattle.ta_walk.specs.Answers.{HasEnding, HasSystems, SearchesHaveEnds, WalksHaveEnds, WordsHaveSystems}
-pub use Rattle.ta_walk.specs.Ends.{Ending, EndingsAreDetermined, FoundWordsAreSolved, HasFewPairs, IsProof, IsShort, IsSpent, IsTreeEnd, IsUnbounded, IsVisitEnd, IsVisitEnding, IsVisited, IsWalkEnd, Left, NodeOf, RefutedClaimsHold, SolutionAt, Solved, Stopped, TreeIs, TreeKept, WalksAreDetermined, Whole, WholeNode, WholeNodesSolve, ScaledSolve, AreSolution, leaf_count}
+pub use Rattle.ta_walk.specs.Ends.{Ending, EndingsAreDetermined, FoundWordsAreSolved, HasFewPairs, IsProof, IsShort, IsSpent, IsTreeEnd, IsUnbounded, IsVisitEnd, IsVisitEnding, IsVisited, IsWalkEnd, Left, NodeOf, RefutedClaimsHold, SolutionAt, Solved, Stopped, TreeIs, TreeKept, WalksAreDetermined, Whole, WholeNode, WholeNodesSolve, ScaledSolve, AreSolution, leaf_count, node_count, visit_count}
 pub use Rattle.ta_walk.specs.FoundOrders.{AreSoundOrders, FoundAfter, FoundBefore, FoundOrdersAreDetermined, FoundOrdersAreSound, IsTaken, RefutedPair, TryAnswers}
+pub use Rattle.ta_walk.specs.Inside.Counted.{IsCounted, RoseBy, StretchCounted, VisitCounted}
+pub use Rattle.ta_walk.specs.Work.{Rose, most_begun}
 pub use Rattle.ta_walk.specs.Inside.Parts.{ComesTo, HasFewBounds, HasFewLeft, IsLaterKeeper, IsNotRefuted, IsWholeEnd, LeadsToBoth, PartEnds, PartVisited, SharesBudget, beginning, behind, root_node}
 pub use Rattle.ta_walk.specs.Inside.Sought.{ComesFirst, GuardTried, MasksAgree, PairTried}
 pub use Rattle.ta_walk.specs.Samples.{IsSampleEnd, SampleAt, SampleEndsAreDetermined, SampleFound, SampleRefuted, SamplesAreReal}

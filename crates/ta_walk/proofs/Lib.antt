@@ -30,6 +30,7 @@ mod VisitsJoined
 mod EndsBehind
 mod RootsListed
 mod PartsMerged
+mod NodesCounted
 mod FewBounds
 mod WordSoFar
 mod ChildrenOnce

@@ -147,6 +147,13 @@ IsVisitEnd s number budget Keeps (visit.Found count solution) = IsWalkEnd s numb
 IsVisitEnd s number budget Keeps (visit.Spent count) = IsWalkEnd s number budget (Spent count)
 IsVisitEnd s number budget Keeps (visit.Overflow node kind) = IsWalkEnd s number budget (Overflow node kind)
 
+-- the same of the visit of a pattern's tree
+abbrev pub visit_count : VisitEnd → ℕ
+visit_count (visit.Refuted count leaves) = count
+visit_count (visit.Found count solution) = count
+visit_count (visit.Spent count) = count
+visit_count (visit.Overflow node kind) = node
+
 -- a walk has one end
 abbrev pub WalksAreDetermined : Type 0
 WalksAreDetermined = (s : Search Element) (number budget : ℕ) (e f : WalkEnd) → IsWalkEnd s number budget e → IsWalkEnd s number budget f → e ≡ f

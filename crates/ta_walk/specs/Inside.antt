@@ -1,3 +1,4 @@
 pub mod Solving
 pub mod Sought
 pub mod Parts
+pub mod Counted

@@ -1,4 +1,5 @@
 pub mod Visit
+pub mod Work
 pub mod Ends
 pub mod Samples
 pub mod FoundOrders

@@ -3,13 +3,18 @@
 //! The tree is visited twice at most. The first visit may abandon parts (part.rt). Its end counts
 //! unless it says that the budget is spent at fewer nodes than the budget has: then a part was
 //! abandoned whose result matters. The second visit is patient: it abandons none, so its end is
-//! that of one thread. By the counts on the board it never happens, but no proof says so. The nodes
-//! of a visit go to a keeper of their own and are handed on once its end counts.
+//! that of one thread; it doesn't fork. By the counts on the board it never happens, but no proof
+//! says so. The nodes of a visit go to a keeper of their own and are handed on once its end counts.
+//!
+//! So a budget of n nodes begins at most (`MOST_FORKS` + 1) n nodes in the first visit and n in the
+//! second one.
 #![tactic(auto)]
 
-ghost use Rattle.std.specs.Prelude.{◌≤◌, ◌≡◌, [], IfNone, IfOk, IfSome, is_some, true, false};
+ghost use Rattle.std.specs.Prelude.{◌+◌, ◌*◌, ◌≤◌, ◌≡◌, [], IfNone, IfOk, IfSome, is_some, true, false};
 ghost use Rattle.ta_claim.specs.Trees.{search_of_claim};
-ghost use Rattle.ta_walk.specs.Ends.{IsWalkEnd, IsTreeEnd, IsVisitEnd};
+ghost use Rattle.ta_walk.specs.Ends.{IsWalkEnd, IsTreeEnd, IsVisitEnd, node_count, visit_count};
+ghost use Rattle.ta_walk.specs.Work.{Rose, most_begun};
+ghost use Rattle.ta_walk.specs.Inside.Counted.{VisitCounted};
 ghost use Rattle.ta_walk.specs.Inside.Parts.{IsSmallEnd, IsWholeEnd};
 
 use crate::end::{TreeEnd, VisitEnd, WalkEnd};
@@ -18,6 +23,7 @@ use crate::gate::{Gate, Idle};
 use crate::keeper::{Keeper, Nodes, PartKeeper};
 use crate::part::{BESIDE, Board, Part, Watch};
 use crate::roots::roots_of;
+use crate::work::{MOST_FORKS, Work};
 use std::alloc::{AllocError, Global};
 use std::thread::{Threads, available_parallelism};
 use ta_base::List;
@@ -62,7 +68,8 @@ pub fn walk_gated<D: Dictionary, R: Threads + Sync, G: Gate>(
     let mut kept = Nodes {
         items: Vec::new(alloc),
     };
-    match visit_gated::<D, Nodes, R, G>(rt, alloc, tree, nodes, &mut kept, gate)? {
+    let mut work = Work::new();
+    match visit_gated::<D, Nodes, R, G>(rt, alloc, tree, nodes, &mut kept, gate, &mut work)? {
         VisitEnd::Refuted { count, .. } => Ok(WalkEnd::Refuted {
             nodes: List::from_vec(kept.items),
             count,
@@ -86,7 +93,26 @@ pub fn visit<D: Dictionary, K: PartKeeper, R: Threads + Sync>(
     requires keeps { K.keeps keeper.old keeper.old [] }
     ensures { IfOk result (IsVisitEnd (search_of_claim tree.now) tree.now.number nodes (K.keeps keeper.old keeper.new)) }
 {
-    visit_gated::<D, K, R, Idle>(rt, alloc, tree, nodes, keeper, &Idle {})
+    let mut work = Work::new();
+    visit_counted::<D, K, R>(rt, alloc, tree, nodes, keeper, &mut work)
+}
+
+/// Visits the tree of a claim as `visit` does, and counts the nodes that it begins, in all threads
+/// and in both visits, those of dropped parts included.
+pub fn visit_counted<D: Dictionary, K: PartKeeper, R: Threads + Sync>(
+    rt: &R,
+    alloc: Global,
+    tree: &ClaimTree<'_>,
+    nodes: u64,
+    keeper: &mut K,
+    work: &mut Work,
+) -> Result<VisitEnd, AllocError>
+    requires limit { nodes ≤ MOST_NODES }
+    requires keeps { K.keeps keeper.old keeper.old [] }
+    ensures ends { IfOk result (IsVisitEnd (search_of_claim tree.now) tree.now.number nodes (K.keeps keeper.old keeper.new)) }
+    ensures counted { IfOk result (λ end. Rose work.old.begun work.new.begun (visit_count end) (most_begun nodes)) }
+{
+    visit_gated::<D, K, R, Idle>(rt, alloc, tree, nodes, keeper, &Idle {}, work)
 }
 
 /// Visits the tree of a claim as `visit` does, through a gate.
@@ -97,12 +123,14 @@ fn visit_gated<D: Dictionary, K: PartKeeper, R: Threads + Sync, G: Gate>(
     nodes: u64,
     keeper: &mut K,
     gate: &G,
+    work: &mut Work,
 ) -> Result<VisitEnd, AllocError>
     requires limit { nodes ≤ MOST_NODES }
     requires keeps { K.keeps keeper.old keeper.old [] }
-    ensures { IfOk result (IsVisitEnd (search_of_claim tree.now) tree.now.number nodes (K.keeps keeper.old keeper.new)) }
+    ensures ends { IfOk result (IsVisitEnd (search_of_claim tree.now) tree.now.number nodes (K.keeps keeper.old keeper.new)) }
+    ensures counted { IfOk result (λ end. Rose work.old.begun work.new.begun (visit_count end) (most_begun nodes)) }
 {
-    match fork_tree::<D, K, R, G>(rt, alloc, tree, nodes, gate, keeper)? {
+    match fork_tree::<D, K, R, G>(rt, alloc, tree, nodes, gate, keeper, work)? {
         TreeEnd::Refuted { count, leaves } => Ok(VisitEnd::Refuted { count, leaves }),
         TreeEnd::Found {
             count,
@@ -133,16 +161,18 @@ fn fork_tree<D: Dictionary, K: PartKeeper, R: Threads + Sync, G: Gate>(
     nodes: u64,
     gate: &G,
     keeper: &mut K,
+    work: &mut Work,
 ) -> Result<TreeEnd<Element>, AllocError>
     requires limit { nodes ≤ MOST_NODES }
     requires keeps { K.keeps keeper.old keeper.old [] }
-    ensures { IfOk result (IsTreeEnd (search_of_claim tree.now) nodes (K.keeps keeper.old keeper.new)) }
+    ensures ends { IfOk result (IsTreeEnd (search_of_claim tree.now) nodes (K.keeps keeper.old keeper.new)) }
+    ensures counted { IfOk result (λ end. Rose work.old.begun work.new.begun (node_count end) (most_begun nodes)) }
 {
-    let hasty = visit_parts::<D, K, R, G>(rt, alloc, tree, nodes, gate, false, keeper)?;
+    let hasty = visit_parts::<D, K, R, G>(rt, alloc, tree, nodes, gate, false, keeper, work)?;
     if let Some(end) = hasty {
         return Ok(end);
     }
-    let patient = visit_parts::<D, K, R, G>(rt, alloc, tree, nodes, gate, true, keeper)?;
+    let patient = visit_parts::<D, K, R, G>(rt, alloc, tree, nodes, gate, true, keeper, work)?;
     match patient {
         Some(end) => Ok(end),
         None => unreachable!(),
@@ -159,19 +189,27 @@ fn visit_parts<D: Dictionary, K: PartKeeper, R: Threads + Sync, G: Gate>(
     gate: &G,
     patient: bool,
     keeper: &mut K,
+    work: &mut Work,
 ) -> Result<Option<TreeEnd<Element>>, AllocError>
     requires limit { nodes ≤ MOST_NODES }
     requires keeps { K.keeps keeper.old keeper.old [] }
     ensures ends { IfOk result (λ end. IfSome end (IsTreeEnd (search_of_claim tree.now) nodes (K.keeps keeper.old keeper.new))) }
     ensures patient { patient ≡ true → IfOk result (λ end. is_some end ≡ true) }
     ensures kept { IfOk result (λ end. is_some end ≡ false → keeper.new ≡ keeper.old) }
+    ensures counted { IfOk result (VisitCounted work.old.begun work.new.begun ((MOST_FORKS + 1) * nodes)) }
+    ensures alone { patient ≡ true → IfOk result (λ end. work.new.begun ≤ work.old.begun + nodes) }
 {
     let board = Board::new(alloc, nodes, most_beside(rt))?;
     let watch = Watch::new(&board, patient);
     let late = keeper.later(alloc)?;
     let starts = roots_of(alloc, tree)?;
     let part = visit_list::<D, K, R, G>(rt, alloc, tree, gate, watch, starts, nodes, late)?;
-    let Part { end, keeper: late } = part;
+    let Part {
+        end,
+        keeper: late,
+        begun,
+    } = part;
+    work.add(begun);
     match whole_end(nodes, end) {
         None => Ok(None),
         Some(end) => {

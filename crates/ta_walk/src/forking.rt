@@ -16,7 +16,10 @@
 //! reaches the whole visit, it is repeated without abandoning any (forked.rt).
 //!
 //! Cost: later parts may visit nodes that one thread would not reach, and each part keeps
-//! dictionaries of its own.
+//! dictionaries of its own. Both halves of a fork have the budget that is left, so a fork adds at
+//! most one budget to the nodes that are begun. A part may fork only so often (`forks` of `Watch`),
+//! and the halves of a fork share what is left: inside a tree, the second half, whose trees are
+//! larger, has two thirds. So a part with f forks begins at most the nodes of its end and f budgets.
 #![tactic(auto)]
 
 ghost use Rattle.std.specs.Prelude.{◌+◌, ◌-◌, ◌<◌, ◌≤◌, ◌^◌, ◌≡◌, ◌++◌, [], ◌∷◌, IfOk, map, true, vec_len};
@@ -25,6 +28,7 @@ ghost use denote.Param.Send.{IsSend, IsSync};
 ghost use Rattle.ta_claim.specs.Trees.{IsKeptFor, search_of_claim};
 ghost use Rattle.ta_cursor.specs.Cursors.{left_at};
 ghost use Rattle.ta_simplex.specs.Branch.{IsBranch};
+ghost use Rattle.ta_walk.specs.Inside.Counted.{IsCounted};
 ghost use Rattle.ta_walk.specs.Inside.Parts.{IsLaterKeeper, ComesTo, IsSmallEnd, IsWholeEnd, PartVisited, HasFewLeft, beginning, root_node};
 
 use crate::end::TreeEnd;
@@ -33,6 +37,7 @@ use crate::keeper::{Keeper, PartKeeper};
 use crate::merging::{add, end_behind, merge, refuted};
 use crate::part::{Part, Watch};
 use crate::visiting::{Stretch, visit_stretch};
+use crate::work::Work;
 use std::alloc::{AllocError, Global};
 use std::sync::atomic::AtomicU64;
 use std::thread::{Threads, join};
@@ -63,6 +68,7 @@ pub(crate) fn visit_list<D: Dictionary, K: PartKeeper, R: Threads + Sync, G: Gat
     ensures visited { IfOk result (λ part. PartVisited K.keeps (beginning (search_of_claim tree.now) (map root_node starts.items)) nodes keeper part.keeper part.end) }
     ensures small { IfOk result (λ part. IsSmallEnd nodes part.end) }
     ensures patient { watch.entry.patient ≡ true → IfOk result (λ part. IsWholeEnd nodes part.end) }
+    ensures counted { IfOk result (λ part. IsCounted nodes watch.entry.forks part.end part.begun) }
 {
     let mut starts = starts;
     if starts.len() < 2 {
@@ -73,6 +79,7 @@ pub(crate) fn visit_list<D: Dictionary, K: PartKeeper, R: Threads + Sync, G: Gat
                     leaves: 0,
                 },
                 keeper,
+                begun: 0,
             }),
             Some(start) => visit_start::<D, K, R, G>(
                 rt, alloc, tree, gate, watch, start, nodes, keeper,
@@ -105,6 +112,7 @@ fn visit_halves<D: Dictionary, K: PartKeeper, R: Threads + Sync, G: Gate>(
     ensures visited { IfOk result (λ part. PartVisited K.keeps (beginning (search_of_claim tree.now) (map root_node starts.items ++ map root_node others.items)) nodes keeper part.keeper part.end) }
     ensures small { IfOk result (λ part. IsSmallEnd nodes part.end) }
     ensures patient { watch.entry.patient ≡ true → IfOk result (λ part. IsWholeEnd nodes part.end) }
+    ensures counted { IfOk result (λ part. IsCounted nodes watch.entry.forks part.end part.begun) }
 {
     let late = keeper.later(alloc)?;
     if watch.goes_beside() {
@@ -112,15 +120,23 @@ fn visit_halves<D: Dictionary, K: PartKeeper, R: Threads + Sync, G: Gate>(
             rt, alloc, tree, gate, watch, starts, others, keeper, late, nodes,
         );
     }
-    let low = watch.first_half();
-    let high = watch.second_half();
+    let low = watch.first_half(watch.forks / 2);
+    let high = watch.second_half(watch.forks / 2);
     let first = visit_list::<D, K, R, G>(rt, alloc, tree, gate, low, starts, nodes, keeper)?;
     let Some((count, leaves)) = refuted(&first.end) else {
         return Ok(first);
     };
     let left = nodes - count;
     let second = visit_list::<D, K, R, G>(rt, alloc, tree, gate, high, others, left, late)?;
-    add(alloc, nodes, count, leaves, first.keeper, second)
+    add(
+        alloc,
+        nodes,
+        count,
+        leaves,
+        first.begun,
+        first.keeper,
+        second,
+    )
 }
 
 /// Visits the starts of the halves of a list beside each other.
@@ -143,12 +159,14 @@ fn visit_beside<D: Dictionary, K: PartKeeper, R: Threads + Sync, G: Gate>(
     requires few { vec_len starts + vec_len others ≤ 2 ^ 31 }
     requires limit { nodes ≤ MOST_NODES }
     requires fresh { IsLaterKeeper K.begins K.keeps keeper late }
+    requires forks { 0 < watch.forks }
     ensures visited { IfOk result (λ part. PartVisited K.keeps (beginning (search_of_claim tree.now) (map root_node starts.items ++ map root_node others.items)) nodes keeper part.keeper part.end) }
     ensures small { IfOk result (λ part. IsSmallEnd nodes part.end) }
     ensures patient { watch.entry.patient ≡ true → IfOk result (λ part. IsWholeEnd nodes part.end) }
+    ensures counted { IfOk result (λ part. IsCounted nodes watch.entry.forks part.end part.begun) }
 {
-    let low = watch.first_half();
-    let high = watch.half_beside();
+    let low = watch.first_half(watch.forks / 2);
+    let high = watch.half_beside((watch.forks - 1) / 2);
     let ended = AtomicU64::new(0);
     let ended = &ended;
     let front = move || -> Result<Part<K>, AllocError>
@@ -156,6 +174,7 @@ fn visit_beside<D: Dictionary, K: PartKeeper, R: Threads + Sync, G: Gate>(
         ensures visited { IfOk result (λ part. PartVisited K.keeps (beginning (search_of_claim tree.entry.now) (map root_node starts.items)) nodes keeper part.keeper part.end) }
         ensures small { IfOk result (λ part. IsSmallEnd nodes part.end) }
         ensures patient { low.entry.patient ≡ true → IfOk result (λ part. IsWholeEnd nodes part.end) }
+        ensures counted { IfOk result (λ part. IsCounted nodes low.entry.forks part.end part.begun) }
     {
         gate.enter();
         let part = visit_list::<D, K, R, G>(rt, alloc, tree, gate, low, starts, nodes, keeper);
@@ -167,6 +186,7 @@ fn visit_beside<D: Dictionary, K: PartKeeper, R: Threads + Sync, G: Gate>(
         ensures visited { IfOk result (λ part. PartVisited K.keeps (beginning (search_of_claim tree.entry.now) (map root_node others.items)) nodes late part.keeper part.end) }
         ensures small { IfOk result (λ part. IsSmallEnd nodes part.end) }
         ensures patient { high.entry.patient ≡ true → IfOk result (λ part. IsWholeEnd nodes part.end) }
+        ensures counted { IfOk result (λ part. IsCounted nodes high.entry.forks part.end part.begun) }
     {
         gate.enter();
         let part = visit_list::<D, K, R, G>(rt, alloc, tree, gate, high, others, nodes, late);
@@ -194,6 +214,7 @@ fn visit_start<D: Dictionary, K: PartKeeper, R: Threads + Sync, G: Gate>(
     ensures visited { IfOk result (λ part. PartVisited K.keeps (beginning (search_of_claim tree.now) (root_node start ∷ [])) nodes keeper part.keeper part.end) }
     ensures small { IfOk result (λ part. IsSmallEnd nodes part.end) }
     ensures patient { watch.entry.patient ≡ true → IfOk result (λ part. IsWholeEnd nodes part.end) }
+    ensures counted { IfOk result (λ part. IsCounted nodes watch.entry.forks part.end part.begun) }
 {
     let cursor = Cursor::new(alloc, start);
     visit_tree_at::<D, K, R, G>(rt, alloc, tree, gate, watch, cursor, nodes, keeper)
@@ -216,6 +237,7 @@ fn visit_tree_at<D: Dictionary, K: PartKeeper, R: Threads + Sync, G: Gate>(
     ensures visited { IfOk result (λ part. PartVisited K.keeps (beginning (search_of_claim tree.now) (left_at (search_of_claim tree.now) cursor)) nodes keeper part.keeper part.end) }
     ensures small { IfOk result (λ part. IsSmallEnd nodes part.end) }
     ensures patient { watch.entry.patient ≡ true → IfOk result (λ part. IsWholeEnd nodes part.end) }
+    ensures counted { IfOk result (λ part. IsCounted nodes watch.entry.forks part.end part.begun) }
 {
     let kept = tree.nothing(alloc);
     let branch: Branch<D> = Branch::new(alloc);
@@ -246,11 +268,13 @@ fn visit_on<D: Dictionary, K: PartKeeper, R: Threads + Sync, G: Gate>(
     ensures visited { IfOk result (λ part. PartVisited K.keeps (beginning (search_of_claim tree.now) (left_at (search_of_claim tree.now) cursor)) nodes keeper part.keeper part.end) }
     ensures small { IfOk result (λ part. IsSmallEnd nodes part.end) }
     ensures patient { watch.entry.patient ≡ true → IfOk result (λ part. IsWholeEnd nodes part.end) }
+    ensures counted { IfOk result (λ part. IsCounted nodes watch.entry.forks part.end part.begun) }
 {
     let mut cursor = cursor;
     let mut kept = kept;
     let mut branch = branch;
     let mut keeper = keeper;
+    let mut work = Work::new();
     match visit_stretch::<D, ClaimTree<'_>, K>(
         alloc,
         tree,
@@ -260,10 +284,15 @@ fn visit_on<D: Dictionary, K: PartKeeper, R: Threads + Sync, G: Gate>(
         &mut branch,
         nodes,
         &mut keeper,
+        &mut work,
     )? {
         Stretch::Ended(end) => {
             watch.tell(&end);
-            Ok(Part { end, keeper })
+            Ok(Part {
+                end,
+                keeper,
+                begun: work.begun,
+            })
         }
         Stretch::Shared {
             count,
@@ -274,9 +303,11 @@ fn visit_on<D: Dictionary, K: PartKeeper, R: Threads + Sync, G: Gate>(
             let part = visit_shared::<D, K, R, G>(
                 rt, alloc, tree, gate, watch, cursor, later, kept, branch, left, keeper,
             )?;
+            work.add(part.begun);
             Ok(Part {
                 end: end_behind(nodes, count, leaves, part.end),
                 keeper: part.keeper,
+                begun: work.begun,
             })
         }
     }
@@ -300,16 +331,18 @@ fn visit_shared<D: Dictionary, K: PartKeeper, R: Threads + Sync, G: Gate>(
 ) -> Result<Part<K>, AllocError>
     requires stands { HasFewLeft (search_of_claim tree.now) nodes cursor }
     requires later { HasFewLeft (search_of_claim tree.now) nodes later }
+    requires forks { 0 < watch.forks }
     requires limit { nodes ≤ MOST_NODES }
     requires kept { IsKeptFor tree.now kept }
     requires branch { IsBranch D.tableau D.pivot_of kept.system.rows branch }
     ensures visited { IfOk result (λ part. PartVisited K.keeps (beginning (search_of_claim tree.now) (left_at (search_of_claim tree.now) cursor ++ left_at (search_of_claim tree.now) later)) nodes keeper part.keeper part.end) }
     ensures small { IfOk result (λ part. IsSmallEnd nodes part.end) }
     ensures patient { watch.entry.patient ≡ true → IfOk result (λ part. IsWholeEnd nodes part.end) }
+    ensures counted { IfOk result (λ part. IsCounted nodes watch.entry.forks part.end part.begun) }
 {
     let late = keeper.later(alloc)?;
-    let low = watch.first_half();
-    let high = watch.half_beside();
+    let low = watch.first_half(watch.forks / 3);
+    let high = watch.half_beside(watch.forks - 1 - watch.forks / 3);
     let ended = AtomicU64::new(0);
     let ended = &ended;
     let back = move || -> Result<Part<K>, AllocError>
@@ -317,6 +350,7 @@ fn visit_shared<D: Dictionary, K: PartKeeper, R: Threads + Sync, G: Gate>(
         ensures visited { IfOk result (λ part. PartVisited K.keeps (beginning (search_of_claim tree.entry.now) (left_at (search_of_claim tree.entry.now) later)) nodes late part.keeper part.end) }
         ensures small { IfOk result (λ part. IsSmallEnd nodes part.end) }
         ensures patient { high.entry.patient ≡ true → IfOk result (λ part. IsWholeEnd nodes part.end) }
+        ensures counted { IfOk result (λ part. IsCounted nodes high.entry.forks part.end part.begun) }
     {
         gate.enter();
         let part = visit_tree_at::<D, K, R, G>(rt, alloc, tree, gate, high, later, nodes, late);
@@ -328,6 +362,7 @@ fn visit_shared<D: Dictionary, K: PartKeeper, R: Threads + Sync, G: Gate>(
         ensures visited { IfOk result (λ part. PartVisited K.keeps (beginning (search_of_claim tree.entry.now) (left_at (search_of_claim tree.entry.now) cursor)) nodes keeper part.keeper part.end) }
         ensures small { IfOk result (λ part. IsSmallEnd nodes part.end) }
         ensures patient { low.entry.patient ≡ true → IfOk result (λ part. IsWholeEnd nodes part.end) }
+        ensures counted { IfOk result (λ part. IsCounted nodes low.entry.forks part.end part.begun) }
     {
         gate.enter();
         let part = visit_on::<D, K, R, G>(

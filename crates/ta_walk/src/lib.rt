@@ -35,10 +35,11 @@ mod sampling;
 mod vertex;
 mod visiting;
 mod walking;
+mod work;
 
 pub use end::{PlaceKind, SampleEnd, TreeEnd, VisitEnd, WalkEnd};
 pub use finding::{OrdersFound, find_orders};
-pub use forked::{most_beside, visit, walk, walk_gated};
+pub use forked::{most_beside, visit, visit_counted, walk, walk_gated};
 pub use gate::{Gate, Idle};
 pub use keeper::{Keeper, Nothing, PartKeeper};
 pub use laws::{
@@ -50,3 +51,4 @@ pub use maker::Maker;
 pub use orders_laws::{found_orders_are_determined, found_orders_are_sound};
 pub use sampling::sample;
 pub use walking::{visit_tree, visit_tree_along};
+pub use work::{MOST_FORKS, Work};

@@ -9,6 +9,7 @@
 ghost use Rattle.std.specs.Prelude.{ℕ, ◌+◌, ◌-◌, ◌<◌, ◌≤◌, ◌≡◌, ◌++◌, IfNone, IfOk, IfSome, List};
 ghost use Rattle.ta_encode.specs.Search.{Pending, Search};
 ghost use Rattle.ta_walk.specs.declared.end.TreeEnd.TheVariants.{Refuted};
+ghost use Rattle.ta_walk.specs.Inside.Counted.{IsCounted, RoseBy};
 ghost use Rattle.ta_walk.specs.Inside.Parts.{IsLaterKeeper, IsNotRefuted, IsSmallEnd, IsWholeEnd, PartVisited, beginning, behind};
 ghost use Rattle.ta_words.specs.declared.element.Element.{Element};
 
@@ -35,22 +36,27 @@ pub(crate) fn merge<K: PartKeeper>(
         → IfOk result (λ whole. PartVisited K.keeps (beginning s (ws ++ vs)) nodes begun whole.keeper whole.end) }
     ensures small { IfOk result (λ whole. IsSmallEnd nodes whole.end) }
     ensures whole { IsWholeEnd nodes first.end → IsWholeEnd nodes second.end → IfOk result (λ whole. IsWholeEnd nodes whole.end) }
+    ensures begun { IfOk result (λ whole. RoseBy first.begun second.begun whole.begun) }
+    ensures counted { (low high : ℕ) → IsCounted nodes low first.end first.begun → IsCounted nodes high second.end second.begun → IfOk result (λ whole. IsCounted nodes (low + high + 1) whole.end whole.begun) }
 {
+    let begun = first.begun;
     let Some((count, leaves)) = refuted(&first.end) else {
         return Ok(Part {
             end: first.end,
             keeper: first.keeper,
+            begun: begun.saturating_add(second.begun),
         });
     };
-    add(alloc, nodes, count, leaves, first.keeper, second)
+    add(alloc, nodes, count, leaves, begun, first.keeper, second)
 }
 
-/// A refuted part, and one behind it, as one.
+/// A refuted part, which began so many nodes, and one behind it, as one.
 pub(crate) fn add<K: PartKeeper>(
     alloc: Global,
     nodes: u64,
     count: u64,
     leaves: u64,
+    begun: u64,
     keeper: K,
     second: Part<K>,
 ) -> Result<Part<K>, AllocError>
@@ -63,12 +69,16 @@ pub(crate) fn add<K: PartKeeper>(
         → IfOk result (λ whole. PartVisited K.keeps (beginning s (ws ++ vs)) nodes begun whole.keeper whole.end) }
     ensures small { IfOk result (λ whole. IsSmallEnd nodes whole.end) }
     ensures whole { (later : ℕ) → nodes ≤ later + count → IsWholeEnd later second.end → IfOk result (λ whole. IsWholeEnd nodes whole.end) }
+    ensures end { IfOk result (λ whole. whole.end ≡ behind nodes count leaves second.end) }
+    ensures begun { IfOk result (λ whole. RoseBy begun second.begun whole.begun) }
 {
+    let begun = begun.saturating_add(second.begun);
     let mut keeper = keeper;
     keeper.append(alloc, second.keeper)?;
     Ok(Part {
         end: end_behind(nodes, count, leaves, second.end),
         keeper,
+        begun,
     })
 }
 

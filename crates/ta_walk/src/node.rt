@@ -17,12 +17,14 @@ ghost use Rattle.ta_cursor.specs.TreeCalls.{IsSmall};
 ghost use Rattle.ta_dense.specs.Slack.{variables};
 ghost use Rattle.ta_simplex.specs.Branch.{IsBranch, SharesRows};
 ghost use Rattle.ta_simplex.specs.Refuted.{IsRefuted};
+ghost use Rattle.ta_walk.specs.Inside.Counted.{RoseBy};
 ghost use Rattle.ta_walk.specs.Inside.Solving.{OnInner, SolvedAt};
 ghost use Rattle.ta_walk.specs.Visit.{VertexAt};
 
 use crate::end::PlaceKind;
 use crate::maker::Maker;
 use crate::vertex::{first_split, whole_values};
+use crate::work::Work;
 use std::alloc::{AllocError, Global};
 use ta_base::List;
 use ta_base::limits::MOST_NODES;
@@ -63,7 +65,8 @@ pub(crate) fn grow<T: Tree>(
 }
 
 /// Solves the system that is kept of the node at a cursor, so many of whose first rows are those of
-/// the node before, along the branch on which it stands.
+/// the node before, along the branch on which it stands. The node counts as begun, whatever comes of
+/// it.
 pub(crate) fn solve_node<D: Dictionary, T: Maker>(
     alloc: Global,
     tree: &T,
@@ -71,6 +74,7 @@ pub(crate) fn solve_node<D: Dictionary, T: Maker>(
     kept: &T::Kept,
     same: usize,
     branch: &mut Branch<D>,
+    work: &mut Work,
 ) -> Result<Solved, AllocError>
     requires few { length cursor.now.bounds.items ≤ MOST_NODES }
     requires word { IsWord (T.search tree.now) (here cursor.now) }
@@ -81,7 +85,9 @@ pub(crate) fn solve_node<D: Dictionary, T: Maker>(
     requires branch { SharesRows D.tableau D.pivot_of branch.old same (T.system_of kept.now).rows }
     ensures branch { IfOk result (λ solved. OnInner solved (IsBranch D.tableau D.pivot_of (T.system_of kept.now).rows branch.new)) }
     ensures solved { IfOk result (SolvedAt (T.search tree.now) (here cursor.now)) }
+    ensures counted { RoseBy work.old.begun 1 work.new.begun }
 {
+    work.add(1);
     let system = tree.system(kept);
     match branch.solve(alloc, system, same) {
         Err(SolveFault::Memory) => Err(AllocError),

@@ -15,18 +15,21 @@
 //! time and no result (forked.rt).
 #![tactic(auto)]
 
-ghost use Rattle.std.specs.Prelude.{◌≡◌, true, false};
+ghost use Rattle.std.specs.Prelude.{◌≡◌, ◌<◌, ◌≤◌, true, false};
 
 use crate::end::TreeEnd;
+use crate::work::MOST_FORKS;
 use std::alloc::{AllocError, Global};
 use std::sync::atomic::{AtomicU64, Ordering};
 use ta_words::Element;
 
-/// How a part of a visit ended, and what keeps its nodes.
+/// How a part of a visit ended, what keeps its nodes, and how many nodes it began, those of dropped
+/// parts of it included.
 #[derive(Drop)]
 pub(crate) struct Part<K: Drop> {
     pub end: TreeEnd<Element>,
     pub keeper: K,
+    pub begun: u64,
 }
 
 /// How many parts run beside the first one at most.
@@ -136,14 +139,18 @@ pub(crate) struct Watch<'a> {
     pub number: usize,
     /// How many nodes count as visited since words were given away.
     pub since: u64,
+    /// How often the part may fork. The halves of a fork share what is left.
+    pub forks: u64,
     /// Whether the part is never given up.
     pub patient: bool,
 }
 
 impl<'a> Watch<'a> {
-    /// The watch of a whole visit.
+    /// The watch of a whole visit. A patient one doesn't fork.
     pub fn new(board: &'a Board, patient: bool) -> Watch<'a>
-        ensures { result.patient ≡ patient }
+        ensures patient { result.patient ≡ patient }
+        ensures forks { result.forks ≤ MOST_FORKS }
+        ensures alone { patient ≡ true → result.forks ≡ 0 }
     {
         Watch {
             board,
@@ -151,6 +158,7 @@ impl<'a> Watch<'a> {
             width: u64::MAX,
             number: 0,
             since: EACH - 1,
+            forks: if patient { 0 } else { MOST_FORKS },
             patient,
         }
     }
@@ -186,9 +194,11 @@ impl<'a> Watch<'a> {
     }
 
     /// Whether half of the part may run beside the other one. It is counted then.
-    pub fn goes_beside(&self) -> bool {
+    pub fn goes_beside(&self) -> bool
+        ensures { result ≡ true → 0 < self.now.forks }
+    {
         let beside = &self.board.beside;
-        if self.width < 2 || beside.load(Ordering::SeqCst) >= self.board.most {
+        if self.forks == 0 || self.width < 2 || beside.load(Ordering::SeqCst) >= self.board.most {
             return false;
         }
         if beside.fetch_add(1, Ordering::SeqCst) < self.board.most {
@@ -211,34 +221,40 @@ impl<'a> Watch<'a> {
         }
     }
 
-    /// The watch of the first half of the part.
-    pub fn first_half(&self) -> Watch<'a>
-        ensures { result.patient ≡ self.now.patient }
+    /// The watch of the first half of the part, which may fork so often.
+    pub fn first_half(&self, forks: u64) -> Watch<'a>
+        ensures patient { result.patient ≡ self.now.patient }
+        ensures forks { result.forks ≡ forks }
     {
         Watch {
             width: self.width / 2,
             since: 0,
+            forks,
             ..*self
         }
     }
 
-    /// The watch of the second half, by the same thread.
-    pub fn second_half(&self) -> Watch<'a>
-        ensures { result.patient ≡ self.now.patient }
+    /// The watch of the second half, by the same thread, which may fork so often.
+    pub fn second_half(&self, forks: u64) -> Watch<'a>
+        ensures patient { result.patient ≡ self.now.patient }
+        ensures forks { result.forks ≡ forks }
     {
         Watch {
             at: self.at.saturating_add(self.width / 2),
             width: self.width / 2,
             since: 0,
+            forks,
             ..*self
         }
     }
 
-    /// The watch of the second half, beside the first one: its nodes have a count of their own.
-    pub fn half_beside(&self) -> Watch<'a>
-        ensures { result.patient ≡ self.now.patient }
+    /// The watch of the second half, beside the first one, which may fork so often: its nodes have a
+    /// count of their own.
+    pub fn half_beside(&self, forks: u64) -> Watch<'a>
+        ensures patient { result.patient ≡ self.now.patient }
+        ensures forks { result.forks ≡ forks }
     {
-        let half = self.second_half();
+        let half = self.second_half(forks);
         Watch {
             number: self.board.claim(half.at, self.number),
             ..half

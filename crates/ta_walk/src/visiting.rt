@@ -1,13 +1,14 @@
 //! The visit of the tree at a cursor by one thread, up to its end or to the next fork.
 #![tactic(auto)]
 
-ghost use Rattle.std.specs.Prelude.{◌+◌, ◌<◌, ◌≤◌, ◌≡◌, ◌++◌, [], ◌∷◌, IfOk, List, MatchOption, Some, None, true};
+ghost use Rattle.std.specs.Prelude.{◌+◌, ◌<◌, ◌≤◌, ◌≡◌, ◌++◌, [], ◌∷◌, IfOk, IfSome, List, MatchOption, Some, None, true};
 ghost use Rattle.ta_cert.specs.declared.line.Node.{Node};
 ghost use Rattle.ta_encode.specs.Search.{Pending, parts};
 ghost use Rattle.ta_cursor.specs.Cursors.{GoesOn, IsShared, IsWithin, Within, here, left_at};
 ghost use Rattle.ta_simplex.specs.Branch.{IsBranch};
 ghost use Rattle.ta_walk.specs.Visit.{NodeAt};
 ghost use Rattle.ta_walk.specs.declared.end.TreeEnd.TheVariants.{Found};
+ghost use Rattle.ta_walk.specs.Inside.Counted.{StretchCounted};
 ghost use Rattle.ta_walk.specs.Inside.Parts.{IsSmallStretch, IsWholeStretch, OnShared, HasFewLeft, StretchEnds};
 
 use crate::end::TreeEnd;
@@ -16,6 +17,7 @@ use crate::maker::Maker;
 use crate::node::{Solved, grow, solve_node};
 use crate::part::Watch;
 use crate::walking::leaves_with;
+use crate::work::Work;
 use std::alloc::{AllocError, Global};
 use std::mem;
 use ta_base::List;
@@ -49,6 +51,7 @@ pub(crate) fn visit_stretch<D: Dictionary, T: Maker, K: Keeper>(
     branch: &mut Branch<D>,
     nodes: u64,
     keeper: &mut K,
+    work: &mut Work,
 ) -> Result<Stretch<T::Fact>, AllocError>
     requires stands { HasFewLeft (T.search tree.now) nodes cursor.old }
     requires limit { nodes ≤ MOST_NODES }
@@ -59,6 +62,8 @@ pub(crate) fn visit_stretch<D: Dictionary, T: Maker, K: Keeper>(
     ensures kept { IfOk result (OnShared (T.is_kept tree.now kept.new)) }
     ensures branch { IfOk result (OnShared (IsBranch D.tableau D.pivot_of (T.system_of kept.new).rows branch.new)) }
     ensures patient { watch.entry.patient ≡ true → IfOk result (IsWholeStretch nodes) }
+    ensures forks { IfOk result (OnShared (0 < watch.entry.forks)) }
+    ensures counted { IfOk result (StretchCounted nodes work.old.begun work.new.begun) }
 {
     let mut leaves = 0;
     for before in 0..nodes {
@@ -69,7 +74,7 @@ pub(crate) fn visit_stretch<D: Dictionary, T: Maker, K: Keeper>(
         let last = mem::replace(kept, tree.nothing(alloc));
         let Written { kept: next, same } = grow(alloc, tree, cursor, last)?;
         *kept = next;
-        match solve_node(alloc, tree, cursor, kept, same, branch)? {
+        match solve_node(alloc, tree, cursor, kept, same, branch, work)? {
             Solved::OutOfRange(kind) => {
                 return Ok(Stretch::Ended(TreeEnd::Overflow { node: count, kind }));
             }
@@ -125,7 +130,8 @@ fn give_away<T: Tree>(
     cursor: &mut Cursor<T::Fact>,
 ) -> Result<Option<Cursor<T::Fact>>, AllocError>
     requires { IsWithin (T.search tree.now) cursor.old }
-    ensures { IfOk result (λ later. MatchOption later (cursor.new ≡ cursor.old) (IsShared (T.search tree.now) cursor.old cursor.new)) }
+    ensures shared { IfOk result (λ later. MatchOption later (cursor.new ≡ cursor.old) (IsShared (T.search tree.now) cursor.old cursor.new)) }
+    ensures forks { IfOk result (λ later. IfSome later (λ _. 0 < watch.entry.forks)) }
 {
     if !watch.looks_around(count) || !cursor.bounds().is_empty() || !watch.goes_beside() {
         return Ok(None);

@@ -8,12 +8,14 @@ ghost use Rattle.ta_encode.specs.Search.{Pending, parts};
 ghost use Rattle.ta_cursor.specs.InTrees.{AllGoOn, AllWithin, IsAllWithin, here_at};
 ghost use Rattle.ta_simplex.specs.Branch.{IsBranch};
 ghost use Rattle.ta_walk.specs.Visit.{NodeAt};
-ghost use Rattle.ta_walk.specs.Ends.{IsTreeEnd, IsUnbounded, leaf_count};
+ghost use Rattle.ta_walk.specs.Ends.{IsTreeEnd, IsUnbounded, leaf_count, node_count};
+ghost use Rattle.ta_walk.specs.Inside.Counted.{RoseBy};
 
 use crate::end::TreeEnd;
 use crate::keeper::Keeper;
 use crate::maker::Maker;
 use crate::node::{Solved, grow, solve_node};
+use crate::work::Work;
 use std::alloc::{AllocError, Global};
 use ta_base::List;
 use ta_base::limits::MOST_NODES;
@@ -36,23 +38,28 @@ pub fn visit_tree<D: Dictionary, T: Maker, K: Keeper>(
     ensures { IfOk result (IsTreeEnd (T.search tree.now) nodes (K.keeps keeper.old keeper.new)) }
 {
     let mut branch: Branch<D> = Branch::new(alloc);
-    visit_tree_along(alloc, tree, nodes, &mut branch, keeper)
+    let mut work = Work::new();
+    visit_tree_along(alloc, tree, nodes, &mut branch, keeper, &mut work)
 }
 
 /// Visits the trees of a search as `visit_tree` does, along a branch of no system, which tells
-/// afterwards what the solving took.
+/// afterwards what the solving took, and counts the nodes that it begins: those that it visits, and
+/// no others.
 pub fn visit_tree_along<D: Dictionary, T: Maker, K: Keeper>(
     alloc: Global,
     tree: &T,
     nodes: u64,
     branch: &mut Branch<D>,
     keeper: &mut K,
+    work: &mut Work,
 ) -> Result<TreeEnd<T::Fact>, AllocError>
     requires roots { AllByRecursion IsUnbounded (T.search tree.now).roots }
     requires limit { nodes ≤ MOST_NODES }
     requires branch { (rows : List Row) → IsBranch D.tableau D.pivot_of rows branch.old }
     requires keeps { K.keeps keeper.old keeper.old [] }
-    ensures { IfOk result (IsTreeEnd (T.search tree.now) nodes (K.keeps keeper.old keeper.new)) }
+    ensures ends { IfOk result (IsTreeEnd (T.search tree.now) nodes (K.keeps keeper.old keeper.new)) }
+    ensures counted { IfOk result (λ end. RoseBy work.old.begun (node_count end) work.new.begun) }
+    ensures most { work.new.begun ≤ work.old.begun + nodes }
 {
     let Some(mut place) = Place::first(alloc, tree) else {
         return Ok(TreeEnd::Refuted {
@@ -66,7 +73,7 @@ pub fn visit_tree_along<D: Dictionary, T: Maker, K: Keeper>(
         let count = before + 1;
         let Written { kept: next, same } = grow(alloc, tree, place.cursor(), kept)?;
         kept = next;
-        match solve_node(alloc, tree, place.cursor(), &kept, same, branch)? {
+        match solve_node(alloc, tree, place.cursor(), &kept, same, branch, work)? {
             Solved::OutOfRange(kind) => return Ok(TreeEnd::Overflow { node: count, kind }),
             Solved::Whole(values) => {
                 return Ok(TreeEnd::Found {

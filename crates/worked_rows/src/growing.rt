@@ -85,6 +85,12 @@ impl Shelf for Growing<'_> {
         true
     }
 
+    fn same_place(&mut self, name: &str, other: &str) -> Result<bool, ShelfFault> {
+        let answer = Ok(name == other);
+        self.log.ask_place(name, other, answer);
+        answer
+    }
+
     fn create(&mut self, name: &str) -> Result<(), PutFault> {
         self.refuse(name, Step::Create, &[])
     }

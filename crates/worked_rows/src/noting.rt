@@ -34,6 +34,10 @@ impl<S: Shelf + Drop> Shelf for Noting<S> {
         self.shelf.keeps_bytes(name)
     }
 
+    fn same_place(&mut self, name: &str, other: &str) -> Result<bool, ShelfFault> {
+        self.shelf.same_place(name, other)
+    }
+
     fn create(&mut self, name: &str) -> Result<(), PutFault> {
         self.shelf.create(name)
     }

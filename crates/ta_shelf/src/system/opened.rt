@@ -292,7 +292,7 @@ impl<F: Drop> Opened<F> {
 }
 
 /// The folder of a name.
-fn folder_of(name: &str) -> &str {
+pub(super) fn folder_of(name: &str) -> &str {
     match name.rfind('/') {
         Some(0) => "/",
         Some(end) => &name[..end],

@@ -3,8 +3,9 @@
 
 ghost use Rattle.std.specs.Prelude.{◌≡◌, ◌++◌, ◌∷◌, [], length, Ok, Err};
 ghost use Rattle.ta_shelf.specs.Calls.{Reads, Puts, filled};
-ghost use Rattle.ta_shelf.specs.Compare.{asks_nothing};
+ghost use Rattle.ta_shelf.specs.Compare.{asks_nothing, CompareFailsOnlyFaulted};
 ghost use Rattle.ta_shelf.specs.Counts.{Faulted};
+ghost use Rattle.ta_shelf.specs.Place.{asks_place};
 ghost use Rattle.ta_shelf.specs.Put.{PutFailsOnlyFaulted};
 ghost use Rattle.ta_shelf.specs.Shelf.{FailsOnlyFaulted};
 
@@ -111,6 +112,27 @@ impl Tape {
         ensures log { self.new.log.calls ≡ self.old.log.calls ++ Reads (asks_nothing name.now) ∷ [] }
     {
         self.log.add(name, 0, &[], Ok(0));
+    }
+
+    /// Logs whether two names lead to the same place.
+    pub fn placed(&mut self, name: &str, other: &str, same: bool)
+        ensures faults { self.new.faults ≡ self.old.faults }
+        ensures log { self.new.log.calls ≡ self.old.log.calls ++ Reads (asks_place name.now other.now (Ok same)) ∷ [] }
+    {
+        self.log.ask_place(name, other, Ok(same));
+    }
+
+    /// Logs that this can't be told, and says why; a failure is counted.
+    pub fn refuse_place(&mut self, error: &Error, name: &str, other: &str) -> ShelfFault
+        ensures cause { CompareFailsOnlyFaulted (Err result) self.old.faults self.new.faults }
+        ensures log { self.new.log.calls ≡ self.old.log.calls ++ Reads (asks_place name.now other.now (Err result)) ∷ [] }
+    {
+        let fault = match self.put_fault(error) {
+            PutFault::Failed => ShelfFault::Failed,
+            PutFault::Memory => ShelfFault::Memory,
+        };
+        self.log.ask_place(name, other, Err(fault));
+        fault
     }
 
     /// Logs a change that was made.

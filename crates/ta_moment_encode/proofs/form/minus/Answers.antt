@@ -13,4 +13,5 @@ plus-requires-clause-right c =
     (small_more (2 ^ 119) (2 ^ 120) _ (omega arith) (small_turned (2 ^ 119) (form_of c.args.y.now) c.requires.right))
 
 pub returns : goal.returns
-returns c = c.in_ok-sum.ensures ∙ ap (λ (f : UnknownForm). plus_form (form_of c.args.x.now) f) c.in_ok-turned.ensures ∙ plus_turned (form_of c.args.x.now) (form_of c.args.y.now)
+returns c = c.in_ok-sum.ensures ∙ ap (λ (f : UnknownForm). plus_form (form_of c.args.x.now) f) c.in_ok-turned.ensures
+    ∙ plus_turned (form_of c.args.x.now) (form_of c.args.y.now)

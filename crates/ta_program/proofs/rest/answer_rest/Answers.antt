@@ -1,45 +1,69 @@
-use Rattle.ta_program.proofs.Common.{◌∙◌, refl, Some, None, Begun, RestReports, HindersRest, ends_of, resting}
+use Rattle.ta_program.proofs.Common.{◌≡◌, ◌∙◌, ap, option_map, refl, Some, None, Begun, resting}
+use Rattle.ta_program.specs.RestSeen.{rest_seen}
 use Rattle.ta_program.proofs.Resting.{rest_certified, rest_plain, rest_text_has}
-use Rattle.ta_program.proofs.Certifying.{kept_or, memory_says, none_staged, nowhere, plain_says, plain_staged, refused_staged, staged_or, staged_says}
+use Rattle.ta_program.proofs.Certifying.{kept_or, memory_says, none_staged, nowhere, plain_staged, refused_staged, staged_or}
 use Rattle.ta_program.proofs.rest.answer_rest.Goals as goal
 
 pub returns-in-None-clause-says : goal.returns-in-None-clause-says
 returns-in-None-clause-says g c = λ files file ends.
-    let rest = c.args.rest.now in
-    let budget = resting c.args.budget.now.given c.args.silent.now in
-    let to = rest_plain rest file ends budget _ c.report_to.result (c.report_to.ensures.reports nowhere c.new-none.ensures.text) in
-    rw c.in-None.is (plain_says (RestReports file (ends_of rest) budget None) (HindersRest file (ends_of rest) budget None) g.S.Shelf.stage_bytes c.report_to.result c.answer_plain.result to c.answer_plain.ensures files)
+    let asked = c.args.asked.now in
+    let none : option_map (λ w. w.now) asked.out ≡ None = ap (option_map (λ w. w.now)) c.in-None.is in
+    rest_plain (rest_seen asked) c.args.rest.now (resting asked.silent.budget.given c.args.silent.now) c.args.pick _ file ends g.S.Shelf.stage_bytes
+    c.report_to.result c.answer_plain.result none (c.report_to.ensures.reports nowhere c.new-none.ensures.text) c.answer_plain.ensures files
 
 pub returns-in-None-clause-staged : goal.returns-in-None-clause-staged
 returns-in-None-clause-staged g c =
-    rw c.in-None.is (none_staged _ _ (plain_staged g.S.Shelf.stage_name g.S.Shelf.stage_bytes c.report_to.result c.answer_plain.result _ c.answer_plain.ensures))
+    rw c.in-None.is (none_staged _ _
+    (plain_staged g.S.Shelf.stage_name g.S.Shelf.stage_bytes c.report_to.result c.answer_plain.result _ c.answer_plain.ensures))
 
 pub returns-in-Ok-clause-says : goal.returns-in-Ok-clause-says
 returns-in-Ok-clause-says g c = λ files file ends.
-    let rest = c.args.rest.now in
-    let budget = resting c.args.budget.now.given c.args.silent.now in
+    let asked = c.args.asked.now in
     let name = c.in-Some.name.now in
-    let begun : Begun = record { name = name; before = record { files = g.S.Shelf.files c.args.shelf.now; calls = g.S.Shelf.calls c.args.shelf.now; faults = g.S.Shelf.faults c.args.shelf.now } } in
-    let to = c.report_to-report.ensures.reports begun c.in-Ok.ensures.begun in
-    rw c.in-Some.is (staged_says name (RestReports file (ends_of rest) budget (Some name)) (HindersRest file (ends_of rest) budget (Some name)) g.S.Shelf.stage_bytes c.report_to-report.result c.answer_certified.result _
-    (rest_certified rest file ends budget _ name c.report_to-report.result to) (λ written done. c.answer_certified.ensures.certified begun written refl done) files)
+    let begun : Begun = record {
+      name = name;
+      before = record
+          { files = g.S.Shelf.files c.args.shelf.now; calls = g.S.Shelf.calls c.args.shelf.now; faults = g.S.Shelf.faults c.args.shelf.now };
+    } in
+    let given : option_map (λ w. w.now) asked.out ≡ Some name = ap (option_map (λ w. w.now)) c.in-Some.is in
+    rest_certified (rest_seen asked) c.args.rest.now (resting asked.silent.budget.given c.args.silent.now) c.args.pick _ file ends name g.S.Shelf.stage_bytes
+    c.report_to-report.result c.answer_certified.result given (c.report_to-report.ensures.reports begun c.in-Ok.ensures.begun)
+    (λ written done. c.answer_certified.ensures.certified begun written refl done) files
 
 pub returns-in-Ok-clause-staged : goal.returns-in-Ok-clause-staged
 returns-in-Ok-clause-staged g c =
-    let begun : Begun = record { name = c.in-Some.name.now; before = record { files = g.S.Shelf.files c.args.shelf.now; calls = g.S.Shelf.calls c.args.shelf.now; faults = g.S.Shelf.faults c.args.shelf.now } } in
+    let asked = c.args.asked.now in
+    let name = c.in-Some.name.now in
+    let begun : Begun = record {
+      name = name;
+      before = record
+          { files = g.S.Shelf.files c.args.shelf.now; calls = g.S.Shelf.calls c.args.shelf.now; faults = g.S.Shelf.faults c.args.shelf.now };
+    } in
     let to = c.report_to-report.ensures.reports begun c.in-Ok.ensures.begun in
-    let so = staged_or g.S.Shelf.stage_name g.S.Shelf.stage_bytes begun c.report_to-report.result c.report_to-report.new.target _ (rest_text_has c.args.rest.now (resting c.args.budget.now.given c.args.silent.now) _ c.report_to-report.result to) (c.report_to-report.ensures.stops begun c.in-Ok.ensures.begun) in
+    let so = staged_or g.S.Shelf.stage_name g.S.Shelf.stage_bytes begun c.report_to-report.result c.report_to-report.new.target _
+    (rest_text_has (rest_seen asked) c.args.rest.now (resting asked.silent.budget.given c.args.silent.now) c.args.pick _ c.report_to-report.result to)
+    (c.report_to-report.ensures.stops begun c.in-Ok.ensures.begun) in
     rw c.in-Some.is (c.answer_certified.ensures.staged begun so.0 refl so.1)
 
 pub returns-in-Ok-clause-kept : goal.returns-in-Ok-clause-kept
 returns-in-Ok-clause-kept g c =
-    let begun : Begun = record { name = c.in-Some.name.now; before = record { files = g.S.Shelf.files c.args.shelf.now; calls = g.S.Shelf.calls c.args.shelf.now; faults = g.S.Shelf.faults c.args.shelf.now } } in
+    let asked = c.args.asked.now in
+    let name = c.in-Some.name.now in
+    let begun : Begun = record {
+      name = name;
+      before = record
+          { files = g.S.Shelf.files c.args.shelf.now; calls = g.S.Shelf.calls c.args.shelf.now; faults = g.S.Shelf.faults c.args.shelf.now };
+    } in
     let to = c.report_to-report.ensures.reports begun c.in-Ok.ensures.begun in
-    let so = staged_or g.S.Shelf.stage_name g.S.Shelf.stage_bytes begun c.report_to-report.result c.report_to-report.new.target _ (rest_text_has c.args.rest.now (resting c.args.budget.now.given c.args.silent.now) _ c.report_to-report.result to) (c.report_to-report.ensures.stops begun c.in-Ok.ensures.begun) in
-    c.answer_certified.ensures.kept ∙ kept_or g.S.Shelf.stage_name g.S.Shelf.stage_bytes begun c.report_to-report.result c.report_to-report.new.target _ so.0 so.1
+    let so = staged_or g.S.Shelf.stage_name g.S.Shelf.stage_bytes begun c.report_to-report.result c.report_to-report.new.target _
+    (rest_text_has (rest_seen asked) c.args.rest.now (resting asked.silent.budget.given c.args.silent.now) c.args.pick _ c.report_to-report.result to)
+    (c.report_to-report.ensures.stops begun c.in-Ok.ensures.begun) in
+    c.answer_certified.ensures.kept ∙ kept_or g.S.Shelf.stage_name g.S.Shelf.stage_bytes begun c.report_to-report.result c.report_to-report.new.target _ so.0
+    so.1
 
 pub returns-in-Err-clause-says : goal.returns-in-Err-clause-says
 returns-in-Err-clause-says g c = λ files file ends. rw c.in-Some.is (memory_says _ _ _ g.S.Shelf.stage_bytes files)
 
 pub returns-in-Err-clause-staged : goal.returns-in-Err-clause-staged
-returns-in-Err-clause-staged g c = rw c.in-Some.is (refused_staged c.in-Some.name.now g.S.Shelf.stage_name g.S.Shelf.stage_bytes _ _ _ _ c.in-Err.ensures.refused c.in-Err.ensures.calm)
+returns-in-Err-clause-staged g c = rw c.in-Some.is
+    (refused_staged c.in-Some.name.now g.S.Shelf.stage_name g.S.Shelf.stage_bytes _ _ _ _ c.in-Err.ensures.refused c.in-Err.ensures.calm)

@@ -1,36 +1,61 @@
-use Rattle.ta_program.proofs.Common.{[], ℕ, sym, arith, option_map, refl, subst, Answer, Changed, Grew, Refusal, Result, Says, StagedBy, ScopedFile, at_ends, grew_kept, grew_spared, may_put, file_kind, rest_meaning, rest_quietly, result_seen}
+use Rattle.ta_program.proofs.Common.{
+  [],
+  ℕ,
+  sym,
+  arith,
+  refl,
+  subst,
+  Answer,
+  Changed,
+  Grew,
+  Refusal,
+  Result,
+  Says,
+  StagedBy,
+  ScopedFile,
+  at_ends,
+  grew_kept,
+  grew_spared,
+  may_put,
+  file_kind,
+  rest_meaning,
+  rest_quietly,
+  result_seen,
+}
+use Rattle.ta_program.specs.RestSeen.{rest_seen}
 use Rattle.ta_program.proofs.Certifying.{none_staged, unread_seen, unread_staged}
 use Rattle.ta_program.proofs.RestMeanings.{ends_monotone, rest_quietly_monotone}
 use Rattle.ta_program.proofs.rest.judge_file.Goals as goal
 
 pub returns-in-Ok-clause-says : goal.returns-in-Ok-clause-says
 returns-in-Ok-clause-says g c =
-    let budget = c.args.silent.now.budget.given in
-    let names = option_map (λ w. w.now) c.args.silent.now.names in
-    let out = option_map (λ w. w.now) c.args.out in
-    let name = c.args.file.now in
-    let quietly = rest_quietly name budget out names in
+    let asked = rest_seen c.args.asked.now in
+    let puts = may_put asked.out in
     let files = g.S.Shelf.files c.args.shelf.now in
     let so = c.answer_scoped.ensures.says files in
     record {
       lost = so.lost;
       middle = _;
-      says = grew_spared file_kind (λ (s : ScopedFile). s.file) files name (may_put out) (at_ends name (may_put out) quietly) (ends_monotone name (may_put out) quietly (rest_quietly_monotone name budget out names)) (λ v. refl) c.in-Ok.scoped (result_seen g.S.Shelf.stage_bytes so.lost c.answer_scoped.result) _ _
+      says = grew_spared file_kind (λ (s : ScopedFile). s.file) files asked.file puts (at_ends asked.file puts (rest_quietly asked))
+          (ends_monotone asked.file puts (rest_quietly asked) (rest_quietly_monotone asked)) (λ v. refl) c.in-Ok.scoped
+          (result_seen g.S.Shelf.stage_bytes so.lost c.answer_scoped.result) _ _
           (rw c.one.ensures at c.in-Ok.ensures.stage) so.says;
-      staged = subst (λ (n : ℕ). Changed (StagedBy (may_put out) g.S.Shelf.stage_name g.S.Shelf.stage_bytes c.answer_scoped.result n (g.S.Shelf.faults c.answer_scoped.new.shelf)) (g.S.Shelf.calls c.read_spared.new.shelf) (g.S.Shelf.calls c.answer_scoped.new.shelf)) c.in-Ok.ensures.cause c.answer_scoped.ensures.staged;
+      staged = subst (λ (n : ℕ). Changed
+          (StagedBy puts g.S.Shelf.stage_name g.S.Shelf.stage_bytes c.answer_scoped.result n (g.S.Shelf.faults c.answer_scoped.new.shelf))
+          (g.S.Shelf.calls c.read_spared.new.shelf) (g.S.Shelf.calls c.answer_scoped.new.shelf)) c.in-Ok.ensures.cause c.answer_scoped.ensures.staged;
     }
 
 pub returns-in-Err-clause-says : goal.returns-in-Err-clause-says
 returns-in-Err-clause-says g c =
-    let budget = c.args.silent.now.budget.given in
-    let names = option_map (λ w. w.now) c.args.silent.now.names in
-    let out = option_map (λ w. w.now) c.args.out in
-    let name = c.args.file.now in
+    let asked = rest_seen c.args.asked.now in
+    let puts = may_put asked.out in
     let files = g.S.Shelf.files c.args.shelf.now in
     record {
       lost = [];
       middle = _;
-      says = subst (λ (seen : Result Answer Refusal). Grew (Says (rest_meaning name budget out names) files seen) (g.S.Shelf.calls c.args.shelf.now) (g.S.Shelf.calls c.read_spared.new.shelf)) (sym (unread_seen ScopedFile g.S.Shelf.stage_bytes [] c.in-Err.refusal _ _ c.in-Err.ensures.cause))
-          (grew_kept file_kind (λ (s : ScopedFile). s.file) files name (may_put out) (at_ends name (may_put out) (rest_quietly name budget out names)) (omega arith) (omega arith) c.in-Err.refusal _ _ (rw c.one.ensures at c.in-Err.ensures.stage));
-      staged = none_staged _ _ (unread_staged ScopedFile (may_put out) g.S.Shelf.stage_name g.S.Shelf.stage_bytes c.in-Err.refusal _ _ c.in-Err.ensures.cause);
+      says = subst (λ (seen : Result Answer Refusal). Grew (Says (rest_meaning asked) files seen) (g.S.Shelf.calls c.args.shelf.now)
+          (g.S.Shelf.calls c.read_spared.new.shelf)) (sym (unread_seen ScopedFile g.S.Shelf.stage_bytes [] c.in-Err.refusal _ _ c.in-Err.ensures.cause))
+          (grew_kept file_kind (λ (s : ScopedFile). s.file) files asked.file puts (at_ends asked.file puts (rest_quietly asked)) (omega arith) (omega arith)
+          c.in-Err.refusal _ _ (rw c.one.ensures at c.in-Err.ensures.stage));
+      staged = none_staged _ _ (unread_staged ScopedFile puts g.S.Shelf.stage_name g.S.Shelf.stage_bytes c.in-Err.refusal _ _ c.in-Err.ensures.cause);
     }

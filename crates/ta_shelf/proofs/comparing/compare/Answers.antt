@@ -40,7 +40,7 @@ returns-then-not-begin_with-clause-log g c =
     let place : c.comparing.at ≡ length (take c.comparing.at c.args.bytes.now) = sym (length-take-le c.comparing.at c.args.bytes.now here.within) in
     let piece = take c.in-Ok.count c.read_at.new.buf in
     let size : length piece ≡ c.in-Ok.count = length-take-le c.in-Ok.count c.read_at.new.buf c.in-Ok.ensures.count in
-    let log = one_more c.args.name.now 0 (take c.comparing.at c.args.bytes.now) piece _ c.comparing.at _ _ _ _ here.read.log (omega (arith, place)) c.in-Ok.ensures.log (omega (arith, size, c.if-count-eq0.false)) refl in
+    let log = one_more c.args.name.now 0 (take c.comparing.at c.args.bytes.now) piece _ c.comparing.at _ _ _ _ here.read.log (omega (arith, place)) c.in-Ok.ensures.log (search rules) (omega (arith, size, c.if-count-eq0.false)) refl in
     differs_by c.args.name.now c.args.bytes.now piece c.comparing.at _ _ (rw (take_rest c.args.bytes.now c.comparing.at) at c.if-not-begin_with.ensures) log
 
 pub comparing-preserved : goal.comparing-preserved
@@ -57,6 +57,6 @@ comparing-preserved g c =
         files_kept = c.in-Ok.ensures.kept ∙ here.read.files_kept;
         faults_kept = c.in-Ok.ensures.cause ∙ here.read.faults_kept;
         so_far = read_more_if (g.S.Shelf.files c.args.shelf.now) c.args.name.now 0 (take c.comparing.at c.args.bytes.now) c.read_at.new.buf _ c.comparing.at c.in-Ok.count here.read.so_far (omega (arith, place)) (rw here.read.files_kept at c.in-Ok.ensures.bytes) whole;
-        log = one_more c.args.name.now 0 (take c.comparing.at c.args.bytes.now) piece _ c.comparing.at _ _ _ _ here.read.log (omega (arith, place)) c.in-Ok.ensures.log (omega (arith, size, c.if-count-eq0.false)) whole;
+        log = one_more c.args.name.now 0 (take c.comparing.at c.args.bytes.now) piece _ c.comparing.at _ _ _ _ here.read.log (omega (arith, place)) c.in-Ok.ensures.log (search rules) (omega (arith, size, c.if-count-eq0.false)) whole;
       };
     }

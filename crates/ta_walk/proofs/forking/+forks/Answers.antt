@@ -1,5 +1,27 @@
-use Rattle.ta_walk.proofs.Common.{◌-◌, ◌∙◌, List, IfOk, arith, map, subst, Pending, TreeEnd, PartVisited, beginning, root_node, search_of_claim}
+use Rattle.ta_walk.proofs.Common.{
+  ℕ,
+  ◌-◌,
+  ◌+◌,
+  ◌/◌,
+  ◌≤◌,
+  ◌≡◌,
+  ◌∙◌,
+  IsCounted,
+  List,
+  IfOk,
+  arith,
+  map,
+  subst,
+  sym,
+  Pending,
+  TreeEnd,
+  PartVisited,
+  beginning,
+  root_node,
+  search_of_claim,
+}
 use Rattle.ta_words.specs.declared.element.Element.{Element}
+use Rattle.ta_walk.proofs.NodesCounted.{counted_after, counted_more, ok_both}
 use Rattle.ta_walk.proofs.PartsMerged.{decided_part}
 use Rattle.ta_walk.proofs.RootsListed.{halves_listed}
 use Rattle.ta_walk.proofs.forking.+forks.Goals as goal
@@ -8,17 +30,22 @@ pub visit_beside-returns-clause-visited : goal.visit_beside-returns-clause-visit
 visit_beside-returns-clause-visited g t c =
     let one = rw c.in_ok-first.was at c.join-first.ensures.first.0 in
     let other = rw c.in_ok-second.was at c.join-first.ensures.second.0 in
-    c.merge.ensures.visited (search_of_claim c.args.tree.now) (map root_node c.args.starts.items) (map root_node c.args.others.items) c.args.keeper c.args.late one other c.requires.fresh
+    c.merge.ensures.visited (search_of_claim c.args.tree.now) (map root_node c.args.starts.items) (map root_node c.args.others.items) c.args.keeper c.args.late
+    one other c.requires.fresh
 
 pub visit_list-returns-clause-visited : goal.visit_list-returns-clause-visited
 visit_list-returns-clause-visited g t c =
-    let all = halves_listed {E = Element} _ c.args.starts.items c.split_off.new.self.items c.in_ok-others.others.items c.in_ok-others.ensures.items c.in_ok-others.ensures.tail in
-    subst (λ (us : List (Pending Element)). IfOk c.visit_halves.result (λ part. PartVisited g.K.Keeper.keeps (beginning (search_of_claim c.args.tree.now) us) c.args.nodes c.args.keeper part.keeper part.end)) all c.visit_halves.ensures.visited
+    let all = halves_listed {E = Element} _ c.args.starts.items c.split_off.new.self.items c.in_ok-others.others.items c.in_ok-others.ensures.items
+    c.in_ok-others.ensures.tail in
+    subst (λ (us : List (Pending Element)). IfOk c.visit_halves.result
+    (λ part. PartVisited g.K.Keeper.keeps (beginning (search_of_claim c.args.tree.now) us) c.args.nodes c.args.keeper part.keeper part.end)) all
+    c.visit_halves.ensures.visited
 
 pub visit_halves-returns-in_default-clause-visited : goal.visit_halves-returns-in_default-clause-visited
 visit_halves-returns-in_default-clause-visited g t c =
     let part = c.in_ok-first.first in
-    decided_part g.K.Keeper.keeps (search_of_claim c.args.tree.now) (map root_node c.args.starts.items) (map root_node c.args.others.items) c.args.nodes c.args.keeper part.keeper part.end c.in_default.ensures.none c.in_ok-first.ensures.visited
+    decided_part g.K.Keeper.keeps (search_of_claim c.args.tree.now) (map root_node c.args.starts.items) (map root_node c.args.others.items) c.args.nodes
+    c.args.keeper part.keeper part.end c.in_default.ensures.none c.in_ok-first.ensures.visited
 
 pub visit_halves-returns-clause-visited : goal.visit_halves-returns-clause-visited
 visit_halves-returns-clause-visited g t c =
@@ -28,8 +55,45 @@ visit_halves-returns-clause-visited g t c =
     let vs = map root_node c.args.others.items in
     let n = c.args.nodes in
     let first = c.in_ok-first.first in
-    let one = subst (λ (e : TreeEnd Element). PartVisited keeps (beginning s ws) n c.args.keeper first.keeper e) c.in-Some.ensures.some c.in_ok-first.ensures.visited in
-    c.add.ensures.visited s ws vs (n - c.in-Some.count) c.args.keeper c.in_ok-late.late one c.in_ok-second.ensures.visited (c.in_ok-late.ensures.begins, c.in_ok-late.ensures.keeps)
+    let one = subst (λ (e : TreeEnd Element). PartVisited keeps (beginning s ws) n c.args.keeper first.keeper e) c.in-Some.ensures.some
+    c.in_ok-first.ensures.visited in
+    c.add.ensures.visited s ws vs (n - c.in-Some.count) c.args.keeper c.in_ok-late.late one c.in_ok-second.ensures.visited
+    (c.in_ok-late.ensures.begins, c.in_ok-late.ensures.keeps)
 
 pub visit_halves-returns-clause-patient : goal.visit_halves-returns-clause-patient
-visit_halves-returns-clause-patient g t c = λ patient. c.add.ensures.whole (c.args.nodes - c.in-Some.count) (omega arith) (c.in_ok-second.ensures.patient (c.second_half-high.ensures ∙ patient))
+visit_halves-returns-clause-patient g t c = λ patient. c.add.ensures.whole (c.args.nodes - c.in-Some.count) (omega arith)
+    (c.in_ok-second.ensures.patient (c.second_half-high.ensures.patient ∙ patient))
+
+pub visit_halves-returns-in_default-clause-counted : goal.visit_halves-returns-in_default-clause-counted
+visit_halves-returns-in_default-clause-counted g t c =
+    let part = c.in_ok-first.first in
+    let forks = c.first_half-low.ensures.forks in
+    counted_more c.args.nodes c.first_half-low.result.forks c.args.watch.forks part.end part.begun (omega arith) c.in_ok-first.ensures.counted
+
+pub visit_halves-returns-clause-counted : goal.visit_halves-returns-clause-counted
+visit_halves-returns-clause-counted g t c =
+    let n = c.args.nodes in
+    let low = c.first_half-low.result.forks in
+    let high = c.second_half-high.result.forks in
+    let few = c.first_half-low.ensures.forks in
+    let more = c.second_half-high.ensures.forks in
+    let first = c.in_ok-first.first in
+    let second = c.in_ok-second.second in
+    let one = subst (λ (e : TreeEnd Element). IsCounted n low e first.begun) c.in-Some.ensures.some c.in_ok-first.ensures.counted in
+    ok_both c.add.result _ _ (λ part. IsCounted n c.args.watch.forks part.end part.begun)
+    (λ part is rose. subst (λ (e : TreeEnd Element). IsCounted n c.args.watch.forks e part.begun) (sym is)
+    (counted_after n low high c.args.watch.forks c.in-Some.count c.in-Some.leaves second.end first.begun second.begun part.begun c.requires.limit (omega arith)
+    one c.in_ok-second.ensures.counted rose))
+    c.add.ensures.end c.add.ensures.begun
+
+pub visit_beside-returns-clause-counted : goal.visit_beside-returns-clause-counted
+visit_beside-returns-clause-counted g t c =
+    let low = c.first_half-low.result.forks in
+    let high = c.half_beside-high.result.forks in
+    let few = c.first_half-low.ensures.forks in
+    let more = c.half_beside-high.ensures.forks in
+    let one = rw c.in_ok-first.was at c.join-first.ensures.first.1.1.1 in
+    let other = rw c.in_ok-second.was at c.join-first.ensures.second.1.1.1 in
+    let some = c.requires.forks in
+    let all : low + high + 1 ≡ c.args.watch.forks = omega arith in
+    subst (λ (k : ℕ). IfOk c.merge.result (λ part. IsCounted c.args.nodes k part.end part.begun)) all (c.merge.ensures.counted low high one other)

@@ -1,5 +1,33 @@
-use Rattle.ta_walk.proofs.Common.{ℕ, ◌≡◌, ◌+◌, ◌≤◌, [], ◌∷◌, ◌++◌, ◌∙◌, refl, sym, ap, subst, arith, append_assoc, append-nil, IsShared, here, left_at, Cursor, IsSpent, WholeNode, leaf_count, IsOutOfRangeAt, NodeAt, PartEnds, beginning}
+use Rattle.ta_walk.proofs.Common.{
+  ℕ,
+  ◌≡◌,
+  ◌+◌,
+  ◌≤◌,
+  [],
+  ◌∷◌,
+  ◌++◌,
+  ◌∙◌,
+  refl,
+  sym,
+  ap,
+  subst,
+  arith,
+  append_assoc,
+  append-nil,
+  IsShared,
+  here,
+  left_at,
+  Cursor,
+  IsSpent,
+  WholeNode,
+  leaf_count,
+  IsOutOfRangeAt,
+  NodeAt,
+  PartEnds,
+  beginning,
+}
 use Rattle.ta_walk.proofs.LeavesCounted.{leaves_below, leaves_few, leaves_more}
+use Rattle.ta_walk.proofs.NodesCounted.{rose_next}
 use Rattle.ta_walk.proofs.SearchesMoved.{moved_out_of_range, moved_whole}
 use Rattle.ta_walk.proofs.WordSoFar.{WordSoFar, both_stand, word_at_node, word_begins, word_few, word_goes, word_refutes, word_shared, word_spent}
 use Rattle.ta_walk.proofs.visiting.visit_stretch.Goals as goal
@@ -12,6 +40,7 @@ loop-before-init g c = record {
   keeps = λ first before has. subst (g.K.Keeper.keeps first c.args.keeper.now) (sym (append-nil before)) has;
   kept = c.requires.kept;
   branch = c.requires.branch;
+  begun = omega arith;
 }
 
 pub returns-then-can_stop-clause-ends : goal.returns-then-can_stop-clause-ends
@@ -29,7 +58,8 @@ solve_node-requires-clause-few g c κs within =
     let l = c.loop-before in
     let done : l.before ≤ c.args.nodes = omega arith in
     let room = c.requires.stands.room in
-    let few = (word_few s (left_at s c.args.cursor.now) l.cursor l.before c.requires.stands.most l.invariant.found c.requires.stands.few l.invariant.walked).0 in
+    let few = (word_few s (left_at s c.args.cursor.now) l.cursor l.before c.requires.stands.most l.invariant.found c.requires.stands.few l.invariant.walked).0
+    in
     omega arith
 
 pub leaves_with-leaves-requires : goal.leaves_with-leaves-requires
@@ -55,7 +85,8 @@ returns-in-Whole-clause-ends g c = λ first before has.
     let values = c.in-Whole.values in
     let within : l.before + 1 ≤ c.args.nodes = omega arith in
     subst (PartEnds (beginning s begun) c.args.nodes (λ more. g.K.Keeper.keeps first l.keeper (before ++ more))) (sym c.in_ok-end-in-Whole.ensures)
-    (word_at_node s begun l.cursor l.before c.args.nodes l.invariant.found (WholeNode (beginning s begun) l.cursor.start l.cursor.facts.items values) l.invariant.walked
+    (word_at_node s begun l.cursor l.before c.args.nodes l.invariant.found (WholeNode (beginning s begun) l.cursor.start l.cursor.facts.items values)
+    l.invariant.walked
     (record {
       start_is = refl;
       facts_are = refl;
@@ -72,9 +103,11 @@ returns-then-not-more-clause-ends g c = λ first before has.
     let ends = rw c.if-not-more.true at c.in_ok-more-in-Inner.ensures in
     record {
       nodes = l.invariant.found ++ n ∷ [];
-      is = word_refutes s (left_at s c.args.cursor.now) l.cursor c.go_on.new.cursor l.before c.args.nodes l.invariant.found n l.invariant.walked stands ends within;
+      is = word_refutes s (left_at s c.args.cursor.now) l.cursor c.go_on.new.cursor l.before c.args.nodes l.invariant.found n l.invariant.walked stands ends
+          within;
       counted = c.leaves_with-leaves.ensures ∙ ap (λ (k : ℕ). k + leaf_count (n ∷ [])) l.invariant.counted ∙ sym (leaves_more l.invariant.found n);
-      kept = subst (g.K.Keeper.keeps first c.take.new.self) (append_assoc before l.invariant.found (n ∷ [])) (c.in_ok-take-in-Inner.ensures first (before ++ l.invariant.found) (l.invariant.keeps first before has));
+      kept = subst (g.K.Keeper.keeps first c.take.new.self) (append_assoc before l.invariant.found (n ∷ []))
+          (c.in_ok-take-in-Inner.ensures first (before ++ l.invariant.found) (l.invariant.keeps first before has));
     }
 
 pub returns-then-not-more-clause-small : goal.returns-then-not-more-clause-small
@@ -108,10 +141,12 @@ returns-in-Some-clause-ends g c = λ first before has.
     let stands : NodeAt s (here l.cursor) n = rw c.in-Inner.is at c.in_ok-kind.ensures.solved in
     let goes = rw c.if-not-more.false at c.in_ok-more-in-Inner.ensures in
     let walked = word_goes s begun l.cursor c.go_on.new.cursor l.before l.invariant.found n l.invariant.walked stands goes in
-    let shared : IsShared s c.go_on.new.cursor c.give_away.new.cursor c.in-Some.later = rw c.in-Some.is at c.in_ok-later-in-Inner.ensures in
-    word_shared s begun c.go_on.new.cursor c.give_away.new.cursor c.in-Some.later (l.before + 1) c.leaves_with-leaves.result found (λ more. g.K.Keeper.keeps first c.take.new.self (before ++ more)) walked shared
+    let shared : IsShared s c.go_on.new.cursor c.give_away.new.cursor c.in-Some.later = rw c.in-Some.is at c.in_ok-later-in-Inner.ensures.shared in
+    word_shared s begun c.go_on.new.cursor c.give_away.new.cursor c.in-Some.later (l.before + 1) c.leaves_with-leaves.result found
+    (λ more. g.K.Keeper.keeps first c.take.new.self (before ++ more)) walked shared
     (c.leaves_with-leaves.ensures ∙ ap (λ (k : ℕ). k + leaf_count (n ∷ [])) l.invariant.counted ∙ sym (leaves_more l.invariant.found n))
-    (subst (g.K.Keeper.keeps first c.take.new.self) (append_assoc before l.invariant.found (n ∷ [])) (c.in_ok-take-in-Inner.ensures first (before ++ l.invariant.found) (l.invariant.keeps first before has)))
+    (subst (g.K.Keeper.keeps first c.take.new.self) (append_assoc before l.invariant.found (n ∷ []))
+    (c.in_ok-take-in-Inner.ensures first (before ++ l.invariant.found) (l.invariant.keeps first before has)))
 
 pub returns-in-Some-clause-small : goal.returns-in-Some-clause-small
 returns-in-Some-clause-small g c =
@@ -123,9 +158,10 @@ returns-in-Some-clause-small g c =
     let stands : NodeAt s (here l.cursor) n = rw c.in-Inner.is at c.in_ok-kind.ensures.solved in
     let goes = rw c.if-not-more.false at c.in_ok-more-in-Inner.ensures in
     let walked = word_goes s begun l.cursor c.go_on.new.cursor l.before l.invariant.found n l.invariant.walked stands goes in
-    let shared : IsShared s c.go_on.new.cursor c.give_away.new.cursor c.in-Some.later = rw c.in-Some.is at c.in_ok-later-in-Inner.ensures in
+    let shared : IsShared s c.go_on.new.cursor c.give_away.new.cursor c.in-Some.later = rw c.in-Some.is at c.in_ok-later-in-Inner.ensures.shared in
     let within : l.before + 1 ≤ c.args.nodes = omega arith in
-    both_stand s begun c.go_on.new.cursor c.give_away.new.cursor c.in-Some.later (l.before + 1) c.args.nodes c.requires.stands.most c.leaves_with-leaves.result found c.requires.stands.few c.requires.stands.room walked shared (omega arith) within
+    both_stand s begun c.go_on.new.cursor c.give_away.new.cursor c.in-Some.later (l.before + 1) c.args.nodes c.requires.stands.most c.leaves_with-leaves.result
+    found c.requires.stands.few c.requires.stands.room walked shared (omega arith) within
     (c.leaves_with-leaves.ensures ∙ ap (λ (k : ℕ). k + leaf_count (n ∷ [])) l.invariant.counted ∙ sym (leaves_more l.invariant.found n))
 
 pub returns-clause-ends : goal.returns-clause-ends
@@ -144,12 +180,15 @@ loop-before-preserved g c =
     let begun = left_at s c.args.cursor.now in
     let stands : NodeAt s (here l.cursor) n = rw c.in-Inner.is at c.in_ok-kind.ensures.solved in
     let goes = rw c.if-not-more.false at c.in_ok-more-in-Inner.ensures in
-    let same : c.give_away.new.cursor ≡ c.go_on.new.cursor = rw c.in_default.is at c.in_ok-later-in-Inner.ensures in
+    let same : c.give_away.new.cursor ≡ c.go_on.new.cursor = rw c.in_default.is at c.in_ok-later-in-Inner.ensures.shared in
     record {
       found = l.invariant.found ++ n ∷ [];
-      walked = subst (λ (d : Cursor _). WordSoFar s begun d (l.before + 1) (l.invariant.found ++ n ∷ [])) (sym same) (word_goes s begun l.cursor c.go_on.new.cursor l.before l.invariant.found n l.invariant.walked stands goes);
+      walked = subst (λ (d : Cursor _). WordSoFar s begun d (l.before + 1) (l.invariant.found ++ n ∷ [])) (sym same)
+          (word_goes s begun l.cursor c.go_on.new.cursor l.before l.invariant.found n l.invariant.walked stands goes);
       counted = c.leaves_with-leaves.ensures ∙ ap (λ (k : ℕ). k + leaf_count (n ∷ [])) l.invariant.counted ∙ sym (leaves_more l.invariant.found n);
-      keeps = λ first before has. subst (g.K.Keeper.keeps first c.take.new.self) (append_assoc before l.invariant.found (n ∷ [])) (c.in_ok-take-in-Inner.ensures first (before ++ l.invariant.found) (l.invariant.keeps first before has));
+      keeps = λ first before has. subst (g.K.Keeper.keeps first c.take.new.self) (append_assoc before l.invariant.found (n ∷ []))
+          (c.in_ok-take-in-Inner.ensures first (before ++ l.invariant.found) (l.invariant.keeps first before has));
       kept = c.in_ok-next.ensures.kept;
       branch = rw c.in-Inner.is at c.in_ok-kind.ensures.branch;
+      begun = rose_next c.args.work.now.begun l.before l.work.begun c.solve_node.new.work.begun l.invariant.begun c.in_ok-kind.ensures.counted;
     }

@@ -1,4 +1,4 @@
-use Rattle.ta_walk.proofs.Common.{◌≡◌, ◌++◌, List, Node, left_at, IsBranch, leaf_count}
+use Rattle.ta_walk.proofs.Common.{◌≡◌, ◌++◌, List, Node, left_at, IsBranch, RoseBy, leaf_count}
 use Rattle.ta_walk.proofs.WordSoFar.{WordSoFar}
 use Rattle.ta_walk.proofs.visiting.visit_stretch.Given as goal
 
@@ -10,4 +10,5 @@ invariant-loop-before g l = record {
   keeps : (first : g.row.K.Denot) (before : List Node) → g.K.Keeper.keeps first l.fn.keeper before → g.K.Keeper.keeps first l.keeper (before ++ found);
   kept : g.T.Tree.is_kept l.tree l.kept;
   branch : IsBranch g.D.Dictionary.tableau g.D.Dictionary.pivot_of (g.T.Tree.system_of l.kept).rows l.branch;
+  begun : RoseBy l.fn.work.begun l.before l.work.begun;
 }

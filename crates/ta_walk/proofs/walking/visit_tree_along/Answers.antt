@@ -1,5 +1,6 @@
 use Rattle.ta_walk.proofs.Common.{ℕ, ◌+◌, ◌≤◌, [], ◌∷◌, ◌++◌, ◌∙◌, length, sym, ap, subst, arith, Cursor, here, NodeAt, leaf_count}
 use Rattle.ta_walk.proofs.LeavesCounted.{leaves_below, leaves_more}
+use Rattle.ta_walk.proofs.NodesCounted.{rose_next}
 use Rattle.ta_walk.proofs.WalkSoFar.{walk_few, walk_goes, walk_refutes}
 use Rattle.ta_walk.proofs.walking.visit_tree_along.Goals as goal
 
@@ -16,8 +17,8 @@ leaves_with-leaves-requires g c =
     let l = c.loop-before in
     leaves_below l.invariant.found l.before l.leaves c.args.nodes l.invariant.counted l.invariant.walked.counted (omega arith) c.requires.limit
 
-pub returns-then-not-more : goal.returns-then-not-more
-returns-then-not-more g c =
+pub returns-then-not-more-clause-ends : goal.returns-then-not-more-clause-ends
+returns-then-not-more-clause-ends g c =
     let s = g.T.Tree.search c.args.tree.now in
     let l = c.loop-before in
     let n = c.in-Inner.node in
@@ -45,4 +46,5 @@ loop-before-preserved g c =
       keeps = c.in_ok-take-in-Inner.ensures c.args.keeper.now l.invariant.found l.invariant.keeps;
       kept = c.in_ok-next.ensures.kept;
       branch = rw c.in-Inner.is at c.in_ok-kind.ensures.branch;
+      begun = rose_next c.args.work.now.begun l.before l.work.begun c.solve_node.new.work.begun l.invariant.begun c.in_ok-kind.ensures.counted;
     }

@@ -1,14 +1,15 @@
 use Rattle.ta_check.proofs.Common.{sym, subst, Ok, err_is, Claim, CertificateFor, subject_of, claiming_with}
 use Rattle.ta_scope.proofs.Judging.{loops_pure}
 use Rattle.ta_check.proofs.Accepting.{certificate_unsolved, claims_hold}
-use Rattle.ta_check.proofs.Answering.{end_refused, exact_end, stands_somewhere}
-use Rattle.ta_check.proofs.Pieces.{end_accepts, reader_ends}
+use Rattle.ta_check.proofs.Answering.{exact_end, stands_somewhere}
+use Rattle.ta_check.proofs.Pieces.{end_accepts, end_refused}
 use Rattle.ta_check.proofs.checker.Checker.finish.Goals as goal
 
 pub returns-in_err-finish-clause-answer : goal.returns-in_err-finish-clause-answer
 returns-in_err-finish-clause-answer c =
     let s = c.args.self in
-    rw (err_is c.from_residual.result _ c.from_residual.ensures.1) (λ text stands. end_refused (subject_of s) s.reader s.position text c.in_err-finish.field-0.0 stands.stand (reader_ends (subject_of s) s.reader s.position text _ stands.stand c.in_err-finish.ensures.answer))
+    rw (err_is c.from_residual.result _ c.from_residual.ensures.1)
+    (λ text stands. end_refused (subject_of s) s.reader s.position text c.in_err-finish.field-0.0 stands.stand c.in_err-finish.ensures.answer)
 
 pub returns-in_err-finish-clause-exact : goal.returns-in_err-finish-clause-exact
 returns-in_err-finish-clause-exact c = λ text stands. exact_end (subject_of c.args.self) text c.from_residual.result (returns-in_err-finish-clause-answer c text stands)
@@ -16,7 +17,8 @@ returns-in_err-finish-clause-exact c = λ text stands. exact_end (subject_of c.a
 pub returns-clause-answer : goal.returns-clause-answer
 returns-clause-answer c = λ text stands.
     let s = c.args.self in
-    subst (CertificateFor (subject_of s) text) (sym c.from_vec.ensures) (end_accepts (subject_of s) s.reader s.position text stands.stand (reader_ends (subject_of s) s.reader s.position text (Ok tt) stands.stand c.in_ok-finish.ensures.answer))
+    subst (CertificateFor (subject_of s) text) (sym c.from_vec.ensures)
+    (end_accepts (subject_of s) s.reader s.position text stands.stand c.in_ok-finish.ensures.answer)
 
 pub returns-clause-exact : goal.returns-clause-exact
 returns-clause-exact c = λ text stands. exact_end (subject_of c.args.self) text (Ok (record { patterns = c.from_vec.result })) (returns-clause-answer c text stands)

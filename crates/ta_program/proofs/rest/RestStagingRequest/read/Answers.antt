@@ -1,10 +1,9 @@
-use Rattle.ta_program.proofs.Common.{map, rest_meaning, LegalSilently, rest_words}
+use Rattle.ta_program.proofs.Common.{map, LegalRest, rest_meaning, rest_words}
 use Rattle.ta_program.specs.RestSeen.{rest_seen}
 use Rattle.ta_program.proofs.Meanings.{asked_where}
 use Rattle.ta_program.proofs.RestMeanings.{rest_decides, rest_passes}
 use Rattle.ta_program.proofs.rest.RestStagingRequest.read.Goals as goal
 
 pub returns : goal.returns
-returns c =
-    asked_where rest_seen (λ asked. LegalSilently asked.file asked.silent) (λ asked. rest_meaning asked.file asked.budget asked.out asked.silent) (λ asked. rest_decides asked.file asked.budget asked.out asked.silent) (λ asked. rest_passes asked.file asked.budget asked.out asked.silent)
-    c.read_rest.result (rest_words (map (λ w. w.now) c.args.words.now)) c.read_rest.ensures
+returns c = asked_where rest_seen LegalRest rest_meaning rest_decides rest_passes c.read_rest.result (rest_words (map (λ w. w.now) c.args.words.now))
+    c.read_rest.ensures
