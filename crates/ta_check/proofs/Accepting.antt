@@ -38,7 +38,7 @@ use Rattle.ta_cert.proofs.CertLines.{cert_read, questions_read}
 use Rattle.ta_cert.proofs.Written.{header_short}
 use Rattle.ta_encode.specs.Refutes.{IsLeaf, ProofBy}
 use Rattle.ta_encode.proofs.Theorems.{no_solution, runs}
-use Rattle.ta_claim.proofs.ClaimsShown.{proofs_show}
+use Rattle.ta_rest.proofs.ClaimsShown.{proofs_show}
 use Rattle.ta_check.proofs.Searches.{searched}
 use Rattle.ta_check.proofs.Behind.{lead_proofs, standing}
 use Rattle.ta_check.proofs.Heads.{OrdersBehind, heads, lead_orders}
@@ -69,9 +69,13 @@ may_of claim (q ∷ ps) zero p may named = let same : q ≡ p = cc in subst (May
 may_of claim (q ∷ ps) (suc k) p may named = may_of claim ps k p may.1 named
 
 -- what is proved of words holds
-words_hold : (claim : Claim) (silent : List ℕ) (orders : List Order) (file : File) (number : ℕ) (p : Pattern) → may_have Words claim silent orders → slice_get file.patterns number ≡ Some p → MayClaim claim p → LoopsPure file.automaton → (pairs : List (ℕ × ℕ)) → Good file.automaton pairs → (trees : List Tree) → ProofBy (search_for claim file.automaton p pairs) (IsLeaf (search_for claim file.automaton p pairs)) trees → claimed_with claim silent file.automaton p
+words_hold : (claim : Claim) (silent : List ℕ) (orders : List Order) (file : File) (number : ℕ) (p : Pattern) → may_have Words claim silent orders
+    → slice_get file.patterns number ≡ Some p → MayClaim claim p → LoopsPure file.automaton → (pairs : List (ℕ × ℕ)) → Good file.automaton pairs
+    → (trees : List Tree) → ProofBy (search_for claim file.automaton p pairs) (IsLeaf (search_for claim file.automaton p pairs)) trees
+    → claimed_with claim silent file.automaton p
 words_hold Safe silent orders file number p have named may loops pairs good trees proof = proofs_show Safe file number p named may loops pairs good trees proof
-words_hold RestSafe [] orders file number p have named may loops pairs good trees proof = proofs_show RestSafe file number p named may loops pairs good trees proof
+words_hold RestSafe [] orders file number p have named may loops pairs good trees proof = proofs_show RestSafe file number p named may loops pairs good trees
+    proof
 words_hold RestSafe (place ∷ silent) orders file number p have named may loops pairs good trees proof = absurd have
 
 -- quiet rest is rest where no place is silent
@@ -84,32 +88,44 @@ early : (file : File) (number : ℕ) (p : Pattern) → slice_get file.patterns n
 early file number p named = after_earlier _ _ p (pattern_within file number p named)
 
 -- what is proved of moments holds
-moments_hold : (claim : Claim) (silent : List ℕ) (file : File) (number : ℕ) (p : Pattern) → slice_get file.patterns number ≡ Some p → MayClaim claim p → LoopsPure file.automaton → (nodes : List Node) → RefuteRoots (moments_of file.automaton p (asking_for claim silent)) nodes → claimed_with claim silent file.automaton p
-moments_hold Safe silent file number p named may loops nodes refute = nodes_show file number p named loops (moment_maker file.automaton p of_events) nodes refute
-moments_hold RestSafe silent file number p named may loops nodes refute = quietly silent file.automaton p (rest_nodes_show_so file.automaton p (early file number p named) may loops silent (moment_maker file.automaton p (of_rest silent)) nodes refute)
+moments_hold : (claim : Claim) (silent : List ℕ) (file : File) (number : ℕ) (p : Pattern) → slice_get file.patterns number ≡ Some p → MayClaim claim p
+    → LoopsPure file.automaton → (nodes : List Node) → RefuteRoots (moments_of file.automaton p (asking_for claim silent)) nodes
+    → claimed_with claim silent file.automaton p
+moments_hold Safe silent file number p named may loops nodes refute = nodes_show file number p named loops (moment_maker file.automaton p of_events) nodes
+    refute
+moments_hold RestSafe silent file number p named may loops nodes refute = quietly silent file.automaton p
+    (rest_nodes_show_so file.automaton p (early file number p named) may loops silent (moment_maker file.automaton p (of_rest silent)) nodes refute)
 
 -- what is proved holds
-proof_holds : (kind : Kind) (subject : Subject) (orders : List Order) (number : ℕ) (p : Pattern) → MayHave kind subject orders → slice_get subject.file.patterns number ≡ Some p → MayClaim subject.claim p → LoopsPure subject.file.automaton → (pairs : List (ℕ × ℕ)) → Good subject.file.automaton pairs → (trees : List Tree) → ProofBy (search_of kind subject pairs p) (IsLeaf (search_of kind subject pairs p)) trees → claimed_with subject.claim subject.silent subject.file.automaton p
-proof_holds Words subject orders number p have named may loops pairs good trees proof = words_hold subject.claim subject.silent orders subject.file number p have named may loops pairs good trees proof
+proof_holds : (kind : Kind) (subject : Subject) (orders : List Order) (number : ℕ) (p : Pattern) → MayHave kind subject orders
+    → slice_get subject.file.patterns number ≡ Some p → MayClaim subject.claim p → LoopsPure subject.file.automaton → (pairs : List (ℕ × ℕ))
+    → Good subject.file.automaton pairs → (trees : List Tree) → ProofBy (search_of kind subject pairs p) (IsLeaf (search_of kind subject pairs p)) trees
+    → claimed_with subject.claim subject.silent subject.file.automaton p
+proof_holds Words subject orders number p have named may loops pairs good trees proof = words_hold subject.claim subject.silent orders subject.file number p
+    have named may loops pairs good trees proof
 proof_holds Moments subject orders number p have named may loops pairs good trees proof =
     moments_hold subject.claim subject.silent subject.file number p named may loops (all_preorder trees)
     ((in_order IsLeaf (search_of Moments subject pairs p) (all_preorder trees)).1 (trees, proof, refl))
 
-each_holds : (kind : Kind) (subject : Subject) (orders : List Order) (pairs : List (ℕ × ℕ)) (proofs : List (ℕ × List Tree)) → MayHave kind subject orders → MayClaimAll subject → LoopsPure subject.file.automaton → Good subject.file.automaton pairs → AllByRecursion (ProvesClaim kind subject pairs) proofs → AllClaimsHold subject (map proof_number proofs)
+each_holds : (kind : Kind) (subject : Subject) (orders : List Order) (pairs : List (ℕ × ℕ)) (proofs : List (ℕ × List Tree)) → MayHave kind subject orders
+    → MayClaimAll subject → LoopsPure subject.file.automaton → Good subject.file.automaton pairs → AllByRecursion (ProvesClaim kind subject pairs) proofs
+    → AllClaimsHold subject (map proof_number proofs)
 each_holds kind subject orders pairs [] have may loops good prove = tt
 each_holds kind subject orders pairs (q ∷ qs) have may loops good prove =
     let one = proven kind subject pairs q prove.0 in (
       record {
         pattern = one.pattern;
         named = one.named;
-        safe = proof_holds kind subject orders q.0 one.pattern have one.named (may_of subject.claim subject.file.patterns q.0 one.pattern may one.named) loops pairs good q.1 one.proof;
+        safe = proof_holds kind subject orders q.0 one.pattern have one.named (may_of subject.claim subject.file.patterns q.0 one.pattern may one.named) loops
+            pairs good q.1 one.proof;
       },
       each_holds kind subject orders pairs qs have may loops good prove.1,
     )
 
 -- what is claimed of a certificate's patterns holds
 pub claims_hold : ClaimsHold
-claims_hold subject text numbers may loops c = subst (AllClaimsHold subject) (sym c.named) (each_holds c.kind subject c.orders (map pair_of c.orders) c.proofs c.ordered may loops c.good c.prove)
+claims_hold subject text numbers may loops c = subst (AllClaimsHold subject) (sym c.named)
+    (each_holds c.kind subject c.orders (map pair_of c.orders) c.proofs c.ordered may loops c.good c.prove)
 
 -- that patterns are safe may be claimed of all
 pub may_be_safe : (file : File) (silent : List ℕ) → MayClaimAll (claiming_with Safe file silent)
@@ -132,11 +148,19 @@ certificate_safe : (file : File) (text numbers : List ℕ) → LoopsPure file.au
 certificate_safe file text numbers loops c = claims_hold (claiming Safe file) text numbers (may_be_safe file []) loops c
 
 -- no word of what is proved that is legal under the pairs has a solution
-each_unsolved : (file : File) (pairs : List (ℕ × ℕ)) (proofs : List (ℕ × List Tree)) → AllByRecursion (ProvesPattern file pairs) proofs → AllByRecursion (PatternUnsolved file pairs) (map proof_number proofs)
+each_unsolved : (file : File) (pairs : List (ℕ × ℕ)) (proofs : List (ℕ × List Tree)) → AllByRecursion (ProvesPattern file pairs) proofs
+    → AllByRecursion (PatternUnsolved file pairs) (map proof_number proofs)
 each_unsolved file pairs [] prove = tt
 each_unsolved file pairs (q ∷ qs) prove =
-    let one = proven Words (claiming Safe file) pairs q prove.0 in
-    (record { pattern = one.pattern; named = one.named; none = λ start below word values. no_solution file.automaton one.pattern pairs q.1 one.proof start below word values }, each_unsolved file pairs qs prove.1)
+    let one = proven Words (claiming Safe file) pairs q prove.0 in (
+      record {
+        pattern = one.pattern;
+        named = one.named;
+        none = λ start below word values. no_solution file.automaton one.pattern pairs q.1 one.proof start below
+            word values;
+      },
+      each_unsolved file pairs qs prove.1,
+    )
 
 -- where a solution gives a run, no legal word of a safe pattern has one
 safe_unsolved : (file : File) (numbers : List ℕ) → InScope file.automaton → AllSafe file numbers → AllUnsolved file numbers
@@ -146,7 +170,8 @@ safe_unsolved file (n ∷ ns) scope safe =
       record {
         pattern = one.pattern;
         named = one.named;
-        none = λ start below word values solved. (let run = runs file n one.pattern one.named scope start word values solved in one.safe run.first run.rules run.occurs);
+        none = λ start below word values solved.
+            (let run = runs file n one.pattern one.named scope start word values solved in one.safe run.first run.rules run.occurs);
       },
       safe_unsolved file ns scope safe.1,
     )
@@ -158,7 +183,8 @@ certificates_show file text numbers loops c =
     let safe = certificate_safe file text numbers loops c in
     record {
       safe = safe;
-      unsolved = λ words. subst (λ (ks : List ℕ). AllByRecursion (PatternUnsolved file pairs) ks) (sym c.named) (each_unsolved file pairs c.proofs (subst (λ (kind : Kind). AllByRecursion (ProvesClaim kind (claiming Safe file) pairs) c.proofs) words c.prove));
+      unsolved = λ words. subst (λ (ks : List ℕ). AllByRecursion (PatternUnsolved file pairs) ks) (sym c.named)
+          (each_unsolved file pairs c.proofs (subst (λ (kind : Kind). AllByRecursion (ProvesClaim kind (claiming Safe file) pairs) c.proofs) words c.prove));
       none_solved = λ scope. safe_unsolved file numbers scope safe;
     }
 
@@ -168,8 +194,10 @@ all_safe file silent [] hold = tt
 all_safe file silent (n ∷ ns) hold = (record { pattern = hold.0.pattern; named = hold.0.named; safe = hold.0.safe }, all_safe file silent ns hold.1)
 
 -- no legal word of a certificate's patterns has a solution
-pub certificate_unsolved : (file : File) (silent text numbers : List ℕ) → LoopsPure file.automaton → InScope file.automaton → CertificateFor (claiming_with Safe file silent) text numbers → AllUnsolved file numbers
-certificate_unsolved file silent text numbers loops scope c = safe_unsolved file numbers scope (all_safe file silent numbers (claims_hold (claiming_with Safe file silent) text numbers (may_be_safe file silent) loops c))
+pub certificate_unsolved : (file : File) (silent text numbers : List ℕ) → LoopsPure file.automaton → InScope file.automaton
+    → CertificateFor (claiming_with Safe file silent) text numbers → AllUnsolved file numbers
+certificate_unsolved file silent text numbers loops scope c = safe_unsolved file numbers scope
+    (all_safe file silent numbers (claims_hold (claiming_with Safe file silent) text numbers (may_be_safe file silent) loops c))
 
 -- later lines are short
 short_later : (ls : List Line) → AreLater ls → AreShort ls
@@ -177,7 +205,8 @@ short_later [] later = tt
 short_later (l ∷ ls) later = (later.1, short_later ls later.4)
 
 -- the version is that of the pairs
-version_same : (version : ℕ) (orders : List Order) → IsVersion version → version ≤ 2 → (version ≡ 2 → map pair_of orders ≡ [] → ⊥) → ((orders ≡ [] → ⊥) → version ≡ 2) → version ≡ version_of orders
+version_same : (version : ℕ) (orders : List Order) → IsVersion version → version ≤ 2 → (version ≡ 2 → map pair_of orders ≡ [] → ⊥)
+    → ((orders ≡ [] → ⊥) → version ≡ 2) → version ≡ version_of orders
 version_same version [] is most some second = elim (cases_order version 2) [
   | inl two ↦ absurd (some two refl)
   | inr (inl less) ↦ (let low = is.0 in omega arith)
@@ -194,15 +223,20 @@ third : (version : ℕ) → version ≡ 3 → version ≡ 2 → ⊥
 third version is other = omega arith
 
 -- the lines are those of the version's kind
-lines_same : (version : ℕ) (orders : List Order) (proofs : List Proof) → IsVersion version → (version ≡ 2 → map pair_of orders ≡ [] → ⊥) → ((orders ≡ [] → ⊥) → version ≡ 2) → (line.Header version ∷ (order_lines orders ++ proof_lines proofs)) ≡ lines_of_kind (kind_of version) orders proofs
+lines_same : (version : ℕ) (orders : List Order) (proofs : List Proof) → IsVersion version → (version ≡ 2 → map pair_of orders ≡ [] → ⊥)
+    → ((orders ≡ [] → ⊥) → version ≡ 2) → (line.Header version ∷ (order_lines orders ++ proof_lines proofs)) ≡ lines_of_kind (kind_of version) orders proofs
 lines_same zero orders proofs is some second = absurd (let low = is.0 in omega arith)
-lines_same (suc zero) orders proofs is some second = ap (λ (v : ℕ). line.Header v ∷ (order_lines orders ++ proof_lines proofs)) (version_same 1 orders is (lit≤ tt) some second)
-lines_same (suc (suc zero)) orders proofs is some second = ap (λ (v : ℕ). line.Header v ∷ (order_lines orders ++ proof_lines proofs)) (version_same 2 orders is (lit≤ tt) some second)
-lines_same (suc (suc (suc zero))) orders proofs is some second = ap (λ (os : List Order). line.Header 3 ∷ (order_lines os ++ proof_lines proofs)) (none_but_second 3 orders (third 3 refl) second)
+lines_same (suc zero) orders proofs is some second = ap (λ (v : ℕ). line.Header v ∷ (order_lines orders ++ proof_lines proofs))
+    (version_same 1 orders is (lit≤ tt) some second)
+lines_same (suc (suc zero)) orders proofs is some second = ap (λ (v : ℕ). line.Header v ∷ (order_lines orders ++ proof_lines proofs))
+    (version_same 2 orders is (lit≤ tt) some second)
+lines_same (suc (suc (suc zero))) orders proofs is some second = ap (λ (os : List Order). line.Header 3 ∷ (order_lines os ++ proof_lines proofs))
+    (none_but_second 3 orders (third 3 refl) second)
 lines_same (suc (suc (suc (suc n)))) orders proofs is some second = absurd (let high = is.1 in omega arith)
 
 -- a version that a certificate may have allows its pairs
-have_rest : (version : ℕ) (silent : List ℕ) (orders : List Order) → IsVersion version → version_for RestSafe silent version → ((orders ≡ [] → ⊥) → version ≡ 2) → may_have (kind_of version) RestSafe silent orders
+have_rest : (version : ℕ) (silent : List ℕ) (orders : List Order) → IsVersion version → version_for RestSafe silent version → ((orders ≡ [] → ⊥) → version ≡ 2)
+    → may_have (kind_of version) RestSafe silent orders
 have_rest zero silent orders is has second = absurd (let low = is.0 in omega arith)
 have_rest (suc zero) [] [] is has second = refl
 have_rest (suc zero) [] (o ∷ os) is has second = absurd (let wrong = second (λ e. cc) in omega arith)
@@ -213,26 +247,32 @@ have_rest (suc (suc zero)) (place ∷ silent) orders is has second = absurd (let
 have_rest (suc (suc (suc zero))) silent orders is has second = none_but_second 3 orders (third 3 refl) second
 have_rest (suc (suc (suc (suc n)))) silent orders is has second = absurd (let high = is.1 in omega arith)
 
-have_safe : (version : ℕ) (silent : List ℕ) (orders : List Order) → IsVersion version → ((orders ≡ [] → ⊥) → version ≡ 2) → AreOrders orders → may_have (kind_of version) Safe silent orders
+have_safe : (version : ℕ) (silent : List ℕ) (orders : List Order) → IsVersion version → ((orders ≡ [] → ⊥) → version ≡ 2) → AreOrders orders
+    → may_have (kind_of version) Safe silent orders
 have_safe zero silent orders is second ordered = absurd (let low = is.0 in omega arith)
 have_safe (suc zero) silent orders is second ordered = ordered
 have_safe (suc (suc zero)) silent orders is second ordered = ordered
 have_safe (suc (suc (suc zero))) silent orders is second ordered = none_but_second 3 orders (third 3 refl) second
 have_safe (suc (suc (suc (suc n)))) silent orders is second ordered = absurd (let high = is.1 in omega arith)
 
-have_pairs : (claim : Claim) (silent : List ℕ) (version : ℕ) (orders : List Order) → IsVersion version → version_for claim silent version → ((orders ≡ [] → ⊥) → version ≡ 2) → AreOrders orders → may_have (kind_of version) claim silent orders
+have_pairs : (claim : Claim) (silent : List ℕ) (version : ℕ) (orders : List Order) → IsVersion version → version_for claim silent version
+    → ((orders ≡ [] → ⊥) → version ≡ 2) → AreOrders orders → may_have (kind_of version) claim silent orders
 have_pairs Safe silent version orders is has second ordered = have_safe version silent orders is second ordered
 have_pairs RestSafe silent version orders is has second ordered = have_rest version silent orders is has second
 
 -- the certificate that the lines behind the header are
-certificate_behind : (subject : Subject) (text : List ℕ) (version : ℕ) (ls : List Line) (s : Standing) → HasVersion subject version → IsVersion version → length (line_text (line.Header version)) ≤ line_limit → AreLater ls → text ≡ cert_lines_text (line.Header version ∷ ls) → OrdersBehind subject version [] ls s → CertificateFor subject text (reverse s.begun)
+certificate_behind : (subject : Subject) (text : List ℕ) (version : ℕ) (ls : List Line) (s : Standing) → HasVersion subject version → IsVersion version
+    → length (line_text (line.Header version)) ≤ line_limit → AreLater ls → text ≡ cert_lines_text (line.Header version ∷ ls)
+    → OrdersBehind subject version [] ls s → CertificateFor subject text (reverse s.begun)
 certificate_behind subject text version ls s has is fits later written h =
     let b = h.behind in
     let none : b.nodes ≡ [] = b.none refl in
     let proofs : h.rest ≡ proof_lines (proofs_of b.proofs) = b.lines ∙ ap (λ (ns : List Node). map line.Tree ns ++ proof_lines (proofs_of b.proofs)) none in
     let lines : ls ≡ order_lines h.orders ++ proof_lines (proofs_of b.proofs) = h.lines ∙ ap (λ (xs : List Line). order_lines h.orders ++ xs) proofs in
-    let named : reverse s.begun ≡ map proof_number b.proofs = ap reverse (b.begun ∙ append-nil (reverse (map proof_number b.proofs))) ∙ reverse-reverse (map proof_number b.proofs) in
-    let all : (line.Header version ∷ ls) ≡ lines_of_kind (kind_of version) h.orders (proofs_of b.proofs) = ap (λ (xs : List Line). line.Header version ∷ xs) lines ∙ lines_same version h.orders (proofs_of b.proofs) is h.some h.second in
+    let named : reverse s.begun ≡ map proof_number b.proofs = ap reverse (b.begun ∙ append-nil (reverse (map proof_number b.proofs)))
+    ∙ reverse-reverse (map proof_number b.proofs) in
+    let all : (line.Header version ∷ ls) ≡ lines_of_kind (kind_of version) h.orders (proofs_of b.proofs) = ap (λ (xs : List Line). line.Header version ∷ xs)
+    lines ∙ lines_same version h.orders (proofs_of b.proofs) is h.some h.second in
     record {
       kind = kind_of version;
       orders = h.orders;
@@ -268,12 +308,21 @@ version_in Words orders = version_of orders
 version_in Moments orders = 3
 
 -- the lines behind the first one lead to the end
-lead_words : (subject : Subject) (orders : List Order) (proofs : List (ℕ × List Tree)) → Good subject.file.automaton (map pair_of orders) → AllByRecursion (ShowsPair subject.file.automaton) orders → AllByRecursion (ProvesClaim Words subject (map pair_of orders)) proofs → Distinct (map proof_number proofs) → (after : Standing) × LeadThrough subject (standing (version_of orders) [] [] []) (order_lines orders ++ proof_lines (proofs_of proofs)) after
-lead_words subject [] proofs good shown prove distinct = lead_proofs subject 1 [] proofs [] (λ two. let e : 1 ≡ 2 = two in absurd (omega arith)) prove distinct (each_all (λ (k : ℕ). In k [] → ⊥) (map proof_number proofs) (λ k is. is))
-lead_words subject (o ∷ os) proofs good shown prove distinct = lead_orders subject [] (o ∷ os) (proof_lines (proofs_of proofs)) good shown (lead_proofs subject 2 (map pair_of (o ∷ os)) proofs [] (λ two empty. cc) prove distinct (each_all (λ (k : ℕ). In k [] → ⊥) (map proof_number proofs) (λ k is. is)))
+lead_words : (subject : Subject) (orders : List Order) (proofs : List (ℕ × List Tree)) → Good subject.file.automaton (map pair_of orders)
+    → AllByRecursion (ShowsPair subject.file.automaton) orders → AllByRecursion (ProvesClaim Words subject (map pair_of orders)) proofs
+    → Distinct (map proof_number proofs) → (after : Standing)
+    × LeadThrough subject (standing (version_of orders) [] [] []) (order_lines orders ++ proof_lines (proofs_of proofs)) after
+lead_words subject [] proofs good shown prove distinct = lead_proofs subject 1 [] proofs [] (λ two. let e : 1 ≡ 2 = two in absurd (omega arith)) prove distinct
+    (each_all (λ (k : ℕ). In k [] → ⊥) (map proof_number proofs) (λ k is. is))
+lead_words subject (o ∷ os) proofs good shown prove distinct = lead_orders subject [] (o ∷ os) (proof_lines (proofs_of proofs)) good shown
+    (lead_proofs subject 2 (map pair_of (o ∷ os)) proofs [] (λ two empty. cc) prove distinct
+    (each_all (λ (k : ℕ). In k [] → ⊥) (map proof_number proofs) (λ k is. is)))
 
-lead_moments : (subject : Subject) (orders : List Order) (proofs : List (ℕ × List Tree)) → orders ≡ [] → AllByRecursion (ProvesClaim Moments subject (map pair_of orders)) proofs → Distinct (map proof_number proofs) → (after : Standing) × LeadThrough subject (standing 3 [] [] []) (proof_lines (proofs_of proofs)) after
-lead_moments subject [] proofs none prove distinct = lead_proofs subject 3 [] proofs [] (λ two. let e : 3 ≡ 2 = two in absurd (omega arith)) prove distinct (each_all (λ (k : ℕ). In k [] → ⊥) (map proof_number proofs) (λ k is. is))
+lead_moments : (subject : Subject) (orders : List Order) (proofs : List (ℕ × List Tree)) → orders ≡ []
+    → AllByRecursion (ProvesClaim Moments subject (map pair_of orders)) proofs → Distinct (map proof_number proofs) → (after : Standing)
+    × LeadThrough subject (standing 3 [] [] []) (proof_lines (proofs_of proofs)) after
+lead_moments subject [] proofs none prove distinct = lead_proofs subject 3 [] proofs [] (λ two. let e : 3 ≡ 2 = two in absurd (omega arith)) prove distinct
+    (each_all (λ (k : ℕ). In k [] → ⊥) (map proof_number proofs) (λ k is. is))
 lead_moments subject (o ∷ os) proofs none prove distinct = absurd (cc)
 
 -- pairs that a certificate may have are such pairs, and so is their version
@@ -283,7 +332,8 @@ have_orders RestSafe [] [] have = tt
 have_orders RestSafe [] (o ∷ os) have = absurd (cc)
 have_orders RestSafe (place ∷ silent) orders have = absurd have
 
-have_version : (kind : Kind) (claim : Claim) (silent : List ℕ) (orders : List Order) → may_have kind claim silent orders → version_for claim silent (version_in kind orders)
+have_version : (kind : Kind) (claim : Claim) (silent : List ℕ) (orders : List Order) → may_have kind claim silent orders
+    → version_for claim silent (version_in kind orders)
 have_version Words Safe silent [] have = lit≤ tt
 have_version Words Safe silent (o ∷ os) have = lit≤ tt
 have_version Words RestSafe [] [] have = inl refl
@@ -299,10 +349,14 @@ record Followed (subject : Subject) (kind : Kind) (orders : List Order) (proofs 
   pub after : Standing
   pub lead : LeadThrough subject first_standing (lines_of_kind kind orders (proofs_of proofs)) after
 
-followed : (kind : Kind) (subject : Subject) (orders : List Order) (proofs : List (ℕ × List Tree)) → MayHave kind subject orders → AreWritable (proofs_of proofs) → AreShort (lines_of_kind kind orders (proofs_of proofs)) → Good subject.file.automaton (map pair_of orders) → AllByRecursion (ShowsPair subject.file.automaton) orders → AllByRecursion (ProvesClaim kind subject (map pair_of orders)) proofs → Distinct (map proof_number proofs) → Followed subject kind orders proofs
+followed : (kind : Kind) (subject : Subject) (orders : List Order) (proofs : List (ℕ × List Tree)) → MayHave kind subject orders
+    → AreWritable (proofs_of proofs) → AreShort (lines_of_kind kind orders (proofs_of proofs)) → Good subject.file.automaton (map pair_of orders)
+    → AllByRecursion (ShowsPair subject.file.automaton) orders → AllByRecursion (ProvesClaim kind subject (map pair_of orders)) proofs
+    → Distinct (map proof_number proofs) → Followed subject kind orders proofs
 followed Words subject orders proofs have legal short good shown prove distinct =
     let lead = lead_words subject orders proofs good shown prove distinct in
-    let opens : OpensCertificate subject first_standing (version_of orders) (standing (version_of orders) [] [] []) = record { has = have_version Words subject.claim subject.silent orders have; leads = refl } in
+    let opens : OpensCertificate subject first_standing (version_of orders) (standing (version_of orders) [] [] []) = record
+    { has = have_version Words subject.claim subject.silent orders have; leads = refl } in
     record {
       read = cert_read orders (proofs_of proofs) (have_orders subject.claim subject.silent orders have) legal short;
       after = lead.0;
@@ -310,7 +364,8 @@ followed Words subject orders proofs have legal short good shown prove distinct 
     }
 followed Moments subject orders proofs have legal short good shown prove distinct =
     let lead = lead_moments subject orders proofs have prove distinct in
-    let opens : OpensCertificate subject first_standing 3 (standing 3 [] [] []) = record { has = have_version Moments subject.claim subject.silent orders have; leads = refl } in
+    let opens : OpensCertificate subject first_standing 3 (standing 3 [] [] []) = record
+    { has = have_version Moments subject.claim subject.silent orders have; leads = refl } in
     record {
       read = questions_read (proofs_of proofs) legal short;
       after = lead.0;
@@ -357,7 +412,8 @@ unfolding numbers_in
 proofs_name [] = refl
 proofs_name (q ∷ qs) = ap (λ (ks : List ℕ). q.0 ∷ ks) (nodes_name_none (all_preorder q.1) (proof_lines (proofs_of qs)) ∙ proofs_name qs)
 
-lines_name : (kind : Kind) (orders : List Order) (proofs : List (ℕ × List Tree)) → numbers_in (lines_of_kind kind orders (proofs_of proofs)) ≡ map proof_number proofs
+lines_name : (kind : Kind) (orders : List Order) (proofs : List (ℕ × List Tree))
+    → numbers_in (lines_of_kind kind orders (proofs_of proofs)) ≡ map proof_number proofs
 unfolding numbers_in
 lines_name Words orders proofs = orders_name_none orders (proof_lines (proofs_of proofs)) ∙ proofs_name proofs
 lines_name Moments orders proofs = proofs_name proofs

@@ -1,5 +1,8 @@
 -- The names that the proofs of this crate cite, passed on from one place. Declares nothing.
-pub use Rattle.std.proofs.Common.{Bool, Err, FitsSigned, IfErr, IfOk, IsErrOf, List, None, Ok, Option, Result, Some, [], ap, append-nil, append_assoc, arith, cond, drop, false, get_or, inl, inr, is_err, length, length-append, length-drop, lit≤, map, nat_lt, of_z, pos, refl, reverse, rules, slice_get, subst, suc, sym, take, take-append-drop, to_z, true, unsigned_abs, zero, ℕ, ℤ, ◌*ℤ◌, ◌++◌, ◌+ℤ◌, ◌+◌, ◌<ℤ◌, ◌<◌, ◌^◌, ◌∙◌, ◌∷◌, ◌≡◌, ◌≢◌, ◌≤ℤ◌, ◌≤◌, ◌⊎◌}
+pub use Rattle.std.proofs.Common.{Bool, Err, FitsSigned, IfErr, IfOk, IsErrOf, List, None, Ok, Option, Result, Some, [], ap, append-nil, append_assoc, arith}
+pub use Rattle.std.proofs.Common.{cond, drop, false, get_or, inl, inr, is_err, length, length-append, length-drop, lit≤, map, nat_lt, of_z, pos, refl, reverse}
+pub use Rattle.std.proofs.Common.{rules, slice_get, subst, suc, sym, take, take-append-drop, to_z, true, unsigned_abs, zero, ℕ, ℤ, ◌*ℤ◌, ◌++◌, ◌+ℤ◌, ◌+◌, ◌<ℤ◌}
+pub use Rattle.std.proofs.Common.{◌<◌, ◌^◌, ◌∙◌, ◌∷◌, ◌≡◌, ◌≢◌, ◌≤ℤ◌, ◌≤◌, ◌⊎◌}
 pub use Rattle.std.proofs.Math.Seq.{take-append_seam}
 pub use Rattle.std.proofs.lemmas.Bool.{cases_lt, false_from_ne_true, false≢true, not-true, not_from_false}
 pub use Rattle.std.proofs.lemmas.Int.{fits_signed_from_abs, ints, to_z-of_z}
@@ -29,8 +32,11 @@ pub use Rattle.ta_cert.specs.declared.line.Line.{Line}
 pub use Rattle.ta_cert.specs.declared.line.Node.{Node}
 pub use Rattle.ta_cert.specs.declared.line.Order.{Order}
 pub use Rattle.ta_cert.specs.declared.reader.Reader.{Reader}
-pub use Rattle.ta_check.specs.Certificate.{AllClaimsHold, AllQuietRestSafe, AllRestSafe, AllSafe, AllUnsolved, Certificate, CertificateFor, CertificatesNameOneList, CertificatesShow, ClaimsHold, MayClaimAll, MayHave, PatternUnsolved, ProvesClaim, ProvesPattern, ShowsPair, lines_of_kind, may_have, proof_number}
-pub use Rattle.ta_check.specs.Checkers.{CheckerFeedAnswers, CheckerFinishAnswers, CheckerStandsFor, IsExactCheck, IsExactFeed, IsSoundChecker, StandBehind, subject_of}
+pub use Rattle.ta_check.specs.Certificate.{AllClaimsHold, AllQuietRestSafe, AllRestSafe, AllSafe, AllUnsolved, Certificate, CertificateFor}
+pub use Rattle.ta_check.specs.Certificate.{CertificatesNameOneList, CertificatesShow, ClaimsHold, MayClaimAll, MayHave, PatternUnsolved, ProvesClaim}
+pub use Rattle.ta_check.specs.Certificate.{ProvesPattern, ShowsPair, lines_of_kind, may_have, proof_number}
+pub use Rattle.ta_check.specs.Checkers.{CheckerFeedAnswers, CheckerFinishAnswers, CheckerStandsFor, IsExactCheck, IsExactFeed, IsSoundChecker, StandBehind}
+pub use Rattle.ta_check.specs.Checkers.{subject_of}
 pub use Rattle.ta_check.specs.Faults.{AsksInVain, AtSomeWord, FirstFaultAlong, FirstLeafFault, HasNoForm, IsAtFault, IsFirstFaultFor, IsIdle, IsLastingFor}
 pub use Rattle.ta_check.specs.Faults.{IsMisplaced, IsMisplacedNode, IsNoPair, IsUnawaited, IsWaiting, LastingFaultsLast, LeafFails, PairFails}
 pub use Rattle.ta_check.specs.Forms.{HasForm, IsNoLeaf, IsQuestion}
@@ -38,21 +44,23 @@ pub use Rattle.ta_check.specs.Inside.Leaves.{WithoutBounds, renumbered}
 pub use Rattle.ta_check.specs.Inside.Pieces.{IsToldOf, NextTaken, StandSomewhere, TakenTo}
 pub use Rattle.ta_check.specs.Lines.{AtWord, BeginsProof, EndsCertificate, FactAt, LeadThrough, Leads, NothingIsLeft, OpensCertificate, ShowsWaiting, Standing}
 pub use Rattle.ta_check.specs.Lines.{Stands, TakesOrder, Waits, first_standing, opened, search_there}
-pub use Rattle.ta_check.specs.Positions.{Between, InNewest, IsKeptIn, IsPositionAt, IsSomewhere, LeafRefused, LeafTaken, LeafTold, LineAnswers, NodeStood, NodeTaken, NodeTold, SplitsNone, fault_at, place_of, unasked_in}
-pub use Rattle.ta_check.specs.Subjects.{HasVersion, Kind, Moments, Subject, Words, asking_for, claimed_with, claiming, claiming_with, fact_of, kind_of, moments_of, search_at, search_in, search_of, version_for}
+pub use Rattle.ta_check.specs.Positions.{Between, InNewest, IsKeptIn, IsPositionAt, IsSomewhere, LeafRefused, LeafTaken, LeafTold, LineAnswers, NodeStood}
+pub use Rattle.ta_check.specs.Positions.{NodeTaken, NodeTold, SplitsNone, fault_at, place_of, unasked_in}
+pub use Rattle.ta_check.specs.Subjects.{HasVersion, Kind, Moments, Subject, Words, asking_for, claimed_with, claiming, claiming_with, fact_of, kind_of}
+pub use Rattle.ta_check.specs.Subjects.{moments_of, search_at, search_in, search_of, version_for}
 pub use Rattle.ta_check.specs.declared.accepted.Accepted.{Accepted}
 pub use Rattle.ta_check.specs.declared.position.Position.{Position}
-pub use Rattle.ta_claim.specs.Claims.{MayClaim, search_for}
-pub use Rattle.ta_claim.specs.Trees.{search_of_claim}
-pub use Rattle.ta_claim.specs.declared.claim.Claim.{Claim}
-pub use Rattle.ta_claim.specs.declared.claim.Claim.TheVariants.{RestSafe, Safe}
-pub use Rattle.ta_cursor.proofs.Ranges.{check_stays, leaf_stays, stays_same}
-pub use Rattle.ta_cursor.proofs.TreesLeft.{here_first, here_is, later_words}
-pub use Rattle.ta_cursor.specs.Cursors.{IsWord, here}
-pub use Rattle.ta_cursor.specs.InTrees.{AllGoOn, AllWithin, IsAllWithin, here_at}
-pub use Rattle.ta_cursor.specs.Range.{IsJudged}
-pub use Rattle.ta_cursor.specs.declared.cursor.Cursor.{Cursor}
-pub use Rattle.ta_cursor.specs.declared.place.Place.{Place}
+pub use Rattle.ta_rest.specs.Claims.{MayClaim, search_for}
+pub use Rattle.ta_rest.specs.Trees.{search_of_claim}
+pub use Rattle.ta_rest.specs.declared.claim.Claim.{Claim}
+pub use Rattle.ta_rest.specs.declared.claim.Claim.TheVariants.{RestSafe, Safe}
+pub use Rattle.ta_encode.proofs.Ranges.{check_stays, leaf_stays, stays_same}
+pub use Rattle.ta_encode.proofs.TreesLeft.{here_first, here_is, later_words}
+pub use Rattle.ta_encode.specs.Cursors.{IsWord, here}
+pub use Rattle.ta_encode.specs.InTrees.{AllGoOn, AllWithin, IsAllWithin, here_at}
+pub use Rattle.ta_encode.specs.Range.{IsJudged}
+pub use Rattle.ta_encode.specs.declared.cursor.Cursor.{Cursor}
+pub use Rattle.ta_encode.specs.declared.cursor_place.Place.{Place}
 pub use Rattle.ta_encode.proofs.CodeRows.{leaf_back, leaf_of, rows_count, weighted_same}
 pub use Rattle.ta_encode.proofs.Preorders.{in_order, weaker_proof}
 pub use Rattle.ta_encode.proofs.Whole.{unbounded_rows, whole_system}

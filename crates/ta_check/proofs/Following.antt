@@ -17,7 +17,8 @@ pub record SameWord {E : Type 0} (p q : Search E) (w v : Pending E) (ws vs : Lis
   pub word : w ≡ v
   pub words : ws ≡ vs
 
-pub word_once : (subject : Subject) (s : Standing) (p q : Search (FactAt s)) (w v : Pending (FactAt s)) (ws vs : List (Pending (FactAt s))) → AtWord subject s p w ws → AtWord subject s q v vs → SameWord p q w v ws vs
+pub word_once : (subject : Subject) (s : Standing) (p q : Search (FactAt s)) (w v : Pending (FactAt s)) (ws vs : List (Pending (FactAt s)))
+    → AtWord subject s p w ws → AtWord subject s q v vs → SameWord p q w v ws vs
 word_once subject s p q w v ws vs a b =
     let begun : (a.number ∷ a.older) ≡ (b.number ∷ b.older) = sym a.begun ∙ b.begun in
     let number : a.number ≡ b.number = cc in
@@ -81,13 +82,15 @@ leads_once subject s (line.Tree n) x y (inr (inr a)) (inr (inr b)) = pair_once s
 leads_once subject s line.End x y a b = a.leads ∙ sym b.leads
 
 -- a node that stands does so at the first word that is left
-may_stand : (subject : Subject) (s : Standing) (n : Node) (after : Standing) (p : Search (FactAt s)) (w : Pending (FactAt s)) (ws : List (Pending (FactAt s))) → AtWord subject s p w ws → Stands subject s n after → MayStand p (IsJudged p) w n
+may_stand : (subject : Subject) (s : Standing) (n : Node) (after : Standing) (p : Search (FactAt s)) (w : Pending (FactAt s)) (ws : List (Pending (FactAt s)))
+    → AtWord subject s p w ws → Stands subject s n after → MayStand p (IsJudged p) w n
 may_stand subject s n after p w ws at stands =
     let same = word_once subject s stands.search p stands.word w stands.words ws stands.at at in
     subst (λ v. MayStand p (IsJudged p) v n) same.word (subst (λ q. MayStand q (IsJudged q) stands.word n) same.search stands.may)
 
 -- so does a node that leads on there
-may_lead : (subject : Subject) (s : Standing) (n : Node) (after : Standing) (p : Search (FactAt s)) (w : Pending (FactAt s)) (ws : List (Pending (FactAt s))) → AtWord subject s p w ws → Leads subject s (line.Tree n) after → MayStand p (IsJudged p) w n
+may_lead : (subject : Subject) (s : Standing) (n : Node) (after : Standing) (p : Search (FactAt s)) (w : Pending (FactAt s)) (ws : List (Pending (FactAt s)))
+    → AtWord subject s p w ws → Leads subject s (line.Tree n) after → MayStand p (IsJudged p) w n
 may_lead subject s n after p w ws at (inl stands) = may_stand subject s n after p w ws at stands
 may_lead subject s n after p w ws at (inr (inl shows)) = absurd (none-some shows.pair (sym at.none ∙ shows.waits))
 may_lead subject s n after p w ws at (inr (inr waits)) = absurd (let none : [] ≡ (at.number ∷ at.older) = sym waits.takes.early ∙ at.begun in cc)
@@ -129,7 +132,8 @@ pub leaf_of_leaf : (ts us : List (ℕ × ℤ)) → node.Leaf ts ≡ node.Leaf us
 leaf_of_leaf ts us e = cc
 
 -- a leaf that leads on has no error
-leaf_leads : (subject : Subject) (s : Standing) (ts : List (ℕ × ℤ)) (f : LeafFault) (after : Standing) → AtSomeWord subject s (λ search w. FirstLeafFault search w ts f) ⊎ PairFails subject s ts f → Leads subject s (line.Tree (node.Leaf ts)) after → ⊥
+leaf_leads : (subject : Subject) (s : Standing) (ts : List (ℕ × ℤ)) (f : LeafFault) (after : Standing)
+    → AtSomeWord subject s (λ search w. FirstLeafFault search w ts f) ⊎ PairFails subject s ts f → Leads subject s (line.Tree (node.Leaf ts)) after → ⊥
 leaf_leads subject s ts f after (inl at) leads =
     let wrong : FirstLeafFault at.search at.word ts f = at.holds in
     let judged : IsJudged at.search at.word ts = may_lead subject s (node.Leaf ts) after at.search at.word at.words at.at leads in
@@ -142,7 +146,8 @@ leaf_leads subject s ts f after (inr fails) (inr (inr waits)) = none-some fails.
 leaf_leads subject s ts f after (inr fails) (inr (inl shows)) =
     let pair : shows.pair ≡ fails.pair = waits_once s shows.pair fails.pair shows.waits fails.waits in
     let same : shows.multipliers ≡ ts = sym (leaf_of_leaf ts shows.multipliers shows.is) in
-    shows_or_fails subject.file.automaton fails.pair ts f (subst (λ q. IsShown subject.file.automaton q ts) pair (subst (λ us. IsShown subject.file.automaton shows.pair us) same shows.shown)) fails.fails
+    shows_or_fails subject.file.automaton fails.pair ts f
+    (subst (λ q. IsShown subject.file.automaton q ts) pair (subst (λ us. IsShown subject.file.automaton shows.pair us) same shows.shown)) fails.fails
 
 leaf_holds : (subject : Subject) (s : Standing) (l : Line) (f : LeafFault) (after : Standing) → LeafFails subject s l f → Leads subject s l after → ⊥
 leaf_holds subject s l f after fails leads = leaf_leads subject s fails.multipliers f after fails.at (subst (λ m. Leads subject s m after) fails.is leads)
@@ -157,7 +162,8 @@ may_ask p w (node.Order before later) asks may = may
 may_ask p w (node.Stuck rule) asks may = may
 
 -- a line that leads on is not in error
-pub not_both : (subject : Subject) (s : Standing) (number : ℕ) (l : Line) (f : CertFault) (after : Standing) → IsAtFault subject s number l f → Leads subject s l after → ⊥
+pub not_both : (subject : Subject) (s : Standing) (number : ℕ) (l : Line) (f : CertFault) (after : Standing) → IsAtFault subject s number l f
+    → Leads subject s l after → ⊥
 not_both subject s number l (fault.Line n) after at leads = in_place subject s l after at.1 leads
 not_both subject s number l (fault.UnknownPattern n) after (place, k, here, beyond) leads =
     let begins = subst (λ m. Leads subject s m after) here.is leads in
@@ -173,18 +179,22 @@ not_both subject s number l (fault.Pair n) after (place, bad) leads = pair_holds
         let same : node.Order bad.before bad.later ≡ node.Order waits.pair.0 waits.pair.1 = waits.is in
         let before : waits.pair.0 ≡ bad.before = cc in
         let later : waits.pair.1 ≡ bad.later = cc in
-        bad.bad (subst (λ k. MayJoin subject.file.automaton s.pairs (bad.before, k)) later (subst (λ k. MayJoin subject.file.automaton s.pairs (k, waits.pair.1)) before waits.may))
+        bad.bad (subst (λ k. MayJoin subject.file.automaton s.pairs (bad.before, k)) later
+        (subst (λ k. MayJoin subject.file.automaton s.pairs (k, waits.pair.1)) before waits.may))
 not_both subject s number l (fault.ExtendComplete n) after (place, vain) leads =
     let at = vain.at in
-    let may : MayAsk at.search at.word.start at.word.past node.Extend = may_lead subject s node.Extend after at.search at.word at.words at.at (subst (λ m. Leads subject s m after) vain.is leads) in
+    let may : MayAsk at.search at.word.start at.word.past node.Extend = may_lead subject s node.Extend after at.search at.word at.words at.at
+    (subst (λ m. Leads subject s m after) vain.is leads) in
     none_asked at.search at.word.start at.word.past node.Extend may at.holds
 not_both subject s number l (fault.Question n) after (place, question, asks, vain) leads =
     let at = vain.at in
-    let may = may_ask at.search at.word question asks (may_lead subject s question after at.search at.word at.words at.at (subst (λ m. Leads subject s m after) vain.is leads)) in
+    let may = may_ask at.search at.word question asks
+    (may_lead subject s question after at.search at.word at.words at.at (subst (λ m. Leads subject s m after) vain.is leads)) in
     none_asked at.search at.word.start at.word.past question may at.holds
 not_both subject s number l (fault.SplitVariable n) after (place, splits) leads =
     let at = splits.at in
-    let may : splits.unknown < at.search.unknowns at.word.start at.word.past = may_lead subject s (node.Split splits.unknown splits.floor) after at.search at.word at.words at.at (subst (λ m. Leads subject s m after) splits.is leads) in
+    let may : splits.unknown < at.search.unknowns at.word.start at.word.past = may_lead subject s (node.Split splits.unknown splits.floor) after at.search
+    at.word at.words at.at (subst (λ m. Leads subject s m after) splits.is leads) in
     let beyond = at.holds in
     omega arith
 not_both subject s number l (fault.Row n row) after at leads = leaf_holds subject s l _ after at.1 leads

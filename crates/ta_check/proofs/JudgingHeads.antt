@@ -1,5 +1,8 @@
 -- a position before the proofs: the first line, the pairs and their leaves
-use Rattle.ta_check.proofs.Common.{◌≡◌, ◌≢◌, inl, inr, ℕ, ℤ, List, [], ◌∷◌, ◌++◌, None, Some, Ok, Err, sym, ◌∙◌, subst, refl, In-left, In-right, in_append, Automaton, In, JoinsPair, MayJoin, with_pair, leads_along, here_is, HasVersion, Subject, kind_of, search_of, place_of, opened, Position, Standing, NothingIsLeft, ShowsWaiting, TakesOrder, Waits, Between, IsIdle, IsPositionAt, SameMembers, LineAnswers}
+use Rattle.ta_check.proofs.Common.{◌≡◌, ◌≢◌, inl, inr, ℕ, ℤ, List, [], ◌∷◌, ◌++◌, None, Some, Ok, Err, sym, ◌∙◌, subst, refl, In-left, In-right, in_append}
+use Rattle.ta_check.proofs.Common.{Automaton, In, JoinsPair, MayJoin, with_pair, leads_along, here_is, HasVersion, Subject, kind_of, search_of, place_of}
+use Rattle.ta_check.proofs.Common.{opened, Position, Standing, NothingIsLeft, ShowsWaiting, TakesOrder, Waits, Between, IsIdle, IsPositionAt, SameMembers}
+use Rattle.ta_check.proofs.Common.{LineAnswers}
 use Rattle.ta_cert.specs.declared.line.Line.TheVariants as line
 use Rattle.ta_cert.specs.declared.line.Node.TheVariants as node
 use Rattle.ta_cert.specs.declared.fault.CertFault.TheVariants as fault
@@ -7,7 +10,8 @@ use Rattle.ta_implied.proofs.Placing.{in_placed, placed_in}
 use Rattle.ta_base.proofs.Members.{no_members, same_members_back}
 
 -- the first line
-pub header_taken : (subject : Subject) (s : Position) (at : Standing) (number version : ℕ) → HasVersion subject version → IsPositionAt subject s at → LineAnswers subject at number (line.Header version) (record s { version = version; current = None }) (Ok tt)
+pub header_taken : (subject : Subject) (s : Position) (at : Standing) (number version : ℕ) → HasVersion subject version → IsPositionAt subject s at
+    → LineAnswers subject at number (line.Header version) (record s { version = version; current = None }) (Ok tt)
 header_taken subject s at number version has is = (
   opened at version,
   record { has = has; leads = refl },
@@ -29,7 +33,8 @@ before_proofs subject s at none is = elim is.place [
 ]
 
 -- what is free by a position's fields
-pub free_from : (subject : Subject) (s : Position) (at : Standing) → IsPositionAt subject s at → s.waiting ≡ None → s.current ≡ None → (s.version ≡ 2 → s.orders ≢ []) → NothingIsLeft at
+pub free_from : (subject : Subject) (s : Position) (at : Standing) → IsPositionAt subject s at → s.waiting ≡ None → s.current ≡ None
+    → (s.version ≡ 2 → s.orders ≢ []) → NothingIsLeft at
 free_from subject s at is none nowhere some = record {
   none = is.waiting ∙ none;
   some = λ two empty. some (sym is.version ∙ two) (no_members at.pairs s.orders empty is.pairs);
@@ -49,7 +54,9 @@ free_back subject s at is free = record {
   none = sym is.waiting ∙ free.none;
   nowhere = elim is.place [
     | inl between ↦ between.current
-    | inr inside ↦ absurd (let left = here_is (search_of (kind_of at.version) subject s.orders inside.pattern) (place_of (kind_of at.version) s) at.pending inside.within in let gone = sym free.done ∙ left in cc)
+    | inr inside ↦ absurd
+        (let left = here_is (search_of (kind_of at.version) subject s.orders inside.pattern) (place_of (kind_of at.version) s) at.pending inside.within in
+        let gone = sym free.done ∙ left in cc)
   ];
   some = λ two empty. free.some (is.version ∙ two) (no_members s.orders at.pairs empty (same_members_back at.pairs s.orders is.pairs));
 }
@@ -73,24 +80,30 @@ join_same a xs ys pair same may = record {
 }
 
 -- a pair that may come waits for its leaf
-pub order_taken : (subject : Subject) (s : Position) (at : Standing) (number before later : ℕ) → IsPositionAt subject s at → TakesOrder at → MayJoin subject.file.automaton s.orders (before, later) → LineAnswers subject at number (line.Tree (node.Order before later)) (record s { waiting = Some (before, later) }) (Ok tt)
+pub order_taken : (subject : Subject) (s : Position) (at : Standing) (number before later : ℕ) → IsPositionAt subject s at → TakesOrder at
+    → MayJoin subject.file.automaton s.orders (before, later)
+    → LineAnswers subject at number (line.Tree (node.Order before later)) (record s { waiting = Some (before, later) }) (Ok tt)
 order_taken subject s at number before later is takes may =
     let join = join_same subject.file.automaton s.orders at.pairs (before, later) (same_members_back at.pairs s.orders is.pairs) may in
     let between = before_proofs subject s at takes.early is in
-    let waits : Waits subject at (node.Order before later) (record at { waiting = Some (before, later) }) = record { pair = (before, later); is = refl; takes = takes; may = join; leads = refl } in (
+    let waits : Waits subject at (node.Order before later) (record at { waiting = Some (before, later) }) = record
+    { pair = (before, later); is = refl; takes = takes; may = join; leads = refl } in (
       record at { waiting = Some (before, later) },
       inr (inr waits),
       record {
         version = is.version;
         pairs = is.pairs;
         waiting = refl;
-        may = λ pair some. (let same : (before, later) ≡ pair = cc in record { join = subst (MayJoin subject.file.automaton at.pairs) same join; early = takes.early });
+        may = λ pair some. (let same : (before, later) ≡ pair = cc in record
+            { join = subst (MayJoin subject.file.automaton at.pairs) same join; early = takes.early });
         begun = is.begun;
         place = inl (record { current = between.current; left = between.left });
       },
     )
 
-pub order_bad : (subject : Subject) (s : Position) (at : Standing) (number before later : ℕ) (new : Position) → IsPositionAt subject s at → TakesOrder at → (MayJoin subject.file.automaton s.orders (before, later) → ⊥) → LineAnswers subject at number (line.Tree (node.Order before later)) new (Err (fault.Pair number))
+pub order_bad : (subject : Subject) (s : Position) (at : Standing) (number before later : ℕ) (new : Position) → IsPositionAt subject s at → TakesOrder at
+    → (MayJoin subject.file.automaton s.orders (before, later) → ⊥)
+    → LineAnswers subject at number (line.Tree (node.Order before later)) new (Err (fault.Pair number))
 order_bad subject s at number before later new is takes bad = (
   refl,
   record {
@@ -116,7 +129,9 @@ same_placed xs ys new pair same whole = λ q. (
 )
 
 -- the leaf that shows a pair
-pub shown_taken : (subject : Subject) (s : Position) (at : Standing) (number before later : ℕ) (ts : List (ℕ × ℤ)) (new : List (ℕ × ℕ)) → s.waiting ≡ Some (before, later) → IsPositionAt subject s at → JoinsPair subject.file.automaton (before, later) ts s.orders new → LineAnswers subject at number (line.Tree (node.Leaf ts)) (record s { orders = new; waiting = None }) (Ok tt)
+pub shown_taken : (subject : Subject) (s : Position) (at : Standing) (number before later : ℕ) (ts : List (ℕ × ℤ)) (new : List (ℕ × ℕ))
+    → s.waiting ≡ Some (before, later) → IsPositionAt subject s at → JoinsPair subject.file.automaton (before, later) ts s.orders new
+    → LineAnswers subject at number (line.Tree (node.Leaf ts)) (record s { orders = new; waiting = None }) (Ok tt)
 shown_taken subject s at number before later ts new waits is joined =
     let pair : ℕ × ℕ = (before, later) in
     let may = is.may pair (is.waiting ∙ waits) in
@@ -142,5 +157,7 @@ shown_taken subject s at number before later ts new waits is joined =
     )
 
 -- a pair that waits may join
-pub waits_join : (subject : Subject) (s : Position) (at : Standing) (before later : ℕ) → s.waiting ≡ Some (before, later) → IsPositionAt subject s at → MayJoin subject.file.automaton s.orders (before, later)
-waits_join subject s at before later waits is = join_same subject.file.automaton at.pairs s.orders (before, later) is.pairs (is.may (before, later) (is.waiting ∙ waits)).join
+pub waits_join : (subject : Subject) (s : Position) (at : Standing) (before later : ℕ) → s.waiting ≡ Some (before, later) → IsPositionAt subject s at
+    → MayJoin subject.file.automaton s.orders (before, later)
+waits_join subject s at before later waits is = join_same subject.file.automaton at.pairs s.orders (before, later) is.pairs
+    (is.may (before, later) (is.waiting ∙ waits)).join

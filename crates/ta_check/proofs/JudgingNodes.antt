@@ -1,5 +1,10 @@
 -- a position that takes a node
-use Rattle.ta_check.proofs.Common.{◌≡◌, ◌⊎◌, ◌<◌, ◌≤◌, length, slice_get, inl, inr, ℕ, Bool, true, false, List, [], ◌∷◌, ◌++◌, reverse, Option, None, Some, Ok, Err, sym, ap, ◌∙◌, subst, refl, slice_get_within, Pattern, Line, Node, CertFault, Pending, Search, asked, parts, AllGoOn, AllWithin, IsAllWithin, here_at, here_first, here_is, later_words, LeafFault, Kind, HasForm, Subject, fact_of, kind_of, search_of, Place, Position, Standing, FactAt, AtWord, Stands, AtSomeWord, FirstLeafFault, IsNoPair, LeafFails, Between, InNewest, IsKeptIn, IsPositionAt, IsSomewhere, LeafRefused, NodeStood, NodeTold, SameMembers, LineAnswers, fault_at, place_of, none-some}
+use Rattle.ta_check.proofs.Common.{◌≡◌, ◌⊎◌, ◌<◌, ◌≤◌, length, slice_get, inl, inr, ℕ, Bool, true, false, List, [], ◌∷◌, ◌++◌, reverse, Option, None, Some, Ok}
+use Rattle.ta_check.proofs.Common.{Err, sym, ap, ◌∙◌, subst, refl, slice_get_within, Pattern, Line, Node, CertFault, Pending, Search, asked, parts, AllGoOn}
+use Rattle.ta_check.proofs.Common.{AllWithin, IsAllWithin, here_at, here_first, here_is, later_words, LeafFault, Kind, HasForm, Subject, fact_of, kind_of}
+use Rattle.ta_check.proofs.Common.{search_of, Place, Position, Standing, FactAt, AtWord, Stands, AtSomeWord, FirstLeafFault, IsNoPair, LeafFails, Between}
+use Rattle.ta_check.proofs.Common.{InNewest, IsKeptIn, IsPositionAt, IsSomewhere, LeafRefused, NodeStood, NodeTold, SameMembers, LineAnswers, fault_at}
+use Rattle.ta_check.proofs.Common.{place_of, none-some}
 use Rattle.ta_cert.specs.declared.line.Line.TheVariants as line
 use Rattle.ta_cert.specs.declared.line.Node.TheVariants as node
 use Rattle.ta_cert.specs.declared.fault.CertFault.TheVariants as fault
@@ -39,7 +44,8 @@ pub record Newest (subject : Subject) (s : Position) (at : Standing) (number : �
   pub within : AllWithin (search_of (kind_of at.version) subject s.orders p) (place_of (kind_of at.version) s) at.pending
   pub kept : IsKeptIn (kind_of at.version) subject p s
 
-same_number : (subject : Subject) (s : Position) (at : Standing) (number : ℕ) → Head s at → s.current ≡ Some number → (inside : InNewest subject s at) → Newest subject s at number inside.pattern
+same_number : (subject : Subject) (s : Position) (at : Standing) (number : ℕ) → Head s at → s.current ≡ Some number → (inside : InNewest subject s at)
+    → Newest subject s at number inside.pattern
 same_number subject s at number head current inside =
     let same : inside.number ≡ number = let e : Some inside.number ≡ Some number = sym inside.current ∙ current in cc in
     record {
@@ -52,13 +58,15 @@ same_number subject s at number head current inside =
     }
 
 -- a position that has a current pattern is in its proof
-pub some_newest : (subject : Subject) (s : Position) (at : Standing) (number : ℕ) → s.waiting ≡ None → s.current ≡ Some number → IsPositionAt subject s at → (p : Pattern) × Newest subject s at number p
+pub some_newest : (subject : Subject) (s : Position) (at : Standing) (number : ℕ) → s.waiting ≡ None → s.current ≡ Some number → IsPositionAt subject s at
+    → (p : Pattern) × Newest subject s at number p
 some_newest subject s at number none current is = elim is.place [
   | inl between ↦ absurd (let nowhere : None ≡ Some number = sym between.current ∙ current in cc)
   | inr inside ↦ (inside.pattern, same_number subject s at number (head_of subject s at none is) current inside)
 ]
 
-pub pattern_there : (subject : Subject) (s : Position) (number : ℕ) → s.waiting ≡ None → s.current ≡ Some number → IsSomewhere subject s → number < length subject.file.patterns
+pub pattern_there : (subject : Subject) (s : Position) (number : ℕ) → s.waiting ≡ None → s.current ≡ Some number → IsSomewhere subject s
+    → number < length subject.file.patterns
 pattern_there subject s number none current somewhere =
     let n = some_newest subject s somewhere.0 number none current somewhere.1 in
     slice_get_within subject.file.patterns number n.0 n.1.named
@@ -72,15 +80,18 @@ abbrev pub IsTree : (kind : Kind) → Subject → Position → ℕ → Search (f
 IsTree kind subject s number tree = (p : Pattern) → slice_get subject.file.patterns number ≡ Some p → tree ≡ search_of kind subject s.orders p
 
 -- the place is within it
-pub tree_within : (kind : Kind) (subject : Subject) (s : Position) (number : ℕ) (tree : Search (fact_of kind)) → s.waiting ≡ None → s.current ≡ Some number → kind_of s.version ≡ kind → IsTree kind subject s number tree → IsSomewhere subject s → IsAllWithin tree (place_of kind s)
+pub tree_within : (kind : Kind) (subject : Subject) (s : Position) (number : ℕ) (tree : Search (fact_of kind)) → s.waiting ≡ None → s.current ≡ Some number
+    → kind_of s.version ≡ kind → IsTree kind subject s number tree → IsSomewhere subject s → IsAllWithin tree (place_of kind s)
 tree_within kind subject s number tree none current of same (at, is) =
     let n = some_newest subject s at number none current is in
     let here : IsAllWithin (search_of (kind_of at.version) subject s.orders n.0) (place_of (kind_of at.version) s) = (at.pending, n.1.within) in
-    let there : IsAllWithin (search_of kind subject s.orders n.0) (place_of kind s) = subst (λ (k : Kind). IsAllWithin (search_of k subject s.orders n.0) (place_of k s)) (kind_at s at kind n.1.head of) here in
+    let there : IsAllWithin (search_of kind subject s.orders n.0) (place_of kind s) = subst
+    (λ (k : Kind). IsAllWithin (search_of k subject s.orders n.0) (place_of k s)) (kind_at s at kind n.1.head of) here in
     subst (λ (q : Search (fact_of kind)). IsAllWithin q (place_of kind s)) (sym (same n.0 n.1.named)) there
 
 -- what is kept is of its pattern
-pub tree_kept : (kind : Kind) (subject : Subject) (s : Position) (at : Standing) (number : ℕ) (p : Pattern) → kind_of s.version ≡ kind → Newest subject s at number p → IsKeptIn kind subject p s
+pub tree_kept : (kind : Kind) (subject : Subject) (s : Position) (at : Standing) (number : ℕ) (p : Pattern) → kind_of s.version ≡ kind
+    → Newest subject s at number p → IsKeptIn kind subject p s
 tree_kept kind subject s at number p of n = subst (λ (k : Kind). IsKeptIn k subject p s) (kind_at s at kind n.head of) n.kept
 
 -- the words behind the first
@@ -88,10 +99,13 @@ abbrev pub later : (subject : Subject) (s : Position) (at : Standing) (number : 
 later subject s at number p n = later_words (search_of (kind_of at.version) subject s.orders p) (place_of (kind_of at.version) s) at.pending n.within
 
 -- its word is the first that is left
-first_within : (subject : Subject) (s : Position) (at : Standing) (number : ℕ) (p : Pattern) (n : Newest subject s at number p) → AllWithin (search_of (kind_of at.version) subject s.orders p) (place_of (kind_of at.version) s) (here_at (place_of (kind_of at.version) s) ∷ later subject s at number p n)
+first_within : (subject : Subject) (s : Position) (at : Standing) (number : ℕ) (p : Pattern) (n : Newest subject s at number p)
+    → AllWithin (search_of (kind_of at.version) subject s.orders p) (place_of (kind_of at.version) s)
+    (here_at (place_of (kind_of at.version) s) ∷ later subject s at number p n)
 first_within subject s at number p n = here_first (search_of (kind_of at.version) subject s.orders p) (place_of (kind_of at.version) s) at.pending n.within
 
-at_word : (subject : Subject) (s : Position) (at : Standing) (number : ℕ) (p : Pattern) (n : Newest subject s at number p) → AtWord subject at (search_of (kind_of at.version) subject s.orders p) (here_at (place_of (kind_of at.version) s)) (later subject s at number p n)
+at_word : (subject : Subject) (s : Position) (at : Standing) (number : ℕ) (p : Pattern) (n : Newest subject s at number p)
+    → AtWord subject at (search_of (kind_of at.version) subject s.orders p) (here_at (place_of (kind_of at.version) s)) (later subject s at number p n)
 at_word subject s at number p n = record {
   none = n.head.none;
   number = number;
@@ -102,7 +116,9 @@ at_word subject s at number p n = record {
 }
 
 -- what holds of the newest pattern's search and of the position's word
-at_some_word : (subject : Subject) (s : Position) (at : Standing) (number : ℕ) (p : Pattern) (fact : Search (FactAt at) → Pending (FactAt at) → Type 0) → Newest subject s at number p → fact (search_of (kind_of at.version) subject s.orders p) (here_at (place_of (kind_of at.version) s)) → AtSomeWord subject at fact
+at_some_word : (subject : Subject) (s : Position) (at : Standing) (number : ℕ) (p : Pattern) (fact : Search (FactAt at) → Pending (FactAt at) → Type 0)
+    → Newest subject s at number p → fact (search_of (kind_of at.version) subject s.orders p) (here_at (place_of (kind_of at.version) s))
+    → AtSomeWord subject at fact
 at_some_word subject s at number p fact n holds = record {
   search = search_of (kind_of at.version) subject s.orders p;
   word = here_at (place_of (kind_of at.version) s);
@@ -117,7 +133,11 @@ CurrentWhere true number current = current ≡ Some number
 CurrentWhere false number current = current ≡ None
 
 -- a position whose place went on is at what is left
-went_at : (subject : Subject) (s : Position) (at : Standing) (number : ℕ) (p : Pattern) (words : List (Pending (FactAt at))) (older : List ℕ) (more : Bool) → Head s at → slice_get subject.file.patterns number ≡ Some p → at.begun ≡ number ∷ older → at.begun ≡ reverse s.proved.items → CurrentWhere more number s.current → IsKeptIn (kind_of at.version) subject p s → AllGoOn (search_of (kind_of at.version) subject s.orders p) (place_of (kind_of at.version) s) words (Ok more) → IsPositionAt subject s (record at { pending = words })
+went_at : (subject : Subject) (s : Position) (at : Standing) (number : ℕ) (p : Pattern) (words : List (Pending (FactAt at))) (older : List ℕ) (more : Bool)
+    → Head s at → slice_get subject.file.patterns number ≡ Some p → at.begun ≡ number ∷ older → at.begun ≡ reverse s.proved.items
+    → CurrentWhere more number s.current → IsKeptIn (kind_of at.version) subject p s
+    → AllGoOn (search_of (kind_of at.version) subject s.orders p) (place_of (kind_of at.version) s) words (Ok more)
+    → IsPositionAt subject s (record at { pending = words })
 went_at subject s at number p words older more head named newest proved current kept went = record {
   version = head.version;
   pairs = head.pairs;
@@ -127,7 +147,8 @@ went_at subject s at number p words older more head named newest proved current 
   place = placed words went;
 }
   where
-    placed : (ws : List (Pending (FactAt at))) → AllGoOn (search_of (kind_of at.version) subject s.orders p) (place_of (kind_of at.version) s) ws (Ok more) → Between s ws ⊎ InNewest subject s (record at { pending = ws })
+    placed : (ws : List (Pending (FactAt at))) → AllGoOn (search_of (kind_of at.version) subject s.orders p) (place_of (kind_of at.version) s) ws (Ok more)
+        → Between s ws ⊎ InNewest subject s (record at { pending = ws })
     placed [] gone = inl (record {
       current = subst (λ (m : Bool). CurrentWhere m number s.current) gone current;
       left = refl;
@@ -145,10 +166,12 @@ went_at subject s at number p words older more head named newest proved current 
 
 -- what a node's line leaves: the system that is kept, and where the place is
 abbrev Left : Subject → Position → Position → Pattern → Node → Bool → Kind → Type 0
-Left subject old new p n more kind = IsKeptIn kind subject p new × NodeStood (search_of kind subject old.orders p) (place_of kind old) (place_of kind new) n more
+Left subject old new p n more kind = IsKeptIn kind subject p new
+    × NodeStood (search_of kind subject old.orders p) (place_of kind old) (place_of kind new) n more
 
 -- a node that may stand at the word is taken, if the place goes on to its parts
-pub node_taken : (kind : Kind) (subject : Subject) (old new : Position) (at : Standing) (k number : ℕ) (p : Pattern) (n : Node) (more : Bool) → Newest subject old at k p
+pub node_taken : (kind : Kind) (subject : Subject) (old new : Position) (at : Standing) (k number : ℕ) (p : Pattern) (n : Node) (more : Bool)
+    → Newest subject old at k p
     → kind_of old.version ≡ kind
     → IsPositionAt subject old at
     → SameHead old new
@@ -171,17 +194,25 @@ node_taken kind subject old new at k number p n more first of is same proved cur
       leads = refl;
     } in
     let went = left.1.goes (later subject old at k p first) (first_within subject old at k p first) in
-    let gone = subst (λ (xs : List (ℕ × ℕ)). AllGoOn (search_of (kind_of at.version) subject xs p) (place_of (kind_of at.version) new) words (Ok more)) (sym same.orders) went in
-    (record at { pending = words }, inl stands, went_at subject new at k p words first.older more (head_kept old new at same first.head) first.named first.begun (is.begun ∙ ap reverse (sym proved)) current left.0 gone)
+    let gone = subst (λ (xs : List (ℕ × ℕ)). AllGoOn (search_of (kind_of at.version) subject xs p) (place_of (kind_of at.version) new) words (Ok more))
+    (sym same.orders) went in (
+      record at { pending = words },
+      inl stands,
+      went_at subject new at k p words first.older more (head_kept old new at same first.head) first.named first.begun
+          (is.begun ∙ ap reverse (sym proved)) current left.0 gone,
+    )
 
 -- a leaf's error is told in its line
-fault_told : (subject : Subject) (at : Standing) (number : ℕ) (l : Line) (new : Position) (f : LeafFault) → LeafFails subject at l f → LineAnswers subject at number l new (Err (fault_at number f))
+fault_told : (subject : Subject) (at : Standing) (number : ℕ) (l : Line) (new : Position) (f : LeafFault) → LeafFails subject at l f
+    → LineAnswers subject at number l new (Err (fault_at number f))
 fault_told subject at number l new (leaf.RowNumber row) fails = (refl, fails)
 fault_told subject at number l new (leaf.Overflow column) fails = (refl, fails)
 fault_told subject at number l new (leaf.Positive unknown) fails = (refl, fails)
 fault_told subject at number l new leaf.NotNegative fails = (refl, fails)
 
-leaf_refused : (subject : Subject) (s new : Position) (at : Standing) (k number : ℕ) (p : Pattern) (n : Node) (f : CertFault) → Newest subject s at k p → LeafRefused (search_of (kind_of at.version) subject s.orders p) (here_at (place_of (kind_of at.version) s)) number n f → LineAnswers subject at number (line.Tree n) new (Err f)
+leaf_refused : (subject : Subject) (s new : Position) (at : Standing) (k number : ℕ) (p : Pattern) (n : Node) (f : CertFault) → Newest subject s at k p
+    → LeafRefused (search_of (kind_of at.version) subject s.orders p) (here_at (place_of (kind_of at.version) s)) number n f
+    → LineAnswers subject at number (line.Tree n) new (Err f)
 leaf_refused subject s new at k number p n f newest refused =
     let told = refused.leaf in
     let fails : LeafFails subject at (line.Tree n) told.fault = record {
@@ -192,13 +223,17 @@ leaf_refused subject s new at k number p n f newest refused =
     subst (λ g. LineAnswers subject at number (line.Tree n) new (Err g)) (sym told.is) (fault_told subject at number (line.Tree n) new told.fault fails)
 
 -- what a node's line is refused for is its error
-told_at : (subject : Subject) (s new : Position) (at : Standing) (k number : ℕ) (p : Pattern) (n : Node) (f : CertFault) → Newest subject s at k p → HasForm (kind_of at.version) subject.claim n → NodeTold (search_of (kind_of at.version) subject s.orders p) (here_at (place_of (kind_of at.version) s)) number n f → LineAnswers subject at number (line.Tree n) new (Err f)
+told_at : (subject : Subject) (s new : Position) (at : Standing) (k number : ℕ) (p : Pattern) (n : Node) (f : CertFault) → Newest subject s at k p
+    → HasForm (kind_of at.version) subject.claim n → NodeTold (search_of (kind_of at.version) subject s.orders p) (here_at (place_of (kind_of at.version) s))
+    number n f → LineAnswers subject at number (line.Tree n) new (Err f)
 told_at subject s new at k number p n (fault.ExtendComplete m) newest form (place, is, none) = (
   place,
   record {
     is = ap line.Tree is;
     form = subst (HasForm (kind_of at.version) subject.claim) is form;
-    at = at_some_word subject s at k p (λ search w. asked search w.start w.past node.Extend ≡ None) newest (subst (λ (q : Node). asked (search_of (kind_of at.version) subject s.orders p) (here_at (place_of (kind_of at.version) s)).start (here_at (place_of (kind_of at.version) s)).past q ≡ None) is none);
+    at = at_some_word subject s at k p (λ search w. asked search w.start w.past node.Extend ≡ None) newest
+        (subst (λ (q : Node). asked (search_of (kind_of at.version) subject s.orders p) (here_at (place_of (kind_of at.version) s)).start
+        (here_at (place_of (kind_of at.version) s)).past q ≡ None) is none);
   },
 )
 told_at subject s new at k number p n (fault.Question m) newest form (place, asks, none) = (
@@ -225,17 +260,22 @@ told_at subject s new at k number p n f newest form told = leaf_refused subject 
 abbrev Told : Subject → Position → ℕ → Pattern → Node → CertFault → Kind → Type 0
 Told subject s number p n f kind = HasForm kind subject.claim n × NodeTold (search_of kind subject s.orders p) (here_at (place_of kind s)) number n f
 
-pub node_refused : (kind : Kind) (subject : Subject) (s new : Position) (at : Standing) (k number : ℕ) (p : Pattern) (n : Node) (f : CertFault) → Newest subject s at k p → kind_of s.version ≡ kind → HasForm kind subject.claim n → (f ≡ fault.Memory) ⊎ NodeTold (search_of kind subject s.orders p) (here_at (place_of kind s)) number n f → LineAnswers subject at number (line.Tree n) new (Err f)
-node_refused kind subject s new at k number p n f newest of form (inl memory) = subst (λ g. LineAnswers subject at number (line.Tree n) new (Err g)) (sym memory) tt
+pub node_refused : (kind : Kind) (subject : Subject) (s new : Position) (at : Standing) (k number : ℕ) (p : Pattern) (n : Node) (f : CertFault)
+    → Newest subject s at k p → kind_of s.version ≡ kind → HasForm kind subject.claim n → (f ≡ fault.Memory)
+    ⊎ NodeTold (search_of kind subject s.orders p) (here_at (place_of kind s)) number n f → LineAnswers subject at number (line.Tree n) new (Err f)
+node_refused kind subject s new at k number p n f newest of form (inl memory) = subst (λ g. LineAnswers subject at number (line.Tree n) new (Err g))
+    (sym memory) tt
 node_refused kind subject s new at k number p n f newest of form (inr told) =
     let there = subst (Told subject s number p n f) (sym (kind_at s at kind newest.head of)) (form, told) in
     told_at subject s new at k number p n f newest there.0 there.1
 
 -- what is said of a tree is said of the search that it is
-pub told_in : {E : Type 0} (tree search : Search E) (place : Place E) (number : ℕ) (n : Node) (f : CertFault) → tree ≡ search → (f ≡ fault.Memory) ⊎ NodeTold tree (here_at place) number n f → (f ≡ fault.Memory) ⊎ NodeTold search (here_at place) number n f
+pub told_in : {E : Type 0} (tree search : Search E) (place : Place E) (number : ℕ) (n : Node) (f : CertFault) → tree ≡ search → (f ≡ fault.Memory)
+    ⊎ NodeTold tree (here_at place) number n f → (f ≡ fault.Memory) ⊎ NodeTold search (here_at place) number n f
 told_in {E} tree search place number n f same told = subst (λ (q : Search E). (f ≡ fault.Memory) ⊎ NodeTold q (here_at place) number n f) same told
 
-pub stood_in : {E : Type 0} (tree search : Search E) (old new : Place E) (n : Node) (more : Bool) → tree ≡ search → NodeStood tree old new n more → NodeStood search old new n more
+pub stood_in : {E : Type 0} (tree search : Search E) (old new : Place E) (n : Node) (more : Bool) → tree ≡ search → NodeStood tree old new n more
+    → NodeStood search old new n more
 stood_in {E} tree search old new n more same stood = subst (λ (q : Search E). NodeStood q old new n more) same stood
 
 -- in a proof no pair comes

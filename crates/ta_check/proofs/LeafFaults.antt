@@ -1,5 +1,8 @@
 -- A leaf has one first error
-use Rattle.ta_check.proofs.Common.{◌≡◌, ℕ, ◌<◌, ◌≤◌, ◌⊎◌, List, ℤ, pos, ◌≤ℤ◌, ◌<ℤ◌, inl, inr, refl, sym, ap, subst, ◌∙◌, arith, cases_lt, ints, System, Automaton, FailsToShow, IsShown, no_fault, weighted_same, part_in, entry, column_sum, ColumnStays, row_at, FirstMissing, FineBefore, IsFirstFaultOfLeaf, LeafFault, RowNumber, Overflow, Positive, NotNegative, FirstLeafFault, stays_same, Pending, Search}
+use Rattle.ta_check.proofs.Common.{◌≡◌, ℕ, ◌<◌, ◌≤◌, ◌⊎◌, List, ℤ, pos, ◌≤ℤ◌, ◌<ℤ◌, inl, inr, refl, sym, ap, subst, ◌∙◌, arith, cases_lt, ints, System}
+use Rattle.ta_check.proofs.Common.{Automaton, FailsToShow, IsShown, no_fault, weighted_same, part_in, entry, column_sum, ColumnStays, row_at, FirstMissing}
+use Rattle.ta_check.proofs.Common.{FineBefore, IsFirstFaultOfLeaf, LeafFault, RowNumber, Overflow, Positive, NotNegative, FirstLeafFault, stays_same, Pending}
+use Rattle.ta_check.proofs.Common.{Search}
 use Rattle.ta_base.proofs.Naturals.{neither_below}
 use Rattle.ta_encode.proofs.SameSystems.{same_numbers}
 use Rattle.ta_implied.proofs.PairNumbers.{pair_numbers}
@@ -35,8 +38,15 @@ same_fault s z ts (RowNumber row) same first = record {
   missing = subst (λ n. n ≤ row) (count_alike s.rows z.rows same.rows) first.missing;
   first = λ j before. subst (λ n. row_at ts j < n) (count_alike s.rows z.rows same.rows) (first.first j before);
 }
-same_fault s z ts (Overflow column) same first = (subst (λ n. column ≤ n) same.unknowns first.0, same_fine s z ts column same first.1, same_leave s z ts column same first.2)
-same_fault s z ts (Positive unknown) same first = (subst (λ n. unknown < n) same.unknowns first.0, same_fine s z ts unknown same first.1, same_stay s z ts unknown same first.2, subst (λ x. pos 0 <ℤ x) (same_sum s z ts unknown same) first.3)
+same_fault s z ts (Overflow column) same first =
+    (subst (λ n. column ≤ n) same.unknowns first.0, same_fine s z ts column same first.1, same_leave s z ts column same first.2)
+same_fault s z ts (Positive unknown) same first = (
+  subst (λ n. unknown < n) same.unknowns first.0,
+  same_fine s z ts unknown same first.1,
+  same_stay s z ts unknown same first.2,
+  subst (λ x. pos 0 <ℤ x)
+      (same_sum s z ts unknown same) first.3,
+)
 same_fault s z ts NotNegative same first = (
   subst (FineBefore z ts) same.unknowns (same_fine s z ts s.unknowns same first.0),
   subst (ColumnStays z ts) same.unknowns (same_stay s z ts s.unknowns same first.1),
@@ -105,15 +115,19 @@ fault_once s ts NotNegative (Positive d) a b = absurd (none_bad s ts d s.unknown
 fault_once s ts NotNegative NotNegative a b = refl
 
 -- and over a word
-pub leaf_fault_once : {E : Type 0} (search : Search E) (w : Pending E) (ts : List (ℕ × ℤ)) (f g : LeafFault) → FirstLeafFault search w ts f → FirstLeafFault search w ts g → f ≡ g
-leaf_fault_once search w ts f g this that = fault_once that.system ts f g (same_fault this.system that.system ts f (same_numbers search w this.system that.system this.is that.is) this.first) that.first
+pub leaf_fault_once : {E : Type 0} (search : Search E) (w : Pending E) (ts : List (ℕ × ℤ)) (f g : LeafFault) → FirstLeafFault search w ts f
+    → FirstLeafFault search w ts g → f ≡ g
+leaf_fault_once search w ts f g this that = fault_once that.system ts f g
+    (same_fault this.system that.system ts f (same_numbers search w this.system that.system this.is that.is) this.first) that.first
 
 -- and over the system of a pair
 pub pair_fault_once : (a : Automaton) (pair : ℕ × ℕ) (ts : List (ℕ × ℤ)) (f g : LeafFault) → FailsToShow a pair ts f → FailsToShow a pair ts g → f ≡ g
 pair_fault_once a pair ts f g this that =
-    fault_once that.system ts f g (same_fault this.system that.system ts f (pair_numbers a pair.0 pair.1 this.system that.system this.is that.is) this.first) that.first
+    fault_once that.system ts f g (same_fault this.system that.system ts f (pair_numbers a pair.0 pair.1 this.system that.system this.is that.is) this.first)
+    that.first
 
 -- multipliers that show a pair don't fail
 pub shows_or_fails : (a : Automaton) (pair : ℕ × ℕ) (ts : List (ℕ × ℤ)) (f : LeafFault) → IsShown a pair ts → FailsToShow a pair ts f → ⊥
 shows_or_fails a pair ts f shown fails =
-    no_fault shown.system ts f (same_fault fails.system shown.system ts f (pair_numbers a pair.0 pair.1 fails.system shown.system fails.is shown.is) fails.first) (shown.leaf, shown.stays)
+    no_fault shown.system ts f (same_fault fails.system shown.system ts f (pair_numbers a pair.0 pair.1 fails.system shown.system fails.is shown.is)
+    fails.first) (shown.leaf, shown.stays)

@@ -1,5 +1,10 @@
 -- the rows that a leaf names, judged apart from the others
-use Rattle.ta_check.proofs.Common.{◌≡◌, ℕ, zero, suc, ◌+◌, ◌<◌, ◌≤◌, ◌^◌, ℤ, pos, ◌+ℤ◌, ◌*ℤ◌, ◌≤ℤ◌, ◌<ℤ◌, cond, nat_lt, List, [], ◌∷◌, ◌++◌, length, map, reverse, slice_get, Option, Some, refl, sym, ap, subst, ◌∙◌, arith, weighted, AreMultipliers, LeafOf, coefficient_in, constant_in, Row, System, ArePairs, LinearRow, bound_row, IsRowOf, AreRowsOf, SystemAt, bounded_rows, BoundsWithin, rows_count, whole_system, Cursor, IsWord, here, IsJudged, part_in, column_sum, ColumnStays, CheckStays, row_at, FirstMissing, FineBefore, IsFirstFaultOfLeaf, LeafFault, RowNumber, Overflow, Positive, NotNegative, FirstLeafFault, WithoutBounds, renumbered, Pending, Search}
+use Rattle.ta_check.proofs.Common.{◌≡◌, ℕ, zero, suc, ◌+◌, ◌<◌, ◌≤◌, ◌^◌, ℤ, pos, ◌+ℤ◌, ◌*ℤ◌, ◌≤ℤ◌, ◌<ℤ◌, cond, nat_lt, List, [], ◌∷◌, ◌++◌, length, map}
+use Rattle.ta_check.proofs.Common.{reverse, slice_get, Option, Some, refl, sym, ap, subst, ◌∙◌, arith, weighted, AreMultipliers, LeafOf, coefficient_in}
+use Rattle.ta_check.proofs.Common.{constant_in, Row, System, ArePairs, LinearRow, bound_row, IsRowOf, AreRowsOf, SystemAt, bounded_rows, BoundsWithin}
+use Rattle.ta_check.proofs.Common.{rows_count, whole_system, Cursor, IsWord, here, IsJudged, part_in, column_sum, ColumnStays, CheckStays, row_at, FirstMissing}
+use Rattle.ta_check.proofs.Common.{FineBefore, IsFirstFaultOfLeaf, LeafFault, RowNumber, Overflow, Positive, NotNegative, FirstLeafFault, WithoutBounds}
+use Rattle.ta_check.proofs.Common.{renumbered, Pending, Search}
 use Rattle.ta_linear.specs.Numbers.{InRange}
 use Rattle.ta_linear.specs.Sums.{StaysInRange}
 use Rattle.ta_encode.specs.Named.{row_numbered, rows_named, row_number_at, AreThere, FirstAbsent, NamesRows}
@@ -24,12 +29,17 @@ alike_sum f rs qs (t ∷ ts) (u ∷ us) h =
 alike_sum f rs qs [] (u ∷ us) h = absurd h
 alike_sum f rs qs (t ∷ ts) [] h = absurd h
 
-alike_stays : (f : Option Row → ℤ) (rs qs : List Row) (so : ℤ) (ts us : List (ℕ × ℤ)) → Alike f rs qs ts us → StaysInRange (λ k. f (slice_get rs k)) so ts → StaysInRange (λ k. f (slice_get qs k)) so us
+alike_stays : (f : Option Row → ℤ) (rs qs : List Row) (so : ℤ) (ts us : List (ℕ × ℤ)) → Alike f rs qs ts us → StaysInRange (λ k. f (slice_get rs k)) so ts
+    → StaysInRange (λ k. f (slice_get qs k)) so us
 unfolding Alike
 alike_stays f rs qs so [] [] h stays = tt
 alike_stays f rs qs so (t ∷ ts) (u ∷ us) h stays =
-    let same : (t.1 *ℤ f (slice_get rs t.0)) ≡ (u.1 *ℤ f (slice_get qs u.0)) = ap (λ z. z *ℤ f (slice_get rs t.0)) h.0 ∙ ap (λ z. u.1 *ℤ z) h.1 in
-    (subst InRange same stays.0, subst (λ z. InRange (so +ℤ z)) same stays.1, alike_stays f rs qs (so +ℤ (u.1 *ℤ f (slice_get qs u.0))) ts us h.2 (subst (λ z. StaysInRange (λ k. f (slice_get rs k)) (so +ℤ z) ts) same stays.2))
+    let same : (t.1 *ℤ f (slice_get rs t.0)) ≡ (u.1 *ℤ f (slice_get qs u.0)) = ap (λ z. z *ℤ f (slice_get rs t.0)) h.0 ∙ ap (λ z. u.1 *ℤ z) h.1 in (
+      subst InRange same stays.0,
+      subst (λ z. InRange (so +ℤ z)) same stays.1,
+      alike_stays f rs qs (so +ℤ (u.1 *ℤ f (slice_get qs u.0))) ts us h.2
+          (subst (λ z. StaysInRange (λ k. f (slice_get rs k)) (so +ℤ z) ts) same stays.2),
+    )
 alike_stays f rs qs so [] (u ∷ us) h stays = absurd h
 alike_stays f rs qs so (t ∷ ts) [] h stays = absurd h
 
@@ -59,7 +69,8 @@ parts_respect n column l r q is also =
     ∙ ap (λ z. cond (nat_lt column n) (coefficient_in column (Some q)) z) (constants_respect l r q is also)
 
 -- the row of a number
-at_number : (ls : List LinearRow) (rs : List Row) (n : ℕ) → AreRowsOf ls rs → n < length ls → (r : Row) × (slice_get rs n ≡ Some r) × IsRowOf (row_numbered ls n) r
+at_number : (ls : List LinearRow) (rs : List Row) (n : ℕ) → AreRowsOf ls rs → n < length ls → (r : Row) × (slice_get rs n ≡ Some r)
+    × IsRowOf (row_numbered ls n) r
 at_number [] rs n is below = absurd (omega arith)
 at_number (l ∷ ls) (r ∷ rs) zero is below = (r, refl, is.0)
 at_number (l ∷ ls) (r ∷ rs) (suc n) is below = at_number ls rs n is.1 (omega arith)
@@ -70,7 +81,8 @@ there_behind : (count : ℕ) (t : ℕ × ℤ) (ts : List (ℕ × ℤ)) → AreTh
 there_behind count t ts there = λ i below. there (suc i) (omega arith)
 
 -- rows that are picked in the order of a list, the first of them at place k, are the rows that it names
-picked_alike : (f : Option Row → ℤ) → Respects f → (ls : List LinearRow) (rs qs : List Row) (ts : List (ℕ × ℤ)) (k : ℕ) (zs : List Row) → AreRowsOf ls rs → AreRowsOf (rows_named ls ts) zs → ((i : ℕ) → slice_get qs (i + k) ≡ slice_get zs i) → AreThere (length ls) ts → Alike f rs qs ts (renumbered k ts)
+picked_alike : (f : Option Row → ℤ) → Respects f → (ls : List LinearRow) (rs qs : List Row) (ts : List (ℕ × ℤ)) (k : ℕ) (zs : List Row) → AreRowsOf ls rs
+    → AreRowsOf (rows_named ls ts) zs → ((i : ℕ) → slice_get qs (i + k) ≡ slice_get zs i) → AreThere (length ls) ts → Alike f rs qs ts (renumbered k ts)
 unfolding Alike Respects
 picked_alike f respects ls rs qs [] k zs is picked place there = tt
 picked_alike f respects ls rs qs (t ∷ ts) k (z ∷ zs) is picked place there =
@@ -78,7 +90,8 @@ picked_alike f respects ls rs qs (t ∷ ts) k (z ∷ zs) is picked place there =
     let here : slice_get qs k ≡ Some z = (let e : 0 + k ≡ k = omega arith in ap (slice_get qs) (sym e) ∙ place 0) in (
       refl,
       ap f r.1 ∙ respects (row_numbered ls t.0) r.0 z r.2 picked.0 ∙ ap f (sym here),
-      picked_alike f respects ls rs qs ts (k + 1) zs is picked.1 (λ i. (let e : i + (k + 1) ≡ suc i + k = omega arith in ap (slice_get qs) e ∙ place (suc i))) (there_behind (length ls) t ts there),
+      picked_alike f respects ls rs qs ts (k + 1) zs is picked.1 (λ i. (let e : i + (k + 1) ≡ suc i + k = omega arith in ap (slice_get qs) e ∙ place (suc i)))
+          (there_behind (length ls) t ts there),
     )
 picked_alike f respects ls rs qs (t ∷ ts) k [] is picked place there = absurd picked
 
@@ -113,7 +126,8 @@ named_count ls (t ∷ ts) (z ∷ zs) is = ap suc (named_count ls ts zs is.1)
 named_count ls [] (z ∷ zs) is = absurd is
 named_count ls (t ∷ ts) [] is = absurd is
 
-picked : (ls : List LinearRow) (s z : System) (ts : List (ℕ × ℤ)) → AreRowsOf ls s.rows → z.unknowns ≡ s.unknowns → AreRowsOf (rows_named ls ts) z.rows → AreThere (length ls) ts → Picked s z ts
+picked : (ls : List LinearRow) (s z : System) (ts : List (ℕ × ℤ)) → AreRowsOf ls s.rows → z.unknowns ≡ s.unknowns → AreRowsOf (rows_named ls ts) z.rows
+    → AreThere (length ls) ts → Picked s z ts
 picked ls s z ts is unknowns named there = record {
   unknowns = unknowns;
   count = named_count ls ts z.rows named;
@@ -137,7 +151,8 @@ picked_stays s z ts column p stays =
 picked_leaves : (s z : System) (ts : List (ℕ × ℤ)) (column : ℕ) → Picked s z ts → ColumnStays s ts column → ColumnStays z (renumbered 0 ts) column
 picked_leaves s z ts column p stays =
     subst (λ n. StaysInRange (λ k. part_in n column (slice_get z.rows k)) (pos 0) (renumbered 0 ts)) (sym p.unknowns)
-    (alike_stays (part_in s.unknowns column) s.rows z.rows (pos 0) ts (renumbered 0 ts) (p.alike (part_in s.unknowns column) (parts_respect s.unknowns column)) stays)
+    (alike_stays (part_in s.unknowns column) s.rows z.rows (pos 0) ts (renumbered 0 ts) (p.alike (part_in s.unknowns column) (parts_respect s.unknowns column))
+    stays)
 
 picked_fine : (s z : System) (ts : List (ℕ × ℤ)) (column : ℕ) → Picked s z ts → FineBefore z (renumbered 0 ts) column → FineBefore s ts column
 picked_fine s z ts column p fine = record {
@@ -156,8 +171,15 @@ none_missing s z ts row p m =
 -- the first error over the picked rows is that over all
 picked_fault : (s z : System) (ts : List (ℕ × ℤ)) (f : LeafFault) → Picked s z ts → IsFirstFaultOfLeaf z (renumbered 0 ts) f → IsFirstFaultOfLeaf s ts f
 picked_fault s z ts (RowNumber row) p first = absurd (none_missing s z ts row p first)
-picked_fault s z ts (Overflow column) p first = (subst (λ n. column ≤ n) p.unknowns first.0, picked_fine s z ts column p first.1, λ stays. first.2 (picked_leaves s z ts column p stays))
-picked_fault s z ts (Positive unknown) p first = (subst (λ n. unknown < n) p.unknowns first.0, picked_fine s z ts unknown p first.1, picked_stays s z ts unknown p first.2, subst (λ x. pos 0 <ℤ x) (picked_sum s z ts unknown p) first.3)
+picked_fault s z ts (Overflow column) p first =
+    (subst (λ n. column ≤ n) p.unknowns first.0, picked_fine s z ts column p first.1, λ stays. first.2 (picked_leaves s z ts column p stays))
+picked_fault s z ts (Positive unknown) p first = (
+  subst (λ n. unknown < n) p.unknowns first.0,
+  picked_fine s z ts unknown p first.1,
+  picked_stays s z ts unknown p first.2,
+  subst (λ x. pos 0 <ℤ x)
+      (picked_sum s z ts unknown p) first.3,
+)
 picked_fault s z ts NotNegative p first = (
   subst (FineBefore s ts) p.unknowns (picked_fine s z ts z.unknowns p first.0),
   subst (ColumnStays s ts) p.unknowns (picked_stays s z ts z.unknowns p first.1),
@@ -173,7 +195,8 @@ there_rise low count (t ∷ ts) are there = (are.0, there 0 (omega arith), are.1
 picked_leaf : (s z : System) (ts : List (ℕ × ℤ)) → ArePairs 0 ts → Picked s z ts → LeafOf z (renumbered 0 ts) → LeafOf s ts
 picked_leaf s z ts are p leaf = record {
   multipliers = there_rise 0 (length s.rows) ts are p.there;
-  none_positive = λ x. subst (λ v. v ≤ℤ pos 0) (sym (alike_sum (coefficient_in x) s.rows z.rows ts (renumbered 0 ts) (p.alike (coefficient_in x) (coefficients_respect x)))) (leaf.none_positive x);
+  none_positive = λ x. subst (λ v. v ≤ℤ pos 0)
+      (sym (alike_sum (coefficient_in x) s.rows z.rows ts (renumbered 0 ts) (p.alike (coefficient_in x) (coefficients_respect x)))) (leaf.none_positive x);
   negative = subst (λ v. v <ℤ pos 0) (sym (alike_sum constant_in s.rows z.rows ts (renumbered 0 ts) (p.alike constant_in constants_respect))) leaf.negative;
 }
 
@@ -192,16 +215,19 @@ picked_named : {E : Type 0} (search : Search E) (w : Pending E) (ts : List (ℕ 
 picked_named search w ts z n = picked (bounded_rows search w) n.system z ts n.is.rows n.unknowns n.named n.there
 
 -- a leaf that is judged over the rows that it names is judged over all
-pub judged_picked : {E : Type 0} (search : Search E) (w : Pending E) (ts : List (ℕ × ℤ)) (z : System) → NamedRows search w ts z → ArePairs 0 ts → LeafOf z (renumbered 0 ts) → CheckStays z (renumbered 0 ts) → IsJudged search w ts
+pub judged_picked : {E : Type 0} (search : Search E) (w : Pending E) (ts : List (ℕ × ℤ)) (z : System) → NamedRows search w ts z → ArePairs 0 ts
+    → LeafOf z (renumbered 0 ts) → CheckStays z (renumbered 0 ts) → IsJudged search w ts
 judged_picked search w ts z n are leaf stays =
     let q = picked_named search w ts z n in
     judged search w n.system ts n.is (picked_leaf n.system z ts are q leaf) (picked_check n.system z ts q stays)
 
-pub fault_picked : {E : Type 0} (search : Search E) (w : Pending E) (ts : List (ℕ × ℤ)) (z : System) (f : LeafFault) → NamedRows search w ts z → IsFirstFaultOfLeaf z (renumbered 0 ts) f → FirstLeafFault search w ts f
+pub fault_picked : {E : Type 0} (search : Search E) (w : Pending E) (ts : List (ℕ × ℤ)) (z : System) (f : LeafFault) → NamedRows search w ts z
+    → IsFirstFaultOfLeaf z (renumbered 0 ts) f → FirstLeafFault search w ts f
 fault_picked search w ts z f n first = record { system = n.system; is = n.is; first = picked_fault n.system z ts f (picked_named search w ts z n) first }
 
 -- the first number that no row has
-pub fault_absent : {E : Type 0} (search : Search E) (w : Pending E) (s : System) (ts : List (ℕ × ℤ)) (row : ℕ) → SystemAt search w s → FirstAbsent (length (bounded_rows search w)) ts row → FirstLeafFault search w ts (RowNumber row)
+pub fault_absent : {E : Type 0} (search : Search E) (w : Pending E) (s : System) (ts : List (ℕ × ℤ)) (row : ℕ) → SystemAt search w s
+    → FirstAbsent (length (bounded_rows search w)) ts row → FirstLeafFault search w ts (RowNumber row)
 fault_absent search w s ts row is first =
     let count = rows_count (bounded_rows search w) s.rows is.rows in
     record {
@@ -217,19 +243,25 @@ fault_absent search w s ts row is first =
     }
 
 -- the cursor's word has a system with its bounds
-pub whole_here : {E : Type 0} (search : Search E) (c : Cursor E) (z : System) → IsWord search (here c) → z.unknowns ≤ 1000000 → WithoutBounds search (here c) z → (s : System) × SystemAt search (here c) s
-whole_here search c z word small is = whole_system search c.start (reverse c.facts.items) c.bounds.items z (omega arith) is (subst (λ n. BoundsWithin n c.bounds.items) (sym is.unknowns) word.bounds)
+pub whole_here : {E : Type 0} (search : Search E) (c : Cursor E) (z : System) → IsWord search (here c) → z.unknowns ≤ 1000000 → WithoutBounds search (here c) z
+    → (s : System) × SystemAt search (here c) s
+whole_here search c z word small is = whole_system search c.start (reverse c.facts.items) c.bounds.items z (omega arith) is
+    (subst (λ n. BoundsWithin n c.bounds.items) (sym is.unknowns) word.bounds)
 
 -- the rows that were named are those of the cursor's word
-pub named_here : {E : Type 0} (search : Search E) (c : Cursor E) (z rows : System) (bounds : List Bound) (ts : List (ℕ × ℤ)) → IsWord search (here c) → z.unknowns ≤ 1000000 → WithoutBounds search (here c) z → bounds ≡ c.bounds.items
+pub named_here : {E : Type 0} (search : Search E) (c : Cursor E) (z rows : System) (bounds : List Bound) (ts : List (ℕ × ℤ)) → IsWord search (here c)
+    → z.unknowns ≤ 1000000 → WithoutBounds search (here c) z → bounds ≡ c.bounds.items
     → NamesRows (search.rows c.start (reverse c.facts.items) ++ map bound_row bounds) z.unknowns ts (Rows rows) → NamedRows search (here c) ts rows
 named_here search c z rows bounds ts word small is same names =
     let whole = whole_here search c z word small is in
     let told = subst (λ (bs : List Bound). NamesRows (search.rows c.start (reverse c.facts.items) ++ map bound_row bs) z.unknowns ts (Rows rows)) same names in
     record { system = whole.0; is = whole.1; unknowns = told.0 ∙ is.unknowns ∙ sym whole.1.unknowns; named = told.1; there = told.2 }
 
-pub absent_here : {E : Type 0} (search : Search E) (c : Cursor E) (z : System) (bounds : List Bound) (ts : List (ℕ × ℤ)) (row : ℕ) → IsWord search (here c) → z.unknowns ≤ 1000000 → WithoutBounds search (here c) z → bounds ≡ c.bounds.items
-    → NamesRows (search.rows c.start (reverse c.facts.items) ++ map bound_row bounds) z.unknowns ts (Absent row) → FirstLeafFault search (here c) ts (RowNumber row)
+pub absent_here : {E : Type 0} (search : Search E) (c : Cursor E) (z : System) (bounds : List Bound) (ts : List (ℕ × ℤ)) (row : ℕ) → IsWord search (here c)
+    → z.unknowns ≤ 1000000 → WithoutBounds search (here c) z → bounds ≡ c.bounds.items
+    → NamesRows (search.rows c.start (reverse c.facts.items) ++ map bound_row bounds) z.unknowns ts (Absent row)
+    → FirstLeafFault search (here c) ts (RowNumber row)
 absent_here search c z bounds ts row word small is same names =
     let whole = whole_here search c z word small is in
-    fault_absent search (here c) whole.0 ts row whole.1 (subst (λ (bs : List Bound). FirstAbsent (length (search.rows c.start (reverse c.facts.items) ++ map bound_row bs)) ts row) same names)
+    fault_absent search (here c) whole.0 ts row whole.1
+    (subst (λ (bs : List Bound). FirstAbsent (length (search.rows c.start (reverse c.facts.items) ++ map bound_row bs)) ts row) same names)

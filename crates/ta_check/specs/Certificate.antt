@@ -20,10 +20,10 @@ use Rattle.ta_implied.specs.Orders.{IsShown}
 use Rattle.ta_encode.specs.Laws.{SolvedUnder}
 use Rattle.ta_encode.specs.Search.{Search}
 use Rattle.ta_encode.specs.Refutes.{ProofBy}
-use Rattle.ta_cursor.specs.Range.{IsJudged}
-use Rattle.ta_claim.specs.Claims.{MayClaim}
-use Rattle.ta_claim.specs.declared.claim.Claim.{Claim}
-use Rattle.ta_claim.specs.declared.claim.Claim.TheVariants.{Safe, RestSafe}
+use Rattle.ta_encode.specs.Range.{IsJudged}
+use Rattle.ta_rest.specs.Claims.{MayClaim}
+use Rattle.ta_rest.specs.declared.claim.Claim.{Claim}
+use Rattle.ta_rest.specs.declared.claim.Claim.TheVariants.{Safe, RestSafe}
 use Rattle.ta_check.specs.Subjects.{ClaimHolds, Kind, Words, Moments, Subject, claiming, claiming_with, fact_of, search_at}
 
 -- an order's multipliers show its pair
@@ -113,7 +113,8 @@ AllQuietRestSafe file silent numbers = AllClaimsHold (claiming_with RestSafe fil
 pub record PatternUnsolved (file : File) (pairs : List (ℕ × ℕ)) (number : ℕ) : Type 0 where
   pub pattern : Pattern
   pub named : slice_get file.patterns number ≡ Some pattern
-  pub none : (start : ℕ) → start < 2 ^ length file.automaton.fall → (word : List Element) (values : List ℕ) → ¬ SolvedUnder file.automaton pattern pairs start word values
+  pub none : (start : ℕ) → start < 2 ^ length file.automaton.fall → (word : List Element) (values : List ℕ)
+      → ¬ SolvedUnder file.automaton pattern pairs start word values
 
 -- the same of each of these patterns, under no pairs, that is, for all legal schemas
 abbrev pub AllUnsolved : File → List ℕ → Type 0
@@ -127,7 +128,8 @@ pub record CertificateShows (file : File) (kind : Kind) (pairs : List (ℕ × �
   pub none_solved : InScope file.automaton → AllUnsolved file numbers
 
 abbrev pub CertificatesShow : Type 0
-CertificatesShow = (file : File) (text numbers : List ℕ) → LoopsPure file.automaton → (c : Certificate file text numbers) → CertificateShows file c.kind (map pair_of c.orders) numbers
+CertificatesShow = (file : File) (text numbers : List ℕ) → LoopsPure file.automaton → (c : Certificate file text numbers)
+    → CertificateShows file c.kind (map pair_of c.orders) numbers
 
 -- a text is a certificate of at most one list of patterns
 abbrev pub CertificatesNameOneList : Type 0
@@ -139,4 +141,5 @@ MayClaimAll subject = AllByRecursion (MayClaim subject.claim) subject.file.patte
 
 -- then the claim holds of a certificate's patterns
 abbrev pub ClaimsHold : Type 0
-ClaimsHold = (subject : Subject) (text numbers : List ℕ) → MayClaimAll subject → LoopsPure subject.file.automaton → CertificateFor subject text numbers → AllClaimsHold subject numbers
+ClaimsHold = (subject : Subject) (text numbers : List ℕ) → MayClaimAll subject → LoopsPure subject.file.automaton → CertificateFor subject text numbers
+    → AllClaimsHold subject numbers

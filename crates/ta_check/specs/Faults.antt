@@ -18,7 +18,7 @@ use Rattle.ta_encode.specs.Search.{asked}
 use Rattle.ta_farkas.specs.Faults.{IsFirstFaultOfLeaf as IsFirstLeafFault}
 use Rattle.ta_farkas.specs.declared.LeafFault.{LeafFault}
 use Rattle.ta_farkas.specs.declared.LeafFault.TheVariants as leaf
-use Rattle.ta_claim.specs.declared.claim.Claim.TheVariants.{Safe}
+use Rattle.ta_rest.specs.declared.claim.Claim.TheVariants.{Safe}
 use Rattle.ta_check.specs.Subjects.{HasVersion, Subject, claiming, kind_of}
 use Rattle.ta_check.specs.Forms.{HasForm, IsNoLeaf, IsQuestion}
 use Rattle.ta_check.specs.Lines.{Standing, AtWord, FactAt, NothingIsLeft, TakesOrder, first_standing, Leads}

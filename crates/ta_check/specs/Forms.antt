@@ -1,8 +1,8 @@
 -- Which forms of nodes the proofs of a certificate have.
 use Rattle.ta_cert.specs.declared.line.Node.{Node}
 use Rattle.ta_cert.specs.declared.line.Node.TheVariants as node
-use Rattle.ta_claim.specs.declared.claim.Claim.{Claim}
-use Rattle.ta_claim.specs.declared.claim.Claim.TheVariants.{Safe, RestSafe}
+use Rattle.ta_rest.specs.declared.claim.Claim.{Claim}
+use Rattle.ta_rest.specs.declared.claim.Claim.TheVariants.{Safe, RestSafe}
 use Rattle.ta_check.specs.Subjects.{Kind, Words, Moments}
 
 -- leaves and splits; for schemas, extensions; for moments, questions, of which those about rules are for rest only

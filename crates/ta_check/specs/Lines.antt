@@ -7,7 +7,7 @@ use Rattle.ta_cert.specs.declared.line.Node.{Node}
 use Rattle.ta_cert.specs.declared.line.Node.TheVariants as node
 use Rattle.ta_implied.specs.Orders.{IsShown, MayJoin}
 use Rattle.ta_encode.specs.InPreorder.{Pending, Search, parts, MayStand}
-use Rattle.ta_cursor.specs.Range.{IsJudged}
+use Rattle.ta_encode.specs.Range.{IsJudged}
 use Rattle.ta_check.specs.Subjects.{HasVersion, Subject, fact_of, kind_of, search_at}
 
 -- the state of a certificate after some of its lines: its version, or 0 before its first line; the pairs of rise guards that were shown, in

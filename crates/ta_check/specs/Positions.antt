@@ -10,8 +10,8 @@ use Rattle.ta_cert.specs.declared.fault.CertFault.TheVariants as fault
 use Rattle.ta_encode.specs.InPreorder.{MayStand, Pending, Search, parts}
 use Rattle.ta_encode.specs.Search.{asked}
 use Rattle.ta_encode.specs.Marks.{IsEncoding}
-use Rattle.ta_cursor.specs.InTrees.{AllGoOn, AllWithin, here_at}
-use Rattle.ta_cursor.specs.declared.place.Place.{Place}
+use Rattle.ta_encode.specs.InTrees.{AllGoOn, AllWithin, here_at}
+use Rattle.ta_encode.specs.declared.cursor_place.Place.{Place}
 use Rattle.ta_farkas.specs.declared.LeafFault.{LeafFault}
 use Rattle.ta_farkas.specs.declared.LeafFault.TheVariants as leaf
 use Rattle.ta_implied.specs.Orders.{MayJoin}
@@ -19,9 +19,9 @@ use Rattle.ta_moment_tree.specs.Kept.{IsKept}
 use Rattle.ta_check.specs.Subjects.{Kind, Words, Moments, Subject, asking_for, fact_of, kind_of, search_of}
 use Rattle.ta_check.specs.declared.position.Position.{Position}
 use Rattle.ta_check.specs.Lines.{Standing, Leads}
-use Rattle.ta_cursor.specs.Range.{IsJudged}
-use Rattle.ta_cursor.specs.declared.asking.Ask.{Ask}
-use Rattle.ta_cursor.specs.declared.asking.Ask.TheVariants as ask
+use Rattle.ta_encode.specs.Range.{IsJudged}
+use Rattle.ta_encode.specs.declared.ask.Ask.{Ask}
+use Rattle.ta_encode.specs.declared.ask.Ask.TheVariants as ask
 use Rattle.ta_check.specs.Forms.{IsQuestion}
 use Rattle.ta_check.specs.Faults.{IsAtFault, FirstLeafFault}
 

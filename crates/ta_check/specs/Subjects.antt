@@ -9,9 +9,9 @@ use Rattle.ta_moments.specs.declared.fact.Fact.{Fact}
 use Rattle.ta_moments.specs.Refutes.{Asking, of_events, of_rest}
 pub use Rattle.ta_moment_tree.specs.Makers.{moments_of}
 use Rattle.ta_rest.specs.Quiet.{QuietRestSafe}
-use Rattle.ta_claim.specs.Claims.{claimed, search_for}
-use Rattle.ta_claim.specs.declared.claim.Claim.{Claim}
-use Rattle.ta_claim.specs.declared.claim.Claim.TheVariants.{Safe, RestSafe}
+use Rattle.ta_rest.specs.Claims.{claimed, search_for}
+use Rattle.ta_rest.specs.declared.claim.Claim.{Claim}
+use Rattle.ta_rest.specs.declared.claim.Claim.TheVariants.{Safe, RestSafe}
 
 -- a file, what is claimed of its patterns, and the silent places, which do not count for rest
 pub record Subject : Type 0 where

@@ -19,8 +19,7 @@ use std::alloc::Global;
 use ta_automaton::File;
 use ta_base::List;
 use ta_cert::{CertFault, Ended, Reader};
-use ta_claim::Claim;
-use ta_rest::RestFile;
+use ta_rest::{Claim, RestFile};
 use ta_scope::ScopedFile;
 
 /// Judges a certificate of a file whose text comes in pieces: that patterns are safe, or that they are

@@ -6,7 +6,7 @@ ghost use Rattle.ta_automaton.specs.declared.file.File.{File as FileValue};
 ghost use Rattle.ta_cert.specs.Streams.{IsErrOrMemory};
 ghost use Rattle.ta_cert.specs.declared.fault.CertFault.{CertFault as AnyFault};
 ghost use Rattle.ta_cert.specs.declared.fault.CertFault.TheVariants.{Memory};
-ghost use Rattle.ta_claim.specs.declared.claim.Claim.TheVariants.{RestSafe, Safe};
+ghost use Rattle.ta_rest.specs.declared.claim.Claim.TheVariants.{RestSafe, Safe};
 ghost use Rattle.ta_rest.specs.Faults.{EndingsOf};
 ghost use Rattle.ta_check.specs.Certificate.{AllClaimsHold, AllQuietRestSafe, AllRestSafe, AllSafe, AllUnsolved, Certificate, CertificateFor, QuietRestCertificate, RestCertificate};
 ghost use Rattle.ta_check.specs.Checkers.{CheckerStandsFor, subject_of};

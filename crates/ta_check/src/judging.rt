@@ -19,8 +19,8 @@ use crate::position::Position;
 use std::alloc::Global;
 use ta_automaton::File;
 use ta_cert::{CertFault, Line, Node};
-use ta_claim::Claim;
 use ta_implied::OrderFault;
+use ta_rest::Claim;
 
 impl<'a> Position<'a> {
     /// Takes the line of a number, where it may follow the lines before it.
@@ -125,23 +125,24 @@ impl<'a> Position<'a> {
         requires form { IsNode node.now }
         ensures { (at : Standing) → IsPositionAt (claiming_with claim file.now silent.now) self.old at → LineAnswers (claiming_with claim file.now silent.now) at number (Tree node.now) self.new result }
     {
-        let Some((before, after)) = self.waiting else {
+        let Some(pair) = self.waiting else {
             return match self.current {
                 Some(pattern) => self.take_node(alloc, claim, file, silent, number, pattern, node),
                 None => self.take_pair(claim, file, silent, number, node),
             };
         };
         match node {
-            Node::Leaf(multipliers) => self.take_shown(
-                alloc,
-                claim,
-                file,
-                silent,
-                number,
-                before,
-                after,
-                multipliers.as_slice(),
-            ),
+            Node::Leaf(multipliers) => {
+                self.take_shown(
+                    alloc,
+                    claim,
+                    file,
+                    silent,
+                    number,
+                    pair,
+                    multipliers.as_slice(),
+                )
+            }
             Node::Extend
             | Node::Split { .. }
             | Node::Guard(_)
@@ -180,16 +181,17 @@ impl<'a> Position<'a> {
         file: &'a File,
         silent: &'a [u32],
         number: u64,
-        before: u32,
-        after: u32,
+        pair: (u32, u32),
         multipliers: &[(u32, i128)],
     ) -> Result<(), CertFault>
         requires somewhere { IsSomewhere (claiming_with claim file.now silent.now) self.old }
-        requires waits { self.old.waiting ≡ Some (before, after) }
+        requires waits { self.old.waiting ≡ Some pair }
         requires form { ArePairs 0 multipliers.now }
-        ensures { (at : Standing) → IsPositionAt (claiming_with claim file.now silent.now) self.old at → LineAnswers (claiming_with claim file.now silent.now) at number (Tree (Leaf multipliers.now)) self.new result }
+        ensures { (at : Standing) → IsPositionAt (claiming_with claim file.now silent.now) self.old at
+            → LineAnswers (claiming_with claim file.now silent.now) at number (Tree (Leaf multipliers.now)) self.new result }
     {
         let _silent = silent;
+        let (before, after) = pair;
         match self
             .orders
             .push(alloc, &file.automaton, before, after, multipliers)

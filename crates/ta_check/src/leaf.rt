@@ -7,15 +7,14 @@
 
 ghost use Rattle.std.specs.Prelude.{◌≡◌, ◌≤◌, IfOk, OnOk};
 ghost use Rattle.ta_cert.specs.Lines.{ArePairs};
-ghost use Rattle.ta_cursor.specs.Cursors.{IsWord, here};
+ghost use Rattle.ta_encode.specs.Cursors.{IsWord, here};
 ghost use Rattle.ta_check.specs.Inside.Leaves.{WithoutBounds, renumbered};
 ghost use Rattle.ta_check.specs.Positions.{LeafTaken, fault_at};
 
 use std::alloc::{AllocError, Global};
 use std::mem;
 use ta_cert::CertFault;
-use ta_cursor::{Cursor, Tree, Written};
-use ta_encode::{Named, named_rows};
+use ta_encode::{Cursor, Named, Tree, Written, named_rows};
 use ta_farkas::{LeafFault, check_leaf};
 
 /// Judges a leaf at the cursor's word, in the line of this number. The rows of the word are written

@@ -1,7 +1,7 @@
 //! Where a certificate is being read: all that the checker knows behind a line.
 //!
 //! In the definitions a standing has the list of the nodes that are left to be refuted. Here the
-//! next node and the open nodes above it (ta_cursor) stand for that list, so a deep tree costs
+//! next node and the open nodes above it (ta_encode) stand for that list, so a deep tree costs
 //! memory for its depth alone. The rows of the last leaf are kept, and those of the next one
 //! written on from them; no result depends on them.
 #![tactic(auto)]
@@ -11,8 +11,7 @@ ghost use Rattle.ta_check.specs.Positions.{IsPositionAt};
 ghost use Rattle.ta_check.specs.Subjects.{Subject};
 
 use std::alloc::Global;
-use ta_cursor::Place;
-use ta_encode::Encoding;
+use ta_encode::{Encoding, Place};
 use ta_implied::Orders;
 use ta_moment_tree::MomentKept;
 use ta_moments::Fact;

@@ -23,10 +23,9 @@ use crate::reading::read_node;
 use std::alloc::Global;
 use ta_automaton::File;
 use ta_cert::{CertFault, Node};
-use ta_claim::{Claim, ClaimTree};
-use ta_cursor::{Place, Tree as Trees};
-use ta_encode::Encoding;
+use ta_encode::{Encoding, Place, Tree as Trees};
 use ta_moment_tree::MomentTree;
+use ta_rest::{Claim, ClaimTree};
 
 impl<'a> Position<'a> {
     /// Takes the line that begins the proof of a pattern.

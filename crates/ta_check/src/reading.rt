@@ -4,14 +4,14 @@
 ghost use Rattle.std.specs.Prelude.{◌≡◌, OnOk};
 ghost use Rattle.ta_cert.specs.Lines.{ArePairs, IsNode, IsSplit};
 ghost use Rattle.ta_cert.specs.declared.line.Node.TheVariants.{Leaf, Split};
-ghost use Rattle.ta_cursor.specs.Asking.{ask_node};
-ghost use Rattle.ta_cursor.specs.InTrees.{IsAllWithin};
+ghost use Rattle.ta_encode.specs.Asking.{ask_node};
+ghost use Rattle.ta_encode.specs.InTrees.{IsAllWithin};
 ghost use Rattle.ta_check.specs.Positions.{NodeTaken, unasked_in};
 
 use crate::leaf::judge_leaf;
 use std::alloc::Global;
 use ta_cert::{CertFault, Node};
-use ta_cursor::{Ask, Place, Tree};
+use ta_encode::{Ask, Place, Tree};
 
 /// Takes the line of a node at a place, and says whether another node comes.
 pub(crate) fn read_node<T: Tree>(

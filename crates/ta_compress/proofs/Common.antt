@@ -1,10 +1,13 @@
 -- The names that the proofs of this crate cite, passed on from one place. Declares nothing.
-pub use Rattle.std.proofs.Common.{IsBitSet, List, None, Option, Some, [], ap, append-nil, append_assoc, arith, drop, get_or, inl, inr, length, length-append, map, min, negsuc, pos, refl, replicate, rules, set, slice_get, subst, suc, sym, take, take-append-drop, unsigned_abs, zero, ℕ, ℤ, ◌*ℤ◌, ◌++◌, ◌+ℤ◌, ◌+◌, ◌-ℤ◌, ◌-◌, ◌<◌, ◌^◌, ◌∙◌, ◌∷◌, ◌≡◌, ◌≢◌, ◌≤ℤ◌, ◌≤◌, ◌⊎◌}
+pub use Rattle.std.proofs.Common.{IsBitSet, List, None, Option, Some, [], ap, append-nil, append_assoc, arith, drop, get_or, inl, inr, length, length-append}
+pub use Rattle.std.proofs.Common.{map, min, negsuc, pos, refl, replicate, rules, set, slice_get, subst, suc, sym, take, take-append-drop, unsigned_abs, zero, ℕ}
+pub use Rattle.std.proofs.Common.{ℤ, ◌*ℤ◌, ◌++◌, ◌+ℤ◌, ◌+◌, ◌-ℤ◌, ◌-◌, ◌<◌, ◌^◌, ◌∙◌, ◌∷◌, ◌≡◌, ◌≢◌, ◌≤ℤ◌, ◌≤◌, ◌⊎◌}
 pub use Rattle.std.proofs.Math.IntN.{zero-*ℤ}
 pub use Rattle.std.proofs.lemmas.Bool.{cases_lt, cases_order, false≢true}
 pub use Rattle.std.proofs.lemmas.Bool.Decides.{eqb_tells}
 pub use Rattle.std.proofs.lemmas.Int.{ints}
-pub use Rattle.std.proofs.lemmas.List.{ext_get_or, get_or-set_other, get_or-set_same, get_or_past, length-map, length-replicate, length-set, map_push, take_all, take_more}
+pub use Rattle.std.proofs.lemmas.List.{ext_get_or, get_or-set_other, get_or-set_same, get_or_past, length-map, length-replicate, length-set, map_push, take_all}
+pub use Rattle.std.proofs.lemmas.List.{take_more}
 pub use Rattle.std.proofs.lemmas.Option.{same_Some, slice_get-get_or, slice_get_within}
 pub use Rattle.std.proofs.lemmas.Result.{on_ok_weaker}
 pub use Rattle.std.proofs.result.Match.{err_is}
@@ -28,8 +31,11 @@ pub use Rattle.ta_base.proofs.Ranges.{at_number}
 pub use Rattle.ta_base.proofs.Totals.{one_if-natural, one_if-ne, total-append, total-replicate}
 pub use Rattle.ta_base.specs.Sums.{one_if}
 unfoldable pub use Rattle.ta_base.specs.Sums.{times_in, total}
-pub use Rattle.ta_compress.specs.Faults.{CompressFaultOf, Compressible, GuardsOutOfRangeAt, GuardsOutOfRangeFirstIn, GuardsOutOfRangeIn, GuardsStayed, IsShortRun, IsSmallReplay, ReplaysInRange}
-pub use Rattle.ta_compress.specs.Inside.Drafts.{Advances, Closes, CountsStep, DraftAt, DraftIsReady, DraftStops, GuardsOutOfRangeWithin, HasFallen, IsFirstDraft, LineKeeps, LineMay, MayRepeat, MayStep, OneMore, RepeatStops, RepeatsRule, Room, SameGuards, repeated, zeros}
+pub use Rattle.ta_compress.specs.Faults.{CompressFaultOf, Compressible, GuardsOutOfRangeAt, GuardsOutOfRangeFirstIn, GuardsOutOfRangeIn, GuardsStayed}
+pub use Rattle.ta_compress.specs.Faults.{IsShortRun, IsSmallReplay, ReplaysInRange}
+pub use Rattle.ta_compress.specs.Inside.Drafts.{Advances, Closes, CountsStep, DraftAt, DraftIsReady, DraftStops, GuardsOutOfRangeWithin, HasFallen}
+pub use Rattle.ta_compress.specs.Inside.Drafts.{IsFirstDraft, LineKeeps, LineMay, MayRepeat, MayStep, OneMore, RepeatStops, RepeatsRule, Room, SameGuards}
+pub use Rattle.ta_compress.specs.Inside.Drafts.{repeated, zeros}
 pub use Rattle.ta_compress.specs.Pieces.{AreCut, CompressOf, CutOf, CutPiece, DropsAt, IsPiece, IsShortened, Still, SwitchesAt, counts_of, lines_in, units}
 pub use Rattle.ta_compress.specs.Tales.{LinesTell, SameTale, StepsLead}
 pub use Rattle.ta_compress.specs.Units.{Drops, EndsAtLastMark, SomeDiffers, Switches, unfolded, unit, value_after}

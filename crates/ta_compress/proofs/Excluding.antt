@@ -1,5 +1,7 @@
 -- what can be compressed isn't refused
-use Rattle.ta_compress.proofs.Common.{◌≡◌, inl, inr, ℕ, ◌≤◌, ℤ, List, arith, sym, ◌∙◌, refl, subst, fun_ext, ints, point_of, Automaton, File, GuardsStay, StartsAt, Run, RunLine, Fits, ShowsPattern, shown_first, CompressFault, Replay, TooManySteps, Memory, IsSmallReplay, Compressible, CompressFaultOf, GuardsOutOfRangeAt, GuardsOutOfRangeIn, EndsAtLastMark, at_most}
+use Rattle.ta_compress.proofs.Common.{◌≡◌, inl, inr, ℕ, ◌≤◌, ℤ, List, arith, sym, ◌∙◌, refl, subst, fun_ext, ints, point_of, Automaton, File, GuardsStay}
+use Rattle.ta_compress.proofs.Common.{StartsAt, Run, RunLine, Fits, ShowsPattern, shown_first, CompressFault, Replay, TooManySteps, Memory, IsSmallReplay}
+use Rattle.ta_compress.proofs.Common.{Compressible, CompressFaultOf, GuardsOutOfRangeAt, GuardsOutOfRangeIn, EndsAtLastMark, at_most}
 use Rattle.ta_compress.proofs.Finishing.{shown_named}
 use Rattle.ta_compress.proofs.Shortening.{fits_named}
 
@@ -11,13 +13,15 @@ one_last lines m n a b = elim b.ends [
 ]
 
 -- the values that a run starts with are the same at each place
-pub same_start : (file : File) (run : Run) → Fits file run → IsSmallReplay file run → (v w : List ℤ) → StartsAt file.automaton run.parameters run.counts v → StartsAt file.automaton run.parameters run.counts w → (i : ℕ) → point_of v i ≡ point_of w i
+pub same_start : (file : File) (run : Run) → Fits file run → IsSmallReplay file run → (v w : List ℤ) → StartsAt file.automaton run.parameters run.counts v
+    → StartsAt file.automaton run.parameters run.counts w → (i : ℕ) → point_of v i ≡ point_of w i
 same_start file run fits admitted v w a b i =
     let s : ShowsPattern file.automaton fits.pattern run = shown_named file run fits admitted in
     let at = shown_first file.automaton fits.pattern run (fits_named file run fits) s in
     sym (at v a i) ∙ at w b i
 
-pub leaves_same : (a : Automaton) (v w : List ℤ) (lines : List RunLine) (i : ℕ) → ((k : ℕ) → point_of v k ≡ point_of w k) → GuardsOutOfRangeIn a v lines i → GuardsOutOfRangeIn a w lines i
+pub leaves_same : (a : Automaton) (v w : List ℤ) (lines : List RunLine) (i : ℕ) → ((k : ℕ) → point_of v k ≡ point_of w k) → GuardsOutOfRangeIn a v lines i
+    → GuardsOutOfRangeIn a w lines i
 leaves_same a v w lines i same l = record {
   rule = l.rule;
   factor = l.factor;
@@ -32,12 +36,15 @@ guards_stay : (file : File) (run : Run) (line : ℕ) → Fits file run → Compr
 guards_stay file run line fits able (inl w) =
     let g = able.guards in
     let l = w.1 in
-    l.leaves (subst (GuardsStay file.automaton) (fun_ext (same_start file run fits (record { replayed = able.replayed; few = able.few }) g.first l.first g.starts l.starts)) g.at_start)
+    l.leaves (subst (GuardsStay file.automaton)
+    (fun_ext (same_start file run fits (record { replayed = able.replayed; few = able.few }) g.first l.first g.starts l.starts)) g.at_start)
 guards_stay file run line fits able (inr w) =
     let g = able.guards in
     let l = w.2 in
     let below = one_last run.lines g.n l.n g.last_mark l.last_mark in
-    g.on_the_way w.0 (let b = l.within in omega arith) (leaves_same file.automaton l.first g.first run.lines w.0 (same_start file run fits (record { replayed = able.replayed; few = able.few }) l.first g.first l.starts g.starts) l.leaves)
+    g.on_the_way w.0 (let b = l.within in omega arith)
+    (leaves_same file.automaton l.first g.first run.lines w.0
+    (same_start file run fits (record { replayed = able.replayed; few = able.few }) l.first g.first l.starts g.starts) l.leaves)
 
 pub only_memory : (file : File) (run : Run) (fault : CompressFault) → Fits file run → Compressible file run → CompressFaultOf file run fault → fault ≡ Memory
 only_memory file run Memory fits able found = refl

@@ -1,5 +1,11 @@
 -- the compressed run
-use Rattle.ta_compress.proofs.Common.{◌≡◌, inl, inr, ℕ, suc, ◌+◌, ◌<◌, ◌≤◌, ℤ, pos, negsuc, ◌≤ℤ◌, List, [], ◌∷◌, ◌++◌, length, map, take, arith, sym, ap, ◌∙◌, refl, subst, slice_get, get_or, Some, None, Option, append_assoc, length-append, ints, length-map, same_Some, AllByRecursion, each_append, each_back, each_front, each_take, InRange, Automaton, File, Pattern, Config, InScope, total, times_in, pattern_within, naturals, Value, count_at, StepsWithin, Run, RunLine, Mark, Fits, LineFits, OncePerRule, step_line, last_lines, piece_lines, pieces_lines, steps_count, IsFirstConfig, Shows, ShowsPattern, marks_count, shown_first, IsSmallReplay, IsShortRun, unit, unfolded, value_after, CutPiece, CompressOf, AreCut, IsPiece, IsShortened, counts_of, lines_in, units, SameTale, LinesTell, first_whole}
+use Rattle.ta_compress.proofs.Common.{◌≡◌, inl, inr, ℕ, suc, ◌+◌, ◌<◌, ◌≤◌, ℤ, pos, negsuc, ◌≤ℤ◌, List, [], ◌∷◌, ◌++◌, length, map, take, arith, sym, ap, ◌∙◌}
+use Rattle.ta_compress.proofs.Common.{refl, subst, slice_get, get_or, Some, None, Option, append_assoc, length-append, ints, length-map, same_Some}
+use Rattle.ta_compress.proofs.Common.{AllByRecursion, each_append, each_back, each_front, each_take, InRange, Automaton, File, Pattern, Config, InScope, total}
+use Rattle.ta_compress.proofs.Common.{times_in, pattern_within, naturals, Value, count_at, StepsWithin, Run, RunLine, Mark, Fits, LineFits, OncePerRule}
+use Rattle.ta_compress.proofs.Common.{step_line, last_lines, piece_lines, pieces_lines, steps_count, IsFirstConfig, Shows, ShowsPattern, marks_count}
+use Rattle.ta_compress.proofs.Common.{shown_first, IsSmallReplay, IsShortRun, unit, unfolded, value_after, CutPiece, CompressOf, AreCut, IsPiece, IsShortened}
+use Rattle.ta_compress.proofs.Common.{counts_of, lines_in, units, SameTale, LinesTell, first_whole}
 use Rattle.ta_base.proofs.Times.{times-most}
 use Rattle.std.proofs.lemmas.Nat.{mul-le}
 use Rattle.ta_scope.proofs.Arranging.{arranged_within}
@@ -29,7 +35,8 @@ record Twice (file : File) (run short : Run) (p : Pattern) (s : ShowsPattern fil
   short_told : LinesTell file.automaton p s.first short.lines tale
   begins : IsFirstConfig file.automaton short s.first
 
-twice : (file : File) (run short : Run) → InScope file.automaton → (fits : Fits file run) → (s : ShowsPattern file.automaton fits.pattern run) → CompressOf file run short → Twice file run short fits.pattern s
+twice : (file : File) (run short : Run) → InScope file.automaton → (fits : Fits file run) → (s : ShowsPattern file.automaton fits.pattern run)
+    → CompressOf file run short → Twice file run short fits.pattern s
 unfolding total
 twice file run short scope fits s c =
     let a = file.automaton in
@@ -38,18 +45,24 @@ twice file run short scope fits s c =
     let all = whole_run a p run s in
     let t = told a p s.first run.lines all.0 all.1 in
     let front = tell_unfolded a p s.first (take cut.n run.lines) t.0 (cut_off a p s.first run.lines cut.n t.0 cut.last_mark t.1) in
-    let stands : Stands a cut.first [] s.first = record { whole = first_whole a s.first s.follows.initial; same = λ i. omega (arith, ints, shown_first a p run (fits_named file run fits) s cut.first cut.starts i) } in
+    let stands : Stands a cut.first [] s.first = record {
+      whole = first_whole a s.first s.follows.initial;
+      same = λ i. omega
+          (arith, ints, shown_first a p run (fits_named file run fits) s cut.first cut.starts i);
+    } in
     record {
       tale = t.0;
       told = t.1;
-      short_told = pieces_retell a p cut.first scope cut.pieces [] (unfolded (take cut.n run.lines)) short.lines s.first t.0 cut.cut stands (s.kept_empty 0 s.first refl) front;
+      short_told = pieces_retell a p cut.first scope cut.pieces [] (unfolded (take cut.n run.lines)) short.lines s.first t.0 cut.cut stands
+          (s.kept_empty 0 s.first refl) front;
       begins = record {
         parameters = s.begins.parameters ∙ ap naturals (sym c.parameters);
         counts = λ j l at. s.begins.counts j l at ∙ ap (λ (xs : List ℤ). get_or (naturals xs) j 0) (sym c.counts);
       };
     }
 
-pub same_tale : (file : File) (run short : Run) → InScope file.automaton → Fits file run → IsSmallReplay file run → CompressOf file run short → SameTale file run short
+pub same_tale : (file : File) (run short : Run) → InScope file.automaton → Fits file run → IsSmallReplay file run → CompressOf file run short
+    → SameTale file run short
 same_tale file run short scope fits admitted c =
     let s = shown_named file run fits admitted in
     let t = twice file run short scope fits s c in
@@ -69,7 +82,8 @@ same_tale file run short scope fits admitted c =
 named_short : (file : File) (run short : Run) (fits : Fits file run) → CompressOf file run short → slice_get file.patterns short.pattern ≡ Some fits.pattern
 named_short file run short fits c = ap (slice_get file.patterns) c.pattern ∙ fits.named
 
-pub short_shows : (file : File) (run short : Run) → InScope file.automaton → Fits file run → IsSmallReplay file run → CompressOf file run short → Shows file short
+pub short_shows : (file : File) (run short : Run) → InScope file.automaton → Fits file run → IsSmallReplay file run → CompressOf file run short
+    → Shows file short
 short_shows file run short scope fits admitted c =
     let s = shown_named file run fits admitted in
     let t = twice file run short scope fits s c in
@@ -79,7 +93,8 @@ short_shows file run short scope fits admitted c =
       shows = shows_same file.automaton fits.pattern run short s (first_whole file.automaton s.first s.follows.initial) t.begins t.tale t.told t.short_told;
     }
 
-within : (a : Automaton) → InScope a → (piece : CutPiece) (lines rest : List RunLine) → (sh : IsShortened a piece lines rest) → StepsWithin a (counts_of a piece.body) sh.steps
+within : (a : Automaton) → InScope a → (piece : CutPiece) (lines rest : List RunLine) → (sh : IsShortened a piece lines rest)
+    → StepsWithin a (counts_of a piece.body) sh.steps
 within a scope piece lines rest sh = arranged_within a scope (counts_of a piece.body) (counts_natural a piece.body) sh.steps sh.arranged
 
 -- the shortened piece as a piece of the run
@@ -88,7 +103,8 @@ record Made (a : Automaton) (lines rest : List RunLine) : Type 0 where
   once : OncePerRule a piece
   is : lines ≡ piece_lines piece ++ rest
 
-made : (a : Automaton) → InScope a → (first : List ℤ) (done : List RunLine) (piece : CutPiece) (lines rest : List RunLine) → IsPiece a first done piece → IsShortened a piece lines rest → Made a lines rest
+made : (a : Automaton) → InScope a → (first : List ℤ) (done : List RunLine) (piece : CutPiece) (lines rest : List RunLine) → IsPiece a first done piece
+    → IsShortened a piece lines rest → Made a lines rest
 made a scope first done piece lines rest is sh = by_end is where
   w : StepsWithin a (counts_of a piece.body) sh.steps
   w = within a scope piece lines rest sh
@@ -112,7 +128,8 @@ record AsPieces (a : Automaton) (short : List RunLine) (count : ℕ) : Type 0 wh
   many : length parts ≡ count
   once : AllByRecursion (OncePerRule a) parts
 
-as_pieces : (a : Automaton) → InScope a → (first : List ℤ) (cuts : List CutPiece) (done lines short : List RunLine) → AreCut a first done lines cuts short → AsPieces a short (length cuts)
+as_pieces : (a : Automaton) → InScope a → (first : List ℤ) (cuts : List CutPiece) (done lines short : List RunLine) → AreCut a first done lines cuts short
+    → AsPieces a short (length cuts)
 as_pieces a scope first [] done lines short cut = record { parts = []; lines = cut.1; many = refl; once = tt }
 as_pieces a scope first (piece ∷ cuts) done lines short cut =
     let m = made a scope first done piece short cut.3 cut.0 cut.4 in
@@ -127,7 +144,8 @@ as_pieces a scope first (piece ∷ cuts) done lines short cut =
 events_of : (file : File) (run : Run) (fits : Fits file run) → IsSmallReplay file run → marks_count run.lines ≡ length fits.pattern.events
 events_of file run fits admitted = marks_are_events file.automaton fits.pattern run fits.lines (shown_named file run fits admitted)
 
-pub is_short : (file : File) (run short : Run) → InScope file.automaton → Fits file run → IsSmallReplay file run → CompressOf file run short → IsShortRun file short
+pub is_short : (file : File) (run short : Run) → InScope file.automaton → Fits file run → IsSmallReplay file run → CompressOf file run short
+    → IsShortRun file short
 is_short file run short scope fits admitted c p named =
     let a = file.automaton in
     let cut = c.lines in
@@ -151,7 +169,10 @@ small_fits (pos m) n low high small = omega (arith, ints)
 small_fits (negsuc m) n low high small = absurd (omega (arith, ints))
 
 -- each arranged step fits
-steps_fit : (a : Automaton) (p : Pattern) (body : List ℕ) (steps : List (ℕ × ℤ)) → length body ≤ 2000000 → AllByRecursion (λ (step : ℕ × ℤ). step.0 < length a.rules) steps → AllByRecursion (λ (step : ℕ × ℤ). (pos 1 ≤ℤ step.1) × (step.1 ≤ℤ count_at (counts_of a body) step.0)) steps → AllByRecursion (LineFits a p) (map step_line steps)
+steps_fit : (a : Automaton) (p : Pattern) (body : List ℕ) (steps : List (ℕ × ℤ)) → length body ≤ 2000000
+    → AllByRecursion (λ (step : ℕ × ℤ). step.0 < length a.rules) steps
+    → AllByRecursion (λ (step : ℕ × ℤ). (pos 1 ≤ℤ step.1) × (step.1 ≤ℤ count_at (counts_of a body) step.0)) steps
+    → AllByRecursion (LineFits a p) (map step_line steps)
 steps_fit a p body [] small exist factors = tt
 steps_fit a p body (step ∷ steps) small exist factors =
     let count = count_in a body step.0 exist.0 in
@@ -162,7 +183,8 @@ steps_fit a p body (step ∷ steps) small exist factors =
       steps_fit a p body steps small exist.1 factors.1,
     )
 
-pieces_fit : (a : Automaton) (p : Pattern) → InScope a → (first : List ℤ) (cuts : List CutPiece) (done lines short : List RunLine) → length lines ≤ 2000000 → AllByRecursion (LineFits a p) lines → AreCut a first done lines cuts short → AllByRecursion (LineFits a p) short
+pieces_fit : (a : Automaton) (p : Pattern) → InScope a → (first : List ℤ) (cuts : List CutPiece) (done lines short : List RunLine) → length lines ≤ 2000000
+    → AllByRecursion (LineFits a p) lines → AreCut a first done lines cuts short → AllByRecursion (LineFits a p) short
 pieces_fit a p scope first [] done lines short small fits cut = subst (AllByRecursion (LineFits a p)) (sym cut.1) tt
 pieces_fit a p scope first (piece ∷ cuts) done lines short small fits cut =
     let behind = cut.1 in
@@ -175,8 +197,11 @@ pieces_fit a p scope first (piece ∷ cuts) done lines short small fits cut =
     let two = length-append (units piece.body) piece.kept in
     let three = length-map piece.body unit in
     let w = within a scope piece short cut.3 sh in
-    let more = pieces_fit a p scope first cuts (done ++ lines_in piece) behind cut.3 (omega arith) (each_back (LineFits a p) (lines_in piece) behind all) cut.5 in
-    subst (AllByRecursion (LineFits a p)) (sym sh.is) (each_append (LineFits a p) (map step_line sh.steps) (piece.kept ++ cut.3) (steps_fit a p piece.body sh.steps (omega arith) w.exist w.factors) (each_append (LineFits a p) piece.kept cut.3 kept more))
+    let more = pieces_fit a p scope first cuts (done ++ lines_in piece) behind cut.3 (omega arith) (each_back (LineFits a p) (lines_in piece) behind all) cut.5
+    in
+    subst (AllByRecursion (LineFits a p)) (sym sh.is)
+    (each_append (LineFits a p) (map step_line sh.steps) (piece.kept ++ cut.3) (steps_fit a p piece.body sh.steps (omega arith) w.exist w.factors)
+    (each_append (LineFits a p) piece.kept cut.3 kept more))
 
 pub short_fits : (file : File) (run short : Run) → InScope file.automaton → Fits file run → IsSmallReplay file run → CompressOf file run short → Fits file short
 short_fits file run short scope fits admitted c =
@@ -196,5 +221,6 @@ short_fits file run short scope fits admitted c =
       parameters_natural = subst (AllByRecursion Value) (sym c.parameters) fits.parameters_natural;
       counts = ap (λ (xs : List ℤ). length xs) c.counts ∙ fits.counts;
       counts_natural = subst (AllByRecursion Value) (sym c.counts) fits.counts_natural;
-      lines = pieces_fit a fits.pattern scope cut.first cut.pieces [] (unfolded front) short.lines (omega arith) (unfold_fits a fits.pattern front (each_take (LineFits a fits.pattern) cut.n run.lines fits.lines)) cut.cut;
+      lines = pieces_fit a fits.pattern scope cut.first cut.pieces [] (unfolded front) short.lines (omega arith)
+          (unfold_fits a fits.pattern front (each_take (LineFits a fits.pattern) cut.n run.lines fits.lines)) cut.cut;
     }

@@ -1,5 +1,6 @@
 -- the last mark so far
-use Rattle.ta_compress.proofs.Common.{◌≡◌, ◌⊎◌, inl, inr, ℕ, ◌+◌, ◌<◌, ◌≤◌, List, length, arith, sym, ap, ◌∙◌, refl, slice_get, Some, cases_lt, same_Some, slice_get_within, RunLine, Step, Mark, MarksAt, EndsAtLastMark}
+use Rattle.ta_compress.proofs.Common.{◌≡◌, ◌⊎◌, inl, inr, ℕ, ◌+◌, ◌<◌, ◌≤◌, List, length, arith, sym, ap, ◌∙◌, refl, slice_get, Some, cases_lt, same_Some}
+use Rattle.ta_compress.proofs.Common.{slice_get_within, RunLine, Step, Mark, MarksAt, EndsAtLastMark}
 
 -- n lines end with the last mark of the first i lines
 pub record LastSoFar (lines : List RunLine) (i n : ℕ) : Type 0 where
@@ -9,7 +10,8 @@ pub record LastSoFar (lines : List RunLine) (i n : ℕ) : Type 0 where
 pub last_none : (lines : List RunLine) → LastSoFar lines 0 0
 last_none lines = record { ends = inl refl; behind = λ j e b less at. omega arith }
 
-pub last_next : (lines : List RunLine) (i n next : ℕ) (line : RunLine) → LastSoFar lines i n → slice_get lines i ≡ Some line → ((e : ℕ) → line ≡ Mark e → next ≡ i + 1) → (((e : ℕ) → line ≡ Mark e → ⊥) → next ≡ n) → LastSoFar lines (i + 1) next
+pub last_next : (lines : List RunLine) (i n next : ℕ) (line : RunLine) → LastSoFar lines i n → slice_get lines i ≡ Some line
+    → ((e : ℕ) → line ≡ Mark e → next ≡ i + 1) → (((e : ℕ) → line ≡ Mark e → ⊥) → next ≡ n) → LastSoFar lines (i + 1) next
 last_next lines i n next (Mark x) l at marked other =
     let is = marked x refl in
     record { ends = inr (i, x, is, at); behind = λ j e b less there. omega arith }

@@ -1,5 +1,6 @@
 -- unit steps that lead from one configuration to another
-use Rattle.ta_compress.proofs.Common.{◌≡◌, ℕ, zero, suc, ◌+ℤ◌, List, [], ◌∷◌, ◌++◌, length, arith, sym, ap, ◌∙◌, refl, subst, ints, same_Some, Automaton, Pattern, Whole, Config, Steps, At, value_at, total, move_at, change_of, same_model, KeepsEmpty, StepsLead}
+use Rattle.ta_compress.proofs.Common.{◌≡◌, ℕ, zero, suc, ◌+ℤ◌, List, [], ◌∷◌, ◌++◌, length, arith, sym, ap, ◌∙◌, refl, subst, ints, same_Some, Automaton}
+use Rattle.ta_compress.proofs.Common.{Pattern, Whole, Config, Steps, At, value_at, total, move_at, change_of, same_model, KeepsEmpty, StepsLead}
 use Rattle.ta_automaton.specs.Runs.{Step}
 use Rattle.ta_automaton.proofs.Fire.{step_whole, fits_whole}
 
@@ -10,11 +11,13 @@ only_one p c kept (suc k) e at = absurd (cc)
 pub leads_none : (a : Automaton) (p : Pattern) (c : Config) → KeepsEmpty p.empty c → StepsLead a p c [] c
 leads_none a p c kept = record { later = []; steps = tt; ends = refl; kept = only_one p c kept }
 
-one_more : (p : Pattern) (c d : Config) (ds : List Config) → KeepsEmpty p.empty c → ((k : ℕ) (e : Config) → At d ds k e → KeepsEmpty p.empty e) → (k : ℕ) (e : Config) → At c (d ∷ ds) k e → KeepsEmpty p.empty e
+one_more : (p : Pattern) (c d : Config) (ds : List Config) → KeepsEmpty p.empty c → ((k : ℕ) (e : Config) → At d ds k e → KeepsEmpty p.empty e)
+    → (k : ℕ) (e : Config) → At c (d ∷ ds) k e → KeepsEmpty p.empty e
 one_more p c d ds here rest zero e at = subst (KeepsEmpty p.empty) (same_Some c e at) here
 one_more p c d ds here rest (suc k) e at = rest k e at
 
-pub leads_cons : (a : Automaton) (p : Pattern) (c d e : Config) (r : ℕ) (rs : List ℕ) → KeepsEmpty p.empty c → Step a r c d → StepsLead a p d rs e → StepsLead a p c (r ∷ rs) e
+pub leads_cons : (a : Automaton) (p : Pattern) (c d e : Config) (r : ℕ) (rs : List ℕ) → KeepsEmpty p.empty c → Step a r c d → StepsLead a p d rs e
+    → StepsLead a p c (r ∷ rs) e
 leads_cons a p c d e r rs kept step l = record {
   later = d ∷ l.later;
   steps = (step, l.steps);
@@ -29,7 +32,8 @@ pub record First (a : Automaton) (p : Pattern) (c : Config) (r : ℕ) (rs : List
   pub step : Step a r c next
   pub rest : StepsLead a p next rs e
 
-first_of_steps : (a : Automaton) (p : Pattern) (c : Config) (r : ℕ) (rs : List ℕ) (e : Config) (later : List Config) → Steps a c (r ∷ rs) later → At c later (length (r ∷ rs)) e → ((k : ℕ) (x : Config) → At c later k x → KeepsEmpty p.empty x) → First a p c r rs e
+first_of_steps : (a : Automaton) (p : Pattern) (c : Config) (r : ℕ) (rs : List ℕ) (e : Config) (later : List Config) → Steps a c (r ∷ rs) later
+    → At c later (length (r ∷ rs)) e → ((k : ℕ) (x : Config) → At c later k x → KeepsEmpty p.empty x) → First a p c r rs e
 first_of_steps a p c r rs e [] steps ends kept = absurd steps
 first_of_steps a p c r rs e (d ∷ ds) steps ends kept = record {
   next = d;
@@ -69,7 +73,8 @@ leads_whole a p c (r ∷ rs) e w l =
     let f = leads_first a p c r rs e l in
     leads_whole a p f.next rs e (step_whole a r c f.next w f.step) f.rest
 
-pub leads_value : (a : Automaton) (p : Pattern) (c : Config) (rs : List ℕ) (e : Config) → Whole a c → StepsLead a p c rs e → (i : ℕ) → value_at e i ≡ (value_at c i +ℤ total (change_of a i) rs)
+pub leads_value : (a : Automaton) (p : Pattern) (c : Config) (rs : List ℕ) (e : Config) → Whole a c → StepsLead a p c rs e → (i : ℕ)
+    → value_at e i ≡ (value_at c i +ℤ total (change_of a i) rs)
 unfolding total
 leads_value a p c [] e w l i = omega (arith, ints, ap (λ (x : Config). value_at x i) (leads_nowhere a p c e l))
 leads_value a p c (r ∷ rs) e w l i =
@@ -80,7 +85,8 @@ step_same : (a : Automaton) (r : ℕ) (c d e : Config) → Whole a c → Step a 
 step_same a r c d e w s t = same_model a d e (step_whole a r c d w s) (step_whole a r c e w t) (λ i. step_value a r c d w s i ∙ sym (step_value a r c e w t i))
 
 -- steps of the same rules from the same configuration are the same
-pub steps_same : (a : Automaton) (c : Config) (rules : List ℕ) (later other : List Config) → Whole a c → Steps a c rules later → Steps a c rules other → later ≡ other
+pub steps_same : (a : Automaton) (c : Config) (rules : List ℕ) (later other : List Config) → Whole a c → Steps a c rules later → Steps a c rules other
+    → later ≡ other
 steps_same a c [] [] [] w s t = refl
 steps_same a c [] [] (e ∷ es) w s t = absurd t
 steps_same a c [] (d ∷ ds) other w s t = absurd s

@@ -1,5 +1,7 @@
 -- guards that hold before a unit step and behind it
-use Rattle.ta_compress.proofs.Common.{◌≡◌, ◌⊎◌, inl, inr, ℕ, zero, suc, ℤ, List, [], ◌∷◌, arith, sym, refl, subst, slice_get, Some, IsBitSet, at_set, set_at, two_bits, RowHolds, Row, Automaton, Guards, GuardsAre, HoldsThere, MaskAt, SomeDiffers, Switches, Drops, HasFallen, SameGuards}
+use Rattle.ta_compress.proofs.Common.{◌≡◌, ◌⊎◌, inl, inr, ℕ, zero, suc, ℤ, List, [], ◌∷◌, arith, sym, refl, subst, slice_get, Some, IsBitSet, at_set, set_at}
+use Rattle.ta_compress.proofs.Common.{two_bits, RowHolds, Row, Automaton, Guards, GuardsAre, HoldsThere, MaskAt, SomeDiffers, Switches, Drops, HasFallen}
+use Rattle.ta_compress.proofs.Common.{SameGuards}
 use Rattle.std.specs.Int.{bit_at}
 use Rattle.std.proofs.lemmas.Nat.Bits.{same_from_bits}
 use Rattle.ta_counter.proofs.Holdings.{this_row}
@@ -12,8 +14,11 @@ Agree rows f g = (i : ℕ) (row : Row) → slice_get rows i ≡ Some row → (Ro
 differs_later : (row : Row) (rows : List Row) (f g : ℕ → ℤ) → SomeDiffers rows f g → SomeDiffers (row ∷ rows) f g
 differs_later row rows f g s = record { number = suc s.number; row = s.row; named = s.named; differs = s.differs }
 
-agree_more : (row : Row) (rows : List Row) (f g : ℕ → ℤ) → (RowHolds f row → RowHolds g row) → (RowHolds g row → RowHolds f row) → Agree rows f g → Agree (row ∷ rows) f g
-agree_more row rows f g on back all zero other at = (let same : row ≡ other = cc in (λ h. subst (RowHolds g) same (on (subst (RowHolds f) (sym same) h)), λ h. subst (RowHolds f) same (back (subst (RowHolds g) (sym same) h))))
+agree_more : (row : Row) (rows : List Row) (f g : ℕ → ℤ) → (RowHolds f row → RowHolds g row) → (RowHolds g row → RowHolds f row) → Agree rows f g
+    → Agree (row ∷ rows) f g
+agree_more row rows f g on back all zero other at =
+    (let same : row ≡ other = cc in
+    (λ h. subst (RowHolds g) same (on (subst (RowHolds f) (sym same) h)), λ h. subst (RowHolds f) same (back (subst (RowHolds g) (sym same) h))))
 agree_more row rows f g on back all (suc i) other at = all i other at
 
 differ_or : (rows : List Row) (f g : ℕ → ℤ) → SomeDiffers rows f g ⊎ Agree rows f g
@@ -47,20 +52,27 @@ same_mask rows f g m n at there all = same_from_bits m n (λ i. two_bits (bit_at
 
 same_agree : (rows : List Row) (f g : ℕ → ℤ) (m n : ℕ) → MaskAt f rows m → MaskAt g rows n → m ≡ n → SomeDiffers rows f g → ⊥
 same_agree rows f g m n at there same s = elim s.differs [
-  | inl d ↦ d.1 (this_row g rows s.number s.row s.named ((there s.number).0 (subst (λ x. IsBitSet x s.number) same ((at s.number).1 (record { row = s.row; named = s.named; holds = d.0 })))))
-  | inr d ↦ d.0 (this_row f rows s.number s.row s.named ((at s.number).0 (subst (λ x. IsBitSet x s.number) (sym same) ((there s.number).1 (record { row = s.row; named = s.named; holds = d.1 })))))
+  | inl d ↦ d.1 (this_row g rows s.number s.row s.named
+      ((there s.number).0 (subst (λ x. IsBitSet x s.number) same ((at s.number).1 (record { row = s.row; named = s.named; holds = d.0 })))))
+  | inr d ↦ d.0 (this_row f rows s.number s.row s.named
+      ((at s.number).0 (subst (λ x. IsBitSet x s.number) (sym same) ((there s.number).1 (record { row = s.row; named = s.named; holds = d.1 })))))
 ]
 
 pub same_still : (a : Automaton) (f g : ℕ → ℤ) (before now : Guards) → GuardsAre a f before → GuardsAre a g now → SameGuards before now → Switches a f g → ⊥
 same_still a f g before now at there same (inl s) = same_agree a.rise f g before.rise now.rise at.rise there.rise same.0 s
 same_still a f g before now at there same (inr s) = same_agree a.fall f g before.fall now.fall at.fall there.fall same.1 s
 
-pub other_switches : (a : Automaton) (f g : ℕ → ℤ) (before now : Guards) → GuardsAre a f before → GuardsAre a g now → (SameGuards before now → ⊥) → Switches a f g
+pub other_switches : (a : Automaton) (f g : ℕ → ℤ) (before now : Guards) → GuardsAre a f before → GuardsAre a g now → (SameGuards before now → ⊥)
+    → Switches a f g
 other_switches a f g before now at there other = elim (differ_or a.rise f g) [
   | inl s ↦ inl s
   | inr rise ↦ elim (differ_or a.fall f g) [
     | inl s ↦ inr s
-    | inr fall ↦ absurd (other (same_mask a.rise f g before.rise now.rise at.rise there.rise rise, same_mask a.fall f g before.fall now.fall at.fall there.fall fall))
+    | inr fall ↦ absurd (other (
+      same_mask a.rise f g before.rise now.rise at.rise there.rise rise,
+      same_mask a.fall f g before.fall now.fall at.fall there.fall
+          fall,
+    ))
   ]
 ]
 

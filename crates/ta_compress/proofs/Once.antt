@@ -1,5 +1,7 @@
 -- A run is refused in one way.
-use Rattle.ta_compress.proofs.Common.{◌≡◌, inl, inr, ℕ, ◌<◌, ℤ, List, arith, refl, sym, ap, ◌∙◌, subst, fun_ext, cases_order, point_of, Automaton, File, GuardsStay, StartsAt, Run, Fits, run_line_number, CompressFault, Replay, TooManySteps, Memory, CompressFaultOf, GuardsOutOfRangeAt, GuardsOutOfRangeFirstIn}
+use Rattle.ta_compress.proofs.Common.{◌≡◌, inl, inr, ℕ, ◌<◌, ℤ, List, arith, refl, sym, ap, ◌∙◌, subst, fun_ext, cases_order, point_of, Automaton, File}
+use Rattle.ta_compress.proofs.Common.{GuardsStay, StartsAt, Run, Fits, run_line_number, CompressFault, Replay, TooManySteps, Memory, CompressFaultOf}
+use Rattle.ta_compress.proofs.Common.{GuardsOutOfRangeAt, GuardsOutOfRangeFirstIn}
 use Rattle.std.specs.Prelude.{◌≢◌}
 use Rattle.ta_replay.specs.declared.fault.RunFault.TheVariants as runs
 use Rattle.ta_replay.proofs.OneRefusal.{one_refusal}
@@ -27,7 +29,8 @@ leave_once a run m n one (inl s) (inr t) = absurd (s.1.leaves (subst (GuardsStay
 leave_once a run m n one (inr s) (inl t) = absurd (t.1.leaves (subst (GuardsStay a) (fun_ext (one s.2.first t.1.first s.2.starts t.1.starts)) s.2.at_start))
 leave_once a run m n one (inr s) (inr t) = s.1 ∙ ap (run_line_number a) (first_once a run s.0 t.0 one s.2 t.2) ∙ sym t.1
 
-one_way : (file : File) (run : Run) (e f : CompressFault) → e ≢ Memory → f ≢ Memory → Fits file run → CompressFaultOf file run e → CompressFaultOf file run f → e ≡ f
+one_way : (file : File) (run : Run) (e f : CompressFault) → e ≢ Memory → f ≢ Memory → Fits file run → CompressFaultOf file run e → CompressFaultOf file run f
+    → e ≡ f
 one_way file run (Replay d) (Replay g) some other fits (inl r) (inl s) = ap Replay (one_refusal file run d g fits r.first s.first)
 one_way file run (Replay d) (Replay g) some other fits (inl r) (inr s) = absurd (r.not_replayed s.replayed)
 one_way file run (Replay d) (Replay g) some other fits (inr r) (inl s) = absurd (s.not_replayed r.replayed)

@@ -1,5 +1,8 @@
 -- runs that tell the same show the same
-use Rattle.ta_compress.proofs.Common.{◌≡◌, inl, inr, ℕ, zero, suc, ◌+◌, ◌<◌, ◌≤◌, ℤ, List, [], ◌∷◌, ◌++◌, length, take, replicate, unsigned_abs, arith, sym, ap, ◌∙◌, refl, subst, slice_get, Some, length-append, length-replicate, cases_lt, same_Some, Automaton, Pattern, Whole, Config, Steps, At, Holds, KeepsEmpty, Run, RunLine, Step, Mark, unit_steps, steps_before, marks_count, MarksAt, IsFirstConfig, ShowsPattern, run_length, StepsLead, LinesTell, neither_below}
+use Rattle.ta_compress.proofs.Common.{◌≡◌, inl, inr, ℕ, zero, suc, ◌+◌, ◌<◌, ◌≤◌, ℤ, List, [], ◌∷◌, ◌++◌, length, take, replicate, unsigned_abs, arith, sym, ap}
+use Rattle.ta_compress.proofs.Common.{◌∙◌, refl, subst, slice_get, Some, length-append, length-replicate, cases_lt, same_Some, Automaton, Pattern, Whole}
+use Rattle.ta_compress.proofs.Common.{Config, Steps, At, Holds, KeepsEmpty, Run, RunLine, Step, Mark, unit_steps, steps_before, marks_count, MarksAt}
+use Rattle.ta_compress.proofs.Common.{IsFirstConfig, ShowsPattern, run_length, StepsLead, LinesTell, neither_below}
 use Rattle.ta_replay.proofs.Paths.{steps-append, at_further, at_either}
 use Rattle.ta_compress.proofs.Leading.{steps_same, only_one}
 
@@ -38,16 +41,19 @@ path_none a p c tale kept none = record {
 }
 
 -- the place of a moment behind some steps
-further : (a : Automaton) (p : Pattern) (c : Config) (r : ℕ) (k : ℤ) (d : Config) (l : StepsLead a p c (replicate (unsigned_abs k) r) d) (lines : List RunLine) (more : List Config) (i : ℕ) (e : Config) → At d more (steps_before lines i) e → At c (l.later ++ more) (steps_before (Step r k ∷ lines) (suc i)) e
+further : (a : Automaton) (p : Pattern) (c : Config) (r : ℕ) (k : ℤ) (d : Config) (l : StepsLead a p c (replicate (unsigned_abs k) r) d) (lines : List RunLine)
+    (more : List Config) (i : ℕ) (e : Config) → At d more (steps_before lines i) e → At c (l.later ++ more) (steps_before (Step r k ∷ lines) (suc i)) e
 further a p c r k d l lines more i e at =
     let n = unsigned_abs k in
     let count = run_length a c (replicate n r) l.later l.steps in
     let long = length-replicate n r in
     let ends : At c l.later (length l.later) d = subst (λ m. At c l.later m d) (sym count) l.ends in
-    let place : length l.later + steps_before lines i ≡ steps_before (Step r k ∷ lines) (suc i) = omega (arith, count, long, length-append (replicate n r) (unit_steps (take i lines))) in
+    let place : length l.later + steps_before lines i ≡ steps_before (Step r k ∷ lines) (suc i) = omega
+    (arith, count, long, length-append (replicate n r) (unit_steps (take i lines))) in
     subst (λ m. At c (l.later ++ more) m e) place (at_further c l.later d more (steps_before lines i) e ends at)
 
-path_step : (a : Automaton) (p : Pattern) (c : Config) (r : ℕ) (k : ℤ) (d : Config) (lines : List RunLine) (tale : List (ℕ × Config)) → StepsLead a p c (replicate (unsigned_abs k) r) d → Path a p d lines tale → Path a p c (Step r k ∷ lines) tale
+path_step : (a : Automaton) (p : Pattern) (c : Config) (r : ℕ) (k : ℤ) (d : Config) (lines : List RunLine) (tale : List (ℕ × Config))
+    → StepsLead a p c (replicate (unsigned_abs k) r) d → Path a p d lines tale → Path a p c (Step r k ∷ lines) tale
 path_step a p c r k d lines tale l rest =
     let n = unsigned_abs k in
     let count = run_length a c (replicate n r) l.later l.steps in
@@ -57,15 +63,20 @@ path_step a p c r k d lines tale l rest =
       steps = steps-append a c (replicate n r) l.later d (unit_steps lines) rest.later l.steps l.ends rest.steps;
       kept = λ j e at. elim (at_either c l.later d rest.later j e ends at) [ inl here ↦ l.kept j e here | inr there ↦ rest.kept there.0 e there.1 ];
       told = told_behind a p c r k d l lines rest.later tale rest.told;
-      line = λ j e x at. (let o = rest.line j e x at in record { line = suc o.line; marked = o.marked; place = o.place; there = further a p c r k d l lines rest.later o.line x o.there });
+      line = λ j e x at. (let o = rest.line j e x at in record
+          { line = suc o.line; marked = o.marked; place = o.place; there = further a p c r k d l lines rest.later o.line x o.there });
     } where
-      told_behind : (a : Automaton) (p : Pattern) (c : Config) (r : ℕ) (k : ℤ) (d : Config) (l : StepsLead a p c (replicate (unsigned_abs k) r) d) (lines : List RunLine) (more : List Config) (tale : List (ℕ × Config)) → ((i e : ℕ) → MarksAt lines i e → ToldAt lines d more tale i e) → (i e : ℕ) → MarksAt (Step r k ∷ lines) i e → ToldAt (Step r k ∷ lines) c (l.later ++ more) tale i e
+      told_behind : (a : Automaton) (p : Pattern) (c : Config) (r : ℕ) (k : ℤ) (d : Config) (l : StepsLead a p c (replicate (unsigned_abs k) r) d)
+          (lines : List RunLine) (more : List Config) (tale : List (ℕ × Config)) → ((i e : ℕ) → MarksAt lines i e → ToldAt lines d more tale i e) → (i e : ℕ)
+          → MarksAt (Step r k ∷ lines) i e → ToldAt (Step r k ∷ lines) c (l.later ++ more) tale i e
       told_behind a p c r k d l lines more tale told zero e at = absurd (cc)
       told_behind a p c r k d l lines more tale told (suc i) e at =
           let o = told i e at in
           record { config = o.config; at = o.at; there = further a p c r k d l lines more i o.config o.there }
 
-told_from : (x : ℕ) (c : Config) (lines : List RunLine) (later : List Config) (tale : List (ℕ × Config)) → ((i e : ℕ) → MarksAt lines i e → ToldAt lines c later tale i e) → (i e : ℕ) → MarksAt (Mark x ∷ lines) i e → ToldAt (Mark x ∷ lines) c later ((x, c) ∷ tale) i e
+told_from : (x : ℕ) (c : Config) (lines : List RunLine) (later : List Config) (tale : List (ℕ × Config))
+    → ((i e : ℕ) → MarksAt lines i e → ToldAt lines c later tale i e) → (i e : ℕ) → MarksAt (Mark x ∷ lines) i e
+    → ToldAt (Mark x ∷ lines) c later ((x, c) ∷ tale) i e
 told_from x c lines later tale told zero e at =
     let same : x ≡ e = cc in
     record { config = c; at = ap (λ y. Some (y, c)) same; there = refl }
@@ -74,7 +85,9 @@ told_from x c lines later tale told (suc i) e at =
     let next : suc (marks_before lines i) ≡ marks_before (Mark x ∷ lines) (suc i) = omega arith in
     record { config = o.config; at = subst (λ m. slice_get ((x, c) ∷ tale) m ≡ Some (e, o.config)) next o.at; there = o.there }
 
-line_from : (x : ℕ) (c : Config) (lines : List RunLine) (later : List Config) (tale : List (ℕ × Config)) → ((j e : ℕ) (d : Config) → slice_get tale j ≡ Some (e, d) → LineOf lines c later j e d) → (j e : ℕ) (d : Config) → slice_get ((x, c) ∷ tale) j ≡ Some (e, d) → LineOf (Mark x ∷ lines) c later j e d
+line_from : (x : ℕ) (c : Config) (lines : List RunLine) (later : List Config) (tale : List (ℕ × Config))
+    → ((j e : ℕ) (d : Config) → slice_get tale j ≡ Some (e, d) → LineOf lines c later j e d) → (j e : ℕ) (d : Config)
+    → slice_get ((x, c) ∷ tale) j ≡ Some (e, d) → LineOf (Mark x ∷ lines) c later j e d
 line_from x c lines later tale line zero e d at =
     let item : (x, c) ≡ (e, d) = same_Some (x, c) (e, d) at in
     let event : x ≡ e = ap (λ (i : ℕ × Config). i.0) item in
@@ -84,7 +97,8 @@ line_from x c lines later tale line (suc j) e d at =
     let o = line j e d at in
     record { line = suc o.line; marked = o.marked; place = omega (arith, o.place); there = o.there }
 
-path_mark : (a : Automaton) (p : Pattern) (c : Config) (x : ℕ) (lines : List RunLine) (tale : List (ℕ × Config)) → Path a p c lines tale → Path a p c (Mark x ∷ lines) ((x, c) ∷ tale)
+path_mark : (a : Automaton) (p : Pattern) (c : Config) (x : ℕ) (lines : List RunLine) (tale : List (ℕ × Config)) → Path a p c lines tale
+    → Path a p c (Mark x ∷ lines) ((x, c) ∷ tale)
 path_mark a p c x lines tale rest = record {
   later = rest.later;
   steps = rest.steps;
@@ -93,7 +107,8 @@ path_mark a p c x lines tale rest = record {
   line = line_from x c lines rest.later tale rest.line;
 }
 
-pub path : (a : Automaton) (p : Pattern) (c : Config) (lines : List RunLine) (tale : List (ℕ × Config)) → KeepsEmpty p.empty c → LinesTell a p c lines tale → Path a p c lines tale
+pub path : (a : Automaton) (p : Pattern) (c : Config) (lines : List RunLine) (tale : List (ℕ × Config)) → KeepsEmpty p.empty c → LinesTell a p c lines tale
+    → Path a p c lines tale
 path a p c [] tale kept t = path_none a p c tale kept t
 path a p c (Step r k ∷ lines) tale kept t =
     path_step a p c r k t.0 lines tale t.1 (path a p t.0 lines tale (t.1.kept (length (replicate (unsigned_abs k) r)) t.0 t.1.ends) t.2)
@@ -117,10 +132,12 @@ marks_strict (Step r k ∷ lines) (suc i) (suc j) e at b = marks_strict lines i 
 marks_strict (Mark x ∷ lines) (suc i) (suc j) e at b = omega (arith, marks_strict lines i j e at (omega arith))
 
 same_mark : (lines : List RunLine) (i j e f : ℕ) → MarksAt lines i e → MarksAt lines j f → marks_before lines i ≡ marks_before lines j → i ≡ j
-same_mark lines i j e f at there same = neither_below i j (λ less. omega (arith, marks_strict lines i j e at less)) (λ less. omega (arith, marks_strict lines j i f there less))
+same_mark lines i j e f at there same = neither_below i j (λ less. omega (arith, marks_strict lines i j e at less))
+    (λ less. omega (arith, marks_strict lines j i f there less))
 
 -- a run that tells the same from the same configuration on shows the same
-pub shows_same : (a : Automaton) (p : Pattern) (run other : Run) (s : ShowsPattern a p run) → Whole a s.first → IsFirstConfig a other s.first → (tale : List (ℕ × Config)) → LinesTell a p s.first run.lines tale → LinesTell a p s.first other.lines tale → ShowsPattern a p other
+pub shows_same : (a : Automaton) (p : Pattern) (run other : Run) (s : ShowsPattern a p run) → Whole a s.first → IsFirstConfig a other s.first
+    → (tale : List (ℕ × Config)) → LinesTell a p s.first run.lines tale → LinesTell a p s.first other.lines tale → ShowsPattern a p other
 shows_same a p run other s whole begins tale t u =
     let kept = s.kept_empty 0 s.first refl in
     let old = path a p s.first run.lines tale kept t in

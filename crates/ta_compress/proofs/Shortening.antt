@@ -1,5 +1,10 @@
 -- a run is followed line by line
-use Rattle.ta_compress.proofs.Common.{◌≡◌, inl, inr, ℕ, ◌+◌, ◌<◌, ℤ, pos, List, [], ◌∷◌, ◌++◌, take, drop, unsigned_abs, arith, sym, ap, ◌∙◌, refl, subst, slice_get, Some, append-nil, fun_ext, ints, cases_lt, same_Some, each_at, each_take, point_of, File, Pattern, total, total-append, GuardsStay, StartsAt, RunFault, Run, RunLine, Step, Mark, Fits, LineFits, run_line_number, ValuesAfter, line_change, ShowsPattern, factor_of, factors_sum, FitsPattern, Draft, CompressFault, Replay, TooManySteps, Memory, IsSmallReplay, CompressFaultOf, GuardsStayed, GuardsOutOfRangeIn, AreCut, CutOf, units, EndsAtLastMark, unfolded, value_after, DraftAt, LineKeeps, LineMay, DraftStops, RepeatStops, Room, repeated}
+use Rattle.ta_compress.proofs.Common.{◌≡◌, inl, inr, ℕ, ◌+◌, ◌<◌, ℤ, pos, List, [], ◌∷◌, ◌++◌, take, drop, unsigned_abs, arith, sym, ap, ◌∙◌, refl, subst}
+use Rattle.ta_compress.proofs.Common.{slice_get, Some, append-nil, fun_ext, ints, cases_lt, same_Some, each_at, each_take, point_of, File, Pattern, total}
+use Rattle.ta_compress.proofs.Common.{total-append, GuardsStay, StartsAt, RunFault, Run, RunLine, Step, Mark, Fits, LineFits, run_line_number, ValuesAfter}
+use Rattle.ta_compress.proofs.Common.{line_change, ShowsPattern, factor_of, factors_sum, FitsPattern, Draft, CompressFault, Replay, TooManySteps, Memory}
+use Rattle.ta_compress.proofs.Common.{IsSmallReplay, CompressFaultOf, GuardsStayed, GuardsOutOfRangeIn, AreCut, CutOf, units, EndsAtLastMark, unfolded}
+use Rattle.ta_compress.proofs.Common.{value_after, DraftAt, LineKeeps, LineMay, DraftStops, RepeatStops, Room, repeated}
 use Rattle.ta_replay.specs.declared.fault.RunFault.TheVariants as runs
 use Rattle.ta_compress.proofs.Repeating.{may_repeat}
 use Rattle.ta_compress.proofs.Unfolding.{unfold-next, unfold-value, factors_at, factors_behind, nothing_open}
@@ -24,11 +29,14 @@ pub record Going (file : File) (run : Run) (number : ℕ) (draft : Draft) : Type
   pub room : Room (factors_sum (drop number run.lines)) draft.counts.items
 
 -- the values behind some lines
-reached_values : (file : File) (run : Run) (number : ℕ) (draft : Draft) → Fits file run → (g : Going file run number draft) → (place : ℕ) → point_of draft.config.values.items place ≡ value_after file.automaton g.first (take number run.lines) place
+reached_values : (file : File) (run : Run) (number : ℕ) (draft : Draft) → Fits file run → (g : Going file run number draft) → (place : ℕ)
+    → point_of draft.config.values.items place ≡ value_after file.automaton g.first (take number run.lines) place
 reached_values file run number draft fits g place =
-    g.at.reached place ∙ unfold-value file.automaton fits.pattern g.first (take number run.lines) (each_take (LineFits file.automaton fits.pattern) number run.lines fits.lines) place
+    g.at.reached place ∙ unfold-value file.automaton fits.pattern g.first (take number run.lines)
+    (each_take (LineFits file.automaton fits.pattern) number run.lines fits.lines) place
 
-pub values_there : (file : File) (run : Run) (number : ℕ) (draft : Draft) → Fits file run → Going file run number draft → ValuesAfter file.automaton run (take number run.lines) draft.config.values.items
+pub values_there : (file : File) (run : Run) (number : ℕ) (draft : Draft) → Fits file run → Going file run number draft
+    → ValuesAfter file.automaton run (take number run.lines) draft.config.values.items
 values_there file run number draft fits g = record {
   first = g.first;
   starts = g.starts;
@@ -37,7 +45,8 @@ values_there file run number draft fits g = record {
 }
 
 -- the next line may be followed
-pub may_follow : (file : File) (run : Run) (number : ℕ) (draft : Draft) (line : RunLine) → Fits file run → IsSmallReplay file run → Going file run number draft → slice_get run.lines number ≡ Some line → LineMay file.automaton draft line
+pub may_follow : (file : File) (run : Run) (number : ℕ) (draft : Draft) (line : RunLine) → Fits file run → IsSmallReplay file run → Going file run number draft
+    → slice_get run.lines number ≡ Some line → LineMay file.automaton draft line
 may_follow file run number draft (Mark e) fits admitted g at = tt
 may_follow file run number draft (Step r k) fits admitted g at =
     let a = file.automaton in
@@ -57,12 +66,22 @@ may_follow file run number draft (Step r k) fits admitted g at =
     )
 
 -- a unit step within a line, as a line of its own
-step_value : (file : File) (run : Run) (number : ℕ) (draft : Draft) → Fits file run → (g : Going file run number draft) → (r times : ℕ) (place : ℕ) → repeated file.automaton r draft.config.values.items times place ≡ value_after file.automaton g.first (take number run.lines ++ Step r (pos times) ∷ []) place
+step_value : (file : File) (run : Run) (number : ℕ) (draft : Draft) → Fits file run → (g : Going file run number draft) → (r times : ℕ) (place : ℕ)
+    → repeated file.automaton r draft.config.values.items times place ≡ value_after file.automaton g.first (take number run.lines ++ Step r (pos times) ∷ [])
+    place
 unfolding total
 step_value file run number draft fits g r times place =
-    omega (arith, ints, reached_values file run number draft fits g place, total-append (line_change file.automaton place) (take number run.lines) (Step r (pos times) ∷ []))
+    omega (
+      arith,
+      ints,
+      reached_values file run number draft fits g place,
+      total-append (line_change file.automaton place) (take number run.lines)
+          (Step r (pos times) ∷ []),
+    )
 
-kept_there : (file : File) (run : Run) (number : ℕ) (draft : Draft) (line : RunLine) → Fits file run → (g : Going file run number draft) → slice_get run.lines number ≡ Some line → LineKeeps file.automaton draft.config.values.items line → GuardsOutOfRangeIn file.automaton g.first run.lines number → ⊥
+kept_there : (file : File) (run : Run) (number : ℕ) (draft : Draft) (line : RunLine) → Fits file run → (g : Going file run number draft)
+    → slice_get run.lines number ≡ Some line → LineKeeps file.automaton draft.config.values.items line
+    → GuardsOutOfRangeIn file.automaton g.first run.lines number → ⊥
 kept_there file run number draft (Mark e) fits g at keeps l =
     let same = same_Some (Mark e) (Step l.rule l.factor) (sym at ∙ l.at) in
     absurd (cc)
@@ -72,24 +91,33 @@ kept_there file run number draft (Step r k) fits g at keeps l =
     let factor : k ≡ l.factor = cc in
     let most = l.most in
     let stay = keeps l.times l.some (let e = ap unsigned_abs factor in omega arith) in
-    l.leaves (subst (λ q. GuardsStay file.automaton (value_after file.automaton g.first (take number run.lines ++ Step q (pos l.times) ∷ []))) rule (subst (GuardsStay file.automaton) (fun_ext (step_value file run number draft fits g r l.times)) stay))
+    l.leaves (subst (λ q. GuardsStay file.automaton (value_after file.automaton g.first (take number run.lines ++ Step q (pos l.times) ∷ []))) rule
+    (subst (GuardsStay file.automaton) (fun_ext (step_value file run number draft fits g r l.times)) stay))
 
 -- one line further
-pub going_next : (file : File) (run : Run) (number : ℕ) (old new : Draft) (line : RunLine) → Fits file run → (g : Going file run number old) → slice_get run.lines number ≡ Some line → ((first : List ℤ) (done : List RunLine) → DraftAt file.automaton first done old → DraftAt file.automaton first (done ++ unfolded (line ∷ [])) new) → LineKeeps file.automaton old.config.values.items line → ((more : ℕ) → Room (factor_of line + more) old.counts.items → Room more new.counts.items) → Going file run (number + 1) new
+pub going_next : (file : File) (run : Run) (number : ℕ) (old new : Draft) (line : RunLine) → Fits file run → (g : Going file run number old)
+    → slice_get run.lines number ≡ Some line →
+    ((first : List ℤ) (done : List RunLine) → DraftAt file.automaton first done old → DraftAt file.automaton first (done ++ unfolded (line ∷ [])) new)
+    → LineKeeps file.automaton old.config.values.items line → ((more : ℕ) → Room (factor_of line + more) old.counts.items → Room more new.counts.items)
+    → Going file run (number + 1) new
 going_next file run number old new line fits g at goes keeps room = record {
   first = g.first;
   starts = g.starts;
   at_start = g.at_start;
-  at = subst (λ (ls : List RunLine). DraftAt file.automaton g.first ls new) (sym (unfold-next run.lines number line at)) (goes g.first (unfolded (take number run.lines)) g.at);
+  at = subst (λ (ls : List RunLine). DraftAt file.automaton g.first ls new) (sym (unfold-next run.lines number line at))
+      (goes g.first (unfolded (take number run.lines)) g.at);
   kept = λ i b l. elim (cases_lt i number) [
     | inl less ↦ g.kept i less l
-    | inr more ↦ (let same : i ≡ number = omega arith in kept_there file run number old line fits g at keeps (subst (λ n. GuardsOutOfRangeIn file.automaton g.first run.lines n) same l))
+    | inr more ↦ (let same : i ≡ number = omega arith in kept_there file run number old line fits g at keeps
+        (subst (λ n. GuardsOutOfRangeIn file.automaton g.first run.lines n) same l))
   ];
   room = room (factors_sum (drop (number + 1) run.lines)) (subst (λ n. Room n old.counts.items) (factors_at run.lines number line at) g.room);
 }
 
 -- a line that stops
-pub going_stops : (file : File) (run : Run) (number n : ℕ) (draft : Draft) (line : RunLine) (place : ℕ) (fault : CompressFault) → Fits file run → IsSmallReplay file run → Going file run number draft → EndsAtLastMark run.lines n → number < n → slice_get run.lines number ≡ Some line → place ≡ run_line_number file.automaton number → DraftStops file.automaton draft.config.values.items line place fault → CompressFaultOf file run fault
+pub going_stops : (file : File) (run : Run) (number n : ℕ) (draft : Draft) (line : RunLine) (place : ℕ) (fault : CompressFault) → Fits file run
+    → IsSmallReplay file run → Going file run number draft → EndsAtLastMark run.lines n → number < n → slice_get run.lines number ≡ Some line
+    → place ≡ run_line_number file.automaton number → DraftStops file.automaton draft.config.values.items line place fault → CompressFaultOf file run fault
 going_stops file run number n draft (Mark e) place fault fits admitted g last b at is stops = subst (CompressFaultOf file run) (sym stops) tt
 going_stops file run number n draft (Step r k) place (TooManySteps steps) fits admitted g last b at is stops = absurd stops
 going_stops file run number n draft (Step r k) place Memory fits admitted g last b at is stops = tt
@@ -141,4 +169,5 @@ gone file run n draft last g =
     }
 
 pub gone_stayed : (file : File) (run : Run) (n : ℕ) (draft : Draft) → EndsAtLastMark run.lines n → Going file run n draft → GuardsStayed file.automaton run
-gone_stayed file run n draft last g = record { first = g.first; starts = g.starts; n = n; last_mark = last; at_start = g.at_start; on_the_way = λ i b l. g.kept i b l }
+gone_stayed file run n draft last g = record
+    { first = g.first; starts = g.starts; n = n; last_mark = last; at_start = g.at_start; on_the_way = λ i b l. g.kept i b l }

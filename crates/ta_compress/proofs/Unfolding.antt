@@ -1,25 +1,43 @@
 -- a run unfolded
-use Rattle.ta_compress.proofs.Common.{◌≡◌, inl, inr, ℕ, zero, suc, ◌+◌, ◌≤◌, ℤ, pos, ◌*ℤ◌, List, [], ◌∷◌, ◌++◌, length, take, drop, replicate, unsigned_abs, arith, sym, ap, ◌∙◌, refl, slice_get, Some, append_assoc, length-append, length-replicate, ints, AllByRecursion, each_append, each_copies, abs_natural, one_times, take_next, Automaton, Pattern, rule_change, total, total-append, RunLine, Step, Mark, LineFits, line_change, factor_of, factors_sum, marks_count, InRange, unit, unfolded, value_after, EndsAtLastMark, units, total-replicate}
+use Rattle.ta_compress.proofs.Common.{◌≡◌, inl, inr, ℕ, zero, suc, ◌+◌, ◌≤◌, ℤ, pos, ◌*ℤ◌, List, [], ◌∷◌, ◌++◌, length, take, drop, replicate, unsigned_abs}
+use Rattle.ta_compress.proofs.Common.{arith, sym, ap, ◌∙◌, refl, slice_get, Some, append_assoc, length-append, length-replicate, ints, AllByRecursion}
+use Rattle.ta_compress.proofs.Common.{each_append, each_copies, abs_natural, one_times, take_next, Automaton, Pattern, rule_change, total, total-append}
+use Rattle.ta_compress.proofs.Common.{RunLine, Step, Mark, LineFits, line_change, factor_of, factors_sum, marks_count, InRange, unit, unfolded, value_after}
+use Rattle.ta_compress.proofs.Common.{EndsAtLastMark, units, total-replicate}
 
 pub unfold-append : (xs ys : List RunLine) → unfolded (xs ++ ys) ≡ unfolded xs ++ unfolded ys
 unfold-append [] ys = refl
-unfold-append (Step r k ∷ xs) ys = ap (λ (ls : List RunLine). replicate (unsigned_abs k) (unit r) ++ ls) (unfold-append xs ys) ∙ sym (append_assoc (replicate (unsigned_abs k) (unit r)) (unfolded xs) (unfolded ys))
+unfold-append (Step r k ∷ xs) ys = ap (λ (ls : List RunLine). replicate (unsigned_abs k) (unit r) ++ ls) (unfold-append xs ys)
+    ∙ sym (append_assoc (replicate (unsigned_abs k) (unit r)) (unfolded xs) (unfolded ys))
 unfold-append (Mark e ∷ xs) ys = ap (λ (ls : List RunLine). Mark e ∷ ls) (unfold-append xs ys)
 
-pub unfold-next : (lines : List RunLine) (i : ℕ) (line : RunLine) → slice_get lines i ≡ Some line → unfolded (take (i + 1) lines) ≡ unfolded (take i lines) ++ unfolded (line ∷ [])
+pub unfold-next : (lines : List RunLine) (i : ℕ) (line : RunLine) → slice_get lines i ≡ Some line → unfolded (take (i + 1) lines) ≡ unfolded (take i lines)
+    ++ unfolded (line ∷ [])
 unfold-next lines i line at = ap unfolded (take_next lines i line at) ∙ unfold-append (take i lines) (line ∷ [])
 
 -- unfolding changes no value
-pub unfold-total : (a : Automaton) (p : Pattern) (i : ℕ) (lines : List RunLine) → AllByRecursion (LineFits a p) lines → total (line_change a i) (unfolded lines) ≡ total (line_change a i) lines
+pub unfold-total : (a : Automaton) (p : Pattern) (i : ℕ) (lines : List RunLine) → AllByRecursion (LineFits a p) lines
+    → total (line_change a i) (unfolded lines) ≡ total (line_change a i) lines
 unfolding total
 unfold-total a p i [] fits = refl
 unfold-total a p i (Step r k ∷ lines) fits =
     let some = fits.0.1 in
     let natural : pos (unsigned_abs k) ≡ k = abs_natural k (omega (arith, ints)) in
-    omega (arith, ints, total-append (line_change a i) (replicate (unsigned_abs k) (unit r)) (unfolded lines), total-replicate (line_change a i) (unsigned_abs k) (unit r), ap (λ z. pos (unsigned_abs k) *ℤ z) (one_times (rule_change a (slice_get a.rules r) i)), ap (λ z. z *ℤ rule_change a (slice_get a.rules r) i) natural, unfold-total a p i lines fits.1)
+    omega (
+      arith,
+      ints,
+      total-append (line_change a i) (replicate (unsigned_abs k) (unit r)) (unfolded lines),
+      total-replicate (line_change a i)
+          (unsigned_abs k) (unit r),
+      ap (λ z. pos (unsigned_abs k) *ℤ z) (one_times (rule_change a (slice_get a.rules r) i)),
+      ap
+          (λ z. z *ℤ rule_change a (slice_get a.rules r) i) natural,
+      unfold-total a p i lines fits.1,
+    )
 unfold-total a p i (Mark e ∷ lines) fits = omega (arith, ints, unfold-total a p i lines fits.1)
 
-pub unfold-value : (a : Automaton) (p : Pattern) (first : List ℤ) (lines : List RunLine) → AllByRecursion (LineFits a p) lines → (i : ℕ) → value_after a first (unfolded lines) i ≡ value_after a first lines i
+pub unfold-value : (a : Automaton) (p : Pattern) (first : List ℤ) (lines : List RunLine) → AllByRecursion (LineFits a p) lines → (i : ℕ)
+    → value_after a first (unfolded lines) i ≡ value_after a first lines i
 unfold-value a p first lines fits i = omega (arith, ints, unfold-total a p i lines fits)
 
 one_fits : InRange (pos 1)
@@ -28,7 +46,8 @@ one_fits = omega (arith, ints)
 pub unfold_fits : (a : Automaton) (p : Pattern) (lines : List RunLine) → AllByRecursion (LineFits a p) lines → AllByRecursion (LineFits a p) (unfolded lines)
 unfold_fits a p [] fits = tt
 unfold_fits a p (Step r k ∷ lines) fits =
-    each_append (LineFits a p) (replicate (unsigned_abs k) (unit r)) (unfolded lines) (each_copies (LineFits a p) (unsigned_abs k) (unit r) (fits.0.0, omega (arith, ints), one_fits)) (unfold_fits a p lines fits.1)
+    each_append (LineFits a p) (replicate (unsigned_abs k) (unit r)) (unfolded lines)
+    (each_copies (LineFits a p) (unsigned_abs k) (unit r) (fits.0.0, omega (arith, ints), one_fits)) (unfold_fits a p lines fits.1)
 unfold_fits a p (Mark e ∷ lines) fits = (fits.0, unfold_fits a p lines fits.1)
 
 copies-marks : (k r : ℕ) (lines : List RunLine) → marks_count (replicate k (unit r) ++ lines) ≡ marks_count lines
@@ -47,7 +66,8 @@ front-marks (Step r k ∷ lines) (suc n) = front-marks lines n
 front-marks (Mark e ∷ lines) (suc n) = omega (arith, front-marks lines n)
 
 -- what stands behind a line has its factor less
-pub factors_at : (lines : List RunLine) (i : ℕ) (line : RunLine) → slice_get lines i ≡ Some line → factors_sum (drop i lines) ≡ factor_of line + factors_sum (drop (i + 1) lines)
+pub factors_at : (lines : List RunLine) (i : ℕ) (line : RunLine) → slice_get lines i ≡ Some line
+    → factors_sum (drop i lines) ≡ factor_of line + factors_sum (drop (i + 1) lines)
 factors_at [] i line at = absurd (cc)
 factors_at (x ∷ xs) zero line at = let same : x ≡ line = cc in ap (λ l. factor_of l + factors_sum xs) same
 factors_at (x ∷ xs) (suc i) line at =
@@ -86,7 +106,8 @@ none_open [] (r ∷ rs) is = absurd (cc)
 none_open (w ∷ ws) open_ is = absurd (cc)
 
 -- up to the last mark nothing is open
-pub nothing_open : (lines : List RunLine) (n : ℕ) (written : List RunLine) (open_ : List ℕ) → EndsAtLastMark lines n → unfolded (take n lines) ≡ written ++ units open_ → open_ ≡ []
+pub nothing_open : (lines : List RunLine) (n : ℕ) (written : List RunLine) (open_ : List ℕ) → EndsAtLastMark lines n → unfolded (take n lines) ≡ written
+    ++ units open_ → open_ ≡ []
 nothing_open lines n written open_ last is = elim last.ends [
   | inl none ↦ none_open written open_ (sym (ap (λ k. unfolded (take k lines)) none) ∙ is)
   | inr w ↦ (
@@ -103,5 +124,6 @@ front-factors (x ∷ xs) (suc n) = omega (arith, front-factors xs n)
 
 pub unfold-length : (lines : List RunLine) → length (unfolded lines) ≡ factors_sum lines + marks_count lines
 unfold-length [] = refl
-unfold-length (Step r k ∷ lines) = omega (arith, length-append (replicate (unsigned_abs k) (unit r)) (unfolded lines), length-replicate (unsigned_abs k) (unit r), unfold-length lines)
+unfold-length (Step r k ∷ lines) = omega
+    (arith, length-append (replicate (unsigned_abs k) (unit r)) (unfolded lines), length-replicate (unsigned_abs k) (unit r), unfold-length lines)
 unfold-length (Mark e ∷ lines) = omega (arith, unfold-length lines)

@@ -9,5 +9,6 @@ use Rattle.ta_compress.specs.Faults.{Compressible, CompressFaultOf}
 
 -- a run that fits is refused in at most one way, out of memory aside, and in none if it can be compressed
 pub record CompressFaultsAreDetermined : Type 0 where
-  pub one : (file : File) (run : Run) (e f : CompressFault) → e ≢ Memory → f ≢ Memory → Fits file run → CompressFaultOf file run e → CompressFaultOf file run f → e ≡ f
+  pub one : (file : File) (run : Run) (e f : CompressFault) → e ≢ Memory → f ≢ Memory → Fits file run → CompressFaultOf file run e → CompressFaultOf file run f
+      → e ≡ f
   pub none : (file : File) (run : Run) (e : CompressFault) → e ≢ Memory → Fits file run → Compressible file run → ¬ CompressFaultOf file run e

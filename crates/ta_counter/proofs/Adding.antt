@@ -1,5 +1,6 @@
 -- sums of natural numbers, from left to right
-use Rattle.ta_counter.proofs.Common.{◌≡◌, ℕ, zero, suc, ◌+◌, ◌<◌, ◌≤◌, ◌^◌, ℤ, pos, ◌+ℤ◌, ◌≤ℤ◌, List, [], ◌∷◌, length, drop, arith, ap, refl, subst, get_or, ints, drop_more, drop_all, AllByRecursion, abs_below, InRange, total, Value, sum_of}
+use Rattle.ta_counter.proofs.Common.{◌≡◌, ℕ, zero, suc, ◌+◌, ◌<◌, ◌≤◌, ◌^◌, ℤ, pos, ◌+ℤ◌, ◌≤ℤ◌, List, [], ◌∷◌, length, drop, arith, ap, refl, subst, get_or}
+use Rattle.ta_counter.proofs.Common.{ints, drop_more, drop_all, AllByRecursion, abs_below, InRange, total, Value, sum_of}
 
 -- a natural number that isn't above a number in range is in range
 pub range_below : (x y : ℤ) → pos 0 ≤ℤ x → x ≤ℤ y → InRange y → InRange x
@@ -28,7 +29,8 @@ front_sum : (x : ℤ) (xs : List ℤ) → sum_of (x ∷ xs) ≡ (x +ℤ sum_of x
 unfolding total
 front_sum x xs = refl
 
-pub add_next : (counts : List ℤ) (i : ℕ) (part next : ℤ) → Adding counts part (drop i counts) → i < length counts → InRange (part +ℤ get_or counts i (pos 0)) → next ≡ (part +ℤ get_or counts i (pos 0)) → Adding counts next (drop (i + 1) counts)
+pub add_next : (counts : List ℤ) (i : ℕ) (part next : ℤ) → Adding counts part (drop i counts) → i < length counts → InRange (part +ℤ get_or counts i (pos 0))
+    → next ≡ (part +ℤ get_or counts i (pos 0)) → Adding counts next (drop (i + 1) counts)
 add_next counts i part next h b fits is =
     let split = drop_more counts i (pos 0) b in
     let values : AllByRecursion Value (get_or counts i (pos 0) ∷ drop (i + 1) counts) = subst (AllByRecursion Value) split h.values in
@@ -39,12 +41,15 @@ add_next counts i part next h b fits is =
       whole = omega (arith, ints, h.whole, ap sum_of split, front_sum (get_or counts i (pos 0)) (drop (i + 1) counts));
     }
 
-pub add_leaves : (counts : List ℤ) (i : ℕ) (part : ℤ) → Adding counts part (drop i counts) → i < length counts → ¬ InRange (part +ℤ get_or counts i (pos 0)) → ¬ InRange (sum_of counts)
+pub add_leaves : (counts : List ℤ) (i : ℕ) (part : ℤ) → Adding counts part (drop i counts) → i < length counts → ¬ InRange (part +ℤ get_or counts i (pos 0))
+    → ¬ InRange (sum_of counts)
 add_leaves counts i part h b leaves fits =
     let split = drop_more counts i (pos 0) b in
     let values : AllByRecursion Value (get_or counts i (pos 0) ∷ drop (i + 1) counts) = subst (AllByRecursion Value) split h.values in
-    let whole : ((part +ℤ get_or counts i (pos 0)) +ℤ sum_of (drop (i + 1) counts)) ≡ sum_of counts = omega (arith, ints, h.whole, ap sum_of split, front_sum (get_or counts i (pos 0)) (drop (i + 1) counts)) in
-    leaves (range_below (part +ℤ get_or counts i (pos 0)) (sum_of counts) (omega (arith, ints, (values.0).natural, h.natural)) (omega (arith, ints, sum_natural (drop (i + 1) counts) values.1)) fits)
+    let whole : ((part +ℤ get_or counts i (pos 0)) +ℤ sum_of (drop (i + 1) counts)) ≡ sum_of counts = omega
+    (arith, ints, h.whole, ap sum_of split, front_sum (get_or counts i (pos 0)) (drop (i + 1) counts)) in
+    leaves (range_below (part +ℤ get_or counts i (pos 0)) (sum_of counts) (omega (arith, ints, (values.0).natural, h.natural))
+    (omega (arith, ints, sum_natural (drop (i + 1) counts) values.1)) fits)
 
 nothing : sum_of [] ≡ pos 0
 unfolding total

@@ -1,5 +1,11 @@
 -- firing a rule several times in a row
-use Rattle.ta_counter.proofs.Common.{◌≡◌, ◌≢◌, inl, inr, ℕ, zero, suc, ◌+◌, ◌<◌, ◌≤◌, ℤ, pos, negsuc, ◌+ℤ◌, ◌*ℤ◌, ◌≤ℤ◌, List, [], ◌∷◌, length, replicate, eqb, cond, arith, sym, ap, ◌∙◌, refl, subst, get_or, slice_get, Some, Option, IsBitSet, ints, nat_tests, eqb_tells, same_Some, zero-*ℤ, *ℤ-zero, each_at, one_times, suc_times, times_natural, value_of, RowHolds, Row, Rule, Automaton, FallRow, Config, Step, Steps, MaskedHold, value_at, one_if, location_place, shared_change, rule_change, Later, falls, fall_back, form_same, stays_true, updates_natural, Fits, fits_after, step_later, move_at, one_if-shift, one_if-ne, value_at-location, shared_change-parameter, shared_change-shared, shared_change-location, place_cases, Whole, fire, fire_whole, fire_step, fits_whole, Fires}
+use Rattle.ta_counter.proofs.Common.{◌≡◌, ◌≢◌, inl, inr, ℕ, zero, suc, ◌+◌, ◌<◌, ◌≤◌, ℤ, pos, negsuc, ◌+ℤ◌, ◌*ℤ◌, ◌≤ℤ◌, List, [], ◌∷◌, length, replicate, eqb}
+use Rattle.ta_counter.proofs.Common.{cond, arith, sym, ap, ◌∙◌, refl, subst, get_or, slice_get, Some, Option, IsBitSet, ints, nat_tests, eqb_tells, same_Some}
+use Rattle.ta_counter.proofs.Common.{zero-*ℤ, *ℤ-zero, each_at, one_times, suc_times, times_natural, value_of, RowHolds, Row, Rule, Automaton, FallRow, Config}
+use Rattle.ta_counter.proofs.Common.{Step, Steps, MaskedHold, value_at, one_if, location_place, shared_change, rule_change, Later, falls, fall_back, form_same}
+use Rattle.ta_counter.proofs.Common.{stays_true, updates_natural, Fits, fits_after, step_later, move_at, one_if-shift, one_if-ne, value_at-location}
+use Rattle.ta_counter.proofs.Common.{shared_change-parameter, shared_change-shared, shared_change-location, place_cases, Whole, fire, fire_whole, fire_step}
+use Rattle.ta_counter.proofs.Common.{fits_whole, Fires}
 
 -- so many processes at the source; one is enough for a self-loop
 abbrev pub EnoughAt : Automaton → Rule → ℤ → (ℕ → ℤ) → Type 0
@@ -65,16 +71,21 @@ loop_source a rule same =
     let e = ap (λ l. one_if (location_place a l) (location_place a rule.from)) same in
     omega (arith, ints, e, shared_change-location a rule rule.from)
 
-enough_next : (a : Automaton) (rule : Rule) (k : ℕ) (f g : ℕ → ℤ) → ((i : ℕ) → g i ≡ (f i +ℤ rule_change a (Some rule) i)) → EnoughAt a rule (pos (suc (suc k))) f → EnoughAt a rule (pos (suc k)) g
+enough_next : (a : Automaton) (rule : Rule) (k : ℕ) (f g : ℕ → ℤ) → ((i : ℕ) → g i ≡ (f i +ℤ rule_change a (Some rule) i))
+    → EnoughAt a rule (pos (suc (suc k))) f → EnoughAt a rule (pos (suc k)) g
 enough_next a rule k f g change h = elim (eqb_tells rule.from rule.to) [
-  | inl same ↦ (let was : pos 1 ≤ℤ f (location_place a rule.from) = rw same.0 at h in rw same.0 (omega (arith, ints, change (location_place a rule.from), loop_source a rule same.1)))
-  | inr other ↦ (let was : pos (suc (suc k)) ≤ℤ f (location_place a rule.from) = rw other.0 at h in rw other.0 (omega (arith, ints, change (location_place a rule.from), source_change a rule other.1)))
+  | inl same ↦ (let was : pos 1 ≤ℤ f (location_place a rule.from) = rw same.0 at h in rw same.0
+      (omega (arith, ints, change (location_place a rule.from), loop_source a rule same.1)))
+  | inr other ↦ (let was : pos (suc (suc k)) ≤ℤ f (location_place a rule.from) = rw other.0 at h in rw other.0
+      (omega (arith, ints, change (location_place a rule.from), source_change a rule other.1)))
 ]
 
-enough_before : (a : Automaton) (rule : Rule) (k : ℕ) (f g : ℕ → ℤ) → ((i : ℕ) → g i ≡ (f i +ℤ rule_change a (Some rule) i)) → pos 1 ≤ℤ f (location_place a rule.from) → EnoughAt a rule (pos (suc k)) g → EnoughAt a rule (pos (suc (suc k))) f
+enough_before : (a : Automaton) (rule : Rule) (k : ℕ) (f g : ℕ → ℤ) → ((i : ℕ) → g i ≡ (f i +ℤ rule_change a (Some rule) i))
+    → pos 1 ≤ℤ f (location_place a rule.from) → EnoughAt a rule (pos (suc k)) g → EnoughAt a rule (pos (suc (suc k))) f
 enough_before a rule k f g change one h = elim (eqb_tells rule.from rule.to) [
   | inl same ↦ rw same.0 one
-  | inr other ↦ (let is : pos (suc k) ≤ℤ g (location_place a rule.from) = rw other.0 at h in rw other.0 (omega (arith, ints, change (location_place a rule.from), source_change a rule other.1)))
+  | inr other ↦ (let is : pos (suc k) ≤ℤ g (location_place a rule.from) = rw other.0 at h in rw other.0
+      (omega (arith, ints, change (location_place a rule.from), source_change a rule other.1)))
 ]
 
 enough_one : (a : Automaton) (rule : Rule) (k : ℕ) (f : ℕ → ℤ) → EnoughAt a rule (pos (suc k)) f → pos 1 ≤ℤ f (location_place a rule.from)
@@ -96,14 +107,17 @@ pub record Fired (a : Automaton) (r : ℕ) (rule : Rule) (n : ℕ) (c : Config) 
   pub whole : Whole a after
   pub change : (i : ℕ) → value_at after i ≡ (value_at c i +ℤ (pos n *ℤ rule_change a (Some rule) i))
 
-one_change : (a : Automaton) (r : ℕ) (rule : Rule) (c d : Config) → slice_get a.rules r ≡ Some rule → Fits a c → Fits a d → Step a r c d → (i : ℕ) → value_at d i ≡ (value_at c i +ℤ rule_change a (Some rule) i)
+one_change : (a : Automaton) (r : ℕ) (rule : Rule) (c d : Config) → slice_get a.rules r ≡ Some rule → Fits a c → Fits a d → Step a r c d → (i : ℕ)
+    → value_at d i ≡ (value_at c i +ℤ rule_change a (Some rule) i)
 one_change a r rule c d named f g step i = move_at a r c d f g step i ∙ ap (λ (o : Option Rule). value_at c i +ℤ rule_change a o i) named
 
 some_source : (a : Automaton) (rule : Rule) (c : Config) → Fits a c → pos 1 ≤ℤ value_at c (location_place a rule.from) → 1 ≤ get_or c.counters rule.from 0
 some_source a rule c f h = omega (arith, ints, value_at-location a c rule.from f)
 
 -- the checks of k + 1 firings make them legal
-pub fire_times : (a : Automaton) (r : ℕ) (rule : Rule) → slice_get a.rules r ≡ Some rule → (k : ℕ) (c : Config) → Whole a c → EnoughAt a rule (pos (suc k)) (value_at c) → MaskedHold rule.rise a.rise c → FallAt a rule (after_updates a rule k (value_at c)) → Fired a r rule (suc k) c
+pub fire_times : (a : Automaton) (r : ℕ) (rule : Rule) → slice_get a.rules r ≡ Some rule → (k : ℕ) (c : Config) → Whole a c
+    → EnoughAt a rule (pos (suc k)) (value_at c) → MaskedHold rule.rise a.rise c → FallAt a rule (after_updates a rule k (value_at c))
+    → Fired a r rule (suc k) c
 fire_times a r rule named zero c w enough rise fall =
     let d = fire a rule c in
     let f = fits_whole a c w in
@@ -124,8 +138,10 @@ fire_times a r rule named (suc k) c w enough rise fall =
     let x = fire_whole a rule c w in
     let g = fits_whole a d x in
     let change = one_change a r rule c d named f g step in
-    let still : MaskedHold rule.rise a.rise d = λ i row at bit. stays_true a (value_at c) (value_at d) (step_later a r c d f g step) i row at (rise i row at bit) in
-    let ahead = fall_agree a rule (after_updates a rule (suc k) (value_at c)) (after_updates a rule k (value_at d)) (λ i b. omega (arith, ints, change i, shared_part a rule i b, suc_times k (shared_change a rule i))) fall in
+    let still : MaskedHold rule.rise a.rise d = λ i row at bit. stays_true a (value_at c) (value_at d) (step_later a r c d f g step) i row at
+    (rise i row at bit) in
+    let ahead = fall_agree a rule (after_updates a rule (suc k) (value_at c)) (after_updates a rule k (value_at d))
+    (λ i b. omega (arith, ints, change i, shared_part a rule i b, suc_times k (shared_change a rule i))) fall in
     let rest = fire_times a r rule named k d x (enough_next a rule k (value_at c) (value_at d) change enough) still ahead in
     record {
       after = rest.after;
@@ -143,7 +159,8 @@ pub record Checked (a : Automaton) (rule : Rule) (k : ℕ) (c : Config) : Type 0
 same_rule : (a : Automaton) (r : ℕ) (rule : Rule) (c d : Config) → slice_get a.rules r ≡ Some rule → (step : Step a r c d) → step.rule ≡ rule
 same_rule a r rule c d named step = same_Some step.rule rule (sym step.named ∙ named)
 
-first_source : (a : Automaton) (r : ℕ) (rule : Rule) (c d : Config) → slice_get a.rules r ≡ Some rule → Fits a c → Step a r c d → pos 1 ≤ℤ value_at c (location_place a rule.from)
+first_source : (a : Automaton) (r : ℕ) (rule : Rule) (c d : Config) → slice_get a.rules r ≡ Some rule → Fits a c → Step a r c d
+    → pos 1 ≤ℤ value_at c (location_place a rule.from)
 first_source a r rule c d named f step =
     let same = ap (λ (q : Rule). get_or c.counters q.from 0) (same_rule a r rule c d named step) in
     omega (arith, ints, value_at-location a c rule.from f, step.move.some)
@@ -154,12 +171,14 @@ first_rise a r rule c d named step = subst (λ (q : Rule). MaskedHold q.rise a.r
 first_fall : (a : Automaton) (r : ℕ) (rule : Rule) (c d : Config) → slice_get a.rules r ≡ Some rule → Step a r c d → FallAt a rule (value_at c)
 first_fall a r rule c d named step = subst (λ (q : Rule). MaskedHold q.fall a.fall c) (same_rule a r rule c d named step) step.move.fall
 
-pub steps_checked : (a : Automaton) (r : ℕ) (rule : Rule) → slice_get a.rules r ≡ Some rule → (k : ℕ) (c : Config) (later : List Config) → Fits a c → Steps a c (replicate (suc k) r) later → Checked a rule k c
+pub steps_checked : (a : Automaton) (r : ℕ) (rule : Rule) → slice_get a.rules r ≡ Some rule → (k : ℕ) (c : Config) (later : List Config) → Fits a c
+    → Steps a c (replicate (suc k) r) later → Checked a rule k c
 steps_checked a r rule named k c [] f steps = absurd steps
 steps_checked a r rule named zero c (d ∷ ds) f steps = record {
   enough = one_enough a rule (value_at c) (first_source a r rule c d named f steps.0);
   rise = first_rise a r rule c d named steps.0;
-  fall = fall_agree a rule (value_at c) (after_updates a rule 0 (value_at c)) (λ i b. omega (arith, ints, zero-*ℤ (shared_change a rule i))) (first_fall a r rule c d named steps.0);
+  fall = fall_agree a rule (value_at c) (after_updates a rule 0 (value_at c)) (λ i b. omega (arith, ints, zero-*ℤ (shared_change a rule i)))
+      (first_fall a r rule c d named steps.0);
 }
 steps_checked a r rule named (suc k) c (d ∷ ds) f steps =
     let g = fits_after a r c d f steps.0 in
@@ -168,5 +187,6 @@ steps_checked a r rule named (suc k) c (d ∷ ds) f steps =
     record {
       enough = enough_before a rule k (value_at c) (value_at d) change (first_source a r rule c d named f steps.0) rest.enough;
       rise = first_rise a r rule c d named steps.0;
-      fall = fall_agree a rule (after_updates a rule k (value_at d)) (after_updates a rule (suc k) (value_at c)) (λ i b. omega (arith, ints, change i, shared_part a rule i b, suc_times k (shared_change a rule i))) rest.fall;
+      fall = fall_agree a rule (after_updates a rule k (value_at d)) (after_updates a rule (suc k) (value_at c))
+          (λ i b. omega (arith, ints, change i, shared_part a rule i b, suc_times k (shared_change a rule i))) rest.fall;
     }

@@ -1,5 +1,6 @@
 -- masks of the rows that hold
-use Rattle.ta_counter.proofs.Common.{◌≡◌, ◌⊎◌, inl, inr, ℕ, ◌+◌, ◌<◌, ◌≤◌, ◌↔◌, ℤ, Bool, true, false, List, length, arith, sym, ◌∙◌, refl, subst, slice_get, Some, IsTrue, IsBitSet, Ok, cases_lt, false≢true, same_Some, slice_get_within, StaysInRange, RowHolds, Row, RowAnswer}
+use Rattle.ta_counter.proofs.Common.{◌≡◌, ◌⊎◌, inl, inr, ℕ, ◌+◌, ◌<◌, ◌≤◌, ◌↔◌, ℤ, Bool, true, false, List, length, arith, sym, ◌∙◌, refl, subst, slice_get}
+use Rattle.ta_counter.proofs.Common.{Some, IsTrue, IsBitSet, Ok, cases_lt, false≢true, same_Some, slice_get_within, StaysInRange, RowHolds, Row, RowAnswer}
 use Rattle.ta_counter.specs.Holding.{HoldsThere, MaskAt}
 
 -- a mask names those of the first n rows that hold
@@ -18,7 +19,8 @@ told_holds point row true told holds = refl
 told_holds point row false told holds = absurd (told.fails holds)
 
 -- one more row
-pub mask_more : (point : ℕ → ℤ) (rows : List Row) (n mask next : ℕ) (row : Row) (b : Bool) → slice_get rows n ≡ Some row → RowAnswer point row (Ok b) → MaskBefore point rows n mask → ((i : ℕ) → IsBitSet next i ↔ (IsBitSet mask i ⊎ ((i ≡ n) × IsTrue b))) → MaskBefore point rows (n + 1) next
+pub mask_more : (point : ℕ → ℤ) (rows : List Row) (n mask next : ℕ) (row : Row) (b : Bool) → slice_get rows n ≡ Some row → RowAnswer point row (Ok b)
+    → MaskBefore point rows n mask → ((i : ℕ) → IsBitSet next i ↔ (IsBitSet mask i ⊎ ((i ≡ n) × IsTrue b))) → MaskBefore point rows (n + 1) next
 mask_more point rows n mask next row b at told before is i = (
   λ bit. elim ((is i).0 bit) [
     | inl old ↦ (let w = (before i).0 old in (let l = w.0 in omega arith, w.1))

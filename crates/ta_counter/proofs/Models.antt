@@ -1,5 +1,8 @@
 -- the model's configuration with given values
-use Rattle.ta_counter.proofs.Common.{◌≡◌, ℕ, zero, suc, ◌+◌, ◌<◌, ℤ, pos, List, [], ◌∷◌, length, map, take, drop, sum, arith, sym, ap, ◌∙◌, refl, get_or, length-drop, unsigned_abs, fun_ext, ints, length-map, length-take-le, AllByRecursion, abs_natural, pieces, same_numbers, point_of, Automaton, Config, value_at, total, location_place, Whole, fits_whole, value_at-parameter, value_at-shared, value_at-location, Value, places_of, naturals, model_of, sum_of}
+use Rattle.ta_counter.proofs.Common.{◌≡◌, ℕ, zero, suc, ◌+◌, ◌<◌, ℤ, pos, List, [], ◌∷◌, length, map, take, drop, sum, arith, sym, ap, ◌∙◌, refl, get_or}
+use Rattle.ta_counter.proofs.Common.{length-drop, unsigned_abs, fun_ext, ints, length-map, length-take-le, AllByRecursion, abs_natural, pieces, same_numbers}
+use Rattle.ta_counter.proofs.Common.{point_of, Automaton, Config, value_at, total, location_place, Whole, fits_whole, value_at-parameter, value_at-shared}
+use Rattle.ta_counter.proofs.Common.{value_at-location, Value, places_of, naturals, model_of, sum_of}
 use Rattle.std.proofs.lemmas.List.Sums.{sum_by-cons}
 use Rattle.ta_base.proofs.Lists.{map_three}
 
@@ -13,7 +16,8 @@ pub model_at : (a : Automaton) (v : List ℤ) → AllByRecursion Value v → (i 
 model_at a v h i =
     let p = length a.parameters in
     let s = length a.shared in
-    ap (λ (ns : List ℕ). pos (get_or ns i 0)) (map_three unsigned_abs (take p v) (take s (drop p v)) (drop (p + s) v) ∙ ap naturals (pieces p s v)) ∙ naturals_at v h i
+    ap (λ (ns : List ℕ). pos (get_or ns i 0)) (map_three unsigned_abs (take p v) (take s (drop p v)) (drop (p + s) v) ∙ ap naturals (pieces p s v))
+    ∙ naturals_at v h i
 
 pub model_point : (a : Automaton) (v : List ℤ) → AllByRecursion Value v → value_at (model_of a v) ≡ point_of v
 model_point a v h = fun_ext (model_at a v h)
@@ -28,7 +32,8 @@ model_whole a v same =
       counters = length-map (drop (p + s) v) unsigned_abs ∙ omega (arith, length-drop (p + s) v);
     }
 
-same_parts : (p q s t k l : List ℕ) → p ≡ q → s ≡ t → k ≡ l → ◌≡◌ {A = Config} (record { parameters = p; shared = s; counters = k }) (record { parameters = q; shared = t; counters = l })
+same_parts : (p q s t k l : List ℕ) → p ≡ q → s ≡ t → k ≡ l
+    → ◌≡◌ {A = Config} (record { parameters = p; shared = s; counters = k }) (record { parameters = q; shared = t; counters = l })
 same_parts p q s t k l e f g = rw (e, f, g) refl
 
 -- configurations with a value for each place that agree at each place are the same
@@ -43,7 +48,8 @@ same_model a c d w x h =
     (same_numbers c.shared d.shared (w.shared ∙ sym x.shared) (λ i b.
     let l : i < length a.shared = omega (arith, w.shared) in
     sym (value_at-shared a c i f l) ∙ h (length a.parameters + i) ∙ value_at-shared a d i g l))
-    (same_numbers c.counters d.counters (w.counters ∙ sym x.counters) (λ i b. sym (value_at-location a c i f) ∙ h (location_place a i) ∙ value_at-location a d i g))
+    (same_numbers c.counters d.counters (w.counters ∙ sym x.counters)
+    (λ i b. sym (value_at-location a c i f) ∙ h (location_place a i) ∙ value_at-location a d i g))
 
 pub sum_naturals : (xs : List ℤ) → AllByRecursion Value xs → pos (sum (naturals xs)) ≡ sum_of xs
 unfolding total

@@ -1,5 +1,6 @@
 -- what the tests of rows and conditions say
-use Rattle.ta_counter.proofs.Common.{◌≡◌, ℕ, ℤ, Bool, true, false, List, subst, All, Ok, slice_get-get_or, all_at, RowHolds, Row, Comparison, HoldsAt, RowPasses, RowFails, RowAnswer, RowsAnswer, RowsPass, RowsStop, ConditionPasses, ConditionStopsAt}
+use Rattle.ta_counter.proofs.Common.{◌≡◌, ℕ, ℤ, Bool, true, false, List, subst, All, Ok, slice_get-get_or, all_at, RowHolds, Row, Comparison, HoldsAt}
+use Rattle.ta_counter.proofs.Common.{RowPasses, RowFails, RowAnswer, RowsAnswer, RowsPass, RowsStop, ConditionPasses, ConditionStopsAt}
 use Rattle.ta_automaton.specs.declared.condition.Condition.{Condition}
 
 pub row_passes : (point : ℕ → ℤ) (row : Row) (b : Bool) → RowAnswer point row (Ok b) → b ≡ true → RowPasses point row

@@ -61,7 +61,8 @@ ConditionPasses point condition = AllPass (λ j (comparison : Comparison). RowsP
 -- comparison k stops at a bad row, and each one before it passes
 abbrev pub ConditionStopsAt : (ℕ → ℤ) → (Row → Type 0) → Condition → ℕ → Type 0
 ConditionStopsAt point Bad condition k =
-    StopsAt (λ j (comparison : Comparison). RowsPass point comparison.rows) (λ j (comparison : Comparison). RowsStop point Bad comparison.rows) condition.comparisons k
+    StopsAt (λ j (comparison : Comparison). RowsPass point comparison.rows) (λ j (comparison : Comparison). RowsStop point Bad comparison.rows)
+    condition.comparisons k
 
 -- the first comparison that is false, or none, or an evaluation on the way that leaves the range
 abbrev pub FirstFalse : (ℕ → ℤ) → Condition → Result (Option ℕ) OutOfRange → Type 0

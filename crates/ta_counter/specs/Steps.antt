@@ -1,6 +1,7 @@
 -- Accelerated steps (a rule fires k times in a row), and their checks in order. Source: Konnov, Lazić, Veith, Widder, POPL 2017
 -- (accelerated transitions).
-use Rattle.std.specs.Prelude.{ℕ, ℤ, pos, ◌+◌, ◌≡◌, ◌⊎◌, ◌==◌, ◌+ℤ◌, ◌-ℤ◌, ◌*ℤ◌, ◌≤ℤ◌, List, length, slice_get, replicate, unsigned_abs, if◌then◌else◌, Some, Result, Ok, Err}
+use Rattle.std.specs.Prelude.{ℕ, ℤ, pos, ◌+◌, ◌≡◌, ◌⊎◌, ◌==◌, ◌+ℤ◌, ◌-ℤ◌, ◌*ℤ◌, ◌≤ℤ◌, List, length, slice_get, replicate, unsigned_abs, if◌then◌else◌, Some}
+use Rattle.std.specs.Prelude.{Result, Ok, Err}
 use Rattle.ta_linear.specs.Numbers.{InRange}
 use Rattle.ta_linear.specs.Values.{point_of}
 use Rattle.ta_automaton.specs.declared.rule.Rule.{Rule}
@@ -58,7 +59,9 @@ abbrev pub StepFails : Automaton → Rule → ℤ → List ℤ → StepFault →
 StepFails a rule factor values Count = ¬ Enough a rule factor values
 StepFails a rule factor values (OutOfRange place) =
     Enough a rule factor values
-    × (UpdateOutOfRange a rule factor values place ⊎ (AllGrow a rule factor values × ((guard : ℕ) × (place ≡ places_of a + guard) × BadGuard a rule (point_of values) (before_last a rule factor values) RowOutOfRange guard)))
+    × (UpdateOutOfRange a rule factor values place ⊎
+    (AllGrow a rule factor values ×
+    ((guard : ℕ) × (place ≡ places_of a + guard) × BadGuard a rule (point_of values) (before_last a rule factor values) RowOutOfRange guard)))
 StepFails a rule factor values (Guard guard) =
     Enough a rule factor values × AllGrow a rule factor values × BadGuard a rule (point_of values) (before_last a rule factor values) RowFails guard
 

@@ -1,5 +1,6 @@
 -- what may be asked
-use Rattle.ta_encode.proofs.Common.{◌≡◌, ◌∙◌, sym, refl, ap, subst, cond, false≢true, ℕ, List, Bool, true, false, None, Some, Option, Node, In, Search, MayAsk, Answers, asked, answered, all_or_none, only_extend, [], Automaton, Pattern, Element, is_complete, pattern_search}
+use Rattle.ta_encode.proofs.Common.{◌≡◌, ◌∙◌, sym, refl, ap, subst, cond, false≢true, ℕ, List, Bool, true, false, None, Some, Option, Node, In, Search, MayAsk}
+use Rattle.ta_encode.proofs.Common.{Answers, asked, answered, all_or_none, only_extend, [], Automaton, Pattern, Element, is_complete, pattern_search}
 unfoldable use Rattle.ta_words.specs.Words.{children}
 use Rattle.ta_cert.specs.declared.line.Node.TheVariants as node
 use Rattle.std.specs.Option.{is_some}
@@ -18,13 +19,15 @@ complete_asks_none complete es node.Extend e = rw e refl
 complete_asks_none complete es _ e = refl
 
 -- at a complete word nothing may be asked
-pub none_at_complete : {E : Type 0} (s : Search E) (start : ℕ) (past : List E) (complete : Bool) (es : List E) → IsOfWords s start past complete es → complete ≡ true → (n : Node) → asked s start past n ≡ None
+pub none_at_complete : {E : Type 0} (s : Search E) (start : ℕ) (past : List E) (complete : Bool) (es : List E) → IsOfWords s start past complete es
+    → complete ≡ true → (n : Node) → asked s start past n ≡ None
 none_at_complete s start past complete es h e (node.Leaf ts) = refl
 none_at_complete s start past complete es h e (node.Split unknown floor) = refl
 none_at_complete s start past complete es h e n = h n ∙ complete_asks_none complete es n e
 
 -- at one that isn't, Extend has these answers
-pub asked_at_open : {E : Type 0} (s : Search E) (start : ℕ) (past : List E) (complete : Bool) (es : List E) → IsOfWords s start past complete es → complete ≡ false → asked s start past node.Extend ≡ Some es
+pub asked_at_open : {E : Type 0} (s : Search E) (start : ℕ) (past : List E) (complete : Bool) (es : List E) → IsOfWords s start past complete es
+    → complete ≡ false → asked s start past node.Extend ≡ Some es
 asked_at_open s start past complete es h e = h node.Extend ∙ (rw e refl)
 
 few_answers : {E : Type 0} (complete : Bool) (es : List E) (n : Node) (e : E) → In e (all_or_none (only_extend complete es n)) → In e es
@@ -33,41 +36,49 @@ few_answers false es node.Extend e i = i
 few_answers complete es _ e i = absurd i
 
 -- what answers a node is one of these
-pub answers_in : {E : Type 0} (s : Search E) (start : ℕ) (past : List E) (complete : Bool) (es : List E) → IsOfWords s start past complete es → (n : Node) (e : E) → In e (answered s start past n) → In e es
+pub answers_in : {E : Type 0} (s : Search E) (start : ℕ) (past : List E) (complete : Bool) (es : List E) → IsOfWords s start past complete es
+    → (n : Node) (e : E) → In e (answered s start past n) → In e es
 answers_in s start past complete es h (node.Leaf ts) e i = absurd i
 answers_in s start past complete es h (node.Split unknown floor) e i = absurd i
 answers_in s start past complete es h n e i = few_answers complete es n e (subst (λ (o : Option (List _)). In e (all_or_none o)) (h n) i)
 
-all_answers : {E : Type 0} (complete : Bool) (es : List E) (n : Node) → is_some (only_extend complete es n) ≡ true → all_or_none (only_extend complete es n) ≡ es
+all_answers : {E : Type 0} (complete : Bool) (es : List E) (n : Node) → is_some (only_extend complete es n) ≡ true
+    → all_or_none (only_extend complete es n) ≡ es
 all_answers true es node.Extend may = absurd (false≢true may)
 all_answers false es node.Extend may = refl
 all_answers complete es _ may = absurd (false≢true may)
 
 -- what may be asked has these answers
-pub answers_all : {E : Type 0} (s : Search E) (start : ℕ) (past : List E) (complete : Bool) (es : List E) → IsOfWords s start past complete es → (n : Node) → MayAsk s start past n → answered s start past n ≡ es
+pub answers_all : {E : Type 0} (s : Search E) (start : ℕ) (past : List E) (complete : Bool) (es : List E) → IsOfWords s start past complete es → (n : Node)
+    → MayAsk s start past n → answered s start past n ≡ es
 answers_all s start past complete es h (node.Leaf ts) may = absurd (false≢true may)
 answers_all s start past complete es h (node.Split unknown floor) may = absurd (false≢true may)
 answers_all s start past complete es h n may = ap all_or_none (h n) ∙ all_answers complete es n (sym (ap is_some (h n)) ∙ may)
 
 -- nothing may be asked at a complete word
-pub closed : {E : Type 0} (s : Search E) (start : ℕ) (past : List E) (complete : Bool) (es : List E) → IsOfWords s start past complete es → complete ≡ true → (n : Node) → MayAsk s start past n → ⊥
+pub closed : {E : Type 0} (s : Search E) (start : ℕ) (past : List E) (complete : Bool) (es : List E) → IsOfWords s start past complete es → complete ≡ true
+    → (n : Node) → MayAsk s start past n → ⊥
 closed s start past complete es h e n may = none_asked s start past n may (none_at_complete s start past complete es h e n)
 
 -- each of these answers whatever may be asked
-pub answers_each : {E : Type 0} (s : Search E) (start : ℕ) (past : List E) (complete : Bool) (es : List E) → IsOfWords s start past complete es → (e : E) → In e es → (n : Node) → MayAsk s start past n → In e (answered s start past n)
+pub answers_each : {E : Type 0} (s : Search E) (start : ℕ) (past : List E) (complete : Bool) (es : List E) → IsOfWords s start past complete es → (e : E)
+    → In e es → (n : Node) → MayAsk s start past n → In e (answered s start past n)
 answers_each s start past complete es h e i n may = subst (In e) (sym (answers_all s start past complete es h n may)) i
 
 -- where two searches have the same answers, the same may be asked
-pub asked_same : {E : Type 0} (s t : Search E) (start : ℕ) (past : List E) → ((n : Node) → s.answers start past n ≡ t.answers start past n) → (n : Node) → asked s start past n ≡ asked t start past n
+pub asked_same : {E : Type 0} (s t : Search E) (start : ℕ) (past : List E) → ((n : Node) → s.answers start past n ≡ t.answers start past n) → (n : Node)
+    → asked s start past n ≡ asked t start past n
 asked_same s t start past h (node.Leaf ts) = refl
 asked_same s t start past h (node.Split unknown floor) = refl
 asked_same s t start past h n = h n
 
-pub answers_moved : {E : Type 0} (s t : Search E) (start : ℕ) (past : List E) (e : E) → ((n : Node) → s.answers start past n ≡ t.answers start past n) → Answers s start past e → Answers t start past e
+pub answers_moved : {E : Type 0} (s t : Search E) (start : ℕ) (past : List E) (e : E) → ((n : Node) → s.answers start past n ≡ t.answers start past n)
+    → Answers s start past e → Answers t start past e
 answers_moved s t start past e h a = (a.0, subst (λ (o : Option (List _)). In e (all_or_none o)) (asked_same s t start past h a.0) a.1)
 
 -- a complete word has no child, so the children of a word are what an Extend adds
-pub children_answer : (a : Automaton) (p : Pattern) (pairs : List (ℕ × ℕ)) (start : ℕ) (past : List Element) → answered (pattern_search a p pairs) start past node.Extend ≡ children a p pairs start past
+pub children_answer : (a : Automaton) (p : Pattern) (pairs : List (ℕ × ℕ)) (start : ℕ) (past : List Element)
+    → answered (pattern_search a p pairs) start past node.Extend ≡ children a p pairs start past
 unfolding children
 children_answer a p pairs start past = unless (is_complete p past) _
   where
@@ -75,16 +86,19 @@ children_answer a p pairs start past = unless (is_complete p past) _
     unless true es = refl
     unless false es = refl
 
-pub may_moved : {E : Type 0} (s t : Search E) (start : ℕ) (past : List E) → ((n : Node) → s.answers start past n ≡ t.answers start past n) → (n : Node) → MayAsk s start past n → MayAsk t start past n
+pub may_moved : {E : Type 0} (s t : Search E) (start : ℕ) (past : List E) → ((n : Node) → s.answers start past n ≡ t.answers start past n) → (n : Node)
+    → MayAsk s start past n → MayAsk t start past n
 may_moved s t start past h n may = sym (ap is_some (asked_same s t start past h n)) ∙ may
 
 -- a word at which Extend may not ask is complete
-pub settled_complete : {E : Type 0} (s : Search E) (start : ℕ) (past : List E) (complete : Bool) (es : List E) → IsOfWords s start past complete es → (MayAsk s start past node.Extend → ⊥) → complete ≡ true
+pub settled_complete : {E : Type 0} (s : Search E) (start : ℕ) (past : List E) (complete : Bool) (es : List E) → IsOfWords s start past complete es
+    → (MayAsk s start past node.Extend → ⊥) → complete ≡ true
 settled_complete s start past true es h none = refl
 settled_complete s start past false es h none = absurd (none (ap is_some (asked_at_open s start past false es h refl)))
 
 -- whatever asks, no fact is twice among its answers, where none is twice among these
-pub distinct_answers : {E : Type 0} (s : Search E) (start : ℕ) (past : List E) (complete : Bool) (es : List E) → IsOfWords s start past complete es → Distinct es → (n : Node) → Distinct (answered s start past n)
+pub distinct_answers : {E : Type 0} (s : Search E) (start : ℕ) (past : List E) (complete : Bool) (es : List E) → IsOfWords s start past complete es
+    → Distinct es → (n : Node) → Distinct (answered s start past n)
 distinct_answers s start past complete es h d (node.Leaf ts) = tt
 distinct_answers s start past complete es h d (node.Split unknown floor) = tt
 distinct_answers s start past complete es h d n = subst (λ (o : Option (List _)). Distinct (all_or_none o)) (sym (h n)) (of complete n)
@@ -95,7 +109,8 @@ distinct_answers s start past complete es h d n = subst (λ (o : Option (List _)
     of c _ = tt
 
 -- no other node than Extend may stand there to ask
-pub only_asks : {E : Type 0} (s : Search E) (start : ℕ) (past : List E) (complete : Bool) (es : List E) → IsOfWords s start past complete es → (n : Node) → MayAsk s start past n → n ≡ node.Extend
+pub only_asks : {E : Type 0} (s : Search E) (start : ℕ) (past : List E) (complete : Bool) (es : List E) → IsOfWords s start past complete es → (n : Node)
+    → MayAsk s start past n → n ≡ node.Extend
 only_asks s start past complete es h (node.Leaf ts) may = absurd (false≢true may)
 only_asks s start past complete es h (node.Split unknown floor) may = absurd (false≢true may)
 only_asks s start past complete es h node.Extend may = refl

@@ -1,19 +1,25 @@
 -- leaves and solutions of a system of the code are those of the word
-use Rattle.ta_encode.proofs.Common.{◌≡◌, ℕ, zero, suc, ℤ, pos, ◌*ℤ◌, ◌≤ℤ◌, ◌<ℤ◌, List, [], ◌∷◌, map, length, slice_get, get_or, Option, None, Some, arith, sym, ap, ◌∙◌, refl, subst, All, ints, range_sum-same, coefficient, IsNormal, AllBelow, value_of, RowHolds, Solves, Row, System, Automaton, Pattern, LinearRow, bound_row, word_rows, row_value, AllHold, SolvesWord, Pending, Search, SolvesAt, bounded_rows, pattern_search, linear_coefficient_in, linear_constant_in, IsLeaf, IsRowOf, AreRowsOf, SystemAt, Element}
+use Rattle.ta_encode.proofs.Common.{◌≡◌, ℕ, zero, suc, ℤ, pos, ◌*ℤ◌, ◌≤ℤ◌, ◌<ℤ◌, List, [], ◌∷◌, map, length, slice_get, get_or, Option, None, Some, arith, sym}
+use Rattle.ta_encode.proofs.Common.{ap, ◌∙◌, refl, subst, All, ints, range_sum-same, coefficient, IsNormal, AllBelow, value_of, RowHolds, Solves, Row, System}
+use Rattle.ta_encode.proofs.Common.{Automaton, Pattern, LinearRow, bound_row, word_rows, row_value, AllHold, SolvesWord, Pending, Search, SolvesAt}
+use Rattle.ta_encode.proofs.Common.{bounded_rows, pattern_search, linear_coefficient_in, linear_constant_in, IsLeaf, IsRowOf, AreRowsOf, SystemAt, Element}
 use Rattle.ta_linear.specs.Leaf.{weighted, AreMultipliers, LeafOf, coefficient_in as code_coefficient, constant_in as code_constant}
 use Rattle.ta_linear.proofs.RangeSum.{terms_value-sum}
 use Rattle.ta_encode.proofs.Moments.{AllHold-append, AllHold-left}
 use Rattle.ta_encode.proofs.RowSums.{value_at, combine-range}
 
 -- what two rows have in common, the rows of the code and of the word have at each number
-rows_same : (code : Option Row → ℤ) (word : Option LinearRow → ℤ) → code None ≡ word None → ((l : LinearRow) (r : Row) → IsRowOf l r → code (Some r) ≡ word (Some l)) → (ls : List LinearRow) (rs : List Row) (k : ℕ) → AreRowsOf ls rs → code (slice_get rs k) ≡ word (slice_get ls k)
+rows_same : (code : Option Row → ℤ) (word : Option LinearRow → ℤ) → code None ≡ word None
+    → ((l : LinearRow) (r : Row) → IsRowOf l r → code (Some r) ≡ word (Some l)) → (ls : List LinearRow) (rs : List Row) (k : ℕ) → AreRowsOf ls rs
+    → code (slice_get rs k) ≡ word (slice_get ls k)
 rows_same code word none some [] [] k h = none
 rows_same code word none some (l ∷ ls) (r ∷ rs) zero h = some l r h.0
 rows_same code word none some (l ∷ ls) (r ∷ rs) (suc k) h = rows_same code word none some ls rs k h.1
 rows_same code word none some [] (r ∷ rs) k h = absurd h
 rows_same code word none some (l ∷ ls) [] k h = absurd h
 
-pub coefficient_same : (u : ℕ) (ls : List LinearRow) (rs : List Row) (k : ℕ) → AreRowsOf ls rs → code_coefficient u (slice_get rs k) ≡ linear_coefficient_in u (slice_get ls k)
+pub coefficient_same : (u : ℕ) (ls : List LinearRow) (rs : List Row) (k : ℕ) → AreRowsOf ls rs
+    → code_coefficient u (slice_get rs k) ≡ linear_coefficient_in u (slice_get ls k)
 coefficient_same u = rows_same (code_coefficient u) (linear_coefficient_in u) refl (λ l r is. is.coefficients u)
 
 pub constant_same : (ls : List LinearRow) (rs : List Row) (k : ℕ) → AreRowsOf ls rs → code_constant (slice_get rs k) ≡ linear_constant_in (slice_get ls k)
@@ -26,7 +32,8 @@ rows_count (l ∷ ls) (r ∷ rs) h = ap suc (rows_count ls rs h.1)
 rows_count [] (r ∷ rs) h = absurd h
 rows_count (l ∷ ls) [] h = absurd h
 
-pub weighted_same : {R S : Type 0} (f : Option R → ℤ) (g : Option S → ℤ) (rs : List R) (ls : List S) (ts : List (ℕ × ℤ)) → ((k : ℕ) → f (slice_get rs k) ≡ g (slice_get ls k)) → weighted f rs ts ≡ weighted g ls ts
+pub weighted_same : {R S : Type 0} (f : Option R → ℤ) (g : Option S → ℤ) (rs : List R) (ls : List S) (ts : List (ℕ × ℤ))
+    → ((k : ℕ) → f (slice_get rs k) ≡ g (slice_get ls k)) → weighted f rs ts ≡ weighted g ls ts
 unfolding weighted
 weighted_same f g rs ls [] h = refl
 weighted_same f g rs ls (t ∷ ts) h = omega (arith, ints, ap (λ z. t.1 *ℤ z) (h t.0), weighted_same f g rs ls ts h)
@@ -37,8 +44,11 @@ leaf_of s w system ts is leaf =
     let ls = bounded_rows s w in
     record {
       multipliers = subst (λ (n : ℕ). AreMultipliers 0 n ts) (rows_count ls system.rows is.rows) leaf.multipliers;
-      none_positive = λ u. subst (λ (z : ℤ). z ≤ℤ pos 0) (weighted_same (code_coefficient u) (linear_coefficient_in u) system.rows ls ts (λ k. coefficient_same u ls system.rows k is.rows)) (leaf.none_positive u);
-      negative = subst (λ (z : ℤ). z <ℤ pos 0) (weighted_same code_constant linear_constant_in system.rows ls ts (λ k. constant_same ls system.rows k is.rows)) leaf.negative;
+      none_positive = λ u. subst (λ (z : ℤ). z ≤ℤ pos 0)
+          (weighted_same (code_coefficient u) (linear_coefficient_in u) system.rows ls ts (λ k. coefficient_same u ls system.rows k is.rows))
+          (leaf.none_positive u);
+      negative = subst (λ (z : ℤ). z <ℤ pos 0) (weighted_same code_constant linear_constant_in system.rows ls ts (λ k. constant_same ls system.rows k is.rows))
+          leaf.negative;
     }
 
 -- a leaf of the word's rows is one of the code's system
@@ -47,16 +57,21 @@ leaf_back s w system ts is leaf =
     let ls = bounded_rows s w in
     record {
       multipliers = subst (λ (n : ℕ). AreMultipliers 0 n ts) (sym (rows_count ls system.rows is.rows)) leaf.multipliers;
-      none_positive = λ u. subst (λ (z : ℤ). z ≤ℤ pos 0) (sym (weighted_same (code_coefficient u) (linear_coefficient_in u) system.rows ls ts (λ k. coefficient_same u ls system.rows k is.rows))) (leaf.none_positive u);
-      negative = subst (λ (z : ℤ). z <ℤ pos 0) (sym (weighted_same code_constant linear_constant_in system.rows ls ts (λ k. constant_same ls system.rows k is.rows))) leaf.negative;
+      none_positive = λ u. subst (λ (z : ℤ). z ≤ℤ pos 0)
+          (sym (weighted_same (code_coefficient u) (linear_coefficient_in u) system.rows ls ts (λ k. coefficient_same u ls system.rows k is.rows)))
+          (leaf.none_positive u);
+      negative = subst (λ (z : ℤ). z <ℤ pos 0)
+          (sym (weighted_same code_constant linear_constant_in system.rows ls ts (λ k. constant_same ls system.rows k is.rows))) leaf.negative;
     }
 
 row_same : (vs : List ℕ) (l : LinearRow) (r : Row) → IsNormal 0 (length vs) r.form.terms → IsRowOf l r → row_value vs l ≡ value_of (value_at vs) r.form
 row_same vs l r n is =
-    let each = range_sum-same (λ u. get_or l.coefficients u (pos 0) *ℤ value_at vs u) (λ u. coefficient r.form.terms u *ℤ value_at vs u) (length vs) (λ u b. ap (λ z. z *ℤ value_at vs u) (sym (is.coefficients u))) in
+    let each = range_sum-same (λ u. get_or l.coefficients u (pos 0) *ℤ value_at vs u) (λ u. coefficient r.form.terms u *ℤ value_at vs u) (length vs)
+    (λ u b. ap (λ z. z *ℤ value_at vs u) (sym (is.coefficients u))) in
     omega (arith, ints, combine-range l.coefficients vs, each, terms_value-sum (value_at vs) 0 (length vs) r.form.terms n, is.constant)
 
-rows_hold : (vs : List ℕ) (n : ℕ) (ls : List LinearRow) (rs : List Row) → n ≡ length vs → AllBelow n rs → AreRowsOf ls rs → All (RowHolds (value_at vs)) rs → AllHold vs ls
+rows_hold : (vs : List ℕ) (n : ℕ) (ls : List LinearRow) (rs : List Row) → n ≡ length vs → AllBelow n rs → AreRowsOf ls rs → All (RowHolds (value_at vs)) rs
+    → AllHold vs ls
 rows_hold vs n [] [] e b is h = tt
 rows_hold vs n (l ∷ ls) (r ∷ rs) e b is h =
     let first : pos 0 ≤ℤ value_of (value_at vs) r.form = h 0 r (omega arith) in
@@ -65,7 +80,8 @@ rows_hold vs n (l ∷ ls) (r ∷ rs) e b is h =
 rows_hold vs n [] (r ∷ rs) e b is h = absurd is
 rows_hold vs n (l ∷ ls) [] e b is h = absurd is
 
-rows_back : (vs : List ℕ) (n : ℕ) (ls : List LinearRow) (rs : List Row) → n ≡ length vs → AllBelow n rs → AreRowsOf ls rs → AllHold vs ls → All (RowHolds (value_at vs)) rs
+rows_back : (vs : List ℕ) (n : ℕ) (ls : List LinearRow) (rs : List Row) → n ≡ length vs → AllBelow n rs → AreRowsOf ls rs → AllHold vs ls
+    → All (RowHolds (value_at vs)) rs
 rows_back vs n [] [] e b is h k d c = absurd (omega arith)
 rows_back vs n (l ∷ ls) (r ∷ rs) e b is h zero d c =
     let first : pos 0 ≤ℤ row_value vs l = h.0 in
@@ -90,7 +106,8 @@ solution_back s w system vs is solves = record {
 }
 
 -- a solution with bounds is one without
-pub unbounded : (a : Automaton) (p : Pattern) (pairs : List (ℕ × ℕ)) (w : Pending Element) (vs : List ℕ) → SolvesAt (pattern_search a p pairs) w vs → SolvesWord a p w.start w.past [] vs
+pub unbounded : (a : Automaton) (p : Pattern) (pairs : List (ℕ × ℕ)) (w : Pending Element) (vs : List ℕ) → SolvesAt (pattern_search a p pairs) w vs
+    → SolvesWord a p w.start w.past [] vs
 unbounded a p pairs w vs s = record {
   count = s.count;
   rows_hold = AllHold-append vs (word_rows a p w.start w.past) [] (AllHold-left vs (word_rows a p w.start w.past) (map bound_row w.bounds) s.rows_hold) tt;

@@ -1,5 +1,8 @@
 -- the rows of all counters, unknown by unknown
-use Rattle.ta_encode.proofs.Common.{◌≡◌, ◌≢◌, inl, inr, ℕ, zero, suc, ℤ, pos, negsuc, ◌+◌, ◌<◌, ◌-ℤ◌, List, [], ◌∷◌, ◌++◌, length, map, filter, range_with_len, get_or, Some, Bool, cond, append-nil, cases_Bool, passed_none, passed_one, LinearRow, arith, ints, refl, sym, ap, ◌∙◌, subst, cases_eq, length-map, get_or-map, InRange, Automaton, Rule, Row, Meaning, IsNormal, coefficient, IsRowOf, counter_row, one_if, one_if-ne, one_if-shift, location_place, shared_change-location, rule_change}
+use Rattle.ta_encode.proofs.Common.{◌≡◌, ◌≢◌, inl, inr, ℕ, zero, suc, ℤ, pos, negsuc, ◌+◌, ◌<◌, ◌-ℤ◌, List, [], ◌∷◌, ◌++◌, length, map, filter, range_with_len}
+use Rattle.ta_encode.proofs.Common.{get_or, Some, Bool, cond, append-nil, cases_Bool, passed_none, passed_one, LinearRow, arith, ints, refl, sym, ap, ◌∙◌}
+use Rattle.ta_encode.proofs.Common.{subst, cases_eq, length-map, get_or-map, InRange, Automaton, Rule, Row, Meaning, IsNormal, coefficient, IsRowOf}
+use Rattle.ta_encode.proofs.Common.{counter_row, one_if, one_if-ne, one_if-shift, location_place, shared_change-location, rule_change}
 use Rattle.std.specs.Prelude.{set}
 use Rattle.std.proofs.lemmas.List.{map-set, get_or-set_same, get_or-set_other}
 use Rattle.ta_base.proofs.Totals.{one_if-one}

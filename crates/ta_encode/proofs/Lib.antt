@@ -13,12 +13,12 @@ pub mod Appending
 pub mod Forward
 pub mod Singles
 pub mod Whole
-mod Running
-mod Changes
-mod Sparse
+pub mod Running
+pub mod Changes
+pub mod Sparse
 mod CounterRows
 mod Adding
-mod Smallness
+pub mod Smallness
 mod Masked
 mod Blocks
 mod Combine
@@ -32,7 +32,7 @@ pub mod Segment
 pub mod Values
 mod Unwind
 pub mod Begin
-mod Starts
+pub mod Starts
 pub mod Realize
 pub mod Fallen
 mod Naming
@@ -41,3 +41,12 @@ pub mod SystemsExist
 pub mod Ended
 pub mod SameSystems
 mod Common
+pub mod Beginning
+pub mod Ranges
+pub mod RowCounts
+pub mod FramesKept
+pub mod FramesParts
+mod FramesLeft
+mod FramesShared
+pub mod TreesLeft
+mod CursorCommon

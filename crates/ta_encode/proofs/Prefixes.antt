@@ -1,5 +1,11 @@
 -- the first values of a solution solve the systems of the prefixes
-use Rattle.ta_encode.proofs.Common.{◌≡◌, ℕ, zero, suc, ◌+◌, ◌≤◌, ℤ, pos, ◌+ℤ◌, ◌-ℤ◌, ◌*ℤ◌, List, [], ◌∷◌, ◌++◌, map, length, take, drop, reverse, cond, Bool, true, false, not, eqb, arith, ap, refl, subst, length-append, slice_get, Option, Some, None, length-map, length-take-le, ints, terms_value, Row, Comparison, Automaton, Pattern, has_bit, range_with_len, location_place, Element, Event, Rise, Fall, allowed_rules, has_fallen, Meaning, Single, place_coefficient, start_meanings, meanings, counts_after, singles_after, LinearRow, opposite, negated, form_row, counter_row, counter_rows, condition_rows, guard_rows, start_guard_rows, start_coefficient, processes_row, singles_row, event_rows, standing_rows, start_rows, rise_rows, happening_rows, fall_rows, word_rows, sum_of_products, AllHold, SolvesWord, values_of_prefix}
+use Rattle.ta_encode.proofs.Common.{◌≡◌, ℕ, zero, suc, ◌+◌, ◌≤◌, ℤ, pos, ◌+ℤ◌, ◌-ℤ◌, ◌*ℤ◌, List, [], ◌∷◌, ◌++◌, map, length, take, drop, reverse, cond, Bool}
+use Rattle.ta_encode.proofs.Common.{true, false, not, eqb, arith, ap, refl, subst, length-append, slice_get, Option, Some, None, length-map, length-take-le}
+use Rattle.ta_encode.proofs.Common.{ints, terms_value, Row, Comparison, Automaton, Pattern, has_bit, range_with_len, location_place, Element, Event, Rise, Fall}
+use Rattle.ta_encode.proofs.Common.{allowed_rules, has_fallen, Meaning, Single, place_coefficient, start_meanings, meanings, counts_after, singles_after}
+use Rattle.ta_encode.proofs.Common.{LinearRow, opposite, negated, form_row, counter_row, counter_rows, condition_rows, guard_rows, start_guard_rows}
+use Rattle.ta_encode.proofs.Common.{start_coefficient, processes_row, singles_row, event_rows, standing_rows, start_rows, rise_rows, happening_rows, fall_rows}
+use Rattle.ta_encode.proofs.Common.{word_rows, sum_of_products, AllHold, SolvesWord, values_of_prefix}
 use Rattle.std.specs.List.{filter}
 use Rattle.ta_automaton.specs.declared.pattern.Event.{Event as PatternEvent}
 use Rattle.ta_encode.proofs.Moments.{AllHold-append, AllHold-left}
@@ -37,13 +43,15 @@ form_within a ms (r ∷ rs) = (omega (arith, length-map ms (λ m. terms_value (p
 
 condition_within : (a : Automaton) (ms : List Meaning) (ks : List Comparison) → Within (length ms) (condition_rows a ms ks)
 condition_within a ms [] = tt
-condition_within a ms (k ∷ ks) = Within-append (length ms) (map (λ (r : Row). form_row a ms r.form) k.rows) (condition_rows a ms ks) (form_within a ms k.rows) (condition_within a ms ks)
+condition_within a ms (k ∷ ks) = Within-append (length ms) (map (λ (r : Row). form_row a ms r.form) k.rows) (condition_rows a ms ks) (form_within a ms k.rows)
+    (condition_within a ms ks)
 
 guards_within : (a : Automaton) (ms : List Meaning) (test : ℕ → Bool) (k : ℕ) (rows : List Row) → Within (length ms) (guard_rows a ms test k rows)
 guards_within a ms test k [] = tt
 guards_within a ms test k (r ∷ rs) =
     let rest = guards_within a ms test (k + 1) rs in
-    Within-cond (length ms) (test k) (form_row a ms r.form ∷ guard_rows a ms test (k + 1) rs) (guard_rows a ms test (k + 1) rs) (omega (arith, length-map ms (λ m. terms_value (place_coefficient a m) r.form.terms)), rest) rest
+    Within-cond (length ms) (test k) (form_row a ms r.form ∷ guard_rows a ms test (k + 1) rs) (guard_rows a ms test (k + 1) rs)
+    (omega (arith, length-map ms (λ m. terms_value (place_coefficient a m) r.form.terms)), rest) rest
 
 one_within : (n : ℕ) (b : Bool) (x y : LinearRow) → length x.coefficients ≤ n → length y.coefficients ≤ n → length (cond b x y).coefficients ≤ n
 one_within n true x y h g = h
@@ -70,23 +78,32 @@ start_within a p start =
     let two = length-map ms (λ m. terms_value (place_coefficient a m) a.processes.terms -ℤ start_coefficient m) in
     let three = length-map one.coefficients (λ c. pos 0 -ℤ c) in
     let pair : Within n (one ∷ opposite one ∷ []) = (omega arith, (omega arith, tt)) in
-    Within-append n (condition_rows a ms a.resilience.comparisons) ((one ∷ opposite one ∷ []) ++ (condition_rows a ms p.start.comparisons ++ start_guard_rows a ms start 0 a.fall)) (condition_within a ms a.resilience.comparisons)
+    Within-append n (condition_rows a ms a.resilience.comparisons)
+    ((one ∷ opposite one ∷ []) ++ (condition_rows a ms p.start.comparisons ++ start_guard_rows a ms start 0 a.fall))
+    (condition_within a ms a.resilience.comparisons)
     (Within-append n (one ∷ opposite one ∷ []) (condition_rows a ms p.start.comparisons ++ start_guard_rows a ms start 0 a.fall) pair
-    (Within-append n (condition_rows a ms p.start.comparisons) (start_guard_rows a ms start 0 a.fall) (condition_within a ms p.start.comparisons) (start_guards_within a ms start 0 a.fall)))
+    (Within-append n (condition_rows a ms p.start.comparisons) (start_guard_rows a ms start 0 a.fall) (condition_within a ms p.start.comparisons)
+    (start_guards_within a ms start 0 a.fall)))
 
-happening_within : (a : Automaton) (p : Pattern) (start : ℕ) (past : List Element) (ms : List Meaning) (e : ℕ) → Within (length ms) (happening_rows a p start past ms e)
+happening_within : (a : Automaton) (p : Pattern) (start : ℕ) (past : List Element) (ms : List Meaning) (e : ℕ)
+    → Within (length ms) (happening_rows a p start past ms e)
 unfolding happening_rows
 happening_within a p start past ms e =
-    Within-append (length ms) (counter_rows a p ms) (event_rows a ms (slice_get p.events e) ++ standing_rows a start past ms) (counters_within a ms (filter (λ l. not (has_bit p.empty l)) (range_with_len 0 (length a.locations))))
-    (Within-append (length ms) (event_rows a ms (slice_get p.events e)) (standing_rows a start past ms) (event_within a ms (slice_get p.events e)) (guards_within a ms (λ j. not (has_fallen start past j)) 0 a.fall))
+    Within-append (length ms) (counter_rows a p ms) (event_rows a ms (slice_get p.events e) ++ standing_rows a start past ms)
+    (counters_within a ms (filter (λ l. not (has_bit p.empty l)) (range_with_len 0 (length a.locations))))
+    (Within-append (length ms) (event_rows a ms (slice_get p.events e)) (standing_rows a start past ms) (event_within a ms (slice_get p.events e))
+    (guards_within a ms (λ j. not (has_fallen start past j)) 0 a.fall))
 
 rise_within : (a : Automaton) (p : Pattern) (start : ℕ) (past : List Element) (ms : List Meaning) (i : ℕ) → Within (length ms) (rise_rows a p start past ms i)
 unfolding rise_rows
 rise_within a p start past ms i =
-    Within-append (length ms) (counter_rows a p ms) (guard_rows a ms (λ k. eqb k i) 0 a.rise ++ standing_rows a start past ms) (counters_within a ms (filter (λ l. not (has_bit p.empty l)) (range_with_len 0 (length a.locations))))
-    (Within-append (length ms) (guard_rows a ms (λ k. eqb k i) 0 a.rise) (standing_rows a start past ms) (guards_within a ms (λ k. eqb k i) 0 a.rise) (guards_within a ms (λ j. not (has_fallen start past j)) 0 a.fall))
+    Within-append (length ms) (counter_rows a p ms) (guard_rows a ms (λ k. eqb k i) 0 a.rise ++ standing_rows a start past ms)
+    (counters_within a ms (filter (λ l. not (has_bit p.empty l)) (range_with_len 0 (length a.locations))))
+    (Within-append (length ms) (guard_rows a ms (λ k. eqb k i) 0 a.rise) (standing_rows a start past ms) (guards_within a ms (λ k. eqb k i) 0 a.rise)
+    (guards_within a ms (λ j. not (has_fallen start past j)) 0 a.fall))
 
-fall_within : (a : Automaton) (p : Pattern) (start : ℕ) (past : List Element) (before : List Meaning) (mask : ℕ) → Within (length (before ++ singles_after a p start past)) (fall_rows a p start past before (before ++ singles_after a p start past) mask)
+fall_within : (a : Automaton) (p : Pattern) (start : ℕ) (past : List Element) (before : List Meaning) (mask : ℕ)
+    → Within (length (before ++ singles_after a p start past)) (fall_rows a p start past before (before ++ singles_after a p start past) mask)
 unfolding fall_rows
 fall_within a p start past before mask =
     let al = allowed_rules a p start past in
@@ -121,16 +138,23 @@ word_within a p start [] = start_within a p start
 word_within a p start (Event e ∷ past) =
     let ms = meanings a p start past in
     let end = ms ++ counts_after a p start past in
-    Within-append (length end) (word_rows a p start past) (happening_rows a p start past end e) (Within-more (length ms) (length end) (word_rows a p start past) (omega (arith, length-append ms (counts_after a p start past))) (word_within a p start past)) (happening_within a p start past end e)
+    Within-append (length end) (word_rows a p start past) (happening_rows a p start past end e)
+    (Within-more (length ms) (length end) (word_rows a p start past) (omega (arith, length-append ms (counts_after a p start past)))
+    (word_within a p start past)) (happening_within a p start past end e)
 word_within a p start (Rise i ∷ past) =
     let ms = meanings a p start past in
     let end = ms ++ counts_after a p start past in
-    Within-append (length end) (word_rows a p start past) (rise_rows a p start past end i) (Within-more (length ms) (length end) (word_rows a p start past) (omega (arith, length-append ms (counts_after a p start past))) (word_within a p start past)) (rise_within a p start past end i)
+    Within-append (length end) (word_rows a p start past) (rise_rows a p start past end i)
+    (Within-more (length ms) (length end) (word_rows a p start past) (omega (arith, length-append ms (counts_after a p start past)))
+    (word_within a p start past)) (rise_within a p start past end i)
 word_within a p start (Fall mask ∷ past) =
     let ms = meanings a p start past in
     let before = ms ++ counts_after a p start past in
     let end = before ++ singles_after a p start past in
-    Within-append (length end) (word_rows a p start past) (fall_rows a p start past before end mask) (Within-more (length ms) (length end) (word_rows a p start past) (omega (arith, length-append ms (counts_after a p start past), length-append before (singles_after a p start past))) (word_within a p start past)) (fall_within a p start past before mask)
+    Within-append (length end) (word_rows a p start past) (fall_rows a p start past before end mask)
+    (Within-more (length ms) (length end) (word_rows a p start past)
+    (omega (arith, length-append ms (counts_after a p start past), length-append before (singles_after a p start past))) (word_within a p start past))
+    (fall_within a p start past before mask)
 
 combine-take : (n : ℕ) (cs : List ℤ) (vs : List ℕ) → length cs ≤ n → sum_of_products cs (take n vs) ≡ sum_of_products cs vs
 unfolding sum_of_products
@@ -143,22 +167,31 @@ hold_take : (n : ℕ) (rows : List LinearRow) (vs : List ℕ) → Within n rows 
 hold_take n [] vs w h = tt
 hold_take n (row ∷ rows) vs w h = (let held = h.0 in omega (arith, ints, combine-take n row.coefficients vs w.0), hold_take n rows vs w.1 h.1)
 
-fewer : (a : Automaton) (p : Pattern) (start : ℕ) (e : Element) (past : List Element) → length (meanings a p start past) ≤ length (meanings a p start (e ∷ past))
+fewer : (a : Automaton) (p : Pattern) (start : ℕ) (e : Element) (past : List Element)
+    → length (meanings a p start past) ≤ length (meanings a p start (e ∷ past))
 unfolding meanings
 fewer a p start (Event e) past = omega (arith, length-append (meanings a p start past) (counts_after a p start past))
 fewer a p start (Rise i) past = omega (arith, length-append (meanings a p start past) (counts_after a p start past))
-fewer a p start (Fall mask) past = omega (arith, length-append (meanings a p start past) (counts_after a p start past), length-append (meanings a p start past ++ counts_after a p start past) (singles_after a p start past))
+fewer a p start (Fall mask) past = omega (
+  arith,
+  length-append (meanings a p start past) (counts_after a p start past),
+  length-append (meanings a p start past ++ counts_after a p start past)
+      (singles_after a p start past),
+)
 
 -- a word has no fewer unknowns than its prefixes
-pub prefix_fewer : (a : Automaton) (p : Pattern) (start : ℕ) (past future : List Element) → length (meanings a p start past) ≤ length (meanings a p start (extend past future))
+pub prefix_fewer : (a : Automaton) (p : Pattern) (start : ℕ) (past future : List Element)
+    → length (meanings a p start past) ≤ length (meanings a p start (extend past future))
 prefix_fewer a p start past [] = omega arith
 prefix_fewer a p start past (e ∷ future) = omega (arith, fewer a p start e past, prefix_fewer a p start (e ∷ past) future)
 
-pub prefix_solves : (a : Automaton) (p : Pattern) (start : ℕ) (word : List Element) (vs : List ℕ) → SolvesWord a p start (reverse word) [] vs → (k : ℕ) → SolvesWord a p start (reverse (take k word)) [] (values_of_prefix a p start (take k word) vs)
+pub prefix_solves : (a : Automaton) (p : Pattern) (start : ℕ) (word : List Element) (vs : List ℕ) → SolvesWord a p start (reverse word) [] vs → (k : ℕ)
+    → SolvesWord a p start (reverse (take k word)) [] (values_of_prefix a p start (take k word) vs)
 prefix_solves a p start word vs s k =
     let past = reverse (take k word) in
     let n = length (meanings a p start past) in
-    let less : n ≤ length (meanings a p start (reverse word)) = subst (λ (q : List Element). n ≤ length (meanings a p start q)) (cut_at word k) (prefix_fewer a p start past (drop k word)) in
+    let less : n ≤ length (meanings a p start (reverse word)) = subst (λ (q : List Element). n ≤ length (meanings a p start q)) (cut_at word k)
+    (prefix_fewer a p start past (drop k word)) in
     let rows = prefix_solved a p start word vs (AllHold-left vs (word_rows a p start (reverse word)) [] s.rows_hold) k in
     record {
       count = length-take-le n vs (omega (arith, s.count));

@@ -12,7 +12,11 @@
 --
 -- The first configuration has the values of the parameters and start counts, and is initial by the rows at the start. `unwind` puts
 -- the firings of the elements behind each other. Each event happens at the end of its element, where its condition's rows hold.
-use Rattle.ta_encode.proofs.Common.{◌≡◌, ℕ, ◌<◌, ◌≤◌, List, [], ◌∷◌, ◌++◌, map, length, drop, true, arith, refl, sym, ap, ◌∙◌, subst, slice_get, get_or, Some, length-map, slice_get_within, slice_get-get_or, all_below-at, bit_true, only_item, at_index, RowHolds, Row, Automaton, Pattern, range_with_len, Config, InScope, Steps, value_at, Element, Event, Rise, Fall, LegalWord, allowed_rules, is_complete, has_event, has_rise, Count, start_meanings, meanings, counts_after, place_coefficient, word_rows, fall_rows, AllHold, FiresBefore, FiresFall, WordFires, RunsThrough, position_in, steps_of, Whole, length-range_with_len}
+use Rattle.ta_encode.proofs.Common.{◌≡◌, ℕ, ◌<◌, ◌≤◌, List, [], ◌∷◌, ◌++◌, map, length, drop, true, arith, refl, sym, ap, ◌∙◌, subst, slice_get, get_or, Some}
+use Rattle.ta_encode.proofs.Common.{length-map, slice_get_within, slice_get-get_or, all_below-at, bit_true, only_item, at_index, RowHolds, Row, Automaton}
+use Rattle.ta_encode.proofs.Common.{Pattern, range_with_len, Config, InScope, Steps, value_at, Element, Event, Rise, Fall, LegalWord, allowed_rules}
+use Rattle.ta_encode.proofs.Common.{is_complete, has_event, has_rise, Count, start_meanings, meanings, counts_after, place_coefficient, word_rows, fall_rows}
+use Rattle.ta_encode.proofs.Common.{AllHold, FiresBefore, FiresFall, WordFires, RunsThrough, position_in, steps_of, Whole, length-range_with_len}
 use Rattle.ta_encode.proofs.Moments.{AllHold-left}
 use Rattle.ta_automaton.proofs.Rearranged.{rearrange}
 use Rattle.ta_encode.proofs.Values.{place_value, condition_back, AllHold-right, unfolded, unfolded-total, unfolded-may, allowed_may}
@@ -42,18 +46,22 @@ some_fires a p start past vs scope =
     )
 
 -- the firings of a Fall, whose last one is the rule whose Single is 1
-some_fall : (a : Automaton) (p : Pattern) (start : ℕ) (past : List Element) (mask : ℕ) (vs : List ℕ) → InScope a → AllHold vs (fall_rows a p start past (meanings a p start past ++ counts_after a p start past) (meanings a p start (Fall mask ∷ past)) mask) → (rules : List ℕ) × FiresFall a p start past mask vs rules
+some_fall : (a : Automaton) (p : Pattern) (start : ℕ) (past : List Element) (mask : ℕ) (vs : List ℕ) → InScope a
+    → AllHold vs (fall_rows a p start past (meanings a p start past ++ counts_after a p start past) (meanings a p start (Fall mask ∷ past)) mask)
+    → (rules : List ℕ) × FiresFall a p start past mask vs rules
 some_fall a p start past mask vs scope h =
     let al = allowed_rules a p start past in
     let before = meanings a p start past ++ counts_after a p start past in
-    let one = only_item (unfolded al (drop (length before) vs)) (one_single before al vs (singles_hold a p start past before (meanings a p start (Fall mask ∷ past)) mask vs h)) in
+    let one = only_item (unfolded al (drop (length before) vs))
+    (one_single before al vs (singles_hold a p start past before (meanings a p start (Fall mask ∷ past)) mask vs h)) in
     let front = some_fires a p start past vs scope in (
       front.0 ++ one.0 ∷ [],
       record { front = front.0; last = one.0; cut = refl; fires = front.1; single = single_one a p start past mask vs one.0 one.1 },
     )
 
 -- firings for each element of a word with a solution
-pub some_firings : (a : Automaton) (p : Pattern) (start : ℕ) (past : List Element) (vs : List ℕ) → InScope a → AllHold vs (word_rows a p start past) → (firings : List (List ℕ)) × WordFires a p start past vs firings
+pub some_firings : (a : Automaton) (p : Pattern) (start : ℕ) (past : List Element) (vs : List ℕ) → InScope a → AllHold vs (word_rows a p start past)
+    → (firings : List (List ℕ)) × WordFires a p start past vs firings
 unfolding word_rows
 some_firings a p start [] vs scope h = ([], tt)
 some_firings a p start (Event e ∷ past) vs scope h =
@@ -69,7 +77,9 @@ some_firings a p start (Fall mask ∷ past) vs scope h =
     let rest = some_firings a p start past vs scope (AllHold-left vs (word_rows a p start past) _ h) in
     (one.0 ∷ rest.0, (one.1, rest.1))
 
-pub solution_runs : (a : Automaton) (p : Pattern) → AfterEarlier p → (start : ℕ) (past : List Element) (vs : List ℕ) (firings : List (List ℕ)) → WordFires a p start past vs firings → LegalWord a p start past → is_complete p past ≡ true → AllHold vs (word_rows a p start past) → length (start_meanings a p) ≤ length vs → RunsThrough a p past vs firings
+pub solution_runs : (a : Automaton) (p : Pattern) → AfterEarlier p → (start : ℕ) (past : List Element) (vs : List ℕ) (firings : List (List ℕ))
+    → WordFires a p start past vs firings → LegalWord a p start past → is_complete p past ≡ true → AllHold vs (word_rows a p start past)
+    → length (start_meanings a p) ≤ length vs → RunsThrough a p past vs firings
 solution_runs a p earlier start past vs firings fires legal complete rows enough =
     let c = first_of a p vs in
     let h = first_rows_of a p start vs (begin_rows a p start past vs rows) in
@@ -107,7 +117,8 @@ solution_runs a p earlier start past vs firings fires legal complete rows enough
 
 -- what stands at the end of a solution's run: a configuration with the values of the word's end, where the locations that are to be
 -- kept empty are
-pub record RunEnd (a : Automaton) (p : Pattern) (start : ℕ) (past : List Element) (vs : List ℕ) (firings : List (List ℕ)) (run : RunsThrough a p past vs firings) : Type 0 where
+pub record RunEnd (a : Automaton) (p : Pattern) (start : ℕ) (past : List Element) (vs : List ℕ) (firings : List (List ℕ))
+    (run : RunsThrough a p past vs firings) : Type 0 where
   pub config : Config
   pub there : slice_get (run.first ∷ run.occurs.later) (length (steps_of firings)) ≡ Some config
   pub whole : Whole a config
@@ -115,7 +126,10 @@ pub record RunEnd (a : Automaton) (p : Pattern) (start : ℕ) (past : List Eleme
   pub rises : (i : ℕ) (row : Row) → slice_get a.rise i ≡ Some row → has_rise past i ≡ true → RowHolds (value_at config) row
   pub empty : KeptEmpty p config
 
-pub solution_end : (a : Automaton) (p : Pattern) (earlier : AfterEarlier p) (start : ℕ) (past : List Element) (vs : List ℕ) (firings : List (List ℕ)) (fires : WordFires a p start past vs firings) (legal : LegalWord a p start past) (complete : is_complete p past ≡ true) (rows : AllHold vs (word_rows a p start past)) (enough : length (start_meanings a p) ≤ length vs) → RunEnd a p start past vs firings (solution_runs a p earlier start past vs firings fires legal complete rows enough)
+pub solution_end : (a : Automaton) (p : Pattern) (earlier : AfterEarlier p) (start : ℕ) (past : List Element) (vs : List ℕ) (firings : List (List ℕ))
+    (fires : WordFires a p start past vs firings) (legal : LegalWord a p start past) (complete : is_complete p past ≡ true)
+    (rows : AllHold vs (word_rows a p start past)) (enough : length (start_meanings a p) ≤ length vs)
+    → RunEnd a p start past vs firings (solution_runs a p earlier start past vs firings fires legal complete rows enough)
 unfolding solution_runs
 solution_end a p earlier start past vs firings fires legal complete rows enough =
     let c = first_of a p vs in

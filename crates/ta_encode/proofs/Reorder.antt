@@ -11,7 +11,13 @@
 -- all runs: first a Fall, whose Single is the step that leads there; then the rise guards, in an order that keeps the given pairs,
 -- where a guard that implies another comes behind it; then the events, those of a lower number first. Each new row holds, because
 -- the configuration at its moment meets it. With the last event the word is complete, and what is left of the run is dropped.
-use Rattle.ta_encode.proofs.Common.{◌≡◌, ◌⊎◌, inl, inr, ℕ, zero, suc, ◌+◌, ◌-◌, ◌^◌, ◌<◌, ◌≤◌, pos, ◌≤ℤ◌, ◌<ℤ◌, List, [], ◌∷◌, ◌++◌, length, eqb, true, arith, sym, ap, ◌∙◌, refl, subst, slice_get, get_or, Some, IsBitSet, append-nil, ints, false≢true, cases_Bool, and_from, eq-eqb, eqb-true, or_cases, cases_lt, not_from_false, or_left, or_right, eqb_tells, slice_get_within, slice_get-get_or, same_Some, all_below-at, all_below-from, bit_set, implies-from, each_in, is_negative, negative_false, negative_true, some_at, mask_of-below, In-numbers, in_numbers, value_of, RowHolds, Automaton, Pattern, Config, value_at, Holds, Steps, LoopsPure, Occurs, has_bit, implies, range_with_len, In, Good, IsPair, RiseHolds, Element, Event, Rise, LegalUnder, has_event, has_fallen, has_rise, is_complete, is_due, is_ready, follows, AllHold, word_rows, SolvesWord, EndsAt, total, Fits}
+use Rattle.ta_encode.proofs.Common.{◌≡◌, ◌⊎◌, inl, inr, ℕ, zero, suc, ◌+◌, ◌-◌, ◌^◌, ◌<◌, ◌≤◌, pos, ◌≤ℤ◌, ◌<ℤ◌, List, [], ◌∷◌, ◌++◌, length, eqb, true, arith}
+use Rattle.ta_encode.proofs.Common.{sym, ap, ◌∙◌, refl, subst, slice_get, get_or, Some, IsBitSet, append-nil, ints, false≢true, cases_Bool, and_from, eq-eqb}
+use Rattle.ta_encode.proofs.Common.{eqb-true, or_cases, cases_lt, not_from_false, or_left, or_right, eqb_tells, slice_get_within, slice_get-get_or, same_Some}
+use Rattle.ta_encode.proofs.Common.{all_below-at, all_below-from, bit_set, implies-from, each_in, is_negative, negative_false, negative_true, some_at}
+use Rattle.ta_encode.proofs.Common.{mask_of-below, In-numbers, in_numbers, value_of, RowHolds, Automaton, Pattern, Config, value_at, Holds, Steps, LoopsPure}
+use Rattle.ta_encode.proofs.Common.{Occurs, has_bit, implies, range_with_len, In, Good, IsPair, RiseHolds, Element, Event, Rise, LegalUnder, has_event}
+use Rattle.ta_encode.proofs.Common.{has_fallen, has_rise, is_complete, is_due, is_ready, follows, AllHold, word_rows, SolvesWord, EndsAt, total, Fits}
 use Rattle.ta_automaton.specs.declared.pattern.Event.{Event as PatternEvent}
 use Rattle.ta_implied.specs.Orders.{GuardsInOrder, LeadsSome}
 use Rattle.ta_implied.proofs.Implying.{guards_come_after}
@@ -45,18 +51,21 @@ pub record InTurn (a : Automaton) (pairs : List (ℕ × ℕ)) (all : List ℕ) :
   pub within : (i : ℕ) → In i all → i < length a.rise
 
 -- where a guard holds and is the next in such an order, those before it are in the word
-next_due : (a : Automaton) (p : Pattern) (pairs : List (ℕ × ℕ)) (start : ℕ) (origin : List ℕ) (done begun : ℕ → Type 0) (d : Config) (x : ℕ) (xs : List ℕ) → Good a pairs → GuardsInOrder pairs (x ∷ xs) → (g : Stage a p pairs start origin done begun d (x ∷ xs)) → RiseHolds a d x → is_due pairs g.past x ≡ true
-next_due a p pairs start origin done begun d x xs good in_order g holds = due_from pairs g.past x (λ j m. elim (g.rises j (each_in (IsPair a) pairs (j, x) good.pairs_are m).before) [
-  | inl left ↦ absurd (not_left j m left)
-  | inr seen ↦ seen (guards_come_after a pairs good d g.admissible g.state.fits.shared zero j x m holds)
-])
+next_due : (a : Automaton) (p : Pattern) (pairs : List (ℕ × ℕ)) (start : ℕ) (origin : List ℕ) (done begun : ℕ → Type 0) (d : Config) (x : ℕ) (xs : List ℕ)
+    → Good a pairs → GuardsInOrder pairs (x ∷ xs) → (g : Stage a p pairs start origin done begun d (x ∷ xs)) → RiseHolds a d x → is_due pairs g.past x ≡ true
+next_due a p pairs start origin done begun d x xs good in_order g holds = due_from pairs g.past x
+    (λ j m. elim (g.rises j (each_in (IsPair a) pairs (j, x) good.pairs_are m).before) [
+      | inl left ↦ absurd (not_left j m left)
+      | inr seen ↦ seen (guards_come_after a pairs good d g.admissible g.state.fits.shared zero j x m holds)
+    ])
   where
     not_left : (j : ℕ) → In (j, x) pairs → In j (x ∷ xs) → ⊥
     not_left j m (inl e) = good.acyclic zero x (subst (λ k. In (k, x) pairs) e m)
     not_left j m (inr i) = each_in (λ k. LeadsSome pairs k x → ⊥) xs j in_order.0 i (zero, m)
 
 -- what is seen of the guards that are left behind the first
-seen_next : (a : Automaton) (past new : List Element) (d : Config) (x : ℕ) (xs : List ℕ) → Seen a past d (x ∷ xs) → ((i : ℕ) → has_rise past i ≡ true → has_rise new i ≡ true) → (RiseHolds a d x → has_rise new x ≡ true) → Seen a new d xs
+seen_next : (a : Automaton) (past new : List Element) (d : Config) (x : ℕ) (xs : List ℕ) → Seen a past d (x ∷ xs)
+    → ((i : ℕ) → has_rise past i ≡ true → has_rise new i ≡ true) → (RiseHolds a d x → has_rise new x ≡ true) → Seen a new d xs
 seen_next a past new d x xs seen kept own i b = elim (seen i b) [
   | inl (inl e) ↦ inr (λ h. subst (λ k. has_rise new k ≡ true) (sym e) (own (subst (RiseHolds a d) e h)))
   | inl (inr j) ↦ inl j
@@ -64,7 +73,9 @@ seen_next a past new d x xs seen kept own i b = elim (seen i b) [
 ]
 
 -- one rise guard
-next_rise : (a : Automaton) (p : Pattern) (pairs : List (ℕ × ℕ)) (start : ℕ) (origin : List ℕ) (done begun : ℕ → Type 0) (d : Config) (x : ℕ) (xs : List ℕ) → Good a pairs → GuardsInOrder pairs (x ∷ xs) → x < length a.rise → Stage a p pairs start origin done begun d (x ∷ xs) → Stage a p pairs start origin done begun d xs
+next_rise : (a : Automaton) (p : Pattern) (pairs : List (ℕ × ℕ)) (start : ℕ) (origin : List ℕ) (done begun : ℕ → Type 0) (d : Config) (x : ℕ) (xs : List ℕ)
+    → Good a pairs → GuardsInOrder pairs (x ∷ xs) → x < length a.rise → Stage a p pairs start origin done begun d (x ∷ xs)
+    → Stage a p pairs start origin done begun d xs
 unfolding has_event has_rise
 next_rise a p pairs start origin done begun d x xs good in_order b g =
     let w = some_at a.rise x b in
@@ -99,10 +110,12 @@ next_rise a p pairs start origin done begun d x xs good in_order b g =
               vs = g.vs ++ counts_of a p start past g.fired;
               begins = begins_more origin g.vs (counts_of a p start past g.fired) g.begins;
               fired = [];
-              state = push_rise a p pairs start past g.vs g.fired d g.state x w.0 g.more (next_due a p pairs start origin done begun d x xs good in_order g holds) f w.1 (negative_false _ t);
+              state = push_rise a p pairs start past g.vs g.fired d g.state x w.0 g.more
+                  (next_due a p pairs start origin done begun d x xs good in_order g holds) f w.1 (negative_false _ t);
               more = g.more;
               events = g.events;
-              rises = seen_next a past (Rise x ∷ past) d x xs g.rises (λ i u. or_right (eqb x i) (has_rise past i) u) (λ h. or_left (eqb x x) (has_rise past x) (eq-eqb x x refl));
+              rises = seen_next a past (Rise x ∷ past) d x xs g.rises (λ i u. or_right (eqb x i) (has_rise past i) u)
+                  (λ h. or_left (eqb x x) (has_rise past x) (eq-eqb x x refl));
               risen = λ i u. elim (or_cases (eqb x i) (has_rise past i) u) [ inl e ↦ subst (RiseHolds a d) (eqb-true x i e) holds | inr v ↦ g.risen i v ];
               only = g.only;
               admissible = g.admissible;
@@ -110,10 +123,13 @@ next_rise a p pairs start origin done begun d x xs good in_order b g =
       ]
     ]
 
-rises_phase : (a : Automaton) (p : Pattern) (pairs : List (ℕ × ℕ)) (start : ℕ) (origin : List ℕ) (done begun : ℕ → Type 0) (d : Config) (left : List ℕ) → Good a pairs → GuardsInOrder pairs left → ((i : ℕ) → In i left → i < length a.rise) → Stage a p pairs start origin done begun d left → Stage a p pairs start origin done begun d []
+rises_phase : (a : Automaton) (p : Pattern) (pairs : List (ℕ × ℕ)) (start : ℕ) (origin : List ℕ) (done begun : ℕ → Type 0) (d : Config) (left : List ℕ)
+    → Good a pairs → GuardsInOrder pairs left → ((i : ℕ) → In i left → i < length a.rise) → Stage a p pairs start origin done begun d left
+    → Stage a p pairs start origin done begun d []
 rises_phase a p pairs start origin done begun d [] good in_order within g = g
 rises_phase a p pairs start origin done begun d (x ∷ xs) good in_order within g =
-    rises_phase a p pairs start origin done begun d xs good in_order.1 (λ i j. within i (inr j)) (next_rise a p pairs start origin done begun d x xs good in_order (within x (inl refl)) g)
+    rises_phase a p pairs start origin done begun d xs good in_order.1 (λ i j. within i (inr j))
+    (next_rise a p pairs start origin done begun d x xs good in_order (within x (inl refl)) g)
 
 -- the events before a moment, and those at it with a lower number
 abbrev pub Done : Pattern → List ℕ → ℕ → ℕ → ℕ → Type 0
@@ -124,7 +140,10 @@ abbrev pub Begun : List ℕ → ℕ → ℕ → Type 0
 Begun positions k e = get_or positions e 0 ≤ k
 
 -- what stands at the end of a word whose newest event happens at a moment
-ends_here : (a : Automaton) (p : Pattern) (pairs : List (ℕ × ℕ)) (start : ℕ) (configs : List Config) (positions : List ℕ) (k n : ℕ) (older : List Element) (vs : List ℕ) (d : Config) → State a p pairs start (Event n ∷ older) vs [] d → is_complete p (Event n ∷ older) ≡ true → get_or positions n 0 ≡ k → ((e : ℕ) → has_event older e ≡ true → Begun positions k e) → Seen a older d [] → ((i : ℕ) → has_rise older i ≡ true → RiseHolds a d i) → slice_get configs k ≡ Some d → EndsAt a p start (Event n ∷ older) vs configs positions
+ends_here : (a : Automaton) (p : Pattern) (pairs : List (ℕ × ℕ)) (start : ℕ) (configs : List Config) (positions : List ℕ) (k n : ℕ) (older : List Element)
+    (vs : List ℕ) (d : Config) → State a p pairs start (Event n ∷ older) vs [] d → is_complete p (Event n ∷ older) ≡ true → get_or positions n 0 ≡ k
+    → ((e : ℕ) → has_event older e ≡ true → Begun positions k e) → Seen a older d [] → ((i : ℕ) → has_rise older i ≡ true → RiseHolds a d i)
+    → slice_get configs k ≡ Some d → EndsAt a p start (Event n ∷ older) vs configs positions
 unfolding total has_event has_rise
 ends_here a p pairs start configs positions k n older vs d s complete at only rises risen there = record {
   last = n;
@@ -149,7 +168,8 @@ ends_here a p pairs start configs positions k n older vs d s complete at only ri
   );
   fallen = λ j row at_row. (
     (λ holds. elim (cases_Bool (has_fallen start (Event n ∷ older) j)) [
-      | inl t ↦ absurd (let fails : value_of (value_at d) row.form <ℤ pos 0 = s.fallen j row at_row t in let stands : pos 0 ≤ℤ value_of (value_at d) row.form = holds in omega (arith, ints))
+      | inl t ↦ absurd (let fails : value_of (value_at d) row.form <ℤ pos 0 = s.fallen j row at_row t in
+          let stands : pos 0 ≤ℤ value_of (value_at d) row.form = holds in omega (arith, ints))
       | inr f ↦ f
     ]),
     (λ f. s.standing j row at_row f),
@@ -162,12 +182,17 @@ pub record Positions (p : Pattern) (positions : List ℕ) : Type 0 where
   pub earlier : AfterEarlier p
 
 -- one event
-next_event : (a : Automaton) (p : Pattern) (pairs : List (ℕ × ℕ)) (start : ℕ) (origin : List ℕ) (configs : List Config) (positions : List ℕ) (k : ℕ) (d : Config) (n : ℕ) → slice_get configs k ≡ Some d → Positions p positions → ((e : ℕ) (event : PatternEvent) → slice_get p.events e ≡ Some event → get_or positions e 0 ≡ k → Holds event.condition d) → n < length p.events → Stage a p pairs start origin (Done p positions k n) (Begun positions k) d [] → Found a p pairs start origin configs positions ⊎ Stage a p pairs start origin (Done p positions k (n + 1)) (Begun positions k) d []
+next_event : (a : Automaton) (p : Pattern) (pairs : List (ℕ × ℕ)) (start : ℕ) (origin : List ℕ) (configs : List Config) (positions : List ℕ) (k : ℕ)
+    (d : Config) (n : ℕ) → slice_get configs k ≡ Some d → Positions p positions
+    → ((e : ℕ) (event : PatternEvent) → slice_get p.events e ≡ Some event → get_or positions e 0 ≡ k → Holds event.condition d) → n < length p.events
+    → Stage a p pairs start origin (Done p positions k n) (Begun positions k) d [] → Found a p pairs start origin configs positions
+    ⊎ Stage a p pairs start origin (Done p positions k (n + 1)) (Begun positions k) d []
 unfolding has_event has_rise
 next_event a p pairs start origin configs positions k d n there ps holds b g =
     let w = some_at p.events n b in
     let past = g.past in
-    let skip : (get_or positions n 0 ≤ k → has_event past n ≡ true) → Stage a p pairs start origin (Done p positions k (n + 1)) (Begun positions k) d [] = (λ h. record {
+    let skip : (get_or positions n 0 ≤ k → has_event past n ≡ true)
+    → Stage a p pairs start origin (Done p positions k (n + 1)) (Begun positions k) d [] = (λ h. record {
       past = past;
       vs = g.vs;
       begins = g.begins;
@@ -191,7 +216,8 @@ next_event a p pairs start origin configs positions k d n there ps holds b g =
       | inr f ↦ elim (eqb_tells (get_or positions n 0) k) [
         | inr ne ↦ inr (skip (λ le. g.events n (b, inl (let q = ne.1 in omega arith))))
         | inl at ↦ (
-            let follow : follows p past (Some w.0) ≡ true = all_below-from (length p.events) (λ j. implies (has_bit (w.0).after j) (has_event past j)) (λ j c. implies-from (has_bit (w.0).after j) (has_event past j) (λ t.
+            let follow : follows p past (Some w.0) ≡ true = all_below-from (length p.events) (λ j. implies (has_bit (w.0).after j) (has_event past j))
+            (λ j c. implies-from (has_bit (w.0).after j) (has_event past j) (λ t.
             let set = bit_set (w.0).after j t in
             let less : j < n = ps.earlier n w.0 w.1 j set in
             let order : get_or positions j 0 ≤ get_or positions n 0 = ps.order n j w.0 w.1 set in
@@ -200,7 +226,18 @@ next_event a p pairs start origin configs positions k d n there ps holds b g =
             let ready : is_ready p past n ≡ true = and_from _ _ (not_from_false _ f) (ap (follows p past) w.1 ∙ follow) in
             let s = push_event a p pairs start past g.vs g.fired d g.state n w.0 g.more ready w.1 (holds n w.0 w.1 at.1) in
             elim (cases_Bool (is_complete p (Event n ∷ past))) [
-              | inl t ↦ inl (record { past = Event n ∷ past; vs = g.vs ++ counts_of a p start past g.fired; begins = begins_more origin g.vs (counts_of a p start past g.fired) g.begins; fired = []; config = d; state = s; complete = t; ends = inr (ends_here a p pairs start configs positions k n past (g.vs ++ counts_of a p start past g.fired) d s t at.1 g.only g.rises g.risen there) })
+              | inl t ↦ inl (record {
+                past = Event n ∷ past;
+                vs = g.vs
+                    ++ counts_of a p start past g.fired;
+                begins = begins_more origin g.vs (counts_of a p start past g.fired) g.begins;
+                fired = [];
+                config = d;
+                state = s;
+                complete = t;
+                ends = inr
+                    (ends_here a p pairs start configs positions k n past (g.vs ++ counts_of a p start past g.fired) d s t at.1 g.only g.rises g.risen there);
+              })
               | inr t ↦ inr (record {
                 past = Event n ∷ past;
                 vs = g.vs ++ counts_of a p start past g.fired;
@@ -212,7 +249,8 @@ next_event a p pairs start origin configs positions k d n there ps holds b g =
                 risen = g.risen;
                 admissible = g.admissible;
                 only = λ e u. elim (or_cases (eqb n e) (has_event past e) u) [
-                  | inl same ↦ (let q : n ≡ e = eqb-true n e same in let now : get_or positions e 0 ≡ k = subst (λ x. get_or positions x 0 ≡ k) q at.1 in omega arith)
+                  | inl same ↦ (let q : n ≡ e = eqb-true n e same in let now : get_or positions e 0 ≡ k = subst (λ x. get_or positions x 0 ≡ k) q at.1 in omega
+                      arith)
                   | inr v ↦ g.only e v
                 ];
                 events = λ e c. elim (eqb_tells e n) [
@@ -227,16 +265,24 @@ next_event a p pairs start origin configs positions k d n there ps holds b g =
       ]
     ]
 
-events_phase : (a : Automaton) (p : Pattern) (pairs : List (ℕ × ℕ)) (start : ℕ) (origin : List ℕ) (configs : List Config) (positions : List ℕ) (k : ℕ) (d : Config) (n : ℕ) → slice_get configs k ≡ Some d → Positions p positions → ((e : ℕ) (event : PatternEvent) → slice_get p.events e ≡ Some event → get_or positions e 0 ≡ k → Holds event.condition d) → n ≤ length p.events → Stage a p pairs start origin (Done p positions k 0) (Begun positions k) d [] → Found a p pairs start origin configs positions ⊎ Stage a p pairs start origin (Done p positions k n) (Begun positions k) d []
+events_phase : (a : Automaton) (p : Pattern) (pairs : List (ℕ × ℕ)) (start : ℕ) (origin : List ℕ) (configs : List Config) (positions : List ℕ) (k : ℕ)
+    (d : Config) (n : ℕ) → slice_get configs k ≡ Some d → Positions p positions
+    → ((e : ℕ) (event : PatternEvent) → slice_get p.events e ≡ Some event → get_or positions e 0 ≡ k → Holds event.condition d) → n ≤ length p.events
+    → Stage a p pairs start origin (Done p positions k 0) (Begun positions k) d [] → Found a p pairs start origin configs positions
+    ⊎ Stage a p pairs start origin (Done p positions k n) (Begun positions k) d []
 events_phase a p pairs start origin configs positions k d zero there ps holds b g = inr g
-events_phase a p pairs start origin configs positions k d (suc n) there ps holds b g = elim (events_phase a p pairs start origin configs positions k d n there ps holds (omega arith) g) [
-  | inl found ↦ inl found
-  | inr h ↦ (let e : n + 1 ≡ suc n = omega arith in subst (λ (x : ℕ). Found a p pairs start origin configs positions ⊎ Stage a p pairs start origin (Done p positions k x) (Begun positions k) d []) e (next_event a p pairs start origin configs positions k d n there ps holds (omega arith) h))
-]
+events_phase a p pairs start origin configs positions k d (suc n) there ps holds b g = elim
+    (events_phase a p pairs start origin configs positions k d n there ps holds (omega arith) g) [
+      | inl found ↦ inl found
+      | inr h ↦ (let e : n + 1 ≡ suc n = omega arith in subst
+          (λ (x : ℕ). Found a p pairs start origin configs positions ⊎ Stage a p pairs start origin (Done p positions k x) (Begun positions k) d []) e
+          (next_event a p pairs start origin configs positions k d n there ps holds (omega arith) h))
+    ]
 
 -- what is left of a run from its k-th configuration on
 pub record Rest (p : Pattern) (positions : List ℕ) (k : ℕ) (configs : List Config) : Type 0 where
-  pub holds : (e : ℕ) (event : PatternEvent) (j : ℕ) → slice_get p.events e ≡ Some event → get_or positions e 0 ≡ k + j → (c : Config) × (slice_get configs j ≡ Some c) × Holds event.condition c
+  pub holds : (e : ℕ) (event : PatternEvent) (j : ℕ) → slice_get p.events e ≡ Some event → get_or positions e 0 ≡ k + j → (c : Config)
+      × (slice_get configs j ≡ Some c) × Holds event.condition c
   pub empty : (j : ℕ) (c : Config) → slice_get configs j ≡ Some c → KeptEmpty p c
 
 rest_later : (p : Pattern) (positions : List ℕ) (k : ℕ) (d : Config) (ds : List Config) → Rest p positions k (d ∷ ds) → Rest p positions (k + 1) ds
@@ -245,7 +291,10 @@ rest_later p positions k d ds r = record {
   empty = λ j c at. r.empty (suc j) c at;
 }
 
-follow_run : (a : Automaton) (p : Pattern) (pairs : List (ℕ × ℕ)) (start : ℕ) (origin : List ℕ) (configs : List Config) (positions : List ℕ) (all : List ℕ) → InTurn a pairs all → LoopsPure a → Positions p positions → (rules : List ℕ) (k : ℕ) (d : Config) (later : List Config) → Steps a d rules later → ((j : ℕ) → slice_get (d ∷ later) j ≡ slice_get configs (k + j)) → Rest p positions k (d ∷ later) → Stage a p pairs start origin (Done p positions k 0) (Begun positions k) d all → Found a p pairs start origin configs positions
+follow_run : (a : Automaton) (p : Pattern) (pairs : List (ℕ × ℕ)) (start : ℕ) (origin : List ℕ) (configs : List Config) (positions : List ℕ) (all : List ℕ)
+    → InTurn a pairs all → LoopsPure a → Positions p positions → (rules : List ℕ) (k : ℕ) (d : Config) (later : List Config) → Steps a d rules later
+    → ((j : ℕ) → slice_get (d ∷ later) j ≡ slice_get configs (k + j)) → Rest p positions k (d ∷ later)
+    → Stage a p pairs start origin (Done p positions k 0) (Begun positions k) d all → Found a p pairs start origin configs positions
 follow_run a p pairs start origin configs positions all turn loops ps [] k d (next ∷ ds) run whole rest g = absurd run
 follow_run a p pairs start origin configs positions all turn loops ps (r ∷ rs) k d [] run whole rest g = absurd run
 follow_run a p pairs start origin configs positions all turn loops ps [] k d [] run whole rest g =
@@ -254,7 +303,8 @@ follow_run a p pairs start origin configs positions all turn loops ps [] k d [] 
     let same : d ≡ w.0 = same_Some d w.0 w.1 in
     subst (Holds event.condition) (sym same) w.2) in
     let there : slice_get configs k ≡ Some d = (let zero_on : k + 0 ≡ k = omega arith in sym (whole 0 ∙ ap (slice_get configs) zero_on)) in
-    elim (events_phase a p pairs start origin configs positions k d (length p.events) there ps here (omega arith) (rises_phase a p pairs start origin (Done p positions k 0) (Begun positions k) d all turn.good turn.in_order turn.within g)) [
+    elim (events_phase a p pairs start origin configs positions k d (length p.events) there ps here (omega arith)
+    (rises_phase a p pairs start origin (Done p positions k 0) (Begun positions k) d all turn.good turn.in_order turn.within g)) [
       | inl found ↦ found
       | inr h ↦ (
           let all : is_complete p h.past ≡ true = all_below-from (length p.events) (has_event h.past) (λ e b. elim (cases_lt k (get_or positions e 0)) [
@@ -272,10 +322,12 @@ follow_run a p pairs start origin configs positions all turn loops ps (r ∷ rs)
     let same : d ≡ w.0 = same_Some d w.0 w.1 in
     subst (Holds event.condition) (sym same) w.2) in
     let there : slice_get configs k ≡ Some d = (let zero_on : k + 0 ≡ k = omega arith in sym (whole 0 ∙ ap (slice_get configs) zero_on)) in
-    elim (events_phase a p pairs start origin configs positions k d (length p.events) there ps here (omega arith) (rises_phase a p pairs start origin (Done p positions k 0) (Begun positions k) d all turn.good turn.in_order turn.within g)) [
+    elim (events_phase a p pairs start origin configs positions k d (length p.events) there ps here (omega arith)
+    (rises_phase a p pairs start origin (Done p positions k 0) (Begun positions k) d all turn.good turn.in_order turn.within g)) [
       | inl found ↦ found
       | inr h ↦ (
-          let after = after_step a p pairs start origin (Done p positions k (length p.events)) (Begun positions k) d next r all turn.each loops h (rest.empty 0 d refl) (rest.empty 1 next refl) run.0 in
+          let after = after_step a p pairs start origin (Done p positions k (length p.events)) (Begun positions k) d next r all turn.each loops h
+          (rest.empty 0 d refl) (rest.empty 1 next refl) run.0 in
           let begin : Stage a p pairs start origin (Done p positions (k + 1) 0) (Begun positions (k + 1)) next all = record {
             past = after.past;
             vs = after.vs;
@@ -289,7 +341,9 @@ follow_run a p pairs start origin configs positions all turn loops ps (r ∷ rs)
             admissible = after.admissible;
             events = λ e c. after.events e (c.0, inr (c.0, elim c.1 [ inl q ↦ omega arith | inr q ↦ absurd (let z = q.0 in omega arith) ]));
           } in
-          follow_run a p pairs start origin configs positions all turn loops ps rs (k + 1) next ds run.1 (λ j. whole (suc j) ∙ (let next_on : k + suc j ≡ k + 1 + j = omega arith in ap (slice_get configs) next_on)) (rest_later p positions k d (next ∷ ds) rest) begin)
+          follow_run a p pairs start origin configs positions all turn loops ps rs (k + 1) next ds run.1
+          (λ j. whole (suc j) ∙ (let next_on : k + suc j ≡ k + 1 + j = omega arith in ap (slice_get configs) next_on))
+          (rest_later p positions k d (next ∷ ds) rest) begin)
     ]
 
 -- the word and its values
@@ -304,7 +358,8 @@ pub record Described (a : Automaton) (p : Pattern) (pairs : List (ℕ × ℕ)) (
   pub solves : SolvesWord a p start past [] values
   pub ends : (past ≡ []) ⊎ EndsAt a p start past values configs positions
 
-found_solution : (a : Automaton) (p : Pattern) (pairs : List (ℕ × ℕ)) (start : ℕ) (origin : List ℕ) (configs : List Config) (positions : List ℕ) → start < 2 ^ length a.fall → Found a p pairs start origin configs positions → Described a p pairs origin configs positions
+found_solution : (a : Automaton) (p : Pattern) (pairs : List (ℕ × ℕ)) (start : ℕ) (origin : List ℕ) (configs : List Config) (positions : List ℕ)
+    → start < 2 ^ length a.fall → Found a p pairs start origin configs positions → Described a p pairs origin configs positions
 found_solution a p pairs start origin configs positions b f = record {
   start = start;
   is_start = b;
@@ -316,12 +371,15 @@ found_solution a p pairs start origin configs positions b f = record {
   ends = f.ends;
   solves = record {
     count = f.state.count;
-    rows_hold = AllHold-append f.vs (word_rows a p start f.past) [] (subst (λ (v : List ℕ). AllHold v (word_rows a p start f.past)) (append-nil f.vs) (f.state.solved [])) tt;
+    rows_hold = AllHold-append f.vs (word_rows a p start f.past) []
+        (subst (λ (v : List ℕ). AllHold v (word_rows a p start f.past)) (append-nil f.vs) (f.state.solved [])) tt;
   };
 }
 
 -- the theorem
-pub describe : (a : Automaton) (p : Pattern) (pairs : List (ℕ × ℕ)) → Good a pairs → LoopsPure a → AfterEarlier p → (first : Config) (rules : List ℕ) (o : Occurs a p first rules) → Described a p pairs (parameter_values a first ++ start_counts a p first) (first ∷ o.later) o.positions
+pub describe : (a : Automaton) (p : Pattern) (pairs : List (ℕ × ℕ)) → Good a pairs → LoopsPure a → AfterEarlier p
+    → (first : Config) (rules : List ℕ) (o : Occurs a p first rules)
+    → Described a p pairs (parameter_values a first ++ start_counts a p first) (first ∷ o.later) o.positions
 unfolding has_event has_rise
 describe a p pairs good loops earlier first rules o =
     let fits : Fits a first = record { parameters = o.run.initial.admissible.count; shared = o.run.initial.shared_count } in
@@ -333,7 +391,8 @@ describe a p pairs good loops earlier first rules o =
       empty = λ j c at l t.
           let within = slice_get_within (first ∷ o.later) j c at in
           let h = o.kept_empty l (bit_set p.empty l t) j first within in
-          let same : c ≡ get_or (first ∷ o.later) j first = same_Some c (get_or (first ∷ o.later) j first) (sym at ∙ slice_get-get_or (first ∷ o.later) j first within) in
+          let same : c ≡ get_or (first ∷ o.later) j first = same_Some c (get_or (first ∷ o.later) j first)
+          (sym at ∙ slice_get-get_or (first ∷ o.later) j first within) in
           subst (λ (x : Config). get_or x.counters l 0 ≡ 0) (sym same) h;
     } in
     let start = start_set a first in
@@ -351,17 +410,18 @@ describe a p pairs good loops earlier first rules o =
     let b = mask_of-below (λ j. row_fails first (slice_get a.fall j)) (length a.fall) in
     found_solution a p pairs start origin (first ∷ o.later) o.positions b (elim (cases_Bool (is_complete p [])) [
       | inl t ↦ record { past = []; vs = origin; begins = here; fired = []; config = first; state = s; complete = t; ends = inl refl }
-      | inr f ↦ follow_run a p pairs start origin (first ∷ o.later) o.positions guards.ys turn loops ps rules 0 first o.later o.run.steps (λ j. (let same : j ≡ 0 + j = omega arith in ap (slice_get (first ∷ o.later)) same)) rest (record {
-        past = [];
-        vs = origin;
-        begins = here;
-        fired = [];
-        state = s;
-        more = f;
-        events = λ e c. elim c.1 [ inl q ↦ absurd (omega arith) | inr q ↦ absurd (let z = q.0 in omega arith) ];
-        rises = λ i c. inl (turn.each i c);
-        risen = λ i t. absurd (false≢true t);
-        only = λ e t. absurd (false≢true t);
-        admissible = o.run.initial.admissible;
-      })
+      | inr f ↦ follow_run a p pairs start origin (first ∷ o.later) o.positions guards.ys turn loops ps rules 0 first o.later o.run.steps
+          (λ j. (let same : j ≡ 0 + j = omega arith in ap (slice_get (first ∷ o.later)) same)) rest (record {
+            past = [];
+            vs = origin;
+            begins = here;
+            fired = [];
+            state = s;
+            more = f;
+            events = λ e c. elim c.1 [ inl q ↦ absurd (omega arith) | inr q ↦ absurd (let z = q.0 in omega arith) ];
+            rises = λ i c. inl (turn.each i c);
+            risen = λ i t. absurd (false≢true t);
+            only = λ e t. absurd (false≢true t);
+            admissible = o.run.initial.admissible;
+          })
     ])

@@ -1,5 +1,7 @@
 -- a row's value as a sum over the unknowns, and Farkas' lemma for rows of words
-use Rattle.ta_encode.proofs.Common.{◌≡◌, ℕ, zero, suc, ℤ, pos, ◌+ℤ◌, ◌*ℤ◌, ◌≤ℤ◌, List, [], ◌∷◌, length, slice_get, get_or, Some, None, Option, arith, sym, ap, refl, ints, zero-*ℤ, range_sum, range_sum-front, range_sum-zero, LinearRow, sum_of_products, row_value, AllHold, linear_coefficient_in, linear_constant_in, LeafOfRows, total}
+use Rattle.ta_encode.proofs.Common.{◌≡◌, ℕ, zero, suc, ℤ, pos, ◌+ℤ◌, ◌*ℤ◌, ◌≤ℤ◌, List, [], ◌∷◌, length, slice_get, get_or, Some, None, Option, arith, sym, ap}
+use Rattle.ta_encode.proofs.Common.{refl, ints, zero-*ℤ, range_sum, range_sum-front, range_sum-zero, LinearRow, sum_of_products, row_value, AllHold}
+use Rattle.ta_encode.proofs.Common.{linear_coefficient_in, linear_constant_in, LeafOfRows, total}
 use Rattle.ta_linear.proofs.Farkas.{leaf_refutes}
 
 -- the values of a list, 0 past its end
@@ -17,7 +19,8 @@ value_in : List ℕ → Option LinearRow → ℤ
 value_in vs None = pos 0
 value_in vs (Some row) = row_value vs row
 
-value_in-sum : (vs : List ℕ) (o : Option LinearRow) → value_in vs o ≡ (linear_constant_in o +ℤ range_sum (λ u. linear_coefficient_in u o *ℤ value_at vs u) (length vs))
+value_in-sum : (vs : List ℕ) (o : Option LinearRow) → value_in vs o ≡
+    (linear_constant_in o +ℤ range_sum (λ u. linear_coefficient_in u o *ℤ value_at vs u) (length vs))
 unfolding value_in
 value_in-sum vs None = omega (arith, ints, range_sum-zero (λ u. pos 0 *ℤ value_at vs u) (length vs) (λ u _. zero-*ℤ (value_at vs u)))
 value_in-sum vs (Some row) = ap (λ z. row.constant +ℤ z) (combine-range row.coefficients vs)

@@ -1,5 +1,6 @@
 -- the forms of a file have few terms and small numbers
-use Rattle.ta_encode.proofs.Common.{ℕ, ℤ, ◌+◌, ◌≤◌, List, [], ◌∷◌, length, arith, AllByRecursion, IsNormal, Form, Row, Automaton, Comparison, SmallForm, SmallRows, SmallCondition}
+use Rattle.ta_encode.proofs.Common.{ℕ, ℤ, ◌+◌, ◌≤◌, List, [], ◌∷◌, length, arith, AllByRecursion, IsNormal, Form, Row, Automaton, Comparison, SmallForm}
+use Rattle.ta_encode.proofs.Common.{SmallRows, SmallCondition}
 use Rattle.ta_automaton.specs.declared.condition.Condition.{Condition}
 use Rattle.ta_automaton.specs.Forms.{FormOver, RowOver, ConditionOver, RiseRow, FallRow}
 
@@ -17,7 +18,8 @@ small_rows : (places : ℕ) (rows : List Row) → places ≤ 64 → AllByRecursi
 small_rows places [] few h = tt
 small_rows places (r ∷ rs) few h = (small_form places r.form few h.0, small_rows places rs few h.1)
 
-small_comparisons : (places : ℕ) (ks : List Comparison) → places ≤ 64 → AllByRecursion (λ (k : Comparison). AllByRecursion (RowOver places) k.rows) ks → AllByRecursion (λ (k : Comparison). SmallRows k.rows) ks
+small_comparisons : (places : ℕ) (ks : List Comparison) → places ≤ 64 → AllByRecursion (λ (k : Comparison). AllByRecursion (RowOver places) k.rows) ks
+    → AllByRecursion (λ (k : Comparison). SmallRows k.rows) ks
 small_comparisons places [] few h = tt
 small_comparisons places (k ∷ ks) few h = (small_rows places k.rows few h.0, small_comparisons places ks few h.1)
 

@@ -1,5 +1,11 @@
 -- what a solution says at a moment
-use Rattle.ta_encode.proofs.Common.{◌≡◌, inl, inr, ℕ, zero, suc, ◌+◌, ◌-◌, ◌^◌, ◌<◌, ℤ, pos, ◌+ℤ◌, ◌≤ℤ◌, List, [], ◌∷◌, ◌++◌, map, length, drop, cond, Bool, true, false, not, arith, sym, ap, ◌∙◌, refl, subst, slice_get, Some, All, ints, false≢true, not_from_false, one_times, In-filter, in_append, in_more, In-numbers, value_of, RowHolds, Form, Row, Comparison, Automaton, Pattern, Config, value_at, has_bit, range_with_len, In, Element, Event, Rise, Fall, may_fire, allowed_rules, children, is_complete, is_ready, is_standing, may_rise, Meaning, place_coefficient, location_place, LinearRow, form_row, counter_row, counter_rows, condition_rows, guard_rows, sum_of_products, row_value, AllHold, total, terms_value-same, in_filter, each_append, length-append}
+use Rattle.ta_encode.proofs.Common.{◌≡◌, inl, inr, ℕ, zero, suc, ◌+◌, ◌-◌, ◌^◌, ◌<◌, ℤ, pos, ◌+ℤ◌, ◌≤ℤ◌, List, [], ◌∷◌, ◌++◌, map, length, drop, cond, Bool}
+use Rattle.ta_encode.proofs.Common.{true, false, not, arith, sym, ap, ◌∙◌, refl, subst, slice_get, Some, All, ints, false≢true, not_from_false, one_times}
+use Rattle.ta_encode.proofs.Common.{In-filter, in_append, in_more, In-numbers, value_of, RowHolds, Form, Row, Comparison, Automaton, Pattern, Config, value_at}
+use Rattle.ta_encode.proofs.Common.{has_bit, range_with_len, In, Element, Event, Rise, Fall, may_fire, allowed_rules, children, is_complete, is_ready}
+use Rattle.ta_encode.proofs.Common.{is_standing, may_rise, Meaning, place_coefficient, location_place, LinearRow, form_row, counter_row, counter_rows}
+use Rattle.ta_encode.proofs.Common.{condition_rows, guard_rows, sum_of_products, row_value, AllHold, total, terms_value-same, in_filter, each_append}
+use Rattle.ta_encode.proofs.Common.{length-append}
 use Rattle.std.proofs.Common.{replicate}
 use Rattle.ta_base.proofs.Totals.{total-append, total-replicate}
 use Rattle.std.proofs.lemmas.List.{length-replicate}
@@ -26,9 +32,12 @@ held_map vs f [] x h i = absurd i
 held_map vs f (y ∷ xs) x h (inl e) = subst (λ z. pos 0 ≤ℤ row_value vs (f z)) (sym e) h.0
 held_map vs f (y ∷ xs) x h (inr i) = held_map vs f xs x h.1 i
 
-pub counter_natural : (a : Automaton) (p : Pattern) (ms : List Meaning) (vs : List ℕ) → AllHold vs (counter_rows a p ms) → (l : ℕ) → l < length a.locations → has_bit p.empty l ≡ false → pos 0 ≤ℤ place_value a ms vs (location_place a l)
+pub counter_natural : (a : Automaton) (p : Pattern) (ms : List Meaning) (vs : List ℕ) → AllHold vs (counter_rows a p ms) → (l : ℕ) → l < length a.locations
+    → has_bit p.empty l ≡ false → pos 0 ≤ℤ place_value a ms vs (location_place a l)
 counter_natural a p ms vs h l b f =
-    let r = held_map vs (counter_row a ms) (filter (λ k. not (has_bit p.empty k)) (range_with_len 0 (length a.locations))) l h (In-filter (λ k. not (has_bit p.empty k)) l (range_with_len 0 (length a.locations)) (not_from_false _ f) (In-numbers l 0 (length a.locations) (omega arith) (omega arith))) in
+    let r = held_map vs (counter_row a ms) (filter (λ k. not (has_bit p.empty k)) (range_with_len 0 (length a.locations))) l h
+    (In-filter (λ k. not (has_bit p.empty k)) l (range_with_len 0 (length a.locations)) (not_from_false _ f)
+    (In-numbers l 0 (length a.locations) (omega arith) (omega arith))) in
     omega (arith, ints, r)
 
 held_true : (vs : List ℕ) (b : Bool) (x : LinearRow) (xs : List LinearRow) → b ≡ true → AllHold vs (cond b (x ∷ xs) xs) → pos 0 ≤ℤ row_value vs x
@@ -39,7 +48,8 @@ held_rest : (vs : List ℕ) (b : Bool) (x : LinearRow) (xs : List LinearRow) →
 held_rest vs true x xs h = h.1
 held_rest vs false x xs h = h
 
-pub guard_holds : (a : Automaton) (ms : List Meaning) (vs : List ℕ) (test : ℕ → Bool) (k : ℕ) (rows : List Row) → AllHold vs (guard_rows a ms test k rows) → (j : ℕ) (row : Row) → slice_get rows j ≡ Some row → test (k + j) ≡ true → pos 0 ≤ℤ value_of (place_value a ms vs) row.form
+pub guard_holds : (a : Automaton) (ms : List Meaning) (vs : List ℕ) (test : ℕ → Bool) (k : ℕ) (rows : List Row) → AllHold vs (guard_rows a ms test k rows)
+    → (j : ℕ) (row : Row) → slice_get rows j ≡ Some row → test (k + j) ≡ true → pos 0 ≤ℤ value_of (place_value a ms vs) row.form
 guard_holds a ms vs test k [] h j row at t = absurd (cc)
 guard_holds a ms vs test k (r ∷ rs) h zero row at t =
     let same : r ≡ row = cc in
@@ -47,21 +57,27 @@ guard_holds a ms vs test k (r ∷ rs) h zero row at t =
     let held = held_true vs (test k) (form_row a ms r.form) (guard_rows a ms test (k + 1) rs) (ap test (sym e) ∙ t) h in
     subst (λ (x : Row). pos 0 ≤ℤ value_of (place_value a ms vs) x.form) same (omega (arith, ints, held, form_at a ms vs r.form))
 guard_holds a ms vs test k (r ∷ rs) h (suc j) row at t =
-    guard_holds a ms vs test (k + 1) rs (held_rest vs (test k) (form_row a ms r.form) (guard_rows a ms test (k + 1) rs) h) j row at (let e : k + 1 + j ≡ k + suc j = omega arith in ap test e ∙ t)
+    guard_holds a ms vs test (k + 1) rs (held_rest vs (test k) (form_row a ms r.form) (guard_rows a ms test (k + 1) rs) h) j row at
+    (let e : k + 1 + j ≡ k + suc j = omega arith in ap test e ∙ t)
 
-rows_back : (a : Automaton) (ms : List Meaning) (vs : List ℕ) (d : Config) → ((i : ℕ) → value_at d i ≡ place_value a ms vs i) → (rows : List Row) → AllHold vs (map (λ (r : Row). form_row a ms r.form) rows) → All (RowHolds (value_at d)) rows
+rows_back : (a : Automaton) (ms : List Meaning) (vs : List ℕ) (d : Config) → ((i : ℕ) → value_at d i ≡ place_value a ms vs i) → (rows : List Row)
+    → AllHold vs (map (λ (r : Row). form_row a ms r.form) rows) → All (RowHolds (value_at d)) rows
 rows_back a ms vs d same [] h k e b = absurd (omega arith)
 rows_back a ms vs d same (r ∷ rs) h zero e b =
     let first : pos 0 ≤ℤ row_value vs (form_row a ms r.form) = h.0 in
     omega (arith, ints, first, form_at a ms vs r.form, terms_value-same r.form.terms (value_at d) (place_value a ms vs) same)
 rows_back a ms vs d same (r ∷ rs) h (suc k) e b = rows_back a ms vs d same rs h.1 k e (omega arith)
 
-pub condition_back : (a : Automaton) (ms : List Meaning) (vs : List ℕ) (d : Config) → ((i : ℕ) → value_at d i ≡ place_value a ms vs i) → (ks : List Comparison) → AllHold vs (condition_rows a ms ks) → All (λ (k : Comparison). All (RowHolds (value_at d)) k.rows) ks
+pub condition_back : (a : Automaton) (ms : List Meaning) (vs : List ℕ) (d : Config) → ((i : ℕ) → value_at d i ≡ place_value a ms vs i) → (ks : List Comparison)
+    → AllHold vs (condition_rows a ms ks) → All (λ (k : Comparison). All (RowHolds (value_at d)) k.rows) ks
 condition_back a ms vs d same [] h k e b = absurd (omega arith)
-condition_back a ms vs d same (c ∷ cs) h zero e b = rows_back a ms vs d same c.rows (AllHold-left vs (map (λ (r : Row). form_row a ms r.form) c.rows) (condition_rows a ms cs) h)
-condition_back a ms vs d same (c ∷ cs) h (suc k) e b = condition_back a ms vs d same cs (AllHold-right vs (map (λ (r : Row). form_row a ms r.form) c.rows) (condition_rows a ms cs) h) k e (omega arith)
+condition_back a ms vs d same (c ∷ cs) h zero e b = rows_back a ms vs d same c.rows
+    (AllHold-left vs (map (λ (r : Row). form_row a ms r.form) c.rows) (condition_rows a ms cs) h)
+condition_back a ms vs d same (c ∷ cs) h (suc k) e b = condition_back a ms vs d same cs
+    (AllHold-right vs (map (λ (r : Row). form_row a ms r.form) c.rows) (condition_rows a ms cs) h) k e (omega arith)
 
-pub combine-split : {X : Type 0} (g : X → ℤ) (ms ns : List X) (vs : List ℕ) → sum_of_products (map g (ms ++ ns)) vs ≡ (sum_of_products (map g ms) vs +ℤ sum_of_products (map g ns) (drop (length ms) vs))
+pub combine-split : {X : Type 0} (g : X → ℤ) (ms ns : List X) (vs : List ℕ)
+    → sum_of_products (map g (ms ++ ns)) vs ≡ (sum_of_products (map g ms) vs +ℤ sum_of_products (map g ns) (drop (length ms) vs))
 unfolding sum_of_products
 combine-split g [] ns vs = omega (arith, ints)
 combine-split g (m ∷ ms) [] [] = omega (arith, ints)
@@ -78,26 +94,40 @@ pub unfolded-total : {X : Type 0} (g : X → ℤ) (k : ℕ → X) (rs vs : List 
 unfolding total sum_of_products
 unfolded-total g k [] vs = refl
 unfolded-total g k (r ∷ rs) [] = refl
-unfolded-total g k (r ∷ rs) (v ∷ vs) = omega (arith, ints, total-append (λ x. g (k x)) (replicate v r) (unfolded rs vs), total-replicate (λ x. g (k x)) v r, *ℤ_comm (pos v) (g (k r)), unfolded-total g k rs vs)
+unfolded-total g k (r ∷ rs) (v ∷ vs) = omega (
+  arith,
+  ints,
+  total-append (λ x. g (k x)) (replicate v r) (unfolded rs vs),
+  total-replicate (λ x. g (k x)) v r,
+  *ℤ_comm (pos v) (g (k r)),
+  unfolded-total g
+      k rs vs,
+)
 
 pub unfolded-count : (rs vs : List ℕ) → pos (length (unfolded rs vs)) ≡ sum_of_products (map (λ r. pos 1) rs) vs
 unfolding total sum_of_products
 unfolded-count [] vs = refl
 unfolded-count (r ∷ rs) [] = refl
-unfolded-count (r ∷ rs) (v ∷ vs) = omega (arith, ints, length-append (replicate v r) (unfolded rs vs), length-replicate v r, unfolded-count rs vs, one_times (pos v))
+unfolded-count (r ∷ rs) (v ∷ vs) = omega
+    (arith, ints, length-append (replicate v r) (unfolded rs vs), length-replicate v r, unfolded-count rs vs, one_times (pos v))
 
-pub unfolded-may : (a : Automaton) (p : Pattern) (start : ℕ) (past : List Element) (rs vs : List ℕ) → EachMay a p start past rs → EachMay a p start past (unfolded rs vs)
+pub unfolded-may : (a : Automaton) (p : Pattern) (start : ℕ) (past : List Element) (rs vs : List ℕ) → EachMay a p start past rs
+    → EachMay a p start past (unfolded rs vs)
 unfolded-may a p start past [] vs h = tt
 unfolded-may a p start past (r ∷ rs) [] h = tt
-unfolded-may a p start past (r ∷ rs) (v ∷ vs) h = each_append (λ o. may_fire a p start past (slice_get a.rules o) ≡ true) (replicate v r) (unfolded rs vs) (each_copies (λ o. may_fire a p start past (slice_get a.rules o) ≡ true) v r h.0) (unfolded-may a p start past rs vs h.1)
+unfolded-may a p start past (r ∷ rs) (v ∷ vs) h = each_append (λ o. may_fire a p start past (slice_get a.rules o) ≡ true) (replicate v r) (unfolded rs vs)
+    (each_copies (λ o. may_fire a p start past (slice_get a.rules o) ≡ true) v r h.0) (unfolded-may a p start past rs vs h.1)
 
-kept_may : (a : Automaton) (p : Pattern) (start : ℕ) (past : List Element) (r : ℕ) (xs : List ℕ) (b : Bool) → may_fire a p start past (slice_get a.rules r) ≡ b → EachMay a p start past xs → EachMay a p start past (cond b (r ∷ xs) xs)
+kept_may : (a : Automaton) (p : Pattern) (start : ℕ) (past : List Element) (r : ℕ) (xs : List ℕ) (b : Bool) → may_fire a p start past (slice_get a.rules r) ≡ b
+    → EachMay a p start past xs → EachMay a p start past (cond b (r ∷ xs) xs)
 kept_may a p start past r xs true e h = (e, h)
 kept_may a p start past r xs false e h = h
 
-filter_may : (a : Automaton) (p : Pattern) (start : ℕ) (past : List Element) (xs : List ℕ) → EachMay a p start past (filter (λ r. may_fire a p start past (slice_get a.rules r)) xs)
+filter_may : (a : Automaton) (p : Pattern) (start : ℕ) (past : List Element) (xs : List ℕ)
+    → EachMay a p start past (filter (λ r. may_fire a p start past (slice_get a.rules r)) xs)
 filter_may a p start past [] = tt
-filter_may a p start past (r ∷ xs) = kept_may a p start past r (filter (λ k. may_fire a p start past (slice_get a.rules k)) xs) (may_fire a p start past (slice_get a.rules r)) refl (filter_may a p start past xs)
+filter_may a p start past (r ∷ xs) = kept_may a p start past r (filter (λ k. may_fire a p start past (slice_get a.rules k)) xs)
+    (may_fire a p start past (slice_get a.rules r)) refl (filter_may a p start past xs)
 
 pub allowed_may : (a : Automaton) (p : Pattern) (start : ℕ) (past : List Element) → EachMay a p start past (allowed_rules a p start past)
 unfolding allowed_rules
@@ -121,7 +151,8 @@ no_fall e [] h = h
 no_fall e (x ∷ xs) (inl q) = cc
 no_fall e (x ∷ xs) (inr h) = no_fall e xs h
 
-pub event_ready : (a : Automaton) (p : Pattern) (pairs : List (ℕ × ℕ)) (start : ℕ) (past : List Element) (e : ℕ) → In (Event e) (children a p pairs start past) → is_ready p past e ≡ true
+pub event_ready : (a : Automaton) (p : Pattern) (pairs : List (ℕ × ℕ)) (start : ℕ) (past : List Element) (e : ℕ) → In (Event e) (children a p pairs start past)
+    → is_ready p past e ≡ true
 unfolding children
 event_ready a p pairs start past e h =
     let es = map Event (filter (is_ready p past) (range_with_len 0 (length p.events))) in

@@ -1,5 +1,8 @@
 -- the system of a word with bounds, from that without
-use Rattle.ta_encode.proofs.Common.{◌≡◌, ◌≢◌, ℕ, zero, suc, ◌<◌, ◌≤◌, ◌^◌, ℤ, pos, negsuc, ◌+ℤ◌, ◌-ℤ◌, List, [], ◌∷◌, ◌++◌, map, get_or, arith, sym, ap, ◌∙◌, refl, subst, inl, inr, ints, below_append, InRange, IsNormal, coefficient, AllBelow, Form, Row, System, LinearRow, Bound, Side, Low, High, only_at, bound_row, IsRowOf, AreRowsOf, SystemAt, Search, BoundWithin, BoundsWithin, append-nil, cases_eq, cond_apart, cond_same}
+use Rattle.ta_encode.proofs.Common.{◌≡◌, ◌≢◌, ℕ, zero, suc, ◌<◌, ◌≤◌, ◌^◌, ℤ, pos, negsuc, ◌+ℤ◌, ◌-ℤ◌, List, [], ◌∷◌, ◌++◌, map, get_or, arith, sym, ap, ◌∙◌}
+use Rattle.ta_encode.proofs.Common.{refl, subst, inl, inr, ints, below_append, InRange, IsNormal, coefficient, AllBelow, Form, Row, System, LinearRow, Bound}
+use Rattle.ta_encode.proofs.Common.{Side, Low, High, only_at, bound_row, IsRowOf, AreRowsOf, SystemAt, Search, BoundWithin, BoundsWithin, append-nil, cases_eq}
+use Rattle.ta_encode.proofs.Common.{cond_apart, cond_same}
 use Rattle.ta_encode.proofs.Running.{at_variable}
 use Rattle.ta_encode.proofs.Adding.{RowsOf-append}
 
@@ -31,23 +34,46 @@ record BoundRow (n : ℕ) (b : Bound) : Type 0 where
 one_term : (n x : ℕ) (z : ℤ) → x < n → z ≢ pos 0 → InRange z → IsNormal 0 n ((x, z) ∷ [])
 one_term n x z below some fits = (omega arith, record { not_zero = some; in_range = fits }, omega arith)
 
-side_code : (n x : ℕ) (floor : ℤ) (side : Side) → n ≤ 2 ^ 32 → BoundWithin n (record { unknown = x; floor = floor; side = side }) → BoundRow n (record { unknown = x; floor = floor; side = side })
+side_code : (n x : ℕ) (floor : ℤ) (side : Side) → n ≤ 2 ^ 32 → BoundWithin n (record { unknown = x; floor = floor; side = side })
+    → BoundRow n (record { unknown = x; floor = floor; side = side })
 side_code n x floor Low most within =
     let low = within.least in
     let high = within.most in
     let below = within.exists in
     let fits : InRange (negsuc 0) = omega (arith, ints) in
     let some : negsuc 0 ≢ pos 0 = λ e. absurd (cc) in
-    let form : Form = record { constant = floor; terms = (x, negsuc 0) ∷ []; constant_fits = omega (arith, ints, low, high); normal = one_term (2 ^ 32) x (negsuc 0) (omega arith) some fits } in
-    record { row = record { form = form }; of = record { constant = refl; coefficients = λ u. same_or_not x u (negsuc 0) }; below = one_term n x (negsuc 0) below some fits }
+    let form : Form = record {
+      constant = floor;
+      terms = (x, negsuc 0) ∷ [];
+      constant_fits = omega (arith, ints, low, high);
+      normal = one_term (2 ^ 32) x
+          (negsuc 0) (omega arith) some fits;
+    } in
+    record {
+      row = record { form = form };
+      of = record { constant = refl; coefficients = λ u. same_or_not x u (negsuc 0) };
+      below = one_term n x (negsuc 0)
+          below some fits;
+    }
 side_code n x floor High most within =
     let low = within.least in
     let high = within.most in
     let below = within.exists in
     let fits : InRange (pos 1) = omega (arith, ints) in
     let some : pos 1 ≢ pos 0 = λ e. absurd (cc) in
-    let form : Form = record { constant = (pos 0 -ℤ floor) -ℤ pos 1; terms = (x, pos 1) ∷ []; constant_fits = omega (arith, ints, low, high); normal = one_term (2 ^ 32) x (pos 1) (omega arith) some fits } in
-    record { row = record { form = form }; of = record { constant = refl; coefficients = λ u. same_or_not x u (pos 1) }; below = one_term n x (pos 1) below some fits }
+    let form : Form = record {
+      constant = (pos 0 -ℤ floor) -ℤ pos 1;
+      terms = (x, pos 1) ∷ [];
+      constant_fits = omega (arith, ints, low, high);
+      normal = one_term
+          (2 ^ 32) x (pos 1) (omega arith) some fits;
+    } in
+    record {
+      row = record { form = form };
+      of = record { constant = refl; coefficients = λ u. same_or_not x u (pos 1) };
+      below = one_term n x (pos 1) below some
+          fits;
+    }
 
 -- rows of the code for bounds
 record BoundRows (n : ℕ) (bs : List Bound) : Type 0 where
@@ -63,11 +89,14 @@ bound_rows n (b ∷ bs) most within =
     record { rows = first.row ∷ rest.rows; of = (first.of, rest.of); below = (first.below, rest.below) }
 
 -- the rows of a system without bounds
-pub unbounded_rows : {E : Type 0} (search : Search E) (start : ℕ) (past : List E) (z : System) → SystemAt search (record { start = start; past = past; bounds = [] }) z → AreRowsOf (search.rows start past) z.rows
+pub unbounded_rows : {E : Type 0} (search : Search E) (start : ℕ) (past : List E) (z : System)
+    → SystemAt search (record { start = start; past = past; bounds = [] }) z → AreRowsOf (search.rows start past) z.rows
 unbounded_rows search start past z is = subst (λ (ls : List LinearRow). AreRowsOf ls z.rows) (append-nil (search.rows start past)) is.rows
 
 -- where a word has a system without bounds, it has one with them
-pub whole_system : {E : Type 0} (search : Search E) (start : ℕ) (past : List E) (bounds : List Bound) (z : System) → z.unknowns ≤ 2 ^ 32 → SystemAt search (record { start = start; past = past; bounds = [] }) z → BoundsWithin z.unknowns bounds → (s : System) × SystemAt search (record { start = start; past = past; bounds = bounds }) s
+pub whole_system : {E : Type 0} (search : Search E) (start : ℕ) (past : List E) (bounds : List Bound) (z : System) → z.unknowns ≤ 2 ^ 32
+    → SystemAt search (record { start = start; past = past; bounds = [] }) z → BoundsWithin z.unknowns bounds → (s : System)
+    × SystemAt search (record { start = start; past = past; bounds = bounds }) s
 whole_system search start past bounds z most is within =
     let more = bound_rows z.unknowns bounds most within in
     let rows = search.rows start past in

@@ -19,6 +19,7 @@ ended_rows a ms (Some end) =
     ++ map (λ l. opposite (counter_row a ms l)) (filter (λ l. not (has_bit end.inhabited l)) (range_with_len 0 (length a.locations)))
 
 -- the unknowns of a schema, and its rows, then those of its end, then those of bounds
-pub record EndedSystem (a : Automaton) (p : Pattern) (start : ℕ) (past : List Element) (end : Option WordEnd) (bounds : List Bound) (system : System) : Type 0 where
-  pub unknowns : system.unknowns ≡ length (meanings a p start past)
-  pub rows : AreRowsOf ((word_rows a p start past ++ ended_rows a (meanings a p start past) end) ++ map bound_row bounds) system.rows
+pub record EndedSystem (a : Automaton) (p : Pattern) (start : ℕ) (past : List Element) (end : Option WordEnd) (bounds : List Bound) (system : System) : Type 0
+  where
+    pub unknowns : system.unknowns ≡ length (meanings a p start past)
+    pub rows : AreRowsOf ((word_rows a p start past ++ ended_rows a (meanings a p start past) end) ++ map bound_row bounds) system.rows

@@ -1,6 +1,7 @@
 -- What schemas, their constraint systems and their refutations say of runs. Source of the reordering: Konnov, Lazić, Veith, Widder, POPL
 -- 2017; start sets and joint falls are this project's.
-use Rattle.std.specs.Prelude.{ℕ, ℤ, ◌<◌, ◌≤◌, ◌^◌, ◌≡◌, ◌≢◌, ◌==◌, ◌↔◌, false, if◌then◌else◌, true, List, [], ◌∷◌, ◌++◌, length, map, reverse, take, drop, slice_get, slice_index, Some}
+use Rattle.std.specs.Prelude.{ℕ, ℤ, ◌<◌, ◌≤◌, ◌^◌, ◌≡◌, ◌≢◌, ◌==◌, ◌↔◌, false, if◌then◌else◌, true, List, [], ◌∷◌, ◌++◌, length, map, reverse, take, drop}
+use Rattle.std.specs.Prelude.{slice_get, slice_index, Some}
 use Rattle.ta_base.specs.Sums.{total}
 use Rattle.std.specs.List.{AllByRecursion, range_with_len}
 use Rattle.ta_linear.specs.Values.{RowHolds}

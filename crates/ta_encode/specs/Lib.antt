@@ -12,3 +12,8 @@ pub mod Named
 pub mod InPreorder
 pub mod Sample
 pub mod Inside
+pub mod Asking
+pub mod Cursors
+pub mod Range
+pub mod TreeCalls
+pub mod InTrees

@@ -22,7 +22,8 @@ coefficient_in_sense Negated z = pos 0 -ℤ z
 
 -- what stands before an unknown in the terms over places, less the start counts if these are wanted
 abbrev pub line_coefficient : Automaton → List (ℕ × ℤ) → Bool → Sense → Meaning → ℤ
-line_coefficient a terms less_starts sense m = coefficient_in_sense sense (terms_value (place_coefficient a m) terms -ℤ (if less_starts then start_coefficient m else pos 0))
+line_coefficient a terms less_starts sense m = coefficient_in_sense sense
+    (terms_value (place_coefficient a m) terms -ℤ (if less_starts then start_coefficient m else pos 0))
 
 abbrev pub line_row : Automaton → List Meaning → List (ℕ × ℤ) → Bool → Sense → ℤ → LinearRow
 line_row a ms terms less_starts sense constant = record { constant = constant; coefficients = map (line_coefficient a terms less_starts sense) ms }

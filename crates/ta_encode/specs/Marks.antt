@@ -20,15 +20,17 @@ abbrev pub mark_at : List Mark → ℕ → Mark
 mark_at marks i = slice_index_or marks i no_mark
 
 -- after i elements there are these unknowns and rows: those of the schema of these elements
-pub record MarkHolds (a : Automaton) (p : Pattern) (start : ℕ) (elements : List Element) (ms : List Meaning) (rows : List Row) (i : ℕ) (mark : Mark) : Type 0 where
-  pub unknowns_within : mark.unknowns ≤ length ms
-  pub rows_within : mark.rows ≤ length rows
-  pub drafted : IsDraftOf a p start (reverse (take i elements)) (take mark.unknowns ms) (take mark.rows rows)
+pub record MarkHolds (a : Automaton) (p : Pattern) (start : ℕ) (elements : List Element) (ms : List Meaning) (rows : List Row) (i : ℕ) (mark : Mark) : Type 0
+  where
+    pub unknowns_within : mark.unknowns ≤ length ms
+    pub rows_within : mark.rows ≤ length rows
+    pub drafted : IsDraftOf a p start (reverse (take i elements)) (take mark.unknowns ms) (take mark.rows rows)
 
 -- the marks of a schema's elements, from those at the start on; they rise
 pub record AreMarks (a : Automaton) (p : Pattern) (start : ℕ) (elements : List Element) (ms : List Meaning) (rows : List Row) (marks : List Mark) : Type 0 where
   pub holds : (i : ℕ) → i < length marks → MarkHolds a p start elements ms rows i (mark_at marks i)
-  pub rise : (i j : ℕ) → i ≤ j → j < length marks → ((mark_at marks i).unknowns ≤ (mark_at marks j).unknowns) × ((mark_at marks i).rows ≤ (mark_at marks j).rows)
+  pub rise : (i j : ℕ) → i ≤ j → j < length marks → ((mark_at marks i).unknowns ≤ (mark_at marks j).unknowns)
+      × ((mark_at marks i).rows ≤ (mark_at marks j).rows)
 
 -- a schema's system, with its marks
 abbrev pub IsEncoding : Automaton → Pattern → Encoding → Type 0

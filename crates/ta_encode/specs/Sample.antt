@@ -45,4 +45,5 @@ SamplesStart = (a : Automaton) (vs : List ℕ) → SolvesAt (sample_search a) (s
 
 -- and an initial configuration gives a solution
 abbrev pub StartsAreSampled : Type 0
-StartsAreSampled = (a : Automaton) (first : Config) → Initial a first → SolvesAt (sample_search a) (sampled []) (first.parameters ++ map (slice_index first.counters) a.initial)
+StartsAreSampled = (a : Automaton) (first : Config) → Initial a first
+    → SolvesAt (sample_search a) (sampled []) (first.parameters ++ map (slice_index first.counters) a.initial)

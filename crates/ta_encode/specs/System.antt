@@ -1,6 +1,7 @@
 -- The constraint system of a schema: its rows, in order, and its solutions. A schema is given as its past: its elements, the newest first.
 -- Source: Konnov, Lazić, Veith, Widder, POPL 2017 (encoding of contexts and schemas).
-use Rattle.std.specs.Prelude.{ℕ, zero, suc, ℤ, pos, negsuc, ◌+◌, ◌≡◌, ◌==◌, ◌+ℤ◌, ◌-ℤ◌, ◌*ℤ◌, ◌≤ℤ◌, Bool, cond, not, List, [], ◌∷◌, ◌++◌, length, map, filter, flat_map, slice_get, Option, Some, None}
+use Rattle.std.specs.Prelude.{ℕ, zero, suc, ℤ, pos, negsuc, ◌+◌, ◌≡◌, ◌==◌, ◌+ℤ◌, ◌-ℤ◌, ◌*ℤ◌, ◌≤ℤ◌, Bool, cond, not, List, [], ◌∷◌, ◌++◌, length, map, filter}
+use Rattle.std.specs.Prelude.{flat_map, slice_get, Option, Some, None}
 use Rattle.ta_linear.specs.Values.{terms_value}
 use Rattle.ta_linear.specs.declared.form.Form.{Form}
 use Rattle.ta_linear.specs.declared.row.Row.{Row}
@@ -67,7 +68,11 @@ start_coefficient (Single k r) = pos 0
 
 -- the number of processes minus the start counts
 abbrev pub processes_row : Automaton → List Meaning → LinearRow
-processes_row a ms = record { constant = a.processes.constant; coefficients = map (λ m. terms_value (place_coefficient a m) a.processes.terms -ℤ start_coefficient m) ms }
+processes_row a ms = record {
+  constant = a.processes.constant;
+  coefficients = map
+      (λ m. terms_value (place_coefficient a m) a.processes.terms -ℤ start_coefficient m) ms;
+}
 
 -- the Singles of a Fall minus 1, where `before` are the unknowns before them
 abbrev pub singles_row : List Meaning → List ℕ → LinearRow
@@ -113,7 +118,8 @@ unfoldable pub word_rows : Automaton → Pattern → ℕ → List Element → Li
 word_rows a p start [] = start_rows a p start
 word_rows a p start (Event e ∷ past) = word_rows a p start past ++ happening_rows a p start past (meanings a p start (Event e ∷ past)) e
 word_rows a p start (Rise i ∷ past) = word_rows a p start past ++ rise_rows a p start past (meanings a p start (Rise i ∷ past)) i
-word_rows a p start (Fall mask ∷ past) = word_rows a p start past ++ fall_rows a p start past (meanings a p start past ++ counts_after a p start past) (meanings a p start (Fall mask ∷ past)) mask
+word_rows a p start (Fall mask ∷ past) = word_rows a p start past
+    ++ fall_rows a p start past (meanings a p start past ++ counts_after a p start past) (meanings a p start (Fall mask ∷ past)) mask
 
 -- one coefficient, after zeros
 abbrev pub only_at : ℕ → ℤ → List ℤ

@@ -10,15 +10,31 @@
 //! Why these systems miss no run, and why every solution is one: proofs/Reorder.antt and
 //! proofs/Realize.antt. By the limits of automaton files no number of a row leaves 128 bits.
 //!
+//! Also the place in a tree of refutations that is read or made in preorder, for the checker and
+//! the maker (cursor.rt). No tree is ever in memory. What is kept is the node that comes next, and
+//! for each open node above it a frame: what it asks or splits, and which child is being read.
+//! Children are not listed: the answer of a number is computed when its turn comes
+//! (`Tree::answer`). So memory grows with the depth of a tree and not with its size.
+//!
+//! Contracts speak of the list of nodes that are left (`Within`): what a node leaves comes in its
+//! place, and where nothing is left the tree ends. `Tree` is what a search has to say for that: its
+//! starts, what a node may ask, the answers, and the system of a node. Schemas (ta_rest) and
+//! moments (ta_moment_tree) are such trees.
+//!
 //! Source: POPL 2017, schemas and reordering; start sets and joint falls are this project's.
 #![tactic(auto)]
 
+mod ask;
 mod count;
 mod counters;
+mod cursor;
+mod cursor_laws;
+mod cursor_place;
 mod draft;
 mod elements;
 mod encoded;
 mod ending;
+mod frames;
 mod growing;
 mod laws;
 mod line;
@@ -26,12 +42,19 @@ mod meaning;
 mod named;
 mod origin;
 mod place;
+mod places;
 mod rows;
 mod sample;
+mod sharing;
+mod tree;
 mod unknowns;
 mod word;
 
+pub use ask::{Ask, Inner, ask_of};
 pub use count::unknown_count;
+pub use cursor::{Cursor, Frame};
+pub use cursor_laws::begins_within;
+pub use cursor_place::Place;
 pub use encoded::{Encoded, Solution, encode};
 pub use ending::WordEnd;
 pub use growing::{Encoding, Grown, Mark};
@@ -41,4 +64,6 @@ pub use laws::{
 };
 pub use meaning::{Bound, Meaning, Side};
 pub use named::{Named, named_rows};
+pub use place::{change_of, first_location, place_coefficient};
 pub use sample::{encode_sample, samples_are_real};
+pub use tree::{Tree, Written};

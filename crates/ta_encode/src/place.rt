@@ -14,7 +14,7 @@ use ta_automaton::{Automaton, Rule};
 use ta_base::limits::LARGEST_NUMBER;
 
 /// What one of an unknown's value adds at a place.
-pub(crate) fn place_coefficient(automaton: &Automaton, meaning: Meaning, place: u32) -> i128
+pub fn place_coefficient(automaton: &Automaton, meaning: Meaning, place: u32) -> i128
     ensures value { result ≡ place_coefficient automaton.now meaning place }
     ensures small { unsigned_abs result ≤ 17000000000 }
 {
@@ -30,7 +30,7 @@ pub(crate) fn place_coefficient(automaton: &Automaton, meaning: Meaning, place: 
 }
 
 /// The place number of the first location.
-pub(crate) fn first_location(automaton: &Automaton) -> u32
+pub fn first_location(automaton: &Automaton) -> u32
     ensures { result ≡ length automaton.now.parameters + length automaton.now.shared }
 {
     (automaton.parameters.as_slice().len() + automaton.shared.as_slice().len()) as u32
@@ -43,7 +43,7 @@ fn one_if(number: u64, other: u64) -> i128
 }
 
 /// What one firing of a rule, by its number, adds at a place.
-fn change_of(automaton: &Automaton, rule: u32, place: u32) -> i128
+pub fn change_of(automaton: &Automaton, rule: u32, place: u32) -> i128
     ensures value { result ≡ rule_change automaton.now (slice_get automaton.now.rules rule) place }
     ensures small { unsigned_abs result ≤ 17000000000 }
 {

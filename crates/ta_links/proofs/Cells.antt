@@ -1,5 +1,6 @@
 -- Numbers that cells put into places
-use Rattle.ta_links.proofs.Common.{◌≡◌, ◌≢◌, ◌⊎◌, inl, inr, ℕ, zero, suc, ℤ, pos, ◌+ℤ◌, ◌-ℤ◌, ◌<◌, List, [], ◌∷◌, ◌++◌, length, set, arith, ap, ◌∙◌, refl, ints, eqb_tells, zero_or_not, at_or_not, Cell, cell_at, IsLive, only_at_place, shown, value_in}
+use Rattle.ta_links.proofs.Common.{◌≡◌, ◌≢◌, ◌⊎◌, inl, inr, ℕ, zero, suc, ℤ, pos, ◌+ℤ◌, ◌-ℤ◌, ◌<◌, List, [], ◌∷◌, ◌++◌, length, set, arith, ap, ◌∙◌, refl, ints}
+use Rattle.ta_links.proofs.Common.{eqb_tells, zero_or_not, at_or_not, Cell, cell_at, IsLive, only_at_place, shown, value_in}
 
 -- a number stands at its place
 pub placed_here : (row column : ℕ) (value : ℤ) (r c : ℕ) → row ≡ r → column ≡ c → only_at_place row column value r c ≡ value
@@ -25,19 +26,22 @@ placed_zero row column r c = elim (eqb_tells row r) [
 ]
 
 -- cells that show the same in each place
-pub value_same : (new old : List Cell) → length new ≡ length old → ((k : ℕ) → (cell_at new k).row ≡ (cell_at old k).row) → ((k : ℕ) → (cell_at new k).column ≡ (cell_at old k).column) → ((k : ℕ) → (cell_at new k).value ≡ (cell_at old k).value) →
+pub value_same : (new old : List Cell) → length new ≡ length old → ((k : ℕ) → (cell_at new k).row ≡ (cell_at old k).row)
+    → ((k : ℕ) → (cell_at new k).column ≡ (cell_at old k).column) → ((k : ℕ) → (cell_at new k).value ≡ (cell_at old k).value) →
     (r c : ℕ) → value_in new r c ≡ value_in old r c
 value_same [] [] long rows columns values r c = refl
 value_same [] (y ∷ ys) long rows columns values r c = absurd (omega arith)
 value_same (x ∷ xs) [] long rows columns values r c = absurd (omega arith)
 value_same (x ∷ xs) (y ∷ ys) long rows columns values r c =
     let first : shown x r c ≡ shown y r c =
-    ap (λ (m : ℕ). only_at_place m x.column x.value r c) (rows 0) ∙ ap (λ (m : ℕ). only_at_place y.row m x.value r c) (columns 0) ∙ ap (λ (z : ℤ). only_at_place y.row y.column z r c) (values 0) in
+    ap (λ (m : ℕ). only_at_place m x.column x.value r c) (rows 0) ∙ ap (λ (m : ℕ). only_at_place y.row m x.value r c) (columns 0)
+    ∙ ap (λ (z : ℤ). only_at_place y.row y.column z r c) (values 0) in
     let rest = value_same xs ys (omega arith) (λ k. rows (suc k)) (λ k. columns (suc k)) (λ k. values (suc k)) r c in
     ap (λ (z : ℤ). z +ℤ value_in xs r c) first ∙ ap (λ (z : ℤ). shown y r c +ℤ z) rest
 
 -- a cell in another's place
-pub value_set : (cells : List Cell) (i : ℕ) (x : Cell) (r c : ℕ) → i < length cells → value_in (set cells i x) r c ≡ (value_in cells r c -ℤ shown (cell_at cells i) r c) +ℤ shown x r c
+pub value_set : (cells : List Cell) (i : ℕ) (x : Cell) (r c : ℕ) → i < length cells
+    → value_in (set cells i x) r c ≡ (value_in cells r c -ℤ shown (cell_at cells i) r c) +ℤ shown x r c
 value_set [] i x r c h = absurd (omega arith)
 value_set (y ∷ ys) zero x r c h = omega (arith, ints)
 value_set (y ∷ ys) (suc i) x r c h = omega (arith, ints, value_set ys i x r c (omega arith))
@@ -62,7 +66,8 @@ value_none [] r c none = refl
 value_none (x ∷ xs) r c none =
     let rest = value_none xs r c (λ k live e. none (suc k) (next_live x xs k live) e) in
     let first : shown x r c ≡ pos 0 = elim (at_or_not x.row x.column r c) [
-      | inl here ↦ placed_here x.row x.column x.value r c here.0 here.1 ∙ zero_or x (λ value. none 0 (record { inside = omega arith; value = value }) here.0 here.1)
+      | inl here ↦ placed_here x.row x.column x.value r c here.0 here.1
+          ∙ zero_or x (λ value. none 0 (record { inside = omega arith; value = value }) here.0 here.1)
       | inr apart ↦ placed_elsewhere x.row x.column x.value r c apart
     ] in
     omega (arith, ints, first, rest)
@@ -77,9 +82,11 @@ value_found (x ∷ xs) zero r c live e f only =
     omega (arith, ints, first, rest)
 value_found (x ∷ xs) (suc i) r c live e f only =
     let inside = live.inside in
-    let rest = value_found xs i r c (record { inside = omega arith; value = live.value }) e f (λ k alive a b. let same = only (suc k) (next_live x xs k alive) a b in omega arith) in
+    let rest = value_found xs i r c (record { inside = omega arith; value = live.value }) e f
+    (λ k alive a b. let same = only (suc k) (next_live x xs k alive) a b in omega arith) in
     let first : shown x r c ≡ pos 0 = elim (at_or_not x.row x.column r c) [
-      | inl here ↦ placed_here x.row x.column x.value r c here.0 here.1 ∙ zero_or x (λ value. let same = only 0 (record { inside = omega arith; value = value }) here.0 here.1 in omega arith)
+      | inl here ↦ placed_here x.row x.column x.value r c here.0 here.1
+          ∙ zero_or x (λ value. let same = only 0 (record { inside = omega arith; value = value }) here.0 here.1 in omega arith)
       | inr apart ↦ placed_elsewhere x.row x.column x.value r c apart
     ] in
     omega (arith, ints, first, rest)

@@ -1,5 +1,8 @@
 -- A row that is written over, column by column
-use Rattle.ta_links.proofs.Common.{◌≡◌, ◌≢◌, inl, inr, ℕ, zero, suc, ℤ, pos, negsuc, ◌+◌, ◌<◌, ◌≤◌, List, [], ◌∷◌, length, drop, get_or, drop_of_length-le, arith, sym, ap, ◌∙◌, refl, subst, Option, None, cases_lt, IsNormal, coefficient, coefficient-below, IsNormal-le, coefficient-other, coefficient-first, LinkedCells, along_rows, value_in, written, fills, filled_places, AreSound, MayBefore, drop_more, cases_eq}
+use Rattle.ta_links.proofs.Common.{◌≡◌, ◌≢◌, inl, inr, ℕ, zero, suc, ℤ, pos, negsuc, ◌+◌, ◌<◌, ◌≤◌, List, [], ◌∷◌, length, drop, get_or, drop_of_length-le}
+use Rattle.ta_links.proofs.Common.{arith, sym, ap, ◌∙◌, refl, subst, Option, None, cases_lt, IsNormal, coefficient, coefficient-below, IsNormal-le}
+use Rattle.ta_links.proofs.Common.{coefficient-other, coefficient-first, LinkedCells, along_rows, value_in, written, fills, filled_places, AreSound, MayBefore}
+use Rattle.ta_links.proofs.Common.{drop_more, cases_eq}
 use Rattle.ta_links.proofs.Writing.{written_here, written_elsewhere}
 
 pub fills_same : (a b : ℤ) → a ≡ b → fills a b ≡ 0
@@ -17,7 +20,8 @@ filled_same (suc n) f g h same =
     omega arith
 
 -- one number of a row is written that was as before
-pub filled_step : (n : ℕ) (f g h : ℕ → ℤ) (c : ℕ) → c < n → g c ≡ f c → ((j : ℕ) → j ≢ c → h j ≡ g j) → filled_places n f h ≡ filled_places n f g + fills (f c) (h c)
+pub filled_step : (n : ℕ) (f g h : ℕ → ℤ) (c : ℕ) → c < n → g c ≡ f c → ((j : ℕ) → j ≢ c → h j ≡ g j)
+    → filled_places n f h ≡ filled_places n f g + fills (f c) (h c)
 filled_step zero f g h c inside here rest = absurd (omega arith)
 filled_step (suc n) f g h c inside here rest = elim (cases_eq c n) [
   | inl e ↦
@@ -44,9 +48,11 @@ pub record Overwritten (old : LinkedCells) (row : ℕ) (list form : List (ℕ ×
   pub kept : (c : ℕ) → (c < low → coefficient list c ≡ pos 0) → value_in now.cells.items row c ≡ value_in old.cells.items row c
   pub same : (c : ℕ) → low ≤ c → coefficient list c ≡ coefficient (drop index list) c
   pub fresh : old.free_head ≡ None → ((c : ℕ) → value_in old.cells.items row c ≡ pos 0) → now.free_head ≡ None
-  pub held : length now.cells.items ≤ length old.cells.items + filled_places (length old.column_heads.items) (value_in old.cells.items row) (value_in now.cells.items row)
+  pub held : length now.cells.items ≤ length old.cells.items + filled_places (length old.column_heads.items) (value_in old.cells.items row)
+      (value_in now.cells.items row)
 
-pub overwriting : (old : LinkedCells) (row : ℕ) (list form : List (ℕ × ℤ)) → AreSound old → IsNormal 0 (length old.column_heads.items) list → Overwritten old row list form 0 None old
+pub overwriting : (old : LinkedCells) (row : ℕ) (list form : List (ℕ × ℤ)) → AreSound old → IsNormal 0 (length old.column_heads.items) list
+    → Overwritten old row list form 0 None old
 overwriting old row list form sound normal = record {
   low = 0;
   todo = normal;
@@ -63,11 +69,13 @@ overwriting old row list form sound normal = record {
 }
 
 -- the next column is one of the row's
-pub next_column : (old : LinkedCells) (row : ℕ) (list form : List (ℕ × ℤ)) (index : ℕ) (left : Option ℕ) (now : LinkedCells) (d : ℕ × ℤ) → Overwritten old row list form index left now → index < length list →
+pub next_column : (old : LinkedCells) (row : ℕ) (list form : List (ℕ × ℤ)) (index : ℕ) (left : Option ℕ) (now : LinkedCells) (d : ℕ × ℤ)
+    → Overwritten old row list form index left now → index < length list →
     ((get_or list index d).0 < length now.column_heads.items) × MayBefore along_rows now.cells.items row (get_or list index d).0 left
 next_column old row list form index left now d w h =
     let t = get_or list index d in
-    let todo : IsNormal w.low (length old.column_heads.items) (t ∷ drop (index + 1) list) = subst (IsNormal w.low (length old.column_heads.items)) (drop_more list index d h) w.todo in
+    let todo : IsNormal w.low (length old.column_heads.items) (t ∷ drop (index + 1) list) = subst (IsNormal w.low (length old.column_heads.items))
+    (drop_more list index d h) w.todo in
     let high = IsNormal-le (t.0 + 1) (length old.column_heads.items) (drop (index + 1) list) todo.2 in
     let low = todo.0 in
     (omega arith, λ k e. let b = w.start k e in let under = b.low in record { live = b.live; here = b.here; low = omega arith })
@@ -82,8 +90,10 @@ pub record PutOver (now : LinkedCells) (row column : ℕ) (value : ℤ) (left : 
   pub fresh : now.free_head ≡ None → value_in now.cells.items row column ≡ pos 0 → new.free_head ≡ None
   pub held : length new.cells.items ≤ length now.cells.items + fills (value_in now.cells.items row column) value
 
-pub overwritten_more : (old : LinkedCells) (row : ℕ) (list form : List (ℕ × ℤ)) (index : ℕ) (left : Option ℕ) (now : LinkedCells) (d : ℕ × ℤ) (value : ℤ) (left' : Option ℕ) (new : LinkedCells) → Overwritten old row list form index left now → index < length list →
-    value ≡ coefficient form (get_or list index d).0 → PutOver now row (get_or list index d).0 value left' new → Overwritten old row list form (index + 1) left' new
+pub overwritten_more : (old : LinkedCells) (row : ℕ) (list form : List (ℕ × ℤ)) (index : ℕ) (left : Option ℕ) (now : LinkedCells) (d : ℕ × ℤ) (value : ℤ)
+    (left' : Option ℕ) (new : LinkedCells) → Overwritten old row list form index left now → index < length list →
+    value ≡ coefficient form (get_or list index d).0 → PutOver now row (get_or list index d).0 value left' new
+    → Overwritten old row list form (index + 1) left' new
 overwritten_more old row list form index left now d value left' new w h is p =
     let t = get_or list index d in
     let rest = drop (index + 1) list in
@@ -96,7 +106,8 @@ overwritten_more old row list form index left now d value left' new w h is p =
     let listed : (c : ℕ) → w.low ≤ c → coefficient list c ≡ coefficient (t ∷ rest) c = λ c b. w.same c b ∙ ap (λ (xs : List (ℕ × ℤ)). coefficient xs c) split in
     let own : coefficient list t.0 ≢ pos 0 = λ e. todo.1.not_zero (sym (coefficient-first n t rest todo.2) ∙ sym (listed t.0 low) ∙ e) in
     let here : value_in new.cells.items row t.0 ≡ value = p.values row t.0 ∙ written_here f row t.0 value row t.0 refl refl in
-    let elsewhere : (c : ℕ) → c ≢ t.0 → value_in new.cells.items row c ≡ f row c = λ c ne. p.values row c ∙ written_elsewhere f row t.0 value row c (inr (λ e. ne (sym e))) in
+    let elsewhere : (c : ℕ) → c ≢ t.0 → value_in new.cells.items row c ≡ f row c = λ c ne. p.values row c
+    ∙ written_elsewhere f row t.0 value row c (inr (λ e. ne (sym e))) in
     let was : f row t.0 ≡ value_in old.cells.items row t.0 = w.kept t.0 (λ b. absurd (omega arith)) in
     record {
       low = t.0 + 1;
@@ -120,7 +131,8 @@ overwritten_more old row list form index left now d value left' new w h is p =
       fresh = λ e empty. p.fresh (w.fresh e empty) (was ∙ empty t.0);
       held =
           let step = filled_step n (value_in old.cells.items row) (f row) (value_in new.cells.items row) t.0 (omega arith) was (λ j ne. elsewhere j ne) in
-          let one : fills (f row t.0) value ≡ fills (value_in old.cells.items row t.0) (value_in new.cells.items row t.0) = ap (λ (z : ℤ). fills z value) was ∙ ap (fills (value_in old.cells.items row t.0)) (sym here) in
+          let one : fills (f row t.0) value ≡ fills (value_in old.cells.items row t.0) (value_in new.cells.items row t.0) = ap (λ (z : ℤ). fills z value) was
+          ∙ ap (fills (value_in old.cells.items row t.0)) (sym here) in
           omega arith;
     }
 
@@ -128,7 +140,8 @@ pub record OverDone (old : LinkedCells) (row : ℕ) (list form : List (ℕ × �
   pub listed : (c : ℕ) → coefficient list c ≢ pos 0 → value_in now.cells.items row c ≡ coefficient form c
   pub rest : (c : ℕ) → coefficient list c ≡ pos 0 → value_in now.cells.items row c ≡ value_in old.cells.items row c
 
-pub overwritten_all : (old : LinkedCells) (row : ℕ) (list form : List (ℕ × ℤ)) (index : ℕ) (left : Option ℕ) (now : LinkedCells) → Overwritten old row list form index left now → length list ≤ index → OverDone old row list form now
+pub overwritten_all : (old : LinkedCells) (row : ℕ) (list form : List (ℕ × ℤ)) (index : ℕ) (left : Option ℕ) (now : LinkedCells)
+    → Overwritten old row list form index left now → length list ≤ index → OverDone old row list form now
 overwritten_all old row list form index left now w end =
     let none : drop index list ≡ [] = drop_of_length-le list end in
     record {

@@ -1,5 +1,7 @@
 -- A cell that is put into a line keeps chains
-use Rattle.ta_links.proofs.Common.{◌≡◌, ◌≢◌, ◌⊎◌, inl, inr, ℕ, ◌<◌, ◌≤◌, List, length, arith, sym, ap, ◌∙◌, subst, Option, Some, None, some_or_not, none_or_some, Cell, head_at, IsLive, Direction, line_at, place_at, before_at, after_at, IsFirstCell, FollowsCell, IsChained, cases_eq, same_Some, none-some}
+use Rattle.ta_links.proofs.Common.{◌≡◌, ◌≢◌, ◌⊎◌, inl, inr, ℕ, ◌<◌, ◌≤◌, List, length, arith, sym, ap, ◌∙◌, subst, Option, Some, None, some_or_not}
+use Rattle.ta_links.proofs.Common.{none_or_some, Cell, head_at, IsLive, Direction, line_at, place_at, before_at, after_at, IsFirstCell, FollowsCell, IsChained}
+use Rattle.ta_links.proofs.Common.{cases_eq, same_Some, none-some}
 
 -- a cell `x` goes into a line, between the cells `p` and `n`, one or both of which may be missing
 pub record Insertion : Type 0 where
@@ -36,7 +38,8 @@ pub record Insertion : Type 0 where
 
 -- where each live cell of the line stands
 pub stands : (w : Insertion) (k : ℕ) → IsLive w.cells k → line_at w.way w.cells k ≡ w.line →
-    (((h : ℕ) × (w.p ≡ Some h) × (place_at w.way w.cells k ≤ place_at w.way w.cells h) × (place_at w.way w.cells k < w.place)) ⊎ ((j : ℕ) × (w.n ≡ Some j) × (place_at w.way w.cells j ≤ place_at w.way w.cells k) × (w.place < place_at w.way w.cells k)))
+    (((h : ℕ) × (w.p ≡ Some h) × (place_at w.way w.cells k ≤ place_at w.way w.cells h) × (place_at w.way w.cells k < w.place))
+    ⊎ ((j : ℕ) × (w.n ≡ Some j) × (place_at w.way w.cells j ≤ place_at w.way w.cells k) × (w.place < place_at w.way w.cells k)))
 stands w k live at = elim (none_or_some w.p) [
   | inl none ↦ elim (none_or_some w.n) [
     | inl end ↦ absurd (w.chained.empty w.line (w.gap_none none ∙ end) k live at)
@@ -167,7 +170,8 @@ insert_first w q i e = elim (cases_eq q w.line) [
         ];
       }
 
-insert_last : (w : Insertion) (i : ℕ) → IsLive w.cells' i → after_at w.way w.cells' i ≡ None → (k : ℕ) → IsLive w.cells' k → line_at w.way w.cells' k ≡ line_at w.way w.cells' i → place_at w.way w.cells' k ≤ place_at w.way w.cells' i
+insert_last : (w : Insertion) (i : ℕ) → IsLive w.cells' i → after_at w.way w.cells' i ≡ None → (k : ℕ) → IsLive w.cells' k
+    → line_at w.way w.cells' k ≡ line_at w.way w.cells' i → place_at w.way w.cells' k ≤ place_at w.way w.cells' i
 insert_last w i live end k alive at = elim (w.only i live) [
   | inl x ↦
       let none : w.n ≡ None = sym w.after_x ∙ sym (ap (after_at w.way w.cells') x) ∙ end in

@@ -1,5 +1,8 @@
 -- A list of the cells of a line that grows cell by cell
-use Rattle.ta_links.proofs.Common.{◌≡◌, inl, inr, ℕ, ℤ, pos, ◌+◌, ◌<◌, ◌≤◌, List, [], ◌∷◌, ◌++◌, arith, sym, ap, ◌∙◌, refl, Option, None, Some, ints, cases_lt, IsNormal, IsTerm, coefficient, IsNormal-push, IsNormal-higher, coefficient-append, coefficient-above, coefficient-other, coefficient-first, LinkedCells, Way, Rows, Columns, cell_at, IsLive, place_at, AreSound, spot, direction, line_value_at, MayBeOn, IsNext, NoneLeft, Lists, line_places, cases_eq}
+use Rattle.ta_links.proofs.Common.{◌≡◌, inl, inr, ℕ, ℤ, pos, ◌+◌, ◌<◌, ◌≤◌, List, [], ◌∷◌, ◌++◌, arith, sym, ap, ◌∙◌, refl, Option, None, Some, ints, cases_lt}
+use Rattle.ta_links.proofs.Common.{IsNormal, IsTerm, coefficient, IsNormal-push, IsNormal-higher, coefficient-append, coefficient-above, coefficient-other}
+use Rattle.ta_links.proofs.Common.{coefficient-first, LinkedCells, Way, Rows, Columns, cell_at, IsLive, place_at, AreSound, spot, direction, line_value_at}
+use Rattle.ta_links.proofs.Common.{MayBeOn, IsNext, NoneLeft, Lists, line_places, cases_eq}
 
 -- the cells before a place are listed
 pub record Listing (way : Way) (l : LinkedCells) (on : ℕ) (before : Option ℕ) (ts : List (ℕ × ℤ)) : Type 0 where
@@ -12,7 +15,8 @@ pub place_inside : (way : Way) (l : LinkedCells) (i : ℕ) → AreSound l → Is
 place_inside Rows l i s live = s.columns.inside i live
 place_inside Columns l i s live = s.rows.inside i live
 
-pub listed_more : (way : Way) (l : LinkedCells) (on : ℕ) (before : Option ℕ) (ts : List (ℕ × ℤ)) (at : ℕ) (t : ℕ × ℤ) → AreSound l → Listing way l on before ts → IsNext way l.cells.items on before at →
+pub listed_more : (way : Way) (l : LinkedCells) (on : ℕ) (before : Option ℕ) (ts : List (ℕ × ℤ)) (at : ℕ) (t : ℕ × ℤ) → AreSound l → Listing way l on before ts
+    → IsNext way l.cells.items on before at →
     t.0 ≡ place_at (direction way) l.cells.items at → t.1 ≡ (cell_at l.cells.items at).value → Listing way l on (Some at) (ts ++ t ∷ [])
 listed_more way l on before ts at t sound w n e0 e1 =
     let cells = l.cells.items in
@@ -42,11 +46,13 @@ listed_more way l on before ts at t sound w n e0 e1 =
     }
 
 -- how far a walk has come is inside the line
-pub spot_inside : (way : Way) (l : LinkedCells) (on : ℕ) (before : Option ℕ) → AreSound l → MayBeOn way l.cells.items on before → spot (direction way) l.cells.items before ≤ line_places way l
+pub spot_inside : (way : Way) (l : LinkedCells) (on : ℕ) (before : Option ℕ) → AreSound l → MayBeOn way l.cells.items on before
+    → spot (direction way) l.cells.items before ≤ line_places way l
 spot_inside way l on None sound may = omega arith
 spot_inside way l on (Some k) sound may = let m = may k refl in let b = place_inside way l k sound m.live in omega arith
 
-pub listed_all : (way : Way) (l : LinkedCells) (on : ℕ) (before : Option ℕ) (ts : List (ℕ × ℤ)) → AreSound l → Listing way l on before ts → NoneLeft way l.cells.items on before → Lists way l on ts
+pub listed_all : (way : Way) (l : LinkedCells) (on : ℕ) (before : Option ℕ) (ts : List (ℕ × ℤ)) → AreSound l → Listing way l on before ts
+    → NoneLeft way l.cells.items on before → Lists way l on ts
 listed_all way l on before ts sound w none = record {
   normal = IsNormal-higher 0 (spot (direction way) l.cells.items before) (line_places way l) ts (spot_inside way l on before sound w.may) w.normal;
   numbers = λ p. elim (cases_lt p (spot (direction way) l.cells.items before)) [

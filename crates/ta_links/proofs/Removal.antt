@@ -1,5 +1,7 @@
 -- A cell that is taken out of its line keeps chains
-use Rattle.ta_links.proofs.Common.{◌≡◌, ◌≢◌, ◌⊎◌, inl, inr, ℕ, ◌<◌, ◌≤◌, List, length, arith, sym, ap, ◌∙◌, Option, Some, None, some_or_not, none_or_some, Cell, head_at, IsLive, Direction, line_at, place_at, before_at, after_at, IsFirstCell, FollowsCell, IsChained, cases_eq, same_Some, none-some}
+use Rattle.ta_links.proofs.Common.{◌≡◌, ◌≢◌, ◌⊎◌, inl, inr, ℕ, ◌<◌, ◌≤◌, List, length, arith, sym, ap, ◌∙◌, Option, Some, None, some_or_not, none_or_some, Cell}
+use Rattle.ta_links.proofs.Common.{head_at, IsLive, Direction, line_at, place_at, before_at, after_at, IsFirstCell, FollowsCell, IsChained, cases_eq, same_Some}
+use Rattle.ta_links.proofs.Common.{none-some}
 
 -- a live cell `x` leaves its line, where it stood between the cells `p` and `n`, one or both of which may be missing
 pub record Removal : Type 0 where
@@ -18,7 +20,8 @@ pub record Removal : Type 0 where
   pub before_x : before_at way cells x ≡ p
   pub after_x : after_at way cells x ≡ n
   pub old : (k : ℕ) → IsLive cells k → k ≢ x → IsLive cells' k
-  pub only : (k : ℕ) → IsLive cells' k → IsLive cells k × (k ≢ x) × (line_at way cells' k ≡ line_at way cells k) × (place_at way cells' k ≡ place_at way cells k)
+  pub only : (k : ℕ) → IsLive cells' k → IsLive cells k × (k ≢ x) × (line_at way cells' k ≡ line_at way cells k)
+      × (place_at way cells' k ≡ place_at way cells k)
   pub after_p : (k : ℕ) → IsLive cells' k → p ≡ Some k → after_at way cells' k ≡ n
   pub after_rest : (k : ℕ) → IsLive cells' k → p ≢ Some k → after_at way cells' k ≡ after_at way cells k
   pub before_n : (k : ℕ) → IsLive cells' k → n ≡ Some k → before_at way cells' k ≡ p
@@ -36,7 +39,8 @@ behind : (w : Removal) (j : ℕ) → w.n ≡ Some j → FollowsCell w.way w.cell
 behind w j e = w.chained.next w.x j w.live (w.after_x ∙ e)
 
 -- the removed cell is the only one at its place
-alone : (w : Removal) (k : ℕ) → IsLive w.cells k → k ≢ w.x → line_at w.way w.cells k ≡ line_at w.way w.cells w.x → place_at w.way w.cells k ≢ place_at w.way w.cells w.x
+alone : (w : Removal) (k : ℕ) → IsLive w.cells k → k ≢ w.x → line_at w.way w.cells k ≡ line_at w.way w.cells w.x
+    → place_at w.way w.cells k ≢ place_at w.way w.cells w.x
 alone w k live apart at same = apart (w.one k w.x live w.live at same)
 
 apart_or : (w : Removal) (q : ℕ) → ((q ≡ line_at w.way w.cells w.x) × (w.p ≡ None)) ⊎ ((q ≢ line_at w.way w.cells w.x) ⊎ (w.p ≢ None))
@@ -112,7 +116,8 @@ remove_first w q i e = elim (apart_or w q) [
       }
 ]
 
-remove_last : (w : Removal) (i : ℕ) → IsLive w.cells' i → after_at w.way w.cells' i ≡ None → (k : ℕ) → IsLive w.cells' k → line_at w.way w.cells' k ≡ line_at w.way w.cells' i → place_at w.way w.cells' k ≤ place_at w.way w.cells' i
+remove_last : (w : Removal) (i : ℕ) → IsLive w.cells' i → after_at w.way w.cells' i ≡ None → (k : ℕ) → IsLive w.cells' k
+    → line_at w.way w.cells' k ≡ line_at w.way w.cells' i → place_at w.way w.cells' k ≤ place_at w.way w.cells' i
 remove_last w i live end k alive at =
     let o = w.only i live in
     let m = w.only k alive in

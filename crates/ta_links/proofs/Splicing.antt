@@ -1,17 +1,22 @@
 -- What splicing leaves and writes of each cell
-use Rattle.ta_links.proofs.Common.{◌≡◌, ◌≢◌, inl, inr, ℕ, ◌<◌, List, length, set, arith, sym, ap, ◌∙◌, refl, subst, Option, Some, None, get_or-set_same, get_or-set_other, length-set, Cell, Way, Rows, Columns, no_cell, cell_at, line_at, place_at, before_at, after_at, Direction, along_rows, along_columns, direction, with_after, with_before, linked, spliced, cases_eq}
+use Rattle.ta_links.proofs.Common.{◌≡◌, ◌≢◌, inl, inr, ℕ, ◌<◌, List, length, set, arith, sym, ap, ◌∙◌, refl, subst, Option, Some, None, get_or-set_same}
+use Rattle.ta_links.proofs.Common.{get_or-set_other, length-set, Cell, Way, Rows, Columns, no_cell, cell_at, line_at, place_at, before_at, after_at, Direction}
+use Rattle.ta_links.proofs.Common.{along_rows, along_columns, direction, with_after, with_before, linked, spliced, cases_eq}
 
 abbrev pub other : Way → Way
 other Rows = Columns
 other Columns = Rows
 
-linked_hit : (write : Option ℕ → Cell → Cell) (cells : List Cell) (at to : Option ℕ) (k : ℕ) → at ≡ Some k → k < length cells → cell_at (linked write cells at to) k ≡ write to (cell_at cells k)
+linked_hit : (write : Option ℕ → Cell → Cell) (cells : List Cell) (at to : Option ℕ) (k : ℕ) → at ≡ Some k → k < length cells
+    → cell_at (linked write cells at to) k ≡ write to (cell_at cells k)
 linked_hit write cells None to k e h = absurd (cc)
 linked_hit write cells (Some j) to k e h =
     let same : j ≡ k = cc in
-    subst (λ (m : ℕ). cell_at (set cells m (write to (cell_at cells m))) k ≡ write to (cell_at cells k)) (sym same) (get_or-set_same cells k (write to (cell_at cells k)) no_cell h)
+    subst (λ (m : ℕ). cell_at (set cells m (write to (cell_at cells m))) k ≡ write to (cell_at cells k)) (sym same)
+    (get_or-set_same cells k (write to (cell_at cells k)) no_cell h)
 
-linked_miss : (write : Option ℕ → Cell → Cell) (cells : List Cell) (at to : Option ℕ) (k : ℕ) → at ≢ Some k → cell_at (linked write cells at to) k ≡ cell_at cells k
+linked_miss : (write : Option ℕ → Cell → Cell) (cells : List Cell) (at to : Option ℕ) (k : ℕ) → at ≢ Some k
+    → cell_at (linked write cells at to) k ≡ cell_at cells k
 linked_miss write cells None to k e = refl
 linked_miss write cells (Some j) to k e = get_or-set_other cells j k (write to (cell_at cells j)) no_cell (λ s. e (ap (λ (m : ℕ). Some m) (sym s)))
 
@@ -19,7 +24,8 @@ linked_length : (write : Option ℕ → Cell → Cell) (cells : List Cell) (at t
 linked_length write cells None to = refl
 linked_length write cells (Some j) to = length-set cells j (write to (cell_at cells j))
 
-linked_keeps : {A : Type 0} (g : Cell → A) (write : Option ℕ → Cell → Cell) (cells : List Cell) (at to : Option ℕ) → ((c : Cell) → g (write to c) ≡ g c) → ((j : ℕ) → at ≡ Some j → j < length cells) → (k : ℕ) → g (cell_at (linked write cells at to) k) ≡ g (cell_at cells k)
+linked_keeps : {A : Type 0} (g : Cell → A) (write : Option ℕ → Cell → Cell) (cells : List Cell) (at to : Option ℕ) → ((c : Cell) → g (write to c) ≡ g c)
+    → ((j : ℕ) → at ≡ Some j → j < length cells) → (k : ℕ) → g (cell_at (linked write cells at to) k) ≡ g (cell_at cells k)
 linked_keeps g write cells None to same inside k = refl
 linked_keeps g write cells (Some j) to same inside k = elim (cases_eq j k) [
   | inl e ↦
@@ -42,38 +48,53 @@ pub record Spliced (way : Way) (cells : List Cell) (before after forward back : 
   pub other_before : (k : ℕ) → before_at (direction (other way)) new k ≡ before_at (direction (other way)) cells k
 
 -- what both writes leave of a cell
-both_keep : {A : Type 0} (g : Cell → A) (way : Way) (cells : List Cell) (before after forward back : Option ℕ) → ((c : Cell) → g (with_after way forward c) ≡ g c) → ((c : Cell) → g (with_before way back c) ≡ g c) →
-    ((j : ℕ) → before ≡ Some j → j < length cells) → ((j : ℕ) → after ≡ Some j → j < length cells) → (k : ℕ) → g (cell_at (spliced way cells before after forward back) k) ≡ g (cell_at cells k)
+both_keep : {A : Type 0} (g : Cell → A) (way : Way) (cells : List Cell) (before after forward back : Option ℕ)
+    → ((c : Cell) → g (with_after way forward c) ≡ g c) → ((c : Cell) → g (with_before way back c) ≡ g c) →
+    ((j : ℕ) → before ≡ Some j → j < length cells) → ((j : ℕ) → after ≡ Some j → j < length cells) → (k : ℕ)
+    → g (cell_at (spliced way cells before after forward back) k) ≡ g (cell_at cells k)
 both_keep g way cells before after forward back f b in_before in_after k =
     let long = linked_length (with_after way) cells before forward in
-    linked_keeps g (with_before way) (linked (with_after way) cells before forward) after back b (λ j e. let h = in_after j e in omega arith) k ∙ linked_keeps g (with_after way) cells before forward f in_before k
+    linked_keeps g (with_before way) (linked (with_after way) cells before forward) after back b (λ j e. let h = in_after j e in omega arith) k
+    ∙ linked_keeps g (with_after way) cells before forward f in_before k
 
 -- the link forward, and the link back
-forward_is : {A : Type 0} (g : Cell → A) (way : Way) (cells : List Cell) (before after forward back : Option ℕ) → ((c : Cell) → g (with_before way back c) ≡ g c) →
-    ((j : ℕ) → before ≡ Some j → j < length cells) → ((j : ℕ) → after ≡ Some j → j < length cells) → (k : ℕ) → before ≡ Some k → g (cell_at (spliced way cells before after forward back) k) ≡ g (with_after way forward (cell_at cells k))
+forward_is : {A : Type 0} (g : Cell → A) (way : Way) (cells : List Cell) (before after forward back : Option ℕ)
+    → ((c : Cell) → g (with_before way back c) ≡ g c) →
+    ((j : ℕ) → before ≡ Some j → j < length cells) → ((j : ℕ) → after ≡ Some j → j < length cells) → (k : ℕ) → before ≡ Some k
+    → g (cell_at (spliced way cells before after forward back) k) ≡ g (with_after way forward (cell_at cells k))
 forward_is g way cells before after forward back b in_before in_after k e =
     let long = linked_length (with_after way) cells before forward in
-    linked_keeps g (with_before way) (linked (with_after way) cells before forward) after back b (λ j e. let h = in_after j e in omega arith) k ∙ ap g (linked_hit (with_after way) cells before forward k e (in_before k e))
+    linked_keeps g (with_before way) (linked (with_after way) cells before forward) after back b (λ j e. let h = in_after j e in omega arith) k
+    ∙ ap g (linked_hit (with_after way) cells before forward k e (in_before k e))
 
-forward_rest : {A : Type 0} (g : Cell → A) (way : Way) (cells : List Cell) (before after forward back : Option ℕ) → ((c : Cell) → g (with_before way back c) ≡ g c) →
-    ((j : ℕ) → after ≡ Some j → j < length cells) → (k : ℕ) → before ≢ Some k → g (cell_at (spliced way cells before after forward back) k) ≡ g (cell_at cells k)
+forward_rest : {A : Type 0} (g : Cell → A) (way : Way) (cells : List Cell) (before after forward back : Option ℕ)
+    → ((c : Cell) → g (with_before way back c) ≡ g c) →
+    ((j : ℕ) → after ≡ Some j → j < length cells) → (k : ℕ) → before ≢ Some k
+    → g (cell_at (spliced way cells before after forward back) k) ≡ g (cell_at cells k)
 forward_rest g way cells before after forward back b in_after k e =
     let long = linked_length (with_after way) cells before forward in
-    linked_keeps g (with_before way) (linked (with_after way) cells before forward) after back b (λ j e. let h = in_after j e in omega arith) k ∙ ap g (linked_miss (with_after way) cells before forward k e)
+    linked_keeps g (with_before way) (linked (with_after way) cells before forward) after back b (λ j e. let h = in_after j e in omega arith) k
+    ∙ ap g (linked_miss (with_after way) cells before forward k e)
 
-back_is : {A : Type 0} (g : Cell → A) (way : Way) (cells : List Cell) (before after forward back : Option ℕ) → ((j : ℕ) → after ≡ Some j → j < length cells) → (to : A) → ((c : Cell) → g (with_before way back c) ≡ to) →
+back_is : {A : Type 0} (g : Cell → A) (way : Way) (cells : List Cell) (before after forward back : Option ℕ) → ((j : ℕ) → after ≡ Some j → j < length cells)
+    → (to : A) → ((c : Cell) → g (with_before way back c) ≡ to) →
     (k : ℕ) → after ≡ Some k → g (cell_at (spliced way cells before after forward back) k) ≡ to
 back_is g way cells before after forward back in_after to b k e =
     let long = linked_length (with_after way) cells before forward in
     let h = in_after k e in
-    ap g (linked_hit (with_before way) (linked (with_after way) cells before forward) after back k e (omega arith)) ∙ b (cell_at (linked (with_after way) cells before forward) k)
+    ap g (linked_hit (with_before way) (linked (with_after way) cells before forward) after back k e (omega arith))
+    ∙ b (cell_at (linked (with_after way) cells before forward) k)
 
-back_rest : {A : Type 0} (g : Cell → A) (way : Way) (cells : List Cell) (before after forward back : Option ℕ) → ((c : Cell) → g (with_after way forward c) ≡ g c) →
-    ((j : ℕ) → before ≡ Some j → j < length cells) → (k : ℕ) → after ≢ Some k → g (cell_at (spliced way cells before after forward back) k) ≡ g (cell_at cells k)
+back_rest : {A : Type 0} (g : Cell → A) (way : Way) (cells : List Cell) (before after forward back : Option ℕ)
+    → ((c : Cell) → g (with_after way forward c) ≡ g c) →
+    ((j : ℕ) → before ≡ Some j → j < length cells) → (k : ℕ) → after ≢ Some k
+    → g (cell_at (spliced way cells before after forward back) k) ≡ g (cell_at cells k)
 back_rest g way cells before after forward back f in_before k e =
-    ap g (linked_miss (with_before way) (linked (with_after way) cells before forward) after back k e) ∙ linked_keeps g (with_after way) cells before forward f in_before k
+    ap g (linked_miss (with_before way) (linked (with_after way) cells before forward) after back k e)
+    ∙ linked_keeps g (with_after way) cells before forward f in_before k
 
-pub splice_facts : (way : Way) (cells : List Cell) (before after forward back : Option ℕ) → ((j : ℕ) → before ≡ Some j → j < length cells) → ((j : ℕ) → after ≡ Some j → j < length cells) →
+pub splice_facts : (way : Way) (cells : List Cell) (before after forward back : Option ℕ) → ((j : ℕ) → before ≡ Some j → j < length cells)
+    → ((j : ℕ) → after ≡ Some j → j < length cells) →
     Spliced way cells before after forward back (spliced way cells before after forward back)
 splice_facts Rows cells before after forward back b a = record {
   long = linked_length (with_before Rows) (linked (with_after Rows) cells before forward) after back ∙ linked_length (with_after Rows) cells before forward;
@@ -88,7 +109,8 @@ splice_facts Rows cells before after forward back b a = record {
   other_before = both_keep (λ (c : Cell). c.above) Rows cells before after forward back (λ c. refl) (λ c. refl) b a;
 }
 splice_facts Columns cells before after forward back b a = record {
-  long = linked_length (with_before Columns) (linked (with_after Columns) cells before forward) after back ∙ linked_length (with_after Columns) cells before forward;
+  long = linked_length (with_before Columns) (linked (with_after Columns) cells before forward) after back
+      ∙ linked_length (with_after Columns) cells before forward;
   row = both_keep (λ (c : Cell). c.row) Columns cells before after forward back (λ c. refl) (λ c. refl) b a;
   column = both_keep (λ (c : Cell). c.column) Columns cells before after forward back (λ c. refl) (λ c. refl) b a;
   value = both_keep (λ (c : Cell). c.value) Columns cells before after forward back (λ c. refl) (λ c. refl) b a;
@@ -111,7 +133,8 @@ pub record Relinked (way : Direction) (cells : List Cell) (before after forward 
   pub before_hit : (k : ℕ) → after ≡ Some k → before_at way new k ≡ back
   pub before_rest : (k : ℕ) → after ≢ Some k → before_at way new k ≡ before_at way cells k
 
-pub rows_relinked : (cells s1 s2 : List Cell) (b a f k b' a' f' k' : Option ℕ) → Spliced Rows cells b a f k s1 → Spliced Columns s1 b' a' f' k' s2 → Relinked along_rows cells b a f k s2
+pub rows_relinked : (cells s1 s2 : List Cell) (b a f k b' a' f' k' : Option ℕ) → Spliced Rows cells b a f k s1 → Spliced Columns s1 b' a' f' k' s2
+    → Relinked along_rows cells b a f k s2
 rows_relinked cells s1 s2 b a f k b' a' f' k' one two = record {
   long = two.long ∙ one.long;
   line = λ i. two.row i ∙ one.row i;
@@ -123,7 +146,8 @@ rows_relinked cells s1 s2 b a f k b' a' f' k' one two = record {
   before_rest = λ i e. two.other_before i ∙ one.before_rest i e;
 }
 
-pub columns_relinked : (cells s1 s2 : List Cell) (b a f k b' a' f' k' : Option ℕ) → Spliced Rows cells b a f k s1 → Spliced Columns s1 b' a' f' k' s2 → Relinked along_columns cells b' a' f' k' s2
+pub columns_relinked : (cells s1 s2 : List Cell) (b a f k b' a' f' k' : Option ℕ) → Spliced Rows cells b a f k s1 → Spliced Columns s1 b' a' f' k' s2
+    → Relinked along_columns cells b' a' f' k' s2
 columns_relinked cells s1 s2 b a f k b' a' f' k' one two = record {
   long = two.long ∙ one.long;
   line = λ i. two.column i ∙ one.column i;
@@ -136,4 +160,5 @@ columns_relinked cells s1 s2 b a f k b' a' f' k' one two = record {
 }
 
 pub spliced_long : (way : Way) (cells : List Cell) (before after forward back : Option ℕ) → length (spliced way cells before after forward back) ≡ length cells
-spliced_long way cells before after forward back = linked_length (with_before way) (linked (with_after way) cells before forward) after back ∙ linked_length (with_after way) cells before forward
+spliced_long way cells before after forward back = linked_length (with_before way) (linked (with_after way) cells before forward) after back
+    ∙ linked_length (with_after way) cells before forward

@@ -1,5 +1,8 @@
 -- A cell that is taken, and one that is freed
-use Rattle.ta_links.proofs.Common.{◌≡◌, ◌≢◌, inl, inr, ℕ, ℤ, pos, ◌+ℤ◌, ◌<◌, ◌≤◌, ◌+◌, List, [], ◌∷◌, ◌++◌, length, set, arith, sym, ap, ◌∙◌, refl, subst, Option, Some, None, ints, cases_lt, get_or-set_same, get_or-set_other, length-set, length-append, get_or_append_left, get_or_at, get_or_past, Cell, no_cell, cell_at, IsLive, NotIn, FreeVisits, IsFree, only_at_place, shown, value_in, taken, taken_at, next_free}
+use Rattle.ta_links.proofs.Common.{◌≡◌, ◌≢◌, inl, inr, ℕ, ℤ, pos, ◌+ℤ◌, ◌<◌, ◌≤◌, ◌+◌, List, [], ◌∷◌, ◌++◌, length, set, arith, sym, ap, ◌∙◌, refl, subst}
+use Rattle.ta_links.proofs.Common.{Option, Some, None, ints, cases_lt, get_or-set_same, get_or-set_other, length-set, length-append, get_or_append_left}
+use Rattle.ta_links.proofs.Common.{get_or_at, get_or_past, Cell, no_cell, cell_at, IsLive, NotIn, FreeVisits, IsFree, only_at_place, shown, value_in, taken}
+use Rattle.ta_links.proofs.Common.{taken_at, next_free}
 use Rattle.ta_links.proofs.Cells.{value_set, value_push, placed_zero}
 
 -- the cells after one was taken at an index that wasn't live
@@ -25,7 +28,8 @@ at_end cells cell k ne = elim (cases_lt k (length cells)) [
       get_or_past (cells ++ cell ∷ []) k no_cell (omega arith) ∙ sym (get_or_past cells k no_cell (omega arith))
 ]
 
-taken_end : (cells : List Cell) (cell : Cell) (visited : List ℕ) → FreeVisits cells None visited → ((i : ℕ) → i < length cells → NotIn i visited → (cell_at cells i).value ≢ pos 0) → Taken cells None cell (length cells) (cells ++ cell ∷ [])
+taken_end : (cells : List Cell) (cell : Cell) (visited : List ℕ) → FreeVisits cells None visited
+    → ((i : ℕ) → i < length cells → NotIn i visited → (cell_at cells i).value ≢ pos 0) → Taken cells None cell (length cells) (cells ++ cell ∷ [])
 taken_end cells cell (i ∷ is) visits all = absurd (let e = visits.0 in cc)
 taken_end cells cell [] visits all =
     let long = length-append cells (cell ∷ []) in
@@ -47,7 +51,8 @@ taken_end cells cell [] visits all =
 ap_visits : (cells : List Cell) (a i : ℕ) (is : List ℕ) → a ≡ i → FreeVisits cells (cell_at cells i).right is → FreeVisits cells (cell_at cells a).right is
 ap_visits cells a i is e v = subst (λ (m : ℕ). FreeVisits cells (cell_at cells m).right is) (sym e) v
 
-taken_free : (cells : List Cell) (a : ℕ) (cell : Cell) (visited : List ℕ) → FreeVisits cells (Some a) visited → ((i : ℕ) → i < length cells → NotIn i visited → (cell_at cells i).value ≢ pos 0) → Taken cells (Some a) cell a (set cells a cell)
+taken_free : (cells : List Cell) (a : ℕ) (cell : Cell) (visited : List ℕ) → FreeVisits cells (Some a) visited
+    → ((i : ℕ) → i < length cells → NotIn i visited → (cell_at cells i).value ≢ pos 0) → Taken cells (Some a) cell a (set cells a cell)
 taken_free cells a cell [] visits all = absurd (let e = visits in cc)
 taken_free cells a cell (i ∷ is) visits all =
     let same : a ≡ i = let e = visits.0 in cc in
@@ -62,7 +67,8 @@ taken_free cells a cell (i ∷ is) visits all =
       only = λ k h ne. omega arith;
       dead = λ k live e. live.value (ap (λ (m : ℕ). (cell_at cells m).value) e ∙ dead);
       shows = λ r c.
-          let old : shown (cell_at cells a) r c ≡ pos 0 = ap (λ (z : ℤ). only_at_place (cell_at cells a).row (cell_at cells a).column z r c) dead ∙ placed_zero (cell_at cells a).row (cell_at cells a).column r c in
+          let old : shown (cell_at cells a) r c ≡ pos 0 = ap (λ (z : ℤ). only_at_place (cell_at cells a).row (cell_at cells a).column z r c) dead
+          ∙ placed_zero (cell_at cells a).row (cell_at cells a).column r c in
           let now = value_set cells a cell r c (omega arith) in
           omega (arith, ints, old, now);
       left = is;
@@ -77,7 +83,8 @@ taken_facts cells (Some a) cell f = taken_free cells a cell f.visited f.visits f
 
 -- a chain of free cells that other cells keep
 pub visits_kept : (cells new : List Cell) (head : Option ℕ) (is : List ℕ) (at : ℕ) → FreeVisits cells head is → NotIn at is → length cells ≤ length new →
-    ((k : ℕ) → k ≢ at → (cell_at cells k).value ≡ pos 0 → ((cell_at new k).value ≡ pos 0) × ((cell_at new k).right ≡ (cell_at cells k).right)) → FreeVisits new head is
+    ((k : ℕ) → k ≢ at → (cell_at cells k).value ≡ pos 0 → ((cell_at new k).value ≡ pos 0) × ((cell_at new k).right ≡ (cell_at cells k).right))
+    → FreeVisits new head is
 visits_kept cells new head [] at v out longer keep = v
 visits_kept cells new head (i ∷ is) at v out longer keep =
     let ne : i ≢ at = λ e. out.0 (sym e) in

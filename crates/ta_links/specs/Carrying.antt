@@ -43,12 +43,13 @@ pub record AreKeptBelow (first : ℕ) (heads : List RowHead) (old : LinkedCells)
   pub heads_same : (i : ℕ) → i < first → get_or heads' i no_head ≡ get_or heads i no_head
 
 -- rows were carried through a pivot
-pub record RowsCarried (columns first count : ℕ) (k : KeptPivot) (heads : List RowHead) (old : LinkedCells) (heads' : List RowHead) (new : LinkedCells) : Type 0 where
-  pub room : IsRoom columns (first + count) heads' new
-  pub empty : IsEmpty (first + count) new
-  pub kept : AreKeptBelow first heads old heads' new
-  pub rows : rows_from heads' new columns first count ≡ after_pivot columns k (rows_from heads old columns first count)
-  pub within : RowsMergeBelow k.column (chosen_row columns k) (rows_from heads old columns first count) count
+pub record RowsCarried (columns first count : ℕ) (k : KeptPivot) (heads : List RowHead) (old : LinkedCells) (heads' : List RowHead) (new : LinkedCells) : Type 0
+  where
+    pub room : IsRoom columns (first + count) heads' new
+    pub empty : IsEmpty (first + count) new
+    pub kept : AreKeptBelow first heads old heads' new
+    pub rows : rows_from heads' new columns first count ≡ after_pivot columns k (rows_from heads old columns first count)
+    pub within : RowsMergeBelow k.column (chosen_row columns k) (rows_from heads old columns first count) count
 
 -- the first of them that does not stay in range has this number
 pub record CarryRefused (columns first count : ℕ) (k : KeptPivot) (heads : List RowHead) (old : LinkedCells) (at : ℕ) : Type 0 where

@@ -57,7 +57,8 @@ pub record FollowsCell (way : Direction) (cells : List Cell) (i j : ℕ) : Type 
   pub here : line_at way cells j ≡ line_at way cells i
   pub rises : place_at way cells i < place_at way cells j
   pub back : before_at way cells j ≡ Some i
-  pub nothing_between : (k : ℕ) → IsLive cells k → line_at way cells k ≡ line_at way cells i → (place_at way cells k ≤ place_at way cells i) ⊎ (place_at way cells j ≤ place_at way cells k)
+  pub nothing_between : (k : ℕ) → IsLive cells k → line_at way cells k ≡ line_at way cells i → (place_at way cells k ≤ place_at way cells i)
+      ⊎ (place_at way cells j ≤ place_at way cells k)
 
 -- each line's chain visits exactly the live cells of the line by rising place: it begins with the first of them, leads from each to the
 -- next, and ends with the last; the links back agree with the links forward
@@ -66,6 +67,7 @@ pub record IsChained (way : Direction) (cells : List Cell) (heads : List (Option
   pub empty : (line : ℕ) → head_at heads line ≡ None → (k : ℕ) → IsLive cells k → line_at way cells k ≢ line
   pub first : (line i : ℕ) → head_at heads line ≡ Some i → IsFirstCell way cells line i
   pub next : (i j : ℕ) → IsLive cells i → after_at way cells i ≡ Some j → FollowsCell way cells i j
-  pub last : (i : ℕ) → IsLive cells i → after_at way cells i ≡ None → (k : ℕ) → IsLive cells k → line_at way cells k ≡ line_at way cells i → place_at way cells k ≤ place_at way cells i
+  pub last : (i : ℕ) → IsLive cells i → after_at way cells i ≡ None → (k : ℕ) → IsLive cells k → line_at way cells k ≡ line_at way cells i
+      → place_at way cells k ≤ place_at way cells i
   pub begins : (i : ℕ) → IsLive cells i → before_at way cells i ≡ None → head_at heads (line_at way cells i) ≡ Some i
   pub back : (i h : ℕ) → IsLive cells i → before_at way cells i ≡ Some h → IsLive cells h × (after_at way cells h ≡ Some i)

@@ -12,7 +12,8 @@ abbrev pub raised_head : ℕ → ℕ → RowHead → RowHead
 raised_head unknowns new h = record { basic = raised unknowns new h.basic; denominator = h.denominator; constant = h.constant }
 
 -- rows were carried through the first j pivots, one after another
-pub record AllCarried (columns first count : ℕ) (ks : List KeptPivot) (j : ℕ) (heads : List RowHead) (old : LinkedCells) (heads' : List RowHead) (new : LinkedCells) : Type 0 where
+pub record AllCarried (columns first count : ℕ) (ks : List KeptPivot) (j : ℕ) (heads : List RowHead) (old : LinkedCells) (heads' : List RowHead)
+    (new : LinkedCells) : Type 0 where
   pub room : IsRoom columns (first + count) heads' new
   pub empty : IsEmpty (first + count) new
   pub kept : AreKeptBelow first heads old heads' new
@@ -23,4 +24,5 @@ pub record AllCarried (columns first count : ℕ) (ks : List KeptPivot) (j : ℕ
 pub record IsRefusal (columns first count : ℕ) (ks : List KeptPivot) (heads : List RowHead) (old : LinkedCells) (pivot row : ℕ) : Type 0 where
   pub before : StayInRange columns ks pivot (rows_from heads old columns first count)
   pub low : first ≤ row
-  pub refused : FirstRefused (kept_at ks pivot).column (chosen_row columns (kept_at ks pivot)) (carried columns ks pivot (rows_from heads old columns first count)) (row - first)
+  pub refused : FirstRefused (kept_at ks pivot).column (chosen_row columns (kept_at ks pivot))
+      (carried columns ks pivot (rows_from heads old columns first count)) (row - first)

@@ -8,7 +8,14 @@ use Rattle.ta_links.specs.declared.kept.LinkedPivot.TheInside.{Inside}
 
 -- what the fields of a kept pivot mean
 abbrev pub sparse_pivot_view : Inside → KeptPivot
-sparse_pivot_view k = record { row = k.row; column = k.column; denominator = k.denominator; constant = k.chosen.constant; cells = coefficients k.columns k.chosen.terms }
+sparse_pivot_view k = record {
+  row = k.row;
+  column = k.column;
+  denominator = k.denominator;
+  constant = k.chosen.constant;
+  cells = coefficients k.columns
+      k.chosen.terms;
+}
 
 -- what they keep
 pub record IsSoundSparsePivot (k : Inside) : Type 0 where

@@ -82,7 +82,8 @@ pub record MergeRefused (first columns row at column : ℕ) (heads : List RowHea
   pub refused : ¬ (MergesInRange column (row_in heads old columns row) (row_in heads old columns at))
 
 -- the rows before a place that are not spared were merged
-pub record MergedBelow (first columns row column : ℕ) (heads : List RowHead) (old : LinkedCells) (place : ℕ) (heads' : List RowHead) (new : LinkedCells) : Type 0 where
+pub record MergedBelow (first columns row column : ℕ) (heads : List RowHead) (old : LinkedCells) (place : ℕ) (heads' : List RowHead) (new : LinkedCells) : Type
+    0 where
   pub sound : AreSound new
   pub row_heads : length new.row_heads.items ≡ length old.row_heads.items
   pub column_heads : length new.column_heads.items ≡ length old.column_heads.items
@@ -90,7 +91,8 @@ pub record MergedBelow (first columns row column : ℕ) (heads : List RowHead) (
   pub proper : AreProperHeads heads'
   pub rest : (i c : ℕ) → (place ≤ i) ⊎ IsSpared first row i → value_in new.cells.items i c ≡ value_in old.cells.items i c
   pub rest_heads : (i : ℕ) → (place ≤ i) ⊎ IsSpared first row i → get_or heads' i no_head ≡ get_or heads i no_head
-  pub done : (i : ℕ) → i < place → ¬ (IsSpared first row i) → row_in heads' new columns i ≡ merged column (row_in heads old columns row) (row_in heads old columns i)
+  pub done : (i : ℕ) → i < place → ¬ (IsSpared first row i)
+      → row_in heads' new columns i ≡ merged column (row_in heads old columns row) (row_in heads old columns i)
   pub within : (i : ℕ) → i < place → ¬ (IsSpared first row i) → MergesInRange column (row_in heads old columns row) (row_in heads old columns i)
   pub held : length new.cells.items ≤ length old.cells.items + filled_rows place columns (value_in old.cells.items) (value_in new.cells.items)
 

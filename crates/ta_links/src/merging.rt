@@ -19,10 +19,29 @@ use std::alloc::AllocError;
 use ta_dense::combined;
 use ta_linear::gcd_natural;
 
+/// How a row is merged with the chosen one: `p` times its numbers less `q` times those of the chosen row.
+#[derive(Clone, Copy)]
+pub(crate) struct Merge {
+    /// The chosen row.
+    pub row: u32,
+    /// The row that is merged with it.
+    pub at: u32,
+    /// The factor of the row that is merged.
+    pub p: i128,
+    /// The factor of the chosen row.
+    pub q: i128,
+    /// The column of the variable that enters.
+    pub column: u32,
+    /// The number that this column gets.
+    pub turned: i128,
+}
+
 /// The last cells before a place in the row that is merged and in the chosen one.
 #[derive(Clone, Copy)]
 struct Cursors {
+    /// That of the row that is merged.
     at: Option<usize>,
+    /// That of the chosen row.
     chosen: Option<usize>,
 }
 
@@ -43,34 +62,27 @@ fn moved(links: &LinkedCells, row: u32, at: u32, cursors: Cursors, place: u32) -
 }
 
 // The number at a place of row `at`, merged with `row`, where it is in range.
-fn merged_number(
-    links: &LinkedCells,
-    row: u32,
-    at: u32,
-    cursors: Cursors,
-    p: i128,
-    q: i128,
-    column: u32,
-    turned: i128,
-    place: u32,
-) -> Option<i128>
+fn merged_number(links: &LinkedCells, merge: Merge, cursors: Cursors, place: u32) -> Option<i128>
     requires sound { AreSound links.now }
-    requires row { row < length links.now.row_heads.items }
-    requires at { at < length links.now.row_heads.items }
-    requires turned { InRange turned }
-    requires sought_at { IsSought along_rows links.now.cells.items links.now.row_heads.items at place cursors.at }
-    requires sought_chosen { IsSought along_rows links.now.cells.items links.now.row_heads.items row place cursors.chosen }
-    ensures value { IfSome result (λ z. z ≡ merged_cell p q column turned (value_in links.now.cells.items at) (value_in links.now.cells.items row) place) }
+    requires row { merge.row < length links.now.row_heads.items }
+    requires at { merge.at < length links.now.row_heads.items }
+    requires turned { InRange merge.turned }
+    requires sought_at { IsSought along_rows links.now.cells.items links.now.row_heads.items merge.at place cursors.at }
+    requires sought_chosen { IsSought along_rows links.now.cells.items links.now.row_heads.items merge.row place cursors.chosen }
+    ensures value { IfSome result (λ z. z
+        ≡ merged_cell merge.p merge.q merge.column merge.turned (value_in links.now.cells.items merge.at) (value_in links.now.cells.items merge.row) place) }
     ensures fits { IfSome result InRange }
-    ensures within { IfSome result (λ _. MergesAt p q column (value_in links.now.cells.items at) (value_in links.now.cells.items row) place) }
-    ensures refused { IfNone result (¬ (MergesAt p q column (value_in links.now.cells.items at) (value_in links.now.cells.items row) place)) }
+    ensures within { IfSome result
+        (λ _. MergesAt merge.p merge.q merge.column (value_in links.now.cells.items merge.at) (value_in links.now.cells.items merge.row) place) }
+    ensures refused { IfNone result
+        (¬ (MergesAt merge.p merge.q merge.column (value_in links.now.cells.items merge.at) (value_in links.now.cells.items merge.row) place)) }
 {
-    if place == column {
-        return Some(turned);
+    if place == merge.column {
+        return Some(merge.turned);
     }
-    let number_at = number_behind(links, at, place, cursors.at);
-    let chosen_at = number_behind(links, row, place, cursors.chosen);
-    combined(p, number_at, q, chosen_at)
+    let number_at = number_behind(links, merge.at, place, cursors.at);
+    let chosen_at = number_behind(links, merge.row, place, cursors.chosen);
+    combined(merge.p, number_at, merge.q, chosen_at)
 }
 
 // A number divided by a positive one.
@@ -87,23 +99,21 @@ pub(crate) fn quotient(number: i128, divisor: i128) -> i128
 pub(crate) fn divisor_of_merged(
     links: &LinkedCells,
     columns: u32,
-    row: u32,
-    at: u32,
-    p: i128,
-    q: i128,
-    column: u32,
-    turned: i128,
+    merge: Merge,
     first: u128,
 ) -> Option<u128>
     requires sound { AreSound links.now }
-    requires row { row < length links.now.row_heads.items }
-    requires at { at < length links.now.row_heads.items }
-    requires turned { InRange turned }
+    requires row { merge.row < length links.now.row_heads.items }
+    requires at { merge.at < length links.now.row_heads.items }
+    requires turned { InRange merge.turned }
     requires first { first < 2 ^ 127 }
-    ensures value { IfSome result (λ d. d ≡ gcd_below first (merged_cell p q column turned (value_in links.now.cells.items at) (value_in links.now.cells.items row)) columns) }
+    ensures value { IfSome result (λ d. d ≡ gcd_below first
+        (merged_cell merge.p merge.q merge.column merge.turned (value_in links.now.cells.items merge.at) (value_in links.now.cells.items merge.row)) columns) }
     ensures bound { IfSome result (λ d. d < 2 ^ 127) }
-    ensures within { IfSome result (λ _. (j : ℕ) → j < columns → MergesAt p q column (value_in links.now.cells.items at) (value_in links.now.cells.items row) j) }
-    ensures refused { IfNone result (RefusedAt p q column (value_in links.now.cells.items at) (value_in links.now.cells.items row) columns) }
+    ensures within { IfSome result (λ _. (j : ℕ) → j < columns
+        → MergesAt merge.p merge.q merge.column (value_in links.now.cells.items merge.at) (value_in links.now.cells.items merge.row) j) }
+    ensures refused { IfNone result
+        (RefusedAt merge.p merge.q merge.column (value_in links.now.cells.items merge.at) (value_in links.now.cells.items merge.row) columns) }
 {
     let mut divisor = first;
     let mut cursors = Cursors {
@@ -111,8 +121,8 @@ pub(crate) fn divisor_of_merged(
         chosen: None,
     };
     for place in 0..columns {
-        cursors = moved(links, row, at, cursors, place);
-        let Some(cell) = merged_number(links, row, at, cursors, p, q, column, turned, place) else {
+        cursors = moved(links, merge.row, merge.at, cursors, place);
+        let Some(cell) = merged_number(links, merge, cursors, place) else {
             return None;
         };
         divisor = gcd_natural(divisor, cell.unsigned_abs());
@@ -124,38 +134,37 @@ pub(crate) fn divisor_of_merged(
 pub(crate) fn write_merged(
     links: &mut LinkedCells,
     columns: u32,
-    row: u32,
-    at: u32,
-    p: i128,
-    q: i128,
-    column: u32,
-    turned: i128,
+    merge: Merge,
     divisor: i128,
 ) -> Result<(), AllocError>
     requires sound { AreSound links.old }
     requires columns { columns ≡ length links.old.column_heads.items }
-    requires row { row < length links.old.row_heads.items }
-    requires at { at < length links.old.row_heads.items }
-    requires turned { InRange turned }
+    requires row { merge.row < length links.old.row_heads.items }
+    requires at { merge.at < length links.old.row_heads.items }
+    requires turned { InRange merge.turned }
     requires divisor { pos 0 <ℤ divisor }
-    requires within { (j : ℕ) → j < columns → MergesAt p q column (value_in links.old.cells.items at) (value_in links.old.cells.items row) j }
+    requires within { (j : ℕ) → j < columns
+        → MergesAt merge.p merge.q merge.column (value_in links.old.cells.items merge.at) (value_in links.old.cells.items merge.row) j }
     ensures sound { IfOk result (λ _. AreSound links.new) }
     ensures rows { IfOk result (λ _. length links.new.row_heads.items ≡ length links.old.row_heads.items) }
     ensures same_columns { IfOk result (λ _. length links.new.column_heads.items ≡ length links.old.column_heads.items) }
-    ensures others { IfOk result (λ _. (r c : ℕ) → r ≢ at → value_in links.new.cells.items r c ≡ value_in links.old.cells.items r c) }
-    ensures values { IfOk result (λ _. (j : ℕ) → j < columns → value_in links.new.cells.items at j ≡ int_div (merged_cell p q column turned (value_in links.old.cells.items at) (value_in links.old.cells.items row) j) divisor) }
-    ensures held { IfOk result (λ _. length links.new.cells.items ≤ length links.old.cells.items + filled_places columns (value_in links.old.cells.items at) (value_in links.new.cells.items at)) }
+    ensures others { IfOk result (λ _. (r c : ℕ) → r ≢ merge.at → value_in links.new.cells.items r c ≡ value_in links.old.cells.items r c) }
+    ensures values { IfOk result (λ _. (j : ℕ) → j < columns → value_in links.new.cells.items merge.at j
+        ≡ int_div (merged_cell merge.p merge.q merge.column merge.turned (value_in links.old.cells.items merge.at)
+        (value_in links.old.cells.items merge.row) j) divisor) }
+    ensures held { IfOk result (λ _. length links.new.cells.items ≤ length links.old.cells.items
+        + filled_places columns (value_in links.old.cells.items merge.at) (value_in links.new.cells.items merge.at)) }
 {
     let mut cursors = Cursors {
         at: None,
         chosen: None,
     };
     for place in 0..columns {
-        cursors = moved(links, row, at, cursors, place);
-        let Some(cell) = merged_number(links, row, at, cursors, p, q, column, turned, place) else {
+        cursors = moved(links, merge.row, merge.at, cursors, place);
+        let Some(cell) = merged_number(links, merge, cursors, place) else {
             return Ok(());
         };
-        let left = put(links, cursors.at, at, place, quotient(cell, divisor))?;
+        let left = put(links, cursors.at, merge.at, place, quotient(cell, divisor))?;
         cursors.at = left;
     }
     Ok(())

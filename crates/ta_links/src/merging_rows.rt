@@ -9,7 +9,7 @@ ghost use Rattle.ta_links.specs.Linked.{AreProperHeads};
 ghost use Rattle.ta_links.specs.Merging.{MayMerge, HeadsMerge, MergedHead, RowMerged, row_in};
 
 use crate::linked_cells::LinkedCells;
-use crate::merging::{divisor_of_merged, quotient, write_merged};
+use crate::merging::{Merge, divisor_of_merged, quotient, write_merged};
 use crate::reading::{head_of, number};
 use crate::row_head::RowHead;
 use std::alloc::AllocError;
@@ -65,12 +65,19 @@ pub(crate) fn merge_row(
         return Ok(false);
     };
     let first = gcd_natural(denominator.unsigned_abs(), constant.unsigned_abs());
-    let Some(common) = divisor_of_merged(links, columns, row, at, p, q, column, turned, first)
-    else {
+    let merge = Merge {
+        row,
+        at,
+        p,
+        q,
+        column,
+        turned,
+    };
+    let Some(common) = divisor_of_merged(links, columns, merge, first) else {
         return Ok(false);
     };
     let divisor = common as i128;
-    write_merged(links, columns, row, at, p, q, column, turned, divisor)?;
+    write_merged(links, columns, merge, divisor)?;
     let merged = RowHead {
         basic: head.basic,
         denominator: quotient(denominator, divisor),

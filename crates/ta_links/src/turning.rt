@@ -7,7 +7,7 @@ ghost use Rattle.ta_links.specs.Linked.{AreProperHeads};
 ghost use Rattle.ta_links.specs.Merging.{RowTurned};
 
 use crate::linked_cells::LinkedCells;
-use crate::merging::write_merged;
+use crate::merging::{Merge, write_merged};
 use crate::merging_rows::write_head;
 use crate::reading::{head_of, number};
 use crate::row_head::RowHead;
@@ -34,7 +34,15 @@ pub(crate) fn turn_row(
 {
     let head = head_of(heads, row);
     let denominator = number(links, row, column);
-    write_merged(links, columns, row, row, -1, 0, column, head.denominator, 1)?;
+    let merge = Merge {
+        row,
+        at: row,
+        p: -1,
+        q: 0,
+        column,
+        turned: head.denominator,
+    };
+    write_merged(links, columns, merge, 1)?;
     let turned = RowHead {
         basic: entering,
         denominator,

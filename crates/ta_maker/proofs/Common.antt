@@ -1,6 +1,7 @@
 -- The names that the proofs of this crate cite, passed on from one place. Declares nothing.
 pub use Rattle.std.specs.List.{range_with_len}
-pub use Rattle.std.proofs.Common.{Bool, IsTrue, List, [], ap, arith, false, length, map, refl, subst, suc, sym, true, zero, ℕ, ◌&&◌, ◌++◌, ◌+◌, ◌-◌, ◌<◌, ◌||◌, ◌∙◌, ◌∷◌, ◌≡◌, ◌≤◌}
+pub use Rattle.std.proofs.Common.{Bool, IsTrue, List, [], ap, arith, false, length, map, refl, subst, suc, sym, true, zero, ℕ, ◌&&◌, ◌++◌, ◌+◌, ◌-◌, ◌<◌, ◌||◌}
+pub use Rattle.std.proofs.Common.{◌∙◌, ◌∷◌, ◌≡◌, ◌≤◌}
 pub use Rattle.std.proofs.lemmas.List.{append_assoc, length-map, map-append}
 pub use Rattle.std.specs.Prelude.{codes}
 pub use Rattle.ta_maker.specs.Family.{lone, name, numbered, rules_of, sender, waiter}

@@ -54,7 +54,12 @@ lost = record {
   name = codes "lost";
   start = [];
   empty = [];
-  events = record { name = codes "lost"; after = []; condition = at_least (pair (name (codes "A")) (name (codes "B"))) (pair (name (codes "n")) (number (codes "1"))) ∷ [] } ∷ [];
+  events = record {
+    name = codes "lost";
+    after = [];
+    condition = at_least (pair (name (codes "A")) (name (codes "B")))
+        (pair (name (codes "n")) (number (codes "1"))) ∷ [];
+  } ∷ [];
 }
 
 -- the automaton with this number

@@ -1,5 +1,6 @@
 -- How the errors of parts make those of the whole: the first of them, or none.
-use Rattle.ta_meaning.proofs.Common.{◌≡◌, Bool, true, false, List, [], ◌∷◌, ◌++◌, Result, Ok, Err, inl, inr, refl, sym, ap, subst, ◌∙◌, FileFault, where_, else_, First, FirstOrMemory, Judges, Answers}
+use Rattle.ta_meaning.proofs.Common.{◌≡◌, Bool, true, false, List, [], ◌∷◌, ◌++◌, Result, Ok, Err, inl, inr, refl, sym, ap, subst, ◌∙◌, FileFault, where_}
+use Rattle.ta_meaning.proofs.Common.{else_, First, FirstOrMemory, Judges, Answers}
 use Rattle.ta_base.proofs.Lists.{empty_before}
 
 -- ---- where there are none
@@ -80,9 +81,11 @@ pub answers-along : {X : Type 0} (a b : List FileFault) (IsRight : X → Type 0)
 answers-along a b IsRight r e h = subst (λ (fs : List FileFault). Answers fs IsRight r) e h
 
 -- what is right in one sense is right in another where there are no errors
-pub answers-knowing : {X : Type 0} (faults : List FileFault) (P Q : X → Type 0) (r : Result X FileFault) → ((x : X) → faults ≡ [] → P x → Q x) → Answers faults P r → Answers faults Q r
+pub answers-knowing : {X : Type 0} (faults : List FileFault) (P Q : X → Type 0) (r : Result X FileFault) → ((x : X) → faults ≡ [] → P x → Q x)
+    → Answers faults P r → Answers faults Q r
 answers-knowing faults P Q (Ok x) f h = (h.0, f x h.0 h.1)
 answers-knowing faults P Q (Err e) f h = h
 
-pub answers-otherwise : {X : Type 0} (a b : List FileFault) (IsRight : X → Type 0) (r : Result X FileFault) → a ≡ [] → Answers b IsRight r → Answers (else_ a b) IsRight r
+pub answers-otherwise : {X : Type 0} (a b : List FileFault) (IsRight : X → Type 0) (r : Result X FileFault) → a ≡ [] → Answers b IsRight r
+    → Answers (else_ a b) IsRight r
 answers-otherwise a b IsRight r none h = answers-along b (else_ a b) IsRight r (sym (else-left-none a b none)) h

@@ -1,5 +1,9 @@
 -- In an automaton file no comma stands inside parentheses. So no token is both too deep and one too many.
-use Rattle.ta_meaning.proofs.Common.{◌≡◌, ℕ, suc, ◌-◌, ◌<◌, ◌≤◌, Bool, true, false, List, [], ◌∷◌, ◌++◌, refl, sym, subst, arith, inl, inr, Terms, Term, Factor, done, term, number, times, alone, blank, named, nested, sum_kinds, more_kinds, term_kinds, factor_kinds, relation_kind, PlainRule, PlainEvent, PlainPattern, PlainTree, listed, further, led, ended, each, name_kinds, initial_kinds, location_kinds, comparison_kinds, update_kinds, rule_kinds, event_kinds, pattern_kinds, file_kinds, Counts, at_start, counted_after, run, StaysWithin, IsDeep, IsMany, Kind, Mark, Relation}
+use Rattle.ta_meaning.proofs.Common.{◌≡◌, ℕ, suc, ◌-◌, ◌<◌, ◌≤◌, Bool, true, false, List, [], ◌∷◌, ◌++◌, refl, sym, subst, arith, inl, inr, Terms, Term, Factor}
+use Rattle.ta_meaning.proofs.Common.{done, term, number, times, alone, blank, named, nested, sum_kinds, more_kinds, term_kinds, factor_kinds, relation_kind}
+use Rattle.ta_meaning.proofs.Common.{PlainRule, PlainEvent, PlainPattern, PlainTree, listed, further, led, ended, each, name_kinds, initial_kinds}
+use Rattle.ta_meaning.proofs.Common.{location_kinds, comparison_kinds, update_kinds, rule_kinds, event_kinds, pattern_kinds, file_kinds, Counts, at_start}
+use Rattle.ta_meaning.proofs.Common.{counted_after, run, StaysWithin, IsDeep, IsMany, Kind, Mark, Relation}
 use Rattle.ta_syntax.specs.declared.tokens.Kind.TheVariants as kind
 use Rattle.ta_syntax.specs.declared.tokens.Mark.TheVariants as mark
 use Rattle.ta_syntax.specs.declared.tokens.Relation.TheVariants as relation
@@ -76,7 +80,10 @@ update-flat : FlatItem update_kinds
 update-flat = record { flat = λ u. (tt, (tt, (tt, refl))) }
 
 comparison-flat : FlatItem comparison_kinds
-comparison-flat = record { flat = λ c. flat-append 0 (sum_kinds c.left) (relation_kind c.relation ∷ sum_kinds c.right) (sum-flat c.left 0) (relation-flat c.relation (sum_kinds c.right) (sum-flat c.right 0)) }
+comparison-flat = record {
+  flat = λ c. flat-append 0 (sum_kinds c.left) (relation_kind c.relation ∷ sum_kinds c.right) (sum-flat c.left 0)
+      (relation-flat c.relation (sum_kinds c.right) (sum-flat c.right 0));
+}
 
 further-flat : {A : Type 0} (f : A → List Kind) → FlatItem f → (xs : List A) → Flat 0 (further kind.Fixed f xs)
 further-flat f i [] = refl
@@ -109,44 +116,62 @@ led-flat m f o i (x ∷ xs) = mark-flat m (listed kind.Fixed f (x ∷ xs)) o (li
 
 ended-flat : {A : Type 0} (m : Mark) (f : A → List Kind) → IsOrdinary m → FlatItem f → (xs : List A) → Flat 0 (ended kind.Fixed m f xs)
 ended-flat m f o i [] = refl
-ended-flat m f o i (x ∷ xs) = mark-flat m (listed kind.Fixed f (x ∷ xs) ++ kind.Fixed mark.Semicolon ∷ []) o (flat-append 0 (listed kind.Fixed f (x ∷ xs)) (kind.Fixed mark.Semicolon ∷ []) (listed-flat f i (x ∷ xs)) (tt, refl))
+ended-flat m f o i (x ∷ xs) = mark-flat m (listed kind.Fixed f (x ∷ xs) ++ kind.Fixed mark.Semicolon ∷ []) o
+    (flat-append 0 (listed kind.Fixed f (x ∷ xs)) (kind.Fixed mark.Semicolon ∷ []) (listed-flat f i (x ∷ xs)) (tt, refl))
 
 -- a list and a semicolon
 listed-ended : {A : Type 0} (f : A → List Kind) → FlatItem f → (xs : List A) → Flat 0 (listed kind.Fixed f xs ++ kind.Fixed mark.Semicolon ∷ [])
 listed-ended f i xs = flat-append 0 (listed kind.Fixed f xs) (kind.Fixed mark.Semicolon ∷ []) (listed-flat f i xs) (tt, refl)
 
-rule-tail : (r : PlainRule) → Flat 0 (led kind.Fixed mark.When comparison_kinds r.guards ++ (led kind.Fixed mark.Do update_kinds r.updates ++ kind.Fixed mark.Semicolon ∷ []))
+rule-tail : (r : PlainRule) → Flat 0
+    (led kind.Fixed mark.When comparison_kinds r.guards ++ (led kind.Fixed mark.Do update_kinds r.updates ++ kind.Fixed mark.Semicolon ∷ []))
 rule-tail r =
-    let updates = flat-append 0 (led kind.Fixed mark.Do update_kinds r.updates) (kind.Fixed mark.Semicolon ∷ []) (led-flat mark.Do update_kinds tt update-flat r.updates) (tt, refl) in
-    flat-append 0 (led kind.Fixed mark.When comparison_kinds r.guards) (led kind.Fixed mark.Do update_kinds r.updates ++ kind.Fixed mark.Semicolon ∷ []) (led-flat mark.When comparison_kinds tt comparison-flat r.guards) updates
+    let updates = flat-append 0 (led kind.Fixed mark.Do update_kinds r.updates) (kind.Fixed mark.Semicolon ∷ [])
+    (led-flat mark.Do update_kinds tt update-flat r.updates) (tt, refl) in
+    flat-append 0 (led kind.Fixed mark.When comparison_kinds r.guards) (led kind.Fixed mark.Do update_kinds r.updates ++ kind.Fixed mark.Semicolon ∷ [])
+    (led-flat mark.When comparison_kinds tt comparison-flat r.guards) updates
 
 rule-flat : FlatItem rule_kinds
 rule-flat = record { flat = λ r. (tt, (tt, (tt, (tt, (tt, (tt, rule-tail r)))))) }
 
-event-tail : (e : PlainEvent) → Flat 0 (led kind.Fixed mark.After name_kinds e.after ++ kind.Fixed mark.Colon ∷ (listed kind.Fixed comparison_kinds e.condition ++ kind.Fixed mark.Semicolon ∷ []))
-event-tail e = flat-append 0 (led kind.Fixed mark.After name_kinds e.after) (kind.Fixed mark.Colon ∷ (listed kind.Fixed comparison_kinds e.condition ++ kind.Fixed mark.Semicolon ∷ [])) (led-flat mark.After name_kinds tt name-flat e.after) (tt, listed-ended comparison_kinds comparison-flat e.condition)
+event-tail : (e : PlainEvent) → Flat 0
+    (led kind.Fixed mark.After name_kinds e.after ++ kind.Fixed mark.Colon ∷ (listed kind.Fixed comparison_kinds e.condition ++ kind.Fixed mark.Semicolon ∷ []))
+event-tail e = flat-append 0 (led kind.Fixed mark.After name_kinds e.after)
+    (kind.Fixed mark.Colon ∷ (listed kind.Fixed comparison_kinds e.condition ++ kind.Fixed mark.Semicolon ∷ []))
+    (led-flat mark.After name_kinds tt name-flat e.after) (tt, listed-ended comparison_kinds comparison-flat e.condition)
 
 event-flat : FlatItem event_kinds
 event-flat = record { flat = λ e. (tt, (tt, event-tail e)) }
 
-pattern-tail : (p : PlainPattern) → Flat 0 (ended kind.Fixed mark.Start comparison_kinds p.start ++ (ended kind.Fixed mark.Empty name_kinds p.empty ++ (each event_kinds p.events ++ kind.Fixed mark.CloseBrace ∷ [])))
+pattern-tail : (p : PlainPattern) → Flat 0
+    (ended kind.Fixed mark.Start comparison_kinds p.start
+    ++ (ended kind.Fixed mark.Empty name_kinds p.empty ++ (each event_kinds p.events ++ kind.Fixed mark.CloseBrace ∷ [])))
 pattern-tail p =
     let events = flat-append 0 (each event_kinds p.events) (kind.Fixed mark.CloseBrace ∷ []) (each-flat event_kinds event-flat p.events) (tt, refl) in
-    let empty = flat-append 0 (ended kind.Fixed mark.Empty name_kinds p.empty) (each event_kinds p.events ++ kind.Fixed mark.CloseBrace ∷ []) (ended-flat mark.Empty name_kinds tt name-flat p.empty) events in
-    flat-append 0 (ended kind.Fixed mark.Start comparison_kinds p.start) (ended kind.Fixed mark.Empty name_kinds p.empty ++ (each event_kinds p.events ++ kind.Fixed mark.CloseBrace ∷ [])) (ended-flat mark.Start comparison_kinds tt comparison-flat p.start) empty
+    let empty = flat-append 0 (ended kind.Fixed mark.Empty name_kinds p.empty) (each event_kinds p.events ++ kind.Fixed mark.CloseBrace ∷ [])
+    (ended-flat mark.Empty name_kinds tt name-flat p.empty) events in
+    flat-append 0 (ended kind.Fixed mark.Start comparison_kinds p.start)
+    (ended kind.Fixed mark.Empty name_kinds p.empty ++ (each event_kinds p.events ++ kind.Fixed mark.CloseBrace ∷ []))
+    (ended-flat mark.Start comparison_kinds tt comparison-flat p.start) empty
 
 pattern-flat : FlatItem pattern_kinds
 pattern-flat = record { flat = λ p. (tt, (tt, (tt, pattern-tail p))) }
 
 -- a list, a semicolon, and what stands behind
-listed-then : {A : Type 0} (f : A → List Kind) → FlatItem f → (xs : List A) (m : Mark) (ks : List Kind) → IsOrdinary m → Flat 0 ks → Flat 0 (listed kind.Fixed f xs ++ kind.Fixed mark.Semicolon ∷ kind.Fixed m ∷ ks)
-listed-then f i xs m ks o h = flat-append 0 (listed kind.Fixed f xs) (kind.Fixed mark.Semicolon ∷ kind.Fixed m ∷ ks) (listed-flat f i xs) (tt, mark-flat m ks o h)
+listed-then : {A : Type 0} (f : A → List Kind) → FlatItem f → (xs : List A) (m : Mark) (ks : List Kind) → IsOrdinary m → Flat 0 ks
+    → Flat 0 (listed kind.Fixed f xs ++ kind.Fixed mark.Semicolon ∷ kind.Fixed m ∷ ks)
+listed-then f i xs m ks o h = flat-append 0 (listed kind.Fixed f xs) (kind.Fixed mark.Semicolon ∷ kind.Fixed m ∷ ks) (listed-flat f i xs)
+    (tt, mark-flat m ks o h)
 
 pub file-flat : (t : PlainTree) → Outside 0 0 (file_kinds t)
 file-flat t =
-    let blocks = flat-append 0 (each rule_kinds t.rules) (each pattern_kinds t.patterns) (each-flat rule_kinds rule-flat t.rules) (each-flat pattern_kinds pattern-flat t.patterns) in
-    let resilience = flat-append 0 (listed kind.Fixed comparison_kinds t.resilience) (kind.Fixed mark.Semicolon ∷ (each rule_kinds t.rules ++ each pattern_kinds t.patterns)) (listed-flat comparison_kinds comparison-flat t.resilience) (tt, blocks) in
-    let processes = flat-append 0 (sum_kinds t.processes) (kind.Fixed mark.Semicolon ∷ kind.Fixed mark.Resilience ∷ _) (sum-flat t.processes 0) (tt, (tt, resilience)) in
+    let blocks = flat-append 0 (each rule_kinds t.rules) (each pattern_kinds t.patterns) (each-flat rule_kinds rule-flat t.rules)
+    (each-flat pattern_kinds pattern-flat t.patterns) in
+    let resilience = flat-append 0 (listed kind.Fixed comparison_kinds t.resilience)
+    (kind.Fixed mark.Semicolon ∷ (each rule_kinds t.rules ++ each pattern_kinds t.patterns)) (listed-flat comparison_kinds comparison-flat t.resilience)
+    (tt, blocks) in
+    let processes = flat-append 0 (sum_kinds t.processes) (kind.Fixed mark.Semicolon ∷ kind.Fixed mark.Resilience ∷ _) (sum-flat t.processes 0)
+    (tt, (tt, resilience)) in
     let locations = listed-then location_kinds location-flat t.locations mark.Processes _ tt processes in
     let shared = listed-then name_kinds name-flat t.shared mark.Locations _ tt locations in
     let parameters = listed-then name_kinds name-flat t.parameters mark.Shared _ tt shared in
@@ -162,7 +187,8 @@ after-deeper c (kind.Fixed mark.Close) = refl
 after-deeper c (kind.Fixed m) = refl
 
 -- only a comma fills a list
-filled : (c : Counts) (k : Kind) → c.commas < c.limit → (counted_after c k).limit ≤ (counted_after c k).commas → NotInside c.open_now k → (counted_after c k).open_now ≡ 0
+filled : (c : Counts) (k : Kind) → c.commas < c.limit → (counted_after c k).limit ≤ (counted_after c k).commas → NotInside c.open_now k
+    → (counted_after c k).open_now ≡ 0
 filled c (kind.Name n) room full out = absurd (omega arith)
 filled c (kind.Number n) room full out = absurd (omega arith)
 filled c (kind.Fixed mark.Comma) room full out = out
@@ -171,16 +197,20 @@ filled c (kind.Fixed m) room full out = absurd (omega arith)
 room_from : (c : Counts) (k : Kind) → (IsMany c k → ⊥) → c.commas < c.limit
 room_from c k not = let h : (c.limit ≤ c.commas) → ⊥ = λ h. not (inl h) in omega arith
 
-full-closed : (c : Counts) (front : List Kind) (k : Kind) (rest : List Kind) (end : ℕ) → c.commas < c.limit → StaysWithin c front → Outside c.open_now end (front ++ k ∷ rest) → (run c front).limit ≤ (run c front).commas → (run c front).open_now ≡ 0
+full-closed : (c : Counts) (front : List Kind) (k : Kind) (rest : List Kind) (end : ℕ) → c.commas < c.limit → StaysWithin c front
+    → Outside c.open_now end (front ++ k ∷ rest) → (run c front).limit ≤ (run c front).commas → (run c front).open_now ≡ 0
 full-closed c [] k rest end room within out full = absurd (omega arith)
 full-closed c (x ∷ []) k rest end room within out full = filled c x room full out.0
 full-closed c (x ∷ y ∷ front) k rest end room within out full =
-    full-closed (counted_after c x) (y ∷ front) k rest end (room_from (counted_after c x) y within.2.1) within.2 (subst (λ (n : ℕ). Outside n end ((y ∷ front) ++ k ∷ rest)) (sym (after-deeper c x)) out.1) full
+    full-closed (counted_after c x) (y ∷ front) k rest end (room_from (counted_after c x) y within.2.1) within.2
+    (subst (λ (n : ℕ). Outside n end ((y ∷ front) ++ k ∷ rest)) (sym (after-deeper c x)) out.1) full
 
 -- no token of a file is both too deep and one too many
-pub not-both : (front : List Kind) (k : Kind) (rest : List Kind) (t : PlainTree) → file_kinds t ≡ front ++ k ∷ rest → StaysWithin at_start front → IsDeep (run at_start front) k → IsMany (run at_start front) k → ⊥
+pub not-both : (front : List Kind) (k : Kind) (rest : List Kind) (t : PlainTree) → file_kinds t ≡ front ++ k ∷ rest → StaysWithin at_start front
+    → IsDeep (run at_start front) k → IsMany (run at_start front) k → ⊥
 not-both front (kind.Fixed mark.Open) rest t e within deep (inl full) =
-    let closed = full-closed at_start front (kind.Fixed mark.Open) rest 0 (omega arith) within (subst (λ (ks : List Kind). Outside 0 0 ks) e (file-flat t)) full in
+    let closed = full-closed at_start front (kind.Fixed mark.Open) rest 0 (omega arith) within (subst (λ (ks : List Kind). Outside 0 0 ks) e (file-flat t)) full
+    in
     omega arith
 not-both front (kind.Fixed mark.Open) rest t e within deep (inr many) = many
 not-both front k rest t e within deep many = deep

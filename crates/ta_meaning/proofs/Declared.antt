@@ -1,5 +1,9 @@
 -- Names that are declared one after another without an error: they are distinct and legal.
-use Rattle.ta_meaning.proofs.Common.{◌≡◌, ℕ, true, false, not, ◌||◌, List, [], ◌∷◌, ◌++◌, length, map, refl, sym, ap, subst, ◌∙◌, append_assoc, bytes_eq, list_any, AllByRecursion, ltb-false, false≢true, not-false, or_parts, append-nil, bytes_eq-Decides, distinct_push_apart, each_append, plain_name, plain_location, Spelled, TreeLocation, Tree, Distinct, Name, has_name, guard_names, all_names, location_name, names_of, where_, is_long, declared_faults, declarations_faults, location_spelled, any_initial, names_faults}
+use Rattle.ta_meaning.proofs.Common.{◌≡◌, ℕ, true, false, not, ◌||◌, List, [], ◌∷◌, ◌++◌, length, map, refl, sym, ap, subst, ◌∙◌, append_assoc, bytes_eq}
+use Rattle.ta_meaning.proofs.Common.{list_any, AllByRecursion, ltb-false, false≢true, not-false, or_parts, append-nil, bytes_eq-Decides, distinct_push_apart}
+use Rattle.ta_meaning.proofs.Common.{each_append, plain_name, plain_location, Spelled, TreeLocation, Tree, Distinct, Name, has_name, guard_names, all_names}
+use Rattle.ta_meaning.proofs.Common.{location_name, names_of, where_, is_long, declared_faults, declarations_faults, location_spelled, any_initial}
+use Rattle.ta_meaning.proofs.Common.{names_faults}
 use Rattle.ta_syntax.specs.declared.fault.FileFault.TheVariants as fault
 use Rattle.ta_meaning.proofs.Answering.{not-where, none-else-left, none-else-right}
 use Rattle.ta_base.proofs.Lists.{empty_left, empty_right}
@@ -25,19 +29,22 @@ short_name n short = record { spelled = n.legal; limit = ltb-false 64 (length n.
 
 -- a name that is declared without an error is legal
 pub declared-legal : (before : List (List ℕ)) (n : Spelled) → declared_faults before n ≡ [] → Name n.name
-declared-legal before n none = short_name n (not-where (is_long n) (fault.TooLarge n.at) (none-else-right (where_ (has_name before n.name) (fault.Duplicate n.at)) _ none))
+declared-legal before n none = short_name n
+    (not-where (is_long n) (fault.TooLarge n.at) (none-else-right (where_ (has_name before n.name) (fault.Duplicate n.at)) _ none))
 
 -- names with a name that is declared without an error are distinct
 pub declared-distinct : (before : List (List ℕ)) (n : Spelled) → Distinct before → declared_faults before n ≡ [] → Distinct (before ++ n.name ∷ [])
 declared-distinct before n d none = distinct_push_apart before n.name d (has_name-apart before n.name (declared-new before n none))
 
 -- ---- names one after another
-pub declarations-distinct : (before : List (List ℕ)) (ns : List Spelled) → Distinct before → declarations_faults before ns ≡ [] → Distinct (before ++ map plain_name ns)
+pub declarations-distinct : (before : List (List ℕ)) (ns : List Spelled) → Distinct before → declarations_faults before ns ≡ []
+    → Distinct (before ++ map plain_name ns)
 declarations-distinct before [] d none = subst Distinct (sym (append-nil before)) d
 declarations-distinct before (n ∷ ns) d none =
     let here : declared_faults before n ≡ [] = empty_left (declared_faults before n) _ none in
     let later : declarations_faults (before ++ n.name ∷ []) ns ≡ [] = empty_right (declared_faults before n) _ none in
-    subst Distinct (append_assoc before (n.name ∷ []) (map plain_name ns)) (declarations-distinct (before ++ n.name ∷ []) ns (declared-distinct before n d here) later)
+    subst Distinct (append_assoc before (n.name ∷ []) (map plain_name ns))
+    (declarations-distinct (before ++ n.name ∷ []) ns (declared-distinct before n d here) later)
 
 pub declarations-legal : (before : List (List ℕ)) (ns : List Spelled) → declarations_faults before ns ≡ [] → AllByRecursion Name (map plain_name ns)
 declarations-legal before [] none = tt
@@ -86,15 +93,19 @@ names-distinct t none =
     let ns = names_of t in
     let parameters : Distinct ns.parameters = declarations-distinct [] t.parameters tt d.parameters in
     let guards : Distinct (guard_names ns) = declarations-distinct ns.parameters t.shared parameters d.shared in
-    subst (λ names. Distinct (guard_names ns ++ names)) (location_names t.locations) (declarations-distinct (guard_names ns) (map location_spelled t.locations) guards d.locations)
+    subst (λ names. Distinct (guard_names ns ++ names)) (location_names t.locations)
+    (declarations-distinct (guard_names ns) (map location_spelled t.locations) guards d.locations)
 
 -- they are legal
 pub names-legal : (t : Tree) → names_faults (names_of t) t ≡ [] → AllByRecursion Name (all_names (names_of t))
 names-legal t none =
     let d = names_declared t none in
     let ns = names_of t in
-    let locations : AllByRecursion Name ns.locations = subst (AllByRecursion Name) (location_names t.locations) (declarations-legal (guard_names ns) (map location_spelled t.locations) d.locations) in
-    each_append Name (guard_names ns) ns.locations (each_append Name ns.parameters ns.shared (declarations-legal [] t.parameters d.parameters) (declarations-legal ns.parameters t.shared d.shared)) locations
+    let locations : AllByRecursion Name ns.locations = subst (AllByRecursion Name) (location_names t.locations)
+    (declarations-legal (guard_names ns) (map location_spelled t.locations) d.locations) in
+    each_append Name (guard_names ns) ns.locations
+    (each_append Name ns.parameters ns.shared (declarations-legal [] t.parameters d.parameters) (declarations-legal ns.parameters t.shared d.shared))
+    locations
 
 -- the automaton's name is legal
 pub name-legal : (t : Tree) → names_faults (names_of t) t ≡ [] → Name t.name.name

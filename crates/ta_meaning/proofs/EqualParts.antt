@@ -1,5 +1,6 @@
 -- The parts of a file are equal where their data are: what else their types keep are propositions.
-use Rattle.ta_meaning.proofs.Common.{◌≡◌, ℕ, ℤ, ◌+◌, ◌≤◌, ◌^◌, length, InRange, IsNormal, IsNormal-prop, Form, Row, AutomatonShape, AutomatonShape-prop, PatternsShape, PatternsShape-prop, Comparison, Condition, Rule, Event, Pattern, Automaton, File}
+use Rattle.ta_meaning.proofs.Common.{◌≡◌, ℕ, ℤ, ◌+◌, ◌≤◌, ◌^◌, length, InRange, IsNormal, IsNormal-prop, Form, Row, AutomatonShape, AutomatonShape-prop}
+use Rattle.ta_meaning.proofs.Common.{PatternsShape, PatternsShape-prop, Comparison, Condition, Rule, Event, Pattern, Automaton, File}
 use mathlib.Core.HLevel.{is_prop→PathP}
 use Rattle.std.proofs.Props.{props}
 use Rattle.ta_base.proofs.Naturals.{le-prop}
@@ -75,8 +76,10 @@ automaton-equal a b s = λ i. record {
   fall = s.fall i;
   rules = s.rules i;
   shape = is_prop→PathP
-      (λ j. AutomatonShape (s.name j) (s.parameters j) (s.shared j) (s.locations j) (s.initial j) (s.processes j) (s.resilience j) (s.rise j) (s.fall j) (s.rules j))
-      (λ j. AutomatonShape-prop (s.name j) (s.parameters j) (s.shared j) (s.locations j) (s.initial j) (s.processes j) (s.resilience j) (s.rise j) (s.fall j) (s.rules j))
+      (λ j. AutomatonShape (s.name j) (s.parameters j) (s.shared j) (s.locations j) (s.initial j) (s.processes j) (s.resilience j) (s.rise j) (s.fall j)
+      (s.rules j))
+      (λ j. AutomatonShape-prop (s.name j) (s.parameters j) (s.shared j) (s.locations j) (s.initial j) (s.processes j) (s.resilience j) (s.rise j) (s.fall j)
+      (s.rules j))
       a.shape b.shape i;
 }
 

@@ -1,8 +1,14 @@
 -- the guards of one rule, numbered one after another
-use Rattle.ta_meaning.proofs.Common.{◌≡◌, ◌⊎◌, inl, inr, ℕ, List, [], ◌∷◌, ◌++◌, map, length, true, false, arith, sym, ap, ◌∙◌, refl, subst, append-nil, length-map, slice_get_within, true≢false, AllByRecursion, each_at, each_push, each_weaker, PlainComparison, plain_comparison, TreeComparison, FileFault, Names, guard_names, Linear, UsesNames, Guards, falls, with_row, with_guard, with_guards, rows_of, NamesGuards, FirstOrMemory, in_guards, guard_faults, guards_faults, guards_then, guards_so_far, GuardsKept, GuardNumbered, GuardsNumbered, AmongGuards, WithNumber, NumberFits, linear_of, GuardList, GuardMasks, GuardNumber, append_assoc}
+use Rattle.ta_meaning.proofs.Common.{◌≡◌, ◌⊎◌, inl, inr, ℕ, List, [], ◌∷◌, ◌++◌, map, length, true, false, arith, sym, ap, ◌∙◌, refl, subst, append-nil}
+use Rattle.ta_meaning.proofs.Common.{length-map, slice_get_within, true≢false, AllByRecursion, each_at, each_push, each_weaker, PlainComparison}
+use Rattle.ta_meaning.proofs.Common.{plain_comparison, TreeComparison, FileFault, Names, guard_names, Linear, UsesNames, Guards, falls, with_row, with_guard}
+use Rattle.ta_meaning.proofs.Common.{with_guards, rows_of, NamesGuards, FirstOrMemory, in_guards, guard_faults, guards_faults, guards_then, guards_so_far}
+use Rattle.ta_meaning.proofs.Common.{GuardsKept, GuardNumbered, GuardsNumbered, AmongGuards, WithNumber, NumberFits, linear_of, GuardList, GuardMasks}
+use Rattle.ta_meaning.proofs.Common.{GuardNumber, append_assoc}
 use Rattle.ta_meaning.specs.declared.guards.GuardNumber.TheVariants as number
 use Rattle.ta_meaning.proofs.Answering.{append-left-first}
-use Rattle.ta_meaning.proofs.GuardSteps.{Extends, with_row_cases, guard_falls, guard_rises, extends_guard, guards_append, rows_append, rows_one, among_extends, among_number, mask_kind, mask_other, no_rows, guards_counted}
+use Rattle.ta_meaning.proofs.GuardSteps.{Extends, with_row_cases, guard_falls, guard_rises, extends_guard, guards_append, rows_append, rows_one, among_extends}
+use Rattle.ta_meaning.proofs.GuardSteps.{among_number, mask_kind, mask_other, no_rows, guards_counted}
 use Rattle.ta_base.proofs.Lists.{empty_before}
 
 -- a guard's number fits its mask
@@ -19,7 +25,8 @@ number_fits ns before after c (number.Fall n) h =
     omega arith
 
 -- the masks of one more row
-masks_more : (ns : Names) (before after : GuardList) (c : PlainComparison) (rows : List Linear) (masks more : GuardMasks) (n : GuardNumber) (h : GuardNumbered ns before c after n) → WithNumber masks n more
+masks_more : (ns : Names) (before after : GuardList) (c : PlainComparison) (rows : List Linear) (masks more : GuardMasks) (n : GuardNumber)
+    (h : GuardNumbered ns before c after n) → WithNumber masks n more
     → NamesGuards (guards_so_far ns before).rise rows masks.rise → NamesGuards (guards_so_far ns before).fall rows masks.fall
     → NamesGuards (guards_so_far ns after).rise (rows ++ h.row ∷ []) more.rise × NamesGuards (guards_so_far ns after).fall (rows ++ h.row ∷ []) more.fall
 masks_more ns before after c rows masks more (number.Rise n) h bits rise fall =
@@ -34,7 +41,8 @@ masks_more ns before after c rows masks more (number.Rise n) h bits rise fall =
     let fall_same : k.fall ≡ g.fall = ap (λ (z : Guards). z.fall) grown in (
       mask_kind g.rise k.rise rows h.row masks.rise n more.rise rise_grown h.kept.rise_distinct h.numbered.1 rise bits.0,
       subst (λ (m : ℕ). NamesGuards k.fall (rows ++ h.row ∷ []) m) (sym bits.1)
-          (mask_other k.fall rows h.row masks.fall (λ i e. true≢false (sym (each_at (λ (r : Linear). falls parameters r ≡ true) k.fall i h.row h.kept.fall_kind e) ∙ h.numbered.0))
+          (mask_other k.fall rows h.row masks.fall
+          (λ i e. true≢false (sym (each_at (λ (r : Linear). falls parameters r ≡ true) k.fall i h.row h.kept.fall_kind e) ∙ h.numbered.0))
           (subst (λ (zs : List Linear). NamesGuards zs rows masks.fall) (sym fall_same) fall)),
     )
 masks_more ns before after c rows masks more (number.Fall n) h bits rise fall =
@@ -48,7 +56,8 @@ masks_more ns before after c rows masks more (number.Fall n) h bits rise fall =
     ] in
     let rise_same : k.rise ≡ g.rise = ap (λ (z : Guards). z.rise) grown in (
       subst (λ (m : ℕ). NamesGuards k.rise (rows ++ h.row ∷ []) m) (sym bits.0)
-          (mask_other k.rise rows h.row masks.rise (λ i e. true≢false (sym h.numbered.0 ∙ each_at (λ (r : Linear). falls parameters r ≡ false) k.rise i h.row h.kept.rise_kind e))
+          (mask_other k.rise rows h.row masks.rise
+          (λ i e. true≢false (sym h.numbered.0 ∙ each_at (λ (r : Linear). falls parameters r ≡ false) k.rise i h.row h.kept.rise_kind e))
           (subst (λ (zs : List Linear). NamesGuards zs rows masks.rise) (sym rise_same) rise)),
       mask_kind g.fall k.fall rows h.row masks.fall n more.fall fall_grown h.kept.fall_distinct h.numbered.1 fall bits.1,
     )
@@ -63,7 +72,8 @@ numbered_none ns guards kept = record {
   among = tt;
 }
 
-numbered_more : (ns : Names) (first before after : GuardList) (cs : List PlainComparison) (c : PlainComparison) (masks more : GuardMasks) (n : GuardNumber) → GuardsNumbered ns first cs before masks → GuardNumbered ns before c after n → WithNumber masks n more → GuardsNumbered ns first (cs ++ c ∷ []) after more
+numbered_more : (ns : Names) (first before after : GuardList) (cs : List PlainComparison) (c : PlainComparison) (masks more : GuardMasks) (n : GuardNumber)
+    → GuardsNumbered ns first cs before masks → GuardNumbered ns before c after n → WithNumber masks n more → GuardsNumbered ns first (cs ++ c ∷ []) after more
 numbered_more ns first before after cs c masks more n all h bits =
     let parameters = length ns.parameters in
     let names = guard_names ns in
@@ -72,14 +82,17 @@ numbered_more ns first before after cs c masks more n all h bits =
     let g = guards_so_far ns before in
     let k = guards_so_far ns after in
     let masks_now = masks_more ns before after c (rows_of names cs) masks more n h bits all.rise all.fall in
-    let old = each_weaker (AmongGuards parameters g) (AmongGuards parameters k) (rows_of names cs) (λ r a. among_extends parameters g k r (subst (λ (z : Guards). Extends g z) (sym h.guards) (extends_guard parameters g h.row)) a) all.among in
+    let old = each_weaker (AmongGuards parameters g) (AmongGuards parameters k) (rows_of names cs)
+    (λ r a. among_extends parameters g k r (subst (λ (z : Guards). Extends g z) (sym h.guards) (extends_guard parameters g h.row)) a) all.among in
     record {
       kept = h.kept;
-      guards = h.guards ∙ ap (λ (z : Guards). with_guard parameters z h.row) all.guards ∙ sym (ap (with_guards parameters (guards_so_far ns first)) rows ∙ guards_append parameters (guards_so_far ns first) (rows_of names cs) (h.row ∷ []));
+      guards = h.guards ∙ ap (λ (z : Guards). with_guard parameters z h.row) all.guards
+          ∙ sym (ap (with_guards parameters (guards_so_far ns first)) rows ∙ guards_append parameters (guards_so_far ns first) (rows_of names cs) (h.row ∷ []));
       known = each_push (UsesNames names) cs c all.known h.known;
       rise = subst (λ (zs : List Linear). NamesGuards k.rise zs more.rise) (sym rows) masks_now.0;
       fall = subst (λ (zs : List Linear). NamesGuards k.fall zs more.fall) (sym rows) masks_now.1;
-      among = subst (λ (zs : List Linear). AllByRecursion (AmongGuards parameters k) zs) (sym rows) (each_push (AmongGuards parameters k) (rows_of names cs) h.row old (among_number parameters k h.row n h.numbered));
+      among = subst (λ (zs : List Linear). AllByRecursion (AmongGuards parameters k) zs) (sym rows)
+          (each_push (AmongGuards parameters k) (rows_of names cs) h.row old (among_number parameters k h.row n h.numbered));
     }
 
 -- the comparisons so far are numbered, and the errors of all are those of the comparisons left
@@ -87,13 +100,17 @@ pub record GuardsReading (ns : Names) (first now : GuardList) (all left : List T
   pub done : List PlainComparison
   pub split : map plain_comparison all ≡ done ++ map plain_comparison left
   pub numbered : GuardsNumbered ns first done now masks
-  pub faults : guards_faults (length ns.parameters) (in_guards ns) (guards_so_far ns first) all ≡ guards_faults (length ns.parameters) (in_guards ns) (guards_so_far ns now) left
+  pub faults : guards_faults (length ns.parameters) (in_guards ns) (guards_so_far ns first) all ≡ guards_faults (length ns.parameters) (in_guards ns)
+      (guards_so_far ns now) left
 
-pub reading_begins : (ns : Names) (guards : GuardList) (all : List TreeComparison) → GuardsKept ns guards → GuardsReading ns guards guards all all (record { rise = 0; fall = 0 })
+pub reading_begins : (ns : Names) (guards : GuardList) (all : List TreeComparison) → GuardsKept ns guards
+    → GuardsReading ns guards guards all all (record { rise = 0; fall = 0 })
 reading_begins ns guards all kept = record { done = []; split = refl; numbered = numbered_none ns guards kept; faults = refl }
 
-pub reading_more : (ns : Names) (first before after : GuardList) (all left : List TreeComparison) (c : TreeComparison) (masks more : GuardMasks) (n : GuardNumber) → GuardsReading ns first before all (c ∷ left) masks
-    → guard_faults (length ns.parameters) (in_guards ns) (guards_so_far ns before) c ≡ [] → GuardNumbered ns before (plain_comparison c) after n → WithNumber masks n more → GuardsReading ns first after all left more
+pub reading_more : (ns : Names) (first before after : GuardList) (all left : List TreeComparison) (c : TreeComparison) (masks more : GuardMasks)
+    (n : GuardNumber) → GuardsReading ns first before all (c ∷ left) masks
+    → guard_faults (length ns.parameters) (in_guards ns) (guards_so_far ns before) c ≡ [] → GuardNumbered ns before (plain_comparison c) after n
+    → WithNumber masks n more → GuardsReading ns first after all left more
 reading_more ns first before after all left c masks more n reading none h bits =
     let parameters = length ns.parameters in
     let g = guards_so_far ns before in
@@ -102,18 +119,23 @@ reading_more ns first before after all left c masks more n reading none h bits =
       split = reading.split ∙ sym (append_assoc reading.done (plain_comparison c ∷ []) (map plain_comparison left));
       numbered = numbered_more ns first before after reading.done (plain_comparison c) masks more n reading.numbered h bits;
       faults = reading.faults
-          ∙ empty_before (guard_faults parameters (in_guards ns) g c) (guards_faults parameters (in_guards ns) (guards_then parameters (in_guards ns) g c) left) none
+          ∙ empty_before (guard_faults parameters (in_guards ns) g c) (guards_faults parameters (in_guards ns) (guards_then parameters (in_guards ns) g c) left)
+          none
           ∙ ap (λ (z : Guards). guards_faults parameters (in_guards ns) z left) (guards_counted parameters (in_guards ns) g c none)
           ∙ ap (λ (rows : List Linear). guards_faults parameters (in_guards ns) (with_guards parameters g rows) left) h.one_row
           ∙ ap (λ (z : Guards). guards_faults parameters (in_guards ns) z left) (sym h.guards);
     }
 
-pub reading_stops : (ns : Names) (first before : GuardList) (all left : List TreeComparison) (c : TreeComparison) (masks : GuardMasks) (e : FileFault) → GuardsReading ns first before all (c ∷ left) masks
-    → FirstOrMemory (guard_faults (length ns.parameters) (in_guards ns) (guards_so_far ns before) c) e → FirstOrMemory (guards_faults (length ns.parameters) (in_guards ns) (guards_so_far ns first) all) e
+pub reading_stops : (ns : Names) (first before : GuardList) (all left : List TreeComparison) (c : TreeComparison) (masks : GuardMasks) (e : FileFault)
+    → GuardsReading ns first before all (c ∷ left) masks
+    → FirstOrMemory (guard_faults (length ns.parameters) (in_guards ns) (guards_so_far ns before) c) e
+    → FirstOrMemory (guards_faults (length ns.parameters) (in_guards ns) (guards_so_far ns first) all) e
 reading_stops ns first before all left c masks e reading h =
-    subst (λ (fs : List FileFault). FirstOrMemory fs e) (sym reading.faults) (append-left-first (guard_faults (length ns.parameters) (in_guards ns) (guards_so_far ns before) c) _ e h)
+    subst (λ (fs : List FileFault). FirstOrMemory fs e) (sym reading.faults)
+    (append-left-first (guard_faults (length ns.parameters) (in_guards ns) (guards_so_far ns before) c) _ e h)
 
-pub reading_ends : (ns : Names) (first now : GuardList) (all left : List TreeComparison) (masks : GuardMasks) → left ≡ [] → GuardsReading ns first now all left masks
+pub reading_ends : (ns : Names) (first now : GuardList) (all left : List TreeComparison) (masks : GuardMasks) → left ≡ []
+    → GuardsReading ns first now all left masks
     → (guards_faults (length ns.parameters) (in_guards ns) (guards_so_far ns first) all ≡ []) × GuardsNumbered ns first (map plain_comparison all) now masks
 reading_ends ns first now all left masks none reading =
     let r = subst (λ (cs : List TreeComparison). GuardsReading ns first now all cs masks) none reading in (

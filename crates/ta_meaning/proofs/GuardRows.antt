@@ -1,13 +1,17 @@
 -- rows as numbers: when two are the same, and which are among others
-use Rattle.ta_meaning.proofs.Common.{◌≡◌, ◌⊎◌, inl, inr, ℕ, zero, suc, List, [], ◌∷◌, ◌++◌, length, true, ◌&&◌, slice_get, Some, Decides, ap, refl, false≢true, or_cases, or_left, or_right, Decides-int_eq, Decides-and, Decides-like, slice_eq-Decides, same_Some, get_push, slice_get_left, Linear, same_row, has_row, get_end}
+use Rattle.ta_meaning.proofs.Common.{◌≡◌, ◌⊎◌, inl, inr, ℕ, zero, suc, List, [], ◌∷◌, ◌++◌, length, true, ◌&&◌, slice_get, Some, Decides, ap, refl, false≢true}
+use Rattle.ta_meaning.proofs.Common.{or_cases, or_left, or_right, Decides-int_eq, Decides-and, Decides-like, slice_eq-Decides, same_Some, get_push}
+use Rattle.ta_meaning.proofs.Common.{slice_get_left, Linear, same_row, has_row, get_end}
 use Rattle.std.specs.Ordering.{int_eq}
 use lib.Pointwise.{pointwise}
 use Rattle.ta_meaning.proofs.NormalTerms.{linear_same}
 
 pub row_decides : (a b : Linear) → Decides (same_row a b) (a ≡ b)
 row_decides a b =
-    Decides-like (int_eq a.constant b.constant && pointwise int_eq a.coefficients b.coefficients) (λ w. linear_same a b w.0 w.1) (λ e. (ap (λ (l : Linear). l.constant) e, ap (λ (l : Linear). l.coefficients) e))
-    (Decides-and (int_eq a.constant b.constant) (pointwise int_eq a.coefficients b.coefficients) (Decides-int_eq a.constant b.constant) (slice_eq-Decides Decides-int_eq a.coefficients b.coefficients (pointwise int_eq a.coefficients b.coefficients) refl))
+    Decides-like (int_eq a.constant b.constant && pointwise int_eq a.coefficients b.coefficients) (λ w. linear_same a b w.0 w.1)
+    (λ e. (ap (λ (l : Linear). l.constant) e, ap (λ (l : Linear). l.coefficients) e))
+    (Decides-and (int_eq a.constant b.constant) (pointwise int_eq a.coefficients b.coefficients) (Decides-int_eq a.constant b.constant)
+    (slice_eq-Decides Decides-int_eq a.coefficients b.coefficients (pointwise int_eq a.coefficients b.coefficients) refl))
 
 -- ---- rows among rows
 pub has_at : (rows : List Linear) (i : ℕ) (r : Linear) → slice_get rows i ≡ Some r → has_row rows r ≡ true

@@ -1,5 +1,7 @@
 -- Parts of a tree that stand one after another in a text: errors that rise within each part rise in the whole.
-use Rattle.ta_meaning.proofs.Common.{ℕ, ◌+◌, ◌≤◌, ◌<◌, ◌≡◌, Bool, true, false, List, [], ◌∷◌, ◌++◌, map, ◌⊎◌, inl, inr, refl, sym, subst, arith, AllByRecursion, each_append, each_weaker, rises-wider, further, listed, led, ended, each, Offsets, unplaced, at_first, Mark, FileFault, Rises, where_, else_, fault_offset, IsOfMeaning}
+use Rattle.ta_meaning.proofs.Common.{ℕ, ◌+◌, ◌≤◌, ◌<◌, ◌≡◌, Bool, true, false, List, [], ◌∷◌, ◌++◌, map, ◌⊎◌, inl, inr, refl, sym, subst, arith, AllByRecursion}
+use Rattle.ta_meaning.proofs.Common.{each_append, each_weaker, rises-wider, further, listed, led, ended, each, Offsets, unplaced, at_first, Mark, FileFault}
+use Rattle.ta_meaning.proofs.Common.{Rises, where_, else_, fault_offset, IsOfMeaning}
 use Rattle.ta_meaning.proofs.StartedParts.{Starts}
 
 -- the tokens of which these offsets are stated lie one after another, from `low` on and below `high`
@@ -42,7 +44,8 @@ lies-room low high (x ∷ s) h = let later : h.0 + 1 ≤ high = lies-room (h.0 +
 
 pub lies-wider : (low high low' high' : ℕ) (s : List Offsets) → low' ≤ low → high ≤ high' → Lies low s high → Lies low' s high'
 lies-wider low high low' high' [] l r h = omega arith
-lies-wider low high low' high' (x ∷ s) l r h = let here : low ≤ h.0 = h.1 in (h.0, omega arith, h.2, lies-wider (h.0 + 1) high (h.0 + 1) high' s (omega arith) r h.3)
+lies-wider low high low' high' (x ∷ s) l r h = let here : low ≤ h.0 = h.1 in
+    (h.0, omega arith, h.2, lies-wider (h.0 + 1) high (h.0 + 1) high' s (omega arith) r h.3)
 
 -- two parts one after another meet somewhere
 pub record Split (low high : ℕ) (s r : List Offsets) : Type 0 where
@@ -77,15 +80,18 @@ stated-at_first at first (x ∷ s) (inl h) = inl (inr h)
 stated-at_first at first (x ∷ s) (inr h) = inr h
 
 are_stated-left : (s r : List Offsets) (fs : List FileFault) → AreStated s fs → AreStated (s ++ r) fs
-are_stated-left s r fs h = each_weaker (λ f. IsStated (fault_offset f) s) (λ f. IsStated (fault_offset f) (s ++ r)) fs (λ f k. stated-left (fault_offset f) s r k) h
+are_stated-left s r fs h = each_weaker (λ f. IsStated (fault_offset f) s) (λ f. IsStated (fault_offset f) (s ++ r)) fs
+    (λ f k. stated-left (fault_offset f) s r k) h
 
 are_stated-right : (s r : List Offsets) (fs : List FileFault) → AreStated r fs → AreStated (s ++ r) fs
-are_stated-right s r fs h = each_weaker (λ f. IsStated (fault_offset f) r) (λ f. IsStated (fault_offset f) (s ++ r)) fs (λ f k. stated-right (fault_offset f) s r k) h
+are_stated-right s r fs h = each_weaker (λ f. IsStated (fault_offset f) r) (λ f. IsStated (fault_offset f) (s ++ r)) fs
+    (λ f k. stated-right (fault_offset f) s r k) h
 
 pub within-wider : (low high low' high' : ℕ) (fs : List FileFault) → low' ≤ low → high ≤ high' → Within low high fs → Within low' high' fs
 within-wider low high low' high' fs l r h = rises-wider low high low' high' (map fault_offset fs) l r h
 
-pub within-append : (low middle high : ℕ) (fs gs : List FileFault) → low ≤ middle → middle ≤ high → Within low middle fs → Within middle high gs → Within low high (fs ++ gs)
+pub within-append : (low middle high : ℕ) (fs gs : List FileFault) → low ≤ middle → middle ≤ high → Within low middle fs → Within middle high gs
+    → Within low high (fs ++ gs)
 within-append low middle high [] gs l r h k = within-wider middle high low high gs l (omega arith) k
 within-append low middle high (f ∷ fs) gs l r h k =
     let here : fault_offset f < middle = h.1 in
@@ -93,12 +99,20 @@ within-append low middle high (f ∷ fs) gs l r h k =
 
 -- ---- an offset inside a part
 pub inside-name : (at : ℕ) → IsInside at ((at ∷ []) ∷ [])
-inside-name at = record { inside = λ low high h. let here : low ≤ h.0 = h.1 in let is : at ≡ h.0 = h.2.0 in let room : h.0 + 1 ≤ high = h.3 in (omega arith, omega arith); token = inl (inl refl) }
+inside-name at = record {
+  inside = λ low high h. let here : low ≤ h.0 = h.1 in let is : at ≡ h.0 = h.2.0 in let room : h.0 + 1 ≤ high = h.3 in
+      (omega arith, omega arith);
+  token = inl (inl refl);
+}
 
 -- the offset of a part's first token
 pub inside-at_first : (at : ℕ) (s : List Offsets) → Starts s → IsInside at (at_first at s)
 inside-at_first at [] starts = absurd starts
-inside-at_first at (x ∷ s) starts = record { inside = λ low high h. let here : low ≤ h.0 = h.1 in let is : at ≡ h.0 = h.2.0 in let room : h.0 + 1 ≤ high = lies-room (h.0 + 1) high s h.3 in (omega arith, omega arith); token = inl (inl refl) }
+inside-at_first at (x ∷ s) starts = record {
+  inside = λ low high h. let here : low ≤ h.0 = h.1 in let is : at ≡ h.0 = h.2.0 in let room : h.0 + 1 ≤ high = lies-room (h.0 + 1) high s h.3 in
+      (omega arith, omega arith);
+  token = inl (inl refl);
+}
 
 -- ---- parts and their errors
 pub no_faults : (s : List Offsets) → InOrder s []
@@ -109,7 +123,11 @@ along s r fs gs e d h = subst (λ (z : List Offsets). InOrder z gs) e (subst (λ
 
 -- an error alone, at an offset inside
 pub one : (s : List Offsets) (test : Bool) (f : FileFault) → IsOfMeaning f → IsInside (fault_offset f) s → InOrder s (where_ test f)
-one s true f kind i = record { rise = λ low high h. let in_ : (low ≤ fault_offset f) × (fault_offset f < high) = i.inside low high h in (in_.0, in_.1, tt); tokens = (i.token, tt); kinds = (kind, tt) }
+one s true f kind i = record {
+  rise = λ low high h. let in_ : (low ≤ fault_offset f) × (fault_offset f < high) = i.inside low high h in (in_.0, in_.1, tt);
+  tokens = (i.token, tt);
+  kinds = (kind, tt);
+}
 one s false f kind i = no_faults s
 
 -- one of two lists of errors
@@ -122,14 +140,20 @@ pub together : (s r : List Offsets) (fs gs : List FileFault) → InOrder s fs �
 together s r fs gs h k = record {
   rise = λ low high lies.
       let parts : Split low high s r = lies-split low high s r lies in
-      within-append low parts.middle high fs gs (lies-room low parts.middle s parts.left) (lies-room parts.middle high r parts.right) (h.rise low parts.middle parts.left) (k.rise parts.middle high parts.right);
+      within-append low parts.middle high fs gs (lies-room low parts.middle s parts.left) (lies-room parts.middle high r parts.right)
+      (h.rise low parts.middle parts.left) (k.rise parts.middle high parts.right);
   tokens = each_append (λ f. IsStated (fault_offset f) (s ++ r)) fs gs (are_stated-left s r fs h.tokens) (are_stated-right s r gs k.tokens);
   kinds = each_append IsOfMeaning fs gs h.kinds k.kinds;
 }
 
 -- a token without an error before a part
 pub after_token : (x : Offsets) (s : List Offsets) (fs : List FileFault) → InOrder s fs → InOrder (x ∷ s) fs
-after_token x s fs h = record { rise = λ low high lies. let here : low ≤ lies.0 = lies.1 in within-wider (lies.0 + 1) high low high fs (omega arith) (omega arith) (h.rise (lies.0 + 1) high lies.3); tokens = are_stated-right (x ∷ []) s fs h.tokens; kinds = h.kinds }
+after_token x s fs h = record {
+  rise = λ low high lies. let here : low ≤ lies.0 = lies.1 in within-wider (lies.0 + 1) high low high fs (omega arith)
+      (omega arith) (h.rise (lies.0 + 1) high lies.3);
+  tokens = are_stated-right (x ∷ []) s fs h.tokens;
+  kinds = h.kinds;
+}
 
 -- tokens without an error behind a part
 pub before_tokens : (s r : List Offsets) (fs : List FileFault) → InOrder s fs → InOrder (s ++ r) fs
@@ -143,7 +167,13 @@ before_tokens s r fs h = record {
 
 -- one offset more stated of the first token
 pub with_first : (at : ℕ) (s : List Offsets) (fs : List FileFault) → InOrder s fs → InOrder (at_first at s) fs
-with_first at s fs h = record { rise = λ low high lies. h.rise low high (lies-at_first at low high s lies); tokens = each_weaker (λ f. IsStated (fault_offset f) s) (λ f. IsStated (fault_offset f) (at_first at s)) fs (λ f k. stated-at_first (fault_offset f) at s k) h.tokens; kinds = h.kinds }
+with_first at s fs h = record {
+  rise = λ low high lies. h.rise low high (lies-at_first at low high s lies);
+  tokens = each_weaker
+      (λ f. IsStated (fault_offset f) s) (λ f. IsStated (fault_offset f) (at_first at s)) fs (λ f k. stated-at_first (fault_offset f) at s k) h.tokens;
+  kinds =
+      h.kinds;
+}
 
 -- ---- lists of parts
 
@@ -155,11 +185,13 @@ Items stated (x ∷ xs) faults = (here later : List FileFault) × (faults ≡ he
 none : (s : List Offsets) (fs : List FileFault) → fs ≡ [] → InOrder s fs
 none s fs e = subst (λ (z : List FileFault). InOrder s z) (sym e) (no_faults s)
 
-pub further-in_order : {A : Type 0} (stated : A → List Offsets) (xs : List A) (fs : List FileFault) → Items stated xs fs → InOrder (further unplaced stated xs) fs
+pub further-in_order : {A : Type 0} (stated : A → List Offsets) (xs : List A) (fs : List FileFault) → Items stated xs fs
+    → InOrder (further unplaced stated xs) fs
 further-in_order stated [] fs h = none [] fs h
 further-in_order stated (x ∷ xs) fs h =
     subst (λ (z : List FileFault). InOrder (further unplaced stated (x ∷ xs)) z) (sym h.2)
-    (after_token [] (stated x ++ further unplaced stated xs) (h.0 ++ h.1) (together (stated x) (further unplaced stated xs) h.0 h.1 h.3 (further-in_order stated xs h.1 h.4)))
+    (after_token [] (stated x ++ further unplaced stated xs) (h.0 ++ h.1)
+    (together (stated x) (further unplaced stated xs) h.0 h.1 h.3 (further-in_order stated xs h.1 h.4)))
 
 pub listed-in_order : {A : Type 0} (stated : A → List Offsets) (xs : List A) (fs : List FileFault) → Items stated xs fs → InOrder (listed unplaced stated xs) fs
 listed-in_order stated [] fs h = none [] fs h
@@ -167,14 +199,17 @@ listed-in_order stated (x ∷ xs) fs h =
     subst (λ (z : List FileFault). InOrder (listed unplaced stated (x ∷ xs)) z) (sym h.2)
     (together (stated x) (further unplaced stated xs) h.0 h.1 h.3 (further-in_order stated xs h.1 h.4))
 
-pub led-in_order : {A : Type 0} (m : Mark) (stated : A → List Offsets) (xs : List A) (fs : List FileFault) → Items stated xs fs → InOrder (led unplaced m stated xs) fs
+pub led-in_order : {A : Type 0} (m : Mark) (stated : A → List Offsets) (xs : List A) (fs : List FileFault) → Items stated xs fs
+    → InOrder (led unplaced m stated xs) fs
 led-in_order m stated [] fs h = none [] fs h
 led-in_order m stated (x ∷ xs) fs h = after_token [] (listed unplaced stated (x ∷ xs)) fs (listed-in_order stated (x ∷ xs) fs h)
 
-pub ended-in_order : {A : Type 0} (m : Mark) (stated : A → List Offsets) (xs : List A) (fs : List FileFault) → Items stated xs fs → InOrder (ended unplaced m stated xs) fs
+pub ended-in_order : {A : Type 0} (m : Mark) (stated : A → List Offsets) (xs : List A) (fs : List FileFault) → Items stated xs fs
+    → InOrder (ended unplaced m stated xs) fs
 ended-in_order m stated [] fs h = none [] fs h
 ended-in_order m stated (x ∷ xs) fs h =
-    after_token [] (listed unplaced stated (x ∷ xs) ++ [] ∷ []) fs (before_tokens (listed unplaced stated (x ∷ xs)) ([] ∷ []) fs (listed-in_order stated (x ∷ xs) fs h))
+    after_token [] (listed unplaced stated (x ∷ xs) ++ [] ∷ []) fs
+    (before_tokens (listed unplaced stated (x ∷ xs)) ([] ∷ []) fs (listed-in_order stated (x ∷ xs) fs h))
 
 pub each-in_order : {A : Type 0} (stated : A → List Offsets) (xs : List A) (fs : List FileFault) → Items stated xs fs → InOrder (each stated xs) fs
 each-in_order stated [] fs h = none [] fs h

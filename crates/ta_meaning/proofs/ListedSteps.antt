@@ -1,5 +1,10 @@
 -- Listing names one after another: the mask so far, and what is left.
-use Rattle.ta_meaning.proofs.Common.{◌≡◌, ℕ, ◌*◌, ◌%◌, ◌^◌, ◌<◌, ◌≤◌, inl, inr, false, ◌||◌, List, [], ◌∷◌, ◌++◌, length, map, Decides, Contains, slice_get, Some, IsBitSet, bit_or, w32, refl, sym, ap, subst, ◌∙◌, arith, bytes_eq, mod-eq_of_lt, false≢true, false_from_ne_true, eqb_tells, Decides-like, Decides-or, bit_at_set_same, bit_at_set_other, append-nil, Contains-append_left, Contains-push, Contains-push_cases, slice_get_within, same_Some, bytes_eq-Decides, at_set, no_bit, set_at, distinct_at, each_append, contains_at, plain_name, Spelled, FileFault, Distinct, has_name, ListedMask, where_, else_, First, used_faults, listed_faults, append_assoc, All-from_recursion, All-contains}
+use Rattle.ta_meaning.proofs.Common.{◌≡◌, ℕ, ◌*◌, ◌%◌, ◌^◌, ◌<◌, ◌≤◌, inl, inr, false, ◌||◌, List, [], ◌∷◌, ◌++◌, length, map, Decides, Contains, slice_get}
+use Rattle.ta_meaning.proofs.Common.{Some, IsBitSet, bit_or, w32, refl, sym, ap, subst, ◌∙◌, arith, bytes_eq, mod-eq_of_lt, false≢true, false_from_ne_true}
+use Rattle.ta_meaning.proofs.Common.{eqb_tells, Decides-like, Decides-or, bit_at_set_same, bit_at_set_other, append-nil, Contains-append_left, Contains-push}
+use Rattle.ta_meaning.proofs.Common.{Contains-push_cases, slice_get_within, same_Some, bytes_eq-Decides, at_set, no_bit, set_at, distinct_at, each_append}
+use Rattle.ta_meaning.proofs.Common.{contains_at, plain_name, Spelled, FileFault, Distinct, has_name, ListedMask, where_, else_, First, used_faults}
+use Rattle.ta_meaning.proofs.Common.{listed_faults, append_assoc, All-from_recursion, All-contains}
 use Rattle.std.proofs.lemmas.Nat.{or_lt, pow_below, pow_pos}
 use Rattle.ta_scope.proofs.Reaching.{bit_of}
 use Rattle.ta_syntax.specs.declared.fault.FileFault.TheVariants as fault
@@ -12,7 +17,8 @@ use Rattle.ta_base.proofs.Lists.{empty_before}
 pub has_name-Decides : (names : List (List ℕ)) (n : List ℕ) → Decides (has_name names n) (Contains names n)
 has_name-Decides [] n = ((λ e. absurd (false≢true e)), λ c. absurd (let b = c.1 in omega arith))
 has_name-Decides (m ∷ names) n =
-    Decides-like (bytes_eq m n || has_name names n) (contains_from n m names) (contains_cases n m names) (Decides-or (bytes_eq m n) (has_name names n) (bytes_eq-Decides m n) (has_name-Decides names n))
+    Decides-like (bytes_eq m n || has_name names n) (contains_from n m names) (contains_cases n m names)
+    (Decides-or (bytes_eq m n) (has_name names n) (bytes_eq-Decides m n) (has_name-Decides names n))
 
 -- ---- masks
 
@@ -25,7 +31,8 @@ no_mask names = record {
   below = pow_pos (length names);
 }
 
-module _ (names before : List (List ℕ)) (mask i : ℕ) (n : List ℕ) (distinct : Distinct names) (few : length names ≤ 32) (old : ListedMask names before mask) (named : slice_get names i ≡ Some n) where
+module _ (names before : List (List ℕ)) (mask i : ℕ) (n : List ℕ) (distinct : Distinct names) (few : length names ≤ 32) (old : ListedMask names before mask)
+    (named : slice_get names i ≡ Some n) where
   within : i < length names
   within = slice_get_within names i n named
 
@@ -59,7 +66,9 @@ module _ (names before : List (List ℕ)) (mask i : ℕ) (n : List ℕ) (distinc
       known = each_append (Contains names) before (n ∷ []) old.bits.known (contains_at names i n named, tt);
       bits = λ j. (names_bit j, λ w. bit_named j w.0 w.1 w.2);
     };
-    below = or_lt (length names) mask (bit_of i) old.below (let b = within in let small : 2 ^ i < 2 ^ length names = pow_below i (length names) b in let fits : 2 ^ i < 2 ^ 32 = pow_below i 32 (omega arith) in let is : 2 ^ i % 4294967296 ≡ 2 ^ i = mod-eq_of_lt fits in omega arith);
+    below = or_lt (length names) mask (bit_of i) old.below
+        (let b = within in let small : 2 ^ i < 2 ^ length names = pow_below i (length names) b in let fits : 2 ^ i < 2 ^ 32 = pow_below i 32 (omega arith) in
+        let is : 2 ^ i % 4294967296 ≡ 2 ^ i = mod-eq_of_lt fits in omega arith);
   }
 
 -- ---- listing
@@ -74,29 +83,37 @@ pub record ListedTo (declared allowed : List (List ℕ)) (all rest : List Spelle
 pub listing_begins : (declared allowed : List (List ℕ)) (all : List Spelled) → ListedTo declared allowed all all 0
 listing_begins declared allowed all = record { before = []; faults = refl; names_are = refl; mask_is = no_mask allowed }
 
-module _ (declared allowed : List (List ℕ)) (all : List Spelled) (n : Spelled) (rest : List Spelled) (mask : ℕ) (to : ListedTo declared allowed all (n ∷ rest) mask) where
+module _ (declared allowed : List (List ℕ)) (all : List Spelled) (n : Spelled) (rest : List Spelled) (mask : ℕ)
+    (to : ListedTo declared allowed all (n ∷ rest) mask) where
   -- a name in error by itself was not listed before
-  not_listed : (e : FileFault) (later : List FileFault) → ((m : List ℕ) → Contains allowed m → Contains declared m) → used_faults declared allowed n ≡ e ∷ later → has_name to.before n.name ≡ false
+  not_listed : (e : FileFault) (later : List FileFault) → ((m : List ℕ) → Contains allowed m → Contains declared m) → used_faults declared allowed n ≡ e ∷ later
+      → has_name to.before n.name ≡ false
   not_listed e later sub is = false_from_ne_true (has_name to.before n.name) (λ t.
-      let known : Contains allowed n.name = All-contains (Contains allowed) to.before n.name (All-from_recursion (Contains allowed) to.before to.mask_is.bits.known) ((has_name-Decides to.before n.name).0 t) in
+      let known : Contains allowed n.name = All-contains (Contains allowed) to.before n.name
+      (All-from_recursion (Contains allowed) to.before to.mask_is.bits.known) ((has_name-Decides to.before n.name).0 t) in
       let none = rightly_used declared allowed n ((has_name-Decides declared n.name).1 (sub n.name known)) ((has_name-Decides allowed n.name).1 known) in
       absurd (cc))
 
-  first_used : (e : FileFault) → ((m : List ℕ) → Contains allowed m → Contains declared m) → First (used_faults declared allowed n) e → First (else_ (where_ (has_name to.before n.name) (fault.Duplicate n.at)) (used_faults declared allowed n)) e
+  first_used : (e : FileFault) → ((m : List ℕ) → Contains allowed m → Contains declared m) → First (used_faults declared allowed n) e
+      → First (else_ (where_ (has_name to.before n.name) (fault.Duplicate n.at)) (used_faults declared allowed n)) e
   first_used e sub w = else-right-leads _ _ e (where-false (has_name to.before n.name) (fault.Duplicate n.at) (not_listed e w.0 sub w.1)) w
 
-  pub listing_stops : (e : FileFault) → ((m : List ℕ) → Contains allowed m → Contains declared m) → First (used_faults declared allowed n) e → First (listed_faults declared allowed [] all) e
+  pub listing_stops : (e : FileFault) → ((m : List ℕ) → Contains allowed m → Contains declared m) → First (used_faults declared allowed n) e
+      → First (listed_faults declared allowed [] all) e
   listing_stops e sub first = rw to.faults (append-left-leads _ _ e (first_used e sub first))
 
   pub listing_repeats : (i : ℕ) → slice_get allowed i ≡ Some n.name → IsBitSet mask i → First (listed_faults declared allowed [] all) (fault.Duplicate n.at)
   listing_repeats i named b =
       let w = (to.mask_is.bits.bits i).0 b in
       let again : Contains to.before n.name = subst (Contains to.before) (same_Some w.0 n.name (sym w.1 ∙ named)) w.2 in
-      rw to.faults (append-left-leads _ _ _ (else-left-leads _ _ _ (where-leads (has_name to.before n.name) (fault.Duplicate n.at) ((has_name-Decides to.before n.name).1 again))))
+      rw to.faults (append-left-leads _ _ _
+      (else-left-leads _ _ _ (where-leads (has_name to.before n.name) (fault.Duplicate n.at) ((has_name-Decides to.before n.name).1 again))))
 
-  pub listing_goes_on : (i : ℕ) → Distinct allowed → length allowed ≤ 32 → used_faults declared allowed n ≡ [] → slice_get allowed i ≡ Some n.name → (IsBitSet mask i → ⊥) → ListedTo declared allowed all rest (bit_or mask (1 * 2 ^ i % 4294967296))
+  pub listing_goes_on : (i : ℕ) → Distinct allowed → length allowed ≤ 32 → used_faults declared allowed n ≡ [] → slice_get allowed i ≡ Some n.name
+      → (IsBitSet mask i → ⊥) → ListedTo declared allowed all rest (bit_or mask (1 * 2 ^ i % 4294967296))
   listing_goes_on i distinct few none named new =
-      let fresh : has_name to.before n.name ≡ false = false_from_ne_true (has_name to.before n.name) (λ t. new ((to.mask_is.bits.bits i).1 (n.name, named, (has_name-Decides to.before n.name).0 t))) in
+      let fresh : has_name to.before n.name ≡ false = false_from_ne_true (has_name to.before n.name)
+      (λ t. new ((to.mask_is.bits.bits i).1 (n.name, named, (has_name-Decides to.before n.name).0 t))) in
       record {
         before = to.before ++ n.name ∷ [];
         faults = to.faults ∙ empty_before _ _ (else-none _ _ (where-false (has_name to.before n.name) (fault.Duplicate n.at) fresh) none);
@@ -104,5 +121,7 @@ module _ (declared allowed : List (List ℕ)) (all : List Spelled) (n : Spelled)
         mask_is = one_more_name allowed to.before mask i n.name distinct few to.mask_is named;
       }
 
-pub listing_ends : (declared allowed : List (List ℕ)) (all : List Spelled) (mask : ℕ) → ListedTo declared allowed all [] mask → (listed_faults declared allowed [] all ≡ []) × ListedMask allowed (map plain_name all) mask
-listing_ends declared allowed all mask to = (to.faults, subst (λ (z : List (List ℕ)). ListedMask allowed z mask) (sym (to.names_are ∙ append-nil to.before)) to.mask_is)
+pub listing_ends : (declared allowed : List (List ℕ)) (all : List Spelled) (mask : ℕ) → ListedTo declared allowed all [] mask
+    → (listed_faults declared allowed [] all ≡ []) × ListedMask allowed (map plain_name all) mask
+listing_ends declared allowed all mask to =
+    (to.faults, subst (λ (z : List (List ℕ)). ListedMask allowed z mask) (sym (to.names_are ∙ append-nil to.before)) to.mask_is)

@@ -1,5 +1,7 @@
 -- A tree without errors of meaning means a file.
-use Rattle.ta_meaning.proofs.Common.{◌≡◌, ◌≤◌, [], ◌++◌, map, length, refl, arith, length-map, distinct_right, plain_sum, plain_location, plain_tree, Tree, Automaton, File, names_of, no_guards, linear_sum, is_large_linear, initial_from, MeansAutomaton, MeansTree, where_, sum_faults, condition_faults, in_parameters, processes_faults, names_faults, rules_faults, patterns_faults, meaning_faults}
+use Rattle.ta_meaning.proofs.Common.{◌≡◌, ◌≤◌, [], ◌++◌, map, length, refl, arith, length-map, distinct_right, plain_sum, plain_location, plain_tree, Tree}
+use Rattle.ta_meaning.proofs.Common.{Automaton, File, names_of, no_guards, linear_sum, is_large_linear, initial_from, MeansAutomaton, MeansTree, where_}
+use Rattle.ta_meaning.proofs.Common.{sum_faults, condition_faults, in_parameters, processes_faults, names_faults, rules_faults, patterns_faults, meaning_faults}
 use Rattle.ta_syntax.specs.declared.fault.FileFault.TheVariants as fault
 use Rattle.ta_meaning.proofs.Answering.{not-where, none-else-left, none-else-right}
 use Rattle.ta_meaning.proofs.Declared.{names-distinct}
@@ -41,7 +43,8 @@ file_exists t none =
     let few : length ns.parameters ≤ 64 = omega (arith, fine.parameters) in
     let large = where_ (is_large_linear (linear_sum ns.parameters (plain_sum t.processes))) (fault.TooLarge t.processes_at) in
     let terms = sum_faults (in_parameters ns) t.processes in
-    let p = sum_exists (in_parameters ns) t.processes few (none-else-left terms large no_sum) (not-where (is_large_linear (linear_sum ns.parameters (plain_sum t.processes))) (fault.TooLarge t.processes_at) (none-else-right terms large no_sum)) in
+    let p = sum_exists (in_parameters ns) t.processes few (none-else-left terms large no_sum)
+    (not-where (is_large_linear (linear_sum ns.parameters (plain_sum t.processes))) (fault.TooLarge t.processes_at) (none-else-right terms large no_sum)) in
     let r = condition_exists (in_parameters ns) t.resilience few t.few_resilience (empty_left holds (rules ++ patterns) after_sum) in
     let rs = rules_exist ns fine t.rules (empty_left rules patterns after_holds) in
     let ps = patterns_exist ns fine t.patterns t.few_patterns (empty_right rules patterns after_holds) in
@@ -58,5 +61,7 @@ file_exists t none =
       rules = rs.2;
       shape = automaton_shape t p.0 r.0 rs.0 rs.1 rs.2 no_names p.1 r.1 rs.3;
     } in
-    let means : MeansAutomaton (plain_tree t) automaton = means_automaton t automaton rs.0 rs.1 rs.2 refl refl refl refl refl refl refl refl p.1 r.1 rs.3 in
-    (record { automaton = automaton; patterns = ps.0; shape = patterns_shape-of t ns.parameters ns.shared ns.locations ps.0 ps.0 refl refl refl ps.1 refl }, record { automaton = means; patterns = ps.1.means })
+    let means : MeansAutomaton (plain_tree t) automaton = means_automaton t automaton rs.0 rs.1 rs.2 refl refl refl refl refl refl refl refl p.1 r.1 rs.3 in (
+      record { automaton = automaton; patterns = ps.0; shape = patterns_shape-of t ns.parameters ns.shared ns.locations ps.0 ps.0 refl refl refl ps.1 refl },
+      record { automaton = means; patterns = ps.1.means },
+    )

@@ -1,5 +1,13 @@
 -- Numbers that are not too large are those of a form, and sums and comparisons without an error mean forms and rows.
-use Rattle.ta_meaning.proofs.Common.{◌≡◌, ◌≢◌, ℕ, zero, suc, ℤ, pos, negsuc, ◌+◌, ◌^◌, ◌≤◌, unsigned_abs, true, false, List, [], ◌∷◌, ◌++◌, map, length, get_or, IsTrue, Some, None, refl, sym, ap, subst, ◌∙◌, arith, list_any, AllByRecursion, ints, or_parts, and_from, length-map, coefficient, IsNormal, Form, Row, coefficient-below, coefficient-first, coefficient-other, plain_sum, term_of, plain_comparison, Terms, Relation, TreeSum, TreeComparison, RowOver, Comparison, Condition, sum_uses, term_uses, factor_uses, Linear, FormOf, RowOf, Pairwise, MeansComparison, linear_sum, differences_by, linear_difference, comparison_rows, is_large, is_large_linear, any_large, Scope, WithFaults, where_, linear_term, sum_faults, comparison_faults, condition_faults, number_faults, ResolvedForm, ResolvedComparison, ResolvedCondition, SeenTerms, SeenTerm, SeenFactor, seen_none, seen_more, seen_number, seen_times, seen_alone, seen_blank, seen_named, seen_nested, seen_sum, plain_of_terms, plain_of_term, plain_of_factor}
+use Rattle.ta_meaning.proofs.Common.{◌≡◌, ◌≢◌, ℕ, zero, suc, ℤ, pos, negsuc, ◌+◌, ◌^◌, ◌≤◌, unsigned_abs, true, false, List, [], ◌∷◌, ◌++◌, map, length, get_or}
+use Rattle.ta_meaning.proofs.Common.{IsTrue, Some, None, refl, sym, ap, subst, ◌∙◌, arith, list_any, AllByRecursion, ints, or_parts, and_from, length-map}
+use Rattle.ta_meaning.proofs.Common.{coefficient, IsNormal, Form, Row, coefficient-below, coefficient-first, coefficient-other, plain_sum, term_of}
+use Rattle.ta_meaning.proofs.Common.{plain_comparison, Terms, Relation, TreeSum, TreeComparison, RowOver, Comparison, Condition, sum_uses, term_uses}
+use Rattle.ta_meaning.proofs.Common.{factor_uses, Linear, FormOf, RowOf, Pairwise, MeansComparison, linear_sum, differences_by, linear_difference}
+use Rattle.ta_meaning.proofs.Common.{comparison_rows, is_large, is_large_linear, any_large, Scope, WithFaults, where_, linear_term, sum_faults}
+use Rattle.ta_meaning.proofs.Common.{comparison_faults, condition_faults, number_faults, ResolvedForm, ResolvedComparison, ResolvedCondition, SeenTerms}
+use Rattle.ta_meaning.proofs.Common.{SeenTerm, SeenFactor, seen_none, seen_more, seen_number, seen_times, seen_alone, seen_blank, seen_named, seen_nested}
+use Rattle.ta_meaning.proofs.Common.{seen_sum, plain_of_terms, plain_of_term, plain_of_factor}
 use Rattle.ta_linear.specs.Terms.{IsTerm}
 use Rattle.ta_syntax.specs.declared.tokens.Relation.TheVariants as relation
 use Rattle.ta_syntax.specs.declared.fault.FileFault.TheVariants as fault
@@ -29,7 +37,8 @@ small_term k z some small = record { not_zero = some; in_range = let h : unsigne
 
 terms_normal : (high k : ℕ) (zs : List ℤ) → list_any is_large zs ≡ false → k + length zs ≤ high → IsNormal k high (terms_from k zs)
 terms_normal high k [] small fits = let h : k + 0 ≤ high = fits in omega arith
-terms_normal high k (pos zero ∷ zs) small fits = normal_lower k high (terms_from (k + 1) zs) (terms_normal high (k + 1) zs (or_parts (is_large (pos zero)) (list_any is_large zs) small).1 (omega arith))
+terms_normal high k (pos zero ∷ zs) small fits = normal_lower k high (terms_from (k + 1) zs)
+    (terms_normal high (k + 1) zs (or_parts (is_large (pos zero)) (list_any is_large zs) small).1 (omega arith))
 terms_normal high k (pos (suc n) ∷ zs) small fits =
     let s = or_parts (is_large (pos (suc n))) (list_any is_large zs) small in
     (omega arith, small_term k (pos (suc n)) (λ e. absurd (omega (arith, ints))) s.0, terms_normal high (k + 1) zs s.1 (omega arith))
@@ -37,7 +46,8 @@ terms_normal high k (negsuc n ∷ zs) small fits =
     let s = or_parts (is_large (negsuc n)) (list_any is_large zs) small in
     (omega arith, small_term k (negsuc n) (λ e. absurd (omega (arith, ints))) s.0, terms_normal high (k + 1) zs s.1 (omega arith))
 
-terms_are : (high k : ℕ) (zs : List ℤ) (i x : ℕ) → list_any is_large zs ≡ false → k + length zs ≤ high → x ≡ k + i → coefficient (terms_from k zs) x ≡ get_or zs i (pos 0)
+terms_are : (high k : ℕ) (zs : List ℤ) (i x : ℕ) → list_any is_large zs ≡ false → k + length zs ≤ high → x ≡ k + i
+    → coefficient (terms_from k zs) x ≡ get_or zs i (pos 0)
 terms_are high k [] i x small fits e = refl
 terms_are high k (pos zero ∷ zs) zero x small fits e =
     let s = or_parts (is_large (pos zero)) (list_any is_large zs) small in
@@ -48,14 +58,16 @@ terms_are high k (pos zero ∷ zs) (suc i) x small fits e =
 terms_are high k (pos (suc n) ∷ zs) zero x small fits e =
     let s = or_parts (is_large (pos (suc n))) (list_any is_large zs) small in
     let same : x ≡ k = omega arith in
-    ap (coefficient (terms_from k (pos (suc n) ∷ zs))) same ∙ coefficient-first high (k, pos (suc n)) (terms_from (k + 1) zs) (terms_normal high (k + 1) zs s.1 (omega arith))
+    ap (coefficient (terms_from k (pos (suc n) ∷ zs))) same
+    ∙ coefficient-first high (k, pos (suc n)) (terms_from (k + 1) zs) (terms_normal high (k + 1) zs s.1 (omega arith))
 terms_are high k (pos (suc n) ∷ zs) (suc i) x small fits e =
     let s = or_parts (is_large (pos (suc n))) (list_any is_large zs) small in
     coefficient-other (k, pos (suc n)) (terms_from (k + 1) zs) x (λ q. absurd (omega arith)) ∙ terms_are high (k + 1) zs i x s.1 (omega arith) (omega arith)
 terms_are high k (negsuc n ∷ zs) zero x small fits e =
     let s = or_parts (is_large (negsuc n)) (list_any is_large zs) small in
     let same : x ≡ k = omega arith in
-    ap (coefficient (terms_from k (negsuc n ∷ zs))) same ∙ coefficient-first high (k, negsuc n) (terms_from (k + 1) zs) (terms_normal high (k + 1) zs s.1 (omega arith))
+    ap (coefficient (terms_from k (negsuc n ∷ zs))) same
+    ∙ coefficient-first high (k, negsuc n) (terms_from (k + 1) zs) (terms_normal high (k + 1) zs s.1 (omega arith))
 terms_are high k (negsuc n ∷ zs) (suc i) x small fits e =
     let s = or_parts (is_large (negsuc n)) (list_any is_large zs) small in
     coefficient-other (k, negsuc n) (terms_from (k + 1) zs) x (λ q. absurd (omega arith)) ∙ terms_are high (k + 1) zs i x s.1 (omega arith) (omega arith)
@@ -85,13 +97,17 @@ rows_exist (l ∷ ls) small few =
 mutual
   terms_known : (s : Scope) (ts : SeenTerms) → (judged_of_terms s ts).faults ≡ [] → sum_uses s.allowed (plain_of_terms ts) ≡ true
   terms_known s seen_none none = refl
-  terms_known s (seen_more sign t ts) none = and_from (term_uses s.allowed (plain_of_term t)) (sum_uses s.allowed (plain_of_terms ts)) (term_known s t (empty_left (judged_of_term s t).faults (judged_of_terms s ts).faults none)) (terms_known s ts (empty_right (judged_of_term s t).faults (judged_of_terms s ts).faults none))
+  terms_known s (seen_more sign t ts) none = and_from (term_uses s.allowed (plain_of_term t)) (sum_uses s.allowed (plain_of_terms ts))
+      (term_known s t (empty_left (judged_of_term s t).faults (judged_of_terms s ts).faults none))
+      (terms_known s ts (empty_right (judged_of_term s t).faults (judged_of_terms s ts).faults none))
 
   term_known : (s : Scope) (t : SeenTerm) → (judged_of_term s t).faults ≡ [] → term_uses s.allowed (plain_of_term t) ≡ true
   term_known s (seen_number at d) none = refl
   term_known s (seen_times at d f) none =
       let j = judged_of_factor s f in
-      factor_known s f (empty_right (number_faults (Some d)) j.faults (none-else-left (number_faults (Some d) ++ j.faults) (where_ (is_large_linear (linear_term s.allowed (term_of (Some d) (Some j.plain)))) (fault.TooLarge at)) none))
+      factor_known s f (empty_right (number_faults (Some d)) j.faults
+      (none-else-left (number_faults (Some d) ++ j.faults)
+      (where_ (is_large_linear (linear_term s.allowed (term_of (Some d) (Some j.plain)))) (fault.TooLarge at)) none))
   term_known s (seen_alone at f) none =
       let j = judged_of_factor s f in
       factor_known s f (none-else-left j.faults (where_ (is_large_linear (linear_term s.allowed (term_of None (Some j.plain)))) (fault.TooLarge at)) none)
@@ -105,15 +121,23 @@ mutual
 pub sum_known : (s : Scope) (t : TreeSum) → sum_faults s t ≡ [] → IsTrue (sum_uses s.allowed (plain_sum t))
 sum_known s t none =
     let seen = every_sum_seen t in
-    subst (λ (p : Terms). sum_uses s.allowed p ≡ true) (sym seen.plain) (terms_known s (seen_sum t) (sym (ap (λ (j : WithFaults Terms). j.faults) (seen.judged s)) ∙ none))
+    subst (λ (p : Terms). sum_uses s.allowed p ≡ true) (sym seen.plain)
+    (terms_known s (seen_sum t) (sym (ap (λ (j : WithFaults Terms). j.faults) (seen.judged s)) ∙ none))
 
 -- ---- sums, comparisons and conditions
-pub sum_exists : (s : Scope) (t : TreeSum) → length s.allowed ≤ 64 → sum_faults s t ≡ [] → is_large_linear (linear_sum s.allowed (plain_sum t)) ≡ false → (form : Form) × ResolvedForm s.allowed (plain_sum t) form
+pub sum_exists : (s : Scope) (t : TreeSum) → length s.allowed ≤ 64 → sum_faults s t ≡ [] → is_large_linear (linear_sum s.allowed (plain_sum t)) ≡ false
+    → (form : Form) × ResolvedForm s.allowed (plain_sum t) form
 sum_exists s t few none small =
     let l = linear_sum s.allowed (plain_sum t) in
     let count : length l.coefficients ≡ length s.allowed = length-map s.allowed _ in
-    let f = form_exists l small (subst (λ n. n ≤ 64) (sym count) few) in
-    (f.0, record { means = record { known = sum_known s t none; numbers = f.1 }; over = form_over l (length s.allowed) f.0 f.1 count (same_large l f.0 f.1 ∙ small) })
+    let f = form_exists l small (subst (λ n. n ≤ 64) (sym count) few) in (
+      f.0,
+      record {
+        means = record { known = sum_known s t none; numbers = f.1 };
+        over = form_over l (length s.allowed) f.0 f.1 count
+            (same_large l f.0 f.1 ∙ small);
+      },
+    )
 
 one_or_two : (rel : Relation) (l r : Terms) → (1 ≤ length (differences_by rel l r)) × (length (differences_by rel l r) ≤ 2)
 one_or_two relation.Less l r = (omega arith, omega arith)
@@ -123,7 +147,8 @@ all_few : (n : ℕ) (ls : List Linear) → n ≤ 64 → AllByRecursion (λ l. le
 all_few n [] few h = tt
 all_few n (l ∷ ls) few h = (subst (λ m. m ≤ 64) (sym h.0) few, all_few n ls few h.1)
 
-pub comparison_exists : (s : Scope) (c : TreeComparison) → length s.allowed ≤ 64 → comparison_faults s c ≡ [] → (k : Comparison) × ResolvedComparison s.allowed (plain_comparison c) k
+pub comparison_exists : (s : Scope) (c : TreeComparison) → length s.allowed ≤ 64 → comparison_faults s c ≡ [] → (k : Comparison)
+    × ResolvedComparison s.allowed (plain_comparison c) k
 comparison_exists s c few none =
     let ls = comparison_rows s.allowed (plain_comparison c) in
     let sums = none-else-left (sum_faults s c.left ++ sum_faults s c.right) _ none in
@@ -131,10 +156,18 @@ comparison_exists s c few none =
     let counts = each_length s.allowed (differences_by c.relation (plain_sum c.left) (plain_sum c.right)) in
     let rows = rows_exist ls small (all_few (length s.allowed) ls few counts) in
     let number = one_or_two c.relation (plain_sum c.left) (plain_sum c.right) in
-    let count : length rows.0 ≡ length (differences_by c.relation (plain_sum c.left) (plain_sum c.right)) = paired_length RowOf ls rows.0 rows.1 ∙ length-map (differences_by c.relation (plain_sum c.left) (plain_sum c.right)) (linear_difference s.allowed) in (
+    let count : length rows.0 ≡ length (differences_by c.relation (plain_sum c.left) (plain_sum c.right)) = paired_length RowOf ls rows.0 rows.1
+    ∙ length-map (differences_by c.relation (plain_sum c.left) (plain_sum c.right)) (linear_difference s.allowed) in (
       record { rows = rows.0; some = subst (λ n. 1 ≤ n) (sym count) number.0; most = subst (λ n. n ≤ 2) (sym count) number.1 },
       record {
-        means = record { known = record { left = sum_known s c.left (empty_left (sum_faults s c.left) (sum_faults s c.right) sums); right = sum_known s c.right (empty_right (sum_faults s c.left) (sum_faults s c.right) sums) }; rows = rows.1 };
+        means = record {
+          known = record {
+            left = sum_known s c.left (empty_left (sum_faults s c.left) (sum_faults s c.right) sums);
+            right = sum_known s c.right
+                (empty_right (sum_faults s c.left) (sum_faults s c.right) sums);
+          };
+          rows = rows.1;
+        };
         over = rows_over ls (length s.allowed) rows.0 rows.1 counts (same_large_rows ls rows.0 rows.1 ∙ small);
       },
     )
@@ -152,7 +185,8 @@ comparisons_exist s (c ∷ cs) few none =
     let more = comparisons_exist s cs few (empty_right (comparison_faults s c) (condition_faults s cs) none) in
     record { items = k.0 ∷ more.items; count = ap suc more.count; means = (k.1.means, more.means); over = (k.1.over, more.over) }
 
-pub condition_exists : (s : Scope) (cs : List TreeComparison) → length s.allowed ≤ 64 → length cs ≤ 16 → condition_faults s cs ≡ [] → (k : Condition) × ResolvedCondition s.allowed (map plain_comparison cs) k
+pub condition_exists : (s : Scope) (cs : List TreeComparison) → length s.allowed ≤ 64 → length cs ≤ 16 → condition_faults s cs ≡ [] → (k : Condition)
+    × ResolvedCondition s.allowed (map plain_comparison cs) k
 condition_exists s cs few short none =
     let m = comparisons_exist s cs few none in
     (record { comparisons = m.items; limit = subst (λ n. n ≤ 16) (sym m.count) short }, record { means = m.means; over = m.over })

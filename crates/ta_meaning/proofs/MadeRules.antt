@@ -1,6 +1,14 @@
 -- Rules without an error mean rules and guards.
 use Rattle.ta_base.proofs.Bits.{one_bit_more}
-use Rattle.ta_meaning.proofs.Common.{◌≡◌, ◌⊎◌, inl, inr, ⊎_elim, ℕ, ℤ, pos, ◌*◌, ◌%◌, ◌^◌, ◌<◌, ◌≤◌, Bool, true, false, not, ltb, ◌&&◌, cond, eqb, bit_or, List, [], ◌∷◌, ◌++◌, map, length, Ok, Contains, refl, sym, ap, ◌∙◌, arith, w8, w16, cases_Bool, length-map, bit_at_set_same, bit_at_set_other, IsNormal, Row, plain_comparison, plain_update, plain_rule, TreeComparison, TreeUpdate, TreeRule, Rule, Names, all_names, guard_names, has_name, number_of, no_guards, is_negative, is_positive, falls, has_row, is_no_threshold, is_one_more, is_past_limit, Linear, comparison_rows, where_, else_, in_guards, comparison_faults, guard_faults, guards_faults, guards_with, declared_faults, used_faults, digits_faults, updates_faults, rule_faults, rules_faults, guards_then, any_shared, is_no_guard, Has, RowAnswers, linear_of, guards_so_far, GuardsKept, GuardNumbered, GuardsNumbered, NumberFits, WithNumber, names_at, UpdatesRead, RuleRead, ResolvedRules, GuardList, GuardMasks, GuardNumber, length-append, and_false, not-false}
+use Rattle.ta_meaning.proofs.Common.{◌≡◌, ◌⊎◌, inl, inr, ⊎_elim, ℕ, ℤ, pos, ◌*◌, ◌%◌, ◌^◌, ◌<◌, ◌≤◌, Bool, true, false, not, ltb, ◌&&◌, cond, eqb, bit_or, List}
+use Rattle.ta_meaning.proofs.Common.{[], ◌∷◌, ◌++◌, map, length, Ok, Contains, refl, sym, ap, ◌∙◌, arith, w8, w16, cases_Bool, length-map, bit_at_set_same}
+use Rattle.ta_meaning.proofs.Common.{bit_at_set_other, IsNormal, Row, plain_comparison, plain_update, plain_rule, TreeComparison, TreeUpdate, TreeRule, Rule}
+use Rattle.ta_meaning.proofs.Common.{Names, all_names, guard_names, has_name, number_of, no_guards, is_negative, is_positive, falls, has_row, is_no_threshold}
+use Rattle.ta_meaning.proofs.Common.{is_one_more, is_past_limit, Linear, comparison_rows, where_, else_, in_guards, comparison_faults, guard_faults}
+use Rattle.ta_meaning.proofs.Common.{guards_faults, guards_with, declared_faults, used_faults, digits_faults, updates_faults, rule_faults, rules_faults}
+use Rattle.ta_meaning.proofs.Common.{guards_then, any_shared, is_no_guard, Has, RowAnswers, linear_of, guards_so_far, GuardsKept, GuardNumbered, GuardsNumbered}
+use Rattle.ta_meaning.proofs.Common.{NumberFits, WithNumber, names_at, UpdatesRead, RuleRead, ResolvedRules, GuardList, GuardMasks, GuardNumber, length-append}
+use Rattle.ta_meaning.proofs.Common.{and_false, not-false}
 use Rattle.ta_syntax.specs.declared.fault.FileFault.TheVariants as fault
 use Rattle.ta_meaning.specs.declared.guards.GuardNumber.TheVariants as number
 use Rattle.ta_meaning.proofs.Answering.{not-where, none-else-left, none-else-right}
@@ -9,7 +17,8 @@ use Rattle.ta_meaning.proofs.ListedNames.{has_name-where}
 use Rattle.ta_meaning.proofs.ListedPlaces.{number_seen}
 use Rattle.ta_meaning.proofs.UpdateReading.{UpdatesReading, updates_begin, updates_more, updates_end}
 use Rattle.ta_meaning.proofs.GuardSigns.{falls_same, no_threshold_same}
-use Rattle.ta_meaning.proofs.GuardNumbers.{size, has_linear, linear_has, OneRow, one_row_over, comparison_rows_are, rise_normal, fall_normal, rise_numbered, fall_numbered, not_past}
+use Rattle.ta_meaning.proofs.GuardNumbers.{size, has_linear, linear_has, OneRow, one_row_over, comparison_rows_are, rise_normal, fall_normal, rise_numbered}
+use Rattle.ta_meaning.proofs.GuardNumbers.{fall_numbered, not_past}
 use Rattle.ta_meaning.proofs.GuardReading.{GuardsReading, number_fits, reading_begins, reading_more, reading_ends}
 use Rattle.ta_meaning.proofs.RuleSteps.{rule_read}
 use Rattle.ta_meaning.proofs.RuleSequence.{RulesReading, rules_begin, rules_more, rules_end}
@@ -21,7 +30,8 @@ use Rattle.ta_base.proofs.Lists.{empty_left, empty_right}
 
 -- ---- updates
 module _ (ns : Names) where
-  updates_from : (all left : List TreeUpdate) (seen : List ℕ) (updates : List (ℕ × ℤ)) → updates_faults ns [] all ≡ [] → UpdatesReading ns all left seen updates → (read : List (ℕ × ℤ)) × UpdatesRead ns (map plain_update all) read
+  updates_from : (all left : List TreeUpdate) (seen : List ℕ) (updates : List (ℕ × ℤ)) → updates_faults ns [] all ≡ [] → UpdatesReading ns all left seen updates
+      → (read : List (ℕ × ℤ)) × UpdatesRead ns (map plain_update all) read
   updates_from all [] seen updates none r = (updates, (updates_end ns all [] seen updates refl r).1)
   updates_from all (u ∷ left) seen updates none r =
       let before = names_at ns.shared seen in
@@ -36,7 +46,8 @@ module _ (ns : Names) where
       let unseen : Contains seen place.0 → ⊥ = λ c. let again = number_seen ns.shared seen place.0 u.name.name c place.1 in absurd cc in
       let amount = number_of u.amount.text in
       let after = cond (eqb amount 0) updates (updates ++ (place.0, pos amount) ∷ []) in
-      updates_from all left (seen ++ place.0 ∷ []) after none (updates_more ns all left u seen updates after place.0 amount r variable (record { named = place.1; new = unseen }) digits refl refl)
+      updates_from all left (seen ++ place.0 ∷ []) after none
+      (updates_more ns all left u seen updates after place.0 amount r variable (record { named = place.1; new = unseen }) digits refl refl)
 
   updates_exist : (updates : List TreeUpdate) → updates_faults ns [] updates ≡ [] → (read : List (ℕ × ℤ)) × UpdatesRead ns (map plain_update updates) read
   updates_exist updates none = updates_from updates updates [] [] none (updates_begin ns updates)
@@ -50,15 +61,18 @@ record Placed (rows : List Row) (row : Row) (limit at : ℕ) : Type 0 where
   answers : RowAnswers rows row limit at after (Ok n)
   few : length after ≤ limit
 
-place_row : (rows : List Row) (row : Row) (limit at : ℕ) → length rows ≤ limit → Has rows row ⊎ ((¬ Has rows row) × (length rows < limit)) → Placed rows row limit at
+place_row : (rows : List Row) (row : Row) (limit at : ℕ) → length rows ≤ limit → Has rows row ⊎ ((¬ Has rows row) × (length rows < limit))
+    → Placed rows row limit at
 place_row rows row limit at few (inl has) = record { after = rows; n = has.0; answers = inl (refl, has.1); few = few }
-place_row rows row limit at few (inr new) = record { after = rows ++ row ∷ []; n = length rows; answers = inr (refl, refl, new.1, new.0); few = omega (arith, new.1, length-append rows (row ∷ [])) }
+place_row rows row limit at few (inr new) = record
+    { after = rows ++ row ∷ []; n = length rows; answers = inr (refl, refl, new.1, new.0); few = omega (arith, new.1, length-append rows (row ∷ [])) }
 
 abbrev IsMore : ℕ → List Linear → Linear → Bool
 IsMore limit rows r = not (has_row rows r) && not (ltb (length rows) limit)
 
 -- the row is there, or there is room
-there_or_room : (places limit : ℕ) (rows : List Row) (row : Row) → (has_row (map (linear_of places) rows) (linear_of places row) ≡ true → Has rows row) → IsMore limit (map (linear_of places) rows) (linear_of places row) ≡ false → Has rows row ⊎ ((¬ Has rows row) × (length rows < limit))
+there_or_room : (places limit : ℕ) (rows : List Row) (row : Row) → (has_row (map (linear_of places) rows) (linear_of places row) ≡ true → Has rows row)
+    → IsMore limit (map (linear_of places) rows) (linear_of places row) ≡ false → Has rows row ⊎ ((¬ Has rows row) × (length rows < limit))
 there_or_room places limit rows row there no_more =
     let count : length (map (linear_of places) rows) ≡ length rows = length-map rows (linear_of places) in
     ⊎_elim
@@ -70,7 +84,8 @@ there_or_room places limit rows row there no_more =
     (cases_Bool (has_row (map (linear_of places) rows) (linear_of places row)))
 
 -- the only row of a comparison that is a guard
-only_row : (parameters : ℕ) (rows : List Row) → is_no_guard parameters rows ≡ false → (row : Row) × (rows ≡ row ∷ []) × ((any_shared is_negative parameters row.form.terms && any_shared is_positive parameters row.form.terms) ≡ false)
+only_row : (parameters : ℕ) (rows : List Row) → is_no_guard parameters rows ≡ false → (row : Row) × (rows ≡ row ∷ [])
+    × ((any_shared is_negative parameters row.form.terms && any_shared is_positive parameters row.form.terms) ≡ false)
 only_row parameters [] h = absurd (let e : true ≡ false = h in cc)
 only_row parameters (r ∷ []) h = (r, refl, h)
 only_row parameters (r ∷ q ∷ rows) h = absurd (let e : true ≡ false = h in cc)
@@ -91,25 +106,30 @@ module _ (ns : Names) (before : GuardList) (kept : GuardsKept ns before) (c : Tr
   made_rise : any_shared is_negative parameters row.form.terms ≡ false → IsMore 16 (guards_so_far ns before).rise linear ≡ false → MadeGuard ns before c
   made_rise rises no_more =
       let rows = before.rise.items in
-      let p = place_row rows row 16 c.at kept.rise_limit (there_or_room (size ns) 16 rows row (linear_has (size ns) rows row (rise_normal ns before kept) normal) no_more) in
+      let p = place_row rows row 16 c.at kept.rise_limit
+      (there_or_room (size ns) 16 rows row (linear_has (size ns) rows row (rise_normal ns before kept) normal) no_more) in
       let after : GuardList = record { rise = vec_of p.after (omega (arith, p.few)); fall = before.fall } in
       (after, number.Rise p.n, (rise_numbered ns before after c row p.n kept one rises p.answers refl).1)
 
-  made_fall : any_shared is_negative parameters row.form.terms ≡ true → any_shared is_positive parameters row.form.terms ≡ false → IsMore 6 (guards_so_far ns before).fall linear ≡ false → MadeGuard ns before c
+  made_fall : any_shared is_negative parameters row.form.terms ≡ true → any_shared is_positive parameters row.form.terms ≡ false
+      → IsMore 6 (guards_so_far ns before).fall linear ≡ false → MadeGuard ns before c
   made_fall drops never no_more =
       let rows = before.fall.items in
-      let p = place_row rows row 6 c.at kept.fall_limit (there_or_room (size ns) 6 rows row (linear_has (size ns) rows row (fall_normal ns before kept) normal) no_more) in
+      let p = place_row rows row 6 c.at kept.fall_limit
+      (there_or_room (size ns) 6 rows row (linear_has (size ns) rows row (fall_normal ns before kept) normal) no_more) in
       let after : GuardList = record { rise = before.rise; fall = vec_of p.after (omega (arith, p.few)) } in
       (after, number.Fall p.n, (fall_numbered ns before after c row p.n kept one drops never p.answers refl).1)
 
   -- by the sign of a shared variable
-  made_guard : (any_shared is_negative parameters row.form.terms && any_shared is_positive parameters row.form.terms) ≡ false → is_past_limit parameters (guards_so_far ns before) linear ≡ false → MadeGuard ns before c
+  made_guard : (any_shared is_negative parameters row.form.terms && any_shared is_positive parameters row.form.terms) ≡ false
+      → is_past_limit parameters (guards_so_far ns before) linear ≡ false → MadeGuard ns before c
   made_guard threshold no_more =
       let same = falls_same parameters (size ns) row normal in
       ⊎_elim
       (λ (h : any_shared is_negative parameters row.form.terms ≡ true).
       let falling : falls parameters linear ≡ true = sym same ∙ h in
-      made_fall h (and_false (any_shared is_negative parameters row.form.terms) (any_shared is_positive parameters row.form.terms) threshold h) (rw falling at no_more))
+      made_fall h (and_false (any_shared is_negative parameters row.form.terms) (any_shared is_positive parameters row.form.terms) threshold h)
+      (rw falling at no_more))
       (λ (h : any_shared is_negative parameters row.form.terms ≡ false).
       let rising : falls parameters linear ≡ false = sym same ∙ h in
       made_rise h (rw rising at no_more))
@@ -119,7 +139,8 @@ few_guard_names : (ns : Names) → FineNames ns → length (guard_names ns) ≤ 
 few_guard_names ns fine = omega (arith, length-append ns.parameters ns.shared, fine.parameters, fine.shared)
 
 module _ (ns : Names) (fine : FineNames ns) where
-  guard_exists : (before : GuardList) (c : TreeComparison) → GuardsKept ns before → guard_faults (length ns.parameters) (in_guards ns) (guards_so_far ns before) c ≡ [] → MadeGuard ns before c
+  guard_exists : (before : GuardList) (c : TreeComparison) → GuardsKept ns before
+      → guard_faults (length ns.parameters) (in_guards ns) (guards_so_far ns before) c ≡ [] → MadeGuard ns before c
   guard_exists before c kept none =
       let parameters = length ns.parameters in
       let g = guards_so_far ns before in
@@ -132,23 +153,43 @@ module _ (ns : Names) (fine : FineNames ns) where
       let is_no_more = not-where (is_one_more parameters g ls) (fault.TooMany c.at) (none-else-right threshold more later) in
       let k = comparison_exists (in_guards ns) c (few_guard_names ns fine) clean in
       let rows_are = comparison_rows_are ns c k.0 k.1 in
-      let no_guard : is_no_guard parameters k.0.rows ≡ false = no_threshold_same parameters (size ns) k.0.rows k.1.over ∙ ap (is_no_threshold parameters) (sym rows_are) ∙ is_threshold in
+      let no_guard : is_no_guard parameters k.0.rows ≡ false = no_threshold_same parameters (size ns) k.0.rows k.1.over
+      ∙ ap (is_no_threshold parameters) (sym rows_are) ∙ is_threshold in
       let r = only_row parameters k.0.rows no_guard in
       let one : OneRow ns c r.0 = record { none = clean; rows = k.0; resolved = k.1; only = r.1 } in
       let linears : ls ≡ linear_of (size ns) r.0 ∷ [] = rows_are ∙ ap (map (linear_of (size ns))) r.1 in
-      made_guard ns before kept c r.0 one r.2 (not_past parameters g (linear_of (size ns) r.0) (ap (is_no_threshold parameters) (sym linears) ∙ is_threshold) (ap (is_one_more parameters g) (sym linears) ∙ is_no_more))
+      made_guard ns before kept c r.0 one r.2
+      (not_past parameters g (linear_of (size ns) r.0) (ap (is_no_threshold parameters) (sym linears) ∙ is_threshold)
+      (ap (is_one_more parameters g) (sym linears) ∙ is_no_more))
 
   -- masks with one more guard
   number_exists : (masks : GuardMasks) (n : GuardNumber) → NumberFits n → (more : GuardMasks) × WithNumber masks n more
-  number_exists masks (number.Rise n) fits = (record { rise = bit_or masks.rise (1 * 2 ^ n % 65536); fall = masks.fall }, (one_bit_more masks.rise n (bit_or masks.rise (1 * 2 ^ n % 65536)) (bit_at_set_same w16 masks.rise n fits) (λ i ne. bit_at_set_other w16 masks.rise n fits i ne), refl))
-  number_exists masks (number.Fall n) fits = (record { rise = masks.rise; fall = bit_or masks.fall (1 * 2 ^ n % 256) }, (refl, one_bit_more masks.fall n (bit_or masks.fall (1 * 2 ^ n % 256)) (bit_at_set_same w8 masks.fall n fits) (λ i ne. bit_at_set_other w8 masks.fall n fits i ne)))
+  number_exists masks (number.Rise n) fits = (
+    record { rise = bit_or masks.rise (1 * 2 ^ n % 65536); fall = masks.fall },
+    (
+      one_bit_more masks.rise n (bit_or masks.rise (1 * 2 ^ n % 65536)) (bit_at_set_same w16 masks.rise n fits)
+          (λ i ne. bit_at_set_other w16 masks.rise n fits i ne),
+      refl,
+    ),
+  )
+  number_exists masks (number.Fall n) fits = (
+    record { rise = masks.rise; fall = bit_or masks.fall (1 * 2 ^ n % 256) },
+    (
+      refl,
+      one_bit_more masks.fall n (bit_or masks.fall (1 * 2 ^ n % 256)) (bit_at_set_same w8 masks.fall n fits)
+          (λ i ne. bit_at_set_other w8 masks.fall n fits i ne),
+    ),
+  )
 
-  guards_from : (first now : GuardList) (all left : List TreeComparison) (masks : GuardMasks) → guards_faults (length ns.parameters) (in_guards ns) (guards_so_far ns first) all ≡ [] → GuardsReading ns first now all left masks → (after : GuardList) × (bits : GuardMasks) × GuardsNumbered ns first (map plain_comparison all) after bits
+  guards_from : (first now : GuardList) (all left : List TreeComparison) (masks : GuardMasks)
+      → guards_faults (length ns.parameters) (in_guards ns) (guards_so_far ns first) all ≡ [] → GuardsReading ns first now all left masks → (after : GuardList)
+      × (bits : GuardMasks) × GuardsNumbered ns first (map plain_comparison all) after bits
   guards_from first now all [] masks none r = (now, masks, (reading_ends ns first now all [] masks refl r).1)
   guards_from first now all (c ∷ left) masks none r =
       let parameters = length ns.parameters in
       let g = guards_so_far ns now in
-      let here = empty_left (guard_faults parameters (in_guards ns) g c) (guards_faults parameters (in_guards ns) (guards_then parameters (in_guards ns) g c) left) (sym r.faults ∙ none) in
+      let here = empty_left (guard_faults parameters (in_guards ns) g c)
+      (guards_faults parameters (in_guards ns) (guards_then parameters (in_guards ns) g c) left) (sym r.faults ∙ none) in
       let made = guard_exists now c r.numbered.kept here in
       let masked = number_exists masks made.1 (number_fits ns now made.0 (plain_comparison c) made.1 made.2) in
       guards_from first made.0 all left masked.0 none (reading_more ns first now made.0 all left c masks masked.0 made.1 r here made.2 masked.1)
@@ -158,7 +199,8 @@ module _ (ns : Names) (fine : FineNames ns) where
   abbrev MadeRule : List (List ℕ) → GuardList → TreeRule → Type 0
   MadeRule names before r = (after : GuardList) × (rule : Rule) × RuleRead ns names before r (names ++ r.name.name ∷ []) after rule
 
-  rule_exists : (names : List (List ℕ)) (before : GuardList) (r : TreeRule) → GuardsKept ns before → rule_faults ns names (guards_so_far ns before) r ≡ [] → MadeRule names before r
+  rule_exists : (names : List (List ℕ)) (before : GuardList) (r : TreeRule) → GuardsKept ns before → rule_faults ns names (guards_so_far ns before) r ≡ []
+      → MadeRule names before r
   rule_exists names before r kept none =
       let g = guards_so_far ns before in
       let name = declared_faults names r.name in
@@ -169,23 +211,32 @@ module _ (ns : Names) (fine : FineNames ns) where
       let after_name = empty_right name (from ++ (to ++ (when ++ do_))) none in
       let after_from = empty_right from (to ++ (when ++ do_)) after_name in
       let after_to = empty_right to (when ++ do_) after_from in
-      let source = has_name-where ns.locations r.from.name (used_is_allowed (all_names ns) ns.locations r.from (empty_left from (to ++ (when ++ do_)) after_name)) in
+      let source = has_name-where ns.locations r.from.name
+      (used_is_allowed (all_names ns) ns.locations r.from (empty_left from (to ++ (when ++ do_)) after_name)) in
       let target = has_name-where ns.locations r.to.name (used_is_allowed (all_names ns) ns.locations r.to (empty_left to (when ++ do_) after_from)) in
-      let guards = guards_from before before r.guards r.guards (record { rise = 0; fall = 0 }) (empty_left when do_ after_to) (reading_begins ns before r.guards kept) in
+      let guards = guards_from before before r.guards r.guards (record { rise = 0; fall = 0 }) (empty_left when do_ after_to)
+      (reading_begins ns before r.guards kept) in
       let updates = updates_exist ns r.updates (empty_right when do_ after_to) in
-      let rule : Rule = record { name = r.name.name; from = source.0; to = target.0; rise = guards.1.rise; fall = guards.1.fall; updates = updates.0 } in
-      (guards.0, rule, rule_read ns names (names ++ r.name.name ∷ []) before guards.0 r guards.1 updates.0 rule (empty_left name (from ++ (to ++ (when ++ do_))) none) refl source.1 target.1 guards.2 updates.1 refl refl refl refl)
+      let rule : Rule = record { name = r.name.name; from = source.0; to = target.0; rise = guards.1.rise; fall = guards.1.fall; updates = updates.0 } in (
+        guards.0,
+        rule,
+        rule_read ns names (names ++ r.name.name ∷ []) before guards.0 r guards.1 updates.0 rule
+            (empty_left name (from ++ (to ++ (when ++ do_))) none) refl source.1 target.1 guards.2 updates.1 refl refl refl refl,
+      )
 
   abbrev MadeRules : List TreeRule → Type 0
   MadeRules rules = (rise fall : List Row) × (resolved : List Rule) × ResolvedRules ns (map plain_rule rules) rise fall resolved
 
-  rules_from : (all left : List TreeRule) (names : List (List ℕ)) (guards : GuardList) (rules : List Rule) → rules_faults ns [] no_guards all ≡ [] → RulesReading ns all left names guards rules → MadeRules all
+  rules_from : (all left : List TreeRule) (names : List (List ℕ)) (guards : GuardList) (rules : List Rule) → rules_faults ns [] no_guards all ≡ []
+      → RulesReading ns all left names guards rules → MadeRules all
   rules_from all [] names guards rules none r = (guards.rise.items, guards.fall.items, rules, (rules_end ns all [] names guards rules refl r).1)
   rules_from all (t ∷ left) names guards rules none r =
       let g = guards_so_far ns guards in
-      let here = empty_left (rule_faults ns names g t) (rules_faults ns (names ++ t.name.name ∷ []) (guards_with (length ns.parameters) (in_guards ns) g t.guards) left) (sym r.faults ∙ none) in
+      let here = empty_left (rule_faults ns names g t)
+      (rules_faults ns (names ++ t.name.name ∷ []) (guards_with (length ns.parameters) (in_guards ns) g t.guards) left) (sym r.faults ∙ none) in
       let made = rule_exists names guards t r.kept here in
-      rules_from all left (names ++ t.name.name ∷ []) made.0 (rules ++ made.1 ∷ []) none (rules_more ns all left t names (names ++ t.name.name ∷ []) guards made.0 rules made.1 r here made.2)
+      rules_from all left (names ++ t.name.name ∷ []) made.0 (rules ++ made.1 ∷ []) none
+      (rules_more ns all left t names (names ++ t.name.name ∷ []) guards made.0 rules made.1 r here made.2)
 
   pub rules_exist : (rules : List TreeRule) → rules_faults ns [] no_guards rules ≡ [] → MadeRules rules
   rules_exist rules none =

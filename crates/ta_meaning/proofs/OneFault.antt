@@ -1,5 +1,7 @@
 -- A text has at most one first error.
-use Rattle.ta_meaning.proofs.Common.{◌≡◌, ℕ, List, [], ◌∷◌, ◌++◌, length, ◌⊎◌, inl, inr, ⊎_elim, ◌<◌, refl, sym, ap, subst, ◌∙◌, append_assoc, arith, heads, FileText, Counts, at_start, run, counted_after, StaysWithin, IsDeep, IsMany, AreTokens, IsRefused, Kind, Token, FileFault, tokens_unique, refused_unique, refused_no_tokens, Automaton, File, Means, OfText, OfMeaning, OfScope, FirstFault}
+use Rattle.ta_meaning.proofs.Common.{◌≡◌, ℕ, List, [], ◌∷◌, ◌++◌, length, ◌⊎◌, inl, inr, ⊎_elim, ◌<◌, refl, sym, ap, subst, ◌∙◌, append_assoc, arith, heads}
+use Rattle.ta_meaning.proofs.Common.{FileText, Counts, at_start, run, counted_after, StaysWithin, IsDeep, IsMany, AreTokens, IsRefused, Kind, Token, FileFault}
+use Rattle.ta_meaning.proofs.Common.{tokens_unique, refused_unique, refused_no_tokens, Automaton, File, Means, OfText, OfMeaning, OfScope, FirstFault}
 use Rattle.ta_syntax.specs.Faults.{kinds, SameStart, Begins, offset_of, IsWrong, IsPast, IsStopped, FaultOfTokens}
 use Rattle.ta_syntax.specs.declared.fault.FileFault.TheVariants as fault
 use Rattle.ta_syntax.proofs.Steps.{kinds-append}
@@ -23,16 +25,32 @@ pub record Level (front bad later rest : List Token) : Type 0 where
   pub front_is : later ≡ front
   pub bad_is : bad ≡ rest
 
-two-splits : (front bad later rest : List Token) → front ++ bad ≡ later ++ rest → Level front bad later rest ⊎ (Behind front bad later rest ⊎ Behind later rest front bad)
+two-splits : (front bad later rest : List Token) → front ++ bad ≡ later ++ rest → Level front bad later rest
+    ⊎ (Behind front bad later rest ⊎ Behind later rest front bad)
 two-splits [] bad [] rest e = inl (record { front_is = refl; bad_is = e })
 two-splits [] bad (t ∷ later) rest e = inr (inl (record { first = t; middle = later; front_is = refl; bad_is = e }))
 two-splits (t ∷ front) bad [] rest e = inr (inr (record { first = t; middle = front; front_is = refl; bad_is = sym e }))
 two-splits (t ∷ front) bad (u ∷ later) rest e =
     let same : t ≡ u = cc in
     let r = two-splits front bad later rest (let h : front ++ bad ≡ later ++ rest = cc in h) in
-    ⊎_elim (λ (l : Level front bad later rest). inl (record { front_is = ap (λ (z : List Token). u ∷ z) l.front_is ∙ ap (λ (z : Token). z ∷ front) (sym same); bad_is = l.bad_is }))
-    (⊎_elim (λ (b : Behind front bad later rest). inr (inl (record { first = b.first; middle = b.middle; front_is = ap (λ (z : List Token). u ∷ z) b.front_is ∙ ap (λ (z : Token). z ∷ (front ++ b.first ∷ b.middle)) (sym same); bad_is = b.bad_is })))
-    (λ (b : Behind later rest front bad). inr (inr (record { first = b.first; middle = b.middle; front_is = ap (λ (z : List Token). t ∷ z) b.front_is ∙ ap (λ (z : Token). z ∷ (later ++ b.first ∷ b.middle)) same; bad_is = b.bad_is }))))
+    ⊎_elim (λ (l : Level front bad later rest). inl
+    (record { front_is = ap (λ (z : List Token). u ∷ z) l.front_is ∙ ap (λ (z : Token). z ∷ front) (sym same); bad_is = l.bad_is }))
+    (⊎_elim (λ (b : Behind front bad later rest). inr
+    (inl (record {
+      first = b.first;
+      middle = b.middle;
+      front_is = ap (λ (z : List Token). u ∷ z) b.front_is
+          ∙ ap (λ (z : Token). z ∷ (front ++ b.first ∷ b.middle)) (sym same);
+      bad_is = b.bad_is;
+    })))
+    (λ (b : Behind later rest front bad). inr
+    (inr (record {
+      first = b.first;
+      middle = b.middle;
+      front_is = ap (λ (z : List Token). t ∷ z) b.front_is
+          ∙ ap (λ (z : Token). z ∷ (later ++ b.first ∷ b.middle)) same;
+      bad_is = b.bad_is;
+    }))))
     r
 
 -- ---- a wrong token, and a text that goes on with it
@@ -40,15 +58,20 @@ begins-less : (L : List Kind → Type 0) (a b : List Kind) → Begins L (a ++ b)
 begins-less L a b h = (b ++ h.0, subst L (append_assoc a b h.0) h.1)
 
 -- no text begins with what stands before a wrong token and that token
-wrong-ends : (L : List Kind → Type 0) (c : Counts) (end at : ℕ) (ts : List Token) (w : IsWrong L c end ts at) (first : Token) (others : List Token) → w.bad ≡ first ∷ others → Begins L (kinds w.front ++ first.kind ∷ []) → ⊥
+wrong-ends : (L : List Kind → Type 0) (c : Counts) (end at : ℕ) (ts : List Token) (w : IsWrong L c end ts at) (first : Token) (others : List Token)
+    → w.bad ≡ first ∷ others → Begins L (kinds w.front ++ first.kind ∷ []) → ⊥
 wrong-ends L c end at ts w first others e h =
-    w.refused (first.kind ∷ h.0) (subst (λ (bad : List Token). SameStart (kinds bad) (first.kind ∷ h.0)) (sym e) (h.0, refl)) (subst L (append_assoc (kinds w.front) (first.kind ∷ []) h.0) h.1)
+    w.refused (first.kind ∷ h.0) (subst (λ (bad : List Token). SameStart (kinds bad) (first.kind ∷ h.0)) (sym e) (h.0, refl))
+    (subst L (append_assoc (kinds w.front) (first.kind ∷ []) h.0) h.1)
 
 -- so what stands before it begins no text past it
-wrong-before : (L : List Kind → Type 0) (c : Counts) (end at : ℕ) (ts : List Token) (w : IsWrong L c end ts at) (later rest : List Token) → Behind w.front w.bad later rest → Begins L (kinds later) → ⊥
+wrong-before : (L : List Kind → Type 0) (c : Counts) (end at : ℕ) (ts : List Token) (w : IsWrong L c end ts at) (later rest : List Token)
+    → Behind w.front w.bad later rest → Begins L (kinds later) → ⊥
 wrong-before L c end at ts w later rest b h =
-    let whole : kinds later ≡ (kinds w.front ++ b.first.kind ∷ []) ++ kinds b.middle = ap kinds b.front_is ∙ kinds-append w.front (b.first ∷ b.middle) ∙ sym (append_assoc (kinds w.front) (b.first.kind ∷ []) (kinds b.middle)) in
-    wrong-ends L c end at ts w b.first (b.middle ++ rest) b.bad_is (begins-less L (kinds w.front ++ b.first.kind ∷ []) (kinds b.middle) (subst (Begins L) whole h))
+    let whole : kinds later ≡ (kinds w.front ++ b.first.kind ∷ []) ++ kinds b.middle = ap kinds b.front_is ∙ kinds-append w.front (b.first ∷ b.middle)
+    ∙ sym (append_assoc (kinds w.front) (b.first.kind ∷ []) (kinds b.middle)) in
+    wrong-ends L c end at ts w b.first (b.middle ++ rest) b.bad_is
+    (begins-less L (kinds w.front ++ b.first.kind ∷ []) (kinds b.middle) (subst (Begins L) whole h))
 
 wrong-wrong : (L : List Kind → Type 0) (c : Counts) (end a b : ℕ) (ts : List Token) → IsWrong L c end ts a → IsWrong L c end ts b → a ≡ b
 wrong-wrong L c end a b ts w v =
@@ -63,7 +86,8 @@ wrong-wrong L c end a b ts w v =
 pub record IsOver (over : Counts → Kind → Type 0) : Type 0 where
   pub none : (c : Counts) (k : Kind) (ks : List Kind) → StaysWithin c (k ∷ ks) → over c k → ⊥
 
-over-within : (over : Counts → Kind → Type 0) → IsOver over → (c : Counts) (front : List Kind) (k : Kind) (rest : List Kind) → StaysWithin c (front ++ k ∷ rest) → over (run c front) k → ⊥
+over-within : (over : Counts → Kind → Type 0) → IsOver over → (c : Counts) (front : List Kind) (k : Kind) (rest : List Kind) → StaysWithin c (front ++ k ∷ rest)
+    → over (run c front) k → ⊥
 over-within over o c [] k rest w h = o.none c k rest w h
 over-within over o c (x ∷ front) k rest w h = over-within over o (counted_after c x) front k rest w.2 h
 
@@ -74,28 +98,37 @@ many-over : IsOver IsMany
 many-over = record { none = λ c k ks w h. w.1 h }
 
 -- no token past a limit stands in what is within the limits
-past-before : (over : Counts → Kind → Type 0) → IsOver over → (L : List Kind → Type 0) (c : Counts) (ts : List Token) (at : ℕ) (p : IsPast over L c ts at) (later rest : List Token) → Behind p.front (p.first ∷ p.bad) later rest → StaysWithin c (kinds later) → ⊥
+past-before : (over : Counts → Kind → Type 0) → IsOver over
+    → (L : List Kind → Type 0) (c : Counts) (ts : List Token) (at : ℕ) (p : IsPast over L c ts at) (later rest : List Token)
+    → Behind p.front (p.first ∷ p.bad) later rest → StaysWithin c (kinds later) → ⊥
 past-before over o L c ts at p later rest b w =
     let whole : kinds later ≡ kinds p.front ++ b.first.kind ∷ kinds b.middle = ap kinds b.front_is ∙ kinds-append p.front (b.first ∷ b.middle) in
     let same : p.first ≡ b.first = let h = b.bad_is in cc in
-    over-within over o c (kinds p.front) b.first.kind (kinds b.middle) (subst (StaysWithin c) whole w) (subst (λ (t : Token). over (run c (kinds p.front)) t.kind) same p.past)
+    over-within over o c (kinds p.front) b.first.kind (kinds b.middle) (subst (StaysWithin c) whole w)
+    (subst (λ (t : Token). over (run c (kinds p.front)) t.kind) same p.past)
 
-wrong-past : (over : Counts → Kind → Type 0) → IsOver over → (L : List Kind → Type 0) (c : Counts) (end a b : ℕ) (ts : List Token) → IsWrong L c end ts a → IsPast over L c ts b → ⊥
+wrong-past : (over : Counts → Kind → Type 0) → IsOver over → (L : List Kind → Type 0) (c : Counts) (end a b : ℕ) (ts : List Token) → IsWrong L c end ts a
+    → IsPast over L c ts b → ⊥
 wrong-past over o L c end a b ts w p =
-    ⊎_elim (λ (l : Level w.front w.bad p.front (p.first ∷ p.bad)). wrong-ends L c end a ts w p.first p.bad l.bad_is (subst (λ (z : List Token). Begins L (kinds z ++ p.first.kind ∷ [])) l.front_is p.begins))
-    (⊎_elim (λ (h : Behind w.front w.bad p.front (p.first ∷ p.bad)). wrong-before L c end a ts w p.front (p.first ∷ p.bad) h (begins-less L (kinds p.front) (p.first.kind ∷ []) p.begins))
+    ⊎_elim (λ (l : Level w.front w.bad p.front (p.first ∷ p.bad)). wrong-ends L c end a ts w p.first p.bad l.bad_is
+    (subst (λ (z : List Token). Begins L (kinds z ++ p.first.kind ∷ [])) l.front_is p.begins))
+    (⊎_elim (λ (h : Behind w.front w.bad p.front (p.first ∷ p.bad)). wrong-before L c end a ts w p.front (p.first ∷ p.bad) h
+    (begins-less L (kinds p.front) (p.first.kind ∷ []) p.begins))
     (λ (h : Behind p.front (p.first ∷ p.bad) w.front w.bad). past-before over o L c ts b p w.front w.bad h w.within))
     (two-splits w.front w.bad p.front (p.first ∷ p.bad) (sym w.split ∙ p.split))
 
 -- two tokens past limits are one
-past-level : (over other : Counts → Kind → Type 0) → IsOver over → IsOver other → (L : List Kind → Type 0) (c : Counts) (a b : ℕ) (ts : List Token) (p : IsPast over L c ts a) (q : IsPast other L c ts b) → Level p.front (p.first ∷ p.bad) q.front (q.first ∷ q.bad)
+past-level : (over other : Counts → Kind → Type 0) → IsOver over → IsOver other
+    → (L : List Kind → Type 0) (c : Counts) (a b : ℕ) (ts : List Token) (p : IsPast over L c ts a) (q : IsPast other L c ts b)
+    → Level p.front (p.first ∷ p.bad) q.front (q.first ∷ q.bad)
 past-level over other o u L c a b ts p q =
     ⊎_elim (λ (l : Level p.front (p.first ∷ p.bad) q.front (q.first ∷ q.bad)). l)
     (⊎_elim (λ (h : Behind p.front (p.first ∷ p.bad) q.front (q.first ∷ q.bad)). absurd (past-before over o L c ts a p q.front (q.first ∷ q.bad) h q.within))
     (λ (h : Behind q.front (q.first ∷ q.bad) p.front (p.first ∷ p.bad)). absurd (past-before other u L c ts b q p.front (p.first ∷ p.bad) h p.within)))
     (two-splits p.front (p.first ∷ p.bad) q.front (q.first ∷ q.bad) (sym p.split ∙ q.split))
 
-past-past : (over : Counts → Kind → Type 0) → IsOver over → (L : List Kind → Type 0) (c : Counts) (a b : ℕ) (ts : List Token) → IsPast over L c ts a → IsPast over L c ts b → a ≡ b
+past-past : (over : Counts → Kind → Type 0) → IsOver over → (L : List Kind → Type 0) (c : Counts) (a b : ℕ) (ts : List Token) → IsPast over L c ts a
+    → IsPast over L c ts b → a ≡ b
 past-past over o L c a b ts p q =
     let l = past-level over over o o L c a b ts p q in
     p.place ∙ ap (λ (t : Token). t.at) (heads p.first q.first p.bad q.bad l.bad_is) ∙ sym q.place
@@ -118,7 +151,8 @@ abbrev IsOfTokens : FileFault → Type 0
 IsOfTokens fault.Memory = ⊥
 IsOfTokens e = Unit {0}
 
-stopped-once : (end : ℕ) (ts : List Token) (e d : FileFault) → IsOfTokens e → IsOfTokens d → IsStopped FileText at_start end ts e → IsStopped FileText at_start end ts d → e ≡ d
+stopped-once : (end : ℕ) (ts : List Token) (e d : FileFault) → IsOfTokens e → IsOfTokens d → IsStopped FileText at_start end ts e
+    → IsStopped FileText at_start end ts d → e ≡ d
 stopped-once end ts (fault.Syntax a) (fault.Syntax b) i j h k = ap fault.Syntax (wrong-wrong FileText at_start end a b ts h k)
 stopped-once end ts (fault.Syntax a) (fault.TooDeep b) i j h k = absurd (wrong-past IsDeep deep-over FileText at_start end a b ts h k)
 stopped-once end ts (fault.Syntax a) (fault.TooMany b) i j h k = absurd (wrong-past IsMany many-over FileText at_start end a b ts h k)

@@ -1,6 +1,10 @@
 -- A tree means at most one file.
-use Rattle.ta_meaning.proofs.Common.{◌≡◌, inl, inr, ℕ, ℤ, pos, ◌^◌, List, [], ◌∷◌, ◌++◌, sym, ap, ◌∙◌, refl, subst, mask-one, distinct_at, distinct_left, distinct_right, Form, normal_unique, PlainEvent, PlainTree, Distinct, Event, Automaton, File, number_of, Names, guard_names, all_names, plain_names, Linear, FormOf, RowOf, linear_sum, comparison_rows, MeansComparison, MeansCondition, Guards, MeansUpdates, MeansRule, MeansAutomaton, MeansEvent, MeansEvents, MeansPattern, MeansTree, guards_of}
-use Rattle.ta_meaning.proofs.EqualParts.{form-equal, row-equal, comparison-equal, condition-equal, rule-equal, event-equal, pattern-equal, automaton-equal, file-equal}
+use Rattle.ta_meaning.proofs.Common.{◌≡◌, inl, inr, ℕ, ℤ, pos, ◌^◌, List, [], ◌∷◌, ◌++◌, sym, ap, ◌∙◌, refl, subst, mask-one, distinct_at, distinct_left}
+use Rattle.ta_meaning.proofs.Common.{distinct_right, Form, normal_unique, PlainEvent, PlainTree, Distinct, Event, Automaton, File, number_of, Names}
+use Rattle.ta_meaning.proofs.Common.{guard_names, all_names, plain_names, Linear, FormOf, RowOf, linear_sum, comparison_rows, MeansComparison, MeansCondition}
+use Rattle.ta_meaning.proofs.Common.{Guards, MeansUpdates, MeansRule, MeansAutomaton, MeansEvent, MeansEvents, MeansPattern, MeansTree, guards_of}
+use Rattle.ta_meaning.proofs.EqualParts.{form-equal, row-equal, comparison-equal, condition-equal, rule-equal, event-equal, pattern-equal, automaton-equal}
+use Rattle.ta_meaning.proofs.EqualParts.{file-equal}
 use Rattle.ta_base.proofs.Pairwise.{pairwise-one}
 
 -- ---- lists
@@ -54,7 +58,8 @@ event-one ns before e a b p q =
     event-equal a b (p.name ∙ sym q.name) (mask-one _ a.after b.after p.after.bits q.after.bits)
     (condition-one (all_names ns) e.condition a.condition b.condition p.condition q.condition)
 
-pub events-one : (ns : Names) (before : List (List ℕ)) (es : List PlainEvent) (a b : List Event) → MeansEvents ns before es a → MeansEvents ns before es b → a ≡ b
+pub events-one : (ns : Names) (before : List (List ℕ)) (es : List PlainEvent) (a b : List Event) → MeansEvents ns before es a → MeansEvents ns before es b
+    → a ≡ b
 events-one ns before [] [] [] p q = refl
 events-one ns before [] [] (y ∷ b) p q = absurd q
 events-one ns before [] (x ∷ a) b p q = absurd p

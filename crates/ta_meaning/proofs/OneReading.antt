@@ -1,5 +1,6 @@
 -- What is read of a text: the file that it means if there is no error, or its first error.
-use Rattle.ta_meaning.proofs.Common.{◌≡◌, ℕ, List, [], ◌⊎◌, inl, inr, ⊎_elim, refl, sym, subst, plain_tree, IsTreeOf, Tree, FileFault, InScope, Automaton, File, MeansTree, Means, meaning_faults, FirstOrMemory, OfText, OfMeaning, OfScope, FirstFault, Legal, file_fault}
+use Rattle.ta_meaning.proofs.Common.{◌≡◌, ℕ, List, [], ◌⊎◌, inl, inr, ⊎_elim, refl, sym, subst, plain_tree, IsTreeOf, Tree, FileFault, InScope, Automaton, File}
+use Rattle.ta_meaning.proofs.Common.{MeansTree, Means, meaning_faults, FirstOrMemory, OfText, OfMeaning, OfScope, FirstFault, Legal, file_fault}
 use Rattle.ta_syntax.specs.declared.fault.FileFault.TheVariants as fault
 use Rattle.ta_scope.specs.Faults as scope
 use Rattle.ta_scope.specs.declared.fault.ScopeFault.{ScopeFault}
@@ -11,7 +12,8 @@ use Rattle.ta_meaning.proofs.OneTree.{one_meaning, no_text_fault, one_meant}
 
 -- ---- the first error
 
-pub meaning-fault : (bytes : List ℕ) (t : Tree) (e : FileFault) → IsTreeOf bytes t → FirstOrMemory (meaning_faults t) e → (e ≡ fault.Memory) ⊎ FirstFault bytes e
+pub meaning-fault : (bytes : List ℕ) (t : Tree) (e : FileFault) → IsTreeOf bytes t → FirstOrMemory (meaning_faults t) e → (e ≡ fault.Memory)
+    ⊎ FirstFault bytes e
 meaning-fault bytes t e is (inl m) = inl m
 meaning-fault bytes t e is (inr h) = inr (inr (inl (record { tree = t; is_tree = is; later = h.0; first = h.1 })))
 
@@ -19,10 +21,12 @@ of_scope : (a : Automaton) (f : ScopeFault) → scope.ScopeFaultOf a f → (file
 of_scope a (scope_fault.CycleUpdates r) h = inr h
 of_scope a scope_fault.Memory h = inl refl
 
-pub scope-fault : (bytes : List ℕ) (t : Tree) (file : File) (f : ScopeFault) → IsTreeOf bytes t → meaning_faults t ≡ [] → MeansTree (plain_tree t) file → scope.ScopeFaultOf file.automaton f → (file_fault f ≡ fault.Memory) ⊎ FirstFault bytes (file_fault f)
+pub scope-fault : (bytes : List ℕ) (t : Tree) (file : File) (f : ScopeFault) → IsTreeOf bytes t → meaning_faults t ≡ [] → MeansTree (plain_tree t) file
+    → scope.ScopeFaultOf file.automaton f → (file_fault f ≡ fault.Memory) ⊎ FirstFault bytes (file_fault f)
 scope-fault bytes t file f is none means h =
     ⊎_elim (λ (m : file_fault f ≡ fault.Memory). inl m)
-    (λ (s : first.ScopeFault file.automaton (file_fault f)). inr (inr (inr (record { tree = t; is_tree = is; none_of_meaning = none; file = file; means = means; fault = s }))))
+    (λ (s : first.ScopeFault file.automaton (file_fault f)). inr
+    (inr (inr (record { tree = t; is_tree = is; none_of_meaning = none; file = file; means = means; fault = s }))))
     (of_scope file.automaton f h)
 
 -- ---- no error
@@ -44,7 +48,8 @@ no-scope bytes file e means scoped f =
     in-scope f.file.automaton e f.fault (subst (λ (z : File). InScope z.automaton) (one_meant bytes file f.file means other) scoped)
 
 -- a text without an error of meaning, whose file is in scope, has no error
-pub is-legal : (bytes : List ℕ) (t : Tree) (file : File) (scoped : ScopedFile) → IsTreeOf bytes t → meaning_faults t ≡ [] → MeansTree (plain_tree t) file → scoped.file ≡ file → Legal bytes scoped.file
+pub is-legal : (bytes : List ℕ) (t : Tree) (file : File) (scoped : ScopedFile) → IsTreeOf bytes t → meaning_faults t ≡ [] → MeansTree (plain_tree t) file
+    → scoped.file ≡ file → Legal bytes scoped.file
 is-legal bytes t file scoped is none means e =
     let right : Means bytes scoped.file = record { tree = t; is_tree = is; means = subst (λ (z : File). MeansTree (plain_tree t) z) (sym e) means } in
     record {

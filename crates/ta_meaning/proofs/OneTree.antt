@@ -1,5 +1,6 @@
 -- No text has two trees, and none means two files.
-use Rattle.ta_meaning.proofs.Common.{◌≡◌, ℕ, List, subst, PlainTree, IsPlaced, tree_stated, IsTextOf, IsTreeOf, plain_tree, Token, Tree, FileFault, tokens_unique, File, MeansTree, Means, meaning_faults, Legal}
+use Rattle.ta_meaning.proofs.Common.{◌≡◌, ℕ, List, subst, PlainTree, IsPlaced, tree_stated, IsTextOf, IsTreeOf, plain_tree, Token, Tree, FileFault}
+use Rattle.ta_meaning.proofs.Common.{tokens_unique, File, MeansTree, Means, meaning_faults, Legal}
 use Rattle.ta_syntax.specs.Faults as syntax
 use Rattle.ta_syntax.specs.declared.fault.FileFault.TheVariants as fault
 use Rattle.ta_syntax.proofs.NoFault.{no_fault, tree_alone}

@@ -1,8 +1,15 @@
 -- Forms of the parts of a sum, and how they make the form of the whole.
-use Rattle.ta_meaning.proofs.Common.{◌≡◌, ℕ, ℤ, pos, ◌+◌, ◌*◌, ◌^◌, ◌<◌, ◌≤◌, ◌+ℤ◌, ◌*ℤ◌, unsigned_abs, Bool, IsTrue, List, [], ◌∷◌, ◌++◌, map, get_or, slice_get, Option, Some, None, Result, refl, sym, ap, subst, ◌∙◌, arith, ints, nat_tests, add_moved, more_within, one_times, at_map, at_map_both, at_map_none, coefficient, IsMultiple, Form, Terms, Term, Factor, number, blank, named, plain_term, plain_factor, plain_terms, term_of, Digits, Sign, TreeTerm, TreeFactor, out-TreeTerm, FileFault, Distinct, signed, number_of, sum_coefficient, term_coefficient, factor_coefficient, sum_constant, term_constant, sum_uses, term_uses, factor_uses, FormOf, linear_sum, is_large_linear, Scope, FirstOrMemory, Answers, where_, else_, linear_term, number_faults, FormWithin, judged_term, judged_factor, is_large_form, linear_factor, number_or, PartOf, IsSignedSum, less_small, ◌&&◌}
+use Rattle.ta_meaning.proofs.Common.{◌≡◌, ℕ, ℤ, pos, ◌+◌, ◌*◌, ◌^◌, ◌<◌, ◌≤◌, ◌+ℤ◌, ◌*ℤ◌, unsigned_abs, Bool, IsTrue, List, [], ◌∷◌, ◌++◌, map, get_or}
+use Rattle.ta_meaning.proofs.Common.{slice_get, Option, Some, None, Result, refl, sym, ap, subst, ◌∙◌, arith, ints, nat_tests, add_moved, more_within}
+use Rattle.ta_meaning.proofs.Common.{one_times, at_map, at_map_both, at_map_none, coefficient, IsMultiple, Form, Terms, Term, Factor, number, blank, named}
+use Rattle.ta_meaning.proofs.Common.{plain_term, plain_factor, plain_terms, term_of, Digits, Sign, TreeTerm, TreeFactor, out-TreeTerm, FileFault, Distinct}
+use Rattle.ta_meaning.proofs.Common.{signed, number_of, sum_coefficient, term_coefficient, factor_coefficient, sum_constant, term_constant, sum_uses, term_uses}
+use Rattle.ta_meaning.proofs.Common.{factor_uses, FormOf, linear_sum, is_large_linear, Scope, FirstOrMemory, Answers, where_, else_, linear_term, number_faults}
+use Rattle.ta_meaning.proofs.Common.{FormWithin, judged_term, judged_factor, is_large_form, linear_factor, number_or, PartOf, IsSignedSum, less_small, ◌&&◌}
 use Rattle.ta_syntax.specs.declared.sums.Sign.TheVariants as sign
 use Rattle.ta_syntax.specs.declared.fault.FileFault.TheVariants as fault
-use Rattle.ta_meaning.proofs.Answering.{append-left-first, else-none, else-left-first, where-false, not-where, answers-along, answers-knowing, answers-otherwise}
+use Rattle.ta_meaning.proofs.Answering.{append-left-first, else-none, else-left-first, where-false, not-where, answers-along, answers-knowing}
+use Rattle.ta_meaning.proofs.Answering.{answers-otherwise}
 use Rattle.ta_meaning.proofs.LargeNumbers.{small_within, linear_small, same_large}
 use Rattle.ta_meaning.proofs.ListedNames.{has_name-at}
 use Rattle.ta_meaning.proofs.WrittenNumbers.{number_is_small}
@@ -16,7 +23,8 @@ use Rattle.ta_base.proofs.Lists.{empty_before, empty_both}
 one_small : (i x : ℕ) → unsigned_abs (coefficient ((i, pos 1) ∷ []) x) ≤ 1
 one_small i x = grind (arith, ints, nat_tests)
 
-pub name_part : (names : List (List ℕ)) (n : List ℕ) (i : ℕ) (form : Form) → Distinct names → slice_get names i ≡ Some n → form.constant ≡ pos 0 → form.terms ≡ (i, pos 1) ∷ [] → PartOf (factor_uses names (named n)) (linear_factor names (named n)) 1 form
+pub name_part : (names : List (List ℕ)) (n : List ℕ) (i : ℕ) (form : Form) → Distinct names → slice_get names i ≡ Some n → form.constant ≡ pos 0
+    → form.terms ≡ (i, pos 1) ∷ [] → PartOf (factor_uses names (named n)) (linear_factor names (named n)) 1 form
 name_part names n i form d e constant terms = record {
   known = has_name-at names n i e;
   numbers = record { constant = constant; coefficients = λ j. ap (λ (ts : List (ℕ × ℤ)). coefficient ts j) terms ∙ name_numbers names n i d e j };
@@ -26,7 +34,9 @@ name_part names n i form d e constant terms = record {
   };
 }
 
-number_alone : (names : List (List ℕ)) (t : Term) (n : ℕ) (form : Form) → IsTrue (term_uses names t) → term_constant t ≡ pos n → ((i : ℕ) → get_or (map (λ x. term_coefficient x t) names) i (pos 0) ≡ pos 0) → n ≤ 1000000000 → form.constant ≡ pos n → form.terms ≡ [] → PartOf (term_uses names t) (linear_term names t) 1000000000 form
+number_alone : (names : List (List ℕ)) (t : Term) (n : ℕ) (form : Form) → IsTrue (term_uses names t) → term_constant t ≡ pos n
+    → ((i : ℕ) → get_or (map (λ x. term_coefficient x t) names) i (pos 0) ≡ pos 0) → n ≤ 1000000000 → form.constant ≡ pos n → form.terms ≡ []
+    → PartOf (term_uses names t) (linear_term names t) 1000000000 form
 number_alone names t n form known is none small constant terms = record {
   known = known;
   numbers = record { constant = constant ∙ sym is; coefficients = λ i. ap (λ (ts : List (ℕ × ℤ)). coefficient ts i) terms ∙ sym (none i) };
@@ -37,12 +47,16 @@ number_alone names t n form known is none small constant terms = record {
 }
 
 -- a number alone, or a blank
-pub alone_part : (names : List (List ℕ)) (factor : Option Digits) (n : ℕ) (form : Form) → number_faults factor ≡ [] → n ≡ number_or 0 factor → form.constant ≡ pos n → form.terms ≡ [] → PartOf (term_uses names (term_of factor None)) (linear_term names (term_of factor None)) 1000000000 form
-alone_part names None n form none is constant terms = number_alone names blank n form refl (ap pos (sym is)) (λ i. at_map_none names i) (omega (arith, is)) constant terms
-alone_part names (Some d) n form none is constant terms = number_alone names (number d.text) n form refl (ap pos (sym is)) (λ i. at_map_none names i) (omega (arith, is, number_is_small d none)) constant terms
+pub alone_part : (names : List (List ℕ)) (factor : Option Digits) (n : ℕ) (form : Form) → number_faults factor ≡ [] → n ≡ number_or 0 factor
+    → form.constant ≡ pos n → form.terms ≡ [] → PartOf (term_uses names (term_of factor None)) (linear_term names (term_of factor None)) 1000000000 form
+alone_part names None n form none is constant terms = number_alone names blank n form refl (ap pos (sym is)) (λ i. at_map_none names i) (omega (arith, is))
+    constant terms
+alone_part names (Some d) n form none is constant terms = number_alone names (number d.text) n form refl (ap pos (sym is)) (λ i. at_map_none names i)
+    (omega (arith, is, number_is_small d none)) constant terms
 
 -- a factor with a number before it, or none
-pub product_numbers : (names : List (List ℕ)) (factor : Option Digits) (f : Factor) (n : ℕ) (inner product : Form) → n ≡ number_or 1 factor → FormOf (linear_factor names f) inner → IsMultiple product inner (pos n) → FormOf (linear_term names (term_of factor (Some f))) product
+pub product_numbers : (names : List (List ℕ)) (factor : Option Digits) (f : Factor) (n : ℕ) (inner product : Form) → n ≡ number_or 1 factor
+    → FormOf (linear_factor names f) inner → IsMultiple product inner (pos n) → FormOf (linear_term names (term_of factor (Some f))) product
 product_numbers names None f n inner product is numbers multiple =
     let one : (z : ℤ) → (pos n *ℤ z) ≡ z = λ z. ap (λ (k : ℕ). pos k *ℤ z) is ∙ one_times z in
     record {
@@ -58,7 +72,8 @@ product_numbers names (Some d) f n inner product is numbers multiple =
           ∙ sym (at_map (λ z. pos (number_of d.text) *ℤ z) (*ℤ-zero (pos (number_of d.text))) (λ x. factor_coefficient x f) names i);
     }
 
-pub product_known : (names : List (List ℕ)) (factor : Option Digits) (f : Factor) → IsTrue (factor_uses names f) → IsTrue (term_uses names (term_of factor (Some f)))
+pub product_known : (names : List (List ℕ)) (factor : Option Digits) (f : Factor) → IsTrue (factor_uses names f)
+    → IsTrue (term_uses names (term_of factor (Some f)))
 product_known names None f h = h
 product_known names (Some d) f h = h
 
@@ -86,19 +101,30 @@ pub record Summing (s : Scope) (all left : List (Sign × TreeTerm)) (count : ℕ
 signed_same : (s : Sign) (a b : ℤ) → a ≡ b → signed s a ≡ signed s b
 signed_same s a b e = ap (λ (z : ℤ). signed s z) e
 
-pub sum_more : (s : Scope) (all left : List (Sign × TreeTerm)) (t : Sign × TreeTerm) (count : ℕ) (form next sum : Form) → Summing s all (t ∷ left) count form → (judged_term s t.1).faults ≡ [] → PartOf (term_uses s.allowed (plain_term t.1)) (linear_term s.allowed (plain_term t.1)) 1000000000 next → IsSignedSum sum form t.0 next → Summing s all left (count + 1) sum
+pub sum_more : (s : Scope) (all left : List (Sign × TreeTerm)) (t : Sign × TreeTerm) (count : ℕ) (form next sum : Form) → Summing s all (t ∷ left) count form
+    → (judged_term s t.1).faults ≡ [] → PartOf (term_uses s.allowed (plain_term t.1)) (linear_term s.allowed (plain_term t.1)) 1000000000 next
+    → IsSignedSum sum form t.0 next → Summing s all left (count + 1) sum
 sum_more s all left t count form next sum so_far none part is = record {
   faults = so_far.faults ∙ empty_before (judged_term s t.1).faults (terms_faults s left) none;
   known = so_far.known ∙ ap (λ b. b && (sum_uses s.allowed (plain_terms left))) part.known;
-  constant = add_moved form.constant sum.constant (signed t.0 (term_constant (plain_term t.1))) (sum_constant (plain_terms left)) (sum_constant (plain_terms all)) so_far.constant
+  constant = add_moved form.constant sum.constant (signed t.0 (term_constant (plain_term t.1))) (sum_constant (plain_terms left))
+      (sum_constant (plain_terms all)) so_far.constant
       (is.constant ∙ ap (λ (z : ℤ). form.constant +ℤ z) (signed_same t.0 next.constant (term_constant (plain_term t.1)) part.numbers.constant));
   coefficients = λ i.
-      add_moved (coefficient form.terms i) (coefficient sum.terms i) (signed t.0 (get_or (map (λ x. term_coefficient x (plain_term t.1)) s.allowed) i (pos 0))) (sum_at s.allowed (plain_terms left) i) (sum_at s.allowed (plain_terms all) i)
-      (ap (λ (z : ℤ). coefficient form.terms i +ℤ z) (sym (at_map_both (λ a b. signed t.0 a +ℤ b) (signed_zero t.0) (λ x. term_coefficient x (plain_term t.1)) (λ x. sum_coefficient x (plain_terms left)) s.allowed i)) ∙ so_far.coefficients i)
-      (is.coefficients i ∙ ap (λ (z : ℤ). coefficient form.terms i +ℤ z) (signed_same t.0 (coefficient next.terms i) (get_or (map (λ x. term_coefficient x (plain_term t.1)) s.allowed) i (pos 0)) (part.numbers.coefficients i)));
+      add_moved (coefficient form.terms i) (coefficient sum.terms i) (signed t.0 (get_or (map (λ x. term_coefficient x (plain_term t.1)) s.allowed) i (pos 0)))
+      (sum_at s.allowed (plain_terms left) i) (sum_at s.allowed (plain_terms all) i)
+      (ap (λ (z : ℤ). coefficient form.terms i +ℤ z)
+      (sym (at_map_both (λ a b. signed t.0 a +ℤ b) (signed_zero t.0) (λ x. term_coefficient x (plain_term t.1)) (λ x. sum_coefficient x (plain_terms left))
+      s.allowed i)) ∙ so_far.coefficients i)
+      (is.coefficients i ∙ ap (λ (z : ℤ). coefficient form.terms i +ℤ z)
+      (signed_same t.0 (coefficient next.terms i) (get_or (map (λ x. term_coefficient x (plain_term t.1)) s.allowed) i (pos 0))
+      (part.numbers.coefficients i)));
   within = record {
-    constant = subst (λ (z : ℤ). unsigned_abs z ≤ 1000000000 * (count + 1)) (sym is.constant) (more_within count form.constant (signed t.0 next.constant) so_far.within.constant (signed_within t.0 1000000000 next.constant part.within.constant));
-    coefficients = λ i. subst (λ (z : ℤ). unsigned_abs z ≤ 1000000000 * (count + 1)) (sym (is.coefficients i)) (more_within count (coefficient form.terms i) (signed t.0 (coefficient next.terms i)) (so_far.within.coefficients i) (signed_within t.0 1000000000 (coefficient next.terms i) (part.within.coefficients i)));
+    constant = subst (λ (z : ℤ). unsigned_abs z ≤ 1000000000 * (count + 1)) (sym is.constant)
+        (more_within count form.constant (signed t.0 next.constant) so_far.within.constant (signed_within t.0 1000000000 next.constant part.within.constant));
+    coefficients = λ i. subst (λ (z : ℤ). unsigned_abs z ≤ 1000000000 * (count + 1)) (sym (is.coefficients i))
+        (more_within count (coefficient form.terms i) (signed t.0 (coefficient next.terms i)) (so_far.within.coefficients i)
+        (signed_within t.0 1000000000 (coefficient next.terms i) (part.within.coefficients i)));
   };
 }
 
@@ -107,57 +133,68 @@ sum_begins s all form constant terms = record {
   faults = refl;
   known = refl;
   constant = ap (λ (z : ℤ). z +ℤ sum_constant (plain_terms all)) constant ∙ +ℤ_idl (sum_constant (plain_terms all));
-  coefficients = λ i. ap (λ (ts : List (ℕ × ℤ)). coefficient ts i +ℤ sum_at s.allowed (plain_terms all) i) terms ∙ +ℤ_idl (sum_at s.allowed (plain_terms all) i);
+  coefficients = λ i. ap (λ (ts : List (ℕ × ℤ)). coefficient ts i +ℤ sum_at s.allowed (plain_terms all) i) terms
+      ∙ +ℤ_idl (sum_at s.allowed (plain_terms all) i);
   within = record {
     constant = subst (λ (z : ℤ). unsigned_abs z ≤ 1000000000 * 0) (sym constant) (omega (arith, ints));
     coefficients = λ i. subst (λ (ts : List (ℕ × ℤ)). unsigned_abs (coefficient ts i) ≤ 1000000000 * 0) (sym terms) (omega (arith, ints));
   };
 }
 
-pub sum_ends : (s : Scope) (all : List (Sign × TreeTerm)) (count : ℕ) (form : Form) → Summing s all [] count form → count < 2 ^ 63 → (terms_faults s all ≡ []) × PartOf (sum_uses s.allowed (plain_terms all)) (linear_sum s.allowed (plain_terms all)) (2 ^ 93) form
+pub sum_ends : (s : Scope) (all : List (Sign × TreeTerm)) (count : ℕ) (form : Form) → Summing s all [] count form → count < 2 ^ 63 → (terms_faults s all ≡ [])
+    × PartOf (sum_uses s.allowed (plain_terms all)) (linear_sum s.allowed (plain_terms all)) (2 ^ 93) form
 sum_ends s all count form so_far few = (
   so_far.faults,
   record {
     known = so_far.known;
     numbers = record {
       constant = sym (+ℤ_idr form.constant) ∙ so_far.constant;
-      coefficients = λ i. sym (+ℤ_idr (coefficient form.terms i)) ∙ ap (λ (z : ℤ). coefficient form.terms i +ℤ z) (sym (at_map_none s.allowed i)) ∙ so_far.coefficients i;
+      coefficients = λ i. sym (+ℤ_idr (coefficient form.terms i)) ∙ ap (λ (z : ℤ). coefficient form.terms i +ℤ z) (sym (at_map_none s.allowed i))
+          ∙ so_far.coefficients i;
     };
     within = within_more (1000000000 * count) (2 ^ 93) form (omega (arith, few)) so_far.within;
   },
 )
 
-pub sum_within : (s : Scope) (all left : List (Sign × TreeTerm)) (count : ℕ) (form : Form) → Summing s all left count form → count < 2 ^ 63 → FormWithin (2 ^ 93) form
+pub sum_within : (s : Scope) (all left : List (Sign × TreeTerm)) (count : ℕ) (form : Form) → Summing s all left count form → count < 2 ^ 63
+    → FormWithin (2 ^ 93) form
 sum_within s all left count form so_far few = within_more (1000000000 * count) (2 ^ 93) form (omega (arith, few)) so_far.within
 
 -- the first error of a term is the first of the sum
-pub sum_fails : (s : Scope) (all left : List (Sign × TreeTerm)) (t : Sign × TreeTerm) (count : ℕ) (form : Form) (e : FileFault) → Summing s all (t ∷ left) count form → FirstOrMemory (judged_term s t.1).faults e → FirstOrMemory (terms_faults s all) e
+pub sum_fails : (s : Scope) (all left : List (Sign × TreeTerm)) (t : Sign × TreeTerm) (count : ℕ) (form : Form) (e : FileFault)
+    → Summing s all (t ∷ left) count form → FirstOrMemory (judged_term s t.1).faults e → FirstOrMemory (terms_faults s all) e
 sum_fails s all left t count form e so_far first =
     subst (λ (fs : List FileFault). FirstOrMemory fs e) (sym so_far.faults) (append-left-first (judged_term s t.1).faults (terms_faults s left) e first)
 
 -- ---- the answers of a term
 
 -- a number alone, or a blank, has no error but that of its number
-pub alone_answers : (s : Scope) (t : TreeTerm) (n : ℕ) (form : Form) → (out-TreeTerm t).body ≡ None → number_faults (out-TreeTerm t).factor ≡ [] → n ≡ number_or 0 (out-TreeTerm t).factor → form.constant ≡ pos n → form.terms ≡ []
+pub alone_answers : (s : Scope) (t : TreeTerm) (n : ℕ) (form : Form) → (out-TreeTerm t).body ≡ None → number_faults (out-TreeTerm t).factor ≡ []
+    → n ≡ number_or 0 (out-TreeTerm t).factor → form.constant ≡ pos n → form.terms ≡ []
     → ((judged_term s t).faults ≡ []) × PartOf (term_uses s.allowed (plain_term t)) (linear_term s.allowed (plain_term t)) 1000000000 form
 alone_answers s t n form body none is constant terms =
     let part = alone_part s.allowed (out-TreeTerm t).factor n form none is constant terms in
     let plain = term_of (out-TreeTerm t).factor None in
     let small = linear_small (linear_term s.allowed plain) form part.numbers part.within in (
       term_faults_none s t body
-          ∙ else-none (number_faults (out-TreeTerm t).factor ++ []) (large_term s (out-TreeTerm t).at plain) (empty_both (number_faults (out-TreeTerm t).factor) [] none refl) (where-false (is_large_linear (linear_term s.allowed plain)) (fault.TooLarge (out-TreeTerm t).at) small),
+          ∙ else-none (number_faults (out-TreeTerm t).factor ++ []) (large_term s (out-TreeTerm t).at plain)
+          (empty_both (number_faults (out-TreeTerm t).factor) [] none refl)
+          (where-false (is_large_linear (linear_term s.allowed plain)) (fault.TooLarge (out-TreeTerm t).at) small),
       subst (λ (p : Term). PartOf (term_uses s.allowed p) (linear_term s.allowed p) 1000000000 form) (sym (plain_term_none t body)) part,
     )
 
 -- an error of a term's number is its first
-pub number_first : (s : Scope) (t : TreeTerm) (f : TreeFactor) (e : FileFault) → (out-TreeTerm t).body ≡ Some f → FirstOrMemory (number_faults (out-TreeTerm t).factor) e → FirstOrMemory (judged_term s t).faults e
+pub number_first : (s : Scope) (t : TreeTerm) (f : TreeFactor) (e : FileFault) → (out-TreeTerm t).body ≡ Some f
+    → FirstOrMemory (number_faults (out-TreeTerm t).factor) e → FirstOrMemory (judged_term s t).faults e
 number_first s t f e body first =
     subst (λ (fs : List FileFault). FirstOrMemory fs e) (sym (term_faults_some s t f body))
-    (else-left-first (number_faults (out-TreeTerm t).factor ++ (judged_factor s f).faults) (large_term s (out-TreeTerm t).at (term_of (out-TreeTerm t).factor (Some (plain_factor f)))) e
+    (else-left-first (number_faults (out-TreeTerm t).factor ++ (judged_factor s f).faults)
+    (large_term s (out-TreeTerm t).at (term_of (out-TreeTerm t).factor (Some (plain_factor f)))) e
     (append-left-first (number_faults (out-TreeTerm t).factor) (judged_factor s f).faults e first))
 
 -- a factor whose number and parts have no error
-pub product_answers : (s : Scope) (t : TreeTerm) (f : TreeFactor) (n : ℕ) (inner product : Form) (r : Result Form FileFault) → (out-TreeTerm t).body ≡ Some f → number_faults (out-TreeTerm t).factor ≡ [] → n ≡ number_or 1 (out-TreeTerm t).factor → (judged_factor s f).faults ≡ []
+pub product_answers : (s : Scope) (t : TreeTerm) (f : TreeFactor) (n : ℕ) (inner product : Form) (r : Result Form FileFault) → (out-TreeTerm t).body ≡ Some f
+    → number_faults (out-TreeTerm t).factor ≡ [] → n ≡ number_or 1 (out-TreeTerm t).factor → (judged_factor s f).faults ≡ []
     → PartOf (factor_uses s.allowed (plain_factor f)) (linear_factor s.allowed (plain_factor f)) (2 ^ 93) inner → IsMultiple product inner (pos n)
     → Answers (where_ (is_large_form product) (fault.TooLarge (out-TreeTerm t).at)) (λ form. form ≡ product) r
     → Answers (judged_term s t).faults (PartOf (term_uses s.allowed (plain_term t)) (linear_term s.allowed (plain_term t)) 1000000000) r
@@ -165,15 +202,23 @@ product_answers s t f n inner product r body none is none_inner part multiple an
     let plain = term_of (out-TreeTerm t).factor (Some (plain_factor f)) in
     let numbers = product_numbers s.allowed (out-TreeTerm t).factor (plain_factor f) n inner product is part.numbers multiple in
     let same = same_large (linear_term s.allowed plain) product numbers in
-    let right : (form : Form) → where_ (is_large_form product) (fault.TooLarge (out-TreeTerm t).at) ≡ [] → form ≡ product → PartOf (term_uses s.allowed plain) (linear_term s.allowed plain) 1000000000 form =
+    let right : (form : Form) → where_ (is_large_form product) (fault.TooLarge (out-TreeTerm t).at) ≡ [] → form ≡ product
+    → PartOf (term_uses s.allowed plain) (linear_term s.allowed plain) 1000000000 form =
     λ form small e. subst (λ (x : Form). PartOf (term_uses s.allowed plain) (linear_term s.allowed plain) 1000000000 x) (sym e) (record {
       known = product_known s.allowed (out-TreeTerm t).factor (plain_factor f) part.known;
       numbers = numbers;
       within = small_within product (not-where (is_large_form product) (fault.TooLarge (out-TreeTerm t).at) small);
     })
     in
-    let known = answers-knowing (where_ (is_large_form product) (fault.TooLarge (out-TreeTerm t).at)) (λ form. form ≡ product) (PartOf (term_uses s.allowed plain) (linear_term s.allowed plain) 1000000000) r right answer in
-    let large = answers-along (where_ (is_large_form product) (fault.TooLarge (out-TreeTerm t).at)) (large_term s (out-TreeTerm t).at plain) (PartOf (term_uses s.allowed plain) (linear_term s.allowed plain) 1000000000) r (ap (λ (b : Bool). where_ b (fault.TooLarge (out-TreeTerm t).at)) same) known in
-    let both = answers-otherwise (number_faults (out-TreeTerm t).factor ++ (judged_factor s f).faults) (large_term s (out-TreeTerm t).at plain) (PartOf (term_uses s.allowed plain) (linear_term s.allowed plain) 1000000000) r (empty_both (number_faults (out-TreeTerm t).factor) (judged_factor s f).faults none none_inner) large in
-    let term = answers-along (else_ (number_faults (out-TreeTerm t).factor ++ (judged_factor s f).faults) (large_term s (out-TreeTerm t).at plain)) (judged_term s t).faults (PartOf (term_uses s.allowed plain) (linear_term s.allowed plain) 1000000000) r (sym (term_faults_some s t f body)) both in
-    subst (λ (p : Term). Answers (judged_term s t).faults (PartOf (term_uses s.allowed p) (linear_term s.allowed p) 1000000000) r) (sym (plain_term_some t f body)) term
+    let known = answers-knowing (where_ (is_large_form product) (fault.TooLarge (out-TreeTerm t).at)) (λ form. form ≡ product)
+    (PartOf (term_uses s.allowed plain) (linear_term s.allowed plain) 1000000000) r right answer in
+    let large = answers-along (where_ (is_large_form product) (fault.TooLarge (out-TreeTerm t).at)) (large_term s (out-TreeTerm t).at plain)
+    (PartOf (term_uses s.allowed plain) (linear_term s.allowed plain) 1000000000) r (ap (λ (b : Bool). where_ b (fault.TooLarge (out-TreeTerm t).at)) same)
+    known in
+    let both = answers-otherwise (number_faults (out-TreeTerm t).factor ++ (judged_factor s f).faults) (large_term s (out-TreeTerm t).at plain)
+    (PartOf (term_uses s.allowed plain) (linear_term s.allowed plain) 1000000000) r
+    (empty_both (number_faults (out-TreeTerm t).factor) (judged_factor s f).faults none none_inner) large in
+    let term = answers-along (else_ (number_faults (out-TreeTerm t).factor ++ (judged_factor s f).faults) (large_term s (out-TreeTerm t).at plain))
+    (judged_term s t).faults (PartOf (term_uses s.allowed plain) (linear_term s.allowed plain) 1000000000) r (sym (term_faults_some s t f body)) both in
+    subst (λ (p : Term). Answers (judged_term s t).faults (PartOf (term_uses s.allowed p) (linear_term s.allowed p) 1000000000) r)
+    (sym (plain_term_some t f body)) term

@@ -1,11 +1,18 @@
 -- Patterns and their events, one after another.
 use Rattle.ta_base.proofs.Pairwise.{pairwise_push}
-use Rattle.ta_meaning.proofs.Common.{◌≡◌, ℕ, ◌+◌, ◌<◌, ◌≤◌, List, [], ◌∷◌, ◌++◌, length, map, refl, sym, ap, subst, ◌∙◌, append_assoc, arith, append-nil, length-map, length_push, map_push, AllByRecursion, each_append, each_from-push, PlainEvent, PlainPattern, plain_name, plain_comparison, plain_event, plain_pattern, Spelled, TreeComparison, TreeEvent, TreePattern, FileFault, Event, Pattern, EachFrom, Distinct, Name, EventWithin, event_name, PatternWithin, pattern_name, Names, all_names, Pairwise, MeansEvent, MeansEvents, MeansPattern, FirstOrMemory, in_conditions, declared_faults, listed_faults, condition_faults, event_faults, events_faults, pattern_faults, patterns_faults, ResolvedCondition, ResolvedPatterns, ListedMask, DeclaredNext, ResolvedEvent, ResolvedEvents, ResolvedPattern}
+use Rattle.ta_meaning.proofs.Common.{◌≡◌, ℕ, ◌+◌, ◌<◌, ◌≤◌, List, [], ◌∷◌, ◌++◌, length, map, refl, sym, ap, subst, ◌∙◌, append_assoc, arith, append-nil}
+use Rattle.ta_meaning.proofs.Common.{length-map, length_push, map_push, AllByRecursion, each_append, each_from-push, PlainEvent, PlainPattern, plain_name}
+use Rattle.ta_meaning.proofs.Common.{plain_comparison, plain_event, plain_pattern, Spelled, TreeComparison, TreeEvent, TreePattern, FileFault, Event, Pattern}
+use Rattle.ta_meaning.proofs.Common.{EachFrom, Distinct, Name, EventWithin, event_name, PatternWithin, pattern_name, Names, all_names, Pairwise, MeansEvent}
+use Rattle.ta_meaning.proofs.Common.{MeansEvents, MeansPattern, FirstOrMemory, in_conditions, declared_faults, listed_faults, condition_faults, event_faults}
+use Rattle.ta_meaning.proofs.Common.{events_faults, pattern_faults, patterns_faults, ResolvedCondition, ResolvedPatterns, ListedMask, DeclaredNext}
+use Rattle.ta_meaning.proofs.Common.{ResolvedEvent, ResolvedEvents, ResolvedPattern}
 use Rattle.ta_meaning.proofs.Answering.{append-left-first, append-right-first}
 use Rattle.ta_meaning.proofs.Declared.{declared-legal, declared-distinct}
 use Rattle.ta_base.proofs.Lists.{empty_before, empty_both}
 
-declared_next : (before : List (List ℕ)) (n : Spelled) (names : List (List ℕ)) → Distinct before → declared_faults before n ≡ [] → names ≡ before ++ n.name ∷ [] → DeclaredNext before n.name names
+declared_next : (before : List (List ℕ)) (n : Spelled) (names : List (List ℕ)) → Distinct before → declared_faults before n ≡ [] → names ≡ before ++ n.name ∷ []
+    → DeclaredNext before n.name names
 declared_next before n names d none is = record { next = is; distinct = subst (λ (z : List (List ℕ)). Distinct z) (sym is) (declared-distinct before n d none) }
 
 -- a copy of a name that is declared without an error is legal
@@ -13,35 +20,48 @@ copied_legal : (before : List (List ℕ)) (n : Spelled) (text : List ℕ) → de
 copied_legal before n text none is = subst Name (sym is) (declared-legal before n none)
 
 -- ---- one event
-module _ (ns : Names) (before : List (List ℕ)) (e : TreeEvent) (after : List Spelled) (is_after : after ≡ e.after) (condition : List TreeComparison) (is_condition : condition ≡ e.condition) where
-  pub event_stops_at_after : (f : FileFault) → declared_faults before e.name ≡ [] → FirstOrMemory (listed_faults before before [] after) f → FirstOrMemory (event_faults ns before e) f
+module _ (ns : Names) (before : List (List ℕ)) (e : TreeEvent) (after : List Spelled) (is_after : after ≡ e.after) (condition : List TreeComparison)
+    (is_condition : condition ≡ e.condition) where
+  pub event_stops_at_after : (f : FileFault) → declared_faults before e.name ≡ [] → FirstOrMemory (listed_faults before before [] after) f
+      → FirstOrMemory (event_faults ns before e) f
   event_stops_at_after f name first =
       append-right-first _ _ f name (append-left-first _ _ f (subst (λ (z : List Spelled). FirstOrMemory (listed_faults before before [] z) f) is_after first))
 
-  pub event_stops_at_condition : (f : FileFault) → declared_faults before e.name ≡ [] → listed_faults before before [] after ≡ [] → FirstOrMemory (condition_faults (in_conditions ns) condition) f → FirstOrMemory (event_faults ns before e) f
+  pub event_stops_at_condition : (f : FileFault) → declared_faults before e.name ≡ [] → listed_faults before before [] after ≡ []
+      → FirstOrMemory (condition_faults (in_conditions ns) condition) f → FirstOrMemory (event_faults ns before e) f
   event_stops_at_condition f name listed first =
-      append-right-first _ _ f name (append-right-first _ _ f (subst (λ (z : List Spelled). listed_faults before before [] z ≡ []) is_after listed) (subst (λ (z : List TreeComparison). FirstOrMemory (condition_faults (in_conditions ns) z) f) is_condition first))
+      append-right-first _ _ f name (append-right-first _ _ f (subst (λ (z : List Spelled). listed_faults before before [] z ≡ []) is_after listed)
+      (subst (λ (z : List TreeComparison). FirstOrMemory (condition_faults (in_conditions ns) z) f) is_condition first))
 
-  pub event_has_none : declared_faults before e.name ≡ [] → listed_faults before before [] after ≡ [] → condition_faults (in_conditions ns) condition ≡ [] → event_faults ns before e ≡ []
+  pub event_has_none : declared_faults before e.name ≡ [] → listed_faults before before [] after ≡ [] → condition_faults (in_conditions ns) condition ≡ []
+      → event_faults ns before e ≡ []
   event_has_none name listed none =
-      empty_both _ _ name (empty_both _ _ (subst (λ (z : List Spelled). listed_faults before before [] z ≡ []) is_after listed) (subst (λ (z : List TreeComparison). condition_faults (in_conditions ns) z ≡ []) is_condition none))
+      empty_both _ _ name (empty_both _ _ (subst (λ (z : List Spelled). listed_faults before before [] z ≡ []) is_after listed)
+      (subst (λ (z : List TreeComparison). condition_faults (in_conditions ns) z ≡ []) is_condition none))
 
-  pub event_resolved : (names : List (List ℕ)) (event : Event) → Distinct before → declared_faults before e.name ≡ [] → names ≡ before ++ e.name.name ∷ [] → event.name ≡ e.name.name → ListedMask before (map plain_name after) event.after → ResolvedCondition (all_names ns) (map plain_comparison condition) event.condition → ResolvedEvent ns before (plain_event e) names event
+  pub event_resolved : (names : List (List ℕ)) (event : Event) → Distinct before → declared_faults before e.name ≡ [] → names ≡ before ++ e.name.name ∷ []
+      → event.name ≡ e.name.name → ListedMask before (map plain_name after) event.after
+      → ResolvedCondition (all_names ns) (map plain_comparison condition) event.condition → ResolvedEvent ns before (plain_event e) names event
   event_resolved names event d none is name mask holds =
-      let listed : ListedMask before (map plain_name e.after) event.after = subst (λ (z : List Spelled). ListedMask before (map plain_name z) event.after) is_after mask in
-      let resolved : ResolvedCondition (all_names ns) (map plain_comparison e.condition) event.condition = subst (λ (z : List TreeComparison). ResolvedCondition (all_names ns) (map plain_comparison z) event.condition) is_condition holds in
+      let listed : ListedMask before (map plain_name e.after) event.after = subst (λ (z : List Spelled). ListedMask before (map plain_name z) event.after)
+      is_after mask in
+      let resolved : ResolvedCondition (all_names ns) (map plain_comparison e.condition) event.condition = subst
+      (λ (z : List TreeComparison). ResolvedCondition (all_names ns) (map plain_comparison z) event.condition) is_condition holds in
       record {
         means = record { name = name; after = listed.bits; condition = resolved.means };
         within = record { name = copied_legal before e.name event.name none name; after = listed.below; condition = resolved.over };
         declared = declared_next before e.name names d none is;
       }
 
-means_events-push : (ns : Names) (before : List (List ℕ)) (es : List PlainEvent) (events : List Event) (e : PlainEvent) (event : Event) → MeansEvents ns before es events → MeansEvent ns (before ++ map event_name events) e event → MeansEvents ns before (es ++ e ∷ []) (events ++ event ∷ [])
+means_events-push : (ns : Names) (before : List (List ℕ)) (es : List PlainEvent) (events : List Event) (e : PlainEvent) (event : Event)
+    → MeansEvents ns before es events → MeansEvent ns (before ++ map event_name events) e event → MeansEvents ns before (es ++ e ∷ []) (events ++ event ∷ [])
 means_events-push ns before [] [] e event means here = (subst (λ (z : List (List ℕ)). MeansEvent ns z e event) (append-nil before) here, tt)
 means_events-push ns before [] (a ∷ events) e event means here = absurd means
 means_events-push ns before (b ∷ es) [] e event means here = absurd means
 means_events-push ns before (b ∷ es) (a ∷ events) e event means here =
-    let regroup : before ++ a.name ∷ map event_name events ≡ (before ++ b.name ∷ []) ++ map event_name events = ap (λ (n : List ℕ). before ++ n ∷ map event_name events) (means.0).name ∙ sym (append_assoc before (b.name ∷ []) (map event_name events)) in
+    let regroup : before ++ a.name ∷ map event_name events ≡ (before ++ b.name ∷ [])
+    ++ map event_name events = ap (λ (n : List ℕ). before ++ n ∷ map event_name events) (means.0).name
+    ∙ sym (append_assoc before (b.name ∷ []) (map event_name events)) in
     (means.0, means_events-push ns (before ++ b.name ∷ []) es events e event means.1 (subst (λ (z : List (List ℕ)). MeansEvent ns z e event) regroup here))
 
 -- events are resolved, and the rest of them is left
@@ -55,12 +75,15 @@ pub record EventsTo (ns : Names) (all rest : List TreeEvent) (names : List (List
   pub within : EachFrom (EventWithin (length (all_names ns))) 0 resolved
   pub count : length resolved + length rest ≡ length all
 
-pub events_begin : (ns : Names) (all : List TreeEvent) (names : List (List ℕ)) (resolved : List Event) → names ≡ [] → resolved ≡ [] → EventsTo ns all all names resolved
+pub events_begin : (ns : Names) (all : List TreeEvent) (names : List (List ℕ)) (resolved : List Event) → names ≡ [] → resolved ≡ []
+    → EventsTo ns all all names resolved
 events_begin ns all names resolved e f =
-    let begin : EventsTo ns all all [] [] = record { faults = refl; names_are = refl; distinct = tt; done = []; done_are = refl; means = tt; within = tt; count = omega arith } in
+    let begin : EventsTo ns all all [] [] = record
+    { faults = refl; names_are = refl; distinct = tt; done = []; done_are = refl; means = tt; within = tt; count = omega arith } in
     subst (λ (z : List (List ℕ)). EventsTo ns all all z resolved) (sym e) (subst (λ (z : List Event). EventsTo ns all all [] z) (sym f) begin)
 
-module _ (ns : Names) (all : List TreeEvent) (e : TreeEvent) (rest : List TreeEvent) (names : List (List ℕ)) (resolved : List Event) (to : EventsTo ns all (e ∷ rest) names resolved) where
+module _ (ns : Names) (all : List TreeEvent) (e : TreeEvent) (rest : List TreeEvent) (names : List (List ℕ)) (resolved : List Event)
+    (to : EventsTo ns all (e ∷ rest) names resolved) where
   names_count : length names ≡ length resolved
   names_count = ap (λ (z : List (List ℕ)). length z) to.names_are ∙ length-map resolved event_name
 
@@ -70,19 +93,24 @@ module _ (ns : Names) (all : List TreeEvent) (e : TreeEvent) (rest : List TreeEv
   pub events_stop : (f : FileFault) → FirstOrMemory (event_faults ns names e) f → FirstOrMemory (events_faults ns [] all) f
   events_stop f first = rw to.faults (append-left-first _ _ f first)
 
-  pub events_go_on : (more : List (List ℕ)) (event : Event) → event_faults ns names e ≡ [] → ResolvedEvent ns names (plain_event e) more event → EventsTo ns all rest more (resolved ++ event ∷ [])
+  pub events_go_on : (more : List (List ℕ)) (event : Event) → event_faults ns names e ≡ [] → ResolvedEvent ns names (plain_event e) more event
+      → EventsTo ns all rest more (resolved ++ event ∷ [])
   events_go_on more event none r = record {
     faults = to.faults ∙ empty_before _ _ none ∙ ap (λ (z : List (List ℕ)). events_faults ns z rest) (sym r.declared.next);
-    names_are = r.declared.next ∙ ap (λ (z : List (List ℕ)). z ++ e.name.name ∷ []) to.names_are ∙ ap (λ (n : List ℕ). map event_name resolved ++ n ∷ []) (sym r.means.name) ∙ sym (map_push event_name resolved event);
+    names_are = r.declared.next ∙ ap (λ (z : List (List ℕ)). z ++ e.name.name ∷ []) to.names_are
+        ∙ ap (λ (n : List ℕ). map event_name resolved ++ n ∷ []) (sym r.means.name) ∙ sym (map_push event_name resolved event);
     distinct = r.declared.distinct;
     done = to.done ++ plain_event e ∷ [];
     done_are = to.done_are ∙ sym (append_assoc to.done (plain_event e ∷ []) (map plain_event rest));
-    means = means_events-push ns [] to.done resolved (plain_event e) event to.means (subst (λ (z : List (List ℕ)). MeansEvent ns z (plain_event e) event) to.names_are r.means);
-    within = each_from-push (EventWithin (length (all_names ns))) 0 resolved event to.within (subst (λ n. EventWithin (length (all_names ns)) n event) (let same = names_count in omega arith) r.within);
+    means = means_events-push ns [] to.done resolved (plain_event e) event to.means
+        (subst (λ (z : List (List ℕ)). MeansEvent ns z (plain_event e) event) to.names_are r.means);
+    within = each_from-push (EventWithin (length (all_names ns))) 0 resolved event to.within
+        (subst (λ n. EventWithin (length (all_names ns)) n event) (let same = names_count in omega arith) r.within);
     count = let count = to.count in omega (arith, length_push resolved event);
   }
 
-pub events_end : (ns : Names) (all : List TreeEvent) (names : List (List ℕ)) (resolved : List Event) → length all ≤ 8 → EventsTo ns all [] names resolved → (events_faults ns [] all ≡ []) × ResolvedEvents ns (map plain_event all) resolved
+pub events_end : (ns : Names) (all : List TreeEvent) (names : List (List ℕ)) (resolved : List Event) → length all ≤ 8 → EventsTo ns all [] names resolved
+    → (events_faults ns [] all ≡ []) × ResolvedEvents ns (map plain_event all) resolved
 events_end ns all names resolved few to = (
   to.faults,
   record {
@@ -94,10 +122,13 @@ events_end ns all names resolved few to = (
 )
 
 -- ---- one pattern
-module _ (ns : Names) (before : List (List ℕ)) (p : TreePattern) (start : List TreeComparison) (is_start : start ≡ p.start) (empty : List Spelled) (is_empty : empty ≡ p.empty) (events : List TreeEvent) (is_events : events ≡ p.events) where
-  pub pattern_stops_at_start : (f : FileFault) → declared_faults before p.name ≡ [] → FirstOrMemory (condition_faults (in_conditions ns) start) f → FirstOrMemory (pattern_faults ns before p) f
+module _ (ns : Names) (before : List (List ℕ)) (p : TreePattern) (start : List TreeComparison) (is_start : start ≡ p.start) (empty : List Spelled)
+    (is_empty : empty ≡ p.empty) (events : List TreeEvent) (is_events : events ≡ p.events) where
+  pub pattern_stops_at_start : (f : FileFault) → declared_faults before p.name ≡ [] → FirstOrMemory (condition_faults (in_conditions ns) start) f
+      → FirstOrMemory (pattern_faults ns before p) f
   pattern_stops_at_start f name first =
-      append-right-first _ _ f name (append-left-first _ _ f (subst (λ (z : List TreeComparison). FirstOrMemory (condition_faults (in_conditions ns) z) f) is_start first))
+      append-right-first _ _ f name (append-left-first _ _ f
+      (subst (λ (z : List TreeComparison). FirstOrMemory (condition_faults (in_conditions ns) z) f) is_start first))
 
   start_none : condition_faults (in_conditions ns) start ≡ [] → condition_faults (in_conditions ns) p.start ≡ []
   start_none none = subst (λ (z : List TreeComparison). condition_faults (in_conditions ns) z ≡ []) is_start none
@@ -105,26 +136,46 @@ module _ (ns : Names) (before : List (List ℕ)) (p : TreePattern) (start : List
   empty_none : listed_faults (all_names ns) ns.locations [] empty ≡ [] → listed_faults (all_names ns) ns.locations [] p.empty ≡ []
   empty_none none = subst (λ (z : List Spelled). listed_faults (all_names ns) ns.locations [] z ≡ []) is_empty none
 
-  pub pattern_stops_at_empty : (f : FileFault) → declared_faults before p.name ≡ [] → condition_faults (in_conditions ns) start ≡ [] → FirstOrMemory (listed_faults (all_names ns) ns.locations [] empty) f → FirstOrMemory (pattern_faults ns before p) f
+  pub pattern_stops_at_empty : (f : FileFault) → declared_faults before p.name ≡ [] → condition_faults (in_conditions ns) start ≡ []
+      → FirstOrMemory (listed_faults (all_names ns) ns.locations [] empty) f → FirstOrMemory (pattern_faults ns before p) f
   pattern_stops_at_empty f name none first =
-      append-right-first _ _ f name (append-right-first _ _ f (start_none none) (append-left-first _ _ f (subst (λ (z : List Spelled). FirstOrMemory (listed_faults (all_names ns) ns.locations [] z) f) is_empty first)))
+      append-right-first _ _ f name (append-right-first _ _ f (start_none none)
+      (append-left-first _ _ f (subst (λ (z : List Spelled). FirstOrMemory (listed_faults (all_names ns) ns.locations [] z) f) is_empty first)))
 
-  pub pattern_stops_at_events : (f : FileFault) → declared_faults before p.name ≡ [] → condition_faults (in_conditions ns) start ≡ [] → listed_faults (all_names ns) ns.locations [] empty ≡ [] → FirstOrMemory (events_faults ns [] events) f → FirstOrMemory (pattern_faults ns before p) f
+  pub pattern_stops_at_events : (f : FileFault) → declared_faults before p.name ≡ [] → condition_faults (in_conditions ns) start ≡ []
+      → listed_faults (all_names ns) ns.locations [] empty ≡ [] → FirstOrMemory (events_faults ns [] events) f → FirstOrMemory (pattern_faults ns before p) f
   pattern_stops_at_events f name none listed first =
-      append-right-first _ _ f name (append-right-first _ _ f (start_none none) (append-right-first _ _ f (empty_none listed) (subst (λ (z : List TreeEvent). FirstOrMemory (events_faults ns [] z) f) is_events first)))
+      append-right-first _ _ f name (append-right-first _ _ f (start_none none)
+      (append-right-first _ _ f (empty_none listed) (subst (λ (z : List TreeEvent). FirstOrMemory (events_faults ns [] z) f) is_events first)))
 
-  pub pattern_has_none : declared_faults before p.name ≡ [] → condition_faults (in_conditions ns) start ≡ [] → listed_faults (all_names ns) ns.locations [] empty ≡ [] → events_faults ns [] events ≡ [] → pattern_faults ns before p ≡ []
+  pub pattern_has_none : declared_faults before p.name ≡ [] → condition_faults (in_conditions ns) start ≡ []
+      → listed_faults (all_names ns) ns.locations [] empty ≡ [] → events_faults ns [] events ≡ [] → pattern_faults ns before p ≡ []
   pattern_has_none name none listed rest =
-      empty_both _ _ name (empty_both _ _ (start_none none) (empty_both _ _ (empty_none listed) (subst (λ (z : List TreeEvent). events_faults ns [] z ≡ []) is_events rest)))
+      empty_both _ _ name (empty_both _ _ (start_none none)
+      (empty_both _ _ (empty_none listed) (subst (λ (z : List TreeEvent). events_faults ns [] z ≡ []) is_events rest)))
 
-  pub pattern_resolved : (names : List (List ℕ)) (pattern : Pattern) → Distinct before → declared_faults before p.name ≡ [] → names ≡ before ++ p.name.name ∷ [] → pattern.name ≡ p.name.name → ResolvedCondition (all_names ns) (map plain_comparison start) pattern.start → ListedMask ns.locations (map plain_name empty) pattern.empty → ResolvedEvents ns (map plain_event events) pattern.events → ResolvedPattern ns before (plain_pattern p) names pattern
+  pub pattern_resolved : (names : List (List ℕ)) (pattern : Pattern) → Distinct before → declared_faults before p.name ≡ [] → names ≡ before ++ p.name.name ∷ []
+      → pattern.name ≡ p.name.name → ResolvedCondition (all_names ns) (map plain_comparison start) pattern.start
+      → ListedMask ns.locations (map plain_name empty) pattern.empty → ResolvedEvents ns (map plain_event events) pattern.events
+      → ResolvedPattern ns before (plain_pattern p) names pattern
   pattern_resolved names pattern d none is name holds mask many =
-      let begins : ResolvedCondition (all_names ns) (map plain_comparison p.start) pattern.start = subst (λ (z : List TreeComparison). ResolvedCondition (all_names ns) (map plain_comparison z) pattern.start) is_start holds in
-      let listed : ListedMask ns.locations (map plain_name p.empty) pattern.empty = subst (λ (z : List Spelled). ListedMask ns.locations (map plain_name z) pattern.empty) is_empty mask in
-      let each : ResolvedEvents ns (map plain_event p.events) pattern.events = subst (λ (z : List TreeEvent). ResolvedEvents ns (map plain_event z) pattern.events) is_events many in
+      let begins : ResolvedCondition (all_names ns) (map plain_comparison p.start) pattern.start = subst
+      (λ (z : List TreeComparison). ResolvedCondition (all_names ns) (map plain_comparison z) pattern.start) is_start holds in
+      let listed : ListedMask ns.locations (map plain_name p.empty) pattern.empty = subst
+      (λ (z : List Spelled). ListedMask ns.locations (map plain_name z) pattern.empty) is_empty mask in
+      let each : ResolvedEvents ns (map plain_event p.events) pattern.events = subst
+      (λ (z : List TreeEvent). ResolvedEvents ns (map plain_event z) pattern.events) is_events many in
       record {
         means = record { name = name; start = begins.means; empty = listed.bits; events = each.means };
-        within = record { name = copied_legal before p.name pattern.name none name; start = begins.over; empty = listed.below; events_limit = each.limit; events = each.within; events_distinct = each.distinct };
+        within = record {
+          name = copied_legal before p.name pattern.name none name;
+          start = begins.over;
+          empty = listed.below;
+          events_limit = each.limit;
+          events
+              = each.within;
+          events_distinct = each.distinct;
+        };
         declared = declared_next before p.name names d none is;
       }
 
@@ -141,19 +192,24 @@ pub record PatternsTo (ns : Names) (all rest : List TreePattern) (names : List (
   pub within : AllByRecursion (PatternWithin (length (all_names ns)) (length ns.locations)) resolved
   pub count : length resolved + length rest ≡ length all
 
-pub patterns_begin : (ns : Names) (all : List TreePattern) (names : List (List ℕ)) (resolved : List Pattern) → names ≡ [] → resolved ≡ [] → PatternsTo ns all all names resolved
+pub patterns_begin : (ns : Names) (all : List TreePattern) (names : List (List ℕ)) (resolved : List Pattern) → names ≡ [] → resolved ≡ []
+    → PatternsTo ns all all names resolved
 patterns_begin ns all names resolved e f =
-    let begin : PatternsTo ns all all [] [] = record { faults = refl; names_are = refl; distinct = tt; done = []; done_are = refl; means = tt; within = tt; count = omega arith } in
+    let begin : PatternsTo ns all all [] [] = record
+    { faults = refl; names_are = refl; distinct = tt; done = []; done_are = refl; means = tt; within = tt; count = omega arith } in
     subst (λ (z : List (List ℕ)). PatternsTo ns all all z resolved) (sym e) (subst (λ (z : List Pattern). PatternsTo ns all all [] z) (sym f) begin)
 
-module _ (ns : Names) (all : List TreePattern) (p : TreePattern) (rest : List TreePattern) (names : List (List ℕ)) (resolved : List Pattern) (to : PatternsTo ns all (p ∷ rest) names resolved) where
+module _ (ns : Names) (all : List TreePattern) (p : TreePattern) (rest : List TreePattern) (names : List (List ℕ)) (resolved : List Pattern)
+    (to : PatternsTo ns all (p ∷ rest) names resolved) where
   pub patterns_stop : (f : FileFault) → FirstOrMemory (pattern_faults ns names p) f → FirstOrMemory (patterns_faults ns [] all) f
   patterns_stop f first = rw to.faults (append-left-first _ _ f first)
 
-  pub patterns_go_on : (more : List (List ℕ)) (pattern : Pattern) → pattern_faults ns names p ≡ [] → ResolvedPattern ns names (plain_pattern p) more pattern → PatternsTo ns all rest more (resolved ++ pattern ∷ [])
+  pub patterns_go_on : (more : List (List ℕ)) (pattern : Pattern) → pattern_faults ns names p ≡ [] → ResolvedPattern ns names (plain_pattern p) more pattern
+      → PatternsTo ns all rest more (resolved ++ pattern ∷ [])
   patterns_go_on more pattern none r = record {
     faults = to.faults ∙ empty_before _ _ none ∙ ap (λ (z : List (List ℕ)). patterns_faults ns z rest) (sym r.declared.next);
-    names_are = r.declared.next ∙ ap (λ (z : List (List ℕ)). z ++ p.name.name ∷ []) to.names_are ∙ ap (λ (n : List ℕ). map pattern_name resolved ++ n ∷ []) (sym r.means.name) ∙ sym (map_push pattern_name resolved pattern);
+    names_are = r.declared.next ∙ ap (λ (z : List (List ℕ)). z ++ p.name.name ∷ []) to.names_are
+        ∙ ap (λ (n : List ℕ). map pattern_name resolved ++ n ∷ []) (sym r.means.name) ∙ sym (map_push pattern_name resolved pattern);
     distinct = r.declared.distinct;
     done = to.done ++ plain_pattern p ∷ [];
     done_are = to.done_are ∙ sym (append_assoc to.done (plain_pattern p ∷ []) (map plain_pattern rest));
@@ -162,7 +218,8 @@ module _ (ns : Names) (all : List TreePattern) (p : TreePattern) (rest : List Tr
     count = let count = to.count in omega (arith, length_push resolved pattern);
   }
 
-pub patterns_end : (ns : Names) (all : List TreePattern) (names : List (List ℕ)) (resolved : List Pattern) → length all ≤ 16 → PatternsTo ns all [] names resolved → (patterns_faults ns [] all ≡ []) × ResolvedPatterns ns (map plain_pattern all) resolved
+pub patterns_end : (ns : Names) (all : List TreePattern) (names : List (List ℕ)) (resolved : List Pattern) → length all ≤ 16
+    → PatternsTo ns all [] names resolved → (patterns_faults ns [] all ≡ []) × ResolvedPatterns ns (map plain_pattern all) resolved
 patterns_end ns all names resolved few to = (
   to.faults,
   record {

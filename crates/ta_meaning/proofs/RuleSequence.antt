@@ -1,6 +1,12 @@
 -- rules read one after another, and the guards of all of them
 use Rattle.ta_base.proofs.Pairwise.{pairwise_with, pairwise_push, pairwise_each}
-use Rattle.ta_meaning.proofs.Common.{◌≡◌, ℕ, ◌≤◌, List, [], ◌∷◌, ◌++◌, map, length, Bool, true, false, arith, sym, ap, ◌∙◌, refl, subst, append-nil, map_push, true≢false, cond-true, cond-false, AllByRecursion, distinct_push, distinct_unmap, each_at, each_weaker, Row, PlainRule, plain_rule, TreeRule, FileFault, Distinct, RiseRow, FallRow, RuleWithin, name_of, Rule, Names, guard_names, all_names, Linear, Pairwise, RowOf, Guards, no_guards, falls, has_row, with_guards, rows_of, guards_after, NamesGuards, MeansRule, guards_of, FirstOrMemory, in_guards, declared_faults, guards_with, rule_faults, rules_faults, used_faults, guards_faults, updates_faults, ResolvedGuards, ResolvedRules, linear_of, guards_so_far, GuardsKept, AmongGuards, RuleSoFar, RuleRead, GuardList, append_assoc}
+use Rattle.ta_meaning.proofs.Common.{◌≡◌, ℕ, ◌≤◌, List, [], ◌∷◌, ◌++◌, map, length, Bool, true, false, arith, sym, ap, ◌∙◌, refl, subst, append-nil, map_push}
+use Rattle.ta_meaning.proofs.Common.{true≢false, cond-true, cond-false, AllByRecursion, distinct_push, distinct_unmap, each_at, each_weaker, Row, PlainRule}
+use Rattle.ta_meaning.proofs.Common.{plain_rule, TreeRule, FileFault, Distinct, RiseRow, FallRow, RuleWithin, name_of, Rule, Names, guard_names, all_names}
+use Rattle.ta_meaning.proofs.Common.{Linear, Pairwise, RowOf, Guards, no_guards, falls, has_row, with_guards, rows_of, guards_after, NamesGuards, MeansRule}
+use Rattle.ta_meaning.proofs.Common.{guards_of, FirstOrMemory, in_guards, declared_faults, guards_with, rule_faults, rules_faults, used_faults, guards_faults}
+use Rattle.ta_meaning.proofs.Common.{updates_faults, ResolvedGuards, ResolvedRules, linear_of, guards_so_far, GuardsKept, AmongGuards, RuleSoFar, RuleRead}
+use Rattle.ta_meaning.proofs.Common.{GuardList, append_assoc}
 use Rattle.ta_meaning.proofs.Declared.{declared-new}
 use Rattle.ta_meaning.proofs.Answering.{append-left-first}
 use Rattle.ta_meaning.proofs.NormalTerms.{linear_row}
@@ -17,19 +23,23 @@ pairwise_rows places [] h = tt
 pairwise_rows places (r ∷ rows) h = (linear_row r places h.0, pairwise_rows places rows h.1)
 
 -- ---- later guards
-kind_later : (parameters : ℕ) (kind : Bool) (guards more after rows : List Linear) (mask : ℕ) → after ≡ guards ++ more → Distinct after → AllByRecursion (λ (r : Linear). falls parameters r ≡ kind) after
+kind_later : (parameters : ℕ) (kind : Bool) (guards more after rows : List Linear) (mask : ℕ) → after ≡ guards ++ more → Distinct after
+    → AllByRecursion (λ (r : Linear). falls parameters r ≡ kind) after
     → ((r : Linear) → falls parameters r ≡ kind → has_row rows r ≡ true → has_row guards r ≡ true) → NamesGuards guards rows mask → NamesGuards after rows mask
 kind_later parameters kind guards more after rows mask grown distinct kinds among names =
     let kinds_all = subst (λ (zs : List Linear). AllByRecursion (λ (r : Linear). falls parameters r ≡ kind) zs) grown kinds in
-    subst (λ (zs : List Linear). NamesGuards zs rows mask) (sym grown) (mask_later guards more rows mask (subst (λ (zs : List Linear). Distinct zs) grown distinct) (λ i r at has.
+    subst (λ (zs : List Linear). NamesGuards zs rows mask) (sym grown)
+    (mask_later guards more rows mask (subst (λ (zs : List Linear). Distinct zs) grown distinct) (λ i r at has.
     among r (each_at (λ (q : Linear). falls parameters q ≡ kind) (guards ++ more) i r kinds_all at) has) names)
 
 -- each of some rows is among the guards of its kind
-among_row : (parameters : ℕ) (g : Guards) (rows : List Linear) (r : Linear) → AllByRecursion (AmongGuards parameters g) rows → has_row rows r ≡ true → AmongGuards parameters g r
+among_row : (parameters : ℕ) (g : Guards) (rows : List Linear) (r : Linear) → AllByRecursion (AmongGuards parameters g) rows → has_row rows r ≡ true
+    → AmongGuards parameters g r
 among_row parameters g rows r among has = let w = at_has rows r has in each_at (AmongGuards parameters g) rows w.0 r among w.1
 
 -- a rule keeps its meaning when guards come after its own
-rule_later : (ns : Names) (before after : GuardList) (r : PlainRule) (rule : Rule) → Extends (guards_so_far ns before) (guards_so_far ns after) → GuardsKept ns after → RuleSoFar ns before r rule → RuleSoFar ns after r rule
+rule_later : (ns : Names) (before after : GuardList) (r : PlainRule) (rule : Rule) → Extends (guards_so_far ns before) (guards_so_far ns after)
+    → GuardsKept ns after → RuleSoFar ns before r rule → RuleSoFar ns after r rule
 rule_later ns before after r rule x kept h =
     let parameters = length ns.parameters in
     let places = length (guard_names ns) in
@@ -63,7 +73,8 @@ rule_later ns before after r rule x kept h =
       };
     }
 
-guards_after_push : (parameters : ℕ) (names : List (List ℕ)) (g : Guards) (rules : List PlainRule) (r : PlainRule) → guards_after parameters names g (rules ++ r ∷ []) ≡ with_guards parameters (guards_after parameters names g rules) (rows_of names r.guards)
+guards_after_push : (parameters : ℕ) (names : List (List ℕ)) (g : Guards) (rules : List PlainRule) (r : PlainRule)
+    → guards_after parameters names g (rules ++ r ∷ []) ≡ with_guards parameters (guards_after parameters names g rules) (rows_of names r.guards)
 guards_after_push parameters names g [] r = refl
 guards_after_push parameters names g (q ∷ rules) r = guards_after_push parameters names (with_guards parameters g (rows_of names q.guards)) rules r
 
@@ -96,12 +107,15 @@ no_guards_kept ns guards r f =
       fall_kind = subst (λ (zs : List Row). AllByRecursion (λ (q : Linear). falls parameters q ≡ true) (map (linear_of places) zs)) (sym f) tt;
     }
 
-pub rules_begin : (ns : Names) (all left : List TreeRule) (names : List (List ℕ)) (guards : GuardList) (rules : List Rule) → left ≡ all → names ≡ [] → guards.rise.items ≡ [] → guards.fall.items ≡ [] → rules ≡ [] → RulesReading ns all left names guards rules
+pub rules_begin : (ns : Names) (all left : List TreeRule) (names : List (List ℕ)) (guards : GuardList) (rules : List Rule) → left ≡ all → names ≡ []
+    → guards.rise.items ≡ [] → guards.fall.items ≡ [] → rules ≡ [] → RulesReading ns all left names guards rules
 rules_begin ns all left names guards rules l n r f e =
     let places = length (guard_names ns) in
-    let none : guards_so_far ns guards ≡ no_guards = guards_same (guards_so_far ns guards) no_guards (ap (map (linear_of places)) r) (ap (map (linear_of places)) f) in
+    let none : guards_so_far ns guards ≡ no_guards = guards_same (guards_so_far ns guards) no_guards (ap (map (linear_of places)) r)
+    (ap (map (linear_of places)) f) in
     record {
-      faults = ap (λ (ms : List (List ℕ)). rules_faults ns ms no_guards all) (sym n) ∙ ap (λ (g : Guards). rules_faults ns names g all) (sym none) ∙ ap (rules_faults ns names (guards_so_far ns guards)) (sym l);
+      faults = ap (λ (ms : List (List ℕ)). rules_faults ns ms no_guards all) (sym n) ∙ ap (λ (g : Guards). rules_faults ns names g all) (sym none)
+          ∙ ap (rules_faults ns names (guards_so_far ns guards)) (sym l);
       kept = no_guards_kept ns guards r f;
       done = [];
       split = ap (map plain_rule) (sym l);
@@ -112,7 +126,8 @@ rules_begin ns all left names guards rules l n r f e =
     }
 
 -- the guards of a rule without errors have none
-guards_fine : (ns : Names) (names : List (List ℕ)) (g : Guards) (r : TreeRule) → rule_faults ns names g r ≡ [] → guards_faults (length ns.parameters) (in_guards ns) g r.guards ≡ []
+guards_fine : (ns : Names) (names : List (List ℕ)) (g : Guards) (r : TreeRule) → rule_faults ns names g r ≡ []
+    → guards_faults (length ns.parameters) (in_guards ns) g r.guards ≡ []
 guards_fine ns names g r none =
     let name = declared_faults names r.name in
     let from = used_faults (all_names ns) ns.locations r.from in
@@ -121,35 +136,45 @@ guards_fine ns names g r none =
     let do_ = updates_faults ns [] r.updates in
     empty_left when do_ (empty_right to (when ++ do_) (empty_right from (to ++ (when ++ do_)) (empty_right name (from ++ (to ++ (when ++ do_))) none)))
 
-pub rules_more : (ns : Names) (all left : List TreeRule) (r : TreeRule) (names names_after : List (List ℕ)) (before after : GuardList) (rules : List Rule) (rule : Rule) → RulesReading ns all (r ∷ left) names before rules
-    → rule_faults ns names (guards_so_far ns before) r ≡ [] → RuleRead ns names before r names_after after rule → RulesReading ns all left names_after after (rules ++ rule ∷ [])
+pub rules_more : (ns : Names) (all left : List TreeRule) (r : TreeRule) (names names_after : List (List ℕ)) (before after : GuardList) (rules : List Rule)
+    (rule : Rule) → RulesReading ns all (r ∷ left) names before rules
+    → rule_faults ns names (guards_so_far ns before) r ≡ [] → RuleRead ns names before r names_after after rule
+    → RulesReading ns all left names_after after (rules ++ rule ∷ [])
 rules_more ns all left r names names_after before after rules rule reading none read =
     let parameters = length ns.parameters in
     let g = guards_so_far ns before in
     let k = guards_so_far ns after in
-    let x : Extends g k = subst (λ (z : Guards). Extends g z) (sym read.guards) (extends_guards parameters g (rows_of (guard_names ns) (plain_rule r).guards)) in
-    let old = pairwise_with (RuleSoFar ns before) (RuleSoFar ns after) reading.done rules (λ q z h. rule_later ns before after q z x read.kept h) reading.so_far in
+    let x : Extends g k = subst (λ (z : Guards). Extends g z) (sym read.guards) (extends_guards parameters g (rows_of (guard_names ns) (plain_rule r).guards))
+    in
+    let old = pairwise_with (RuleSoFar ns before) (RuleSoFar ns after) reading.done rules (λ q z h. rule_later ns before after q z x read.kept h) reading.so_far
+    in
     let declared = empty_left (declared_faults names r.name) _ none in
     record {
       faults = reading.faults
           ∙ empty_before (rule_faults ns names g r) (rules_faults ns (names ++ r.name.name ∷ []) (guards_with parameters (in_guards ns) g r.guards) left) none
-          ∙ ap (λ (z : Guards). rules_faults ns (names ++ r.name.name ∷ []) z left) (guards_with_rows parameters (in_guards ns) g r.guards (guards_fine ns names g r none) ∙ sym read.guards)
+          ∙ ap (λ (z : Guards). rules_faults ns (names ++ r.name.name ∷ []) z left)
+          (guards_with_rows parameters (in_guards ns) g r.guards (guards_fine ns names g r none) ∙ sym read.guards)
           ∙ ap (λ (ms : List (List ℕ)). rules_faults ns ms k left) (sym read.declared);
       kept = read.kept;
       done = reading.done ++ plain_rule r ∷ [];
       split = reading.split ∙ sym (append_assoc reading.done (plain_rule r ∷ []) (map plain_rule left));
-      guards_are = read.guards ∙ ap (λ (z : Guards). with_guards parameters z (rows_of (guard_names ns) (plain_rule r).guards)) reading.guards_are ∙ sym (guards_after_push parameters (guard_names ns) no_guards reading.done (plain_rule r));
+      guards_are = read.guards ∙ ap (λ (z : Guards). with_guards parameters z (rows_of (guard_names ns) (plain_rule r).guards)) reading.guards_are
+          ∙ sym (guards_after_push parameters (guard_names ns) no_guards reading.done (plain_rule r));
       so_far = pairwise_push (RuleSoFar ns after) reading.done rules (plain_rule r) rule old read.so_far;
-      names_are = read.declared ∙ ap (λ (ms : List (List ℕ)). ms ++ r.name.name ∷ []) reading.names_are ∙ ap (λ (n : List ℕ). map name_of rules ++ n ∷ []) (sym read.so_far.means.name) ∙ sym (map_push name_of rules rule);
-      distinct = subst (λ (ms : List (List ℕ)). Distinct ms) (sym read.declared) (distinct_push names r.name.name reading.distinct (λ i e. true≢false (sym (has_name-at names r.name.name i e) ∙ declared-new names r.name declared)));
+      names_are = read.declared ∙ ap (λ (ms : List (List ℕ)). ms ++ r.name.name ∷ []) reading.names_are
+          ∙ ap (λ (n : List ℕ). map name_of rules ++ n ∷ []) (sym read.so_far.means.name) ∙ sym (map_push name_of rules rule);
+      distinct = subst (λ (ms : List (List ℕ)). Distinct ms) (sym read.declared)
+          (distinct_push names r.name.name reading.distinct (λ i e. true≢false (sym (has_name-at names r.name.name i e) ∙ declared-new names r.name declared)));
     }
 
-pub rules_stop : (ns : Names) (all left : List TreeRule) (r : TreeRule) (names : List (List ℕ)) (guards : GuardList) (rules : List Rule) (e : FileFault) → RulesReading ns all (r ∷ left) names guards rules
+pub rules_stop : (ns : Names) (all left : List TreeRule) (r : TreeRule) (names : List (List ℕ)) (guards : GuardList) (rules : List Rule) (e : FileFault)
+    → RulesReading ns all (r ∷ left) names guards rules
     → FirstOrMemory (rule_faults ns names (guards_so_far ns guards) r) e → FirstOrMemory (rules_faults ns [] no_guards all) e
 rules_stop ns all left r names guards rules e reading h =
     subst (λ (fs : List FileFault). FirstOrMemory fs e) (sym reading.faults) (append-left-first (rule_faults ns names (guards_so_far ns guards) r) _ e h)
 
-pub rules_end : (ns : Names) (all left : List TreeRule) (names : List (List ℕ)) (guards : GuardList) (rules : List Rule) → left ≡ [] → RulesReading ns all left names guards rules
+pub rules_end : (ns : Names) (all left : List TreeRule) (names : List (List ℕ)) (guards : GuardList) (rules : List Rule) → left ≡ []
+    → RulesReading ns all left names guards rules
     → (rules_faults ns [] no_guards all ≡ []) × ResolvedRules ns (map plain_rule all) guards.rise.items guards.fall.items rules
 rules_end ns all left names guards rules none reading =
     let r = subst (λ (rs : List TreeRule). RulesReading ns all rs names guards rules) none reading in
@@ -168,9 +193,11 @@ rules_end ns all left names guards rules none reading =
           rise_distinct = distinct_unmap (linear_of places) guards.rise.items r.kept.rise_distinct;
           fall_distinct = distinct_unmap (linear_of places) guards.fall.items r.kept.fall_distinct;
         });
-        means = subst (λ (z : Guards). Pairwise (MeansRule ns z) (map plain_rule all) rules) (sym same) (subst (λ (rs : List PlainRule). Pairwise (MeansRule ns (guards_so_far ns guards)) rs rules) (sym plain)
+        means = subst (λ (z : Guards). Pairwise (MeansRule ns z) (map plain_rule all) rules) (sym same)
+            (subst (λ (rs : List PlainRule). Pairwise (MeansRule ns (guards_so_far ns guards)) rs rules) (sym plain)
             (pairwise_with (RuleSoFar ns guards) (MeansRule ns (guards_so_far ns guards)) r.done rules (λ q z h. h.means) r.so_far));
-        within = pairwise_each (RuleSoFar ns guards) (RuleWithin (length ns.shared) (length ns.locations) (length guards.rise.items) (length guards.fall.items)) r.done rules (λ q z h. h.within) r.so_far;
+        within = pairwise_each (RuleSoFar ns guards) (RuleWithin (length ns.shared) (length ns.locations) (length guards.rise.items) (length guards.fall.items))
+            r.done rules (λ q z h. h.within) r.so_far;
         distinct = subst (λ (ms : List (List ℕ)). Distinct ms) r.names_are r.distinct;
       },
     )

@@ -1,5 +1,11 @@
 -- Trees that are the same but for where their sums' lists lie in memory have the same errors.
-use Rattle.ta_meaning.proofs.Common.{◌≡◌, ℕ, List, [], ◌∷◌, ◌++◌, length, map, refl, ap, ◌∙◌, Terms, plain_tree, TreeSum, TreeComparison, TreeRule, TreeEvent, TreePattern, Tree, FileFault, Names, guard_names, all_names, names_of, plain_names, Pairwise, comparison_rows, any_large, is_large_linear, linear_sum, Guards, no_guards, with_guards, is_no_threshold, is_one_more, Scope, WithFaults, where_, else_, is_long, declared_faults, declarations_faults, used_faults, listed_faults, sum_faults, comparison_faults, condition_faults, guard_faults, guards_faults, guards_with, in_parameters, in_guards, in_conditions, updates_faults, rule_faults, rules_faults, event_faults, events_faults, pattern_faults, patterns_faults, location_spelled, any_initial, processes_faults, names_faults, meaning_faults, counted, guards_then, not}
+use Rattle.ta_meaning.proofs.Common.{◌≡◌, ℕ, List, [], ◌∷◌, ◌++◌, length, map, refl, ap, ◌∙◌, Terms, plain_tree, TreeSum, TreeComparison, TreeRule, TreeEvent}
+use Rattle.ta_meaning.proofs.Common.{TreePattern, Tree, FileFault, Names, guard_names, all_names, names_of, plain_names, Pairwise, comparison_rows, any_large}
+use Rattle.ta_meaning.proofs.Common.{is_large_linear, linear_sum, Guards, no_guards, with_guards, is_no_threshold, is_one_more, Scope, WithFaults, where_}
+use Rattle.ta_meaning.proofs.Common.{else_, is_long, declared_faults, declarations_faults, used_faults, listed_faults, sum_faults, comparison_faults}
+use Rattle.ta_meaning.proofs.Common.{condition_faults, guard_faults, guards_faults, guards_with, in_parameters, in_guards, in_conditions, updates_faults}
+use Rattle.ta_meaning.proofs.Common.{rule_faults, rules_faults, event_faults, events_faults, pattern_faults, patterns_faults, location_spelled, any_initial}
+use Rattle.ta_meaning.proofs.Common.{processes_faults, names_faults, meaning_faults, counted, guards_then, not}
 use Rattle.ta_syntax.specs.declared.fault.FileFault.TheVariants as fault
 use Rattle.ta_meaning.proofs.OneSum.{SameSum, same_sum-plain, same_sum-judged}
 use Rattle.ta_meaning.proofs.OnePart.{SameComparison, same_comparison-plain, SameRule, SameEvent, SamePattern, SameParts}
@@ -10,7 +16,8 @@ sum-faults : (sc : Scope) (s r : TreeSum) → SameSum s r → sum_faults sc s �
 sum-faults sc s r h = ap (λ (j : WithFaults Terms). j.faults) (same_sum-judged sc s r h)
 
 comparison-faults : (sc : Scope) (a b : TreeComparison) → SameComparison a b → comparison_faults sc a ≡ comparison_faults sc b
-comparison-faults sc a b h = λ i. else_ (sum-faults sc a.left b.left h.left i ++ sum-faults sc a.right b.right h.right i) (where_ (any_large (comparison_rows sc.allowed (same_comparison-plain a b h i))) (fault.TooLarge (h.at i)))
+comparison-faults sc a b h = λ i. else_ (sum-faults sc a.left b.left h.left i ++ sum-faults sc a.right b.right h.right i)
+    (where_ (any_large (comparison_rows sc.allowed (same_comparison-plain a b h i))) (fault.TooLarge (h.at i)))
 
 condition-faults : (sc : Scope) (cs ds : List TreeComparison) → Pairwise SameComparison cs ds → condition_faults sc cs ≡ condition_faults sc ds
 condition-faults sc [] [] h = refl
@@ -29,7 +36,8 @@ guard-faults p sc g a b h =
 guards-then : (p : ℕ) (sc : Scope) (g : Guards) (a b : TreeComparison) → SameComparison a b → guards_then p sc g a ≡ guards_then p sc g b
 guards-then p sc g a b h = λ i. counted (guard-faults p sc g a b h i) g (with_guards p g (comparison_rows sc.allowed (same_comparison-plain a b h i)))
 
-guards-faults : (p : ℕ) (sc : Scope) (g : Guards) (cs ds : List TreeComparison) → Pairwise SameComparison cs ds → guards_faults p sc g cs ≡ guards_faults p sc g ds
+guards-faults : (p : ℕ) (sc : Scope) (g : Guards) (cs ds : List TreeComparison) → Pairwise SameComparison cs ds
+    → guards_faults p sc g cs ≡ guards_faults p sc g ds
 guards-faults p sc g [] [] h = refl
 guards-faults p sc g [] (d ∷ ds) h = absurd h
 guards-faults p sc g (c ∷ cs) [] h = absurd h
@@ -50,7 +58,8 @@ rule-faults ns before g a b h =
     ++ (used_faults (all_names ns) ns.locations (h.to i)
     ++ (guards-faults (length ns.parameters) (in_guards ns) g a.guards b.guards h.guards i ++ updates_faults ns [] (h.updates i))))
 
-rules-faults : (ns : Names) (before : List (List ℕ)) (g : Guards) (rs qs : List TreeRule) → Pairwise SameRule rs qs → rules_faults ns before g rs ≡ rules_faults ns before g qs
+rules-faults : (ns : Names) (before : List (List ℕ)) (g : Guards) (rs qs : List TreeRule) → Pairwise SameRule rs qs
+    → rules_faults ns before g rs ≡ rules_faults ns before g qs
 rules-faults ns before g [] [] h = refl
 rules-faults ns before g [] (q ∷ qs) h = absurd h
 rules-faults ns before g (r ∷ rs) [] h = absurd h
@@ -61,9 +70,11 @@ rules-faults ns before g (r ∷ rs) (q ∷ qs) h =
 -- ---- patterns
 
 event-faults : (ns : Names) (before : List (List ℕ)) (a b : TreeEvent) → SameEvent a b → event_faults ns before a ≡ event_faults ns before b
-event-faults ns before a b h = λ i. declared_faults before (h.name i) ++ (listed_faults before before [] (h.after i) ++ condition-faults (in_conditions ns) a.condition b.condition h.condition i)
+event-faults ns before a b h = λ i. declared_faults before (h.name i)
+    ++ (listed_faults before before [] (h.after i) ++ condition-faults (in_conditions ns) a.condition b.condition h.condition i)
 
-events-faults : (ns : Names) (before : List (List ℕ)) (es fs : List TreeEvent) → Pairwise SameEvent es fs → events_faults ns before es ≡ events_faults ns before fs
+events-faults : (ns : Names) (before : List (List ℕ)) (es fs : List TreeEvent) → Pairwise SameEvent es fs
+    → events_faults ns before es ≡ events_faults ns before fs
 events-faults ns before [] [] h = refl
 events-faults ns before [] (f ∷ fs) h = absurd h
 events-faults ns before (e ∷ es) [] h = absurd h
@@ -75,7 +86,8 @@ pattern-faults ns before a b h =
     ++ (condition-faults (in_conditions ns) a.start b.start h.start i
     ++ (listed_faults (all_names ns) ns.locations [] (h.empty i) ++ events-faults ns [] a.events b.events h.events i))
 
-patterns-faults : (ns : Names) (before : List (List ℕ)) (ps qs : List TreePattern) → Pairwise SamePattern ps qs → patterns_faults ns before ps ≡ patterns_faults ns before qs
+patterns-faults : (ns : Names) (before : List (List ℕ)) (ps qs : List TreePattern) → Pairwise SamePattern ps qs
+    → patterns_faults ns before ps ≡ patterns_faults ns before qs
 patterns-faults ns before [] [] h = refl
 patterns-faults ns before [] (q ∷ qs) h = absurd h
 patterns-faults ns before (p ∷ ps) [] h = absurd h
@@ -88,20 +100,24 @@ names-faults ns t u h =
     λ i. where_ (is_long (h.name i)) (fault.TooLarge (h.name i).at)
     ++ (declarations_faults [] (h.parameters i)
     ++ (declarations_faults ns.parameters (h.shared i)
-    ++ (where_ (not (any_initial (h.locations i))) (fault.NoInitial (h.locations_at i)) ++ declarations_faults (guard_names ns) (map location_spelled (h.locations i)))))
+    ++ (where_ (not (any_initial (h.locations i))) (fault.NoInitial (h.locations_at i))
+    ++ declarations_faults (guard_names ns) (map location_spelled (h.locations i)))))
 
 processes-faults : (ns : Names) (t u : Tree) → SameParts t u → processes_faults ns t ≡ processes_faults ns u
 processes-faults ns t u h =
-    λ i. else_ (sum-faults (in_parameters ns) t.processes u.processes h.processes i) (where_ (is_large_linear (linear_sum ns.parameters (same_sum-plain t.processes u.processes h.processes i))) (fault.TooLarge (h.processes_at i)))
+    λ i. else_ (sum-faults (in_parameters ns) t.processes u.processes h.processes i)
+    (where_ (is_large_linear (linear_sum ns.parameters (same_sum-plain t.processes u.processes h.processes i))) (fault.TooLarge (h.processes_at i)))
 
 abbrev meaning-by : Names → Tree → List FileFault
-meaning-by ns t = names_faults ns t ++ (processes_faults ns t ++ (condition_faults (in_parameters ns) t.resilience ++ (rules_faults ns [] no_guards t.rules ++ patterns_faults ns [] t.patterns)))
+meaning-by ns t = names_faults ns t ++
+    (processes_faults ns t ++ (condition_faults (in_parameters ns) t.resilience ++ (rules_faults ns [] no_guards t.rules ++ patterns_faults ns [] t.patterns)))
 
 meaning-same : (ns : Names) (t u : Tree) → SameParts t u → meaning-by ns t ≡ meaning-by ns u
 meaning-same ns t u h =
     λ i. names-faults ns t u h i
     ++ (processes-faults ns t u h i
-    ++ (condition-faults (in_parameters ns) t.resilience u.resilience h.resilience i ++ (rules-faults ns [] no_guards t.rules u.rules h.rules i ++ patterns-faults ns [] t.patterns u.patterns h.patterns i)))
+    ++ (condition-faults (in_parameters ns) t.resilience u.resilience h.resilience i
+    ++ (rules-faults ns [] no_guards t.rules u.rules h.rules i ++ patterns-faults ns [] t.patterns u.patterns h.patterns i)))
 
 pub meaning-faults : (t u : Tree) → plain_tree t ≡ plain_tree u → SameParts t u → meaning_faults t ≡ meaning_faults u
 meaning-faults t u e h = meaning-same (names_of t) t u h ∙ ap (λ (ns : Names). meaning-by ns u) (ap plain_names e)

@@ -1,5 +1,13 @@
 -- What is read off a sum as plain data is what the program's sum says.
-use Rattle.ta_meaning.proofs.Common.{◌≡◌, ℕ, List, [], ◌∷◌, ◌++◌, Option, Some, None, map, refl, sym, ap, subst, ◌∙◌, Terms, Term, Factor, done, term, times, alone, nested, plain_sum, plain_term, plain_factor, plain_terms, factor_layer, sum_layer, term_layer, Offsets, at_first, leading, unplaced_sign, more_of, signed_sum, factor_stated, term_layer_stated, sum_layer_stated, sum_stated, sum_term_stated, sum_factor_stated, Sign, Digits, TreeSum, TreeTerm, TreeFactor, TreeFactor-F, TreeSum-F, TreeTerm-F, Named, Nested, roll-TreeFactor, roll-TreeSum, roll-TreeTerm, fold-TreeTerm, fold-TreeFactor, fold-roll-TreeSum, fold-roll-TreeTerm, fold-roll-TreeFactor, map-TreeFactor, map-TreeTerm, ind-TreeSum, SeenTerms, SeenTerm, SeenFactor, seen_none, seen_more, seen_number, seen_times, seen_alone, seen_blank, seen_named, seen_nested, seen_list, factor_seen, sum_seen, term_seen, seen_sum, plain_of_terms, plain_of_term, plain_of_factor, Scope, WithFaults, judged_terms, factor_judged, sum_judged, term_judged, judged_term, judged_factor, judged_sum}
+use Rattle.ta_meaning.proofs.Common.{◌≡◌, ℕ, List, [], ◌∷◌, ◌++◌, Option, Some, None, map, refl, sym, ap, subst, ◌∙◌, Terms, Term, Factor, done, term, times}
+use Rattle.ta_meaning.proofs.Common.{alone, nested, plain_sum, plain_term, plain_factor, plain_terms, factor_layer, sum_layer, term_layer, Offsets, at_first}
+use Rattle.ta_meaning.proofs.Common.{leading, unplaced_sign, more_of, signed_sum, factor_stated, term_layer_stated, sum_layer_stated, sum_stated}
+use Rattle.ta_meaning.proofs.Common.{sum_term_stated, sum_factor_stated, Sign, Digits, TreeSum, TreeTerm, TreeFactor, TreeFactor-F, TreeSum-F, TreeTerm-F}
+use Rattle.ta_meaning.proofs.Common.{Named, Nested, roll-TreeFactor, roll-TreeSum, roll-TreeTerm, fold-TreeTerm, fold-TreeFactor, fold-roll-TreeSum}
+use Rattle.ta_meaning.proofs.Common.{fold-roll-TreeTerm, fold-roll-TreeFactor, map-TreeFactor, map-TreeTerm, ind-TreeSum, SeenTerms, SeenTerm, SeenFactor}
+use Rattle.ta_meaning.proofs.Common.{seen_none, seen_more, seen_number, seen_times, seen_alone, seen_blank, seen_named, seen_nested, seen_list, factor_seen}
+use Rattle.ta_meaning.proofs.Common.{sum_seen, term_seen, seen_sum, plain_of_terms, plain_of_term, plain_of_factor, Scope, WithFaults, judged_terms}
+use Rattle.ta_meaning.proofs.Common.{factor_judged, sum_judged, term_judged, judged_term, judged_factor, judged_sum}
 use Rattle.ta_syntax.proofs.SumSteps.{pairs, stated_sum_roll, plain_sum_roll}
 
 abbrev pub seen_term : TreeTerm → SeenTerm
@@ -35,7 +43,8 @@ abbrev mutual
 abbrev mutual
   pub judged_of_terms : Scope → SeenTerms → WithFaults Terms
   judged_of_terms sc seen_none = record { plain = done; faults = [] }
-  judged_of_terms sc (seen_more s t ts) = record { plain = term s (judged_of_term sc t).plain (judged_of_terms sc ts).plain; faults = (judged_of_term sc t).faults ++ (judged_of_terms sc ts).faults }
+  judged_of_terms sc (seen_more s t ts) = record
+      { plain = term s (judged_of_term sc t).plain (judged_of_terms sc ts).plain; faults = (judged_of_term sc t).faults ++ (judged_of_terms sc ts).faults }
 
   pub judged_of_term : Scope → SeenTerm → WithFaults Term
   judged_of_term sc (seen_number at d) = term_judged sc (record { at = at; factor = Some d; body = None })
@@ -89,44 +98,62 @@ seen_sum_roll x = fold-roll-TreeSum SeenFactor SeenTerms SeenTerm factor_seen su
 
 terms_plain : (xs : List (Sign × TreeTerm)) → AllSeen xs → plain_terms xs ≡ plain_of_terms (seen_terms xs)
 terms_plain [] h = refl
-terms_plain (x ∷ xs) h = ap (λ (t : Term). term x.0 t (plain_terms xs)) h.0.plain ∙ ap (λ (ts : Terms). term x.0 (plain_of_term (seen_term x.1)) ts) (terms_plain xs h.1)
+terms_plain (x ∷ xs) h = ap (λ (t : Term). term x.0 t (plain_terms xs)) h.0.plain
+    ∙ ap (λ (ts : Terms). term x.0 (plain_of_term (seen_term x.1)) ts) (terms_plain xs h.1)
 
 more_stated : (xs : List (Sign × TreeTerm)) → AllSeen xs → more_of unplaced_sign (pairs sum_term_stated xs) ≡ offsets_of_more (seen_terms xs)
 more_stated [] h = refl
-more_stated (x ∷ xs) h = ap (λ (t : List Offsets). [] ∷ (t ++ more_of unplaced_sign (pairs sum_term_stated xs))) h.0.stated ∙ ap (λ (ts : List Offsets). [] ∷ (offsets_of_term (seen_term x.1) ++ ts)) (more_stated xs h.1)
+more_stated (x ∷ xs) h = ap (λ (t : List Offsets). [] ∷ (t ++ more_of unplaced_sign (pairs sum_term_stated xs))) h.0.stated
+    ∙ ap (λ (ts : List Offsets). [] ∷ (offsets_of_term (seen_term x.1) ++ ts)) (more_stated xs h.1)
 
 terms_stated : (xs : List (Sign × TreeTerm)) → AllSeen xs → signed_sum unplaced_sign (pairs sum_term_stated xs) ≡ offsets_of_sum (seen_terms xs)
 terms_stated [] h = refl
-terms_stated (x ∷ xs) h = ap (λ (t : List Offsets). leading unplaced_sign x.0 ++ (t ++ more_of unplaced_sign (pairs sum_term_stated xs))) h.0.stated ∙ ap (λ (ts : List Offsets). leading unplaced_sign x.0 ++ (offsets_of_term (seen_term x.1) ++ ts)) (more_stated xs h.1)
+terms_stated (x ∷ xs) h = ap (λ (t : List Offsets). leading unplaced_sign x.0 ++ (t ++ more_of unplaced_sign (pairs sum_term_stated xs))) h.0.stated
+    ∙ ap (λ (ts : List Offsets). leading unplaced_sign x.0 ++ (offsets_of_term (seen_term x.1) ++ ts)) (more_stated xs h.1)
 
 abbrev with_judged : Sign → WithFaults Term → WithFaults Terms → WithFaults Terms
 with_judged s t ts = record { plain = term s t.plain ts.plain; faults = t.faults ++ ts.faults }
 
-terms_judged : (sc : Scope) (xs : List (Sign × TreeTerm)) → AllSeen xs → judged_terms (map (λ x. (x.0, judged_term sc x.1)) xs) ≡ judged_of_terms sc (seen_terms xs)
+terms_judged : (sc : Scope) (xs : List (Sign × TreeTerm)) → AllSeen xs
+    → judged_terms (map (λ x. (x.0, judged_term sc x.1)) xs) ≡ judged_of_terms sc (seen_terms xs)
 terms_judged sc [] h = refl
-terms_judged sc (x ∷ xs) h = ap (λ (t : WithFaults Term). with_judged x.0 t (judged_terms (map (λ x. (x.0, judged_term sc x.1)) xs))) (h.0.judged sc) ∙ ap (λ (ts : WithFaults Terms). with_judged x.0 (judged_of_term sc (seen_term x.1)) ts) (terms_judged sc xs h.1)
+terms_judged sc (x ∷ xs) h = ap (λ (t : WithFaults Term). with_judged x.0 t (judged_terms (map (λ x. (x.0, judged_term sc x.1)) xs))) (h.0.judged sc)
+    ∙ ap (λ (ts : WithFaults Terms). with_judged x.0 (judged_of_term sc (seen_term x.1)) ts) (terms_judged sc xs h.1)
 
 sum_step : (x : TreeSum-F TreeFactor TreeSum TreeTerm) → AllSeen x.terms.items → SeenSum (roll-TreeSum x)
 sum_step x h = record {
   plain = plain_sum_roll x ∙ terms_plain x.terms.items h ∙ ap plain_of_terms (sym (seen_sum_roll x));
   stated = stated_sum_roll x ∙ terms_stated x.terms.items h ∙ ap offsets_of_sum (sym (seen_sum_roll x));
-  judged = λ sc. fold-roll-TreeSum (WithFaults Factor) (WithFaults Terms) (WithFaults Term) (factor_judged sc) (sum_judged sc) (term_judged sc) x ∙ terms_judged sc x.terms.items h ∙ ap (judged_of_terms sc) (sym (seen_sum_roll x));
+  judged = λ sc. fold-roll-TreeSum (WithFaults Factor) (WithFaults Terms) (WithFaults Term) (factor_judged sc) (sum_judged sc) (term_judged sc) x
+      ∙ terms_judged sc x.terms.items h ∙ ap (judged_of_terms sc) (sym (seen_sum_roll x));
 }
 
 -- a term
-term_from : (t : TreeTerm) (s : SeenTerm) → seen_term t ≡ s → plain_term t ≡ plain_of_term s → sum_term_stated t ≡ offsets_of_term s → ((sc : Scope) → judged_term sc t ≡ judged_of_term sc s) → SeenTermOf t
-term_from t s e p o j = record { plain = p ∙ ap plain_of_term (sym e); stated = o ∙ ap offsets_of_term (sym e); judged = λ sc. j sc ∙ ap (judged_of_term sc) (sym e) }
+term_from : (t : TreeTerm) (s : SeenTerm) → seen_term t ≡ s → plain_term t ≡ plain_of_term s → sum_term_stated t ≡ offsets_of_term s
+    → ((sc : Scope) → judged_term sc t ≡ judged_of_term sc s) → SeenTermOf t
+term_from t s e p o j = record {
+  plain = p ∙ ap plain_of_term (sym e);
+  stated = o ∙ ap offsets_of_term (sym e);
+  judged = λ sc. j sc
+      ∙ ap (judged_of_term sc) (sym e);
+}
 
-seen_roll : (x : TreeTerm-F TreeFactor TreeSum TreeTerm) → seen_term (roll-TreeTerm x) ≡ term_seen (map-TreeTerm TreeFactor TreeSum TreeTerm SeenFactor SeenTerms SeenTerm seen_factor seen_sum seen_term x)
+seen_roll : (x : TreeTerm-F TreeFactor TreeSum TreeTerm)
+    → seen_term (roll-TreeTerm x) ≡ term_seen (map-TreeTerm TreeFactor TreeSum TreeTerm SeenFactor SeenTerms SeenTerm seen_factor seen_sum seen_term x)
 seen_roll x = fold-roll-TreeTerm SeenFactor SeenTerms SeenTerm factor_seen sum_seen term_seen x
 
-plain_roll : (x : TreeTerm-F TreeFactor TreeSum TreeTerm) → plain_term (roll-TreeTerm x) ≡ term_layer (map-TreeTerm TreeFactor TreeSum TreeTerm Factor Terms Term plain_factor plain_sum plain_term x)
+plain_roll : (x : TreeTerm-F TreeFactor TreeSum TreeTerm)
+    → plain_term (roll-TreeTerm x) ≡ term_layer (map-TreeTerm TreeFactor TreeSum TreeTerm Factor Terms Term plain_factor plain_sum plain_term x)
 plain_roll x = fold-roll-TreeTerm Factor Terms Term factor_layer sum_layer term_layer x
 
-stated_roll : (x : TreeTerm-F TreeFactor TreeSum TreeTerm) → sum_term_stated (roll-TreeTerm x) ≡ term_layer_stated (map-TreeTerm TreeFactor TreeSum TreeTerm (List Offsets) (List Offsets) (List Offsets) sum_factor_stated sum_stated sum_term_stated x)
+stated_roll : (x : TreeTerm-F TreeFactor TreeSum TreeTerm)
+    → sum_term_stated (roll-TreeTerm x) ≡ term_layer_stated
+    (map-TreeTerm TreeFactor TreeSum TreeTerm (List Offsets) (List Offsets) (List Offsets) sum_factor_stated sum_stated sum_term_stated x)
 stated_roll x = fold-roll-TreeTerm (List Offsets) (List Offsets) (List Offsets) factor_stated sum_layer_stated term_layer_stated x
 
-judged_roll : (sc : Scope) (x : TreeTerm-F TreeFactor TreeSum TreeTerm) → judged_term sc (roll-TreeTerm x) ≡ term_judged sc (map-TreeTerm TreeFactor TreeSum TreeTerm (WithFaults Factor) (WithFaults Terms) (WithFaults Term) (judged_factor sc) (judged_sum sc) (judged_term sc) x)
+judged_roll : (sc : Scope) (x : TreeTerm-F TreeFactor TreeSum TreeTerm)
+    → judged_term sc (roll-TreeTerm x) ≡ term_judged sc
+    (map-TreeTerm TreeFactor TreeSum TreeTerm (WithFaults Factor) (WithFaults Terms) (WithFaults Term) (judged_factor sc) (judged_sum sc) (judged_term sc) x)
 judged_roll sc x = fold-roll-TreeTerm (WithFaults Factor) (WithFaults Terms) (WithFaults Term) (factor_judged sc) (sum_judged sc) (term_judged sc) x
 
 abbrev term_parts : ℕ → Option Digits → Option TreeFactor → TreeTerm-F TreeFactor TreeSum TreeTerm
@@ -156,8 +183,10 @@ term_step at (Some d) (Some f) h =
     (λ sc. judged_roll sc x ∙ ap (λ (z : WithFaults Factor). term_judged sc (judged_parts at (Some d) (Some z))) (h.judged sc))
 
 -- a factor
-factor_from : (f : TreeFactor) (s : SeenFactor) → seen_factor f ≡ s → plain_factor f ≡ plain_of_factor s → sum_factor_stated f ≡ offsets_of_factor s → ((sc : Scope) → judged_factor sc f ≡ judged_of_factor sc s) → SeenFactorOf f
-factor_from f s e p o j = record { plain = p ∙ ap plain_of_factor (sym e); stated = o ∙ ap offsets_of_factor (sym e); judged = λ sc. j sc ∙ ap (judged_of_factor sc) (sym e) }
+factor_from : (f : TreeFactor) (s : SeenFactor) → seen_factor f ≡ s → plain_factor f ≡ plain_of_factor s → sum_factor_stated f ≡ offsets_of_factor s
+    → ((sc : Scope) → judged_factor sc f ≡ judged_of_factor sc s) → SeenFactorOf f
+factor_from f s e p o j = record
+    { plain = p ∙ ap plain_of_factor (sym e); stated = o ∙ ap offsets_of_factor (sym e); judged = λ sc. j sc ∙ ap (judged_of_factor sc) (sym e) }
 
 factor_step : (x : TreeFactor-F TreeFactor TreeSum TreeTerm) → FactorPart x → SeenFactorOf (roll-TreeFactor x)
 factor_step (Named n) h =
@@ -170,11 +199,15 @@ factor_step (Nested s) h =
     factor_from (roll-TreeFactor (Nested s)) (seen_nested (seen_sum s))
     (fold-roll-TreeFactor SeenFactor SeenTerms SeenTerm factor_seen sum_seen term_seen (Nested s))
     (fold-roll-TreeFactor Factor Terms Term factor_layer sum_layer term_layer (Nested s) ∙ ap (λ (z : Terms). nested z) h.plain)
-    (fold-roll-TreeFactor (List Offsets) (List Offsets) (List Offsets) factor_stated sum_layer_stated term_layer_stated (Nested s) ∙ ap (λ (z : List Offsets). [] ∷ (z ++ [] ∷ [])) h.stated)
-    (λ sc. fold-roll-TreeFactor (WithFaults Factor) (WithFaults Terms) (WithFaults Term) (factor_judged sc) (sum_judged sc) (term_judged sc) (Nested s) ∙ ap (λ (z : WithFaults Terms). factor_judged sc (Nested z)) (h.judged sc))
+    (fold-roll-TreeFactor (List Offsets) (List Offsets) (List Offsets) factor_stated sum_layer_stated term_layer_stated (Nested s)
+    ∙ ap (λ (z : List Offsets). [] ∷ (z ++ [] ∷ [])) h.stated)
+    (λ sc. fold-roll-TreeFactor (WithFaults Factor) (WithFaults Terms) (WithFaults Term) (factor_judged sc) (sum_judged sc) (term_judged sc) (Nested s)
+    ∙ ap (λ (z : WithFaults Terms). factor_judged sc (Nested z)) (h.judged sc))
 
 -- ---- every sum
-factor_part : (y : TreeFactor-F ((f : TreeFactor) × SeenFactorOf f) ((s : TreeSum) × SeenSum s) ((t : TreeTerm) × SeenTermOf t)) → FactorPart (map-TreeFactor ((f : TreeFactor) × SeenFactorOf f) ((s : TreeSum) × SeenSum s) ((t : TreeTerm) × SeenTermOf t) TreeFactor TreeSum TreeTerm (λ e. e.0) (λ e. e.0) (λ e. e.0) y)
+factor_part : (y : TreeFactor-F ((f : TreeFactor) × SeenFactorOf f) ((s : TreeSum) × SeenSum s) ((t : TreeTerm) × SeenTermOf t))
+    → FactorPart (map-TreeFactor ((f : TreeFactor) × SeenFactorOf f) ((s : TreeSum) × SeenSum s) ((t : TreeTerm) × SeenTermOf t) TreeFactor TreeSum TreeTerm
+    (λ e. e.0) (λ e. e.0) (λ e. e.0) y)
 factor_part (Named n) = tt
 factor_part (Nested s) = s.1
 
@@ -185,7 +218,8 @@ abbrev such_parts : ℕ → Option Digits → Option ((f : TreeFactor) × SeenFa
 such_parts at d b = record { at = at; factor = d; body = b }
 
 abbrev term_of_such : SuchTerm → TreeTerm-F TreeFactor TreeSum TreeTerm
-term_of_such y = map-TreeTerm ((f : TreeFactor) × SeenFactorOf f) ((s : TreeSum) × SeenSum s) ((t : TreeTerm) × SeenTermOf t) TreeFactor TreeSum TreeTerm (λ e. e.0) (λ e. e.0) (λ e. e.0) y
+term_of_such y = map-TreeTerm ((f : TreeFactor) × SeenFactorOf f) ((s : TreeSum) × SeenSum s) ((t : TreeTerm) × SeenTermOf t) TreeFactor TreeSum TreeTerm
+    (λ e. e.0) (λ e. e.0) (λ e. e.0) y
 
 body_part : (at : ℕ) (d : Option Digits) (b : Option ((f : TreeFactor) × SeenFactorOf f)) → BodyPart (term_of_such (such_parts at d b)).body
 body_part at d None = tt

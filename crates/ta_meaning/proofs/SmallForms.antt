@@ -1,5 +1,7 @@
 -- Forms with small numbers: their sums, negatives and multiples.
-use Rattle.ta_meaning.proofs.Common.{◌≡◌, ℕ, ℤ, negsuc, ◌^◌, ◌≤◌, ◌+ℤ◌, ◌*ℤ◌, unsigned_abs, List, [], inl, inr, sym, ap, subst, ◌∙◌, arith, unsigned_abs-mul, mul-le-mul, less_both, less_one, minus_one_times, InRange, coefficient, IsMultiple, MultipleOutOfRange, Form, Sign, Result, Ok, Err, MatchResult, FileFault, FormWithin, IsDifference, IsSignedSum}
+use Rattle.ta_meaning.proofs.Common.{◌≡◌, ℕ, ℤ, negsuc, ◌^◌, ◌≤◌, ◌+ℤ◌, ◌*ℤ◌, unsigned_abs, List, [], inl, inr, sym, ap, subst, ◌∙◌, arith, unsigned_abs-mul}
+use Rattle.ta_meaning.proofs.Common.{mul-le-mul, less_both, less_one, minus_one_times, InRange, coefficient, IsMultiple, MultipleOutOfRange, Form, Sign, Result}
+use Rattle.ta_meaning.proofs.Common.{Ok, Err, MatchResult, FileFault, FormWithin, IsDifference, IsSignedSum}
 use Rattle.ta_linear.specs.Forms.{IsSum}
 use Rattle.ta_syntax.specs.declared.sums.Sign.TheVariants as sign
 use Rattle.ta_syntax.specs.declared.fault.FileFault.TheVariants as fault
@@ -22,13 +24,18 @@ plus_negative s a m b is times = record {
 }
 
 -- a form and the negative of another with a number added
-pub difference_of : (form greater less number shifted negative : Form) (z : ℤ) → IsSum shifted less number → number.constant ≡ z → number.terms ≡ [] → IsMultiple negative shifted (negsuc 0) → IsSum form greater negative → IsDifference form greater less z
+pub difference_of : (form greater less number shifted negative : Form) (z : ℤ) → IsSum shifted less number → number.constant ≡ z → number.terms ≡ []
+    → IsMultiple negative shifted (negsuc 0) → IsSum form greater negative → IsDifference form greater less z
 difference_of form greater less number shifted negative z is_shifted is none is_negative is_form = record {
-  constant = less_both form.constant greater.constant less.constant number.constant shifted.constant negative.constant z is_form.constant is_negative.constant is_shifted.constant is;
-  coefficients = λ x. less_one (coefficient form.terms x) (coefficient greater.terms x) (coefficient less.terms x) (coefficient number.terms x) (coefficient shifted.terms x) (coefficient negative.terms x) (is_form.coefficients x) (is_negative.coefficients x) (is_shifted.coefficients x) (ap (λ (ts : List (ℕ × ℤ)). coefficient ts x) none);
+  constant = less_both form.constant greater.constant less.constant number.constant shifted.constant negative.constant z is_form.constant is_negative.constant
+      is_shifted.constant is;
+  coefficients = λ x. less_one (coefficient form.terms x) (coefficient greater.terms x) (coefficient less.terms x) (coefficient number.terms x)
+      (coefficient shifted.terms x) (coefficient negative.terms x) (is_form.coefficients x) (is_negative.coefficients x) (is_shifted.coefficients x)
+      (ap (λ (ts : List (ℕ × ℤ)). coefficient ts x) none);
 }
 
 -- a form plus the negative of another
-pub minus_signed : (r : Result Form FileFault) (a : Form) (s : Sign) (b m : Form) → s ≡ sign.Minus → IsMultiple m b (negsuc 0) → MatchResult r (λ sum. IsSum sum a m) (λ e. e ≡ fault.Memory) → MatchResult r (λ sum. IsSignedSum sum a s b) (λ e. e ≡ fault.Memory)
+pub minus_signed : (r : Result Form FileFault) (a : Form) (s : Sign) (b m : Form) → s ≡ sign.Minus → IsMultiple m b (negsuc 0)
+    → MatchResult r (λ sum. IsSum sum a m) (λ e. e ≡ fault.Memory) → MatchResult r (λ sum. IsSignedSum sum a s b) (λ e. e ≡ fault.Memory)
 minus_signed (Ok sum) a s b m e times is = subst (λ (x : Sign). IsSignedSum sum a x b) (sym e) (plus_negative sum a m b is times)
 minus_signed (Err f) a s b m e times is = is

@@ -1,8 +1,28 @@
 -- Each error in the list of a tree's errors is an error of the table.
-use Rattle.ta_meaning.proofs.Common.{◌≡◌, inl, inr, ℕ, Bool, true, false, not, ltb, ◌&&◌, List, [], ◌∷◌, ◌++◌, length, map, refl, sym, ap, subst, ◌∙◌, append_assoc, flat_map, bytes_eq, false≢true, true≢false, or_cases, not-false, cases_Bool, cond-true, cond-false, not-true, Decides-ltb, append-nil, map-append, map_push, bytes_eq-Decides, AllByRecursion, distinct_push_apart, each_append, each_push, each_weaker, push-split, In-left, In-map, In-right, in-here, plain_sum, plain_name, plain_comparison, Terms, Term, Factor, term, number, times, alone, blank, nested, Spelled, Digits, TreeSum, TreeComparison, TreeUpdate, TreeRule, TreeEvent, TreePattern, Tree, FileFault, Distinct, In, number_of, has_name, Linear, linear_sum, comparison_rows, is_large_linear, any_large, guard_names, all_names, names_of, Guards, no_guards, falls, same_row, has_row, with_row, with_guards, is_no_threshold, is_past_limit, is_one_more, Scope, WithFaults, where_, else_, is_long, declared_faults, declarations_faults, used_faults, listed_faults, digits_faults, linear_term, sum_faults, comparison_faults, condition_faults, counted, guards_then, guard_faults, guards_faults, guards_with, in_parameters, in_guards, in_conditions, updates_faults, rule_faults, rules_faults, event_faults, events_faults, pattern_faults, patterns_faults, location_spelled, any_initial, processes_faults, names_faults, meaning_faults, SeenTerms, SeenTerm, SeenFactor, seen_none, seen_more, seen_number, seen_times, seen_alone, seen_blank, seen_named, seen_nested, seen_sum, plain_of_terms, plain_of_term, plain_of_factor, names_of_terms, names_of_term, names_of_factor, numbers_of_terms, numbers_of_term, numbers_of_factor, PlacedTerm, placed, terms_of_terms, terms_of_term, terms_of_factor, and_parts, or_parts, ltb-false}
+use Rattle.ta_meaning.proofs.Common.{◌≡◌, inl, inr, ℕ, Bool, true, false, not, ltb, ◌&&◌, List, [], ◌∷◌, ◌++◌, length, map, refl, sym, ap, subst, ◌∙◌}
+use Rattle.ta_meaning.proofs.Common.{append_assoc, flat_map, bytes_eq, false≢true, true≢false, or_cases, not-false, cases_Bool, cond-true, cond-false, not-true}
+use Rattle.ta_meaning.proofs.Common.{Decides-ltb, append-nil, map-append, map_push, bytes_eq-Decides, AllByRecursion, distinct_push_apart, each_append}
+use Rattle.ta_meaning.proofs.Common.{each_push, each_weaker, push-split, In-left, In-map, In-right, in-here, plain_sum, plain_name, plain_comparison, Terms}
+use Rattle.ta_meaning.proofs.Common.{Term, Factor, term, number, times, alone, blank, nested, Spelled, Digits, TreeSum, TreeComparison, TreeUpdate, TreeRule}
+use Rattle.ta_meaning.proofs.Common.{TreeEvent, TreePattern, Tree, FileFault, Distinct, In, number_of, has_name, Linear, linear_sum, comparison_rows}
+use Rattle.ta_meaning.proofs.Common.{is_large_linear, any_large, guard_names, all_names, names_of, Guards, no_guards, falls, same_row, has_row, with_row}
+use Rattle.ta_meaning.proofs.Common.{with_guards, is_no_threshold, is_past_limit, is_one_more, Scope, WithFaults, where_, else_, is_long, declared_faults}
+use Rattle.ta_meaning.proofs.Common.{declarations_faults, used_faults, listed_faults, digits_faults, linear_term, sum_faults, comparison_faults}
+use Rattle.ta_meaning.proofs.Common.{condition_faults, counted, guards_then, guard_faults, guards_faults, guards_with, in_parameters, in_guards, in_conditions}
+use Rattle.ta_meaning.proofs.Common.{updates_faults, rule_faults, rules_faults, event_faults, events_faults, pattern_faults, patterns_faults, location_spelled}
+use Rattle.ta_meaning.proofs.Common.{any_initial, processes_faults, names_faults, meaning_faults, SeenTerms, SeenTerm, SeenFactor, seen_none, seen_more}
+use Rattle.ta_meaning.proofs.Common.{seen_number, seen_times, seen_alone, seen_blank, seen_named, seen_nested, seen_sum, plain_of_terms, plain_of_term}
+use Rattle.ta_meaning.proofs.Common.{plain_of_factor, names_of_terms, names_of_term, names_of_factor, numbers_of_terms, numbers_of_term, numbers_of_factor}
+use Rattle.ta_meaning.proofs.Common.{PlacedTerm, placed, terms_of_terms, terms_of_term, terms_of_factor, and_parts, or_parts, ltb-false}
 use Rattle.std.proofs.lemmas.Grind.{flat_map-append}
 use Rattle.ta_syntax.specs.declared.fault.FileFault.TheVariants as fault
-use Rattle.ta_meaning.specs.Table.{Repeats, rule_name, tree_pattern_name, tree_event_name, updated_name, place_names, AreApart, apart_places, apart_rules, apart_patterns, apart_events, apart_updates, apart_empty, apart_after, IsDeclared, declared_file, declared_place, declared_rule, declared_pattern, declared_event, HasComparison, in_resilience, in_guard, in_start, in_event, HasSum, sum_of_processes, sum_at_left, sum_at_right, at_locations, at_shared, at_events, IsUsed, used_from, used_to, used_update, used_empty, used_after, used_sum, IsNumberOf, number_of_update, number_in_sum, guards_of_rule, tree_guards, tree_guard_rows, IsRowAmong, IsOneMore, IsFaultOf, repeated, unknown, wrong_kind, long, large_number, large_term, large_row, large_sum, one_more, no_threshold, no_initial, FaultsAreOfTheTable}
+use Rattle.ta_meaning.specs.Table.{Repeats, rule_name, tree_pattern_name, tree_event_name, updated_name, place_names, AreApart, apart_places, apart_rules}
+use Rattle.ta_meaning.specs.Table.{apart_patterns, apart_events, apart_updates, apart_empty, apart_after, IsDeclared, declared_file, declared_place}
+use Rattle.ta_meaning.specs.Table.{declared_rule, declared_pattern, declared_event, HasComparison, in_resilience, in_guard, in_start, in_event, HasSum}
+use Rattle.ta_meaning.specs.Table.{sum_of_processes, sum_at_left, sum_at_right, at_locations, at_shared, at_events, IsUsed, used_from, used_to, used_update}
+use Rattle.ta_meaning.specs.Table.{used_empty, used_after, used_sum, IsNumberOf, number_of_update, number_in_sum, guards_of_rule, tree_guards, tree_guard_rows}
+use Rattle.ta_meaning.specs.Table.{IsRowAmong, IsOneMore, IsFaultOf, repeated, unknown, wrong_kind, long, large_number, large_term, large_row, large_sum}
+use Rattle.ta_meaning.specs.Table.{one_more, no_threshold, no_initial, FaultsAreOfTheTable}
 use Rattle.ta_meaning.proofs.Answering.{not-where, none-else-left, none-else-right}
 use Rattle.ta_meaning.proofs.GuardRows.{row_decides}
 use Rattle.ta_meaning.proofs.GuardSteps.{guard_falls, guard_rises}
@@ -44,9 +64,11 @@ module _ (t : Tree) where
       each-else P first second
       (each-where P (not (has_name s.places n.name)) (fault.Unknown n.at) (λ e. unknown s n h (not-true (has_name s.places n.name) e) refl))
       (λ none. each-where P (not (has_name s.allowed n.name)) (fault.WrongKind n.at)
-      (λ e. wrong_kind s n h (not-false (has_name s.places n.name) (not-where (not (has_name s.places n.name)) (fault.Unknown n.at) none)) (not-true (has_name s.allowed n.name) e) refl))
+      (λ e. wrong_kind s n h (not-false (has_name s.places n.name) (not-where (not (has_name s.places n.name)) (fault.Unknown n.at) none))
+      (not-true (has_name s.allowed n.name) e) refl))
 
-  twice : (all earlier later : List Spelled) (n : Spelled) → AreApart t all → all ≡ earlier ++ n ∷ later → AllOf (where_ (has_name (map plain_name earlier) n.name) (fault.Duplicate n.at))
+  twice : (all earlier later : List Spelled) (n : Spelled) → AreApart t all → all ≡ earlier ++ n ∷ later
+      → AllOf (where_ (has_name (map plain_name earlier) n.name) (fault.Duplicate n.at))
   twice all earlier later n apart place =
       each-where P (has_name (map plain_name earlier) n.name) (fault.Duplicate n.at)
       (λ e. repeated all n apart (subst (λ (z : List Spelled). Repeats z n) (sym place) (repeats-behind earlier later n e)) refl)
@@ -54,12 +76,14 @@ module _ (t : Tree) where
   too_long : (n : Spelled) → IsDeclared t n → AllOf (where_ (is_long n) (fault.TooLarge n.at))
   too_long n h = each-where P (is_long n) (fault.TooLarge n.at) (λ e. long n h ((Decides-ltb 64 (length n.name)).0 e) refl)
 
-  declared-name : (all earlier later : List Spelled) (n : Spelled) → AreApart t all → all ≡ earlier ++ n ∷ later → IsDeclared t n → AllOf (declared_faults (map plain_name earlier) n)
+  declared-name : (all earlier later : List Spelled) (n : Spelled) → AreApart t all → all ≡ earlier ++ n ∷ later → IsDeclared t n
+      → AllOf (declared_faults (map plain_name earlier) n)
   declared-name all earlier later n apart place h =
       each-else P (where_ (has_name (map plain_name earlier) n.name) (fault.Duplicate n.at)) (where_ (is_long n) (fault.TooLarge n.at))
       (twice all earlier later n apart place) (λ none. too_long n h)
 
-  declared-names : (all earlier rest later : List Spelled) → AreApart t all → all ≡ earlier ++ (rest ++ later) → ((n : Spelled) → In n rest → IsDeclared t n) → AllOf (declarations_faults (map plain_name earlier) rest)
+  declared-names : (all earlier rest later : List Spelled) → AreApart t all → all ≡ earlier ++ (rest ++ later) → ((n : Spelled) → In n rest → IsDeclared t n)
+      → AllOf (declarations_faults (map plain_name earlier) rest)
   declared-names all earlier [] later apart place h = tt
   declared-names all earlier (n ∷ rest) later apart place h =
       together (declared_faults (map plain_name earlier) n) (declarations_faults (map plain_name earlier ++ n.name ∷ []) rest)
@@ -67,15 +91,18 @@ module _ (t : Tree) where
       (subst (λ (names : List (List ℕ)). AllOf (declarations_faults names rest)) (map_push plain_name earlier n)
       (declared-names all (earlier ++ n ∷ []) rest later apart (push-split all earlier (rest ++ later) n place) (λ m i. h m (inr i))))
 
-  once-name : (s : Scope) (all earlier later : List Spelled) (n : Spelled) → AreApart t all → all ≡ earlier ++ n ∷ later → IsUsed t s n → AllOf (else_ (where_ (has_name (map plain_name earlier) n.name) (fault.Duplicate n.at)) (used_faults s.places s.allowed n))
+  once-name : (s : Scope) (all earlier later : List Spelled) (n : Spelled) → AreApart t all → all ≡ earlier ++ n ∷ later → IsUsed t s n
+      → AllOf (else_ (where_ (has_name (map plain_name earlier) n.name) (fault.Duplicate n.at)) (used_faults s.places s.allowed n))
   once-name s all earlier later n apart place h =
       each-else P (where_ (has_name (map plain_name earlier) n.name) (fault.Duplicate n.at)) (used_faults s.places s.allowed n)
       (twice all earlier later n apart place) (λ none. used-name s n h)
 
-  listed-names : (s : Scope) (all earlier rest : List Spelled) → AreApart t all → all ≡ earlier ++ rest → ((n : Spelled) → In n rest → IsUsed t s n) → AllOf (listed_faults s.places s.allowed (map plain_name earlier) rest)
+  listed-names : (s : Scope) (all earlier rest : List Spelled) → AreApart t all → all ≡ earlier ++ rest → ((n : Spelled) → In n rest → IsUsed t s n)
+      → AllOf (listed_faults s.places s.allowed (map plain_name earlier) rest)
   listed-names s all earlier [] apart place h = tt
   listed-names s all earlier (n ∷ rest) apart place h =
-      together (else_ (where_ (has_name (map plain_name earlier) n.name) (fault.Duplicate n.at)) (used_faults s.places s.allowed n)) (listed_faults s.places s.allowed (map plain_name earlier ++ n.name ∷ []) rest)
+      together (else_ (where_ (has_name (map plain_name earlier) n.name) (fault.Duplicate n.at)) (used_faults s.places s.allowed n))
+      (listed_faults s.places s.allowed (map plain_name earlier ++ n.name ∷ []) rest)
       (once-name s all earlier rest n apart place (h n (inl refl)))
       (subst (λ (names : List (List ℕ)). AllOf (listed_faults s.places s.allowed names rest)) (map_push plain_name earlier n)
       (listed-names s all (earlier ++ n ∷ []) rest apart (push-split all earlier rest n place) (λ m i. h m (inr i))))
@@ -83,7 +110,8 @@ module _ (t : Tree) where
   -- ---- sums
 
   number-fault : (d : Digits) → IsNumberOf t d → AllOf (digits_faults d)
-  number-fault d h = each-where P (ltb 1000000000 (number_of d.text)) (fault.TooLarge d.at) (λ e. large_number d h ((Decides-ltb 1000000000 (number_of d.text)).0 e) refl)
+  number-fault d h = each-where P (ltb 1000000000 (number_of d.text)) (fault.TooLarge d.at)
+      (λ e. large_number d h ((Decides-ltb 1000000000 (number_of d.text)).0 e) refl)
 
   -- the names, numbers and terms of a part are those of a sum of the tree
   record PartOf (s : Scope) (names : List Spelled) (numbers : List Digits) (terms : List PlacedTerm) : Type 0 where
@@ -105,15 +133,19 @@ module _ (t : Tree) where
     large = λ z i. h.large z (In-right z x y i);
   }
 
-  whole-term : (s : Scope) (at : ℕ) (x z : Term) (parts : List FileFault) → z ≡ x → AllOf parts → (is_large_linear (linear_term s.allowed x) ≡ true → IsFaultOf t (fault.TooLarge at)) → AllOf (else_ parts (where_ (is_large_linear (linear_term s.allowed z)) (fault.TooLarge at)))
+  whole-term : (s : Scope) (at : ℕ) (x z : Term) (parts : List FileFault) → z ≡ x → AllOf parts
+      → (is_large_linear (linear_term s.allowed x) ≡ true → IsFaultOf t (fault.TooLarge at))
+      → AllOf (else_ parts (where_ (is_large_linear (linear_term s.allowed z)) (fault.TooLarge at)))
   whole-term s at x z parts same h large =
       each-else P parts (where_ (is_large_linear (linear_term s.allowed z)) (fault.TooLarge at)) h
-      (λ none. each-where P (is_large_linear (linear_term s.allowed z)) (fault.TooLarge at) (λ e. large (ap (λ (y : Term). is_large_linear (linear_term s.allowed y)) (sym same) ∙ e)))
+      (λ none. each-where P (is_large_linear (linear_term s.allowed z)) (fault.TooLarge at)
+      (λ e. large (ap (λ (y : Term). is_large_linear (linear_term s.allowed y)) (sym same) ∙ e)))
 
   mutual
     plain-terms : (s : Scope) (ts : SeenTerms) → (judged_of_terms s ts).plain ≡ plain_of_terms ts
     plain-terms s seen_none = refl
-    plain-terms s (seen_more g x ts) = ap (λ (z : Term). term g z (judged_of_terms s ts).plain) (plain-term s x) ∙ ap (λ (z : Terms). term g (plain_of_term x) z) (plain-terms s ts)
+    plain-terms s (seen_more g x ts) = ap (λ (z : Term). term g z (judged_of_terms s ts).plain) (plain-term s x)
+        ∙ ap (λ (z : Terms). term g (plain_of_term x) z) (plain-terms s ts)
 
     plain-term : (s : Scope) (x : SeenTerm) → (judged_of_term s x).plain ≡ plain_of_term x
     plain-term s (seen_number at d) = refl
@@ -131,11 +163,13 @@ module _ (t : Tree) where
     terms-faults s (seen_more g x ts) h =
         together (judged_of_term s x).faults (judged_of_terms s ts).faults
         (term-faults s x (left-part s (names_of_term x) (names_of_terms ts) (numbers_of_term x) (numbers_of_terms ts) (terms_of_term x) (terms_of_terms ts) h))
-        (terms-faults s ts (right-part s (names_of_term x) (names_of_terms ts) (numbers_of_term x) (numbers_of_terms ts) (terms_of_term x) (terms_of_terms ts) h))
+        (terms-faults s ts (right-part s (names_of_term x) (names_of_terms ts) (numbers_of_term x) (numbers_of_terms ts) (terms_of_term x) (terms_of_terms ts)
+        h))
 
     term-faults : (s : Scope) (x : SeenTerm) → PartOf s (names_of_term x) (numbers_of_term x) (terms_of_term x) → AllOf (judged_of_term s x).faults
     term-faults s (seen_number at d) h =
-        whole-term s at (number d.text) (number d.text) (digits_faults d ++ []) refl (together (digits_faults d) [] (number-fault d (h.number d (inl refl))) tt) (h.large (placed at (number d.text)) (inl refl))
+        whole-term s at (number d.text) (number d.text) (digits_faults d ++ []) refl (together (digits_faults d) [] (number-fault d (h.number d (inl refl))) tt)
+        (h.large (placed at (number d.text)) (inl refl))
     term-faults s (seen_times at d f) h =
         let x : Term = times d.text (plain_of_factor f) in
         whole-term s at x (times d.text (judged_of_factor s f).plain) (digits_faults d ++ (judged_of_factor s f).faults) (plain-term s (seen_times at d f))
@@ -171,7 +205,8 @@ module _ (t : Tree) where
 
   condition-fault : (s : Scope) (cs : List TreeComparison) → ((c : TreeComparison) → In c cs → HasComparison t s c) → AllOf (condition_faults s cs)
   condition-fault s [] h = tt
-  condition-fault s (c ∷ cs) h = together (comparison_faults s c) (condition_faults s cs) (comparison-fault s c (h c (inl refl))) (condition-fault s cs (λ d i. h d (inr i)))
+  condition-fault s (c ∷ cs) h = together (comparison_faults s c) (condition_faults s cs) (comparison-fault s c (h c (inl refl)))
+      (condition-fault s cs (λ d i. h d (inr i)))
 
   -- ---- guards
 
@@ -215,11 +250,13 @@ module _ (t : Tree) where
   row-distinct : (rows : List Linear) (r : Linear) → Distinct rows → Distinct (with_row rows r)
   row-distinct rows r h = elim (cases_Bool (has_row rows r)) [
     | inl e ↦ subst (λ (z : List Linear). Distinct z) (sym (cond-true (has_row rows r) rows (rows ++ r ∷ []) e)) h
-    | inr e ↦ subst (λ (z : List Linear). Distinct z) (sym (cond-false (has_row rows r) rows (rows ++ r ∷ []) e)) (distinct_push_apart rows r h (apart-rows rows r e))
+    | inr e ↦ subst (λ (z : List Linear). Distinct z) (sym (cond-false (has_row rows r) rows (rows ++ r ∷ []) e))
+        (distinct_push_apart rows r h (apart-rows rows r e))
   ]
 
   -- a guard that counts is one row, whose kind has it then
-  counted-row : (cs : List TreeComparison) (g : Guards) (c : TreeComparison) (rows : List Linear) → tree_guard_rows t c ≡ rows → is_no_threshold count rows ≡ false → In c cs → Counted cs g → Counted cs (with_guards count g rows)
+  counted-row : (cs : List TreeComparison) (g : Guards) (c : TreeComparison) (rows : List Linear) → tree_guard_rows t c ≡ rows
+      → is_no_threshold count rows ≡ false → In c cs → Counted cs g → Counted cs (with_guards count g rows)
   counted-row cs g c [] is threshold i h = absurd (true≢false threshold)
   counted-row cs g c (r ∷ q ∷ rows) is threshold i h = absurd (true≢false threshold)
   counted-row cs g c (r ∷ []) is threshold i h = elim (cases_Bool (falls count r)) [
@@ -237,7 +274,8 @@ module _ (t : Tree) where
     })
   ]
 
-  counted-either : (cs : List TreeComparison) (faults : List FileFault) (before after : Guards) → (faults ≡ [] → Counted cs after) → Counted cs before → Counted cs (counted faults before after)
+  counted-either : (cs : List TreeComparison) (faults : List FileFault) (before after : Guards) → (faults ≡ [] → Counted cs after) → Counted cs before
+      → Counted cs (counted faults before after)
   counted-either cs [] before after h k = h refl
   counted-either cs (f ∷ fs) before after h k = k
 
@@ -246,7 +284,8 @@ module _ (t : Tree) where
   is-threshold g c none =
       let threshold = where_ (is_no_threshold count (tree_guard_rows t c)) (fault.NotThreshold c.at) in
       let more = where_ (is_one_more count g (tree_guard_rows t c)) (fault.TooMany c.at) in
-      not-where (is_no_threshold count (tree_guard_rows t c)) (fault.NotThreshold c.at) (none-else-left threshold more (none-else-right (comparison_faults scope c) (else_ threshold more) none))
+      not-where (is_no_threshold count (tree_guard_rows t c)) (fault.NotThreshold c.at)
+      (none-else-left threshold more (none-else-right (comparison_faults scope c) (else_ threshold more) none))
 
   counted-then : (cs : List TreeComparison) (g : Guards) (c : TreeComparison) → Counted cs g → Counted (cs ++ c ∷ []) (guards_then count scope g c)
   counted-then cs g c h =
@@ -255,10 +294,13 @@ module _ (t : Tree) where
       (λ none. counted-row (cs ++ c ∷ []) g c (tree_guard_rows t c) refl (is-threshold g c none) (in-here cs [] c) more) more
 
   -- a row past the limit
-  past-limit : (cs later : List TreeComparison) (g : Guards) (c : TreeComparison) (r : Linear) → tree_guards t ≡ cs ++ c ∷ later → tree_guard_rows t c ≡ r ∷ [] → is_no_threshold count (r ∷ []) ≡ false → is_past_limit count g r ≡ true → Counted cs g → IsOneMore t c
+  past-limit : (cs later : List TreeComparison) (g : Guards) (c : TreeComparison) (r : Linear) → tree_guards t ≡ cs ++ c ∷ later → tree_guard_rows t c ≡ r ∷ []
+      → is_no_threshold count (r ∷ []) ≡ false → is_past_limit count g r ≡ true → Counted cs g → IsOneMore t c
   past-limit cs later g c r place is threshold past h = elim (cases_Bool (falls count r)) [
     | inl f ↦ (
-        let e : (not (has_row g.fall r) && not (ltb (length g.fall) 6)) ≡ true = sym (cond-true (falls count r) (not (has_row g.fall r) && not (ltb (length g.fall) 6)) (not (has_row g.rise r) && not (ltb (length g.rise) 16)) f) ∙ past in
+        let e : (not (has_row g.fall r) && not (ltb (length g.fall) 6)) ≡ true = sym
+        (cond-true (falls count r) (not (has_row g.fall r) && not (ltb (length g.fall) 6)) (not (has_row g.rise r) && not (ltb (length g.rise) 16)) f)
+        ∙ past in
         record {
           earlier = cs;
           later = later;
@@ -273,7 +315,9 @@ module _ (t : Tree) where
           new = apart-rows g.fall r (not-true (has_row g.fall r) ((and_parts (not (has_row g.fall r)) (not (ltb (length g.fall) 6)) e).0));
         })
     | inr f ↦ (
-        let e : (not (has_row g.rise r) && not (ltb (length g.rise) 16)) ≡ true = sym (cond-false (falls count r) (not (has_row g.fall r) && not (ltb (length g.fall) 6)) (not (has_row g.rise r) && not (ltb (length g.rise) 16)) f) ∙ past in
+        let e : (not (has_row g.rise r) && not (ltb (length g.rise) 16)) ≡ true = sym
+        (cond-false (falls count r) (not (has_row g.fall r) && not (ltb (length g.fall) 6)) (not (has_row g.rise r) && not (ltb (length g.rise) 16)) f)
+        ∙ past in
         record {
           earlier = cs;
           later = later;
@@ -289,13 +333,17 @@ module _ (t : Tree) where
         })
   ]
 
-  more-than-allowed : (cs later : List TreeComparison) (g : Guards) (c : TreeComparison) (rows : List Linear) → tree_guards t ≡ cs ++ c ∷ later → tree_guard_rows t c ≡ rows → is_one_more count g rows ≡ true → Counted cs g → IsOneMore t c
+  more-than-allowed : (cs later : List TreeComparison) (g : Guards) (c : TreeComparison) (rows : List Linear) → tree_guards t ≡ cs ++ c ∷ later
+      → tree_guard_rows t c ≡ rows → is_one_more count g rows ≡ true → Counted cs g → IsOneMore t c
   more-than-allowed cs later g c [] place is e h = absurd (false≢true e)
   more-than-allowed cs later g c (r ∷ q ∷ rows) place is e h = absurd (false≢true e)
   more-than-allowed cs later g c (r ∷ []) place is e h =
-      past-limit cs later g c r place is (not-true (is_no_threshold count (r ∷ [])) ((and_parts (not (is_no_threshold count (r ∷ []))) (is_past_limit count g r) e).0)) ((and_parts (not (is_no_threshold count (r ∷ []))) (is_past_limit count g r) e).1) h
+      past-limit cs later g c r place is
+      (not-true (is_no_threshold count (r ∷ [])) ((and_parts (not (is_no_threshold count (r ∷ []))) (is_past_limit count g r) e).0))
+      ((and_parts (not (is_no_threshold count (r ∷ []))) (is_past_limit count g r) e).1) h
 
-  guard-fault : (cs later : List TreeComparison) (g : Guards) (c : TreeComparison) → tree_guards t ≡ cs ++ c ∷ later → HasComparison t scope c → Counted cs g → AllOf (guard_faults count scope g c)
+  guard-fault : (cs later : List TreeComparison) (g : Guards) (c : TreeComparison) → tree_guards t ≡ cs ++ c ∷ later → HasComparison t scope c → Counted cs g
+      → AllOf (guard_faults count scope g c)
   guard-fault cs later g c place has h =
       let rows = tree_guard_rows t c in
       let threshold = where_ (is_no_threshold count rows) (fault.NotThreshold c.at) in
@@ -306,12 +354,14 @@ module _ (t : Tree) where
       (each-where P (is_no_threshold count rows) (fault.NotThreshold c.at) (λ e. no_threshold c here e refl))
       (λ fine. each-where P (is_one_more count g rows) (fault.TooMany c.at) (λ e. one_more c (more-than-allowed cs later g c rows place refl e h) refl)))
 
-  guards-fault : (cs rest later : List TreeComparison) (g : Guards) → tree_guards t ≡ cs ++ (rest ++ later) → ((c : TreeComparison) → In c rest → HasComparison t scope c) → Counted cs g → AllOf (guards_faults count scope g rest)
+  guards-fault : (cs rest later : List TreeComparison) (g : Guards) → tree_guards t ≡ cs ++ (rest ++ later)
+      → ((c : TreeComparison) → In c rest → HasComparison t scope c) → Counted cs g → AllOf (guards_faults count scope g rest)
   guards-fault cs [] later g place has h = tt
   guards-fault cs (c ∷ rest) later g place has h =
       together (guard_faults count scope g c) (guards_faults count scope (guards_then count scope g c) rest)
       (guard-fault cs (rest ++ later) g c place (has c (inl refl)) h)
-      (guards-fault (cs ++ c ∷ []) rest later (guards_then count scope g c) (push-split (tree_guards t) cs (rest ++ later) c place) (λ d i. has d (inr i)) (counted-then cs g c h))
+      (guards-fault (cs ++ c ∷ []) rest later (guards_then count scope g c) (push-split (tree_guards t) cs (rest ++ later) c place) (λ d i. has d (inr i))
+      (counted-then cs g c h))
 
   counted-with : (cs rest : List TreeComparison) (g : Guards) → Counted cs g → Counted (cs ++ rest) (guards_with count scope g rest)
   counted-with cs [] g h = subst (λ (z : List TreeComparison). Counted z g) (sym (append-nil cs)) h
@@ -321,96 +371,119 @@ module _ (t : Tree) where
 
   -- ---- rules
 
-  updates-fault : (r : TreeRule) (earlier rest : List TreeUpdate) → In r t.rules → r.updates ≡ earlier ++ rest → AllOf (updates_faults (names_of t) (map plain_name (map updated_name earlier)) rest)
+  updates-fault : (r : TreeRule) (earlier rest : List TreeUpdate) → In r t.rules → r.updates ≡ earlier ++ rest
+      → AllOf (updates_faults (names_of t) (map plain_name (map updated_name earlier)) rest)
   updates-fault r earlier [] i place = tt
   updates-fault r earlier (u ∷ rest) i place =
       let before = map plain_name (map updated_name earlier) in
       let once = else_ (where_ (has_name before u.name.name) (fault.Duplicate u.name.at)) (used_faults (all_names (names_of t)) (names_of t).shared u.name) in
-      let names : map updated_name r.updates ≡ map updated_name earlier ++ u.name ∷ map updated_name rest = ap (map updated_name) place ∙ map-append updated_name earlier (u ∷ rest) in
+      let names : map updated_name r.updates ≡ map updated_name earlier ++ u.name ∷ map updated_name rest = ap (map updated_name) place
+      ∙ map-append updated_name earlier (u ∷ rest) in
       let here : In u r.updates = subst (λ (z : List TreeUpdate). In u z) (sym place) (in-here earlier rest u) in
       together once (digits_faults u.amount ++ updates_faults (names_of t) (before ++ u.name.name ∷ []) rest)
-      (once-name (at_shared t) (map updated_name r.updates) (map updated_name earlier) (map updated_name rest) u.name (apart_updates r i refl) names (used_update r i refl (In-map updated_name u r.updates here)))
+      (once-name (at_shared t) (map updated_name r.updates) (map updated_name earlier) (map updated_name rest) u.name (apart_updates r i refl) names
+      (used_update r i refl (In-map updated_name u r.updates here)))
       (together (digits_faults u.amount) (updates_faults (names_of t) (before ++ u.name.name ∷ []) rest)
       (number-fault u.amount (number_of_update r u i here refl))
-      (subst (λ (z : List (List ℕ)). AllOf (updates_faults (names_of t) z rest)) (ap (map plain_name) (map_push updated_name earlier u) ∙ map_push plain_name (map updated_name earlier) u.name)
+      (subst (λ (z : List (List ℕ)). AllOf (updates_faults (names_of t) z rest))
+      (ap (map plain_name) (map_push updated_name earlier u) ∙ map_push plain_name (map updated_name earlier) u.name)
       (updates-fault r (earlier ++ u ∷ []) rest i (push-split r.updates earlier rest u place))))
 
-  rule-fault : (earlier later : List TreeRule) (g : Guards) (r : TreeRule) → t.rules ≡ earlier ++ r ∷ later → Counted (flat_map guards_of_rule earlier) g → AllOf (rule_faults (names_of t) (map plain_name (map rule_name earlier)) g r)
+  rule-fault : (earlier later : List TreeRule) (g : Guards) (r : TreeRule) → t.rules ≡ earlier ++ r ∷ later → Counted (flat_map guards_of_rule earlier) g
+      → AllOf (rule_faults (names_of t) (map plain_name (map rule_name earlier)) g r)
   rule-fault earlier later g r place h =
       let ns = names_of t in
       let before = map plain_name (map rule_name earlier) in
       let here : In r t.rules = subst (λ (z : List TreeRule). In r z) (sym place) (in-here earlier later r) in
-      let names : map rule_name t.rules ≡ map rule_name earlier ++ r.name ∷ map rule_name later = ap (map rule_name) place ∙ map-append rule_name earlier (r ∷ later) in
-      let guards : tree_guards t ≡ flat_map guards_of_rule earlier ++ (r.guards ++ flat_map guards_of_rule later) = ap (flat_map guards_of_rule) place ∙ flat_map-append guards_of_rule earlier (r ∷ later) in
+      let names : map rule_name t.rules ≡ map rule_name earlier ++ r.name ∷ map rule_name later = ap (map rule_name) place
+      ∙ map-append rule_name earlier (r ∷ later) in
+      let guards : tree_guards t ≡ flat_map guards_of_rule earlier ++ (r.guards ++ flat_map guards_of_rule later) = ap (flat_map guards_of_rule) place
+      ∙ flat_map-append guards_of_rule earlier (r ∷ later) in
       let from = used_faults (all_names ns) ns.locations r.from in
       let to = used_faults (all_names ns) ns.locations r.to in
       let when = guards_faults count scope g r.guards in
       let do_ = updates_faults ns [] r.updates in
       together (declared_faults before r.name) (from ++ (to ++ (when ++ do_)))
-      (declared-name (map rule_name t.rules) (map rule_name earlier) (map rule_name later) r.name (apart_rules refl) names (declared_rule (In-map rule_name r t.rules here)))
+      (declared-name (map rule_name t.rules) (map rule_name earlier) (map rule_name later) r.name (apart_rules refl) names
+      (declared_rule (In-map rule_name r t.rules here)))
       (together from (to ++ (when ++ do_)) (used-name (at_locations t) r.from (used_from r here refl refl))
       (together to (when ++ do_) (used-name (at_locations t) r.to (used_to r here refl refl))
       (together when do_
       (guards-fault (flat_map guards_of_rule earlier) r.guards (flat_map guards_of_rule later) g guards (λ c i. in_guard r refl here i) h)
       (updates-fault r [] r.updates here refl))))
 
-  rules-fault : (earlier rest : List TreeRule) (g : Guards) → t.rules ≡ earlier ++ rest → Counted (flat_map guards_of_rule earlier) g → AllOf (rules_faults (names_of t) (map plain_name (map rule_name earlier)) g rest)
+  rules-fault : (earlier rest : List TreeRule) (g : Guards) → t.rules ≡ earlier ++ rest → Counted (flat_map guards_of_rule earlier) g
+      → AllOf (rules_faults (names_of t) (map plain_name (map rule_name earlier)) g rest)
   rules-fault earlier [] g place h = tt
   rules-fault earlier (r ∷ rest) g place h =
       let before = map plain_name (map rule_name earlier) in
       let after = guards_with count scope g r.guards in
-      let guards : flat_map guards_of_rule earlier ++ r.guards ≡ flat_map guards_of_rule (earlier ++ r ∷ []) = ap (λ (z : List TreeComparison). flat_map guards_of_rule earlier ++ z) (sym (append-nil r.guards)) ∙ sym (flat_map-append guards_of_rule earlier (r ∷ [])) in
+      let guards : flat_map guards_of_rule earlier ++ r.guards ≡ flat_map guards_of_rule (earlier ++ r ∷ []) = ap
+      (λ (z : List TreeComparison). flat_map guards_of_rule earlier ++ z) (sym (append-nil r.guards))
+      ∙ sym (flat_map-append guards_of_rule earlier (r ∷ [])) in
       together (rule_faults (names_of t) before g r) (rules_faults (names_of t) (before ++ r.name.name ∷ []) after rest)
       (rule-fault earlier rest g r place h)
-      (subst (λ (z : List (List ℕ)). AllOf (rules_faults (names_of t) z after rest)) (ap (map plain_name) (map_push rule_name earlier r) ∙ map_push plain_name (map rule_name earlier) r.name)
-      (rules-fault (earlier ++ r ∷ []) rest after (push-split t.rules earlier rest r place) (subst (λ (z : List TreeComparison). Counted z after) guards (counted-with (flat_map guards_of_rule earlier) r.guards g h))))
+      (subst (λ (z : List (List ℕ)). AllOf (rules_faults (names_of t) z after rest))
+      (ap (map plain_name) (map_push rule_name earlier r) ∙ map_push plain_name (map rule_name earlier) r.name)
+      (rules-fault (earlier ++ r ∷ []) rest after (push-split t.rules earlier rest r place)
+      (subst (λ (z : List TreeComparison). Counted z after) guards (counted-with (flat_map guards_of_rule earlier) r.guards g h))))
 
   -- ---- patterns
 
-  event-fault : (p : TreePattern) (earlier later : List TreeEvent) (e : TreeEvent) → In p t.patterns → p.events ≡ earlier ++ e ∷ later → AllOf (event_faults (names_of t) (map plain_name (map tree_event_name earlier)) e)
+  event-fault : (p : TreePattern) (earlier later : List TreeEvent) (e : TreeEvent) → In p t.patterns → p.events ≡ earlier ++ e ∷ later
+      → AllOf (event_faults (names_of t) (map plain_name (map tree_event_name earlier)) e)
   event-fault p earlier later e i place =
       let before = map plain_name (map tree_event_name earlier) in
       let conditions = condition_faults (in_conditions (names_of t)) e.condition in
       let here : In e p.events = subst (λ (z : List TreeEvent). In e z) (sym place) (in-here earlier later e) in
-      let names : map tree_event_name p.events ≡ map tree_event_name earlier ++ e.name ∷ map tree_event_name later = ap (map tree_event_name) place ∙ map-append tree_event_name earlier (e ∷ later) in
+      let names : map tree_event_name p.events ≡ map tree_event_name earlier ++ e.name ∷ map tree_event_name later = ap (map tree_event_name) place
+      ∙ map-append tree_event_name earlier (e ∷ later) in
       together (declared_faults before e.name) (listed_faults before before [] e.after ++ conditions)
-      (declared-name (map tree_event_name p.events) (map tree_event_name earlier) (map tree_event_name later) e.name (apart_events p i refl) names (declared_event p i (In-map tree_event_name e p.events here)))
+      (declared-name (map tree_event_name p.events) (map tree_event_name earlier) (map tree_event_name later) e.name (apart_events p i refl) names
+      (declared_event p i (In-map tree_event_name e p.events here)))
       (together (listed_faults before before [] e.after) conditions
       (listed-names (at_events earlier) e.after [] e.after (apart_after p e i here refl) refl (λ n k. used_after p earlier later e i place refl k))
       (condition-fault (in_conditions (names_of t)) e.condition (λ c k. in_event p e refl i here k)))
 
-  events-fault : (p : TreePattern) (earlier rest : List TreeEvent) → In p t.patterns → p.events ≡ earlier ++ rest → AllOf (events_faults (names_of t) (map plain_name (map tree_event_name earlier)) rest)
+  events-fault : (p : TreePattern) (earlier rest : List TreeEvent) → In p t.patterns → p.events ≡ earlier ++ rest
+      → AllOf (events_faults (names_of t) (map plain_name (map tree_event_name earlier)) rest)
   events-fault p earlier [] i place = tt
   events-fault p earlier (e ∷ rest) i place =
       let before = map plain_name (map tree_event_name earlier) in
       together (event_faults (names_of t) before e) (events_faults (names_of t) (before ++ e.name.name ∷ []) rest)
       (event-fault p earlier rest e i place)
-      (subst (λ (z : List (List ℕ)). AllOf (events_faults (names_of t) z rest)) (ap (map plain_name) (map_push tree_event_name earlier e) ∙ map_push plain_name (map tree_event_name earlier) e.name)
+      (subst (λ (z : List (List ℕ)). AllOf (events_faults (names_of t) z rest))
+      (ap (map plain_name) (map_push tree_event_name earlier e) ∙ map_push plain_name (map tree_event_name earlier) e.name)
       (events-fault p (earlier ++ e ∷ []) rest i (push-split p.events earlier rest e place)))
 
-  pattern-fault : (earlier later : List TreePattern) (p : TreePattern) → t.patterns ≡ earlier ++ p ∷ later → AllOf (pattern_faults (names_of t) (map plain_name (map tree_pattern_name earlier)) p)
+  pattern-fault : (earlier later : List TreePattern) (p : TreePattern) → t.patterns ≡ earlier ++ p ∷ later
+      → AllOf (pattern_faults (names_of t) (map plain_name (map tree_pattern_name earlier)) p)
   pattern-fault earlier later p place =
       let ns = names_of t in
       let before = map plain_name (map tree_pattern_name earlier) in
       let here : In p t.patterns = subst (λ (z : List TreePattern). In p z) (sym place) (in-here earlier later p) in
-      let names : map tree_pattern_name t.patterns ≡ map tree_pattern_name earlier ++ p.name ∷ map tree_pattern_name later = ap (map tree_pattern_name) place ∙ map-append tree_pattern_name earlier (p ∷ later) in
+      let names : map tree_pattern_name t.patterns ≡ map tree_pattern_name earlier ++ p.name ∷ map tree_pattern_name later = ap (map tree_pattern_name) place
+      ∙ map-append tree_pattern_name earlier (p ∷ later) in
       let start = condition_faults (in_conditions ns) p.start in
       let empty = listed_faults (all_names ns) ns.locations [] p.empty in
       let events = events_faults ns [] p.events in
       together (declared_faults before p.name) (start ++ (empty ++ events))
-      (declared-name (map tree_pattern_name t.patterns) (map tree_pattern_name earlier) (map tree_pattern_name later) p.name (apart_patterns refl) names (declared_pattern (In-map tree_pattern_name p t.patterns here)))
+      (declared-name (map tree_pattern_name t.patterns) (map tree_pattern_name earlier) (map tree_pattern_name later) p.name (apart_patterns refl) names
+      (declared_pattern (In-map tree_pattern_name p t.patterns here)))
       (together start (empty ++ events) (condition-fault (in_conditions ns) p.start (λ c k. in_start p refl here k))
       (together empty events
       (listed-names (at_locations t) p.empty [] p.empty (apart_empty p here refl) refl (λ n k. used_empty p here refl k))
       (events-fault p [] p.events here refl)))
 
-  patterns-fault : (earlier rest : List TreePattern) → t.patterns ≡ earlier ++ rest → AllOf (patterns_faults (names_of t) (map plain_name (map tree_pattern_name earlier)) rest)
+  patterns-fault : (earlier rest : List TreePattern) → t.patterns ≡ earlier ++ rest
+      → AllOf (patterns_faults (names_of t) (map plain_name (map tree_pattern_name earlier)) rest)
   patterns-fault earlier [] place = tt
   patterns-fault earlier (p ∷ rest) place =
       let before = map plain_name (map tree_pattern_name earlier) in
       together (pattern_faults (names_of t) before p) (patterns_faults (names_of t) (before ++ p.name.name ∷ []) rest)
       (pattern-fault earlier rest p place)
-      (subst (λ (z : List (List ℕ)). AllOf (patterns_faults (names_of t) z rest)) (ap (map plain_name) (map_push tree_pattern_name earlier p) ∙ map_push plain_name (map tree_pattern_name earlier) p.name)
+      (subst (λ (z : List (List ℕ)). AllOf (patterns_faults (names_of t) z rest))
+      (ap (map plain_name) (map_push tree_pattern_name earlier p) ∙ map_push plain_name (map tree_pattern_name earlier) p.name)
       (patterns-fault (earlier ++ p ∷ []) rest (push-split t.patterns earlier rest p place)))
 
   -- ---- the whole
@@ -426,9 +499,11 @@ module _ (t : Tree) where
       let locations = declarations_faults (guard_names ns) places in
       together own (parameters ++ (shared ++ (initial ++ locations))) (too_long t.name (declared_file refl))
       (together parameters (shared ++ (initial ++ locations))
-      (declared-names (place_names t) [] t.parameters (t.shared ++ places) (apart_places refl) refl (λ n i. declared_place (In-left n t.parameters (t.shared ++ places) i)))
+      (declared-names (place_names t) [] t.parameters (t.shared ++ places) (apart_places refl) refl
+      (λ n i. declared_place (In-left n t.parameters (t.shared ++ places) i)))
       (together shared (initial ++ locations)
-      (declared-names (place_names t) t.parameters t.shared places (apart_places refl) refl (λ n i. declared_place (In-right n t.parameters (t.shared ++ places) (In-left n t.shared places i))))
+      (declared-names (place_names t) t.parameters t.shared places (apart_places refl) refl
+      (λ n i. declared_place (In-right n t.parameters (t.shared ++ places) (In-left n t.shared places i))))
       (together initial locations
       (each-where P (not (any_initial t.locations)) (fault.NoInitial t.locations_at) (λ e. no_initial (not-true (any_initial t.locations) e) refl))
       (subst (λ (z : List (List ℕ)). AllOf (declarations_faults z places)) (map-append plain_name t.parameters t.shared)
@@ -439,7 +514,8 @@ module _ (t : Tree) where
   processes-fault : AllOf (processes_faults (names_of t) t)
   processes-fault =
       let ns = names_of t in
-      each-else P (sum_faults (in_parameters ns) t.processes) (where_ (is_large_linear (linear_sum ns.parameters (plain_sum t.processes))) (fault.TooLarge t.processes_at))
+      each-else P (sum_faults (in_parameters ns) t.processes)
+      (where_ (is_large_linear (linear_sum ns.parameters (plain_sum t.processes))) (fault.TooLarge t.processes_at))
       (sum-fault (in_parameters ns) t.processes (sum_of_processes refl refl))
       (λ none. each-where P (is_large_linear (linear_sum ns.parameters (plain_sum t.processes))) (fault.TooLarge t.processes_at) (λ e. large_sum e refl))
 

@@ -21,7 +21,8 @@ by_meaning bytes t [] is none no_file no_fault =
     let f = file_exists t none in
     scope_answers f.0.automaton
     (λ (within : InScope f.0.automaton). no_file (f.0, is-legal bytes t f.0 (record { file = f.0; in_scope = within }) is none f.1 refl))
-    (λ (w : (number : ℕ) × scope.FirstRuleFault f.0.automaton number). no_fault (fault.CycleUpdates w.0, inr (inr (record { tree = t; is_tree = is; none_of_meaning = none; file = f.0; means = f.1; fault = w.1 }))))
+    (λ (w : (number : ℕ) × scope.FirstRuleFault f.0.automaton number). no_fault
+    (fault.CycleUpdates w.0, inr (inr (record { tree = t; is_tree = is; none_of_meaning = none; file = f.0; means = f.1; fault = w.1 }))))
 
 pub texts_have_answers : (bytes : List ℕ) → length bytes ≤ 1048576 → Either (HasFile bytes) (HasFault bytes)
 texts_have_answers bytes small no_file no_fault =

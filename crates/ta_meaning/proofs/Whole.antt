@@ -1,5 +1,10 @@
 -- The errors of a tree from those of its parts
-use Rattle.ta_meaning.proofs.Common.{ℕ, ◌+◌, ◌≡◌, List, [], take, map, length, length-append, Result, refl, sym, ap, subst, ◌∙◌, Vec, Form, Row, plain_sum, plain_comparison, plain_location, plain_rule, plain_pattern, plain_tree, Tree, FileFault, Condition, Pattern, Rule, Places, Automaton, PatternsShape, MeansAutomaton, initial_from, Names, guard_names, all_names, names_of, linear_sum, is_large_linear, no_guards, where_, else_, sum_faults, condition_faults, processes_faults, in_parameters, rules_faults, patterns_faults, names_faults, meaning_faults, Scope, FirstOrMemory, Answers, kinds_of, first_places, ResolvedForm, ResolvedCondition, ResolvedRules, ResolvedPatterns}
+use Rattle.ta_meaning.proofs.Common.{ℕ, ◌+◌, ◌≡◌, List, [], take, map, length, length-append, Result, refl, sym, ap, subst, ◌∙◌, Vec, Form, Row, plain_sum}
+use Rattle.ta_meaning.proofs.Common.{plain_comparison, plain_location, plain_rule, plain_pattern, plain_tree, Tree, FileFault, Condition, Pattern, Rule, Places}
+use Rattle.ta_meaning.proofs.Common.{Automaton, PatternsShape, MeansAutomaton, initial_from, Names, guard_names, all_names, names_of, linear_sum}
+use Rattle.ta_meaning.proofs.Common.{is_large_linear, no_guards, where_, else_, sum_faults, condition_faults, processes_faults, in_parameters, rules_faults}
+use Rattle.ta_meaning.proofs.Common.{patterns_faults, names_faults, meaning_faults, Scope, FirstOrMemory, Answers, kinds_of, first_places, ResolvedForm}
+use Rattle.ta_meaning.proofs.Common.{ResolvedCondition, ResolvedRules, ResolvedPatterns}
 use Rattle.ta_syntax.specs.declared.fault.FileFault.TheVariants as fault
 use Rattle.ta_meaning.specs.declared.rules.Rules.{Rules}
 use Rattle.ta_meaning.proofs.Answering.{append-left-first, append-right-first}
@@ -19,32 +24,44 @@ processes-answer places t r k h =
     subst (λ (ns : Names). Answers (processes_faults ns t) (ResolvedForm ns.parameters (plain_sum t.processes)) r) k here
 
 pub resilience-answer : (places : Places) (t : Tree) (r : Result Condition FileFault) → kinds_of places ≡ names_of t
-    → Answers (condition_faults (first_places places.names places.parameters) t.resilience) (ResolvedCondition (take places.parameters places.names) (map plain_comparison t.resilience)) r
+    → Answers (condition_faults (first_places places.names places.parameters) t.resilience)
+    (ResolvedCondition (take places.parameters places.names) (map plain_comparison t.resilience)) r
     → Answers (condition_faults (in_parameters (names_of t)) t.resilience) (ResolvedCondition (names_of t).parameters (map plain_comparison t.resilience)) r
 resilience-answer places t r k h =
-    let here : Answers (condition_faults (in_parameters (kinds_of places)) t.resilience) (ResolvedCondition (kinds_of places).parameters (map plain_comparison t.resilience)) r =
-    subst (λ (s : Scope). Answers (condition_faults s t.resilience) (ResolvedCondition s.allowed (map plain_comparison t.resilience)) r) (sym (in_parameters_are places)) h in
-    subst (λ (ns : Names). Answers (condition_faults (in_parameters ns) t.resilience) (ResolvedCondition ns.parameters (map plain_comparison t.resilience)) r) k here
+    let here : Answers (condition_faults (in_parameters (kinds_of places)) t.resilience)
+    (ResolvedCondition (kinds_of places).parameters (map plain_comparison t.resilience)) r =
+    subst (λ (s : Scope). Answers (condition_faults s t.resilience) (ResolvedCondition s.allowed (map plain_comparison t.resilience)) r)
+    (sym (in_parameters_are places)) h in
+    subst (λ (ns : Names). Answers (condition_faults (in_parameters ns) t.resilience) (ResolvedCondition ns.parameters (map plain_comparison t.resilience)) r) k
+    here
 
 pub rules-answer : (places : Places) (t : Tree) (r : Result Rules FileFault) → kinds_of places ≡ names_of t
-    → Answers (rules_faults (kinds_of places) [] no_guards t.rules) (λ (r : Rules). ResolvedRules (kinds_of places) (map plain_rule t.rules) r.rise.items r.fall.items r.rules.items) r
-    → Answers (rules_faults (names_of t) [] no_guards t.rules) (λ (r : Rules). ResolvedRules (names_of t) (map plain_rule t.rules) r.rise.items r.fall.items r.rules.items) r
-rules-answer places t r k h = subst (λ (ns : Names). Answers (rules_faults ns [] no_guards t.rules) (λ (r : Rules). ResolvedRules ns (map plain_rule t.rules) r.rise.items r.fall.items r.rules.items) r) k h
+    → Answers (rules_faults (kinds_of places) [] no_guards t.rules)
+    (λ (r : Rules). ResolvedRules (kinds_of places) (map plain_rule t.rules) r.rise.items r.fall.items r.rules.items) r
+    → Answers (rules_faults (names_of t) [] no_guards t.rules)
+    (λ (r : Rules). ResolvedRules (names_of t) (map plain_rule t.rules) r.rise.items r.fall.items r.rules.items) r
+rules-answer places t r k h = subst
+    (λ (ns : Names). Answers (rules_faults ns [] no_guards t.rules)
+    (λ (r : Rules). ResolvedRules ns (map plain_rule t.rules) r.rise.items r.fall.items r.rules.items) r) k h
 
 pub patterns-answer : (places : Places) (t : Tree) (r : Result (Vec Pattern) FileFault) → kinds_of places ≡ names_of t
-    → Answers (patterns_faults (kinds_of places) [] t.patterns) (λ (ps : Vec Pattern). ResolvedPatterns (kinds_of places) (map plain_pattern t.patterns) ps.items) r
+    → Answers (patterns_faults (kinds_of places) [] t.patterns)
+    (λ (ps : Vec Pattern). ResolvedPatterns (kinds_of places) (map plain_pattern t.patterns) ps.items) r
     → Answers (patterns_faults (names_of t) [] t.patterns) (λ (ps : Vec Pattern). ResolvedPatterns (names_of t) (map plain_pattern t.patterns) ps.items) r
-patterns-answer places t r k h = subst (λ (ns : Names). Answers (patterns_faults ns [] t.patterns) (λ (ps : Vec Pattern). ResolvedPatterns ns (map plain_pattern t.patterns) ps.items) r) k h
+patterns-answer places t r k h = subst
+    (λ (ns : Names). Answers (patterns_faults ns [] t.patterns) (λ (ps : Vec Pattern). ResolvedPatterns ns (map plain_pattern t.patterns) ps.items) r) k h
 
 -- ---- the first error of a part is the first of the tree, where the parts before it have none
 
 pub at-names : (t : Tree) (e : FileFault) → FirstOrMemory (names_faults (names_of t) t) e → FirstOrMemory (meaning_faults t) e
 at-names t e h = append-left-first _ _ e h
 
-pub at-processes : (t : Tree) (e : FileFault) → names_faults (names_of t) t ≡ [] → FirstOrMemory (processes_faults (names_of t) t) e → FirstOrMemory (meaning_faults t) e
+pub at-processes : (t : Tree) (e : FileFault) → names_faults (names_of t) t ≡ [] → FirstOrMemory (processes_faults (names_of t) t) e
+    → FirstOrMemory (meaning_faults t) e
 at-processes t e names h = append-right-first (names_faults (names_of t) t) _ e names (append-left-first _ _ e h)
 
-pub at-resilience : (t : Tree) (e : FileFault) → names_faults (names_of t) t ≡ [] → processes_faults (names_of t) t ≡ [] → FirstOrMemory (condition_faults (in_parameters (names_of t)) t.resilience) e → FirstOrMemory (meaning_faults t) e
+pub at-resilience : (t : Tree) (e : FileFault) → names_faults (names_of t) t ≡ [] → processes_faults (names_of t) t ≡ []
+    → FirstOrMemory (condition_faults (in_parameters (names_of t)) t.resilience) e → FirstOrMemory (meaning_faults t) e
 at-resilience t e names processes h =
     append-right-first (names_faults (names_of t) t) _ e names (append-right-first (processes_faults (names_of t) t) _ e processes (append-left-first _ _ e h))
 
@@ -56,22 +73,33 @@ pub record HeadClean (t : Tree) : Type 0 where
 
 pub at-rules : (t : Tree) (e : FileFault) → HeadClean t → FirstOrMemory (rules_faults (names_of t) [] no_guards t.rules) e → FirstOrMemory (meaning_faults t) e
 at-rules t e clean h =
-    append-right-first (names_faults (names_of t) t) _ e clean.names (append-right-first (processes_faults (names_of t) t) _ e clean.processes (append-right-first (condition_faults (in_parameters (names_of t)) t.resilience) _ e clean.resilience (append-left-first _ _ e h)))
+    append-right-first (names_faults (names_of t) t) _ e clean.names
+    (append-right-first (processes_faults (names_of t) t) _ e clean.processes
+    (append-right-first (condition_faults (in_parameters (names_of t)) t.resilience) _ e clean.resilience (append-left-first _ _ e h)))
 
-pub at-patterns : (t : Tree) (e : FileFault) → HeadClean t → rules_faults (names_of t) [] no_guards t.rules ≡ [] → FirstOrMemory (patterns_faults (names_of t) [] t.patterns) e → FirstOrMemory (meaning_faults t) e
+pub at-patterns : (t : Tree) (e : FileFault) → HeadClean t → rules_faults (names_of t) [] no_guards t.rules ≡ []
+    → FirstOrMemory (patterns_faults (names_of t) [] t.patterns) e → FirstOrMemory (meaning_faults t) e
 at-patterns t e clean rules h =
-    append-right-first (names_faults (names_of t) t) _ e clean.names (append-right-first (processes_faults (names_of t) t) _ e clean.processes (append-right-first (condition_faults (in_parameters (names_of t)) t.resilience) _ e clean.resilience (append-right-first (rules_faults (names_of t) [] no_guards t.rules) _ e rules h)))
+    append-right-first (names_faults (names_of t) t) _ e clean.names
+    (append-right-first (processes_faults (names_of t) t) _ e clean.processes
+    (append-right-first (condition_faults (in_parameters (names_of t)) t.resilience) _ e clean.resilience
+    (append-right-first (rules_faults (names_of t) [] no_guards t.rules) _ e rules h)))
 
-pub all-clean : (t : Tree) → HeadClean t → rules_faults (names_of t) [] no_guards t.rules ≡ [] → patterns_faults (names_of t) [] t.patterns ≡ [] → meaning_faults t ≡ []
+pub all-clean : (t : Tree) → HeadClean t → rules_faults (names_of t) [] no_guards t.rules ≡ [] → patterns_faults (names_of t) [] t.patterns ≡ []
+    → meaning_faults t ≡ []
 all-clean t clean rules patterns =
-    empty_both (names_faults (names_of t) t) _ clean.names (empty_both (processes_faults (names_of t) t) _ clean.processes (empty_both (condition_faults (in_parameters (names_of t)) t.resilience) _ clean.resilience (empty_both (rules_faults (names_of t) [] no_guards t.rules) _ rules patterns)))
+    empty_both (names_faults (names_of t) t) _ clean.names
+    (empty_both (processes_faults (names_of t) t) _ clean.processes
+    (empty_both (condition_faults (in_parameters (names_of t)) t.resilience) _ clean.resilience
+    (empty_both (rules_faults (names_of t) [] no_guards t.rules) _ rules patterns)))
 
 -- ---- the tree's file
 
 -- the places that a pattern's shape counts are those of the automaton
 pub patterns_shape-of :
     (t : Tree) (parameters shared locations : List (List ℕ)) (patterns patterns' : List Pattern)
-    → parameters ≡ (names_of t).parameters → shared ≡ (names_of t).shared → locations ≡ (names_of t).locations → ResolvedPatterns (names_of t) (map plain_pattern t.patterns) patterns → patterns' ≡ patterns
+    → parameters ≡ (names_of t).parameters → shared ≡ (names_of t).shared → locations ≡ (names_of t).locations
+    → ResolvedPatterns (names_of t) (map plain_pattern t.patterns) patterns → patterns' ≡ patterns
     → PatternsShape (length parameters + length shared + length locations) (length locations) patterns'
 patterns_shape-of t parameters shared locations patterns patterns' p s l resolved same =
     let ns = names_of t in

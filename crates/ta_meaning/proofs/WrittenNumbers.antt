@@ -1,5 +1,6 @@
 -- The numbers that digits write.
-use Rattle.ta_meaning.proofs.Common.{◌≡◌, ℕ, ◌+◌, ◌*◌, ◌-◌, ◌<◌, ◌≤◌, List, [], length, take, get_or, ltb, arith, nat_tests, Decides-ltb, IsDigits, Digits, digits_all, number_of, First, digits_faults}
+use Rattle.ta_meaning.proofs.Common.{◌≡◌, ℕ, ◌+◌, ◌*◌, ◌-◌, ◌<◌, ◌≤◌, List, [], length, take, get_or, ltb, arith, nat_tests, Decides-ltb, IsDigits, Digits}
+use Rattle.ta_meaning.proofs.Common.{digits_all, number_of, First, digits_faults}
 use Rattle.std.proofs.lemmas.Int.Digits.{digits_value_more}
 use Rattle.std.proofs.lemmas.Str.Parse.{digits_value-take-le}
 use Rattle.ta_syntax.specs.declared.fault.FileFault.TheVariants as fault

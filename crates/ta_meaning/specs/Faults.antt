@@ -126,7 +126,8 @@ linear_term names t = record { constant = term_constant t; coefficients = map (�
 abbrev pub term_judged : Scope → TreeTerm-F (WithFaults Factor) (WithFaults Terms) (WithFaults Term) → WithFaults Term
 term_judged s t = record {
   plain = term_of t.factor (plain_part t.body);
-  faults = else_ (number_faults t.factor ++ part_faults t.body) (where_ (is_large_linear (linear_term s.allowed (term_of t.factor (plain_part t.body)))) (fault.TooLarge t.at));
+  faults = else_ (number_faults t.factor ++ part_faults t.body)
+      (where_ (is_large_linear (linear_term s.allowed (term_of t.factor (plain_part t.body)))) (fault.TooLarge t.at));
 }
 
 abbrev pub judged_sum : Scope → TreeSum → WithFaults Terms
@@ -236,7 +237,8 @@ any_initial (l ∷ ls) = l.initial || any_initial ls
 -- F6 for the sum of `processes` if none of its terms has an error
 abbrev pub processes_faults : Names → Tree → List FileFault
 processes_faults ns t =
-    else_ (sum_faults (in_parameters ns) t.processes) (where_ (is_large_linear (linear_sum ns.parameters (plain_sum t.processes))) (fault.TooLarge t.processes_at))
+    else_ (sum_faults (in_parameters ns) t.processes)
+    (where_ (is_large_linear (linear_sum ns.parameters (plain_sum t.processes))) (fault.TooLarge t.processes_at))
 
 -- the text before the sum of `processes`: F12 if no location is initial
 abbrev pub names_faults : Names → Tree → List FileFault

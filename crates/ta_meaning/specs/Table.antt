@@ -99,7 +99,8 @@ pub data IsUsed (t : Tree) (s : Scope) (n : Spelled) : Type 0 where
   used_to : (r : TreeRule) → In r t.rules → s ≡ at_locations t → n ≡ r.to → IsUsed t s n
   used_update : (r : TreeRule) → In r t.rules → s ≡ at_shared t → In n (map updated_name r.updates) → IsUsed t s n
   used_empty : (p : TreePattern) → In p t.patterns → s ≡ at_locations t → In n p.empty → IsUsed t s n
-  used_after : (p : TreePattern) (earlier later : List TreeEvent) (e : TreeEvent) → In p t.patterns → p.events ≡ earlier ++ e ∷ later → s ≡ at_events earlier → In n e.after → IsUsed t s n
+  used_after : (p : TreePattern) (earlier later : List TreeEvent) (e : TreeEvent) → In p t.patterns → p.events ≡ earlier ++ e ∷ later → s ≡ at_events earlier
+      → In n e.after → IsUsed t s n
   used_sum : (sum : TreeSum) → HasSum t s sum → In n (names_of_terms (seen_sum sum)) → IsUsed t s n
 
 -- ---- F6: numbers
@@ -152,21 +153,25 @@ pub data IsFaultOf (t : Tree) (e : FileFault) : Type 0 where
   -- F4: a name that is used and not declared
   unknown : (s : Scope) (n : Spelled) → IsUsed t s n → has_name s.places n.name ≡ false → e ≡ fault.Unknown n.at → IsFaultOf t e
   -- F5: a name of a kind that may not occur there
-  wrong_kind : (s : Scope) (n : Spelled) → IsUsed t s n → has_name s.places n.name ≡ true → has_name s.allowed n.name ≡ false → e ≡ fault.WrongKind n.at → IsFaultOf t e
+  wrong_kind : (s : Scope) (n : Spelled) → IsUsed t s n → has_name s.places n.name ≡ true → has_name s.allowed n.name ≡ false → e ≡ fault.WrongKind n.at
+      → IsFaultOf t e
   -- F6: a declared name longer than 64 bytes
   long : (n : Spelled) → IsDeclared t n → 64 < length n.name → e ≡ fault.TooLarge n.at → IsFaultOf t e
   -- F6: a number above 1,000,000,000
   large_number : (d : Digits) → IsNumberOf t d → LARGEST_NUMBER < number_of d.text → e ≡ fault.TooLarge d.at → IsFaultOf t e
   -- F6: a term whose form has such a number
-  large_term : (s : Scope) (sum : TreeSum) (x : PlacedTerm) → HasSum t s sum → In x (terms_of_terms (seen_sum sum)) → is_large_linear (linear_term s.allowed x.term) ≡ true → e ≡ fault.TooLarge x.at → IsFaultOf t e
+  large_term : (s : Scope) (sum : TreeSum) (x : PlacedTerm) → HasSum t s sum → In x (terms_of_terms (seen_sum sum))
+      → is_large_linear (linear_term s.allowed x.term) ≡ true → e ≡ fault.TooLarge x.at → IsFaultOf t e
   -- F6: a comparison with a normal row that has one
-  large_row : (s : Scope) (c : TreeComparison) → HasComparison t s c → any_large (comparison_rows s.allowed (plain_comparison c)) ≡ true → e ≡ fault.TooLarge c.at → IsFaultOf t e
+  large_row : (s : Scope) (c : TreeComparison) → HasComparison t s c → any_large (comparison_rows s.allowed (plain_comparison c)) ≡ true
+      → e ≡ fault.TooLarge c.at → IsFaultOf t e
   -- F6: the sum of `processes` whose form has one
   large_sum : is_large_linear (linear_sum (names_of t).parameters (plain_sum t.processes)) ≡ true → e ≡ fault.TooLarge t.processes_at → IsFaultOf t e
   -- F7: a guard in excess of 16 distinct rise guards or 6 distinct fall guards
   one_more : (c : TreeComparison) → IsOneMore t c → e ≡ fault.TooMany c.at → IsFaultOf t e
   -- F9: a guard that is not a threshold guard
-  no_threshold : (c : TreeComparison) → In c (tree_guards t) → is_no_threshold (length (names_of t).parameters) (tree_guard_rows t c) ≡ true → e ≡ fault.NotThreshold c.at → IsFaultOf t e
+  no_threshold : (c : TreeComparison) → In c (tree_guards t) → is_no_threshold (length (names_of t).parameters) (tree_guard_rows t c) ≡ true
+      → e ≡ fault.NotThreshold c.at → IsFaultOf t e
   -- F12: no location is initial
   no_initial : any_initial t.locations ≡ false → e ≡ fault.NoInitial t.locations_at → IsFaultOf t e
 

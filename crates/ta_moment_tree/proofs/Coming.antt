@@ -7,7 +7,7 @@ use Rattle.ta_automaton.specs.declared.pattern.Pattern.{Pattern}
 use Rattle.ta_automaton.specs.Patterns.{PatternOver}
 use Rattle.ta_encode.specs.Code.{SystemAt}
 use Rattle.ta_encode.proofs.CodeRows.{rows_count}
-use Rattle.ta_cursor.specs.TreeCalls.{IsSmall}
+use Rattle.ta_encode.specs.TreeCalls.{IsSmall}
 use Rattle.ta_linear.specs.declared.row.System.{System}
 use Rattle.ta_encode.specs.Search.{BeginsAtWord, Comes, Pending, bounded_rows}
 use Rattle.ta_moments.specs.declared.fact.Fact.{Fact}
@@ -15,19 +15,22 @@ use Rattle.ta_moments.specs.Facts.{candidates}
 use Rattle.ta_moments.specs.Moments.{known}
 use Rattle.ta_moments.specs.Refutes.{Asking, root}
 use Rattle.ta_moments.specs.Searched.{Maker, candidate_of, moment_search, pending_of}
-use Rattle.ta_moment_encode.proofs.Coming.{none_begins, search_small}
-use Rattle.ta_moment_encode.proofs.Systems.{back}
+use Rattle.ta_moment_tree.proofs.ComingFacts.{none_begins, search_small}
+use Rattle.ta_moment_tree.proofs.Systems.{back}
 use Rattle.ta_moment_tree.proofs.Reversed.{reverse_parts}
 
 module _ (a : Automaton) (p : Pattern) (asking : Asking) (maker : Maker) where
   -- to what it comes, it comes by what is above
-  pub comes_above : (start : ℕ) (newer past : List Fact) → Comes (moment_search a p asking maker) start (newer ++ past) → Comes (moment_search a p asking maker) start past
+  pub comes_above : (start : ℕ) (newer past : List Fact) → Comes (moment_search a p asking maker) start (newer ++ past)
+      → Comes (moment_search a p asking maker) start past
   comes_above start [] past h = h
   comes_above start (e ∷ newer) past (inl h) = absurd (none_begins a p asking maker h.0 e (newer ++ past) h.1 h.3)
   comes_above start (e ∷ newer) past (inr h) = comes_above start newer past h.1
 
-  pub comes_first : (start : ℕ) (facts : List Fact) (i : ℕ) → Comes (moment_search a p asking maker) start (reverse facts) → Comes (moment_search a p asking maker) start (reverse (take i facts))
-  comes_first start facts i h = comes_above start (reverse (drop i facts)) (reverse (take i facts)) (subst (λ (past : List Fact). Comes (moment_search a p asking maker) start past) (reverse_parts facts i) h)
+  pub comes_first : (start : ℕ) (facts : List Fact) (i : ℕ) → Comes (moment_search a p asking maker) start (reverse facts)
+      → Comes (moment_search a p asking maker) start (reverse (take i facts))
+  comes_first start facts i h = comes_above start (reverse (drop i facts)) (reverse (take i facts))
+      (subst (λ (past : List Fact). Comes (moment_search a p asking maker) start past) (reverse_parts facts i) h)
 
   -- each start is a candidate's
   listed_begin : (start : ℕ) (past : List Fact) → BeginsAtWord (moment_search a p asking maker) start past → In (candidate_of start) (candidates p)
@@ -42,14 +45,16 @@ module _ (a : Automaton) (p : Pattern) (asking : Asking) (maker : Maker) where
   comes_listed start (e ∷ past) (inr h) = comes_listed start past h.1
 
   -- and has few unknowns
-  pub comes_few : PatternOver a p → (start : ℕ) (past : List Fact) → Comes (moment_search a p asking maker) start past → (known a p asking.silent (candidate_of start) past).unknowns < 1000000
+  pub comes_few : PatternOver a p → (start : ℕ) (past : List Fact) → Comes (moment_search a p asking maker) start past
+      → (known a p asking.silent (candidate_of start) past).unknowns < 1000000
   comes_few over start past h =
       let w : Pending Fact = record { start = start; past = past; bounds = [] } in
       let small = search_small a p over asking maker w h in
       omega (arith, small)
 
   -- a system of it is small
-  pub comes_small : PatternOver a p → (w : Pending Fact) (system : System) → Comes (moment_search a p asking maker) w.start w.past → SystemAt (moment_search a p asking maker) w system → IsSmall w.bounds system
+  pub comes_small : PatternOver a p → (w : Pending Fact) (system : System) → Comes (moment_search a p asking maker) w.start w.past
+      → SystemAt (moment_search a p asking maker) w system → IsSmall w.bounds system
   comes_small over w system h at =
       let small = search_small a p over asking maker w h in
       let unknowns = at.unknowns in

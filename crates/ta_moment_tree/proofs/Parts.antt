@@ -1,5 +1,6 @@
 -- nodes that are written on
-use Rattle.std.proofs.Common.{◌≡◌, ◌∙◌, ℕ, zero, suc, ◌+◌, ◌<◌, ◌≤◌, List, [], ◌∷◌, ◌++◌, drop, get_or, length, reverse, slice_get, take, Option, Some, refl, sym, ap, subst, arith, inl, inr, length-append}
+use Rattle.std.proofs.Common.{◌≡◌, ◌∙◌, ℕ, zero, suc, ◌+◌, ◌<◌, ◌≤◌, List, [], ◌∷◌, ◌++◌, drop, get_or, length, reverse, slice_get, take, Option, Some, refl}
+use Rattle.std.proofs.Common.{sym, ap, subst, arith, inl, inr, length-append}
 use Rattle.std.proofs.lemmas.List.{length-map, length-take-le, take-append-drop, take-append-le, take-take}
 use Rattle.std.proofs.lemmas.Option.{same_Some, slice_get_within}
 use Rattle.ta_base.proofs.Lists.{fewer_alike, get_parts, reverse_more, slice_get_left}
@@ -16,38 +17,43 @@ use Rattle.ta_moments.specs.Searched.{Maker, candidate_of, moment_search, start_
 use Rattle.std.proofs.Math.Seq.{take-length}
 use Rattle.ta_moments.specs.declared.fact.Fact.{Fact}
 use Rattle.ta_moments.specs.Moments.{Known, known}
-use Rattle.ta_moment_encode.specs.Cuts.{IsMark}
-use Rattle.ta_moment_encode.specs.Forms.{form_of}
-use Rattle.ta_moment_encode.specs.Draft.{known_of}
-use Rattle.ta_moment_encode.specs.Nodes.{IsNode}
+use Rattle.ta_moment_tree.specs.Cuts.{IsMark}
+use Rattle.ta_moment_tree.specs.Forms.{form_of}
+use Rattle.ta_moment_tree.specs.Draft.{known_of}
+use Rattle.ta_moment_tree.specs.Nodes.{IsNode}
 use Rattle.ta_words.specs.declared.task.Task.{Task}
-use Rattle.ta_moment_encode.specs.declared.encoding.MomentEncoding.{MomentEncoding}
-use Rattle.ta_moment_encode.specs.declared.mark.NodeMark.{NodeMark}
-use Rattle.ta_moment_encode.proofs.Cutting.{rows_front}
+use Rattle.ta_moment_tree.specs.declared.encoding.MomentEncoding.{MomentEncoding}
+use Rattle.ta_moment_tree.specs.declared.mark.NodeMark.{NodeMark}
+use Rattle.ta_moment_tree.proofs.Cutting.{rows_front}
 use Rattle.ta_moment_tree.specs.Kept.{AreMarks, NodeIs}
 use Rattle.ta_moment_tree.proofs.Reversed.{reverse_parts}
 
 -- ---- marks
 module _ (a : Automaton) (p : Pattern) (silent : List ℕ) (c : Option ℕ) where
-  first_only : (facts : List Fact) (mark : NodeMark) (i : ℕ) (other : NodeMark) → IsMark (known a p silent c []) mark → slice_get (mark ∷ []) i ≡ Some other → IsMark (known a p silent c (reverse (take i facts))) other
+  first_only : (facts : List Fact) (mark : NodeMark) (i : ℕ) (other : NodeMark) → IsMark (known a p silent c []) mark → slice_get (mark ∷ []) i ≡ Some other
+      → IsMark (known a p silent c (reverse (take i facts))) other
   first_only facts mark zero other is at = subst (λ (m : NodeMark). IsMark (known a p silent c []) m) (same_Some mark other at) is
   first_only facts mark (suc i) other is at = absurd (cc)
 
   -- that of the node without facts
-  pub marks_first : (facts : List Fact) (mark : NodeMark) (marks : List NodeMark) → marks ≡ mark ∷ [] → IsMark (known a p silent c []) mark → AreMarks a p silent c facts 0 marks
+  pub marks_first : (facts : List Fact) (mark : NodeMark) (marks : List NodeMark) → marks ≡ mark ∷ [] → IsMark (known a p silent c []) mark
+      → AreMarks a p silent c facts 0 marks
   marks_first facts mark marks are is = record {
     marked = ap (λ (ms : List NodeMark). length ms) are;
     each = λ i other at. first_only facts mark i other is (ap (λ (ms : List NodeMark). slice_get ms i) (sym are) ∙ at);
   }
 
-  last_one : (facts : List Fact) (n i k : ℕ) (mark other : NodeMark) → IsMark (known a p silent c (reverse (take (n + 1) facts))) mark → i ≡ n + 1 + k → slice_get (mark ∷ []) k ≡ Some other → IsMark (known a p silent c (reverse (take i facts))) other
+  last_one : (facts : List Fact) (n i k : ℕ) (mark other : NodeMark) → IsMark (known a p silent c (reverse (take (n + 1) facts))) mark → i ≡ n + 1 + k
+      → slice_get (mark ∷ []) k ≡ Some other → IsMark (known a p silent c (reverse (take i facts))) other
   last_one facts n i zero mark other is here at =
       let same : n + 1 ≡ i = omega (arith, here) in
-      subst (λ (j : ℕ). IsMark (known a p silent c (reverse (take j facts))) other) same (subst (λ (m : NodeMark). IsMark (known a p silent c (reverse (take (n + 1) facts))) m) (same_Some mark other at) is)
+      subst (λ (j : ℕ). IsMark (known a p silent c (reverse (take j facts))) other) same
+      (subst (λ (m : NodeMark). IsMark (known a p silent c (reverse (take (n + 1) facts))) m) (same_Some mark other at) is)
   last_one facts n i (suc k) mark other is here at = absurd (cc)
 
   -- with one more
-  pub marks_more : (facts : List Fact) (n : ℕ) (mark : NodeMark) (marks more : List NodeMark) → AreMarks a p silent c facts n marks → more ≡ marks ++ mark ∷ [] → IsMark (known a p silent c (reverse (take (n + 1) facts))) mark → AreMarks a p silent c facts (n + 1) more
+  pub marks_more : (facts : List Fact) (n : ℕ) (mark : NodeMark) (marks more : List NodeMark) → AreMarks a p silent c facts n marks → more ≡ marks ++ mark ∷ []
+      → IsMark (known a p silent c (reverse (take (n + 1) facts))) mark → AreMarks a p silent c facts (n + 1) more
   marks_more facts n mark marks more are is here = record {
     marked = (let count = are.marked in omega (arith, ap (λ (ms : List NodeMark). length ms) is, length-append marks (mark ∷ []), count));
     each = λ i other at. elim (get_parts marks (mark ∷ []) i other (ap (λ (ms : List NodeMark). slice_get ms i) (sym is) ∙ at)) [
@@ -57,43 +63,62 @@ module _ (a : Automaton) (p : Pattern) (silent : List ℕ) (c : Option ℕ) wher
   }
 
   -- and after some facts that other facts begin with too
-  pub marks_cut : (facts others : List Fact) (n shared : ℕ) (marks : List NodeMark) → AreMarks a p silent c facts n marks → shared < length marks → take shared facts ≡ take shared others → AreMarks a p silent c others shared (take (shared + 1) marks)
+  pub marks_cut : (facts others : List Fact) (n shared : ℕ) (marks : List NodeMark) → AreMarks a p silent c facts n marks → shared < length marks
+      → take shared facts ≡ take shared others → AreMarks a p silent c others shared (take (shared + 1) marks)
   marks_cut facts others n shared marks are inside same = record {
     marked = length-take-le (shared + 1) marks (omega (arith, inside));
     each = λ i other at.
         let below = slice_get_within (take (shared + 1) marks) i other at in
         let short = length-take-le (shared + 1) marks (omega (arith, inside)) in
-        let there = ap (λ (ms : List NodeMark). slice_get ms i) (sym (take-append-drop (shared + 1) marks)) ∙ slice_get_left (take (shared + 1) marks) (drop (shared + 1) marks) i other at in
-        subst (λ (facts : List Fact). IsMark (known a p silent c (reverse facts)) other) (fewer_alike i shared facts others (omega (arith, below, short)) same) (are.each i other there);
+        let there = ap (λ (ms : List NodeMark). slice_get ms i) (sym (take-append-drop (shared + 1) marks))
+        ∙ slice_get_left (take (shared + 1) marks) (drop (shared + 1) marks) i other at in
+        subst (λ (facts : List Fact). IsMark (known a p silent c (reverse facts)) other) (fewer_alike i shared facts others (omega (arith, below, short)) same)
+        (are.each i other there);
   }
 
 -- ---- nodes
-pub known_of_node : (a : Automaton) (p : Pattern) (silent : List ℕ) (c : Option ℕ) (past : List Fact) (node : MomentEncoding) → NodeIs a p silent c past node → known_of node.draft ≡ known a p silent c past
+pub known_of_node : (a : Automaton) (p : Pattern) (silent : List ℕ) (c : Option ℕ) (past : List Fact) (node : MomentEncoding) → NodeIs a p silent c past node
+    → known_of node.draft ≡ known a p silent c past
 known_of_node a p silent c past node is =
-    is.is.draft.known ∙ ap (λ (b : Automaton). known b node.plan.task.pattern.now silent c past) is.automaton ∙ ap (λ (q : Pattern). known a q silent c past) is.pattern
+    is.is.draft.known ∙ ap (λ (b : Automaton). known b node.plan.task.pattern.now silent c past) is.automaton
+    ∙ ap (λ (q : Pattern). known a q silent c past) is.pattern
 
-pub node_unknowns : (a : Automaton) (p : Pattern) (silent : List ℕ) (c : Option ℕ) (past : List Fact) (node : MomentEncoding) → NodeIs a p silent c past node → node.draft.unknowns ≡ (known a p silent c past).unknowns
+pub node_unknowns : (a : Automaton) (p : Pattern) (silent : List ℕ) (c : Option ℕ) (past : List Fact) (node : MomentEncoding) → NodeIs a p silent c past node
+    → node.draft.unknowns ≡ (known a p silent c past).unknowns
 node_unknowns a p silent c past node is = ap (λ (k : Known). k.unknowns) (known_of_node a p silent c past node is)
 
 -- a mark of a node above has no more rows
-pub mark_within : (a : Automaton) (p : Pattern) (silent : List ℕ) (c : Option ℕ) (facts : List Fact) (i : ℕ) (mark : NodeMark) (node : MomentEncoding) → NodeIs a p silent c (reverse facts) node → IsMark (known a p silent c (reverse (take i facts))) mark → mark.rows ≤ length node.draft.rows.items
+pub mark_within : (a : Automaton) (p : Pattern) (silent : List ℕ) (c : Option ℕ) (facts : List Fact) (i : ℕ) (mark : NodeMark) (node : MomentEncoding)
+    → NodeIs a p silent c (reverse facts) node → IsMark (known a p silent c (reverse (take i facts))) mark → mark.rows ≤ length node.draft.rows.items
 mark_within a p silent c facts i mark node is at =
     let front = rows_front a p silent c (reverse (drop i facts)) (reverse (take i facts)) in
     let whole = ap (λ (past : List Fact). (known a p silent c past).rows) (reverse_parts facts i) ∙ front.is in
     let rows = ap (λ (k : Known). k.rows) (known_of_node a p silent c (reverse facts) node is) in
     let count = at.rows in
-    omega (arith, count, length-map node.draft.rows.items (λ (row : Row). form_of row.form), ap length rows, ap length whole, length-append (known a p silent c (reverse (take i facts))).rows front.more)
+    omega (
+      arith,
+      count,
+      length-map node.draft.rows.items (λ (row : Row). form_of row.form),
+      ap length rows,
+      ap length whole,
+      length-append
+          (known a p silent c (reverse (take i facts))).rows front.more,
+    )
 
 -- a node that is cut is the node of the facts that are left, with which other facts begin too
-pub node_cut : (a : Automaton) (p : Pattern) (silent : List ℕ) (c : Option ℕ) (written facts : List Fact) (shared : ℕ) (mark : NodeMark) (node cut : MomentEncoding) → NodeIs a p silent c (reverse written) node
+pub node_cut : (a : Automaton) (p : Pattern) (silent : List ℕ) (c : Option ℕ) (written facts : List Fact) (shared : ℕ) (mark : NodeMark)
+    (node cut : MomentEncoding) → NodeIs a p silent c (reverse written) node
     → cut.plan.task ≡ node.plan.task
-    → ((newer past : List Fact) → IsNode silent c (newer ++ past) node → IsMark (known node.plan.task.automaton.now node.plan.task.pattern.now silent c past) mark → IsNode silent c past cut)
+    → ((newer past : List Fact) → IsNode silent c (newer ++ past) node
+    → IsMark (known node.plan.task.automaton.now node.plan.task.pattern.now silent c past) mark → IsNode silent c past cut)
     → IsMark (known a p silent c (reverse (take shared written))) mark → take shared written ≡ take shared facts
     → NodeIs a p silent c (reverse (take shared facts)) cut
 node_cut a p silent c written facts shared mark node cut is task cuts at same =
     let past = reverse (take shared written) in
-    let there = subst (λ (b : Automaton). IsMark (known b node.plan.task.pattern.now silent c past) mark) (sym is.automaton) (subst (λ (q : Pattern). IsMark (known a q silent c past) mark) (sym is.pattern) at) in
-    let left = cuts (reverse (drop shared written)) past (subst (λ (facts : List Fact). IsNode silent c facts node) (reverse_parts written shared) is.is) there in
+    let there = subst (λ (b : Automaton). IsMark (known b node.plan.task.pattern.now silent c past) mark) (sym is.automaton)
+    (subst (λ (q : Pattern). IsMark (known a q silent c past) mark) (sym is.pattern) at) in
+    let left = cuts (reverse (drop shared written)) past (subst (λ (facts : List Fact). IsNode silent c facts node) (reverse_parts written shared) is.is) there
+    in
     record {
       automaton = ap (λ (k : Task). k.automaton.now) task ∙ is.automaton;
       pattern = ap (λ (k : Task). k.pattern.now) task ∙ is.pattern;
@@ -101,7 +126,8 @@ node_cut a p silent c written facts shared mark node cut is task cuts at same =
     }
 
 -- a node with one more fact is the next one
-pub node_next : (a : Automaton) (p : Pattern) (silent : List ℕ) (c : Option ℕ) (facts : List Fact) (i : ℕ) (d : Fact) (node next : MomentEncoding) → i < length facts → NodeIs a p silent c (reverse (take i facts)) node
+pub node_next : (a : Automaton) (p : Pattern) (silent : List ℕ) (c : Option ℕ) (facts : List Fact) (i : ℕ) (d : Fact) (node next : MomentEncoding)
+    → i < length facts → NodeIs a p silent c (reverse (take i facts)) node
     → next.plan.task ≡ node.plan.task → IsNode silent c (get_or facts i d ∷ reverse (take i facts)) next
     → NodeIs a p silent c (reverse (take (i + 1) facts)) next
 node_next a p silent c facts i d node next below is task more = record {
@@ -111,9 +137,12 @@ node_next a p silent c facts i d node next below is task more = record {
 }
 
 -- the mark that an encoding tells is its node's
-pub mark_of : (a : Automaton) (p : Pattern) (silent : List ℕ) (c : Option ℕ) (past : List Fact) (node : MomentEncoding) (mark : NodeMark) → NodeIs a p silent c past node → IsMark (known node.plan.task.automaton.now node.plan.task.pattern.now silent c past) mark → IsMark (known a p silent c past) mark
+pub mark_of : (a : Automaton) (p : Pattern) (silent : List ℕ) (c : Option ℕ) (past : List Fact) (node : MomentEncoding) (mark : NodeMark)
+    → NodeIs a p silent c past node → IsMark (known node.plan.task.automaton.now node.plan.task.pattern.now silent c past) mark
+    → IsMark (known a p silent c past) mark
 mark_of a p silent c past node mark is at =
-    subst (λ (q : Pattern). IsMark (known a q silent c past) mark) is.pattern (subst (λ (b : Automaton). IsMark (known b node.plan.task.pattern.now silent c past) mark) is.automaton at)
+    subst (λ (q : Pattern). IsMark (known a q silent c past) mark) is.pattern
+    (subst (λ (b : Automaton). IsMark (known b node.plan.task.pattern.now silent c past) mark) is.automaton at)
 
 -- ---- rows that stay
 pub same_nothing : (before rows : List Row) → SameRows before 0 rows
@@ -139,24 +168,32 @@ pub begins_self : (same : ℕ) (rows : List Row) → IsBehind (take same rows) r
 begins_self same rows = record { more = drop same rows; is = sym (take-append-drop same rows) }
 
 pub begins_before : (before rows : List Row) (same : ℕ) → SameRows before same rows → IsBehind (take same rows) before
-begins_before before rows same stay = record { more = drop same before; is = sym (take-append-drop same before) ∙ ap (λ (rs : List Row). rs ++ drop same before) stay.rows_are }
+begins_before before rows same stay = record
+    { more = drop same before; is = sym (take-append-drop same before) ∙ ap (λ (rs : List Row). rs ++ drop same before) stay.rows_are }
 
-pub same_end : (before rows system : List Row) (same : ℕ) → SameRows before same rows → SameRows before (length (take same rows)) system → SameRows before same system
+pub same_end : (before rows system : List Row) (same : ℕ) → SameRows before same rows → SameRows before (length (take same rows)) system
+    → SameRows before same system
 same_end before rows system same stay end = subst (λ (n : ℕ). SameRows before n system) (length-take-le same rows stay.within) end
 
 -- ---- the whole node
-pub node_whole : (a : Automaton) (p : Pattern) (silent : List ℕ) (c : Option ℕ) (facts : List Fact) (from : ℕ) (node : MomentEncoding) → from ≡ length facts → NodeIs a p silent c (reverse (take from facts)) node → NodeIs a p silent c (reverse facts) node
-node_whole a p silent c facts from node all is = subst (λ (xs : List Fact). NodeIs a p silent c (reverse xs) node) (ap (λ n. take n facts) all ∙ take-length facts) is
+pub node_whole : (a : Automaton) (p : Pattern) (silent : List ℕ) (c : Option ℕ) (facts : List Fact) (from : ℕ) (node : MomentEncoding) → from ≡ length facts
+    → NodeIs a p silent c (reverse (take from facts)) node → NodeIs a p silent c (reverse facts) node
+node_whole a p silent c facts from node all is = subst (λ (xs : List Fact). NodeIs a p silent c (reverse xs) node)
+    (ap (λ n. take n facts) all ∙ take-length facts) is
 
 forth : (start : ℕ) → start_of (candidate_of start) ≡ start
 forth zero = refl
 forth (suc e) = refl
 
 -- its system is that of the search
-pub system_at : (a : Automaton) (p : Pattern) (asking : Asking) (maker : Maker) (start : ℕ) (past : List Fact) (bounds : List Bound) (node : MomentEncoding) (system : System) → NodeIs a p asking.silent (candidate_of start) past node
-    → SystemAt (moment_search node.plan.task.automaton.now node.plan.task.pattern.now asking maker) (record { start = start_of (candidate_of start); past = past; bounds = bounds }) system
+pub system_at : (a : Automaton) (p : Pattern) (asking : Asking) (maker : Maker) (start : ℕ) (past : List Fact) (bounds : List Bound) (node : MomentEncoding)
+    (system : System) → NodeIs a p asking.silent (candidate_of start) past node
+    → SystemAt (moment_search node.plan.task.automaton.now node.plan.task.pattern.now asking maker)
+    (record { start = start_of (candidate_of start); past = past; bounds = bounds }) system
     → SystemAt (moment_search a p asking maker) (record { start = start; past = past; bounds = bounds }) system
 system_at a p asking maker start past bounds node system is at =
     subst (λ (n : ℕ). SystemAt (moment_search a p asking maker) (record { start = n; past = past; bounds = bounds }) system) (forth start)
-    (subst (λ (q : Pattern). SystemAt (moment_search a q asking maker) (record { start = start_of (candidate_of start); past = past; bounds = bounds }) system) is.pattern
-    (subst (λ (b : Automaton). SystemAt (moment_search b node.plan.task.pattern.now asking maker) (record { start = start_of (candidate_of start); past = past; bounds = bounds }) system) is.automaton at))
+    (subst (λ (q : Pattern). SystemAt (moment_search a q asking maker) (record { start = start_of (candidate_of start); past = past; bounds = bounds }) system)
+    is.pattern
+    (subst (λ (b : Automaton). SystemAt (moment_search b node.plan.task.pattern.now asking maker)
+    (record { start = start_of (candidate_of start); past = past; bounds = bounds }) system) is.automaton at))

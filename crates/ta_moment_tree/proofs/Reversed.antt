@@ -18,7 +18,8 @@ and_turned false false = refl
 
 open_both : (xs ys : List Fact) (q : Question) → is_open (xs ++ ys) q ≡ (is_open xs q && is_open ys q)
 open_both [] ys q = refl
-open_both (x ∷ xs) ys q = ap (λ b. not (same_question (question_of x) q) && b) (open_both xs ys q) ∙ and_three (not (same_question (question_of x) q)) (is_open xs q) (is_open ys q)
+open_both (x ∷ xs) ys q = ap (λ b. not (same_question (question_of x) q) && b) (open_both xs ys q)
+    ∙ and_three (not (same_question (question_of x) q)) (is_open xs q) (is_open ys q)
 
 -- the order doesn't count where it is asked whether a question is open
 pub open_reversed : (xs : List Fact) (q : Question) → is_open (reverse xs) q ≡ is_open xs q

@@ -1,5 +1,6 @@
 -- the starts with which the search of moments begins
-use Rattle.std.proofs.Common.{◌≡◌, ◌≢◌, inl, inr, ◌∙◌, ℕ, ◌+◌, ◌<◌, ◌≤◌, ◌^◌, List, [], ◌∷◌, cond, length, map, not, slice_get, Option, Some, None, refl, sym, ap, subst, arith, lit<}
+use Rattle.std.proofs.Common.{◌≡◌, ◌≢◌, inl, inr, ◌∙◌, ℕ, ◌+◌, ◌<◌, ◌≤◌, ◌^◌, List, [], ◌∷◌, cond, length, map, not, slice_get, Option, Some, None, refl, sym}
+use Rattle.std.proofs.Common.{ap, subst, arith, lit<}
 use Rattle.std.specs.Prelude.{filter}
 use Rattle.std.specs.List.{range_with_len}
 use Rattle.std.proofs.lemmas.Bool.{cases_eq, eq-eqb, ne_eqb}
@@ -9,7 +10,7 @@ use Rattle.std.proofs.lemmas.Option.{slice_get-map, slice_get_within}
 use Rattle.ta_base.proofs.Ranges.{count_few, numbers_rise, rises_filter, rises_within}
 use Rattle.ta_automaton.specs.declared.automaton.Automaton.{Automaton}
 use Rattle.ta_automaton.specs.declared.pattern.Pattern.{Pattern}
-use Rattle.ta_cursor.specs.TreeCalls.{IsRoot}
+use Rattle.ta_encode.specs.TreeCalls.{IsRoot}
 use Rattle.ta_moments.specs.Facts.{candidates, has_later}
 use Rattle.ta_moments.specs.Refutes.{Asking, root}
 use Rattle.ta_moments.specs.Searched.{Maker, moment_search, pending_of, start_of}
@@ -27,7 +28,8 @@ some_events p some = ap (λ b. cond b (None ∷ []) (map Some (last_events p))) 
 pub event_below : (p : Pattern) (number e : ℕ) → slice_get (last_events p) number ≡ Some e → e < length p.events
 event_below p number e at =
     let high = 0 + length p.events in
-    let within = rises_within 0 high (last_events p) (rises_filter (λ e. not (has_later p e)) 0 high (range_with_len 0 (length p.events)) (numbers_rise 0 (length p.events))) number e at in
+    let within = rises_within 0 high (last_events p)
+    (rises_filter (λ e. not (has_later p e)) 0 high (range_with_len 0 (length p.events)) (numbers_rise 0 (length p.events))) number e at in
     let below = within.1 in
     omega arith
 
@@ -37,8 +39,10 @@ few_candidates p few = elim (cases_eq (length p.events) 0) [
   | inr some ↦ omega (arith, ap length (some_events p some), length-map (last_events p) Some, count_few (λ e. not (has_later p e)) (length p.events), few)
 ]
 
-root_at : (a : Automaton) (p : Pattern) (asking : Asking) (maker : Maker) (number : ℕ) (c : Option (Option ℕ)) → length p.events ≤ 8 → slice_get (candidates p) number ≡ c → IsRoot (moment_search a p asking maker) number (option_map start_of c)
-root_at a p asking maker number None few is = slice_get-map (λ (c : Option ℕ). pending_of (root c)) (candidates p) number ∙ ap (option_map (λ (c : Option ℕ). pending_of (root c))) is
+root_at : (a : Automaton) (p : Pattern) (asking : Asking) (maker : Maker) (number : ℕ) (c : Option (Option ℕ)) → length p.events ≤ 8
+    → slice_get (candidates p) number ≡ c → IsRoot (moment_search a p asking maker) number (option_map start_of c)
+root_at a p asking maker number None few is = slice_get-map (λ (c : Option ℕ). pending_of (root c)) (candidates p) number
+    ∙ ap (option_map (λ (c : Option ℕ). pending_of (root c))) is
 root_at a p asking maker number (Some c) few is =
     let below = slice_get_within (candidates p) number c is in
     let large : 64 < 2 ^ 31 = lit< tt in
@@ -48,5 +52,7 @@ root_at a p asking maker number (Some c) few is =
     }
 
 -- the start of a candidate
-pub root_of : (a : Automaton) (p : Pattern) (asking : Asking) (maker : Maker) (number : ℕ) (start : Option ℕ) → length p.events ≤ 8 → start ≡ option_map start_of (slice_get (candidates p) number) → IsRoot (moment_search a p asking maker) number start
-root_of a p asking maker number start few is = subst (λ (s : Option ℕ). IsRoot (moment_search a p asking maker) number s) (sym is) (root_at a p asking maker number (slice_get (candidates p) number) few refl)
+pub root_of : (a : Automaton) (p : Pattern) (asking : Asking) (maker : Maker) (number : ℕ) (start : Option ℕ) → length p.events ≤ 8
+    → start ≡ option_map start_of (slice_get (candidates p) number) → IsRoot (moment_search a p asking maker) number start
+root_of a p asking maker number start few is = subst (λ (s : Option ℕ). IsRoot (moment_search a p asking maker) number s) (sym is)
+    (root_at a p asking maker number (slice_get (candidates p) number) few refl)

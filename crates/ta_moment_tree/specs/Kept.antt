@@ -7,10 +7,10 @@ use Rattle.ta_encode.specs.Marks.{SameRows}
 use Rattle.ta_moments.specs.declared.fact.Fact.{Fact}
 use Rattle.ta_moments.specs.Moments.{known}
 use Rattle.ta_moments.specs.Searched.{candidate_of}
-use Rattle.ta_moment_encode.specs.Cuts.{IsMark}
-use Rattle.ta_moment_encode.specs.Nodes.{IsNode}
-use Rattle.ta_moment_encode.specs.declared.encoding.MomentEncoding.{MomentEncoding}
-use Rattle.ta_moment_encode.specs.declared.mark.NodeMark.{NodeMark}
+use Rattle.ta_moment_tree.specs.Cuts.{IsMark}
+use Rattle.ta_moment_tree.specs.Nodes.{IsNode}
+use Rattle.ta_moment_tree.specs.declared.encoding.MomentEncoding.{MomentEncoding}
+use Rattle.ta_moment_tree.specs.declared.mark.NodeMark.{NodeMark}
 use Rattle.ta_moment_tree.specs.declared.kept.MomentKept.{MomentKept}
 use Rattle.ta_moment_tree.specs.declared.part.Part.{Part}
 
@@ -21,9 +21,10 @@ pub record NodeIs (a : Automaton) (p : Pattern) (silent : List ℕ) (candidate :
   pub is : IsNode silent candidate past node
 
 -- the marks of the nodes with the first 0, 1, .. of these facts, up to this many
-pub record AreMarks (a : Automaton) (p : Pattern) (silent : List ℕ) (candidate : Option ℕ) (facts : List Fact) (count : ℕ) (marks : List NodeMark) : Type 0 where
-  pub marked : length marks ≡ count + 1
-  pub each : (i : ℕ) (mark : NodeMark) → slice_get marks i ≡ Some mark → IsMark (known a p silent candidate (reverse (take i facts))) mark
+pub record AreMarks (a : Automaton) (p : Pattern) (silent : List ℕ) (candidate : Option ℕ) (facts : List Fact) (count : ℕ) (marks : List NodeMark) : Type 0
+  where
+    pub marked : length marks ≡ count + 1
+    pub each : (i : ℕ) (mark : NodeMark) → slice_get marks i ≡ Some mark → IsMark (known a p silent candidate (reverse (take i facts))) mark
 
 -- a node, the marks of those above it, and a system that begins with its rows
 pub record KeepsNode (a : Automaton) (p : Pattern) (silent : List ℕ) (kept : MomentKept) (node : MomentEncoding) : Type 0 where

@@ -2,3 +2,14 @@ pub mod Makers
 pub mod Counts
 pub mod Trees
 pub mod Kept
+pub mod Forms
+pub mod Rows
+pub mod Plan
+pub mod Moments
+pub mod Draft
+pub mod Plain
+pub mod Nodes
+pub mod Parts
+pub mod Systems
+pub mod Sizes
+pub mod Cuts

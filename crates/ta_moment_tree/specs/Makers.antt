@@ -22,7 +22,8 @@ whole_values numbers = Some (record { denominator = pos 1; numbers = numbers })
 -- whether integers may be taken in place of a vertex's values: each row of the node is known and met there, and nothing is asked
 abbrev pub may_take : Automaton → Pattern → Asking → Node → List ℤ → Bool
 may_take a p asking node numbers =
-    list_all (λ f. is_known_natural (known_value (whole_values numbers) f)) (node_rows a p asking node) && not (is_some (next_question a p asking node (whole_values numbers)))
+    list_all (λ f. is_known_natural (known_value (whole_values numbers) f)) (node_rows a p asking node)
+    && not (is_some (next_question a p asking node (whole_values numbers)))
 
 -- a vertex's values times their least common denominator, where they may be taken
 abbrev pub scaled_in : Automaton → Pattern → Asking → Node → Values → Option (List ℤ)
@@ -36,7 +37,8 @@ scaled_values a p asking w fractions = scaled_in a p asking (node_of w) (values_
 -- values are integers, these times their least common denominator are taken, if they may be
 abbrev pub moment_maker : Automaton → Pattern → Asking → Maker
 moment_maker a p asking = record {
-  question = λ start past values. option_map asking_node (next_question a p asking (record { candidate = candidate_of start; past = past; bounds = [] }) (values_of values));
+  question = λ start past values. option_map asking_node
+      (next_question a p asking (record { candidate = candidate_of start; past = past; bounds = [] }) (values_of values));
   scaled = scaled_values a p asking;
 }
 

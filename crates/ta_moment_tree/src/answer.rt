@@ -8,9 +8,9 @@ ghost use Rattle.ta_moments.specs.Moments.{known};
 ghost use Rattle.ta_moments.specs.Refutes.{answers};
 
 use crate::count::is_pair;
+use crate::has_guard;
 use crate::moment_tree::MomentTree;
 use ta_automaton::Automaton;
-use ta_moment_encode::has_guard;
 use ta_moments::{Fact, Question};
 
 /// The answer of this number, from 0, to a question of a guard.

@@ -2,7 +2,7 @@
 #![tactic(auto)]
 
 ghost use Rattle.std.specs.Prelude.{ℕ, ◌≡◌, ◌&&◌, Option, reverse};
-ghost use Rattle.ta_cursor.specs.Asking.{ask_node};
+ghost use Rattle.ta_encode.specs.Asking.{ask_node};
 ghost use Rattle.ta_moments.specs.Facts.{is_open};
 ghost use Rattle.ta_moments.specs.Moments.{known};
 ghost use Rattle.ta_moments.specs.Searched.{exists_as, question_in};
@@ -10,8 +10,8 @@ ghost use Rattle.ta_moment_tree.specs.Trees.{asking_of};
 
 use crate::count::moment_count;
 use crate::moment_tree::MomentTree;
-use ta_cursor::Ask;
-use ta_moment_encode::{is_guard, may_be_stuck};
+use crate::{is_guard, may_be_stuck};
+use ta_encode::Ask;
 use ta_moments::{Fact, Question, is_open};
 
 /// The question that a node asks.

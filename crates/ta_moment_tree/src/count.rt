@@ -5,13 +5,13 @@
 ghost use Rattle.std.specs.Prelude.{ℕ, ◌+◌, ◌<◌, ◌≤◌, ◌≡◌, ◌^◌, List, Option, length, reverse, slice_get};
 ghost use Rattle.ta_moments.specs.Facts.{moving_rules, sparing};
 ghost use Rattle.ta_moments.specs.Moments.{Known, Vector, known, unknowns_at_first, with_fact};
-ghost use Rattle.ta_moment_encode.specs.Draft.{is_plain};
+ghost use Rattle.ta_moment_tree.specs.Draft.{is_plain};
 ghost use Rattle.ta_automaton.specs.declared.automaton.Automaton.{Automaton};
 ghost use Rattle.ta_moment_tree.specs.Counts.{is_last, is_pair_in};
 
+use crate::{has_guard, is_moving};
 use ta_automaton::{Automaton, Pattern};
 use ta_encode::unknown_count as start_count;
-use ta_moment_encode::{has_guard, is_moving};
 use ta_moments::Fact;
 use ta_words::Task;
 

@@ -3,10 +3,10 @@
 
 ghost use Rattle.std.specs.Prelude.{◌≡◌, None, option_copied};
 
+use crate::{MomentEncoding, NodeMark};
 use std::alloc::Global;
 use ta_base::List;
 use ta_linear::System;
-use ta_moment_encode::{MomentEncoding, NodeMark};
 use ta_moments::Fact;
 
 /// The node whose system was written last, with its facts and the marks of the nodes above it, so that

@@ -12,7 +12,7 @@ ghost use Rattle.ta_encode.specs.Code.{SystemAt};
 ghost use Rattle.ta_encode.specs.Lines.{BoundsWithin};
 ghost use Rattle.ta_encode.specs.Marks.{SameRows};
 ghost use Rattle.ta_encode.specs.Search.{Comes};
-ghost use Rattle.ta_cursor.specs.Cursors.{node_at};
+ghost use Rattle.ta_encode.specs.Cursors.{node_at};
 ghost use Rattle.ta_moments.specs.Searched.{candidate_of};
 ghost use Rattle.ta_moment_tree.specs.Kept.{IsPart};
 ghost use Rattle.ta_moment_tree.specs.Trees.{IsAt, IsKeptFor, search_of_moments};
@@ -20,11 +20,10 @@ ghost use Rattle.ta_moment_tree.specs.Trees.{IsAt, IsKeptFor, search_of_moments}
 use crate::kept::MomentKept;
 use crate::moment_tree::MomentTree;
 use crate::start::candidate_of;
+use crate::{MomentEncoding, NodeMark};
 use std::alloc::{AllocError, Global};
-use ta_cursor::Written;
-use ta_encode::Bound;
+use ta_encode::{Bound, Written};
 use ta_linear::System;
-use ta_moment_encode::{MomentEncoding, NodeMark};
 use ta_moments::Fact;
 
 /// What is written already of a node.

@@ -7,8 +7,8 @@ ghost use Rattle.std.specs.Option.{option_map};
 ghost use Rattle.ta_moments.specs.Facts.{candidates, has_later};
 ghost use Rattle.ta_moments.specs.Searched.{candidate_of, start_of};
 
+use crate::has_later;
 use ta_automaton::Pattern;
-use ta_moment_encode::has_later;
 
 /// The candidate of a start: none, or an event.
 pub(crate) fn candidate_of(start: u8) -> Option<u32>

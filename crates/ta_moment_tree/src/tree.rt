@@ -7,8 +7,7 @@ use crate::kept::MomentKept;
 use crate::moment_tree::MomentTree;
 use crate::start::start_at;
 use std::alloc::{AllocError, Global};
-use ta_cursor::{Ask, Tree, Written};
-use ta_encode::Bound;
+use ta_encode::{Ask, Bound, Tree, Written};
 use ta_linear::System;
 use ta_moments::Fact;
 

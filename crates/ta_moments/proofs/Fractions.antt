@@ -1,9 +1,11 @@
 -- common denominators of fractions
-use Rattle.ta_moments.proofs.Common.{◌≡◌, ◌∙◌, ℕ, zero, suc, ◌+◌, ◌*◌, ◌<◌, ◌≤◌, ◌^◌, ℤ, pos, ◌*ℤ◌, ◌<ℤ◌, ◌&&◌, List, [], ◌∷◌, map, Some, None, cond, true, false, arith, ap, refl, sym, subst, ints, AllByRecursion, nat_tests}
+use Rattle.ta_moments.proofs.Common.{◌≡◌, ◌∙◌, ℕ, zero, suc, ◌+◌, ◌*◌, ◌<◌, ◌≤◌, ◌^◌, ℤ, pos, ◌*ℤ◌, ◌<ℤ◌, ◌&&◌, List, [], ◌∷◌, map, Some, None, cond, true}
+use Rattle.ta_moments.proofs.Common.{false, arith, ap, refl, sym, subst, ints, AllByRecursion, nat_tests}
 use Rattle.std.proofs.Common.{Bool, ◌/◌, int_div, unsigned_abs}
 use Rattle.std.proofs.Math.IntN.{*ℤ_comm}
 use Rattle.std.proofs.lemmas.Int.{unsigned_abs-mul}
-use Rattle.std.proofs.Math.Nat.{dvd-mul_left, dvd-mul_right, dvd_of_mul-dvd-mul_left, dvd-mul_left_of_dvd, eq-one_of_dvd-one, mul-div_cancel', mul-dvd-mul_left, one-dvd}
+use Rattle.std.proofs.Math.Nat.{dvd-mul_left, dvd-mul_right, dvd_of_mul-dvd-mul_left, dvd-mul_left_of_dvd, eq-one_of_dvd-one, mul-div_cancel', mul-dvd-mul_left}
+use Rattle.std.proofs.Math.Nat.{one-dvd}
 use Rattle.std.proofs.lemmas.Nat.Gcd.{dvd_refl, dvd_trans}
 use Rattle.std.specs.Int.{◌∣◌}
 use Rattle.std.specs.List.{list_all}
@@ -12,7 +14,9 @@ use Rattle.ta_base.specs.Lists.{Pairwise}
 use Rattle.ta_linear.proofs.GcdLemmas.{IsGcd-gcd_of, dvd-gcd_of}
 use Rattle.ta_linear.specs.Gcd.{gcd_of}
 use Rattle.ta_moments.specs.Questions.{Scaled, Values, fits}
-use Rattle.ta_moments.specs.Vertices.{CommonDenominatorsAreLeast, IsNumberOver, MakesWhole, PositiveDenominators, ValuesAreTheFractions, WholeValuesAreTheirNumbers, common_denominator, common_divisor, denominator_with, lowest_denominator, lowest_numerator, multiple_of, number_over, numbers_over, values_of, values_over}
+use Rattle.ta_moments.specs.Vertices.{CommonDenominatorsAreLeast, IsNumberOver, MakesWhole, PositiveDenominators, ValuesAreTheFractions}
+use Rattle.ta_moments.specs.Vertices.{WholeValuesAreTheirNumbers, common_denominator, common_divisor, denominator_with, lowest_denominator, lowest_numerator}
+use Rattle.ta_moments.specs.Vertices.{multiple_of, number_over, numbers_over, values_of, values_over}
 
 -- a divisor of a positive number is positive
 some_divides : (g k n : ℕ) → g * k ≡ n → 0 < n → (0 < g) × (0 < k)
@@ -82,7 +86,8 @@ with_some n (f ∷ fs) h p = with_some (multiple_of n (lowest_denominator f)) fs
 pub with_divides : (n : ℕ) (fs : List (ℤ × ℤ)) → n ∣ denominator_with n fs
 unfolding denominator_with
 with_divides n [] = dvd_refl n
-with_divides n (f ∷ fs) = dvd_trans n (dvd-mul_right n (lowest_denominator f / gcd_of n (lowest_denominator f))) (with_divides (multiple_of n (lowest_denominator f)) fs)
+with_divides n (f ∷ fs) = dvd_trans n (dvd-mul_right n (lowest_denominator f / gcd_of n (lowest_denominator f)))
+    (with_divides (multiple_of n (lowest_denominator f)) fs)
 
 pub with_each : (n : ℕ) (fs : List (ℤ × ℤ)) → PositiveDenominators fs → AllByRecursion (λ (f : ℤ × ℤ). lowest_denominator f ∣ denominator_with n fs) fs
 unfolding denominator_with
@@ -91,16 +96,20 @@ with_each n (f ∷ fs) p =
     let m = multiple_of n (lowest_denominator f) in
     (dvd_trans (lowest_denominator f) (multiple_right n (lowest_denominator f) (lowest_some f p.0)) (with_divides m fs), with_each m fs p.1)
 
-with_least : (n k : ℕ) (fs : List (ℤ × ℤ)) → PositiveDenominators fs → n ∣ k → AllByRecursion (λ (f : ℤ × ℤ). lowest_denominator f ∣ k) fs → denominator_with n fs ∣ k
+with_least : (n k : ℕ) (fs : List (ℤ × ℤ)) → PositiveDenominators fs → n ∣ k → AllByRecursion (λ (f : ℤ × ℤ). lowest_denominator f ∣ k) fs
+    → denominator_with n fs ∣ k
 unfolding denominator_with
 with_least n k [] p h all = h
-with_least n k (f ∷ fs) p h all = with_least (multiple_of n (lowest_denominator f)) k fs p.1 (multiple_least n (lowest_denominator f) k (lowest_some f p.0) h all.0) all.1
+with_least n k (f ∷ fs) p h all = with_least (multiple_of n (lowest_denominator f)) k fs p.1
+    (multiple_least n (lowest_denominator f) k (lowest_some f p.0) h all.0) all.1
 
-makes_each : (n : ℕ) (fs : List (ℤ × ℤ)) → PositiveDenominators fs → AllByRecursion (λ (f : ℤ × ℤ). lowest_denominator f ∣ n) fs → AllByRecursion (MakesWhole n) fs
+makes_each : (n : ℕ) (fs : List (ℤ × ℤ)) → PositiveDenominators fs → AllByRecursion (λ (f : ℤ × ℤ). lowest_denominator f ∣ n) fs
+    → AllByRecursion (MakesWhole n) fs
 makes_each n [] p h = tt
 makes_each n (f ∷ fs) p h = (multiple_whole (unsigned_abs f.0) (unsigned_abs f.1) n (abs_some f.1 p.0) h.0, makes_each n fs p.1 h.1)
 
-each_lowest : (n : ℕ) (fs : List (ℤ × ℤ)) → PositiveDenominators fs → AllByRecursion (MakesWhole n) fs → AllByRecursion (λ (f : ℤ × ℤ). lowest_denominator f ∣ n) fs
+each_lowest : (n : ℕ) (fs : List (ℤ × ℤ)) → PositiveDenominators fs → AllByRecursion (MakesWhole n) fs
+    → AllByRecursion (λ (f : ℤ × ℤ). lowest_denominator f ∣ n) fs
 each_lowest n [] p h = tt
 each_lowest n (f ∷ fs) p h = (whole_multiple (unsigned_abs f.0) (unsigned_abs f.1) n (abs_some f.1 p.0) h.0, each_lowest n fs p.1 h.1)
 
@@ -126,7 +135,8 @@ number_is n f h d =
     (ap pos o.0 ∙ pos_abs f.1 h)
     (ap pos (mul-div_cancel' b d))
 
-numbers_are : (n : ℕ) (fs : List (ℤ × ℤ)) → PositiveDenominators fs → AllByRecursion (λ (f : ℤ × ℤ). lowest_denominator f ∣ n) fs → Pairwise (IsNumberOver (pos n)) fs (numbers_over n fs)
+numbers_are : (n : ℕ) (fs : List (ℤ × ℤ)) → PositiveDenominators fs → AllByRecursion (λ (f : ℤ × ℤ). lowest_denominator f ∣ n) fs
+    → Pairwise (IsNumberOver (pos n)) fs (numbers_over n fs)
 numbers_are n [] p d = tt
 numbers_are n (f ∷ fs) p d = (number_is n f p.0 d.0, numbers_are n fs p.1 d.1)
 
@@ -138,7 +148,8 @@ pub values_fractions : ValuesAreTheFractions
 values_fractions fs p values e =
     let n = common_denominator fs in
     let is : Scaled = record { denominator = pos n; numbers = numbers_over n fs } in
-    subst (λ (v : Scaled). (v.denominator ≡ pos n) × Pairwise (IsNumberOver v.denominator) fs v.numbers) (if_given (fits (pos n) && list_all fits (numbers_over n fs)) is values e)
+    subst (λ (v : Scaled). (v.denominator ≡ pos n) × Pairwise (IsNumberOver v.denominator) fs v.numbers)
+    (if_given (fits (pos n) && list_all fits (numbers_over n fs)) is values e)
     (refl, numbers_are n fs p (with_each 1 fs p))
 
 -- ---- whole numbers
@@ -153,7 +164,8 @@ whole_each [] (x ∷ xs) h = absurd h
 whole_each (f ∷ fs) [] h = absurd h
 whole_each (f ∷ fs) (x ∷ xs) h = (whole_one f x h.0, whole_each fs xs h.1)
 
-same_numbers : (fs : List (ℤ × ℤ)) (xs : List ℤ) → PositiveDenominators fs → AllByRecursion (λ (f : ℤ × ℤ). lowest_denominator f ∣ 1) fs → Pairwise (IsNumberOver (pos 1)) fs xs → numbers_over 1 fs ≡ xs
+same_numbers : (fs : List (ℤ × ℤ)) (xs : List ℤ) → PositiveDenominators fs → AllByRecursion (λ (f : ℤ × ℤ). lowest_denominator f ∣ 1) fs
+    → Pairwise (IsNumberOver (pos 1)) fs xs → numbers_over 1 fs ≡ xs
 same_numbers [] [] p d h = refl
 same_numbers [] (x ∷ xs) p d h = absurd h
 same_numbers (f ∷ fs) [] p d h = absurd h

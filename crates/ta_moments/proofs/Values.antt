@@ -1,5 +1,6 @@
 -- values of forms at natural values
-use Rattle.ta_moments.proofs.Common.{◌≡◌, ℕ, ℤ, pos, negsuc, ◌+ℤ◌, ◌-ℤ◌, ◌*ℤ◌, List, length, arith, ints, refl, ◌∙◌, UnknownForm, number_form, plus_form, minus_form, opposite_form, negated_form, range_sum}
+use Rattle.ta_moments.proofs.Common.{◌≡◌, ℕ, ℤ, pos, negsuc, ◌+ℤ◌, ◌-ℤ◌, ◌*ℤ◌, List, length, arith, ints, refl, ◌∙◌, UnknownForm, number_form, plus_form}
+use Rattle.ta_moments.proofs.Common.{minus_form, opposite_form, negated_form, range_sum}
 use Rattle.ta_moments.proofs.Worth.{number, worth, worth-number, worth-plus, worth-minus}
 unfoldable use Rattle.ta_moments.specs.Whole.{form_value}
 

@@ -16,7 +16,7 @@ use Rattle.ta_scope.specs.LongerCycles.{LoopsAlone}
 use Rattle.ta_rest.specs.Endings.{IsEnding}
 use Rattle.ta_rest.specs.Quiet.{QuietRestSafe}
 use Rattle.ta_rest.specs.Rest.{ComeAfterEarlier}
-use Rattle.ta_fair.specs.Fair.{FairlySafe}
+use Rattle.ta_rest.specs.Fair.{FairlySafe}
 
 -- nodes refute the starts of a search in order, with leaves over its rows
 abbrev pub RefuteRoots : Search Fact → List TreeNode → Type 0

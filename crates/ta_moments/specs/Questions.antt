@@ -1,7 +1,8 @@
 -- Which question is asked next at a node whose system has a vertex. The vertex is given by integers over one common denominator. Forms are
 -- evaluated in the program's range; where a number leaves it, the form's value is unknown, and the question is asked as if the value were
 -- the worst.
-use Rattle.std.specs.Prelude.{ℕ, ℤ, pos, negsuc, zero, suc, ◌^◌, ◌≡◌, ◌+ℤ◌, ◌*ℤ◌, unsigned_abs, Bool, true, false, not, ◌&&◌, ◌||◌, nat_lt, cond, List, [], ◌∷◌, length, map, filter, flat_map, slice_get, slice_index_or, Option, Some, None}
+use Rattle.std.specs.Prelude.{ℕ, ℤ, pos, negsuc, zero, suc, ◌^◌, ◌≡◌, ◌+ℤ◌, ◌*ℤ◌, unsigned_abs, Bool, true, false, not, ◌&&◌, ◌||◌, nat_lt, cond, List, [], ◌∷◌}
+use Rattle.std.specs.Prelude.{length, map, filter, flat_map, slice_get, slice_index_or, Option, Some, None}
 use Rattle.std.specs.List.{find, list_all, list_any, range_with_len}
 use Rattle.std.specs.Option.{option_map, option_or}
 use Rattle.ta_automaton.specs.declared.automaton.Automaton.{Automaton}

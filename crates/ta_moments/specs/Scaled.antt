@@ -60,7 +60,8 @@ ScaledQuestionsLeaveNothing =
     (a : Automaton) (p : Pattern) → IsCone a p
     → (candidate : Option ℕ) (past : List Fact) → AreAnswers a p of_events candidate past
     → (scale : ℕ) (numbers : List ℕ)
-    → next_question a p of_events (record { candidate = candidate; past = past; bounds = [] }) (Some (record { denominator = pos scale; numbers = map pos numbers })) ≡ None
+    → next_question a p of_events (record { candidate = candidate; past = past; bounds = [] })
+    (Some (record { denominator = pos scale; numbers = map pos numbers })) ≡ None
     → NothingLeft a p of_events (record { candidate = candidate; past = past; bounds = [] }) numbers
 
 -- the code's system of such a node has no positive constant either
@@ -75,4 +76,5 @@ SystemsOfConesHaveNoPositiveConstants =
 abbrev pub SolutionsMeetNodes : Type 0
 SolutionsMeetNodes =
     (a : Automaton) (p : Pattern) (asking : Asking) (node : Node) (system : System) → NodeSystem a p asking node system → (values : List ℕ)
-    → Solves system values ↔ ((length values ≡ (known_at a p asking node).unknowns) × AllByRecursion (λ row. pos 0 ≤ℤ form_value values row) (node_rows a p asking node))
+    → Solves system values ↔ ((length values ≡ (known_at a p asking node).unknowns)
+    × AllByRecursion (λ row. pos 0 ≤ℤ form_value values row) (node_rows a p asking node))

@@ -88,4 +88,5 @@ abbrev pub MomentsAreASearch : Type 0
 MomentsAreASearch =
     (a : Automaton) (p : Pattern) (asking : Asking) (maker : Maker)
     → (nodes : List Node) → AreListed p nodes
-    → (lines : List Line) → RefutedInOrder a p asking nodes lines ↔ NodesRefute (moment_search a p asking maker) (IsLeaf (moment_search a p asking maker)) (map pending_of nodes) (map node_in lines)
+    → (lines : List Line) → RefutedInOrder a p asking nodes lines
+    ↔ NodesRefute (moment_search a p asking maker) (IsLeaf (moment_search a p asking maker)) (map pending_of nodes) (map node_in lines)

@@ -57,7 +57,8 @@ MakesWhole n f = unsigned_abs f.1 ∣ (n * unsigned_abs f.0)
 abbrev pub CommonDenominatorsAreLeast : Type 0
 CommonDenominatorsAreLeast =
     (fs : List (ℤ × ℤ)) → PositiveDenominators fs
-    → (0 < common_denominator fs) × AllByRecursion (MakesWhole (common_denominator fs)) fs × ((n : ℕ) → AllByRecursion (MakesWhole n) fs → common_denominator fs ∣ n)
+    → (0 < common_denominator fs) × AllByRecursion (MakesWhole (common_denominator fs)) fs
+    × ((n : ℕ) → AllByRecursion (MakesWhole n) fs → common_denominator fs ∣ n)
 
 -- a number over a denominator is a fraction's value
 abbrev pub IsNumberOver : ℤ → ℤ × ℤ → ℤ → Type 0

@@ -1,5 +1,6 @@
 -- a configuration and the model's agree
-use Rattle.ta_pattern.proofs.Common.{◌≡◌, ℕ, ℤ, pos, Bool, true, false, Option, Some, None, is_some, not, Ok, IsBitSet, arith, sym, ◌∙◌, subst, get_or, point_of, Holds, HoldsAt, location_place, config_of, IsOf, FirstFalse, EventAnswer, TellsEvent}
+use Rattle.ta_pattern.proofs.Common.{◌≡◌, ℕ, ℤ, pos, Bool, true, false, Option, Some, None, is_some, not, Ok, IsBitSet, arith, sym, ◌∙◌, subst, get_or}
+use Rattle.ta_pattern.proofs.Common.{point_of, Holds, HoldsAt, location_place, config_of, IsOf, FirstFalse, EventAnswer, TellsEvent}
 use Rattle.std.proofs.lemmas.Int.{ints}
 use Rattle.std.proofs.lemmas.Bool.{false≢true}
 use Rattle.ta_automaton.specs.declared.automaton.Automaton.{Automaton}
@@ -17,13 +18,15 @@ holds_there a condition c h = subst (λ (f : ℕ → ℤ). HoldsAt f condition) 
 pub holds_here : (a : Automaton) (condition : Condition) (c : Config) → Holds condition (config_of a c) → HoldsAt (point_of c.values.items) condition
 holds_here a condition c h = subst (λ (f : ℕ → ℤ). HoldsAt f condition) (model_point a c.values.items c.natural) h
 
-pub event_answer : (point : ℕ → ℤ) (condition : Condition) (first : Option ℕ) (b : Bool) → FirstFalse point condition (Ok first) → is_some first ≡ not b → EventAnswer point condition (Ok b)
+pub event_answer : (point : ℕ → ℤ) (condition : Condition) (first : Option ℕ) (b : Bool) → FirstFalse point condition (Ok first) → is_some first ≡ not b
+    → EventAnswer point condition (Ok b)
 event_answer point condition None true h is = h
 event_answer point condition None false h is = absurd (false≢true is)
 event_answer point condition (Some k) true h is = absurd (false≢true (sym is))
 event_answer point condition (Some k) false h is = (k, h)
 
-pub tells_event : (a : Automaton) (condition : Condition) (c : Config) (b : Bool) → EventAnswer (point_of c.values.items) condition (Ok b) → TellsEvent condition (config_of a c) (Ok b)
+pub tells_event : (a : Automaton) (condition : Condition) (c : Config) (b : Bool) → EventAnswer (point_of c.values.items) condition (Ok b)
+    → TellsEvent condition (config_of a c) (Ok b)
 tells_event a condition c true h = holds_there a condition c (holds_from (point_of c.values.items) condition h)
 tells_event a condition c false h = λ holds. fails_from (point_of c.values.items) condition h.0 h.1 (holds_here a condition c holds)
 
@@ -33,5 +36,6 @@ counter_there a c is l =
     ∙ model_at a c.values.items c.natural (location_place a l)
 
 -- where each location of the mask has value 0, no process is there, and the other way
-pub keeps_empty : (a : Automaton) (c : Config) (mask : ℕ) → IsOf a c → ((l : ℕ) → IsBitSet mask l → point_of c.values.items (location_place a l) ≡ pos 0) → KeepsEmpty mask (config_of a c)
+pub keeps_empty : (a : Automaton) (c : Config) (mask : ℕ) → IsOf a c → ((l : ℕ) → IsBitSet mask l → point_of c.values.items (location_place a l) ≡ pos 0)
+    → KeepsEmpty mask (config_of a c)
 keeps_empty a c mask is h l bit = omega (arith, ints, counter_there a c is l, h l bit)

@@ -1,6 +1,9 @@
 -- what `verify` puts `check` accepts
-use Rattle.ta_program.proofs.Common.{tree_safe, ◌≡◌, ◌∙◌, ◌≤◌, ℕ, List, [], length, Option, None, Some, refl, sym, ap, subst, inl, File, AllSafe, Certificate, Told, WhereTold, is_more, sub_told, IsSo, Performs, State, HoldsText, in_files, seen, Answer, FileMeans, claiming, CERTIFICATE, check_meaning, IsFile, certificate_kind, file_kind, SaysOrFails, WrittenIsAccepted, VerdictHolds, safe_among, first_picked, picked, ◌+◌, false}
-use Rattle.ta_claim.specs.declared.claim.Claim.TheVariants as claim
+use Rattle.ta_program.proofs.Common.{tree_safe, ◌≡◌, ◌∙◌, ◌≤◌, ℕ, List, [], length, Option, None, Some, refl, sym, ap, subst, inl, File, AllSafe, Certificate}
+use Rattle.ta_program.proofs.Common.{Told, WhereTold, is_more, sub_told, IsSo, Performs, State, HoldsText, in_files, seen, Answer, FileMeans, claiming}
+use Rattle.ta_program.proofs.Common.{CERTIFICATE, check_meaning, IsFile, certificate_kind, file_kind, SaysOrFails, WrittenIsAccepted, VerdictHolds, safe_among}
+use Rattle.ta_program.proofs.Common.{first_picked, picked, ◌+◌, false}
+use Rattle.ta_rest.specs.declared.claim.Claim.TheVariants as claim
 use Rattle.ta_check.proofs.Accepting.{one_list}
 use Rattle.ta_program.proofs.ProofsSaid.{says_plain}
 use Rattle.ta_program.specs.CheckWords.{no_options}
@@ -13,26 +16,36 @@ use Rattle.ta_report.proofs.Picks.{picked_there}
 use Rattle.ta_verdict.proofs.VerdictsMade.{held_at}
 
 -- `check` of such files
-module _ (name out : List ℕ) (told : Told) (file : File) (numbers text : List ℕ) (is_file : IsFile (in_files told) name file) (held : told out ≡ Some text) (within : length text ≤ CERTIFICATE.bytes) (accepted : Certificate file text numbers) (safe : AllSafe file numbers) where
+module _ (name out : List ℕ) (told : Told) (file : File) (numbers text : List ℕ) (is_file : IsFile (in_files told) name file) (held : told out ≡ Some text)
+    (within : length text ≤ CERTIFICATE.bytes) (accepted : Certificate file text numbers) (safe : AllSafe file numbers) where
   is_certificate : FileMeans (certificate_kind (claiming claim.Safe file)) (in_files told) out numbers
   is_certificate = record { bytes = text; had = record { seen = held; within = within }; means = record { accepted = accepted; safe = safe } }
 
   is_so : IsSo (check_meaning name out no_options) (in_files told) 0
-  is_so = inl (record { number = 0; text = check_text file numbers; puts = [] }, refl, (file, is_file, (numbers, is_certificate, says_plain false file numbers)))
+  is_so = inl (
+    record { number = 0; text = check_text file numbers; puts = [] },
+    refl,
+    (file, is_file, (numbers, is_certificate, says_plain false file numbers)),
+  )
 
   -- what it says, where it answers
   says_just_these : (answer : Answer) → (check_meaning name out no_options).answers (in_files told) answer → answer.text ≡ check_text file numbers
   says_just_these answer (other, is, (found, proved, says)) =
       let same : other ≡ file = same_file told name file other is is_file in
       let texts : proved.bytes ≡ text = (let e : Some proved.bytes ≡ Some text = sym proved.had.seen ∙ held in cc) in
-      let moved : Certificate file text found = subst (λ (f : File). Certificate f text found) same (subst (λ (t : List ℕ). Certificate other t found) texts proved.means.accepted) in
-      says.tells.told ∙ ap (λ (f : File). check_text f found) same ∙ ap (check_text file) (one_list (claiming claim.Safe file) text found numbers moved accepted)
+      let moved : Certificate file text found = subst (λ (f : File). Certificate f text found) same
+      (subst (λ (t : List ℕ). Certificate other t found) texts proved.means.accepted) in
+      says.tells.told ∙ ap (λ (f : File). check_text f found) same
+      ∙ ap (check_text file) (one_list (claiming claim.Safe file) text found numbers moved accepted)
 
-  pub checks : (second : ℕ) (begun ended : State) → begun.shelf.files ≡ Some told → Performs (check_meaning name out no_options) second begun ended → SaysOrFails (check_text file numbers) second begun ended
-  checks second begun ended is h = says_or_fails (check_meaning name out no_options) (check_decides name out no_options) told (check_text file numbers) is_so says_just_these second begun ended is h
+  pub checks : (second : ℕ) (begun ended : State) → begun.shelf.files ≡ Some told → Performs (check_meaning name out no_options) second begun ended
+      → SaysOrFails (check_text file numbers) second begun ended
+  checks second begun ended is h = says_or_fails (check_meaning name out no_options) (check_decides name out no_options) told (check_text file numbers) is_so
+      says_just_these second begun ended is h
 
 -- told files behind told files
-pub told_before : (P : Told → Told → Type 0) (files : Option Told) (told : Told) → WhereTold P files (Some told) → (first : Told) × (files ≡ Some first) × P first told
+pub told_before : (P : Told → Told → Type 0) (files : Option Told) (told : Told) → WhereTold P files (Some told) → (first : Told) × (files ≡ Some first)
+    × P first told
 told_before P None told h = absurd h
 told_before P (Some first) told h = (first, refl, h)
 
@@ -43,9 +56,11 @@ written_is_accepted words first before after h asked out is given low told after
     let written = certificate_written words first before after h asked out is given low in
     let c = written.such in
     let r = c.report in
-    let files = told_before (HoldsText out c.text) before.shelf.files told (subst (λ (o : Option Told). WhereTold (HoldsText out c.text) before.shelf.files o) after_told c.stands) in
+    let files = told_before (HoldsText out c.text) before.shelf.files told
+    (subst (λ (o : Option Told). WhereTold (HoldsText out c.text) before.shelf.files o) after_told c.stands) in
     let read = written.read in
-    let is_first : IsFile (in_files files.0) name r.file = is_more file_kind (seen (Some files.0) read) (in_files files.0) (sub_told files.0 read) name r.file (subst (λ (o : Option Told). IsFile (seen o read) name r.file) files.1 r.is_file) in
+    let is_first : IsFile (in_files files.0) name r.file = is_more file_kind (seen (Some files.0) read) (in_files files.0) (sub_told files.0 read) name r.file
+    (subst (λ (o : Option Told). IsFile (seen o read) name r.file) files.1 r.is_file) in
     let is_now = is_kept file_kind files.0 told name r.file (files.2.others name (out_differs words asked out is given)) is_first in
     let safe = ones_hold (claiming claim.Safe r.file) (first_picked r.pick) (picked r.pick r.file.patterns) r.verdicts (λ k p v nodes named given size.
     tree_safe r.file budget (first_picked r.pick + k) p v nodes size
@@ -58,5 +73,6 @@ written_is_accepted words first before after h asked out is given low told after
       sample = r.sample;
       verdicts = r.verdicts;
       reported = r.wrote;
-      accepted = checks name out told r.file (safe_among r.file r.pick r.verdicts) c.text is_now files.2.held c.within c.accepted safe second begun ended begun_told (as_check again second begun ended done (record { file = name; other = out; options = no_options }) checked);
+      accepted = checks name out told r.file (safe_among r.file r.pick r.verdicts) c.text is_now files.2.held c.within c.accepted safe second begun ended
+          begun_told (as_check again second begun ended done (record { file = name; other = out; options = no_options }) checked);
     }

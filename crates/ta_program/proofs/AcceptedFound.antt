@@ -1,6 +1,8 @@
 -- what `search` puts `check` accepts
-use Rattle.ta_program.proofs.Common.{Budget, ◌≡◌, ◌≤◌, ℕ, List, [], ◌∷◌, ◌++◌, length, Bool, Option, Some, refl, sym, subst, inl, inr, arith, IsSome, range_with_len, claiming, SearchEnd, Tried, Template, filled_text, AreTried, IsSearchEnd, LastIsFound, vectors, Told, WhereTold, is_more, sub_told, in_files, seen, FILE, IsFile, FoundIsAccepted, HoldFound, IsTemplate, template_kind}
-use Rattle.ta_claim.specs.declared.claim.Claim.TheVariants as claim
+use Rattle.ta_program.proofs.Common.{Budget, ◌≡◌, ◌≤◌, ℕ, List, [], ◌∷◌, ◌++◌, length, Bool, Option, Some, refl, sym, subst, inl, inr, arith, IsSome}
+use Rattle.ta_program.proofs.Common.{range_with_len, claiming, SearchEnd, Tried, Template, filled_text, AreTried, IsSearchEnd, LastIsFound, vectors, Told}
+use Rattle.ta_program.proofs.Common.{WhereTold, is_more, sub_told, in_files, seen, FILE, IsFile, FoundIsAccepted, HoldFound, IsTemplate, template_kind}
+use Rattle.ta_rest.specs.declared.claim.Claim.TheVariants as claim
 use Rattle.ta_search.specs.declared.outcome.Outcome.{Outcome}
 use Rattle.ta_search.specs.Outcomes.{OutcomeHolds}
 use Rattle.ta_program.proofs.Accepted.{checks, told_before}
@@ -11,7 +13,8 @@ use Rattle.ta_program.specs.CheckWords.{no_options}
 use Rattle.ta_base.proofs.Lists.{no_end, get_from_none}
 
 -- the outcome of the last vector that was tried holds
-last_holds : (t : Template) (budget : Budget) (vs : List (List ℕ)) (before : List Tried) (x : Tried) (found : Bool) → AreTried t budget vs (before ++ x ∷ []) found → OutcomeHolds (filled_text t x.values) budget x.outcome
+last_holds : (t : Template) (budget : Budget) (vs : List (List ℕ)) (before : List Tried) (x : Tried) (found : Bool)
+    → AreTried t budget vs (before ++ x ∷ []) found → OutcomeHolds (filled_text t x.values) budget x.outcome
 last_holds t budget [] [] x found h = absurd h
 last_holds t budget [] (b ∷ before) x found h = absurd h
 last_holds t budget (v ∷ vs) [] x found h = subst (λ (values : List ℕ). OutcomeHolds (filled_text t values) budget x.outcome) (sym h.0.values) h.0.holds
@@ -21,7 +24,8 @@ last_holds t budget (v ∷ vs) (b ∷ before) x found h = elim h.1 [
 ]
 
 -- the text that was found is no longer than a file may be
-found_within : (t : Template) (budget : Budget) (end : SearchEnd) → IsSearchEnd t budget end → (l : LastIsFound t end) → length (filled_text t l.last.values) ≤ FILE.bytes
+found_within : (t : Template) (budget : Budget) (end : SearchEnd) → IsSearchEnd t budget end → (l : LastIsFound t end)
+    → length (filled_text t l.last.values) ≤ FILE.bytes
 found_within t budget end is l =
     let tried = subst (λ (xs : List Tried). AreTried t budget (vectors t.holes) xs end.found) l.whole is in
     let holds = last_holds t budget (vectors t.holes) l.before l.last end.found tried in
@@ -39,13 +43,16 @@ found_is_accepted words before after h asked out filled is out_is filled_is told
     let text = filled_text t last.last.values in
     let file = last.found.file in
     let apart = names_apart words asked is in
-    let files = told_before (HoldFound asked.filled asked.out text last.certificate) before.shelf.files told (subst (λ (o : Option Told). WhereTold (HoldFound asked.filled asked.out text last.certificate) before.shelf.files o) after_told found.stands) in
+    let files = told_before (HoldFound asked.filled asked.out text last.certificate) before.shelf.files told
+    (subst (λ (o : Option Told). WhereTold (HoldFound asked.filled asked.out text last.certificate) before.shelf.files o) after_told found.stands) in
     let holds = files.2 in
     let read = searched.read in
-    let is_first : IsTemplate (in_files files.0) name t = is_more template_kind (seen (Some files.0) read) (in_files files.0) (sub_told files.0 read) name t (subst (λ (o : Option Told). IsTemplate (seen o read) name t) files.1 s.is_template) in
+    let is_first : IsTemplate (in_files files.0) name t = is_more template_kind (seen (Some files.0) read) (in_files files.0) (sub_told files.0 read) name t
+    (subst (λ (o : Option Told). IsTemplate (seen o read) name t) files.1 s.is_template) in
     let same : told name ≡ files.0 name = holds.others name (λ given. apart.filled name name refl given refl) (λ given. apart.out name name refl given refl) in
     let held : told filled ≡ Some text = holds.first filled filled_is in
-    let is_file : IsFile (in_files told) filled file = record { bytes = text; had = record { seen = held; within = found_within t asked.budget s.end s.is_end last }; means = last.found.legal } in
+    let is_file : IsFile (in_files told) filled file = record
+    { bytes = text; had = record { seen = held; within = found_within t asked.budget s.end s.is_end last }; means = last.found.legal } in
     let safe = each_holds (claiming claim.Safe file) 0 file.patterns last.found.safe (get_from_none file.patterns) in
     let short = found.within (subst (λ (o : Option (List ℕ)). IsSome o) (sym out_is) refl) in
     record {
@@ -56,5 +63,7 @@ found_is_accepted words before after h asked out filled is out_is filled_is told
       last = last;
       held = held;
       is_file = is_file;
-      accepted = checks filled out told file (range_with_len 0 (length file.patterns)) last.certificate is_file (holds.second out out_is) short last.found.accepted safe second begun ended begun_told (as_check again second begun ended done (record { file = filled; other = out; options = no_options }) checked);
+      accepted = checks filled out told file (range_with_len 0 (length file.patterns)) last.certificate is_file (holds.second out out_is) short
+          last.found.accepted safe second begun ended begun_told
+          (as_check again second begun ended done (record { file = filled; other = out; options = no_options }) checked);
     }

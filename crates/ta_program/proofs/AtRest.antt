@@ -1,9 +1,12 @@
 -- what the verdicts of `rest` and its report say
-use Rattle.ta_program.proofs.Common.{◌≡◌, ◌∙◌, ◌≤◌, ℕ, Bool, true, false, cond, length, length-append, List, [], ◌∷◌, Option, Some, slice_get, sym, ap, refl, arith, File, Pattern, has_bit, Run, run_text, run_text_short, TellsUnsafe, entry_of, report_of, run_told, told_run, told_unsafe, Pick, ReportSample, Verdict, Safe, Unsafe, AreRestVerdicts, AreSilent, IsSample, RestBudget, RUN, UnsafePrinted, telling_of, EndingVerdictHolds, held_number}
+use Rattle.ta_program.proofs.Common.{◌≡◌, ◌∙◌, ◌≤◌, ℕ, Bool, true, false, cond, length, length-append, List, [], ◌∷◌, Option, Some, slice_get, sym, ap, refl}
+use Rattle.ta_program.proofs.Common.{arith, File, Pattern, has_bit, Run, run_text, run_text_short, TellsUnsafe, entry_of, report_of, run_told, told_run}
+use Rattle.ta_program.proofs.Common.{told_unsafe, Pick, ReportSample, Verdict, Safe, Unsafe, AreRestVerdicts, AreSilent, IsSample, RestBudget, RUN}
+use Rattle.ta_program.proofs.Common.{UnsafePrinted, telling_of, EndingVerdictHolds, held_number}
 use Rattle.ta_check.specs.Subjects.{claimed_with}
-use Rattle.ta_claim.specs.declared.claim.Claim.TheVariants as claim
+use Rattle.ta_rest.specs.declared.claim.Claim.TheVariants as claim
 use Rattle.ta_replay.specs.declared.run.RunLine.TheVariants.{Mark}
-use Rattle.ta_rest_run.specs.Runs.{ending_run, marked_at_end}
+use Rattle.ta_witness.specs.Runs.{ending_run, marked_at_end}
 use Rattle.ta_verdict.proofs.rest.RestSaid.{claims, runs_show}
 use Rattle.ta_verdict.specs.Rest.Said.{IsLoudByWords, SaidAtRest}
 use Rattle.ta_program.proofs.SilentPlaces.{occurs_but}
@@ -27,7 +30,8 @@ own_shorter added run = both (has_bit added run.pattern) where
   both false = omega arith
 
 -- the text of a run that comes to rest is within the limit of RUN
-rest_run_within : (file ending : File) (added number : ℕ) (silent : List ℕ) (own : Pattern) (run : Run) → SaidAtRest file ending added number silent own run → length (run_text file run) ≤ RUN.bytes
+rest_run_within : (file ending : File) (added number : ℕ) (silent : List ℕ) (own : Pattern) (run : Run) → SaidAtRest file ending added number silent own run
+    → length (run_text file run) ≤ RUN.bytes
 rest_run_within file ending added number silent own run said =
     let few = few_lines ending (ending_run added run) said.of_ending said.ending_shows said.short in
     let fewer = own_shorter added run in

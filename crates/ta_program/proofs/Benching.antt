@@ -23,7 +23,7 @@ use Rattle.ta_syntax.specs.Printed.{printed}
 use Rattle.ta_syntax.specs.declared.fault.FileFault.{FileFault}
 use Rattle.ta_syntax.specs.declared.fault.FileFault.TheVariants as file_fault
 use Rattle.ta_verdict.specs.Verdicts.{EachHolds}
-use Rattle.ta_claim.specs.declared.claim.Claim.TheVariants as claim
+use Rattle.ta_rest.specs.declared.claim.Claim.TheVariants as claim
 
 -- the printed text of the family's automaton means a file
 pub legal_family : (k : ℕ) (bytes : List ℕ) (tree : PlainTree) (file : File) → bytes ≡ printed (file_kinds tree) → tree ≡ family k → Legal bytes file

@@ -1,16 +1,32 @@
 -- from how a run ends to its clauses
-use Rattle.ta_program.proofs.Common.{verdict_safe, Budget, ◌≡◌, ◌≢◌, ◌≤◌, ◌+◌, ℕ, Bool, true, false, List, [], ◌∷◌, Option, None, Some, refl, sym, ap, subst, ◌∙◌, inl, arith, rules, codes, if◌then◌else◌, list_any, AllByRecursion, bytes_eq, or_parts, File, Pattern, PatternSafe, one_legal, told_safe, report_of, Verdict, Safe, Unsafe, Spent, Overflow, filled_text, Grew, OthersStay, Told, WhereTold, with_text, answered, hindered, kept_refused, never_five, whole_one, Decides, Meaning, IsAnswered, Performs, Quiet, ShelfState, SinkState, State, HoldsPut, HoldsText, KeptBut, Stand, put_bytes, View, in_files, seen, run_text, unit_steps, Answer, Put, plain_tree, Asked, LegalFile, Runs, ask, ask_where, Command, NoCommand, BenchHolds, bench_meaning, bench_of, bench_status, bench_words, CheckHolds, check_meaning, IsFile, file_kind, EachPrintedUnsafe, EachToldSafe, AdmitAsked, AdmitHolds, admit_meaning, admit_of, admit_words, ExportHolds, export_meaning, export_of, export_words, Admitting, Benches, CertificateWritten, CheckProves, ExactlySo, Exports, KeepsFiles, PassesLegal, PrintedHolds, ReplayShows, RestProves, RestsReport, RunShortens, Searches, VerifyReports, put_by, CompressHolds, compress_meaning, compress_of, ReplayHolds, replay_meaning, request_of, ClaimHolds, LegalRest, RestCertificateStands, RestReportHolds, rest_meaning, RestCheckHolds, rest_check_meaning, rest_check_of, rest_of, rest_words, CertificateStands, ReportHolds, verify_meaning, VerdictHolds, VerdictsHold, is_unsafe, is_unknown, LegalTemplate, SearchHolds, end_number, leaves_unknown, search_meaning, SearchWords, search_of, search_words, TwoNames, two_names, VerifyWords, verify_of, verify_words, WordAsked, behind_name, map, pair_of, held_by, false_from_ne_true, PutCall, PutText, PutWhole, Acts, TellsFile, acts, grew_alone, may_put, put_text, tells_file, Spares, ◌⊎◌, AreOfStages, made_of_stages, Opens, AreStaging, ComparesFirst, Differ, Kind, SparesRead, at_ends, found_meaning, found_names, held_or_staged, rest_quietly, spared, template_kind, inr}
+use Rattle.ta_program.proofs.Common.{verdict_safe, Budget, ◌≡◌, ◌≢◌, ◌≤◌, ◌+◌, ℕ, Bool, true, false, List, [], ◌∷◌, Option, None, Some, refl, sym, ap, subst}
+use Rattle.ta_program.proofs.Common.{◌∙◌, inl, arith, rules, codes, if◌then◌else◌, list_any, AllByRecursion, bytes_eq, or_parts, File, Pattern, PatternSafe}
+use Rattle.ta_program.proofs.Common.{one_legal, told_safe, report_of, Verdict, Safe, Unsafe, Spent, Overflow, filled_text, Grew, OthersStay, Told, WhereTold}
+use Rattle.ta_program.proofs.Common.{with_text, answered, hindered, kept_refused, never_five, whole_one, Decides, Meaning, IsAnswered, Performs, Quiet}
+use Rattle.ta_program.proofs.Common.{ShelfState, SinkState, State, HoldsPut, HoldsText, KeptBut, Stand, put_bytes, View, in_files, seen, run_text, unit_steps}
+use Rattle.ta_program.proofs.Common.{Answer, Put, plain_tree, Asked, LegalFile, Runs, ask, ask_where, Command, NoCommand, BenchHolds, bench_meaning, bench_of}
+use Rattle.ta_program.proofs.Common.{bench_status, bench_words, CheckHolds, check_meaning, IsFile, file_kind, EachPrintedUnsafe, EachToldSafe, AdmitAsked}
+use Rattle.ta_program.proofs.Common.{AdmitHolds, admit_meaning, admit_of, admit_words, ExportHolds, export_meaning, export_of, export_words, Admitting, Benches}
+use Rattle.ta_program.proofs.Common.{CertificateWritten, CheckProves, ExactlySo, Exports, KeepsFiles, PassesLegal, PrintedHolds, ReplayShows, RestProves}
+use Rattle.ta_program.proofs.Common.{RestsReport, RunShortens, Searches, VerifyReports, put_by, CompressHolds, compress_meaning, compress_of, ReplayHolds}
+use Rattle.ta_program.proofs.Common.{replay_meaning, request_of, ClaimHolds, LegalRest, RestCertificateStands, RestReportHolds, rest_meaning, RestCheckHolds}
+use Rattle.ta_program.proofs.Common.{rest_check_meaning, rest_check_of, rest_of, rest_words, CertificateStands, ReportHolds, verify_meaning, VerdictHolds}
+use Rattle.ta_program.proofs.Common.{VerdictsHold, is_unsafe, is_unknown, LegalTemplate, SearchHolds, end_number, leaves_unknown, search_meaning, SearchWords}
+use Rattle.ta_program.proofs.Common.{search_of, search_words, TwoNames, two_names, VerifyWords, verify_of, verify_words, WordAsked, behind_name, map, pair_of}
+use Rattle.ta_program.proofs.Common.{held_by, false_from_ne_true, PutCall, PutText, PutWhole, Acts, TellsFile, acts, grew_alone, may_put, put_text, tells_file}
+use Rattle.ta_program.proofs.Common.{Spares, ◌⊎◌, AreOfStages, made_of_stages, Opens, AreStaging, ComparesFirst, Differ, Kind, SparesRead, at_ends}
+use Rattle.ta_program.proofs.Common.{found_meaning, found_names, held_or_staged, rest_quietly, spared, template_kind, inr}
 use Rattle.ta_program.proofs.Common.{ShowHolds, show_meaning, show_of, show_words, slice_get}
 use Rattle.ta_program.specs.Program.{SafeAsShown, ShowsFile}
 use Rattle.ta_program.specs.Show.{SafeAsPrinted}
 use Rattle.ta_program.specs.Version.{VersionPrints, version_meaning, version_of, version_text, version_words}
 use Rattle.ta_program.proofs.Common.{cases_order}
-use Rattle.ta_show.proofs.FileTells.{file_same}
+use Rattle.ta_report.proofs.FileTells.{file_same}
 use Rattle.ta_automaton.specs.Runs as runs
 use Rattle.std.specs.Prelude.{IsTrue}
 use Rattle.ta_report.specs.Check.{is_proved}
 use Rattle.ta_report.specs.CheckJson.{TellsProved}
-use Rattle.ta_program.proofs.JsonLines.{proved_by_line, tells_by_line}
+use Rattle.ta_report.proofs.JsonLines.{proved_by_line, tells_by_line}
 use Rattle.ta_program.proofs.ProofsSaid.{all_proved, every_one, starts, told_in}
 use Rattle.ta_program.specs.CheckWords.{CheckWords, ReplayWords, check_of, check_words, replay_of, replay_words}
 use Rattle.ta_program.specs.Printed.{EachToldProved}
@@ -20,9 +36,10 @@ use Rattle.ta_program.specs.Proofs.{EveryPattern}
 use Rattle.ta_program.specs.Headline.{EachPatternSafe, EachPrinted, HoldsFile, ShownOccurs, SomePatternOccurs, StatusTells}
 use Rattle.ta_replay.proofs.Occurring.{shown_occurs}
 use Rattle.ta_check.proofs.OwnPatterns.{all_own}
-use Rattle.ta_claim.specs.declared.claim.Claim.TheVariants as claim
+use Rattle.ta_rest.specs.declared.claim.Claim.TheVariants as claim
 use Rattle.ta_program.proofs.AtRest.{rest_safe_at, rest_unsafe_printed}
-use Rattle.ta_program.proofs.Common.{AreSilent, FairlySafeBut, LegalSilently, RestCheckWords, RestOccursBut, RestSafeBut, RestWords, claiming_with, rest_check_words, resting}
+use Rattle.ta_program.proofs.Common.{AreSilent, FairlySafeBut, LegalSilently, RestCheckWords, RestOccursBut, RestSafeBut, RestWords, claiming_with}
+use Rattle.ta_program.proofs.Common.{rest_check_words, resting}
 use Rattle.ta_program.proofs.FairAtRest.{fair_but}
 use Rattle.ta_program.specs.Rest.{PutsRest}
 use Rattle.ta_program.proofs.SilentPlaces.{none_silent, safe_but}
@@ -64,13 +81,15 @@ kinds_of_two false true e = refl
 kinds_of_two false false e = absurd (omega (arith, e))
 
 -- a verdict that holds and is neither unsafe nor unknown says safe
-safe_of : (file : File) (budget : Budget) (number : ℕ) (p : Pattern) (v : Verdict) → is_unsafe v ≡ false → is_unknown v ≡ false → VerdictHolds file budget number p v → runs.Safe file.automaton p
+safe_of : (file : File) (budget : Budget) (number : ℕ) (p : Pattern) (v : Verdict) → is_unsafe v ≡ false → is_unknown v ≡ false
+    → VerdictHolds file budget number p v → runs.Safe file.automaton p
 safe_of file budget number p (Safe nodes leaves) f u h = verdict_safe file budget number p nodes leaves h
 safe_of file budget number p (Unsafe nodes run) f u h = absurd (cc)
 safe_of file budget number p (Spent nodes) f u h = absurd (cc)
 safe_of file budget number p (Overflow node kind) f u h = absurd (cc)
 
-pub each_safe : (file : File) (budget : Budget) (number : ℕ) (ps : List Pattern) (vs : List Verdict) → list_any is_unsafe vs ≡ false → list_any is_unknown vs ≡ false → VerdictsHold file budget number ps vs → AllByRecursion (runs.Safe file.automaton) ps
+pub each_safe : (file : File) (budget : Budget) (number : ℕ) (ps : List Pattern) (vs : List Verdict) → list_any is_unsafe vs ≡ false
+    → list_any is_unknown vs ≡ false → VerdictsHold file budget number ps vs → AllByRecursion (runs.Safe file.automaton) ps
 each_safe file budget number [] vs f u h = tt
 each_safe file budget number (p ∷ ps) [] f u h = absurd h
 each_safe file budget number (p ∷ ps) (v ∷ vs) f u h =
@@ -79,16 +98,27 @@ each_safe file budget number (p ∷ ps) (v ∷ vs) f u h =
     (safe_of file budget number p v found.0 unknown.0 h.0, each_safe file budget (number + 1) ps vs found.1 unknown.1 h.1)
 
 -- the command whose name the words begin with was done, if the table of commands has it under this name
-by_name : {W : Type 0} (name : List ℕ) (read : List (List ℕ) → Option W) (legal : W → Told → Type 0) (says : W → Meaning) (number : ℕ) (before after : State) → ((rest : List (List ℕ)) → Runs (request_of (name ∷ rest)) number before after → Runs (ask_where legal says (read rest)) number before after) → (named : Bool) (word : List ℕ) (rest : List (List ℕ)) → (named ≡ true → word ≡ name) → (asked : W) → (if named then read rest else None) ≡ Some asked → Runs (request_of (word ∷ rest)) number before after → Performs (says asked) number before after
+by_name : {W : Type 0} (name : List ℕ) (read : List (List ℕ) → Option W) (legal : W → Told → Type 0) (says : W → Meaning) (number : ℕ) (before after : State)
+    → ((rest : List (List ℕ)) → Runs (request_of (name ∷ rest)) number before after → Runs (ask_where legal says (read rest)) number before after)
+    → (named : Bool) (word : List ℕ) (rest : List (List ℕ)) → (named ≡ true → word ≡ name) → (asked : W) → (if named then read rest else None) ≡ Some asked
+    → Runs (request_of (word ∷ rest)) number before after → Performs (says asked) number before after
 by_name name read legal says number before after row true word rest same asked is h =
-    (subst (λ (o : Option _). Runs (ask_where legal says o) number before after) is (row rest (subst (λ (w : List ℕ). Runs (request_of (w ∷ rest)) number before after) (same refl) h))).performs
+    (subst (λ (o : Option _). Runs (ask_where legal says o) number before after) is
+    (row rest (subst (λ (w : List ℕ). Runs (request_of (w ∷ rest)) number before after) (same refl) h))).performs
 by_name name read legal says number before after row false word rest same asked is h = absurd (cc)
 
-performed_where : {W : Type 0} (name : List ℕ) (read : List (List ℕ) → Option W) (legal : W → Told → Type 0) (says : W → Meaning) (number : ℕ) (before after : State) → ((rest : List (List ℕ)) → Runs (request_of (name ∷ rest)) number before after → Runs (ask_where legal says (read rest)) number before after) → (words : List (List ℕ)) (asked : W) → behind_name name read words ≡ Some asked → Runs (request_of words) number before after → Performs (says asked) number before after
+performed_where : {W : Type 0} (name : List ℕ) (read : List (List ℕ) → Option W) (legal : W → Told → Type 0) (says : W → Meaning) (number : ℕ)
+    (before after : State) → ((rest : List (List ℕ)) → Runs (request_of (name ∷ rest)) number before after
+    → Runs (ask_where legal says (read rest)) number before after) → (words : List (List ℕ)) (asked : W) → behind_name name read words ≡ Some asked
+    → Runs (request_of words) number before after → Performs (says asked) number before after
 performed_where name read legal says number before after row [] asked is h = absurd (cc)
-performed_where name read legal says number before after row (word ∷ rest) asked is h = by_name name read legal says number before after row (bytes_eq word name) word rest (λ named. search rules) asked is h
+performed_where name read legal says number before after row (word ∷ rest) asked is h = by_name name read legal says number before after row
+    (bytes_eq word name) word rest (λ named. search rules) asked is h
 
-performed : {W : Type 0} (name : List ℕ) (read : List (List ℕ) → Option W) (file : W → Option (List ℕ)) (says : W → Meaning) (number : ℕ) (before after : State) → ((rest : List (List ℕ)) → Runs (request_of (name ∷ rest)) number before after → Runs (ask file says (read rest)) number before after) → (words : List (List ℕ)) (asked : W) → behind_name name read words ≡ Some asked → Runs (request_of words) number before after → Performs (says asked) number before after
+performed : {W : Type 0} (name : List ℕ) (read : List (List ℕ) → Option W) (file : W → Option (List ℕ)) (says : W → Meaning) (number : ℕ) (before after : State)
+    → ((rest : List (List ℕ)) → Runs (request_of (name ∷ rest)) number before after → Runs (ask file says (read rest)) number before after)
+    → (words : List (List ℕ)) (asked : W) → behind_name name read words ≡ Some asked → Runs (request_of words) number before after
+    → Performs (says asked) number before after
 performed name read file says = performed_where name read (λ asked told. LegalFile told (file asked)) says
 
 pub holds_file : (view : View) (name : List ℕ) (file : File) → IsFile view name file → HoldsFile view name file
@@ -103,7 +133,8 @@ holds_file view name file h =
     }
 
 -- a put file holds its text
-holds_text : (put : Put) (out : List ℕ) → put.name ≡ out → (before after : Option Told) → WhereTold (HoldsPut put) before after → WhereTold (HoldsText out (put_bytes put)) before after
+holds_text : (put : Put) (out : List ℕ) → put.name ≡ out → (before after : Option Told) → WhereTold (HoldsPut put) before after
+    → WhereTold (HoldsText out (put_bytes put)) before after
 holds_text put out named None None h = tt
 holds_text put out named None (Some a) h = absurd h
 holds_text put out named (Some b) None h = absurd h
@@ -118,39 +149,54 @@ tells_put put out named calls whole = subst (λ (n : List ℕ). TellsFile n (put
 
 module _ (words : List (List ℕ)) (number : ℕ) (before after : State) (h : Runs (request_of words) number before after) where
   pub as_verify : (asked : VerifyWords) → verify_of words ≡ Some asked → Performs (verify_meaning asked) number before after
-  as_verify asked is = performed_where (codes "verify") verify_words (λ a. LegalPicked a.file a.pattern) verify_meaning number before after (λ rest r. r) words asked is h
+  as_verify asked is = performed_where (codes "verify") verify_words (λ a. LegalPicked a.file a.pattern) verify_meaning number before after (λ rest r. r) words
+      asked is h
 
   pub as_check : (asked : CheckWords) → check_of words ≡ Some asked → Performs (check_meaning asked.file asked.other asked.options) number before after
-  as_check asked is = performed (codes "check") check_words (λ a. Some a.file) (λ a. check_meaning a.file a.other a.options) number before after (λ rest r. r) words asked is h
+  as_check asked is = performed (codes "check") check_words (λ a. Some a.file) (λ a. check_meaning a.file a.other a.options) number before after (λ rest r. r)
+      words asked is h
 
   pub as_compress : (asked : TwoNames) → compress_of words ≡ Some asked → Performs (compress_meaning asked.file asked.other) number before after
-  as_compress asked is = performed (codes "compress") two_names (λ a. Some a.file) (λ a. compress_meaning a.file a.other) number before after (λ rest r. r) words asked is h
+  as_compress asked is = performed (codes "compress") two_names (λ a. Some a.file) (λ a. compress_meaning a.file a.other) number before after (λ rest r. r)
+      words asked is h
 
   pub as_replay : (asked : ReplayWords) → replay_of words ≡ Some asked → Performs (replay_meaning asked.file asked.other asked.json) number before after
-  as_replay asked is = performed (codes "replay") replay_words (λ a. Some a.file) (λ a. replay_meaning a.file a.other a.json) number before after (λ rest r. r) words asked is h
+  as_replay asked is = performed (codes "replay") replay_words (λ a. Some a.file) (λ a. replay_meaning a.file a.other a.json) number before after (λ rest r. r)
+      words asked is h
 
   as_bench : (k : ℕ) → bench_of words ≡ Some k → Performs (bench_meaning k) number before after
   as_bench k is = performed (codes "bench") bench_words (λ k. None) bench_meaning number before after (λ rest r. r) words k is h
 
   -- what an answer of a command says, of what is seen in the calls of the run and in the files
-  gives_all : (m : Meaning) → Performs m number before after → number ≤ 2 → (Of : View → List PutCall → Type 0) → ((view : View) (made : List PutCall) → IsAnswered m view number before after made → Of view made) → Acts m.puts (λ read made. Of (seen before.shelf.files read) made) before.shelf.calls after.shelf.calls
+  gives_all : (m : Meaning) → Performs m number before after → number ≤ 2 → (Of : View → List PutCall → Type 0)
+      → ((view : View) (made : List PutCall) → IsAnswered m view number before after made → Of view made)
+      → Acts m.puts (λ read made. Of (seen before.shelf.files read) made) before.shelf.calls after.shelf.calls
   gives_all m performs low Of from =
       let ends = performs.ends in
-      acts m number before after ends (λ read made. Of (seen before.shelf.files read) made) (from (seen before.shelf.files ends.read) ends.made (answered m (seen before.shelf.files ends.read) number before after ends.made ends.end low))
+      acts m number before after ends (λ read made. Of (seen before.shelf.files read) made)
+      (from (seen before.shelf.files ends.read) ends.made (answered m (seen before.shelf.files ends.read) number before after ends.made ends.end low))
 
-  pub gives_some : (m : Meaning) → Performs m number before after → number ≤ 2 → (Of : View → Type 0) → ((view : View) (made : List PutCall) → IsAnswered m view number before after made → Of view) → Acts m.puts (λ read made. Of (seen before.shelf.files read)) before.shelf.calls after.shelf.calls
+  pub gives_some : (m : Meaning) → Performs m number before after → number ≤ 2 → (Of : View → Type 0)
+      → ((view : View) (made : List PutCall) → IsAnswered m view number before after made → Of view)
+      → Acts m.puts (λ read made. Of (seen before.shelf.files read)) before.shelf.calls after.shelf.calls
   gives_some m performs low Of from = gives_all m performs low (λ view made. Of view) from
 
   -- of a command without outputs
-  gives : (m : Meaning) → m.puts ≡ [] → Performs m number before after → number ≤ 2 → (Of : View → Type 0) → ((view : View) (made : List PutCall) → IsAnswered m view number before after made → Of view) → Grew (λ read. Of (seen before.shelf.files read)) before.shelf.calls after.shelf.calls
+  gives : (m : Meaning) → m.puts ≡ [] → Performs m number before after → number ≤ 2 → (Of : View → Type 0)
+      → ((view : View) (made : List PutCall) → IsAnswered m view number before after made → Of view)
+      → Grew (λ read. Of (seen before.shelf.files read)) before.shelf.calls after.shelf.calls
   gives m none performs low Of from =
       let ends = performs.ends in
-      grew_alone m number before after ends none low (λ read. Of (seen before.shelf.files read)) (from (seen before.shelf.files ends.read) ends.made (answered m (seen before.shelf.files ends.read) number before after ends.made ends.end low))
+      grew_alone m number before after ends none low (λ read. Of (seen before.shelf.files read))
+      (from (seen before.shelf.files ends.read) ends.made (answered m (seen before.shelf.files ends.read) number before after ends.made ends.end low))
 
-  gives_verify : (asked : VerifyWords) → verify_of words ≡ Some asked → number ≤ 2 → (Of : View → Type 0) → ((view : View) (made : List PutCall) → IsAnswered (verify_meaning asked) view number before after made → Of view) → Acts (may_put asked.out) (λ read made. Of (seen before.shelf.files read)) before.shelf.calls after.shelf.calls
+  gives_verify : (asked : VerifyWords) → verify_of words ≡ Some asked → number ≤ 2 → (Of : View → Type 0)
+      → ((view : View) (made : List PutCall) → IsAnswered (verify_meaning asked) view number before after made → Of view)
+      → Acts (may_put asked.out) (λ read made. Of (seen before.shelf.files read)) before.shelf.calls after.shelf.calls
   gives_verify asked is low Of from = gives_some (verify_meaning asked) (as_verify asked is) low Of from
 
-  pub reported : (asked : VerifyWords) (view : View) (made : List PutCall) → IsAnswered (verify_meaning asked) view number before after made → ReportHolds number view asked before.out.written after.out.written
+  pub reported : (asked : VerifyWords) (view : View) (made : List PutCall) → IsAnswered (verify_meaning asked) view number before after made
+      → ReportHolds number view asked before.out.written after.out.written
   reported asked view made a =
       let found = a.holds.holds.2.1 in
       let reports = found.2 in
@@ -170,28 +216,37 @@ module _ (words : List (List ℕ)) (number : ℕ) (before after : State) (h : Ru
   pub verify_reports : VerifyReports number words before.shelf.files before.shelf.calls after.shelf.calls before.out.written after.out.written
   verify_reports asked is low = gives_verify asked is low (λ view. ReportHolds number view asked before.out.written after.out.written) (reported asked)
 
-  certified : (asked : VerifyWords) (out : List ℕ) → asked.out ≡ Some out → (view : View) (made : List PutCall) → IsAnswered (verify_meaning asked) view number before after made → CertificateStands number view asked out before.shelf.files after.shelf.files before.out.written after.out.written made
+  certified : (asked : VerifyWords) (out : List ℕ) → asked.out ≡ Some out → (view : View) (made : List PutCall)
+      → IsAnswered (verify_meaning asked) view number before after made
+      → CertificateStands number view asked out before.shelf.files after.shelf.files before.out.written after.out.written made
   unfolding reported
   certified asked out given view made a =
       let report = reported asked view made a in
-      let puts = subst (λ (o : Option (List ℕ)). PutsCertificate report.file report.pick asked.budget report.verdicts o a.answer.puts) given a.holds.holds.2.1.2.puts in
-      let stand : Stand (puts.put ∷ []) before.shelf.files after.shelf.files = subst (λ (ps : List Put). Stand ps before.shelf.files after.shelf.files) puts.only a.stand in
+      let puts = subst (λ (o : Option (List ℕ)). PutsCertificate report.file report.pick asked.budget report.verdicts o a.answer.puts) given
+      a.holds.holds.2.1.2.puts in
+      let stand : Stand (puts.put ∷ []) before.shelf.files after.shelf.files = subst (λ (ps : List Put). Stand ps before.shelf.files after.shelf.files)
+      puts.only a.stand in
       record {
         report = report;
         text = put_bytes puts.put;
         certificate = puts.certificate;
         within = puts.within;
-        stands = holds_text puts.put out puts.named before.shelf.files after.shelf.files (subst (λ (o : Option Told). WhereTold (HoldsPut puts.put) o after.shelf.files) stand.1 stand.2);
+        stands = holds_text puts.put out puts.named before.shelf.files after.shelf.files
+            (subst (λ (o : Option Told). WhereTold (HoldsPut puts.put) o after.shelf.files) stand.1 stand.2);
         told = tells_put puts.put out puts.named made (subst (λ (ps : List Put). PutWhole (map put_text ps) made) puts.only a.whole);
         accepted = puts.accepted;
       }
 
-  pub certificate_written : CertificateWritten number words before.shelf.files after.shelf.files before.shelf.calls after.shelf.calls before.out.written after.out.written
+  pub certificate_written : CertificateWritten number words before.shelf.files after.shelf.files before.shelf.calls after.shelf.calls before.out.written
+      after.out.written
   certificate_written asked out is given low =
-      gives_all (verify_meaning asked) (as_verify asked is) low (λ view made. CertificateStands number view asked out before.shelf.files after.shelf.files before.out.written after.out.written made)
+      gives_all (verify_meaning asked) (as_verify asked is) low
+      (λ view made. CertificateStands number view asked out before.shelf.files after.shelf.files before.out.written after.out.written made)
       (λ view made a. certified asked out given view made a)
 
-  pub proved : (name certificate : List ℕ) (options : ProofOptions) (view : View) (made : List PutCall) → IsAnswered (check_meaning name certificate options) view number before after made → CheckHolds number view name certificate options before.out.written after.out.written
+  pub proved : (name certificate : List ℕ) (options : ProofOptions) (view : View) (made : List PutCall)
+      → IsAnswered (check_meaning name certificate options) view number before after made
+      → CheckHolds number view name certificate options before.out.written after.out.written
   proved name certificate options view made a =
       let file = a.holds.holds.0 in
       let rest = a.holds.holds.2 in
@@ -205,31 +260,60 @@ module _ (words : List (List ℕ)) (number : ℕ) (before after : State) (h : Ru
         wrote = a.written;
       }
 
-  pub shortened : (name run : List ℕ) (view : View) (made : List PutCall) → IsAnswered (compress_meaning name run) view number before after made → CompressHolds view name run before.out.written after.out.written
+  pub shortened : (name run : List ℕ) (view : View) (made : List PutCall) → IsAnswered (compress_meaning name run) view number before after made
+      → CompressHolds view name run before.out.written after.out.written
   shortened name run view made a =
       let rest = a.holds.holds.2 in
-      record { file = a.holds.holds.0; is_file = a.holds.holds.1; run = rest.0; is_run = rest.1; short = rest.2.short; is_short = rest.2.is; wrote = a.written ∙ ap (with_text before.out.written) rest.2.writes.written }
+      record {
+        file = a.holds.holds.0;
+        is_file = a.holds.holds.1;
+        run = rest.0;
+        is_run = rest.1;
+        short = rest.2.short;
+        is_short = rest.2.is;
+        wrote = a.written
+            ∙ ap (with_text before.out.written) rest.2.writes.written;
+      }
 
   pub run_shortens : RunShortens number words before.shelf.files before.shelf.calls after.shelf.calls before.out.written after.out.written
   run_shortens = record {
-    holds = λ asked is none. gives (compress_meaning asked.file asked.other) refl (as_compress asked is) (omega (arith, none)) (λ view. CompressHolds view asked.file asked.other before.out.written after.out.written) (shortened asked.file asked.other);
+    holds = λ asked is none. gives (compress_meaning asked.file asked.other) refl (as_compress asked is) (omega (arith, none))
+        (λ view. CompressHolds view asked.file asked.other before.out.written after.out.written) (shortened asked.file asked.other);
     exact = λ asked told is files can. answers_so number before after asked (as_compress asked is) told files can;
     outside = λ asked told line is files leaves. refused_so number before after asked (as_compress asked is) told files line leaves;
   }
 
-  pub shown : (name run : List ℕ) (json : Bool) (view : View) (made : List PutCall) → IsAnswered (replay_meaning name run json) view number before after made → ReplayHolds view name run json before.out.written after.out.written
+  pub shown : (name run : List ℕ) (json : Bool) (view : View) (made : List PutCall) → IsAnswered (replay_meaning name run json) view number before after made
+      → ReplayHolds view name run json before.out.written after.out.written
   shown name run json view made a =
       let rest = a.holds.holds.2 in
-      record { file = a.holds.holds.0; is_file = a.holds.holds.1; run = rest.0; is_run = rest.1; pattern = rest.2.pattern; named = rest.2.named; wrote = a.written ∙ ap (with_text before.out.written) rest.2.writes.written }
+      record {
+        file = a.holds.holds.0;
+        is_file = a.holds.holds.1;
+        run = rest.0;
+        is_run = rest.1;
+        pattern = rest.2.pattern;
+        named = rest.2.named;
+        wrote =
+            a.written ∙ ap (with_text before.out.written) rest.2.writes.written;
+      }
 
   pub replay_shows : ReplayShows number words before.shelf.files before.shelf.calls after.shelf.calls before.out.written after.out.written
-  replay_shows asked is none = gives (replay_meaning asked.file asked.other asked.json) refl (as_replay asked is) (omega (arith, none)) (λ view. ReplayHolds view asked.file asked.other asked.json before.out.written after.out.written) (shown asked.file asked.other asked.json)
+  replay_shows asked is none = gives (replay_meaning asked.file asked.other asked.json) refl (as_replay asked is) (omega (arith, none))
+      (λ view. ReplayHolds view asked.file asked.other asked.json before.out.written after.out.written) (shown asked.file asked.other asked.json)
 
   benched : (k : ℕ) → Performs (bench_meaning k) number before after → number ≤ 2 → BenchHolds number k before.out.written after.out.written
   benched k performs low =
       let a = answered (bench_meaning k) (seen before.shelf.files performs.ends.read) number before after performs.ends.made performs.ends.end low in
       let says = a.holds.holds in
-      record { pattern = says.pattern; verdict = says.verdict; is = says.is; numbered = sym says.writes.numbered ∙ sym a.numbered; wrote = a.written ∙ ap (with_text before.out.written) says.writes.written }
+      record {
+        pattern = says.pattern;
+        verdict = says.verdict;
+        is = says.is;
+        numbered = sym says.writes.numbered ∙ sym a.numbered;
+        wrote = a.written
+            ∙ ap (with_text before.out.written) says.writes.written;
+      }
 
   status_of : (v : Verdict) → bench_status v ≢ 1
   status_of v one = by_test (is_unknown v) one
@@ -244,7 +328,12 @@ module _ (words : List (List ℕ)) (number : ℕ) (before after : State) (h : Ru
   pub benches : Benches number words before.out.written after.out.written
   benches = record {
     holds = λ k is low. benched k (as_bench k is) low;
-    others = λ k is. (λ one. let b = benched k (as_bench k is) (omega (arith, one)) in status_of b.verdict (b.numbered ∙ one), λ three. never k (as_bench k is) (omega (arith, three)) (omega (arith, three)), λ four. never k (as_bench k is) (omega (arith, four)) (omega (arith, four)));
+    others = λ k is. (
+      λ one. let b = benched k (as_bench k is) (omega (arith, one)) in status_of b.verdict (b.numbered ∙ one),
+      λ three. never k (as_bench k is)
+          (omega (arith, three)) (omega (arith, three)),
+      λ four. never k (as_bench k is) (omega (arith, four)) (omega (arith, four)),
+    );
   }
 
   as_version : (asked : Unit {0}) → version_of words ≡ Some asked → Performs version_meaning number before after
@@ -279,28 +368,50 @@ module _ (words : List (List ℕ)) (number : ℕ) (before after : State) (h : Ru
   as_admit : (all : AdmitAsked) → admit_of words ≡ Some all → Performs (admit_meaning all) number before after
   as_admit all is = performed (codes "admit") admit_words (λ a. Some a.asked.file) admit_meaning number before after (λ rest r. r) words all is h
 
-  exported : (asked : WordAsked) (view : View) (made : List PutCall) → IsAnswered (export_meaning asked) view number before after made → ExportHolds view asked before.out.written after.out.written
+  exported : (asked : WordAsked) (view : View) (made : List PutCall) → IsAnswered (export_meaning asked) view number before after made
+      → ExportHolds view asked before.out.written after.out.written
   exported asked view made a =
       let found = a.holds.holds.2 in
       let says = found.2 in
-      record { file = a.holds.holds.0; is_file = a.holds.holds.1; word = found.0; is_word = found.1; text = says.text; is_text = says.is; wrote = a.written ∙ ap (with_text before.out.written) says.writes.written; denotes = says.is.denotes }
+      record {
+        file = a.holds.holds.0;
+        is_file = a.holds.holds.1;
+        word = found.0;
+        is_word = found.1;
+        text = says.text;
+        is_text = says.is;
+        wrote = a.written
+            ∙ ap (with_text before.out.written) says.writes.written;
+        denotes = says.is.denotes;
+      }
 
   pub exports : Exports number words before.shelf.files before.shelf.calls after.shelf.calls before.out.written after.out.written
-  exports asked is none = gives (export_meaning asked) refl (as_export asked is) (omega (arith, none)) (λ view. ExportHolds view asked before.out.written after.out.written) (exported asked)
+  exports asked is none = gives (export_meaning asked) refl (as_export asked is) (omega (arith, none))
+      (λ view. ExportHolds view asked before.out.written after.out.written) (exported asked)
 
   pub as_show : (name : List ℕ) → show_of words ≡ Some name → Performs (show_meaning name) number before after
   as_show name is = performed (codes "show") show_words (λ n. Some n) show_meaning number before after (λ rest r. r) words name is h
 
-  pub shown_file : (name : List ℕ) (view : View) (made : List PutCall) → IsAnswered (show_meaning name) view number before after made → ShowHolds view name before.out.written after.out.written
+  pub shown_file : (name : List ℕ) (view : View) (made : List PutCall) → IsAnswered (show_meaning name) view number before after made
+      → ShowHolds view name before.out.written after.out.written
   shown_file name view made a =
       let is = a.holds.holds.1 in
       let says = a.holds.holds.2 in
-      record { bytes = is.bytes; held = is.had.seen; text = says.is.text; printed = record { file = a.holds.holds.0; legal = is.means; is = says.is.is }; wrote = a.written ∙ ap (with_text before.out.written) (says.writes.written ∙ says.is.whole) }
+      record {
+        bytes = is.bytes;
+        held = is.had.seen;
+        text = says.is.text;
+        printed = record { file = a.holds.holds.0; legal = is.means; is = says.is.is };
+        wrote
+            = a.written ∙ ap (with_text before.out.written) (says.writes.written ∙ says.is.whole);
+      }
 
   pub shows_file : ShowsFile number words before.shelf.files before.shelf.calls after.shelf.calls before.out.written after.out.written
-  shows_file name is none = gives (show_meaning name) refl (as_show name is) (omega (arith, none)) (λ view. ShowHolds view name before.out.written after.out.written) (shown_file name)
+  shows_file name is none = gives (show_meaning name) refl (as_show name is) (omega (arith, none))
+      (λ view. ShowHolds view name before.out.written after.out.written) (shown_file name)
 
-  pub admitted : (all : AdmitAsked) (view : View) (made : List PutCall) → IsAnswered (admit_meaning all) view number before after made → AdmitHolds view all before.out.written after.out.written
+  pub admitted : (all : AdmitAsked) (view : View) (made : List PutCall) → IsAnswered (admit_meaning all) view number before after made
+      → AdmitHolds view all before.out.written after.out.written
   admitted all view made a =
       let file = a.holds.holds.0 in
       let found = a.holds.holds.2 in
@@ -321,59 +432,97 @@ module _ (words : List (List ℕ)) (number : ℕ) (before after : State) (h : Ru
 
   pub admitting : Admitting number words before.shelf.files before.shelf.calls after.shelf.calls before.out.written after.out.written
   admitting = record {
-    holds = λ all is none. gives (admit_meaning all) refl (as_admit all is) (omega (arith, none)) (λ view. AdmitHolds view all before.out.written after.out.written) (admitted all);
+    holds = λ all is none. gives (admit_meaning all) refl (as_admit all is) (omega (arith, none))
+        (λ view. AdmitHolds view all before.out.written after.out.written) (admitted all);
     exact = λ all told is files had.
         let answer : Answer = record { number = 0; text = run_text had.file had.run; puts = [] } in
         (as_admit all is).exact (admit_decides all) told files 0
-        (inl (answer, refl, (had.file, had.is_file, (had.word, had.is_word, (had.run, had.is_run, record { numbered = refl; written = refl; no_put = refl })))));
+        (inl (
+          answer,
+          refl,
+          (
+            had.file,
+            had.is_file,
+            (had.word, had.is_word, (had.run, had.is_run, record { numbered = refl; written = refl; no_put = refl })),
+          ),
+        ));
   }
 
   pub as_rest : (asked : RestWords) → rest_of words ≡ Some asked → Performs (rest_meaning asked) number before after
   as_rest asked is = performed_where (codes "rest") rest_words LegalRest rest_meaning number before after (λ rest r. r) words asked is h
 
-  pub as_rest_check : (asked : RestCheckWords) → rest_check_of words ≡ Some asked → Performs (rest_check_meaning asked.file asked.other asked.silent asked.options) number before after
-  as_rest_check asked is = performed_where (codes "rest-check") rest_check_words (λ a. LegalSilently a.file a.silent) (λ a. rest_check_meaning a.file a.other a.silent a.options) number before after (λ rest r. r) words asked is h
+  pub as_rest_check : (asked : RestCheckWords) → rest_check_of words ≡ Some asked
+      → Performs (rest_check_meaning asked.file asked.other asked.silent asked.options) number before after
+  as_rest_check asked is = performed_where (codes "rest-check") rest_check_words (λ a. LegalSilently a.file a.silent)
+      (λ a. rest_check_meaning a.file a.other a.silent a.options) number before after (λ rest r. r) words asked is h
 
-  pub at_rest : (asked : RestWords) (view : View) (made : List PutCall) → IsAnswered (rest_meaning asked) view number before after made → RestReportHolds number view asked before.out.written after.out.written
+  pub at_rest : (asked : RestWords) (view : View) (made : List PutCall) → IsAnswered (rest_meaning asked) view number before after made
+      → RestReportHolds number view asked before.out.written after.out.written
   at_rest asked view made a =
       let found = a.holds.holds.2.1 in
       let quiet = found.2 in
       let one = quiet.2 in
       let reports = one.2 in
-      record { file = a.holds.holds.0; is_file = a.holds.holds.1; ends = found.0; are_ends = found.1; silent = quiet.0; are_silent = quiet.1; pick = one.0; is_pick = one.1; sample = reports.sample; is_sample = reports.is_sample; verdicts = reports.verdicts; are = reports.are; numbered = sym reports.numbered ∙ sym a.numbered; wrote = a.written ∙ ap (with_text before.out.written) reports.written }
+      record {
+        file = a.holds.holds.0;
+        is_file = a.holds.holds.1;
+        ends = found.0;
+        are_ends = found.1;
+        silent = quiet.0;
+        are_silent = quiet.1;
+        pick = one.0;
+        is_pick = one.1;
+        sample = reports.sample;
+        is_sample = reports.is_sample;
+        verdicts = reports.verdicts;
+        are = reports.are;
+        numbered = sym
+            reports.numbered ∙ sym a.numbered;
+        wrote = a.written ∙ ap (with_text before.out.written) reports.written;
+      }
 
-  rest_certified : (asked : RestWords) (out : List ℕ) → asked.out ≡ Some out → (view : View) (made : List PutCall) → IsAnswered (rest_meaning asked) view number before after made → RestCertificateStands number view asked out before.shelf.files after.shelf.files before.out.written after.out.written made
+  rest_certified : (asked : RestWords) (out : List ℕ) → asked.out ≡ Some out → (view : View) (made : List PutCall)
+      → IsAnswered (rest_meaning asked) view number before after made
+      → RestCertificateStands number view asked out before.shelf.files after.shelf.files before.out.written after.out.written made
   unfolding at_rest
   rest_certified asked out given view made a =
       let found = a.holds.holds.2.1 in
       let quiet = found.2 in
       let one = quiet.2 in
       let reports = one.2 in
-      let puts = subst (λ (o : Option (List ℕ)). PutsRest found.0.ending one.0 (resting asked.budget quiet.0) reports.verdicts o a.answer.puts) given reports.puts in
-      let stand : Stand (puts.put ∷ []) before.shelf.files after.shelf.files = subst (λ (ps : List Put). Stand ps before.shelf.files after.shelf.files) puts.only a.stand in
+      let puts = subst (λ (o : Option (List ℕ)). PutsRest found.0.ending one.0 (resting asked.budget quiet.0) reports.verdicts o a.answer.puts) given
+      reports.puts in
+      let stand : Stand (puts.put ∷ []) before.shelf.files after.shelf.files = subst (λ (ps : List Put). Stand ps before.shelf.files after.shelf.files)
+      puts.only a.stand in
       record {
         report = at_rest asked view made a;
         text = put_bytes puts.put;
         certificate = puts.certificate;
         within = puts.within;
-        stands = holds_text puts.put out puts.named before.shelf.files after.shelf.files (subst (λ (o : Option Told). WhereTold (HoldsPut puts.put) o after.shelf.files) stand.1 stand.2);
+        stands = holds_text puts.put out puts.named before.shelf.files after.shelf.files
+            (subst (λ (o : Option Told). WhereTold (HoldsPut puts.put) o after.shelf.files) stand.1 stand.2);
         told = tells_put puts.put out puts.named made (subst (λ (ps : List Put). PutWhole (map put_text ps) made) puts.only a.whole);
         accepted = puts.accepted;
       }
 
   -- what an answer of `rest` says
-  pub gives_rest : (asked : RestWords) → rest_of words ≡ Some asked → number ≤ 2 → (Of : View → Type 0) → ((view : View) → RestReportHolds number view asked before.out.written after.out.written → Of view) → Acts (may_put asked.out) (λ read made. Of (seen before.shelf.files read)) before.shelf.calls after.shelf.calls
+  pub gives_rest : (asked : RestWords) → rest_of words ≡ Some asked → number ≤ 2 → (Of : View → Type 0)
+      → ((view : View) → RestReportHolds number view asked before.out.written after.out.written → Of view)
+      → Acts (may_put asked.out) (λ read made. Of (seen before.shelf.files read)) before.shelf.calls after.shelf.calls
   gives_rest asked is low Of from = gives_some (rest_meaning asked) (as_rest asked is) low Of (λ view made a. from view (at_rest asked view made a))
 
   pub rests_report : RestsReport number words before.shelf.files after.shelf.files before.shelf.calls after.shelf.calls before.out.written after.out.written
   rests_report = record {
     report = λ asked is low. gives_rest asked is low (λ view. RestReportHolds number view asked before.out.written after.out.written) (λ view r. r);
     certificate = λ asked out is given low.
-        gives_all (rest_meaning asked) (as_rest asked is) low (λ view made. RestCertificateStands number view asked out before.shelf.files after.shelf.files before.out.written after.out.written made)
+        gives_all (rest_meaning asked) (as_rest asked is) low
+        (λ view made. RestCertificateStands number view asked out before.shelf.files after.shelf.files before.out.written after.out.written made)
         (λ view made a. rest_certified asked out given view made a);
   }
 
-  pub rest_checked : (name certificate : List ℕ) (names : Option (List ℕ)) (options : ProofOptions) (view : View) (made : List PutCall) → IsAnswered (rest_check_meaning name certificate names options) view number before after made → RestCheckHolds number view name certificate names options before.out.written after.out.written
+  pub rest_checked : (name certificate : List ℕ) (names : Option (List ℕ)) (options : ProofOptions) (view : View) (made : List PutCall)
+      → IsAnswered (rest_check_meaning name certificate names options) view number before after made
+      → RestCheckHolds number view name certificate names options before.out.written after.out.written
   rest_checked name certificate names options view made a =
       let found = a.holds.holds.2 in
       let silent = found.2 in
@@ -395,16 +544,24 @@ module _ (words : List (List ℕ)) (number : ℕ) (before after : State) (h : Ru
       }
 
   -- what an answer of `check`, and one of `rest-check`, says
-  gives_check : (asked : CheckWords) → check_of words ≡ Some asked → number ≤ 2 → (Of : View → Type 0) → ((view : View) → CheckHolds number view asked.file asked.other asked.options before.out.written after.out.written → Of view) → Grew (λ read. Of (seen before.shelf.files read)) before.shelf.calls after.shelf.calls
-  gives_check asked is low Of from = gives (check_meaning asked.file asked.other asked.options) refl (as_check asked is) low Of (λ view made a. from view (proved asked.file asked.other asked.options view made a))
+  gives_check : (asked : CheckWords) → check_of words ≡ Some asked → number ≤ 2 → (Of : View → Type 0)
+      → ((view : View) → CheckHolds number view asked.file asked.other asked.options before.out.written after.out.written → Of view)
+      → Grew (λ read. Of (seen before.shelf.files read)) before.shelf.calls after.shelf.calls
+  gives_check asked is low Of from = gives (check_meaning asked.file asked.other asked.options) refl (as_check asked is) low Of
+      (λ view made a. from view (proved asked.file asked.other asked.options view made a))
 
-  gives_rest_check : (asked : RestCheckWords) → rest_check_of words ≡ Some asked → number ≤ 2 → (Of : View → Type 0) → ((view : View) → RestCheckHolds number view asked.file asked.other asked.silent asked.options before.out.written after.out.written → Of view) → Grew (λ read. Of (seen before.shelf.files read)) before.shelf.calls after.shelf.calls
-  gives_rest_check asked is low Of from = gives (rest_check_meaning asked.file asked.other asked.silent asked.options) refl (as_rest_check asked is) low Of (λ view made a. from view (rest_checked asked.file asked.other asked.silent asked.options view made a))
+  gives_rest_check : (asked : RestCheckWords) → rest_check_of words ≡ Some asked → number ≤ 2 → (Of : View → Type 0)
+      → ((view : View) → RestCheckHolds number view asked.file asked.other asked.silent asked.options before.out.written after.out.written → Of view)
+      → Grew (λ read. Of (seen before.shelf.files read)) before.shelf.calls after.shelf.calls
+  gives_rest_check asked is low Of from = gives (rest_check_meaning asked.file asked.other asked.silent asked.options) refl (as_rest_check asked is) low Of
+      (λ view made a. from view (rest_checked asked.file asked.other asked.silent asked.options view made a))
 
   pub as_search : (asked : SearchWords) → search_of words ≡ Some asked → Performs (search_meaning asked) number before after
   as_search asked is = performed_where (codes "search") search_words LegalTemplate search_meaning number before after (λ rest r. r) words asked is h
 
-  searched : (asked : SearchWords) → Apart asked.filled asked.out → (view : View) (made : List PutCall) → IsAnswered (search_meaning asked) view number before after made → SearchHolds number view asked before.shelf.files after.shelf.files before.out.written after.out.written made
+  searched : (asked : SearchWords) → Apart asked.filled asked.out → (view : View) (made : List PutCall)
+      → IsAnswered (search_meaning asked) view number before after made
+      → SearchHolds number view asked before.shelf.files after.shelf.files before.out.written after.out.written made
   searched asked apart view made a =
       let t = a.holds.holds.0 in
       let finds = a.holds.holds.2.1 in
@@ -420,23 +577,40 @@ module _ (words : List (List ℕ)) (number : ℕ) (before after : State) (h : Ru
         wrote = a.written ∙ ap (with_text before.out.written) finds.written;
         found = λ zero.
             let put = finds.found (first_passed end.found unknown 0 2 1 (numbered ∙ zero) (λ h. omega (arith, h)) (λ h. omega (arith, h))) in
-            record { last = put.last; stands = found_stands (filled_text t put.last.last.values) put.last.certificate asked.filled asked.out apart a.answer.puts put.are before.shelf.files after.shelf.files a.stand; told = subst (λ (fs : List PutText). PutWhole fs made) put.are a.whole; within = put.within };
+            record {
+              last = put.last;
+              stands = found_stands (filled_text t put.last.last.values) put.last.certificate asked.filled asked.out apart a.answer.puts
+                  put.are before.shelf.files after.shelf.files a.stand;
+              told = subst (λ (fs : List PutText). PutWhole fs made) put.are a.whole;
+              within =
+                  put.within;
+            };
         kept = λ other.
-            let none = finds.nothing (false_from_ne_true end.found (λ found. other (sym numbered ∙ ap (λ (b : Bool). if b then 0 else (if unknown then 2 else 1)) found))) in
-            (subst (λ (ps : List Put). Stand ps before.shelf.files after.shelf.files) none a.stand, subst (λ (ps : List Put). PutWhole (map put_text ps) made) none a.whole);
+            let none = finds.nothing (false_from_ne_true end.found
+            (λ found. other (sym numbered ∙ ap (λ (b : Bool). if b then 0 else (if unknown then 2 else 1)) found))) in (
+              subst (λ (ps : List Put). Stand ps before.shelf.files after.shelf.files) none a.stand,
+              subst (λ (ps : List Put). PutWhole (map put_text ps) made)
+                  none a.whole,
+            );
       }
 
   pub searches : Searches number words before.shelf.files after.shelf.files before.shelf.calls after.shelf.calls before.out.written after.out.written
   searches asked is low =
-      gives_all (search_meaning asked) (as_search asked is) low (λ view made. SearchHolds number view asked before.shelf.files after.shelf.files before.out.written after.out.written made) (λ view made a. searched asked (names_apart words asked is).puts view made a)
+      gives_all (search_meaning asked) (as_search asked is) low
+      (λ view made. SearchHolds number view asked before.shelf.files after.shelf.files before.out.written after.out.written made)
+      (λ view made a. searched asked (names_apart words asked is).puts view made a)
 
   -- a pattern that a report tells is safe is so
-  pub tells_safe : (asked : VerifyWords) (view : View) (r : ReportHolds number view asked before.out.written after.out.written) (k : ℕ) (p : Pattern) → slice_get r.file.patterns k ≡ Some p → TellsSafe false asked.json p.name (report_of false asked.json r.file r.pick r.sample r.verdicts) → runs.Safe r.file.automaton p
+  pub tells_safe : (asked : VerifyWords) (view : View) (r : ReportHolds number view asked before.out.written after.out.written) (k : ℕ) (p : Pattern)
+      → slice_get r.file.patterns k ≡ Some p → TellsSafe false asked.json p.name (report_of false asked.json r.file r.pick r.sample r.verdicts)
+      → runs.Safe r.file.automaton p
   tells_safe asked view r k p named line =
       let said = told_safe r.file r.pick r.sample r.verdicts k p named r.is_sample.fits r.are.fit false asked.json line in
-      verdict_safe r.file asked.budget k p said.0 said.1 (held_entry (VerdictHolds r.file asked.budget) r.pick r.file.patterns r.verdicts r.are.hold k p (Safe said.0 said.1) named said.2)
+      verdict_safe r.file asked.budget k p said.0 said.1
+      (held_entry (VerdictHolds r.file asked.budget) r.pick r.file.patterns r.verdicts r.are.hold k p (Safe said.0 said.1) named said.2)
 
-  printed_verify : (asked : VerifyWords) (view : View) → ReportHolds number view asked before.out.written after.out.written → EachToldSafe runs.Safe false asked.json view asked.file before.out.written after.out.written
+  printed_verify : (asked : VerifyWords) (view : View) → ReportHolds number view asked before.out.written after.out.written
+      → EachToldSafe runs.Safe false asked.json view asked.file before.out.written after.out.written
   printed_verify asked view r = record {
     file = r.file;
     holds = holds_file view asked.file r.file r.is_file;
@@ -447,21 +621,31 @@ module _ (words : List (List ℕ)) (number : ℕ) (before after : State) (h : Ru
 
   -- so is one of which the text of `check` tells that it is proved
   -- a pattern that `check` calls proved is safe
-  proved_safe : (name certificate : List ℕ) (options : ProofOptions) (view : View) (r : CheckHolds number view name certificate options before.out.written after.out.written) (k : ℕ) (p : Pattern) → slice_get r.file.patterns k ≡ Some p → IsTrue (is_proved r.numbers k) → runs.Safe r.file.automaton p
+  proved_safe : (name certificate : List ℕ) (options : ProofOptions) (view : View)
+      (r : CheckHolds number view name certificate options before.out.written after.out.written) (k : ℕ) (p : Pattern) → slice_get r.file.patterns k ≡ Some p
+      → IsTrue (is_proved r.numbers k) → runs.Safe r.file.automaton p
   proved_safe name certificate options view r k p named is_there =
       let found : PatternSafe r.file k = listed (PatternSafe r.file) k r.numbers r.certificate.means.safe is_there in
       let same : Some found.pattern ≡ Some p = sym found.named ∙ named in
       let is : found.pattern ≡ p = cc in
       subst (runs.Safe r.file.automaton) is found.safe
 
-  tells_proved : (name certificate : List ℕ) (options : ProofOptions) (view : View) (r : CheckHolds number view name certificate options before.out.written after.out.written) (k : ℕ) (p : Pattern) → slice_get r.file.patterns k ≡ Some p → TellsProved options.json false p.name r.text → runs.Safe r.file.automaton p
-  tells_proved name certificate options view r k p named told = proved_safe name certificate options view r k p named (told_in false r.file options r.numbers number r.text r.tells k p named told)
+  tells_proved : (name certificate : List ℕ) (options : ProofOptions) (view : View)
+      (r : CheckHolds number view name certificate options before.out.written after.out.written) (k : ℕ) (p : Pattern) → slice_get r.file.patterns k ≡ Some p
+      → TellsProved options.json false p.name r.text → runs.Safe r.file.automaton p
+  tells_proved name certificate options view r k p named told = proved_safe name certificate options view r k p named
+      (told_in false r.file options r.numbers number r.text r.tells k p named told)
 
-  pub line_proved : (name certificate : List ℕ) (options : ProofOptions) (view : View) (r : CheckHolds number view name certificate options before.out.written after.out.written) (k : ℕ) (p : Pattern) → slice_get r.file.patterns k ≡ Some p → HasLine (told_of p.name (codes "proved")) r.text → runs.Safe r.file.automaton p
+  pub line_proved : (name certificate : List ℕ) (options : ProofOptions) (view : View)
+      (r : CheckHolds number view name certificate options before.out.written after.out.written) (k : ℕ) (p : Pattern) → slice_get r.file.patterns k ≡ Some p
+      → HasLine (told_of p.name (codes "proved")) r.text → runs.Safe r.file.automaton p
   line_proved name certificate options view r k p named line =
-      tells_proved name certificate options view r k p named (proved_by_line options.json false r.file (printed_sample options.parameters r.tells.sample) r.numbers r.text p.name r.tells.told line)
+      tells_proved name certificate options view r k p named
+      (proved_by_line options.json false r.file (printed_sample options.parameters r.tells.sample) r.numbers r.text p.name r.tells.told line)
 
-  printed_check : (name certificate : List ℕ) (options : ProofOptions) (view : View) → CheckHolds number view name certificate options before.out.written after.out.written → EachToldProved runs.Safe options.json false view name before.out.written after.out.written
+  printed_check : (name certificate : List ℕ) (options : ProofOptions) (view : View)
+      → CheckHolds number view name certificate options before.out.written after.out.written
+      → EachToldProved runs.Safe options.json false view name before.out.written after.out.written
   printed_check name certificate options view r = record {
     file = r.file;
     holds = holds_file view name r.file r.is_file;
@@ -470,7 +654,9 @@ module _ (words : List (List ℕ)) (number : ℕ) (before after : State) (h : Ru
     holds_of = tells_proved name certificate options view r;
   }
 
-  lines_of_check : (name certificate : List ℕ) (options : ProofOptions) (view : View) → CheckHolds number view name certificate options before.out.written after.out.written → EachPrinted runs.Safe (codes "proved") view name before.out.written after.out.written
+  lines_of_check : (name certificate : List ℕ) (options : ProofOptions) (view : View)
+      → CheckHolds number view name certificate options before.out.written after.out.written
+      → EachPrinted runs.Safe (codes "proved") view name before.out.written after.out.written
   lines_of_check name certificate options view r = record {
     file = r.file;
     holds = holds_file view name r.file r.is_file;
@@ -480,14 +666,24 @@ module _ (words : List (List ℕ)) (number : ℕ) (before after : State) (h : Ru
   }
 
   -- with `--all` and status 0 every pattern is
-  every_check : (name certificate : List ℕ) (options : ProofOptions) (view : View) → options.all ≡ true → number ≡ 0 → CheckHolds number view name certificate options before.out.written after.out.written → EveryPattern runs.Safe view name
+  every_check : (name certificate : List ℕ) (options : ProofOptions) (view : View) → options.all ≡ true → number ≡ 0
+      → CheckHolds number view name certificate options before.out.written after.out.written → EveryPattern runs.Safe view name
   every_check name certificate options view all none r =
       let both = all_proved false r.file options r.numbers number r.text r.tells all none in
       let start = starts (wants_sample options) r.file r.tells.sample r.tells.is_sample both.0 in
       let each = every_one (runs.Safe r.file.automaton) r.file r.numbers both.1 (proved_safe name certificate options view r) in
-      record { file = r.file; holds = holds_file view name r.file r.is_file; first = each.first; is_first = each.is_first; each = each.each; start = start.0; initial = start.1 }
+      record {
+        file = r.file;
+        holds = holds_file view name r.file r.is_file;
+        first = each.first;
+        is_first = each.is_first;
+        each = each.each;
+        start = start.0;
+        initial = start.1;
+      }
 
-  printed_unsafes : (asked : VerifyWords) (view : View) → ReportHolds number view asked before.out.written after.out.written → EachPrintedUnsafe runs.Occurs (telling_of false asked.json) view asked.file before.out.written after.out.written
+  printed_unsafes : (asked : VerifyWords) (view : View) → ReportHolds number view asked before.out.written after.out.written
+      → EachPrintedUnsafe runs.Occurs (telling_of false asked.json) view asked.file before.out.written after.out.written
   printed_unsafes asked view r = record {
     file = r.file;
     holds = holds_file view asked.file r.file r.is_file;
@@ -497,17 +693,22 @@ module _ (words : List (List ℕ)) (number : ℕ) (before after : State) (h : Ru
   }
 
   -- by words no places are silent
-  pub loud_by_words : (asked : RestWords) → rest_of words ≡ Some asked → (file : File) (places : List ℕ) → AreSilent file.automaton asked.silent places → IsLoudByWords (resting asked.budget places)
+  pub loud_by_words : (asked : RestWords) → rest_of words ≡ Some asked → (file : File) (places : List ℕ) → AreSilent file.automaton asked.silent places
+      → IsLoudByWords (resting asked.budget places)
   loud_by_words asked is file places silent = λ by_words. none_silent file.automaton asked.silent places ((rest_said words asked is).quiet by_words) silent
 
   -- the same of `rest`
-  pub tells_rest_safe : (asked : RestWords) → rest_of words ≡ Some asked → (view : View) (r : RestReportHolds number view asked before.out.written after.out.written) (k : ℕ) (p : Pattern) → slice_get r.file.patterns k ≡ Some p → TellsSafe true asked.json p.name (report_of true asked.json r.file r.pick r.sample r.verdicts) → RestSafeBut asked.silent r.file.automaton p
+  pub tells_rest_safe : (asked : RestWords) → rest_of words ≡ Some asked
+      → (view : View) (r : RestReportHolds number view asked before.out.written after.out.written) (k : ℕ) (p : Pattern) → slice_get r.file.patterns k ≡ Some p
+      → TellsSafe true asked.json p.name (report_of true asked.json r.file r.pick r.sample r.verdicts) → RestSafeBut asked.silent r.file.automaton p
   tells_rest_safe asked is view r k p named line =
       let said = told_safe r.file r.pick r.sample r.verdicts k p named r.is_sample.fits r.are.fit true asked.json line in
       let loud = loud_by_words asked is r.file r.silent r.are_silent in
-      safe_but asked.silent r.file.automaton p r.silent r.are_silent (rest_safe_at r.file r.ends.ending r.ends.added r.pick (resting asked.budget r.silent) loud r.verdicts r.are k p said.0 said.1 named said.2)
+      safe_but asked.silent r.file.automaton p r.silent r.are_silent
+      (rest_safe_at r.file r.ends.ending r.ends.added r.pick (resting asked.budget r.silent) loud r.verdicts r.are k p said.0 said.1 named said.2)
 
-  printed_rest : (asked : RestWords) → rest_of words ≡ Some asked → (view : View) → RestReportHolds number view asked before.out.written after.out.written → EachToldSafe (RestSafeBut asked.silent) true asked.json view asked.file before.out.written after.out.written
+  printed_rest : (asked : RestWords) → rest_of words ≡ Some asked → (view : View) → RestReportHolds number view asked before.out.written after.out.written
+      → EachToldSafe (RestSafeBut asked.silent) true asked.json view asked.file before.out.written after.out.written
   printed_rest asked is view r = record {
     file = r.file;
     holds = holds_file view asked.file r.file r.is_file;
@@ -516,7 +717,8 @@ module _ (words : List (List ℕ)) (number : ℕ) (before after : State) (h : Ru
     safe = tells_rest_safe asked is view r;
   }
 
-  lines_of_rest : (asked : RestWords) → rest_of words ≡ Some asked → (view : View) → RestReportHolds number view asked before.out.written after.out.written → EachPrinted (RestSafeBut asked.silent) (codes "rest safe, ") view asked.file before.out.written after.out.written
+  lines_of_rest : (asked : RestWords) → rest_of words ≡ Some asked → (view : View) → RestReportHolds number view asked before.out.written after.out.written
+      → EachPrinted (RestSafeBut asked.silent) (codes "rest safe, ") view asked.file before.out.written after.out.written
   lines_of_rest asked is view r = record {
     file = r.file;
     holds = holds_file view asked.file r.file r.is_file;
@@ -527,21 +729,32 @@ module _ (words : List (List ℕ)) (number : ℕ) (before after : State) (h : Ru
 
   -- and of `rest-check`
   -- a pattern that `rest-check` calls proved is safe at quiet rest
-  rest_proved_safe : (name certificate : List ℕ) (names : Option (List ℕ)) (options : ProofOptions) (view : View) (r : RestCheckHolds number view name certificate names options before.out.written after.out.written) (k : ℕ) (p : Pattern) → slice_get r.file.patterns k ≡ Some p → IsTrue (is_proved r.numbers k) → RestSafeBut names r.file.automaton p
+  rest_proved_safe : (name certificate : List ℕ) (names : Option (List ℕ)) (options : ProofOptions) (view : View)
+      (r : RestCheckHolds number view name certificate names options before.out.written after.out.written) (k : ℕ) (p : Pattern)
+      → slice_get r.file.patterns k ≡ Some p → IsTrue (is_proved r.numbers k) → RestSafeBut names r.file.automaton p
   rest_proved_safe name certificate names options view r k p named is_there =
-      let found : ClaimHolds (claiming_with claim.RestSafe r.file r.silent) k = listed (ClaimHolds (claiming_with claim.RestSafe r.file r.silent)) k r.numbers r.safe is_there in
+      let found : ClaimHolds (claiming_with claim.RestSafe r.file r.silent) k = listed (ClaimHolds (claiming_with claim.RestSafe r.file r.silent)) k r.numbers
+      r.safe is_there in
       let same : Some found.pattern ≡ Some p = sym found.named ∙ named in
       let is : found.pattern ≡ p = cc in
       subst (RestSafeBut names r.file.automaton) is (safe_but names r.file.automaton found.pattern r.silent r.are_silent found.safe)
 
-  tells_rest_proved : (name certificate : List ℕ) (names : Option (List ℕ)) (options : ProofOptions) (view : View) (r : RestCheckHolds number view name certificate names options before.out.written after.out.written) (k : ℕ) (p : Pattern) → slice_get r.file.patterns k ≡ Some p → TellsProved options.json true p.name r.text → RestSafeBut names r.file.automaton p
-  tells_rest_proved name certificate names options view r k p named told = rest_proved_safe name certificate names options view r k p named (told_in true r.file options r.numbers number r.text r.tells k p named told)
+  tells_rest_proved : (name certificate : List ℕ) (names : Option (List ℕ)) (options : ProofOptions) (view : View)
+      (r : RestCheckHolds number view name certificate names options before.out.written after.out.written) (k : ℕ) (p : Pattern)
+      → slice_get r.file.patterns k ≡ Some p → TellsProved options.json true p.name r.text → RestSafeBut names r.file.automaton p
+  tells_rest_proved name certificate names options view r k p named told = rest_proved_safe name certificate names options view r k p named
+      (told_in true r.file options r.numbers number r.text r.tells k p named told)
 
-  pub line_rest_proved : (name certificate : List ℕ) (names : Option (List ℕ)) (options : ProofOptions) (view : View) (r : RestCheckHolds number view name certificate names options before.out.written after.out.written) (k : ℕ) (p : Pattern) → slice_get r.file.patterns k ≡ Some p → HasLine (told_of p.name (codes "rest proved")) r.text → RestSafeBut names r.file.automaton p
+  pub line_rest_proved : (name certificate : List ℕ) (names : Option (List ℕ)) (options : ProofOptions) (view : View)
+      (r : RestCheckHolds number view name certificate names options before.out.written after.out.written) (k : ℕ) (p : Pattern)
+      → slice_get r.file.patterns k ≡ Some p → HasLine (told_of p.name (codes "rest proved")) r.text → RestSafeBut names r.file.automaton p
   line_rest_proved name certificate names options view r k p named line =
-      tells_rest_proved name certificate names options view r k p named (proved_by_line options.json true r.file (printed_sample options.parameters r.tells.sample) r.numbers r.text p.name r.tells.told line)
+      tells_rest_proved name certificate names options view r k p named
+      (proved_by_line options.json true r.file (printed_sample options.parameters r.tells.sample) r.numbers r.text p.name r.tells.told line)
 
-  printed_rest_check : (name certificate : List ℕ) (names : Option (List ℕ)) (options : ProofOptions) (view : View) → RestCheckHolds number view name certificate names options before.out.written after.out.written → EachToldProved (RestSafeBut names) options.json true view name before.out.written after.out.written
+  printed_rest_check : (name certificate : List ℕ) (names : Option (List ℕ)) (options : ProofOptions) (view : View)
+      → RestCheckHolds number view name certificate names options before.out.written after.out.written
+      → EachToldProved (RestSafeBut names) options.json true view name before.out.written after.out.written
   printed_rest_check name certificate names options view r = record {
     file = r.file;
     holds = holds_file view name r.file r.is_file;
@@ -550,7 +763,9 @@ module _ (words : List (List ℕ)) (number : ℕ) (before after : State) (h : Ru
     holds_of = tells_rest_proved name certificate names options view r;
   }
 
-  lines_of_rest_check : (name certificate : List ℕ) (names : Option (List ℕ)) (options : ProofOptions) (view : View) → RestCheckHolds number view name certificate names options before.out.written after.out.written → EachPrinted (RestSafeBut names) (codes "rest proved") view name before.out.written after.out.written
+  lines_of_rest_check : (name certificate : List ℕ) (names : Option (List ℕ)) (options : ProofOptions) (view : View)
+      → RestCheckHolds number view name certificate names options before.out.written after.out.written
+      → EachPrinted (RestSafeBut names) (codes "rest proved") view name before.out.written after.out.written
   lines_of_rest_check name certificate names options view r = record {
     file = r.file;
     holds = holds_file view name r.file r.is_file;
@@ -559,78 +774,116 @@ module _ (words : List (List ℕ)) (number : ℕ) (before after : State) (h : Ru
     holds_of = line_rest_proved name certificate names options view r;
   }
 
-  every_rest_check : (name certificate : List ℕ) (names : Option (List ℕ)) (options : ProofOptions) (view : View) → options.all ≡ true → number ≡ 0 → RestCheckHolds number view name certificate names options before.out.written after.out.written → EveryPattern (RestSafeBut names) view name
+  every_rest_check : (name certificate : List ℕ) (names : Option (List ℕ)) (options : ProofOptions) (view : View) → options.all ≡ true → number ≡ 0
+      → RestCheckHolds number view name certificate names options before.out.written after.out.written → EveryPattern (RestSafeBut names) view name
   every_rest_check name certificate names options view all none r =
       let both = all_proved true r.file options r.numbers number r.text r.tells all none in
       let start = starts (wants_sample options) r.file r.tells.sample r.tells.is_sample both.0 in
       let each = every_one (RestSafeBut names r.file.automaton) r.file r.numbers both.1 (rest_proved_safe name certificate names options view r) in
-      record { file = r.file; holds = holds_file view name r.file r.is_file; first = each.first; is_first = each.is_first; each = each.each; start = start.0; initial = start.1 }
+      record {
+        file = r.file;
+        holds = holds_file view name r.file r.is_file;
+        first = each.first;
+        is_first = each.is_first;
+        each = each.each;
+        start = start.0;
+        initial = start.1;
+      }
 
   pub check_proves : CheckProves number words before.shelf.files before.shelf.calls after.shelf.calls before.out.written after.out.written
   check_proves = record {
-    holds = λ asked is low. gives_check asked is low (λ view. CheckHolds number view asked.file asked.other asked.options before.out.written after.out.written) (λ view r. r);
-    every = λ asked is all none. gives_check asked is (omega (arith, none)) (λ view. EveryPattern runs.Safe view asked.file) (λ view r. every_check asked.file asked.other asked.options view all none r);
+    holds = λ asked is low. gives_check asked is low (λ view. CheckHolds number view asked.file asked.other asked.options before.out.written after.out.written)
+        (λ view r. r);
+    every = λ asked is all none. gives_check asked is (omega (arith, none)) (λ view. EveryPattern runs.Safe view asked.file)
+        (λ view r. every_check asked.file asked.other asked.options view all none r);
   }
 
   pub rest_proves : RestProves number words before.shelf.files before.shelf.calls after.shelf.calls before.out.written after.out.written
   rest_proves = record {
-    holds = λ asked is low. gives_rest_check asked is low (λ view. RestCheckHolds number view asked.file asked.other asked.silent asked.options before.out.written after.out.written) (λ view r. r);
-    every = λ asked is all none. gives_rest_check asked is (omega (arith, none)) (λ view. EveryPattern (RestSafeBut asked.silent) view asked.file) (λ view r. every_rest_check asked.file asked.other asked.silent asked.options view all none r);
+    holds = λ asked is low. gives_rest_check asked is low
+        (λ view. RestCheckHolds number view asked.file asked.other asked.silent asked.options before.out.written after.out.written) (λ view r. r);
+    every = λ asked is all none. gives_rest_check asked is (omega (arith, none)) (λ view. EveryPattern (RestSafeBut asked.silent) view asked.file)
+        (λ view r. every_rest_check asked.file asked.other asked.silent asked.options view all none r);
   }
 
-  printed_rest_fair : (asked : RestWords) → rest_of words ≡ Some asked → (view : View) → RestReportHolds number view asked before.out.written after.out.written → EachToldSafe (FairlySafeBut asked.silent) true asked.json view asked.file before.out.written after.out.written
+  printed_rest_fair : (asked : RestWords) → rest_of words ≡ Some asked → (view : View) → RestReportHolds number view asked before.out.written after.out.written
+      → EachToldSafe (FairlySafeBut asked.silent) true asked.json view asked.file before.out.written after.out.written
   printed_rest_fair asked is view r =
       record {
         file = r.file;
         holds = holds_file view asked.file r.file r.is_file;
         text = report_of true asked.json r.file r.pick r.sample r.verdicts;
         gained = r.wrote;
-        safe = λ k p named line. fair_but r.is_file.bytes r.file r.is_file.means r.are_ends.loops k p named asked.silent (tells_rest_safe asked is view r k p named line);
+        safe = λ k p named line. fair_but r.is_file.bytes r.file r.is_file.means r.are_ends.loops k p named asked.silent
+            (tells_rest_safe asked is view r k p named line);
       }
 
-  printed_rest_check_fair : (name certificate : List ℕ) (names : Option (List ℕ)) (options : ProofOptions) (view : View) → RestCheckHolds number view name certificate names options before.out.written after.out.written → EachToldProved (FairlySafeBut names) options.json true view name before.out.written after.out.written
+  printed_rest_check_fair : (name certificate : List ℕ) (names : Option (List ℕ)) (options : ProofOptions) (view : View)
+      → RestCheckHolds number view name certificate names options before.out.written after.out.written
+      → EachToldProved (FairlySafeBut names) options.json true view name before.out.written after.out.written
   printed_rest_check_fair name certificate names options view r =
       record {
         file = r.file;
         holds = holds_file view name r.file r.is_file;
         text = r.text;
         gained = r.wrote;
-        holds_of = λ k p named told. fair_but r.is_file.bytes r.file r.is_file.means r.are_ends.loops k p named names (tells_rest_proved name certificate names options view r k p named told);
+        holds_of = λ k p named told. fair_but r.is_file.bytes r.file r.is_file.means r.are_ends.loops k p named names
+            (tells_rest_proved name certificate names options view r k p named told);
       }
 
-  printed_rest_unsafes : (asked : RestWords) → rest_of words ≡ Some asked → (view : View) → RestReportHolds number view asked before.out.written after.out.written → EachPrintedUnsafe (RestOccursBut asked.silent) (telling_of true asked.json) view asked.file before.out.written after.out.written
+  printed_rest_unsafes : (asked : RestWords) → rest_of words ≡ Some asked → (view : View)
+      → RestReportHolds number view asked before.out.written after.out.written
+      → EachPrintedUnsafe (RestOccursBut asked.silent) (telling_of true asked.json) view asked.file before.out.written after.out.written
   printed_rest_unsafes asked is view r = record {
     file = r.file;
     holds = holds_file view asked.file r.file r.is_file;
     text = report_of true asked.json r.file r.pick r.sample r.verdicts;
     gained = r.wrote;
-    unsafe_ = rest_unsafe_printed asked.silent asked.json r.file r.ends.ending r.ends.added r.pick (resting asked.budget r.silent) r.are_silent (loud_by_words asked is r.file r.silent r.are_silent) r.sample r.is_sample r.verdicts r.are;
+    unsafe_ = rest_unsafe_printed asked.silent asked.json r.file r.ends.ending r.ends.added r.pick (resting asked.budget r.silent) r.are_silent
+        (loud_by_words asked is r.file r.silent r.are_silent) r.sample r.is_sample r.verdicts r.are;
   }
 
   bench_safe : (k : ℕ) → BenchHolds number k before.out.written after.out.written → FamilySafe k
   bench_safe k b = record { file = b.is.file; legal = b.is.legal; safe = b.is.safe }
 
-  tried : (asked : SearchWords) → search_of words ≡ Some asked → number ≤ 2 → Acts (found_names asked) (λ read made. EachTried number (seen before.shelf.files read) asked.file before.out.written after.out.written) before.shelf.calls after.shelf.calls
+  tried : (asked : SearchWords) → search_of words ≡ Some asked → number ≤ 2
+      → Acts (found_names asked) (λ read made. EachTried number (seen before.shelf.files read) asked.json asked.file before.out.written after.out.written)
+      before.shelf.calls after.shelf.calls
   tried asked is low =
-      gives_some (search_meaning asked) (as_search asked is) low (λ view. EachTried number view asked.file before.out.written after.out.written)
-      (λ view made a. tries_printed number view asked before.shelf.files after.shelf.files before.out.written after.out.written made (searched asked (names_apart words asked is).puts view made a))
+      gives_some (search_meaning asked) (as_search asked is) low (λ view. EachTried number view asked.json asked.file before.out.written after.out.written)
+      (λ view made a. tries_printed number view asked before.shelf.files after.shelf.files before.out.written after.out.written made
+      (searched asked (names_apart words asked is).puts view made a))
 
   pub printed_holds : PrintedHolds number words before.shelf.files before.shelf.calls after.shelf.calls before.out.written after.out.written
   printed_holds = record {
     tried = tried;
     benched = λ k is low. bench_safe k (benches.holds k is low);
-    safe = λ asked is low. gives_verify asked is low (λ view. EachToldSafe runs.Safe false asked.json view asked.file before.out.written after.out.written) (λ view made a. printed_verify asked view (reported asked view made a));
-    unsafe_ = λ asked is low. gives_verify asked is low (λ view. EachPrintedUnsafe runs.Occurs (telling_of false asked.json) view asked.file before.out.written after.out.written) (λ view made a. printed_unsafes asked view (reported asked view made a));
-    rest_safe = λ asked is low. gives_rest asked is low (λ view. EachToldSafe (RestSafeBut asked.silent) true asked.json view asked.file before.out.written after.out.written) (printed_rest asked is);
-    rest_unsafe = λ asked is low. gives_rest asked is low (λ view. EachPrintedUnsafe (RestOccursBut asked.silent) (telling_of true asked.json) view asked.file before.out.written after.out.written) (printed_rest_unsafes asked is);
-    rest_proved = λ asked is low. gives_rest_check asked is low (λ view. EachToldProved (RestSafeBut asked.silent) asked.options.json true view asked.file before.out.written after.out.written) (printed_rest_check asked.file asked.other asked.silent asked.options);
-    rest_fair = λ asked is low. gives_rest asked is low (λ view. EachToldSafe (FairlySafeBut asked.silent) true asked.json view asked.file before.out.written after.out.written) (printed_rest_fair asked is);
-    rest_proved_fair = λ asked is low. gives_rest_check asked is low (λ view. EachToldProved (FairlySafeBut asked.silent) asked.options.json true view asked.file before.out.written after.out.written) (printed_rest_check_fair asked.file asked.other asked.silent asked.options);
-    proved = λ asked is low. gives_check asked is low (λ view. EachToldProved runs.Safe asked.options.json false view asked.file before.out.written after.out.written) (printed_check asked.file asked.other asked.options);
+    safe = λ asked is low. gives_verify asked is low (λ view. EachToldSafe runs.Safe false asked.json view asked.file before.out.written after.out.written)
+        (λ view made a. printed_verify asked view (reported asked view made a));
+    unsafe_ = λ asked is low. gives_verify asked is low
+        (λ view. EachPrintedUnsafe runs.Occurs (telling_of false asked.json) view asked.file before.out.written after.out.written)
+        (λ view made a. printed_unsafes asked view (reported asked view made a));
+    rest_safe = λ asked is low. gives_rest asked is low
+        (λ view. EachToldSafe (RestSafeBut asked.silent) true asked.json view asked.file before.out.written after.out.written) (printed_rest asked is);
+    rest_unsafe = λ asked is low. gives_rest asked is low
+        (λ view. EachPrintedUnsafe (RestOccursBut asked.silent) (telling_of true asked.json) view asked.file before.out.written after.out.written)
+        (printed_rest_unsafes asked is);
+    rest_proved = λ asked is low. gives_rest_check asked is low
+        (λ view. EachToldProved (RestSafeBut asked.silent) asked.options.json true view asked.file before.out.written after.out.written)
+        (printed_rest_check asked.file asked.other asked.silent asked.options);
+    rest_fair = λ asked is low. gives_rest asked is low
+        (λ view. EachToldSafe (FairlySafeBut asked.silent) true asked.json view asked.file before.out.written after.out.written) (printed_rest_fair asked is);
+    rest_proved_fair = λ asked is low. gives_rest_check asked is low
+        (λ view. EachToldProved (FairlySafeBut asked.silent) asked.options.json true view asked.file before.out.written after.out.written)
+        (printed_rest_check_fair asked.file asked.other asked.silent asked.options);
+    proved = λ asked is low. gives_check asked is low
+        (λ view. EachToldProved runs.Safe asked.options.json false view asked.file before.out.written after.out.written)
+        (printed_check asked.file asked.other asked.options);
   }
 
   -- some picked pattern of a file whose report has the number 1 occurs in a run
-  some_occurring : (asked : VerifyWords) (view : View) → number ≡ 1 → ReportHolds number view asked before.out.written after.out.written → SomePatternOccurs view asked.file asked.pattern
+  some_occurring : (asked : VerifyWords) (view : View) → number ≡ 1 → ReportHolds number view asked before.out.written after.out.written
+      → SomePatternOccurs view asked.file asked.pattern
   some_occurring asked view one r =
       let own = number_other asked.all r.sample r.verdicts 1 (λ e. omega (arith, e)) (r.numbered ∙ one) in
       let some = unsafe_there r.verdicts (kind_of_one (list_any is_unsafe r.verdicts) (list_any is_unknown r.verdicts) own) in
@@ -648,7 +901,8 @@ module _ (words : List (List ℕ)) (number : ℕ) (before after : State) (h : Ru
         occurs = occurrence.occurs;
       }
 
-  occurs_shown : (name run : List ℕ) (json : Bool) (view : View) → ReplayHolds view name run json before.out.written after.out.written → ShownOccurs view name run
+  occurs_shown : (name run : List ℕ) (json : Bool) (view : View) → ReplayHolds view name run json before.out.written after.out.written
+      → ShownOccurs view name run
   occurs_shown name run json view r =
       let s = r.is_run.means in
       record {
@@ -666,7 +920,8 @@ module _ (words : List (List ℕ)) (number : ℕ) (before after : State) (h : Ru
       }
 
   -- with status 0 each picked pattern is safe
-  pub picked_safe : ZeroSays → (asked : VerifyWords) (view : View) (r : ReportHolds number view asked before.out.written after.out.written) → number ≡ 0 → EachPicked runs.Safe asked.pattern r.file
+  pub picked_safe : ZeroSays → (asked : VerifyWords) (view : View) (r : ReportHolds number view asked before.out.written after.out.written) → number ≡ 0
+      → EachPicked runs.Safe asked.pattern r.file
   picked_safe zero_says asked view r none =
       let own = number_other asked.all r.sample r.verdicts 0 (λ e. omega (arith, e)) (r.numbered ∙ none) in
       let kinds = zero_says (list_any is_unsafe r.verdicts) (list_any is_unknown r.verdicts) own in
@@ -681,7 +936,8 @@ module _ (words : List (List ℕ)) (number : ℕ) (before after : State) (h : Ru
         bytes = r.is_file.bytes;
         held = r.is_file.had.seen;
         safe = λ text printed file orders e.
-            let same : r.file ≡ file = one_legal r.is_file.bytes r.file printed.file r.is_file.means printed.legal ∙ file_same printed.file file (map pair_of printed.is.orders) orders (sym printed.is.shown ∙ sym e) in
+            let same : r.file ≡ file = one_legal r.is_file.bytes r.file printed.file r.is_file.means printed.legal
+            ∙ file_same printed.file file (map pair_of printed.is.orders) orders (sym printed.is.shown ∙ sym e) in
             subst (EachPicked runs.Safe asked.pattern) same safe;
       })
 
@@ -690,16 +946,36 @@ module _ (words : List (List ℕ)) (number : ℕ) (before after : State) (h : Ru
     safe = λ asked is none. gives_verify asked is (omega (arith, none)) (λ view. EachPatternSafe view asked.file asked.pattern) (λ view made a.
         let r = reported asked view made a in
         record { file = r.file; holds = holds_file view asked.file r.file r.is_file; safe = picked_safe zero_says asked view r none });
-    occurs = λ asked is one. gives_verify asked is (omega (arith, one)) (λ view. SomePatternOccurs view asked.file asked.pattern) (λ view made a. some_occurring asked view one (reported asked view made a));
-    proved = λ asked is low. gives_check asked is low (λ view. EachPrinted runs.Safe (codes "proved") view asked.file before.out.written after.out.written) (lines_of_check asked.file asked.other asked.options);
-    rest_safe = λ asked is alone low. subst (λ (names : Option (List ℕ)). Acts (may_put asked.out) (λ read made. EachPrinted (RestSafeBut names) (codes "rest safe, ") (seen before.shelf.files read) asked.file before.out.written after.out.written) before.shelf.calls after.shelf.calls) alone
-        (gives_rest asked is low (λ view. EachPrinted (RestSafeBut asked.silent) (codes "rest safe, ") view asked.file before.out.written after.out.written) (lines_of_rest asked is));
-    rest_proved = λ asked is alone low. subst (λ (names : Option (List ℕ)). Grew (λ read. EachPrinted (RestSafeBut names) (codes "rest proved") (seen before.shelf.files read) asked.file before.out.written after.out.written) before.shelf.calls after.shelf.calls) alone
-        (gives_rest_check asked is low (λ view. EachPrinted (RestSafeBut asked.silent) (codes "rest proved") view asked.file before.out.written after.out.written) (lines_of_rest_check asked.file asked.other asked.silent asked.options));
-    safe_lines = λ asked is plain low. gives_verify asked is low (λ view. EachPrinted runs.Safe (codes "safe, ") view asked.file before.out.written after.out.written) (λ view made a.
+    occurs = λ asked is one. gives_verify asked is (omega (arith, one)) (λ view. SomePatternOccurs view asked.file asked.pattern)
+        (λ view made a. some_occurring asked view one (reported asked view made a));
+    proved = λ asked is low. gives_check asked is low (λ view. EachPrinted runs.Safe (codes "proved") view asked.file before.out.written after.out.written)
+        (lines_of_check asked.file asked.other asked.options);
+    rest_safe = λ asked is alone low. subst
+        (λ (names : Option (List ℕ)). Acts (may_put asked.out)
+        (λ read made. EachPrinted (RestSafeBut names) (codes "rest safe, ") (seen before.shelf.files read) asked.file before.out.written after.out.written)
+        before.shelf.calls after.shelf.calls) alone
+        (gives_rest asked is low (λ view. EachPrinted (RestSafeBut asked.silent) (codes "rest safe, ") view asked.file before.out.written after.out.written)
+        (lines_of_rest asked is));
+    rest_proved = λ asked is alone low. subst
+        (λ (names : Option (List ℕ)). Grew
+        (λ read. EachPrinted (RestSafeBut names) (codes "rest proved") (seen before.shelf.files read) asked.file before.out.written after.out.written)
+        before.shelf.calls after.shelf.calls) alone
+        (gives_rest_check asked is low (λ view. EachPrinted (RestSafeBut asked.silent) (codes "rest proved") view asked.file before.out.written
+        after.out.written) (lines_of_rest_check asked.file asked.other asked.silent asked.options));
+    safe_lines = λ asked is plain low. gives_verify asked is low
+        (λ view. EachPrinted runs.Safe (codes "safe, ") view asked.file before.out.written after.out.written) (λ view made a.
         let e = printed_verify asked view (reported asked view made a) in
-        record { file = e.file; holds = e.holds; text = e.text; gained = e.gained; holds_of = λ k p named line. e.safe k p named (subst (λ (json : Bool). TellsSafe false json p.name e.text) (sym plain) line) });
-    shown = λ asked is none. gives (replay_meaning asked.file asked.other asked.json) refl (as_replay asked is) (omega (arith, none)) (λ view. ShownOccurs view asked.file asked.other) (λ view made a. occurs_shown asked.file asked.other asked.json view (shown asked.file asked.other asked.json view made a));
+        record {
+          file = e.file;
+          holds = e.holds;
+          text = e.text;
+          gained = e.gained;
+          holds_of = λ k p named line. e.safe k p named
+              (subst (λ (json : Bool). TellsSafe false json p.name e.text) (sym plain) line);
+        });
+    shown = λ asked is none. gives (replay_meaning asked.file asked.other asked.json) refl (as_replay asked is) (omega (arith, none))
+        (λ view. ShownOccurs view asked.file asked.other)
+        (λ view made a. occurs_shown asked.file asked.other asked.json view (shown asked.file asked.other asked.json view made a));
   }
 
 pub quiet : (asked : Asked) (number : ℕ) (before after : State) → Runs asked number before after → Quiet number before after
@@ -722,23 +998,30 @@ kept_others : (asked : Asked) (number : ℕ) (before after : State) → Runs ask
 kept_others NoCommand number before after h = ap (λ (s : ShelfState). s.files) h.shelf
 kept_others (Command legal m) number before after h = h.performs.kept
 
-kept_by_refusal : (asked : Asked) (number : ℕ) (before after : State) → Runs asked number before after → 3 ≤ number → number ≤ 5 → after.shelf.files ≡ before.shelf.files
+kept_by_refusal : (asked : Asked) (number : ℕ) (before after : State) → Runs asked number before after → 3 ≤ number → number ≤ 5
+    → after.shelf.files ≡ before.shelf.files
 kept_by_refusal NoCommand number before after h three five = ap (λ (s : ShelfState). s.files) h.shelf
 kept_by_refusal (Command legal m) number before after h three five = kept_refused m number before after h.performs.ends three five
 
 -- before a call changes a file outputs were compared with what was read
-differs : {A F : Type 0} (kind : Kind A F) (name : List ℕ) (outs : List (List ℕ)) (rest : A → Meaning) (number : ℕ) (before after : State) → Performs (spared kind name outs rest) number before after → ComparesFirst before.shelf.files name outs before.shelf.calls after.shelf.calls
+differs : {A F : Type 0} (kind : Kind A F) (name : List ℕ) (outs : List (List ℕ)) (rest : A → Meaning) (number : ℕ) (before after : State)
+    → Performs (spared kind name outs rest) number before after → ComparesFirst before.shelf.files name outs before.shelf.calls after.shelf.calls
 differs kind name outs rest number before after performs =
     let m = spared kind name outs rest in
     let ends = performs.ends in
     acts m number before after ends (λ read made. Differ (seen before.shelf.files read) name outs ⊎ AreStaging outs made)
-    (elim (held_or_staged m (seen before.shelf.files ends.read) number before after ends.made ends.end) [ inl answer ↦ inl answer.1.2.0 | inr staged ↦ inr staged ])
+    (elim (held_or_staged m (seen before.shelf.files ends.read) number before after ends.made ends.end)
+    [ inl answer ↦ inl answer.1.2.0 | inr staged ↦ inr staged ])
 
-pub spares_read : (words : List (List ℕ)) (number : ℕ) (before after : State) → Runs (request_of words) number before after → SparesRead words before.shelf.files before.shelf.calls after.shelf.calls
+pub spares_read : (words : List (List ℕ)) (number : ℕ) (before after : State) → Runs (request_of words) number before after
+    → SparesRead words before.shelf.files before.shelf.calls after.shelf.calls
 spares_read words number before after h = record {
-  verify = λ asked is. differs file_kind asked.file (may_put asked.out) (picked_meaning asked) number before after (as_verify words number before after h asked is);
-  rest = λ asked is. differs file_kind asked.file (may_put asked.out) (at_ends asked.file (may_put asked.out) (rest_quietly asked)) number before after (as_rest words number before after h asked is);
-  search = λ asked is. differs template_kind asked.file (found_names asked) (found_meaning asked) number before after (as_search words number before after h asked is);
+  verify = λ asked is. differs file_kind asked.file (may_put asked.out) (picked_meaning asked) number before after
+      (as_verify words number before after h asked is);
+  rest = λ asked is. differs file_kind asked.file (may_put asked.out) (at_ends asked.file (may_put asked.out) (rest_quietly asked)) number before after
+      (as_rest words number before after h asked is);
+  search = λ asked is. differs template_kind asked.file (found_names asked) (found_meaning asked) number before after
+      (as_search words number before after h asked is);
 }
 
 -- the calls are those of the command
@@ -746,18 +1029,26 @@ pub opens : (asked : Asked) (number : ℕ) (before after : State) → Runs asked
 opens NoCommand number before after h = ap (λ (s : ShelfState). s.calls) h.shelf
 opens (Command legal m) number before after h =
     let ends = h.performs.ends in
-    acts m number before after ends (λ read made. (m.opens read ⊎ (read ≡ [])) × AreOfStages m.puts made) (ends.opened, made_of_stages m (seen before.shelf.files ends.read) number before after ends.made ends.end)
+    acts m number before after ends (λ read made. (m.opens read ⊎ (read ≡ [])) × AreOfStages m.puts made)
+    (ends.opened, made_of_stages m (seen before.shelf.files ends.read) number before after ends.made ends.end)
 
 spared_by : (asked : Asked) (number : ℕ) (before after : State) → Runs asked number before after → Spares (put_by asked) number before.shelf after.shelf
 spared_by NoCommand number before after h three = inl (ap (λ (s : ShelfState). s.files) h.shelf)
 spared_by (Command legal m) number before after h three = h.performs.spared three
 
-pub keeps_files : (words : List (List ℕ)) (number : ℕ) (before after : State) → Runs (request_of words) number before after → KeepsFiles number words before.shelf after.shelf
+pub keeps_files : (words : List (List ℕ)) (number : ℕ) (before after : State) → Runs (request_of words) number before after
+    → KeepsFiles number words before.shelf after.shelf
 keeps_files words number before after h =
-    record { others = kept_others (request_of words) number before after h; refused = kept_by_refusal (request_of words) number before after h; spared = spared_by (request_of words) number before after h }
+    record {
+      others = kept_others (request_of words) number before after h;
+      refused = kept_by_refusal (request_of words) number before after h;
+      spared =
+          spared_by (request_of words) number before after h;
+    }
 
 -- what hinders in told files, by what is seen in them and in the calls
-pub hinders_told : (m : Meaning) (told : Told) (number : ℕ) (before after : State) → before.shelf.files ≡ Some told → Performs m number before after → Decides m → 3 ≤ number → number ≤ 4 → (line : List ℕ) × m.refuses (in_files told) number line
+pub hinders_told : (m : Meaning) (told : Told) (number : ℕ) (before after : State) → before.shelf.files ≡ Some told → Performs m number before after → Decides m
+    → 3 ≤ number → number ≤ 4 → (line : List ℕ) × m.refuses (in_files told) number line
 hinders_told m told number before after is h decides three four =
     let hinders = hindered m number before after h.ends three four in
     (hinders.0, decides.refuses told h.ends.read number hinders.0 (subst (λ (o : Option Told). m.refuses (seen o h.ends.read) number hinders.0) is hinders.1))
@@ -773,4 +1064,5 @@ passes_legal (Command legal m) number before after h = λ told is legal. (
 
 -- told files hold one file
 pub same_file : (told : Told) (name : List ℕ) (file other : File) → IsFile (in_files told) name other → IsFile (in_files told) name file → other ≡ file
-same_file told name file other h is = one_legal is.bytes other file (subst (λ (bytes : List ℕ). file_kind.means bytes other) (whole_one told name file_kind.limit.bytes h.bytes is.bytes h.had is.had) h.means) is.means
+same_file told name file other h is = one_legal is.bytes other file
+    (subst (λ (bytes : List ℕ). file_kind.means bytes other) (whole_one told name file_kind.limit.bytes h.bytes is.bytes h.had is.had) h.means) is.means

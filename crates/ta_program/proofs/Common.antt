@@ -1,5 +1,7 @@
 -- The names that the proofs of this crate cite, passed on from one place. Declares nothing.
-pub use Rattle.std.proofs.Common.{Bool, Err, List, None, Ok, Option, Result, Some, [], ap, append_assoc, arith, cond, drop, false, inl, inr, length, length-append, ltb-false, ltb-true, map, min, nat_le, nat_lt, not, option_map, refl, rules, slice_get, subst, suc, sym, take, take_all, tests, true, zero, ℕ, ◌&&◌, ◌++◌, ◌+◌, ◌-◌, ◌<◌, ◌^◌, ◌∙◌, ◌∷◌, ◌≡◌, ◌≢◌, ◌≤◌, ◌⊎◌}
+pub use Rattle.std.proofs.Common.{Bool, Err, List, None, Ok, Option, Result, Some, [], ap, append_assoc, arith, cond, drop, false, inl, inr, length}
+pub use Rattle.std.proofs.Common.{length-append, ltb-false, ltb-true, map, min, nat_le, nat_lt, not, option_map, refl, rules, slice_get, subst, suc, sym, take}
+pub use Rattle.std.proofs.Common.{take_all, tests, true, zero, ℕ, ◌&&◌, ◌++◌, ◌+◌, ◌-◌, ◌<◌, ◌^◌, ◌∙◌, ◌∷◌, ◌≡◌, ◌≢◌, ◌≤◌, ◌⊎◌}
 pub use Rattle.std.proofs.Math.Seq.{take-append-add}
 pub use Rattle.std.proofs.lemmas.Bool.{and_parts, cases_order, eqb-true, false_from_ne_true, false≢true, or_parts}
 pub use Rattle.std.proofs.lemmas.Iterator.{YieldsList-from_slice}
@@ -18,7 +20,8 @@ pub use Rattle.ta_base.specs.Masks.{has_bit}
 pub use Rattle.ta_cert.specs.Certificates.{pair_of, proofs_of}
 pub use Rattle.ta_cert.specs.declared.fault.CertFault.{CertFault}
 pub use Rattle.ta_check.proofs.Lasting.{no_longer_certificate}
-pub use Rattle.ta_check.specs.Certificate.{AllClaimsHold, AllQuietRestSafe, AllSafe, Certificate, CertificateFor, PatternSafe, QuietRestCertificate, proof_number}
+pub use Rattle.ta_check.specs.Certificate.{AllClaimsHold, AllQuietRestSafe, AllSafe, Certificate, CertificateFor, PatternSafe, QuietRestCertificate}
+pub use Rattle.ta_check.specs.Certificate.{proof_number}
 pub use Rattle.ta_check.specs.Checkers.{CheckerFeedAnswers, CheckerFinishAnswers, CheckerStandsFor, IsExactCheck, IsExactFeed, subject_of}
 pub use Rattle.ta_check.specs.Faults.{IsFirstFaultFor, IsLastingFor}
 pub use Rattle.ta_check.specs.Subjects.{ClaimHolds, Subject, claiming, claiming_with}
@@ -32,7 +35,8 @@ pub use Rattle.ta_program.specs.Bench.{BUDGET, BenchHolds, IsBench, IsCertified,
 unfoldable pub use Rattle.ta_program.specs.Bench.{family_text}
 pub use Rattle.ta_program.specs.Certified.{HindersCertificate, LongCertificate, long_line}
 pub use Rattle.ta_program.specs.Check.{CheckHolds, check_meaning, proved_meaning}
-pub use Rattle.ta_program.specs.Compress.{CanCompress, CompressFaultIn, CompressHolds, Compresses, IsRefusedRun, IsTextFault, LeavesRange, SaysShort, ShortOf, compress_meaning, compress_of, long_kind, of_run, out_of_range_line, short_meaning}
+pub use Rattle.ta_program.specs.Compress.{CanCompress, CompressFaultIn, CompressHolds, Compresses, IsRefusedRun, IsTextFault, LeavesRange, SaysShort, ShortOf}
+pub use Rattle.ta_program.specs.Compress.{compress_meaning, compress_of, long_kind, of_run, out_of_range_line, short_meaning}
 pub use Rattle.ta_program.specs.Export.{ExportHolds, SaysSystem, WordHinders, export_meaning, export_of, export_words, system_meaning, word_fault_text}
 pub use Rattle.ta_program.specs.Faults.{FaultsAreNamed, HinderAlike, HinderOnce, NamesFault, OfCommand, OneFault}
 pub use Rattle.ta_program.specs.Inside.Certifying.{Certifies, ReportsAndPuts}
@@ -42,17 +46,21 @@ pub use Rattle.ta_program.specs.Inside.Reported.{SampleReported}
 pub use Rattle.ta_program.specs.Kinds.{IsFile, IsReplayFault, ShowsRun, certificate_kind, file_kind, run_kind}
 pub use Rattle.ta_program.specs.Laws.{FoundIsAccepted, PrintedRunsAreReplayed, SaysOrFails, WrittenAtRestIsAccepted, WrittenIsAccepted}
 pub use Rattle.ta_program.specs.Printed.{EachPrintedUnsafe, EachToldSafe, UnsafePrinted, telling_of}
-pub use Rattle.ta_program.specs.Program.{Admitting, Benches, CertificateWritten, CheckProves, ComparesFirst, Completes, EndsSo, ExactlySo, Exports, HoldsSame, KeepsFiles, Opens, PassesLegal, PrintedHolds, ReplayShows, RestProves, RestsReport, RunShortens, Searches, SparesRead, VerifyReports, put_by}
+pub use Rattle.ta_program.specs.Program.{Admitting, Benches, CertificateWritten, CheckProves, ComparesFirst, Completes, EndsSo, ExactlySo, Exports, HoldsSame}
+pub use Rattle.ta_program.specs.Program.{KeepsFiles, Opens, PassesLegal, PrintedHolds, ReplayShows, RestProves, RestsReport, RunShortens, Searches, SparesRead}
+pub use Rattle.ta_program.specs.Program.{VerifyReports, put_by}
 pub use Rattle.ta_program.specs.Replay.{ReplayHolds, SaysShown, replay_meaning, shown_meaning}
 pub use Rattle.ta_program.specs.Reporting.{CertificateStands, ReportHolds, Reports, report_meaning, verify_meaning, IsDecided, picked_meaning}
 pub use Rattle.ta_program.specs.PatternOption.{EachPicked, HasName, IsPick, LegalPicked, PickHinders, with_pick}
 pub use Rattle.ta_program.specs.Requests.{request_of}
-pub use Rattle.ta_program.specs.Rest.{HindersRest, IsDecidedAtRest, LegalRest, LongAtRest, LongRest, RestCertificateStands, RestReportHolds, RestReports, rest_meaning, rest_picked, rest_quietly, rest_report_meaning}
+pub use Rattle.ta_program.specs.Rest.{HindersRest, IsDecidedAtRest, LegalRest, LongAtRest, LongRest, RestCertificateStands, RestReportHolds, RestReports}
+pub use Rattle.ta_program.specs.Rest.{rest_meaning, rest_picked, rest_quietly, rest_report_meaning}
 pub use Rattle.ta_program.specs.RestCheck.{RestCheckHolds, quietly_meaning, rest_check_meaning, rest_proved_meaning}
 pub use Rattle.ta_program.specs.RestEnds.{CycleHinders, FileEndings, IsEnds, LegalAtRest, at_ends, cycle_text, ends_of, with_ends}
 pub use Rattle.ta_program.specs.RestWords.{RestCheckWords, RestWords, quiet_names, rest_check_of, rest_check_words, rest_form, rest_of, rest_taken, rest_words}
 pub use Rattle.ta_program.specs.SilentNames.{AreSilent, FairlySafeBut, LegalSilently, NamesHinder, RestOccursBut, RestSafeBut, with_silent}
-pub use Rattle.ta_program.specs.Search.{Finds, HindersFound, HoldFound, IsTemplate, IsTemplateText, LegalTemplate, SearchHolds, end_number, found_files, found_meaning, found_names, leaves_unknown, search_meaning, template_kind}
+pub use Rattle.ta_program.specs.Search.{Finds, HindersFound, HoldFound, IsTemplate, IsTemplateText, LegalTemplate, SearchHolds, end_number, found_files}
+pub use Rattle.ta_program.specs.Search.{found_meaning, found_names, leaves_unknown, search_meaning, template_kind}
 pub use Rattle.ta_program.specs.SearchSeen.{search_seen}
 pub use Rattle.ta_program.specs.SearchWords.{SearchWords, search_form, search_of, search_taken, search_words}
 pub use Rattle.ta_program.specs.Show.{IsFileText, SaysFile, ShowHolds, file_meaning, show_meaning, show_of, show_words}
@@ -100,22 +108,25 @@ pub use Rattle.ta_search.specs.declared.template.Template.{Template}
 pub use Rattle.ta_shelf.specs.Calls.{Call, Event, Grew, Put as PutCall, PieceBy, reads, ReadsFirst, Spells}
 pub use Rattle.ta_shelf.specs.Put.{OthersStay, Told, WhereTold}
 pub use Rattle.ta_shelf.specs.Sink.{with_text}
-pub use Rattle.ta_shell.proofs.Clauses.{acts, answered, grew_alone, held_or_staged, hindered, kept_refused, made_of_stages, never_five, tells_file}
-pub use Rattle.ta_shell.proofs.Read.{after_monotone, decides, finds_memory, finds_monotone, finds_one, finds_then, finds_wrong, grew_fault, grew_found, grew_meant, grew_means, grew_none, grew_then, grew_unread, is_more, no_hindrance, one_number, replies_monotone, replies_one, settles_monotone}
-pub use Rattle.ta_shell.proofs.Spared.{grew_compared, grew_holds, grew_kept, grew_spared, grew_unspared, one_holds_line, spared_answer, spared_decides, spared_passes, spared_refuses}
-pub use Rattle.ta_shell.proofs.Views.{Monotone, sub_told, whole_one}
-pub use Rattle.ta_shell.specs.Commands.{Decides, IsSo, Meaning, Says}
-pub use Rattle.ta_shell.specs.Ends.{IsAnswered, Spares, Performs, Quiet, ShelfState, SinkState, State, Tells, state}
-pub use Rattle.ta_shell.specs.Lines.{file_line, holds_read, longer_than, missing, phrase_text}
-pub use Rattle.ta_shell.specs.Puts.{HoldsPut, HoldsText, KeptBut, PutsWithin, PutText, Stand, may_put, put_bytes, put_text}
-pub use Rattle.ta_shell.specs.Reading.{IsReading, IsUnreadable, ReadCause, ReadsFile, SaysOfFile, UnreadBy}
-pub use Rattle.ta_shell.specs.Sights.{Begins, HasMore, Unlike, View, Whole, in_files, seen, where_told}
-pub use Rattle.ta_shell.specs.Sparing.{Compares, Differ, HoldsRead, SparedStage, spared, sparing}
-pub use Rattle.ta_shell.specs.Stages.{FileIsAtFault, FileMeans, Hinders, IsBroken, Kind, MeantBy, ReadingGoesOn, Stage, Writes, after, finds, replies, settles}
-pub use Rattle.ta_shell.specs.declared.answer.Answer.{Answer}
-pub use Rattle.ta_shell.specs.declared.answer.Put.{Put}
-pub use Rattle.ta_shell.specs.declared.answer.Refusal.{Refusal}
-pub use Rattle.ta_shell.specs.declared.answer.Refusal.TheVariants.{Memory, PutFailed, ReadFailed, Refused}
+pub use Rattle.ta_shelf.proofs.Clauses.{acts, answered, grew_alone, held_or_staged, hindered, kept_refused, made_of_stages, never_five, tells_file}
+pub use Rattle.ta_shelf.proofs.Read.{after_monotone, decides, finds_memory, finds_monotone, finds_one, finds_then, finds_wrong, grew_fault, grew_found}
+pub use Rattle.ta_shelf.proofs.Read.{grew_meant, grew_means, grew_none, grew_then, grew_unread, is_more, no_hindrance, one_number, replies_monotone}
+pub use Rattle.ta_shelf.proofs.Read.{replies_one, settles_monotone}
+pub use Rattle.ta_shelf.proofs.Spared.{grew_compared, grew_holds, grew_kept, grew_spared, grew_unspared, one_holds_line, spared_answer, spared_decides}
+pub use Rattle.ta_shelf.proofs.Spared.{spared_passes, spared_refuses}
+pub use Rattle.ta_shelf.proofs.Views.{Monotone, sub_told, whole_one}
+pub use Rattle.ta_shelf.specs.Commands.{Decides, IsSo, Meaning, Says}
+pub use Rattle.ta_shelf.specs.Ends.{IsAnswered, Spares, Performs, Quiet, ShelfState, SinkState, State, Tells, state}
+pub use Rattle.ta_shelf.specs.Lines.{file_line, holds_read, longer_than, missing, phrase_text}
+pub use Rattle.ta_shelf.specs.Puts.{HoldsPut, HoldsText, KeptBut, PutsWithin, PutText, Stand, may_put, put_bytes, put_text}
+pub use Rattle.ta_shelf.specs.Reading.{IsReading, IsUnreadable, ReadCause, ReadsFile, SaysOfFile, UnreadBy}
+pub use Rattle.ta_shelf.specs.Sights.{Begins, HasMore, Unlike, View, Whole, in_files, seen, where_told}
+pub use Rattle.ta_shelf.specs.Sparing.{Compares, Differ, HoldsRead, SparedStage, spared, sparing}
+pub use Rattle.ta_shelf.specs.Stages.{FileIsAtFault, FileMeans, Hinders, IsBroken, Kind, MeantBy, ReadingGoesOn, Stage, Writes, after, finds, replies, settles}
+pub use Rattle.ta_shelf.specs.declared.answer.Answer.{Answer}
+pub use Rattle.ta_shelf.specs.declared.answer.Put.{Put}
+pub use Rattle.ta_shelf.specs.declared.answer.Refusal.{Refusal}
+pub use Rattle.ta_shelf.specs.declared.answer.Refusal.TheVariants.{Memory, PutFailed, ReadFailed, Refused}
 pub use Rattle.ta_smt.proofs.FaultsOnce.{admit_faults_once, whole_faults_once, word_faults_once}
 pub use Rattle.ta_smt.proofs.WordsNamed.{legal_exists, legal_of, legal_word, whole_exact, words_exact}
 pub use Rattle.ta_smt.specs.Admit.{AskedWord}
@@ -126,13 +137,14 @@ pub use Rattle.ta_verdict.proofs.VerdictsMade.{as_many, held, held_by, held_entr
 pub use Rattle.ta_verdict.proofs.VerdictsSaid.{tree_safe, verdict_run, verdict_safe}
 pub use Rattle.ta_verdict.specs.Certificates.{CertificateOf, CertificateOn, SafeOne, safe_among, safe_numbers, safe_ones, safe_picked, tree_size, with_safe}
 pub use Rattle.ta_verdict.specs.declared.budget.Budget.{Budget}
-pub use Rattle.ta_verdict.specs.Verdicts.{AreVerdicts, AreVerdictsOn, EachHolds, IsKnown, IsSample, NoSample, SampleReal, UnsafeHolds, VerdictHolds, VerdictsHold, is_unknown, is_unsafe, place_of}
-pub use Rattle.ta_shell.specs.Making.{Acts, AreOfStages, AreStaging, PutWhole, TellsFile}
+pub use Rattle.ta_verdict.specs.Verdicts.{AreVerdicts, AreVerdictsOn, EachHolds, IsKnown, IsSample, NoSample, SampleReal, UnsafeHolds, VerdictHolds}
+pub use Rattle.ta_verdict.specs.Verdicts.{VerdictsHold, is_unknown, is_unsafe, place_of}
+pub use Rattle.ta_shelf.specs.OutputCalls.{Acts, AreOfStages, AreStaging, PutWhole, TellsFile}
 pub use Rattle.ta_shelf.proofs.CallLemmas.{reads-append}
-pub use Rattle.ta_shell.specs.Reading.{SaysLong}
-pub use Rattle.ta_shell.specs.Staging.{Begun, HasNoAnswer, SaysAndStages, SettlesFile, StagedBy, StagedInPart, StagedOr, StagedSoFar, result_seen}
-pub use Rattle.ta_shell.specs.declared.staged_answer.StagedAnswer.{StagedAnswer}
-pub use Rattle.ta_shell.specs.declared.staged_file.StagedFile.{StagedFile}
-pub use Rattle.ta_shell.specs.Ends.{LetGo}
-pub use Rattle.ta_shell.specs.Making.{Changed}
+pub use Rattle.ta_shelf.specs.Reading.{SaysLong}
+pub use Rattle.ta_shelf.specs.Staging.{Begun, HasNoAnswer, SaysAndStages, SettlesFile, StagedBy, StagedInPart, StagedOr, StagedSoFar, result_seen}
+pub use Rattle.ta_shelf.specs.declared.staged_answer.StagedAnswer.{StagedAnswer}
+pub use Rattle.ta_shelf.specs.declared.staged_file.StagedFile.{StagedFile}
+pub use Rattle.ta_shelf.specs.Ends.{LetGo}
+pub use Rattle.ta_shelf.specs.OutputCalls.{Changed}
 pub use Rattle.std.specs.declared.alloc.AllocError.{AllocError}

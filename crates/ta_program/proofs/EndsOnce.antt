@@ -1,5 +1,6 @@
 -- a file has one list of endings
-use Rattle.ta_program.proofs.Common.{◌≡◌, inl, inr, List, [], ◌∷◌, ◌++◌, length, length-append, arith, sym, ap, ◌∙◌, refl, same_parts, Pattern, File, Endings, IsEnding, LastMoved, RestAdded, events_below, FileEndings, IsEnds}
+use Rattle.ta_program.proofs.Common.{◌≡◌, inl, inr, List, [], ◌∷◌, ◌++◌, length, length-append, arith, sym, ap, ◌∙◌, refl, same_parts, Pattern, File, Endings}
+use Rattle.ta_program.proofs.Common.{IsEnding, LastMoved, RestAdded, events_below, FileEndings, IsEnds}
 use Rattle.ta_base.proofs.Bits.{mask-one}
 use Rattle.ta_automaton.specs.declared.pattern.Event.{Event}
 use Rattle.ta_meaning.proofs.EqualParts.{condition-equal, event-equal, file-equal, pattern-equal}
@@ -22,7 +23,8 @@ moved_same old xs ys m n =
 -- so are events that are added
 added_same : (old xs ys : List Event) → RestAdded old xs → RestAdded old ys → xs ≡ ys
 added_same old xs ys m n =
-    let event : m.event ≡ n.event = event-equal m.event n.event (m.name ∙ sym n.name) (m.after ∙ sym n.after) (condition-equal m.event.condition n.event.condition (m.condition ∙ sym n.condition)) in
+    let event : m.event ≡ n.event = event-equal m.event n.event (m.name ∙ sym n.name) (m.after ∙ sym n.after)
+    (condition-equal m.event.condition n.event.condition (m.condition ∙ sym n.condition)) in
     m.is ∙ ap (λ (e : Event). e ∷ []) event ∙ sym n.is
 
 not_both : (old xs ys : List Event) → LastMoved old xs → RestAdded old ys → ⊥
@@ -46,6 +48,7 @@ endings_same (p ∷ ps) (q ∷ qs) (r ∷ rs) h k =
 
 pub ends_once : (file : File) (d e : FileEndings) → IsEnds file d → IsEnds file e → d ≡ e
 ends_once file d e h k =
-    let ending : d.ending ≡ e.ending = file-equal d.ending e.ending (h.endings.automaton ∙ sym k.endings.automaton) (endings_same file.patterns d.ending.patterns e.ending.patterns h.endings.patterns k.endings.patterns) in
+    let ending : d.ending ≡ e.ending = file-equal d.ending e.ending (h.endings.automaton ∙ sym k.endings.automaton)
+    (endings_same file.patterns d.ending.patterns e.ending.patterns h.endings.patterns k.endings.patterns) in
     let added : d.added ≡ e.added = mask-one _ d.added e.added h.endings.added k.endings.added in
     λ i. record { ending = ending i; added = added i }

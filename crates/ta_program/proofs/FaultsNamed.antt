@@ -1,8 +1,20 @@
 -- What is printed names the error.
-use Rattle.ta_program.proofs.Common.{Budget, ◌≡◌, ◌∙◌, ◌≤◌, ℕ, Bool, true, false, List, [], ◌∷◌, Option, None, Some, refl, sym, ap, subst, inl, inr, arith, codes, bytes_eq, File, one_legal, run_text, Template, one_fault, Told, replies_monotone, Monotone, Decides, Meaning, Performs, State, Tells, file_line, in_files, seen, Writes, after, finds, replies, whole_faults_once, word_faults_once, whole_exact, words_exact, IsWholeWordOf, IsWordOf, Spelling, WholeFaultOf, WordFaultOf, WordFault, claiming, AdmitAsked, admit_meaning, admit_words, run_meaning, values_kind, values_meaning, Asked, LegalFile, Runs, ask, ask_where, choose, Command, NoCommand, SaysBench, bench_meaning, bench_words, HindersCertificate, may_put, check_meaning, proved_meaning, SaysShort, compress_meaning, long_kind, short_meaning, SaysSystem, WordHinders, export_meaning, export_words, system_meaning, word_fault_text, FaultsAreNamed, HinderOnce, NamesFault, OfCommand, certificate_kind, file_kind, run_kind, SaysShown, replay_meaning, shown_meaning, Reports, report_meaning, verify_meaning, request_of, HindersRest, RestReports, rest_meaning, rest_report_meaning, rest_check_meaning, rest_proved_meaning, CycleHinders, FileEndings, IsEnds, cycle_text, with_ends, rest_words, Finds, HindersFound, LegalTemplate, found_meaning, found_names, search_meaning, template_kind, SearchWords, search_words, two_names, verify_words, WordAsked, ◌⊎◌, AskedWord as Word, RestBudget, resting, rest_quietly, with_silent, at_ends}
+use Rattle.ta_program.proofs.Common.{Budget, ◌≡◌, ◌∙◌, ◌≤◌, ℕ, Bool, true, false, List, [], ◌∷◌, Option, None, Some, refl, sym, ap, subst, inl, inr, arith}
+use Rattle.ta_program.proofs.Common.{codes, bytes_eq, File, one_legal, run_text, Template, one_fault, Told, replies_monotone, Monotone, Decides, Meaning}
+use Rattle.ta_program.proofs.Common.{Performs, State, Tells, file_line, in_files, seen, Writes, after, finds, replies, whole_faults_once, word_faults_once}
+use Rattle.ta_program.proofs.Common.{whole_exact, words_exact, IsWholeWordOf, IsWordOf, Spelling, WholeFaultOf, WordFaultOf, WordFault, claiming, AdmitAsked}
+use Rattle.ta_program.proofs.Common.{admit_meaning, admit_words, run_meaning, values_kind, values_meaning, Asked, LegalFile, Runs, ask, ask_where, choose}
+use Rattle.ta_program.proofs.Common.{Command, NoCommand, SaysBench, bench_meaning, bench_words, HindersCertificate, may_put, check_meaning, proved_meaning}
+use Rattle.ta_program.proofs.Common.{SaysShort, compress_meaning, long_kind, short_meaning, SaysSystem, WordHinders, export_meaning, export_words}
+use Rattle.ta_program.proofs.Common.{system_meaning, word_fault_text, FaultsAreNamed, HinderOnce, NamesFault, OfCommand, certificate_kind, file_kind, run_kind}
+use Rattle.ta_program.proofs.Common.{SaysShown, replay_meaning, shown_meaning, Reports, report_meaning, verify_meaning, request_of, HindersRest, RestReports}
+use Rattle.ta_program.proofs.Common.{rest_meaning, rest_report_meaning, rest_check_meaning, rest_proved_meaning, CycleHinders, FileEndings, IsEnds, cycle_text}
+use Rattle.ta_program.proofs.Common.{with_ends, rest_words, Finds, HindersFound, LegalTemplate, found_meaning, found_names, search_meaning, template_kind}
+use Rattle.ta_program.proofs.Common.{SearchWords, search_words, two_names, verify_words, WordAsked, ◌⊎◌, AskedWord as Word, RestBudget, resting, rest_quietly}
+use Rattle.ta_program.proofs.Common.{with_silent, at_ends}
 use Rattle.ta_program.proofs.Common.{SaysFile, file_meaning, show_meaning, show_words}
 use Rattle.ta_meaning.specs.Laws.{FirstFaultsAreUnique}
-use Rattle.ta_claim.specs.declared.claim.Claim.TheVariants as claim
+use Rattle.ta_rest.specs.declared.claim.Claim.TheVariants as claim
 use Rattle.ta_program.proofs.EndsOnce.{ends_once}
 use Rattle.ta_program.proofs.Common.{LegalRest, RestWords, rest_picked}
 use Rattle.ta_program.proofs.RestMeanings.{cycle_rule, ends_monotone, hinders_rest, no_cycle, quietly_monotone, rest_quietly_monotone}
@@ -25,30 +37,36 @@ module _ (Of : WordFault → Type 0) (name : List ℕ) where
   word_ranged : (number : ℕ) (line : List ℕ) → WordHinders Of name number line → (3 ≤ number) × (number ≤ 4)
   word_ranged number line h = let is : number ≡ 4 = h.numbered in (omega (arith, is), omega (arith, is))
 
-  word_line : ((e f : WordFault) → Of e → Of f → e ≡ f) → (number other : ℕ) (line words : List ℕ) → WordHinders Of name number line → WordHinders Of name other words → (number ≡ other) × (line ≡ words)
+  word_line : ((e f : WordFault) → Of e → Of f → e ≡ f) → (number other : ℕ) (line words : List ℕ) → WordHinders Of name number line
+      → WordHinders Of name other words → (number ≡ other) × (line ≡ words)
   word_line one number other line words h k = (
     h.numbered ∙ sym k.numbered,
     h.said ∙ ap (λ (f : WordFault). file_line name (word_fault_text f)) (one h.found k.found h.is k.is) ∙ sym k.said,
   )
 
 -- a line that says that a certificate is too long
-long_certificate : (file : File) (pick : Pick) (budget : Budget) (out : Option (List ℕ)) (line words : List ℕ) (number other : ℕ) → HindersCertificate file pick budget out number line → HindersCertificate file pick budget out other words → line ≡ words
+long_certificate : (file : File) (pick : Pick) (budget : Budget) (out : Option (List ℕ)) (line words : List ℕ) (number other : ℕ)
+    → HindersCertificate file pick budget out number line → HindersCertificate file pick budget out other words → line ≡ words
 long_certificate file pick budget None line words number other h k = absurd h
 long_certificate file pick budget (Some out) line words number other h k = h.said ∙ sym k.said
 
-long_found : (t : Template) (budget : Budget) (out : Option (List ℕ)) (line words : List ℕ) (number other : ℕ) → HindersFound t budget out number line → HindersFound t budget out other words → line ≡ words
+long_found : (t : Template) (budget : Budget) (out : Option (List ℕ)) (line words : List ℕ) (number other : ℕ) → HindersFound t budget out number line
+    → HindersFound t budget out other words → line ≡ words
 long_found t budget None line words number other h k = absurd h
 long_found t budget (Some out) line words number other h k = h.said ∙ sym k.said
 
-long_rest : (file : File) (ends : FileEndings) (budget : RestBudget) (pick : Pick) (out : Option (List ℕ)) (line words : List ℕ) (number other : ℕ) → HindersRest file ends budget pick out number line → HindersRest file ends budget pick out other words → line ≡ words
+long_rest : (file : File) (ends : FileEndings) (budget : RestBudget) (pick : Pick) (out : Option (List ℕ)) (line words : List ℕ) (number other : ℕ)
+    → HindersRest file ends budget pick out number line → HindersRest file ends budget pick out other words → line ≡ words
 long_rest file ends budget pick None line words number other h k = absurd h
 long_rest file ends budget pick (Some out) line words number other h k = h.said ∙ sym k.said
 
 module _ (unique : FirstFaultsAreUnique) (told : Told) where
   -- of a command that reads FILE first
-  file_first : (name : List ℕ) (puts : List (List ℕ)) (rest : File → Meaning) → ((file : File) → Monotone (rest file)) → ((file : File) → HinderOnce (rest file) told) → HinderOnce (after file_kind name puts rest) told
+  file_first : (name : List ℕ) (puts : List (List ℕ)) (rest : File → Meaning) → ((file : File) → Monotone (rest file))
+      → ((file : File) → HinderOnce (rest file) told) → HinderOnce (after file_kind name puts rest) told
   file_first name puts rest rests later =
-      after_once file_kind (settled file_kind (λ bytes f none. none) unique) name puts rest rests told 3 refl (omega arith) (omega arith) (λ bytes file fault legal found. legal.no_fault fault found) later one_legal
+      after_once file_kind (settled file_kind (λ bytes f none. none) unique) name puts rest rests told 3 refl (omega arith) (omega arith)
+      (λ bytes file fault legal found. legal.no_fault fault found) later one_legal
 
   report_once : (asked : VerifyWords) (file : File) (pick : Pick) → HinderOnce (report_meaning asked file pick) told
   report_once asked file pick =
@@ -61,26 +79,31 @@ module _ (unique : FirstFaultsAreUnique) (told : Told) where
 
   verify_once : (asked : VerifyWords) → HinderOnce (verify_meaning asked) told
   verify_once asked =
-      spared_once file_kind asked.file (may_put asked.out) (picked_meaning asked) (picked_monotone asked) told (λ bytes file fault legal found. legal.no_fault fault found)
+      spared_once file_kind asked.file (may_put asked.out) (picked_meaning asked) (picked_monotone asked) told
+      (λ bytes file fault legal found. legal.no_fault fault found)
       (file_first asked.file (may_put asked.out) (picked_meaning asked) (picked_monotone asked) (λ file.
       picks_once asked.file asked.pattern (may_put asked.out) file (report_meaning asked file) told (report_once asked file)))
 
   check_once : (name certificate : List ℕ) (options : ProofOptions) → HinderOnce (check_meaning name certificate options) told
   check_once name certificate options =
       file_first name [] (λ file. proved_meaning file options certificate) (λ file. proved_monotone file options certificate) (λ file.
-      after_last (certificate_kind (claiming claim.Safe file)) (certificate_settled (claiming claim.Safe file)) certificate [] (λ numbers. replies [] (SaysProofs false file options numbers)) (λ numbers. replies_monotone [] (SaysProofs false file options numbers)) told 4 refl (omega arith) (omega arith)
+      after_last (certificate_kind (claiming claim.Safe file)) (certificate_settled (claiming claim.Safe file)) certificate []
+      (λ numbers. replies [] (SaysProofs false file options numbers)) (λ numbers. replies_monotone [] (SaysProofs false file options numbers)) told 4 refl
+      (omega arith) (omega arith)
       (λ bytes numbers fault proves found. found.no_certificate numbers proves.accepted) (λ numbers number line none. none))
 
   replay_once : (name run : List ℕ) (json : Bool) → HinderOnce (replay_meaning name run json) told
   replay_once name run json =
       file_first name [] (λ file. shown_meaning file json run) (λ file. shown_monotone file json run) (λ file.
-      after_last (run_kind file) (settled (run_kind file) (λ bytes f none. none) (run_once file)) run [] (λ shown. replies [] (SaysShown file json shown)) (λ shown. replies_monotone [] (SaysShown file json shown)) told 4 refl (omega arith) (omega arith)
+      after_last (run_kind file) (settled (run_kind file) (λ bytes f none. none) (run_once file)) run [] (λ shown. replies [] (SaysShown file json shown))
+      (λ shown. replies_monotone [] (SaysShown file json shown)) told 4 refl (omega arith) (omega arith)
       (λ bytes shown fault shows found. found.shows_nothing shown shows) (λ shown number line none. none))
 
   pub compress_once : (name run : List ℕ) → HinderOnce (compress_meaning name run) told
   compress_once name run =
       file_first name [] (λ file. short_meaning file run) (λ file. short_monotone file run) (λ file.
-      after_last (long_kind file) (settled (long_kind file) (λ bytes f none. none) (long_once file)) run [] (λ long. replies [] (SaysShort file long)) (λ long. replies_monotone [] (SaysShort file long)) told 4 refl (omega arith) (omega arith)
+      after_last (long_kind file) (settled (long_kind file) (λ bytes f none. none) (long_once file)) run [] (λ long. replies [] (SaysShort file long))
+      (λ long. replies_monotone [] (SaysShort file long)) told 4 refl (omega arith) (omega arith)
       (λ bytes long fault able found. found.compresses_nothing long able) (λ long number line none. none))
 
   system_once : (name : List ℕ) (spelled : Spelling) (file : File) → HinderOnce (system_meaning name spelled file) told
@@ -92,11 +115,13 @@ module _ (unique : FirstFaultsAreUnique) (told : Told) where
       (λ word. replies_hinder [] (SaysSystem file word) told)
 
   export_once : (asked : WordAsked) → HinderOnce (export_meaning asked) told
-  export_once asked = file_first asked.file [] (system_meaning asked.file asked.word) (system_monotone asked.file asked.word) (system_once asked.file asked.word)
+  export_once asked = file_first asked.file [] (system_meaning asked.file asked.word) (system_monotone asked.file asked.word)
+      (system_once asked.file asked.word)
 
   values_line : (values : List ℕ) (file : File) (word : Word) → HinderOnce (values_meaning values file word) told
   values_line values file word =
-      after_last (values_kind file word) (settled (values_kind file word) (λ bytes f none. none) (values_once file word)) values [] (λ run. replies [] (Writes 0 (run_text file run))) (λ run. replies_monotone [] (Writes 0 (run_text file run))) told 4 refl (omega arith) (omega arith)
+      after_last (values_kind file word) (settled (values_kind file word) (λ bytes f none. none) (values_once file word)) values []
+      (λ run. replies [] (Writes 0 (run_text file run))) (λ run. replies_monotone [] (Writes 0 (run_text file run))) told 4 refl (omega arith) (omega arith)
       (λ bytes run fault admits found. found.gives_no_run run admits) (λ run number line none. none)
 
   run_line : (name : List ℕ) (spelled : Spelling) (values : List ℕ) (file : File) → HinderOnce (run_meaning name spelled values file) told
@@ -108,7 +133,8 @@ module _ (unique : FirstFaultsAreUnique) (told : Told) where
       (values_line values file)
 
   admit_once : (all : AdmitAsked) → HinderOnce (admit_meaning all) told
-  admit_once all = file_first all.asked.file [] (run_meaning all.asked.file all.asked.word all.values) (run_monotone all.asked.file all.asked.word all.values) (run_line all.asked.file all.asked.word all.values)
+  admit_once all = file_first all.asked.file [] (run_meaning all.asked.file all.asked.word all.values) (run_monotone all.asked.file all.asked.word all.values)
+      (run_line all.asked.file all.asked.word all.values)
 
   show_once : (name : List ℕ) → HinderOnce (show_meaning name) told
   show_once name = file_first name [] file_meaning (λ file. replies_monotone [] (SaysFile file)) (λ file. replies_hinder [] (SaysFile file) told)
@@ -117,38 +143,55 @@ module _ (unique : FirstFaultsAreUnique) (told : Told) where
   found_once asked t =
       settles_once (found_names asked) (Finds t asked) (HindersFound t asked.budget asked.out) told
       (λ number line h. let is = hinders_four t asked.budget asked.out number line h in (omega (arith, is), omega (arith, is)))
-      (λ number other line words h k. (hinders_four t asked.budget asked.out number line h ∙ sym (hinders_four t asked.budget asked.out other words k), long_found t asked.budget asked.out line words number other h k))
+      (λ number other line words h k. (
+        hinders_four t asked.budget asked.out number line h
+            ∙ sym (hinders_four t asked.budget asked.out other words k),
+        long_found t asked.budget asked.out line words number other h k,
+      ))
 
   search_once : (asked : SearchWords) → HinderOnce (search_meaning asked) told
   search_once asked =
       spared_once template_kind asked.file (found_names asked) (found_meaning asked) (found_monotone asked) told template_fits
-      (after_once template_kind (settled template_kind (λ bytes f none. none) one_fault) asked.file (found_names asked) (found_meaning asked) (found_monotone asked) told 3 refl (omega arith) (omega arith) template_fits (found_once asked) one_text)
+      (after_once template_kind (settled template_kind (λ bytes f none. none) one_fault) asked.file (found_names asked) (found_meaning asked)
+      (found_monotone asked) told 3 refl (omega arith) (omega arith) template_fits (found_once asked) one_text)
 
   -- of a command that looks for the endings of FILE
-  ends_line : (name : List ℕ) (puts : List (List ℕ)) (rest : File → FileEndings → Meaning) → ((file : File) (ends : FileEndings) → Monotone (rest file ends)) → ((file : File) (ends : FileEndings) → HinderOnce (rest file ends) told) → HinderOnce (with_ends name puts rest) told
+  ends_line : (name : List ℕ) (puts : List (List ℕ)) (rest : File → FileEndings → Meaning) → ((file : File) (ends : FileEndings) → Monotone (rest file ends))
+      → ((file : File) (ends : FileEndings) → HinderOnce (rest file ends) told) → HinderOnce (with_ends name puts rest) told
   ends_line name puts rest rests later =
       file_first name puts (λ file. finds (IsEnds file) (CycleHinders name file) puts (rest file)) (ends_monotone name puts rest rests) (λ file.
       finds_once (IsEnds file) (CycleHinders name file) puts (rest file) told
       (λ number line h. let three : number ≡ 3 = h.numbered in (omega (arith, three), omega (arith, three)))
-      (λ number other line words h k. (h.numbered ∙ sym k.numbered, h.said ∙ ap (λ (r : ℕ). file_line name (cycle_text r)) (cycle_rule file.automaton h.rule k.rule h.first k.first) ∙ sym k.said))
+      (λ number other line words h k. (
+        h.numbered ∙ sym k.numbered,
+        h.said ∙ ap (λ (r : ℕ). file_line name (cycle_text r)) (cycle_rule file.automaton h.rule k.rule h.first k.first)
+            ∙ sym k.said,
+      ))
       (λ ends number line is. no_cycle name file ends number line is)
       (λ d e is are. sym (ends_once file d e is are))
       (later file))
 
-  rest_report_once : (asked : RestWords) (file : File) (ends : FileEndings) (budget : RestBudget) (pick : Pick) → HinderOnce (rest_report_meaning asked file ends budget pick) told
+  rest_report_once : (asked : RestWords) (file : File) (ends : FileEndings) (budget : RestBudget) (pick : Pick)
+      → HinderOnce (rest_report_meaning asked file ends budget pick) told
   rest_report_once asked file ends budget pick =
       let out = asked.out in
       settles_once (may_put out) (RestReports asked file ends budget pick) (HindersRest file ends budget pick out) told
       (λ number line h. let is = (hinders_rest file ends budget pick out number line h).0 in (omega (arith, is), omega (arith, is)))
-      (λ number other line words h k. ((hinders_rest file ends budget pick out number line h).0 ∙ sym (hinders_rest file ends budget pick out other words k).0, long_rest file ends budget pick out line words number other h k))
+      (λ number other line words h k. (
+        (hinders_rest file ends budget pick out number line h).0
+            ∙ sym (hinders_rest file ends budget pick out other words k).0,
+        long_rest file ends budget pick out line words number other h k,
+      ))
 
   -- of commands that look for the places of names
-  names_once : (name : List ℕ) (names : Option (List ℕ)) (puts : List (List ℕ)) (file : File) (rest : List ℕ → Meaning) → ((places : List ℕ) → HinderOnce (rest places) told) → HinderOnce (with_silent name names puts file rest) told
+  names_once : (name : List ℕ) (names : Option (List ℕ)) (puts : List (List ℕ)) (file : File) (rest : List ℕ → Meaning)
+      → ((places : List ℕ) → HinderOnce (rest places) told) → HinderOnce (with_silent name names puts file rest) told
   names_once name names puts file rest later =
       let a = file.automaton in
       finds_once (AreSilent a names) (NamesHinder name a names) puts rest told
       (λ number line h. let three = silent_number name a names number line h in (omega (arith, three), omega (arith, three)))
-      (λ number other line words h k. (silent_number name a names number line h ∙ sym (silent_number name a names other words k), silent_line name a names number other line words h k))
+      (λ number other line words h k.
+      (silent_number name a names number line h ∙ sym (silent_number name a names other words k), silent_line name a names number other line words h k))
       (λ places number line is. silent_fits name a names places number line is)
       (λ d e is are. sym (silent_once a names d e is are))
       later
@@ -159,31 +202,39 @@ module _ (unique : FirstFaultsAreUnique) (told : Told) where
       let puts = may_put asked.out in
       let quietly = rest_quietly asked in
       let monotone = rest_quietly_monotone asked in
-      spared_once file_kind name puts (at_ends name puts quietly) (ends_monotone name puts quietly monotone) told (λ bytes file fault legal found. legal.no_fault fault found)
+      spared_once file_kind name puts (at_ends name puts quietly) (ends_monotone name puts quietly monotone) told
+      (λ bytes file fault legal found. legal.no_fault fault found)
       (ends_line name puts quietly monotone (λ file ends.
       names_once name asked.silent puts file (λ places. rest_picked asked file ends (resting asked.budget places)) (λ places.
       picks_once name asked.pattern puts file (rest_report_meaning asked file ends (resting asked.budget places)) told
       (rest_report_once asked file ends (resting asked.budget places)))))
 
-  proved_once : (certificate : List ℕ) (options : ProofOptions) (file : File) (ends : FileEndings) (silent : List ℕ) → HinderOnce (rest_proved_meaning certificate options file ends silent) told
+  proved_once : (certificate : List ℕ) (options : ProofOptions) (file : File) (ends : FileEndings) (silent : List ℕ)
+      → HinderOnce (rest_proved_meaning certificate options file ends silent) told
   proved_once certificate options file ends silent =
-      after_last (certificate_kind (claiming_with claim.RestSafe ends.ending silent)) (certificate_settled (claiming_with claim.RestSafe ends.ending silent)) certificate [] (λ numbers. replies [] (SaysProofs true file options numbers)) (λ numbers. replies_monotone [] (SaysProofs true file options numbers)) told 4 refl (omega arith) (omega arith)
+      after_last (certificate_kind (claiming_with claim.RestSafe ends.ending silent)) (certificate_settled (claiming_with claim.RestSafe ends.ending silent))
+      certificate [] (λ numbers. replies [] (SaysProofs true file options numbers)) (λ numbers. replies_monotone [] (SaysProofs true file options numbers))
+      told 4 refl (omega arith) (omega arith)
       (λ bytes numbers fault proves found. found.no_certificate numbers proves.accepted) (λ numbers number line none. none)
 
-  rest_check_once : (name certificate : List ℕ) (names : Option (List ℕ)) (options : ProofOptions) → HinderOnce (rest_check_meaning name certificate names options) told
+  rest_check_once : (name certificate : List ℕ) (names : Option (List ℕ)) (options : ProofOptions)
+      → HinderOnce (rest_check_meaning name certificate names options) told
   rest_check_once name certificate names options =
       ends_line name [] (quietly_meaning name certificate names options) (quietly_monotone name certificate names options) (λ file ends.
       names_once name names [] file (rest_proved_meaning certificate options file ends) (proved_once certificate options file ends))
 
   -- what words ask for, row by row
-  asked_where_once : {W : Type 0} (legal : W → Told → Type 0) (says : W → Meaning) (words : Option W) → ((w : W) → HinderOnce (says w) told) → OfCommand (λ m. HinderOnce m told) (ask_where legal says words)
+  asked_where_once : {W : Type 0} (legal : W → Told → Type 0) (says : W → Meaning) (words : Option W) → ((w : W) → HinderOnce (says w) told)
+      → OfCommand (λ m. HinderOnce m told) (ask_where legal says words)
   asked_where_once legal says None once = tt
   asked_where_once legal says (Some w) once = once w
 
-  asked_once : {W : Type 0} (file : W → Option (List ℕ)) (says : W → Meaning) (words : Option W) → ((w : W) → HinderOnce (says w) told) → OfCommand (λ m. HinderOnce m told) (ask file says words)
+  asked_once : {W : Type 0} (file : W → Option (List ℕ)) (says : W → Meaning) (words : Option W) → ((w : W) → HinderOnce (says w) told)
+      → OfCommand (λ m. HinderOnce m told) (ask file says words)
   asked_once file says = asked_where_once (λ w told. LegalFile told (file w)) says
 
-  row_once : (named : Bool) (asked others : Asked) → OfCommand (λ m. HinderOnce m told) asked → OfCommand (λ m. HinderOnce m told) others → OfCommand (λ m. HinderOnce m told) (choose named asked others)
+  row_once : (named : Bool) (asked others : Asked) → OfCommand (λ m. HinderOnce m told) asked → OfCommand (λ m. HinderOnce m told) others
+      → OfCommand (λ m. HinderOnce m told) (choose named asked others)
   row_once true asked others once more = once
   row_once false asked others once more = more
 
@@ -192,26 +243,35 @@ module _ (unique : FirstFaultsAreUnique) (told : Told) where
   request_once (word ∷ words) =
       row_once (bytes_eq word (codes "admit")) _ _ (asked_once (λ all. Some all.asked.file) admit_meaning (admit_words words) admit_once)
       (row_once (bytes_eq word (codes "bench")) _ _ (asked_once (λ k. None) bench_meaning (bench_words words) (λ k. replies_hinder [] (SaysBench k) told))
-      (row_once (bytes_eq word (codes "check")) _ _ (asked_once (λ a. Some a.file) (λ a. check_meaning a.file a.other a.options) (check_words words) (λ a. check_once a.file a.other a.options))
-      (row_once (bytes_eq word (codes "compress")) _ _ (asked_once (λ names. Some names.file) (λ names. compress_meaning names.file names.other) (two_names words) (λ names. compress_once names.file names.other))
+      (row_once (bytes_eq word (codes "check")) _ _
+      (asked_once (λ a. Some a.file) (λ a. check_meaning a.file a.other a.options) (check_words words) (λ a. check_once a.file a.other a.options))
+      (row_once (bytes_eq word (codes "compress")) _ _
+      (asked_once (λ names. Some names.file) (λ names. compress_meaning names.file names.other) (two_names words)
+      (λ names. compress_once names.file names.other))
       (row_once (bytes_eq word (codes "export")) _ _ (asked_once (λ asked. Some asked.file) export_meaning (export_words words) export_once)
-      (row_once (bytes_eq word (codes "replay")) _ _ (asked_once (λ a. Some a.file) (λ a. replay_meaning a.file a.other a.json) (replay_words words) (λ a. replay_once a.file a.other a.json))
+      (row_once (bytes_eq word (codes "replay")) _ _
+      (asked_once (λ a. Some a.file) (λ a. replay_meaning a.file a.other a.json) (replay_words words) (λ a. replay_once a.file a.other a.json))
       (row_once (bytes_eq word (codes "rest")) _ _ (asked_where_once LegalRest rest_meaning (rest_words words) rest_once)
-      (row_once (bytes_eq word (codes "rest-check")) _ _ (asked_where_once (λ a. LegalSilently a.file a.silent) (λ a. rest_check_meaning a.file a.other a.silent a.options) (rest_check_words words) (λ a. rest_check_once a.file a.other a.silent a.options))
+      (row_once (bytes_eq word (codes "rest-check")) _ _
+      (asked_where_once (λ a. LegalSilently a.file a.silent) (λ a. rest_check_meaning a.file a.other a.silent a.options) (rest_check_words words)
+      (λ a. rest_check_once a.file a.other a.silent a.options))
       (row_once (bytes_eq word (codes "search")) _ _ (asked_where_once LegalTemplate search_meaning (search_words words) search_once)
       (row_once (bytes_eq word (codes "show")) _ _ (asked_once (λ name. Some name) show_meaning (show_words words) show_once)
       (row_once (bytes_eq word (codes "verify")) _ _ (asked_where_once (λ a. LegalPicked a.file a.pattern) verify_meaning (verify_words words) verify_once)
-      (row_once (bytes_eq word (codes "version")) _ NoCommand (asked_once (λ asked. None) (λ asked. version_meaning) (version_words words) (λ asked. replies_hinder [] (Writes 0 version_text) told)) tt)))))))))))
+      (row_once (bytes_eq word (codes "version")) _ NoCommand
+      (asked_once (λ asked. None) (λ asked. version_meaning) (version_words words) (λ asked. replies_hinder [] (Writes 0 version_text) told)) tt)))))))))))
 
 -- what a run tells of told files
-module _ (m : Meaning) (told : Told) (number : ℕ) (before after : State) (is : before.shelf.files ≡ Some told) (performs : Performs m number before after) (decides : Decides m) (once : HinderOnce m told) where
+module _ (m : Meaning) (told : Told) (number : ℕ) (before after : State) (is : before.shelf.files ≡ Some told) (performs : Performs m number before after)
+    (decides : Decides m) (once : HinderOnce m told) where
   told_line : 3 ≤ number → number ≤ 4 → (line : List ℕ) × m.refuses (in_files told) number line × Tells line before.err after.err
   told_line three four =
       let h = performs.telling.hindered three four in
       let line = h.such.0 in
       (line, decides.refuses told h.read number line (subst (λ (files : Option Told). m.refuses (seen files h.read) number line) is h.such.2), h.such.3)
 
-  just : (expected : ℕ) (line : List ℕ) → m.refuses (in_files told) expected line → ((number ≡ expected) × Tells line before.err after.err) ⊎ ((number ≡ 6) ⊎ (number ≡ 7))
+  just : (expected : ℕ) (line : List ℕ) → m.refuses (in_files told) expected line → ((number ≡ expected) × Tells line before.err after.err)
+      ⊎ ((number ≡ 6) ⊎ (number ≡ 7))
   just expected line refuses = elim (performs.exact decides told is expected (inr (line, refuses))) [
     | inl same ↦
         let range = once.ranged expected line refuses in
@@ -226,7 +286,8 @@ module _ (m : Meaning) (told : Told) (number : ℕ) (before after : State) (is :
   pub names_fault : NamesFault m told number before.err after.err
   names_fault = record { hindered = told_line; just = just }
 
-named_by : (asked : Asked) (told : Told) (number : ℕ) (before after : State) → Runs asked number before after → before.shelf.files ≡ Some told → OfCommand (λ m. HinderOnce m told) asked → OfCommand (λ m. NamesFault m told number before.err after.err) asked
+named_by : (asked : Asked) (told : Told) (number : ℕ) (before after : State) → Runs asked number before after → before.shelf.files ≡ Some told
+    → OfCommand (λ m. HinderOnce m told) asked → OfCommand (λ m. NamesFault m told number before.err after.err) asked
 named_by NoCommand told number before after h is once = tt
 named_by (Command legal m) told number before after h is once = names_fault m told number before after is h.performs h.decides once
 

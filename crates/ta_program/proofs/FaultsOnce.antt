@@ -26,7 +26,11 @@ replays_once file bytes e f s t =
 
 pub run_once : (file : File) → OneFault (run_kind file)
 run_once file bytes e f a b = elim a.first [
-  | inl s ↦ elim b.first [ inl t ↦ text_fault_once file bytes e f a.no_memory b.no_memory s t | inr t ↦ absurd (text_or_run file bytes t.run e t.text a.no_memory s) ]
+  | inl s ↦ elim b.first [
+    | inl t ↦ text_fault_once file bytes e f a.no_memory b.no_memory s t
+    | inr t ↦ absurd
+        (text_or_run file bytes t.run e t.text a.no_memory s)
+  ]
   | inr s ↦ elim b.first [ inl t ↦ absurd (text_or_run file bytes s.run f s.text b.no_memory t) | inr t ↦ replays_once file bytes e f s t ]
 ]
 
@@ -34,7 +38,8 @@ run_once file bytes e f a b = elim a.first [
 no_memory : (file : File) (bytes : List ℕ) (f : CompressFault) → CompressFaultIn file bytes f → (s : IsTextFault file bytes f) → s.first ≢ runs.Memory
 no_memory file bytes f found s is = found.no_memory (s.is ∙ ap of_run is)
 
-refused_once : (file : File) (bytes : List ℕ) (e f : CompressFault) → CompressFaultIn file bytes e → CompressFaultIn file bytes f → IsRefusedRun file bytes e → IsRefusedRun file bytes f → e ≡ f
+refused_once : (file : File) (bytes : List ℕ) (e f : CompressFault) → CompressFaultIn file bytes e → CompressFaultIn file bytes f → IsRefusedRun file bytes e
+    → IsRefusedRun file bytes f → e ≡ f
 refused_once file bytes e f a b s t =
     let same = texts_once.run file bytes s.run t.run s.text t.text in
     compressed_once.one file t.run e f a.no_memory b.no_memory t.text.fits (subst (λ (run : Run). CompressFaultOf file run e) same s.first) t.first

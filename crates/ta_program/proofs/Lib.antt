@@ -25,7 +25,6 @@ mod FairAtRest
 mod Compressing
 mod Clauses
 mod FirstWord
-mod JsonLines
 mod NeverResting
 mod WhatIsShown
 mod Complete

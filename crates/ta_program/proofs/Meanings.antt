@@ -1,5 +1,12 @@
 -- what each command says grows with what is seen, and known files leave one number
-use Rattle.ta_program.proofs.Common.{Budget, ◌≡◌, ◌∙◌, ℕ, List, [], length, slice_get, Option, None, Some, refl, sym, ap, subst, inl, inr, arith, Bool, IsSome, File, Pattern, one_legal, Verdict, Told, Decides, IsSo, Meaning, put_bytes, View, in_files, Answer, Kind, Writes, after, replies, after_monotone, decides, no_hindrance, one_number, replies_monotone, replies_one, settles_monotone, Monotone, IsAskedFor, LegalFile, Passes, PassesWhere, ask, ask_where, claiming, BUDGET, IsBench, SaysBench, bench_meaning, bench_status, family_text, check_meaning, proved_meaning, SaysShort, compress_meaning, long_kind, short_meaning, certificate_kind, file_kind, run_kind, SaysShown, replay_meaning, shown_meaning, HindersCertificate, LongCertificate, may_put, Reports, report_meaning, verify_meaning, AreVerdicts, option_map, spared_decides, spared_passes, All, AreVerdictsOn, LegalPicked, Pick, Put, ReportSample, VerifyWords, picked_meaning, report_number, false, whole_one}
+use Rattle.ta_program.proofs.Common.{Budget, ◌≡◌, ◌∙◌, ℕ, List, [], length, slice_get, Option, None, Some, refl, sym, ap, subst, inl, inr, arith, Bool, IsSome}
+use Rattle.ta_program.proofs.Common.{File, Pattern, one_legal, Verdict, Told, Decides, IsSo, Meaning, put_bytes, View, in_files, Answer, Kind, Writes, after}
+use Rattle.ta_program.proofs.Common.{replies, after_monotone, decides, no_hindrance, one_number, replies_monotone, replies_one, settles_monotone, Monotone}
+use Rattle.ta_program.proofs.Common.{IsAskedFor, LegalFile, Passes, PassesWhere, ask, ask_where, claiming, BUDGET, IsBench, SaysBench, bench_meaning}
+use Rattle.ta_program.proofs.Common.{bench_status, family_text, check_meaning, proved_meaning, SaysShort, compress_meaning, long_kind, short_meaning}
+use Rattle.ta_program.proofs.Common.{certificate_kind, file_kind, run_kind, SaysShown, replay_meaning, shown_meaning, HindersCertificate, LongCertificate}
+use Rattle.ta_program.proofs.Common.{may_put, Reports, report_meaning, verify_meaning, AreVerdicts, option_map, spared_decides, spared_passes, All}
+use Rattle.ta_program.proofs.Common.{AreVerdictsOn, LegalPicked, Pick, Put, ReportSample, VerifyWords, picked_meaning, report_number, false, whole_one}
 use Rattle.ta_check.proofs.Accepting.{one_list}
 use Rattle.ta_program.proofs.ProofsSaid.{says_number}
 use Rattle.ta_program.specs.Proofs.{SaysProofs}
@@ -8,21 +15,25 @@ use Rattle.ta_program.specs.Version.{version_meaning, version_text}
 use Rattle.ta_program.proofs.PatternPicks.{pick_monotone, pick_one, pick_passes}
 use Rattle.ta_program.specs.Certified.{PutsCertificate}
 use Rattle.ta_verdict.proofs.SamplesMade.{samples_once}
-use Rattle.ta_claim.specs.declared.claim.Claim.TheVariants as claim
+use Rattle.ta_rest.specs.declared.claim.Claim.TheVariants as claim
 use Rattle.ta_verdict.proofs.CertificatesOnce.{certificates_once}
 use Rattle.ta_verdict.proofs.VerdictsOnce.{verdicts_once}
 
 pub proved_monotone : (file : File) (options : ProofOptions) (name : List ℕ) → Monotone (proved_meaning file options name)
-proved_monotone file options name = after_monotone (certificate_kind (claiming claim.Safe file)) name [] (λ numbers. replies [] (SaysProofs false file options numbers)) (λ numbers. replies_monotone [] (SaysProofs false file options numbers))
+proved_monotone file options name = after_monotone (certificate_kind (claiming claim.Safe file)) name []
+    (λ numbers. replies [] (SaysProofs false file options numbers)) (λ numbers. replies_monotone [] (SaysProofs false file options numbers))
 
 pub shown_monotone : (file : File) (json : Bool) (name : List ℕ) → Monotone (shown_meaning file json name)
-shown_monotone file json name = after_monotone (run_kind file) name [] (λ run. replies [] (SaysShown file json run)) (λ run. replies_monotone [] (SaysShown file json run))
+shown_monotone file json name = after_monotone (run_kind file) name [] (λ run. replies [] (SaysShown file json run))
+    (λ run. replies_monotone [] (SaysShown file json run))
 
 pub short_monotone : (file : File) (name : List ℕ) → Monotone (short_meaning file name)
 short_monotone file name = after_monotone (long_kind file) name [] (λ run. replies [] (SaysShort file run)) (λ run. replies_monotone [] (SaysShort file run))
 
 -- of a command that reads FILE first
-pub file_decides : (name : List ℕ) (puts : List (List ℕ)) (rest : File → Meaning) → ((file : File) → Monotone (rest file)) → ((file : File) (told : Told) (number other : ℕ) → IsSo (rest file) (in_files told) number → IsSo (rest file) (in_files told) other → number ≡ other) → Decides (after file_kind name puts rest)
+pub file_decides : (name : List ℕ) (puts : List (List ℕ)) (rest : File → Meaning) → ((file : File) → Monotone (rest file))
+    → ((file : File) (told : Told) (number other : ℕ) → IsSo (rest file) (in_files told) number → IsSo (rest file) (in_files told) other → number ≡ other)
+    → Decides (after file_kind name puts rest)
 file_decides name puts rest rests ones =
     decides (after file_kind name puts rest) (after_monotone file_kind name puts rest rests) (λ told.
     one_number file_kind name puts rest rests told (λ bytes file fault legal found. legal.no_fault fault found) (λ bytes v w m n number other so so'.
@@ -35,13 +46,15 @@ pub picked_monotone : (asked : VerifyWords) (file : File) → Monotone (picked_m
 picked_monotone asked file = pick_monotone asked.file asked.pattern (may_put asked.out) file (report_meaning asked file) (report_monotone asked file)
 
 -- only a certificate that is too long hinders a report, with 4
-pub hinders_long : (file : File) (pick : Pick) (budget : Budget) (out : Option (List ℕ)) (number : ℕ) (line : List ℕ) → HindersCertificate file pick budget out number line → (number ≡ 4) × IsSome out × LongCertificate file pick budget
+pub hinders_long : (file : File) (pick : Pick) (budget : Budget) (out : Option (List ℕ)) (number : ℕ) (line : List ℕ)
+    → HindersCertificate file pick budget out number line → (number ≡ 4) × IsSome out × LongCertificate file pick budget
 hinders_long file pick budget None number line h = absurd h
 hinders_long file pick budget (Some out) number line h = (h.numbered, refl, h.long)
 
 -- no certificate is both put and too long
 not_both :
-    (file : File) (pick : Pick) (budget : Budget) (vs : List Verdict) → AreVerdictsOn file pick budget vs → (out : Option (List ℕ)) (puts : List Put) (number : ℕ) (line : List ℕ)
+    (file : File) (pick : Pick) (budget : Budget) (vs : List Verdict) → AreVerdictsOn file pick budget vs
+    → (out : Option (List ℕ)) (puts : List Put) (number : ℕ) (line : List ℕ)
     → PutsCertificate file pick budget vs out puts → HindersCertificate file pick budget out number line → ⊥
 not_both file pick budget vs are None puts number line p h = h
 not_both file pick budget vs are (Some out) puts number line p h =
@@ -60,7 +73,8 @@ number_once asked file pick answer other a b =
     let verdicts = verdicts_once file pick asked.budget a.verdicts b.verdicts a.are b.are in
     a.numbered ∙ ap (λ (s : ReportSample). report_number asked.all s a.verdicts) samples ∙ ap (report_number asked.all b.sample) verdicts ∙ sym b.numbered
 
-reports_one : (asked : VerifyWords) (file : File) (pick : Pick) (told : Told) (number other : ℕ) → IsSo (report_meaning asked file pick) (in_files told) number → IsSo (report_meaning asked file pick) (in_files told) other → number ≡ other
+reports_one : (asked : VerifyWords) (file : File) (pick : Pick) (told : Told) (number other : ℕ) → IsSo (report_meaning asked file pick) (in_files told) number
+    → IsSo (report_meaning asked file pick) (in_files told) other → number ≡ other
 reports_one asked file pick told number other so so' = elim so [
   | inl a ↦ elim so' [
     | inl b ↦ sym a.1 ∙ number_once asked file pick a.0 b.0 a.2 b.2 ∙ b.1
@@ -73,7 +87,8 @@ reports_one asked file pick told number other so so' = elim so [
 ]
 
 -- a legal FILE is never refused with 3 by a command that reads FILE first, if what it does then is never refused with 3
-pub file_passes : (name : List ℕ) (puts : List (List ℕ)) (rest : File → Meaning) → ((file : File) → Monotone (rest file)) → ((file : File) (told : Told) (line : List ℕ) → ¬ (rest file).refuses (in_files told) 3 line) → Passes (Some name) (after file_kind name puts rest)
+pub file_passes : (name : List ℕ) (puts : List (List ℕ)) (rest : File → Meaning) → ((file : File) → Monotone (rest file))
+    → ((file : File) (told : Told) (line : List ℕ) → ¬ (rest file).refuses (in_files told) 3 line) → Passes (Some name) (after file_kind name puts rest)
 file_passes name puts rest rests never told line (file, is) refuses =
     elim refuses [
       | inl own ↦ no_hindrance file_kind name puts rest rests told (λ bytes f fault legal found. legal.no_fault fault found) file 3 line is own
@@ -81,7 +96,9 @@ file_passes name puts rest rests never told line (file, is) refuses =
     ]
 
 -- a second file is refused with another number
-pub second_passes : {A F : Type 0} (kind : Kind A F) (name : List ℕ) (rest : A → Meaning) → kind.limit.number ≡ 4 → ((value : A) (view : View) (line : List ℕ) → ¬ (rest value).refuses view 3 line) → (view : View) (line : List ℕ) → ¬ (after kind name [] rest).refuses view 3 line
+pub second_passes : {A F : Type 0} (kind : Kind A F) (name : List ℕ) (rest : A → Meaning) → kind.limit.number ≡ 4
+    → ((value : A) (view : View) (line : List ℕ) → ¬ (rest value).refuses view 3 line) → (view : View) (line : List ℕ)
+    → ¬ (after kind name [] rest).refuses view 3 line
 second_passes kind name rest four never view line refuses =
     elim refuses [
       | inl own ↦ let numbered = own.numbered in absurd (omega (arith, four, numbered))
@@ -89,17 +106,24 @@ second_passes kind name rest four never view line refuses =
     ]
 
 -- what was read of words is what they ask for
-pub asked_where : {C W : Type 0} (seen : C → W) (legal : W → Told → Type 0) (says : W → Meaning) → ((w : W) → Decides (says w)) → ((w : W) → PassesWhere (legal w) (says w)) → (result : Option C) (words : Option W) → option_map seen result ≡ words → IsAskedFor (λ c. says (seen c)) (ask_where legal says words) result
-asked_where seen legal says decides passes None words is = subst (λ (o : Option _). IsAskedFor (λ c. says (seen c)) (ask_where legal says o) None) is (λ number before after none. none)
-asked_where seen legal says decides passes (Some c) words is = subst (λ (o : Option _). IsAskedFor (λ c. says (seen c)) (ask_where legal says o) (Some c)) is (λ number before after performs. record { performs = performs; decides = decides (seen c); passes = passes (seen c) })
+pub asked_where : {C W : Type 0} (seen : C → W) (legal : W → Told → Type 0) (says : W → Meaning) → ((w : W) → Decides (says w))
+    → ((w : W) → PassesWhere (legal w) (says w)) → (result : Option C) (words : Option W) → option_map seen result ≡ words
+    → IsAskedFor (λ c. says (seen c)) (ask_where legal says words) result
+asked_where seen legal says decides passes None words is = subst (λ (o : Option _). IsAskedFor (λ c. says (seen c)) (ask_where legal says o) None) is
+    (λ number before after none. none)
+asked_where seen legal says decides passes (Some c) words is = subst (λ (o : Option _). IsAskedFor (λ c. says (seen c)) (ask_where legal says o) (Some c)) is
+    (λ number before after performs. record { performs = performs; decides = decides (seen c); passes = passes (seen c) })
 
-pub asked_for : {C W : Type 0} (seen : C → W) (file : W → Option (List ℕ)) (says : W → Meaning) → ((w : W) → Decides (says w)) → ((w : W) → Passes (file w) (says w)) → (result : Option C) (words : Option W) → option_map seen result ≡ words → IsAskedFor (λ c. says (seen c)) (ask file says words) result
+pub asked_for : {C W : Type 0} (seen : C → W) (file : W → Option (List ℕ)) (says : W → Meaning) → ((w : W) → Decides (says w))
+    → ((w : W) → Passes (file w) (says w)) → (result : Option C) (words : Option W) → option_map seen result ≡ words
+    → IsAskedFor (λ c. says (seen c)) (ask file says words) result
 asked_for seen file says = asked_where seen (λ w told. LegalFile told (file w)) says
 
 pub check_decides : (name certificate : List ℕ) (options : ProofOptions) → Decides (check_meaning name certificate options)
 check_decides name certificate options =
     file_decides name [] (λ file. proved_meaning file options certificate) (λ file. proved_monotone file options certificate) (λ file told.
-    one_number (certificate_kind (claiming claim.Safe file)) certificate [] (λ numbers. replies [] (SaysProofs false file options numbers)) (λ numbers. replies_monotone [] (SaysProofs false file options numbers)) told
+    one_number (certificate_kind (claiming claim.Safe file)) certificate [] (λ numbers. replies [] (SaysProofs false file options numbers))
+    (λ numbers. replies_monotone [] (SaysProofs false file options numbers)) told
     (λ bytes numbers fault proves found. found.no_certificate numbers proves.accepted)
     (λ bytes v w m n. replies_one [] (SaysProofs false file options v) (SaysProofs false file options w) (in_files told)
     (λ a b x y. says_number false file options v w (one_list (claiming claim.Safe file) bytes v w m.accepted n.accepted) a b x y)))
@@ -107,7 +131,8 @@ check_decides name certificate options =
 pub check_passes : (name certificate : List ℕ) (options : ProofOptions) → Passes (Some name) (check_meaning name certificate options)
 check_passes name certificate options =
     file_passes name [] (λ file. proved_meaning file options certificate) (λ file. proved_monotone file options certificate)
-    (λ file told. second_passes (certificate_kind (claiming claim.Safe file)) certificate (λ numbers. replies [] (SaysProofs false file options numbers)) refl (λ numbers view line none. none) (in_files told))
+    (λ file told. second_passes (certificate_kind (claiming claim.Safe file)) certificate (λ numbers. replies [] (SaysProofs false file options numbers)) refl
+    (λ numbers view line none. none) (in_files told))
 
 pub compress_decides : (name run : List ℕ) → Decides (compress_meaning name run)
 compress_decides name run =
@@ -135,7 +160,8 @@ replay_passes name run json =
 
 pub verify_decides : (asked : VerifyWords) → Decides (verify_meaning asked)
 verify_decides asked =
-    spared_decides file_kind asked.file (may_put asked.out) (picked_meaning asked) (picked_monotone asked) (λ bytes file fault legal found. legal.no_fault fault found)
+    spared_decides file_kind asked.file (may_put asked.out) (picked_meaning asked) (picked_monotone asked)
+    (λ bytes file fault legal found. legal.no_fault fault found)
     (file_decides asked.file (may_put asked.out) (picked_meaning asked) (picked_monotone asked) (λ file told.
     pick_one asked.file asked.pattern (may_put asked.out) file (report_meaning asked file) told (λ pick. reports_one asked file pick told)))
 
@@ -143,10 +169,13 @@ pub verify_passes : (asked : VerifyWords) → PassesWhere (LegalPicked asked.fil
 verify_passes asked told line legal =
     spared_passes file_kind asked.file (may_put asked.out) (picked_meaning asked) (in_files told) line (λ refuses.
     elim refuses [
-      | inl own ↦ no_hindrance file_kind asked.file (may_put asked.out) (picked_meaning asked) (picked_monotone asked) told (λ bytes f fault means found. means.no_fault fault found) legal.file 3 line legal.is_file own
+      | inl own ↦ no_hindrance file_kind asked.file (may_put asked.out) (picked_meaning asked) (picked_monotone asked) told
+          (λ bytes f fault means found. means.no_fault fault found) legal.file 3 line legal.is_file own
       | inr r ↦
           let is = legal.is_file in
-          let same : r.0 ≡ legal.file = one_legal is.bytes r.0 legal.file (subst (λ (bytes : List ℕ). file_kind.means bytes r.0) (whole_one told asked.file file_kind.limit.bytes r.1.bytes is.bytes r.1.had is.had) r.1.means) is.means in
+          let same : r.0 ≡ legal.file = one_legal is.bytes r.0 legal.file
+          (subst (λ (bytes : List ℕ). file_kind.means bytes r.0) (whole_one told asked.file file_kind.limit.bytes r.1.bytes is.bytes r.1.had is.had)
+          r.1.means) is.means in
           pick_passes asked.file asked.pattern (may_put asked.out) legal.file (report_meaning asked legal.file) told legal.pick legal.is_pick line
           (λ found hinders. let four = (hinders_long legal.file found asked.budget asked.out 3 line hinders).0 in absurd (omega (arith, four)))
           (subst (λ (f : File). (picked_meaning asked f).refuses (in_files told) 3 line) same r.2)
@@ -164,14 +193,16 @@ bench_one k p q v w a b =
 pub bench_decides : (k : ℕ) → Decides (bench_meaning k)
 bench_decides k =
     decides (bench_meaning k) (replies_monotone [] (SaysBench k)) (λ told.
-    replies_one [] (SaysBench k) (SaysBench k) (in_files told) (λ a b x y. x.writes.numbered ∙ ap bench_status (bench_one k x.pattern y.pattern x.verdict y.verdict x.is y.is) ∙ sym y.writes.numbered))
+    replies_one [] (SaysBench k) (SaysBench k) (in_files told)
+    (λ a b x y. x.writes.numbered ∙ ap bench_status (bench_one k x.pattern y.pattern x.verdict y.verdict x.is y.is) ∙ sym y.writes.numbered))
 
 pub bench_passes : (k : ℕ) → Passes None (bench_meaning k)
 bench_passes k told line legal none = none
 
 pub version_decides : Decides version_meaning
 version_decides =
-    decides version_meaning (replies_monotone [] (Writes 0 version_text)) (λ told. replies_one [] (Writes 0 version_text) (Writes 0 version_text) (in_files told) (λ a b x y. x.numbered ∙ sym y.numbered))
+    decides version_meaning (replies_monotone [] (Writes 0 version_text))
+    (λ told. replies_one [] (Writes 0 version_text) (Writes 0 version_text) (in_files told) (λ a b x y. x.numbered ∙ sym y.numbered))
 
 pub version_passes : Passes None version_meaning
 version_passes told line legal none = none

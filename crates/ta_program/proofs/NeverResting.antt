@@ -5,9 +5,9 @@ use Rattle.std.specs.List.{position}
 use Rattle.std.specs.Option.{option_map, option_or}
 use Rattle.ta_meaning.specs.Reading.{Legal}
 use Rattle.ta_rest.proofs.QuietResting.{stronger}
-use Rattle.ta_silent.proofs.NoneNegative.{none_subtracted}
-use Rattle.ta_silent.specs.Silent.{first_fault, guard_that_subtracts, names_in, places_named, subtracts, unless_faulty, unless_subtracted}
-use Rattle.ta_silent.specs.declared.fault.SilentFault.{SilentFault}
+use Rattle.ta_moments.proofs.NoneNegative.{none_subtracted}
+use Rattle.ta_moments.specs.Silent.{first_fault, guard_that_subtracts, names_in, places_named, subtracts, unless_faulty, unless_subtracted}
+use Rattle.ta_moments.specs.declared.fault.SilentFault.{SilentFault}
 use Rattle.ta_program.proofs.FairAtRest.{fair_at_rest}
 use Rattle.ta_program.specs.Understood.{NeverRests}
 

@@ -1,6 +1,9 @@
 -- Known files refuse a command with one number and one line.
-use Rattle.ta_program.proofs.Common.{◌≡◌, ◌∙◌, ◌+◌, ◌-◌, ◌<◌, ◌≤◌, ◌⊎◌, ℕ, List, ◌++◌, length, length-append, take, Option, None, Some, sym, ap, subst, inl, inr, arith, take-append-add, take-append-le, none_not_some, one_content, Told, Meaning, file_line, longer_than, missing, IsUnreadable, HasMore, in_files, ReadingGoesOn, Hinders, FileIsAtFault, IsBroken, Kind, after, finds, replies, settles, Answer, no_hindrance, Monotone, whole_one, HinderAlike, HinderOnce, one_holds_line, spared}
-use Rattle.ta_shell.proofs.Spared.{apart as never_both}
+use Rattle.ta_program.proofs.Common.{◌≡◌, ◌∙◌, ◌+◌, ◌-◌, ◌<◌, ◌≤◌, ◌⊎◌, ℕ, List, ◌++◌, length, length-append, take, Option, None, Some, sym, ap, subst, inl}
+use Rattle.ta_program.proofs.Common.{inr, arith, take-append-add, take-append-le, none_not_some, one_content, Told, Meaning, file_line, longer_than, missing}
+use Rattle.ta_program.proofs.Common.{IsUnreadable, HasMore, in_files, ReadingGoesOn, Hinders, FileIsAtFault, IsBroken, Kind, after, finds, replies, settles}
+use Rattle.ta_program.proofs.Common.{Answer, no_hindrance, Monotone, whole_one, HinderAlike, HinderOnce, one_holds_line, spared}
+use Rattle.ta_shelf.proofs.Spared.{apart as never_both}
 
 -- the faults of a kind are of those of which bytes have one, and bytes that are broken stay so, whatever comes behind
 pub record Settled {A F : Type 0} (kind : Kind A F) : Type 1 where
@@ -45,7 +48,8 @@ module _ {A F : Type 0} (kind : Kind A F) (settled : Settled kind) where
       }
 
   faulty : (told : Told) (name words : List ℕ) → FileIsAtFault kind (in_files told) name words → Faulty kind settled.First (told name) words
-  faulty told name words h = record { content = h.bytes; held = h.had.seen; fault = h.fault; first = settled.of_fault h.bytes h.fault h.found; place = inl h.had.within; said = h.words_are }
+  faulty told name words h = record
+      { content = h.bytes; held = h.had.seen; fault = h.fault; first = settled.of_fault h.bytes h.fault h.found; place = inl h.had.within; said = h.words_are }
 
   broken : (told : Told) (name words : List ℕ) → IsBroken kind (in_files told) name words → Faulty kind settled.First (told name) words
   broken told name words h =
@@ -53,7 +57,8 @@ module _ {A F : Type 0} (kind : Kind A F) (settled : Settled kind) where
       let within = h.within in
       let left = kind.limit.bytes - length h.bytes in
       let parts : length h.bytes + left ≡ kind.limit.bytes = omega (arith, within) in
-      let front : take kind.limit.bytes (h.bytes ++ rest) ≡ h.bytes ++ take left rest = ap (λ (n : ℕ). take n (h.bytes ++ rest)) (sym parts) ∙ take-append-add h.bytes rest left in
+      let front : take kind.limit.bytes (h.bytes ++ rest) ≡ h.bytes ++ take left rest = ap (λ (n : ℕ). take n (h.bytes ++ rest)) (sym parts)
+      ∙ take-append-add h.bytes rest left in
       record {
         content = h.bytes ++ rest;
         held = h.seen.held;
@@ -63,7 +68,8 @@ module _ {A F : Type 0} (kind : Kind A F) (settled : Settled kind) where
         said = h.words_are;
       }
 
-  cause : (told : Told) (name words : List ℕ) → IsUnreadable (in_files told) name kind.limit.bytes (ReadingGoesOn kind) words ⊎ (FileIsAtFault kind (in_files told) name words ⊎ IsBroken kind (in_files told) name words) → Cause kind settled.First (told name) words
+  cause : (told : Told) (name words : List ℕ) → IsUnreadable (in_files told) name kind.limit.bytes (ReadingGoesOn kind) words
+      ⊎ (FileIsAtFault kind (in_files told) name words ⊎ IsBroken kind (in_files told) name words) → Cause kind settled.First (told name) words
   cause told name words h = elim h [
     | inl u ↦ elim u [ inl absent ↦ NoFile absent.0 absent.1 | inr longer ↦ TooLong (long told name longer.0) longer.1 ]
     | inr f ↦ elim f [ inl at ↦ AtFault (faulty told name words at) | inr b ↦ AtFault (broken told name words b) ]
@@ -92,20 +98,25 @@ module _ {A F : Type 0} (kind : Kind A F) (settled : Settled kind) where
       let faults = settled.one g.content f.fault g.fault (subst (λ (bytes : List ℕ). settled.First bytes f.fault) same f.first) g.first in
       f.said ∙ ap kind.words faults ∙ sym g.said
 
-  hinder_once : (told : Told) (name : List ℕ) (number other : ℕ) (line words : List ℕ) → Hinders kind (in_files told) name number line → Hinders kind (in_files told) name other words → (number ≡ other) × (line ≡ words)
+  hinder_once : (told : Told) (name : List ℕ) (number other : ℕ) (line words : List ℕ) → Hinders kind (in_files told) name number line
+      → Hinders kind (in_files told) name other words → (number ≡ other) × (line ≡ words)
   hinder_once told name number other line words h k = (
     h.numbered ∙ sym k.numbered,
     h.said ∙ ap (file_line name) (one_cause (told name) h.words k.words (cause told name h.words h.wrong) (cause told name k.words k.wrong)) ∙ sym k.said,
   )
 
-  module _ (name : List ℕ) (puts : List (List ℕ)) (rest : A → Meaning) (rests : (value : A) → Monotone (rest value)) (told : Told) (n : ℕ) (limited : kind.limit.number ≡ n) (three : 3 ≤ n) (four : n ≤ 4) (fits : (bytes : List ℕ) (value : A) (fault : F) → kind.means bytes value → kind.at_fault bytes fault → ⊥) where
-    in_range : ((value : A) (number : ℕ) (line : List ℕ) → (rest value).refuses (in_files told) number line → (3 ≤ number) × (number ≤ 4)) → (number : ℕ) (line : List ℕ) → (after kind name puts rest).refuses (in_files told) number line → (3 ≤ number) × (number ≤ 4)
+  module _ (name : List ℕ) (puts : List (List ℕ)) (rest : A → Meaning) (rests : (value : A) → Monotone (rest value)) (told : Told) (n : ℕ)
+      (limited : kind.limit.number ≡ n) (three : 3 ≤ n) (four : n ≤ 4)
+      (fits : (bytes : List ℕ) (value : A) (fault : F) → kind.means bytes value → kind.at_fault bytes fault → ⊥) where
+    in_range : ((value : A) (number : ℕ) (line : List ℕ) → (rest value).refuses (in_files told) number line → (3 ≤ number) × (number ≤ 4))
+        → (number : ℕ) (line : List ℕ) → (after kind name puts rest).refuses (in_files told) number line → (3 ≤ number) × (number ≤ 4)
     in_range later number line refuses = elim refuses [
       | inl own ↦ let is : number ≡ n = own.numbered ∙ limited in (omega (arith, is, three), omega (arith, is, four))
       | inr r ↦ later r.0 number line r.2
     ]
 
-    alike : ((bytes : List ℕ) (v w : A) → kind.means bytes v → kind.means bytes w → HinderAlike (rest v) (rest w) told) → HinderAlike (after kind name puts rest) (after kind name puts rest) told
+    alike : ((bytes : List ℕ) (v w : A) → kind.means bytes v → kind.means bytes w → HinderAlike (rest v) (rest w) told)
+        → HinderAlike (after kind name puts rest) (after kind name puts rest) told
     alike agree number other line words h k = elim h [
       | inl own ↦ elim k [
         | inl again ↦ hinder_once told name number other line words own again
@@ -120,43 +131,57 @@ module _ {A F : Type 0} (kind : Kind A F) (settled : Settled kind) where
     ]
 
     -- a file is read, of which one fault is told, and then comes what its value asks for
-    pub after_once : ((value : A) → HinderOnce (rest value) told) → ((bytes : List ℕ) (v w : A) → kind.means bytes v → kind.means bytes w → v ≡ w) → HinderOnce (after kind name puts rest) told
+    pub after_once : ((value : A) → HinderOnce (rest value) told) → ((bytes : List ℕ) (v w : A) → kind.means bytes v → kind.means bytes w → v ≡ w)
+        → HinderOnce (after kind name puts rest) told
     after_once later unique = record {
       ranged = in_range (λ value. (later value).ranged);
       one = alike (λ bytes v w m n. subst (λ (u : A). HinderAlike (rest u) (rest w) told) (sym (unique bytes v w m n)) (later w).one);
     }
 
     -- a file is read, and nothing hinders then
-    pub after_last : ((value : A) (number : ℕ) (line : List ℕ) → ¬ (rest value).refuses (in_files told) number line) → HinderOnce (after kind name puts rest) told
+    pub after_last : ((value : A) (number : ℕ) (line : List ℕ) → ¬ (rest value).refuses (in_files told) number line)
+        → HinderOnce (after kind name puts rest) told
     after_last none = record {
       ranged = in_range (λ value number line refuses. absurd (none value number line refuses));
       one = alike (λ bytes v w m n number other line words refuses. absurd (none v number line refuses));
     }
 
 -- outputs are compared with what was read before
-module _ {A F : Type 0} (kind : Kind A F) (name : List ℕ) (outs : List (List ℕ)) (rest : A → Meaning) (rests : (value : A) → Monotone (rest value)) (told : Told) (fits : (bytes : List ℕ) (value : A) (fault : F) → kind.means bytes value → kind.at_fault bytes fault → ⊥) (once : HinderOnce (after kind name outs rest) told) where
+module _ {A F : Type 0} (kind : Kind A F) (name : List ℕ) (outs : List (List ℕ)) (rest : A → Meaning) (rests : (value : A) → Monotone (rest value))
+    (told : Told) (fits : (bytes : List ℕ) (value : A) (fault : F) → kind.means bytes value → kind.at_fault bytes fault → ⊥)
+    (once : HinderOnce (after kind name outs rest) told) where
   spared_ranged : (number : ℕ) (line : List ℕ) → (spared kind name outs rest).refuses (in_files told) number line → (3 ≤ number) × (number ≤ 4)
   spared_ranged number line (inl own) = once.ranged number line (inl own)
   spared_ranged number line (inr (value, is, inl holds)) = let four : number ≡ 4 = holds.numbered in (omega (arith, four), omega (arith, four))
   spared_ranged number line (inr (value, is, inr (differ, later))) = once.ranged number line (inr (value, is, later))
 
-  spared_alike : (number other : ℕ) (line words : List ℕ) → (spared kind name outs rest).refuses (in_files told) number line → (spared kind name outs rest).refuses (in_files told) other words → (number ≡ other) × (line ≡ words)
+  spared_alike : (number other : ℕ) (line words : List ℕ) → (spared kind name outs rest).refuses (in_files told) number line
+      → (spared kind name outs rest).refuses (in_files told) other words → (number ≡ other) × (line ≡ words)
   spared_alike number other line words (inl own) (inl again) = once.one number other line words (inl own) (inl again)
-  spared_alike number other line words (inl own) (inr (value, is, inl holds)) = absurd (no_hindrance kind name outs rest rests told fits value number line is own)
+  spared_alike number other line words (inl own) (inr (value, is, inl holds)) = absurd
+      (no_hindrance kind name outs rest rests told fits value number line is own)
   spared_alike number other line words (inl own) (inr (value, is, inr (differ, later))) = once.one number other line words (inl own) (inr (value, is, later))
-  spared_alike number other line words (inr (value, is, inl holds)) (inl own) = absurd (no_hindrance kind name outs rest rests told fits value other words is own)
-  spared_alike number other line words (inr (value, is, inl holds)) (inr (value', are, inl again)) = (holds.numbered ∙ sym again.numbered, one_holds_line told name outs number other line words holds again)
-  spared_alike number other line words (inr (value, is, inl holds)) (inr (value', are, inr (differ, later))) = absurd (never_both told name outs number line differ holds)
+  spared_alike number other line words (inr (value, is, inl holds)) (inl own) = absurd
+      (no_hindrance kind name outs rest rests told fits value other words is own)
+  spared_alike number other line words (inr (value, is, inl holds)) (inr (value', are, inl again)) =
+      (holds.numbered ∙ sym again.numbered, one_holds_line told name outs number other line words holds again)
+  spared_alike number other line words (inr (value, is, inl holds)) (inr (value', are, inr (differ, later))) = absurd
+      (never_both told name outs number line differ holds)
   spared_alike number other line words (inr (value, is, inr (differ, later))) (inl own) = once.one number other line words (inr (value, is, later)) (inl own)
-  spared_alike number other line words (inr (value, is, inr (differ, later))) (inr (value', are, inl holds)) = absurd (never_both told name outs other words differ holds)
-  spared_alike number other line words (inr (value, is, inr (differ, later))) (inr (value', are, inr (differ', later'))) = once.one number other line words (inr (value, is, later)) (inr (value', are, later'))
+  spared_alike number other line words (inr (value, is, inr (differ, later))) (inr (value', are, inl holds)) = absurd
+      (never_both told name outs other words differ holds)
+  spared_alike number other line words (inr (value, is, inr (differ, later))) (inr (value', are, inr (differ', later'))) = once.one number other line words
+      (inr (value, is, later)) (inr (value', are, later'))
 
   pub spared_once : HinderOnce (spared kind name outs rest) told
   spared_once = record { ranged = spared_ranged; one = spared_alike }
 
 -- something is looked for, and then comes what it asks for
 module _ {A : Type 0} (Is : A → Type 0) (Wrong : ℕ → List ℕ → Type 0) (puts : List (List ℕ)) (rest : A → Meaning) (told : Told) where
-  pub finds_once : ((number : ℕ) (line : List ℕ) → Wrong number line → (3 ≤ number) × (number ≤ 4)) → ((number other : ℕ) (line words : List ℕ) → Wrong number line → Wrong other words → (number ≡ other) × (line ≡ words)) → ((value : A) (number : ℕ) (line : List ℕ) → Is value → ¬ Wrong number line) → ((v w : A) → Is v → Is w → w ≡ v) → ((value : A) → HinderOnce (rest value) told) → HinderOnce (finds Is Wrong puts rest) told
+  pub finds_once : ((number : ℕ) (line : List ℕ) → Wrong number line → (3 ≤ number) × (number ≤ 4))
+      → ((number other : ℕ) (line words : List ℕ) → Wrong number line → Wrong other words → (number ≡ other) × (line ≡ words))
+      → ((value : A) (number : ℕ) (line : List ℕ) → Is value → ¬ Wrong number line) → ((v w : A) → Is v → Is w → w ≡ v)
+      → ((value : A) → HinderOnce (rest value) told) → HinderOnce (finds Is Wrong puts rest) told
   finds_once ranged once fits unique later = record {
     ranged = λ number line h. elim h [ inl own ↦ ranged number line own | inr r ↦ (later r.0).ranged number line r.2 ];
     one = λ number other line words h k. elim h [
@@ -173,5 +198,8 @@ pub replies_hinder : (puts : List (List ℕ)) (Such : Answer → Type 0) (told :
 replies_hinder puts Such told = record { ranged = λ number line none. absurd none; one = λ number other line words none. absurd none }
 
 -- or something may hinder, with one number and one line
-pub settles_once : (puts : List (List ℕ)) (Such : Answer → Type 0) (Wrong : ℕ → List ℕ → Type 0) (told : Told) → ((number : ℕ) (line : List ℕ) → Wrong number line → (3 ≤ number) × (number ≤ 4)) → ((number other : ℕ) (line words : List ℕ) → Wrong number line → Wrong other words → (number ≡ other) × (line ≡ words)) → HinderOnce (settles puts Such Wrong) told
+pub settles_once : (puts : List (List ℕ)) (Such : Answer → Type 0) (Wrong : ℕ → List ℕ → Type 0) (told : Told)
+    → ((number : ℕ) (line : List ℕ) → Wrong number line → (3 ≤ number) × (number ≤ 4))
+    → ((number other : ℕ) (line words : List ℕ) → Wrong number line → Wrong other words → (number ≡ other) × (line ≡ words))
+    → HinderOnce (settles puts Such Wrong) told
 settles_once puts Such Wrong told ranged once = record { ranged = ranged; one = once }

@@ -1,5 +1,6 @@
 -- the patterns that are picked
-use Rattle.ta_program.proofs.Common.{◌≡◌, ◌∙◌, ℕ, zero, suc, inl, inr, List, [], Option, None, Some, Err, refl, sym, ap, subst, arith, slice_get, AllByRecursion, Automaton}
+use Rattle.ta_program.proofs.Common.{◌≡◌, ◌∙◌, ℕ, zero, suc, inl, inr, List, [], Option, None, Some, Err, refl, sym, ap, subst, arith, slice_get}
+use Rattle.ta_program.proofs.Common.{AllByRecursion, Automaton}
 use Rattle.ta_program.proofs.Common.{File, Pattern, Refusal, Refused, ReadFailed, PutFailed, Memory, Meaning, Says, ReadCause, file_line, finds_monotone}
 use Rattle.ta_program.proofs.Common.{finds_one, finds_wrong, phrase_text, IsSo, Monotone, Told, in_files, Pick, One, picked, PickRefused}
 use Rattle.ta_program.proofs.Common.{EachPicked, HasName, IsPick, PickHinders, with_pick, HinderOnce}
@@ -17,7 +18,8 @@ pick_once file (Some name) pick other is are =
     is.one ∙ ap One same ∙ sym are.one
 
 -- a file that has the pattern isn't refused
-pub pick_fits : (name : List ℕ) (file : File) (given : Option (List ℕ)) (pick : Pick) (number : ℕ) (line : List ℕ) → IsPick file given pick → ¬ PickHinders name file given number line
+pub pick_fits : (name : List ℕ) (file : File) (given : Option (List ℕ)) (pick : Pick) (number : ℕ) (line : List ℕ) → IsPick file given pick
+    → ¬ PickHinders name file given number line
 pick_fits name file None pick number line is h = h
 pick_fits name file (Some pattern) pick number line is h = h.none is.number is.pattern is.is
 
@@ -25,7 +27,8 @@ pub pick_number : (name : List ℕ) (file : File) (given : Option (List ℕ)) (n
 pick_number name file None number line h = absurd h
 pick_number name file (Some pattern) number line h = h.numbered
 
-pick_line : (name : List ℕ) (file : File) (given : Option (List ℕ)) (number other : ℕ) (line words : List ℕ) → PickHinders name file given number line → PickHinders name file given other words → line ≡ words
+pick_line : (name : List ℕ) (file : File) (given : Option (List ℕ)) (number other : ℕ) (line words : List ℕ) → PickHinders name file given number line
+    → PickHinders name file given other words → line ≡ words
 pick_line name file None number other line words h k = absurd h
 pick_line name file (Some pattern) number other line words h k = h.said ∙ sym k.said
 
@@ -40,7 +43,8 @@ pick_refused name file given puts rest files (ReadFailed who) h = absurd h
 pick_refused name file given puts rest files (PutFailed who) h = absurd h
 pick_refused name file given puts rest files Memory h = absurd h
 
-pub pick_cause : (T : Type 0) (name : List ℕ) (file : File) (given : Option (List ℕ)) (refusal : Refusal) (count : ℕ) → PickRefused name file given refusal → ReadCause {T = T} (Err refusal) count count
+pub pick_cause : (T : Type 0) (name : List ℕ) (file : File) (given : Option (List ℕ)) (refusal : Refusal) (count : ℕ) → PickRefused name file given refusal
+    → ReadCause {T = T} (Err refusal) count count
 pick_cause T name file given (Refused number who why) count h = refl
 pick_cause T name file given (ReadFailed who) count h = absurd h
 pick_cause T name file given (PutFailed who) count h = absurd h
@@ -54,7 +58,8 @@ module _ (name : List ℕ) (given : Option (List ℕ)) (puts : List (List ℕ)) 
   pub pick_one :
       (told : Told)
       → ((pick : Pick) (number other : ℕ) → IsSo (rest pick) (in_files told) number → IsSo (rest pick) (in_files told) other → number ≡ other)
-      → (number other : ℕ) → IsSo (with_pick name given puts file rest) (in_files told) number → IsSo (with_pick name given puts file rest) (in_files told) other
+      → (number other : ℕ) → IsSo (with_pick name given puts file rest) (in_files told) number
+      → IsSo (with_pick name given puts file rest) (in_files told) other
       → number ≡ other
   pick_one told ones =
       finds_one (IsPick file given) (PickHinders name file given) puts rest (in_files told)

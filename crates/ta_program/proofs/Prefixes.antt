@@ -14,4 +14,5 @@ pub behind_none : (text word : List ℕ) → ((rest : List ℕ) → word ≡ tex
 behind_none [] word other = absurd (other word refl)
 behind_none (c ∷ cs) [] other = refl
 behind_none (c ∷ cs) (d ∷ ds) other =
-    by_head (c == d) cs ds (λ is. behind_none cs ds (λ rest eqb_same. other rest (ap (λ (x : ℕ). x ∷ ds) (sym (eqb-true c d is)) ∙ ap (λ (xs : List ℕ). c ∷ xs) eqb_same)))
+    by_head (c == d) cs ds (λ is. behind_none cs ds
+    (λ rest eqb_same. other rest (ap (λ (x : ℕ). x ∷ ds) (sym (eqb-true c d is)) ∙ ap (λ (xs : List ℕ). c ∷ xs) eqb_same)))

@@ -1,6 +1,8 @@
 -- what `check` and `rest-check` say of proved patterns
-use Rattle.ta_program.proofs.Common.{◌≡◌, ◌∙◌, ◌≤◌, ◌+◌, ◌++◌, ◌∷◌, [], ℕ, Bool, true, false, List, Option, None, Some, Ok, refl, sym, ap, subst, arith, codes, if◌then◌else◌, ◌&&◌, not, length, nat_lt, slice_get}
-use Rattle.ta_program.proofs.Common.{AllByRecursion, and_parts, false≢true, zero, suc, Automaton, File, Pattern, ReportSample, Told, Answer, Refusal, Result, Err, Refused, ReadFailed, PutFailed, Memory, Says, replies, endings_count}
+use Rattle.ta_program.proofs.Common.{◌≡◌, ◌∙◌, ◌≤◌, ◌+◌, ◌++◌, ◌∷◌, [], ℕ, Bool, true, false, List, Option, None, Some, Ok, refl, sym, ap, subst, arith, codes}
+use Rattle.ta_program.proofs.Common.{if◌then◌else◌, ◌&&◌, not, length, nat_lt, slice_get}
+use Rattle.ta_program.proofs.Common.{AllByRecursion, and_parts, false≢true, zero, suc, Automaton, File, Pattern, ReportSample, Told, Answer, Refusal, Result}
+use Rattle.ta_program.proofs.Common.{Err, Refused, ReadFailed, PutFailed, Memory, Says, replies, endings_count}
 use Rattle.std.proofs.lemmas.Option.{none-some}
 use Rattle.std.specs.Prelude.{IfSome, IsTrue}
 use Rattle.ta_automaton.specs.Runs as runs
@@ -14,9 +16,8 @@ use Rattle.ta_report.specs.declared.verdict.ReportSample.TheVariants as sample
 use Rattle.ta_rest.specs.Endings.{Endings}
 use Rattle.ta_rest.specs.Faults.{EndingsOf}
 use Rattle.ta_verdict.proofs.SamplesMade.{samples_once}
-use Rattle.serde_json.specs.Data as json
-use Rattle.serde_json.specs.Written.{compact_text}
-use Rattle.ta_program.proofs.Resting.{sample_own, told_alike}
+use Rattle.ta_report.proofs.SameNames.{SameNames, proofs_alike}
+use Rattle.ta_program.proofs.Resting.{sample_own}
 use Rattle.ta_program.specs.CheckWords.{no_options}
 use Rattle.ta_program.specs.Proofs.{IsSampleFor, SaysProofs, TellsProofs, are_proved, each_proved, has_start, printed_sample, proofs_number, wants_sample}
 use Rattle.ta_program.specs.declared.proof_options.ProofOptions.{ProofOptions}
@@ -28,17 +29,20 @@ sample_for_once wanted file None (Some t) h k = absurd (false≢true (sym h ∙ 
 sample_for_once wanted file (Some s) None h k = absurd (false≢true (sym k ∙ h.0))
 sample_for_once wanted file (Some s) (Some t) h k = ap (λ (x : ReportSample). Some x) (samples_once file DEFAULT_NODES s t h.1 k.1)
 
-pub says_number : (rest : Bool) (file : File) (options : ProofOptions) (ns ms : List ℕ) → ns ≡ ms → (a b : Answer) → SaysProofs rest file options ns a → SaysProofs rest file options ms b → a.number ≡ b.number
+pub says_number : (rest : Bool) (file : File) (options : ProofOptions) (ns ms : List ℕ) → ns ≡ ms → (a b : Answer) → SaysProofs rest file options ns a
+    → SaysProofs rest file options ms b → a.number ≡ b.number
 says_number rest file options ns ms same a b x y =
     let one = sample_for_once (wants_sample options) file x.tells.sample y.tells.sample x.tells.is_sample y.tells.is_sample in
-    x.tells.numbered ∙ ap (λ (s : Option ReportSample). proofs_number options.all file s ns) one ∙ ap (proofs_number options.all file y.tells.sample) same ∙ sym y.tells.numbered
+    x.tells.numbered ∙ ap (λ (s : Option ReportSample). proofs_number options.all file s ns) one ∙ ap (proofs_number options.all file y.tells.sample) same
+    ∙ sym y.tells.numbered
 
 -- ---- the status is 0 or 2
 two_or_none : (b : Bool) → (if b then 2 else 0) ≤ 2
 two_or_none true = omega arith
 two_or_none false = omega arith
 
-pub proofs_replied : (rest : Bool) (file : File) (options : ProofOptions) (ns : List ℕ) (files : Option Told) (answer : Answer) → SaysProofs rest file options ns answer → Says (replies [] (SaysProofs rest file options ns)) files (Ok answer) []
+pub proofs_replied : (rest : Bool) (file : File) (options : ProofOptions) (ns : List ℕ) (files : Option Told) (answer : Answer)
+    → SaysProofs rest file options ns answer → Says (replies [] (SaysProofs rest file options ns)) files (Ok answer) []
 proofs_replied rest file options ns files answer says =
     let t = says.tells in
     let number = t.numbered in
@@ -47,20 +51,24 @@ proofs_replied rest file options ns files answer says =
     record { opened = refl; judges = record { low = low; holds = says; within = rw says.no_put tt } }
 
 -- ---- what is printed of a sample fits
-pub printed_fits : (printed wanted : Bool) (file : File) (s : Option ReportSample) → IsSampleFor wanted file s → IfSome (printed_sample printed s) (SampleFits file)
+pub printed_fits : (printed wanted : Bool) (file : File) (s : Option ReportSample) → IsSampleFor wanted file s
+    → IfSome (printed_sample printed s) (SampleFits file)
 printed_fits true wanted file None h = tt
 printed_fits true wanted file (Some s) h = h.1.fits
 printed_fits false wanted file s h = tt
 
 -- a pattern that the text calls proved is one of the proved ones
-pub told_in : (rest : Bool) (file : File) (options : ProofOptions) (ns : List ℕ) (number : ℕ) (text : List ℕ) (t : TellsProofs rest file options ns number text) (k : ℕ) (p : Pattern) → slice_get file.patterns k ≡ Some p
+pub told_in : (rest : Bool) (file : File) (options : ProofOptions) (ns : List ℕ) (number : ℕ) (text : List ℕ) (t : TellsProofs rest file options ns number text)
+    (k : ℕ) (p : Pattern) → slice_get file.patterns k ≡ Some p
     → TellsProved options.json rest p.name text → IsTrue (is_proved ns k)
 told_in rest file options ns number text t k p named told =
     let s = printed_sample options.parameters t.sample in
-    told_proved options.json rest file s ns k p named (printed_fits options.parameters (wants_sample options) file t.sample t.is_sample) (subst (TellsProved options.json rest p.name) t.told told)
+    told_proved options.json rest file s ns k p named (printed_fits options.parameters (wants_sample options) file t.sample t.is_sample)
+    (subst (TellsProved options.json rest p.name) t.told told)
 
 -- ---- without options
-pub says_plain : (rest : Bool) (file : File) (ns : List ℕ) → SaysProofs rest file no_options ns (record { number = 0; text = proofs_text rest file None ns; puts = [] })
+pub says_plain : (rest : Bool) (file : File) (ns : List ℕ)
+    → SaysProofs rest file no_options ns (record { number = 0; text = proofs_text rest file None ns; puts = [] })
 says_plain rest file ns = record { tells = record { sample = None; is_sample = refl; numbered = refl; told = refl }; no_put = refl }
 
 -- ---- where all is proved
@@ -70,10 +78,12 @@ none_left true true false h e = absurd (omega (arith, e))
 none_left true false each h e = absurd (omega (arith, e))
 none_left false started each h e = absurd (false≢true h)
 
-pub all_proved : (rest : Bool) (file : File) (options : ProofOptions) (ns : List ℕ) (number : ℕ) (text : List ℕ) (t : TellsProofs rest file options ns number text) → options.all ≡ true → number ≡ 0 → (has_start t.sample ≡ true) × (each_proved file ns ≡ true)
+pub all_proved : (rest : Bool) (file : File) (options : ProofOptions) (ns : List ℕ) (number : ℕ) (text : List ℕ)
+    (t : TellsProofs rest file options ns number text) → options.all ≡ true → number ≡ 0 → (has_start t.sample ≡ true) × (each_proved file ns ≡ true)
 all_proved rest file options ns number text t all none = none_left options.all (has_start t.sample) (each_proved file ns) all (sym t.numbered ∙ none)
 
-pub starts : (wanted : Bool) (file : File) (s : Option ReportSample) → IsSampleFor wanted file s → has_start s ≡ true → (first : runs.Config) × runs.Initial file.automaton first
+pub starts : (wanted : Bool) (file : File) (s : Option ReportSample) → IsSampleFor wanted file s → has_start s ≡ true → (first : runs.Config)
+    × runs.Initial file.automaton first
 starts wanted file None h e = absurd (false≢true e)
 starts wanted file (Some (sample.Sample values)) h e = let start = h.1.holds.start in (start.first, start.initial)
 starts wanted file (Some sample.Empty) h e = absurd (false≢true e)
@@ -81,48 +91,19 @@ starts wanted file (Some (sample.Spent count)) h e = absurd (false≢true e)
 starts wanted file (Some (sample.Overflow node kind)) h e = absurd (false≢true e)
 
 -- ---- what is said of a file's endings is said of the file
-line_own : (file ending : File) (s : Option ReportSample) → ending.automaton ≡ file.automaton → given_line ending s ≡ given_line file s
-line_own file ending None e = refl
-line_own file ending (Some (sample.Sample values)) e = ap (λ (a : Automaton). codes "parameters: " ++ ((codes "sample" ++ values_text a.parameters values) ++ codes "\n")) e
-line_own file ending (Some sample.Empty) e = refl
-line_own file ending (Some (sample.Spent count)) e = refl
-line_own file ending (Some (sample.Overflow node kind)) e = refl
+names_own : (ps qs : List Pattern) → Endings ps qs → SameNames ps qs
+names_own [] [] h = tt
+names_own [] (q ∷ qs) h = absurd h
+names_own (p ∷ ps) [] h = absurd h
+names_own (p ∷ ps) (q ∷ qs) h = (h.0.name, names_own ps qs h.1)
 
-text_own : (file ending : File) (added : ℕ) → EndingsOf file ending added → (s : Option ReportSample) (ns : List ℕ) → proofs_text true ending s ns ≡ proofs_text true file s ns
-text_own file ending added ends s ns =
-    ap (λ (a : Automaton). (codes "automaton " ++ (a.name ++ codes "\n")) ++ (given_line ending s ++ proofs_told true ns 0 ending.patterns)) ends.automaton
-    ∙ ap (λ (t : List ℕ). (codes "automaton " ++ (file.automaton.name ++ codes "\n")) ++ (t ++ proofs_told true ns 0 ending.patterns)) (line_own file ending s ends.automaton)
-    ∙ ap (λ (t : List ℕ). (codes "automaton " ++ (file.automaton.name ++ codes "\n")) ++ (given_line file s ++ t)) (told_alike ns 0 file.patterns ending.patterns ends.patterns)
+either_own : (file ending : File) (added : ℕ) → EndingsOf file ending added → (in_json : Bool) (s : Option ReportSample) (ns : List ℕ)
+    → proofs_of in_json true ending s ns ≡ proofs_of in_json true file s ns
+either_own file ending added ends in_json s ns = proofs_alike file ending ends.automaton (names_own file.patterns ending.patterns ends.patterns) in_json true s
+    ns
 
-data_own : (ns : List ℕ) (number : ℕ) (ps qs : List Pattern) → Endings ps qs → proofs_data true ns number qs ≡ proofs_data true ns number ps
-data_own ns number [] [] h = refl
-data_own ns number [] (q ∷ qs) h = absurd h
-data_own ns number (p ∷ ps) [] h = absurd h
-data_own ns number (p ∷ ps) (q ∷ qs) h =
-    ap (λ (n : List ℕ). json.item (told_data n (word_told true ns number)) (proofs_data true ns (number + 1) qs)) h.0.name
-    ∙ ap (json.item (told_data p.name (word_told true ns number))) (data_own ns (number + 1) ps qs h.1)
-
-members_own : (file ending : File) (s : Option ReportSample) (ms : json.Members) → ending.automaton ≡ file.automaton → given_members ending s ms ≡ given_members file s ms
-members_own file ending None ms e = refl
-members_own file ending (Some (sample.Sample values)) ms e =
-    ap (λ (a : Automaton). json.member (codes "parameters") (json.object (json.member (codes "values") (json.array (values_data a.parameters values)) (json.member (codes "verdict") (json.string (codes "sample")) json.no_members))) ms) e
-members_own file ending (Some sample.Empty) ms e = refl
-members_own file ending (Some (sample.Spent count)) ms e = refl
-members_own file ending (Some (sample.Overflow node kind)) ms e = refl
-
-json_own : (file ending : File) (added : ℕ) → EndingsOf file ending added → (s : Option ReportSample) (ns : List ℕ) → proofs_json true ending s ns ≡ proofs_json true file s ns
-json_own file ending added ends s ns =
-    let line = λ (d : json.Data). compact_text d ++ codes "\n" in
-    let whole = λ (name : List ℕ) (ms : json.Members). json.object (json.member (codes "automaton") (json.string name) ms) in
-    ap (λ (a : Automaton). line (whole a.name (given_members ending s (proofs_member true ns ending.patterns)))) ends.automaton
-    ∙ ap (λ (ms : json.Members). line (whole file.automaton.name ms)) (members_own file ending s (proofs_member true ns ending.patterns) ends.automaton)
-    ∙ ap (λ (ds : json.Items). line (whole file.automaton.name (given_members file s (json.member (codes "patterns") (json.array ds) json.no_members)))) (data_own ns 0 file.patterns ending.patterns ends.patterns)
-
-either_own : (file ending : File) (added : ℕ) → EndingsOf file ending added → (in_json : Bool) (s : Option ReportSample) (ns : List ℕ) → proofs_of in_json true ending s ns ≡ proofs_of in_json true file s ns
-either_own file ending added ends true s ns = json_own file ending added ends s ns
-either_own file ending added ends false s ns = text_own file ending added ends s ns
-
-sample_for_own : (file ending : File) → ending.automaton ≡ file.automaton → (wanted : Bool) (s : Option ReportSample) → IsSampleFor wanted ending s → IsSampleFor wanted file s
+sample_for_own : (file ending : File) → ending.automaton ≡ file.automaton → (wanted : Bool) (s : Option ReportSample) → IsSampleFor wanted ending s
+    → IsSampleFor wanted file s
 sample_for_own file ending e wanted None h = h
 sample_for_own file ending e wanted (Some s) h = (h.0, sample_own file ending DEFAULT_NODES s e h.1)
 
@@ -132,7 +113,8 @@ are_own ns n [] (q ∷ qs) h = absurd h
 are_own ns n (p ∷ ps) [] h = absurd h
 are_own ns n (p ∷ ps) (q ∷ qs) h = ap (λ (b : Bool). is_proved ns n && b) (are_own ns (n + 1) ps qs h.1)
 
-pub says_own : (file ending : File) (added : ℕ) → EndingsOf file ending added → (options : ProofOptions) (ns : List ℕ) (answer : Answer) → SaysProofs true ending options ns answer → SaysProofs true file options ns answer
+pub says_own : (file ending : File) (added : ℕ) → EndingsOf file ending added → (options : ProofOptions) (ns : List ℕ) (answer : Answer)
+    → SaysProofs true ending options ns answer → SaysProofs true file options ns answer
 says_own file ending added ends options ns answer says =
     let t = says.tells in
     let count : length ending.patterns ≡ length file.patterns = endings_count file.patterns ending.patterns ends.patterns in
@@ -140,14 +122,17 @@ says_own file ending added ends options ns answer says =
       tells = record {
         sample = t.sample;
         is_sample = sample_for_own file ending ends.automaton (wants_sample options) t.sample t.is_sample;
-        numbered = t.numbered ∙ ap (λ (n : ℕ). if options.all && not (has_start t.sample && (nat_lt 0 n && are_proved ns 0 ending.patterns)) then 2 else 0) count
-            ∙ ap (λ (b : Bool). if options.all && not (has_start t.sample && (nat_lt 0 (length file.patterns) && b)) then 2 else 0) (are_own ns 0 file.patterns ending.patterns ends.patterns);
+        numbered = t.numbered ∙ ap (λ (n : ℕ). if options.all && not (has_start t.sample && (nat_lt 0 n && are_proved ns 0 ending.patterns)) then 2 else 0)
+            count
+            ∙ ap (λ (b : Bool). if options.all && not (has_start t.sample && (nat_lt 0 (length file.patterns) && b)) then 2 else 0)
+            (are_own ns 0 file.patterns ending.patterns ends.patterns);
         told = t.told ∙ either_own file ending added ends options.json (printed_sample options.parameters t.sample) ns;
       };
       no_put = says.no_put;
     }
 
-pub said_own : (file ending : File) (added : ℕ) → EndingsOf file ending added → (options : ProofOptions) (ns : List ℕ) (files : Option Told) (result : Result Answer Refusal)
+pub said_own : (file ending : File) (added : ℕ) → EndingsOf file ending added
+    → (options : ProofOptions) (ns : List ℕ) (files : Option Told) (result : Result Answer Refusal)
     → Says (replies [] (SaysProofs true ending options ns)) files result [] → Says (replies [] (SaysProofs true file options ns)) files result []
 said_own file ending added ends options ns files (Ok answer) says =
     let h = says.judges in
@@ -181,7 +166,8 @@ pub record EveryOne (P : Pattern → Type 0) (file : File) : Type 0 where
   pub is_first : slice_get file.patterns 0 ≡ Some first
   pub each : AllByRecursion P file.patterns
 
-pub every_one : (P : Pattern → Type 0) (file : File) (ns : List ℕ) → each_proved file ns ≡ true → ((k : ℕ) (p : Pattern) → slice_get file.patterns k ≡ Some p → IsTrue (is_proved ns k) → P p) → EveryOne P file
+pub every_one : (P : Pattern → Type 0) (file : File) (ns : List ℕ) → each_proved file ns ≡ true
+    → ((k : ℕ) (p : Pattern) → slice_get file.patterns k ≡ Some p → IsTrue (is_proved ns k) → P p) → EveryOne P file
 every_one P file ns each of =
     let parts = and_parts (nat_lt 0 (length file.patterns)) (are_proved ns 0 file.patterns) each in
     let first = first_of file.patterns parts.0 in

@@ -10,7 +10,7 @@ use Rattle.ta_program.proofs.Common.{LegalRest, Pick, Put, ReportSample, RestWor
 use Rattle.ta_program.specs.Rest.{PutsRest}
 use Rattle.ta_program.proofs.PatternPicks.{pick_monotone, pick_one, pick_passes}
 use Rattle.ta_verdict.proofs.SamplesMade.{samples_once}
-use Rattle.ta_claim.specs.declared.claim.Claim.TheVariants.{RestSafe}
+use Rattle.ta_rest.specs.declared.claim.Claim.TheVariants.{RestSafe}
 use Rattle.ta_verdict.proofs.rest.VerdictsOnce.{verdicts_once}
 use Rattle.ta_verdict.proofs.rest.CertificatesOnce.{rest_certificates_once}
 use Rattle.ta_check.proofs.Accepting.{one_list}

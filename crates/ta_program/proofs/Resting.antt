@@ -39,18 +39,6 @@ refused_cause T name file (ReadFailed who) count h = absurd h
 refused_cause T name file (PutFailed who) count h = absurd h
 refused_cause T name file Memory count h = refl
 
--- the text of `rest-check` names a file's own patterns as it names their endings
-pub told_alike : (numbers : List ℕ) (number : ℕ) (ps qs : List Pattern) → Endings ps qs
-    → proofs_told true numbers number qs ≡ proofs_told true numbers number ps
-told_alike numbers number [] [] h = refl
-told_alike numbers number [] (q ∷ qs) h = absurd h
-told_alike numbers number (p ∷ ps) [] h = absurd h
-told_alike numbers number (p ∷ ps) (q ∷ qs) h =
-    ap (λ (n : List ℕ). (codes "pattern " ++ (n ++ (codes ": " ++ (word_told true numbers number ++ codes "\n")))) ++ proofs_told true numbers (number + 1) qs)
-    h.0.name
-    ∙ ap (λ (t : List ℕ). (codes "pattern " ++ (p.name ++ (codes ": " ++ (word_told true numbers number ++ codes "\n")))) ++ t)
-    (told_alike numbers (number + 1) ps qs h.1)
-
 -- what is said of the parameters of an ending's automaton is said of the file's
 pub sample_own : (file ending : File) (budget : ℕ) (s : ReportSample) → ending.automaton ≡ file.automaton → IsSample ending budget s → IsSample file budget s
 sample_own file ending budget (sample.Sample values) e h = record {

@@ -1,5 +1,7 @@
 -- What is printed as a run `replay` shows.
-use Rattle.ta_program.proofs.Common.{◌≡◌, ◌⊎◌, inl, ℕ, Bool, List, [], Option, Some, refl, sym, ◌∙◌, subst, length, ◌≤◌, File, Run, shown_of, report_of, Told, Answer, Performs, State, in_files, seen, FileMeans, RUN, IsFile, ShowsRun, run_kind, PrintedRunsAreReplayed, SaysShown, replay_meaning, ReportHolds, resting, false, true}
+use Rattle.ta_program.proofs.Common.{◌≡◌, ◌⊎◌, inl, ℕ, Bool, List, [], Option, Some, refl, sym, ◌∙◌, subst, length, ◌≤◌, File, Run, shown_of, report_of, Told}
+use Rattle.ta_program.proofs.Common.{Answer, Performs, State, in_files, seen, FileMeans, RUN, IsFile, ShowsRun, run_kind, PrintedRunsAreReplayed, SaysShown}
+use Rattle.ta_program.proofs.Common.{replay_meaning, ReportHolds, resting, false, true}
 use Rattle.ta_program.proofs.AtRest.{rest_unsafe_printed}
 use Rattle.ta_program.proofs.Clauses.{admitting, as_replay, loud_by_words, rests_report, run_shortens, verify_reports}
 use Rattle.ta_program.proofs.Meanings.{replay_decides}
@@ -10,14 +12,17 @@ use Rattle.ta_program.specs.Rest.{RestReportHolds}
 use Rattle.ta_report.specs.CheckJson.{shown_text}
 
 -- the answer that a run shows its pattern
-shown_answer : (json : Bool) (file : File) (run : Run) (bytes : List ℕ) → ShowsRun file bytes run → (answer : Answer) × (answer.number ≡ 0) × SaysShown file json run answer
+shown_answer : (json : Bool) (file : File) (run : Run) (bytes : List ℕ) → ShowsRun file bytes run → (answer : Answer) × (answer.number ≡ 0)
+    × SaysShown file json run answer
 shown_answer json file run bytes shows =
     let p = shows.shows.pattern in
     let answer : Answer = record { number = 0; text = shown_text json file.automaton.name p.name (shown_of run); puts = [] } in
     (answer, refl, record { pattern = p; named = shows.shows.named; writes = record { numbered = refl; written = refl; no_put = refl } })
 
 -- a run that shows its pattern is shown, 6 and 7 aside
-shown_number : (json : Bool) (told : Told) (name run_name : List ℕ) (file : File) (run : Run) → IsFile (in_files told) name file → FileMeans (run_kind file) (in_files told) run_name run → (number : ℕ) (before after : State) → before.shelf.files ≡ Some told → Performs (replay_meaning name run_name json) number before after → (number ≡ 0) ⊎ ((number ≡ 6) ⊎ (number ≡ 7))
+shown_number : (json : Bool) (told : Told) (name run_name : List ℕ) (file : File) (run : Run) → IsFile (in_files told) name file
+    → FileMeans (run_kind file) (in_files told) run_name run → (number : ℕ) (before after : State) → before.shelf.files ≡ Some told
+    → Performs (replay_meaning name run_name json) number before after → (number ≡ 0) ⊎ ((number ≡ 6) ⊎ (number ≡ 7))
 shown_number json told name run_name file run is_file is_run number before after is p =
     let answer = shown_answer json file run is_run.bytes is_run.means in
     p.exact (replay_decides name run_name json) told is 0 (inl (answer.0, answer.1, (file, is_file, (run, is_run, answer.2))))
@@ -27,12 +32,16 @@ told_file : (told : Told) (calls : List Call) (name : List ℕ) (file : File) �
 told_file told calls name file h = record { bytes = h.bytes; had = record { seen = h.had.seen.1; within = h.had.within }; means = h.means }
 
 -- the text of a run that shows its pattern is replayed
-replays : (told : Told) (name : List ℕ) (file : File) (run : Run) (bytes : List ℕ) → IsFile (in_files told) name file → ShowsRun file bytes run → length bytes ≤ RUN.bytes → IsReplayed told name bytes
+replays : (told : Told) (name : List ℕ) (file : File) (run : Run) (bytes : List ℕ) → IsFile (in_files told) name file → ShowsRun file bytes run
+    → length bytes ≤ RUN.bytes → IsReplayed told name bytes
 replays told name file run bytes h shows within again names asks named_so later same has second begun ended begun_is done =
     let run_name = names.other in
-    let performs = subst (λ (n : List ℕ). Performs (replay_meaning n run_name names.json) second begun ended) named_so (as_replay again second begun ended done names asks) in
-    let is_file : IsFile (in_files later) name file = record { bytes = h.bytes; had = record { seen = same ∙ h.had.seen; within = h.had.within }; means = h.means } in
-    let is_run : FileMeans (run_kind file) (in_files later) run_name run = record { bytes = bytes; had = record { seen = has; within = within }; means = shows } in
+    let performs = subst (λ (n : List ℕ). Performs (replay_meaning n run_name names.json) second begun ended) named_so
+    (as_replay again second begun ended done names asks) in
+    let is_file : IsFile (in_files later) name file = record
+    { bytes = h.bytes; had = record { seen = same ∙ h.had.seen; within = h.had.within }; means = h.means } in
+    let is_run : FileMeans (run_kind file) (in_files later) run_name run = record { bytes = bytes; had = record { seen = has; within = within }; means = shows }
+    in
     shown_number names.json later name run_name file run is_file is_run second begun ended begun_is performs
 
 pub runs_replayed : PrintedRunsAreReplayed
@@ -47,7 +56,8 @@ runs_replayed words number before after h asked asks low told is =
       replayed = λ k p named line bytes part.
           let printed = unsafe_printed asked.json r.file r.pick asked.budget r.sample r.is_sample r.verdicts r.are k p named line in
           let same = sym (printed.only bytes part) in
-          replays told name r.file printed.run bytes (told_file told reports.read name r.file r.is_file) (subst (λ (bs : List ℕ). ShowsRun r.file bs printed.run) same printed.shows) (subst (λ (bs : List ℕ). length bs ≤ RUN.bytes) same printed.within);
+          replays told name r.file printed.run bytes (told_file told reports.read name r.file r.is_file)
+          (subst (λ (bs : List ℕ). ShowsRun r.file bs printed.run) same printed.shows) (subst (λ (bs : List ℕ). length bs ≤ RUN.bytes) same printed.within);
     }
 
 pub rest_runs_replayed : PrintedRestRunsAreReplayed
@@ -60,9 +70,11 @@ rest_runs_replayed words number before after h asked asks low told is =
       text = report_of true asked.json r.file r.pick r.sample r.verdicts;
       gained = r.wrote;
       replayed = λ k p named line bytes part.
-          let printed = rest_unsafe_printed asked.silent asked.json r.file r.ends.ending r.ends.added r.pick (resting asked.budget r.silent) r.are_silent (loud_by_words words number before after h asked asks r.file r.silent r.are_silent) r.sample r.is_sample r.verdicts r.are k p named line in
+          let printed = rest_unsafe_printed asked.silent asked.json r.file r.ends.ending r.ends.added r.pick (resting asked.budget r.silent) r.are_silent
+          (loud_by_words words number before after h asked asks r.file r.silent r.are_silent) r.sample r.is_sample r.verdicts r.are k p named line in
           let same = sym (printed.only bytes part) in
-          replays told name r.file printed.run bytes (told_file told reports.read name r.file r.is_file) (subst (λ (bs : List ℕ). ShowsRun r.file bs printed.run) same printed.shows) (subst (λ (bs : List ℕ). length bs ≤ RUN.bytes) same printed.within);
+          replays told name r.file printed.run bytes (told_file told reports.read name r.file r.is_file)
+          (subst (λ (bs : List ℕ). ShowsRun r.file bs printed.run) same printed.shows) (subst (λ (bs : List ℕ). length bs ≤ RUN.bytes) same printed.within);
     }
 
 pub admitted_replayed : AdmittedRunsAreReplayed
@@ -89,6 +101,7 @@ compressed_replayed words before after h asked asks told is =
       run = r.short;
       gained = r.wrote;
       replayed = λ stays.
-          let shows : ShowsRun r.file (run_text r.file r.short) r.short = record { text = record { fits = short.fits; text = refl }; shows = short.shows; stays = stays } in
+          let shows : ShowsRun r.file (run_text r.file r.short) r.short = record
+          { text = record { fits = short.fits; text = refl }; shows = short.shows; stays = stays } in
           replays told name r.file r.short (run_text r.file r.short) is_file shows (run_within r.file r.short short.fits short.shows short.is_short);
     }

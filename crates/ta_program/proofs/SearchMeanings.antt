@@ -1,5 +1,9 @@
 -- what `search` says grows with what is seen, and known files leave one number
-use Rattle.ta_program.proofs.Common.{Budget, ◌≡◌, ◌∙◌, ℕ, List, length, Option, None, Some, refl, sym, ap, subst, inl, inr, arith, TemplateFault, SearchEnd, Tried, Template, LastIsFound, SearchesAreDetermined, FirstTemplateFault, no_fault, one_template, Decides, IsSo, View, in_files, Answer, after_monotone, decides, no_hindrance, one_number, settles_monotone, Monotone, PassesWhere, Finds, HindersFound, IsTemplateText, LegalTemplate, end_number, found_meaning, found_names, search_meaning, template_kind, SearchWords, after, spared_decides, spared_passes}
+use Rattle.ta_program.proofs.Common.{Budget, ◌≡◌, ◌∙◌, ℕ, List, length, Option, None, Some, refl, sym, ap, subst, inl, inr, arith, TemplateFault, SearchEnd}
+use Rattle.ta_program.proofs.Common.{Tried, Template, LastIsFound, SearchesAreDetermined, FirstTemplateFault, no_fault, one_template, Decides, IsSo, View}
+use Rattle.ta_program.proofs.Common.{in_files, Answer, after_monotone, decides, no_hindrance, one_number, settles_monotone, Monotone, PassesWhere, Finds}
+use Rattle.ta_program.proofs.Common.{HindersFound, IsTemplateText, LegalTemplate, end_number, found_meaning, found_names, search_meaning, template_kind}
+use Rattle.ta_program.proofs.Common.{SearchWords, after, spared_decides, spared_passes}
 use mathlib.Core.HLevel.{is_prop→PathP}
 use Rattle.ta_search.specs.declared.outcome.Outcome.TheVariants.{Safe}
 use Rattle.ta_search.specs.Holes.{AreHoles, AreHoles-prop, unknown_place, unknown-prop}
@@ -39,7 +43,8 @@ hinders_four t budget (Some out) number line h = h.numbered
 -- a template has one end of its search for a budget
 module _ (once : SearchesAreDetermined) where
   -- no certificate is both put and too long
-  not_both : (asked : SearchWords) (t : Template) (out : Option (List ℕ)) (answer : Answer) (number : ℕ) (line : List ℕ) → asked.out ≡ out → Finds t asked answer → HindersFound t asked.budget out number line → ⊥
+  not_both : (asked : SearchWords) (t : Template) (out : Option (List ℕ)) (answer : Answer) (number : ℕ) (line : List ℕ) → asked.out ≡ out
+      → Finds t asked answer → HindersFound t asked.budget out number line → ⊥
   not_both asked t None answer number line is f h = h
   not_both asked t (Some out) answer number line is f h =
       let long = h.long in
@@ -50,7 +55,8 @@ module _ (once : SearchesAreDetermined) where
       let longer = long.longer in
       omega (arith, same)
 
-  found_one : (asked : SearchWords) (t : Template) (view : View) (number other : ℕ) → IsSo (found_meaning asked t) view number → IsSo (found_meaning asked t) view other → number ≡ other
+  found_one : (asked : SearchWords) (t : Template) (view : View) (number other : ℕ) → IsSo (found_meaning asked t) view number
+      → IsSo (found_meaning asked t) view other → number ≡ other
   found_one asked t view number other so so' = elim so [
     | inl a ↦ elim so' [
       | inl b ↦ sym a.1 ∙ (a.2.numbered ∙ ap end_number (once t asked.budget a.2.end b.2.end a.2.is_end b.2.is_end) ∙ sym b.2.numbered) ∙ b.1
@@ -65,9 +71,12 @@ module _ (once : SearchesAreDetermined) where
   pub search_decides : (asked : SearchWords) → Decides (search_meaning asked)
   search_decides asked =
       spared_decides template_kind asked.file (found_names asked) (found_meaning asked) (found_monotone asked) template_fits
-      (decides (after template_kind asked.file (found_names asked) (found_meaning asked)) (after_monotone template_kind asked.file (found_names asked) (found_meaning asked) (found_monotone asked)) (λ told.
-      one_number template_kind asked.file (found_names asked) (found_meaning asked) (found_monotone asked) told template_fits (λ bytes v w m n number other so so'.
-      found_one asked w (in_files told) number other (subst (λ (t : Template). IsSo (found_meaning asked t) (in_files told) number) (one_text bytes v w m n) so) so')))
+      (decides (after template_kind asked.file (found_names asked) (found_meaning asked))
+      (after_monotone template_kind asked.file (found_names asked) (found_meaning asked) (found_monotone asked)) (λ told.
+      one_number template_kind asked.file (found_names asked) (found_meaning asked) (found_monotone asked) told template_fits
+      (λ bytes v w m n number other so so'.
+      found_one asked w (in_files told) number other (subst (λ (t : Template). IsSo (found_meaning asked t) (in_files told) number) (one_text bytes v w m n) so)
+      so')))
 
 pub search_passes : (asked : SearchWords) → PassesWhere (LegalTemplate asked) (search_meaning asked)
 search_passes asked told line (t, is) =

@@ -1,5 +1,6 @@
 -- what `show` says grows with what is seen, and known files leave one number
-use Rattle.ta_program.proofs.Common.{◌∙◌, List, ℕ, [], Some, sym, Decides, Passes, in_files, replies_monotone, replies_one, SaysFile, file_meaning, show_meaning}
+use Rattle.ta_program.proofs.Common.{◌∙◌, List, ℕ, [], Some, sym, Decides, Passes, in_files, replies_monotone, replies_one, SaysFile, file_meaning}
+use Rattle.ta_program.proofs.Common.{show_meaning}
 use Rattle.ta_program.proofs.Meanings.{file_decides, file_passes}
 
 pub show_decides : (name : List ℕ) → Decides (show_meaning name)

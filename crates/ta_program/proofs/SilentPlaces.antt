@@ -1,17 +1,19 @@
 -- silent places, and the names of them that are given
-use Rattle.ta_program.proofs.Common.{◌≡◌, ◌∙◌, ℕ, List, [], ◌∷◌, Option, None, Some, Result, Ok, Err, refl, sym, ap, subst, arith, Automaton, Pattern, Refusal, Refused, ReadFailed, PutFailed, Memory, Meaning, Says, SaysOfFile, ReadCause, file_line, finds, finds_memory, finds_wrong, phrase_text, Told, FILE, Run, IsFirstConfig, unit_steps, length}
+use Rattle.ta_program.proofs.Common.{◌≡◌, ◌∙◌, ℕ, List, [], ◌∷◌, Option, None, Some, Result, Ok, Err, refl, sym, ap, subst, arith, Automaton, Pattern, Refusal}
+use Rattle.ta_program.proofs.Common.{Refused, ReadFailed, PutFailed, Memory, Meaning, Says, SaysOfFile, ReadCause, file_line, finds, finds_memory, finds_wrong}
+use Rattle.ta_program.proofs.Common.{phrase_text, Told, FILE, Run, IsFirstConfig, unit_steps, length}
 use Rattle.ta_check.specs.Subjects.{claimed_with}
-use Rattle.ta_claim.specs.declared.claim.Claim.TheVariants as claim
+use Rattle.ta_rest.specs.declared.claim.Claim.TheVariants as claim
 use Rattle.ta_automaton.specs.Runs.{Config}
-use Rattle.ta_moment_run.specs.Resting.{OccursAtQuietRest}
+use Rattle.ta_witness.specs.Resting.{OccursAtQuietRest}
 use Rattle.ta_rest.specs.Quiet.{QuietRestSafe}
 use Rattle.ta_rest.proofs.QuietResting.{rest_is, rest_safe_is}
-use Rattle.ta_rest_run.specs.Runs.{OccursAtRest}
-use Rattle.ta_rest_run.proofs.Ends.{end_whole}
+use Rattle.ta_witness.specs.Runs.{OccursAtRest}
+use Rattle.ta_witness.proofs.Ends.{end_whole}
 use Rattle.ta_verdict.specs.Rest.Said.{occurs_with}
-use Rattle.ta_silent.specs.Silent.{IsSilentIn, silent_in}
-use Rattle.ta_silent.specs.declared.fault.SilentFault.{SilentFault}
-use Rattle.ta_silent.specs.declared.fault.SilentFault.TheVariants as fault
+use Rattle.ta_moments.specs.Silent.{IsSilentIn, silent_in}
+use Rattle.ta_moments.specs.declared.fault.SilentFault.{SilentFault}
+use Rattle.ta_moments.specs.declared.fault.SilentFault.TheVariants as fault
 use Rattle.ta_program.specs.Inside.Found.{SilentRefused, TellsSilent}
 use Rattle.ta_program.specs.SilentNames.{AreSilent, NamesHinder, RestOccursBut, RestSafeBut, silent_fault_text}
 
@@ -30,7 +32,8 @@ silent_once a None places others is are = is ∙ sym are
 silent_once a (Some names) places others is are = ok_once (silent_in a names) places others is are
 
 -- names that may be silent don't hinder
-pub silent_fits : (name : List ℕ) (a : Automaton) (names : Option (List ℕ)) (places : List ℕ) (number : ℕ) (line : List ℕ) → AreSilent a names places → ¬ NamesHinder name a names number line
+pub silent_fits : (name : List ℕ) (a : Automaton) (names : Option (List ℕ)) (places : List ℕ) (number : ℕ) (line : List ℕ) → AreSilent a names places
+    → ¬ NamesHinder name a names number line
 silent_fits name a None places number line is h = h
 silent_fits name a (Some names) places number line is h = not_both (silent_in a names) places h.fault is h.found
 
@@ -38,7 +41,8 @@ pub silent_number : (name : List ℕ) (a : Automaton) (names : Option (List ℕ)
 silent_number name a None number line h = absurd h
 silent_number name a (Some names) number line h = h.numbered
 
-pub silent_line : (name : List ℕ) (a : Automaton) (names : Option (List ℕ)) (number other : ℕ) (line words : List ℕ) → NamesHinder name a names number line → NamesHinder name a names other words → line ≡ words
+pub silent_line : (name : List ℕ) (a : Automaton) (names : Option (List ℕ)) (number other : ℕ) (line words : List ℕ) → NamesHinder name a names number line
+    → NamesHinder name a names other words → line ≡ words
 silent_line name a None number other line words h k = absurd h
 silent_line name a (Some names) number other line words h k =
     let same = err_once (silent_in a names) h.fault k.fault h.found k.found in
@@ -49,7 +53,8 @@ quiet_of : (places : List ℕ) (a : Automaton) (p : Pattern) → claimed_with cl
 quiet_of [] a p safe = (rest_safe_is a p).0 safe
 quiet_of (place ∷ places) a p safe = safe
 
-pub safe_but : (names : Option (List ℕ)) (a : Automaton) (p : Pattern) (places : List ℕ) → AreSilent a names places → claimed_with claim.RestSafe places a p → RestSafeBut names a p
+pub safe_but : (names : Option (List ℕ)) (a : Automaton) (p : Pattern) (places : List ℕ) → AreSilent a names places → claimed_with claim.RestSafe places a p
+    → RestSafeBut names a p
 safe_but None a p places is safe = subst (λ (ps : List ℕ). claimed_with claim.RestSafe ps a p) is safe
 safe_but (Some names) a p places is safe = (places, is, quiet_of places a p safe)
 
@@ -74,7 +79,8 @@ quiet_occurs [] a p run o =
     }
 quiet_occurs (place ∷ places) a p run o = o
 
-pub occurs_but : (names : Option (List ℕ)) (a : Automaton) (p : Pattern) (run : Run) (places : List ℕ) → AreSilent a names places → occurs_with places a p run → HappensBut names a p run
+pub occurs_but : (names : Option (List ℕ)) (a : Automaton) (p : Pattern) (run : Run) (places : List ℕ) → AreSilent a names places → occurs_with places a p run
+    → HappensBut names a p run
 occurs_but None a p run places is o =
     let c : OccursAtRest a p run = subst (λ (ps : List ℕ). occurs_with ps a p run) is o in
     record { first = c.first; begins = c.begins; happens = c.occurs }
@@ -88,7 +94,8 @@ none_silent a None places none is = is
 none_silent a (Some names) places none is = absurd (cc)
 
 -- a refusal of names
-hinders_by : (name : List ℕ) (a : Automaton) (names : List ℕ) (f : SilentFault) (refusal : Refusal) → silent_in a names ≡ Err f → SaysOfFile FILE name (silent_fault_text f) refusal → SilentRefused name a (Some names) refusal
+hinders_by : (name : List ℕ) (a : Automaton) (names : List ℕ) (f : SilentFault) (refusal : Refusal) → silent_in a names ≡ Err f
+    → SaysOfFile FILE name (silent_fault_text f) refusal → SilentRefused name a (Some names) refusal
 hinders_by name a names f (Refused number who why) is says = record {
   numbered = says.0;
   fault = f;
@@ -99,14 +106,16 @@ hinders_by name a names f (ReadFailed who) is says = absurd says
 hinders_by name a names f (PutFailed who) is says = absurd says
 hinders_by name a names f Memory is says = absurd says
 
-pub silent_refused : (name : List ℕ) (a : Automaton) (names : List ℕ) (f : SilentFault) (refusal : Refusal) → IsSilentIn a names (Err f) → TellsSilent name f refusal → SilentRefused name a (Some names) refusal
+pub silent_refused : (name : List ℕ) (a : Automaton) (names : List ℕ) (f : SilentFault) (refusal : Refusal) → IsSilentIn a names (Err f)
+    → TellsSilent name f refusal → SilentRefused name a (Some names) refusal
 silent_refused name a names fault.Unknown refusal is says = hinders_by name a names fault.Unknown refusal is says
 silent_refused name a names fault.WrongKind refusal is says = hinders_by name a names fault.WrongKind refusal is says
 silent_refused name a names (fault.Subtracted guard) refusal is says = hinders_by name a names (fault.Subtracted guard) refusal is says
 silent_refused name a names fault.Memory refusal is says = subst (SilentRefused name a (Some names)) (sym says) tt
 
 -- it is told of, and nothing more is read
-pub names_refused : (name : List ℕ) (a : Automaton) (names : Option (List ℕ)) (puts : List (List ℕ)) (rest : List ℕ → Meaning) (files : Option Told) (refusal : Refusal) → SilentRefused name a names refusal → Says (finds (AreSilent a names) (NamesHinder name a names) puts rest) files (Err refusal) []
+pub names_refused : (name : List ℕ) (a : Automaton) (names : Option (List ℕ)) (puts : List (List ℕ)) (rest : List ℕ → Meaning) (files : Option Told)
+    (refusal : Refusal) → SilentRefused name a names refusal → Says (finds (AreSilent a names) (NamesHinder name a names) puts rest) files (Err refusal) []
 names_refused name a names puts rest files (Refused number who why) h =
     let three = silent_number name a names number (file_line who.now (phrase_text why)) h in
     finds_wrong (AreSilent a names) (NamesHinder name a names) puts rest files number who why (omega (arith, three)) (omega (arith, three)) h
@@ -114,7 +123,8 @@ names_refused name a names puts rest files (ReadFailed who) h = absurd h
 names_refused name a names puts rest files (PutFailed who) h = absurd h
 names_refused name a names puts rest files Memory h = finds_memory (AreSilent a names) (NamesHinder name a names) puts rest files
 
-pub names_cause : (T : Type 0) (name : List ℕ) (a : Automaton) (names : Option (List ℕ)) (refusal : Refusal) (count : ℕ) → SilentRefused name a names refusal → ReadCause {T = T} (Err refusal) count count
+pub names_cause : (T : Type 0) (name : List ℕ) (a : Automaton) (names : Option (List ℕ)) (refusal : Refusal) (count : ℕ) → SilentRefused name a names refusal
+    → ReadCause {T = T} (Err refusal) count count
 names_cause T name a names (Refused number who why) count h = refl
 names_cause T name a names (ReadFailed who) count h = absurd h
 names_cause T name a names (PutFailed who) count h = absurd h

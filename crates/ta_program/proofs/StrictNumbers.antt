@@ -15,7 +15,8 @@ chosen_two true n e = inl refl
 chosen_two false n e = inr e
 
 -- 2 is that of the verdicts, or with `--all` the report tells nothing
-pub number_two : (all : Bool) (s : ReportSample) (vs : List Verdict) → report_number all s vs ≡ 2 → ((all ≡ true) × (tells_nothing s vs ≡ true)) ⊎ (verdicts_number vs ≡ 2)
+pub number_two : (all : Bool) (s : ReportSample) (vs : List Verdict) → report_number all s vs ≡ 2 → ((all ≡ true) × (tells_nothing s vs ≡ true))
+    ⊎ (verdicts_number vs ≡ 2)
 number_two all s vs e = elim (chosen_two (all && (verdicts_number vs == 0 && tells_nothing s vs)) (verdicts_number vs) e) [
   | inl strict ↦
       let parts = and_parts all (verdicts_number vs == 0 && tells_nothing s vs) strict in

@@ -85,7 +85,7 @@ found_exactly false true n e = (λ is. absurd (cc), λ none. absurd (omega (arit
 found_exactly false false n e = (λ is. absurd (cc), λ none. absurd (omega (arith, e, none)))
 
 pub tries_printed : (number : ℕ) (view : View) (asked : SearchWords) (files files' : Option Told) (written written' : Option (List ℕ)) (made : List Put)
-    → SearchHolds number view asked files files' written written' made → EachTried number view asked.file written written'
+    → SearchHolds number view asked files files' written written' made → EachTried number view asked.json asked.file written written'
 tries_printed number view asked files files' written written' made h = record {
   template = h.template;
   is_template = h.is_template;

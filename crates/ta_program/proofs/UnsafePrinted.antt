@@ -1,5 +1,9 @@
 -- What the report says of unsafe patterns
-use Rattle.ta_program.proofs.Common.{verdict_run, Budget, ◌≡◌, ◌∙◌, ◌+◌, ◌≤◌, ℕ, suc, true, false, length, List, [], ◌∷◌, Some, slice_get, Bool, refl, sym, ap, subst, arith, list_any, each_at, File, Pattern, Run, run_text, IsFirstConfig, Shows, ShowsPattern, unit_steps, lines_counted, run_text_short, VerdictFits, TellsUnsafe, report_of, ReportSample, Verdict, Safe, Unsafe, Spent, Overflow, run_told, told_run, told_unsafe, RUN, UnsafePrinted, telling_of, AreVerdictsOn, Pick, IsSample, VerdictHolds, is_unsafe, held_entry}
+use Rattle.ta_program.proofs.Common.{verdict_run, Budget, ◌≡◌, ◌∙◌, ◌+◌, ◌≤◌, ℕ, suc, true, false, length, List, [], ◌∷◌, Some, slice_get, Bool, refl, sym, ap}
+use Rattle.ta_program.proofs.Common.{subst, arith, list_any, each_at, File, Pattern, Run, run_text, IsFirstConfig, Shows, ShowsPattern, unit_steps}
+use Rattle.ta_program.proofs.Common.{lines_counted, run_text_short, VerdictFits, TellsUnsafe, report_of, ReportSample, Verdict, Safe, Unsafe, Spent, Overflow}
+use Rattle.ta_program.proofs.Common.{run_told, told_run, told_unsafe, RUN, UnsafePrinted, telling_of, AreVerdictsOn, Pick, IsSample, VerdictHolds, is_unsafe}
+use Rattle.ta_program.proofs.Common.{held_entry}
 use Rattle.std.proofs.Math.Nat.{mul-le-mul_right}
 use Rattle.ta_automaton.proofs.Thresholds.{pattern_within}
 use Rattle.ta_automaton.specs.Runs as runs
@@ -25,7 +29,12 @@ unsafe_occurs file budget number p nodes run at h =
     let named : Some shown.pattern ≡ Some p = sym shown.named ∙ ap (slice_get file.patterns) known.pattern ∙ at in
     let same : shown.pattern ≡ p = cc in
     let first = shown.shows.first in
-    record { first = first; begins = shown.shows.begins; occurs = subst (λ (q : Pattern). runs.Occurs file.automaton q first (unit_steps run.lines)) same (shown_occurs file run shown) }
+    record {
+      first = first;
+      begins = shown.shows.begins;
+      occurs = subst (λ (q : Pattern). runs.Occurs file.automaton q first (unit_steps run.lines)) same
+          (shown_occurs file run shown);
+    }
 
 -- where some verdict says unsafe, one of a number does
 pub unsafe_there : (vs : List Verdict) → list_any is_unsafe vs ≡ true → (k : ℕ) × (nodes : ℕ) × (run : Run) × (slice_get vs k ≡ Some (Unsafe nodes run))

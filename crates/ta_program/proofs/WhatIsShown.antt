@@ -4,18 +4,21 @@ use Rattle.ta_program.proofs.Common.{append_assoc, option_map, option_and_then_s
 use Rattle.ta_program.proofs.Common.{Acts, Call, LegalFile, LegalSilently, CheckHolds, Event, IsFile, Meaning, PutCall, ReplayHolds, ReportHolds}
 use Rattle.ta_program.proofs.Common.{RestCheckHolds, RestReportHolds, Runs, ShowHolds, State, Told, View, ask_where, pair_of, reads, reads-append, report_of}
 use Rattle.ta_program.proofs.Common.{request_of, seen, where_told, with_text}
-use Rattle.ta_program.proofs.Common.{File, RestCheckWords, RestWords, VerifyWords, budget_of, check_meaning, file_name_of, one_legal, option_value, out_of, plain_of, quiet_names, replay_meaning, rest_check_meaning, rest_check_of, rest_check_words, rest_meaning, rest_of, rest_taken, rest_words, show_meaning, show_of, show_words, shown_of, taken_by, unit_steps, verify_meaning}
+use Rattle.ta_program.proofs.Common.{File, RestCheckWords, RestWords, VerifyWords, budget_of, check_meaning, file_name_of, one_legal, option_value, out_of}
+use Rattle.ta_program.proofs.Common.{plain_of, quiet_names, replay_meaning, rest_check_meaning, rest_check_of, rest_check_words, rest_meaning, rest_of}
+use Rattle.ta_program.proofs.Common.{rest_taken, rest_words, show_meaning, show_of, show_words, shown_of, taken_by, unit_steps, verify_meaning}
 use Rattle.ta_program.proofs.Common.{verify_of, verify_taken, verify_words, rest_form, verify_form}
 use Rattle.std.proofs.lemmas.Option.{cond_some, none-some}
 use Rattle.ta_automaton.specs.Runs as runs
 use Rattle.ta_replay.proofs.Occurring.{shown_occurs}
 use Rattle.ta_shelf.specs.Calls.{puts}
-use Rattle.ta_shell.specs.Sights.{Whole}
-use Rattle.ta_show.proofs.FileTells.{file_same}
-use Rattle.ta_show.specs.Unknowns.{unknowns_text}
-use Rattle.ta_program.proofs.Clauses.{ZeroSays, as_check, as_replay, as_rest, as_rest_check, as_show, as_verify, at_rest, gives_some, proved, reported, rest_checked, shown, shown_file, line_proved, line_rest_proved, tells_rest_safe, tells_safe, picked_safe}
+use Rattle.ta_shelf.specs.Sights.{Whole}
+use Rattle.ta_report.proofs.FileTells.{file_same}
+use Rattle.ta_report.specs.Unknowns.{unknowns_text}
+use Rattle.ta_program.proofs.Clauses.{ZeroSays, as_check, as_replay, as_rest, as_rest_check, as_show, as_verify, at_rest, gives_some, proved, reported}
+use Rattle.ta_program.proofs.Clauses.{rest_checked, shown, shown_file, line_proved, line_rest_proved, tells_rest_safe, tells_safe, picked_safe}
 use Rattle.ta_program.proofs.FirstWord.{first_plain, second_plain, not_behind}
-use Rattle.ta_program.proofs.JsonLines.{tells_by_line, tells_unsafe_by_line}
+use Rattle.ta_report.proofs.JsonLines.{tells_by_line, tells_unsafe_by_line}
 use Rattle.ta_program.proofs.NeverResting.{never_rests}
 use Rattle.ta_program.proofs.UnsafePrinted.{unsafe_printed}
 use Rattle.ta_report.specs.CheckJson.{shown_text}
@@ -78,14 +81,16 @@ file_of_rest_check name more asked plain is = option_and_then_some rest_check_ta
     sym (ap (λ (w : RestCheckWords). w.file) made.2)
     ∙ named_so (plain_of taken 0) name file (first_plain rest_check_form refl name more taken plain by) named)))
 
-file_of_check : (name : List ℕ) (more : List (List ℕ)) (asked : CheckWords) → is_dashed name ≡ false → check_words (name ∷ more) ≡ Some asked → asked.file ≡ name
+file_of_check : (name : List ℕ) (more : List (List ℕ)) (asked : CheckWords) → is_dashed name ≡ false → check_words (name ∷ more) ≡ Some asked
+    → asked.file ≡ name
 file_of_check name more asked plain is = option_and_then_some check_taken (taken_by check_form (name ∷ more)) asked is (λ taken by taken_is.
     option_and_then_some _ (file_name_of (plain_of taken 0)) asked taken_is (λ file named file_is.
     let made = made_of _ (file_name_of (plain_of taken 1)) asked file_is in
     sym (ap (λ (w : CheckWords). w.file) made.2)
     ∙ named_so (plain_of taken 0) name file (first_plain check_form refl name more taken plain by) named))
 
-file_of_replay : (name : List ℕ) (more : List (List ℕ)) (asked : ReplayWords) → is_dashed name ≡ false → replay_words (name ∷ more) ≡ Some asked → asked.file ≡ name
+file_of_replay : (name : List ℕ) (more : List (List ℕ)) (asked : ReplayWords) → is_dashed name ≡ false → replay_words (name ∷ more) ≡ Some asked
+    → asked.file ≡ name
 file_of_replay name more asked plain is = option_and_then_some replay_taken (taken_by replay_form (name ∷ more)) asked is (λ taken by taken_is.
     option_and_then_some _ (file_name_of (plain_of taken 0)) asked taken_is (λ file named file_is.
     let made = made_of _ (file_name_of (plain_of taken 1)) asked file_is in
@@ -171,7 +176,8 @@ module _ (words : List (List ℕ)) (number : ℕ) (before after : State) (h : Ru
   runs_so ws = Runs (request_of ws) number before after
 
   of_verify : (Such : List ℕ → File → Type 0) (name : List ℕ) (more : List (List ℕ)) → Asks ended (codes "verify") name more → number ≤ 2
-      → ((asked : VerifyWords) → verify_words (name ∷ more) ≡ Some asked → (view : View) (r : ReportHolds number view asked before.out.written after.out.written)
+      → ((asked : VerifyWords) → verify_words (name ∷ more) ≡ Some asked
+      → (view : View) (r : ReportHolds number view asked before.out.written after.out.written)
       → Such (report_of false asked.json r.file r.pick r.sample r.verdicts) r.file)
       → Says Such ended name
   of_verify Such name more asks low such =
@@ -181,7 +187,8 @@ module _ (words : List (List ℕ)) (number : ℕ) (before after : State) (h : Ru
       let is : verify_of words ≡ Some asked = ap verify_of asks.are ∙ found.1 in
       let Of : View → Type 0 = λ view. ReportHolds number view asked before.out.written after.out.written in
       subst (Says Such ended) (file_of_verify name more asked asks.plain found.1)
-      (of_calls ended Of (λ view sees r. says ended Such asked.file view sees r.file r.is_file (report_of false asked.json r.file r.pick r.sample r.verdicts) r.wrote
+      (of_calls ended Of (λ view sees r. says ended Such asked.file view sees r.file r.is_file (report_of false asked.json r.file r.pick r.sample r.verdicts)
+      r.wrote
       (such asked found.1 view r))
       (gives_some words number before after h (verify_meaning asked) (as_verify words number before after h asked is) low Of
       (λ view made a. reported words number before after h asked view made a)))
@@ -213,7 +220,8 @@ module _ (words : List (List ℕ)) (number : ℕ) (before after : State) (h : Ru
       let is : rest_of words ≡ Some asked = ap rest_of asks.are ∙ found.1 in
       let Of : View → Type 0 = λ view. RestReportHolds number view asked before.out.written after.out.written in
       subst (Says Such ended) (file_of_rest name more asked asks.plain found.1)
-      (of_calls ended Of (λ view sees r. says ended Such asked.file view sees r.file r.is_file (report_of true asked.json r.file r.pick r.sample r.verdicts) r.wrote
+      (of_calls ended Of (λ view sees r. says ended Such asked.file view sees r.file r.is_file (report_of true asked.json r.file r.pick r.sample r.verdicts)
+      r.wrote
       (such asked is view r))
       (gives_some words number before after h (rest_meaning asked) (as_rest words number before after h asked is) low Of
       (λ view made a. at_rest words number before after h asked view made a)))
@@ -238,7 +246,8 @@ module _ (words : List (List ℕ)) (number : ℕ) (before after : State) (h : Ru
       (λ view made a. rest_checked words number before after h asked.file asked.other asked.silent asked.options view made a)))
 
   -- RUN is seen, too
-  run_occurs : (view : View) → Sees ended view → (name run_name : List ℕ) (json : Bool) (r : ReplayHolds view name run_name json before.out.written after.out.written)
+  run_occurs : (view : View) → Sees ended view → (name run_name : List ℕ) (json : Bool)
+      (r : ReplayHolds view name run_name json before.out.written after.out.written)
       → RunOccurs ended run_name r.file
   run_occurs view sees name run_name json r =
       let s = r.is_run.means in

@@ -1,5 +1,9 @@
 -- the files that a command puts are not its FILE, and not each other
-use Rattle.ta_program.proofs.Common.{Budget, ◌≡◌, ◌≢◌, ◌∙◌, ℕ, Bool, true, false, ◌&&◌, not, List, [], ◌∷◌, length, Option, None, Some, refl, sym, subst, rules, option_and_then_some, if◌then◌else◌, bytes_eq, rest_form, rest_of, rest_taken, rest_words, SearchWords, search_form, search_of, search_taken, search_words, are_same, budget_of, filled_of, file_name_of, out_of, VerifyWords, verify_form, verify_of, verify_taken, verify_words, Taken, behind_name, plain_of, taken_by, option_value, codes, is_some, nat_lt, option_map, RestWords, quiet_names}
+use Rattle.ta_program.proofs.Common.{Budget, ◌≡◌, ◌≢◌, ◌∙◌, ℕ, Bool, true, false, ◌&&◌, not, List, [], ◌∷◌, length, Option, None, Some, refl, sym, subst, rules}
+use Rattle.ta_program.proofs.Common.{option_and_then_some, if◌then◌else◌, bytes_eq, rest_form, rest_of, rest_taken, rest_words, SearchWords, search_form}
+use Rattle.ta_program.proofs.Common.{search_of, search_taken, search_words, are_same, budget_of, filled_of, file_name_of, out_of, VerifyWords, verify_form}
+use Rattle.ta_program.proofs.Common.{verify_of, verify_taken, verify_words, Taken, behind_name, plain_of, taken_by, option_value, codes, is_some, nat_lt}
+use Rattle.ta_program.proofs.Common.{option_map, RestWords, quiet_names}
 use Rattle.std.proofs.lemmas.Option.{cond_some, none-some}
 use Rattle.ta_base.proofs.Booleans.{not_chosen}
 use Rattle.ta_base.proofs.Options.{some_where}
@@ -9,7 +13,8 @@ abbrev pub Apart : Option (List ℕ) → Option (List ℕ) → Type 0
 Apart one two = (name other : List ℕ) → one ≡ Some name → two ≡ Some other → name ≢ other
 
 -- the name of OUT is not that of FILE
-by_test : (some differs : Bool) (file given : List ℕ) → (differs ≡ true → given ≢ file) → (result : Option (List ℕ)) → (if some && differs then Some (Some given) else None) ≡ Some result → Apart (Some file) result
+by_test : (some differs : Bool) (file given : List ℕ) → (differs ≡ true → given ≢ file) → (result : Option (List ℕ))
+    → (if some && differs then Some (Some given) else None) ≡ Some result → Apart (Some file) result
 by_test true true file given apart result is = λ name other first second same.
     let a : file ≡ name = cc in
     let b : given ≡ other = cc in
@@ -22,7 +27,9 @@ file_apart file None result is = λ name other first second. absurd (cc)
 file_apart file (Some given) result is = by_test (nat_lt 0 (length given)) (not (bytes_eq given file)) file given (λ differs same. search rules) result is
 
 -- what the words of a command say of what they ask for, where they are behind its name
-behind : {W : Type 0} (Such : W → Type 0) (name : List ℕ) (read : List (List ℕ) → Option W) → ((words : List (List ℕ)) (asked : W) → read words ≡ Some asked → Such asked) → (words : List (List ℕ)) (asked : W) → behind_name name read words ≡ Some asked → Such asked
+behind : {W : Type 0} (Such : W → Type 0) (name : List ℕ) (read : List (List ℕ) → Option W)
+    → ((words : List (List ℕ)) (asked : W) → read words ≡ Some asked → Such asked) → (words : List (List ℕ)) (asked : W)
+    → behind_name name read words ≡ Some asked → Such asked
 behind Such name read such [] asked is = absurd (cc)
 behind Such name read such (word ∷ words) asked is = such words asked (some_where (bytes_eq word name) (read words) asked is).1
 
@@ -35,8 +42,10 @@ abbrev budget_with : ℕ → Taken → Budget
 budget_with nodes taken = record { nodes = nodes; lazy = is_some (option_value taken 3) }
 
 made_differs :
-    (file : List ℕ) (given : Option (List ℕ)) (budget : Budget) (json all : Bool) (pattern : Option (List ℕ)) (out : Option (Option (List ℕ))) → out_of file given ≡ out
-    → (asked : VerifyWords) → option_map (λ o. record { file = file; budget = budget; out = o; json = json; pattern = pattern; all = all }) out ≡ Some asked → Differs asked
+    (file : List ℕ) (given : Option (List ℕ)) (budget : Budget) (json all : Bool) (pattern : Option (List ℕ)) (out : Option (Option (List ℕ)))
+    → out_of file given ≡ out
+    → (asked : VerifyWords) → option_map (λ o. record { file = file; budget = budget; out = o; json = json; pattern = pattern; all = all }) out ≡ Some asked
+    → Differs asked
 made_differs file given budget json all pattern None took asked is = absurd (none-some asked is)
 made_differs file given budget json all pattern (Some out) took asked is =
     let words : VerifyWords = record { file = file; budget = budget; out = out; json = json; pattern = pattern; all = all } in
@@ -51,7 +60,8 @@ taken_differs taken asked is =
     (out_of file (option_value taken 1)) refl asked nodes_is))
 
 verify_differs : (words : List (List ℕ)) (asked : VerifyWords) → verify_words words ≡ Some asked → Differs asked
-verify_differs words asked is = option_and_then_some verify_taken (taken_by verify_form words) asked is (λ taken by taken_is. taken_differs taken asked taken_is)
+verify_differs words asked is = option_and_then_some verify_taken (taken_by verify_form words) asked is
+    (λ taken by taken_is. taken_differs taken asked taken_is)
 
 pub out_differs : (words : List (List ℕ)) (asked : VerifyWords) (out : List ℕ) → verify_of words ≡ Some asked → asked.out ≡ Some out → asked.file ≢ out
 out_differs words asked out is given = behind Differs (codes "verify") verify_words verify_differs words asked is asked.file out refl given
@@ -105,10 +115,13 @@ pub record AllApart (asked : SearchWords) : Type 0 where
   pub out : Apart (Some asked.file) asked.out
   pub filled : Apart (Some asked.file) asked.filled
 
-by_filled : (file : List ℕ) (budget : Budget) (first out given : Option (List ℕ)) → out_of file first ≡ Some out → (filled : Option (Option (List ℕ))) → filled_of file out given ≡ filled → (asked : SearchWords) → option_map (λ f. record { file = file; budget = budget; out = out; filled = f }) filled ≡ Some asked → AllApart asked
-by_filled file budget first out given took None from asked is = absurd (cc)
-by_filled file budget first out given took (Some filled) from asked is =
-    let words : SearchWords = record { file = file; budget = budget; out = out; filled = filled } in
+by_filled :
+    (file : List ℕ) (budget : Budget) (json : Bool) (first out given : Option (List ℕ)) → out_of file first ≡ Some out → (filled : Option (Option (List ℕ)))
+    → filled_of file out given ≡ filled → (asked : SearchWords)
+    → option_map (λ f. record { file = file; budget = budget; out = out; filled = f; json = json }) filled ≡ Some asked → AllApart asked
+by_filled file budget json first out given took None from asked is = absurd (cc)
+by_filled file budget json first out given took (Some filled) from asked is =
+    let words : SearchWords = record { file = file; budget = budget; out = out; filled = filled; json = json } in
     let same : words ≡ asked = cc in
     let by = not_chosen (are_same out given) None (out_of file given) (Some filled) from (none-some filled) in
     subst AllApart same (record {
@@ -121,7 +134,8 @@ taken_apart : (taken : Taken) (asked : SearchWords) → search_taken taken ≡ S
 taken_apart taken asked is = option_and_then_some _ (file_name_of (plain_of taken 0)) asked is (λ file named file_is.
     option_and_then_some _ (budget_of (option_value taken 0)) asked file_is (λ nodes counted nodes_is.
     option_and_then_some _ (out_of file (option_value taken 1)) asked nodes_is (λ out took out_is.
-    by_filled file (record { nodes = nodes; lazy = is_some (option_value taken 3) }) (option_value taken 1) out (option_value taken 2) took (filled_of file out (option_value taken 2)) refl asked out_is)))
+    by_filled file (record { nodes = nodes; lazy = is_some (option_value taken 3) }) (is_some (option_value taken 4)) (option_value taken 1) out
+    (option_value taken 2) took (filled_of file out (option_value taken 2)) refl asked out_is)))
 
 search_apart : (words : List (List ℕ)) (asked : SearchWords) → search_words words ≡ Some asked → AllApart asked
 search_apart words asked is = option_and_then_some search_taken (taken_by search_form words) asked is (λ taken by taken_is. taken_apart taken asked taken_is)

@@ -5,9 +5,9 @@ use Rattle.ta_replay.specs.declared.run.Run.{Run}
 use Rattle.ta_replay.specs.RunText.{run_text}
 use Rattle.ta_shelf.specs.Put.{Told}
 use Rattle.ta_shelf.specs.Sink.{with_text}
-use Rattle.ta_shell.specs.Commands.{Meaning}
-use Rattle.ta_shell.specs.Sights.{View, in_files}
-use Rattle.ta_shell.specs.Stages.{FileMeans, Kind, Writes, after, finds, replies}
+use Rattle.ta_shelf.specs.Commands.{Meaning}
+use Rattle.ta_shelf.specs.Sights.{View, in_files}
+use Rattle.ta_shelf.specs.Stages.{FileMeans, Kind, Writes, after, finds, replies}
 use Rattle.ta_smt.specs.declared.fault.AdmitFault.{AdmitFault}
 use Rattle.ta_smt.specs.declared.fault.AdmitFault.TheVariants as fault
 use Rattle.ta_smt.specs.Admit.{Admits, AdmitFaultOf, AskedWord as Word}
@@ -38,7 +38,14 @@ pub record AdmitRefuses (file : File) (word : Word) (bytes : List ℕ) (found : 
 
 -- VALUES, for a schema of a file: bytes that give a run
 abbrev pub values_kind : File → Word → Kind Run AdmitFault
-values_kind file word = record { limit = VALUES; means = Admits file word; at_fault = AdmitRefuses file word; broken = λ bytes fault. ⊥; words = admit_fault_text }
+values_kind file word = record {
+  limit = VALUES;
+  means = Admits file word;
+  at_fault = AdmitRefuses file word;
+  broken = λ bytes fault. ⊥;
+  words =
+      admit_fault_text;
+}
 
 -- VALUES for a schema of a file is read, and the text of its run is written
 abbrev pub values_meaning : List ℕ → File → Word → Meaning
@@ -46,7 +53,8 @@ values_meaning values_name file word = after (values_kind file word) values_name
 
 -- the file has the complete schema; then VALUES is read
 abbrev pub run_meaning : List ℕ → Spelling → List ℕ → File → Meaning
-run_meaning file_name spelled values_name file = finds (IsWholeWordOf file spelled) (WordHinders (WholeFaultOf file spelled) file_name) [] (values_meaning values_name file)
+run_meaning file_name spelled values_name file = finds (IsWholeWordOf file spelled) (WordHinders (WholeFaultOf file spelled) file_name) []
+    (values_meaning values_name file)
 
 -- FILE and a schema, and the name of VALUES
 pub record AdmitAsked : Type 0 where

@@ -12,9 +12,9 @@ use Rattle.ta_meaning.specs.Reading.{Legal}
 use Rattle.ta_report.specs.Report.{verdict_line}
 use Rattle.ta_report.specs.declared.verdict.Verdict.{Verdict}
 use Rattle.ta_shelf.specs.Sink.{with_text}
-use Rattle.ta_shell.specs.Commands.{Meaning}
-use Rattle.ta_shell.specs.Stages.{Writes, replies}
-use Rattle.ta_shell.specs.declared.answer.Answer.{Answer}
+use Rattle.ta_shelf.specs.Commands.{Meaning}
+use Rattle.ta_shelf.specs.Stages.{Writes, replies}
+use Rattle.ta_shelf.specs.declared.answer.Answer.{Answer}
 use Rattle.ta_syntax.specs.Grammar.{file_kinds}
 use Rattle.ta_syntax.specs.Printed.{printed}
 use Rattle.ta_program.specs.Asked.{Asked, ask}

@@ -4,9 +4,9 @@ use Rattle.ta_automaton.specs.declared.file.File.{File}
 use Rattle.ta_check.specs.Certificate.{Certificate}
 use Rattle.ta_report.specs.declared.pick.Pick.{Pick}
 use Rattle.ta_report.specs.declared.verdict.Verdict.{Verdict}
-use Rattle.ta_shell.specs.declared.answer.Put.{Put}
-use Rattle.ta_shell.specs.Lines.{file_line}
-use Rattle.ta_shell.specs.Puts.{put_bytes}
+use Rattle.ta_shelf.specs.declared.answer.Put.{Put}
+use Rattle.ta_shelf.specs.Lines.{file_line}
+use Rattle.ta_shelf.specs.Puts.{put_bytes}
 use Rattle.ta_program.specs.declared.limits.TheConstants.{CERTIFICATE}
 use Rattle.ta_verdict.specs.Certificates.{CertificateOn, safe_among}
 use Rattle.ta_verdict.specs.Verdicts.{AreVerdictsOn}

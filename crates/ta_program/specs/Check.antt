@@ -2,10 +2,10 @@
 use Rattle.std.specs.Prelude.{ℕ, ◌≡◌, List, [], Option, Some, false}
 use Rattle.ta_automaton.specs.declared.file.File.{File}
 use Rattle.ta_shelf.specs.Sink.{with_text}
-use Rattle.ta_shell.specs.Commands.{Meaning}
-use Rattle.ta_shell.specs.Sights.{View}
-use Rattle.ta_shell.specs.Stages.{FileMeans, after, replies}
-use Rattle.ta_claim.specs.declared.claim.Claim.TheVariants as claim
+use Rattle.ta_shelf.specs.Commands.{Meaning}
+use Rattle.ta_shelf.specs.Sights.{View}
+use Rattle.ta_shelf.specs.Stages.{FileMeans, after, replies}
+use Rattle.ta_rest.specs.declared.claim.Claim.TheVariants as claim
 use Rattle.ta_check.specs.Subjects.{claiming}
 use Rattle.ta_program.specs.Asked.{Asked, ask}
 use Rattle.ta_program.specs.CheckWords.{check_words}
@@ -26,11 +26,12 @@ check_asked words = ask (λ asked. Some asked.file) (λ asked. check_meaning ask
 
 -- FILE is legal, CERT is a certificate of it, so each pattern that it proves is safe; the output gained the text that says which patterns
 -- these are, and the status is 2 exactly if all are to be proved and aren't
-pub record CheckHolds (number : ℕ) (view : View) (file_name certificate_name : List ℕ) (options : ProofOptions) (written written' : Option (List ℕ)) : Type 0 where
-  pub file : File
-  pub is_file : IsFile view file_name file
-  pub numbers : List ℕ
-  pub certificate : FileMeans (certificate_kind (claiming claim.Safe file)) view certificate_name numbers
-  pub text : List ℕ
-  pub tells : TellsProofs false file options numbers number text
-  pub wrote : written' ≡ with_text written text
+pub record CheckHolds (number : ℕ) (view : View) (file_name certificate_name : List ℕ) (options : ProofOptions) (written written' : Option (List ℕ)) : Type 0
+  where
+    pub file : File
+    pub is_file : IsFile view file_name file
+    pub numbers : List ℕ
+    pub certificate : FileMeans (certificate_kind (claiming claim.Safe file)) view certificate_name numbers
+    pub text : List ℕ
+    pub tells : TellsProofs false file options numbers number text
+    pub wrote : written' ≡ with_text written text

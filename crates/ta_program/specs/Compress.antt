@@ -16,11 +16,11 @@ use Rattle.ta_replay.specs.TextFaults.{TextFault}
 use Rattle.ta_report.specs.Faults.{run_fault_text}
 use Rattle.ta_shelf.specs.Put.{Told}
 use Rattle.ta_shelf.specs.Sink.{with_text}
-use Rattle.ta_shell.specs.declared.answer.Answer.{Answer}
-use Rattle.ta_shell.specs.Commands.{Meaning}
-use Rattle.ta_shell.specs.Lines.{file_line}
-use Rattle.ta_shell.specs.Sights.{HasBytes, View, in_files}
-use Rattle.ta_shell.specs.Stages.{FileMeans, Kind, Writes, after, replies}
+use Rattle.ta_shelf.specs.declared.answer.Answer.{Answer}
+use Rattle.ta_shelf.specs.Commands.{Meaning}
+use Rattle.ta_shelf.specs.Lines.{file_line}
+use Rattle.ta_shelf.specs.Sights.{HasBytes, View, in_files}
+use Rattle.ta_shelf.specs.Stages.{FileMeans, Kind, Writes, after, replies}
 use Rattle.ta_program.specs.declared.limits.TheConstants.{RUN}
 use Rattle.ta_program.specs.Asked.{Asked, ask}
 use Rattle.ta_program.specs.Kinds.{IsFile, file_kind}

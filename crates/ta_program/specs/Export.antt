@@ -2,11 +2,11 @@
 use Rattle.std.specs.Prelude.{ℕ, ℤ, ◌≡◌, ◌↔◌, ◌++◌, List, [], codes, decimal, Option, Some, option_and_then}
 use Rattle.ta_automaton.specs.declared.file.File.{File}
 use Rattle.ta_shelf.specs.Sink.{with_text}
-use Rattle.ta_shell.specs.declared.answer.Answer.{Answer}
-use Rattle.ta_shell.specs.Commands.{Meaning}
-use Rattle.ta_shell.specs.Lines.{file_line}
-use Rattle.ta_shell.specs.Sights.{View}
-use Rattle.ta_shell.specs.Stages.{Writes, after, finds, replies}
+use Rattle.ta_shelf.specs.declared.answer.Answer.{Answer}
+use Rattle.ta_shelf.specs.Commands.{Meaning}
+use Rattle.ta_shelf.specs.Lines.{file_line}
+use Rattle.ta_shelf.specs.Sights.{View}
+use Rattle.ta_shelf.specs.Stages.{Writes, after, finds, replies}
 use Rattle.ta_smt.specs.declared.fault.WordFault.{WordFault}
 use Rattle.ta_smt.specs.declared.fault.WordFault.TheVariants as fault
 use Rattle.ta_smt.specs.Admit.{AskedWord as Word}
@@ -40,7 +40,8 @@ pub record SaysSystem (file : File) (word : Word) (answer : Answer) : Type 0 whe
 
 -- the file has the schema, and the text of its system is written
 abbrev pub system_meaning : List ℕ → Spelling → File → Meaning
-system_meaning file_name spelled file = finds (IsWordOf file spelled) (WordHinders (WordFaultOf file spelled) file_name) [] (λ word. replies [] (SaysSystem file word))
+system_meaning file_name spelled file = finds (IsWordOf file spelled) (WordHinders (WordFaultOf file spelled) file_name) []
+    (λ word. replies [] (SaysSystem file word))
 
 -- FILE is read, then the schema is looked up
 abbrev pub export_meaning : WordAsked → Meaning

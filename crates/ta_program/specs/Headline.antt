@@ -19,9 +19,9 @@ use Rattle.ta_report.specs.Printed.{HasLine, told_of}
 use Rattle.ta_shelf.specs.Calls.{Event, Grew}
 use Rattle.ta_shelf.specs.Put.{Told}
 use Rattle.ta_shelf.specs.Sink.{with_text}
-use Rattle.ta_shell.specs.Making.{Acts}
-use Rattle.ta_shell.specs.Puts.{may_put}
-use Rattle.ta_shell.specs.Sights.{View, Whole, seen}
+use Rattle.ta_shelf.specs.OutputCalls.{Acts}
+use Rattle.ta_shelf.specs.Puts.{may_put}
+use Rattle.ta_shelf.specs.Sights.{View, Whole, seen}
 use Rattle.ta_rest.specs.Rest.{RestSafe}
 use Rattle.ta_program.specs.CheckWords.{CheckWords, ReplayWords, check_of, replay_of}
 use Rattle.ta_program.specs.PatternOption.{EachPicked, HasName}

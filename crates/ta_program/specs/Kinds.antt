@@ -17,8 +17,8 @@ use Rattle.ta_replay.specs.Shows.{Shows}
 use Rattle.ta_replay.specs.Replays.{ReplayStays}
 use Rattle.ta_replay.specs.ReplayFaults.{ReplayFault}
 use Rattle.ta_report.specs.Faults.{cert_fault_text, file_fault_text, run_fault_text}
-use Rattle.ta_shell.specs.Sights.{View}
-use Rattle.ta_shell.specs.Stages.{FileMeans, Kind}
+use Rattle.ta_shelf.specs.Sights.{View}
+use Rattle.ta_shelf.specs.Stages.{FileMeans, Kind}
 use Rattle.ta_program.specs.declared.limits.TheConstants.{CERTIFICATE, FILE, RUN}
 
 -- FILE: bytes that mean an automaton with patterns, or have a first error
@@ -41,7 +41,8 @@ pub record CertificateFault (subject : Subject) (bytes : List ℕ) (found : Cert
 
 -- CERT, for what is claimed of a file; reading ends at an error that each longer text keeps
 abbrev pub certificate_kind : Subject → Kind (List ℕ) CertFault
-certificate_kind subject = record { limit = CERTIFICATE; means = Proves subject; at_fault = CertificateFault subject; broken = IsLastingFor subject; words = cert_fault_text }
+certificate_kind subject = record
+    { limit = CERTIFICATE; means = Proves subject; at_fault = CertificateFault subject; broken = IsLastingFor subject; words = cert_fault_text }
 
 -- the bytes are the text of a run that shows its pattern in a replay that stays in range
 pub record ShowsRun (file : File) (bytes : List ℕ) (run : Run) : Type 0 where

@@ -14,11 +14,11 @@ use Rattle.ta_search.specs.declared.outcome.SearchEnd.{SearchEnd}
 use Rattle.ta_search.specs.declared.template.Template.{Template}
 use Rattle.ta_search.specs.Filling.{filled_text}
 use Rattle.ta_search.specs.Searching.{LastIsFound}
-use Rattle.ta_search.specs.SearchText.{search_text}
+use Rattle.ta_search.specs.SearchJson.{search_told}
 use Rattle.ta_shelf.specs.Put.{Told}
 use Rattle.ta_shelf.specs.Sink.{with_text}
-use Rattle.ta_shell.specs.Ends.{State, Tells}
-use Rattle.ta_shell.specs.Sights.{in_files}
+use Rattle.ta_shelf.specs.Ends.{State, Tells}
+use Rattle.ta_shelf.specs.Sights.{in_files}
 use Rattle.ta_program.specs.Admit.{AdmitAsked, admit_of}
 use Rattle.ta_program.specs.Asked.{Runs}
 use Rattle.ta_verdict.specs.Certificates.{safe_among}
@@ -48,7 +48,8 @@ pub record PrintsReplayed (json : Bool) (told : Told) (name : List ℕ) (before 
   pub file : File
   pub text : List ℕ
   pub gained : after.out.written ≡ with_text before.out.written text
-  pub replayed : (number : ℕ) (p : Pattern) → slice_get file.patterns number ≡ Some p → TellsUnsafe false json p.name text → (bytes : List ℕ) → TellsRun false json p.name bytes text → IsReplayed told name bytes
+  pub replayed : (number : ℕ) (p : Pattern) → slice_get file.patterns number ≡ Some p → TellsUnsafe false json p.name text → (bytes : List ℕ)
+      → TellsRun false json p.name bytes text → IsReplayed told name bytes
 
 -- what `verify FILE` prints as a run with status 0, 1 or 2 over known files, `replay` shows
 abbrev pub PrintedRunsAreReplayed : Type 0
@@ -63,7 +64,8 @@ pub record TellsReplayed (telling : Telling) (told : Told) (name : List ℕ) (be
   pub file : File
   pub text : List ℕ
   pub gained : after.out.written ≡ with_text before.out.written text
-  pub replayed : (number : ℕ) (p : Pattern) → slice_get file.patterns number ≡ Some p → telling.unsafe_ p.name text → (bytes : List ℕ) → telling.run p.name bytes text → IsReplayed told name bytes
+  pub replayed : (number : ℕ) (p : Pattern) → slice_get file.patterns number ≡ Some p → telling.unsafe_ p.name text → (bytes : List ℕ)
+      → telling.run p.name bytes text → IsReplayed told name bytes
 
 -- what `rest FILE` prints as a run with status 0, 1 or 2 over known files, `replay` shows
 abbrev pub PrintedRestRunsAreReplayed : Type 0
@@ -119,7 +121,8 @@ SaysOrFails text number before after = ((number ≡ 0) × (after.out.written ≡
 
 -- a first run reported a sample and verdicts on picked patterns of FILE, and a second run said that exactly the patterns are proved that are safe by these
 -- verdicts; or it ended with 6 or 7
-pub record SaysTheSame (report : File → Pick → ReportSample → List Verdict → List ℕ) (proved : File → List ℕ → List ℕ) (told : Told) (name : List ℕ) (before after : State) (number : ℕ) (begun ended : State) : Type 0 where
+pub record SaysTheSame (report : File → Pick → ReportSample → List Verdict → List ℕ) (proved : File → List ℕ → List ℕ) (told : Told) (name : List ℕ)
+    (before after : State) (number : ℕ) (begun ended : State) : Type 0 where
   pub file : File
   pub is_file : IsFile (in_files told) name file
   pub pick : Pick
@@ -153,11 +156,11 @@ WrittenAtRestIsAccepted =
 
 -- a first run reported the search of FILE, a template, and its last values were found; OUT2 holds FILE's body with these values, which
 -- means a file; and a second run said that each of its patterns is proved, or it ended with 6 or 7
-pub record ProvesFound (told : Told) (name filled : List ℕ) (before after : State) (number : ℕ) (begun ended : State) : Type 0 where
+pub record ProvesFound (told : Told) (json : Bool) (name filled : List ℕ) (before after : State) (number : ℕ) (begun ended : State) : Type 0 where
   pub template : Template
   pub is_template : IsTemplate (in_files told) name template
   pub end : SearchEnd
-  pub reported : after.out.written ≡ with_text before.out.written (search_text template end)
+  pub reported : after.out.written ≡ with_text before.out.written (search_told json template end)
   pub last : LastIsFound template end
   pub held : told filled ≡ Some (filled_text template last.last.values)
   pub is_file : IsFile (in_files told) filled last.found.file
@@ -173,4 +176,4 @@ FoundIsAccepted =
     → (told : Told) → after.shelf.files ≡ Some told
     → (again : List (List ℕ)) → check_of again ≡ Some (record { file = filled; other = out; options = no_options })
     → (second : ℕ) (begun ended : State) → begun.shelf.files ≡ Some told → Runs (request_of again) second begun ended
-    → ProvesFound told asked.file filled before after second begun ended
+    → ProvesFound told asked.json asked.file filled before after second begun ended

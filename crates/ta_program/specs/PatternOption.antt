@@ -7,10 +7,10 @@ use Rattle.ta_automaton.specs.declared.pattern.Pattern.{Pattern}
 use Rattle.ta_report.specs.declared.pick.Pick.{Pick}
 use Rattle.ta_report.specs.declared.pick.Pick.TheVariants.{All, One}
 use Rattle.ta_shelf.specs.Put.{Told}
-use Rattle.ta_shell.specs.Commands.{Meaning}
-use Rattle.ta_shell.specs.Lines.{file_line}
-use Rattle.ta_shell.specs.Sights.{in_files}
-use Rattle.ta_shell.specs.Stages.{finds}
+use Rattle.ta_shelf.specs.Commands.{Meaning}
+use Rattle.ta_shelf.specs.Lines.{file_line}
+use Rattle.ta_shelf.specs.Sights.{in_files}
+use Rattle.ta_shelf.specs.Stages.{finds}
 use Rattle.ta_smt.specs.Named.{IsNamed}
 use Rattle.ta_program.specs.declared.limits.TheConstants.{FILE}
 use Rattle.ta_program.specs.Kinds.{IsFile}

@@ -5,12 +5,12 @@ use Rattle.ta_automaton.specs.Runs as runs
 use Rattle.ta_shelf.specs.Calls.{Event, Grew}
 use Rattle.ta_shelf.specs.Counts.{Faulted}
 use Rattle.ta_shelf.specs.Put.{Told}
-use Rattle.ta_shell.specs.Commands.{Exact}
-use Rattle.ta_shell.specs.Ends.{ShelfState, SinkFaltered, Spares, State, Telling, Tells}
-use Rattle.ta_shell.specs.Making.{Acts, AreOfStages, AreStaging}
-use Rattle.ta_shell.specs.Puts.{KeptBut, may_put}
-use Rattle.ta_shell.specs.Sights.{in_files, seen}
-use Rattle.ta_shell.specs.Sparing.{Differ}
+use Rattle.ta_shelf.specs.Commands.{Exact}
+use Rattle.ta_shelf.specs.Ends.{ShelfState, SinkFaltered, Spares, State, Telling, Tells}
+use Rattle.ta_shelf.specs.OutputCalls.{Acts, AreOfStages, AreStaging}
+use Rattle.ta_shelf.specs.Puts.{KeptBut, may_put}
+use Rattle.ta_shelf.specs.Sights.{in_files, seen}
+use Rattle.ta_shelf.specs.Sparing.{Differ}
 use Rattle.ta_program.specs.Asked.{Asked, IsNoCommand, usage_line}
 use Rattle.ta_program.specs.Asked.Asked.{Command, NoCommand}
 use Rattle.ta_program.specs.Admit.{AdmitAsked, AdmitHolds, IsAdmitted, admit_of}
@@ -119,9 +119,10 @@ pub record RestProves (number : ℕ) (words : List (List ℕ)) (files : Option T
   pub every : (asked : RestCheckWords) → rest_check_of words ≡ Some asked → asked.options.all ≡ true → number ≡ 0 → Grew (λ read. EveryPattern (RestSafeBut asked.silent) (seen files read) asked.file) calls calls'
 
 -- `search FILE` with status 0, 1 or 2, whatever its options: FILE is a template, and the output gained the text of the search for values of
--- its holes: its vectors were tried in order, each is listed once with an outcome that holds, up to the first that is Safe. With 0 every
--- pattern of the last filled text is safe and some parameters have an initial configuration; OUT2 holds that text, and OUT a certificate of
--- it, which `check` accepts as one of all its patterns. With 1 and 2 every file is unchanged; 2 means that some outcome is unknown
+-- its holes, in lines or in JSON: its vectors were tried in order, each is listed once with an outcome that holds, up to the first that is
+-- Safe. With 0 every pattern of the last filled text is safe and some parameters have an initial configuration; OUT2 holds that text, and
+-- OUT a certificate of it, which `check` accepts as one of all its patterns. With 1 and 2 every file is unchanged; 2 means that some outcome
+-- is unknown
 abbrev pub Searches : ℕ → List (List ℕ) → Option Told → Option Told → List Event → List Event → Option (List ℕ) → Option (List ℕ) → Type 0
 Searches number words files files' calls calls' written written' =
     (asked : SearchWords) → search_of words ≡ Some asked → number ≤ 2
@@ -129,7 +130,7 @@ Searches number words files files' calls calls' written written' =
 
 -- `show FILE` with status 0: FILE is legal, and the output gained the text of the file that its bytes mean, and of the orders of its guards
 -- that are found; and behind it the unknowns of its patterns' nodes without facts, by name. No two files have the same text, and none
--- begins with that of another (`shows_differ` of ta_show); the names are those of the unknowns (`unknowns_are_named`)
+-- begins with that of another (`shows_differ` of ta_report); the names are those of the unknowns (`unknowns_are_named`)
 abbrev pub ShowsFile : ℕ → List (List ℕ) → Option Told → List Event → List Event → Option (List ℕ) → Option (List ℕ) → Type 0
 ShowsFile number words files calls calls' written written' =
     (name : List ℕ) → show_of words ≡ Some name → number ≡ 0
@@ -147,8 +148,8 @@ SafeAsShown number words files calls calls' =
 -- safe. For `rest` and `rest-check`, by lines or in JSON: of a
 -- pattern that is `rest safe` or `rest proved` no run comes to rest with its last event at the end, and it occurs for ever in no fair
 -- infinite run; of one that is `rest unsafe` the printed run comes to rest so. With `--silent NAMES` the same holds of quiet rest, and of
--- runs that are fair where these are silent. With status 0, 1 or 2 of `search` each outcome that it lists is so of the filled text, and its
--- last line is `found` exactly with 0; with status 0 or 2 of `bench` the pattern of its automaton is safe
+-- runs that are fair where these are silent. With status 0, 1 or 2 of `search`, by lines or in JSON, each outcome that it lists is so of the
+-- filled text, and it ends with `found` exactly with 0; with status 0 or 2 of `bench` the pattern of its automaton is safe
 pub record PrintedHolds (number : ℕ) (words : List (List ℕ)) (files : Option Told) (calls calls' : List Event) (written written' : Option (List ℕ)) : Type 0 where
   pub safe : (asked : VerifyWords) → verify_of words ≡ Some asked → number ≤ 2 → Acts (may_put asked.out) (λ read made. EachToldSafe runs.Safe false asked.json (seen files read) asked.file written written') calls calls'
   pub unsafe_ : (asked : VerifyWords) → verify_of words ≡ Some asked → number ≤ 2 → Acts (may_put asked.out) (λ read made. EachPrintedUnsafe runs.Occurs (telling_of false asked.json) (seen files read) asked.file written written') calls calls'
@@ -158,7 +159,7 @@ pub record PrintedHolds (number : ℕ) (words : List (List ℕ)) (files : Option
   pub rest_proved : (asked : RestCheckWords) → rest_check_of words ≡ Some asked → number ≤ 2 → Grew (λ read. EachToldProved (RestSafeBut asked.silent) asked.options.json true (seen files read) asked.file written written') calls calls'
   pub rest_fair : (asked : RestWords) → rest_of words ≡ Some asked → number ≤ 2 → Acts (may_put asked.out) (λ read made. EachToldSafe (FairlySafeBut asked.silent) true asked.json (seen files read) asked.file written written') calls calls'
   pub rest_proved_fair : (asked : RestCheckWords) → rest_check_of words ≡ Some asked → number ≤ 2 → Grew (λ read. EachToldProved (FairlySafeBut asked.silent) asked.options.json true (seen files read) asked.file written written') calls calls'
-  pub tried : (asked : SearchWords) → search_of words ≡ Some asked → number ≤ 2 → Acts (found_names asked) (λ read made. EachTried number (seen files read) asked.file written written') calls calls'
+  pub tried : (asked : SearchWords) → search_of words ≡ Some asked → number ≤ 2 → Acts (found_names asked) (λ read made. EachTried number (seen files read) asked.json asked.file written written') calls calls'
   pub benched : (k : ℕ) → bench_of words ≡ Some k → number ≤ 2 → FamilySafe k
 
 -- 5 exactly if the words are no command's

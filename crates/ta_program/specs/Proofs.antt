@@ -10,8 +10,8 @@ use Rattle.ta_report.specs.Check.{is_proved, proofs_text}
 use Rattle.ta_report.specs.CheckJson.{proofs_of}
 use Rattle.ta_report.specs.declared.verdict.ReportSample.{ReportSample}
 use Rattle.ta_report.specs.declared.verdict.ReportSample.TheVariants as sample
-use Rattle.ta_shell.specs.Sights.{View}
-use Rattle.ta_shell.specs.declared.answer.Answer.{Answer}
+use Rattle.ta_shelf.specs.Sights.{View}
+use Rattle.ta_shelf.specs.declared.answer.Answer.{Answer}
 use Rattle.ta_verdict.specs.Verdicts.{IsSample}
 use Rattle.ta_program.specs.Headline.{HoldsFile}
 use Rattle.ta_program.specs.declared.proof_options.ProofOptions.{ProofOptions}

@@ -13,9 +13,9 @@ use Rattle.ta_report.specs.declared.verdict.Verdict.{Verdict}
 use Rattle.ta_shelf.specs.Calls.{Event}
 use Rattle.ta_shelf.specs.Put.{Told}
 use Rattle.ta_shelf.specs.Sink.{with_text}
-use Rattle.ta_shell.specs.Making.{Acts}
-use Rattle.ta_shell.specs.Puts.{may_put}
-use Rattle.ta_shell.specs.Sights.{View, seen}
+use Rattle.ta_shelf.specs.OutputCalls.{Acts}
+use Rattle.ta_shelf.specs.Puts.{may_put}
+use Rattle.ta_shelf.specs.Sights.{View, seen}
 use Rattle.ta_verdict.specs.Rest.Budgets.{resting}
 use Rattle.ta_verdict.specs.Rest.Verdicts.{RestVerdictHolds}
 use Rattle.ta_verdict.specs.Verdicts.{IsSample, VerdictHolds}

@@ -9,13 +9,13 @@ use Rattle.ta_report.specs.Telling.{report_of}
 use Rattle.ta_shelf.specs.Calls.{Put}
 use Rattle.ta_shelf.specs.Put.{Told, WhereTold}
 use Rattle.ta_shelf.specs.Sink.{with_text}
-use Rattle.ta_shell.specs.declared.answer.Answer.{Answer}
-use Rattle.ta_shell.specs.Commands.{Meaning}
-use Rattle.ta_shell.specs.Making.{TellsFile}
-use Rattle.ta_shell.specs.Puts.{HoldsText, may_put}
-use Rattle.ta_shell.specs.Sights.{View}
-use Rattle.ta_shell.specs.Sparing.{spared}
-use Rattle.ta_shell.specs.Stages.{settles}
+use Rattle.ta_shelf.specs.declared.answer.Answer.{Answer}
+use Rattle.ta_shelf.specs.Commands.{Meaning}
+use Rattle.ta_shelf.specs.OutputCalls.{TellsFile}
+use Rattle.ta_shelf.specs.Puts.{HoldsText, may_put}
+use Rattle.ta_shelf.specs.Sights.{View}
+use Rattle.ta_shelf.specs.Sparing.{spared}
+use Rattle.ta_shelf.specs.Stages.{settles}
 use Rattle.ta_program.specs.declared.limits.TheConstants.{CERTIFICATE}
 use Rattle.ta_verdict.specs.Certificates.{CertificateOn, safe_among}
 use Rattle.ta_program.specs.Certified.{HindersCertificate, PutsCertificate}
@@ -68,7 +68,8 @@ pub record ReportHolds (number : ℕ) (view : View) (asked : VerifyWords) (writt
 
 -- the report holds; OUT holds the certificate of the patterns that it calls safe, every other file is unchanged, and the calls put exactly
 -- this text in the place of OUT, whole; the text is a certificate of FILE that proves exactly these patterns, so `check` accepts it
-pub record CertificateStands (number : ℕ) (view : View) (asked : VerifyWords) (out : List ℕ) (files files' : Option Told) (written written' : Option (List ℕ)) (made : List Put) : Type 0 where
+pub record CertificateStands (number : ℕ) (view : View) (asked : VerifyWords) (out : List ℕ) (files files' : Option Told) (written written' : Option (List ℕ))
+    (made : List Put) : Type 0 where
   pub report : ReportHolds number view asked written written'
   pub text : List ℕ
   pub certificate : CertificateOn report.file report.pick asked.budget report.verdicts text

@@ -14,14 +14,14 @@ use Rattle.ta_verdict.specs.Rest.Certificates.{RestCertificateOf}
 use Rattle.ta_shelf.specs.Calls as calls
 use Rattle.ta_shelf.specs.Put.{Told, WhereTold}
 use Rattle.ta_shelf.specs.Sink.{with_text}
-use Rattle.ta_shell.specs.declared.answer.Answer.{Answer}
-use Rattle.ta_shell.specs.declared.answer.Put.{Put}
-use Rattle.ta_shell.specs.Commands.{Meaning}
-use Rattle.ta_shell.specs.Making.{TellsFile}
-use Rattle.ta_shell.specs.Puts.{HoldsText, put_bytes, may_put}
-use Rattle.ta_shell.specs.Sights.{View}
-use Rattle.ta_shell.specs.Sparing.{spared}
-use Rattle.ta_shell.specs.Stages.{settles}
+use Rattle.ta_shelf.specs.declared.answer.Answer.{Answer}
+use Rattle.ta_shelf.specs.declared.answer.Put.{Put}
+use Rattle.ta_shelf.specs.Commands.{Meaning}
+use Rattle.ta_shelf.specs.OutputCalls.{TellsFile}
+use Rattle.ta_shelf.specs.Puts.{HoldsText, put_bytes, may_put}
+use Rattle.ta_shelf.specs.Sights.{View}
+use Rattle.ta_shelf.specs.Sparing.{spared}
+use Rattle.ta_shelf.specs.Stages.{settles}
 use Rattle.ta_verdict.specs.Certificates.{safe_among}
 use Rattle.ta_verdict.specs.Verdicts.{IsSample, is_unknown}
 use Rattle.ta_program.specs.declared.limits.TheConstants.{CERTIFICATE}

@@ -3,11 +3,11 @@ use Rattle.std.specs.Prelude.{ℕ, ◌≡◌, List, [], Option, true}
 use Rattle.ta_automaton.specs.declared.file.File.{File}
 use Rattle.ta_check.specs.Certificate.{AllQuietRestSafe}
 use Rattle.ta_check.specs.Subjects.{claiming_with}
-use Rattle.ta_claim.specs.declared.claim.Claim.TheVariants.{RestSafe}
+use Rattle.ta_rest.specs.declared.claim.Claim.TheVariants.{RestSafe}
 use Rattle.ta_shelf.specs.Sink.{with_text}
-use Rattle.ta_shell.specs.Commands.{Meaning}
-use Rattle.ta_shell.specs.Sights.{View}
-use Rattle.ta_shell.specs.Stages.{FileMeans, after, replies}
+use Rattle.ta_shelf.specs.Commands.{Meaning}
+use Rattle.ta_shelf.specs.Sights.{View}
+use Rattle.ta_shelf.specs.Stages.{FileMeans, after, replies}
 use Rattle.ta_program.specs.Asked.{Asked, ask_where}
 use Rattle.ta_program.specs.Kinds.{IsFile, certificate_kind}
 use Rattle.ta_program.specs.Proofs.{SaysProofs, TellsProofs}
@@ -19,23 +19,27 @@ use Rattle.ta_program.specs.SilentNames.{AreSilent, LegalSilently, with_silent}
 -- CERT is read for the endings of a file with these silent places, and the text says for which of its patterns it proves that no run comes
 -- to rest so
 abbrev pub rest_proved_meaning : List ℕ → ProofOptions → File → FileEndings → List ℕ → Meaning
-rest_proved_meaning name options file ends silent = after (certificate_kind (claiming_with RestSafe ends.ending silent)) name [] (λ numbers. replies [] (SaysProofs true file options numbers))
+rest_proved_meaning name options file ends silent = after (certificate_kind (claiming_with RestSafe ends.ending silent)) name []
+    (λ numbers. replies [] (SaysProofs true file options numbers))
 
 -- the places of the names are found, and then CERT is read
 abbrev pub quietly_meaning : List ℕ → List ℕ → Option (List ℕ) → ProofOptions → File → FileEndings → Meaning
-quietly_meaning file_name certificate_name names options file ends = with_silent file_name names [] file (rest_proved_meaning certificate_name options file ends)
+quietly_meaning file_name certificate_name names options file ends = with_silent file_name names [] file
+    (rest_proved_meaning certificate_name options file ends)
 
 -- FILE is read, its endings are computed, and then the silent places and CERT follow
 abbrev pub rest_check_meaning : List ℕ → List ℕ → Option (List ℕ) → ProofOptions → Meaning
 rest_check_meaning file_name certificate_name names options = with_ends file_name [] (quietly_meaning file_name certificate_name names options)
 
 abbrev pub rest_check_asked : List (List ℕ) → Asked
-rest_check_asked words = ask_where (λ asked. LegalSilently asked.file asked.silent) (λ asked. rest_check_meaning asked.file asked.other asked.silent asked.options) (rest_check_words words)
+rest_check_asked words = ask_where (λ asked. LegalSilently asked.file asked.silent)
+    (λ asked. rest_check_meaning asked.file asked.other asked.silent asked.options) (rest_check_words words)
 
 -- FILE is legal and its cycles are self-loops, the names may be silent in it, CERT is a certificate for its endings with their places
 -- silent; so no run comes to quiet rest where the last event of one of FILE's own patterns that CERT proves happens; the output gained
 -- the text that says which patterns these are, and the status is 2 exactly if all are to be proved and aren't
-pub record RestCheckHolds (number : ℕ) (view : View) (file_name certificate_name : List ℕ) (names : Option (List ℕ)) (options : ProofOptions) (written written' : Option (List ℕ)) : Type 0 where
+pub record RestCheckHolds (number : ℕ) (view : View) (file_name certificate_name : List ℕ) (names : Option (List ℕ)) (options : ProofOptions)
+    (written written' : Option (List ℕ)) : Type 0 where
   pub file : File
   pub is_file : IsFile view file_name file
   pub ends : FileEndings

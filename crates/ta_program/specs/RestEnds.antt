@@ -6,10 +6,10 @@ use Rattle.ta_rest.specs.Moves.{FewMoves}
 use Rattle.ta_rest.specs.declared.rest_file.RestFile.{RestFile}
 use Rattle.ta_scope.specs.LongerCycles.{FirstLongerCycle, LoopsAlone}
 use Rattle.ta_shelf.specs.Put.{Told}
-use Rattle.ta_shell.specs.Commands.{Meaning}
-use Rattle.ta_shell.specs.Lines.{file_line}
-use Rattle.ta_shell.specs.Sights.{in_files}
-use Rattle.ta_shell.specs.Stages.{after, finds}
+use Rattle.ta_shelf.specs.Commands.{Meaning}
+use Rattle.ta_shelf.specs.Lines.{file_line}
+use Rattle.ta_shelf.specs.Sights.{in_files}
+use Rattle.ta_shelf.specs.Stages.{after, finds}
 use Rattle.ta_program.specs.declared.limits.TheConstants.{FILE}
 use Rattle.ta_program.specs.Kinds.{IsFile, file_kind}
 

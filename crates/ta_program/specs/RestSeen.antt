@@ -16,4 +16,5 @@ rest_seen command = record {
 }
 
 abbrev pub rest_check_seen : RestCheck → RestCheckWords
-rest_check_seen command = record { file = command.file.now; other = command.certificate.now; silent = option_map (λ w. w.now) command.silent; options = command.options }
+rest_check_seen command = record
+    { file = command.file.now; other = command.certificate.now; silent = option_map (λ w. w.now) command.silent; options = command.options }

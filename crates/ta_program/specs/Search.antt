@@ -1,5 +1,6 @@
 -- The command `search`: values for the holes of a template with which every pattern is safe.
-use Rattle.std.specs.Prelude.{ℕ, ◌<◌, ◌≤◌, ◌≡◌, ◌≢◌, ◌++◌, Bool, true, false, List, [], ◌∷◌, codes, decimal, length, map, Option, None, Some, IsSome, if◌then◌else◌}
+use Rattle.std.specs.Prelude.{ℕ, ◌<◌, ◌≤◌, ◌≡◌, ◌≢◌, ◌++◌, Bool, true, false, List, [], ◌∷◌, codes, decimal, length, map, Option, None, Some, IsSome}
+use Rattle.std.specs.Prelude.{if◌then◌else◌}
 use Rattle.std.specs.List.{list_any}
 use Rattle.ta_search.specs.declared.fault.TemplateFault.{TemplateFault}
 use Rattle.ta_search.specs.declared.fault.TemplateFault.TheVariants as fault
@@ -9,20 +10,20 @@ use Rattle.ta_search.specs.declared.outcome.SearchEnd.{SearchEnd}
 use Rattle.ta_search.specs.declared.template.Template.{Template}
 use Rattle.ta_search.specs.Filling.{filled_text}
 use Rattle.ta_search.specs.Searching.{IsSearchEnd, LastIsFound}
-use Rattle.ta_search.specs.SearchText.{search_text}
+use Rattle.ta_search.specs.SearchJson.{search_told}
 use Rattle.ta_search.specs.TemplateFaults.{FirstTemplateFault}
 use Rattle.ta_search.specs.Templates.{template_text}
 use Rattle.ta_shelf.specs.Calls.{Put}
 use Rattle.ta_shelf.specs.Put.{Told, WhereTold}
 use Rattle.ta_shelf.specs.Sink.{with_text}
-use Rattle.ta_shell.specs.declared.answer.Answer.{Answer}
-use Rattle.ta_shell.specs.declared.answer.Put as answer
-use Rattle.ta_shell.specs.Commands.{Meaning}
-use Rattle.ta_shell.specs.Making.{PutWhole}
-use Rattle.ta_shell.specs.Puts.{PutText, may_put, put_text}
-use Rattle.ta_shell.specs.Sights.{View, in_files}
-use Rattle.ta_shell.specs.Sparing.{spared}
-use Rattle.ta_shell.specs.Stages.{FileMeans, Kind, settles}
+use Rattle.ta_shelf.specs.declared.answer.Answer.{Answer}
+use Rattle.ta_shelf.specs.declared.answer.Put as answer
+use Rattle.ta_shelf.specs.Commands.{Meaning}
+use Rattle.ta_shelf.specs.OutputCalls.{PutWhole}
+use Rattle.ta_shelf.specs.Puts.{PutText, may_put, put_text}
+use Rattle.ta_shelf.specs.Sights.{View, in_files}
+use Rattle.ta_shelf.specs.Sparing.{spared}
+use Rattle.ta_shelf.specs.Stages.{FileMeans, Kind, settles}
 use Rattle.ta_verdict.specs.declared.budget.Budget.{Budget}
 use Rattle.ta_program.specs.declared.limits.TheConstants.{CERTIFICATE, FILE}
 use Rattle.ta_program.specs.Asked.{Asked, ask_where}
@@ -85,7 +86,7 @@ pub record Finds (template : Template) (asked : SearchWords) (answer : Answer) :
   pub end : SearchEnd
   pub is_end : IsSearchEnd template asked.budget end
   pub numbered : answer.number ≡ end_number end
-  pub written : answer.text ≡ search_text template end
+  pub written : answer.text ≡ search_told asked.json template end
   pub found : end.found ≡ true → PutsFound template end asked answer.puts
   pub nothing : end.found ≡ false → answer.puts ≡ []
 
@@ -142,14 +143,16 @@ pub record FoundStands (template : Template) (end : SearchEnd) (asked : SearchWo
   pub within : IsSome asked.out → length last.certificate ≤ CERTIFICATE.bytes
 
 -- FILE is a template whose vectors were tried in order, each with an outcome that holds, up to the first that is Safe; the output gained
--- the text that lists them, and the status is 0 if values were found, otherwise 2 if some outcome is unknown, otherwise 1. With 0 the files
+-- the text that lists them, in JSON or in lines, and the status is 0 if values were found, otherwise 2 if some outcome is unknown,
+-- otherwise 1. With 0 the files
 -- of the values were put; otherwise every file is unchanged, and no call changed one
-pub record SearchHolds (number : ℕ) (view : View) (asked : SearchWords) (files files' : Option Told) (written written' : Option (List ℕ)) (made : List Put) : Type 0 where
+pub record SearchHolds (number : ℕ) (view : View) (asked : SearchWords) (files files' : Option Told) (written written' : Option (List ℕ)) (made : List Put) :
+    Type 0 where
   pub template : Template
   pub is_template : IsTemplate view asked.file template
   pub end : SearchEnd
   pub is_end : IsSearchEnd template asked.budget end
   pub numbered : end_number end ≡ number
-  pub wrote : written' ≡ with_text written (search_text template end)
+  pub wrote : written' ≡ with_text written (search_told asked.json template end)
   pub found : number ≡ 0 → FoundStands template end asked files files' made
   pub kept : number ≢ 0 → (files' ≡ files) × (made ≡ [])

@@ -9,4 +9,5 @@ search_seen command = record {
   budget = command.budget.given;
   out = option_map (λ w. w.now) command.out;
   filled = option_map (λ w. w.now) command.filled;
+  json = command.json;
 }

@@ -6,12 +6,12 @@ use Rattle.ta_cert.specs.Certificates.{pair_of}
 use Rattle.ta_cert.specs.declared.line.Order.{Order}
 use Rattle.ta_meaning.specs.Reading.{Legal}
 use Rattle.ta_shelf.specs.Sink.{with_text}
-use Rattle.ta_shell.specs.declared.answer.Answer.{Answer}
-use Rattle.ta_shell.specs.Commands.{Meaning}
-use Rattle.ta_shell.specs.Sights.{View, Whole}
-use Rattle.ta_shell.specs.Stages.{Writes, after, replies}
-use Rattle.ta_show.specs.Show.{show_text}
-use Rattle.ta_show.specs.Unknowns.{unknowns_text}
+use Rattle.ta_shelf.specs.declared.answer.Answer.{Answer}
+use Rattle.ta_shelf.specs.Commands.{Meaning}
+use Rattle.ta_shelf.specs.Sights.{View, Whole}
+use Rattle.ta_shelf.specs.Stages.{Writes, after, replies}
+use Rattle.ta_report.specs.Show.{show_text}
+use Rattle.ta_report.specs.Unknowns.{unknowns_text}
 use Rattle.ta_walk.specs.FoundOrders.{FoundOrders}
 use Rattle.ta_program.specs.Asked.{Asked, ask}
 use Rattle.ta_program.specs.Kinds.{file_kind}

@@ -3,19 +3,19 @@ use Rattle.std.specs.Prelude.{ℕ, ◌≡◌, ◌++◌, List, [], codes, decimal
 use Rattle.ta_automaton.specs.declared.automaton.Automaton.{Automaton}
 use Rattle.ta_automaton.specs.declared.file.File.{File}
 use Rattle.ta_automaton.specs.declared.pattern.Pattern.{Pattern}
-use Rattle.ta_fair.specs.Fair.{FairlySafe}
+use Rattle.ta_rest.specs.Fair.{FairlySafe}
 use Rattle.ta_automaton.specs.Runs.{Config}
 use Rattle.ta_rest.specs.Quiet.{QuietRestOccurs, QuietRestSafe}
 use Rattle.ta_rest.specs.Rest.{RestOccurs, RestSafe}
 use Rattle.ta_scope.specs.LongerCycles.{LoopsAlone}
 use Rattle.ta_shelf.specs.Put.{Told}
-use Rattle.ta_shell.specs.Commands.{Meaning}
-use Rattle.ta_shell.specs.Lines.{file_line}
-use Rattle.ta_shell.specs.Sights.{in_files}
-use Rattle.ta_shell.specs.Stages.{finds}
-use Rattle.ta_silent.specs.Silent.{silent_in}
-use Rattle.ta_silent.specs.declared.fault.SilentFault.{SilentFault}
-use Rattle.ta_silent.specs.declared.fault.SilentFault.TheVariants as fault
+use Rattle.ta_shelf.specs.Commands.{Meaning}
+use Rattle.ta_shelf.specs.Lines.{file_line}
+use Rattle.ta_shelf.specs.Sights.{in_files}
+use Rattle.ta_shelf.specs.Stages.{finds}
+use Rattle.ta_moments.specs.Silent.{silent_in}
+use Rattle.ta_moments.specs.declared.fault.SilentFault.{SilentFault}
+use Rattle.ta_moments.specs.declared.fault.SilentFault.TheVariants as fault
 use Rattle.ta_smt.specs.WordText.{are_names}
 use Rattle.ta_program.specs.declared.limits.TheConstants.{FILE}
 use Rattle.ta_program.specs.Kinds.{IsFile}

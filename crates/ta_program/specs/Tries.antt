@@ -1,5 +1,5 @@
 -- What the output of `search` says of the values that were tried.
-use Rattle.std.specs.Prelude.{ℕ, ◌≡◌, ◌↔◌, true, List, slice_get, Option, Some}
+use Rattle.std.specs.Prelude.{ℕ, ◌≡◌, ◌↔◌, Bool, true, List, slice_get, Option, Some}
 use Rattle.std.specs.List.{AllByRecursion}
 use Rattle.ta_automaton.specs.declared.file.File.{File}
 use Rattle.ta_automaton.specs.declared.pattern.Pattern.{Pattern}
@@ -11,9 +11,9 @@ use Rattle.ta_search.specs.declared.outcome.Outcome.TheVariants as outcome
 use Rattle.ta_search.specs.declared.outcome.SearchEnd.{SearchEnd}
 use Rattle.ta_search.specs.declared.template.Template.{Template}
 use Rattle.ta_search.specs.Filling.{filled_text}
-use Rattle.ta_search.specs.SearchText.{search_text}
+use Rattle.ta_search.specs.SearchJson.{search_told}
 use Rattle.ta_shelf.specs.Sink.{with_text}
-use Rattle.ta_shell.specs.Sights.{View}
+use Rattle.ta_shelf.specs.Sights.{View}
 use Rattle.ta_program.specs.Search.{IsTemplate}
 
 -- the text means a file, each of whose patterns occurs in no run, and some parameters of it have an initial configuration
@@ -52,12 +52,12 @@ OutcomeMeans bytes (outcome.Unsafe name run) = MeansOccurring bytes name
 OutcomeMeans bytes (outcome.Unknown name v) = Unit {0}
 OutcomeMeans bytes (outcome.Safe certificate) = MeansSafe bytes
 
--- the bytes under a name are the text of a template, and the output gained the text of what was tried; each outcome that this text lists is so
--- of the text filled with the values that stand before it, and its last line is `found` exactly with status 0
-pub record EachTried (number : ℕ) (view : View) (name : List ℕ) (written written' : Option (List ℕ)) : Type 0 where
+-- the bytes under a name are the text of a template, and the output gained the text of what was tried, in JSON or in lines; each outcome that
+-- this text lists is so of the text filled with the values that stand with it, and it ends with `found` exactly with status 0
+pub record EachTried (number : ℕ) (view : View) (json : Bool) (name : List ℕ) (written written' : Option (List ℕ)) : Type 0 where
   pub template : Template
   pub is_template : IsTemplate view name template
   pub end : SearchEnd
-  pub gained : written' ≡ with_text written (search_text template end)
+  pub gained : written' ≡ with_text written (search_told json template end)
   pub means : AllByRecursion (λ x. OutcomeMeans (filled_text template x.values) x.outcome) end.tried
   pub found : (end.found ≡ true) ↔ (number ≡ 0)

@@ -6,7 +6,7 @@ use Rattle.ta_automaton.specs.declared.automaton.Automaton.{Automaton}
 use Rattle.ta_automaton.specs.declared.file.File.{File}
 use Rattle.ta_automaton.specs.declared.pattern.Pattern.{Pattern}
 use Rattle.ta_automaton.specs.Runs as runs
-use Rattle.ta_fair.specs.Fair.{FairlySafe}
+use Rattle.ta_rest.specs.Fair.{FairlySafe}
 use Rattle.ta_replay.specs.declared.run.Run.{Run}
 use Rattle.ta_replay.specs.RunText.{IsRunText}
 use Rattle.ta_replay.specs.Shows.{IsFirstConfig, unit_steps}
@@ -15,7 +15,7 @@ use Rattle.ta_rest.specs.Rest.{RestSafe}
 use Rattle.ta_shelf.specs.Calls.{Call, Event, Spells, reads}
 use Rattle.ta_shelf.specs.Put.{Told}
 use Rattle.ta_shelf.specs.Sink.{with_text}
-use Rattle.ta_show.specs.Show.{show_text}
+use Rattle.ta_report.specs.Show.{show_text}
 use Rattle.ta_program.specs.Show.{ShowPrints}
 use Rattle.ta_program.specs.Words.{behind, is_dashed}
 

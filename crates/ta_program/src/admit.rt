@@ -6,10 +6,10 @@ ghost use Rattle.ta_replay.specs.Fits.{Fits};
 ghost use Rattle.ta_replay.specs.RunText.{run_text};
 ghost use Rattle.ta_shelf.specs.Calls.{Grew};
 ghost use Rattle.ta_shelf.specs.Put.{Told};
-ghost use Rattle.ta_shell.specs.Commands.{Says};
-ghost use Rattle.ta_shell.specs.Lines.{phrase_text};
-ghost use Rattle.ta_shell.specs.Reading.{ReadCause};
-ghost use Rattle.ta_shell.specs.Stages.{Stage, Writes, replies};
+ghost use Rattle.ta_shelf.specs.Commands.{Says};
+ghost use Rattle.ta_shelf.specs.Lines.{phrase_text};
+ghost use Rattle.ta_shelf.specs.Reading.{ReadCause};
+ghost use Rattle.ta_shelf.specs.Stages.{Stage, Writes, replies};
 ghost use Rattle.ta_smt.specs.declared.fault.AdmitFault.TheVariants as fault;
 ghost use Rattle.ta_smt.specs.Admit.{Admits};
 ghost use Rattle.ta_smt.specs.Named.{IsLegalWord};
@@ -30,8 +30,7 @@ use ta_automaton::File;
 use ta_base::Text;
 use ta_replay::{Run, print_run};
 use ta_scope::ScopedFile;
-use ta_shelf::Shelf;
-use ta_shell::{Answer, Command, Outputs, Phrase, Refusal, read_text};
+use ta_shelf::{Answer, Command, Outputs, Phrase, Refusal, Shelf, read_text};
 use ta_smt::{AdmitFault, NamedWord, admit};
 
 /// What `admit` is asked for.

@@ -9,9 +9,9 @@ ghost use Rattle.ta_maker.specs.Family.{family};
 ghost use Rattle.ta_maker.specs.Made.{IsFamilyNumber};
 ghost use Rattle.ta_meaning.specs.Reading.{Legal};
 ghost use Rattle.ta_shelf.specs.Put.{Told};
-ghost use Rattle.ta_shell.specs.Commands.{Says};
-ghost use Rattle.ta_shell.specs.Reading.{ReadCause};
-ghost use Rattle.ta_shell.specs.Stages.{Writes};
+ghost use Rattle.ta_shelf.specs.Commands.{Says};
+ghost use Rattle.ta_shelf.specs.Reading.{ReadCause};
+ghost use Rattle.ta_shelf.specs.Stages.{Writes};
 ghost use Rattle.ta_syntax.specs.PlainTrees.{plain_tree};
 ghost use Rattle.ta_program.specs.Bench.{IsCertified, SaysBench, bench_meaning, bench_status, bench_text, bench_words, family_number, family_text};
 
@@ -28,8 +28,7 @@ use ta_maker::{MakerFault, family_is_flawless, make_family};
 use ta_meaning::read_file;
 use ta_report::Verdict;
 use ta_scope::ScopedFile;
-use ta_shelf::Shelf;
-use ta_shell::{Answer, Command, Outputs, Refusal};
+use ta_shelf::{Answer, Command, Outputs, Refusal, Shelf};
 use ta_syntax::{FileFault, Tree, print_tree};
 use ta_verdict::{Budget, is_unknown, judge_file};
 

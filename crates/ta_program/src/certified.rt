@@ -3,17 +3,16 @@
 
 ghost use Rattle.std.specs.List.{concat};
 ghost use Rattle.std.specs.Prelude.{◌≡◌, ◌≤◌, ◌↔◌, ◌∷◌, [], IfOk, IsTrue, length, List, OnOk, ℕ};
-ghost use Rattle.ta_shell.specs.Ends.{ShelfState};
-ghost use Rattle.ta_shell.specs.Making.{Changed};
-ghost use Rattle.ta_shell.specs.Staging.{Begun, result_seen, StagedBy, StagedOr, StagedSoFar};
+ghost use Rattle.ta_shelf.specs.Ends.{ShelfState};
+ghost use Rattle.ta_shelf.specs.OutputCalls.{Changed};
+ghost use Rattle.ta_shelf.specs.Staging.{Begun, result_seen, StagedBy, StagedOr, StagedSoFar};
 ghost use Rattle.ta_program.specs.Inside.Certifying.{CertifiesReport, IsPlain};
 
 use crate::telling::Report;
 use std::alloc::{AllocError, Global};
 use ta_base::Text;
-use ta_shelf::Shelf;
-use ta_shell::{
-    Content, Put, Refusal, StagedAnswer, StagedFile, StagedOutput, answer_staged, let_go,
+use ta_shelf::{
+    Content, Put, Refusal, Shelf, StagedAnswer, StagedFile, StagedOutput, answer_staged, let_go,
 };
 
 /// The answer that writes a report, and puts no file.

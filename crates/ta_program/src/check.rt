@@ -4,9 +4,9 @@
 ghost use Rattle.std.specs.Prelude.{ℕ, ◌≡◌, ◌≤◌, List, [], length, map, option_map};
 ghost use Rattle.ta_check.specs.Checkers.{IsSoundChecker, CheckerStandsFor, subject_of};
 ghost use Rattle.ta_shelf.specs.Calls.{Event, Grew};
-ghost use Rattle.ta_shell.specs.Commands.{Says};
-ghost use Rattle.ta_shell.specs.Reading.{ReadCause};
-ghost use Rattle.ta_shell.specs.Stages.{Stage};
+ghost use Rattle.ta_shelf.specs.Commands.{Says};
+ghost use Rattle.ta_shelf.specs.Reading.{ReadCause};
+ghost use Rattle.ta_shelf.specs.Stages.{Stage};
 ghost use Rattle.ta_program.specs.Check.{check_meaning, proved_meaning};
 ghost use Rattle.ta_program.specs.CheckSeen.{check_seen};
 ghost use Rattle.ta_program.specs.CheckWords.{check_taken, check_words};
@@ -27,8 +27,7 @@ use ta_cert::CertFault;
 use ta_check::{Accepted, Checker};
 use ta_report::cert_fault_phrase;
 use ta_scope::ScopedFile;
-use ta_shelf::{Shelf, read_piece};
-use ta_shell::{Answer, Command, Outputs, Refusal, too_long, unread};
+use ta_shelf::{Answer, Command, Outputs, Refusal, Shelf, read_piece, too_long, unread};
 
 /// How many bytes of a certificate are read at once.
 const PIECE: usize = 65_536;

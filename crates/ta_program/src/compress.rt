@@ -8,10 +8,10 @@ ghost use Rattle.ta_replay.specs.Fits.{Fits};
 ghost use Rattle.ta_replay.specs.RunText.{IsRunText};
 ghost use Rattle.ta_shelf.specs.Calls.{Grew};
 ghost use Rattle.ta_shelf.specs.Put.{Told};
-ghost use Rattle.ta_shell.specs.Commands.{Says};
-ghost use Rattle.ta_shell.specs.Lines.{phrase_text};
-ghost use Rattle.ta_shell.specs.Reading.{ReadCause};
-ghost use Rattle.ta_shell.specs.Stages.{Stage, replies};
+ghost use Rattle.ta_shelf.specs.Commands.{Says};
+ghost use Rattle.ta_shelf.specs.Lines.{phrase_text};
+ghost use Rattle.ta_shelf.specs.Reading.{ReadCause};
+ghost use Rattle.ta_shelf.specs.Stages.{Stage, replies};
 ghost use Rattle.ta_program.specs.Compress.{CompressFaultIn, Compresses, SaysShort, ShortOf, compress_fault_text, long_kind, of_run, short_meaning};
 
 use crate::limits::RUN;
@@ -24,8 +24,7 @@ use ta_compress::{CompressFault, compress};
 use ta_replay::{Run, RunFault, print_run, read_run};
 use ta_report::run_fault_phrase;
 use ta_scope::ScopedFile;
-use ta_shelf::Shelf;
-use ta_shell::{Answer, Phrase, Refusal, read_text};
+use ta_shelf::{Answer, Phrase, Refusal, Shelf, read_text};
 
 /// Reads a file, then a run, and answers the text of the compressed run.
 #[derive(Drop)]

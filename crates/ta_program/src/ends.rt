@@ -2,7 +2,7 @@
 #![tactic(auto)]
 
 ghost use Rattle.std.specs.Prelude.{◌≡◌, IfErr, IfOk};
-ghost use Rattle.ta_shell.specs.Lines.{phrase_text};
+ghost use Rattle.ta_shelf.specs.Lines.{phrase_text};
 ghost use Rattle.ta_program.specs.Inside.Found.{EndsRefused};
 ghost use Rattle.ta_program.specs.RestEnds.{IsEnds, cycle_text, ends_of};
 
@@ -10,7 +10,7 @@ use crate::limits::FILE;
 use std::alloc::Global;
 use ta_rest::{RestFault, RestFile, rest_scope};
 use ta_scope::ScopedFile;
-use ta_shell::{Phrase, Refusal};
+use ta_shelf::{Phrase, Refusal};
 
 /// The endings of the patterns of a file of a name, where its cycles of rules are self-loops.
 pub(crate) fn find_ends<'a>(

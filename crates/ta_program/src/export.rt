@@ -4,9 +4,9 @@
 ghost use Rattle.std.specs.Prelude.{◌≡◌, [], IfOk, Option, map, option_map};
 ghost use Rattle.ta_shelf.specs.Calls.{Grew};
 ghost use Rattle.ta_shelf.specs.Put.{Told};
-ghost use Rattle.ta_shell.specs.Commands.{Says};
-ghost use Rattle.ta_shell.specs.Reading.{ReadCause};
-ghost use Rattle.ta_shell.specs.Stages.{replies};
+ghost use Rattle.ta_shelf.specs.Commands.{Says};
+ghost use Rattle.ta_shelf.specs.Reading.{ReadCause};
+ghost use Rattle.ta_shelf.specs.Stages.{replies};
 ghost use Rattle.ta_smt.specs.Named.{IsLegalWord, Spelling};
 ghost use Rattle.ta_program.specs.Export.{SaysSystem, export_meaning, export_words, system_meaning};
 ghost use Rattle.ta_program.specs.WordSeen.{asked_seen, word_seen};
@@ -20,8 +20,7 @@ use std::alloc::{AllocError, Global};
 use std::thread::Threads;
 use ta_automaton::File;
 use ta_base::Text;
-use ta_shelf::Shelf;
-use ta_shell::{Answer, Command, Outputs, Refusal};
+use ta_shelf::{Answer, Command, Outputs, Refusal, Shelf};
 use ta_smt::{NamedWord, word_text};
 
 /// What `export` is asked for.

@@ -1,7 +1,7 @@
 //! How long the files of the commands may be, and the numbers where they are no use.
 
 use ta_base::limits::{CERTIFICATE_BYTES, FILE_BYTES, RUN_BYTES};
-use ta_shell::Limit;
+use ta_shelf::Limit;
 
 /// An automaton file.
 pub const FILE: Limit = Limit {

@@ -8,7 +8,7 @@ ghost use Rattle.ta_program.specs.PatternOption.{IsPick, PicksNamed};
 use crate::limits::FILE;
 use ta_automaton::File;
 use ta_report::Pick;
-use ta_shell::{Phrase, Refusal};
+use ta_shelf::{Phrase, Refusal};
 use ta_smt::pattern_named;
 
 /// The patterns of the file of a name that are picked: all, or the one with the name that is given.

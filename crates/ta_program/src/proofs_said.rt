@@ -5,9 +5,9 @@ ghost use Rattle.std.specs.Prelude.{◌≡◌, [], IfOk, IfSome, Option};
 ghost use Rattle.ta_report.specs.CheckJson.{proofs_of};
 ghost use Rattle.ta_report.specs.Report.{SampleFits};
 ghost use Rattle.ta_shelf.specs.Put.{Told};
-ghost use Rattle.ta_shell.specs.Commands.{Says};
-ghost use Rattle.ta_shell.specs.Reading.{ReadCause};
-ghost use Rattle.ta_shell.specs.Stages.{replies};
+ghost use Rattle.ta_shelf.specs.Commands.{Says};
+ghost use Rattle.ta_shelf.specs.Reading.{ReadCause};
+ghost use Rattle.ta_shelf.specs.Stages.{replies};
 ghost use Rattle.ta_program.specs.Proofs.{IsSampleFor, SaysProofs, are_proved, each_proved, has_start, printed_sample, proofs_number, wants_sample};
 
 use crate::proof_options::ProofOptions;
@@ -16,7 +16,7 @@ use ta_automaton::File;
 use ta_base::Text;
 use ta_base::limits::DEFAULT_NODES;
 use ta_report::{ReportSample, proofs_json, proofs_text};
-use ta_shell::{Answer, Refusal};
+use ta_shelf::{Answer, Refusal};
 use ta_verdict::sample_of;
 
 /// The answer that says which patterns of a file are proved: those of these numbers. The sample is no

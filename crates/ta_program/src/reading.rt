@@ -3,10 +3,10 @@
 
 ghost use Rattle.std.specs.Prelude.{◌≡◌, ◌≤◌, length};
 ghost use Rattle.ta_shelf.specs.Calls.{Grew};
-ghost use Rattle.ta_shell.specs.Reading.{ReadCause};
-ghost use Rattle.ta_shell.specs.Puts.{output_names};
-ghost use Rattle.ta_shell.specs.Sparing.{SparedStage};
-ghost use Rattle.ta_shell.specs.Stages.{MeantBy, Stage};
+ghost use Rattle.ta_shelf.specs.Reading.{ReadCause};
+ghost use Rattle.ta_shelf.specs.Puts.{output_names};
+ghost use Rattle.ta_shelf.specs.Sparing.{SparedStage};
+ghost use Rattle.ta_shelf.specs.Stages.{MeantBy, Stage};
 ghost use Rattle.ta_program.specs.Kinds.{file_kind};
 
 use crate::limits::FILE;
@@ -15,8 +15,7 @@ use ta_base::limits::FILE_BYTES;
 use ta_meaning::read_file;
 use ta_report::file_fault_phrase;
 use ta_scope::ScopedFile;
-use ta_shelf::Shelf;
-use ta_shell::{Outputs, Refusal, read_text, spare_read};
+use ta_shelf::{Outputs, Refusal, Shelf, read_text, spare_read};
 use ta_syntax::FileFault;
 
 /// The file that a name's bytes mean, where they are legal.

@@ -8,9 +8,9 @@ ghost use Rattle.ta_replay.specs.Shows.{shown_of};
 ghost use Rattle.ta_report.specs.CheckJson.{shown_text};
 ghost use Rattle.ta_shelf.specs.Calls.{Grew};
 ghost use Rattle.ta_shelf.specs.Put.{Told};
-ghost use Rattle.ta_shell.specs.Commands.{Says};
-ghost use Rattle.ta_shell.specs.Reading.{ReadCause};
-ghost use Rattle.ta_shell.specs.Stages.{Stage, replies};
+ghost use Rattle.ta_shelf.specs.Commands.{Says};
+ghost use Rattle.ta_shelf.specs.Reading.{ReadCause};
+ghost use Rattle.ta_shelf.specs.Stages.{Stage, replies};
 ghost use Rattle.ta_program.specs.CheckSeen.{replay_seen};
 ghost use Rattle.ta_program.specs.CheckWords.{replay_taken, replay_words};
 ghost use Rattle.ta_program.specs.Kinds.{RunFaultIn, ShowsRun, run_kind};
@@ -28,8 +28,7 @@ use ta_automaton::File;
 use ta_base::Text;
 use ta_replay::{Run, RunFault, Shown, read_run, replay};
 use ta_report::{run_fault_phrase, shown_json, shown_line};
-use ta_shelf::Shelf;
-use ta_shell::{Answer, Command, Outputs, Refusal, read_text};
+use ta_shelf::{Answer, Command, Outputs, Refusal, Shelf, read_text};
 
 /// What `replay` is asked for.
 #[derive(Drop)]

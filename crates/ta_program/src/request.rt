@@ -1,7 +1,7 @@
 //! Commands that words ask for.
 #![tactic(auto)]
 
-use ta_shell::{Command, StagingCommand};
+use ta_shelf::{Command, StagingCommand};
 
 /// A command of the program: one that words ask for, of which the first is its name.
 pub(crate) trait Request<'a>: Command + Drop + Sized {

@@ -5,9 +5,9 @@ ghost use Rattle.std.specs.Prelude.{◌≡◌, [], map, option_map};
 ghost use Rattle.ta_automaton.specs.declared.file.File.{File};
 ghost use Rattle.ta_rest.specs.Faults.{EndingsOf};
 ghost use Rattle.ta_shelf.specs.Calls.{Grew};
-ghost use Rattle.ta_shell.specs.Commands.{Says};
-ghost use Rattle.ta_shell.specs.Reading.{ReadCause};
-ghost use Rattle.ta_shell.specs.Stages.{finds};
+ghost use Rattle.ta_shelf.specs.Commands.{Says};
+ghost use Rattle.ta_shelf.specs.Reading.{ReadCause};
+ghost use Rattle.ta_shelf.specs.Stages.{finds};
 ghost use Rattle.ta_program.specs.RestCheck.{quietly_meaning, rest_check_meaning, rest_proved_meaning};
 ghost use Rattle.ta_program.specs.RestEnds.{CycleHinders, IsEnds, ends_of};
 ghost use Rattle.ta_program.specs.RestSeen.{rest_check_seen};
@@ -28,8 +28,7 @@ use std::thread::Threads;
 use ta_check::Checker;
 use ta_rest::RestFile;
 use ta_scope::ScopedFile;
-use ta_shelf::Shelf;
-use ta_shell::{Answer, Command, Outputs, Refusal};
+use ta_shelf::{Answer, Command, Outputs, Refusal, Shelf};
 
 /// What `rest-check` is asked for.
 #[derive(Drop)]

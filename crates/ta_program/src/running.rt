@@ -2,7 +2,7 @@
 #![tactic(auto)]
 
 ghost use Rattle.std.specs.Prelude.{◌≡◌, map};
-ghost use Rattle.ta_shell.specs.Ends.{Quiet, SinkState, Tells, state};
+ghost use Rattle.ta_shelf.specs.Ends.{Quiet, SinkState, Tells, state};
 ghost use Rattle.ta_program.specs.Asked.{Runs, usage_line};
 ghost use Rattle.ta_program.specs.Headline.{StatusTells};
 ghost use Rattle.ta_program.specs.Program.{Admitting, Benches, CertificateWritten, CheckProves, Completes, ExactlySo, Exports, KeepsFiles, Opens, PrintedHolds, ReplayShows, RestProves, RestsReport, RunShortens, Searches, SparesRead, Tellings, UsageExactly, VerifyReports};
@@ -29,12 +29,11 @@ use crate::version::Version;
 use std::alloc::Global;
 use std::thread::Threads;
 use ta_report::reports_are_distinct;
-use ta_shelf::{Shelf, Sink};
-use ta_shell::{perform, perform_staging, tell_line};
+use ta_shelf::{Shelf, Sink, perform, perform_staging, tell_line};
 
 /// The line where the words are no command's.
 const USAGE: &str =
-    "tav: usage: verify FILE [--nodes N] [--certificate OUT] [--json], check FILE CERT, replay FILE RUN, compress FILE RUN, bench K, rest FILE [--nodes N] [--certificate OUT], rest-check FILE CERT, search FILE [--nodes N] [--certificate OUT] [--filled OUT2], show FILE, export FILE PATTERN START WORD, admit FILE PATTERN START WORD VALUES, version, --lazy with verify, rest or search, --silent NAMES with rest or rest-check, --json with rest, check, rest-check or replay, --pattern NAME with verify or rest, --all with verify, rest, check or rest-check, --parameters with check\n";
+    "tav: usage: verify FILE [--nodes N] [--certificate OUT] [--json], check FILE CERT, replay FILE RUN, compress FILE RUN, bench K, rest FILE [--nodes N] [--certificate OUT], rest-check FILE CERT, search FILE [--nodes N] [--certificate OUT] [--filled OUT2], show FILE, export FILE PATTERN START WORD, admit FILE PATTERN START WORD VALUES, version, --lazy with verify, rest or search, --silent NAMES with rest or rest-check, --json with rest, search, check, rest-check or replay, --pattern NAME with verify or rest, --all with verify, rest, check or rest-check, --parameters with check\n";
 
 /// Does what the words ask for, and answers the number that the process ends with: 0 where all is
 /// done, 1 where some pattern is unsafe or no values were found, 2 where that isn't known, 3 where FILE hinders, 4

@@ -6,12 +6,12 @@ ghost use Rattle.std.specs.Prelude.{◌≡◌, ◌≤◌, ◌<◌, ◌++◌, [],
 ghost use Rattle.ta_search.specs.Filling.{filled_text};
 ghost use Rattle.ta_shelf.specs.Calls.{Grew};
 ghost use Rattle.ta_shelf.specs.Put.{Told};
-ghost use Rattle.ta_shell.specs.Commands.{Says};
-ghost use Rattle.ta_shell.specs.Lines.{phrase_text};
-ghost use Rattle.ta_shell.specs.Puts.{content_bytes, output_names, put_text};
-ghost use Rattle.ta_shell.specs.Reading.{ReadCause};
-ghost use Rattle.ta_shell.specs.Sparing.{SparedStage};
-ghost use Rattle.ta_shell.specs.Stages.{MeantBy};
+ghost use Rattle.ta_shelf.specs.Commands.{Says};
+ghost use Rattle.ta_shelf.specs.Lines.{phrase_text};
+ghost use Rattle.ta_shelf.specs.Puts.{content_bytes, output_names, put_text};
+ghost use Rattle.ta_shelf.specs.Reading.{ReadCause};
+ghost use Rattle.ta_shelf.specs.Sparing.{SparedStage};
+ghost use Rattle.ta_shelf.specs.Stages.{MeantBy};
 ghost use Rattle.ta_program.specs.declared.limits.TheConstants.{CERTIFICATE as CERTIFICATE_LIMIT};
 ghost use Rattle.ta_program.specs.Inside.FoundFiles.{IsFoundEnd, FoundBy, LastGives};
 ghost use Rattle.ta_program.specs.Search.{end_number, found_files, found_meaning, leaves_unknown, search_meaning, template_fault_text, template_kind, with_given};
@@ -24,18 +24,19 @@ use crate::certified::{are_within, put_of};
 use crate::limits::{CERTIFICATE, FILE};
 use crate::request::Request;
 use crate::values::{budget_of, file_name_of, filled_of, out_of};
-use crate::words::{CERTIFICATE_OPTION, LAZY_OPTION, NODES_OPTION, OptionWord, Taken, take_words};
+use crate::words::{
+    CERTIFICATE_OPTION, JSON_OPTION, LAZY_OPTION, NODES_OPTION, OptionWord, Taken, take_words,
+};
 use std::alloc::{AllocError, Global};
 use std::thread::Threads;
 use ta_base::limits::FILE_BYTES;
 use ta_base::{List, Text};
 use ta_search::{
-    Outcome, SearchEnd, Template, TemplateFault, Tried, fill, read_template, search, search_text,
+    Outcome, SearchEnd, Template, TemplateFault, Tried, fill, read_template, search, search_told,
     searches_are_determined,
 };
-use ta_shelf::Shelf;
-use ta_shell::{
-    Answer, Command, Content, Outputs, Phrase, Put, Refusal, long_certificate, read_text,
+use ta_shelf::{
+    Answer, Command, Content, Outputs, Phrase, Put, Refusal, Shelf, long_certificate, read_text,
     spare_read,
 };
 
@@ -46,6 +47,7 @@ pub(crate) struct Search<'a> {
     budget: Budget,
     out: Option<&'a str>,
     filled: Option<&'a str>,
+    json: bool,
 }
 
 impl<'a> Request<'a> for Search<'a> {
@@ -84,7 +86,7 @@ impl<'a> Search<'a> {
     ghost use Rattle.std.specs.Prelude.{◌≡◌};
     ghost use Rattle.ta_program.specs.Search.{found_names};
     ghost use Rattle.ta_program.specs.SearchSeen.{search_seen};
-    ghost use Rattle.ta_shell.specs.Puts.{output_names};
+    ghost use Rattle.ta_shelf.specs.Puts.{output_names};
 
     /// The names of the files that it may put on the shelf.
     fn may_put(&self) -> Outputs<'a>
@@ -109,6 +111,7 @@ fn read_search<'a>(words: &[&'a str]) -> Option<Search<'a>>
             valued: true,
         },
         LAZY_OPTION,
+        JSON_OPTION,
     ];
     search_taken(take_words(1, &options, words)?)
 }
@@ -131,6 +134,7 @@ fn search_taken(taken: Taken<'_>) -> Option<Search<'_>>
         },
         out,
         filled,
+        json: taken.value(4).is_some(),
     })
 }
 
@@ -231,10 +235,10 @@ fn answer_search<'a, R: Threads + Sync>(
     let Ok(end) = search(rt, alloc, template, asked.budget.given) else {
         return Err(Refusal::Memory);
     };
-    let Ok(lines) = search_text(alloc, template, &end) else {
+    let Ok(told) = search_told(alloc, asked.json, template, &end) else {
         return Err(Refusal::Memory);
     };
-    let text = Text::from_string(lines.into_string());
+    let text = Text::from_string(told.into_string());
     if end.found {
         answer_found(alloc, template, end, text, asked)
     } else {
@@ -274,7 +278,7 @@ fn answer_found<'a>(
     text: Text,
     asked: &Search<'a>,
 ) -> Result<Answer, Refusal<'a>>
-    requires { IsFoundEnd template.now asked.now.budget.given end text }
+    requires { IsFoundEnd template.now asked.now.budget.given asked.now.json end text }
     ensures says { (files : Option Told) → Says (found_meaning (search_seen asked.now) template.now) files result [] }
     ensures cause { ReadCause result 0 0 }
 {
@@ -318,7 +322,7 @@ fn put_last<'a>(
     text: Text,
     asked: &Search<'a>,
 ) -> Result<Answer, Refusal<'a>>
-    requires { FoundBy template.now asked.now.budget.given last.values (concat last.pieces) text }
+    requires { FoundBy template.now asked.now.budget.given asked.now.json last.values (concat last.pieces) text }
     ensures says { (files : Option Told) → Says (found_meaning (search_seen asked.now) template.now) files result [] }
     ensures cause { ReadCause result 0 0 }
 {
@@ -337,7 +341,7 @@ fn put_short<'a>(
     text: Text,
     asked: &Search<'a>,
 ) -> Result<Answer, Refusal<'a>>
-    requires found { FoundBy template.now asked.now.budget.given last.values (concat last.pieces) text }
+    requires found { FoundBy template.now asked.now.budget.given asked.now.json last.values (concat last.pieces) text }
     requires within { IsSome (search_seen asked.now).out → length (concat last.pieces) ≤ CERTIFICATE_LIMIT.bytes }
     ensures says { (files : Option Told) → Says (found_meaning (search_seen asked.now) template.now) files result [] }
     ensures cause { ReadCause result 0 0 }

@@ -5,8 +5,8 @@ ghost use Rattle.std.specs.Prelude.{◌≡◌, [], IfOk, Option, map, option_map
 ghost use Rattle.ta_cert.specs.Certificates.{pair_of};
 ghost use Rattle.ta_shelf.specs.Calls.{Grew};
 ghost use Rattle.ta_shelf.specs.Put.{Told};
-ghost use Rattle.ta_shell.specs.Commands.{Says};
-ghost use Rattle.ta_shell.specs.Reading.{ReadCause};
+ghost use Rattle.ta_shelf.specs.Commands.{Says};
+ghost use Rattle.ta_shelf.specs.Reading.{ReadCause};
 ghost use Rattle.ta_program.specs.Show.{IsShown, file_meaning, show_meaning, show_words};
 
 use crate::reading::read_legal;
@@ -17,11 +17,9 @@ use std::alloc::{AllocError, Global};
 use std::thread::Threads;
 use ta_base::{List, Text};
 use ta_cert::Order;
-use ta_dense::NarrowDictionary;
 use ta_scope::ScopedFile;
-use ta_shelf::Shelf;
-use ta_shell::{Answer, Command, Outputs, Refusal};
-use ta_walk::find_orders;
+use ta_shelf::{Answer, Command, Outputs, Refusal, Shelf};
+use ta_verdict::orders_of;
 
 /// What `show` is asked for: the name of a file.
 #[derive(Drop)]
@@ -99,9 +97,9 @@ fn answer_show<'a>(alloc: Global, scoped: &ScopedFile) -> Result<Answer, Refusal
 fn file_text(alloc: Global, scoped: &ScopedFile) -> Result<Text, AllocError>
     ensures { IfOk result (IsShown scoped.now.file) }
 {
-    let found = find_orders::<NarrowDictionary>(alloc, scoped)?;
+    let found = orders_of(alloc, scoped)?;
     let pairs = pairs_of(alloc, found.list.as_slice())?;
-    let text = ta_show::show(alloc, &scoped.file, &pairs)?;
+    let text = ta_report::show(alloc, &scoped.file, &pairs)?;
     Ok(text)
 }
 

@@ -2,8 +2,8 @@
 #![tactic(auto)]
 
 ghost use Rattle.std.specs.Prelude.{◌≡◌, IfErr, IfOk, Ok, Some, option_map};
-ghost use Rattle.ta_shell.specs.Lines.{phrase_text};
-ghost use Rattle.ta_silent.specs.Silent.{silent_in};
+ghost use Rattle.ta_shelf.specs.Lines.{phrase_text};
+ghost use Rattle.ta_moments.specs.Silent.{silent_in};
 ghost use Rattle.ta_program.specs.Inside.Found.{SilentRefused, TellsSilent};
 ghost use Rattle.ta_program.specs.SilentNames.{AreSilent, names_of, silent_fault_text};
 
@@ -11,8 +11,8 @@ use crate::limits::FILE;
 use std::alloc::Global;
 use ta_automaton::Automaton;
 use ta_base::List;
-use ta_shell::{Phrase, Refusal};
-use ta_silent::{SilentFault, silent_places};
+use ta_moments::{SilentFault, silent_places};
+use ta_shelf::{Phrase, Refusal};
 use ta_smt::are_names;
 
 /// The names that are to be silent, where they are given: names with a comma between.

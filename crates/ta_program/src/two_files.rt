@@ -10,16 +10,15 @@ use crate::values::{TwoNames, two_names};
 use std::alloc::Global;
 use std::marker::PhantomData;
 use std::thread::Threads;
-use ta_shelf::Shelf;
-use ta_shell::{Answer, Command, Outputs, Refusal};
+use ta_shelf::{Answer, Command, Outputs, Refusal, Shelf};
 
 /// What is done with FILE and a second file that belongs to it.
 pub(crate) trait OfTwoFiles: Drop + Sized {
     ghost use Rattle.std.specs.Prelude.{◌≡◌, [], List, ℕ};
     ghost use Rattle.ta_shelf.specs.Calls.{Grew};
     ghost use Rattle.ta_shelf.specs.Put.{Told};
-    ghost use Rattle.ta_shell.specs.Commands.{Decides, Meaning, Says};
-    ghost use Rattle.ta_shell.specs.Reading.{ReadCause};
+    ghost use Rattle.ta_shelf.specs.Commands.{Decides, Meaning, Says};
+    ghost use Rattle.ta_shelf.specs.Reading.{ReadCause};
     ghost use Rattle.ta_program.specs.Asked.{PassesWhere};
 
     // whether FILE, by its name, is legal in told files

@@ -3,10 +3,10 @@
 
 ghost use Rattle.std.specs.Prelude.{◌≡◌, [], false, IfErr, IfOk, map, Option, option_map};
 ghost use Rattle.ta_shelf.specs.Put.{Told};
-ghost use Rattle.ta_shell.specs.Ends.{ShelfState};
-ghost use Rattle.ta_shell.specs.Making.{Changed};
-ghost use Rattle.ta_shell.specs.Puts.{may_put};
-ghost use Rattle.ta_shell.specs.Staging.{Begun, SaysAndStages, StagedBy};
+ghost use Rattle.ta_shelf.specs.Ends.{ShelfState};
+ghost use Rattle.ta_shelf.specs.OutputCalls.{Changed};
+ghost use Rattle.ta_shelf.specs.Puts.{may_put};
+ghost use Rattle.ta_shelf.specs.Staging.{Begun, SaysAndStages, StagedBy};
 ghost use Rattle.ta_program.specs.Inside.Certifying.{SaysStaged};
 ghost use Rattle.ta_program.specs.Inside.Reported.{ReportedTo};
 ghost use Rattle.ta_program.specs.Reporting.{picked_meaning, report_meaning, verify_meaning};
@@ -29,8 +29,7 @@ use std::alloc::{AllocError, Global};
 use std::thread::Threads;
 use ta_report::Pick;
 use ta_scope::ScopedFile;
-use ta_shelf::Shelf;
-use ta_shell::{Outputs, Refusal, StagedAnswer, StagingCommand, begin_file};
+use ta_shelf::{Outputs, Refusal, Shelf, StagedAnswer, StagingCommand, begin_file};
 use ta_verdict::{Draft, Target, judge_picked_to};
 
 /// What `verify` is asked for.

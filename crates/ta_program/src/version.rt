@@ -3,8 +3,8 @@
 
 ghost use Rattle.std.specs.Prelude.{◌≡◌, [], Option, map, option_map};
 ghost use Rattle.ta_shelf.specs.Put.{Told};
-ghost use Rattle.ta_shell.specs.Commands.{Says};
-ghost use Rattle.ta_shell.specs.Reading.{ReadCause};
+ghost use Rattle.ta_shelf.specs.Commands.{Says};
+ghost use Rattle.ta_shelf.specs.Reading.{ReadCause};
 ghost use Rattle.ta_program.specs.Version.{version_meaning, version_words};
 
 use crate::request::Request;
@@ -12,8 +12,7 @@ use crate::words::take_words;
 use std::alloc::{AllocError, Global};
 use std::thread::Threads;
 use ta_base::Text;
-use ta_shelf::Shelf;
-use ta_shell::{Answer, Command, Outputs, Refusal};
+use ta_shelf::{Answer, Command, Outputs, Refusal, Shelf};
 
 /// The version, and the kit that the program is proved with.
 const VERSION: &str = "tav 0.2.0\nrattle-kit-13f logic dac8208d650f15bf\n";

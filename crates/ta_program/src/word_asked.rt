@@ -2,7 +2,7 @@
 #![tactic(auto)]
 
 ghost use Rattle.std.specs.Prelude.{◌≡◌, IfErr, IfOk, option_map};
-ghost use Rattle.ta_shell.specs.Lines.{phrase_text};
+ghost use Rattle.ta_shelf.specs.Lines.{phrase_text};
 ghost use Rattle.ta_smt.specs.declared.fault.WordFault.{WordFault};
 ghost use Rattle.ta_smt.specs.Named.{IsWholeWordOf, IsWordOf, WholeFaultOf, WordFaultOf};
 ghost use Rattle.ta_program.specs.Export.{word_fault_text};
@@ -17,7 +17,7 @@ use crate::values::file_name_of;
 use crate::words::Taken;
 use std::alloc::{AllocError, Global};
 use ta_automaton::File;
-use ta_shell::{Phrase, Refusal};
+use ta_shelf::{Phrase, Refusal};
 use ta_smt::{
     NamedWord, WordFault, are_elements, is_name, named_word, read_elements, start_of, whole_word,
 };

@@ -1,5 +1,7 @@
 -- how many marks a run has
-use Rattle.ta_replay.proofs.Common.{◌≡◌, inl, inr, ℕ, zero, suc, ◌+◌, ◌<◌, ◌≤◌, List, [], ◌∷◌, length, eqb, cond, arith, sym, ap, ◌∙◌, refl, Some, eqb_tells, AllByRecursion, some_at, sum_below, sum-ones, Automaton, Pattern, Run, RunLine, Step, Mark, LineFits, MarksAt, ShowsPattern, marks_count}
+use Rattle.ta_replay.proofs.Common.{◌≡◌, inl, inr, ℕ, zero, suc, ◌+◌, ◌<◌, ◌≤◌, List, [], ◌∷◌, length, eqb, cond, arith, sym, ap, ◌∙◌, refl, Some, eqb_tells}
+use Rattle.ta_replay.proofs.Common.{AllByRecursion, some_at, sum_below, sum-ones, Automaton, Pattern, Run, RunLine, Step, Mark, LineFits, MarksAt, ShowsPattern}
+use Rattle.ta_replay.proofs.Common.{marks_count}
 
 -- how many lines mark an event
 marks_of : List RunLine → ℕ → ℕ
@@ -33,7 +35,8 @@ sum-mark x lines (suc n) b = elim (eqb_tells n x) [
   | inr other ↦ rw other.0 (omega (arith, sum-mark x lines n (let s = other.1 in omega arith)))
 ]
 
-all_marks : (a : Automaton) (p : Pattern) (lines : List RunLine) → AllByRecursion (LineFits a p) lines → marks_count lines ≡ sum_below (marks_of lines) (length p.events)
+all_marks : (a : Automaton) (p : Pattern) (lines : List RunLine) → AllByRecursion (LineFits a p) lines
+    → marks_count lines ≡ sum_below (marks_of lines) (length p.events)
 all_marks a p [] fits = sym (sum-zero (length p.events))
 all_marks a p (Step r k ∷ lines) fits = all_marks a p lines fits.1 ∙ sym (sum-step r k lines (length p.events))
 all_marks a p (Mark x ∷ lines) fits = ap (λ n. 1 + n) (all_marks a p lines fits.1) ∙ sym (sum-mark x lines (length p.events) fits.0)
@@ -62,7 +65,8 @@ one_of (Mark x ∷ lines) e (suc i) at once = elim (eqb_tells e x) [
 ]
 
 -- a run that shows a pattern has as many marks as the pattern has events
-pub marks_are_events : (a : Automaton) (p : Pattern) (run : Run) → AllByRecursion (LineFits a p) run.lines → ShowsPattern a p run → marks_count run.lines ≡ length p.events
+pub marks_are_events : (a : Automaton) (p : Pattern) (run : Run) → AllByRecursion (LineFits a p) run.lines → ShowsPattern a p run
+    → marks_count run.lines ≡ length p.events
 marks_are_events a p run fits s =
     all_marks a p run.lines fits
     ∙ sum-ones (marks_of run.lines) (length p.events) (λ e b.

@@ -1,5 +1,6 @@
 -- Values in decimal.
-use Rattle.ta_replay.proofs.Common.{ℕ, ℤ, pos, negsuc, to_z, of_z, ◌^◌, ◌<◌, ◌≡◌, refl, sym, ap, subst, ◌∙◌, decimal, arith, rules, lit≤, signed_decimal, w128, ints, to_z-of_z, Avoids, Value, FitsSigned}
+use Rattle.ta_replay.proofs.Common.{ℕ, ℤ, pos, negsuc, to_z, of_z, ◌^◌, ◌<◌, ◌≡◌, refl, sym, ap, subst, ◌∙◌, decimal, arith, rules, lit≤, signed_decimal, w128}
+use Rattle.ta_replay.proofs.Common.{ints, to_z-of_z, Avoids, Value, FitsSigned}
 use Rattle.ta_base.proofs.DecimalDigits.{decimal_avoids, decimal_same}
 
 -- a value is a natural number below 2^127

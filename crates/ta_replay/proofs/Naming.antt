@@ -1,7 +1,9 @@
 -- the pattern that a replay reads
-use Rattle.ta_replay.proofs.Common.{◌≡◌, List, length, arith, sym, ap, ◌∙◌, subst, slice_get, get_or, Some, same_Some, slice_get_within, read_same, File, Pattern, Run, Fits, Shows, ShowsPattern, FitsPattern}
+use Rattle.ta_replay.proofs.Common.{◌≡◌, List, length, arith, sym, ap, ◌∙◌, subst, slice_get, get_or, Some, same_Some, slice_get_within, read_same, File}
+use Rattle.ta_replay.proofs.Common.{Pattern, Run, Fits, Shows, ShowsPattern, FitsPattern}
 
-pub named_read : (file : File) (run : Run) (patterns : List Pattern) (p : Pattern) → Fits file run → patterns ≡ file.patterns → p ≡ get_or patterns run.pattern p → slice_get file.patterns run.pattern ≡ Some p
+pub named_read : (file : File) (run : Run) (patterns : List Pattern) (p : Pattern) → Fits file run → patterns ≡ file.patterns
+    → p ≡ get_or patterns run.pattern p → slice_get file.patterns run.pattern ≡ Some p
 named_read file run patterns p fits same is =
     let within = slice_get_within file.patterns run.pattern fits.pattern fits.named in
     let count = ap (λ (ps : List Pattern). length ps) same in
@@ -17,5 +19,6 @@ fits_read file run p fits at =
       lines = fits.lines;
     })
 
-pub shows_read : (file : File) (run : Run) (p : Pattern) → (shown : Shows file run) → slice_get file.patterns run.pattern ≡ Some p → ShowsPattern file.automaton p run
+pub shows_read : (file : File) (run : Run) (p : Pattern) → (shown : Shows file run) → slice_get file.patterns run.pattern ≡ Some p
+    → ShowsPattern file.automaton p run
 shows_read file run p shown at = subst (λ q. ShowsPattern file.automaton q run) (same_Some shown.pattern p (sym shown.named ∙ at)) shown.shows

@@ -1,5 +1,7 @@
 -- a run that shows its pattern is an occurrence of it
-use Rattle.ta_replay.proofs.Common.{◌≡◌, inl, inr, ℕ, zero, suc, ◌<◌, ◌≤◌, List, [], ◌∷◌, length, take, replicate, unsigned_abs, arith, sym, ap, refl, subst, slice_get, Some, length-append, cases_lt, get_or_past, slice_get-get_or, slice_get_within, Event, HappensAt, RunLine, Step, Mark, unit_steps, steps_before, MarksAt, MarkedOnce, ShownRunsOccur}
+use Rattle.ta_replay.proofs.Common.{◌≡◌, inl, inr, ℕ, zero, suc, ◌<◌, ◌≤◌, List, [], ◌∷◌, length, take, replicate, unsigned_abs, arith, sym, ap, refl, subst}
+use Rattle.ta_replay.proofs.Common.{slice_get, Some, length-append, cases_lt, get_or_past, slice_get-get_or, slice_get_within, Event, HappensAt, RunLine, Step}
+use Rattle.ta_replay.proofs.Common.{Mark, unit_steps, steps_before, MarksAt, MarkedOnce, ShownRunsOccur}
 use Rattle.ta_automaton.specs.Runs.{Config}
 
 -- the further down a line, the more steps stand before it
@@ -26,7 +28,8 @@ choose {X} P (y ∷ ys) h =
     let here = h 0 y refl in
     let rest = choose (λ i x n. P (suc i) x n) ys (λ i x at. h (suc i) x at) in
     record { numbers = here.0 ∷ rest.numbers; count = ap suc rest.count; each = both here.0 rest.numbers here.1 rest.each } where
-      both : (m : ℕ) (ns : List ℕ) → P 0 y m → ((i : ℕ) (x : X) (n : ℕ) → slice_get ys i ≡ Some x → slice_get ns i ≡ Some n → P (suc i) x n) → (i : ℕ) (x : X) (n : ℕ) → slice_get (y ∷ ys) i ≡ Some x → slice_get (m ∷ ns) i ≡ Some n → P i x n
+      both : (m : ℕ) (ns : List ℕ) → P 0 y m → ((i : ℕ) (x : X) (n : ℕ) → slice_get ys i ≡ Some x → slice_get ns i ≡ Some n → P (suc i) x n)
+          → (i : ℕ) (x : X) (n : ℕ) → slice_get (y ∷ ys) i ≡ Some x → slice_get (m ∷ ns) i ≡ Some n → P i x n
       both m ns first more zero x n at there =
           let item : y ≡ x = cc in
           let number : m ≡ n = cc in
@@ -38,7 +41,8 @@ record Position (lines : List RunLine) (first : Config) (later : List Config) (e
   mark : MarkedOnce lines first later e event
   is : n ≡ steps_before lines mark.line
 
-position_before : (lines : List RunLine) (first : Config) (later : List Config) (e f : ℕ) (event other : Event) (n m : ℕ) → (p : Position lines first later e event n) → (q : Position lines first later f other m) → (j : ℕ) → j < p.mark.line → MarksAt lines j f → m ≤ n
+position_before : (lines : List RunLine) (first : Config) (later : List Config) (e f : ℕ) (event other : Event) (n m : ℕ)
+    → (p : Position lines first later e event n) → (q : Position lines first later f other m) → (j : ℕ) → j < p.mark.line → MarksAt lines j f → m ≤ n
 position_before lines first later e f event other n m p q j less at =
     let same = q.mark.once j at in
     let le = steps_before_le lines j p.mark.line (omega arith) in
@@ -51,7 +55,8 @@ pub shown_occurs : ShownRunsOccur
 shown_occurs file run shown =
     let s = shown.shows in
     let p = shown.pattern in
-    let chosen = choose (λ e event n. Position run.lines s.first s.later e event n) p.events (λ e event at. let m = s.marked e event at in (steps_before run.lines m.line, record { mark = m; is = refl })) in
+    let chosen = choose (λ e event n. Position run.lines s.first s.later e event n) p.events
+    (λ e event at. let m = s.marked e event at in (steps_before run.lines m.line, record { mark = m; is = refl })) in
     record {
       later = s.later;
       run = s.follows;

@@ -1,5 +1,6 @@
 -- Texts and runs have one answer.
-use Rattle.ta_replay.proofs.Common.{◌≡◌, ℕ, List, refl, sym, ap, subst, File, Run, RunFault, Fits, FirstRefusal, ReplayFault, ReplayStays, Shows, TextFault, ◌≢◌}
+use Rattle.ta_replay.proofs.Common.{◌≡◌, ℕ, List, refl, sym, ap, subst, File, Run, RunFault, Fits, FirstRefusal, ReplayFault, ReplayStays, Shows, TextFault}
+use Rattle.ta_replay.proofs.Common.{◌≢◌}
 use Rattle.ta_replay.specs.declared.fault.RunFault.TheVariants as fault
 use Rattle.ta_replay.specs.Determined.{RefusalsAreDetermined, TextsAreDetermined}
 use Rattle.ta_replay.proofs.Naming.{fits_read}
@@ -8,7 +9,8 @@ use Rattle.ta_replay.proofs.OneRefusal.{one_refusal}
 use Rattle.ta_replay.proofs.OneRun.{no_fault, one_run}
 use Rattle.ta_replay.proofs.Refusing.{denied, only_memory}
 
-pub text_fault_once : (file : File) (bytes : List ℕ) (e f : RunFault) → e ≢ fault.Memory → f ≢ fault.Memory → TextFault file bytes e → TextFault file bytes f → e ≡ f
+pub text_fault_once : (file : File) (bytes : List ℕ) (e f : RunFault) → e ≢ fault.Memory → f ≢ fault.Memory → TextFault file bytes e → TextFault file bytes f
+    → e ≡ f
 text_fault_once file bytes (fault.Line m) (fault.Line n) some other s t = ap fault.Line (one_malformed file bytes m n s t)
 text_fault_once file bytes (fault.Line m) (fault.Name n) some other s t = absurd (not_both file bytes m n s t)
 text_fault_once file bytes (fault.Name m) (fault.Line n) some other s t = absurd (not_both file bytes n m t s)
@@ -32,7 +34,8 @@ none_where_shown : (file : File) (run : Run) (e : RunFault) → Fits file run �
 none_where_shown file run e fits shown stays refused =
     let p = shown.pattern in
     let first = refused p shown.named in
-    let memory = only_memory file.automaton p run (stays p shown.named) e (denied file.automaton p run (fits_read file run p fits shown.named) shown.shows e first) in
+    let memory = only_memory file.automaton p run (stays p shown.named) e
+    (denied file.automaton p run (fits_read file run p fits shown.named) shown.shows e first) in
     subst (FirstRefusal file.automaton p run) memory first
 
 -- a run has one answer

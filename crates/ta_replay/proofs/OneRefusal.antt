@@ -1,5 +1,10 @@
 -- A run has one first refusal.
-use Rattle.ta_replay.proofs.Common.{cases_order, ◌≡◌, inl, inr, ℕ, ◌+◌, ◌<◌, ℤ, pos, List, length, take, refl, sym, ap, ◌∙◌, subst, slice_get, Some, ext_get_or, same_Some, AllByRecursion, each_at, some_at, point_of, Automaton, File, Pattern, Rule, RowFails, RowOutOfRange, ConditionPasses, MayStart, StartsAt, StartFails, StepFails, StepIsTaken, before_last, Run, RunLine, Step, Mark, RunFault, Resilience, Processes, Start, NotEmpty, Guard, Count, MissingEvent, Overflow, Order, Fits, LineFits, IsMarked, EmptyAt, FirstFilled, LinePasses, LineTakes, MarkPasses, MayTakeLines, Takes, ValuesAfter, ConfigRefuses, StartRefuses, FilledAt, LineStops, LineRefuses, StepRefuses, StepFills, MarkRefuses, LacksMark, FirstRefusal, ReplayFault, run_line_number}
+use Rattle.ta_replay.proofs.Common.{cases_order, ◌≡◌, inl, inr, ℕ, ◌+◌, ◌<◌, ℤ, pos, List, length, take, refl, sym, ap, ◌∙◌, subst, slice_get, Some, ext_get_or}
+use Rattle.ta_replay.proofs.Common.{same_Some, AllByRecursion, each_at, some_at, point_of, Automaton, File, Pattern, Rule, RowFails, RowOutOfRange}
+use Rattle.ta_replay.proofs.Common.{ConditionPasses, MayStart, StartsAt, StartFails, StepFails, StepIsTaken, before_last, Run, RunLine, Step, Mark, RunFault}
+use Rattle.ta_replay.proofs.Common.{Resilience, Processes, Start, NotEmpty, Guard, Count, MissingEvent, Overflow, Order, Fits, LineFits, IsMarked, EmptyAt}
+use Rattle.ta_replay.proofs.Common.{FirstFilled, LinePasses, LineTakes, MarkPasses, MayTakeLines, Takes, ValuesAfter, ConfigRefuses, StartRefuses, FilledAt}
+use Rattle.ta_replay.proofs.Common.{LineStops, LineRefuses, StepRefuses, StepFills, MarkRefuses, LacksMark, FirstRefusal, ReplayFault, run_line_number}
 use Rattle.ta_counter.specs.declared.fault.StartFault.{StartFault}
 use Rattle.ta_counter.specs.declared.fault.StartFault.TheVariants as start
 use Rattle.ta_counter.specs.declared.fault.StepFault.{StepFault}
@@ -10,18 +15,30 @@ use Rattle.ta_replay.proofs.FirstBad.{condition_clash, condition_meets, fails_cl
 
 -- the checks of the first configuration
 start_once : (a : Automaton) (parameters counts : List ℤ) (e f : StartFault) → StartFails a parameters counts e → StartFails a parameters counts f → e ≡ f
-start_once a ps cs (start.Resilience k) (start.Resilience l) s t = ap start.Resilience (condition_meets (point_of ps) (RowFails (point_of ps)) (RowFails (point_of ps)) (fails_clash (point_of ps)) (fails_clash (point_of ps)) a.resilience k l s t).0
-start_once a ps cs (start.Resilience k) start.Processes s t = absurd (condition_clash (point_of ps) (RowFails (point_of ps)) (fails_clash (point_of ps)) a.resilience k t.resilience s)
-start_once a ps cs (start.Resilience k) start.OutOfRange s (inl t) = absurd (not_both_bad (point_of ps) (condition_meets (point_of ps) (RowFails (point_of ps)) (RowOutOfRange (point_of ps)) (fails_clash (point_of ps)) (leaves_clash (point_of ps)) a.resilience k t.0 s t.1).1)
-start_once a ps cs (start.Resilience k) start.OutOfRange s (inr t) = absurd (condition_clash (point_of ps) (RowFails (point_of ps)) (fails_clash (point_of ps)) a.resilience k t.0 s)
-start_once a ps cs start.Processes (start.Resilience k) s t = absurd (condition_clash (point_of ps) (RowFails (point_of ps)) (fails_clash (point_of ps)) a.resilience k s.resilience t)
+start_once a ps cs (start.Resilience k) (start.Resilience l) s t = ap start.Resilience
+    (condition_meets (point_of ps) (RowFails (point_of ps)) (RowFails (point_of ps)) (fails_clash (point_of ps)) (fails_clash (point_of ps)) a.resilience k l s
+    t).0
+start_once a ps cs (start.Resilience k) start.Processes s t = absurd
+    (condition_clash (point_of ps) (RowFails (point_of ps)) (fails_clash (point_of ps)) a.resilience k t.resilience s)
+start_once a ps cs (start.Resilience k) start.OutOfRange s (inl t) = absurd
+    (not_both_bad (point_of ps) (condition_meets (point_of ps) (RowFails (point_of ps)) (RowOutOfRange (point_of ps)) (fails_clash (point_of ps))
+    (leaves_clash (point_of ps)) a.resilience k t.0 s t.1).1)
+start_once a ps cs (start.Resilience k) start.OutOfRange s (inr t) = absurd
+    (condition_clash (point_of ps) (RowFails (point_of ps)) (fails_clash (point_of ps)) a.resilience k t.0 s)
+start_once a ps cs start.Processes (start.Resilience k) s t = absurd
+    (condition_clash (point_of ps) (RowFails (point_of ps)) (fails_clash (point_of ps)) a.resilience k s.resilience t)
 start_once a ps cs start.Processes start.Processes s t = refl
-start_once a ps cs start.Processes start.OutOfRange s (inl t) = absurd (condition_clash (point_of ps) (RowOutOfRange (point_of ps)) (leaves_clash (point_of ps)) a.resilience t.0 s.resilience t.1)
+start_once a ps cs start.Processes start.OutOfRange s (inl t) = absurd
+    (condition_clash (point_of ps) (RowOutOfRange (point_of ps)) (leaves_clash (point_of ps)) a.resilience t.0 s.resilience t.1)
 start_once a ps cs start.Processes start.OutOfRange s (inr (passes, inl leaves)) = absurd (leaves s.processes_stay)
 start_once a ps cs start.Processes start.OutOfRange s (inr (passes, inr leaves)) = absurd (leaves s.sum_stays)
-start_once a ps cs start.OutOfRange (start.Resilience k) (inl s) t = absurd (not_both_bad (point_of ps) (condition_meets (point_of ps) (RowFails (point_of ps)) (RowOutOfRange (point_of ps)) (fails_clash (point_of ps)) (leaves_clash (point_of ps)) a.resilience k s.0 t s.1).1)
-start_once a ps cs start.OutOfRange (start.Resilience k) (inr s) t = absurd (condition_clash (point_of ps) (RowFails (point_of ps)) (fails_clash (point_of ps)) a.resilience k s.0 t)
-start_once a ps cs start.OutOfRange start.Processes (inl s) t = absurd (condition_clash (point_of ps) (RowOutOfRange (point_of ps)) (leaves_clash (point_of ps)) a.resilience s.0 t.resilience s.1)
+start_once a ps cs start.OutOfRange (start.Resilience k) (inl s) t = absurd
+    (not_both_bad (point_of ps) (condition_meets (point_of ps) (RowFails (point_of ps)) (RowOutOfRange (point_of ps)) (fails_clash (point_of ps))
+    (leaves_clash (point_of ps)) a.resilience k s.0 t s.1).1)
+start_once a ps cs start.OutOfRange (start.Resilience k) (inr s) t = absurd
+    (condition_clash (point_of ps) (RowFails (point_of ps)) (fails_clash (point_of ps)) a.resilience k s.0 t)
+start_once a ps cs start.OutOfRange start.Processes (inl s) t = absurd
+    (condition_clash (point_of ps) (RowOutOfRange (point_of ps)) (leaves_clash (point_of ps)) a.resilience s.0 t.resilience s.1)
 start_once a ps cs start.OutOfRange start.Processes (inr (passes, inl leaves)) t = absurd (leaves t.processes_stay)
 start_once a ps cs start.OutOfRange start.Processes (inr (passes, inr leaves)) t = absurd (leaves t.sum_stays)
 start_once a ps cs start.OutOfRange start.OutOfRange s t = refl
@@ -29,7 +46,8 @@ start_once a ps cs start.OutOfRange start.OutOfRange s t = refl
 may_not_fail : (a : Automaton) (parameters counts : List ℤ) (e : StartFault) → MayStart a parameters counts → StartFails a parameters counts e → ⊥
 may_not_fail a ps cs (start.Resilience k) m s = condition_clash (point_of ps) (RowFails (point_of ps)) (fails_clash (point_of ps)) a.resilience k m.resilience s
 may_not_fail a ps cs start.Processes m s = s.differ m.same
-may_not_fail a ps cs start.OutOfRange m (inl s) = condition_clash (point_of ps) (RowOutOfRange (point_of ps)) (leaves_clash (point_of ps)) a.resilience s.0 m.resilience s.1
+may_not_fail a ps cs start.OutOfRange m (inl s) = condition_clash (point_of ps) (RowOutOfRange (point_of ps)) (leaves_clash (point_of ps)) a.resilience s.0
+    m.resilience s.1
 may_not_fail a ps cs start.OutOfRange m (inr (passes, inl leaves)) = leaves m.processes_stay
 may_not_fail a ps cs start.OutOfRange m (inr (passes, inr leaves)) = leaves m.sum_stays
 
@@ -62,9 +80,14 @@ config_not a run e may h = let s = start_is a run e h in may_not_fail a run.para
 
 -- the start condition
 condition_once : (p : Pattern) (values : List ℤ) (e f : RunFault) → StartRefuses p values e → StartRefuses p values f → e ≡ f
-condition_once p vs (Start k) (Start l) s t = ap Start (condition_meets (point_of vs) (RowFails (point_of vs)) (RowFails (point_of vs)) (fails_clash (point_of vs)) (fails_clash (point_of vs)) p.start k l s t).0
-condition_once p vs (Start k) (Overflow l) s t = absurd (not_both_bad (point_of vs) (condition_meets (point_of vs) (RowFails (point_of vs)) (RowOutOfRange (point_of vs)) (fails_clash (point_of vs)) (leaves_clash (point_of vs)) p.start k t.1.0 s t.1.1).1)
-condition_once p vs (Overflow k) (Start l) s t = absurd (not_both_bad (point_of vs) (condition_meets (point_of vs) (RowFails (point_of vs)) (RowOutOfRange (point_of vs)) (fails_clash (point_of vs)) (leaves_clash (point_of vs)) p.start l s.1.0 t s.1.1).1)
+condition_once p vs (Start k) (Start l) s t = ap Start
+    (condition_meets (point_of vs) (RowFails (point_of vs)) (RowFails (point_of vs)) (fails_clash (point_of vs)) (fails_clash (point_of vs)) p.start k l s t).0
+condition_once p vs (Start k) (Overflow l) s t = absurd
+    (not_both_bad (point_of vs) (condition_meets (point_of vs) (RowFails (point_of vs)) (RowOutOfRange (point_of vs)) (fails_clash (point_of vs))
+    (leaves_clash (point_of vs)) p.start k t.1.0 s t.1.1).1)
+condition_once p vs (Overflow k) (Start l) s t = absurd
+    (not_both_bad (point_of vs) (condition_meets (point_of vs) (RowFails (point_of vs)) (RowOutOfRange (point_of vs)) (fails_clash (point_of vs))
+    (leaves_clash (point_of vs)) p.start l s.1.0 t s.1.1).1)
 condition_once p vs (Overflow k) (Overflow l) s t = ap Overflow (s.0 ∙ sym t.0)
 condition_once p vs (Start k) _ s t = absurd t
 condition_once p vs (Overflow k) _ s t = absurd t
@@ -81,13 +104,15 @@ of_step n step.Count = Count n
 of_step n (step.OutOfRange place) = Overflow n
 of_step n (step.Guard guard) = Guard n guard
 
-leaves_or_guard : (a : Automaton) (rule : Rule) (factor : ℤ) (values : List ℤ) (place guard : ℕ) → StepFails a rule factor values (step.OutOfRange place) → StepFails a rule factor values (step.Guard guard) → ⊥
+leaves_or_guard : (a : Automaton) (rule : Rule) (factor : ℤ) (values : List ℤ) (place guard : ℕ) → StepFails a rule factor values (step.OutOfRange place)
+    → StepFails a rule factor values (step.Guard guard) → ⊥
 leaves_or_guard a rule factor vs place guard (enough, inl l) t = l.first.bad (t.1 l.number l.first.item l.first.at)
 leaves_or_guard a rule factor vs place guard (enough, inr w) t =
     let met = guards_meet a rule (point_of vs) (before_last a rule factor vs) RowFails RowOutOfRange fails_clash leaves_clash guard w.1.0 t.2 w.1.2 in
     not_both_bad met.1.0 met.1.1
 
-step_once : (a : Automaton) (rule : Rule) (factor : ℤ) (values : List ℤ) (n : ℕ) (e f : StepFault) → StepFails a rule factor values e → StepFails a rule factor values f → of_step n e ≡ of_step n f
+step_once : (a : Automaton) (rule : Rule) (factor : ℤ) (values : List ℤ) (n : ℕ) (e f : StepFault) → StepFails a rule factor values e
+    → StepFails a rule factor values f → of_step n e ≡ of_step n f
 unfolding of_step
 step_once a rule factor vs n step.Count step.Count s t = refl
 step_once a rule factor vs n step.Count (step.OutOfRange place) s t = absurd (s t.0)
@@ -100,11 +125,14 @@ step_once a rule factor vs n (step.Guard guard) (step.OutOfRange place) s t = ab
 step_once a rule factor vs n (step.Guard guard) (step.Guard other) s t =
     ap (Guard n) (guards_meet a rule (point_of vs) (before_last a rule factor vs) RowFails RowFails fails_clash fails_clash guard other s.2 t.2).0
 
-taken_not : (a : Automaton) (rule : Rule) (factor : ℤ) (values after : List ℤ) (e : StepFault) → StepIsTaken a rule factor values after → StepFails a rule factor values e → ⊥
+taken_not : (a : Automaton) (rule : Rule) (factor : ℤ) (values after : List ℤ) (e : StepFault) → StepIsTaken a rule factor values after
+    → StepFails a rule factor values e → ⊥
 taken_not a rule factor vs after step.Count t s = s t.enough
 taken_not a rule factor vs after (step.OutOfRange place) t (enough, inl l) = l.first.bad (t.grow l.number l.first.item l.first.at)
-taken_not a rule factor vs after (step.OutOfRange place) t (enough, inr w) = guards_clash a rule (point_of vs) (before_last a rule factor vs) RowOutOfRange leaves_clash w.1.0 t.guards.rise t.guards.fall w.1.2
-taken_not a rule factor vs after (step.Guard guard) t s = guards_clash a rule (point_of vs) (before_last a rule factor vs) RowFails fails_clash guard t.guards.rise t.guards.fall s.2
+taken_not a rule factor vs after (step.OutOfRange place) t (enough, inr w) = guards_clash a rule (point_of vs) (before_last a rule factor vs) RowOutOfRange
+    leaves_clash w.1.0 t.guards.rise t.guards.fall w.1.2
+taken_not a rule factor vs after (step.Guard guard) t s = guards_clash a rule (point_of vs) (before_last a rule factor vs) RowFails fails_clash guard
+    t.guards.rise t.guards.fall s.2
 
 -- a step leads to one list of values
 taken_once : (a : Automaton) (rule : Rule) (factor : ℤ) (values v w : List ℤ) → StepIsTaken a rule factor values v → StepIsTaken a rule factor values w → v ≡ w
@@ -112,10 +140,12 @@ taken_once a rule factor vs v w s t = ext_get_or (pos 0) v w (s.places ∙ sym t
 
 -- how a step refuses: by its checks, or by `empty`
 data StepIs (a : Automaton) (p : Pattern) (values : List ℤ) (r : ℕ) (factor : ℤ) (n : ℕ) (e : RunFault) : Type 0 where
-  Checked : (fault : StepFault) → ((rule : Rule) → slice_get a.rules r ≡ Some rule → StepFails a rule factor values fault) → e ≡ of_step n fault → StepIs a p values r factor n e
+  Checked : (fault : StepFault) → ((rule : Rule) → slice_get a.rules r ≡ Some rule → StepFails a rule factor values fault) → e ≡ of_step n fault
+      → StepIs a p values r factor n e
   Filled : StepFills a p values r factor → e ≡ NotEmpty n → StepIs a p values r factor n e
 
-step_is : (a : Automaton) (p : Pattern) (values : List ℤ) (r : ℕ) (factor : ℤ) (n : ℕ) (e : RunFault) → StepRefuses a p values r factor n e → StepIs a p values r factor n e
+step_is : (a : Automaton) (p : Pattern) (values : List ℤ) (r : ℕ) (factor : ℤ) (n : ℕ) (e : RunFault) → StepRefuses a p values r factor n e
+    → StepIs a p values r factor n e
 unfolding of_step
 step_is a p vs r factor n (Count line) h = Checked step.Count h.1 (ap Count h.0)
 step_is a p vs r factor n (Overflow line) h = Checked (step.OutOfRange h.1.0) h.1.1 (ap Overflow h.0)
@@ -123,7 +153,8 @@ step_is a p vs r factor n (Guard line guard) h = Checked (step.Guard guard) h.1 
 step_is a p vs r factor n (NotEmpty line) h = Filled h.1 (ap NotEmpty h.0)
 step_is a p vs r factor n _ h = absurd h
 
-step_same : (a : Automaton) (p : Pattern) (values : List ℤ) (r : ℕ) (factor : ℤ) (n : ℕ) (e f : RunFault) → r < length a.rules → StepIs a p values r factor n e → StepIs a p values r factor n f → e ≡ f
+step_same : (a : Automaton) (p : Pattern) (values : List ℤ) (r : ℕ) (factor : ℤ) (n : ℕ) (e f : RunFault) → r < length a.rules → StepIs a p values r factor n e
+    → StepIs a p values r factor n f → e ≡ f
 step_same a p vs r factor n e f within (Checked x fails is) (Checked y fail be) =
     let rule = some_at a.rules r within in
     is ∙ step_once a rule.0 factor vs n x y (fails rule.0 rule.1) (fail rule.0 rule.1) ∙ sym be
@@ -135,7 +166,8 @@ step_same a p vs r factor n e f within (Filled fills is) (Checked y fail be) =
     absurd (taken_not a rule.0 factor vs fills.0 y (fills.1 rule.0 rule.1) (fail rule.0 rule.1))
 step_same a p vs r factor n e f within (Filled fills is) (Filled fill be) = is ∙ sym be
 
-step_not : (a : Automaton) (p : Pattern) (values after : List ℤ) (r : ℕ) (factor : ℤ) (n : ℕ) (e : RunFault) → r < length a.rules → Takes a r factor values after → EmptyAt a p.empty after → StepIs a p values r factor n e → ⊥
+step_not : (a : Automaton) (p : Pattern) (values after : List ℤ) (r : ℕ) (factor : ℤ) (n : ℕ) (e : RunFault) → r < length a.rules
+    → Takes a r factor values after → EmptyAt a p.empty after → StepIs a p values r factor n e → ⊥
 step_not a p vs after r factor n e within takes kept (Checked x fails is) =
     let rule = some_at a.rules r within in
     taken_not a rule.0 factor vs after x (takes rule.0 rule.1) (fails rule.0 rule.1)
@@ -144,7 +176,8 @@ step_not a p vs after r factor n e within takes kept (Filled fills is) =
     fills.2 (subst (EmptyAt a p.empty) (taken_once a rule.0 factor vs after fills.0 (takes rule.0 rule.1) (fills.1 rule.0 rule.1)) kept)
 
 -- a mark
-mark_once : (p : Pattern) (Marked : ℕ → Type 0) (values : List ℤ) (e n : ℕ) (x y : RunFault) → e < length p.events → MarkRefuses p Marked values e n x → MarkRefuses p Marked values e n y → x ≡ y
+mark_once : (p : Pattern) (Marked : ℕ → Type 0) (values : List ℤ) (e n : ℕ) (x y : RunFault) → e < length p.events → MarkRefuses p Marked values e n x
+    → MarkRefuses p Marked values e n y → x ≡ y
 mark_once p Marked vs e n (Order line) (Order other) within s t = ap Order (s.0 ∙ sym t.0)
 mark_once p Marked vs e n (Order line) (Overflow other) within s t = absurd (s.1 t.1.0)
 mark_once p Marked vs e n (Order line) (Event other) within s t = absurd (s.1 t.1.0)
@@ -154,20 +187,25 @@ mark_once p Marked vs e n (Overflow line) (Event other) within s t =
     let event = some_at p.events e within in
     let bad = t.1.1 event.0 event.1 in
     let worse = s.1.1 event.0 event.1 in
-    absurd (not_both_bad (point_of vs) (condition_meets (point_of vs) (RowFails (point_of vs)) (RowOutOfRange (point_of vs)) (fails_clash (point_of vs)) (leaves_clash (point_of vs)) event.0.condition bad.0 worse.0 bad.1 worse.1).1)
+    absurd (not_both_bad (point_of vs)
+    (condition_meets (point_of vs) (RowFails (point_of vs)) (RowOutOfRange (point_of vs)) (fails_clash (point_of vs)) (leaves_clash (point_of vs))
+    event.0.condition bad.0 worse.0 bad.1 worse.1).1)
 mark_once p Marked vs e n (Event line) (Order other) within s t = absurd (t.1 s.1.0)
 mark_once p Marked vs e n (Event line) (Overflow other) within s t =
     let event = some_at p.events e within in
     let bad = s.1.1 event.0 event.1 in
     let worse = t.1.1 event.0 event.1 in
-    absurd (not_both_bad (point_of vs) (condition_meets (point_of vs) (RowFails (point_of vs)) (RowOutOfRange (point_of vs)) (fails_clash (point_of vs)) (leaves_clash (point_of vs)) event.0.condition bad.0 worse.0 bad.1 worse.1).1)
+    absurd (not_both_bad (point_of vs)
+    (condition_meets (point_of vs) (RowFails (point_of vs)) (RowOutOfRange (point_of vs)) (fails_clash (point_of vs)) (leaves_clash (point_of vs))
+    event.0.condition bad.0 worse.0 bad.1 worse.1).1)
 mark_once p Marked vs e n (Event line) (Event other) within s t = ap Event (s.0 ∙ sym t.0)
 mark_once p Marked vs e n (Order line) _ within s t = absurd t
 mark_once p Marked vs e n (Overflow line) _ within s t = absurd t
 mark_once p Marked vs e n (Event line) _ within s t = absurd t
 mark_once p Marked vs e n _ y within s t = absurd s
 
-mark_not : (p : Pattern) (Marked : ℕ → Type 0) (values : List ℤ) (e n : ℕ) (x : RunFault) → e < length p.events → MarkPasses p Marked values e → MarkRefuses p Marked values e n x → ⊥
+mark_not : (p : Pattern) (Marked : ℕ → Type 0) (values : List ℤ) (e n : ℕ) (x : RunFault) → e < length p.events → MarkPasses p Marked values e
+    → MarkRefuses p Marked values e n x → ⊥
 mark_not p Marked vs e n (Order line) within passes s = s.1 passes.0
 mark_not p Marked vs e n (Overflow line) within passes s =
     let event = some_at p.events e within in
@@ -180,35 +218,42 @@ mark_not p Marked vs e n (Event line) within passes s =
 mark_not p Marked vs e n _ within passes s = s
 
 -- a line
-line_once : (a : Automaton) (p : Pattern) (Marked : ℕ → Type 0) (values : List ℤ) (line : RunLine) (n : ℕ) (e f : RunFault) → LineFits a p line → LineRefuses a p Marked values line n e → LineRefuses a p Marked values line n f → e ≡ f
+line_once : (a : Automaton) (p : Pattern) (Marked : ℕ → Type 0) (values : List ℤ) (line : RunLine) (n : ℕ) (e f : RunFault) → LineFits a p line
+    → LineRefuses a p Marked values line n e → LineRefuses a p Marked values line n f → e ≡ f
 line_once a p Marked vs (Step r factor) n e f fits s t = step_same a p vs r factor n e f fits.0 (step_is a p vs r factor n e s) (step_is a p vs r factor n f t)
 line_once a p Marked vs (Mark k) n e f fits s t = mark_once p Marked vs k n e f fits s t
 
-line_not : (a : Automaton) (p : Pattern) (Marked : ℕ → Type 0) (values after : List ℤ) (line : RunLine) (n : ℕ) (e : RunFault) → LineFits a p line → LineTakes a p Marked values line after → LineRefuses a p Marked values line n e → ⊥
+line_not : (a : Automaton) (p : Pattern) (Marked : ℕ → Type 0) (values after : List ℤ) (line : RunLine) (n : ℕ) (e : RunFault) → LineFits a p line
+    → LineTakes a p Marked values line after → LineRefuses a p Marked values line n e → ⊥
 line_not a p Marked vs after (Step r factor) n e fits takes s = step_not a p vs after r factor n e fits.0 takes.0 takes.1 (step_is a p vs r factor n e s)
 line_not a p Marked vs after (Mark k) n e fits takes s = mark_not p Marked vs k n e fits takes.1 s
 
-fit_at : (a : Automaton) (p : Pattern) (run : Run) (i : ℕ) (line : RunLine) → AllByRecursion (LineFits a p) run.lines → slice_get run.lines i ≡ Some line → LineFits a p line
+fit_at : (a : Automaton) (p : Pattern) (run : Run) (i : ℕ) (line : RunLine) → AllByRecursion (LineFits a p) run.lines → slice_get run.lines i ≡ Some line
+    → LineFits a p line
 fit_at a p run i line fits at = each_at (LineFits a p) run.lines i line fits at
 
 -- a line that passes doesn't stop the replay
-stop_not : (a : Automaton) (p : Pattern) (run : Run) (e : RunFault) (s : LineStops a p run e) → AllByRecursion (LineFits a p) run.lines → LinePasses a p run s.i s.line → ⊥
+stop_not : (a : Automaton) (p : Pattern) (run : Run) (e : RunFault) (s : LineStops a p run e) → AllByRecursion (LineFits a p) run.lines
+    → LinePasses a p run s.i s.line → ⊥
 stop_not a p run e s fits passes =
     let values = after_same a run (take s.i run.lines) passes.values s.config.values.items passes.reached s.reached in
     line_not a p (IsMarked (take s.i run.lines)) s.config.values.items passes.after s.line (run_line_number a s.i) e (fit_at a p run s.i s.line fits s.at)
     (subst (λ (v : List ℤ). LineTakes a p (IsMarked (take s.i run.lines)) v s.line passes.after) values passes.takes) s.refuses
 
-stop_at_one : (a : Automaton) (p : Pattern) (run : Run) (e f : RunFault) (s : LineStops a p run e) (t : LineStops a p run f) → AllByRecursion (LineFits a p) run.lines → s.i ≡ t.i → e ≡ f
+stop_at_one : (a : Automaton) (p : Pattern) (run : Run) (e f : RunFault) (s : LineStops a p run e) (t : LineStops a p run f)
+    → AllByRecursion (LineFits a p) run.lines → s.i ≡ t.i → e ≡ f
 stop_at_one a p run e f s t fits same =
     let line : t.line ≡ s.line = same_Some t.line s.line (sym t.at ∙ ap (slice_get run.lines) (sym same) ∙ s.at) in
     let reached = subst (λ (i : ℕ). ValuesAfter a run (take i run.lines) t.config.values.items) (sym same) t.reached in
-    let values : t.config.values.items ≡ s.config.values.items = after_same a run (take s.i run.lines) t.config.values.items s.config.values.items reached s.reached in
+    let values : t.config.values.items ≡ s.config.values.items = after_same a run (take s.i run.lines) t.config.values.items s.config.values.items reached
+    s.reached in
     let here = subst (λ (i : ℕ). LineRefuses a p (IsMarked (take i run.lines)) t.config.values.items t.line (run_line_number a i) f) (sym same) t.refuses in
     let there = subst (λ (v : List ℤ). LineRefuses a p (IsMarked (take s.i run.lines)) v t.line (run_line_number a s.i) f) values here in
     let other = subst (λ (l : RunLine). LineRefuses a p (IsMarked (take s.i run.lines)) s.config.values.items l (run_line_number a s.i) f) line there in
     line_once a p (IsMarked (take s.i run.lines)) s.config.values.items s.line (run_line_number a s.i) e f (fit_at a p run s.i s.line fits s.at) s.refuses other
 
-stops_once : (a : Automaton) (p : Pattern) (run : Run) (e f : RunFault) → AllByRecursion (LineFits a p) run.lines → LineStops a p run e → LineStops a p run f → e ≡ f
+stops_once : (a : Automaton) (p : Pattern) (run : Run) (e f : RunFault) → AllByRecursion (LineFits a p) run.lines → LineStops a p run e → LineStops a p run f
+    → e ≡ f
 stops_once a p run e f fits s t =
     elim (cases_order s.i t.i) [
       | inl same ↦ stop_at_one a p run e f s t fits same
@@ -276,7 +321,8 @@ stage_of a p run (Count line) h = AtLine h
 stage_of a p run (Event line) h = AtLine h
 stage_of a p run (MissingEvent e) h = AtEnd (record { event = e; is = refl; lacks = h })
 stage_of a p run (Overflow line) (inl h) = AtConfig h
-stage_of a p run (Overflow line) (inr (inl h)) = (let s = h.1.1 in AtCondition (record { may_start = s.may_start; first = s.first; starts = s.starts; refuses = (h.0, (h.1.0, s.stops)) }))
+stage_of a p run (Overflow line) (inr (inl h)) =
+    (let s = h.1.1 in AtCondition (record { may_start = s.may_start; first = s.first; starts = s.starts; refuses = (h.0, (h.1.0, s.stops)) }))
 stage_of a p run (Overflow line) (inr (inr h)) = AtLine h
 stage_of a p run (Order line) h = AtLine h
 stage_of a p run _ h = absurd h

@@ -1,5 +1,9 @@
 -- the lines of pieces: how many steps they have, and where their marks stand
-use Rattle.ta_replay.proofs.Common.{◌≡◌, inl, inr, ℕ, zero, suc, ◌+◌, ◌<◌, ◌≤◌, ℤ, List, [], ◌∷◌, ◌++◌, map, length, take, replicate, unsigned_abs, Option, Some, None, slice_get, arith, refl, sym, ap, ◌∙◌, subst, length-append, append_assoc, append-nil, cases_lt, cases_order, slice_get_within, get_parts, Automaton, HappensAt, RunLine, Step, Mark, unit_steps, steps_before, MarksAt, Piece, OncePerRule, PiecesAreShort, PiecesShow, step_line, last_lines, piece_lines, pieces_lines, pieces_marks, steps_count, steps_until, rule_of, length-map}
+use Rattle.ta_replay.proofs.Common.{◌≡◌, inl, inr, ℕ, zero, suc, ◌+◌, ◌<◌, ◌≤◌, ℤ, List, [], ◌∷◌, ◌++◌, map, length, take, replicate, unsigned_abs, Option}
+use Rattle.ta_replay.proofs.Common.{Some, None, slice_get, arith, refl, sym, ap, ◌∙◌, subst, length-append, append_assoc, append-nil, cases_lt, cases_order}
+use Rattle.ta_replay.proofs.Common.{slice_get_within, get_parts, Automaton, HappensAt, RunLine, Step, Mark, unit_steps, steps_before, MarksAt, Piece}
+use Rattle.ta_replay.proofs.Common.{OncePerRule, PiecesAreShort, PiecesShow, step_line, last_lines, piece_lines, pieces_lines, pieces_marks, steps_count}
+use Rattle.ta_replay.proofs.Common.{steps_until, rule_of, length-map}
 use Rattle.ta_base.proofs.Members.{place_of}
 use Rattle.ta_base.proofs.Each.{distinct_length, each_map_of}
 use Rattle.ta_base.proofs.Times.{distinct-times, once_at, times-in}
@@ -26,14 +30,17 @@ count_marks (e ∷ es) = count_marks es
 
 piece_count : (a : Automaton) (piece : Piece) → OncePerRule a piece → steps_count (piece_lines piece) ≤ length a.rules + 1
 piece_count a piece h =
-    let few = distinct_length (length a.rules) (map rule_of piece.steps) (distinct-times (map rule_of piece.steps) h.once) (each_map_of rule_of (λ r. r < length a.rules) piece.steps h.exist) in
+    let few = distinct_length (length a.rules) (map rule_of piece.steps) (distinct-times (map rule_of piece.steps) h.once)
+    (each_map_of rule_of (λ r. r < length a.rules) piece.steps h.exist) in
     let left = steps_count-append (map step_line piece.steps) (last_lines piece.last ++ map Mark piece.marks) in
     let right = steps_count-append (last_lines piece.last) (map Mark piece.marks) in
     omega (arith, left, right, count_steps piece.steps, count_last piece.last, count_marks piece.marks, few, length-map piece.steps rule_of)
 
 pub are_short : PiecesAreShort
 are_short a [] h = omega arith
-are_short a (piece ∷ pieces) h = product_next (length a.rules + 1) (length pieces) (steps_count (pieces_lines (piece ∷ pieces))) (steps_count (piece_lines piece)) (steps_count (pieces_lines pieces)) (steps_count-append (piece_lines piece) (pieces_lines pieces)) (piece_count a piece h.0) (are_short a pieces h.1)
+are_short a (piece ∷ pieces) h = product_next (length a.rules + 1) (length pieces) (steps_count (pieces_lines (piece ∷ pieces)))
+    (steps_count (piece_lines piece)) (steps_count (pieces_lines pieces)) (steps_count-append (piece_lines piece) (pieces_lines pieces))
+    (piece_count a piece h.0) (are_short a pieces h.1)
 
 -- the events that lines mark, in order
 marked : List RunLine → List ℕ
@@ -67,7 +74,8 @@ abbrev front_of : Piece → List RunLine
 front_of piece = map step_line piece.steps ++ last_lines piece.last
 
 front_unmarked : (piece : Piece) → marked (front_of piece) ≡ []
-front_unmarked piece = marked-append (map step_line piece.steps) (last_lines piece.last) ∙ ap (λ (es : List ℕ). es ++ marked (last_lines piece.last)) (marked_steps piece.steps) ∙ marked_last piece.last
+front_unmarked piece = marked-append (map step_line piece.steps) (last_lines piece.last)
+    ∙ ap (λ (es : List ℕ). es ++ marked (last_lines piece.last)) (marked_steps piece.steps) ∙ marked_last piece.last
 
 lines_parts : (piece : Piece) (rest : List RunLine) → piece_lines piece ++ rest ≡ front_of piece ++ (map Mark piece.marks ++ rest)
 lines_parts piece rest = simp append_assoc
@@ -125,7 +133,8 @@ place_less (Mark x ∷ lines) (suc i) (suc j) e at b = let rest = place_less lin
 
 -- the steps before a line behind a front, and before a mark of a piece
 steps_behind : (front rest : List RunLine) (i : ℕ) → steps_before (front ++ rest) (length front + i) ≡ length (unit_steps front) + steps_before rest i
-steps_behind [] rest i = ap (steps_before rest) (let e : 0 + i ≡ i = omega arith in e) ∙ (let e : steps_before rest i ≡ 0 + steps_before rest i = omega arith in e)
+steps_behind [] rest i = ap (steps_before rest) (let e : 0 + i ≡ i = omega arith in e)
+    ∙ (let e : steps_before rest i ≡ 0 + steps_before rest i = omega arith in e)
 steps_behind (Step r k ∷ front) rest i =
     let next : suc (length front) + i ≡ suc (length front + i) = omega arith in
     let both = ap (steps_before ((Step r k ∷ front) ++ rest)) next in
@@ -198,7 +207,14 @@ piece_of (piece ∷ pieces) i e at =
             | inl h ↦ (
                 let m = mark_in piece.marks w.0 e h in
                 let b : w.0 ≤ length piece.marks = (let c = m.0 in omega arith) in
-                record { number = 0; piece = piece; at = refl; member = m.1; steps = omega (arith, before, there, behind, steps_marks piece.marks rest w.0 b, until_first piece pieces) })
+                record {
+                  number = 0;
+                  piece = piece;
+                  at = refl;
+                  member = m.1;
+                  steps = omega
+                      (arith, before, there, behind, steps_marks piece.marks rest w.0 b, until_first piece pieces);
+                })
             | inr v ↦ (
                 let more = piece_of pieces v.0 e v.2 in
                 let past = ap (steps_before (marks ++ rest)) v.1 in
@@ -217,7 +233,8 @@ pub show : PiecesShow
 show a p run pieces h order =
     let lines = run.lines in
     let marks : marked lines ≡ pieces_marks pieces = ap marked h.lines ∙ marked_pieces pieces in
-    let at_mark : (i e : ℕ) → MarksAt lines i e → slice_get (pieces_marks pieces) (place lines i) ≡ Some e = (λ i e at. ap (λ (es : List ℕ). slice_get es (place lines i)) (sym marks) ∙ mark_place lines i e at) in
+    let at_mark : (i e : ℕ) → MarksAt lines i e → slice_get (pieces_marks pieces) (place lines i) ≡ Some e =
+    (λ i e at. ap (λ (es : List ℕ). slice_get es (place lines i)) (sym marks) ∙ mark_place lines i e at) in
     record {
       first = h.first;
       later = h.later;
@@ -234,8 +251,10 @@ show a p run pieces h order =
           record {
             line = m.0;
             marked = m.1;
-            once = λ i there. same_line lines e i m.0 there m.1 (once_at (pieces_marks pieces) e (place lines i) (place lines m.0) one (at_mark i e there) (at_mark m.0 e m.1));
-            happens = subst (HappensAt h.first h.later event) (sym (ap (λ (ls : List RunLine). steps_before ls m.0) h.lines ∙ piece.steps)) (h.happens piece.number e piece.piece event piece.at piece.member at);
+            once = λ i there. same_line lines e i m.0 there m.1
+                (once_at (pieces_marks pieces) e (place lines i) (place lines m.0) one (at_mark i e there) (at_mark m.0 e m.1));
+            happens = subst (HappensAt h.first h.later event) (sym (ap (λ (ls : List RunLine). steps_before ls m.0) h.lines ∙ piece.steps))
+                (h.happens piece.number e piece.piece event piece.at piece.member at);
           };
       in_order = λ e f i event at bit there.
           let w = order.in_order e f (place lines i) event at bit (at_mark i e there) in

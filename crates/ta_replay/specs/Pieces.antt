@@ -82,12 +82,14 @@ pub record PiecesHappen (a : Automaton) (p : Pattern) (run : Run) (pieces : List
   pub follows : runs.Run a first (unit_steps run.lines) later
   pub start : Holds p.start first
   pub kept_empty : (k : ℕ) (c : runs.Config) → At first later k c → KeepsEmpty p.empty c
-  pub happens : (k e : ℕ) (piece : Piece) (event : Event) → slice_get pieces k ≡ Some piece → In e piece.marks → slice_get p.events e ≡ Some event → HappensAt first later event (steps_until pieces k)
+  pub happens : (k e : ℕ) (piece : Piece) (event : Event) → slice_get pieces k ≡ Some piece → In e piece.marks → slice_get p.events e ≡ Some event
+      → HappensAt first later event (steps_until pieces k)
 
 -- each event is marked once, and the events that it comes after are marked before it
 pub record MarksInOrder (p : Pattern) (marks : List ℕ) : Type 0 where
   pub once : (e : ℕ) → e < length p.events → times_in e marks ≡ 1
-  pub in_order : (e f i : ℕ) (event : Event) → slice_get p.events e ≡ Some event → IsBitSet event.after f → slice_get marks i ≡ Some e → (j : ℕ) × (j < i) × (slice_get marks j ≡ Some f)
+  pub in_order : (e f i : ℕ) (event : Event) → slice_get p.events e ≡ Some event → IsBitSet event.after f → slice_get marks i ≡ Some e → (j : ℕ) × (j < i)
+      × (slice_get marks j ≡ Some f)
 
 -- such a run shows the pattern
 abbrev pub PiecesShow : Type 0

@@ -19,7 +19,8 @@ use Rattle.ta_replay.specs.declared.run.Run.{Run}
 use Rattle.ta_replay.specs.declared.run.RunLine.{RunLine}
 use Rattle.ta_replay.specs.declared.run.RunLine.TheVariants.{Step, Mark}
 use Rattle.ta_replay.specs.declared.fault.RunFault.{RunFault}
-use Rattle.ta_replay.specs.declared.fault.RunFault.TheVariants.{Line, Name, Resilience, Processes, Start, NotEmpty, Guard, Count, Event, MissingEvent, Overflow, Order, Memory}
+use Rattle.ta_replay.specs.declared.fault.RunFault.TheVariants.{Line, Name, Resilience, Processes, Start, NotEmpty, Guard, Count, Event, MissingEvent, Overflow}
+use Rattle.ta_replay.specs.declared.fault.RunFault.TheVariants.{Order, Memory}
 use Rattle.ta_replay.specs.Shows.{IsMarked}
 use Rattle.ta_replay.specs.Replays.{ReplayStays, ValuesAfter, EmptyAt, InOrder, Takes, LinePasses, FirstFilled, MayTakeLines}
 

@@ -87,7 +87,8 @@ pub record MayTakeLines (a : Automaton) (p : Pattern) (run : Run) : Type 0 where
 -- each row of a condition is evaluated within the range
 abbrev pub ConditionStays : (ℕ → ℤ) → Condition → Type 0
 ConditionStays point condition =
-    AllPass (λ j (comparison : Comparison). AllPass (λ k (row : Row). StaysInRange point row.form.constant row.form.terms) comparison.rows) condition.comparisons
+    AllPass (λ j (comparison : Comparison). AllPass (λ k (row : Row). StaysInRange point row.form.constant row.form.terms) comparison.rows)
+    condition.comparisons
 
 -- each row that a mask names is evaluated within the range
 abbrev pub MaskedStay : (ℕ → ℤ) → ℕ → List Row → Type 0
@@ -110,7 +111,8 @@ pub record NumbersStay (a : Automaton) (p : Pattern) (run : Run) : Type 0 where
   pub processes : ProcessesStay a run.parameters
   pub sum : InRange (sum_of run.counts)
   pub start : (first : List ℤ) → StartsAt a run.parameters run.counts first → ConditionStays (point_of first) p.start
-  pub lines : (i : ℕ) (line : RunLine) (values : List ℤ) → slice_get run.lines i ≡ Some line → ValuesAfter a run (take i run.lines) values → LineStays a p values line
+  pub lines : (i : ℕ) (line : RunLine) (values : List ℤ) → slice_get run.lines i ≡ Some line → ValuesAfter a run (take i run.lines) values
+      → LineStays a p values line
 
 -- all numbers in the run's replay stay in range
 abbrev pub ReplayStays : File → Run → Type 0

@@ -1,5 +1,7 @@
 -- The names that the proofs of this crate cite, passed on from one place. Declares nothing.
-pub use Rattle.std.proofs.Common.{Bool, List, None, Option, Some, [], ap, append-nil, append_assoc, arith, codes, decimal, drop, eqb, false, get_or, if◌then◌else◌, inl, inr, length, length-append, lit<, lit≤, map, option_map, pos, refl, rules, slice_get, subst, suc, sym, take, true, zero, ℕ, ℤ, ◌++◌, ◌+◌, ◌-◌, ◌<◌, ◌^◌, ◌||◌, ◌∙◌, ◌∷◌, ◌≡◌, ◌≤◌, ◌⊎◌}
+pub use Rattle.std.proofs.Common.{Bool, List, None, Option, Some, [], ap, append-nil, append_assoc, arith, codes, decimal, drop, eqb, false, get_or}
+pub use Rattle.std.proofs.Common.{if◌then◌else◌, inl, inr, length, length-append, lit<, lit≤, map, option_map, pos, refl, rules, slice_get, subst, suc, sym}
+pub use Rattle.std.proofs.Common.{take, true, zero, ℕ, ℤ, ◌++◌, ◌+◌, ◌-◌, ◌<◌, ◌^◌, ◌||◌, ◌∙◌, ◌∷◌, ◌≡◌, ◌≤◌, ◌⊎◌}
 pub use Rattle.std.proofs.lemmas.Bool.{eq-eqb, eqb-true}
 pub use Rattle.std.proofs.lemmas.List.{append_cancel_left, append_cancel_right, length-map, map-append, take-append-le, take_all, take_more}
 pub use Rattle.std.specs.Fmt.{signed_decimal}
@@ -26,11 +28,15 @@ pub use Rattle.ta_replay.proofs.OneRun.{run_clear}
 pub use Rattle.ta_replay.proofs.RunFronts.{each_run_line, run_front}
 pub use Rattle.ta_replay.specs.RunText.{lines_text, named_line, run_lines, run_text, valued_line}
 pub use Rattle.ta_report.specs.Check.{is_proved, proofs_text, proofs_told, word_told}
-pub use Rattle.ta_report.specs.Json.{JsonIsDistinct, JsonIsRead, JsonRuns, JsonSafe, JsonSays, JsonUnsafe, digits_data, json_text, report_data, sample_data, texts_data, value_data, values_data, verdict_data, verdict_member, verdicts_data}
+pub use Rattle.ta_report.specs.Json.{JsonIsDistinct, JsonIsRead, JsonRuns, JsonSafe, JsonSays, JsonUnsafe, digits_data, json_text, report_data, sample_data}
+pub use Rattle.ta_report.specs.Json.{text_lines, texts_data, unknown_sample_data, unknown_verdict_data, value_data, values_data, verdict_data, verdict_member}
+pub use Rattle.ta_report.specs.Json.{verdicts_data}
 pub use Rattle.ta_report.specs.Picked.{entry_of, first_picked, listed, picked}
 pub use Rattle.ta_report.specs.declared.pick.Pick.{Pick}
 pub use Rattle.ta_report.specs.declared.pick.Pick.TheVariants.{All, One}
-pub use Rattle.ta_report.specs.Report.{PlaceFits, ReportsAreDistinct, SampleFits, VerdictFits, overflow_text, place_text, rest_word, run_part, safe_word, sample_line, sample_text, spent_text, told_line, told_lines, told_text, unsafe_word, values_text, verdict_line, verdict_lines, verdict_text, word_before}
+pub use Rattle.ta_report.specs.Report.{PlaceFits, ReportsAreDistinct, SampleFits, VerdictFits, overflow_text, place_text, rest_word, run_part, safe_word}
+pub use Rattle.ta_report.specs.Report.{sample_line, sample_text, spent_text, told_line, told_lines, told_text, unsafe_word, values_text, verdict_line}
+pub use Rattle.ta_report.specs.Report.{verdict_lines, verdict_text, word_before}
 pub use Rattle.ta_report.specs.declared.verdict.ReportKind.{ReportKind}
 pub use Rattle.ta_report.specs.declared.verdict.ReportKind.TheVariants.{Leaf, Pivot, Run}
 pub use Rattle.ta_report.specs.declared.verdict.ReportSample.{ReportSample}

@@ -1,5 +1,10 @@
 -- The line of JSON says what the report says.
-use Rattle.ta_report.proofs.Common.{ℕ, ℤ, zero, suc, ◌<◌, ◌^◌, ◌+◌, ◌≡◌, Bool, true, false, eqb, List, [], ◌∷◌, ◌++◌, length, get_or, codes, decimal, refl, sym, ap, ◌∙◌, arith, slice_get, Some, signed_decimal, append_cancel_right, AllByRecursion, read, compact_text, differ, File, Pattern, Pick, entry_of, first_picked, picked, safe_word, unsafe_word, distinct_map_at, pattern_name, Value, lines_text, run_lines, run_front, ReportKind, ReportSample, Verdict, Safe, Unsafe, Spent, Overflow, JsonIsDistinct, JsonRuns, JsonSafe, JsonSays, JsonUnsafe, json_text, report_data, sample_data, texts_data, value_data, values_data, verdict_data, verdicts_data, PlaceFits, SampleFits, VerdictFits, place_text}
+use Rattle.ta_report.proofs.Common.{ℕ, ℤ, zero, suc, ◌<◌, ◌^◌, ◌+◌, ◌≡◌, Bool, true, false, eqb, List, [], ◌∷◌, ◌++◌, length, get_or, codes, decimal, refl, sym}
+use Rattle.ta_report.proofs.Common.{ap, ◌∙◌, arith, slice_get, Some, signed_decimal, append_cancel_right, AllByRecursion, read, compact_text, differ, File}
+use Rattle.ta_report.proofs.Common.{Pattern, Pick, entry_of, first_picked, picked, safe_word, unsafe_word, distinct_map_at, pattern_name, Value, lines_text}
+use Rattle.ta_report.proofs.Common.{run_lines, run_front, ReportKind, ReportSample, Verdict, Safe, Unsafe, Spent, Overflow, JsonIsDistinct, JsonRuns, JsonSafe}
+use Rattle.ta_report.proofs.Common.{JsonSays, JsonUnsafe, json_text, report_data, sample_data, texts_data, value_data, values_data, verdict_data, verdicts_data}
+use Rattle.ta_report.proofs.Common.{PlaceFits, SampleFits, VerdictFits, place_text}
 use Rattle.std.proofs.lemmas.Fmt.{decimal_injective}
 use Rattle.std.proofs.lemmas.Option.{same_Some}
 use Rattle.serde_json.specs.Data as json
@@ -46,7 +51,8 @@ value_same n v w fv fw e =
     let digits : signed_decimal v ≡ signed_decimal w = cc in
     value_once v w fv fw digits
 
-values_same : (ns : List (List ℕ)) (vs ws : List ℤ) → length vs ≡ length ns → length ws ≡ length ns → AllByRecursion Value vs → AllByRecursion Value ws → values_data ns vs ≡ values_data ns ws → vs ≡ ws
+values_same : (ns : List (List ℕ)) (vs ws : List ℤ) → length vs ≡ length ns → length ws ≡ length ns → AllByRecursion Value vs → AllByRecursion Value ws
+    → values_data ns vs ≡ values_data ns ws → vs ≡ ws
 values_same [] [] [] cv cw fv fw e = refl
 values_same [] [] (w ∷ ws) cv cw fv fw e = absurd (omega arith)
 values_same [] (v ∷ vs) ws cv cw fv fw e = absurd (omega arith)
@@ -104,7 +110,8 @@ unsafe_overflow : {X : Type 0} (rest : Bool) → Some (json.string (unsafe_word 
 unsafe_overflow false e = words_differ 0 (codes "unsafe") (codes "overflow") refl e
 unsafe_overflow true e = words_differ 0 (codes "rest unsafe") (codes "overflow") refl e
 
-verdict_same : (rest : Bool) (file : File) (p : Pattern) (v w : Verdict) → VerdictFits file v → VerdictFits file w → verdict_data rest file p v ≡ verdict_data rest file p w → v ≡ w
+verdict_same : (rest : Bool) (file : File) (p : Pattern) (v w : Verdict) → VerdictFits file v → VerdictFits file w
+    → verdict_data rest file p v ≡ verdict_data rest file p w → v ≡ w
 verdict_same rest file p (Safe m k) (Safe n l) fv fw e =
     let nodes = digits_same m n fv.0 fw.0 (at_key (codes "nodes") _ _ e) in
     let leaves = digits_same k l fv.1 fw.1 (at_key (codes "leaves") _ _ e) in
@@ -132,7 +139,8 @@ verdict_same rest file p (Overflow m j) (Overflow n k) fv fw e =
     let place = kind_same j k fv.1 fw.1 (at_key (codes "place") _ _ e) in
     ap (λ z. Overflow z j) node ∙ ap (λ i. Overflow n i) place
 
-verdicts_same : (rest : Bool) (file : File) (ps : List Pattern) (vs ws : List Verdict) → length vs ≡ length ps → length ws ≡ length ps → AllByRecursion (VerdictFits file) vs → AllByRecursion (VerdictFits file) ws → verdicts_data rest file ps vs ≡ verdicts_data rest file ps ws → vs ≡ ws
+verdicts_same : (rest : Bool) (file : File) (ps : List Pattern) (vs ws : List Verdict) → length vs ≡ length ps → length ws ≡ length ps
+    → AllByRecursion (VerdictFits file) vs → AllByRecursion (VerdictFits file) ws → verdicts_data rest file ps vs ≡ verdicts_data rest file ps ws → vs ≡ ws
 verdicts_same rest file [] [] [] cv cw fv fw e = refl
 verdicts_same rest file [] [] (w ∷ ws) cv cw fv fw e = absurd (omega arith)
 verdicts_same rest file [] (v ∷ vs) ws cv cw fv fw e = absurd (omega arith)
@@ -147,7 +155,8 @@ verdicts_same rest file (p ∷ ps) (v ∷ vs) (w ∷ ws) cv cw fv fw e =
 pub json_distinct : JsonIsDistinct
 json_distinct rest file pick x y vs ws cv cw fx fy fv fw e =
     let lines = append_cancel_right (compact_text (report_data rest file pick x vs)) (compact_text (report_data rest file pick y ws)) (codes "\n") e in
-    let whole : report_data rest file pick x vs ≡ report_data rest file pick y ws = same_Some _ _ (sym (json_read rest file pick x vs) ∙ ap read lines ∙ json_read rest file pick y ws) in
+    let whole : report_data rest file pick x vs ≡ report_data rest file pick y ws = same_Some _ _
+    (sym (json_read rest file pick x vs) ∙ ap read lines ∙ json_read rest file pick y ws) in
     let samples : sample_data file x ≡ sample_data file y = same_Some _ _ (at_key (codes "parameters") _ _ whole) in
     let patterns = array_same _ _ (at_key (codes "patterns") _ _ whole) in
     (sample_same file x y fx fy samples, verdicts_same rest file (picked pick file.patterns) vs ws cv cw fv fw patterns)
@@ -160,11 +169,13 @@ pub record ItemAt (rest : Bool) (file : File) (ps : List Pattern) (vs : List Ver
   pub at : slice_get vs place ≡ Some verdict
   pub is : found ≡ verdict_data rest file pattern verdict
 
-item_at : (rest : Bool) (file : File) (ps : List Pattern) (vs : List Verdict) (place : ℕ) (found : json.Data) → get_item place (verdicts_data rest file ps vs) ≡ Some found → ItemAt rest file ps vs place found
+item_at : (rest : Bool) (file : File) (ps : List Pattern) (vs : List Verdict) (place : ℕ) (found : json.Data)
+    → get_item place (verdicts_data rest file ps vs) ≡ Some found → ItemAt rest file ps vs place found
 item_at rest file [] vs place found e = cc
 item_at rest file (p ∷ ps) [] place found e = cc
 item_at rest file (p ∷ ps) (v ∷ vs) zero found e = record { pattern = p; here = refl; verdict = v; at = refl; is = same_Some _ _ (sym e) }
-item_at rest file (p ∷ ps) (v ∷ vs) (suc place) found e = let more = item_at rest file ps vs place found e in record { pattern = more.pattern; here = more.here; verdict = more.verdict; at = more.at; is = more.is }
+item_at rest file (p ∷ ps) (v ∷ vs) (suc place) found e = let more = item_at rest file ps vs place found e in record
+    { pattern = more.pattern; here = more.here; verdict = more.verdict; at = more.at; is = more.is }
 
 -- its name
 name_at : (rest : Bool) (file : File) (p : Pattern) (v : Verdict) → get (codes "name") (verdict_data rest file p v) ≡ Some (json.string p.name)
@@ -186,9 +197,11 @@ said_in rest file pick x vs number p told at says =
     let whole : says.whole ≡ report_data rest file pick x vs = same_Some _ _ (sym says.is ∙ ap read (sym line) ∙ json_read rest file pick x vs) in
     let patterns : says.patterns ≡ verdicts_data rest file ps vs = array_same _ _ (sym says.listed ∙ at_key (codes "patterns") _ _ whole) in
     let item = item_at rest file ps vs says.place says.found (ap (get_item says.place) (sym patterns) ∙ says.at) in
-    let name : item.pattern.name ≡ p.name = string_same _ _ (sym (name_at rest file item.pattern item.verdict) ∙ at_key (codes "name") _ _ (sym item.is) ∙ says.named) in
+    let name : item.pattern.name ≡ p.name = string_same _ _
+    (sym (name_at rest file item.pattern item.verdict) ∙ at_key (codes "name") _ _ (sym item.is) ∙ says.named) in
     let there = picked_there pick file.patterns says.place item.pattern item.here in
-    let place : first_picked pick + says.place ≡ number = distinct_map_at pattern_name file.patterns (first_picked pick + says.place) number item.pattern p file.shape.distinct there at name in
+    let place : first_picked pick + says.place ≡ number = distinct_map_at pattern_name file.patterns (first_picked pick + says.place) number item.pattern p
+    file.shape.distinct there at name in
     let same : item.pattern ≡ p = same_Some _ _ (sym there ∙ ap (slice_get file.patterns) place ∙ at) in
     record {
       verdict = item.verdict;
@@ -196,13 +209,15 @@ said_in rest file pick x vs number p told at says =
       is = item.is ∙ ap (λ (q : Pattern). verdict_data rest file q item.verdict) same;
     }
 
-safe_said : (rest : Bool) (file : File) (p : Pattern) (v : Verdict) → get (codes "verdict") (verdict_data rest file p v) ≡ Some (json.string (safe_word rest)) → (n : ℕ) × (l : ℕ) × (v ≡ Safe n l)
+safe_said : (rest : Bool) (file : File) (p : Pattern) (v : Verdict) → get (codes "verdict") (verdict_data rest file p v) ≡ Some (json.string (safe_word rest))
+    → (n : ℕ) × (l : ℕ) × (v ≡ Safe n l)
 safe_said rest file p (Safe n l) e = (n, l, refl)
 safe_said rest file p (Unsafe n run) e = safe_unsafe rest (sym e)
 safe_said rest file p (Spent n) e = safe_spent rest (sym e)
 safe_said rest file p (Overflow n kind) e = safe_overflow rest (sym e)
 
-unsafe_said : (rest : Bool) (file : File) (p : Pattern) (v : Verdict) → get (codes "verdict") (verdict_data rest file p v) ≡ Some (json.string (unsafe_word rest)) → (n : ℕ) × (run : RunOf) × (v ≡ Unsafe n run)
+unsafe_said : (rest : Bool) (file : File) (p : Pattern) (v : Verdict)
+    → get (codes "verdict") (verdict_data rest file p v) ≡ Some (json.string (unsafe_word rest)) → (n : ℕ) × (run : RunOf) × (v ≡ Unsafe n run)
 unsafe_said rest file p (Safe n l) e = safe_unsafe rest e
 unsafe_said rest file p (Unsafe n run) e = (n, run, refl)
 unsafe_said rest file p (Spent n) e = unsafe_spent rest (sym e)
@@ -215,15 +230,21 @@ json_safe rest file pick x vs number p at says =
     (is.0, is.1, said.at ∙ ap Some is.2)
 
 -- the run of an object
-run_at : (rest : Bool) (file : File) (p : Pattern) (n : ℕ) (run : RunOf) → get (codes "run") (verdict_data rest file p (Unsafe n run)) ≡ Some (json.array (texts_data (run_lines file run)))
+run_at : (rest : Bool) (file : File) (p : Pattern) (n : ℕ) (run : RunOf)
+    → get (codes "run") (verdict_data rest file p (Unsafe n run)) ≡ Some (json.array (texts_data (run_lines file run)))
 run_at rest file p n run = refl
 
 pub json_unsafe : JsonUnsafe
 json_unsafe rest file pick x vs number p at says =
     let said = said_in rest file pick x vs number p (unsafe_word rest) at says in
     let is = unsafe_said rest file p said.verdict (at_key (codes "verdict") _ _ (sym said.is) ∙ says.told) in
-    let found : says.found ≡ verdict_data rest file p (Unsafe is.0 is.1) = said.is ∙ ap (verdict_data rest file p) is.2 in
-    (is.0, is.1, said.at ∙ ap Some is.2, record { says = says; lines = run_lines file is.1; has = at_key (codes "run") _ _ found ∙ run_at rest file p is.0 is.1; bytes_are = refl })
+    let found : says.found ≡ verdict_data rest file p (Unsafe is.0 is.1) = said.is ∙ ap (verdict_data rest file p) is.2 in (
+      is.0,
+      is.1,
+      said.at ∙ ap Some is.2,
+      record
+          { says = says; lines = run_lines file is.1; has = at_key (codes "run") _ _ found ∙ run_at rest file p is.0 is.1; bytes_are = refl },
+    )
 
 pub json_runs : JsonRuns
 json_runs rest file pick x vs number p at bytes part =

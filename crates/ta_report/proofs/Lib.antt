@@ -4,7 +4,14 @@ pub mod Printed
 mod Distinct
 pub mod ReadBack
 mod JsonSayings
-mod JsonItems
+pub mod JsonItems
 pub mod Tellings
 pub mod CheckSayings
 mod Common
+mod Showing
+mod Tells
+mod Sums
+pub mod FileTells
+mod UnknownNames
+pub mod JsonLines
+pub mod SameNames

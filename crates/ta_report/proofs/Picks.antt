@@ -1,5 +1,7 @@
 -- Picked items of a list, and the entries for them.
-use Rattle.ta_report.proofs.Common.{ℕ, zero, suc, ◌+◌, ◌≡◌, Bool, true, false, List, [], ◌∷◌, length, refl, sym, subst, ap, ◌∙◌, arith, if◌then◌else◌, slice_get, Option, Some, None, AllByRecursion, each_at, ◌==◌, eqb-true, eq-eqb, Pick, All, One, entry_of, first_picked, listed, picked}
+use Rattle.ta_report.proofs.Common.{ℕ, zero, suc, ◌+◌, ◌≡◌, Bool, true, false, List, [], ◌∷◌, length, refl, sym, subst, ap, ◌∙◌, arith, if◌then◌else◌}
+use Rattle.ta_report.proofs.Common.{slice_get, Option, Some, None, AllByRecursion, each_at, ◌==◌, eqb-true, eq-eqb, Pick, All, One, entry_of, first_picked}
+use Rattle.ta_report.proofs.Common.{listed, picked}
 
 listed_at : {A : Type 0} (o : Option A) (j : ℕ) (x : A) → slice_get (listed o) j ≡ Some x → (j ≡ 0) × (o ≡ Some x)
 listed_at None j x at = cc
@@ -7,7 +9,8 @@ listed_at (Some y) zero x at = (refl, at)
 listed_at (Some y) (suc j) x at = cc
 
 -- a picked item stands in the list, behind the first
-pub picked_there : {A : Type 0} (pick : Pick) (xs : List A) (j : ℕ) (x : A) → slice_get (picked pick xs) j ≡ Some x → slice_get xs (first_picked pick + j) ≡ Some x
+pub picked_there : {A : Type 0} (pick : Pick) (xs : List A) (j : ℕ) (x : A) → slice_get (picked pick xs) j ≡ Some x
+    → slice_get xs (first_picked pick + j) ≡ Some x
 picked_there All xs j x at = let here : j ≡ 0 + j = omega arith in subst (λ (n : ℕ). slice_get xs n ≡ Some x) here at
 picked_there (One k) xs j x at =
     let is = listed_at (slice_get xs k) j x at in
@@ -15,7 +18,8 @@ picked_there (One k) xs j x at =
     subst (λ (n : ℕ). slice_get xs n ≡ Some x) here is.1
 
 -- its entry
-pub entry_there : {A B : Type 0} (pick : Pick) (xs : List A) (ys : List B) (j : ℕ) (x : A) (y : B) → slice_get (picked pick xs) j ≡ Some x → slice_get ys j ≡ Some y → entry_of pick ys (first_picked pick + j) ≡ Some y
+pub entry_there : {A B : Type 0} (pick : Pick) (xs : List A) (ys : List B) (j : ℕ) (x : A) (y : B) → slice_get (picked pick xs) j ≡ Some x
+    → slice_get ys j ≡ Some y → entry_of pick ys (first_picked pick + j) ≡ Some y
 entry_there All xs ys j x y at is = let here : j ≡ 0 + j = omega arith in subst (λ (n : ℕ). slice_get ys n ≡ Some y) here is
 entry_there (One k) xs ys j x y at is =
     let first = (listed_at (slice_get xs k) j x at).0 in
@@ -29,11 +33,13 @@ pub record PickedAt {A B : Type 0} (pick : Pick) (xs : List A) (ys : List B) (nu
   pub entry : slice_get ys place ≡ Some y
   pub number_is : first_picked pick + place ≡ number
 
-entry_one : {B : Type 0} (ys : List B) (b : Bool) (n k : ℕ) (y : B) → (n == k) ≡ b → (if b then slice_get ys 0 else None) ≡ Some y → (n ≡ k) × (slice_get ys 0 ≡ Some y)
+entry_one : {B : Type 0} (ys : List B) (b : Bool) (n k : ℕ) (y : B) → (n == k) ≡ b → (if b then slice_get ys 0 else None) ≡ Some y → (n ≡ k)
+    × (slice_get ys 0 ≡ Some y)
 entry_one ys true n k y same is = (eqb-true n k same, is)
 entry_one ys false n k y same is = cc
 
-pub entry_picked : {A B : Type 0} (pick : Pick) (xs : List A) (ys : List B) (number : ℕ) (x : A) (y : B) → slice_get xs number ≡ Some x → entry_of pick ys number ≡ Some y → PickedAt pick xs ys number x y
+pub entry_picked : {A B : Type 0} (pick : Pick) (xs : List A) (ys : List B) (number : ℕ) (x : A) (y : B) → slice_get xs number ≡ Some x
+    → entry_of pick ys number ≡ Some y → PickedAt pick xs ys number x y
 entry_picked All xs ys number x y at is = record { place = number; item = at; entry = is; number_is = omega arith }
 entry_picked (One k) xs ys number x y at is =
     let parts = entry_one ys (number == k) number k y refl is in
@@ -45,7 +51,8 @@ entry_picked (One k) xs ys number x y at is =
     }
 
 -- an entry has a place, behind the first
-pub entry_place : {B : Type 0} (pick : Pick) (ys : List B) (number : ℕ) (y : B) → entry_of pick ys number ≡ Some y → (place : ℕ) × (slice_get ys place ≡ Some y) × (first_picked pick + place ≡ number)
+pub entry_place : {B : Type 0} (pick : Pick) (ys : List B) (number : ℕ) (y : B) → entry_of pick ys number ≡ Some y → (place : ℕ) × (slice_get ys place ≡ Some y)
+    × (first_picked pick + place ≡ number)
 entry_place All ys number y is = (number, is, omega arith)
 entry_place (One k) ys number y is =
     let parts = entry_one ys (number == k) number k y refl is in

@@ -1,5 +1,9 @@
 -- The line of JSON is read as the report.
-use Rattle.ta_report.proofs.Common.{ℕ, ℤ, suc, ◌≤◌, ◌≡◌, List, [], ◌∷◌, ◌++◌, codes, refl, sym, ap, ◌∙◌, arith, append-nil, Option, Some, option_map, option_and_then, signed_decimal, read, of_json, of_items, of_members, compact_text, outline, items_outline, members_outline, Bool, File, Pattern, Pick, picked, unsafe_word, run_lines, ReportSample, Verdict, Safe, Unsafe, Spent, Overflow, JsonIsRead, digits_data, report_data, sample_data, texts_data, value_data, values_data, verdict_data, verdict_member, verdicts_data}
+use Rattle.ta_report.proofs.Common.{ℕ, ℤ, suc, ◌≤◌, ◌≡◌, List, [], ◌∷◌, ◌++◌, codes, refl, sym, ap, ◌∙◌, arith, append-nil, Option, Some, option_map}
+use Rattle.ta_report.proofs.Common.{option_and_then, signed_decimal, read, of_json, of_items, of_members, compact_text, outline, items_outline, members_outline}
+use Rattle.ta_report.proofs.Common.{Bool, File, Pattern, Pick, picked, unsafe_word, run_lines, ReportSample, Verdict, Safe, Unsafe, Spent, Overflow, JsonIsRead}
+use Rattle.ta_report.proofs.Common.{digits_data, report_data, sample_data, texts_data, unknown_sample_data, unknown_verdict_data, value_data, values_data}
+use Rattle.ta_report.proofs.Common.{verdict_data, verdict_member, verdicts_data}
 use Rattle.json.specs.Token.{Token}
 use Rattle.json.specs.Lex.{tokens}
 use Rattle.json.specs.Json as grammar
@@ -41,20 +45,22 @@ pub array_read : (ds : json.Items) (deep : ℕ) → AreRead ds deep → IsRead (
 array_read ds deep are = let low = are.shallow in record { numbers = are.numbers; shallow = omega arith; same = ap (option_map json.array) are.same }
 
 -- one member of an object is read
-pub member_step : (k : List ℕ) (d : json.Data) (deep : ℕ) (ms found : json.Members) → IsRead d deep → of_members (members_outline (json.member k d ms)) found ≡ of_members (members_outline ms) (json.put k d found)
+pub member_step : (k : List ℕ) (d : json.Data) (deep : ℕ) (ms found : json.Members) → IsRead d deep
+    → of_members (members_outline (json.member k d ms)) found ≡ of_members (members_outline ms) (json.put k d found)
 member_step k d deep ms found is = ap (option_and_then (λ e. of_members (members_outline ms) (json.put k e found))) is.same
 
 pub object_same : (ms : json.Members) → of_members (members_outline ms) json.no_members ≡ Some ms → of_json (outline (json.object ms)) ≡ Some (json.object ms)
 object_same ms e = ap (option_map json.object) e
 
-texts_read : (texts : List (List ℕ)) (deep : ℕ) → AreRead (texts_data texts) deep
+pub texts_read : (texts : List (List ℕ)) (deep : ℕ) → AreRead (texts_data texts) deep
 texts_read [] deep = none_read deep
 texts_read (text ∷ texts) deep = item_read (json.string text) (texts_data texts) deep (text_read text deep) (texts_read texts deep)
 
 values_read : (ns : List (List ℕ)) (vs : List ℤ) → AreRead (values_data ns vs) 1
 values_read [] vs = none_read 1
 values_read (n ∷ ns) [] = none_read 1
-values_read (n ∷ ns) (v ∷ vs) = item_read (value_data n v) (values_data ns vs) 1 (array_read (texts_data (n ∷ signed_decimal v ∷ [])) 0 (texts_read (n ∷ signed_decimal v ∷ []) 0)) (values_read ns vs)
+values_read (n ∷ ns) (v ∷ vs) = item_read (value_data n v) (values_data ns vs) 1
+    (array_read (texts_data (n ∷ signed_decimal v ∷ [])) 0 (texts_read (n ∷ signed_decimal v ∷ []) 0)) (values_read ns vs)
 
 pub sample_read : (file : File) (s : ReportSample) → IsRead (sample_data file s) 3
 sample_read file (sample.Sample values) =
@@ -66,11 +72,24 @@ sample_read file (sample.Sample values) =
       numbers = (first.numbers, (tt, tt));
       shallow = omega arith;
       same = object_same (json.member (codes "values") d (verdict_member (codes "sample")))
-          (member_step (codes "values") d 2 (verdict_member (codes "sample")) json.no_members first ∙ member_step (codes "verdict") verdict 0 json.no_members (json.put (codes "values") d json.no_members) (text_read (codes "sample") 0));
+          (member_step (codes "values") d 2 (verdict_member (codes "sample")) json.no_members first
+          ∙ member_step (codes "verdict") verdict 0 json.no_members (json.put (codes "values") d json.no_members) (text_read (codes "sample") 0));
     }
 sample_read file sample.Empty = record { numbers = (tt, tt); shallow = omega arith; same = refl }
 sample_read file (sample.Spent count) = record { numbers = (tt, (tt, tt)); shallow = omega arith; same = refl }
 sample_read file (sample.Overflow node kind) = record { numbers = (tt, (tt, (tt, tt))); shallow = omega arith; same = refl }
+
+pub unknown_sample_read : (s : ReportSample) → IsRead (unknown_sample_data s) 2
+unknown_sample_read (sample.Sample values) = record { numbers = tt; shallow = omega arith; same = refl }
+unknown_sample_read sample.Empty = record { numbers = tt; shallow = omega arith; same = refl }
+unknown_sample_read (sample.Spent count) = record { numbers = (tt, (tt, tt)); shallow = omega arith; same = refl }
+unknown_sample_read (sample.Overflow node kind) = record { numbers = (tt, (tt, (tt, tt))); shallow = omega arith; same = refl }
+
+pub unknown_verdict_read : (name : List ℕ) (v : Verdict) → IsRead (unknown_verdict_data name v) 2
+unknown_verdict_read name (Safe nodes leaves) = record { numbers = tt; shallow = omega arith; same = refl }
+unknown_verdict_read name (Unsafe nodes run) = record { numbers = tt; shallow = omega arith; same = refl }
+unknown_verdict_read name (Spent nodes) = record { numbers = (tt, (tt, (tt, tt))); shallow = omega arith; same = refl }
+unknown_verdict_read name (Overflow node kind) = record { numbers = (tt, (tt, (tt, (tt, tt)))); shallow = omega arith; same = refl }
 
 verdict_read : (rest : Bool) (file : File) (p : Pattern) (v : Verdict) → IsRead (verdict_data rest file p v) 2
 verdict_read rest file p (Safe nodes leaves) = record { numbers = (tt, (tt, (tt, (tt, tt)))); shallow = omega arith; same = refl }
@@ -82,7 +101,9 @@ verdict_read rest file p (Unsafe nodes run) =
     let number = digits_data nodes in
     let after_two = json.member (codes "name") name (json.member (codes "nodes") number json.no_members) in
     let last = verdict_member (unsafe_word rest) in
-    let two : of_members (members_outline (json.member (codes "name") name (json.member (codes "nodes") number (json.member (codes "run") (json.array lines) last)))) json.no_members ≡ of_members (members_outline (json.member (codes "run") (json.array lines) last)) after_two = refl in
+    let two : of_members (members_outline
+    (json.member (codes "name") name (json.member (codes "nodes") number (json.member (codes "run") (json.array lines) last)))) json.no_members ≡ of_members
+    (members_outline (json.member (codes "run") (json.array lines) last)) after_two = refl in
     record {
       numbers = (tt, (tt, (third.numbers, (tt, tt))));
       shallow = omega arith;
@@ -95,7 +116,8 @@ verdict_read rest file p (Overflow node kind) = record { numbers = (tt, (tt, (tt
 verdicts_read : (rest : Bool) (file : File) (ps : List Pattern) (vs : List Verdict) → AreRead (verdicts_data rest file ps vs) 2
 verdicts_read rest file [] vs = none_read 2
 verdicts_read rest file (p ∷ ps) [] = none_read 2
-verdicts_read rest file (p ∷ ps) (v ∷ vs) = item_read (verdict_data rest file p v) (verdicts_data rest file ps vs) 2 (verdict_read rest file p v) (verdicts_read rest file ps vs)
+verdicts_read rest file (p ∷ ps) (v ∷ vs) = item_read (verdict_data rest file p v) (verdicts_data rest file ps vs) 2 (verdict_read rest file p v)
+    (verdicts_read rest file ps vs)
 
 report_read : (rest : Bool) (file : File) (pick : Pick) (s : ReportSample) (vs : List Verdict) → IsRead (report_data rest file pick s vs) 4
 report_read rest file pick s vs =
@@ -109,7 +131,8 @@ report_read rest file pick s vs =
     let last = json.member (codes "patterns") patterns json.no_members in
     let one = json.member (codes "automaton") name json.no_members in
     let two = json.member (codes "automaton") name (json.member (codes "parameters") parameters json.no_members) in
-    let first : of_members (members_outline (json.member (codes "automaton") name (json.member (codes "parameters") parameters last))) json.no_members ≡ of_members (members_outline (json.member (codes "parameters") parameters last)) one = refl in
+    let first : of_members (members_outline (json.member (codes "automaton") name (json.member (codes "parameters") parameters last))) json.no_members ≡
+    of_members (members_outline (json.member (codes "parameters") parameters last)) one = refl in
     record {
       numbers = (tt, (second.numbers, (third.numbers, tt)));
       shallow = omega arith;
@@ -123,7 +146,8 @@ read_back d deep most is =
     let low = is.shallow in
     let j = outline d in
     let whole : Option (grammar.Json × List Token) → Option json.Data = λ r. option_and_then of_json (option_and_then (λ p. grammar.if_last p.0 p.1) r) in
-    let texts : tokens (compact_text d) ≡ json_tokens j ++ [] = ap tokens (sym (print-outline d)) ∙ tokens-print (json_tokens j) (ArePrintable-json_tokens j is.numbers) ∙ sym (append-nil (json_tokens j)) in
+    let texts : tokens (compact_text d) ≡ json_tokens j ++ [] = ap tokens (sym (print-outline d))
+    ∙ tokens-print (json_tokens j) (ArePrintable-json_tokens j is.numbers) ∙ sym (append-nil (json_tokens j)) in
     ap (λ ts. whole (grammar.value 127 ts)) texts ∙ ap whole (value-json_tokens j 127 [] (omega arith)) ∙ is.same
 
 pub json_read : JsonIsRead

@@ -6,13 +6,16 @@ use Rattle.ta_report.specs.Telling.{TellsRun, TellsSafe, TellsUnsafe, report_of}
 use Rattle.ta_report.proofs.JsonSayings.{json_runs, json_safe, json_unsafe}
 use Rattle.ta_report.proofs.Printed.{printed_rest_safe, printed_rest_unsafe, printed_runs, printed_safe, printed_unsafe, runs_printed}
 
-module _ (file : File) (pick : Pick) (x : ReportSample) (vs : List Verdict) (k : ℕ) (p : Pattern) (at : slice_get file.patterns k ≡ Some p) (fit : SampleFits file x) (fits : AllByRecursion (VerdictFits file) vs) where
-  pub told_safe : (rest json : Bool) → TellsSafe rest json p.name (report_of rest json file pick x vs) → (nodes : ℕ) × (leaves : ℕ) × (entry_of pick vs k ≡ Some (Safe nodes leaves))
+module _ (file : File) (pick : Pick) (x : ReportSample) (vs : List Verdict) (k : ℕ) (p : Pattern) (at : slice_get file.patterns k ≡ Some p)
+    (fit : SampleFits file x) (fits : AllByRecursion (VerdictFits file) vs) where
+  pub told_safe : (rest json : Bool) → TellsSafe rest json p.name (report_of rest json file pick x vs) → (nodes : ℕ) × (leaves : ℕ)
+      × (entry_of pick vs k ≡ Some (Safe nodes leaves))
   told_safe rest true says = json_safe rest file pick x vs k p at says
   told_safe false false has = printed_safe file pick x vs k p at fit fits has
   told_safe true false has = printed_rest_safe file pick x vs k p at fit fits has
 
-  pub told_unsafe : (rest json : Bool) → TellsUnsafe rest json p.name (report_of rest json file pick x vs) → (nodes : ℕ) × (run : RunOf) × (entry_of pick vs k ≡ Some (Unsafe nodes run))
+  pub told_unsafe : (rest json : Bool) → TellsUnsafe rest json p.name (report_of rest json file pick x vs) → (nodes : ℕ) × (run : RunOf)
+      × (entry_of pick vs k ≡ Some (Unsafe nodes run))
   told_unsafe rest true says = let is = json_unsafe rest file pick x vs k p at says in (is.0, is.1, is.2)
   told_unsafe false false has = printed_unsafe file pick x vs k p at fit fits has
   told_unsafe true false has = printed_rest_unsafe file pick x vs k p at fit fits has

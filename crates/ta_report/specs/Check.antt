@@ -18,7 +18,8 @@ word_told true numbers number = if is_proved numbers number then codes "rest pro
 -- a line for each pattern; the first pattern has this number
 abbrev pub proofs_told : Bool → List ℕ → ℕ → List Pattern → List ℕ
 proofs_told rest numbers number [] = []
-proofs_told rest numbers number (p ∷ ps) = (codes "pattern " ++ (p.name ++ (codes ": " ++ (word_told rest numbers number ++ codes "\n")))) ++ proofs_told rest numbers (number + 1) ps
+proofs_told rest numbers number (p ∷ ps) = (codes "pattern " ++ (p.name ++ (codes ": " ++ (word_told rest numbers number ++ codes "\n"))))
+    ++ proofs_told rest numbers (number + 1) ps
 
 -- the line of the parameters, if a sample of them is given
 abbrev pub given_line : File → Option ReportSample → List ℕ

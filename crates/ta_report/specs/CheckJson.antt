@@ -33,7 +33,8 @@ given_members file (Some s) members = json.member (codes "parameters") (sample_d
 
 -- which patterns of a file are proved: those of these numbers
 abbrev pub all_proofs_data : Bool → File → Option ReportSample → List ℕ → json.Data
-all_proofs_data rest file s numbers = json.object (json.member (codes "automaton") (json.string file.automaton.name) (given_members file s (proofs_member rest numbers file.patterns)))
+all_proofs_data rest file s numbers = json.object
+    (json.member (codes "automaton") (json.string file.automaton.name) (given_members file s (proofs_member rest numbers file.patterns)))
 
 -- its line
 abbrev pub proofs_json : Bool → File → Option ReportSample → List ℕ → List ℕ
@@ -57,7 +58,8 @@ TellsProved false rest name text = HasLine (told_of name (proved_word rest)) tex
 -- a pattern that a text of `check` or `rest-check` calls proved is one of the proved ones
 abbrev pub ToldProved : Type 0
 ToldProved =
-    (json rest : Bool) (file : File) (s : Option ReportSample) (numbers : List ℕ) (number : ℕ) (pattern : Pattern) → slice_get file.patterns number ≡ Some pattern
+    (json rest : Bool) (file : File) (s : Option ReportSample) (numbers : List ℕ) (number : ℕ) (pattern : Pattern)
+    → slice_get file.patterns number ≡ Some pattern
     → IfSome s (SampleFits file) → TellsProved json rest pattern.name (proofs_of json rest file s numbers)
     → IsTrue (is_proved numbers number)
 

@@ -1,8 +1,8 @@
 -- The report of `verify`, or that of `rest`, as one line of JSON (RFC 8259): an object whose members are in the byte order of their keys. A
 -- number is the text of its digits.
-use Rattle.std.specs.Prelude.{ℕ, ℤ, ◌≡◌, Bool, List, [], ◌∷◌, ◌++◌, codes, decimal, length, slice_get, Some}
+use Rattle.std.specs.Prelude.{ℕ, ℤ, ◌-◌, ◌≡◌, ◌==◌, Bool, List, [], ◌∷◌, ◌++◌, codes, decimal, length, slice_get, take, Some}
 use Rattle.std.specs.Fmt.{signed_decimal}
-use Rattle.std.specs.List.{AllByRecursion}
+use Rattle.std.specs.List.{AllByRecursion, slice_split}
 use Rattle.serde_json.specs.Data as json
 use Rattle.serde_json.specs.Find.{get, get_item}
 use Rattle.serde_json.specs.Read.{read}
@@ -28,6 +28,10 @@ digits_data n = json.string (decimal n)
 abbrev pub texts_data : List (List ℕ) → json.Items
 texts_data [] = json.no_items
 texts_data (text ∷ texts) = json.item (json.string text) (texts_data texts)
+
+-- the lines of a text, each without the line feed that ends it
+abbrev pub text_lines : List ℕ → List (List ℕ)
+text_lines text = let parts = slice_split (λ b. b == 10) text in take (length parts - 1) parts
 
 -- a parameter and its value
 abbrev pub value_data : List ℕ → ℤ → json.Data
@@ -60,7 +64,8 @@ spent_members nodes = json.member (codes "nodes") (digits_data nodes) (verdict_m
 
 -- what is said of the parameters
 abbrev pub sample_data : File → ReportSample → json.Data
-sample_data file (sample.Sample values) = json.object (json.member (codes "values") (json.array (values_data file.automaton.parameters values)) (verdict_member (codes "sample")))
+sample_data file (sample.Sample values) = json.object
+    (json.member (codes "values") (json.array (values_data file.automaton.parameters values)) (verdict_member (codes "sample")))
 sample_data file sample.Empty = json.object (verdict_member (codes "none"))
 sample_data file (sample.Spent count) = json.object (spent_members count)
 sample_data file (sample.Overflow node kind) = json.object (place_members node kind)
@@ -79,6 +84,20 @@ verdict_data rest file p (Unsafe nodes run) =
     (verdict_member (unsafe_word rest)))))
 verdict_data rest file p (Spent nodes) = json.object (json.member (codes "name") (json.string p.name) (spent_members nodes))
 verdict_data rest file p (Overflow node kind) = json.object (json.member (codes "name") (json.string p.name) (place_members node kind))
+
+-- why the parameters are unknown, alone; null where they are known
+abbrev pub unknown_sample_data : ReportSample → json.Data
+unknown_sample_data (sample.Sample values) = json.null
+unknown_sample_data sample.Empty = json.null
+unknown_sample_data (sample.Spent count) = json.object (spent_members count)
+unknown_sample_data (sample.Overflow node kind) = json.object (place_members node kind)
+
+-- why the pattern with this name is unknown, alone; null where it is known
+abbrev pub unknown_verdict_data : List ℕ → Verdict → json.Data
+unknown_verdict_data name (Safe nodes leaves) = json.null
+unknown_verdict_data name (Unsafe nodes run) = json.null
+unknown_verdict_data name (Spent nodes) = json.object (json.member (codes "name") (json.string name) (spent_members nodes))
+unknown_verdict_data name (Overflow node kind) = json.object (json.member (codes "name") (json.string name) (place_members node kind))
 
 -- for each pattern, in order
 abbrev pub verdicts_data : Bool → File → List Pattern → List Verdict → json.Items

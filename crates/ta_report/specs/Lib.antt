@@ -8,3 +8,7 @@ pub mod Printed
 pub mod PrintedRuns
 pub mod Telling
 pub mod CheckJson
+pub mod Show
+pub mod Determined
+pub mod Unknowns
+pub mod Named

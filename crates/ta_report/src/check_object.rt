@@ -30,7 +30,7 @@ pub fn proofs_json(
     ensures { IfOk result (λ text. text ≡ proofs_json rest file.now sample.now numbers.now) }
 {
     let value = proofs_value(alloc, rest, file, sample, numbers)?;
-    line_of(alloc, &value)
+    json_line(alloc, &value)
 }
 
 /// The line of JSON for a pattern of an automaton that a run shows, with its unit steps and marks.
@@ -43,11 +43,11 @@ pub fn shown_json(
     ensures { IfOk result (λ text. text ≡ shown_text true automaton.now name.now shown) }
 {
     let value = replay_value(alloc, automaton, name, shown)?;
-    line_of(alloc, &value)
+    json_line(alloc, &value)
 }
 
-/// The line of a value without fractions.
-fn line_of(alloc: Global, value: &Value) -> Result<Text, AllocError>
+/// The line of a value without fractions: its compact text and a line feed.
+pub fn json_line(alloc: Global, value: &Value) -> Result<Text, AllocError>
     requires { has_float (view value.now) ≡ false }
     ensures { IfOk result (λ text. text ≡ compact_text (view value.now) ++ codes "\n") }
 {

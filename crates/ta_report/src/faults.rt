@@ -2,12 +2,12 @@
 #![tactic(auto)]
 
 ghost use Rattle.std.specs.Prelude.{◌≡◌, ◌++◌, decimal};
-ghost use Rattle.ta_shell.specs.Lines.{phrase_text};
+ghost use Rattle.ta_shelf.specs.Lines.{phrase_text};
 ghost use Rattle.ta_report.specs.Faults.{cert_fault_text, file_fault_text, run_fault_text};
 
 use ta_cert::CertFault;
 use ta_replay::RunFault;
-use ta_shell::Phrase;
+use ta_shelf::Phrase;
 use ta_syntax::FileFault;
 
 /// The words for a file's error; a number is an offset in bytes from 0, or a rule's number.

@@ -7,7 +7,7 @@ ghost use Rattle.serde_json.specs.Data.{array, member, object, string};
 ghost use Rattle.serde_json.specs.View.{view};
 ghost use Rattle.ta_replay.specs.Fits.{Fits};
 ghost use Rattle.ta_replay.specs.RunText.{run_lines};
-ghost use Rattle.ta_report.specs.Json.{digits_data, json_text, place_members, report_data, sample_data, texts_data, value_data, values_data, verdict_data, verdicts_data};
+ghost use Rattle.ta_report.specs.Json.{digits_data, json_text, place_members, report_data, sample_data, text_lines, texts_data, unknown_sample_data, unknown_verdict_data, value_data, values_data, verdict_data, verdicts_data};
 ghost use Rattle.ta_report.specs.Picked.{picked};
 ghost use Rattle.ta_report.specs.Report.{SampleFits, VerdictFits, place_text, safe_word, unsafe_word};
 ghost use Rattle.ta_report.specs.declared.verdict.Verdict.TheVariants.{Overflow, Safe, Spent, Unsafe};
@@ -53,8 +53,8 @@ fn report_value(alloc: Global, rest: bool, said: &Said<'_>) -> Result<Value, All
     })
 }
 
-/// A number: the text of its digits.
-pub(crate) fn digits_value(alloc: Global, number: u64) -> Result<Value, AllocError>
+/// A number as a value: the text of its digits.
+pub fn digits_value(alloc: Global, number: u64) -> Result<Value, AllocError>
     ensures { IfOk result (λ value. view value ≡ digits_data number) }
 {
     Ok(Value::String(format!(in alloc; "{number}")?))
@@ -83,6 +83,19 @@ pub(crate) fn sample_value(
             json!(in alloc; {"values": values, "verdict": "sample"})
         }
         ReportSample::Empty => json!(in alloc; {"verdict": "none"}),
+        ReportSample::Spent { .. } | ReportSample::Overflow { .. } => {
+            unknown_sample_value(alloc, sample)
+        }
+    }
+}
+
+/// Why the parameters are unknown, as a value: the object that the report has for them, or `null` where they
+/// are known.
+pub fn unknown_sample_value(alloc: Global, sample: &ReportSample) -> Result<Value, AllocError>
+    ensures { IfOk result (λ value. view value ≡ unknown_sample_data sample.now) }
+{
+    match sample {
+        ReportSample::Sample(_) | ReportSample::Empty => Ok(Value::Null),
         ReportSample::Spent { count } => {
             let nodes = digits_value(alloc, *count)?;
             json!(in alloc; {"nodes": nodes, "verdict": "spent"})
@@ -159,6 +172,23 @@ fn verdict_value(
             let word = unsafe_word(rest);
             json!(in alloc; {"name": name, "nodes": nodes, "run": lines, "verdict": word})
         }
+        Verdict::Spent { .. } | Verdict::Overflow { .. } => {
+            unknown_verdict_value(alloc, name, verdict)
+        }
+    }
+}
+
+/// Why the pattern of this name is unknown, as a value: the object that the report has for it, or `null` where
+/// it is known.
+pub fn unknown_verdict_value(
+    alloc: Global,
+    name: &str,
+    verdict: &Verdict,
+) -> Result<Value, AllocError>
+    ensures { IfOk result (λ value. view value ≡ unknown_verdict_data name.now verdict.now) }
+{
+    match verdict {
+        Verdict::Safe { .. } | Verdict::Unsafe { .. } => Ok(Value::Null),
         Verdict::Spent { nodes } => {
             let nodes = digits_value(alloc, *nodes)?;
             json!(in alloc; {"name": name, "nodes": nodes, "verdict": "spent"})
@@ -201,8 +231,15 @@ fn run_value(alloc: Global, file: &File, run: &Run) -> Result<Value, AllocError>
     ensures { IfOk result (λ value. view value ≡ array (texts_data (run_lines file.now run.now))) }
 {
     let text = print_run(alloc, file, run)?;
+    lines_value(alloc, text.as_str())
+}
+
+/// The lines of a text as a value: the list of them, each without its line feed.
+pub fn lines_value(alloc: Global, text: &str) -> Result<Value, AllocError>
+    ensures { IfOk result (λ value. view value ≡ array (texts_data (text_lines text.now))) }
+{
     let mut items = Vec::new(alloc);
-    for line in text.as_str().split('\n') {
+    for line in text.split('\n') {
         items.push(Value::try_from_str(alloc, line)?)?;
     }
     // nothing stands behind the last line feed

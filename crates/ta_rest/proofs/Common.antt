@@ -1,6 +1,9 @@
 -- The names that the proofs of this crate cite, passed on from one place. Declares nothing.
-pub use Rattle.std.proofs.Common.{All, Bool, IsBitSet, List, None, Option, Some, [], ap, append_assoc, arith, cond, eqb, eqb-true, false, get_or, inl, inr, length, length-append, map, not, pos, refl, reverse, slice_get, subst, suc, sum, sym, true, zero, ℕ, ℤ, ◌&&◌, ◌||◌, ◌*ℤ◌, ◌*◌, ◌++◌, ◌+ℤ◌, ◌+◌, ◌-◌, ◌<ℤ◌, ◌<◌, ◌^◌, ◌↔◌, ◌∙◌, ◌∷◌, ◌≡◌, ◌≢◌, ◌≤ℤ◌, ◌≤◌, ◌⊎◌}
-pub use Rattle.std.proofs.lemmas.Bool.{and_from, and_parts, cases_Bool, cases_lt, cond-false, cond-true, eq-eqb, false≢true, ne_eqb, not-false, not-true, not_from_false, true≢false}
+pub use Rattle.std.proofs.Common.{All, Bool, IsBitSet, List, None, Option, Some, [], ap, append_assoc, arith, cond, eqb, eqb-true, false, get_or, inl, inr}
+pub use Rattle.std.proofs.Common.{length, length-append, map, not, pos, refl, reverse, slice_get, subst, suc, sum, sym, true, zero, ℕ, ℤ, ◌&&◌, ◌||◌, ◌*ℤ◌, ◌*◌}
+pub use Rattle.std.proofs.Common.{◌++◌, ◌+ℤ◌, ◌+◌, ◌-◌, ◌<ℤ◌, ◌<◌, ◌^◌, ◌↔◌, ◌∙◌, ◌∷◌, ◌≡◌, ◌≢◌, ◌≤ℤ◌, ◌≤◌, ◌⊎◌}
+pub use Rattle.std.proofs.lemmas.Bool.{and_from, and_parts, cases_Bool, cases_lt, cond-false, cond-true, eq-eqb, false≢true, ne_eqb, not-false, not-true}
+pub use Rattle.std.proofs.lemmas.Bool.{not_from_false, true≢false}
 pub use Rattle.std.proofs.lemmas.Bool.Decides.{eqb_tells, nat_tests}
 pub use Rattle.std.proofs.lemmas.Int.{ints}
 pub use Rattle.std.proofs.lemmas.Option.{same_Some, slice_get-get_or, slice_get_read, slice_get_within}
@@ -34,9 +37,11 @@ pub use Rattle.ta_linear.specs.Terms.{coefficient}
 pub use Rattle.ta_linear.specs.Values.{RowHolds, value_of}
 pub use Rattle.ta_linear.specs.declared.row.Row.{Row}
 pub use Rattle.ta_rest.specs.Endings.{ComesLast, Endings, FewEvents, IsEnding, LastMoved, RestAdded, events_below, rest_name}
-pub use Rattle.ta_rest.specs.Laws.{EndingsRestAlike, EndsOfSolutionsRest, RefutedEndingsRest, RefutedEndingsShow, RestingRunsSolve, SolutionsComeToRest, StepsOfSolutionsRest}
+pub use Rattle.ta_rest.specs.Laws.{EndingsRestAlike, EndsOfSolutionsRest, RefutedEndingsRest, RefutedEndingsShow, RestingRunsSolve, SolutionsComeToRest}
+pub use Rattle.ta_rest.specs.Laws.{StepsOfSolutionsRest}
 pub use Rattle.ta_rest.specs.Quiet.{MaskedQuietlyHold, MustMove, NoneSubtracted, OneFails, QuietRest, QuietlyHolds, Stuck, is_silent, loud_terms, without}
-pub use Rattle.ta_rest.specs.QuietLaws.{EndingsQuietRestAlike, LoudTermsAreLeft, QuietAlone, QuietRestIsStuck, QuietRestIsWeaker, QuietSafeIsStronger, RestIsQuietRest, RestSafeIsQuietRestSafe}
+pub use Rattle.ta_rest.specs.QuietLaws.{EndingsQuietRestAlike, LoudTermsAreLeft, QuietAlone, QuietRestIsStuck, QuietRestIsWeaker, QuietSafeIsStronger}
+pub use Rattle.ta_rest.specs.QuietLaws.{RestIsQuietRest, RestSafeIsQuietRestSafe}
 pub use Rattle.ta_rest.specs.Rest.{AtRest, ComeAfterEarlier, ComesTo, RestOccurs}
 pub use Rattle.ta_rest.specs.RestSearch.{leads_out, must_be_left, rest_search}
 unfoldable pub use Rattle.ta_rest.specs.RestSearch.{end_rows, rest_rows}

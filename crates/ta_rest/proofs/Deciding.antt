@@ -1,5 +1,8 @@
 -- whether a rule must move is decided on finite lists
-use Rattle.ta_rest.proofs.Common.{◌≡◌, ◌≢◌, ◌⊎◌, inl, inr, ℕ, zero, suc, ◌<◌, List, length, IsBitSet, arith, refl, subst, sym, slice_get, get_or, Option, Some, None, cases_Bool, cases_lt, eqb_tells, ints, same_Some, slice_get_within, Automaton, Rule, Config, Row, value_at, value_of, pos, ◌<ℤ◌, bit_set, bit_true, has_bit, MaskedQuietlyHold, MustMove, OneFails, QuietlyHolds, QuietRest, QuietRestIsStuck, Stuck, without}
+use Rattle.ta_rest.proofs.Common.{◌≡◌, ◌≢◌, ◌⊎◌, inl, inr, ℕ, zero, suc, ◌<◌, List, length, IsBitSet, arith, refl, subst, sym, slice_get, get_or, Option, Some}
+use Rattle.ta_rest.proofs.Common.{None, cases_Bool, cases_lt, eqb_tells, ints, same_Some, slice_get_within, Automaton, Rule, Config, Row, value_at, value_of}
+use Rattle.ta_rest.proofs.Common.{pos, ◌<ℤ◌, bit_set, bit_true, has_bit, MaskedQuietlyHold, MustMove, OneFails, QuietlyHolds, QuietRest, QuietRestIsStuck}
+use Rattle.ta_rest.proofs.Common.{Stuck, without}
 use Rattle.ta_base.proofs.Integers.{is_negative, negative_false, negative_true}
 
 -- where each number has one of two properties, all below another have the first, or one has the second
@@ -41,10 +44,12 @@ row_decided silent mask c i (Some row) = elim (cases_Bool (has_bit mask i)) [
 ]
 
 rows_decided : (silent : List ℕ) (mask : ℕ) (rows : List Row) (c : Config) → MaskedQuietlyHold silent mask rows c ⊎ OneFails silent mask rows c
-rows_decided silent mask rows c = elim (each_or_one (λ i. HoldsIfNamed silent mask c i (slice_get rows i)) (λ i. NamedFails silent mask c i (slice_get rows i)) (length rows) (λ i. row_decided silent mask c i (slice_get rows i))) [
-  | inl all ↦ inl (λ i row at bit. all i (slice_get_within rows i row at) row at bit)
-  | inr one ↦ inr (record { number = one.0; row = one.1.0; named = one.1.1; is_set = one.1.2; fails = one.1.3 })
-]
+rows_decided silent mask rows c = elim
+    (each_or_one (λ i. HoldsIfNamed silent mask c i (slice_get rows i)) (λ i. NamedFails silent mask c i (slice_get rows i)) (length rows)
+    (λ i. row_decided silent mask c i (slice_get rows i))) [
+      | inl all ↦ inl (λ i row at bit. all i (slice_get_within rows i row at) row at bit)
+      | inr one ↦ inr (record { number = one.0; row = one.1.0; named = one.1.1; is_set = one.1.2; fails = one.1.3 })
+    ]
 
 -- a rule between two locations must move or is stuck
 pub must_or_stuck : (a : Automaton) (silent : List ℕ) (c : Config) (rule : Rule) → rule.from ≢ rule.to → MustMove a silent rule c ⊎ Stuck a silent rule c
@@ -95,8 +100,11 @@ rule_decided a silent c (Some rule) = elim (eqb_tells rule.from rule.to) [
 ]
 
 -- some rule must move, or none
-pub rest_or_moves : (a : Automaton) (silent : List ℕ) (c : Config) → ((r : ℕ) × (rule : Rule) × (slice_get a.rules r ≡ Some rule) × MustMove a silent rule c) ⊎ QuietRest a silent c
-rest_or_moves a silent c = elim (each_or_one (λ r. Resting a silent c (slice_get a.rules r)) (λ r. Moving a silent c (slice_get a.rules r)) (length a.rules) (λ r. rule_decided a silent c (slice_get a.rules r))) [
-  | inl all ↦ inr (λ r rule named must. all r (slice_get_within a.rules r rule named) rule named must)
-  | inr one ↦ inl (one.0, one.1.0, one.1.1, one.1.2)
-]
+pub rest_or_moves : (a : Automaton) (silent : List ℕ) (c : Config) → ((r : ℕ) × (rule : Rule) × (slice_get a.rules r ≡ Some rule) × MustMove a silent rule c)
+    ⊎ QuietRest a silent c
+rest_or_moves a silent c = elim
+    (each_or_one (λ r. Resting a silent c (slice_get a.rules r)) (λ r. Moving a silent c (slice_get a.rules r)) (length a.rules)
+    (λ r. rule_decided a silent c (slice_get a.rules r))) [
+      | inl all ↦ inr (λ r rule named must. all r (slice_get_within a.rules r rule named) rule named must)
+      | inr one ↦ inl (one.0, one.1.0, one.1.1, one.1.2)
+    ]

@@ -1,5 +1,9 @@
 -- a run comes to rest for a pattern as it does for the pattern's ending
-use Rattle.ta_rest.proofs.Common.{◌≡◌, ◌⊎◌, inl, inr, ℕ, zero, suc, ◌+◌, ◌≤◌, List, [], ◌∷◌, ◌++◌, length, length-append, arith, sym, ap, ◌∙◌, refl, subst, slice_get, get_or, Some, IsBitSet, All, cases_lt, slice_get_within, slice_get-get_or, same_Some, no_bit, at_most_first, get_end, push_cases, slice_get_left, some_at, Comparison, Condition, Automaton, Event, Pattern, Config, Holds, Occurs, value_at, RowHolds, run_length, IsEnding, LastMoved, RestAdded, events_below, EndingsRestAlike, ComeAfterEarlier, ComesTo, AtRest, ◌↔◌}
+use Rattle.ta_rest.proofs.Common.{◌≡◌, ◌⊎◌, inl, inr, ℕ, zero, suc, ◌+◌, ◌≤◌, List, [], ◌∷◌, ◌++◌, length, length-append, arith, sym, ap, ◌∙◌, refl, subst}
+use Rattle.ta_rest.proofs.Common.{slice_get, get_or, Some, IsBitSet, All, cases_lt, slice_get_within, slice_get-get_or, same_Some, no_bit, at_most_first}
+use Rattle.ta_rest.proofs.Common.{get_end, push_cases, slice_get_left, some_at, Comparison, Condition, Automaton, Event, Pattern, Config, Holds, Occurs}
+use Rattle.ta_rest.proofs.Common.{value_at, RowHolds, run_length, IsEnding, LastMoved, RestAdded, events_below, EndingsRestAlike, ComeAfterEarlier, ComesTo}
+use Rattle.ta_rest.proofs.Common.{AtRest, ◌↔◌}
 use Rattle.std.proofs.lemmas.List.{get_or_past}
 use Rattle.ta_base.proofs.Lists.{none_of_empty}
 use Rattle.ta_base.proofs.Bits.{ones_bit}
@@ -9,10 +13,12 @@ record Alike (p q : Pattern) : Type 0 where
   start : q.start ≡ p.start
   empty : q.empty ≡ p.empty
   count : length q.events ≡ length p.events
-  events : (e : ℕ) (event : Event) → slice_get q.events e ≡ Some event → (other : Event) × (slice_get p.events e ≡ Some other) × (event.condition ≡ other.condition) × ((e + 1 ≡ length p.events) ⊎ (event.after ≡ other.after))
+  events : (e : ℕ) (event : Event) → slice_get q.events e ≡ Some event → (other : Event) × (slice_get p.events e ≡ Some other)
+      × (event.condition ≡ other.condition) × ((e + 1 ≡ length p.events) ⊎ (event.after ≡ other.after))
 
 -- no event happens after the end of the run
-pub positions_within : (a : Automaton) (p : Pattern) (first : Config) (rules : List ℕ) (o : Occurs a p first rules) → (f : ℕ) → get_or o.positions f 0 ≤ length rules
+pub positions_within : (a : Automaton) (p : Pattern) (first : Config) (rules : List ℕ) (o : Occurs a p first rules) → (f : ℕ)
+    → get_or o.positions f 0 ≤ length rules
 positions_within a p first rules o f = elim (cases_lt f (length o.positions)) [
   | inl b ↦ (
       let at = slice_get-get_or o.positions f 0 b in
@@ -23,7 +29,8 @@ positions_within a p first rules o f = elim (cases_lt f (length o.positions)) [
   | inr c ↦ omega (arith, get_or_past o.positions f 0 c)
 ]
 
-alike_rests : (good : Config → Type 0) (a : Automaton) (p q : Pattern) → Alike p q → (first : Config) (rules : List ℕ) → ComesTo good a p first rules → ComesTo good a q first rules
+alike_rests : (good : Config → Type 0) (a : Automaton) (p q : Pattern) → Alike p q → (first : Config) (rules : List ℕ) → ComesTo good a p first rules
+    → ComesTo good a q first rules
 alike_rests good a p q h first rules o =
     let was = o.occurs in
     record {
@@ -50,8 +57,10 @@ alike_rests good a p q h first rules o =
     }
 
 -- an event of a list whose last item is another
-other_event : (front : List Event) (last moved : Event) → moved.condition ≡ last.condition → (e : ℕ) (event : Event) → slice_get (front ++ moved ∷ []) e ≡ Some event
-    → (other : Event) × (slice_get (front ++ last ∷ []) e ≡ Some other) × (event.condition ≡ other.condition) × ((e + 1 ≡ length (front ++ last ∷ [])) ⊎ (event.after ≡ other.after))
+other_event : (front : List Event) (last moved : Event) → moved.condition ≡ last.condition → (e : ℕ) (event : Event)
+    → slice_get (front ++ moved ∷ []) e ≡ Some event
+    → (other : Event) × (slice_get (front ++ last ∷ []) e ≡ Some other) × (event.condition ≡ other.condition)
+    × ((e + 1 ≡ length (front ++ last ∷ [])) ⊎ (event.after ≡ other.after))
 other_event front last moved same e event at = elim (push_cases front moved e event at) [
   | inl w ↦ (event, slice_get_left front (last ∷ []) e event w.1, refl, inr refl)
   | inr w ↦ (
@@ -66,13 +75,15 @@ other_event front last moved same e event at = elim (push_cases front moved e ev
 other_of : (old new : List Event) (m : LastMoved old new) → (e : ℕ) (event : Event) → slice_get new e ≡ Some event
     → (other : Event) × (slice_get old e ≡ Some other) × (event.condition ≡ other.condition) × ((e + 1 ≡ length old) ⊎ (event.after ≡ other.after))
 other_of old new m e event at =
-    subst (λ (xs : List Event). (other : Event) × (slice_get xs e ≡ Some other) × (event.condition ≡ other.condition) × ((e + 1 ≡ length xs) ⊎ (event.after ≡ other.after))) (sym m.was)
+    subst (λ (xs : List Event). (other : Event) × (slice_get xs e ≡ Some other) × (event.condition ≡ other.condition)
+    × ((e + 1 ≡ length xs) ⊎ (event.after ≡ other.after))) (sym m.was)
     (other_event m.front m.last m.moved m.condition e event (ap (λ (xs : List Event). slice_get xs e) (sym m.is) ∙ at))
 
 pub back_of : (old new : List Event) (m : LastMoved old new) → (e : ℕ) (event : Event) → slice_get old e ≡ Some event
     → (other : Event) × (slice_get new e ≡ Some other) × (event.condition ≡ other.condition) × ((e + 1 ≡ length new) ⊎ (event.after ≡ other.after))
 back_of old new m e event at =
-    subst (λ (xs : List Event). (other : Event) × (slice_get xs e ≡ Some other) × (event.condition ≡ other.condition) × ((e + 1 ≡ length xs) ⊎ (event.after ≡ other.after))) (sym m.is)
+    subst (λ (xs : List Event). (other : Event) × (slice_get xs e ≡ Some other) × (event.condition ≡ other.condition)
+    × ((e + 1 ≡ length xs) ⊎ (event.after ≡ other.after))) (sym m.is)
     (other_event m.front m.moved m.last (sym m.condition) e event (ap (λ (xs : List Event). slice_get xs e) (sym m.was) ∙ at))
 
 pub moved_count : (old new : List Event) → LastMoved old new → length new ≡ length old
@@ -82,21 +93,32 @@ moved_count old new m =
     omega (arith, length-append m.front (m.last ∷ []), length-append m.front (m.moved ∷ []))
 
 -- there is a configuration after the last step
-pub end_config : (a : Automaton) (p : Pattern) (first : Config) (rules : List ℕ) (o : Occurs a p first rules) → (c : Config) × (slice_get (first ∷ o.later) (length rules) ≡ Some c)
-end_config a p first rules o = (get_or (first ∷ o.later) (length rules) first, slice_get-get_or (first ∷ o.later) (length rules) first (omega (arith, run_length a first rules o.later o.run.steps)))
+pub end_config : (a : Automaton) (p : Pattern) (first : Config) (rules : List ℕ) (o : Occurs a p first rules) → (c : Config)
+    × (slice_get (first ∷ o.later) (length rules) ≡ Some c)
+end_config a p first rules o = (
+  get_or (first ∷ o.later) (length rules) first,
+  slice_get-get_or (first ∷ o.later) (length rules) first
+      (omega (arith, run_length a first rules o.later o.run.steps)),
+)
 
 no_comparison : (c : Config) (ks : List Comparison) → ks ≡ [] → All (λ (k : Comparison). All (RowHolds (value_at c)) k.rows) ks
 no_comparison c [] e i d b = absurd (omega arith)
 no_comparison c (k ∷ ks) e i d b = absurd (cc)
 
 -- the only event's condition holds, since it has no comparisons
-added_holds : (old new : List Event) (m : RestAdded old new) (c : Config) (e : ℕ) (event : Event) → slice_get new e ≡ Some event → (e ≡ 0) × Holds event.condition c
+added_holds : (old new : List Event) (m : RestAdded old new) (c : Config) (e : ℕ) (event : Event) → slice_get new e ≡ Some event → (e ≡ 0)
+    × Holds event.condition c
 added_holds old new m c e event at = only e (ap (λ (xs : List Event). slice_get xs e) (sym m.is) ∙ at) where
   only : (e : ℕ) → slice_get (m.event ∷ []) e ≡ Some event → (e ≡ 0) × Holds event.condition c
-  only zero h = (refl, no_comparison c event.condition.comparisons (ap (λ (x : Event). x.condition.comparisons) (sym (same_Some m.event event h)) ∙ m.condition))
+  only zero h = (
+    refl,
+    no_comparison c event.condition.comparisons
+        (ap (λ (x : Event). x.condition.comparisons) (sym (same_Some m.event event h)) ∙ m.condition),
+  )
   only (suc e) h = absurd (cc)
 
-added_rests : (good : Config → Type 0) (a : Automaton) (p q : Pattern) → q.start ≡ p.start → q.empty ≡ p.empty → RestAdded p.events q.events → (first : Config) (rules : List ℕ) → ComesTo good a p first rules → ComesTo good a q first rules
+added_rests : (good : Config → Type 0) (a : Automaton) (p q : Pattern) → q.start ≡ p.start → q.empty ≡ p.empty → RestAdded p.events q.events
+    → (first : Config) (rules : List ℕ) → ComesTo good a p first rules → ComesTo good a q first rules
 added_rests good a p q start empty m first rules o =
     let was = o.occurs in
     let n = length rules in
@@ -123,7 +145,8 @@ added_rests good a p q start empty m first rules o =
       rests = o.rests;
     }
 
-added_back : (good : Config → Type 0) (a : Automaton) (p q : Pattern) → q.start ≡ p.start → q.empty ≡ p.empty → RestAdded p.events q.events → (first : Config) (rules : List ℕ) → ComesTo good a q first rules → ComesTo good a p first rules
+added_back : (good : Config → Type 0) (a : Automaton) (p q : Pattern) → q.start ≡ p.start → q.empty ≡ p.empty → RestAdded p.events q.events
+    → (first : Config) (rules : List ℕ) → ComesTo good a q first rules → ComesTo good a p first rules
 added_back good a p q start empty m first rules o =
     let was = o.occurs in
     let none : length p.events ≡ 0 = ap (λ (xs : List Event). length xs) m.none in
@@ -143,11 +166,19 @@ added_back good a p q start empty m first rules o =
     }
 
 -- a run comes to a good end for a pattern as it does for the pattern's ending
-pub endings_alike : (good : Config → Type 0) (a : Automaton) (p q : Pattern) → IsEnding p q → (first : Config) (rules : List ℕ) → ComesTo good a p first rules ↔ ComesTo good a q first rules
+pub endings_alike : (good : Config → Type 0) (a : Automaton) (p q : Pattern) → IsEnding p q → (first : Config) (rules : List ℕ) → ComesTo good a p first rules
+    ↔ ComesTo good a q first rules
 endings_alike good a p q h first rules = elim h.events [
   | inl m ↦ (
-    alike_rests good a p q (record { start = h.start; empty = h.empty; count = moved_count p.events q.events m; events = other_of p.events q.events m }) first rules,
-    alike_rests good a q p (record { start = sym h.start; empty = sym h.empty; count = sym (moved_count p.events q.events m); events = back_of p.events q.events m }) first rules,
+    alike_rests good a p q (record { start = h.start; empty = h.empty; count = moved_count p.events q.events m; events = other_of p.events q.events m }) first
+        rules,
+    alike_rests good a q p (record {
+      start = sym h.start;
+      empty = sym h.empty;
+      count = sym (moved_count p.events q.events m);
+      events = back_of p.events q.events
+          m;
+    }) first rules,
   )
   | inr m ↦ (added_rests good a p q h.start h.empty m first rules, added_back good a p q h.start h.empty m first rules)
 ]

@@ -1,5 +1,7 @@
 -- the endings of a file's patterns are patterns of such a file, and their last events come last
-use Rattle.ta_rest.proofs.Common.{◌≡◌, inl, inr, ℕ, suc, ◌+◌, ◌^◌, ◌<◌, List, [], ◌∷◌, ◌++◌, map, length, length-append, append_assoc, arith, sym, ap, ◌∙◌, refl, subst, slice_get, get_or, eqb, Some, false≢true, AllByRecursion, push_cases, Comparison, Condition, Event, Pattern, Distinct, EachFrom, ComesLast, Endings, FewEvents, IsEnding, RestAdded, events_below, rest_name}
+use Rattle.ta_rest.proofs.Common.{◌≡◌, inl, inr, ℕ, suc, ◌+◌, ◌^◌, ◌<◌, List, [], ◌∷◌, ◌++◌, map, length, length-append, append_assoc, arith, sym, ap, ◌∙◌}
+use Rattle.ta_rest.proofs.Common.{refl, subst, slice_get, get_or, eqb, Some, false≢true, AllByRecursion, push_cases, Comparison, Condition, Event, Pattern}
+use Rattle.ta_rest.proofs.Common.{Distinct, EachFrom, ComesLast, Endings, FewEvents, IsEnding, RestAdded, events_below, rest_name}
 use Rattle.ta_syntax.specs.declared.tokens.Mark.{Mark}
 use Rattle.ta_syntax.specs.declared.tokens.Mark.TheVariants as mark
 use Rattle.ta_syntax.specs.Kinds.{mark_bytes}
@@ -22,17 +24,24 @@ rest_is_name = record {
 }
 
 -- an event that has another's name and condition and comes after all earlier ones is within what the other is
-moved_within : (places k : ℕ) (event moved : Event) → moved.name ≡ event.name → moved.condition ≡ event.condition → moved.after ≡ events_below k → EventWithin places k event → EventWithin places k moved
+moved_within : (places k : ℕ) (event moved : Event) → moved.name ≡ event.name → moved.condition ≡ event.condition → moved.after ≡ events_below k
+    → EventWithin places k event → EventWithin places k moved
 moved_within places k event moved name condition after h = record {
   name = subst Name (sym name) h.name;
   after = omega (arith, after, ones_below k);
   condition = subst (ConditionOver places) (sym condition) h.condition;
 }
 
-moved_events : (places k : ℕ) (front : List Event) (last moved : Event) → moved.name ≡ last.name → moved.condition ≡ last.condition → moved.after ≡ events_below (k + length front) → EachFrom (EventWithin places) k (front ++ last ∷ []) → EachFrom (EventWithin places) k (front ++ moved ∷ [])
-moved_events places k [] last moved name condition after h = (moved_within places k last moved name condition (after ∙ ap events_below (let e : k + 0 ≡ k = omega arith in e)) h.0, tt)
-moved_events places k (x ∷ front) last moved name condition after h =
-    (h.0, moved_events places (k + 1) front last moved name condition (after ∙ ap events_below (let e : k + suc (length front) ≡ k + 1 + length front = omega arith in e)) h.1)
+moved_events : (places k : ℕ) (front : List Event) (last moved : Event) → moved.name ≡ last.name → moved.condition ≡ last.condition
+    → moved.after ≡ events_below (k + length front) → EachFrom (EventWithin places) k (front ++ last ∷ [])
+    → EachFrom (EventWithin places) k (front ++ moved ∷ [])
+moved_events places k [] last moved name condition after h =
+    (moved_within places k last moved name condition (after ∙ ap events_below (let e : k + 0 ≡ k = omega arith in e)) h.0, tt)
+moved_events places k (x ∷ front) last moved name condition after h = (
+  h.0,
+  moved_events places (k + 1) front last moved name condition
+      (after ∙ ap events_below (let e : k + suc (length front) ≡ k + 1 + length front = omega arith in e)) h.1,
+)
 
 moved_names : (front : List Event) (last moved : Event) → moved.name ≡ last.name → map event_name (front ++ moved ∷ []) ≡ map event_name (front ++ last ∷ [])
 moved_names [] last moved name = ap (λ n. n ∷ []) name
@@ -47,20 +56,32 @@ ending_within places locations p q h w = record {
   start = subst (ConditionOver places) (sym h.start) w.start;
   empty = subst (λ m. m < 2 ^ locations) (sym h.empty) w.empty;
   events_limit = elim h.events [
-    | inl m ↦ (let one = ap (λ (xs : List Event). length xs) m.was in let two = ap (λ (xs : List Event). length xs) m.is in omega (arith, w.events_limit, length-append m.front (m.last ∷ []), length-append m.front (m.moved ∷ [])))
+    | inl m ↦ (let one = ap (λ (xs : List Event). length xs) m.was in let two = ap (λ (xs : List Event). length xs) m.is in omega
+        (arith, w.events_limit, length-append m.front (m.last ∷ []), length-append m.front (m.moved ∷ [])))
     | inr m ↦ (let one = ap (λ (xs : List Event). length xs) m.is in omega arith)
   ];
   events = elim h.events [
-    | inl m ↦ subst (EachFrom (EventWithin places) 0) (sym m.is) (moved_events places 0 m.front m.last m.moved m.name m.condition (m.after ∙ ap events_below (let e : length m.front ≡ 0 + length m.front = omega arith in e)) (subst (EachFrom (EventWithin places) 0) m.was w.events))
-    | inr m ↦ subst (EachFrom (EventWithin places) 0) (sym m.is) (record { name = subst Name (sym m.name) rest_is_name; after = omega (arith, m.after); condition = no_comparisons places m.event.condition m.condition }, tt)
+    | inl m ↦ subst (EachFrom (EventWithin places) 0) (sym m.is)
+        (moved_events places 0 m.front m.last m.moved m.name m.condition
+        (m.after ∙ ap events_below (let e : length m.front ≡ 0 + length m.front = omega arith in e)) (subst (EachFrom (EventWithin places) 0) m.was w.events))
+    | inr m ↦ subst (EachFrom (EventWithin places) 0) (sym m.is) (
+      record {
+        name = subst Name (sym m.name) rest_is_name;
+        after = omega (arith, m.after);
+        condition = no_comparisons places m.event.condition m.condition;
+      },
+      tt,
+    )
   ];
   events_distinct = elim h.events [
-    | inl m ↦ subst Distinct (ap (λ (xs : List Event). map event_name xs) m.was ∙ sym (moved_names m.front m.last m.moved m.name) ∙ ap (λ (xs : List Event). map event_name xs) (sym m.is)) w.events_distinct
+    | inl m ↦ subst Distinct (ap (λ (xs : List Event). map event_name xs) m.was ∙ sym (moved_names m.front m.last m.moved m.name)
+        ∙ ap (λ (xs : List Event). map event_name xs) (sym m.is)) w.events_distinct
     | inr m ↦ subst (λ (xs : List Event). Distinct (map event_name xs)) (sym m.is) (tt, tt)
   ];
 }
 
-endings_within : (places locations : ℕ) (ps qs : List Pattern) → Endings ps qs → AllByRecursion (PatternWithin places locations) ps → AllByRecursion (PatternWithin places locations) qs
+endings_within : (places locations : ℕ) (ps qs : List Pattern) → Endings ps qs → AllByRecursion (PatternWithin places locations) ps
+    → AllByRecursion (PatternWithin places locations) qs
 endings_within places locations [] [] h w = tt
 endings_within places locations [] (q ∷ qs) h w = absurd h
 endings_within places locations (p ∷ ps) [] h w = absurd h
@@ -123,7 +144,8 @@ pub record EndingsSoFar (patterns rest endings : List Pattern) : Type 0 where
   pub whole : patterns ≡ front ++ rest
   pub ends : Endings front endings
 
-pub so_far_more : (patterns rest endings : List Pattern) (p q : Pattern) → EndingsSoFar patterns (p ∷ rest) endings → IsEnding p q → EndingsSoFar patterns rest (endings ++ q ∷ [])
+pub so_far_more : (patterns rest endings : List Pattern) (p q : Pattern) → EndingsSoFar patterns (p ∷ rest) endings → IsEnding p q
+    → EndingsSoFar patterns rest (endings ++ q ∷ [])
 so_far_more patterns rest endings p q h i = record {
   front = h.front ++ p ∷ [];
   whole = h.whole ∙ sym (append_assoc h.front (p ∷ []) rest);

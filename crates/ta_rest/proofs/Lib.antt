@@ -11,3 +11,15 @@ pub mod Moving
 pub mod Solutions
 pub mod RestSystems
 mod Common
+pub mod Prefixes
+pub mod Bounds
+pub mod Coming
+pub mod Going
+pub mod Extending
+mod FairCommon
+pub mod PatternWords
+pub mod RestRows
+pub mod ClaimWords
+pub mod ClaimsShown
+mod RestMasks
+mod ClaimCommon

@@ -1,5 +1,6 @@
 -- the heights of the locations of all processes together fall with each step between locations
-use Rattle.ta_rest.proofs.Common.{◌≡◌, inl, inr, ℕ, ◌+◌, ◌*◌, ◌-◌, ◌≤◌, pos, ◌*ℤ◌, ◌≤ℤ◌, List, [], ◌∷◌, length, sum, eqb, cond, not, arith, sym, ap, ◌∙◌, subst, slice_get, ints, eqb_tells, Automaton, Config, Step, Steps, from_within, to_within, LoopsAlone}
+use Rattle.ta_rest.proofs.Common.{◌≡◌, inl, inr, ℕ, ◌+◌, ◌*◌, ◌-◌, ◌≤◌, pos, ◌*ℤ◌, ◌≤ℤ◌, List, [], ◌∷◌, length, sum, eqb, cond, not, arith, sym, ap, ◌∙◌, subst}
+use Rattle.ta_rest.proofs.Common.{slice_get, ints, eqb_tells, Automaton, Config, Step, Steps, from_within, to_within, LoopsAlone}
 use Rattle.ta_base.proofs.Sums.{weighted_sum-most, weighted_sum-moved}
 unfoldable use Rattle.ta_base.proofs.Sums.{weighted_sum}
 use Rattle.std.proofs.lemmas.Bool.{cond-false, cond-true}
@@ -8,7 +9,8 @@ use Rattle.ta_rest.specs.Moves.{MovesAreBounded, is_move, moves_count}
 use Rattle.ta_rest.proofs.Heights.{height_of, height_below, height_falls}
 
 -- a step lowers the weight, or is a self-loop's
-step_falls : (a : Automaton) → LoopsAlone a → (r : ℕ) (c d : Config) (step : Step a r c d) → length c.counters ≡ length a.locations → cond (is_move (slice_get a.rules r)) 1 0 + weighted_sum (height_of a) 0 d.counters ≤ weighted_sum (height_of a) 0 c.counters
+step_falls : (a : Automaton) → LoopsAlone a → (r : ℕ) (c d : Config) (step : Step a r c d) → length c.counters ≡ length a.locations
+    → cond (is_move (slice_get a.rules r)) 1 0 + weighted_sum (height_of a) 0 d.counters ≤ weighted_sum (height_of a) 0 c.counters
 step_falls a alone r c d step count =
     let rule = step.rule in
     let h = height_of a in
@@ -27,7 +29,8 @@ step_falls a alone r c d step count =
           omega arith)
     ]
 
-run_falls : (a : Automaton) → LoopsAlone a → (c : Config) (rules : List ℕ) (later : List Config) → Steps a c rules later → length c.counters ≡ length a.locations → moves_count a rules ≤ weighted_sum (height_of a) 0 c.counters
+run_falls : (a : Automaton) → LoopsAlone a → (c : Config) (rules : List ℕ) (later : List Config) → Steps a c rules later
+    → length c.counters ≡ length a.locations → moves_count a rules ≤ weighted_sum (height_of a) 0 c.counters
 unfolding moves_count
 run_falls a alone c [] [] steps count = omega arith
 run_falls a alone c [] (d ∷ later) steps count = absurd steps
@@ -41,4 +44,5 @@ moves_bounded a alone first rules later run =
     let falls = run_falls a alone first rules later run.steps count in
     let most = weighted_sum-most (height_of a) (length a.locations - 1) 0 first.counters (λ l b. let h = height_below a alone l (omega arith) in omega arith) in
     let bound : pos (moves_count a rules) ≤ℤ pos (sum first.counters * (length a.locations - 1)) = omega (arith, ints) in
-    subst (λ z. pos (moves_count a rules) ≤ℤ z) (sym (pos-*ℤ-pos (sum first.counters) (length a.locations - 1)) ∙ ap (λ z. z *ℤ pos (length a.locations - 1)) run.initial.processes) bound
+    subst (λ z. pos (moves_count a rules) ≤ℤ z)
+    (sym (pos-*ℤ-pos (sum first.counters) (length a.locations - 1)) ∙ ap (λ z. z *ℤ pos (length a.locations - 1)) run.initial.processes) bound

@@ -1,5 +1,6 @@
 -- masks of patterns without events
-use Rattle.ta_rest.proofs.Common.{◌≡◌, ◌⊎◌, inl, inr, ℕ, ◌+◌, ◌<◌, List, [], arith, sym, ap, ◌∙◌, subst, slice_get, Some, IsBitSet, ◌↔◌, eqb_tells, same_Some, Pattern}
+use Rattle.ta_rest.proofs.Common.{◌≡◌, ◌⊎◌, inl, inr, ℕ, ◌+◌, ◌<◌, List, [], arith, sym, ap, ◌∙◌, subst, slice_get, Some, IsBitSet, ◌↔◌, eqb_tells, same_Some}
+use Rattle.ta_rest.proofs.Common.{Pattern}
 
 -- a pattern of a list that has no events
 abbrev pub Eventless : List Pattern → ℕ → Type 0
@@ -16,7 +17,8 @@ more_patterns patterns n mask more pattern at step before k = (
     | inr new ↦ ((let e = new.0 in omega arith), (pattern, ap (slice_get patterns) new.0 ∙ at, new.1))
   ],
   λ w. elim (eqb_tells k n) [
-    | inl e ↦ (let same : pattern ≡ w.1.0 = same_Some pattern w.1.0 (sym at ∙ ap (slice_get patterns) (sym e.1) ∙ w.1.1) in (step k).1 (inr (e.1, subst (λ (p : Pattern). p.events ≡ []) (sym same) w.1.2)))
+    | inl e ↦ (let same : pattern ≡ w.1.0 = same_Some pattern w.1.0 (sym at ∙ ap (slice_get patterns) (sym e.1) ∙ w.1.1) in (step k).1
+        (inr (e.1, subst (λ (p : Pattern). p.events ≡ []) (sym same) w.1.2)))
     | inr ne ↦ (step k).1 (inl ((before k).1 ((let b = w.0 in let d = ne.1 in omega arith), w.1)))
   ],
 )

@@ -1,5 +1,8 @@
 -- an automaton whose one rule has a guard of a silent place alone: nobody may stay at rest, and all may at quiet rest
-use Rattle.ta_rest.proofs.Common.{◌≡◌, ◌≤◌, ◌≤ℤ◌, ℕ, ℤ, zero, suc, pos, [], ◌∷◌, List, length, All, IsBitSet, arith, ints, refl, sym, ap, subst, slice_get, get_or, Some, same_Some, slice_get-get_or, bit_set, no_bit, Comparison, Condition, value_at-location, Automaton, Event, Pattern, Rule, true, cond, eqb, eqb_tells, cond-true, cond-false, inl, inr, Config, Initial, Occurs, Row, RowHolds, Whole, MaskedHold, value_at, ComesTo, AtRest, RestOccurs, NoneSubtracted, QuietAlone, QuietRest, MustMove, coefficient}
+use Rattle.ta_rest.proofs.Common.{◌≡◌, ◌≤◌, ◌≤ℤ◌, ℕ, ℤ, zero, suc, pos, [], ◌∷◌, List, length, All, IsBitSet, arith, ints, refl, sym, ap, subst, slice_get}
+use Rattle.ta_rest.proofs.Common.{get_or, Some, same_Some, slice_get-get_or, bit_set, no_bit, Comparison, Condition, value_at-location, Automaton, Event}
+use Rattle.ta_rest.proofs.Common.{Pattern, Rule, true, cond, eqb, eqb_tells, cond-true, cond-false, inl, inr, Config, Initial, Occurs, Row, RowHolds, Whole}
+use Rattle.ta_rest.proofs.Common.{MaskedHold, value_at, ComesTo, AtRest, RestOccurs, NoneSubtracted, QuietAlone, QuietRest, MustMove, coefficient}
 use Rattle.std.specs.Prelude.{negsuc, Contains}
 use Rattle.std.proofs.lemmas.List.Elements.{All-cons, All-nil}
 use Rattle.ta_base.proofs.Lists.{letters_apart}
@@ -38,7 +41,8 @@ abbrev one_row : Form → Condition
 one_row form = record { comparisons = comparison form ∷ []; limit = omega arith }
 
 one_holds : (point : ℕ → ℤ) (form : Form) → RowHolds point (row_of form) → HoldsAt point (one_row form)
-one_holds point form h = All-cons (λ (k : Comparison). All (RowHolds point) k.rows) (comparison form) [] (All-cons (RowHolds point) (row_of form) [] h (All-nil (RowHolds point))) (All-nil (λ (k : Comparison). All (RowHolds point) k.rows))
+one_holds point form h = All-cons (λ (k : Comparison). All (RowHolds point) k.rows) (comparison form) []
+    (All-cons (RowHolds point) (row_of form) [] h (All-nil (RowHolds point))) (All-nil (λ (k : Comparison). All (RowHolds point) k.rows))
 
 whole_over : FormOver 1 whole
 whole_over = record { below = (omega arith, one_term 0, omega arith); small = record { constant = omega arith; coefficients = (omega arith, tt) } }
@@ -63,7 +67,15 @@ guarded = record {
   fall = [];
   rules = move ∷ [];
   shape = record {
-    limits = record { parameters_limit = omega arith; shared_limit = omega arith; locations_limit = omega arith; rise_limit = omega arith; fall_limit = omega arith; rules_limit = omega arith };
+    limits = record {
+      parameters_limit = omega arith;
+      shared_limit = omega arith;
+      locations_limit = omega arith;
+      rise_limit = omega arith;
+      fall_limit = omega
+          arith;
+      rules_limit = omega arith;
+    };
     name_legal = letter_name 102 refl;
     names_legal = (letter_name 110 refl, (letter_name 65 refl, (letter_name 66 refl, tt)));
     names_distinct = ((letters_apart 110 65 refl, (letters_apart 110 66 refl, tt)), ((letters_apart 65 66 refl, tt), (tt, tt)));
@@ -75,7 +87,20 @@ guarded = record {
     rise_distinct = (tt, tt);
     fall_rows = tt;
     fall_distinct = tt;
-    rules_within = (record { name = letter_name 114 refl; from = omega arith; to = omega arith; rise_mask = omega arith; fall_mask = omega arith; updates_limit = omega arith; updates = tt; variables_distinct = tt }, tt);
+    rules_within = (
+      record {
+        name = letter_name 114 refl;
+        from = omega arith;
+        to = omega arith;
+        rise_mask = omega arith;
+        fall_mask = omega arith;
+        updates_limit
+            = omega arith;
+        updates = tt;
+        variables_distinct = tt;
+      },
+      tt,
+    );
     rules_distinct = (tt, tt);
   };
 }
@@ -120,7 +145,8 @@ occurs = record {
   happens zero event k named at =
       let same : stays ≡ event = same_Some stays event named in
       let one : 0 ≡ k = same_Some 0 k at in
-      subst (λ (w : Event). HappensAt at_first [] w k) same (subst (λ (n : ℕ). HappensAt at_first [] stays n) one (at_first, refl, one_holds (value_at at_first) in_first (omega (arith, ints))))
+      subst (λ (w : Event). HappensAt at_first [] w k) same
+      (subst (λ (n : ℕ). HappensAt at_first [] stays n) one (at_first, refl, one_holds (value_at at_first) in_first (omega (arith, ints))))
   happens (suc e) event k named at = absurd (cc)
 
   order : (e f : ℕ) (event : Event) → slice_get left_behind.events e ≡ Some event → IsBitSet event.after f → get_or (0 ∷ []) f 0 ≤ get_or (0 ∷ []) e 0
@@ -164,12 +190,15 @@ nobody_rests first rules o =
     let c = h.0 in
     let end : get_or was.positions 0 0 ≡ length rules = o.at_end 0 refl in
     let at : slice_get (first ∷ was.later) (length rules) ≡ Some c = subst (λ k. slice_get (first ∷ was.later) k ≡ Some c) end h.1 in
-    let begin : Whole guarded first = record { parameters = was.run.initial.admissible.count; shared = was.run.initial.shared_count; counters = was.run.initial.locations_count } in
+    let begin : Whole guarded first = record
+    { parameters = was.run.initial.admissible.count; shared = was.run.initial.shared_count; counters = was.run.initial.locations_count } in
     let w : Whole guarded c = whole_at guarded first rules was.later begin was.run.steps (length rules) c at in
     let same = parameters_stay guarded first rules was.later was.run (length rules) c at in
-    moves_on c first w same (h.2 0 (comparison in_first) (omega arith) 0 (row_of in_first) (omega arith)) (was.run.initial.admissible.resilience 0 (comparison one_less) (omega arith) 0 (row_of one_less) (omega arith)) (o.rests c at)
+    moves_on c first w same (h.2 0 (comparison in_first) (omega arith) 0 (row_of in_first) (omega arith))
+    (was.run.initial.admissible.resilience 0 (comparison one_less) (omega arith) 0 (row_of one_less) (omega arith)) (o.rests c at)
   where
-    moves_on : (c first : Config) → Whole guarded c → c.parameters ≡ first.parameters → RowHolds (value_at c) (row_of in_first) → RowHolds (number_at first.parameters) (row_of one_less) → AtRest guarded c → ⊥
+    moves_on : (c first : Config) → Whole guarded c → c.parameters ≡ first.parameters → RowHolds (value_at c) (row_of in_first)
+        → RowHolds (number_at first.parameters) (row_of one_less) → AtRest guarded c → ⊥
     moves_on c first w same someone enough rests =
         let fits = fits_whole guarded c w in
         let here = value_at-location guarded c 0 fits in

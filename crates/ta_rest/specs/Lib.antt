@@ -6,3 +6,8 @@ pub mod Faults
 pub mod Moves
 pub mod Laws
 pub mod QuietLaws
+pub mod Fair
+pub mod FairLaws
+pub mod Claims
+pub mod Trees
+pub mod RestEnds

@@ -1,5 +1,8 @@
 -- what is found is safe
-use Rattle.ta_search.proofs.Common.{◌≡◌, ◌∙◌, inl, inr, ℕ, ◌+◌, true, List, [], ◌∷◌, ◌++◌, length, map, refl, sym, ap, subst, append_assoc, false≢true, AllByRecursion, File, Pattern, range_with_len, Certificate, Verdict, Safe, Unsafe, Spent, Overflow, SafeOne, safe_ones, VerdictsHold, Outcome, Tried, Template, filled_text, IsSafe, OutcomeHolds, is_safe, AreTried, IsFound, IsSearchEnd, IsTried, LastIsFound, is_found, vectors, Budget}
+use Rattle.ta_search.proofs.Common.{◌≡◌, ◌∙◌, inl, inr, ℕ, ◌+◌, true, List, [], ◌∷◌, ◌++◌, length, map, refl, sym, ap, subst, append_assoc, false≢true}
+use Rattle.ta_search.proofs.Common.{AllByRecursion, File, Pattern, range_with_len, Certificate, Verdict, Safe, Unsafe, Spent, Overflow, SafeOne, safe_ones}
+use Rattle.ta_search.proofs.Common.{VerdictsHold, Outcome, Tried, Template, filled_text, IsSafe, OutcomeHolds, is_safe, AreTried, IsFound, IsSearchEnd, IsTried}
+use Rattle.ta_search.proofs.Common.{LastIsFound, is_found, vectors, Budget}
 use Rattle.ta_automaton.specs.Runs as runs
 use Rattle.ta_search.specs.declared.outcome.Outcome.TheVariants as outcome
 use Rattle.ta_search.specs.declared.outcome.SearchEnd.{SearchEnd}
@@ -22,7 +25,8 @@ all_numbers :
     → AllByRecursion (λ v. is_safe v ≡ true) vs → map (λ (one : SafeOne). one.number) (safe_ones number ps vs) ≡ range_with_len number (length ps)
 all_numbers file budget number [] vs hold all = refl
 all_numbers file budget number (p ∷ ps) [] hold all = absurd hold
-all_numbers file budget number (p ∷ ps) (Safe nodes leaves ∷ vs) hold all = ap (λ (ks : List ℕ). number ∷ ks) (all_numbers file budget (number + 1) ps vs hold.1 all.1)
+all_numbers file budget number (p ∷ ps) (Safe nodes leaves ∷ vs) hold all = ap (λ (ks : List ℕ). number ∷ ks)
+    (all_numbers file budget (number + 1) ps vs hold.1 all.1)
 all_numbers file budget number (p ∷ ps) (Unsafe nodes run ∷ vs) hold all = absurd (false≢true all.0)
 all_numbers file budget number (p ∷ ps) (Spent nodes ∷ vs) hold all = absurd (false≢true all.0)
 all_numbers file budget number (p ∷ ps) (Overflow node kind ∷ vs) hold all = absurd (false≢true all.0)
@@ -65,7 +69,15 @@ last_of :
     → is_found x.outcome ≡ true → LastIsFound t end
 last_of t budget before v x end whole is safe =
     let by = found_by (filled_text t v) budget x.outcome is.holds safe in
-    record { before = before; last = x; whole = whole; certificate = by.certificate; said = by.said; found = subst (λ (w : List ℕ). IsFound (filled_text t w) by.certificate) (sym is.values) by.found }
+    record {
+      before = before;
+      last = x;
+      whole = whole;
+      certificate = by.certificate;
+      said = by.said;
+      found = subst
+          (λ (w : List ℕ). IsFound (filled_text t w) by.certificate) (sym is.values) by.found;
+    }
 
 -- behind those before, the last of these is found
 last_found :

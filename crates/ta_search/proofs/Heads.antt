@@ -1,5 +1,7 @@
 -- What the reader of a template has read, and what is left.
-use Rattle.ta_search.proofs.Common.{ℕ, ◌+◌, ◌≡◌, ◌++◌, inl, inr, false, List, [], ◌∷◌, length, codes, refl, sym, ap, subst, ◌∙◌, append_assoc, arith, bytes_eq, or_parts, map-append, Distinct, SplitAt, Avoids, differs, each_push, Hole, TemplateFault, AreHoles, HoleInRange, IsSpelledHole, head_text, hole_line, hole_lines, hole_names, is_among, BeginsWithHoles, FaultOf, AddsHole, LineRefused}
+use Rattle.ta_search.proofs.Common.{ℕ, ◌+◌, ◌≡◌, ◌++◌, inl, inr, false, List, [], ◌∷◌, length, codes, refl, sym, ap, subst, ◌∙◌, append_assoc, arith, bytes_eq}
+use Rattle.ta_search.proofs.Common.{or_parts, map-append, Distinct, SplitAt, Avoids, differs, each_push, Hole, TemplateFault, AreHoles, HoleInRange}
+use Rattle.ta_search.proofs.Common.{IsSpelledHole, head_text, hole_line, hole_lines, hole_names, is_among, BeginsWithHoles, FaultOf, AddsHole, LineRefused}
 use Rattle.ta_search.specs.declared.fault.TemplateFault.TheVariants as fault
 
 -- the lines of these holes, which are legal, are read
@@ -37,24 +39,29 @@ lines_push (g ∷ hs) h behind =
     ∙ ap (λ xs. hole_line g ++ (10 ∷ xs)) (lines_push hs h behind)
     ∙ sym (append_assoc (hole_line g) (10 ∷ hole_lines (hs ++ h ∷ [])) behind)
 
-pub read_more : (bytes rest line behind : List ℕ) (hs : List Hole) (h : Hole) → Read bytes hs rest → SplitAt 10 rest line behind → AddsHole hs line h → Read bytes (hs ++ h ∷ []) behind
+pub read_more : (bytes rest line behind : List ℕ) (hs : List Hole) (h : Hole) → Read bytes hs rest → SplitAt 10 rest line behind → AddsHole hs line h
+    → Read bytes (hs ++ h ∷ []) behind
 read_more bytes rest line behind hs h read parted adds = record {
   holes = holes_push hs line h read.holes adds;
   text = read.text ∙ ap (λ xs. hole_lines hs ++ xs) (parted.split ∙ ap (λ xs. xs ++ (10 ∷ behind)) adds.text) ∙ lines_push hs h behind;
 }
 
-begins : (bytes : List ℕ) (hs : List Hole) (rest next : List ℕ) (number : ℕ) → Read bytes hs rest → rest ≡ next → number ≡ length hs + 1 → BeginsWithHoles bytes hs next number
+begins : (bytes : List ℕ) (hs : List Hole) (rest next : List ℕ) (number : ℕ) → Read bytes hs rest → rest ≡ next → number ≡ length hs + 1
+    → BeginsWithHoles bytes hs next number
 begins bytes hs rest next number read e counted = record { holes = read.holes; text = read.text ∙ ap (λ xs. hole_lines hs ++ xs) e; place = counted }
 
 -- the text ends in a line
-pub read_unfinished : (bytes rest : List ℕ) (hs : List Hole) (number : ℕ) → Read bytes hs rest → Avoids 10 rest → number ≡ length hs + 1 → FaultOf bytes (fault.Line number)
-read_unfinished bytes rest hs number read none counted = record { hs = hs; rest = rest; begins = begins bytes hs rest rest number read refl counted; fault = inl none }
+pub read_unfinished : (bytes rest : List ℕ) (hs : List Hole) (number : ℕ) → Read bytes hs rest → Avoids 10 rest → number ≡ length hs + 1
+    → FaultOf bytes (fault.Line number)
+read_unfinished bytes rest hs number read none counted = record
+    { hs = hs; rest = rest; begins = begins bytes hs rest rest number read refl counted; fault = inl none }
 
 has_hole : (line behind : List ℕ) (rest : List ℕ) (h : Hole) → SplitAt 10 rest line behind → line ≡ hole_line h → rest ≡ hole_line h ++ (10 ∷ behind)
 has_hole line behind rest h parted e = parted.split ∙ ap (λ xs. xs ++ (10 ∷ behind)) e
 
 -- a line is refused
-pub read_refused : (bytes rest line behind : List ℕ) (hs : List Hole) (number : ℕ) (e : TemplateFault) → Read bytes hs rest → SplitAt 10 rest line behind → (line ≡ codes "begin" → ⊥) → number ≡ length hs + 1 → LineRefused hs line number e → FaultOf bytes e
+pub read_refused : (bytes rest line behind : List ℕ) (hs : List Hole) (number : ℕ) (e : TemplateFault) → Read bytes hs rest → SplitAt 10 rest line behind
+    → (line ≡ codes "begin" → ⊥) → number ≡ length hs + 1 → LineRefused hs line number e → FaultOf bytes e
 read_refused bytes rest line behind hs number (fault.Line k) read parted other counted bad = record {
   hs = hs;
   rest = rest;
@@ -64,20 +71,35 @@ read_refused bytes rest line behind hs number (fault.Line k) read parted other c
 read_refused bytes rest line behind hs number (fault.Repeated k) read parted other counted (h, spelled, text, bad) = record {
   hs = hs;
   h = h;
-  has = record { behind = behind; begins = begins bytes hs rest (hole_line h ++ (10 ∷ behind)) k read (has_hole line behind rest h parted text) (bad.0 ∙ counted); spelled = spelled };
+  has = record {
+    behind = behind;
+    begins = begins bytes hs rest (hole_line h ++ (10 ∷ behind)) k read (has_hole line behind rest h parted text)
+        (bad.0 ∙ counted);
+    spelled = spelled;
+  };
   before = bad.1;
 }
 read_refused bytes rest line behind hs number (fault.Range k) read parted other counted (h, spelled, text, bad) = record {
   hs = hs;
   h = h;
-  has = record { behind = behind; begins = begins bytes hs rest (hole_line h ++ (10 ∷ behind)) k read (has_hole line behind rest h parted text) (bad.0 ∙ counted); spelled = spelled };
+  has = record {
+    behind = behind;
+    begins = begins bytes hs rest (hole_line h ++ (10 ∷ behind)) k read (has_hole line behind rest h parted text)
+        (bad.0 ∙ counted);
+    spelled = spelled;
+  };
   fresh = bad.1;
   range = bad.2;
 }
 read_refused bytes rest line behind hs number (fault.TooMany k) read parted other counted (h, spelled, text, bad) = record {
   hs = hs;
   h = h;
-  has = record { behind = behind; begins = begins bytes hs rest (hole_line h ++ (10 ∷ behind)) k read (has_hole line behind rest h parted text) (bad.0 ∙ counted); spelled = spelled };
+  has = record {
+    behind = behind;
+    begins = begins bytes hs rest (hole_line h ++ (10 ∷ behind)) k read (has_hole line behind rest h parted text)
+        (bad.0 ∙ counted);
+    spelled = spelled;
+  };
   fresh = bad.1;
   range = bad.2;
   many = bad.3;
@@ -86,6 +108,8 @@ read_refused bytes rest line behind hs number (fault.UnknownHole k) read parted 
 read_refused bytes rest line behind hs number fault.Memory read parted other counted bad = tt
 
 -- the text up to the body
-pub head_read : (bytes rest line behind : List ℕ) (hs : List Hole) → Read bytes hs rest → SplitAt 10 rest line behind → line ≡ codes "begin" → bytes ≡ head_text hs ++ behind
+pub head_read : (bytes rest line behind : List ℕ) (hs : List Hole) → Read bytes hs rest → SplitAt 10 rest line behind → line ≡ codes "begin"
+    → bytes ≡ head_text hs ++ behind
 head_read bytes rest line behind hs read parted e =
-    read.text ∙ ap (λ xs. hole_lines hs ++ xs) (parted.split ∙ ap (λ xs. xs ++ (10 ∷ behind)) e ∙ sym (append_assoc (codes "begin") (10 ∷ []) behind)) ∙ sym (append_assoc (hole_lines hs) (codes "begin" ++ (10 ∷ [])) behind)
+    read.text ∙ ap (λ xs. hole_lines hs ++ xs) (parted.split ∙ ap (λ xs. xs ++ (10 ∷ behind)) e ∙ sym (append_assoc (codes "begin") (10 ∷ []) behind))
+    ∙ sym (append_assoc (hole_lines hs) (codes "begin" ++ (10 ∷ [])) behind)

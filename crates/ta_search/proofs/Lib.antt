@@ -11,5 +11,6 @@ mod FoundLast
 mod OneEnd
 mod Outcoming
 mod SearchTexts
+mod SearchItems
 mod VectorsOrdered
 mod Common

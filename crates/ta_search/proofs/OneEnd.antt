@@ -1,5 +1,9 @@
 -- a template has one end of its search
-use Rattle.ta_search.proofs.Common.{◌≡◌, ◌∙◌, ◌⊎◌, inl, inr, ℕ, ◌<◌, Bool, true, List, [], ◌∷◌, length, Some, slice_get, refl, sym, ap, subst, false≢true, AllByRecursion, each_at, not_long, File, Pattern, Verdict, Safe, Unsafe, Spent, Overflow, FileFault, CertificateOf, CertificatesAreDetermined, AreVerdicts, SamplesAreDetermined, VerdictsAreDetermined, is_unknown, Outcome, Tried, Template, filled_text, HasVerdicts, IsOfPattern, IsRefusedFilling, IsSampled, IsUnknown, IsUnsafe, OutcomeHolds, is_safe, is_unsampled, safe_before, AreTried, IsTried, SearchesAreDetermined, is_found, vectors, Budget}
+use Rattle.ta_search.proofs.Common.{◌≡◌, ◌∙◌, ◌⊎◌, inl, inr, ℕ, ◌<◌, Bool, true, List, [], ◌∷◌, length, Some, slice_get, refl, sym, ap, subst, false≢true}
+use Rattle.ta_search.proofs.Common.{AllByRecursion, each_at, not_long, File, Pattern, Verdict, Safe, Unsafe, Spent, Overflow, FileFault, CertificateOf}
+use Rattle.ta_search.proofs.Common.{CertificatesAreDetermined, AreVerdicts, SamplesAreDetermined, VerdictsAreDetermined, is_unknown, Outcome, Tried, Template}
+use Rattle.ta_search.proofs.Common.{filled_text, HasVerdicts, IsOfPattern, IsRefusedFilling, IsSampled, IsUnknown, IsUnsafe, OutcomeHolds, is_safe}
+use Rattle.ta_search.proofs.Common.{is_unsampled, safe_before, AreTried, IsTried, SearchesAreDetermined, is_found, vectors, Budget}
 use Rattle.ta_meaning.specs.Laws.{FilesAreUnique, FirstFaultsAreUnique}
 use Rattle.ta_report.specs.declared.verdict.ReportSample.{ReportSample}
 use Rattle.ta_report.specs.declared.verdict.ReportSample.TheVariants as sample
@@ -85,20 +89,24 @@ by_verdicts {bytes} {budget} {file} {verdicts} o judged gives = inr (inr (record
 by_unsafe : (bytes : List ℕ) (budget : Budget) (name run : List ℕ) → IsUnsafe bytes budget name run → By bytes budget (outcome.Unsafe name run)
 by_unsafe bytes budget name run h =
     let is = ap (λ (n : List ℕ). outcome.Unsafe n run) h.named ∙ ap (outcome.Unsafe h.p.name) h.shown in
-    by_verdicts (outcome.Unsafe name run) h.judged (inl (record { p = h.p; v = Unsafe h.nodes h.run; pattern = h.decides.pattern; verdict = h.decides.verdict; is = is }))
+    by_verdicts (outcome.Unsafe name run) h.judged
+    (inl (record { p = h.p; v = Unsafe h.nodes h.run; pattern = h.decides.pattern; verdict = h.decides.verdict; is = is }))
 
 by_unknown : (bytes : List ℕ) (budget : Budget) (name : List ℕ) (v : Verdict) → IsUnknown bytes budget name v → By bytes budget (outcome.Unknown name v)
 by_unknown bytes budget name v h =
-    by_verdicts (outcome.Unknown name v) h.judged (inl (record { p = h.p; v = v; pattern = h.decides.pattern; verdict = h.decides.verdict; is = of_unknown h.file h.p v name h.unknown h.named }))
+    by_verdicts (outcome.Unknown name v) h.judged
+    (inl (record { p = h.p; v = v; pattern = h.decides.pattern; verdict = h.decides.verdict; is = of_unknown h.file h.p v name h.unknown h.named }))
 
 by : (bytes : List ℕ) (budget : Budget) (o : Outcome) → OutcomeHolds bytes budget o → By bytes budget o
 by bytes budget outcome.Long h = inl (record { long = h; is = refl })
 by bytes budget (outcome.Refused e) h = inr (inl (record { e = e; refused = h; is = refl }))
 by bytes budget outcome.Empty h = inr (inr (record { file = h.file; s = sample.Empty; sampled = h.sampled; gives = refl }))
-by bytes budget (outcome.SampleUnknown s) h = let has = h.0 in inr (inr (record { file = has.file; s = s; sampled = has.sampled; gives = unsampled has.file budget s h.1 }))
+by bytes budget (outcome.SampleUnknown s) h = let has = h.0 in inr
+    (inr (record { file = has.file; s = s; sampled = has.sampled; gives = unsampled has.file budget s h.1 }))
 by bytes budget (outcome.Unsafe name run) h = by_unsafe bytes budget name run h
 by bytes budget (outcome.Unknown name v) h = by_unknown bytes budget name v h
-by bytes budget (outcome.Safe certificate) h = by_verdicts (outcome.Safe certificate) h.judged (inr (record { text = certificate; all = h.all; certificate = h.certificate; is = refl }))
+by bytes budget (outcome.Safe certificate) h = by_verdicts (outcome.Safe certificate) h.judged
+    (inr (record { text = certificate; all = h.all; certificate = h.certificate; is = refl }))
 
 -- ---- which is one
 pattern_once : (file : File) (p : Pattern) (v : Verdict) (a b : Outcome) → IsOfPattern file p v a → IsOfPattern file p v b → a ≡ b
@@ -203,7 +211,11 @@ all_once laws t budget (v ∷ vs) (x ∷ xs) (y ∷ ys) found other h k =
     let safe : is_found x.outcome ≡ is_found y.outcome = ap (λ (z : Tried). is_found z.outcome) first in
     elim h.1 [
       | inl mine ↦ elim k.1 [
-        | inl yours ↦ record { lists = ap (λ (z : Tried). z ∷ xs) first ∙ ap (λ (zs : List Tried). y ∷ zs) (mine.last ∙ sym yours.last); ends = mine.has_found ∙ sym yours.has_found }
+        | inl yours ↦ record {
+          lists = ap (λ (z : Tried). z ∷ xs) first ∙ ap (λ (zs : List Tried). y ∷ zs) (mine.last ∙ sym yours.last);
+          ends = mine.has_found
+              ∙ sym yours.has_found;
+        }
         | inr yours ↦ absurd (false≢true (sym yours.0 ∙ sym safe ∙ mine.safe))
       ]
       | inr mine ↦ elim k.1 [

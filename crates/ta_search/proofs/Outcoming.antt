@@ -1,5 +1,9 @@
 -- what comes of a file by its verdicts
-use Rattle.ta_search.proofs.Common.{◌≡◌, ◌≢◌, ◌∙◌, ◌⊎◌, inl, inr, ℕ, suc, ◌+◌, ◌<◌, ◌≤◌, ℤ, false, true, List, [], ◌∷◌, length, Some, None, slice_get, IfOk, Result, refl, sym, ap, subst, arith, get_or_from_slice_get, slice_get_within, AllByRecursion, some_at, File, Pattern, Certificate, Verdict, Safe, Unsafe, Spent, Overflow, FileFault, CertificateOf, safe_numbers, AreVerdicts, Outcome, IsOfPattern, IsFirstNotSafe, HasVerdicts, IsRefusedFilling, IsSafe, IsSampled, OutcomeHolds, is_safe, safe_before, VerdictHolds, Budget}
+use Rattle.ta_search.proofs.Common.{◌≡◌, ◌≢◌, ◌∙◌, ◌⊎◌, inl, inr, ℕ, suc, ◌+◌, ◌<◌, ◌≤◌, ℤ, false, true, List, [], ◌∷◌, length, Some, None, slice_get, IfOk}
+use Rattle.ta_search.proofs.Common.{Result, refl, sym, ap, subst, arith, get_or_from_slice_get, slice_get_within, AllByRecursion, some_at, File, Pattern}
+use Rattle.ta_search.proofs.Common.{Certificate, Verdict, Safe, Unsafe, Spent, Overflow, FileFault, CertificateOf, safe_numbers, AreVerdicts, Outcome}
+use Rattle.ta_search.proofs.Common.{IsOfPattern, IsFirstNotSafe, HasVerdicts, IsRefusedFilling, IsSafe, IsSampled, OutcomeHolds, is_safe, safe_before}
+use Rattle.ta_search.proofs.Common.{VerdictHolds, Budget}
 use Rattle.std.proofs.lemmas.List.Sums.{prefix_len_stops}
 use Rattle.std.proofs.lemmas.Result.{IfOk-weaker}
 use Rattle.ta_meaning.specs.FirstFault.{FirstFault}
@@ -9,7 +13,8 @@ use Rattle.ta_verdict.proofs.VerdictsMade.{as_many}
 use Rattle.ta_automaton.specs.Numbered.{OfPattern}
 
 -- an error that isn't want of memory refuses a text
-pub refused_by : (bytes : List ℕ) (e : FileFault) → length bytes ≤ 1048576 → (e ≡ fault.Memory) ⊎ FirstFault bytes e → e ≢ fault.Memory → IsRefusedFilling bytes e
+pub refused_by : (bytes : List ℕ) (e : FileFault) → length bytes ≤ 1048576 → (e ≡ fault.Memory) ⊎ FirstFault bytes e → e ≢ fault.Memory
+    → IsRefusedFilling bytes e
 refused_by bytes e within (inl same) other = absurd (other same)
 refused_by bytes e within (inr first) other = record { within = within; first = first; told = other }
 
@@ -44,7 +49,8 @@ decided :
     → IsFirstNotSafe file vs p v → IsOfPattern file p v o → OutcomeHolds bytes budget o
 decided bytes budget file vs p (Safe nodes leaves) o judged decides is = absurd is
 decided bytes budget file vs p (Unsafe nodes run) o judged decides is =
-    subst (OutcomeHolds bytes budget) (sym is) (record { file = file; verdicts = vs; judged = judged; p = p; nodes = nodes; run = run; decides = decides; named = refl; shown = refl })
+    subst (OutcomeHolds bytes budget) (sym is)
+    (record { file = file; verdicts = vs; judged = judged; p = p; nodes = nodes; run = run; decides = decides; named = refl; shown = refl })
 decided bytes budget file vs p (Spent nodes) o judged decides is =
     subst (OutcomeHolds bytes budget) (sym is) (record { file = file; verdicts = vs; judged = judged; p = p; decides = decides; unknown = refl; named = refl })
 decided bytes budget file vs p (Overflow node kind) o judged decides is =
@@ -63,7 +69,9 @@ pattern_holds bytes budget file vs v place values result sampled are same at of 
     let here : slice_get vs (safe_before vs) ≡ Some v = ap (slice_get vs) (sym same) ∙ at in
     let p = some_at file.patterns (safe_before vs) (numbered file budget vs v (safe_before vs) are here) in
     let decides : IsFirstNotSafe file vs p.0 v = record { pattern = p.1; verdict = here } in
-    IfOk-weaker result (IsOfPattern file p.0 v) (OutcomeHolds bytes budget) (λ o is. decided bytes budget file vs p.0 v o (judged_by bytes budget file vs values sampled are) decides is) (of p.0 (ap (slice_get file.patterns) same ∙ p.1))
+    IfOk-weaker result (IsOfPattern file p.0 v) (OutcomeHolds bytes budget)
+    (λ o is. decided bytes budget file vs p.0 v o (judged_by bytes budget file vs values sampled are) decides is)
+    (of p.0 (ap (slice_get file.patterns) same ∙ p.1))
 
 pub safe_holds :
     (bytes : List ℕ) (budget : Budget) (file : File) (vs : List Verdict) (place : ℕ) (values : List ℤ) (text : List ℕ)

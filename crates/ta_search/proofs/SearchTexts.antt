@@ -3,4 +3,5 @@ use Rattle.ta_search.proofs.Common.{◌≡◌, ◌∙◌, ℕ, List, [], ◌∷�
 
 pub one_text_more : (hs : List Hole) (xs : List Tried) (x : Tried) → tried_texts hs (xs ++ x ∷ []) ≡ tried_texts hs xs ++ tried_text hs x
 one_text_more hs [] x = append-nil (tried_text hs x)
-one_text_more hs (y ∷ ys) x = ap (λ (text : List ℕ). tried_text hs y ++ text) (one_text_more hs ys x) ∙ sym (append_assoc (tried_text hs y) (tried_texts hs ys) (tried_text hs x))
+one_text_more hs (y ∷ ys) x = ap (λ (text : List ℕ). tried_text hs y ++ text) (one_text_more hs ys x)
+    ∙ sym (append_assoc (tried_text hs y) (tried_texts hs ys) (tried_text hs x))

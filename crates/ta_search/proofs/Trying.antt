@@ -1,10 +1,12 @@
 -- what is known of a search while vectors are tried, and at its end
-use Rattle.ta_search.proofs.Common.{◌≡◌, ◌∙◌, inl, inr, ℕ, ◌+◌, ◌<◌, Bool, true, false, List, [], ◌∷◌, ◌++◌, drop, refl, sym, ap, subst, append_assoc, append-nil, Tried, Template, vector_count, vector_at, AreTried, IsTried, is_found, vectors, Budget}
+use Rattle.ta_search.proofs.Common.{◌≡◌, ◌∙◌, inl, inr, ℕ, ◌+◌, ◌<◌, Bool, true, false, List, [], ◌∷◌, ◌++◌, drop, refl, sym, ap, subst, append_assoc}
+use Rattle.ta_search.proofs.Common.{append-nil, Tried, Template, vector_count, vector_at, AreTried, IsTried, is_found, vectors, Budget}
 use Rattle.ta_search.proofs.VectorsNumbered.{none_left, vectors_left}
 
 -- the vectors before a number were tried, and none was found: whatever comes of the others, comes behind them
 pub record Searched (t : Template) (budget : Budget) (place : ℕ) (tried : List Tried) : Type 0 where
-  pub more : (later : List Tried) (found : Bool) → AreTried t budget (drop place (vectors t.holes)) later found → AreTried t budget (vectors t.holes) (tried ++ later) found
+  pub more : (later : List Tried) (found : Bool) → AreTried t budget (drop place (vectors t.holes)) later found
+      → AreTried t budget (vectors t.holes) (tried ++ later) found
 
 pub none_tried : (t : Template) (budget : Budget) (tried : List Tried) → tried ≡ [] → Searched t budget 0 tried
 none_tried t budget tried none = subst (Searched t budget 0) (sym none) (record { more = λ later found h. h })
@@ -36,8 +38,10 @@ pub found_end :
 found_end t budget place before after x found one safe has =
     let vs = vectors t.holes in
     let so_far = one.searched in
-    let next : AreTried t budget (vector_at t.holes place ∷ drop (place + 1) vs) (x ∷ []) found = (one.is, inl (record { safe = safe; last = refl; has_found = has })) in
-    subst (λ (xs : List Tried). AreTried t budget vs xs found) (sym one.pushed) (so_far.more (x ∷ []) found (subst (λ (ws : List (List ℕ)). AreTried t budget ws (x ∷ []) found) (sym (vectors_left t.holes place one.below)) next))
+    let next : AreTried t budget (vector_at t.holes place ∷ drop (place + 1) vs) (x ∷ []) found =
+    (one.is, inl (record { safe = safe; last = refl; has_found = has })) in
+    subst (λ (xs : List Tried). AreTried t budget vs xs found) (sym one.pushed)
+    (so_far.more (x ∷ []) found (subst (λ (ws : List (List ℕ)). AreTried t budget ws (x ∷ []) found) (sym (vectors_left t.holes place one.below)) next))
 
 pub other_end :
     (t : Template) (budget : Budget) (place : ℕ) (tried : List Tried) → place ≡ vector_count t.holes → Searched t budget place tried
@@ -45,4 +49,5 @@ pub other_end :
 other_end t budget place tried all searched =
     let vs = vectors t.holes in
     let none : drop place vs ≡ [] = ap (λ n. drop n vs) all ∙ none_left t.holes in
-    subst (λ (xs : List Tried). AreTried t budget vs xs false) (append-nil tried) (searched.more [] false (subst (λ (ws : List (List ℕ)). AreTried t budget ws [] false) (sym none) refl))
+    subst (λ (xs : List Tried). AreTried t budget vs xs false) (append-nil tried)
+    (searched.more [] false (subst (λ (ws : List (List ℕ)). AreTried t budget ws [] false) (sym none) refl))

@@ -1,5 +1,6 @@
 -- Holes for coefficients, and the lines that declare them.
-use Rattle.std.specs.Prelude.{ℕ, suc, ◌-◌, ◌*◌, ◌^◌, ◌<◌, ◌≤◌, ◌==◌, ◌≡◌, ◌⊎◌, ◌&&◌, ◌++◌, Bool, true, not, List, [], ◌∷◌, length, map, take, codes, decimal, Option, None, Some, if◌then◌else◌, option_map}
+use Rattle.std.specs.Prelude.{ℕ, suc, ◌-◌, ◌*◌, ◌^◌, ◌<◌, ◌≤◌, ◌==◌, ◌≡◌, ◌⊎◌, ◌&&◌, ◌++◌, Bool, true, not, List, [], ◌∷◌, length, map, take, codes, decimal}
+use Rattle.std.specs.Prelude.{Option, None, Some, if◌then◌else◌, option_map}
 use Rattle.std.specs.List.{list_any, prefix_len, AllByRecursion, AllByRecursion-prop}
 use Rattle.std.specs.Str.{bytes_eq}
 use Rattle.std.proofs.Props.{props}
@@ -80,7 +81,13 @@ range-prop h = hlevel props
 
 -- a proof that holes are legal is unique
 pub AreHoles-prop : (hs : List Hole) → IsProp (AreHoles hs)
-AreHoles-prop hs = hlevel (props, AllByRecursion-prop IsSpelledHole spelled-prop hs, AllByRecursion-prop HoleInRange range-prop hs, Distinct-prop (hole_names hs))
+AreHoles-prop hs = hlevel (
+  props,
+  AllByRecursion-prop IsSpelledHole spelled-prop hs,
+  AllByRecursion-prop HoleInRange range-prop hs,
+  Distinct-prop
+      (hole_names hs),
+)
 
 -- a proof that each `$` of a body is before a name of a hole is unique
 pub unknown-prop : (hs : List Hole) (body : List ℕ) → IsProp (unknown_place hs body ≡ None)

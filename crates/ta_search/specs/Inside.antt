@@ -1,3 +1,4 @@
 pub mod Beside
 pub mod Lines
 pub mod Trying
+pub mod Objects

@@ -6,5 +6,6 @@ pub mod Vectors
 pub mod Outcomes
 pub mod Searching
 pub mod SearchText
+pub mod SearchJson
 pub mod Laws
 pub mod Inside

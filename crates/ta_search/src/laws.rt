@@ -3,6 +3,7 @@
 #![tactic(auto)]
 
 ghost use Rattle.ta_search.specs.Laws.{OneTemplate, OneTemplateFault, TemplatesHaveAnswers};
+ghost use Rattle.ta_search.specs.SearchJson.{SearchIsRead};
 ghost use Rattle.ta_search.specs.Searching.{SearchesAreDetermined};
 ghost use Rattle.ta_search.specs.Vectors.{VectorsAreChoices};
 
@@ -32,6 +33,11 @@ pub fn searches_are_determined()
     verdicts_are_determined();
     certificates_are_determined()
 }
+
+/// The line of JSON of a search is read as what it says.
+pub fn searches_are_read()
+    ensures { SearchIsRead }
+{}
 
 /// The vectors of a template are just the choices of a value for each hole, in lexicographic order.
 pub fn vectors_are_choices()

@@ -11,6 +11,7 @@ mod fault;
 mod filling;
 mod laws;
 mod lines;
+mod object;
 mod outcome;
 mod printing;
 mod reading;
@@ -22,9 +23,10 @@ pub use certificate::CertificateText;
 pub use fault::TemplateFault;
 pub use filling::fill;
 pub use laws::{
-    searches_are_determined, template_faults_are_determined, templates_are_determined,
-    texts_are_templates, vectors_are_choices,
+    searches_are_determined, searches_are_read, template_faults_are_determined,
+    templates_are_determined, texts_are_templates, vectors_are_choices,
 };
+pub use object::{search_json, search_told};
 pub use outcome::{Outcome, SearchEnd, Tried};
 pub use printing::search_text;
 pub use reading::read_template;

@@ -2,7 +2,7 @@
 #![tactic(auto)]
 
 ghost use Rattle.std.specs.Prelude.{◌≡◌, ◌++◌, IfOk, OnOk, string_bytes};
-ghost use Rattle.ta_shell.specs.Lines.{phrase_text};
+ghost use Rattle.ta_shelf.specs.Lines.{phrase_text};
 ghost use Rattle.ta_search.specs.SearchText.{choice_text, end_line, outcome_text, overflow_words, sample_words, search_text, tried_text, verdict_words};
 
 use crate::outcome::{Outcome, SearchEnd, Tried};
@@ -10,7 +10,7 @@ use crate::template::{Hole, Template};
 use std::alloc::{AllocError, Global};
 use ta_base::Text;
 use ta_report::{ReportKind, ReportSample, Verdict, file_fault_phrase};
-use ta_shell::Phrase;
+use ta_shelf::Phrase;
 
 /// The text of a search: a line for each vector that was tried, behind it the text of the run where
 /// a pattern is unsafe, and last whether the search has found.
@@ -92,7 +92,7 @@ fn write_outcome(text: &mut String, outcome: &Outcome) -> Result<(), AllocError>
 }
 
 /// Writes a phrase.
-fn write_phrase(text: &mut String, phrase: &Phrase) -> Result<(), AllocError>
+pub(crate) fn write_phrase(text: &mut String, phrase: &Phrase) -> Result<(), AllocError>
     ensures { OnOk result (string_bytes text.new ≡ string_bytes text.old ++ phrase_text phrase.now) }
 {
     match phrase {

@@ -9,3 +9,19 @@ mod ReadSoFar
 mod WithFile
 mod Walks
 mod Common
+pub mod Compared
+pub mod Clauses
+pub mod Views
+pub mod Read
+pub mod Spared
+mod Parted
+pub mod PiecesSeen
+mod Pieces
+mod ReadCalls
+mod ShellCommon
+mod OutputCalls
+mod Settling
+mod Refusing
+mod Ended
+pub mod StagedMore
+mod StagedPut

@@ -14,3 +14,15 @@ pub mod Stage
 pub mod ReadWhole
 pub mod ReadPiece
 pub mod WriteWhole
+pub mod Sights
+pub mod Lines
+pub mod Puts
+pub mod OutputCalls
+pub mod Commands
+pub mod Reading
+pub mod Ends
+pub mod Putting
+pub mod Finishing
+pub mod Stages
+pub mod Sparing
+pub mod Staging

@@ -12,7 +12,10 @@
 -- variables, which are natural, times cells that are at most 0, or the least of them had entered; and greater ones, which
 -- don't change, so that they are outside the basis at k too, and are 0. So it is negative, and the two sides differ.
 -- There are at most 2 ^ n bases, so the rule ends before as many steps (`Ends`).
-use Rattle.ta_simplex.proofs.Common.{◌≡◌, ◌≢◌, inl, inr, ℕ, suc, ◌+◌, ◌*◌, ◌<◌, ◌≤◌, List, [], ◌∷◌, length, get_or, Bool, true, false, arith, refl, sym, ap, ◌∙◌, subst, ℤ, pos, ◌*ℤ◌, ◌<ℤ◌, ◌≤ℤ◌, cases_eq, cases_order, cases_Bool, ints, ge-zero_of_mul, lt-zero_of_mul, mul-ge-zero, mul-le-zero, mul-le-zero_turned, mul-lt-zero, switches, Tableau, row_of, basic_of, non_basic_of, dot, IsDictionary, Leaves, Enters, *ℤ-zero}
+use Rattle.ta_simplex.proofs.Common.{◌≡◌, ◌≢◌, inl, inr, ℕ, suc, ◌+◌, ◌*◌, ◌<◌, ◌≤◌, List, [], ◌∷◌, length, get_or, Bool, true, false, arith, refl, sym, ap}
+use Rattle.ta_simplex.proofs.Common.{◌∙◌, subst, ℤ, pos, ◌*ℤ◌, ◌<ℤ◌, ◌≤ℤ◌, cases_eq, cases_order, cases_Bool, ints, ge-zero_of_mul, lt-zero_of_mul, mul-ge-zero}
+use Rattle.ta_simplex.proofs.Common.{mul-le-zero, mul-le-zero_turned, mul-lt-zero, switches, Tableau, row_of, basic_of, non_basic_of, dot, IsDictionary, Leaves}
+use Rattle.ta_simplex.proofs.Common.{Enters, *ℤ-zero}
 use Rattle.std.proofs.Common.{true≢false}
 use Rattle.std.proofs.lemmas.Bool.{false≢true}
 use Rattle.ta_simplex.proofs.Basic.{is_basic}
@@ -21,13 +24,15 @@ use Rattle.ta_base.proofs.Booleans.{other_of}
 use Rattle.std.proofs.Math.Logic.{⊎_swap}
 
 -- a sum of numbers that are at most 0
-dot-le-zero : (cs : List ℤ) (us : List ℕ) (value : ℕ → ℤ) → ((j : ℕ) → j < length cs → (get_or cs j (pos 0) *ℤ value (get_or us j 0)) ≤ℤ pos 0) → dot cs us value ≤ℤ pos 0
+dot-le-zero : (cs : List ℤ) (us : List ℕ) (value : ℕ → ℤ) → ((j : ℕ) → j < length cs → (get_or cs j (pos 0) *ℤ value (get_or us j 0)) ≤ℤ pos 0)
+    → dot cs us value ≤ℤ pos 0
 dot-le-zero [] us value h = omega (arith, ints)
 dot-le-zero (c ∷ cs) [] value h = omega (arith, ints)
 dot-le-zero (c ∷ cs) (u ∷ us) value h =
     omega (arith, ints, h 0 (omega arith), dot-le-zero cs us value (λ j below. h (suc j) (omega arith)))
 
-dot-zero : (cs : List ℤ) (us : List ℕ) (value : ℕ → ℤ) → length cs ≡ length us → ((j : ℕ) → j < length us → value (get_or us j 0) ≡ pos 0) → dot cs us value ≡ pos 0
+dot-zero : (cs : List ℤ) (us : List ℕ) (value : ℕ → ℤ) → length cs ≡ length us → ((j : ℕ) → j < length us → value (get_or us j 0) ≡ pos 0)
+    → dot cs us value ≡ pos 0
 dot-zero [] us value e h = refl
 dot-zero (c ∷ cs) [] value e h = refl
 dot-zero (c ∷ cs) (u ∷ us) value e h =
@@ -106,7 +111,8 @@ witness A n t t' m =
             elim (m.dictionary.basis.cover v below) [
               | inl b ↦ subst (λ (u : ℕ). pos 0 ≤ℤ f.1 u) b.2
                   (ge-zero_of_mul (row_of t b.0).denominator (f.1 (basic_of t b.0)) (m.dictionary.rows b.0 b.1).positive
-                  (rw (alone b.0 b.1) (mul-ge-zero (pos (f.0 * 1)) (row_of t b.0).constant (omega (arith, ints)) (m.leaves.least b.0 b.1 (let e = b.2 in omega arith)))))
+                  (rw (alone b.0 b.1) (mul-ge-zero (pos (f.0 * 1)) (row_of t b.0).constant (omega (arith, ints))
+                  (m.leaves.least b.0 b.1 (let e = b.2 in omega arith)))))
               | inr c ↦ subst (λ (u : ℕ). pos 0 ≤ℤ f.1 u) c.2 (rw (zeros c.0 c.1) (omega (arith, ints)))
             ];
         outside = λ v below out.
@@ -123,8 +129,10 @@ core : (A : ℤ → (ℕ → ℤ) → Type 0) (n : ℕ) (at : ℕ → Tableau) (
     s ≤ k → k < t → Moment A n (at k) (at (k + 1)) → is_basic (at k) x ≡ true → is_basic (at (k + 1)) x ≡ false →
     s ≤ j → j < t → Moment A n (at j) (at (j + 1)) → is_basic (at j) x ≡ false → is_basic (at (j + 1)) x ≡ true → ⊥
 core A n at s t x k j below above sk kt mk k_before k_after sj jt mj j_before j_after =
-    let xk : x ≡ basic_of (at k) mk.row = only_leaving (is_basic (at k)) (is_basic (at (k + 1))) (basic_of (at k) mk.row) (non_basic_of (at k) mk.column) x mk.changes k_before k_after in
-    let xj : x ≡ non_basic_of (at j) mj.column = only_entering (is_basic (at j)) (is_basic (at (j + 1))) (basic_of (at j) mj.row) (non_basic_of (at j) mj.column) x mj.changes j_before j_after in
+    let xk : x ≡ basic_of (at k) mk.row = only_leaving (is_basic (at k)) (is_basic (at (k + 1))) (basic_of (at k) mk.row) (non_basic_of (at k) mk.column) x
+    mk.changes k_before k_after in
+    let xj : x ≡ non_basic_of (at j) mj.column = only_entering (is_basic (at j)) (is_basic (at (j + 1))) (basic_of (at j) mj.row)
+    (non_basic_of (at j) mj.column) x mj.changes j_before j_after in
     let found = witness A n (at k) (at (k + 1)) mk in
     let scale = found.0 in
     let value = found.1 in
@@ -142,7 +150,8 @@ core A n at s t x k j below above sk kt mk k_before k_after sj jt mj j_before j_
       ]
     ] in
     let natural : pos 0 ≤ℤ value y = w.natural y y_below (let e = xk in omega arith) in
-    let terms : (i : ℕ) → i < length (row_of (at j) mj.row).cells → (get_or (row_of (at j) mj.row).cells i (pos 0) *ℤ value (get_or (at j).non_basic i 0)) ≤ℤ pos 0 = λ i h.
+    let terms : (i : ℕ) → i < length (row_of (at j) mj.row).cells
+    → (get_or (row_of (at j) mj.row).cells i (pos 0) *ℤ value (get_or (at j).non_basic i 0)) ≤ℤ pos 0 = λ i h.
     (let long = (mj.dictionary.rows mj.row mj.leaves.below).long in
     let inside : i < length (at j).non_basic = omega arith in
     let u_below = mj.dictionary.basis.non_basic_below i inside in
@@ -166,14 +175,16 @@ core A n at s t x k j below above sk kt mk k_before k_after sj jt mj j_before j_
     let equation = (mj.dictionary.rows mj.row mj.leaves.below).holds (pos scale) value found.2 in
     let sum = dot-le-zero (row_of (at j) mj.row).cells (at j).non_basic value terms in
     let constant = mul-lt-zero scale (row_of (at j) mj.row).constant w.some mj.leaves.negative in
-    let negative = lt-zero_of_mul (row_of (at j) mj.row).denominator (value y) ((mj.dictionary.rows mj.row mj.leaves.below).positive) (rw equation (omega (arith, ints, constant, sum))) in
+    let negative = lt-zero_of_mul (row_of (at j) mj.row).denominator (value y) ((mj.dictionary.rows mj.row mj.leaves.below).positive)
+    (rw equation (omega (arith, ints, constant, sum))) in
     absurd (omega (arith, ints, negative, natural))
 
 -- the least-index rule repeats no basis
 pub no_basis_repeats : (A : ℤ → (ℕ → ℤ) → Type 0) (n : ℕ) (at : ℕ → Tableau) (s t : ℕ) → s < t →
     ((k : ℕ) → s ≤ k → k < t → Moment A n (at k) (at (k + 1))) → ((v : ℕ) → v < n → is_basic (at s) v ≡ is_basic (at t) v) → ⊥
 no_basis_repeats A n at s t h moments same =
-    elim (greatest_or_none (λ v. Moves (λ i. is_basic (at i) v) s t) (λ v. Stays (λ i. is_basic (at i) v) s t) n (λ v. moves_or_stays (λ i. is_basic (at i) v) s t)) [
+    elim (greatest_or_none (λ v. Moves (λ i. is_basic (at i) v) s t) (λ v. Stays (λ i. is_basic (at i) v) s t) n
+    (λ v. moves_or_stays (λ i. is_basic (at i) v) s t)) [
       | inr none ↦
           let m = moments s (omega arith) h in
           let l = basic_of (at s) m.row in
@@ -189,13 +200,15 @@ no_basis_repeats A n at s t h moments same =
                 let no_i = other_of (f i) (f s) true false g.2.3 yes_s (either i) in
                 let fall = switches f true false s i true≢false either g.2.1 yes_s no_i in
                 let rise = switches f false true i t false≢true (λ k. ⊎_swap (either k)) g.2.2 no_i (sym ends ∙ yes_s) in
-                core A n at s t g.0 fall.0 rise.0 g.1 g.3 fall.1 (let e = fall.2 in let e' = g.2.2 in omega arith) (moments fall.0 fall.1 (let e = fall.2 in let e' = g.2.2 in omega arith)) fall.3 fall.4
+                core A n at s t g.0 fall.0 rise.0 g.1 g.3 fall.1 (let e = fall.2 in let e' = g.2.2 in omega arith)
+                (moments fall.0 fall.1 (let e = fall.2 in let e' = g.2.2 in omega arith)) fall.3 fall.4
                 (let e = rise.1 in let e' = g.2.1 in omega arith) rise.2 (moments rise.0 (let e = rise.1 in let e' = g.2.1 in omega arith) rise.2) rise.3 rise.4
             | inr no_s ↦
                 let yes_i = other_of (f i) (f s) false true g.2.3 no_s (⊎_swap (either i)) in
                 let rise = switches f false true s i false≢true (λ k. ⊎_swap (either k)) g.2.1 no_s yes_i in
                 let fall = switches f true false i t true≢false either g.2.2 yes_i (sym ends ∙ no_s) in
-                core A n at s t g.0 fall.0 rise.0 g.1 g.3 (let e = fall.1 in let e' = g.2.1 in omega arith) fall.2 (moments fall.0 (let e = fall.1 in let e' = g.2.1 in omega arith) fall.2) fall.3 fall.4
+                core A n at s t g.0 fall.0 rise.0 g.1 g.3 (let e = fall.1 in let e' = g.2.1 in omega arith) fall.2
+                (moments fall.0 (let e = fall.1 in let e' = g.2.1 in omega arith) fall.2) fall.3 fall.4
                 rise.1 (let e = rise.2 in let e' = g.2.2 in omega arith) (moments rise.0 rise.1 (let e = rise.2 in let e' = g.2.2 in omega arith)) rise.3 rise.4
           ]
     ]

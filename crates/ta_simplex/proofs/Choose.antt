@@ -1,16 +1,19 @@
-use Rattle.ta_simplex.proofs.Common.{◌≡◌, ◌⊎◌, inl, inr, ℕ, ◌<◌, length, arith, ℤ, pos, ◌<ℤ◌, ◌≤ℤ◌, cases_order, ints, Tableau, row_of, cell_of, basic_of, non_basic_of, IsDictionary, Leaves, RuleEnds, Enters, by_lt_z}
+use Rattle.ta_simplex.proofs.Common.{◌≡◌, ◌⊎◌, inl, inr, ℕ, ◌<◌, length, arith, ℤ, pos, ◌<ℤ◌, ◌≤ℤ◌, cases_order, ints, Tableau, row_of, cell_of, basic_of}
+use Rattle.ta_simplex.proofs.Common.{non_basic_of, IsDictionary, Leaves, RuleEnds, Enters, by_lt_z}
 use Rattle.ta_base.proofs.Searches.{least_or_none}
 
 leaving_or_none : (t : Tableau) → ((row : ℕ) × Leaves t row) ⊎ ((i : ℕ) → i < length t.rows → pos 0 ≤ℤ (row_of t i).constant)
 leaving_or_none t =
-    elim (least_or_none (basic_of t) (λ i. (row_of t i).constant <ℤ pos 0) (λ i. pos 0 ≤ℤ (row_of t i).constant) (length t.rows) (λ i. by_lt_z (row_of t i).constant (pos 0) inl inr)) [
+    elim (least_or_none (basic_of t) (λ i. (row_of t i).constant <ℤ pos 0) (λ i. pos 0 ≤ℤ (row_of t i).constant) (length t.rows)
+    (λ i. by_lt_z (row_of t i).constant (pos 0) inl inr)) [
       | inl g ↦ inl (g.0, record { below = g.1; negative = g.2; least = g.3 })
       | inr none ↦ inr none
     ]
 
 entering_or_none : (t : Tableau) (row : ℕ) → ((column : ℕ) × Enters t row column) ⊎ ((j : ℕ) → j < length t.non_basic → cell_of (row_of t row) j ≤ℤ pos 0)
 entering_or_none t row =
-    elim (least_or_none (non_basic_of t) (λ j. pos 0 <ℤ cell_of (row_of t row) j) (λ j. cell_of (row_of t row) j ≤ℤ pos 0) (length t.non_basic) (λ j. by_lt_z (pos 0) (cell_of (row_of t row) j) inl inr)) [
+    elim (least_or_none (non_basic_of t) (λ j. pos 0 <ℤ cell_of (row_of t row) j) (λ j. cell_of (row_of t row) j ≤ℤ pos 0) (length t.non_basic)
+    (λ j. by_lt_z (pos 0) (cell_of (row_of t row) j) inl inr)) [
       | inl g ↦ inl (g.0, record { below = g.1; positive = g.2; least = g.3 })
       | inr none ↦ inr none
     ]

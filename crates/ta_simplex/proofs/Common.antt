@@ -1,16 +1,23 @@
 -- The names that the proofs of this crate cite, passed on from one place. Declares nothing.
-pub use Rattle.std.proofs.Common.{Bool, Global, List, None, Option, Some, Vec, [], ap, arith, cond, drop, eq-eqb, eqb, false, get_or, get_or-set_other, get_or-set_same, inl, inr, length, map, min, nat_lt, neg_ℤ, negsuc, pos, refl, reverse, rules, set, slice_get, subst, suc, sym, take, true, vec_len, zero, ℕ, ℤ, ⊎_elim, ◌*ℤ◌, ◌*◌, ◌++◌, ◌+ℤ◌, ◌+◌, ◌-ℤ◌, ◌-◌, ◌<ℤ◌, ◌<◌, ◌^◌, ◌||◌, ◌∙◌, ◌∷◌, ◌≡◌, ◌≢◌, ◌≤ℤ◌, ◌≤◌, ◌⊎◌}
+pub use Rattle.std.proofs.Common.{Bool, Global, List, None, Option, Some, Vec, [], ap, arith, cond, drop, eq-eqb, eqb, false, get_or, get_or-set_other}
+pub use Rattle.std.proofs.Common.{get_or-set_same, inl, inr, length, map, min, nat_lt, neg_ℤ, negsuc, pos, refl, reverse, rules, set, slice_get, subst, suc}
+pub use Rattle.std.proofs.Common.{sym, take, true, vec_len, zero, ℕ, ℤ, ⊎_elim, ◌*ℤ◌, ◌*◌, ◌++◌, ◌+ℤ◌, ◌+◌, ◌-ℤ◌, ◌-◌, ◌<ℤ◌, ◌<◌, ◌^◌, ◌||◌, ◌∙◌, ◌∷◌, ◌≡◌, ◌≢◌}
+pub use Rattle.std.proofs.Common.{◌≤ℤ◌, ◌≤◌, ◌⊎◌}
 pub use Rattle.std.proofs.Math.IntN.{*ℤ-zero, *ℤ_comm}
 pub use Rattle.std.proofs.Math.Nat.{zero-div}
 pub use Rattle.std.proofs.lemmas.Bool.{cases_Bool, cases_eq, cases_lt, cases_order, le-ltb, lt-ltb}
 pub use Rattle.std.proofs.lemmas.Bool.Decides.{eqb_tells, nat_tests}
 pub use Rattle.std.proofs.lemmas.Int.{by_lt_z, ints, to_z-of_z}
-pub use Rattle.std.proofs.lemmas.List.{append-nil, append_assoc, get_or-append_right, get_or-map, get_or_append_left, get_or_push, length-append, length-map, length-replicate, length-set, length-take-le, map-append, map-set, reverse-append, set-append_left, take-append-drop, take-map, with_items_is}
+pub use Rattle.std.proofs.lemmas.List.{append-nil, append_assoc, get_or-append_right, get_or-map, get_or_append_left, get_or_push, length-append, length-map}
+pub use Rattle.std.proofs.lemmas.List.{length-replicate, length-set, length-take-le, map-append, map-set, reverse-append, set-append_left, take-append-drop}
+pub use Rattle.std.proofs.lemmas.List.{take-map, with_items_is}
 pub use Rattle.std.proofs.lemmas.List.FromFn.{length-range_with_len}
 pub use Rattle.std.specs.List.{range_with_len}
 pub use Rattle.std.specs.Prelude.{All, IsSomeAnd, int_div, option_to_list, remove, replicate, slice_index, unsigned_abs}
 pub use Rattle.ta_base.proofs.Booleans.{both_ways}
-pub use Rattle.ta_base.proofs.Integers.{at_least_one, expand, ge-zero_of_mul, lt-zero_of_mul, mul-ge-zero, mul-le-zero, mul-le-zero_turned, mul-lt-zero, positive_prop, quotient_whole, single, single-at, single-elsewhere, single-le, times_zero, unsigned_abs-neg, zero_from_bits, zero_minus, zero_or_not}
+pub use Rattle.ta_base.proofs.Integers.{at_least_one, expand, ge-zero_of_mul, lt-zero_of_mul, mul-ge-zero, mul-le-zero, mul-le-zero_turned, mul-lt-zero}
+pub use Rattle.ta_base.proofs.Integers.{positive_prop, quotient_whole, single, single-at, single-elsewhere, single-le, times_zero, unsigned_abs-neg}
+pub use Rattle.ta_base.proofs.Integers.{zero_from_bits, zero_minus, zero_or_not}
 pub use Rattle.ta_base.proofs.Lists.{get-set_other, get-set_same, get_end, map_same, range_split, slice_get_before, fewer_alike}
 pub use Rattle.ta_base.proofs.Naturals.{pigeon, switches}
 pub use Rattle.ta_base.proofs.Sums.{range_sum-front, range_sum-same, sum-add, sum-single, sum-split, sum-sub, sum-upto, sum-zero}
@@ -24,10 +31,12 @@ pub use Rattle.ta_dense.specs.Entering.{Enters, NoneEnters}
 pub use Rattle.ta_dense.specs.Extending.{FirstLeaving, MayBegin, extended, new_rows, raised, widened}
 pub use Rattle.ta_dense.specs.Kept.{AreKept, KeptPivot, StayInRange, after_pivot, carried, chosen_row, kept_at, no_pivot, pivot_in}
 pub use Rattle.ta_dense.specs.Laws.{DictionaryOf}
-pub use Rattle.ta_dense.specs.Merge.{AllMergeInRange, CombinesInRange, FirstOverflow, FirstRefused, IsProper, MergesByInRange, MergesInRange, OthersMergeBelow, RowsMergeBelow}
+pub use Rattle.ta_dense.specs.Merge.{AllMergeInRange, CombinesInRange, FirstOverflow, FirstRefused, IsProper, MergesByInRange, MergesInRange, OthersMergeBelow}
+pub use Rattle.ta_dense.specs.Merge.{RowsMergeBelow}
 pub use Rattle.ta_dense.specs.Slack.{IsAssignment, SlacksFollow, coefficients, slack_at, slack_row_of, slack_rows, variables}
 unfoldable pub use Rattle.ta_dense.specs.Slack.{slack_tableau}
-pub use Rattle.ta_dense.specs.Tableau.{Tableau, TableauRow, basic_of, cell_of, combine, divided, divisor_of, factor_divisor, gcd_with, merged_at, merged_by, no_row, non_basic_of, pivoted, reduced, row_of, turned}
+pub use Rattle.ta_dense.specs.Tableau.{Tableau, TableauRow, basic_of, cell_of, combine, divided, divisor_of, factor_divisor, gcd_with, merged_at, merged_by}
+pub use Rattle.ta_dense.specs.Tableau.{no_row, non_basic_of, pivoted, reduced, row_of, turned}
 unfoldable pub use Rattle.ta_dense.specs.Tableau.{merged}
 pub use Rattle.ta_dense.specs.Valid.{EquationHolds, IsBasis, IsDictionary, dot}
 pub use Rattle.ta_linear.proofs.TermLemmas.{IsNormal-higher, IsNormal-le, IsNormal-push, coefficient-above, coefficient-append}

@@ -1,5 +1,6 @@
 -- a system has one end, or one pivot that leaves the range first
-use Rattle.ta_simplex.proofs.Common.{◌≡◌, inl, inr, ℕ, List, length, refl, sym, ap, subst, ℤ, System, Tableau, slack_tableau, variables, IsAssignment, SameNumbers, EndsAreDetermined, NoneLeaves, Reached, Stuck, OverflowsAt, IsRefuted, IsVertex, GivesValues, Fraction}
+use Rattle.ta_simplex.proofs.Common.{◌≡◌, inl, inr, ℕ, List, length, refl, sym, ap, subst, ℤ, System, Tableau, slack_tableau, variables, IsAssignment}
+use Rattle.ta_simplex.proofs.Common.{SameNumbers, EndsAreDetermined, NoneLeaves, Reached, Stuck, OverflowsAt, IsRefuted, IsVertex, GivesValues, Fraction}
 use Rattle.ta_simplex.specs.declared.End.{End}
 use Rattle.ta_simplex.specs.declared.End.TheVariants as end
 use Rattle.ta_simplex.specs.Ends.{IsEnd}
@@ -43,14 +44,16 @@ refutation s z ts same r =
 
 vertex : (s z : System) (values : List Fraction) → SameStart s z → IsVertex z values → Vertex s.unknowns (slack_tableau s) values
 vertex s z values same v =
-    let own : Vertex z.unknowns (slack_tableau z) values = record { steps = v.steps; tableau = v.tableau; reached = v.reached; ended = v.ended; gives = v.gives } in
+    let own : Vertex z.unknowns (slack_tableau z) values = record
+    { steps = v.steps; tableau = v.tableau; reached = v.reached; ended = v.ended; gives = v.gives } in
     subst (λ (n : ℕ). Vertex n (slack_tableau s) values) (sym same.unknowns)
     (subst (λ (t : Tableau). Vertex z.unknowns t values) (sym same.tableau) own)
 
 start_itself : (s : System) → SameStart s s
 start_itself s = record { unknowns = refl; count = refl; tableau = refl }
 
-refuted_once : (s : System) (ts us : List (ℕ × ℤ)) → Refutation s.unknowns (length s.rows) (slack_tableau s) ts → Refutation s.unknowns (length s.rows) (slack_tableau s) us → ts ≡ us
+refuted_once : (s : System) (ts us : List (ℕ × ℤ)) → Refutation s.unknowns (length s.rows) (slack_tableau s) ts
+    → Refutation s.unknowns (length s.rows) (slack_tableau s) us → ts ≡ us
 refuted_once s ts us r q =
     let n = s.unknowns in
     let c = length s.rows in
@@ -67,17 +70,22 @@ vertex_once s fs gs v w =
     let here = end_same s w.steps v.steps w.tableau v.tableau w.reached (inl w.ended) v.reached (inl v.ended) in
     values_once s v.tableau fs gs d v.gives (subst (λ (t : Tableau). GivesValues t s.unknowns gs) here w.gives)
 
-not_both : (s : System) (ts : List (ℕ × ℤ)) (fs : List Fraction) → Refutation s.unknowns (length s.rows) (slack_tableau s) ts → Vertex s.unknowns (slack_tableau s) fs → ⊥
+not_both : (s : System) (ts : List (ℕ × ℤ)) (fs : List Fraction) → Refutation s.unknowns (length s.rows) (slack_tableau s) ts
+    → Vertex s.unknowns (slack_tableau s) fs → ⊥
 not_both s ts fs r v =
     let here = end_same s v.steps r.steps v.tableau r.tableau v.reached (inl v.ended) r.reached (inr (r.row, r.stuck)) in
     stuck_leaves r.tableau r.row r.stuck (subst NoneLeaves here v.ended)
 
 -- however a system is written, it has one end
 pub end_once : (s z : System) → SameNumbers s z → (e f : End) → IsEnd s e → IsEnd z f → e ≡ f
-end_once s z same (end.Refuted ts) (end.Refuted us) h g = ap end.Refuted (refuted_once s ts us (refutation s s ts (start_itself s) h) (refutation s z us (same_start s z same) g))
-end_once s z same (end.Refuted ts) (end.Vertex values) h g = absurd (not_both s ts values (refutation s s ts (start_itself s) h) (vertex s z values (same_start s z same) g))
-end_once s z same (end.Vertex values) (end.Refuted us) h g = absurd (not_both s us values (refutation s z us (same_start s z same) g) (vertex s s values (start_itself s) h))
-end_once s z same (end.Vertex values) (end.Vertex others) h g = ap end.Vertex (vertex_once s values others (vertex s s values (start_itself s) h) (vertex s z others (same_start s z same) g))
+end_once s z same (end.Refuted ts) (end.Refuted us) h g = ap end.Refuted
+    (refuted_once s ts us (refutation s s ts (start_itself s) h) (refutation s z us (same_start s z same) g))
+end_once s z same (end.Refuted ts) (end.Vertex values) h g = absurd
+    (not_both s ts values (refutation s s ts (start_itself s) h) (vertex s z values (same_start s z same) g))
+end_once s z same (end.Vertex values) (end.Refuted us) h g = absurd
+    (not_both s us values (refutation s z us (same_start s z same) g) (vertex s s values (start_itself s) h))
+end_once s z same (end.Vertex values) (end.Vertex others) h g = ap end.Vertex
+    (vertex_once s values others (vertex s s values (start_itself s) h) (vertex s z others (same_start s z same) g))
 
 overflow : (s z : System) (c : ℕ) → SameStart s z → OverflowsAt (slack_tableau z) c → OverflowsAt (slack_tableau s) c
 overflow s z c same o = subst (λ (t : Tableau). OverflowsAt t c) (sym same.tableau) o

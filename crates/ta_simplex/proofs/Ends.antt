@@ -1,4 +1,5 @@
-use Rattle.ta_simplex.proofs.Common.{◌≡◌, ◌⊎◌, inl, inr, ℕ, zero, suc, ◌+◌, ◌^◌, ◌<◌, ◌≤◌, arith, refl, sym, ap, ◌∙◌, subst, ℤ, cases_lt, pigeon, Tableau, pivoted, IsDictionary, IsDictionary-pivoted, Leaves, RuleEnds, Enters}
+use Rattle.ta_simplex.proofs.Common.{◌≡◌, ◌⊎◌, inl, inr, ℕ, zero, suc, ◌+◌, ◌^◌, ◌<◌, ◌≤◌, arith, refl, sym, ap, ◌∙◌, subst, ℤ, cases_lt, pigeon, Tableau}
+use Rattle.ta_simplex.proofs.Common.{pivoted, IsDictionary, IsDictionary-pivoted, Leaves, RuleEnds, Enters}
 use Rattle.ta_simplex.proofs.Basic.{is_basic}
 use Rattle.ta_simplex.proofs.Bland.{Moment, no_basis_repeats}
 use Rattle.ta_simplex.proofs.Moments.{moment}
@@ -12,11 +13,13 @@ steps_left zero t = 0
 steps_left (suc b) t = elim (choose t) as (λ _. ℕ) [ inl s ↦ suc (steps_left b (pivoted t s.row s.column)) | inr ended ↦ 0 ]
 
 -- what steps_left says by the choice
-steps_cases : (b : ℕ) (t : Tableau) → ((s : Chosen t) × ((c : ℕ) → steps_left (suc c) t ≡ suc (steps_left c (pivoted t s.row s.column)))) ⊎ (RuleEnds t × ((c : ℕ) → steps_left (suc c) t ≡ 0))
+steps_cases : (b : ℕ) (t : Tableau) → ((s : Chosen t) × ((c : ℕ) → steps_left (suc c) t ≡ suc (steps_left c (pivoted t s.row s.column))))
+    ⊎ (RuleEnds t × ((c : ℕ) → steps_left (suc c) t ≡ 0))
 unfolding steps_left
 steps_cases b t = go (choose t) refl
   where
-    go : (x : Chosen t ⊎ RuleEnds t) → choose t ≡ x → ((s : Chosen t) × ((c : ℕ) → steps_left (suc c) t ≡ suc (steps_left c (pivoted t s.row s.column)))) ⊎ (RuleEnds t × ((c : ℕ) → steps_left (suc c) t ≡ 0))
+    go : (x : Chosen t ⊎ RuleEnds t) → choose t ≡ x → ((s : Chosen t) × ((c : ℕ) → steps_left (suc c) t ≡ suc (steps_left c (pivoted t s.row s.column))))
+        ⊎ (RuleEnds t × ((c : ℕ) → steps_left (suc c) t ≡ 0))
     go (inl s) e = inl (s, λ c. rw (e, steps_left) refl)
     go (inr f) e = inr (f, λ c. rw (e, steps_left) refl)
 
@@ -45,7 +48,8 @@ unfoldable before : Tableau → (ℕ → Tableau) → ℕ → Tableau
 before t at zero = t
 before t at (suc k) = at k
 
-moment_before : (A : ℤ → (ℕ → ℤ) → Type 0) (n b : ℕ) (t : Tableau) (at : ℕ → Tableau) → Moment A n t (at 0) → ((k : ℕ) → k < b → Moment A n (at k) (at (k + 1))) →
+moment_before : (A : ℤ → (ℕ → ℤ) → Type 0) (n b : ℕ) (t : Tableau) (at : ℕ → Tableau) → Moment A n t (at 0) → ((k : ℕ) → k < b → Moment A n (at k) (at (k + 1)))
+    →
     (k : ℕ) → k < suc b → Moment A n (before t at k) (before t at (k + 1))
 unfolding before
 moment_before A n b t at first rest zero h = first
@@ -71,7 +75,8 @@ full_run A n (suc b) t d e =
           record {
             at = before t rest.at;
             first = refl;
-            moments = moment_before A n b t rest.at (subst (λ (u : Tableau). Moment A n t u) (sym rest.first) (moment A n t c.row c.column d c.leaves c.enters)) rest.moments;
+            moments = moment_before A n b t rest.at (subst (λ (u : Tableau). Moment A n t u) (sym rest.first) (moment A n t c.row c.column d c.leaves c.enters))
+                rest.moments;
           }
       | inr f ↦ absurd (let k = f.1 b in omega arith)
     ]
@@ -88,7 +93,8 @@ unfoldable pub measure : ℕ → Tableau → ℕ
 measure n t = steps_left (2 ^ n) t
 
 -- each step of the rule makes the measure fall
-pub measure_falls : (A : ℤ → (ℕ → ℤ) → Type 0) (n : ℕ) (t : Tableau) (row column : ℕ) → IsDictionary A n t → Leaves t row → Enters t row column → measure n (pivoted t row column) < measure n t
+pub measure_falls : (A : ℤ → (ℕ → ℤ) → Type 0) (n : ℕ) (t : Tableau) (row column : ℕ) → IsDictionary A n t → Leaves t row → Enters t row column
+    → measure n (pivoted t row column) < measure n t
 unfolding measure
 measure_falls A n t row column d l e =
     let short : steps_left (2 ^ n) t < 2 ^ n = elim (cases_lt (steps_left (2 ^ n) t) (2 ^ n)) [

@@ -1,5 +1,7 @@
 -- a refutation has multipliers for the stuck row's own slack and for non-basic slacks alone: at most one more than there are columns
-use Rattle.ta_simplex.proofs.Common.{◌≡◌, ◌⊎◌, inl, inr, ℕ, zero, suc, ◌+◌, ◌<◌, ◌≤◌, List, [], ◌∷◌, length, get_or, eqb, arith, refl, sym, ap, ◌∙◌, ℤ, pos, ◌≤ℤ◌, cases_lt, cases_eq, ints, length-set, length-range_with_len, pigeon, coefficient, AreMultipliers, System, Tableau, basic_of, non_basic_of, slack_tableau, DictionaryOf, Reached, GivesMultipliers, MultipliersAreFew}
+use Rattle.ta_simplex.proofs.Common.{◌≡◌, ◌⊎◌, inl, inr, ℕ, zero, suc, ◌+◌, ◌<◌, ◌≤◌, List, [], ◌∷◌, length, get_or, eqb, arith, refl, sym, ap, ◌∙◌, ℤ, pos}
+use Rattle.ta_simplex.proofs.Common.{◌≤ℤ◌, cases_lt, cases_eq, ints, length-set, length-range_with_len, pigeon, coefficient, AreMultipliers, System, Tableau}
+use Rattle.ta_simplex.proofs.Common.{basic_of, non_basic_of, slack_tableau, DictionaryOf, Reached, GivesMultipliers, MultipliersAreFew}
 use Rattle.std.proofs.Common.{eqb-true, not}
 use Rattle.std.specs.List.{position_or_len}
 use Rattle.std.proofs.lemmas.Bool.{eqb-false}
@@ -34,13 +36,15 @@ multiplied-rises low count (t ∷ ts) (suc i) (suc j) m h k = multiplied-rises (
 coefficient-natural : (low count : ℕ) (ts : List (ℕ × ℤ)) (k : ℕ) → AreMultipliers low count ts → pos 0 ≤ℤ coefficient ts k
 unfolding single
 coefficient-natural low count [] k m = omega (arith, ints)
-coefficient-natural low count (t ∷ ts) k m = omega (arith, ints, single-natural t.0 k t.1 (omega (arith, ints, m.2)), coefficient-natural (t.0 + 1) count ts k m.3)
+coefficient-natural low count (t ∷ ts) k m = omega
+    (arith, ints, single-natural t.0 k t.1 (omega (arith, ints, m.2)), coefficient-natural (t.0 + 1) count ts k m.3)
 
 coefficient-positive : (low count : ℕ) (ts : List (ℕ × ℤ)) (i : ℕ) → AreMultipliers low count ts → i < length ts → pos 1 ≤ℤ coefficient ts (multiplied ts i)
 unfolding single
 coefficient-positive low count [] i m h = absurd (omega arith)
 coefficient-positive low count (t ∷ ts) zero m h = omega (arith, ints, single-at t.0 t.0 t.1 refl, m.2, coefficient-natural (t.0 + 1) count ts t.0 m.3)
-coefficient-positive low count (t ∷ ts) (suc i) m h = omega (arith, ints, single-natural t.0 (multiplied ts i) t.1 (omega (arith, ints, m.2)), coefficient-positive (t.0 + 1) count ts i m.3 (omega arith))
+coefficient-positive low count (t ∷ ts) (suc i) m h = omega
+    (arith, ints, single-natural t.0 (multiplied ts i) t.1 (omega (arith, ints, m.2)), coefficient-positive (t.0 + 1) count ts i m.3 (omega arith))
 
 -- a pivot keeps the number of columns
 reached_columns : (s : System) (k : ℕ) (t : Tableau) → Reached (slack_tableau s) k t → length t.non_basic ≡ s.unknowns
@@ -51,7 +55,8 @@ reached_columns s (suc k) t r =
     ap (λ (u : Tableau). length u.non_basic) step.next ∙ length-set r.0.non_basic step.column (basic_of r.0 step.row) ∙ reached_columns s k r.0 r.1
 
 -- the slack of a row that is multiplied is the stuck row's own, or it is non-basic
-own_or_column : (s : System) (t : Tableau) (row k : ℕ) (multiplier : ℕ → ℤ) → DictionaryOf s t → GivesMultipliers s.unknowns (length s.rows) t row multiplier → k < length s.rows → pos 1 ≤ℤ multiplier k →
+own_or_column : (s : System) (t : Tableau) (row k : ℕ) (multiplier : ℕ → ℤ) → DictionaryOf s t → GivesMultipliers s.unknowns (length s.rows) t row multiplier
+    → k < length s.rows → pos 1 ≤ℤ multiplier k →
     (basic_of t row ≡ s.unknowns + k) ⊎ (place t.non_basic (s.unknowns + k) < length t.non_basic)
 own_or_column s t row k multiplier d g inside positive =
     elim (d.basis.cover (s.unknowns + k) (omega arith)) [
@@ -61,12 +66,14 @@ own_or_column s t row k multiplier d g inside positive =
       ]
       | inr c ↦ inr (elim (cases_lt (place t.non_basic (s.unknowns + k)) (length t.non_basic)) [
         | inl found ↦ found
-        | inr none ↦ absurd (eqb-false (non_basic_of t c.0) (s.unknowns + k) (fails_before_first (λ u. eqb u (s.unknowns + k)) t.non_basic c.0 0 (let below = c.1 in omega arith)) c.2)
+        | inr none ↦ absurd (eqb-false (non_basic_of t c.0) (s.unknowns + k)
+            (fails_before_first (λ u. eqb u (s.unknowns + k)) t.non_basic c.0 0 (let below = c.1 in omega arith)) c.2)
       ])
     ]
 
 -- no two rows that are multiplied have their slacks at one place
-same_place : (s : System) (t : Tableau) (row k l : ℕ) (multiplier : ℕ → ℤ) → DictionaryOf s t → GivesMultipliers s.unknowns (length s.rows) t row multiplier → k < length s.rows → l < length s.rows → pos 1 ≤ℤ multiplier k → pos 1 ≤ℤ multiplier l →
+same_place : (s : System) (t : Tableau) (row k l : ℕ) (multiplier : ℕ → ℤ) → DictionaryOf s t → GivesMultipliers s.unknowns (length s.rows) t row multiplier
+    → k < length s.rows → l < length s.rows → pos 1 ≤ℤ multiplier k → pos 1 ≤ℤ multiplier l →
     place t.non_basic (s.unknowns + k) ≡ place t.non_basic (s.unknowns + l) → k ≡ l
 same_place s t row k l multiplier d g inside inside' positive positive' same =
     elim (cases_lt (place t.non_basic (s.unknowns + k)) (length t.non_basic)) [

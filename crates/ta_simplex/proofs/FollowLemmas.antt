@@ -1,19 +1,25 @@
 -- lists of pivots that a run makes: cut, and longer by one
-use Rattle.ta_simplex.proofs.Common.{◌≡◌, inl, inr, ℕ, zero, suc, ◌-◌, ◌<◌, ◌≤◌, List, [], ◌∷◌, ◌++◌, length, take, arith, refl, sym, ap, ◌∙◌, subst, pos, replicate, cases_lt, append-nil, length-append, length-take-le, get_or_append_left, get_or_push, Tableau, row_of, pivoted, Enters, AllMergeInRange, KeptPivot, no_pivot, kept_at, pivot_in, System, slack_tableau, Reached, tableau_after, MakesPivot, Follows, Leaves}
+use Rattle.ta_simplex.proofs.Common.{◌≡◌, inl, inr, ℕ, zero, suc, ◌-◌, ◌<◌, ◌≤◌, List, [], ◌∷◌, ◌++◌, length, take, arith, refl, sym, ap, ◌∙◌, subst, pos}
+use Rattle.ta_simplex.proofs.Common.{replicate, cases_lt, append-nil, length-append, length-take-le, get_or_append_left, get_or_push, Tableau, row_of, pivoted}
+use Rattle.ta_simplex.proofs.Common.{Enters, AllMergeInRange, KeptPivot, no_pivot, kept_at, pivot_in, System, slack_tableau, Reached, tableau_after, MakesPivot}
+use Rattle.ta_simplex.proofs.Common.{Follows, Leaves}
 use Rattle.ta_simplex.proofs.RunLemmas.{reached_dictionary}
 use Rattle.ta_simplex.proofs.Prefixes.{reached_after}
 
-pub after_same : (start : Tableau) (ks ks' : List KeptPivot) (count : ℕ) → ((j : ℕ) → j < count → kept_at ks j ≡ kept_at ks' j) → (j : ℕ) → j ≤ count → tableau_after start ks j ≡ tableau_after start ks' j
+pub after_same : (start : Tableau) (ks ks' : List KeptPivot) (count : ℕ) → ((j : ℕ) → j < count → kept_at ks j ≡ kept_at ks' j) → (j : ℕ) → j ≤ count
+    → tableau_after start ks j ≡ tableau_after start ks' j
 after_same start ks ks' count same zero h = refl
 after_same start ks ks' count same (suc j) h =
     ap (λ (t : Tableau). pivoted t (kept_at ks j).row (kept_at ks j).column) (after_same start ks ks' count same j (omega arith))
     ∙ ap (λ (k : KeptPivot). pivoted (tableau_after start ks' j) k.row k.column) (same j (omega arith))
 
 -- only the pivots that are made count
-pub follows_same : (start : Tableau) (ks ks' : List KeptPivot) (count : ℕ) (t : Tableau) → ((j : ℕ) → j < count → kept_at ks j ≡ kept_at ks' j) → count ≤ length ks' → Follows start ks count t → Follows start ks' count t
+pub follows_same : (start : Tableau) (ks ks' : List KeptPivot) (count : ℕ) (t : Tableau) → ((j : ℕ) → j < count → kept_at ks j ≡ kept_at ks' j)
+    → count ≤ length ks' → Follows start ks count t → Follows start ks' count t
 follows_same start ks ks' count t same h f = record {
   within = h;
-  made = λ j less. subst (λ (x : Tableau). MakesPivot x (kept_at ks' j)) (after_same start ks ks' count same j (omega arith)) (subst (MakesPivot (tableau_after start ks j)) (same j less) (f.made j less));
+  made = λ j less. subst (λ (x : Tableau). MakesPivot x (kept_at ks' j)) (after_same start ks ks' count same j (omega arith))
+      (subst (MakesPivot (tableau_after start ks j)) (same j less) (f.made j less));
   last = f.last ∙ after_same start ks ks' count same count (omega arith);
 }
 
@@ -23,7 +29,8 @@ take_at [] (suc n) j h = refl
 take_at (k ∷ ks) (suc n) zero h = refl
 take_at (k ∷ ks) (suc n) (suc j) h = take_at ks n j (omega arith)
 
-pub follows_take : (start : Tableau) (ks : List KeptPivot) (count n : ℕ) (t : Tableau) → count ≤ n → n ≤ length ks → Follows start ks count t → Follows start (take n ks) count t
+pub follows_take : (start : Tableau) (ks : List KeptPivot) (count n : ℕ) (t : Tableau) → count ≤ n → n ≤ length ks → Follows start ks count t
+    → Follows start (take n ks) count t
 follows_take start ks count n t h less f =
     let l = length-take-le n ks less in
     follows_same start ks (take n ks) count t (λ j below. sym (take_at ks n j (omega arith))) (omega arith) f
@@ -41,7 +48,8 @@ follows_reached start ks count t f = subst (Reached start count) (sym f.last) (r
 pub follows_none : (start t : Tableau) (ks : List KeptPivot) → t ≡ start → Follows start ks 0 t
 follows_none start t ks e = record { within = omega arith; made = λ j h. absurd (omega arith); last = e }
 
-makes_here : (t : Tableau) (row column : ℕ) → Leaves t row → Enters t row column → AllMergeInRange t row column → length (row_of t row).cells ≡ length t.non_basic → MakesPivot t (pivot_in t row column)
+makes_here : (t : Tableau) (row column : ℕ) → Leaves t row → Enters t row column → AllMergeInRange t row column
+    → length (row_of t row).cells ≡ length t.non_basic → MakesPivot t (pivot_in t row column)
 makes_here t row column leaves enters in_range long =
     let none : length t.non_basic - length (row_of t row).cells ≡ 0 = omega arith in
     let inside = enters.below in
@@ -57,7 +65,8 @@ makes_here t row column leaves enters in_range long =
     }
 
 -- one pivot more
-pub follows_push : (start : Tableau) (ks : List KeptPivot) (t : Tableau) (row column : ℕ) → Follows start ks (length ks) t → Leaves t row → Enters t row column → AllMergeInRange t row column → length (row_of t row).cells ≡ length t.non_basic →
+pub follows_push : (start : Tableau) (ks : List KeptPivot) (t : Tableau) (row column : ℕ) → Follows start ks (length ks) t → Leaves t row → Enters t row column
+    → AllMergeInRange t row column → length (row_of t row).cells ≡ length t.non_basic →
     Follows start (ks ++ pivot_in t row column ∷ []) (length (ks ++ pivot_in t row column ∷ [])) (pivoted t row column)
 follows_push start ks t row column f leaves enters in_range long =
     let k = pivot_in t row column in
@@ -78,7 +87,8 @@ follows_push start ks t row column f leaves enters in_range long =
     }
 
 -- the pivots of a run
-pub pivots_listed : (s : System) (k : ℕ) (t : Tableau) → Reached (slack_tableau s) k t → (ks : List KeptPivot) × (length ks ≡ k) × Follows (slack_tableau s) ks k t
+pub pivots_listed : (s : System) (k : ℕ) (t : Tableau) → Reached (slack_tableau s) k t → (ks : List KeptPivot) × (length ks ≡ k)
+    × Follows (slack_tableau s) ks k t
 pivots_listed s zero t e = ([], refl, follows_none (slack_tableau s) t [] e)
 pivots_listed s (suc k) t r =
     let before = pivots_listed s k r.0 r.1 in
@@ -90,5 +100,9 @@ pivots_listed s (suc k) t r =
     let all = ks ++ pivot_in r.0 step.row step.column ∷ [] in
     let l = length-append ks (pivot_in r.0 step.row step.column ∷ []) in
     let n = before.1 in
-    let count : length all ≡ suc k = omega arith in
-    (all, count, subst (λ (n : ℕ). Follows (slack_tableau s) all n t) count (subst (λ (x : Tableau). Follows (slack_tableau s) all (length all) x) (sym step.next) more))
+    let count : length all ≡ suc k = omega arith in (
+      all,
+      count,
+      subst (λ (n : ℕ). Follows (slack_tableau s) all n t) count
+          (subst (λ (x : Tableau). Follows (slack_tableau s) all (length all) x) (sym step.next) more),
+    )

@@ -1,15 +1,26 @@
 -- the pivots of a system are the first pivots of a longer one
-use Rattle.ta_simplex.proofs.Common.{◌≡◌, inl, inr, ℕ, zero, suc, ◌+◌, ◌-◌, ◌<◌, ◌≤◌, List, [], ◌∷◌, ◌++◌, length, map, get_or, drop, arith, refl, sym, ap, ◌∙◌, subst, ℤ, pos, replicate, range_with_len, map-append, length-range_with_len, range_split, length-carried, length-slack_rows, coefficient, IsNormal, AllBelow, Row, System, coefficient-above, TableauRow, Tableau, no_row, merged, pivoted, coefficients, slack_row_of, slack_rows, slack_tableau, MergesInRange, FirstRefused, KeptPivot, kept_at, chosen_row, after_pivot, carried, StayInRange, widened, raised, extended, new_rows, FirstLeaving, record_same, slack_tableau-is, row_count, column_count, merged_basic, Reached, OverflowsAt, IsCount, tableau_after, MakesPivot, Follows, BeginsSystem}
+use Rattle.ta_simplex.proofs.Common.{◌≡◌, inl, inr, ℕ, zero, suc, ◌+◌, ◌-◌, ◌<◌, ◌≤◌, List, [], ◌∷◌, ◌++◌, length, map, get_or, drop, arith, refl, sym, ap, ◌∙◌}
+use Rattle.ta_simplex.proofs.Common.{subst, ℤ, pos, replicate, range_with_len, map-append, length-range_with_len, range_split, length-carried}
+use Rattle.ta_simplex.proofs.Common.{length-slack_rows, coefficient, IsNormal, AllBelow, Row, System, coefficient-above, TableauRow, Tableau, no_row, merged}
+use Rattle.ta_simplex.proofs.Common.{pivoted, coefficients, slack_row_of, slack_rows, slack_tableau, MergesInRange, FirstRefused, KeptPivot, kept_at}
+use Rattle.ta_simplex.proofs.Common.{chosen_row, after_pivot, carried, StayInRange, widened, raised, extended, new_rows, FirstLeaving, record_same}
+use Rattle.ta_simplex.proofs.Common.{slack_tableau-is, row_count, column_count, merged_basic, Reached, OverflowsAt, IsCount, tableau_after, MakesPivot, Follows}
+use Rattle.ta_simplex.proofs.Common.{BeginsSystem}
 use Rattle.ta_simplex.proofs.RunLemmas.{reached_dictionary}
 use Rattle.ta_simplex.proofs.Extended.{with_more, OfSize, AreNewRows, raised_at, pivoted_more, leaves_more, enters_more, makes_more, overflows_more}
 
 -- the run that makes these pivots
-pub reached_after : (start : Tableau) (ks : List KeptPivot) (count : ℕ) → ((j : ℕ) → j < count → MakesPivot (tableau_after start ks j) (kept_at ks j)) → (j : ℕ) → j ≤ count → Reached start j (tableau_after start ks j)
+pub reached_after : (start : Tableau) (ks : List KeptPivot) (count : ℕ) → ((j : ℕ) → j < count → MakesPivot (tableau_after start ks j) (kept_at ks j)) → (j : ℕ)
+    → j ≤ count → Reached start j (tableau_after start ks j)
 reached_after start ks count made zero h = refl
 reached_after start ks count made (suc j) h =
     let k = kept_at ks j in
-    let m = made j (omega arith) in
-    (tableau_after start ks j, reached_after start ks count made j (omega arith), record { row = k.row; column = k.column; leaves = m.leaves; enters = m.enters; in_range = m.in_range; next = refl })
+    let m = made j (omega arith) in (
+      tableau_after start ks j,
+      reached_after start ks count made j (omega arith),
+      record
+          { row = k.row; column = k.column; leaves = m.leaves; enters = m.enters; in_range = m.in_range; next = refl },
+    )
 
 raised_range : (n e a k : ℕ) → a + k ≤ n → map (raised n e) (range_with_len a k) ≡ range_with_len a k
 raised_range n e a zero h = refl
@@ -36,7 +47,8 @@ slack_rows_widened : (n e v : ℕ) (rs : List Row) → AllBelow n rs → n ≤ v
 slack_rows_widened n e v [] all h = refl
 slack_rows_widened n e v (r ∷ rs) all h =
     let basic : v + e ≡ raised n e v = elim (raised_at n e v) [ inl x ↦ (let y = x.0 in absurd (omega arith)) | inr x ↦ sym x.1 ] in
-    let first : slack_row_of (n + e) (v + e) r ≡ widened n e (slack_row_of n v r) = record_same (slack_row_of (n + e) (v + e) r) (widened n e (slack_row_of n v r)) basic refl refl (coefficients_more n e r.form.terms all.0) in
+    let first : slack_row_of (n + e) (v + e) r ≡ widened n e (slack_row_of n v r) = record_same (slack_row_of (n + e) (v + e) r)
+    (widened n e (slack_row_of n v r)) basic refl refl (coefficients_more n e r.form.terms all.0) in
     let next : suc (v + e) ≡ suc v + e = omega arith in
     let rest = ap (λ (x : ℕ). slack_rows (n + e) x rs) next ∙ slack_rows_widened n e (suc v) rs all.1 (omega arith) in
     ap (λ (x : TableauRow). x ∷ slack_rows (n + e) (suc (v + e)) rs) first ∙ ap (λ (xs : List TableauRow). widened n e (slack_row_of n v r) ∷ xs) rest
@@ -44,7 +56,8 @@ slack_rows_widened n e v (r ∷ rs) all h =
 slack_rows-append : (n v : ℕ) (rs qs : List Row) → slack_rows n v (rs ++ qs) ≡ slack_rows n v rs ++ slack_rows n (v + length rs) qs
 slack_rows-append n v [] qs = ap (λ (x : ℕ). slack_rows n x qs) (omega arith)
 slack_rows-append n v (r ∷ rs) qs =
-    ap (λ (xs : List TableauRow). slack_row_of n v r ∷ xs) (slack_rows-append n (suc v) rs qs ∙ ap (λ (x : ℕ). slack_rows n (suc v) rs ++ slack_rows n x qs) (omega arith))
+    ap (λ (xs : List TableauRow). slack_row_of n v r ∷ xs)
+    (slack_rows-append n (suc v) rs qs ∙ ap (λ (x : ℕ). slack_rows n (suc v) rs ++ slack_rows n x qs) (omega arith))
 
 slack_basic : (n v : ℕ) (rs : List Row) (i : ℕ) → i < length rs → (get_or (slack_rows n v rs) i no_row).basic ≡ v + i
 slack_basic n v [] i h = absurd (omega arith)
@@ -67,11 +80,15 @@ start_more s l b =
     let sum : n + e ≡ l.unknowns = omega arith in
     let z : 0 + n ≡ n = omega arith in
     let columns : map (raised n e) (range_with_len 0 n) ++ range_with_len n e ≡ range_with_len 0 l.unknowns =
-    ap (λ (xs : List ℕ). xs ++ range_with_len n e) (raised_range n e 0 n (omega arith)) ∙ ap (λ (x : ℕ). range_with_len 0 n ++ range_with_len x e) (sym z) ∙ sym (range_split 0 n e) ∙ ap (range_with_len 0) sum in
-    let old : slack_rows l.unknowns l.unknowns s.rows ≡ map (widened n e) (slack_rows n n s.rows) = ap (λ (x : ℕ). slack_rows x x s.rows) (sym sum) ∙ slack_rows_widened n e n s.rows s.within (omega arith) in
+    ap (λ (xs : List ℕ). xs ++ range_with_len n e) (raised_range n e 0 n (omega arith)) ∙ ap (λ (x : ℕ). range_with_len 0 n ++ range_with_len x e) (sym z)
+    ∙ sym (range_split 0 n e) ∙ ap (range_with_len 0) sum in
+    let old : slack_rows l.unknowns l.unknowns s.rows ≡ map (widened n e) (slack_rows n n s.rows) = ap (λ (x : ℕ). slack_rows x x s.rows) (sym sum)
+    ∙ slack_rows_widened n e n s.rows s.within (omega arith) in
     let rows : map (widened n e) (slack_rows n n s.rows) ++ added_rows s l ≡ slack_rows l.unknowns l.unknowns l.rows =
-    ap (λ (xs : List TableauRow). xs ++ added_rows s l) (sym old) ∙ sym (slack_rows-append l.unknowns l.unknowns s.rows (drop (length s.rows) l.rows)) ∙ ap (slack_rows l.unknowns l.unknowns) (sym b.rows) in
-    sym (slack_tableau-is l (map (raised n e) (range_with_len 0 n) ++ range_with_len n e) (map (widened n e) (slack_rows n n s.rows) ++ added_rows s l) columns rows)
+    ap (λ (xs : List TableauRow). xs ++ added_rows s l) (sym old) ∙ sym (slack_rows-append l.unknowns l.unknowns s.rows (drop (length s.rows) l.rows))
+    ∙ ap (slack_rows l.unknowns l.unknowns) (sym b.rows) in
+    sym (slack_tableau-is l (map (raised n e) (range_with_len 0 n) ++ range_with_len n e) (map (widened n e) (slack_rows n n s.rows) ++ added_rows s l) columns
+    rows)
 
 -- the size of what the rule reaches
 counts_slack : (s : System) → (length (slack_tableau s).non_basic ≡ s.unknowns) × (length (slack_tableau s).rows ≡ length s.rows)
@@ -84,8 +101,11 @@ counts_reached s zero t e =
     (ap (λ (u : Tableau). length u.non_basic) e ∙ c.0, ap (λ (u : Tableau). length u.rows) e ∙ c.1)
 counts_reached s (suc k) t r =
     let step = r.2 in
-    let c = counts_reached s k r.0 r.1 in
-    (ap (λ (u : Tableau). length u.non_basic) step.next ∙ column_count r.0 step.row step.column ∙ c.0, ap (λ (u : Tableau). length u.rows) step.next ∙ row_count r.0 step.row step.column ∙ c.1)
+    let c = counts_reached s k r.0 r.1 in (
+      ap (λ (u : Tableau). length u.non_basic) step.next ∙ column_count r.0 step.row step.column ∙ c.0,
+      ap (λ (u : Tableau). length u.rows) step.next
+          ∙ row_count r.0 step.row step.column ∙ c.1,
+    )
 
 pub size_reached : (s : System) (k : ℕ) (t : Tableau) → Reached (slack_tableau s) k t → OfSize s.unknowns (length s.rows) t
 size_reached s k t r =
@@ -99,14 +119,17 @@ size_reached s k t r =
       non_basic_below = d.basis.non_basic_below;
     }
 
-basic_map : (column : ℕ) (chosen : TableauRow) (rows : List TableauRow) (i : ℕ) → (get_or (map (merged column chosen) rows) i no_row).basic ≡ (get_or rows i no_row).basic
+basic_map : (column : ℕ) (chosen : TableauRow) (rows : List TableauRow) (i : ℕ)
+    → (get_or (map (merged column chosen) rows) i no_row).basic ≡ (get_or rows i no_row).basic
 basic_map column chosen [] i = refl
 basic_map column chosen (r ∷ rows) zero = merged_basic column chosen r
 basic_map column chosen (r ∷ rows) (suc i) = basic_map column chosen rows i
 
-basic_carried : (columns : ℕ) (ks : List KeptPivot) (j : ℕ) (rows : List TableauRow) (i : ℕ) → (get_or (carried columns ks j rows) i no_row).basic ≡ (get_or rows i no_row).basic
+basic_carried : (columns : ℕ) (ks : List KeptPivot) (j : ℕ) (rows : List TableauRow) (i : ℕ)
+    → (get_or (carried columns ks j rows) i no_row).basic ≡ (get_or rows i no_row).basic
 basic_carried columns ks zero rows i = refl
-basic_carried columns ks (suc j) rows i = basic_map (kept_at ks j).column (chosen_row columns (kept_at ks j)) (carried columns ks j rows) i ∙ basic_carried columns ks j rows i
+basic_carried columns ks (suc j) rows i = basic_map (kept_at ks j).column (chosen_row columns (kept_at ks j)) (carried columns ks j rows) i
+    ∙ basic_carried columns ks j rows i
 
 new_carried : (s l : System) (ks : List KeptPivot) (j : ℕ) → AreNewRows (l.unknowns + length s.rows) (carried l.unknowns ks j (added_rows s l))
 new_carried s l ks j i h =
@@ -118,7 +141,8 @@ new_carried s l ks j i h =
     omega arith
 
 -- after each of the pivots the longer system has the tableau of the shorter, and more
-pub after_more : (s l : System) → BeginsSystem s l → (ks : List KeptPivot) (count : ℕ) → ((j : ℕ) → j < count → MakesPivot (tableau_after (slack_tableau s) ks j) (kept_at ks j)) → (j : ℕ) → j ≤ count →
+pub after_more : (s l : System) → BeginsSystem s l → (ks : List KeptPivot) (count : ℕ)
+    → ((j : ℕ) → j < count → MakesPivot (tableau_after (slack_tableau s) ks j) (kept_at ks j)) → (j : ℕ) → j ≤ count →
     tableau_after (slack_tableau l) ks j ≡ with_more s.unknowns (added s l) (tableau_after (slack_tableau s) ks j) (carried l.unknowns ks j (added_rows s l))
 after_more s l b ks count made zero h = start_more s l b
 after_more s l b ks count made (suc j) h =
@@ -134,8 +158,10 @@ after_more s l b ks count made (suc j) h =
     ∙ ap (λ (c : ℕ). with_more n e (pivoted t k.row k.column) (after_pivot c k rows)) sum
 
 -- and where no new row leaves the range, the rule makes them for the longer system
-pub made_more : (s l : System) → BeginsSystem s l → (ks : List KeptPivot) (count : ℕ) → ((j : ℕ) → j < count → MakesPivot (tableau_after (slack_tableau s) ks j) (kept_at ks j)) →
-    (upto : ℕ) → upto ≤ count → StayInRange l.unknowns ks upto (added_rows s l) → (j : ℕ) → j < upto → MakesPivot (tableau_after (slack_tableau l) ks j) (kept_at ks j)
+pub made_more : (s l : System) → BeginsSystem s l → (ks : List KeptPivot) (count : ℕ)
+    → ((j : ℕ) → j < count → MakesPivot (tableau_after (slack_tableau s) ks j) (kept_at ks j)) →
+    (upto : ℕ) → upto ≤ count → StayInRange l.unknowns ks upto (added_rows s l) → (j : ℕ) → j < upto
+    → MakesPivot (tableau_after (slack_tableau l) ks j) (kept_at ks j)
 made_more s l b ks count made upto within stay j h =
     let k = kept_at ks j in
     let t = tableau_after (slack_tableau s) ks j in
@@ -165,7 +191,8 @@ extended_is s l ks t columns rows =
 pub follows_extended : (s l : System) → BeginsSystem s l → (ks : List KeptPivot) (t : Tableau) → Follows (slack_tableau s) ks (length ks) t →
     StayInRange l.unknowns ks (length ks) (new_rows t l) → Follows (slack_tableau l) ks (length ks) (extended t ks l)
 follows_extended s l b ks t f stay =
-    let r = subst (λ (x : Tableau). Reached (slack_tableau s) (length ks) x) (sym f.last) (reached_after (slack_tableau s) ks (length ks) f.made (length ks) (omega arith)) in
+    let r = subst (λ (x : Tableau). Reached (slack_tableau s) (length ks) x) (sym f.last)
+    (reached_after (slack_tableau s) ks (length ks) f.made (length ks) (omega arith)) in
     let c = counts_reached s (length ks) t r in
     let stay' = subst (λ (rows : List TableauRow). StayInRange l.unknowns ks (length ks) rows) (new_rows_are s l t c.1) stay in
     record {
@@ -181,7 +208,8 @@ follows_extended s l b ks t f stay =
 pub overflow_extended : (s l : System) → BeginsSystem s l → (ks : List KeptPivot) (t : Tableau) → Follows (slack_tableau s) ks (length ks) t →
     (pivot row count : ℕ) → FirstLeaving t ks l pivot row → IsCount (suc pivot) count → OverflowsAt (slack_tableau l) count
 overflow_extended s l b ks t f pivot row count first counted =
-    let r = subst (λ (x : Tableau). Reached (slack_tableau s) (length ks) x) (sym f.last) (reached_after (slack_tableau s) ks (length ks) f.made (length ks) (omega arith)) in
+    let r = subst (λ (x : Tableau). Reached (slack_tableau s) (length ks) x) (sym f.last)
+    (reached_after (slack_tableau s) ks (length ks) f.made (length ks) (omega arith)) in
     let c = counts_reached s (length ks) t r in
     let here = first.below in
     let new = new_rows_are s l t c.1 in
@@ -198,7 +226,9 @@ overflow_extended s l b ks t f pivot row count first counted =
     let is = after_more s l b ks (length ks) f.made pivot (omega arith) in
     let new_are = subst (λ (c : ℕ). AreNewRows (c + length s.rows) rows) (sym sum) (new_carried s l ks pivot) in
     let refused : FirstRefused k.column (chosen_row (n + e) k) rows first.new =
-    subst (λ (c : ℕ). FirstRefused k.column (chosen_row c k) rows first.new) (sym sum) (subst (λ (added : List TableauRow). FirstRefused k.column (chosen_row l.unknowns k) (carried l.unknowns ks pivot added) first.new) new first.refused) in
+    subst (λ (c : ℕ). FirstRefused k.column (chosen_row c k) rows first.new) (sym sum)
+    (subst (λ (added : List TableauRow). FirstRefused k.column (chosen_row l.unknowns k) (carried l.unknowns ks pivot added) first.new) new first.refused)
+    in
     record {
       steps = pivot;
       counted = counted;

@@ -1,5 +1,7 @@
 -- The run of a system ends, or some pivot leaves the range.
-use Rattle.ta_simplex.proofs.Common.{◌≡◌, ◌≢◌, ℕ, zero, suc, ◌+◌, ◌-◌, ◌^◌, ◌<◌, ◌≤◌, min, length, get_or, ⊎_elim, refl, subst, arith, cases_lt, cases_eq, System, Tableau, row_of, no_row, pivoted, MergesInRange, OthersMergeBelow, AllMergeInRange, FirstOverflow, slack_tableau, variables, Reached, RuleEnds, RunEnds, RunOverflows}
+use Rattle.ta_simplex.proofs.Common.{◌≡◌, ◌≢◌, ℕ, zero, suc, ◌+◌, ◌-◌, ◌^◌, ◌<◌, ◌≤◌, min, length, get_or, ⊎_elim, refl, subst, arith, cases_lt, cases_eq}
+use Rattle.ta_simplex.proofs.Common.{System, Tableau, row_of, no_row, pivoted, MergesInRange, OthersMergeBelow, AllMergeInRange, FirstOverflow, slack_tableau}
+use Rattle.ta_simplex.proofs.Common.{variables, Reached, RuleEnds, RunEnds, RunOverflows}
 use Rattle.ta_simplex.proofs.Choose.{Chosen, choose}
 use Rattle.ta_simplex.proofs.Ends.{measure, measure_falls}
 use Rattle.ta_simplex.proofs.RunLemmas.{reached_dictionary}
@@ -18,7 +20,8 @@ module _ (t : Tableau) (row column : ℕ) (never : (k : ℕ) → ¬ FirstOverflo
       (λ (h : i < k). below i h within apart)
       (λ (h : k ≤ i).
       let same : k ≡ i = omega arith in
-      subst (λ j. MergesInRange column (row_of t row) (get_or t.rows j no_row)) same (here (λ e. apart (let f : i ≡ row = omega (arith, e, same) in f)) (omega arith)))
+      subst (λ j. MergesInRange column (row_of t row) (get_or t.rows j no_row)) same
+      (here (λ e. apart (let f : i ≡ row = omega (arith, e, same) in f)) (omega arith)))
       (cases_lt i k)
 
   merge_from : (left k : ℕ) → k + left ≡ length t.rows → Below k → ¬ (¬ AllMergeInRange t row column)
@@ -26,7 +29,8 @@ module _ (t : Tableau) (row column : ℕ) (never : (k : ℕ) → ¬ FirstOverflo
   merge_from (suc left) k whole below some =
       ⊎_elim
       (λ (e : k ≡ row). merge_from left (k + 1) (omega arith) (one_more k below (λ apart within. absurd (apart e))) some)
-      (λ (ne : k ≢ row). none_refused k below (omega arith) ne (λ merges. merge_from left (k + 1) (omega arith) (one_more k below (λ apart within. merges)) some))
+      (λ (ne : k ≢ row). none_refused k below (omega arith) ne
+      (λ merges. merge_from left (k + 1) (omega arith) (one_more k below (λ apart within. merges)) some))
       (cases_eq k row)
 
   all_merge : ¬ (¬ AllMergeInRange t row column)
@@ -40,8 +44,24 @@ module _ (s : System) (no_end : ¬ RunEnds s) (no_overflow : ¬ RunOverflows s) 
       (λ (c : Chosen t).
       let falls = measure_falls _ (variables s) t c.row c.column (reached_dictionary s k t reached) c.leaves c.enters in
       all_merge t c.row c.column
-      (λ at overflow. no_overflow (min (suc k) (2 ^ 64 - 1), record { steps = k; counted = refl; tableau = t; reached = reached; row = c.row; column = c.column; leaves = c.leaves; enters = c.enters; at = at; overflow = overflow }))
-      (λ merges. run_from n (suc k) (pivoted t c.row c.column) (omega arith) (t, reached, record { row = c.row; column = c.column; leaves = c.leaves; enters = c.enters; in_range = merges; next = refl })))
+      (λ at overflow. no_overflow (
+        min (suc k) (2 ^ 64 - 1),
+        record {
+          steps = k;
+          counted = refl;
+          tableau = t;
+          reached = reached;
+          row = c.row;
+          column = c.column;
+          leaves = c.leaves;
+          enters = c.enters;
+          at = at;
+          overflow =
+              overflow;
+        },
+      ))
+      (λ merges. run_from n (suc k) (pivoted t c.row c.column) (omega arith)
+      (t, reached, record { row = c.row; column = c.column; leaves = c.leaves; enters = c.enters; in_range = merges; next = refl })))
       (λ (ended : RuleEnds t). no_end (k, t, reached, ended))
       (choose t)
 

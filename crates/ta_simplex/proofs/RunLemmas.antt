@@ -1,5 +1,7 @@
 -- what is known of each tableau that the rule reaches
-use Rattle.ta_simplex.proofs.Common.{cases_eq, cases_order, ◌≡◌, inl, inr, ℕ, zero, suc, ◌<◌, arith, sym, ap, ◌∙◌, subst, System, Tableau, pivoted, Enters, slack_tableau, variables, IsAssignment, DictionaryOf, IsDictionary-slack, IsDictionary-pivoted, LeastStep, Reached, RuleEnds}
+use Rattle.ta_simplex.proofs.Common.{cases_eq, cases_order, ◌≡◌, inl, inr, ℕ, zero, suc, ◌<◌, arith, sym, ap, ◌∙◌, subst, System, Tableau, pivoted, Enters}
+use Rattle.ta_simplex.proofs.Common.{slack_tableau, variables, IsAssignment, DictionaryOf, IsDictionary-slack, IsDictionary-pivoted, LeastStep, Reached}
+use Rattle.ta_simplex.proofs.Common.{RuleEnds}
 use Rattle.ta_simplex.proofs.Choose.{same_row, same_column, not_ended}
 
 -- it is a dictionary of the system
@@ -7,7 +9,9 @@ pub reached_dictionary : (s : System) (k : ℕ) (t : Tableau) → Reached (slack
 reached_dictionary s zero t e = subst (DictionaryOf s) (sym e) (IsDictionary-slack s)
 reached_dictionary s (suc k) t r =
     let step = r.2 in
-    subst (DictionaryOf s) (sym step.next) (IsDictionary-pivoted (IsAssignment s) (variables s) r.0 step.row step.column (reached_dictionary s k r.0 r.1) step.leaves.below step.enters.below step.enters.positive)
+    subst (DictionaryOf s) (sym step.next)
+    (IsDictionary-pivoted (IsAssignment s) (variables s) r.0 step.row step.column (reached_dictionary s k r.0 r.1) step.leaves.below step.enters.below
+    step.enters.positive)
 
 -- a step leaves no choice
 step_same : (s : System) (t a b : Tableau) → DictionaryOf s t → LeastStep t a → LeastStep t b → a ≡ b
@@ -24,7 +28,8 @@ reached_same s (suc k) t t' r r' =
     step_same s r.0 t t' (reached_dictionary s k r.0 r.1) r.2 (subst (λ (u : Tableau). LeastStep u t') (sym before) r'.2)
 
 -- the step that a longer run makes after a shorter one
-pub step_at : (s : System) (k j : ℕ) (t : Tableau) → Reached (slack_tableau s) k t → j < k → (u : Tableau) × (v : Tableau) × Reached (slack_tableau s) j u × LeastStep u v
+pub step_at : (s : System) (k j : ℕ) (t : Tableau) → Reached (slack_tableau s) k t → j < k → (u : Tableau) × (v : Tableau) × Reached (slack_tableau s) j u
+    × LeastStep u v
 step_at s zero j t r h = absurd (omega arith)
 step_at s (suc k) j t r h =
     elim (cases_eq j k) [
@@ -38,7 +43,8 @@ no_step_after s j k t t' r end r' h =
     let next = step_at s k j t' r' h in
     let same = reached_same s j next.0 t next.2 r in
     let step = next.3 in
-    not_ended (IsAssignment s) (variables s) next.0 step.row step.column (reached_dictionary s j next.0 next.2) step.leaves step.enters (subst RuleEnds (sym same) end)
+    not_ended (IsAssignment s) (variables s) next.0 step.row step.column (reached_dictionary s j next.0 next.2) step.leaves step.enters
+    (subst RuleEnds (sym same) end)
 
 pub ends_once : (s : System) (j k : ℕ) (t t' : Tableau) → Reached (slack_tableau s) j t → RuleEnds t → Reached (slack_tableau s) k t' → RuleEnds t' → j ≡ k
 ends_once s j k t t' r end r' end' =

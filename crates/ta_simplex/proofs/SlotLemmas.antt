@@ -1,5 +1,9 @@
 -- filling the places of the rows, and listing those that are not 0
-use Rattle.ta_simplex.proofs.Common.{◌≡◌, ◌≢◌, ◌⊎◌, inl, inr, ℕ, ◌+◌, ◌-◌, ◌<◌, ◌≤◌, List, [], ◌∷◌, ◌++◌, length, set, Bool, true, false, cond, nat_lt, arith, sym, ap, ◌∙◌, ℤ, pos, ◌≤ℤ◌, neg_ℤ, get_or-set_same, get_or-set_other, cases_lt, cases_eq, nat_tests, eqb_tells, ints, length-set, at_least_one, unsigned_abs-neg, InRange, coefficient, AreMultipliers, IsNormal-push, IsNormal-higher, coefficient-append, coefficient-above, Tableau, row_of, cell_of, basic_of, non_basic_of, NoneEnters, IsBasis, slot, put, AreNatural, FillSlots, ListsSlots, replicate, length-replicate}
+use Rattle.ta_simplex.proofs.Common.{◌≡◌, ◌≢◌, ◌⊎◌, inl, inr, ℕ, ◌+◌, ◌-◌, ◌<◌, ◌≤◌, List, [], ◌∷◌, ◌++◌, length, set, Bool, true, false, cond, nat_lt, arith}
+use Rattle.ta_simplex.proofs.Common.{sym, ap, ◌∙◌, ℤ, pos, ◌≤ℤ◌, neg_ℤ, get_or-set_same, get_or-set_other, cases_lt, cases_eq, nat_tests, eqb_tells, ints}
+use Rattle.ta_simplex.proofs.Common.{length-set, at_least_one, unsigned_abs-neg, InRange, coefficient, AreMultipliers, IsNormal-push, IsNormal-higher}
+use Rattle.ta_simplex.proofs.Common.{coefficient-append, coefficient-above, Tableau, row_of, cell_of, basic_of, non_basic_of, NoneEnters, IsBasis, slot, put}
+use Rattle.ta_simplex.proofs.Common.{AreNatural, FillSlots, ListsSlots, replicate, length-replicate}
 use Rattle.ta_base.proofs.Lists.{zeros_past}
 
 -- what a place holds after a number is put
@@ -21,7 +25,8 @@ put_above u ms v m h =
     ap (λ (b : Bool). cond b ms (set ms (v - u) m)) e
 
 -- after a number was put, a row whose slack is that variable has it, and every other has what it had
-pub after_put : (u : ℕ) (ms : List ℤ) (v k : ℕ) (m : ℤ) → v < u + length ms → ((u + k ≡ v) × (slot (put u ms v m) k ≡ m)) ⊎ ((u + k ≢ v) × (slot (put u ms v m) k ≡ slot ms k))
+pub after_put : (u : ℕ) (ms : List ℤ) (v k : ℕ) (m : ℤ) → v < u + length ms → ((u + k ≡ v) × (slot (put u ms v m) k ≡ m))
+    ⊎ ((u + k ≢ v) × (slot (put u ms v m) k ≡ slot ms k))
 after_put u ms v k m h =
     elim (cases_lt v u) [
       | inl below ↦ inr (λ e. absurd (omega arith), ap (λ (xs : List ℤ). slot xs k) (put_below u ms v m below))
@@ -54,7 +59,8 @@ put_natural u ms v m h n low fits = record {
   fits = λ k. (elim (after_put u ms v k m h) [ inl here ↦ rw here.1 fits | inr there ↦ rw there.1 (n.fits k) ]);
 }
 
-pub fill-first : (n u count : ℕ) (t : Tableau) (row : ℕ) (ms : List ℤ) → IsBasis n t → n ≡ u + count → row < length t.rows → ms ≡ replicate count (pos 0) → pos 0 ≤ℤ (row_of t row).denominator → InRange (row_of t row).denominator →
+pub fill-first : (n u count : ℕ) (t : Tableau) (row : ℕ) (ms : List ℤ) → IsBasis n t → n ≡ u + count → row < length t.rows → ms ≡ replicate count (pos 0)
+    → pos 0 ≤ℤ (row_of t row).denominator → InRange (row_of t row).denominator →
     Filled u count t row 0 (put u ms (basic_of t row) (row_of t row).denominator)
 fill-first n u count t row ms b room h e low fits =
     let long : length ms ≡ count = ap length e ∙ length-replicate count (pos 0) in
@@ -67,7 +73,8 @@ fill-first n u count t row ms b room h e low fits =
         natural = λ k. rw (none k) (omega (arith, ints));
         fits = λ k. rw (none k) (omega arith);
       }) low fits;
-      own = λ k inside' same. (elim (after_put u ms (basic_of t row) k (row_of t row).denominator inside) [ inl here ↦ here.1 | inr there ↦ absurd (there.0 (sym same)) ]);
+      own = λ k inside' same. (elim (after_put u ms (basic_of t row) k (row_of t row).denominator inside)
+          [ inl here ↦ here.1 | inr there ↦ absurd (there.0 (sym same)) ]);
       cells = λ j k below' inside' same. absurd (omega arith);
       others = λ i k below' apart inside' same. (elim (after_put u ms (basic_of t row) k (row_of t row).denominator inside) [
         | inl here ↦ absurd (apart (b.basic_once i row below' h (same ∙ here.0)))
@@ -75,7 +82,8 @@ fill-first n u count t row ms b room h e low fits =
       ]);
     }
 
-pub fill-next : (n u count : ℕ) (t : Tableau) (row column : ℕ) (ms : List ℤ) → IsBasis n t → n ≡ u + count → row < length t.rows → column < length t.non_basic → NoneEnters t row → InRange (cell_of (row_of t row) column) → Filled u count t row column ms →
+pub fill-next : (n u count : ℕ) (t : Tableau) (row column : ℕ) (ms : List ℤ) → IsBasis n t → n ≡ u + count → row < length t.rows → column < length t.non_basic
+    → NoneEnters t row → InRange (cell_of (row_of t row) column) → Filled u count t row column ms →
     Filled u count t row (column + 1) (put u ms (non_basic_of t column) (neg_ℤ (cell_of (row_of t row) column)))
 fill-next n u count t row column ms b room h inside none fits f =
     let v = non_basic_of t column in
@@ -106,7 +114,8 @@ fill-next n u count t row column ms b room h inside none fits f =
       ]);
     }
 
-pub fill-last : (u count : ℕ) (t : Tableau) (row column : ℕ) (ms : List ℤ) → length t.non_basic ≤ column → Filled u count t row column ms → FillSlots u count t row ms
+pub fill-last : (u count : ℕ) (t : Tableau) (row column : ℕ) (ms : List ℤ) → length t.non_basic ≤ column → Filled u count t row column ms
+    → FillSlots u count t row ms
 fill-last u count t row column ms h f = record {
   long = f.long;
   natural = f.natural;
@@ -121,14 +130,17 @@ pub multipliers-wider : (low count wide : ℕ) (ts : List (ℕ × ℤ)) → coun
 multipliers-wider low count wide [] h m = tt
 multipliers-wider low count wide (t ∷ ts) h m = (m.0, (let b = m.1 in omega arith), m.2, multipliers-wider (t.0 + 1) count wide ts h m.3)
 
-multipliers-push : (low at : ℕ) (ts : List (ℕ × ℤ)) (m : ℤ) → low ≤ at → AreMultipliers low at ts → pos 1 ≤ℤ m → AreMultipliers low (at + 1) (ts ++ (at, m) ∷ [])
+multipliers-push : (low at : ℕ) (ts : List (ℕ × ℤ)) (m : ℤ) → low ≤ at → AreMultipliers low at ts → pos 1 ≤ℤ m
+    → AreMultipliers low (at + 1) (ts ++ (at, m) ∷ [])
 multipliers-push low at [] m h all one = (h, omega arith, one, tt)
-multipliers-push low at (t ∷ ts) m h all one = (all.0, (let b = all.1 in omega arith), all.2, multipliers-push (t.0 + 1) at ts m (let b = all.1 in omega arith) all.3 one)
+multipliers-push low at (t ∷ ts) m h all one =
+    (all.0, (let b = all.1 in omega arith), all.2, multipliers-push (t.0 + 1) at ts m (let b = all.1 in omega arith) all.3 one)
 
 pub list-first : (ms : List ℤ) → ListsSlots ms 0 []
 list-first ms = record { normal = omega arith; multipliers = tt; coefficients = λ k h. absurd (omega arith) }
 
-pub list-more : (ms : List ℤ) (at : ℕ) (ts : List (ℕ × ℤ)) → AreNatural ms → ListsSlots ms at ts → slot ms at ≢ pos 0 → ListsSlots ms (at + 1) (ts ++ (at, slot ms at) ∷ [])
+pub list-more : (ms : List ℤ) (at : ℕ) (ts : List (ℕ × ℤ)) → AreNatural ms → ListsSlots ms at ts → slot ms at ≢ pos 0
+    → ListsSlots ms (at + 1) (ts ++ (at, slot ms at) ∷ [])
 list-more ms at ts n l ne = record {
   normal = IsNormal-push 0 at ts (at, slot ms at) l.normal (omega arith) (record { not_zero = ne; in_range = n.fits at });
   multipliers = multipliers-push 0 at ts (slot ms at) (omega arith) l.multipliers (at_least_one (slot ms at) (n.natural at) ne);

@@ -1,5 +1,9 @@
 -- The end of a system whose run ends: multipliers of a row for which nothing can enter, or the values of a vertex.
-use Rattle.ta_simplex.proofs.Common.{◌≡◌, ◌≢◌, ℕ, zero, suc, ◌+◌, ◌<◌, ℤ, pos, ◌<ℤ◌, List, [], ◌∷◌, ◌++◌, length, get_or, set, map, inl, inr, ⊎_elim, refl, sym, subst, ◌∙◌, arith, ints, length-map, length-set, length-range_with_len, zero_or_not, InRange, AllBelow, Row, System, Tableau, row_of, cell_of, basic_of, non_basic_of, no_row, merged, pivoted, IsProper, slack_rows, slack_tableau, variables, DictionaryOf, Reached, LeastStep, Stuck, RuleEnds, AreLeafMultipliers, AreZeros, GivesValues, slot, AreNatural, FillSlots, ListsSlots, HasEnd, Fraction, replicate}
+use Rattle.ta_simplex.proofs.Common.{◌≡◌, ◌≢◌, ℕ, zero, suc, ◌+◌, ◌<◌, ℤ, pos, ◌<ℤ◌, List, [], ◌∷◌, ◌++◌, length, get_or, set, map, inl, inr, ⊎_elim, refl, sym}
+use Rattle.ta_simplex.proofs.Common.{subst, ◌∙◌, arith, ints, length-map, length-set, length-range_with_len, zero_or_not, InRange, AllBelow, Row, System}
+use Rattle.ta_simplex.proofs.Common.{Tableau, row_of, cell_of, basic_of, non_basic_of, no_row, merged, pivoted, IsProper, slack_rows, slack_tableau, variables}
+use Rattle.ta_simplex.proofs.Common.{DictionaryOf, Reached, LeastStep, Stuck, RuleEnds, AreLeafMultipliers, AreZeros, GivesValues, slot, AreNatural, FillSlots}
+use Rattle.ta_simplex.proofs.Common.{ListsSlots, HasEnd, Fraction, replicate}
 use Rattle.ta_dense.proofs.DenseFacts.{IsProper-slack}
 use Rattle.ta_dense.proofs.ProperFacts.{proper_pivoted}
 use Rattle.ta_simplex.specs.declared.End.TheVariants.{Refuted, Vertex}
@@ -25,10 +29,12 @@ slacks_proper s = record { columns = length-range_with_len 0 s.unknowns; rows = 
 
 step_proper : (n : ℕ) (t u : Tableau) → Proper n t → LeastStep t u → Proper n u
 step_proper n t u p step =
-    let rows_long : length (pivoted t step.row step.column).rows ≡ length t.rows = length-set (map (merged step.column (row_of t step.row)) t.rows) step.row _ ∙ length-map t.rows (merged step.column (row_of t step.row)) in
+    let rows_long : length (pivoted t step.row step.column).rows ≡ length t.rows = length-set (map (merged step.column (row_of t step.row)) t.rows) step.row _
+    ∙ length-map t.rows (merged step.column (row_of t step.row)) in
     let after : Proper n (pivoted t step.row step.column) = record {
       columns = length-set t.non_basic step.column (basic_of t step.row) ∙ p.columns;
-      rows = λ i inside. proper_pivoted n step.row step.column (non_basic_of t step.column) t.rows step.leaves.below (omega (arith, step.enters.below, p.columns)) step.enters.positive p.rows step.in_range i (omega arith);
+      rows = λ i inside. proper_pivoted n step.row step.column (non_basic_of t step.column) t.rows step.leaves.below
+          (omega (arith, step.enters.below, p.columns)) step.enters.positive p.rows step.in_range i (omega arith);
     } in
     subst (Proper n) (sym step.next) after
 
@@ -36,7 +42,8 @@ reached_proper : (s : System) (k : ℕ) (t : Tableau) → Reached (slack_tableau
 reached_proper s zero t e = subst (Proper s.unknowns) (sym e) (slacks_proper s)
 reached_proper s (suc k) t r = step_proper s.unknowns r.0 t (reached_proper s k r.0 r.1) r.2
 
-list_from : (ms : List ℤ) (left at : ℕ) (ts : List (ℕ × ℤ)) → AreNatural ms → at + left ≡ length ms → ListsSlots ms at ts → (us : List (ℕ × ℤ)) × ListsSlots ms (length ms) us
+list_from : (ms : List ℤ) (left at : ℕ) (ts : List (ℕ × ℤ)) → AreNatural ms → at + left ≡ length ms → ListsSlots ms at ts → (us : List (ℕ × ℤ))
+    × ListsSlots ms (length ms) us
 list_from ms zero at ts natural whole l = (ts, subst (λ k. ListsSlots ms k ts) (let e : at ≡ length ms = omega arith in e) l)
 list_from ms (suc left) at ts natural whole l =
     ⊎_elim
@@ -49,18 +56,21 @@ module _ (s : System) (t : Tableau) (dictionary : DictionaryOf s t) (proper : Pr
     inside : row < length t.rows
     inside = stuck.leaves.below
 
-    fill_from : (left column : ℕ) (ms : List ℤ) → column + left ≡ length t.non_basic → Filled s.unknowns (length s.rows) t row column ms → (filled : List ℤ) × FillSlots s.unknowns (length s.rows) t row filled
+    fill_from : (left column : ℕ) (ms : List ℤ) → column + left ≡ length t.non_basic → Filled s.unknowns (length s.rows) t row column ms → (filled : List ℤ)
+        × FillSlots s.unknowns (length s.rows) t row filled
     fill_from zero column ms whole f = (ms, fill-last s.unknowns (length s.rows) t row column ms (omega arith) f)
     fill_from (suc left) column ms whole f =
         let p = proper.rows row inside in
         let fits : InRange (cell_of (row_of t row) column) = p.cells column (pos 0) (omega (arith, p.long, proper.columns)) in
-        fill_from left (column + 1) _ (omega arith) (fill-next (variables s) s.unknowns (length s.rows) t row column ms dictionary.basis refl inside (omega arith) stuck.none_enters fits f)
+        fill_from left (column + 1) _ (omega arith)
+        (fill-next (variables s) s.unknowns (length s.rows) t row column ms dictionary.basis refl inside (omega arith) stuck.none_enters fits f)
 
     multipliers_exist : (ts : List (ℕ × ℤ)) × AreLeafMultipliers s t row ts
     multipliers_exist =
         let p = proper.rows row inside in
         let positive : pos 0 <ℤ (row_of t row).denominator = p.positive in
-        let first = fill-first (variables s) s.unknowns (length s.rows) t row (replicate (length s.rows) (pos 0)) dictionary.basis refl inside refl (omega (arith, ints, positive)) p.denominator in
+        let first = fill-first (variables s) s.unknowns (length s.rows) t row (replicate (length s.rows) (pos 0)) dictionary.basis refl inside refl
+        (omega (arith, ints, positive)) p.denominator in
         let filled = fill_from (length t.non_basic) 0 _ (omega arith) first in
         let listed = list_from filled.0 (length filled.0) 0 [] filled.1.natural (omega arith) (list-first filled.0) in
         (listed.0, multipliers_are_leaf s t row filled.0 listed.0 dictionary stuck filled.1 listed.1)
@@ -74,11 +84,13 @@ module _ (s : System) (t : Tableau) (dictionary : DictionaryOf s t) (proper : Pr
       let f : Fraction = record { top = pos 0; bottom = pos 1; positive = omega (arith, ints) } in
       (z.0 ++ f ∷ [], subst (λ k. AreZeros k (z.0 ++ f ∷ [])) (let e : n + 1 ≡ suc n = omega arith in e) (zeros-next n z.0 f refl refl z.1))
 
-  values_from : (left row : ℕ) (values : List Fraction) → row + left ≡ length t.rows → ValuesSoFar t s.unknowns row values → (all : List Fraction) × GivesValues t s.unknowns all
+  values_from : (left row : ℕ) (values : List Fraction) → row + left ≡ length t.rows → ValuesSoFar t s.unknowns row values → (all : List Fraction)
+      × GivesValues t s.unknowns all
   values_from zero row values whole so_far = (values, values-last (variables s) t s.unknowns row values dictionary.basis (omega arith) so_far (omega arith))
   values_from (suc left) row values whole so_far =
       let f : Fraction = record { top = (row_of t row).constant; bottom = (row_of t row).denominator; positive = (proper.rows row (omega arith)).positive } in
-      values_from left (row + 1) (set values (basic_of t row) f) (omega arith) (values-next (variables s) t s.unknowns row values f dictionary.basis (omega arith) refl refl so_far)
+      values_from left (row + 1) (set values (basic_of t row) f) (omega arith)
+      (values-next (variables s) t s.unknowns row values f dictionary.basis (omega arith) refl refl so_far)
 
   values_exist : (values : List Fraction) × GivesValues t s.unknowns values
   values_exist = let z = zeros s.unknowns in values_from (length t.rows) 0 z.0 (omega arith) (values-first t s.unknowns z.0 z.1)

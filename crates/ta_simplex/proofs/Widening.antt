@@ -1,5 +1,8 @@
 -- rows with cells of 0 behind their own: what a pivot makes of them
-use Rattle.ta_simplex.proofs.Common.{◌≡◌, ℕ, zero, suc, ◌<◌, ◌≤◌, List, [], ◌∷◌, ◌++◌, length, map, set, arith, refl, ap, ◌∙◌, ℤ, pos, negsuc, ◌*ℤ◌, ◌-ℤ◌, unsigned_abs, int_div, replicate, map-append, length-map, set-append_left, get_or_append_left, times_zero, TableauRow, combine, cell_of, gcd_with, merged, merged_at, merged_by, reduced, divided, divisor_of, factor_divisor, turned, widened, raised, record_same, neg_ℤ, zero-div}
+use Rattle.ta_simplex.proofs.Common.{◌≡◌, ℕ, zero, suc, ◌<◌, ◌≤◌, List, [], ◌∷◌, ◌++◌, length, map, set, arith, refl, ap, ◌∙◌, ℤ, pos, negsuc, ◌*ℤ◌, ◌-ℤ◌}
+use Rattle.ta_simplex.proofs.Common.{unsigned_abs, int_div, replicate, map-append, length-map, set-append_left, get_or_append_left, times_zero, TableauRow}
+use Rattle.ta_simplex.proofs.Common.{combine, cell_of, gcd_with, merged, merged_at, merged_by, reduced, divided, divisor_of, factor_divisor, turned, widened}
+use Rattle.ta_simplex.proofs.Common.{raised, record_same, neg_ℤ, zero-div}
 use Rattle.ta_base.proofs.Lists.{map-replicate, zeros_past}
 use Rattle.ta_linear.specs.Gcd.{gcd_of}
 use Rattle.ta_linear.proofs.GcdLemmas.{gcd_of-zero}
@@ -9,7 +12,8 @@ combine_nothing : (p q : ℤ) (e : ℕ) → combine p q (replicate e (pos 0)) (r
 combine_nothing p q zero = refl
 combine_nothing p q (suc e) = let rest = combine_nothing p q e in let first = times_zero p q in cc
 
-combine_zeros : (p q : ℤ) (xs cs : List ℤ) (e : ℕ) → length xs ≡ length cs → combine p q (xs ++ replicate e (pos 0)) (cs ++ replicate e (pos 0)) ≡ combine p q xs cs ++ replicate e (pos 0)
+combine_zeros : (p q : ℤ) (xs cs : List ℤ) (e : ℕ) → length xs ≡ length cs
+    → combine p q (xs ++ replicate e (pos 0)) (cs ++ replicate e (pos 0)) ≡ combine p q xs cs ++ replicate e (pos 0)
 combine_zeros p q [] [] e h = combine_nothing p q e
 combine_zeros p q [] (c ∷ cs) e h = absurd (omega arith)
 combine_zeros p q (x ∷ xs) [] e h = absurd (omega arith)
@@ -26,11 +30,14 @@ gcd_zeros g (x ∷ xs) e = gcd_zeros (gcd_of g (unsigned_abs x)) xs e
 divided_zeros : (n e g : ℕ) (r : TableauRow) → divided g (widened n e r) ≡ widened n e (divided g r)
 divided_zeros n e g r =
     record_same (divided g (widened n e r)) (widened n e (divided g r)) refl refl refl
-    (map-append (λ (z : ℤ). int_div z (pos g)) r.cells (replicate e (pos 0)) ∙ ap (λ (ys : List ℤ). map (λ (z : ℤ). int_div z (pos g)) r.cells ++ ys) (map-replicate (λ (z : ℤ). int_div z (pos g)) e (pos 0) ∙ ap (λ n. replicate e (pos n)) (zero-div g)))
+    (map-append (λ (z : ℤ). int_div z (pos g)) r.cells (replicate e (pos 0))
+    ∙ ap (λ (ys : List ℤ). map (λ (z : ℤ). int_div z (pos g)) r.cells ++ ys)
+    (map-replicate (λ (z : ℤ). int_div z (pos g)) e (pos 0) ∙ ap (λ n. replicate e (pos n)) (zero-div g)))
 
 reduced_zeros : (n e : ℕ) (r : TableauRow) → reduced (widened n e r) ≡ widened n e (reduced r)
 reduced_zeros n e r =
-    ap (λ (g : ℕ). divided g (widened n e r)) (gcd_zeros (gcd_of (unsigned_abs r.denominator) (unsigned_abs r.constant)) r.cells e) ∙ divided_zeros n e (divisor_of r) r
+    ap (λ (g : ℕ). divided g (widened n e r)) (gcd_zeros (gcd_of (unsigned_abs r.denominator) (unsigned_abs r.constant)) r.cells e)
+    ∙ divided_zeros n e (divisor_of r) r
 
 merged_by_zeros : (n e : ℕ) (p q : ℤ) (column : ℕ) (chosen r : TableauRow) → length r.cells ≡ length chosen.cells → column < length r.cells →
     merged_by p q column (widened n e chosen) (widened n e r) ≡ widened n e (merged_by p q column chosen r)
@@ -56,12 +63,17 @@ merged_widened n e column chosen r long inside =
     same : cell_of (widened n e chosen) column ≡ cell_of chosen column
     same = cell_inside n e chosen column (omega arith)
 
-    by : (a : ℤ) → reduced (merged_by (int_div (cell_of (widened n e chosen) column) (pos (factor_divisor (cell_of (widened n e chosen) column) a))) (int_div a (pos (factor_divisor (cell_of (widened n e chosen) column) a))) column (widened n e chosen) (widened n e r))
-        ≡ widened n e (reduced (merged_by (int_div (cell_of chosen column) (pos (factor_divisor (cell_of chosen column) a))) (int_div a (pos (factor_divisor (cell_of chosen column) a))) column chosen r))
+    by : (a : ℤ) → reduced (merged_by (int_div (cell_of (widened n e chosen) column) (pos (factor_divisor (cell_of (widened n e chosen) column) a)))
+        (int_div a (pos (factor_divisor (cell_of (widened n e chosen) column) a))) column (widened n e chosen) (widened n e r))
+        ≡ widened n e (reduced (merged_by (int_div (cell_of chosen column) (pos (factor_divisor (cell_of chosen column) a)))
+        (int_div a (pos (factor_divisor (cell_of chosen column) a))) column chosen r))
     by a =
-        ap (λ (c : ℤ). reduced (merged_by (int_div c (pos (factor_divisor c a))) (int_div a (pos (factor_divisor c a))) column (widened n e chosen) (widened n e r))) same
-        ∙ ap reduced (merged_by_zeros n e (int_div (cell_of chosen column) (pos (factor_divisor (cell_of chosen column) a))) (int_div a (pos (factor_divisor (cell_of chosen column) a))) column chosen r long inside)
-        ∙ reduced_zeros n e (merged_by (int_div (cell_of chosen column) (pos (factor_divisor (cell_of chosen column) a))) (int_div a (pos (factor_divisor (cell_of chosen column) a))) column chosen r)
+        ap (λ (c : ℤ). reduced (merged_by (int_div c (pos (factor_divisor c a))) (int_div a (pos (factor_divisor c a))) column (widened n e chosen)
+        (widened n e r))) same
+        ∙ ap reduced (merged_by_zeros n e (int_div (cell_of chosen column) (pos (factor_divisor (cell_of chosen column) a)))
+        (int_div a (pos (factor_divisor (cell_of chosen column) a))) column chosen r long inside)
+        ∙ reduced_zeros n e (merged_by (int_div (cell_of chosen column) (pos (factor_divisor (cell_of chosen column) a)))
+        (int_div a (pos (factor_divisor (cell_of chosen column) a))) column chosen r)
 
     go : (a : ℤ) → merged_at a column (widened n e chosen) (widened n e r) ≡ widened n e (merged_at a column chosen r)
     go (pos zero) = refl
@@ -69,13 +81,15 @@ merged_widened n e column chosen r long inside =
     go (negsuc k) = by (negsuc k)
 
 -- the chosen row's variable is of no account
-pub merged_chosen : (column : ℕ) (c c' r : TableauRow) → c.denominator ≡ c'.denominator → c.constant ≡ c'.constant → c.cells ≡ c'.cells → merged column c r ≡ merged column c' r
+pub merged_chosen : (column : ℕ) (c c' r : TableauRow) → c.denominator ≡ c'.denominator → c.constant ≡ c'.constant → c.cells ≡ c'.cells
+    → merged column c r ≡ merged column c' r
 unfolding merged
 merged_chosen column c c' r d b cells =
     let with : TableauRow = record { basic = c.basic; denominator = c'.denominator; constant = c'.constant; cells = c'.cells } in
     ap (λ (x : TableauRow). merged_at (cell_of r column) column x r) (record_same c with refl d b cells) ∙ go (cell_of r column)
   where
-    go : (a : ℤ) → merged_at a column record { basic = c.basic; denominator = c'.denominator; constant = c'.constant; cells = c'.cells } r ≡ merged_at a column c' r
+    go : (a : ℤ) → merged_at a column record { basic = c.basic; denominator = c'.denominator; constant = c'.constant; cells = c'.cells } r ≡ merged_at a column
+        c' r
     go (pos zero) = refl
     go (pos (suc k)) = refl
     go (negsuc k) = refl
@@ -85,5 +99,6 @@ pub turned_widened : (n e column entering : ℕ) (c : TableauRow) → column < l
 turned_widened n e column entering c inside =
     let l = length-map c.cells neg_ℤ in
     record_same (turned (raised n e entering) column (widened n e c)) (widened n e (turned entering column c)) refl (cell_inside n e c column inside) refl
-    (ap (λ (xs : List ℤ). set xs column c.denominator) (map-append neg_ℤ c.cells (replicate e (pos 0)) ∙ ap (λ (ys : List ℤ). map neg_ℤ c.cells ++ ys) (map-replicate neg_ℤ e (pos 0)))
+    (ap (λ (xs : List ℤ). set xs column c.denominator)
+    (map-append neg_ℤ c.cells (replicate e (pos 0)) ∙ ap (λ (ys : List ℤ). map neg_ℤ c.cells ++ ys) (map-replicate neg_ℤ e (pos 0)))
     ∙ set-append_left (map neg_ℤ c.cells) (replicate e (pos 0)) column c.denominator (omega arith))

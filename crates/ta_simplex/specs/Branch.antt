@@ -18,7 +18,8 @@ pub record StandsOn {D K : Type 0} (tableau : D → Tableau) (ks : List KeptPivo
 -- rows
 abbrev pub AreStanding : {D K : Type 0} (tableau : D → Tableau) → List KeptPivot → List Row → ℕ → ℕ → List (Standing D K) → Type 0
 AreStanding tableau ks rows count most [] = Unit {0}
-AreStanding tableau ks rows count most (o ∷ os) = (o.pivots ≤ count) × (o.rows ≤ most) × StandsOn tableau ks (take o.rows rows) o × AreStanding tableau ks rows o.pivots o.rows os
+AreStanding tableau ks rows count most (o ∷ os) = (o.pivots ≤ count) × (o.rows ≤ most) × StandsOn tableau ks (take o.rows rows) o
+    × AreStanding tableau ks rows o.pivots o.rows os
 
 -- a branch whose systems' rows are the first of these
 abbrev pub IsBranch : {D K : Type 0} (tableau : D → Tableau) (pivot_of : K → KeptPivot) → List Row → Branch D K → Type 0

@@ -37,7 +37,8 @@ WholeVerticesSolve =
 -- if no row has a positive constant, the numbers over the common scale of a vertex solve the system themselves
 abbrev pub ScaledVerticesSolve : Type 0
 ScaledVerticesSolve =
-    (s : System) (values : List Fraction) (m : MeetRows s values) → All (λ (r : Row). r.form.constant ≤ℤ pos 0) s.rows → (numbers : List ℕ) → length numbers ≡ s.unknowns →
+    (s : System) (values : List Fraction) (m : MeetRows s values) → All (λ (r : Row). r.form.constant ≤ℤ pos 0) s.rows → (numbers : List ℕ)
+    → length numbers ≡ s.unknowns →
     ((x : ℕ) → x < s.unknowns → m.numbers x ≡ pos (slice_index numbers x)) → Solves s numbers
 
 -- a refutation has at most one multiplier more than the system has unknowns
@@ -51,7 +52,8 @@ pub record PrefixesGoFirst : Type 0 where
   -- the pivots with which the shorter's run begins are the longer's first, and lead to the extended tableau, where no new row leaves the
   -- range in them
   pub first : (s l : System) (ks : List KeptPivot) (t : Tableau) → BeginsSystem s l → Follows (slack_tableau s) ks (length ks) t →
-      StayInRange l.unknowns ks (length ks) (new_rows t l) → Follows (slack_tableau l) ks (length ks) (extended t ks l) × Reached (slack_tableau l) (length ks) (extended t ks l)
+      StayInRange l.unknowns ks (length ks) (new_rows t l) → Follows (slack_tableau l) ks (length ks) (extended t ks l)
+      × Reached (slack_tableau l) (length ks) (extended t ks l)
   -- the longer's run ends at the first of them in which a new row does
   pub leaves : (s l : System) (ks : List KeptPivot) (t : Tableau) → BeginsSystem s l → Follows (slack_tableau s) ks (length ks) t →
       (pivot row : ℕ) → FirstLeaving t ks l pivot row → OverflowsAt (slack_tableau l) (min (suc pivot) (2 ^ 64 - 1))

@@ -1,5 +1,8 @@
 -- The names that the proofs of this crate cite, passed on from one place. Declares nothing.
-pub use Rattle.std.proofs.Common.{Bool, Bor, FitsSigned, List, None, Option, Some, [], ap, append-nil, append_assoc, arith, below_more, codes, cond, decimal, drop, eqb, eqb-true, false, get_or, inl, inr, is_some, length, length-append, lit<, map, nat_eq, negsuc, of_z, pos, refl, reverse, rules, slice_get, string_bytes, subst, suc, sym, take, tests, to_z, true, unsigned_abs, zero, ℕ, ℤ, ◌&&◌, ◌*ℤ◌, ◌++◌, ◌+ℤ◌, ◌+◌, ◌-◌, ◌<◌, ◌^◌, ◌||◌, ◌∙◌, ◌∷◌, ◌≡◌, ◌≢◌, ◌≤ℤ◌, ◌≤◌, ◌⊎◌}
+pub use Rattle.std.proofs.Common.{Bool, Bor, FitsSigned, List, None, Option, Some, [], ap, append-nil, append_assoc, arith, below_more, codes, cond, decimal}
+pub use Rattle.std.proofs.Common.{drop, eqb, eqb-true, false, get_or, inl, inr, is_some, length, length-append, lit<, map, nat_eq, negsuc, of_z, pos, refl}
+pub use Rattle.std.proofs.Common.{reverse, rules, slice_get, string_bytes, subst, suc, sym, take, tests, to_z, true, unsigned_abs, zero, ℕ, ℤ, ◌&&◌, ◌*ℤ◌, ◌++◌}
+pub use Rattle.std.proofs.Common.{◌+ℤ◌, ◌+◌, ◌-◌, ◌<◌, ◌^◌, ◌||◌, ◌∙◌, ◌∷◌, ◌≡◌, ◌≢◌, ◌≤ℤ◌, ◌≤◌, ◌⊎◌}
 pub use Rattle.std.proofs.lemmas.Bool.{cases_lt, cases_order, false≢true}
 pub use Rattle.std.proofs.lemmas.Int.{ints, to_z-of_z}
 pub use Rattle.std.proofs.lemmas.Iterator.Splits.{YieldsList-from_str_split}
@@ -18,7 +21,8 @@ pub use Rattle.ta_automaton.specs.declared.file.File.{File}
 pub use Rattle.ta_automaton.specs.declared.pattern.Pattern.{Pattern}
 pub use Rattle.ta_base.proofs.DecimalDigits.{found_here, none_here, numeral_same, zero_text}
 pub use Rattle.ta_base.proofs.Each.{all_at, distinct_map_at, each_append, each_back, each_front, each_push}
-pub use Rattle.ta_base.proofs.Lists.{PassedTo, all_passed, append_nothing, first_byte, front_get, heads, not_empty, not_parted, one_passed, piece_written, read_same, take_next}
+pub use Rattle.ta_base.proofs.Lists.{PassedTo, all_passed, append_nothing, first_byte, front_get, heads, not_empty, not_parted, one_passed, piece_written}
+pub use Rattle.ta_base.proofs.Lists.{read_same, take_next}
 pub use Rattle.ta_base.proofs.Naturals.{below_by, beyond_by, shifted}
 pub use Rattle.ta_base.specs.Masks.{In}
 pub use Rattle.ta_counter.specs.Checks.{RowFails, RowOutOfRange, RowPasses, RowsOver, RowsPass}
@@ -37,14 +41,18 @@ pub use Rattle.ta_linear.specs.declared.row.System.{System}
 pub use Rattle.ta_replay.proofs.Decimals.{number_avoids, number_same, stored}
 pub use Rattle.ta_replay.proofs.ListSteps.{lines_text-append}
 pub use Rattle.ta_replay.specs.RunText.{lines_text}
-pub use Rattle.ta_smt.specs.Admit.{AdmitFaultOf, Admits, AdmitsAreExact, AdmittedRunOutOfRange, AskedWord, FirstBadRow, IsCompleteWord, IsIncomplete, SystemAsked, SystemStays, WrongCount, asked}
-pub use Rattle.ta_smt.specs.Export.{DenotesSolutions, IsNaturalSolution, constant, multiple, natural_claim, on_side, part, row_claim, script_of, summands, summed_term, system_text}
+pub use Rattle.ta_smt.specs.Admit.{AdmitFaultOf, Admits, AdmitsAreExact, AdmittedRunOutOfRange, AskedWord, FirstBadRow, IsCompleteWord, IsIncomplete}
+pub use Rattle.ta_smt.specs.Admit.{SystemAsked, SystemStays, WrongCount, asked}
+pub use Rattle.ta_smt.specs.Export.{DenotesSolutions, IsNaturalSolution, constant, multiple, natural_claim, on_side, part, row_claim, script_of, summands}
+pub use Rattle.ta_smt.specs.Export.{summed_term, system_text}
 pub use Rattle.ta_smt.specs.Inside.Checking.{BadRow, CheckFault, IsChecked, IsRunOfValues, PassesCheck, RowFault, RowStops, RunFault, WordFault}
 pub use Rattle.ta_smt.specs.Inside.Elements.{those_elements, with_element}
 pub use Rattle.ta_smt.specs.Inside.Leads.{led_text}
 pub use Rattle.ta_smt.specs.Inside.Reading.{LineFault, NextValue}
-pub use Rattle.ta_smt.specs.Named.{IsLegalWord, IsNamed, IsWholeWordOf, IsWordOf, IsWordText, NoChild, NoWhole, SolvesAsked, Spelling, WholeFaultOf, WholeWordsAreExact, WordFaultOf, WordsAreExact, spelling}
-pub use Rattle.ta_smt.specs.Script.{AtLeast, Lone, Numeral, Product, Script, ScriptFits, Sum, Summand, SummandFits, Term, TermFits, Unknown, assert_line, declare_line, script_text, summand_text, summands_text, term_text, unknown_text}
+pub use Rattle.ta_smt.specs.Named.{IsLegalWord, IsNamed, IsWholeWordOf, IsWordOf, IsWordText, NoChild, NoWhole, SolvesAsked, Spelling, WholeFaultOf}
+pub use Rattle.ta_smt.specs.Named.{WholeWordsAreExact, WordFaultOf, WordsAreExact, spelling}
+pub use Rattle.ta_smt.specs.Script.{AtLeast, Lone, Numeral, Product, Script, ScriptFits, Sum, Summand, SummandFits, Term, TermFits, Unknown, assert_line}
+pub use Rattle.ta_smt.specs.Script.{declare_line, script_text, summand_text, summands_text, term_text, unknown_text}
 pub use Rattle.ta_smt.specs.Spelling.{FirstStranger}
 pub use Rattle.ta_smt.specs.Values.{FirstBadLine, IsNoNumber, IsUnfinished, IsValuesText, values_text}
 pub use Rattle.ta_smt.specs.WordText.{each_element, element_of, elements_in, elements_of}

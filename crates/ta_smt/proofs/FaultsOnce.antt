@@ -1,5 +1,8 @@
 -- A word and its values have one error.
-use Rattle.ta_smt.proofs.Common.{◌≡◌, ℕ, ℤ, true, List, length, reverse, arith, refl, sym, ap, subst, ◌∙◌, false≢true, same_pattern, point_of, Row, File, Pattern, RowFails, RowOutOfRange, RowPasses, RowsPass, is_complete, AdmitFault, AdmitFaultOf, AskedWord, FirstBadRow, IsCompleteWord, IsIncomplete, AdmittedRunOutOfRange, WrongCount, RowStops, NoChild, NoWhole, Spelling, WholeFaultOf, WordFaultOf, FirstStranger, ◌≢◌}
+use Rattle.ta_smt.proofs.Common.{◌≡◌, ℕ, ℤ, true, List, length, reverse, arith, refl, sym, ap, subst, ◌∙◌, false≢true, same_pattern, point_of, Row, File}
+use Rattle.ta_smt.proofs.Common.{Pattern, RowFails, RowOutOfRange, RowPasses, RowsPass, is_complete, AdmitFault, AdmitFaultOf, AskedWord, FirstBadRow}
+use Rattle.ta_smt.proofs.Common.{IsCompleteWord, IsIncomplete, AdmittedRunOutOfRange, WrongCount, RowStops, NoChild, NoWhole, Spelling, WholeFaultOf}
+use Rattle.ta_smt.proofs.Common.{WordFaultOf, FirstStranger, ◌≢◌}
 use Rattle.ta_replay.proofs.FirstBad.{BothBad, RowClash, fails_clash, leaves_clash, meets, no_stop_at, not_both_bad}
 use Rattle.ta_smt.specs.declared.fault.AdmitFault.TheVariants as fault
 use Rattle.ta_smt.specs.declared.fault.WordFault.{WordFault}
@@ -51,19 +54,23 @@ module _ (file : File) (word : AskedWord) (bytes : List ℕ) where
       let same = values_once b.values a.values bytes b.spelled a.spelled in
       let t = twins file word b.of.system a.of.system b.of.is a.of.is in
       let pass : RowsPass (point_of a.values) b.of.system.rows = subst (λ vs. RowsPass (point_of vs) b.of.system.rows) same b.pass in
-      no_stop_at (λ j row. RowPasses (point_of a.values) row) (λ j row. Bad (point_of a.values) row) a.of.system.rows k (λ j row. is.clash (point_of a.values) row)
+      no_stop_at (λ j row. RowPasses (point_of a.values) row) (λ j row. Bad (point_of a.values) row) a.of.system.rows k
+      (λ j row. is.clash (point_of a.values) row)
       (rows_pass t.linear b.of.system.rows a.of.system.rows t.is t.are (point_of a.values) pass) a.stops
 
   -- one row is the first bad one, in whatever way
-  one_row : (j k : ℕ) (Bad Worse : (ℕ → ℤ) → Row → Type 0) → IsBadness Bad → IsBadness Worse → FirstBadRow file word bytes Bad j → FirstBadRow file word bytes Worse k → (j ≡ k) × BadTwice Bad Worse
+  one_row : (j k : ℕ) (Bad Worse : (ℕ → ℤ) → Row → Type 0) → IsBadness Bad → IsBadness Worse → FirstBadRow file word bytes Bad j
+      → FirstBadRow file word bytes Worse k → (j ≡ k) × BadTwice Bad Worse
   unfolding BadTwice
   one_row j k Bad Worse is are a b =
       let point = point_of a.values in
       let same = values_once b.values a.values bytes b.spelled a.spelled in
       let t = twins file word b.of.system a.of.system b.of.is a.of.is in
-      let stops : RowStops point (Worse point) b.of.system.rows k = subst (λ vs. RowStops (point_of vs) (Worse (point_of vs)) b.of.system.rows k) same b.stops in
+      let stops : RowStops point (Worse point) b.of.system.rows k = subst (λ vs. RowStops (point_of vs) (Worse (point_of vs)) b.of.system.rows k) same b.stops
+      in
       let there = rows_stop t.linear b.of.system.rows a.of.system.rows t.is t.are point (Worse point) (are.alike point) k stops in
-      let met = meets (λ i row. RowPasses point row) (λ i row. Bad point row) (λ i row. Worse point row) a.of.system.rows j k (λ i row. is.clash point row) (λ i row. are.clash point row) a.stops there in
+      let met = meets (λ i row. RowPasses point row) (λ i row. Bad point row) (λ i row. Worse point row) a.of.system.rows j k (λ i row. is.clash point row)
+      (λ i row. are.clash point row) a.stops there in
       (met.same, (point, (met.item, met.bad, met.worse)))
 
   -- no row both fails and leaves the range
@@ -76,7 +83,8 @@ module _ (file : File) (word : AskedWord) (bytes : List ℕ) where
   one_fault fault.Incomplete (fault.Line n) some other a b = absurd (not_complete a b.complete)
   one_fault (fault.Line n) fault.Incomplete some other a b = absurd (not_complete b a.complete)
   one_fault (fault.Line m) (fault.Line n) some other a b = ap fault.Line (bad_line_once bytes m n a.first b.first)
-  one_fault (fault.Count m) (fault.Count n) some other a b = ap fault.Count (a.counted ∙ ap length (values_once a.values b.values bytes a.spelled b.spelled) ∙ sym b.counted)
+  one_fault (fault.Count m) (fault.Count n) some other a b = ap fault.Count
+      (a.counted ∙ ap length (values_once a.values b.values bytes a.spelled b.spelled) ∙ sym b.counted)
   one_fault (fault.Count n) (fault.Row k) some other a b = absurd (count_or_row n k RowFails a b)
   one_fault (fault.Count n) (fault.Overflow k) some other a b = absurd (count_or_row n k RowOutOfRange a b)
   one_fault (fault.Count n) fault.Run some other a b = absurd (count_or_run n a b)
@@ -109,7 +117,8 @@ beyond_or_within file spelled k a b = let beyond = a.beyond in let within = b.be
 one_child : (file : File) (spelled : Spelling) (j k : ℕ) → NoChild file spelled j → NoChild file spelled k → j ≡ k
 one_child file spelled j k a b =
     let same = one_named file spelled.name b.number a.number b.pattern a.pattern b.named a.named in
-    stranger_once file.automaton a.pattern spelled.start spelled.elements j k a.stranger (subst (λ (p : Pattern). FirstStranger file.automaton p spelled.start spelled.elements k) same b.stranger)
+    stranger_once file.automaton a.pattern spelled.start spelled.elements j k a.stranger
+    (subst (λ (p : Pattern). FirstStranger file.automaton p spelled.start spelled.elements k) same b.stranger)
 
 pub word_faults_once : WordFaultsAreDetermined
 word_faults_once file spelled word_fault.Pattern word_fault.Pattern a b = refl

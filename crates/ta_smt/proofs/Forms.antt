@@ -1,5 +1,6 @@
 -- A form in normal order is determined by its numbers, so a word has one system as far as its rows are evaluated.
-use Rattle.ta_smt.proofs.Common.{◌≡◌, ℕ, ◌^◌, ℤ, pos, ◌+ℤ◌, ◌≤ℤ◌, List, [], ◌∷◌, slice_get, Some, zero, suc, refl, sym, subst, ◌∙◌, same_Some, StaysInRange, RowHolds, terms_value, Row, RowFails, RowOutOfRange, RowPasses, RowsPass, IsRowOf, AreRowsOf, LinearRow, RowStops}
+use Rattle.ta_smt.proofs.Common.{◌≡◌, ℕ, ◌^◌, ℤ, pos, ◌+ℤ◌, ◌≤ℤ◌, List, [], ◌∷◌, slice_get, Some, zero, suc, refl, sym, subst, ◌∙◌, same_Some, StaysInRange}
+use Rattle.ta_smt.proofs.Common.{RowHolds, terms_value, Row, RowFails, RowOutOfRange, RowPasses, RowsPass, IsRowOf, AreRowsOf, LinearRow, RowStops}
 use Rattle.ta_linear.proofs.NormalTerms.{normal_unique}
 
 -- two rows have the same numbers
@@ -28,7 +29,8 @@ passes_alike : (point : ℕ → ℤ) (r q : Row) → Alike r q → RowPasses poi
 passes_alike point r q same passes = record { stays = moved (StaysInRange point) r q same passes.stays; holds = holds_alike point r q same passes.holds }
 
 pub fails_alike : (point : ℕ → ℤ) (r q : Row) → Alike r q → RowFails point r → RowFails point q
-fails_alike point r q same bad = record { stays = moved (StaysInRange point) r q same bad.stays; fails = λ holds. bad.fails (holds_alike point q r (alike_back r q same) holds) }
+fails_alike point r q same bad = record
+    { stays = moved (StaysInRange point) r q same bad.stays; fails = λ holds. bad.fails (holds_alike point q r (alike_back r q same) holds) }
 
 pub leaves_alike : (point : ℕ → ℤ) (r q : Row) → Alike r q → RowOutOfRange point r → RowOutOfRange point q
 leaves_alike point r q same leaves = λ stays. leaves (moved (StaysInRange point) q r (alike_back r q same) stays)
@@ -46,11 +48,13 @@ partner [] (r ∷ rs) qs is are j q at = absurd is
 partner (l ∷ ls) [] qs is are j q at = absurd is
 partner (l ∷ ls) (r ∷ rs) [] is are j q at = absurd are
 partner (l ∷ ls) (r ∷ rs) (p ∷ ps) is are zero q at = record { row = r; at = refl; same = subst (Alike r) (same_Some p q at) (alike l r p is.0 are.0) }
-partner (l ∷ ls) (r ∷ rs) (p ∷ ps) is are (suc j) q at = let more = partner ls rs ps is.1 are.1 j q at in record { row = more.row; at = more.at; same = more.same }
+partner (l ∷ ls) (r ∷ rs) (p ∷ ps) is are (suc j) q at = let more = partner ls rs ps is.1 are.1 j q at in record
+    { row = more.row; at = more.at; same = more.same }
 
 module _ (ls : List LinearRow) (rs qs : List Row) (is : AreRowsOf ls rs) (are : AreRowsOf ls qs) (point : ℕ → ℤ) where
   -- the rows of a word in one system stay in range, and pass, where those in another do
-  pub rows_stay : ((j : ℕ) (r : Row) → slice_get rs j ≡ Some r → StaysInRange point r.form.constant r.form.terms) → (j : ℕ) (q : Row) → slice_get qs j ≡ Some q → StaysInRange point q.form.constant q.form.terms
+  pub rows_stay : ((j : ℕ) (r : Row) → slice_get rs j ≡ Some r → StaysInRange point r.form.constant r.form.terms) → (j : ℕ) (q : Row) → slice_get qs j ≡ Some q
+      → StaysInRange point q.form.constant q.form.terms
   rows_stay stay j q at = let p = partner ls rs qs is are j q at in moved (StaysInRange point) p.row q p.same (stay j p.row p.at)
 
   pub rows_pass : RowsPass point rs → RowsPass point qs

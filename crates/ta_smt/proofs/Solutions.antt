@@ -1,5 +1,10 @@
 -- The text of a system denotes its natural solutions.
-use Rattle.ta_smt.proofs.Common.{ℕ, ℤ, zero, suc, pos, negsuc, ◌+◌, ◌<◌, ◌≤◌, ◌^◌, ◌≡◌, ◌+ℤ◌, ◌*ℤ◌, ◌≤ℤ◌, Bool, true, false, cond, eqb, List, [], ◌∷◌, ◌++◌, length, map, unsigned_abs, inl, inr, refl, sym, ap, subst, ◌∙◌, arith, lit<, eqb-true, All, flat_map, AllByRecursion, slice_index, cases_lt, ints, length-map, each_append, each_back, each_front, InRange, AllBelow, RowHolds, point_of, terms_value, value_of, Form, Row, System, range_with_len, Value, Side, Left, Right, AtLeast, Script, ScriptFits, Summand, SummandFits, Numeral, Unknown, Product, TermFits, DenotesSolutions, IsNaturalSolution, constant, multiple, natural_claim, on_side, part, row_claim, script_of, summed_term, summands, system_text}
+use Rattle.ta_smt.proofs.Common.{ℕ, ℤ, zero, suc, pos, negsuc, ◌+◌, ◌<◌, ◌≤◌, ◌^◌, ◌≡◌, ◌+ℤ◌, ◌*ℤ◌, ◌≤ℤ◌, Bool, true, false, cond, eqb, List, [], ◌∷◌, ◌++◌}
+use Rattle.ta_smt.proofs.Common.{length, map, unsigned_abs, inl, inr, refl, sym, ap, subst, ◌∙◌, arith, lit<, eqb-true, All, flat_map, AllByRecursion}
+use Rattle.ta_smt.proofs.Common.{slice_index, cases_lt, ints, length-map, each_append, each_back, each_front, InRange, AllBelow, RowHolds, point_of}
+use Rattle.ta_smt.proofs.Common.{terms_value, value_of, Form, Row, System, range_with_len, Value, Side, Left, Right, AtLeast, Script, ScriptFits, Summand}
+use Rattle.ta_smt.proofs.Common.{SummandFits, Numeral, Unknown, Product, TermFits, DenotesSolutions, IsNaturalSolution, constant, multiple, natural_claim}
+use Rattle.ta_smt.proofs.Common.{on_side, part, row_claim, script_of, summed_term, summands, system_text}
 use Rattle.ta_base.proofs.Integers.{distributes_right, one_times, order_back, order_is}
 use Rattle.ta_linear.specs.Terms.{IsNormal}
 use Rattle.ta_linear.proofs.TermLemmas.{IsNormal-le}
@@ -24,7 +29,8 @@ value-append : (point : ℕ → ℤ) (ss ts : List Summand) → summands_value p
 value-append point [] ts = omega (arith, ints)
 value-append point (s ∷ ss) ts = omega (arith, ints, value-append point ss ts)
 
-multiple_by : (point : ℕ → ℤ) (b c : Bool) (f k : ℕ) → (b ≡ true → f ≡ 0) → (c ≡ true → f ≡ 1) → summands_value point (cond b [] (cond c (Unknown k ∷ []) (Product f k ∷ []))) ≡ (pos f *ℤ point k)
+multiple_by : (point : ℕ → ℤ) (b c : Bool) (f k : ℕ) → (b ≡ true → f ≡ 0) → (c ≡ true → f ≡ 1)
+    → summands_value point (cond b [] (cond c (Unknown k ∷ []) (Product f k ∷ []))) ≡ (pos f *ℤ point k)
 multiple_by point true c f k none one = sym (ap (λ n. pos n *ℤ point k) (none refl) ∙ zero-*ℤ (point k))
 multiple_by point false true f k none one = +ℤ_idr (point k) ∙ sym (ap (λ n. pos n *ℤ point k) (one refl) ∙ one_times (point k))
 multiple_by point false false f k none one = +ℤ_idr (pos f *ℤ point k)
@@ -45,7 +51,8 @@ sum_value point (s ∷ []) = sym (+ℤ_idr (summand_value point s))
 sum_value point (s ∷ t ∷ ss) = refl
 
 -- the two sides of a form differ by its value
-terms_differ : (point : ℕ → ℤ) (ts : List (ℕ × ℤ)) → summands_value point (flat_map (on_side Left) ts) ≡ (summands_value point (flat_map (on_side Right) ts) +ℤ terms_value point ts)
+terms_differ : (point : ℕ → ℤ) (ts : List (ℕ × ℤ)) → summands_value point (flat_map (on_side Left) ts) ≡
+    (summands_value point (flat_map (on_side Right) ts) +ℤ terms_value point ts)
 terms_differ point [] = omega (arith, ints)
 terms_differ point (t ∷ ts) =
     let lefts = value-append point (on_side Left t) (flat_map (on_side Left) ts) in
@@ -68,14 +75,17 @@ sides_differ point form =
 
 claim_differs : (point : ℕ → ℤ) (row : Row) → term_value point (row_claim row).left ≡ (term_value point (row_claim row).right +ℤ value_of point row.form)
 claim_differs point row =
-    sum_value point (summands Left row.form) ∙ sides_differ point row.form ∙ ap (λ z. z +ℤ value_of point row.form) (sym (sum_value point (summands Right row.form)))
+    sum_value point (summands Left row.form) ∙ sides_differ point row.form
+    ∙ ap (λ z. z +ℤ value_of point row.form) (sym (sum_value point (summands Right row.form)))
 
 -- what a row claims
 row_holds : (point : ℕ → ℤ) (row : Row) → AtLeastHolds point (row_claim row) → RowHolds point row
-row_holds point row h = order_is (term_value point (row_claim row).left) (term_value point (row_claim row).right) (value_of point row.form) (claim_differs point row) h
+row_holds point row h = order_is (term_value point (row_claim row).left) (term_value point (row_claim row).right) (value_of point row.form)
+    (claim_differs point row) h
 
 row_claims : (point : ℕ → ℤ) (row : Row) → RowHolds point row → AtLeastHolds point (row_claim row)
-row_claims point row h = order_back (term_value point (row_claim row).left) (term_value point (row_claim row).right) (value_of point row.form) (claim_differs point row) h
+row_claims point row h = order_back (term_value point (row_claim row).left) (term_value point (row_claim row).right) (value_of point row.form)
+    (claim_differs point row) h
 
 -- points with the same values
 terms_same : (f g : ℕ → ℤ) → ((x : ℕ) → f x ≡ g x) → (ts : List (ℕ × ℤ)) → terms_value f ts ≡ terms_value g ts
@@ -93,10 +103,12 @@ rows_hold f g same (r ∷ rs) each (suc k) d b = rows_hold f g same rs each.1 k 
 
 rows_claim : (f g : ℕ → ℤ) → ((x : ℕ) → f x ≡ g x) → (rows : List Row) → All (RowHolds f) rows → AllByRecursion (AtLeastHolds g) (map row_claim rows)
 rows_claim f g same [] all = tt
-rows_claim f g same (r ∷ rs) all = (row_claims g r (holds_same f g same r (all 0 r (omega arith))), rows_claim f g same rs (λ k d b. all (suc k) d (omega arith)))
+rows_claim f g same (r ∷ rs) all =
+    (row_claims g r (holds_same f g same r (all 0 r (omega arith))), rows_claim f g same rs (λ k d b. all (suc k) d (omega arith)))
 
 -- unknowns that are natural
-naturals_hold : (point : ℕ → ℤ) (k n : ℕ) → AllByRecursion (AtLeastHolds point) (map natural_claim (range_with_len k n)) → (x : ℕ) → k ≤ x → x < k + n → pos 0 ≤ℤ point x
+naturals_hold : (point : ℕ → ℤ) (k n : ℕ) → AllByRecursion (AtLeastHolds point) (map natural_claim (range_with_len k n)) → (x : ℕ) → k ≤ x → x < k + n
+    → pos 0 ≤ℤ point x
 naturals_hold point k zero each x low high = absurd (omega arith)
 naturals_hold point k (suc n) each x low high =
     elim (cases_lt k x) [
@@ -158,7 +170,8 @@ terms_fit side low n (t ∷ ts) few normal =
 side_fits : (side : Side) (n : ℕ) (form : Form) → n ≤ 2 ^ 32 → IsNormal 0 n form.terms → TermFits (summed_term (summands side form))
 side_fits side n form few normal =
     sum_fits (summands side form)
-    (each_append SummandFits (flat_map (on_side side) form.terms) (constant (part side form.constant)) (terms_fit side 0 n form.terms few normal) (constant_fits (eqb (part side form.constant) 0) (part side form.constant) (part_fits side form.constant form.constant_fits)))
+    (each_append SummandFits (flat_map (on_side side) form.terms) (constant (part side form.constant)) (terms_fit side 0 n form.terms few normal)
+    (constant_fits (eqb (part side form.constant) 0) (part side form.constant) (part_fits side form.constant form.constant_fits)))
 
 rows_fit : (n : ℕ) (rows : List Row) → n ≤ 2 ^ 32 → AllBelow n rows → AllByRecursion (λ (c : AtLeast). TermFits c.left × TermFits c.right) (map row_claim rows)
 rows_fit n [] few below = tt
@@ -173,10 +186,12 @@ naturals_fit k (suc n) few =
 
 script_fits : (system : System) → system.unknowns ≤ 2 ^ 32 → ScriptFits (script_of system)
 script_fits system few =
-    each_append (λ (c : AtLeast). TermFits c.left × TermFits c.right) (map natural_claim (range_with_len 0 system.unknowns)) (map row_claim system.rows) (naturals_fit 0 system.unknowns (omega arith)) (rows_fit system.unknowns system.rows few system.within)
+    each_append (λ (c : AtLeast). TermFits c.left × TermFits c.right) (map natural_claim (range_with_len 0 system.unknowns)) (map row_claim system.rows)
+    (naturals_fit 0 system.unknowns (omega arith)) (rows_fit system.unknowns system.rows few system.within)
 
 -- what a system's script says of values that it counts
-solution_is : (system : System) (values : List ℤ) → length values ≡ system.unknowns → AllByRecursion (AtLeastHolds (point_of values)) (script_of system).asserted → IsNaturalSolution system values
+solution_is : (system : System) (values : List ℤ) → length values ≡ system.unknowns
+    → AllByRecursion (AtLeastHolds (point_of values)) (script_of system).asserted → IsNaturalSolution system values
 solution_is system values count each =
     let first = each_front (AtLeastHolds (point_of values)) (map natural_claim (range_with_len 0 system.unknowns)) (map row_claim system.rows) each in
     let rest = each_back (AtLeastHolds (point_of values)) (map natural_claim (range_with_len 0 system.unknowns)) (map row_claim system.rows) each in
@@ -186,15 +201,22 @@ solution_is system values count each =
     record {
       naturals = naturals;
       are = are;
-      solve = record { count = length-map values unsigned_abs ∙ count; rows_hold = rows_hold (point_of values) (λ x. pos (slice_index naturals x)) same system.rows rest };
+      solve = record {
+        count = length-map values unsigned_abs
+            ∙ count;
+        rows_hold = rows_hold (point_of values) (λ x. pos (slice_index naturals x)) same system.rows rest;
+      };
     }
 
-solution_says : (system : System) (values : List ℤ) → IsNaturalSolution system values → (length values ≡ system.unknowns) × AllByRecursion (AtLeastHolds (point_of values)) (script_of system).asserted
+solution_says : (system : System) (values : List ℤ) → IsNaturalSolution system values → (length values ≡ system.unknowns)
+    × AllByRecursion (AtLeastHolds (point_of values)) (script_of system).asserted
 solution_says system values is =
     let same : (x : ℕ) → pos (slice_index is.naturals x) ≡ point_of values x = λ x. sym (ap (λ zs. point_of zs x) is.are ∙ points is.naturals x) in
     let low : (x : ℕ) → pos 0 ≤ℤ point_of values x = λ x. subst (λ z. pos 0 ≤ℤ z) (same x) (omega (arith, ints)) in (
       ap length is.are ∙ length-map is.naturals pos ∙ is.solve.count,
-      each_append (AtLeastHolds (point_of values)) (map natural_claim (range_with_len 0 system.unknowns)) (map row_claim system.rows) (naturals_claim (point_of values) 0 system.unknowns low) (rows_claim (λ x. pos (slice_index is.naturals x)) (point_of values) same system.rows is.solve.rows_hold),
+      each_append (AtLeastHolds (point_of values)) (map natural_claim (range_with_len 0 system.unknowns)) (map row_claim system.rows)
+          (naturals_claim (point_of values) 0 system.unknowns low)
+          (rows_claim (λ x. pos (slice_index is.naturals x)) (point_of values) same system.rows is.solve.rows_hold),
     )
 
 -- the text of a system denotes just its natural solutions
@@ -202,7 +224,8 @@ pub denotes_solutions : (system : System) (text : List ℕ) → system.unknowns 
 denotes_solutions system text few is values = (
   λ (d : Denotes text values).
       let same : d.script ≡ script_of system = script_same d.script (script_of system) d.fits (script_fits system few) (sym d.spelled ∙ is) in
-      solution_is system values (d.count ∙ ap (λ (s : Script). s.unknowns) same) (subst (λ (s : Script). AllByRecursion (AtLeastHolds (point_of values)) s.asserted) same d.hold),
+      solution_is system values (d.count ∙ ap (λ (s : Script). s.unknowns) same)
+      (subst (λ (s : Script). AllByRecursion (AtLeastHolds (point_of values)) s.asserted) same d.hold),
   λ (s : IsNaturalSolution system values).
       let says = solution_says system values s in
       record { script = script_of system; fits = script_fits system few; spelled = is; count = says.0; hold = says.1 },

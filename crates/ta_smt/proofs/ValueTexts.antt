@@ -1,5 +1,7 @@
 -- The text of values determines them, and has then no bad line.
-use Rattle.ta_smt.proofs.Common.{ℕ, suc, ℤ, ◌+◌, ◌≡◌, ◌⊎◌, inl, inr, List, [], ◌∷◌, ◌++◌, length, map, refl, sym, ap, ◌∙◌, append_assoc, arith, signed_decimal, map-append, AllByRecursion, each_push, first_byte, not_empty, not_parted, Value, lines_text, number_avoids, number_same, lines_text-append, FirstBadLine, IsNoNumber, IsUnfinished, IsValuesText, values_text, NextValue}
+use Rattle.ta_smt.proofs.Common.{ℕ, suc, ℤ, ◌+◌, ◌≡◌, ◌⊎◌, inl, inr, List, [], ◌∷◌, ◌++◌, length, map, refl, sym, ap, ◌∙◌, append_assoc, arith, signed_decimal}
+use Rattle.ta_smt.proofs.Common.{map-append, AllByRecursion, each_push, first_byte, not_empty, not_parted, Value, lines_text, number_avoids, number_same}
+use Rattle.ta_smt.proofs.Common.{lines_text-append, FirstBadLine, IsNoNumber, IsUnfinished, IsValuesText, values_text, NextValue}
 
 -- the first value and the text behind it
 firsts_same : (v w : ℤ) (x y : List ℕ) → Value v → Value w → signed_decimal v ++ (10 ∷ x) ≡ signed_decimal w ++ (10 ∷ y) → (v ≡ w) × (x ≡ y)
@@ -29,26 +31,33 @@ no_value v rest tail is (inr bad) e =
     bad.other v record { number = is; text = parts.0 }
 
 -- behind values that are a text's first ones come values
-no_bad_line : (ws vs : List ℤ) (rest : List ℕ) → AllByRecursion Value ws → AllByRecursion Value vs → IsUnfinished rest ⊎ IsNoNumber rest → values_text ws ++ rest ≡ values_text vs → ⊥
+no_bad_line : (ws vs : List ℤ) (rest : List ℕ) → AllByRecursion Value ws → AllByRecursion Value vs → IsUnfinished rest ⊎ IsNoNumber rest → values_text ws
+    ++ rest ≡ values_text vs → ⊥
 no_bad_line [] [] rest are is (inl unfinished) e = unfinished.some e
 no_bad_line [] [] rest are is (inr bad) e = not_empty bad.line bad.behind (sym bad.next ∙ e)
 no_bad_line [] (v ∷ vs) rest are is bad e = no_value v rest (values_text vs) is.0 bad e
-no_bad_line (w ∷ ws) [] rest are is bad e = not_empty (signed_decimal w) (values_text ws ++ rest) (sym (append_assoc (signed_decimal w) (10 ∷ values_text ws) rest) ∙ e)
+no_bad_line (w ∷ ws) [] rest are is bad e = not_empty (signed_decimal w) (values_text ws ++ rest)
+    (sym (append_assoc (signed_decimal w) (10 ∷ values_text ws) rest) ∙ e)
 no_bad_line (w ∷ ws) (v ∷ vs) rest are is bad e =
     let parts = firsts_same w v (values_text ws ++ rest) (values_text vs) are.0 is.0 (sym (append_assoc (signed_decimal w) (10 ∷ values_text ws) rest) ∙ e) in
     no_bad_line ws vs rest are.1 is.1 bad parts.1
 
 -- a text has one first bad line
-bad_lines : (vs ws : List ℤ) (x y : List ℕ) → AllByRecursion Value vs → AllByRecursion Value ws → IsUnfinished x ⊎ IsNoNumber x → IsUnfinished y ⊎ IsNoNumber y → values_text vs ++ x ≡ values_text ws ++ y → length vs ≡ length ws
+bad_lines : (vs ws : List ℤ) (x y : List ℕ) → AllByRecursion Value vs → AllByRecursion Value ws → IsUnfinished x ⊎ IsNoNumber x → IsUnfinished y ⊎ IsNoNumber y
+    → values_text vs ++ x ≡ values_text ws ++ y → length vs ≡ length ws
 bad_lines [] [] x y is are bad worse e = refl
-bad_lines [] (w ∷ ws) x y is are bad worse e = absurd (no_value w x (values_text ws ++ y) are.0 bad (e ∙ append_assoc (signed_decimal w) (10 ∷ values_text ws) y))
-bad_lines (v ∷ vs) [] x y is are bad worse e = absurd (no_value v y (values_text vs ++ x) is.0 worse (sym e ∙ append_assoc (signed_decimal v) (10 ∷ values_text vs) x))
+bad_lines [] (w ∷ ws) x y is are bad worse e = absurd
+    (no_value w x (values_text ws ++ y) are.0 bad (e ∙ append_assoc (signed_decimal w) (10 ∷ values_text ws) y))
+bad_lines (v ∷ vs) [] x y is are bad worse e = absurd
+    (no_value v y (values_text vs ++ x) is.0 worse (sym e ∙ append_assoc (signed_decimal v) (10 ∷ values_text vs) x))
 bad_lines (v ∷ vs) (w ∷ ws) x y is are bad worse e =
-    let parts = firsts_same v w (values_text vs ++ x) (values_text ws ++ y) is.0 are.0 (sym (append_assoc (signed_decimal v) (10 ∷ values_text vs) x) ∙ e ∙ append_assoc (signed_decimal w) (10 ∷ values_text ws) y) in
+    let parts = firsts_same v w (values_text vs ++ x) (values_text ws ++ y) is.0 are.0
+    (sym (append_assoc (signed_decimal v) (10 ∷ values_text vs) x) ∙ e ∙ append_assoc (signed_decimal w) (10 ∷ values_text ws) y) in
     ap suc (bad_lines vs ws x y is.1 are.1 bad worse parts.1)
 
 pub bad_line_once : (bytes : List ℕ) (m n : ℕ) → FirstBadLine bytes m → FirstBadLine bytes n → m ≡ n
-bad_line_once bytes m n s t = s.place ∙ ap (λ k. k + 1) (bad_lines s.values t.values s.rest t.rest s.numbers t.numbers s.bad t.bad (sym s.text ∙ t.text)) ∙ sym t.place
+bad_line_once bytes m n s t = s.place ∙ ap (λ k. k + 1) (bad_lines s.values t.values s.rest t.rest s.numbers t.numbers s.bad t.bad (sym s.text ∙ t.text))
+    ∙ sym t.place
 
 pub not_both : (vs : List ℤ) (bytes : List ℕ) (n : ℕ) → IsValuesText vs bytes → FirstBadLine bytes n → ⊥
 not_both vs bytes n is bad = no_bad_line bad.values vs bad.rest bad.numbers is.numbers bad.bad (sym bad.text ∙ is.text)

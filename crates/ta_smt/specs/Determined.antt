@@ -9,7 +9,8 @@ use Rattle.ta_smt.specs.Named.{Spelling, WholeFaultOf, WordFaultOf}
 
 -- bytes have at most one error as the values of a schema, out of memory aside
 abbrev pub AdmitFaultsAreDetermined : Type 0
-AdmitFaultsAreDetermined = (file : File) (word : AskedWord) (bytes : List ℕ) (e f : AdmitFault) → e ≢ Memory → f ≢ Memory → AdmitFaultOf file word bytes e → AdmitFaultOf file word bytes f → e ≡ f
+AdmitFaultsAreDetermined = (file : File) (word : AskedWord) (bytes : List ℕ) (e f : AdmitFault) → e ≢ Memory → f ≢ Memory → AdmitFaultOf file word bytes e
+    → AdmitFaultOf file word bytes f → e ≡ f
 
 -- there is at most one reason why a file does not have a schema
 abbrev pub WordFaultsAreDetermined : Type 0

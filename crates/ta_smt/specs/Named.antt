@@ -108,4 +108,5 @@ WordsAreExact =
 
 -- the same for complete schemas
 abbrev pub WholeWordsAreExact : Type 0
-WholeWordsAreExact = (file : File) (spelled : Spelling) (word : AskedWord) → IsWholeWordOf file spelled word → (found : WordFault) → ¬ WholeFaultOf file spelled found
+WholeWordsAreExact = (file : File) (spelled : Spelling) (word : AskedWord) → IsWholeWordOf file spelled word → (found : WordFault)
+    → ¬ WholeFaultOf file spelled found

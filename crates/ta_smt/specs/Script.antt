@@ -54,7 +54,8 @@ assert_line claim = codes "(assert (>= " ++ (term_text claim.left ++ (codes " " 
 
 -- the logic, a line for each unknown in order, a line for each assertion in order, and the question
 abbrev pub script_lines : Script → List (List ℕ)
-script_lines script = codes "(set-logic QF_LIA)" ∷ (map declare_line (range_with_len 0 script.unknowns) ++ (map assert_line script.asserted ++ codes "(check-sat)" ∷ []))
+script_lines script = codes "(set-logic QF_LIA)" ∷
+    (map declare_line (range_with_len 0 script.unknowns) ++ (map assert_line script.asserted ++ codes "(check-sat)" ∷ []))
 
 -- the text of a script: each line with its line feed
 abbrev pub script_text : Script → List ℕ

@@ -1,5 +1,11 @@
 -- the text of the trees of safe patterns is a certificate that a judge accepts
-use Rattle.ta_verdict.proofs.Common.{◌≡◌, ◌∙◌, ℕ, ◌+◌, ◌<◌, ◌≤◌, ◌^◌, suc, Bool, true, false, List, [], ◌∷◌, ◌++◌, length, map, Option, Some, None, slice_get, refl, sym, ap, subst, append_assoc, arith, codes, decimal, lit≤, lit<, AllByRecursion, slice_get_within, File, Pattern, LoopsPure, AreWritable, cert_lines, cert_text, head_text, order_lines, pair_of, proof_lines, proof_of, proofs_of, proofs_text, question_text, version_of, line_text, Node, Order, Proof, Verdict, refuted_hold, orders_once, orders_sound, IsShort, TreeIs, FoundOrders, pattern_search, AreTrees, AreTreesOf, CertificateOn, SafeOne, safe_among, safe_ones, safe_picked, Pick, first_picked, picked, picked_there, text_by, tree_by, tree_size, with_safe, Budget, AreTreesOfFile, head_of, is_lazy, ended_line, Safe, above_apart, each_append, each_map, weaker, IsProof}
+use Rattle.ta_verdict.proofs.Common.{◌≡◌, ◌∙◌, ℕ, ◌+◌, ◌<◌, ◌≤◌, ◌^◌, suc, Bool, true, false, List, [], ◌∷◌, ◌++◌, length, map, Option, Some, None, slice_get}
+use Rattle.ta_verdict.proofs.Common.{refl, sym, ap, subst, append_assoc, arith, codes, decimal, lit≤, lit<, AllByRecursion, slice_get_within, File, Pattern}
+use Rattle.ta_verdict.proofs.Common.{LoopsPure, AreWritable, cert_lines, cert_text, head_text, order_lines, pair_of, proof_lines, proof_of, proofs_of}
+use Rattle.ta_verdict.proofs.Common.{proofs_text, question_text, version_of, line_text, Node, Order, Proof, Verdict, refuted_hold, orders_once, orders_sound}
+use Rattle.ta_verdict.proofs.Common.{IsShort, TreeIs, FoundOrders, pattern_search, AreTrees, AreTreesOf, CertificateOn, SafeOne, safe_among, safe_ones}
+use Rattle.ta_verdict.proofs.Common.{safe_picked, Pick, first_picked, picked, picked_there, text_by, tree_by, tree_size, with_safe, Budget, AreTreesOfFile}
+use Rattle.ta_verdict.proofs.Common.{head_of, is_lazy, ended_line, Safe, above_apart, each_append, each_map, weaker, IsProof}
 use Rattle.ta_base.proofs.DecimalDigits.{row_short}
 use Rattle.ta_base.specs.Lists.{Distinct}
 use Rattle.ta_cert.proofs.Writing.{cert_parts, lines_text-proofs}
@@ -12,11 +18,11 @@ use Rattle.ta_cert.specs.declared.line.Line.TheVariants as line
 use Rattle.ta_check.specs.Certificate.{Certificate, CertificateFor, MayHave, ProvesClaim, ShowsPair, lines_of_kind, proof_number}
 use Rattle.ta_check.specs.Subjects.{Kind, Moments, Subject, Words, claiming, search_of}
 use Rattle.ta_check.proofs.Searches.{search_named}
-use Rattle.ta_cursor.specs.Range.{IsJudged}
+use Rattle.ta_encode.specs.Range.{IsJudged}
 use Rattle.ta_encode.proofs.Preorders.{in_order}
 use Rattle.ta_implied.specs.Implied.{Good}
 use Rattle.ta_rest.proofs.Resting.{no_pairs_good}
-use Rattle.ta_moment_walk.proofs.NodesMade.{refuted_hold as moments_refuted}
+use Rattle.ta_walk.proofs.NodesMade.{refuted_hold as moments_refuted}
 use Rattle.ta_verdict.specs.declared.trees.Trees.{Trees}
 use Rattle.ta_verdict.specs.declared.trees.Trees.TheVariants as which
 
@@ -24,19 +30,26 @@ use Rattle.ta_verdict.specs.declared.trees.Trees.TheVariants as which
 abbrev numbers : List SafeOne → List ℕ
 numbers ones = map (λ one. one.number) ones
 
-one_named : (file : File) (number : ℕ) (p : Pattern) (size : Option ℕ) (rest : List SafeOne) → slice_get file.patterns number ≡ Some p → AllByRecursion (λ one. slice_get file.patterns one.number ≡ Some one.pattern) rest → AllByRecursion (λ one. slice_get file.patterns one.number ≡ Some one.pattern) (with_safe number p size rest)
+one_named : (file : File) (number : ℕ) (p : Pattern) (size : Option ℕ) (rest : List SafeOne) → slice_get file.patterns number ≡ Some p
+    → AllByRecursion (λ one. slice_get file.patterns one.number ≡ Some one.pattern) rest
+    → AllByRecursion (λ one. slice_get file.patterns one.number ≡ Some one.pattern) (with_safe number p size rest)
 one_named file number p None rest at named = named
 one_named file number p (Some nodes) rest at named = (at, named)
 
-ones_named : (file : File) (number : ℕ) (ps : List Pattern) (vs : List Verdict) → ((k : ℕ) (p : Pattern) → slice_get ps k ≡ Some p → slice_get file.patterns (number + k) ≡ Some p) → AllByRecursion (λ one. slice_get file.patterns one.number ≡ Some one.pattern) (safe_ones number ps vs)
+ones_named : (file : File) (number : ℕ) (ps : List Pattern) (vs : List Verdict)
+    → ((k : ℕ) (p : Pattern) → slice_get ps k ≡ Some p → slice_get file.patterns (number + k) ≡ Some p)
+    → AllByRecursion (λ one. slice_get file.patterns one.number ≡ Some one.pattern) (safe_ones number ps vs)
 ones_named file number [] vs at = tt
 ones_named file number (p ∷ ps) [] at = tt
 ones_named file number (p ∷ ps) (v ∷ vs) at =
     let here : number + 0 ≡ number = omega arith in
     one_named file number p (tree_size v) (safe_ones (number + 1) ps vs) (subst (λ (k : ℕ). slice_get file.patterns k ≡ Some p) here (at 0 p refl))
-    (ones_named file (number + 1) ps vs (λ k q given. let there : number + suc k ≡ (number + 1) + k = omega arith in subst (λ (n : ℕ). slice_get file.patterns n ≡ Some q) there (at (suc k) q given)))
+    (ones_named file (number + 1) ps vs
+    (λ k q given. let there : number + suc k ≡ (number + 1) + k = omega arith in subst (λ (n : ℕ). slice_get file.patterns n ≡ Some q) there
+    (at (suc k) q given)))
 
-one_low : (number : ℕ) (p : Pattern) (size : Option ℕ) (rest : List SafeOne) → AllByRecursion (λ k. number + 1 ≤ k) (numbers rest) → AllByRecursion (λ k. number ≤ k) (numbers (with_safe number p size rest))
+one_low : (number : ℕ) (p : Pattern) (size : Option ℕ) (rest : List SafeOne) → AllByRecursion (λ k. number + 1 ≤ k) (numbers rest)
+    → AllByRecursion (λ k. number ≤ k) (numbers (with_safe number p size rest))
 one_low number p None rest low = weaker number (number + 1) (numbers rest) (omega arith) low
 one_low number p (Some nodes) rest low = (omega arith, weaker number (number + 1) (numbers rest) (omega arith) low)
 
@@ -45,14 +58,16 @@ ones_low number [] vs = tt
 ones_low number (p ∷ ps) [] = tt
 ones_low number (p ∷ ps) (v ∷ vs) = one_low number p (tree_size v) (safe_ones (number + 1) ps vs) (ones_low (number + 1) ps vs)
 
-one_distinct : (number : ℕ) (p : Pattern) (size : Option ℕ) (rest : List SafeOne) → AllByRecursion (λ k. number + 1 ≤ k) (numbers rest) → Distinct (numbers rest) → Distinct (numbers (with_safe number p size rest))
+one_distinct : (number : ℕ) (p : Pattern) (size : Option ℕ) (rest : List SafeOne) → AllByRecursion (λ k. number + 1 ≤ k) (numbers rest)
+    → Distinct (numbers rest) → Distinct (numbers (with_safe number p size rest))
 one_distinct number p None rest low distinct = distinct
 one_distinct number p (Some nodes) rest low distinct = (above_apart number (numbers rest) low, distinct)
 
 pub ones_distinct : (number : ℕ) (ps : List Pattern) (vs : List Verdict) → Distinct (numbers (safe_ones number ps vs))
 ones_distinct number [] vs = tt
 ones_distinct number (p ∷ ps) [] = tt
-ones_distinct number (p ∷ ps) (v ∷ vs) = one_distinct number p (tree_size v) (safe_ones (number + 1) ps vs) (ones_low (number + 1) ps vs) (ones_distinct (number + 1) ps vs)
+ones_distinct number (p ∷ ps) (v ∷ vs) = one_distinct number p (tree_size v) (safe_ones (number + 1) ps vs) (ones_low (number + 1) ps vs)
+    (ones_distinct (number + 1) ps vs)
 
 -- the line of a pattern is short, and so are those of nodes
 pattern_short : (k : ℕ) → k < 2 ^ 32 → length (codes "pattern " ++ decimal k) ≤ line_limit
@@ -206,7 +221,8 @@ text_made file which.Moments known proofs text is = is ∙ question_written proo
 
 -- such a text is the certificate of verdicts whose trees the proofs are
 pub certificate_made :
-    (file : File) (pick : Pick) (budget : Budget) (vs : List Verdict) (trees : Trees) → AreTreesOfFile file trees → is_lazy trees ≡ budget.lazy → (proofs : List Proof)
+    (file : File) (pick : Pick) (budget : Budget) (vs : List Verdict) (trees : Trees) → AreTreesOfFile file trees → is_lazy trees ≡ budget.lazy
+    → (proofs : List Proof)
     → AreTrees file budget (safe_picked file pick vs) proofs → (text : List ℕ) → text ≡ (head_of trees ++ proofs_text proofs) ++ ended_line line.End
     → CertificateOn file pick budget vs text
 certificate_made file pick budget vs trees known lazy proofs are text is =

@@ -1,5 +1,8 @@
 -- a file has one certificate for a budget
-use Rattle.ta_verdict.proofs.Common.{◌≡◌, ◌∙◌, Bool, true, false, List, [], ◌∷◌, ℕ, map, refl, sym, ap, subst, File, Pattern, cert_text, question_text, pair_of, Node, Order, Proof, Search, of_events, pattern_search, TreeIs, orders_once, AreTrees, AreTreesOf, CertificatesAreDetermined, SafeOne, safe_picked, text_by, tree_by, tree_under, endings_once, Ending, Left, Solved, Stopped, Whole}
+use Rattle.ta_verdict.proofs.Common.{◌≡◌, ◌∙◌, Bool, true, false, List, [], ◌∷◌, ℕ, map, refl, sym, ap, subst, File, Pattern, cert_text, question_text, pair_of}
+use Rattle.ta_verdict.proofs.Common.{Node, Order, Proof, Search, of_events, pattern_search, TreeIs, orders_once, AreTrees, AreTreesOf}
+use Rattle.ta_verdict.proofs.Common.{CertificatesAreDetermined, SafeOne, safe_picked, text_by, tree_by, tree_under, endings_once, Ending, Left, Solved, Stopped}
+use Rattle.ta_verdict.proofs.Common.{Whole}
 use Rattle.ta_moment_tree.specs.Makers.{moments_of}
 use Rattle.ta_verdict.proofs.VerdictsOnce.{verdicts_once}
 
@@ -17,7 +20,9 @@ unfolding nodes_of
 tree_once s budget nodes others count is are = ap nodes_of (endings_once s budget (Whole nodes count) (Whole others count) is are)
 
 -- where each pattern has one tree, those that are safe have one list of trees
-pub trees_once : (Tree : Pattern → List Node → ℕ → Type 0) → ((p : Pattern) (nodes others : List Node) (count : ℕ) → Tree p nodes count → Tree p others count → nodes ≡ others) → (ones : List SafeOne) (ps qs : List Proof) → AreTreesOf Tree ones ps → AreTreesOf Tree ones qs → ps ≡ qs
+pub trees_once : (Tree : Pattern → List Node → ℕ → Type 0)
+    → ((p : Pattern) (nodes others : List Node) (count : ℕ) → Tree p nodes count → Tree p others count → nodes ≡ others)
+    → (ones : List SafeOne) (ps qs : List Proof) → AreTreesOf Tree ones ps → AreTreesOf Tree ones qs → ps ≡ qs
 trees_once Tree once [] [] [] h k = refl
 trees_once Tree once [] [] (q ∷ qs) h k = absurd k
 trees_once Tree once [] (p ∷ ps) qs h k = absurd h

@@ -1,5 +1,7 @@
 -- The names that the proofs of this crate cite, passed on from one place. Declares nothing.
-pub use Rattle.std.proofs.Common.{Bool, Err, IfOk, List, None, Ok, Option, Result, Some, [], ap, append-nil, append_assoc, arith, codes, decimal, false, inl, inr, length, lit<, lit≤, map, pos, refl, reverse, rules, slice_get, subst, suc, sym, take, true, zero, ℕ, ℤ, ◌++◌, ◌+◌, ◌<◌, ◌^◌, ◌∙◌, ◌∷◌, ◌≡◌, ◌≤◌, ◌⊎◌}
+pub use Rattle.std.proofs.Common.{Bool, Err, IfOk, List, None, Ok, Option, Result, Some, [], ap, append-nil, append_assoc, arith, codes, decimal, false, inl}
+pub use Rattle.std.proofs.Common.{inr, length, lit<, lit≤, map, pos, refl, reverse, rules, slice_get, subst, suc, sym, take, true, zero, ℕ, ℤ, ◌++◌, ◌+◌, ◌<◌}
+pub use Rattle.std.proofs.Common.{◌^◌, ◌∙◌, ◌∷◌, ◌≡◌, ◌≤◌, ◌⊎◌}
 pub use Rattle.std.proofs.lemmas.List.{length-map, length-take-le, take_all}
 pub use Rattle.std.proofs.lemmas.Option.{same_Some, slice_get_within}
 pub use Rattle.std.specs.List.{AllByRecursion, concat}
@@ -10,16 +12,17 @@ pub use Rattle.ta_automaton.specs.declared.file.File.{File}
 pub use Rattle.ta_automaton.specs.declared.pattern.Pattern.{Pattern}
 pub use Rattle.ta_base.proofs.Each.{above_apart, each_append, each_map, each_push, weaker}
 pub use Rattle.ta_base.proofs.Lists.{some_at, take_next}
-pub use Rattle.ta_cert.specs.Certificates.{AreWritable, cert_lines, cert_text, head_text, nodes_text, order_lines, pair_of, proof_lines, proof_of, proof_text, proofs_of, proofs_text, question_lines, question_text, version_of}
+pub use Rattle.ta_cert.specs.Certificates.{AreWritable, cert_lines, cert_text, head_text, nodes_text, order_lines, pair_of, proof_lines, proof_of, proof_text}
+pub use Rattle.ta_cert.specs.Certificates.{proofs_of, proofs_text, question_lines, question_text, version_of}
 pub use Rattle.ta_cert.specs.Lines.{line_text, node_text}
 pub use Rattle.ta_cert.specs.declared.line.Node.{Node}
 pub use Rattle.ta_cert.specs.declared.line.Order.{Order}
 pub use Rattle.ta_cert.specs.declared.line.Proof.{Proof}
-pub use Rattle.ta_claim.specs.declared.claim.Claim.TheVariants.{Safe}
+pub use Rattle.ta_rest.specs.declared.claim.Claim.TheVariants.{Safe}
 pub use Rattle.ta_encode.specs.PatternSearch.{pattern_search}
 pub use Rattle.ta_encode.specs.Search.{Pending, Search}
 pub use Rattle.ta_encode.specs.declared.encoded.Solution.{Solution}
-pub use Rattle.ta_moment_walk.specs.Found.{Found, FoundAt}
+pub use Rattle.ta_walk.specs.Found.{Found, FoundAt}
 pub use Rattle.ta_moments.specs.Refutes.{of_events}
 pub use Rattle.ta_moments.specs.declared.fact.Fact.{Fact}
 pub use Rattle.ta_report.proofs.Picks.{entry_picked, entry_place, picked_count, picked_there}
@@ -31,10 +34,12 @@ pub use Rattle.ta_report.specs.declared.verdict.ReportKind.{ReportKind}
 pub use Rattle.ta_report.specs.declared.verdict.Verdict.{Verdict}
 pub use Rattle.ta_report.specs.declared.verdict.Verdict.TheVariants.{Overflow}
 pub use Rattle.ta_scope.proofs.Judging.{loops_pure}
-pub use Rattle.ta_verdict.specs.Certificates.{AreTrees, AreTreesOf, CertificateOf, CertificateOn, CertificatesAreDetermined, SafeOne, safe_among, safe_numbers, safe_ones, safe_picked, text_by, tree_by, tree_size, tree_under, with_safe}
+pub use Rattle.ta_verdict.specs.Certificates.{AreTrees, AreTreesOf, CertificateOf, CertificateOn, CertificatesAreDetermined, SafeOne, safe_among, safe_numbers}
+pub use Rattle.ta_verdict.specs.Certificates.{safe_ones, safe_picked, text_by, tree_by, tree_size, tree_under, with_safe}
 pub use Rattle.ta_verdict.specs.Drafts.{AddsTree, DraftBegins, DraftHasTree, DraftKeeps, HasProofs, HasText, HasTrees, ended_line, pieces_text}
 pub use Rattle.ta_verdict.specs.Trees.{AreOrdersOf, AreTreesOfFile, head_of, is_lazy}
-pub use Rattle.ta_verdict.specs.Verdicts.{EachHolds, IsOutOfRangeIn, IsSample, Question, SafeHolds, SampleHolds, SamplesAreDetermined, SpentHolds, UnderOrders, VerdictAnswers, VerdictHolds, VerdictsAreDetermined, holds_by, moment_question, place_of, safety_question}
+pub use Rattle.ta_verdict.specs.Verdicts.{EachHolds, IsOutOfRangeIn, IsSample, Question, SafeHolds, SampleHolds, SamplesAreDetermined, SpentHolds, UnderOrders}
+pub use Rattle.ta_verdict.specs.Verdicts.{VerdictAnswers, VerdictHolds, VerdictsAreDetermined, holds_by, moment_question, place_of, safety_question}
 pub use Rattle.ta_verdict.specs.declared.budget.Budget.{Budget}
 pub use Rattle.ta_verdict.specs.declared.draft.Draft.{Draft}
 pub use Rattle.ta_walk.proofs.DeterminedEnds.{endings_once, ends_once, node_with}
@@ -46,4 +51,4 @@ pub use Rattle.ta_walk.specs.FoundOrders.{FoundOrders}
 pub use Rattle.ta_walk.specs.Visit.{WholeAt}
 pub use Rattle.ta_walk.specs.declared.end.PlaceKind.{PlaceKind}
 pub use Rattle.ta_witness.specs.Witness.{IsSolution, WitnessFaultOf}
-pub use Rattle.ta_shell.specs.Staging.{Begun}
+pub use Rattle.ta_shelf.specs.Staging.{Begun}

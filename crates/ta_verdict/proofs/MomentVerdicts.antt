@@ -1,8 +1,9 @@
 -- what the end of a visit of moments makes of the verdict
-use Rattle.ta_verdict.proofs.Common.{◌≡◌, ℕ, ◌≤◌, List, Some, slice_get, File, Pattern, LoopsPure, Node, PlaceKind, IsSpent, ReportKind, Overflow, SafeHolds, SpentHolds, VerdictAnswers, moment_question, place_of, of_events}
+use Rattle.ta_verdict.proofs.Common.{◌≡◌, ℕ, ◌≤◌, List, Some, slice_get, File, Pattern, LoopsPure, Node, PlaceKind, IsSpent, ReportKind, Overflow, SafeHolds}
+use Rattle.ta_verdict.proofs.Common.{SpentHolds, VerdictAnswers, moment_question, place_of, of_events}
 use Rattle.ta_moment_tree.specs.Makers.{moments_of}
-use Rattle.ta_moment_walk.proofs.NodesMade.{refuted_hold}
-use Rattle.ta_moment_walk.specs.Ends.{LostAt}
+use Rattle.ta_walk.proofs.NodesMade.{refuted_hold}
+use Rattle.ta_walk.specs.MomentEnds.{LostAt}
 use Rattle.ta_report.specs.declared.verdict.ReportKind.TheVariants as kind
 use Rattle.ta_walk.specs.Ends.{TreeKept}
 use Rattle.ta_walk.specs.declared.end.PlaceKind.TheVariants as place

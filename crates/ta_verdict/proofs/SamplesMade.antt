@@ -1,5 +1,6 @@
 -- A sample of the parameters of a file, by how the search for it ends
-use Rattle.ta_verdict.proofs.Common.{◌≡◌, ℕ, ◌<◌, ◌^◌, ℤ, pos, List, [], ◌∷◌, map, length, refl, sym, ap, subst, ◌∙◌, length-map, AllByRecursion, File, ReportKind, IsSample, SampleHolds, SamplesAreDetermined, place_of}
+use Rattle.ta_verdict.proofs.Common.{◌≡◌, ℕ, ◌<◌, ◌^◌, ℤ, pos, List, [], ◌∷◌, map, length, refl, sym, ap, subst, ◌∙◌, length-map, AllByRecursion, File}
+use Rattle.ta_verdict.proofs.Common.{ReportKind, IsSample, SampleHolds, SamplesAreDetermined, place_of}
 use Rattle.ta_counter.specs.Values.{Value}
 use Rattle.ta_replay.proofs.Decimals.{value_is}
 use Rattle.ta_report.specs.declared.verdict.ReportKind.TheVariants as kind
@@ -76,4 +77,5 @@ ends_same (Overflow m j) (Overflow n k) e =
     ap (λ x. Overflow x j) node ∙ ap (λ i. Overflow n i) place
 
 pub samples_once : SamplesAreDetermined
-samples_once file budget s t h k = ends_same s t (sample_ends_once file.automaton budget (end_of s) (end_of t) (is_end file budget s h.holds) (is_end file budget t k.holds))
+samples_once file budget s t h k = ends_same s t
+    (sample_ends_once file.automaton budget (end_of s) (end_of t) (is_end file budget s h.holds) (is_end file budget t k.holds))

@@ -1,9 +1,9 @@
 -- lines that go to a staged file
 use Rattle.ta_verdict.proofs.Common.{ℕ, List, Result, Ok, Err, Begun}
 use Rattle.std.specs.Prelude.{IfErr, OnOk}
-use Rattle.ta_shell.specs.Ends.{ShelfState}
-use Rattle.ta_shell.specs.Staging.{StagedInPart, StagedOr, StagedSoFar}
-use Rattle.ta_shell.specs.declared.staged_file.StagedFile.{StagedFile}
+use Rattle.ta_shelf.specs.Ends.{ShelfState}
+use Rattle.ta_shelf.specs.Staging.{StagedInPart, StagedOr, StagedSoFar}
+use Rattle.ta_shelf.specs.declared.staged_file.StagedFile.{StagedFile}
 
 module _ {T E : Type 0} (named bytes : T → List ℕ) (begun : Begun) (file : StagedFile T) (shelf : ShelfState) (text : List ℕ) where
   pub adds_or : (result : Result (Unit {0}) E) → StagedOr named bytes begun result file shelf text → OnOk result (StagedSoFar named bytes begun file shelf text)

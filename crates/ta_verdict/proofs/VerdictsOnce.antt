@@ -1,5 +1,9 @@
 -- a question has one answer for one budget, and a pattern of a file one verdict
-use Rattle.ta_verdict.proofs.Common.{◌≡◌, ◌⊎◌, inl, inr, ◌+◌, ℕ, ℤ, suc, Bool, true, false, List, [], ◌∷◌, Some, slice_get, map, refl, sym, ap, subst, ◌∙◌, arith, File, Pattern, Solution, PlaceKind, Search, Pending, Ending, Whole, Solved, Stopped, Left, IsVisitEnding, WholeAt, NodeOf, SolutionAt, leaf_count, Order, pair_of, orders_once, ends_once, endings_once, node_with, Verdict, EachHolds, Question, VerdictAnswers, VerdictHolds, VerdictsAreDetermined, holds_by, safety_question, moment_question, Fact, Found, FoundAt, of_events, Pick, first_picked, picked, picked_there}
+use Rattle.ta_verdict.proofs.Common.{◌≡◌, ◌⊎◌, inl, inr, ◌+◌, ℕ, ℤ, suc, Bool, true, false, List, [], ◌∷◌, Some, slice_get, map, refl, sym, ap, subst, ◌∙◌}
+use Rattle.ta_verdict.proofs.Common.{arith, File, Pattern, Solution, PlaceKind, Search, Pending, Ending, Whole, Solved, Stopped, Left, IsVisitEnding, WholeAt}
+use Rattle.ta_verdict.proofs.Common.{NodeOf, SolutionAt, leaf_count, Order, pair_of, orders_once, ends_once, endings_once, node_with, Verdict, EachHolds}
+use Rattle.ta_verdict.proofs.Common.{Question, VerdictAnswers, VerdictHolds, VerdictsAreDetermined, holds_by, safety_question, moment_question, Fact, Found}
+use Rattle.ta_verdict.proofs.Common.{FoundAt, of_events, Pick, first_picked, picked, picked_there}
 use Rattle.ta_words.specs.declared.element.Element.{Element}
 use Rattle.ta_replay.specs.declared.run.Run.{Run}
 use Rattle.ta_replay.specs.Replays.{ReplayStays}
@@ -8,7 +12,7 @@ use Rattle.ta_walk.specs.declared.end.WalkEnd.TheVariants as walk
 use Rattle.ta_report.specs.declared.verdict.ReportKind.TheVariants as kind
 use Rattle.ta_report.specs.declared.verdict.Verdict.TheVariants.{Safe, Unsafe, Spent, Overflow}
 use Rattle.ta_witness.proofs.WitnessOnce.{one_witness}
-use Rattle.ta_moment_walk.proofs.RunsOnce.{runs_once}
+use Rattle.ta_walk.proofs.RunsOnce.{runs_once}
 use Rattle.ta_verdict.proofs.VerdictsMade.{solution_is}
 
 -- a solution that is found has values, those of a whole node; and there is one
@@ -144,7 +148,9 @@ moments_have_one file number budget p =
     }
 
 -- where each pattern has one verdict, patterns have one list of verdicts
-verdicts_from : (Fact : ℕ → Pattern → Verdict → Type 0) (number : ℕ) (ps : List Pattern) (vs ws : List Verdict) → ((k : ℕ) (p : Pattern) (v w : Verdict) → slice_get ps k ≡ Some p → Fact (number + k) p v → Fact (number + k) p w → v ≡ w) → EachHolds Fact number ps vs → EachHolds Fact number ps ws → vs ≡ ws
+verdicts_from : (Fact : ℕ → Pattern → Verdict → Type 0) (number : ℕ) (ps : List Pattern) (vs ws : List Verdict)
+    → ((k : ℕ) (p : Pattern) (v w : Verdict) → slice_get ps k ≡ Some p → Fact (number + k) p v → Fact (number + k) p w → v ≡ w) → EachHolds Fact number ps vs
+    → EachHolds Fact number ps ws → vs ≡ ws
 verdicts_from Fact number [] [] [] once h k = refl
 verdicts_from Fact number [] [] (w ∷ ws) once h k = absurd k
 verdicts_from Fact number [] (v ∷ vs) ws once h k = absurd h
@@ -154,7 +160,8 @@ verdicts_from Fact number (p ∷ ps) (v ∷ vs) (w ∷ ws) once h k =
     let here : number ≡ number + 0 = omega arith in
     let first = once 0 p v w refl (subst (λ n. Fact n p v) here h.0) (subst (λ n. Fact n p w) here k.0) in
     let later : (j : ℕ) (q : Pattern) (x y : Verdict) → slice_get ps j ≡ Some q → Fact ((number + 1) + j) q x → Fact ((number + 1) + j) q y → x ≡ y =
-    λ j q x y named a b. let there : (number + 1) + j ≡ number + suc j = omega arith in once (suc j) q x y named (subst (λ n. Fact n q x) there a) (subst (λ n. Fact n q y) there b) in
+    λ j q x y named a b. let there : (number + 1) + j ≡ number + suc j = omega arith in once (suc j) q x y named (subst (λ n. Fact n q x) there a)
+    (subst (λ n. Fact n q y) there b) in
     let rest = verdicts_from Fact (number + 1) ps vs ws later h.1 k.1 in
     ap (λ (x : Verdict). x ∷ vs) first ∙ ap (λ (xs : List Verdict). w ∷ xs) rest
 
@@ -163,7 +170,8 @@ pub picked_same :
     → ((k : ℕ) (p : Pattern) (v w : Verdict) → slice_get ps k ≡ Some p → Fact k p v → Fact k p w → v ≡ w)
     → EachHolds Fact (first_picked pick) (picked pick ps) vs → EachHolds Fact (first_picked pick) (picked pick ps) ws → vs ≡ ws
 picked_same Fact pick ps vs ws once h k =
-    verdicts_from Fact (first_picked pick) (picked pick ps) vs ws (λ j p v w named a b. once (first_picked pick + j) p v w (picked_there pick ps j p named) a b) h k
+    verdicts_from Fact (first_picked pick) (picked pick ps) vs ws (λ j p v w named a b. once (first_picked pick + j) p v w (picked_there pick ps j p named) a b)
+    h k
 
 words_have_one_run :
     (file : File) (pairs : List (ℕ × ℕ)) (number budget : ℕ) (p : Pattern) → slice_get file.patterns number ≡ Some p

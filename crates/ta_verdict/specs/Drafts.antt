@@ -48,4 +48,5 @@ HasTrees Tree head ones Has = (proofs : List Proof) × AreTreesOf Tree ones proo
 
 -- such nodes of a pattern were added to what had a text, if a verdict calls it safe
 abbrev pub AddsTree : (Pattern → List Node → ℕ → Type 0) → ℕ → Pattern → Verdict → (List ℕ → Type 0) → (List ℕ → Type 0) → Type 0
-AddsTree Tree number p verdict Had Has = (head : List ℕ) (proofs : List Proof) → HasProofs Had head proofs → (more : List Proof) × AreTreesOf Tree (with_safe number p (tree_size verdict) []) more × HasProofs Has head (proofs ++ more)
+AddsTree Tree number p verdict Had Has = (head : List ℕ) (proofs : List Proof) → HasProofs Had head proofs → (more : List Proof)
+    × AreTreesOf Tree (with_safe number p (tree_size verdict) []) more × HasProofs Has head (proofs ++ more)

@@ -39,7 +39,7 @@ use Rattle.ta_witness.specs.Witness.{IsShortRun, WitnessOutOfRange, WitnessOf}
 use Rattle.ta_moments.specs.declared.fact.Fact.{Fact}
 use Rattle.ta_moments.specs.Refutes.{of_events}
 use Rattle.ta_moment_tree.specs.Makers.{moments_of}
-use Rattle.ta_moment_walk.specs.Found.{Found, FoundAt, RunLeaves, ShownRun}
+use Rattle.ta_walk.specs.Found.{Found, FoundAt, RunLeaves, ShownRun}
 use Rattle.ta_verdict.specs.declared.budget.Budget.{Budget}
 
 -- the place of a walk that a report names

@@ -13,9 +13,9 @@ use crate::sampling::report_kind;
 use std::alloc::{AllocError, Global};
 use ta_base::limits::MOST_NODES;
 use ta_dense::NarrowDictionary;
-use ta_moment_walk::{MomentEnd, visit_moments};
 use ta_report::Verdict;
 use ta_scope::ScopedFile;
+use ta_walk::{MomentEnd, visit_moments};
 
 /// The verdict on the pattern of a number by its moments. The lines of its tree, if it is safe, stand
 /// at the end of a draft then.

@@ -7,7 +7,7 @@ ghost use Rattle.ta_automaton.specs.Numbered.{OfPattern};
 ghost use Rattle.ta_check.specs.Certificate.{Certificate};
 ghost use Rattle.ta_report.specs.Report.{VerdictFits};
 ghost use Rattle.ta_report.specs.declared.pick.Pick.TheVariants.{One};
-ghost use Rattle.ta_shell.specs.Staging.{Begun};
+ghost use Rattle.ta_shelf.specs.Staging.{Begun};
 ghost use Rattle.ta_verdict.specs.Certificates.{CertificateOf, Certified, safe_numbers, safe_ones, safe_picked, tree_under};
 ghost use Rattle.ta_verdict.specs.Drafts.{AddsTree, DraftHasTree, HasProofs, HasTrees};
 ghost use Rattle.ta_verdict.specs.Trees.{AreTreesOfFile, is_lazy};

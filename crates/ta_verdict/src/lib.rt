@@ -1,8 +1,8 @@
 //! The verdict on each pattern of a file within a budget of nodes, a sample of its parameters, and
 //! the certificate of the patterns that are safe.
 //!
-//! A verdict is how a visit ends (ta_walk, or ta_moment_walk where moments are asked for): safe
-//! with a tree, unsafe with a run, or unknown, where the budget is spent or a number left 128 bits.
+//! A verdict is how a visit ends (ta_walk): safe with a tree, unsafe with a run, or unknown, where
+//! the budget is spent or a number left 128 bits.
 //! Each pattern has the whole budget. The sample says that there are parameters with an initial
 //! configuration: without one every pattern would be safe for want of runs.
 //!
@@ -32,3 +32,4 @@ pub use laws::{certificates_are_determined, verdicts_are_determined};
 pub use sampling::{report_kind, sample_of};
 pub use saying::{is_safe, is_unknown, is_unsafe, unwitnessed};
 pub use target::Target;
+pub use trees::orders_of;

@@ -2,19 +2,18 @@
 #![tactic(auto)]
 
 ghost use Rattle.std.specs.Prelude.{true};
-ghost use Rattle.ta_shell.proofs.StagedMore.{in_part};
-ghost use Rattle.ta_shell.specs.Staging.{StagedInPart, StagedSoFar};
+ghost use Rattle.ta_shelf.proofs.StagedMore.{in_part};
+ghost use Rattle.ta_shelf.specs.Staging.{StagedInPart, StagedSoFar};
 
 use crate::draft::Draft;
 use std::alloc::{AllocError, Global};
-use ta_shelf::Shelf;
-use ta_shell::{StagedFile, add_texts_to_file};
+use ta_shelf::{Shelf, StagedFile, add_texts_to_file};
 
 /// Where the lines of a certificate go, part by part: into memory, or to a file that is staged in some
 /// place.
 pub trait Target<P> {
     ghost use Rattle.std.specs.Prelude.{◌≡◌, ◌++◌, Bool, IfErr, List, OnOk, ℕ};
-    ghost use Rattle.ta_shell.specs.Staging.{Begun};
+    ghost use Rattle.ta_shelf.specs.Staging.{Begun};
     ghost use Rattle.ta_verdict.specs.Drafts.{HasText};
 
     // since it was begun so, these bytes went to it

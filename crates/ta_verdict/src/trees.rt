@@ -1,9 +1,11 @@
 //! Which trees are visited for the patterns of a file: those of schemas, or of moments.
 #![tactic(auto)]
 
-ghost use Rattle.std.specs.Prelude.{◌≡◌, IfOk};
+ghost use Rattle.std.specs.Prelude.{◌≡◌, IfOk, map};
+ghost use Rattle.ta_cert.specs.Certificates.{pair_of};
 ghost use Rattle.ta_verdict.specs.Drafts.{HasText};
 ghost use Rattle.ta_verdict.specs.Trees.{AreTreesOfFile, head_of, is_lazy};
+ghost use Rattle.ta_walk.specs.FoundOrders.{FoundOrders};
 
 use crate::draft::Draft;
 use std::alloc::{AllocError, Global};
@@ -30,7 +32,7 @@ impl Trees {
         if lazy {
             return Ok(Trees::Moments);
         }
-        Ok(Trees::Words(find_orders::<NarrowDictionary>(alloc, scoped)?))
+        Ok(Trees::Words(orders_of(alloc, scoped)?))
     }
 
     /// A draft of a certificate of such trees, with what stands in front of its proofs.
@@ -43,4 +45,12 @@ impl Trees {
             Trees::Moments => Draft::begin(alloc, wanted, &Line::Header(3)),
         }
     }
+}
+
+/// The orders of the guards of a file, under which words are visited.
+pub fn orders_of(alloc: Global, scoped: &ScopedFile) -> Result<OrdersFound, AllocError>
+    ensures found { IfOk result (λ found. FoundOrders scoped.now.file.automaton found.list) }
+    ensures same { IfOk result (λ found. found.orders ≡ map pair_of found.list) }
+{
+    find_orders::<NarrowDictionary>(alloc, scoped)
 }

@@ -1,5 +1,6 @@
 -- the children of a word are distinct
-use Rattle.ta_walk.proofs.Common.{inl, inr, ℕ, ◌-◌, ◌^◌, List, ◌++◌, length, map, filter, distinct_append, in_append, Automaton, Pattern, Distinct, range_with_len, Element, children, is_complete, is_ready, is_standing, may_rise}
+use Rattle.ta_walk.proofs.Common.{inl, inr, ℕ, ◌-◌, ◌^◌, List, ◌++◌, length, map, filter, distinct_append, in_append, Automaton, Pattern, Distinct}
+use Rattle.ta_walk.proofs.Common.{range_with_len, Element, children, is_complete, is_ready, is_standing, may_rise}
 use Rattle.ta_words.specs.declared.element.Element.TheVariants.{Event, Rise, Fall}
 use Rattle.ta_base.proofs.Each.{distinct_unless}
 use Rattle.ta_base.proofs.Ranges.{in_passed, passed_distinct}

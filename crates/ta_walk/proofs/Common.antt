@@ -1,5 +1,7 @@
 -- The names that the proofs of this crate cite, passed on from one place. Declares nothing.
-pub use Rattle.std.proofs.Common.{◌/◌, Bool, FitsSigned, IfOk, List, None, Ok, Option, Some, [], ap, append-nil, append_assoc, arith, codes, decimal, drop, false, get_or, inl, inr, length, length-append, lit<, map, nat_lt, negsuc, pos, refl, reverse, rules, slice_get, subst, suc, sym, take, true, zero, ℕ, ℤ, ◌*ℤ◌, ◌*◌, ◌++◌, ◌+ℤ◌, ◌+◌, ◌-◌, ◌<ℤ◌, ◌<◌, ◌^◌, ◌∙◌, ◌∷◌, ◌≡◌, ◌≤ℤ◌, ◌≤◌, ◌⊎◌}
+pub use Rattle.std.proofs.Common.{◌/◌, Bool, FitsSigned, IfOk, List, None, Ok, Option, Some, [], ap, append-nil, append_assoc, arith, codes, decimal, drop}
+pub use Rattle.std.proofs.Common.{false, get_or, inl, inr, length, length-append, lit<, map, nat_lt, negsuc, pos, refl, reverse, rules, slice_get, subst, suc}
+pub use Rattle.std.proofs.Common.{sym, take, true, zero, ℕ, ℤ, ◌*ℤ◌, ◌*◌, ◌++◌, ◌+ℤ◌, ◌+◌, ◌-◌, ◌<ℤ◌, ◌<◌, ◌^◌, ◌∙◌, ◌∷◌, ◌≡◌, ◌≤ℤ◌, ◌≤◌, ◌⊎◌}
 pub use Rattle.std.proofs.Math.IntN.{*ℤ_comm}
 pub use Rattle.std.proofs.lemmas.Bool.{cases_eq, cases_order, cond_both, false≢true, true≢false}
 pub use Rattle.std.proofs.lemmas.Bool.Decides.{nat_tests}
@@ -15,7 +17,8 @@ pub use Rattle.ta_automaton.specs.declared.file.File.{File}
 pub use Rattle.ta_automaton.specs.declared.pattern.Pattern.{Pattern}
 pub use Rattle.ta_base.proofs.DecimalDigits.{row_short}
 pub use Rattle.ta_base.proofs.Each.{distinct_append, each_append, each_back, each_from_in, each_front, each_in, each_push, each_take, no_more}
-pub use Rattle.ta_base.proofs.Integers.{below_limit, cancel_positive, euclid, factor_below, floor_high, floor_low, floor_natural, floor_once, ge-zero_of_mul, number_short, twice_most, unsigned_abs-neg}
+pub use Rattle.ta_base.proofs.Integers.{below_limit, cancel_positive, euclid, factor_below, floor_high, floor_low, floor_natural, floor_once, ge-zero_of_mul}
+pub use Rattle.ta_base.proofs.Integers.{number_short, twice_most, unsigned_abs-neg}
 pub use Rattle.ta_base.proofs.Lists.{next_dropped, none_dropped, some_within}
 pub use Rattle.ta_base.proofs.Members.{In-left, In-map, In-right, in_append, in_at, in_map}
 pub use Rattle.ta_base.proofs.Ranges.{In-numbers, in_numbers}
@@ -25,19 +28,19 @@ pub use Rattle.ta_cert.specs.Certificates.{IsOrder, order_lines, pair_of}
 pub use Rattle.ta_cert.specs.Lines.{ArePairs, IsMultiplierPair, IsNode, IsSplit, line_text, pair_text, pairs_text, split_text}
 pub use Rattle.ta_cert.specs.declared.line.Node.{Node}
 pub use Rattle.ta_cert.specs.declared.line.Order.{Order}
-pub use Rattle.ta_claim.proofs.ClaimWords.{claim_legal, claim_roots, claim_small, claim_unknowns}
-pub use Rattle.ta_claim.proofs.PatternWords.{comes_legal}
-pub use Rattle.ta_claim.specs.Claims.{search_for}
-pub use Rattle.ta_claim.specs.Trees.{search_of_claim}
-pub use Rattle.ta_claim.specs.declared.claim.Claim.{Claim}
-pub use Rattle.ta_cursor.proofs.Beginning.{at_word, comes_first}
-pub use Rattle.ta_cursor.proofs.Ranges.{check_stays, leaf_stays, stays_same}
-pub use Rattle.ta_cursor.proofs.RowCounts.{condition_few, few_unknowns}
-pub use Rattle.ta_cursor.specs.Cursors.{GoesOn, Inside, IsAtRoot, IsShared, Within, here, left_at}
-pub use Rattle.ta_cursor.specs.InTrees.{AllGoOn, AllWithin, here_at}
-pub use Rattle.ta_cursor.specs.Range.{IsJudged, LeafStays}
-pub use Rattle.ta_cursor.specs.TreeCalls.{IsSmall, RootIs}
-pub use Rattle.ta_cursor.specs.declared.cursor.Cursor.{Cursor}
+pub use Rattle.ta_rest.proofs.ClaimWords.{claim_legal, claim_roots, claim_small, claim_unknowns}
+pub use Rattle.ta_rest.proofs.PatternWords.{comes_legal}
+pub use Rattle.ta_rest.specs.Claims.{search_for}
+pub use Rattle.ta_rest.specs.Trees.{search_of_claim}
+pub use Rattle.ta_rest.specs.declared.claim.Claim.{Claim}
+pub use Rattle.ta_encode.proofs.Beginning.{at_word, comes_first}
+pub use Rattle.ta_encode.proofs.Ranges.{check_stays, leaf_stays, stays_same}
+pub use Rattle.ta_encode.proofs.RowCounts.{condition_few, few_unknowns}
+pub use Rattle.ta_encode.specs.Cursors.{GoesOn, Inside, IsAtRoot, IsShared, Within, here, left_at}
+pub use Rattle.ta_encode.specs.InTrees.{AllGoOn, AllWithin, here_at}
+pub use Rattle.ta_encode.specs.Range.{IsJudged, LeafStays}
+pub use Rattle.ta_encode.specs.TreeCalls.{IsSmall, RootIs}
+pub use Rattle.ta_encode.specs.declared.cursor.Cursor.{Cursor}
 pub use Rattle.ta_dense.specs.Slack.{variables}
 unfoldable pub use Rattle.ta_dense.specs.Slack.{slack_tableau}
 pub use Rattle.ta_dense.specs.Tableau.{Tableau, basic_of, cell_of, non_basic_of, row_of}
@@ -71,15 +74,21 @@ pub use Rattle.ta_simplex.specs.Refuted.{GivesMultipliers, IsRefuted}
 pub use Rattle.ta_simplex.specs.Vertex.{IsVertex}
 pub use Rattle.ta_simplex.specs.declared.fraction.Fraction.{Fraction}
 pub use Rattle.ta_walk.specs.Answers.{HasEnding, HasSystems, SearchesHaveEnds, WalksHaveEnds, WordsHaveSystems}
-pub use Rattle.ta_walk.specs.Ends.{Ending, EndingsAreDetermined, FoundWordsAreSolved, HasFewPairs, IsProof, IsShort, IsSpent, IsTreeEnd, IsUnbounded, IsVisitEnd, IsVisitEnding, IsVisited, IsWalkEnd, Left, NodeOf, RefutedClaimsHold, SolutionAt, Solved, Stopped, TreeIs, TreeKept, WalksAreDetermined, Whole, WholeNode, WholeNodesSolve, ScaledSolve, AreSolution, leaf_count, node_count, visit_count}
-pub use Rattle.ta_walk.specs.FoundOrders.{AreSoundOrders, FoundAfter, FoundBefore, FoundOrdersAreDetermined, FoundOrdersAreSound, IsTaken, RefutedPair, TryAnswers}
+pub use Rattle.ta_walk.specs.Ends.{Ending, EndingsAreDetermined, FoundWordsAreSolved, HasFewPairs, IsProof, IsShort, IsSpent, IsTreeEnd, IsUnbounded}
+pub use Rattle.ta_walk.specs.Ends.{IsVisitEnd, IsVisitEnding, IsVisited, IsWalkEnd, Left, NodeOf, RefutedClaimsHold, SolutionAt, Solved, Stopped, TreeIs}
+pub use Rattle.ta_walk.specs.Ends.{TreeKept, WalksAreDetermined, Whole, WholeNode, WholeNodesSolve, ScaledSolve, AreSolution, leaf_count, node_count}
+pub use Rattle.ta_walk.specs.Ends.{visit_count}
+pub use Rattle.ta_walk.specs.FoundOrders.{AreSoundOrders, FoundAfter, FoundBefore, FoundOrdersAreDetermined, FoundOrdersAreSound, IsTaken, RefutedPair}
+pub use Rattle.ta_walk.specs.FoundOrders.{TryAnswers}
 pub use Rattle.ta_walk.specs.Inside.Counted.{IsCounted, RoseBy, StretchCounted, VisitCounted}
 pub use Rattle.ta_walk.specs.Work.{Rose, most_begun}
-pub use Rattle.ta_walk.specs.Inside.Parts.{ComesTo, HasFewBounds, HasFewLeft, IsLaterKeeper, IsNotRefuted, IsWholeEnd, LeadsToBoth, PartEnds, PartVisited, SharesBudget, beginning, behind, root_node}
+pub use Rattle.ta_walk.specs.Inside.Parts.{ComesTo, HasFewBounds, HasFewLeft, IsLaterKeeper, IsNotRefuted, IsWholeEnd, LeadsToBoth, PartEnds, PartVisited}
+pub use Rattle.ta_walk.specs.Inside.Parts.{SharesBudget, beginning, behind, root_node}
 pub use Rattle.ta_walk.specs.Inside.Sought.{ComesFirst, GuardTried, MasksAgree, PairTried}
 pub use Rattle.ta_walk.specs.Samples.{IsSampleEnd, SampleAt, SampleEndsAreDetermined, SampleFound, SampleRefuted, SamplesAreReal}
 pub use Rattle.ta_walk.specs.Splits.{HasAtMost, HasSplit, SpentNeedsSplits, WasSplit}
-pub use Rattle.ta_walk.specs.Visit.{AreNumbers, IsAbove, IsOutOfRangeAt, IsWhole, IsWholeNumber, LeafAt, LeafOutOfRange, NodeAt, OfSystem, RefutedAt, SplitVertex, SplitsAt, VertexAt, Visits, WholeAt, IsScaled, IsAsked, IsSettled, OpenVertex, parts_of}
+pub use Rattle.ta_walk.specs.Visit.{AreNumbers, IsAbove, IsOutOfRangeAt, IsWhole, IsWholeNumber, LeafAt, LeafOutOfRange, NodeAt, OfSystem, RefutedAt}
+pub use Rattle.ta_walk.specs.Visit.{SplitVertex, SplitsAt, VertexAt, Visits, WholeAt, IsScaled, IsAsked, IsSettled, OpenVertex, parts_of}
 pub use Rattle.ta_walk.specs.declared.end.PlaceKind.{PlaceKind}
 pub use Rattle.ta_walk.specs.declared.end.SampleEnd.{SampleEnd}
 pub use Rattle.ta_walk.specs.declared.end.TreeEnd.{TreeEnd}

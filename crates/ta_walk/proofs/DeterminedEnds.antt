@@ -1,5 +1,7 @@
 -- a search has one end, and so has a walk
-use Rattle.ta_walk.proofs.Common.{cases_order, ◌≡◌, inl, inr, ℕ, ◌<◌, List, ℤ, length, arith, refl, sym, ap, ◌∙◌, subst, Node, PlaceKind, NodeAt, WholeAt, IsOutOfRangeAt, TreeIs, NodeOf, SolutionAt, IsSpent, Ending, Whole, Solved, Stopped, Left, IsVisitEnding, EndingsAreDetermined, IsWalkEnd, WalksAreDetermined, Pending, Search, WalkEnd}
+use Rattle.ta_walk.proofs.Common.{cases_order, ◌≡◌, inl, inr, ℕ, ◌<◌, List, ℤ, length, arith, refl, sym, ap, ◌∙◌, subst, Node, PlaceKind, NodeAt, WholeAt}
+use Rattle.ta_walk.proofs.Common.{IsOutOfRangeAt, TreeIs, NodeOf, SolutionAt, IsSpent, Ending, Whole, Solved, Stopped, Left, IsVisitEnding}
+use Rattle.ta_walk.proofs.Common.{EndingsAreDetermined, IsWalkEnd, WalksAreDetermined, Pending, Search, WalkEnd}
 use Rattle.ta_words.specs.declared.element.Element.{Element}
 use Rattle.ta_walk.proofs.DeterminedNodes.{whole_once, whole_is_no_node, leaving_is_no_node, leaving_is_not_whole, leaving_once}
 use Rattle.ta_walk.proofs.DeterminedVisits.{tree_once, word_of_tree, word_once, node_at_word}
@@ -12,7 +14,8 @@ abbrev BarsNodes : {E : Type 0} → Search E → (Pending E → Type 0) → Type
 BarsNodes {E} s fact = (w : Pending E) (n : Node) → fact w → NodeAt s w n → ⊥
 
 -- a whole tree has no node of that number with such a fact
-not_in_tree : {E : Type 0} (s : Search E) (budget c i : ℕ) (ns : List Node) (F : Pending E → Type 0) → BarsNodes s F → TreeIs s budget ns c → NodeOf s budget i F → ⊥
+not_in_tree : {E : Type 0} (s : Search E) (budget c i : ℕ) (ns : List Node) (F : Pending E → Type 0) → BarsNodes s F → TreeIs s budget ns c
+    → NodeOf s budget i F → ⊥
 not_in_tree s budget c i ns F bars t f =
     let on = word_of_tree s budget ns c f.before f.word t f.visited in
     bars f.word on.1.0 f.holds on.1.1
@@ -36,7 +39,8 @@ record SamePlace {E : Type 0} (i j : ℕ) (F G : Pending E → Type 0) : Type 0 
   pub one : F word
   pub other : G word
 
-place_once : {E : Type 0} (s : Search E) (budget i j : ℕ) (F G : Pending E → Type 0) → BarsNodes s F → BarsNodes s G → NodeOf s budget i F → NodeOf s budget j G → SamePlace i j F G
+place_once : {E : Type 0} (s : Search E) (budget i j : ℕ) (F G : Pending E → Type 0) → BarsNodes s F → BarsNodes s G → NodeOf s budget i F → NodeOf s budget j G
+    → SamePlace i j F G
 place_once s budget i j F G bars bar f g =
     let number = f.number_is in
     elim (cases_order f.before g.before) [
@@ -98,7 +102,8 @@ endings_once s budget (Left i k) (Left j l) h g =
 
 -- the node of a number has a fact that follows
 pub node_with : {E : Type 0} (s : Search E) (budget number : ℕ) (F G : Pending E → Type 0) (n : NodeOf s budget number F) → G n.word → NodeOf s budget number G
-node_with s budget number F G n holds = record { before = n.before; number_is = n.number_is; within = n.within; word = n.word; visited = n.visited; holds = holds }
+node_with s budget number F G n holds = record
+    { before = n.before; number_is = n.number_is; within = n.within; word = n.word; visited = n.visited; holds = holds }
 
 -- what a walk ended at, as an end of its search
 abbrev ending_of : (s : Search Element) (number budget : ℕ) (e : WalkEnd) → IsWalkEnd s number budget e → Ending Element
@@ -113,7 +118,8 @@ is_ending s number budget (Found i x) h = node_with s budget i (SolutionAt s num
 is_ending s number budget (Spent c) h = h
 is_ending s number budget (Overflow i k) h = h
 
-solution_once : (s : Search Element) (number : ℕ) (x y : Solution) (w v : Pending Element) → w ≡ v → x.values ≡ y.values → SolutionAt s number x w → SolutionAt s number y v → x ≡ y
+solution_once : (s : Search Element) (number : ℕ) (x y : Solution) (w v : Pending Element) → w ≡ v → x.values ≡ y.values → SolutionAt s number x w
+    → SolutionAt s number y v → x ≡ y
 solution_once s number x y w v same values h g =
     let patterns = h.pattern ∙ sym g.pattern in
     let starts = h.start ∙ ap (λ (u : Pending Element). u.start) same ∙ sym g.start in
@@ -121,9 +127,11 @@ solution_once s number x y w v same values h g =
     λ i. record { pattern = patterns i; start_mask = starts i; word = words i; values = values i }
 
 pub ends_once : WalksAreDetermined
-ends_once s number budget e f h g = from e f h g (endings_once s budget (ending_of s number budget e h) (ending_of s number budget f g) (is_ending s number budget e h) (is_ending s number budget f g))
+ends_once s number budget e f h g = from e f h g
+    (endings_once s budget (ending_of s number budget e h) (ending_of s number budget f g) (is_ending s number budget e h) (is_ending s number budget f g))
   where
-    from : (e f : WalkEnd) (h : IsWalkEnd s number budget e) (g : IsWalkEnd s number budget f) → ending_of s number budget e h ≡ ending_of s number budget f g → e ≡ f
+    from : (e f : WalkEnd) (h : IsWalkEnd s number budget e) (g : IsWalkEnd s number budget f) → ending_of s number budget e h ≡ ending_of s number budget f g
+        → e ≡ f
     from (Refuted ns c) (Refuted ms d) h g same = cc
     from (Refuted ns c) (Found j y) h g same = absurd (cc)
     from (Refuted ns c) (Spent d) h g same = absurd (cc)

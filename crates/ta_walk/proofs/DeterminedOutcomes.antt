@@ -1,5 +1,6 @@
 -- a word's system has one outcome: multipliers, values, or the count of a pivot that leaves the range
-use Rattle.ta_walk.proofs.Common.{◌≡◌, ℕ, List, ℤ, Pending, Search, slack_tableau, OverflowsAt, Fraction, end_once, none_beside, first_once, OfSystem, RefutedAt, VertexAt}
+use Rattle.ta_walk.proofs.Common.{◌≡◌, ℕ, List, ℤ, Pending, Search, slack_tableau, OverflowsAt, Fraction, end_once, none_beside, first_once, OfSystem}
+use Rattle.ta_walk.proofs.Common.{RefutedAt, VertexAt}
 use Rattle.ta_encode.proofs.SameSystems.{same_numbers}
 use Rattle.ta_simplex.specs.declared.End.TheVariants as end
 
@@ -10,10 +11,12 @@ values_of : (fs gs : List Fraction) → end.Vertex fs ≡ end.Vertex gs → fs �
 values_of fs gs e = cc
 
 pub multipliers_at : {E : Type 0} (s : Search E) (w : Pending E) (ts us : List (ℕ × ℤ)) → RefutedAt s w ts → RefutedAt s w us → ts ≡ us
-multipliers_at s w ts us r q = multipliers_of ts us (end_once r.system q.system (same_numbers s w r.system q.system r.is q.is) (end.Refuted ts) (end.Refuted us) r.holds q.holds)
+multipliers_at s w ts us r q = multipliers_of ts us
+    (end_once r.system q.system (same_numbers s w r.system q.system r.is q.is) (end.Refuted ts) (end.Refuted us) r.holds q.holds)
 
 pub values_at : {E : Type 0} (s : Search E) (w : Pending E) (fs gs : List Fraction) → VertexAt s w fs → VertexAt s w gs → fs ≡ gs
-values_at s w fs gs r q = values_of fs gs (end_once r.system q.system (same_numbers s w r.system q.system r.is q.is) (end.Vertex fs) (end.Vertex gs) r.holds q.holds)
+values_at s w fs gs r q = values_of fs gs
+    (end_once r.system q.system (same_numbers s w r.system q.system r.is q.is) (end.Vertex fs) (end.Vertex gs) r.holds q.holds)
 
 pub no_vertex : {E : Type 0} (s : Search E) (w : Pending E) (ts : List (ℕ × ℤ)) (fs : List Fraction) → RefutedAt s w ts → VertexAt s w fs → ⊥
 no_vertex s w ts fs r q =

@@ -1,5 +1,7 @@
 -- the whole numbers that are values are one list, and so are their split and its floor
-use Rattle.ta_walk.proofs.Common.{cases_order, ◌≡◌, inl, inr, ℕ, zero, suc, ◌<◌, List, [], ◌∷◌, arith, refl, sym, ◌∙◌, subst, ℤ, pos, ◌+ℤ◌, slice_get, IsSomeAnd, ints, *ℤ_comm, cancel_positive, factor_below, some_both, Fraction, IsWholeNumber, IsWhole, IsAbove, SplitsAt, AreNumbers}
+use Rattle.ta_walk.proofs.Common.{cases_order, ◌≡◌, inl, inr, ℕ, zero, suc, ◌<◌, List, [], ◌∷◌, arith, refl, sym, ◌∙◌, subst, ℤ, pos, ◌+ℤ◌, slice_get}
+use Rattle.ta_walk.proofs.Common.{IsSomeAnd, ints, *ℤ_comm, cancel_positive, factor_below, some_both, Fraction, IsWholeNumber, IsWhole, IsAbove, SplitsAt}
+use Rattle.ta_walk.proofs.Common.{AreNumbers}
 
 number_once : (f : Fraction) (k n : ℤ) → IsWholeNumber k f → IsWholeNumber n f → k ≡ n
 number_once f k n is are = cancel_positive f.bottom k n f.positive (*ℤ_comm f.bottom k ∙ sym is ∙ are ∙ *ℤ_comm n f.bottom)
@@ -52,6 +54,10 @@ not_before fs x y k n is are less = some_both (slice_get fs x) (IsAbove k) IsWho
 pub split_once : (fs : List Fraction) (x y : ℕ) (k n : ℤ) → SplitsAt fs x k → SplitsAt fs y n → SameSplit x y k n
 split_once fs x y k n is are =
     elim (cases_order x y) [
-      | inl same ↦ record { unknown = same; floor = some_both (slice_get fs x) (IsAbove k) (IsAbove n) (k ≡ n) is.here (subst (λ (u : ℕ). IsSomeAnd (slice_get fs u) (IsAbove n)) (sym same) are.here) (λ f h g. floor_once f k n h g) }
+      | inl same ↦ record {
+        unknown = same;
+        floor = some_both (slice_get fs x) (IsAbove k) (IsAbove n) (k ≡ n) is.here
+            (subst (λ (u : ℕ). IsSomeAnd (slice_get fs u) (IsAbove n)) (sym same) are.here) (λ f h g. floor_once f k n h g);
+      }
       | inr other ↦ elim other [ inl less ↦ absurd (not_before fs x y k n is are less) | inr more ↦ absurd (not_before fs y x n k are is more) ]
     ]

@@ -1,5 +1,6 @@
 -- visits from one list of words are one, as far as both go
-use Rattle.ta_walk.proofs.Common.{cases_order, ◌≡◌, inl, inr, ℕ, ◌<◌, List, [], ◌∷◌, ◌++◌, length, arith, refl, sym, ◌∙◌, subst, Node, NodeAt, Visits, TreeIs, IsVisited, Pending, Search, parts}
+use Rattle.ta_walk.proofs.Common.{cases_order, ◌≡◌, inl, inr, ℕ, ◌<◌, List, [], ◌∷◌, ◌++◌, length, arith, refl, sym, ◌∙◌, subst, Node, NodeAt, Visits, TreeIs}
+use Rattle.ta_walk.proofs.Common.{IsVisited, Pending, Search, parts}
 use Rattle.ta_walk.proofs.DeterminedNodes.{node_once}
 
 -- two visits that are one
@@ -16,10 +17,12 @@ record GoesOn {E : Type 0} (s : Search E) (left : List (Pending E)) : Type 0 whe
   pub stands : NodeAt s word next
 
 -- after one node at one word, both visits go on from the same words
-visits_moved : {E : Type 0} (s : Search E) (w : Pending E) (ws : List (Pending E)) (n m : Node) (ms : List Node) (rest : List (Pending E)) → NodeAt s w n → NodeAt s w m → Visits s (parts s w m ++ ws) ms rest → Visits s (parts s w n ++ ws) ms rest
+visits_moved : {E : Type 0} (s : Search E) (w : Pending E) (ws : List (Pending E)) (n m : Node) (ms : List Node) (rest : List (Pending E)) → NodeAt s w n
+    → NodeAt s w m → Visits s (parts s w m ++ ws) ms rest → Visits s (parts s w n ++ ws) ms rest
 visits_moved s w ws n m ms rest h g v = subst (λ (k : Node). Visits s (parts s w k ++ ws) ms rest) (node_once s w m n g h) v
 
-visits_once : {E : Type 0} (s : Search E) (ws : List (Pending E)) (ns ms : List Node) (left rest : List (Pending E)) → length ns ≡ length ms → Visits s ws ns left → Visits s ws ms rest → SameVisit ns ms left rest
+visits_once : {E : Type 0} (s : Search E) (ws : List (Pending E)) (ns ms : List Node) (left rest : List (Pending E)) → length ns ≡ length ms
+    → Visits s ws ns left → Visits s ws ms rest → SameVisit ns ms left rest
 visits_once s ws [] [] left rest e v u = record { nodes = refl; words = v ∙ sym u }
 visits_once s ws [] (m ∷ ms) left rest e v u = absurd (omega arith)
 visits_once s ws (n ∷ ns) [] left rest e v u = absurd (omega arith)
@@ -30,7 +33,8 @@ visits_once s (w ∷ ws) (n ∷ ns) (m ∷ ms) left rest e v u =
     let others = same.nodes in
     record { nodes = cc; words = same.words }
 
-goes_on : {E : Type 0} (s : Search E) (ws : List (Pending E)) (ns ms : List Node) (left rest : List (Pending E)) → length ns < length ms → Visits s ws ns left → Visits s ws ms rest → GoesOn s left
+goes_on : {E : Type 0} (s : Search E) (ws : List (Pending E)) (ns ms : List Node) (left rest : List (Pending E)) → length ns < length ms → Visits s ws ns left
+    → Visits s ws ms rest → GoesOn s left
 goes_on s ws ns [] left rest h v u = absurd (omega arith)
 goes_on s [] [] (m ∷ ms) left rest h v u = absurd u
 goes_on s [] (n ∷ ns) (m ∷ ms) left rest h v u = absurd u
@@ -39,11 +43,13 @@ goes_on s (w ∷ ws) (n ∷ ns) (m ∷ ms) left rest h v u =
     goes_on s (parts s w n ++ ws) ns ms left rest (omega arith) v.1 (visits_moved s w ws n m ms rest v.0 u.0 u.1)
 
 -- no visit goes on where no word is left
-ends_there : {E : Type 0} (s : Search E) (ws : List (Pending E)) (ns ms : List Node) (rest : List (Pending E)) → length ns < length ms → Visits s ws ns [] → Visits s ws ms rest → ⊥
+ends_there : {E : Type 0} (s : Search E) (ws : List (Pending E)) (ns ms : List Node) (rest : List (Pending E)) → length ns < length ms → Visits s ws ns []
+    → Visits s ws ms rest → ⊥
 ends_there s ws ns ms rest h v u = let on = goes_on s ws ns ms [] rest h v u in let first = on.first in absurd (cc)
 
 -- it goes on with a node at the word that is left
-node_there : {E : Type 0} (s : Search E) (ws : List (Pending E)) (w : Pending E) (ns ms : List Node) (words rest : List (Pending E)) → length ns < length ms → Visits s ws ns (w ∷ words) → Visits s ws ms rest → (n : Node) × NodeAt s w n
+node_there : {E : Type 0} (s : Search E) (ws : List (Pending E)) (w : Pending E) (ns ms : List Node) (words rest : List (Pending E)) → length ns < length ms
+    → Visits s ws ns (w ∷ words) → Visits s ws ms rest → (n : Node) × NodeAt s w n
 node_there s ws w ns ms words rest h v u =
     let on = goes_on s ws ns ms (w ∷ words) rest h v u in
     let first = on.first in
@@ -62,7 +68,8 @@ tree_once s budget ns ms c d t u =
     ]
 
 -- a word that is left within a whole tree has a node
-pub word_of_tree : {E : Type 0} (s : Search E) (budget : ℕ) (ns : List Node) (c before : ℕ) (w : Pending E) → TreeIs s budget ns c → IsVisited s before w → (before < c) × ((n : Node) × NodeAt s w n)
+pub word_of_tree : {E : Type 0} (s : Search E) (budget : ℕ) (ns : List Node) (c before : ℕ) (w : Pending E) → TreeIs s budget ns c → IsVisited s before w
+    → (before < c) × ((n : Node) × NodeAt s w n)
 word_of_tree s budget ns c before w t v =
     let counted = t.counted in
     let many = v.counted in
@@ -83,6 +90,7 @@ word_once s before after w x e v u =
     cc
 
 -- where more are visited, a node stands at the word
-pub node_at_word : {E : Type 0} (s : Search E) (before after : ℕ) (w x : Pending E) → before < after → IsVisited s before w → IsVisited s after x → (n : Node) × NodeAt s w n
+pub node_at_word : {E : Type 0} (s : Search E) (before after : ℕ) (w x : Pending E) → before < after → IsVisited s before w → IsVisited s after x → (n : Node)
+    × NodeAt s w n
 node_at_word s before after w x h v u =
     node_there s s.roots w v.nodes u.nodes v.words (x ∷ u.words) (omega arith) v.visits u.visits

@@ -12,5 +12,6 @@ leaves_few [] = omega arith
 leaves_few (node.Leaf ts ∷ ns) = let rest = leaves_few ns in omega arith
 leaves_few (n ∷ ns) = let rest = leaves_few ns in omega arith
 
-pub leaves_below : (ns : List Node) (count leaves budget : ℕ) → leaves ≡ leaf_count ns → length ns ≡ count → count < budget → budget ≤ 1000000000 → leaves < 1000000000
+pub leaves_below : (ns : List Node) (count leaves budget : ℕ) → leaves ≡ leaf_count ns → length ns ≡ count → count < budget → budget ≤ 1000000000
+    → leaves < 1000000000
 leaves_below ns count leaves budget counted done below limit = let few = leaves_few ns in omega arith

@@ -1,5 +1,6 @@
 -- the nodes of a walk can be written
-use Rattle.ta_walk.proofs.Common.{ℕ, ◌+◌, ◌<◌, ◌≤◌, ◌^◌, ℤ, List, [], ◌∷◌, length, arith, subst, below_limit, InRange, coefficient, AreMultipliers, System, Node, ArePairs, IsNode, variables, NodeAt, SystemAt, Pending, Search}
+use Rattle.ta_walk.proofs.Common.{ℕ, ◌+◌, ◌<◌, ◌≤◌, ◌^◌, ℤ, List, [], ◌∷◌, length, arith, subst, below_limit, InRange, coefficient, AreMultipliers, System}
+use Rattle.ta_walk.proofs.Common.{Node, ArePairs, IsNode, variables, NodeAt, SystemAt, Pending, Search}
 use Rattle.ta_cert.specs.declared.line.Node.TheVariants as node
 use Rattle.ta_encode.specs.Search.{MayAsk}
 use Rattle.ta_walk.proofs.TableausInRange.{multipliers_fit}
@@ -7,7 +8,8 @@ use Rattle.ta_walk.proofs.SplitsFit.{split_within, split_fits}
 use Rattle.ta_simplex.proofs.MultiplierCoefficients.{coefficient_first, coefficient_after}
 
 -- multipliers in range are pairs
-pub are_pairs : (low count : ℕ) (ts : List (ℕ × ℤ)) → count ≤ 2 ^ 32 → AreMultipliers low count ts → ((k : ℕ) → low ≤ k → k < count → InRange (coefficient ts k)) → ArePairs low ts
+pub are_pairs : (low count : ℕ) (ts : List (ℕ × ℤ)) → count ≤ 2 ^ 32 → AreMultipliers low count ts
+    → ((k : ℕ) → low ≤ k → k < count → InRange (coefficient ts k)) → ArePairs low ts
 are_pairs low count [] few all fits = tt
 are_pairs low count (t ∷ ts) few all fits =
     let first = all.0 in
@@ -19,7 +21,8 @@ are_pairs low count (t ∷ ts) few all fits =
     )
 
 -- a node that stands at a word of few variables can be written, where each can that may ask there
-pub node_written : {E : Type 0} (search : Search E) (w : Pending E) (n : Node) → ((s : System) → SystemAt search w s → variables s < 2 ^ 32) → ((m : Node) → MayAsk search w.start w.past m → IsNode m) → NodeAt search w n → IsNode n
+pub node_written : {E : Type 0} (search : Search E) (w : Pending E) (n : Node) → ((s : System) → SystemAt search w s → variables s < 2 ^ 32)
+    → ((m : Node) → MayAsk search w.start w.past m → IsNode m) → NodeAt search w n → IsNode n
 node_written search w (node.Leaf ts) few asks at =
     let s = at.refuted.system in
     let is = at.refuted.holds in

@@ -1,5 +1,8 @@
 -- the orders that are found are those that a judge accepts
-use Rattle.ta_walk.proofs.Common.{inl, inr, ℕ, zero, suc, ◌<◌, ◌≤◌, ◌^◌, List, [], ◌∷◌, ◌++◌, length, map, sym, subst, arith, codes, decimal, length-append, map-append, row_short, each_push, Automaton, IsOrder, order_lines, pair_of, line_text, ArePairs, Order, Good, IsImplied, IsPair, ChainLeads, IsShown, few_multipliers, AreSoundOrders, FoundAfter, FoundBefore, FoundOrdersAreSound, IsTaken, RefutedPair, TryAnswers}
+use Rattle.ta_walk.proofs.Common.{inl, inr, ℕ, zero, suc, ◌<◌, ◌≤◌, ◌^◌, List, [], ◌∷◌, ◌++◌, length, map, sym, subst, arith, codes, decimal, length-append}
+use Rattle.ta_walk.proofs.Common.{map-append, row_short, each_push, Automaton, IsOrder, order_lines, pair_of, line_text, ArePairs, Order, Good, IsImplied}
+use Rattle.ta_walk.proofs.Common.{IsPair, ChainLeads, IsShown, few_multipliers, AreSoundOrders, FoundAfter, FoundBefore, FoundOrdersAreSound, IsTaken}
+use Rattle.ta_walk.proofs.Common.{RefutedPair, TryAnswers}
 use Rattle.ta_cert.specs.Laws.{AreShort}
 use Rattle.ta_cert.specs.Streams.{line_limit}
 use Rattle.ta_cert.specs.declared.line.Line.TheVariants as line
@@ -23,7 +26,8 @@ guard_fits a guard below = let few = a.shape.limits.rise_limit in omega arith
 leaf_pairs : (a : Automaton) (o : Order) → RefutedPair a o.before o.after o.multipliers → ArePairs 0 o.multipliers
 leaf_pairs a o r =
     let few = few_of_pair a o.before o.after r.system r.is in
-    are_pairs 0 (length r.system.rows) o.multipliers (omega arith) r.refuted.multipliers.leaf.multipliers (λ k from inside. multipliers_fit r.system o.multipliers r.refuted k inside)
+    are_pairs 0 (length r.system.rows) o.multipliers (omega arith) r.refuted.multipliers.leaf.multipliers
+    (λ k from inside. multipliers_fit r.system o.multipliers r.refuted k inside)
 
 order_of : (a : Automaton) (o : Order) → IsPair a (pair_of o) → RefutedPair a o.before o.after o.multipliers → IsOrder o
 order_of a o is r = record {
@@ -41,7 +45,8 @@ leaf_short a o r =
     let few = few_of_pair a o.before o.after r.system r.is in
     omega (arith, pairs_short 0 o.multipliers (leaf_pairs a o r), few_multipliers r.system o.multipliers r.refuted)
 
-short_push : (os : List Order) (o : Order) → AreShort (order_lines os) → length (line_text (line.Tree (node.Order o.before o.after))) ≤ line_limit → length (line_text (line.Tree (node.Leaf o.multipliers))) ≤ line_limit → AreShort (order_lines (os ++ o ∷ []))
+short_push : (os : List Order) (o : Order) → AreShort (order_lines os) → length (line_text (line.Tree (node.Order o.before o.after))) ≤ line_limit
+    → length (line_text (line.Tree (node.Leaf o.multipliers))) ≤ line_limit → AreShort (order_lines (os ++ o ∷ []))
 short_push [] o short guards leaf = (guards, (leaf, tt))
 short_push (p ∷ ps) o short guards leaf = (short.0, (short.1.0, short_push ps o short.1.1 guards leaf))
 
@@ -57,11 +62,14 @@ sound_push a os o sound taken =
       short = short_push os o sound.short (guards_short o is) (leaf_short a o r);
     }
 
-tried_sound : (a : Automaton) (os : List Order) (before after : ℕ) (found : List Order) → AreSoundOrders a os → TryAnswers a os before after found → AreSoundOrders a found
-tried_sound a os before after found sound (inl t) = subst (AreSoundOrders a) (sym t.whole) (sound_push a os (record { before = before; after = after; multipliers = t.multipliers }) sound t.taken)
+tried_sound : (a : Automaton) (os : List Order) (before after : ℕ) (found : List Order) → AreSoundOrders a os → TryAnswers a os before after found
+    → AreSoundOrders a found
+tried_sound a os before after found sound (inl t) = subst (AreSoundOrders a) (sym t.whole)
+    (sound_push a os (record { before = before; after = after; multipliers = t.multipliers }) sound t.taken)
 tried_sound a os before after found sound (inr t) = subst (AreSoundOrders a) (sym t.same) sound
 
-before_sound : (a : Automaton) (os : List Order) (after count : ℕ) (found : List Order) → AreSoundOrders a os → FoundBefore a os after count found → AreSoundOrders a found
+before_sound : (a : Automaton) (os : List Order) (after count : ℕ) (found : List Order) → AreSoundOrders a os → FoundBefore a os after count found
+    → AreSoundOrders a found
 before_sound a os after zero found sound f = subst (AreSoundOrders a) (sym f) sound
 before_sound a os after (suc before) found sound (next, f, t) = tried_sound a next before after found (before_sound a os after before next sound f) t
 

@@ -1,5 +1,6 @@
 -- the system of a pair of guards: it is small, and its numbers are determined
-use Rattle.ta_walk.proofs.Common.{◌≡◌, ℕ, ◌*◌, ◌<◌, ◌≤◌, ◌^◌, ℤ, pos, List, [], ◌∷◌, ◌++◌, length, arith, length-append, Row, System, Automaton, variables, CheckStays, entry, SameNumbers, stays_same, AreCopies, ImplySystem, resilience_rows}
+use Rattle.ta_walk.proofs.Common.{◌≡◌, ℕ, ◌*◌, ◌<◌, ◌≤◌, ◌^◌, ℤ, pos, List, [], ◌∷◌, ◌++◌, length, arith, length-append, Row, System, Automaton, variables}
+use Rattle.ta_walk.proofs.Common.{CheckStays, entry, SameNumbers, stays_same, AreCopies, ImplySystem, resilience_rows}
 use Rattle.ta_farkas.proofs.Alike.{entry_alike}
 use Rattle.ta_automaton.specs.declared.condition.Comparison.{Comparison}
 use Rattle.ta_implied.specs.Copies.{resilience_of}

@@ -1,5 +1,8 @@
 -- lists of words with which trees begin
-use Rattle.ta_walk.proofs.Common.{map-append, take-append-drop, ◌≡◌, ℕ, ◌<◌, ◌≤◌, ◌^◌, List, [], ◌∷◌, ◌++◌, length, length-append, map, drop, take, slice_get, Some, None, arith, refl, sym, ap, ◌∙◌, subst, AllByRecursion, each_push, next_dropped, none_dropped, in_at, Pending, Search, RootIs, IsAtRoot, Within, left_at, Cursor, at_word, comes_first, ComesTo, HasFewBounds, HasFewLeft, root_node, append_assoc, append-nil}
+use Rattle.ta_walk.proofs.Common.{map-append, take-append-drop, ◌≡◌, ℕ, ◌<◌, ◌≤◌, ◌^◌, List, [], ◌∷◌, ◌++◌, length, length-append, map, drop, take, slice_get}
+use Rattle.ta_walk.proofs.Common.{Some, None, arith, refl, sym, ap, ◌∙◌, subst, AllByRecursion, each_push, next_dropped, none_dropped, in_at, Pending, Search}
+use Rattle.ta_walk.proofs.Common.{RootIs, IsAtRoot, Within, left_at, Cursor, at_word, comes_first, ComesTo, HasFewBounds, HasFewLeft, root_node, append_assoc}
+use Rattle.ta_walk.proofs.Common.{append-nil}
 use Rattle.ta_walk.proofs.WordSoFar.{pending_is}
 
 -- the search comes to a word with which it begins
@@ -10,7 +13,8 @@ root_comes s number root is = comes_first s root [] (root_node root, in_at s.roo
 pub root_left : {E : Type 0} (s : Search E) (root : ℕ) (c : Cursor E) → ComesTo s root → IsAtRoot c (root_node root) → left_at s c ≡ root_node root ∷ []
 root_left s root c comes is = sym (pending_is s c (root_node root ∷ []) (at_word s c (root_node root) is (record { comes = comes; bounds = tt })))
 
-pub root_stands : {E : Type 0} (s : Search E) (root : ℕ) (c : Cursor E) (nodes : ℕ) → ComesTo s root → IsAtRoot c (root_node root) → nodes ≤ 1000000000 → HasFewLeft s nodes c
+pub root_stands : {E : Type 0} (s : Search E) (root : ℕ) (c : Cursor E) (nodes : ℕ) → ComesTo s root → IsAtRoot c (root_node root) → nodes ≤ 1000000000
+    → HasFewLeft s nodes c
 root_stands s root c nodes comes is limit =
     let left = sym (root_left s root c comes is) in
     record {
@@ -27,7 +31,8 @@ pub record Listed {E : Type 0} (s : Search E) (all : List (Pending E)) (roots : 
   pub few : length roots ≤ 2 ^ 31
 
 -- one more
-pub listed_more : {E : Type 0} (s : Search E) (all : List (Pending E)) (roots : List ℕ) (root : ℕ) → Listed s all roots → slice_get all (length roots) ≡ Some (root_node root) → ComesTo s root → length roots < 2 ^ 31 → Listed s all (roots ++ root ∷ [])
+pub listed_more : {E : Type 0} (s : Search E) (all : List (Pending E)) (roots : List ℕ) (root : ℕ) → Listed s all roots
+    → slice_get all (length roots) ≡ Some (root_node root) → ComesTo s root → length roots < 2 ^ 31 → Listed s all (roots ++ root ∷ [])
 listed_more s all roots root so at comes small =
     let n = length-append roots (root ∷ []) in
     let next = next_dropped all (length roots) (root_node root) at in
@@ -43,11 +48,13 @@ listed_more s all roots root so at comes small =
     }
 
 -- all of them
-pub all_listed : {E : Type 0} (s : Search E) (all : List (Pending E)) (roots : List ℕ) → Listed s all roots → slice_get all (length roots) ≡ None → map root_node roots ≡ all
+pub all_listed : {E : Type 0} (s : Search E) (all : List (Pending E)) (roots : List ℕ) → Listed s all roots → slice_get all (length roots) ≡ None
+    → map root_node roots ≡ all
 all_listed s all roots so none =
     sym (append-nil (map root_node roots)) ∙ ap (λ (ws : List (Pending _)). map root_node roots ++ ws) (sym (none_dropped all (length roots) none)) ∙ so.words
 
-pub halves_listed : {E : Type 0} (k : ℕ) (xs ys zs : List ℕ) → ys ≡ take k xs → zs ≡ drop k xs → map (root_node {E = E}) ys ++ map (root_node {E = E}) zs ≡ map (root_node {E = E}) xs
+pub halves_listed : {E : Type 0} (k : ℕ) (xs ys zs : List ℕ) → ys ≡ take k xs → zs ≡ drop k xs → map (root_node {E = E}) ys
+    ++ map (root_node {E = E}) zs ≡ map (root_node {E = E}) xs
 halves_listed {E} k xs ys zs low high =
     ap (λ (us : List ℕ). map (root_node {E = E}) us ++ map (root_node {E = E}) zs) low
     ∙ ap (λ (us : List ℕ). map (root_node {E = E}) (take k xs) ++ map (root_node {E = E}) us) high

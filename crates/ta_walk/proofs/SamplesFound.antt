@@ -1,5 +1,10 @@
 -- what the ends of the search for a sample say
-use Rattle.ta_walk.proofs.Common.{◌≡◌, ℕ, zero, suc, ◌+◌, ◌*◌, ◌^◌, ◌<◌, ◌≤◌, ℤ, pos, negsuc, ◌*ℤ◌, ◌<ℤ◌, List, [], ◌∷◌, map, take, length, length-append, refl, sym, ap, ◌∙◌, subst, arith, slice_get, IsSomeAnd, unsigned_abs, ints, length-map, take-map, AllByRecursion, InRange, System, Automaton, SystemAt, HasStart, sample_meanings, sample_rows, sample_search, sampled, Pending, SolvesAt, bounded_rows, Bound, bound_row, condition_rows, opposite, processes_row, rows_count, none_starts, sample_few, samples_start, condition_few, IsJudged, Fraction, SampleEnd, Ending, IsVisitEnding, IsSampleEnd, SampleAt, SampleEndsAreDetermined, SampleFound, SampleRefuted, SamplesAreReal, ScaledSolve, IsScaled, inl, inr, ◌⊎◌, AreNumbers, IsWholeNumber, WholeAt, each_take}
+use Rattle.ta_walk.proofs.Common.{◌≡◌, ℕ, zero, suc, ◌+◌, ◌*◌, ◌^◌, ◌<◌, ◌≤◌, ℤ, pos, negsuc, ◌*ℤ◌, ◌<ℤ◌, List, [], ◌∷◌, map, take, length, length-append, refl}
+use Rattle.ta_walk.proofs.Common.{sym, ap, ◌∙◌, subst, arith, slice_get, IsSomeAnd, unsigned_abs, ints, length-map, take-map, AllByRecursion, InRange, System}
+use Rattle.ta_walk.proofs.Common.{Automaton, SystemAt, HasStart, sample_meanings, sample_rows, sample_search, sampled, Pending, SolvesAt, bounded_rows, Bound}
+use Rattle.ta_walk.proofs.Common.{bound_row, condition_rows, opposite, processes_row, rows_count, none_starts, sample_few, samples_start, condition_few}
+use Rattle.ta_walk.proofs.Common.{IsJudged, Fraction, SampleEnd, Ending, IsVisitEnding, IsSampleEnd, SampleAt, SampleEndsAreDetermined, SampleFound}
+use Rattle.ta_walk.proofs.Common.{SampleRefuted, SamplesAreReal, ScaledSolve, IsScaled, inl, inr, ◌⊎◌, AreNumbers, IsWholeNumber, WholeAt, each_take}
 use Rattle.ta_words.specs.declared.element.Element.{Element}
 use Rattle.ta_encode.proofs.Moments.{AllHold-append, AllHold-left}
 use Rattle.ta_walk.specs.declared.end.SampleEnd.TheVariants.{Sample, Empty, Spent, Overflow}
@@ -15,23 +20,37 @@ unfolding sample_rows
 sample_rows_few a =
     let ms = sample_meanings a in
     let limit = a.resilience.limit in
-    omega (arith, length-append (condition_rows a ms a.resilience.comparisons) (processes_row a ms ∷ opposite (processes_row a ms) ∷ []), condition_few a ms a.resilience.comparisons)
+    omega (
+      arith,
+      length-append (condition_rows a ms a.resilience.comparisons) (processes_row a ms ∷ opposite (processes_row a ms) ∷ []),
+      condition_few a ms
+          a.resilience.comparisons,
+    )
 
-pub sample_small : (a : Automaton) (bounds : List Bound) (system : System) → SystemAt (sample_search a) (sampled bounds) system → system.unknowns + length system.rows ≤ 1000000 + length bounds
+pub sample_small : (a : Automaton) (bounds : List Bound) (system : System) → SystemAt (sample_search a) (sampled bounds) system
+    → system.unknowns + length system.rows ≤ 1000000 + length bounds
 sample_small a bounds system is =
     let unknowns = is.unknowns in
     let few = sample_few a in
-    omega (arith, rows_count (bounded_rows (sample_search a) (sampled bounds)) system.rows is.rows, length-append (sample_rows a) (map bound_row bounds), length-map bounds bound_row, sample_rows_few a)
+    omega (
+      arith,
+      rows_count (bounded_rows (sample_search a) (sampled bounds)) system.rows is.rows,
+      length-append (sample_rows a) (map bound_row bounds),
+      length-map bounds bound_row,
+      sample_rows_few a,
+    )
 
 -- a solution with bounds is one without
 without_bounds : (a : Automaton) (w : Pending Element) (vs : List ℕ) → SolvesAt (sample_search a) w vs → SolvesAt (sample_search a) (sampled []) vs
-without_bounds a w vs s = record { count = s.count; rows_hold = AllHold-append vs (sample_rows a) [] (AllHold-left vs (sample_rows a) (map bound_row w.bounds) s.rows_hold) tt }
+without_bounds a w vs s = record
+    { count = s.count; rows_hold = AllHold-append vs (sample_rows a) [] (AllHold-left vs (sample_rows a) (map bound_row w.bounds) s.rows_hold) tt }
 
 -- no whole values are taken in place of a vertex's
 sample_scaled : (a : Automaton) → ScaledSolve (sample_search a)
 sample_scaled a = unscaled_solve (sample_search a) (λ w vs. refl)
 
-pub found_starts : (a : Automaton) (budget : ℕ) (parameters : List ℤ) → SampleFound a budget parameters → (values : List ℕ) × (parameters ≡ map pos values) × HasStart a values
+pub found_starts : (a : Automaton) (budget : ℕ) (parameters : List ℤ) → SampleFound a budget parameters → (values : List ℕ) × (parameters ≡ map pos values)
+    × HasStart a values
 found_starts a budget parameters found =
     let n = length a.parameters in
     let w = found.node.word in
@@ -58,7 +77,8 @@ small n f is fits = of_bottom f.bottom f.positive is fits
         omega arith
     of_bottom (negsuc m) positive e h = absurd (omega (arith, ints))
 
-all_small : (values : List Fraction) (ns : List ℕ) → AreNumbers values (map pos ns) → ((x : ℕ) → x < length values → IsSomeAnd (slice_get values x) (λ f. InRange f.top)) → AllByRecursion (λ n. n < 2 ^ 127) ns
+all_small : (values : List Fraction) (ns : List ℕ) → AreNumbers values (map pos ns)
+    → ((x : ℕ) → x < length values → IsSomeAnd (slice_get values x) (λ f. InRange f.top)) → AllByRecursion (λ n. n < 2 ^ 127) ns
 all_small [] [] are fits = tt
 all_small [] (n ∷ ns) are fits = absurd are
 all_small (f ∷ fs) [] are fits = tt
@@ -73,14 +93,17 @@ are_numbers a w numbers whole = of whole.whole
     of (inr is) = absurd (let none = is.scaled in cc)
 
 -- the values of a sample are below 2^127
-pub found_small : (a : Automaton) (budget : ℕ) (parameters : List ℤ) (found : SampleFound a budget parameters) → AllByRecursion (λ n. n < 2 ^ 127) (found_starts a budget parameters found).0
+pub found_small : (a : Automaton) (budget : ℕ) (parameters : List ℤ) (found : SampleFound a budget parameters)
+    → AllByRecursion (λ n. n < 2 ^ 127) (found_starts a budget parameters found).0
 unfolding found_starts
 found_small a budget parameters found =
     let at = found.node.holds in
     let vertex = at.whole.vertex in
     let solved = whole_solves (sample_search a) (sample_scaled a) found.node.word at.values at.whole in
     let count = vertex.holds.gives.count in
-    each_take (λ n. n < 2 ^ 127) (length a.parameters) solved.0 (all_small at.whole.values solved.0 (subst (AreNumbers at.whole.values) solved.1 (are_numbers a found.node.word at.values at.whole)) (λ x b. vertex_in_range vertex.system at.whole.values vertex.holds x (omega arith)))
+    each_take (λ n. n < 2 ^ 127) (length a.parameters) solved.0
+    (all_small at.whole.values solved.0 (subst (AreNumbers at.whole.values) solved.1 (are_numbers a found.node.word at.values at.whole))
+    (λ x b. vertex_in_range vertex.system at.whole.values vertex.holds x (omega arith)))
 
 pub samples_real : SamplesAreReal
 samples_real = record { found = found_starts; none = refuted_starts }
@@ -93,13 +116,15 @@ ending_of a budget (Spent count) h = Stopped count
 ending_of a budget (Overflow node kind) h = Left node kind
 
 is_ending : (a : Automaton) (budget : ℕ) (e : SampleEnd) (h : IsSampleEnd a budget e) → IsVisitEnding (sample_search a) budget (ending_of a budget e h)
-is_ending a budget (Sample parameters) h = node_with (sample_search a) budget h.number (SampleAt a parameters) (λ w. (w ≡ h.node.word) × WholeAt (sample_search a) w h.node.holds.values) h.node (refl, h.node.holds.whole)
+is_ending a budget (Sample parameters) h = node_with (sample_search a) budget h.number (SampleAt a parameters)
+    (λ w. (w ≡ h.node.word) × WholeAt (sample_search a) w h.node.holds.values) h.node (refl, h.node.holds.whole)
 is_ending a budget Empty h = h.tree
 is_ending a budget (Spent count) h = h
 is_ending a budget (Overflow node kind) h = h
 
 pub sample_ends_once : SampleEndsAreDetermined
-sample_ends_once a budget e f h g = from e f h g (endings_once (sample_search a) budget (ending_of a budget e h) (ending_of a budget f g) (is_ending a budget e h) (is_ending a budget f g))
+sample_ends_once a budget e f h g = from e f h g
+    (endings_once (sample_search a) budget (ending_of a budget e h) (ending_of a budget f g) (is_ending a budget e h) (is_ending a budget f g))
   where
     from : (e f : SampleEnd) (h : IsSampleEnd a budget e) (g : IsSampleEnd a budget f) → ending_of a budget e h ≡ ending_of a budget f g → e ≡ f
     from (Sample ps) (Sample qs) h g same =

@@ -1,5 +1,6 @@
 -- the words that a visit meets, where no node is a split: none of them twice
-use Rattle.ta_walk.proofs.Common.{◌≡◌, ◌⊎◌, inl, inr, ℕ, suc, ◌<◌, ◌≤◌, List, [], ◌∷◌, ◌++◌, length, map, arith, refl, sym, ap, ◌∙◌, subst, AllByRecursion, Distinct, In, each_in, in_append, in_map, Node, Element, Pending, Search, longer, parts, HasSplit, answered}
+use Rattle.ta_walk.proofs.Common.{◌≡◌, ◌⊎◌, inl, inr, ℕ, suc, ◌<◌, ◌≤◌, List, [], ◌∷◌, ◌++◌, length, map, arith, refl, sym, ap, ◌∙◌, subst, AllByRecursion}
+use Rattle.ta_walk.proofs.Common.{Distinct, In, each_in, in_append, in_map, Node, Element, Pending, Search, longer, parts, HasSplit, answered}
 use Rattle.ta_cert.specs.declared.line.Node.TheVariants as node
 
 -- a start set and a past that go on from a word, or are its own
@@ -22,7 +23,8 @@ under_long w start (f ∷ past) (inl u) = omega (arith, ap length u.1)
 under_long w start (f ∷ past) (inr u) = omega (arith, under_long w start past u)
 
 -- what goes on from two words of one length
-under_both : (v w : Pending Element) (start : ℕ) (past : List Element) → Under v start past → Under w start past → length v.past ≡ length w.past → v.past ≡ w.past
+under_both : (v w : Pending Element) (start : ℕ) (past : List Element) → Under v start past → Under w start past → length v.past ≡ length w.past
+    → v.past ≡ w.past
 under_both v w start [] u t e = u.1 ∙ sym t.1
 under_both v w start (f ∷ past) (inl u) (inl t) e = u.1 ∙ sym t.1
 under_both v w start (f ∷ past) (inl u) (inr t) e = absurd (omega (arith, ap length u.1, under_long w start past t))
@@ -47,7 +49,8 @@ longer_apart : (w : Pending Element) (e f : Element) → (e ≡ f → ⊥) → A
 longer_apart w e f other start past u t = other (let same : e ∷ w.past ≡ f ∷ w.past = under_both (longer w e) (longer w f) start past u t refl in cc)
 
 -- the words that are longer than one, before words apart from it
-longer_apart_all : (w : Pending Element) (es : List Element) (ws : List (Pending Element)) → Distinct es → ((v : Pending Element) → In v ws → Apart w v) → AllApart ws → AllApart (map (longer w) es ++ ws)
+longer_apart_all : (w : Pending Element) (es : List Element) (ws : List (Pending Element)) → Distinct es → ((v : Pending Element) → In v ws → Apart w v)
+    → AllApart ws → AllApart (map (longer w) es ++ ws)
 longer_apart_all w [] ws d others all = all
 longer_apart_all w (e ∷ es) ws d others all = (
   λ v h. elim (in_append v (map (longer w) es) ws h) [
@@ -72,7 +75,8 @@ abbrev pub Branches : Search Element → Type 0
 Branches s = (start : ℕ) (past : List Element) (n : Node) → Distinct (answered s start past n)
 
 -- it leaves words apart from each other and from the others
-pub parts_apart : (s : Search Element) (w : Pending Element) (ws : List (Pending Element)) (n : Node) → Branches s → IsPlain n → AllApart (w ∷ ws) → AllApart (parts s w n ++ ws)
+pub parts_apart : (s : Search Element) (w : Pending Element) (ws : List (Pending Element)) (n : Node) → Branches s → IsPlain n → AllApart (w ∷ ws)
+    → AllApart (parts s w n ++ ws)
 parts_apart s w ws (node.Leaf ts) branches plain all = all.1
 parts_apart s w ws (node.Split unknown floor) branches plain all = absurd plain
 parts_apart s w ws n branches plain all = longer_apart_all w (answered s w.start w.past n) ws (branches w.start w.past n) all.0 all.1
@@ -84,7 +88,8 @@ pub record UnderSome (ws : List (Pending Element)) (start : ℕ) (past : List El
   pub under : Under word start past
 
 -- what goes on from a word that a node leaves goes on from the word at which it stands
-under_part : (s : Search Element) (w v : Pending Element) (n : Node) (start : ℕ) (past : List Element) → IsPlain n → In v (parts s w n) → Under v start past → Under w start past
+under_part : (s : Search Element) (w v : Pending Element) (n : Node) (start : ℕ) (past : List Element) → IsPlain n → In v (parts s w n) → Under v start past
+    → Under w start past
 under_part s w v (node.Leaf ts) start past plain one u = absurd one
 under_part s w v (node.Split unknown floor) start past plain one u = absurd plain
 under_part s w v n start past plain one u =
@@ -100,7 +105,8 @@ part_longer s w v n plain one =
     let same : length v.past ≡ suc (length w.past) = ap (λ (x : Pending Element). length x.past) f.2 in
     omega arith
 
-pub under_before : (s : Search Element) (w : Pending Element) (ws : List (Pending Element)) (n : Node) (start : ℕ) (past : List Element) → IsPlain n → UnderSome (parts s w n ++ ws) start past → UnderSome (w ∷ ws) start past
+pub under_before : (s : Search Element) (w : Pending Element) (ws : List (Pending Element)) (n : Node) (start : ℕ) (past : List Element) → IsPlain n
+    → UnderSome (parts s w n ++ ws) start past → UnderSome (w ∷ ws) start past
 under_before s w ws n start past plain u =
     elim (in_append u.word (parts s w n) ws u.one) [
       | inl g ↦ record { word = w; one = inl refl; under = under_part s w u.word n start past plain g u.under }
@@ -108,7 +114,8 @@ under_before s w ws n start past plain u =
     ]
 
 -- the word at which a node stands comes no more behind it
-pub not_again : (s : Search Element) (w : Pending Element) (ws : List (Pending Element)) (n : Node) → IsPlain n → AllApart (w ∷ ws) → UnderSome (parts s w n ++ ws) w.start w.past → ⊥
+pub not_again : (s : Search Element) (w : Pending Element) (ws : List (Pending Element)) (n : Node) → IsPlain n → AllApart (w ∷ ws)
+    → UnderSome (parts s w n ++ ws) w.start w.past → ⊥
 not_again s w ws n plain all u =
     elim (in_append u.word (parts s w n) ws u.one) [
       | inl g ↦ absurd (omega (arith, part_longer s w u.word n plain g, under_long u.word w.start w.past u.under))

@@ -1,5 +1,7 @@
 -- the numbers of each tableau that the rule reaches are in range
-use Rattle.ta_walk.proofs.Common.{◌≡◌, inl, inr, ℕ, zero, suc, ◌+◌, ◌<◌, ℤ, pos, List, length, arith, sym, ap, ◌∙◌, subst, cases_eq, unsigned_abs-neg, slack_proper, InRange, coefficient, System, Tableau, row_of, cell_of, basic_of, non_basic_of, slack_tableau, LeastStep, Reached, GivesMultipliers, IsRefuted, reached_dictionary}
+use Rattle.ta_walk.proofs.Common.{◌≡◌, inl, inr, ℕ, zero, suc, ◌+◌, ◌<◌, ℤ, pos, List, length, arith, sym, ap, ◌∙◌, subst, cases_eq, unsigned_abs-neg}
+use Rattle.ta_walk.proofs.Common.{slack_proper, InRange, coefficient, System, Tableau, row_of, cell_of, basic_of, non_basic_of, slack_tableau, LeastStep}
+use Rattle.ta_walk.proofs.Common.{Reached, GivesMultipliers, IsRefuted, reached_dictionary}
 use Rattle.std.proofs.lemmas.List.Elements.{All-get_or}
 use Rattle.std.proofs.lemmas.List.FromFn.{length-range_with_len}
 use Rattle.ta_dense.specs.Merge.{IsProper}
@@ -26,7 +28,8 @@ step_proper n t u p step =
     let inside = step.enters.below in
     subst (ReachesProper n) (sym step.next) (record {
       columns = column_count t step.row step.column ∙ p.columns;
-      rows = λ i h. proper_pivoted n step.row step.column (non_basic_of t step.column) t.rows step.leaves.below (omega arith) step.enters.positive p.rows step.in_range i (omega arith);
+      rows = λ i h. proper_pivoted n step.row step.column (non_basic_of t step.column) t.rows step.leaves.below (omega arith) step.enters.positive p.rows
+          step.in_range i (omega arith);
     })
 
 pub reached_proper : (s : System) (k : ℕ) (t : Tableau) → Reached (slack_tableau s) k t → ReachesProper s.unknowns t
@@ -37,7 +40,8 @@ zero_fits : InRange (pos 0)
 zero_fits = omega arith
 
 -- each multiplier is a number of the tableau
-multiplier_fits : (s : System) (t : Tableau) (row k : ℕ) (multiplier : ℕ → ℤ) → DictionaryOf s t → ReachesProper s.unknowns t → row < length t.rows → k < length s.rows → GivesMultipliers s.unknowns (length s.rows) t row multiplier → InRange (multiplier k)
+multiplier_fits : (s : System) (t : Tableau) (row k : ℕ) (multiplier : ℕ → ℤ) → DictionaryOf s t → ReachesProper s.unknowns t → row < length t.rows
+    → k < length s.rows → GivesMultipliers s.unknowns (length s.rows) t row multiplier → InRange (multiplier k)
 multiplier_fits s t row k multiplier d p h inside g =
     let columns = p.columns in
     let r = p.rows row h in
@@ -55,4 +59,5 @@ multiplier_fits s t row k multiplier d p h inside g =
 -- the multipliers that the rule ends with are in range
 pub multipliers_fit : (s : System) (ts : List (ℕ × ℤ)) → IsRefuted s ts → (k : ℕ) → k < length s.rows → InRange (coefficient ts k)
 multipliers_fit s ts is k inside =
-    multiplier_fits s is.tableau is.row k (coefficient ts) (reached_dictionary s is.steps is.tableau is.reached) (reached_proper s is.steps is.tableau is.reached) is.stuck.leaves.below inside is.multipliers.gives
+    multiplier_fits s is.tableau is.row k (coefficient ts) (reached_dictionary s is.steps is.tableau is.reached)
+    (reached_proper s is.steps is.tableau is.reached) is.stuck.leaves.below inside is.multipliers.gives

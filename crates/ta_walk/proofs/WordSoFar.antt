@@ -1,5 +1,7 @@
 -- what is known at each node of the visit of a word's tree
-use Rattle.ta_walk.proofs.Common.{◌≡◌, ℕ, ◌+◌, ◌-◌, ◌<◌, ◌≤◌, true, false, List, [], ◌∷◌, ◌++◌, ◌∙◌, length, arith, refl, sym, ap, subst, Ok, length-append, AllByRecursion, each_back, each_front, Node, Pending, Search, parts, GoesOn, Inside, IsShared, Within, here, left_at, Cursor, NodeAt, Visits, IsSpent, NodeOf, TreeIs, IsVisited, leaf_count, HasFewBounds, LeadsToBoth, SharesBudget, beginning}
+use Rattle.ta_walk.proofs.Common.{◌≡◌, ℕ, ◌+◌, ◌-◌, ◌<◌, ◌≤◌, true, false, List, [], ◌∷◌, ◌++◌, ◌∙◌, length, arith, refl, sym, ap, subst, Ok, length-append}
+use Rattle.ta_walk.proofs.Common.{AllByRecursion, each_back, each_front, Node, Pending, Search, parts, GoesOn, Inside, IsShared, Within, here, left_at, Cursor}
+use Rattle.ta_walk.proofs.Common.{NodeAt, Visits, IsSpent, NodeOf, TreeIs, IsVisited, leaf_count, HasFewBounds, LeadsToBoth, SharesBudget, beginning}
 use Rattle.ta_walk.proofs.SearchesMoved.{moved_visits}
 use Rattle.ta_walk.proofs.WalkSoFar.{visits_more}
 use Rattle.ta_walk.proofs.FewBounds.{few_left}
@@ -32,7 +34,8 @@ record AtHere {E : Type 0} (s : Search E) (begun : List (Pending E)) (c : Cursor
   pub within : Within s c (here c ∷ words)
   pub visits : Visits s begun found (here c ∷ words)
 
-at_here : {E : Type 0} (s : Search E) (begun : List (Pending E)) (c : Cursor E) (done : ℕ) (found : List Node) → WordSoFar s begun c done found → AtHere s begun c found
+at_here : {E : Type 0} (s : Search E) (begun : List (Pending E)) (c : Cursor E) (done : ℕ) (found : List Node) → WordSoFar s begun c done found
+    → AtHere s begun c found
 at_here s begun c done found so = record {
   words = so.within.words;
   within = subst (Within s c) so.within.left so.within;
@@ -40,12 +43,14 @@ at_here s begun c done found so = record {
 }
 
 -- each node adds at most one bound to a word
-pub word_few : {E : Type 0} (s : Search E) (begun : List (Pending E)) (c : Cursor E) (done most : ℕ) (found : List Node) → AllByRecursion (HasFewBounds most) begun → WordSoFar s begun c done found → AllByRecursion (HasFewBounds (most + done)) (left_at s c)
+pub word_few : {E : Type 0} (s : Search E) (begun : List (Pending E)) (c : Cursor E) (done most : ℕ) (found : List Node)
+    → AllByRecursion (HasFewBounds most) begun → WordSoFar s begun c done found → AllByRecursion (HasFewBounds (most + done)) (left_at s c)
 word_few s begun c done most found few so =
     subst (λ (k : ℕ). AllByRecursion (HasFewBounds (most + k)) (left_at s c)) so.counted
     (subst (AllByRecursion (HasFewBounds (most + length found))) (pending_is s c so.pending so.within) (few_left s most begun found so.pending few so.visits))
 
-pub word_visited : {E : Type 0} (s : Search E) (begun : List (Pending E)) (c : Cursor E) (done : ℕ) (found : List Node) → WordSoFar s begun c done found → IsVisited (beginning s begun) done (here c)
+pub word_visited : {E : Type 0} (s : Search E) (begun : List (Pending E)) (c : Cursor E) (done : ℕ) (found : List Node) → WordSoFar s begun c done found
+    → IsVisited (beginning s begun) done (here c)
 word_visited s begun c done found so =
     let at = at_here s begun c done found so in
     record { nodes = found; words = at.words; visits = moved_visits s s.roots begun begun found (here c ∷ at.words) at.visits; counted = so.counted }
@@ -59,7 +64,8 @@ ended s new [] goes = refl
 ended s new (w ∷ ws) goes = absurd (let e = goes.0 in cc)
 
 -- it goes on to the next node
-pub word_goes : {E : Type 0} (s : Search E) (begun : List (Pending E)) (c new : Cursor E) (done : ℕ) (found : List Node) (m : Node) → WordSoFar s begun c done found → NodeAt s (here c) m →
+pub word_goes : {E : Type 0} (s : Search E) (begun : List (Pending E)) (c new : Cursor E) (done : ℕ) (found : List Node) (m : Node)
+    → WordSoFar s begun c done found → NodeAt s (here c) m →
     ((w : Pending E) (words : List (Pending E)) → Within s c (w ∷ words) → GoesOn s new (parts s w m ++ words) (Ok true)) →
     WordSoFar s begun new (done + 1) (found ++ m ∷ [])
 word_goes s begun c new done found m so stands goes =
@@ -73,7 +79,8 @@ word_goes s begun c new done found m so stands goes =
     }
 
 -- no word is left
-pub word_refutes : {E : Type 0} (s : Search E) (begun : List (Pending E)) (c new : Cursor E) (done budget : ℕ) (found : List Node) (m : Node) → WordSoFar s begun c done found → NodeAt s (here c) m →
+pub word_refutes : {E : Type 0} (s : Search E) (begun : List (Pending E)) (c new : Cursor E) (done budget : ℕ) (found : List Node) (m : Node)
+    → WordSoFar s begun c done found → NodeAt s (here c) m →
     ((w : Pending E) (words : List (Pending E)) → Within s c (w ∷ words) → GoesOn s new (parts s w m ++ words) (Ok false)) →
     done + 1 ≤ budget → TreeIs (beginning s begun) budget (found ++ m ∷ []) (done + 1)
 word_refutes s begun c new done budget found m so stands goes within =
@@ -89,7 +96,8 @@ word_refutes s begun c new done budget found m so stands goes within =
     }
 
 -- the node of the cursor has a fact
-pub word_at_node : {E : Type 0} (s : Search E) (begun : List (Pending E)) (c : Cursor E) (done budget : ℕ) (found : List Node) (F : Pending E → Type 0) → WordSoFar s begun c done found → F (here c) → done + 1 ≤ budget → NodeOf (beginning s begun) budget (done + 1) F
+pub word_at_node : {E : Type 0} (s : Search E) (begun : List (Pending E)) (c : Cursor E) (done budget : ℕ) (found : List Node) (F : Pending E → Type 0)
+    → WordSoFar s begun c done found → F (here c) → done + 1 ≤ budget → NodeOf (beginning s begun) budget (done + 1) F
 word_at_node s begun c done budget found F so holds within = record {
   before = done;
   number_is = refl;
@@ -100,11 +108,13 @@ word_at_node s begun c done budget found F so holds within = record {
 }
 
 -- a word is left behind the budget
-pub word_spent : {E : Type 0} (s : Search E) (begun : List (Pending E)) (c : Cursor E) (budget : ℕ) (found : List Node) → WordSoFar s begun c budget found → IsSpent (beginning s begun) budget budget
+pub word_spent : {E : Type 0} (s : Search E) (begun : List (Pending E)) (c : Cursor E) (budget : ℕ) (found : List Node) → WordSoFar s begun c budget found
+    → IsSpent (beginning s begun) budget budget
 word_spent s begun c budget found so = record { counted = refl; word = here c; visited = word_visited s begun c budget found so }
 
 -- words are shared behind some nodes
-pub word_shared : {E : Type 0} (s : Search E) (begun : List (Pending E)) (c new later : Cursor E) (done leaves : ℕ) (found : List Node) (Keeps : List Node → Type 0) → WordSoFar s begun c done found → IsShared s c new later → leaves ≡ leaf_count found → Keeps found
+pub word_shared : {E : Type 0} (s : Search E) (begun : List (Pending E)) (c new later : Cursor E) (done leaves : ℕ) (found : List Node)
+    (Keeps : List Node → Type 0) → WordSoFar s begun c done found → IsShared s c new later → leaves ≡ leaf_count found → Keeps found
     → LeadsToBoth s begun Keeps new later done leaves
 word_shared s begun c new later done leaves found Keeps so shared few kept = record {
   nodes = found;
@@ -115,7 +125,9 @@ word_shared s begun c new later done leaves found Keeps so shared few kept = rec
 }
 
 -- and both cursors have room for what is left of the budget
-pub both_stand : {E : Type 0} (s : Search E) (begun : List (Pending E)) (c new later : Cursor E) (done nodes most leaves : ℕ) (found : List Node) → AllByRecursion (HasFewBounds most) begun → most + nodes ≤ 1000000000 → WordSoFar s begun c done found → IsShared s c new later → 0 < done → done ≤ nodes → leaves ≡ leaf_count found
+pub both_stand : {E : Type 0} (s : Search E) (begun : List (Pending E)) (c new later : Cursor E) (done nodes most leaves : ℕ) (found : List Node)
+    → AllByRecursion (HasFewBounds most) begun → most + nodes ≤ 1000000000 → WordSoFar s begun c done found → IsShared s c new later → 0 < done → done ≤ nodes
+    → leaves ≡ leaf_count found
     → SharesBudget s nodes done leaves new later
 both_stand s begun c new later done nodes most leaves found few room so shared some within leaves_are =
     let all = subst (AllByRecursion (HasFewBounds (most + done))) shared.words (word_few s begun c done most found few so) in
@@ -125,6 +137,18 @@ both_stand s begun c new later done nodes most leaves found few room so shared s
       some = some;
       within = within;
       leaves_few = omega arith;
-      here = record { within = shared.first; most = most + done; room = fits; few = each_front (HasFewBounds (most + done)) (left_at s new) (left_at s later) all };
-      there = record { within = shared.second; most = most + done; room = fits; few = each_back (HasFewBounds (most + done)) (left_at s new) (left_at s later) all };
+      here = record {
+        within = shared.first;
+        most = most + done;
+        room = fits;
+        few = each_front (HasFewBounds (most + done)) (left_at s new) (left_at s later)
+            all;
+      };
+      there = record {
+        within = shared.second;
+        most = most + done;
+        room = fits;
+        few = each_back (HasFewBounds (most + done)) (left_at s new) (left_at s later)
+            all;
+      };
     }

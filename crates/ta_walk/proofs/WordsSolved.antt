@@ -1,9 +1,13 @@
 -- the values of a whole node solve its word
-use Rattle.ta_walk.proofs.Common.{◌≡◌, ◌⊎◌, inl, inr, ℕ, zero, suc, ◌<◌, ◌^◌, ℤ, pos, ◌*ℤ◌, ◌≤ℤ◌, List, [], ◌∷◌, map, length, reverse, slice_get, Option, arith, refl, sym, ap, ◌∙◌, subst, IsSomeAnd, slice_index, *ℤ_comm, ge-zero_of_mul, Element, LegalUnder, is_complete, SolvesWord, solution_of, unbounded, Fraction, whole_vertex_solves, pattern_search, comes_legal, IsWholeNumber, AreNumbers, FoundWordsAreSolved, WholeNodesSolve, ScaledSolve, AreSolution, IsScaled, VertexAt, Pending, Search, None, Some, parts_of, unsigned_abs, children}
+use Rattle.ta_walk.proofs.Common.{◌≡◌, ◌⊎◌, inl, inr, ℕ, zero, suc, ◌<◌, ◌^◌, ℤ, pos, ◌*ℤ◌, ◌≤ℤ◌, List, [], ◌∷◌, map, length, reverse, slice_get, Option, arith}
+use Rattle.ta_walk.proofs.Common.{refl, sym, ap, ◌∙◌, subst, IsSomeAnd, slice_index, *ℤ_comm, ge-zero_of_mul, Element, LegalUnder, is_complete, SolvesWord}
+use Rattle.ta_walk.proofs.Common.{solution_of, unbounded, Fraction, whole_vertex_solves, pattern_search, comes_legal, IsWholeNumber, AreNumbers}
+use Rattle.ta_walk.proofs.Common.{FoundWordsAreSolved, WholeNodesSolve, ScaledSolve, AreSolution, IsScaled, VertexAt, Pending, Search, None, Some, parts_of}
+use Rattle.ta_walk.proofs.Common.{unsigned_abs, children}
 use Rattle.ta_cert.specs.declared.line.Node.TheVariants.{Extend}
 use Rattle.ta_encode.proofs.Asking.{settled_complete}
 use Rattle.ta_base.proofs.Integers.{abs_natural}
-use Rattle.ta_claim.specs.declared.claim.Claim.TheVariants.{Safe}
+use Rattle.ta_rest.specs.declared.claim.Claim.TheVariants.{Safe}
 use Rattle.ta_walk.proofs.WordsVisited.{starts_wait, left_wait}
 
 -- natural numbers that are the values
@@ -17,7 +21,8 @@ record Naturals (values : List Fraction) (numbers : List ℤ) : Type 0 where
 natural : (k : ℤ) (f : Fraction) → IsWholeNumber k f → pos 0 ≤ℤ f.top → (n : ℕ) × (k ≡ pos n)
 natural k f is low = (unsigned_abs k, sym (abs_natural k (ge-zero_of_mul f.bottom k f.positive (subst (λ (z : ℤ). pos 0 ≤ℤ z) (is ∙ *ℤ_comm k f.bottom) low))))
 
-naturals : (values : List Fraction) (numbers : List ℤ) → AreNumbers values numbers → ((x : ℕ) → x < length values → IsSomeAnd (slice_get values x) (λ f. pos 0 ≤ℤ f.top)) → Naturals values numbers
+naturals : (values : List Fraction) (numbers : List ℤ) → AreNumbers values numbers
+    → ((x : ℕ) → x < length values → IsSomeAnd (slice_get values x) (λ f. pos 0 ≤ℤ f.top)) → Naturals values numbers
 naturals [] [] are low = record { naturals = []; same = refl; count = refl; are = λ x h. absurd (omega arith) }
 naturals [] (k ∷ ks) are low = absurd are
 naturals (f ∷ fs) [] are low = absurd are
@@ -31,13 +36,15 @@ naturals (f ∷ fs) (k ∷ ks) are low =
       are = here first.0 rest.naturals (are.0 ∙ ap (λ z. z *ℤ f.bottom) first.1) rest.are;
     }
   where
-    here : (n : ℕ) (ns : List ℕ) → f.top ≡ pos n *ℤ f.bottom → ((x : ℕ) → x < length fs → IsSomeAnd (slice_get fs x) (λ f. f.top ≡ pos (slice_index ns x) *ℤ f.bottom)) →
+    here : (n : ℕ) (ns : List ℕ) → f.top ≡ pos n *ℤ f.bottom
+        → ((x : ℕ) → x < length fs → IsSomeAnd (slice_get fs x) (λ f. f.top ≡ pos (slice_index ns x) *ℤ f.bottom)) →
         (x : ℕ) → x < suc (length fs) → IsSomeAnd (slice_get (f ∷ fs) x) (λ f. f.top ≡ pos (slice_index (n ∷ ns) x) *ℤ f.bottom)
     here n ns e more zero h = e
     here n ns e more (suc x) h = more x (omega arith)
 
 -- whole values of a vertex solve its system
-numbers_solve : {E : Type 0} (s : Search E) (w : Pending E) (values : List Fraction) (numbers : List ℤ) → VertexAt s w values → AreNumbers values numbers → AreSolution s w numbers
+numbers_solve : {E : Type 0} (s : Search E) (w : Pending E) (values : List Fraction) (numbers : List ℤ) → VertexAt s w values → AreNumbers values numbers
+    → AreSolution s w numbers
 numbers_solve s w values numbers vertex are =
     let z = vertex.system in
     let at = vertex.holds in
@@ -78,7 +85,9 @@ found_solved a p pairs number budget count solution found =
       subst (λ (k : ℕ). k < 2 ^ length a.fall) start legal.start_is,
       record {
         legal = subst (λ (k : ℕ). LegalUnder a p pairs k (reverse solution.word)) start (subst (LegalUnder a p pairs w.start) past legal.under);
-        complete = ap (is_complete p) (sym past) ∙ settled_complete s w.start w.past (is_complete p w.past) (children a p pairs w.start w.past) (λ n. refl) (λ may. at.whole.settled Extend refl may);
-        solves = subst (λ (k : ℕ). SolvesWord a p k (reverse solution.word) [] solved.0) start (subst (λ (q : List Element). SolvesWord a p w.start q [] solved.0) past solves);
+        complete = ap (is_complete p) (sym past) ∙ settled_complete s w.start w.past (is_complete p w.past) (children a p pairs w.start w.past) (λ n. refl)
+            (λ may. at.whole.settled Extend refl may);
+        solves = subst (λ (k : ℕ). SolvesWord a p k (reverse solution.word) [] solved.0) start
+            (subst (λ (q : List Element). SolvesWord a p w.start q [] solved.0) past solves);
       },
     )

@@ -9,8 +9,8 @@ use Rattle.ta_encode.specs.Code.{SystemAt}
 use Rattle.ta_encode.specs.Lines.{BoundsWithin}
 use Rattle.ta_encode.specs.Sample.{sample_search}
 use Rattle.ta_encode.specs.Search.{Pending, Search, Comes, Answers}
-use Rattle.ta_claim.specs.Claims.{search_for}
-use Rattle.ta_claim.specs.declared.claim.Claim.{Claim}
+use Rattle.ta_rest.specs.Claims.{search_for}
+use Rattle.ta_rest.specs.declared.claim.Claim.{Claim}
 use Rattle.ta_walk.specs.Ends.{Ending, IsWalkEnd, IsVisitEnding, IsUnbounded}
 use Rattle.ta_walk.specs.Samples.{IsSampleEnd}
 use Rattle.ta_walk.specs.declared.end.SampleEnd.{SampleEnd}
@@ -34,11 +34,13 @@ SearchesHaveEnds E = (s : Search E) → HasSystems s → (budget : ℕ) → ¬ H
 
 -- for each claim, under any pairs of rise guards, the schemas of each pattern of a file have systems, and so does the search for a sample
 pub record WordsHaveSystems : Type 0 where
-  pub patterns : (claim : Claim) (file : File) (number : ℕ) (p : Pattern) → slice_get file.patterns number ≡ Some p → (pairs : List (ℕ × ℕ)) → HasSystems (search_for claim file.automaton p pairs)
+  pub patterns : (claim : Claim) (file : File) (number : ℕ) (p : Pattern) → slice_get file.patterns number ≡ Some p → (pairs : List (ℕ × ℕ))
+      → HasSystems (search_for claim file.automaton p pairs)
   pub samples : (a : Automaton) → HasSystems (sample_search a)
 
 -- so for each claim, under any pairs of rise guards, the walk of each pattern terminates for every budget, and so does the search for a
 -- sample
 pub record WalksHaveEnds : Type 0 where
-  pub walks : (claim : Claim) (file : File) (number : ℕ) (p : Pattern) → slice_get file.patterns number ≡ Some p → (pairs : List (ℕ × ℕ)) (budget : ℕ) → ¬ ((e : WalkEnd) × IsWalkEnd (search_for claim file.automaton p pairs) number budget e) → ⊥
+  pub walks : (claim : Claim) (file : File) (number : ℕ) (p : Pattern) → slice_get file.patterns number ≡ Some p → (pairs : List (ℕ × ℕ)) (budget : ℕ)
+      → ¬ ((e : WalkEnd) × IsWalkEnd (search_for claim file.automaton p pairs) number budget e) → ⊥
   pub samples : (a : Automaton) (budget : ℕ) → ¬ ((e : SampleEnd) × IsSampleEnd a budget e) → ⊥

@@ -17,9 +17,9 @@ use Rattle.ta_encode.specs.InPreorder.{Pending, RefutedInOrder}
 use Rattle.ta_encode.specs.Laws.{SolvedUnder}
 use Rattle.ta_encode.specs.Search.{Search, SolvesAt}
 use Rattle.ta_encode.specs.PatternSearch.{pattern_search}
-use Rattle.ta_cursor.specs.Range.{IsJudged}
-use Rattle.ta_claim.specs.Claims.{MayClaim, claimed, search_for}
-use Rattle.ta_claim.specs.declared.claim.Claim.{Claim}
+use Rattle.ta_encode.specs.Range.{IsJudged}
+use Rattle.ta_rest.specs.Claims.{MayClaim, claimed, search_for}
+use Rattle.ta_rest.specs.declared.claim.Claim.{Claim}
 use Rattle.ta_walk.specs.declared.end.PlaceKind.{PlaceKind}
 use Rattle.ta_walk.specs.declared.end.TreeEnd.{TreeEnd}
 use Rattle.ta_walk.specs.declared.end.TreeEnd.TheVariants as tree
@@ -94,7 +94,8 @@ AreSolution s w numbers = (values : List ℕ) × (numbers ≡ map pos values) ×
 
 -- the integer values that a maker takes in place of a vertex's solve the system
 abbrev pub ScaledSolve : {E : Type 0} → Search E → Type 0
-ScaledSolve {E} s = (w : Pending E) (values : List Fraction) (numbers : List ℤ) → VertexAt s w values → s.scaled w (parts_of values) ≡ Some numbers → AreSolution s w numbers
+ScaledSolve {E} s = (w : Pending E) (values : List Fraction) (numbers : List ℤ) → VertexAt s w values → s.scaled w (parts_of values) ≡ Some numbers
+    → AreSolution s w numbers
 
 -- then the values of each whole node are natural numbers that solve its schema's system
 abbrev pub WholeNodesSolve : Type 0 → Type 0
@@ -187,5 +188,7 @@ RefutedClaimsHold =
 -- what a walk finds is a complete schema that is legal under the pairs, with natural values that solve its system
 abbrev pub FoundWordsAreSolved : Type 0
 FoundWordsAreSolved =
-    (a : Automaton) (p : Pattern) (pairs : List (ℕ × ℕ)) (number budget count : ℕ) (solution : Solution) → NodeOf (pattern_search a p pairs) budget count (SolutionAt (pattern_search a p pairs) number solution)
-    → (values : List ℕ) × (solution.values ≡ map pos values) × (solution.start_mask < 2 ^ length a.fall) × SolvedUnder a p pairs solution.start_mask solution.word values
+    (a : Automaton) (p : Pattern) (pairs : List (ℕ × ℕ)) (number budget count : ℕ) (solution : Solution)
+    → NodeOf (pattern_search a p pairs) budget count (SolutionAt (pattern_search a p pairs) number solution)
+    → (values : List ℕ) × (solution.values ≡ map pos values) × (solution.start_mask < 2 ^ length a.fall)
+    × SolvedUnder a p pairs solution.start_mask solution.word values

@@ -2,3 +2,4 @@ pub mod Solving
 pub mod Sought
 pub mod Parts
 pub mod Counted
+pub mod Showing

@@ -6,3 +6,9 @@ pub mod FoundOrders
 pub mod Answers
 pub mod Splits
 pub mod Inside
+pub mod Found
+pub mod MomentEnds
+pub mod Laws
+pub mod Deciding
+pub mod Values
+pub mod NextTerms

@@ -40,5 +40,6 @@ SampleEndsAreDetermined = (a : Automaton) (budget : ℕ) (e f : SampleEnd) → I
 
 -- a sample has natural values that meet the resilience condition and have an initial configuration; where there is none, no values do
 pub record SamplesAreReal : Type 0 where
-  pub found : (a : Automaton) (budget : ℕ) (parameters : List ℤ) → IsSampleEnd a budget (Sample parameters) → (values : List ℕ) × (parameters ≡ map pos values) × HasStart a values
+  pub found : (a : Automaton) (budget : ℕ) (parameters : List ℤ) → IsSampleEnd a budget (Sample parameters) → (values : List ℕ) × (parameters ≡ map pos values)
+      × HasStart a values
   pub none : (a : Automaton) (budget : ℕ) → IsSampleEnd a budget Empty → (values : List ℕ) → ¬ HasStart a values

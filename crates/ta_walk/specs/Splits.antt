@@ -37,8 +37,11 @@ pub record WasSplit {E : Type 0} (s : Search E) (count : ℕ) : Type 0 where
 -- a pattern of a file has at most some number of such pairs; if there are no more than the budget, it is exhausted only if one of the
 -- visited nodes was split; for without splits any two visited nodes differ in the start set or the schema
 pub record SpentNeedsSplits : Type 0 where
-  pub number : (file : File) (number : ℕ) (p : Pattern) → slice_get file.patterns number ≡ Some p → (pairs : List (ℕ × ℕ)) → (most : ℕ) × HasAtMost file.automaton p pairs most
-  pub split : (a : Automaton) (p : Pattern) (pairs : List (ℕ × ℕ)) (budget count : ℕ) → HasAtMost a p pairs budget → IsSpent (pattern_search a p pairs) budget count → WasSplit (pattern_search a p pairs) budget
+  pub number : (file : File) (number : ℕ) (p : Pattern) → slice_get file.patterns number ≡ Some p → (pairs : List (ℕ × ℕ)) → (most : ℕ)
+      × HasAtMost file.automaton p pairs most
+  pub split : (a : Automaton) (p : Pattern) (pairs : List (ℕ × ℕ)) (budget count : ℕ) → HasAtMost a p pairs budget
+      → IsSpent (pattern_search a p pairs) budget count → WasSplit (pattern_search a p pairs) budget
   pub apart :
-      (a : Automaton) (p : Pattern) (pairs : List (ℕ × ℕ)) (before later : ℕ) (v w : Pending Element) → before < later → IsVisited (pattern_search a p pairs) before v
+      (a : Automaton) (p : Pattern) (pairs : List (ℕ × ℕ)) (before later : ℕ) (v w : Pending Element) → before < later
+      → IsVisited (pattern_search a p pairs) before v
       → (at : IsVisited (pattern_search a p pairs) later w) → ¬ HasSplit at.nodes → v.start ≡ w.start → v.past ≡ w.past → ⊥

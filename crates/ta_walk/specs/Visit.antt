@@ -6,9 +6,9 @@ use Rattle.ta_cert.specs.declared.line.Node.{Node}
 use Rattle.ta_cert.specs.declared.line.Node.TheVariants as node
 use Rattle.ta_encode.specs.Code.{SystemAt}
 use Rattle.ta_encode.specs.Search.{MayAsk, Pending, Search, parts, bounded_rows}
-use Rattle.ta_cursor.specs.Asking.{ask_node}
-use Rattle.ta_cursor.specs.Range.{LeafStays}
-use Rattle.ta_cursor.specs.declared.asking.Ask.{Ask}
+use Rattle.ta_encode.specs.Asking.{ask_node}
+use Rattle.ta_encode.specs.Range.{LeafStays}
+use Rattle.ta_encode.specs.declared.ask.Ask.{Ask}
 use Rattle.ta_dense.specs.Slack.{slack_tableau}
 use Rattle.ta_simplex.specs.LeastIndex.{OverflowsAt}
 use Rattle.ta_simplex.specs.Refuted.{IsRefuted}

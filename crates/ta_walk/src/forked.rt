@@ -11,14 +11,14 @@
 #![tactic(auto)]
 
 ghost use Rattle.std.specs.Prelude.{◌+◌, ◌*◌, ◌≤◌, ◌≡◌, [], IfNone, IfOk, IfSome, is_some, true, false};
-ghost use Rattle.ta_claim.specs.Trees.{search_of_claim};
+ghost use Rattle.ta_rest.specs.Trees.{search_of_claim};
 ghost use Rattle.ta_walk.specs.Ends.{IsWalkEnd, IsTreeEnd, IsVisitEnd, node_count, visit_count};
 ghost use Rattle.ta_walk.specs.Work.{Rose, most_begun};
 ghost use Rattle.ta_walk.specs.Inside.Counted.{VisitCounted};
 ghost use Rattle.ta_walk.specs.Inside.Parts.{IsSmallEnd, IsWholeEnd};
 
 use crate::end::{TreeEnd, VisitEnd, WalkEnd};
-use crate::forking::visit_list;
+use crate::forking::{Setting, visit_list};
 use crate::gate::{Gate, Idle};
 use crate::keeper::{Keeper, Nodes, PartKeeper};
 use crate::part::{BESIDE, Board, Part, Watch};
@@ -28,9 +28,9 @@ use std::alloc::{AllocError, Global};
 use std::thread::{Threads, available_parallelism};
 use ta_base::List;
 use ta_base::limits::MOST_NODES;
-use ta_claim::ClaimTree;
 use ta_dense::Dictionary;
 use ta_encode::Solution;
+use ta_rest::ClaimTree;
 use ta_words::{Element, Word};
 
 /// Visits the tree of a claim on a pattern, at most so many nodes of it. Each start set begins with the
@@ -203,7 +203,13 @@ fn visit_parts<D: Dictionary, K: PartKeeper, R: Threads + Sync, G: Gate>(
     let watch = Watch::new(&board, patient);
     let late = keeper.later(alloc)?;
     let starts = roots_of(alloc, tree)?;
-    let part = visit_list::<D, K, R, G>(rt, alloc, tree, gate, watch, starts, nodes, late)?;
+    let setting = Setting {
+        rt,
+        alloc,
+        tree,
+        gate,
+    };
+    let part = visit_list::<D, K, R, G>(setting, watch, starts, nodes, late)?;
     let Part {
         end,
         keeper: late,

@@ -25,8 +25,8 @@
 ghost use Rattle.std.specs.Prelude.{◌+◌, ◌-◌, ◌<◌, ◌≤◌, ◌^◌, ◌≡◌, ◌++◌, [], ◌∷◌, IfOk, map, true, vec_len};
 ghost use Rattle.std.specs.List.{AllByRecursion};
 ghost use denote.Param.Send.{IsSend, IsSync};
-ghost use Rattle.ta_claim.specs.Trees.{IsKeptFor, search_of_claim};
-ghost use Rattle.ta_cursor.specs.Cursors.{left_at};
+ghost use Rattle.ta_rest.specs.Trees.{IsKeptFor, search_of_claim};
+ghost use Rattle.ta_encode.specs.Cursors.{left_at};
 ghost use Rattle.ta_simplex.specs.Branch.{IsBranch};
 ghost use Rattle.ta_walk.specs.Inside.Counted.{IsCounted};
 ghost use Rattle.ta_walk.specs.Inside.Parts.{IsLaterKeeper, ComesTo, IsSmallEnd, IsWholeEnd, PartVisited, HasFewLeft, beginning, root_node};
@@ -36,36 +36,46 @@ use crate::gate::Gate;
 use crate::keeper::{Keeper, PartKeeper};
 use crate::merging::{add, end_behind, merge, refuted};
 use crate::part::{Part, Watch};
-use crate::visiting::{Stretch, visit_stretch};
+use crate::visiting::{Frontier, Stretch, visit_stretch};
 use crate::work::Work;
 use std::alloc::{AllocError, Global};
 use std::sync::atomic::AtomicU64;
 use std::thread::{Threads, join};
 use ta_base::limits::MOST_NODES;
-use ta_claim::ClaimTree;
-use ta_cursor::{Cursor, Tree};
 use ta_dense::Dictionary;
-use ta_encode::Encoding;
+use ta_encode::{Cursor, Encoding, Tree};
+use ta_rest::ClaimTree;
 use ta_simplex::Branch;
 use ta_words::Element;
+
+/// What all parts of a visit work with.
+#[derive_where(Clone, Copy)]
+pub(crate) struct Setting<'a, R, G> {
+    /// What starts threads.
+    pub rt: &'a R,
+    /// What gives memory.
+    pub alloc: Global,
+    /// The tree that is visited.
+    pub tree: &'a ClaimTree<'a>,
+    /// What each half of a fork goes through before its first node.
+    pub gate: &'a G,
+}
 
 /// Visits the trees of the starts of a list, at most so many nodes of them: a list of several starts is
 /// cut into halves.
 #[cycle(forks)]
 pub(crate) fn visit_list<D: Dictionary, K: PartKeeper, R: Threads + Sync, G: Gate>(
-    rt: &R,
-    alloc: Global,
-    tree: &ClaimTree<'_>,
-    gate: &G,
+    setting: Setting<'_, R, G>,
     watch: Watch<'_>,
     starts: Vec<u8>,
     nodes: u64,
     keeper: K,
 ) -> Result<Part<K>, AllocError>
-    requires come { AllByRecursion (ComesTo (search_of_claim tree.now)) starts.items }
+    requires come { AllByRecursion (ComesTo (search_of_claim setting.tree.now)) starts.items }
     requires few { vec_len starts ≤ 2 ^ 31 }
     requires limit { nodes ≤ MOST_NODES }
-    ensures visited { IfOk result (λ part. PartVisited K.keeps (beginning (search_of_claim tree.now) (map root_node starts.items)) nodes keeper part.keeper part.end) }
+    ensures visited { IfOk result (λ part. PartVisited K.keeps
+        (beginning (search_of_claim setting.entry.tree.now) (map root_node starts.items)) nodes keeper part.keeper part.end) }
     ensures small { IfOk result (λ part. IsSmallEnd nodes part.end) }
     ensures patient { watch.entry.patient ≡ true → IfOk result (λ part. IsWholeEnd nodes part.end) }
     ensures counted { IfOk result (λ part. IsCounted nodes watch.entry.forks part.end part.begun) }
@@ -81,55 +91,49 @@ pub(crate) fn visit_list<D: Dictionary, K: PartKeeper, R: Threads + Sync, G: Gat
                 keeper,
                 begun: 0,
             }),
-            Some(start) => visit_start::<D, K, R, G>(
-                rt, alloc, tree, gate, watch, start, nodes, keeper,
-            ),
+            Some(start) => visit_start::<D, K, R, G>(setting, watch, start, nodes, keeper),
         };
     }
     let others = starts.split_off(starts.len() / 2)?;
-    visit_halves::<D, K, R, G>(rt, alloc, tree, gate, watch, starts, others, nodes, keeper)
+    visit_halves::<D, K, R, G>(setting, watch, starts, others, nodes, keeper)
 }
 
 /// Visits the starts of the halves of a list, beside each other where that may be. Elsewhere the second
 /// half has the budget that the first one left.
 #[cycle(forks)]
 fn visit_halves<D: Dictionary, K: PartKeeper, R: Threads + Sync, G: Gate>(
-    rt: &R,
-    alloc: Global,
-    tree: &ClaimTree<'_>,
-    gate: &G,
+    setting: Setting<'_, R, G>,
     watch: Watch<'_>,
     starts: Vec<u8>,
     others: Vec<u8>,
     nodes: u64,
     keeper: K,
 ) -> Result<Part<K>, AllocError>
-    requires first { AllByRecursion (ComesTo (search_of_claim tree.now)) starts.items }
-    requires second { AllByRecursion (ComesTo (search_of_claim tree.now)) others.items }
+    requires first { AllByRecursion (ComesTo (search_of_claim setting.tree.now)) starts.items }
+    requires second { AllByRecursion (ComesTo (search_of_claim setting.tree.now)) others.items }
     requires some { (0 < vec_len starts) × (0 < vec_len others) }
     requires few { vec_len starts + vec_len others ≤ 2 ^ 31 }
     requires limit { nodes ≤ MOST_NODES }
-    ensures visited { IfOk result (λ part. PartVisited K.keeps (beginning (search_of_claim tree.now) (map root_node starts.items ++ map root_node others.items)) nodes keeper part.keeper part.end) }
+    ensures visited { IfOk result (λ part. PartVisited K.keeps
+        (beginning (search_of_claim setting.entry.tree.now) (map root_node starts.items ++ map root_node others.items)) nodes keeper part.keeper part.end) }
     ensures small { IfOk result (λ part. IsSmallEnd nodes part.end) }
     ensures patient { watch.entry.patient ≡ true → IfOk result (λ part. IsWholeEnd nodes part.end) }
     ensures counted { IfOk result (λ part. IsCounted nodes watch.entry.forks part.end part.begun) }
 {
-    let late = keeper.later(alloc)?;
+    let late = keeper.later(setting.alloc)?;
     if watch.goes_beside() {
-        return visit_beside::<D, K, R, G>(
-            rt, alloc, tree, gate, watch, starts, others, keeper, late, nodes,
-        );
+        return visit_beside::<D, K, R, G>(setting, watch, starts, others, keeper, late, nodes);
     }
     let low = watch.first_half(watch.forks / 2);
     let high = watch.second_half(watch.forks / 2);
-    let first = visit_list::<D, K, R, G>(rt, alloc, tree, gate, low, starts, nodes, keeper)?;
+    let first = visit_list::<D, K, R, G>(setting, low, starts, nodes, keeper)?;
     let Some((count, leaves)) = refuted(&first.end) else {
         return Ok(first);
     };
     let left = nodes - count;
-    let second = visit_list::<D, K, R, G>(rt, alloc, tree, gate, high, others, left, late)?;
+    let second = visit_list::<D, K, R, G>(setting, high, others, left, late)?;
     add(
-        alloc,
+        setting.alloc,
         nodes,
         count,
         leaves,
@@ -142,10 +146,7 @@ fn visit_halves<D: Dictionary, K: PartKeeper, R: Threads + Sync, G: Gate>(
 /// Visits the starts of the halves of a list beside each other.
 #[cycle(forks)]
 fn visit_beside<D: Dictionary, K: PartKeeper, R: Threads + Sync, G: Gate>(
-    rt: &R,
-    alloc: Global,
-    tree: &ClaimTree<'_>,
-    gate: &G,
+    setting: Setting<'_, R, G>,
     watch: Watch<'_>,
     starts: Vec<u8>,
     others: Vec<u8>,
@@ -153,14 +154,15 @@ fn visit_beside<D: Dictionary, K: PartKeeper, R: Threads + Sync, G: Gate>(
     late: K,
     nodes: u64,
 ) -> Result<Part<K>, AllocError>
-    requires first { AllByRecursion (ComesTo (search_of_claim tree.now)) starts.items }
-    requires second { AllByRecursion (ComesTo (search_of_claim tree.now)) others.items }
+    requires first { AllByRecursion (ComesTo (search_of_claim setting.tree.now)) starts.items }
+    requires second { AllByRecursion (ComesTo (search_of_claim setting.tree.now)) others.items }
     requires some { (0 < vec_len starts) × (0 < vec_len others) }
     requires few { vec_len starts + vec_len others ≤ 2 ^ 31 }
     requires limit { nodes ≤ MOST_NODES }
     requires fresh { IsLaterKeeper K.begins K.keeps keeper late }
     requires forks { 0 < watch.forks }
-    ensures visited { IfOk result (λ part. PartVisited K.keeps (beginning (search_of_claim tree.now) (map root_node starts.items ++ map root_node others.items)) nodes keeper part.keeper part.end) }
+    ensures visited { IfOk result (λ part. PartVisited K.keeps
+        (beginning (search_of_claim setting.entry.tree.now) (map root_node starts.items ++ map root_node others.items)) nodes keeper part.keeper part.end) }
     ensures small { IfOk result (λ part. IsSmallEnd nodes part.end) }
     ensures patient { watch.entry.patient ≡ true → IfOk result (λ part. IsWholeEnd nodes part.end) }
     ensures counted { IfOk result (λ part. IsCounted nodes watch.entry.forks part.end part.begun) }
@@ -170,118 +172,111 @@ fn visit_beside<D: Dictionary, K: PartKeeper, R: Threads + Sync, G: Gate>(
     let ended = AtomicU64::new(0);
     let ended = &ended;
     let front = move || -> Result<Part<K>, AllocError>
-        requires { IsSync R.row × IsSync G.row × IsSend K.row × AllByRecursion (ComesTo (search_of_claim tree.now)) starts.items × (vec_len starts ≤ 2 ^ 31) × (nodes ≤ MOST_NODES) }
-        ensures visited { IfOk result (λ part. PartVisited K.keeps (beginning (search_of_claim tree.entry.now) (map root_node starts.items)) nodes keeper part.keeper part.end) }
+        requires { IsSync R.row × IsSync G.row × IsSend K.row × AllByRecursion (ComesTo (search_of_claim setting.tree.now)) starts.items
+            × (vec_len starts ≤ 2 ^ 31) × (nodes ≤ MOST_NODES) }
+        ensures visited { IfOk result (λ part. PartVisited K.keeps
+            (beginning (search_of_claim setting.entry.tree.now) (map root_node starts.items)) nodes keeper part.keeper part.end) }
         ensures small { IfOk result (λ part. IsSmallEnd nodes part.end) }
         ensures patient { low.entry.patient ≡ true → IfOk result (λ part. IsWholeEnd nodes part.end) }
         ensures counted { IfOk result (λ part. IsCounted nodes low.entry.forks part.end part.begun) }
     {
-        gate.enter();
-        let part = visit_list::<D, K, R, G>(rt, alloc, tree, gate, low, starts, nodes, keeper);
+        setting.gate.enter();
+        let part = visit_list::<D, K, R, G>(setting, low, starts, nodes, keeper);
         low.came_back(ended);
         part
     };
     let back = move || -> Result<Part<K>, AllocError>
-        requires { IsSync R.row × IsSync G.row × IsSend K.row × AllByRecursion (ComesTo (search_of_claim tree.now)) others.items × (vec_len others ≤ 2 ^ 31) × (nodes ≤ MOST_NODES) }
-        ensures visited { IfOk result (λ part. PartVisited K.keeps (beginning (search_of_claim tree.entry.now) (map root_node others.items)) nodes late part.keeper part.end) }
+        requires { IsSync R.row × IsSync G.row × IsSend K.row × AllByRecursion (ComesTo (search_of_claim setting.tree.now)) others.items
+            × (vec_len others ≤ 2 ^ 31) × (nodes ≤ MOST_NODES) }
+        ensures visited { IfOk result (λ part. PartVisited K.keeps
+            (beginning (search_of_claim setting.entry.tree.now) (map root_node others.items)) nodes late part.keeper part.end) }
         ensures small { IfOk result (λ part. IsSmallEnd nodes part.end) }
         ensures patient { high.entry.patient ≡ true → IfOk result (λ part. IsWholeEnd nodes part.end) }
         ensures counted { IfOk result (λ part. IsCounted nodes high.entry.forks part.end part.begun) }
     {
-        gate.enter();
-        let part = visit_list::<D, K, R, G>(rt, alloc, tree, gate, high, others, nodes, late);
+        setting.gate.enter();
+        let part = visit_list::<D, K, R, G>(setting, high, others, nodes, late);
         high.came_back(ended);
         part
     };
-    let (first, second) = join(rt, front, back);
+    let (first, second) = join(setting.rt, front, back);
     watch.takes_in(high);
-    merge(alloc, nodes, first?, second?)
+    merge(setting.alloc, nodes, first?, second?)
 }
 
 /// Visits the tree of a start, at most so many nodes of it.
 fn visit_start<D: Dictionary, K: PartKeeper, R: Threads + Sync, G: Gate>(
-    rt: &R,
-    alloc: Global,
-    tree: &ClaimTree<'_>,
-    gate: &G,
+    setting: Setting<'_, R, G>,
     watch: Watch<'_>,
     start: u8,
     nodes: u64,
     keeper: K,
 ) -> Result<Part<K>, AllocError>
-    requires comes { ComesTo (search_of_claim tree.now) start }
+    requires comes { ComesTo (search_of_claim setting.tree.now) start }
     requires limit { nodes ≤ MOST_NODES }
-    ensures visited { IfOk result (λ part. PartVisited K.keeps (beginning (search_of_claim tree.now) (root_node start ∷ [])) nodes keeper part.keeper part.end) }
+    ensures visited { IfOk result (λ part. PartVisited K.keeps
+        (beginning (search_of_claim setting.entry.tree.now) (root_node start ∷ [])) nodes keeper part.keeper part.end) }
     ensures small { IfOk result (λ part. IsSmallEnd nodes part.end) }
     ensures patient { watch.entry.patient ≡ true → IfOk result (λ part. IsWholeEnd nodes part.end) }
     ensures counted { IfOk result (λ part. IsCounted nodes watch.entry.forks part.end part.begun) }
 {
-    let cursor = Cursor::new(alloc, start);
-    visit_tree_at::<D, K, R, G>(rt, alloc, tree, gate, watch, cursor, nodes, keeper)
+    let cursor = Cursor::new(setting.alloc, start);
+    visit_tree_at::<D, K, R, G>(setting, watch, cursor, nodes, keeper)
 }
 
 /// Visits the words that are left at a cursor, at most so many nodes: none of their systems is solved yet.
 #[cycle(shares)]
 fn visit_tree_at<D: Dictionary, K: PartKeeper, R: Threads + Sync, G: Gate>(
-    rt: &R,
-    alloc: Global,
-    tree: &ClaimTree<'_>,
-    gate: &G,
+    setting: Setting<'_, R, G>,
     watch: Watch<'_>,
     cursor: Cursor<Element>,
     nodes: u64,
     keeper: K,
 ) -> Result<Part<K>, AllocError>
-    requires stands { HasFewLeft (search_of_claim tree.now) nodes cursor }
+    requires stands { HasFewLeft (search_of_claim setting.tree.now) nodes cursor }
     requires limit { nodes ≤ MOST_NODES }
-    ensures visited { IfOk result (λ part. PartVisited K.keeps (beginning (search_of_claim tree.now) (left_at (search_of_claim tree.now) cursor)) nodes keeper part.keeper part.end) }
+    ensures visited { IfOk result (λ part. PartVisited K.keeps
+        (beginning (search_of_claim setting.entry.tree.now) (left_at (search_of_claim setting.entry.tree.now) cursor)) nodes keeper part.keeper part.end) }
     ensures small { IfOk result (λ part. IsSmallEnd nodes part.end) }
     ensures patient { watch.entry.patient ≡ true → IfOk result (λ part. IsWholeEnd nodes part.end) }
     ensures counted { IfOk result (λ part. IsCounted nodes watch.entry.forks part.end part.begun) }
 {
-    let kept = tree.nothing(alloc);
-    let branch: Branch<D> = Branch::new(alloc);
-    visit_on::<D, K, R, G>(
-        rt, alloc, tree, gate, watch, cursor, kept, branch, nodes, keeper,
-    )
+    let at = Frontier {
+        cursor,
+        kept: setting.tree.nothing(setting.alloc),
+        branch: Branch::new(setting.alloc),
+    };
+    visit_on::<D, K, R, G>(setting, watch, at, nodes, keeper)
 }
 
 /// Visits the words that are left at a cursor, going on from a branch. Where a processor is free, the
 /// last of them are visited beside the others.
 #[cycle(shares)]
 fn visit_on<D: Dictionary, K: PartKeeper, R: Threads + Sync, G: Gate>(
-    rt: &R,
-    alloc: Global,
-    tree: &ClaimTree<'_>,
-    gate: &G,
+    setting: Setting<'_, R, G>,
     watch: Watch<'_>,
-    cursor: Cursor<Element>,
-    kept: Encoding,
-    branch: Branch<D>,
+    at: Frontier<D, Element, Encoding>,
     nodes: u64,
     keeper: K,
 ) -> Result<Part<K>, AllocError>
-    requires stands { HasFewLeft (search_of_claim tree.now) nodes cursor }
+    requires stands { HasFewLeft (search_of_claim setting.tree.now) nodes at.cursor }
     requires limit { nodes ≤ MOST_NODES }
-    requires kept { IsKeptFor tree.now kept }
-    requires branch { IsBranch D.tableau D.pivot_of kept.system.rows branch }
-    ensures visited { IfOk result (λ part. PartVisited K.keeps (beginning (search_of_claim tree.now) (left_at (search_of_claim tree.now) cursor)) nodes keeper part.keeper part.end) }
+    requires kept { IsKeptFor setting.tree.now at.kept }
+    requires branch { IsBranch D.tableau D.pivot_of at.kept.system.rows at.branch }
+    ensures visited { IfOk result (λ part. PartVisited K.keeps
+        (beginning (search_of_claim setting.entry.tree.now) (left_at (search_of_claim setting.entry.tree.now) at.cursor)) nodes keeper part.keeper part.end) }
     ensures small { IfOk result (λ part. IsSmallEnd nodes part.end) }
     ensures patient { watch.entry.patient ≡ true → IfOk result (λ part. IsWholeEnd nodes part.end) }
     ensures counted { IfOk result (λ part. IsCounted nodes watch.entry.forks part.end part.begun) }
 {
-    let mut cursor = cursor;
-    let mut kept = kept;
-    let mut branch = branch;
+    let mut at = at;
     let mut keeper = keeper;
     let mut work = Work::new();
     match visit_stretch::<D, ClaimTree<'_>, K>(
-        alloc,
-        tree,
+        setting.alloc,
+        setting.tree,
         watch,
-        &mut cursor,
-        &mut kept,
-        &mut branch,
+        &mut at,
         nodes,
         &mut keeper,
         &mut work,
@@ -300,9 +295,7 @@ fn visit_on<D: Dictionary, K: PartKeeper, R: Threads + Sync, G: Gate>(
             later,
         } => {
             let left = nodes - count;
-            let part = visit_shared::<D, K, R, G>(
-                rt, alloc, tree, gate, watch, cursor, later, kept, branch, left, keeper,
-            )?;
+            let part = visit_shared::<D, K, R, G>(setting, watch, at, later, left, keeper)?;
             work.add(part.begun);
             Ok(Part {
                 end: end_behind(nodes, count, leaves, part.end),
@@ -317,61 +310,61 @@ fn visit_on<D: Dictionary, K: PartKeeper, R: Threads + Sync, G: Gate>(
 /// first, which goes on from a branch in this thread.
 #[cycle(shares)]
 fn visit_shared<D: Dictionary, K: PartKeeper, R: Threads + Sync, G: Gate>(
-    rt: &R,
-    alloc: Global,
-    tree: &ClaimTree<'_>,
-    gate: &G,
+    setting: Setting<'_, R, G>,
     watch: Watch<'_>,
-    cursor: Cursor<Element>,
+    at: Frontier<D, Element, Encoding>,
     later: Cursor<Element>,
-    kept: Encoding,
-    branch: Branch<D>,
     nodes: u64,
     keeper: K,
 ) -> Result<Part<K>, AllocError>
-    requires stands { HasFewLeft (search_of_claim tree.now) nodes cursor }
-    requires later { HasFewLeft (search_of_claim tree.now) nodes later }
+    requires stands { HasFewLeft (search_of_claim setting.tree.now) nodes at.cursor }
+    requires later { HasFewLeft (search_of_claim setting.tree.now) nodes later }
     requires forks { 0 < watch.forks }
     requires limit { nodes ≤ MOST_NODES }
-    requires kept { IsKeptFor tree.now kept }
-    requires branch { IsBranch D.tableau D.pivot_of kept.system.rows branch }
-    ensures visited { IfOk result (λ part. PartVisited K.keeps (beginning (search_of_claim tree.now) (left_at (search_of_claim tree.now) cursor ++ left_at (search_of_claim tree.now) later)) nodes keeper part.keeper part.end) }
+    requires kept { IsKeptFor setting.tree.now at.kept }
+    requires branch { IsBranch D.tableau D.pivot_of at.kept.system.rows at.branch }
+    ensures visited { IfOk result (λ part. PartVisited K.keeps
+        (beginning (search_of_claim setting.entry.tree.now)
+        (left_at (search_of_claim setting.entry.tree.now) at.cursor ++ left_at (search_of_claim setting.entry.tree.now) later))
+        nodes keeper part.keeper part.end) }
     ensures small { IfOk result (λ part. IsSmallEnd nodes part.end) }
     ensures patient { watch.entry.patient ≡ true → IfOk result (λ part. IsWholeEnd nodes part.end) }
     ensures counted { IfOk result (λ part. IsCounted nodes watch.entry.forks part.end part.begun) }
 {
-    let late = keeper.later(alloc)?;
+    let late = keeper.later(setting.alloc)?;
     let low = watch.first_half(watch.forks / 3);
     let high = watch.half_beside(watch.forks - 1 - watch.forks / 3);
     let ended = AtomicU64::new(0);
     let ended = &ended;
     let back = move || -> Result<Part<K>, AllocError>
-        requires { IsSync R.row × IsSync G.row × IsSend K.row × HasFewLeft (search_of_claim tree.now) nodes later × (nodes ≤ MOST_NODES) }
-        ensures visited { IfOk result (λ part. PartVisited K.keeps (beginning (search_of_claim tree.entry.now) (left_at (search_of_claim tree.entry.now) later)) nodes late part.keeper part.end) }
+        requires { IsSync R.row × IsSync G.row × IsSend K.row × HasFewLeft (search_of_claim setting.tree.now) nodes later × (nodes ≤ MOST_NODES) }
+        ensures visited { IfOk result (λ part. PartVisited K.keeps
+            (beginning (search_of_claim setting.entry.tree.now) (left_at (search_of_claim setting.entry.tree.now) later)) nodes late part.keeper part.end) }
         ensures small { IfOk result (λ part. IsSmallEnd nodes part.end) }
         ensures patient { high.entry.patient ≡ true → IfOk result (λ part. IsWholeEnd nodes part.end) }
         ensures counted { IfOk result (λ part. IsCounted nodes high.entry.forks part.end part.begun) }
     {
-        gate.enter();
-        let part = visit_tree_at::<D, K, R, G>(rt, alloc, tree, gate, high, later, nodes, late);
+        setting.gate.enter();
+        let part = visit_tree_at::<D, K, R, G>(setting, high, later, nodes, late);
         high.came_back(ended);
         part
     };
     let front = move || -> Result<Part<K>, AllocError>
-        requires { IsSync R.row × IsSync G.row × IsSend K.row × HasFewLeft (search_of_claim tree.now) nodes cursor × (nodes ≤ MOST_NODES) × IsKeptFor tree.now kept × IsBranch D.tableau D.pivot_of kept.system.rows branch }
-        ensures visited { IfOk result (λ part. PartVisited K.keeps (beginning (search_of_claim tree.entry.now) (left_at (search_of_claim tree.entry.now) cursor)) nodes keeper part.keeper part.end) }
+        requires { IsSync R.row × IsSync G.row × IsSend K.row × HasFewLeft (search_of_claim setting.tree.now) nodes at.cursor × (nodes ≤ MOST_NODES)
+            × IsKeptFor setting.tree.now at.kept × IsBranch D.tableau D.pivot_of at.kept.system.rows at.branch }
+        ensures visited { IfOk result (λ part. PartVisited K.keeps
+            (beginning (search_of_claim setting.entry.tree.now) (left_at (search_of_claim setting.entry.tree.now) at.cursor))
+            nodes keeper part.keeper part.end) }
         ensures small { IfOk result (λ part. IsSmallEnd nodes part.end) }
         ensures patient { low.entry.patient ≡ true → IfOk result (λ part. IsWholeEnd nodes part.end) }
         ensures counted { IfOk result (λ part. IsCounted nodes low.entry.forks part.end part.begun) }
     {
-        gate.enter();
-        let part = visit_on::<D, K, R, G>(
-            rt, alloc, tree, gate, low, cursor, kept, branch, nodes, keeper,
-        );
+        setting.gate.enter();
+        let part = visit_on::<D, K, R, G>(setting, low, at, nodes, keeper);
         low.came_back(ended);
         part
     };
-    let (second, first) = join(rt, back, front);
+    let (second, first) = join(setting.rt, back, front);
     watch.takes_in(high);
-    merge(alloc, nodes, first?, second?)
+    merge(setting.alloc, nodes, first?, second?)
 }

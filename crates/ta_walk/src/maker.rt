@@ -5,14 +5,13 @@
 //! `question` says what the node asks there. Where it asks nothing and a value is not integral,
 //! `scaled` may give natural numbers in place of the values; else the walk branches. A schema asks
 //! for its next element until it is complete, whatever the values are, and has no scaled values. A
-//! node of moments asks what its values leave open (ta_moment_walk).
+//! node of moments asks what its values leave open (asked_next.rt).
 #![tactic(auto)]
 
 use std::alloc::{AllocError, Global};
 use ta_base::List;
-use ta_claim::ClaimTree;
-use ta_cursor::{Ask, Tree};
-use ta_encode::{Bound, Encoding};
+use ta_encode::{Ask, Bound, Encoding, Tree};
+use ta_rest::ClaimTree;
 use ta_simplex::Fraction;
 use ta_words::Element;
 
@@ -21,7 +20,7 @@ use ta_words::Element;
 /// whole.
 pub trait Maker: Tree {
     ghost use Rattle.std.specs.Prelude.{◌≡◌, [], IfOk, List, reverse};
-    ghost use Rattle.ta_cursor.specs.Cursors.{node_at};
+    ghost use Rattle.ta_encode.specs.Cursors.{node_at};
     ghost use Rattle.ta_encode.specs.Search.{Comes};
     ghost use Rattle.ta_encode.specs.declared.meaning.Bound.{Bound};
     ghost use Rattle.ta_walk.specs.Visit.{IsAsked, IsSettled, VertexAt, parts_of};

@@ -6,7 +6,7 @@ ghost use Rattle.std.specs.List.{AllByRecursion};
 ghost use Rattle.ta_walk.specs.Inside.Parts.{ComesTo, root_node};
 
 use std::alloc::{AllocError, Global};
-use ta_cursor::Tree;
+use ta_encode::Tree;
 
 /// The starts with which a search begins.
 pub(crate) fn roots_of<T: Tree>(alloc: Global, tree: &T) -> Result<Vec<u8>, AllocError>

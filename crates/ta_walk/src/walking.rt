@@ -5,7 +5,7 @@ ghost use Rattle.std.specs.Prelude.{◌+◌, ◌<◌, ◌≤◌, ◌≡◌, [], 
 ghost use Rattle.std.specs.List.{AllByRecursion};
 ghost use Rattle.ta_linear.specs.declared.row.Row.{Row};
 ghost use Rattle.ta_encode.specs.Search.{Pending, parts};
-ghost use Rattle.ta_cursor.specs.InTrees.{AllGoOn, AllWithin, IsAllWithin, here_at};
+ghost use Rattle.ta_encode.specs.InTrees.{AllGoOn, AllWithin, IsAllWithin, here_at};
 ghost use Rattle.ta_simplex.specs.Branch.{IsBranch};
 ghost use Rattle.ta_walk.specs.Visit.{NodeAt};
 ghost use Rattle.ta_walk.specs.Ends.{IsTreeEnd, IsUnbounded, leaf_count, node_count};
@@ -20,8 +20,8 @@ use std::alloc::{AllocError, Global};
 use ta_base::List;
 use ta_base::limits::MOST_NODES;
 use ta_cert::Node;
-use ta_cursor::{Place, Tree, Written, ask_of};
 use ta_dense::Dictionary;
+use ta_encode::{Place, Tree, Written, ask_of};
 use ta_simplex::Branch;
 
 /// Visits the trees of a search, one for each start with which it begins, at most so many nodes of

@@ -1,9 +1,12 @@
 -- The names that the proofs of this crate cite, passed on from one place. Declares nothing.
-pub use Rattle.std.proofs.Common.{Bool, FitsSigned, IsBitSet, List, None, Option, Some, [], ap, append-nil, append_assoc, arith, cond, drop, drop-cons, eqb, false, get_or, inl, inr, length, length-append, map, not, pos, refl, replicate, reverse, rules, slice_get, subst, suc, sym, take, true, unsigned_abs, zero, ℕ, ℤ, ◌*ℤ◌, ◌*◌, ◌++◌, ◌+◌, ◌<ℤ◌, ◌<◌, ◌^◌, ◌∙◌, ◌∷◌, ◌≡◌, ◌≢◌, ◌≤ℤ◌, ◌≤◌}
+pub use Rattle.std.proofs.Common.{Bool, FitsSigned, IsBitSet, List, None, Option, Some, [], ap, append-nil, append_assoc, arith, cond, drop, drop-cons, eqb}
+pub use Rattle.std.proofs.Common.{false, get_or, inl, inr, length, length-append, map, not, pos, refl, replicate, reverse, rules, slice_get, subst, suc, sym}
+pub use Rattle.std.proofs.Common.{take, true, unsigned_abs, zero, ℕ, ℤ, ◌*ℤ◌, ◌*◌, ◌++◌, ◌+◌, ◌<ℤ◌, ◌<◌, ◌^◌, ◌∙◌, ◌∷◌, ◌≡◌, ◌≢◌, ◌≤ℤ◌, ◌≤◌}
 pub use Rattle.std.proofs.lemmas.Bool.{and_parts, cases_Bool, cases_lt, eqb-true, false≢true, not-true, not_from_false, or_parts, or_right, true≢false}
 pub use Rattle.std.proofs.lemmas.Bool.Decides.{eqb_tells, nat_tests}
 pub use Rattle.std.proofs.lemmas.Int.{ints, to_z-of_z}
-pub use Rattle.std.proofs.lemmas.List.{drop-map, drop_all, drop_at, length-map, length-reverse, length-take, map-append, reverse-reverse, take-map, take_all, take_more}
+pub use Rattle.std.proofs.lemmas.List.{drop-map, drop_all, drop_at, length-map, length-reverse, length-take, map-append, reverse-reverse, take-map, take_all}
+pub use Rattle.std.proofs.lemmas.List.{take_more}
 pub use Rattle.std.proofs.lemmas.List.FromFn.{length-range_with_len}
 pub use Rattle.std.proofs.lemmas.Option.{get_or_from_slice_get, slice_get_within}
 pub use Rattle.std.proofs.lemmas.Result.{IfOk-weaker}
@@ -18,7 +21,8 @@ pub use Rattle.ta_automaton.specs.declared.pattern.Pattern.{Pattern}
 pub use Rattle.ta_automaton.specs.declared.rule.Rule.{Rule}
 pub use Rattle.ta_base.proofs.Bits.{all_below-at, bit_set, bit_true}
 pub use Rattle.ta_base.proofs.Each.{each_append, each_from, each_from_in, each_push, known_naturals}
-pub use Rattle.ta_base.proofs.Lists.{filter_false, filter_true, get_map, get_parts, last_item, map_same, natural_at, naturals_back, only_item, range_more, reverse_onto, slice_get_left, some_at}
+pub use Rattle.ta_base.proofs.Lists.{filter_false, filter_true, get_map, get_parts, last_item, map_same, natural_at, naturals_back, only_item, range_more}
+pub use Rattle.ta_base.proofs.Lists.{reverse_onto, slice_get_left, some_at}
 pub use Rattle.ta_base.proofs.Members.{In-filter, in_at, in_filter}
 pub use Rattle.ta_base.proofs.Naturals.{count_most, other_number, same_number}
 pub use Rattle.ta_base.proofs.Ranges.{item_at, map_from, no_item, number_here}
@@ -37,7 +41,8 @@ pub use Rattle.ta_encode.specs.declared.encoded.Solution.{Solution}
 pub use Rattle.ta_encode.specs.declared.meaning.Meaning.{Meaning}
 pub use Rattle.ta_encode.specs.declared.meaning.Meaning.TheVariants.{Count, Parameter, Single, Start}
 pub use Rattle.ta_replay.proofs.PieceLines.{are_short, no_steps, show}
-pub use Rattle.ta_replay.specs.Pieces.{HasFewSteps, MarksInOrder, OncePerRule, Piece, PiecesHappen, last_lines, piece_lines, pieces_lines, pieces_marks, step_line, steps_count, steps_until}
+pub use Rattle.ta_replay.specs.Pieces.{HasFewSteps, MarksInOrder, OncePerRule, Piece, PiecesHappen, last_lines, piece_lines, pieces_lines, pieces_marks}
+pub use Rattle.ta_replay.specs.Pieces.{step_line, steps_count, steps_until}
 pub use Rattle.ta_replay.specs.Shows.{ShowsPattern, unit_steps}
 pub use Rattle.ta_replay.specs.declared.run.Run.{Run}
 pub use Rattle.ta_replay.specs.declared.run.RunLine.TheVariants.{Mark, Step}
@@ -46,7 +51,8 @@ pub use Rattle.ta_scope.specs.Arranged.{AreRuleCounts, ArrangedOf, count_at}
 pub use Rattle.ta_witness.specs.Inside.Making.{AddsPiece, AddsPieceEnd, AddsPieces, AreNaturals, AreValues, EachMayEnd, IsMadeFrom, IsSingle, MayEnd, RunOf}
 pub use Rattle.ta_witness.specs.Values.{same_meaning}
 unfoldable pub use Rattle.ta_witness.specs.Values.{unknown_value}
-pub use Rattle.ta_witness.specs.Witness.{EndsPiece, IsSolution, PieceOf, PiecesOf, WitnessOf, WitnessesAreDetermined, WitnessesShow, counts_before, solution_value}
+pub use Rattle.ta_witness.specs.Witness.{EndsPiece, IsSolution, PieceOf, PiecesOf, WitnessOf, WitnessesAreDetermined, WitnessesShow, counts_before}
+pub use Rattle.ta_witness.specs.Witness.{solution_value}
 pub use Rattle.ta_words.proofs.Counts.{in_children, legal_length, legal_weight}
 pub use Rattle.ta_words.specs.Words.{LegalWord, children, follows, has_fallen, has_rise, may_fire}
 unfoldable pub use Rattle.ta_words.specs.Words.{allowed_rules, has_event}

@@ -4,7 +4,13 @@
 -- forward, and the last step of a Fall is the rule whose Single is 1. Firings of this kind give a run in which the pattern occurs
 -- (`Realize` of ta_encode), each event at the end of its element. The marks stand at these positions, each event once, those that
 -- it comes after before it (`Marks`). A piece has at most one step for each rule, and a Fall one more.
-use Rattle.ta_witness.proofs.Common.{◌≡◌, inl, inr, ℕ, ◌+◌, ◌≤◌, ℤ, List, ◌∷◌, map, length, reverse, true, Some, slice_get, unsigned_abs, arith, sym, ap, ◌∙◌, subst, slice_index, length-reverse, slice_get_within, get_or_from_slice_get, bit_set, each_from, get_map, some_at, count_most, number_here, Automaton, Pattern, File, has_bit, range_with_len, In, Config, HappensAt, InScope, pattern_within, after_earlier, arranged_within, Element, Event, Rise, Fall, has_event, has_rise, has_fallen, legal_weight, Solution, Meaning, Parameter, Start, meanings, SolvedWord, position_in, steps_of, Run, unit_steps, ShowsPattern, Piece, OncePerRule, HasFewSteps, PiecesHappen, pieces_lines, steps_count, are_short, show, unknown_value, IsSolution, PiecesOf, EndsPiece, WitnessOf, WitnessesShow, solution_value}
+use Rattle.ta_witness.proofs.Common.{◌≡◌, inl, inr, ℕ, ◌+◌, ◌≤◌, ℤ, List, ◌∷◌, map, length, reverse, true, Some, slice_get, unsigned_abs, arith, sym, ap, ◌∙◌}
+use Rattle.ta_witness.proofs.Common.{subst, slice_index, length-reverse, slice_get_within, get_or_from_slice_get, bit_set, each_from, get_map, some_at}
+use Rattle.ta_witness.proofs.Common.{count_most, number_here, Automaton, Pattern, File, has_bit, range_with_len, In, Config, HappensAt, InScope, pattern_within}
+use Rattle.ta_witness.proofs.Common.{after_earlier, arranged_within, Element, Event, Rise, Fall, has_event, has_rise, has_fallen, legal_weight, Solution}
+use Rattle.ta_witness.proofs.Common.{Meaning, Parameter, Start, meanings, SolvedWord, position_in, steps_of, Run, unit_steps, ShowsPattern, Piece, OncePerRule}
+use Rattle.ta_witness.proofs.Common.{HasFewSteps, PiecesHappen, pieces_lines, steps_count, are_short, show, unknown_value, IsSolution, PiecesOf, EndsPiece}
+use Rattle.ta_witness.proofs.Common.{WitnessOf, WitnessesShow, solution_value}
 use Rattle.ta_automaton.specs.Runs as runs
 use Rattle.ta_encode.proofs.Theorems.{these_run}
 use Rattle.ta_witness.proofs.Backward.{pieces_back, pieces_fire, piece_rules, values_of, are_counts}
@@ -22,12 +28,15 @@ pub record Parts (a : Automaton) (p : Pattern) (start : ℕ) (word : List Elemen
   pub lines : run.lines ≡ pieces_lines pieces
 
 -- the only events that a piece marks are those of its element
-marked_event : (value : Meaning → ℤ) (k : ℕ) (element : Element) (piece : Piece) (e : ℕ) → EndsPiece value k element piece → In e piece.marks → element ≡ Event e
+marked_event : (value : Meaning → ℤ) (k : ℕ) (element : Element) (piece : Piece) (e : ℕ) → EndsPiece value k element piece → In e piece.marks
+    → element ≡ Event e
 marked_event value k (Event g) piece e ends i = elim (subst (In e) ends.1 i) [ inl q ↦ ap Event (sym q) | inr j ↦ absurd j ]
 marked_event value k (Rise g) piece e ends i = absurd (subst (In e) ends.1 i)
 marked_event value k (Fall mask) piece e ends i = absurd (subst (In e) ends.1 i)
 
-shows_parts : (file : File) (n : ℕ) (p : Pattern) → slice_get file.patterns n ≡ Some p → InScope file.automaton → (start : ℕ) (word : List Element) (vs : List ℕ) → SolvedWord file.automaton p start word vs → (run : Run) → Parts file.automaton p start word vs run → ShowsPattern file.automaton p run
+shows_parts : (file : File) (n : ℕ) (p : Pattern) → slice_get file.patterns n ≡ Some p → InScope file.automaton
+    → (start : ℕ) (word : List Element) (vs : List ℕ) → SolvedWord file.automaton p start word vs → (run : Run) → Parts file.automaton p start word vs run
+    → ShowsPattern file.automaton p run
 shows_parts file n p at scope start word vs solved run h =
     let a = file.automaton in
     let past = reverse word in
@@ -39,30 +48,35 @@ shows_parts file n p at scope start word vs solved run h =
     let count = o.run.initial.admissible.count in
     let earlier = after_earlier (length a.parameters + length a.shared + length a.locations) (length a.locations) p (pattern_within file n p at) in
     let steps : unit_steps run.lines ≡ steps_of firings = ap unit_steps h.lines ∙ sym (all_steps h.pieces) in
-    let empty : (l : ℕ) → has_bit p.empty l ≡ true → slice_index r.first.counters l ≡ 0 = (λ l b. o.kept_empty l (bit_set p.empty l b) 0 r.first (omega arith)) in
+    let empty : (l : ℕ) → has_bit p.empty l ≡ true → slice_index r.first.counters l ≡ 0 = (λ l b. o.kept_empty l (bit_set p.empty l b) 0 r.first (omega arith))
+    in
     let happen : PiecesHappen a p run h.pieces = record {
       lines = h.lines;
       first = r.first;
       later = o.later;
       begins = record {
         parameters = sym (ap (λ (zs : List ℤ). map unsigned_abs zs) h.parameters ∙ parameters_are a p start past vs r.first count r.begins);
-        counts = λ j l there. counts_are a p start past vs r.first count r.begins empty j l there ∙ ap (λ (cs : List ℤ). slice_index (map unsigned_abs cs) j) (sym h.counts);
+        counts = λ j l there. counts_are a p start past vs r.first count r.begins empty j l there
+            ∙ ap (λ (cs : List ℤ). slice_index (map unsigned_abs cs) j) (sym h.counts);
       };
       follows = subst (λ (rules : List ℕ). runs.Run a r.first rules o.later) (sym steps) o.run;
       start = o.start;
-      kept_empty = λ k c there l bit. subst (λ (d : Config). slice_index d.counters l ≡ 0) (get_or_from_slice_get (r.first ∷ o.later) k c c there) (o.kept_empty l bit k c (slice_get_within (r.first ∷ o.later) k c there));
+      kept_empty = λ k c there l bit. subst (λ (d : Config). slice_index d.counters l ≡ 0) (get_or_from_slice_get (r.first ∷ o.later) k c c there)
+          (o.kept_empty l bit k c (slice_get_within (r.first ∷ o.later) k c there));
       happens = λ k e piece event there i named.
           let within = slice_get_within h.pieces k piece there in
           let x = some_at word k (let c = h.are.count in omega arith) in
           let is = marked_event value k x.0 piece e (h.are.each k x.0 piece x.1 there).ends i in
           let here = position_at a p start word h.pieces k e h.are.count solved.legal (x.1 ∙ ap Some is) in
           let b = slice_get_within p.events e event named in
-          let place : slice_get o.positions e ≡ Some (position_in past firings e) = ap (λ (ps : List ℕ). slice_get ps e) r.there ∙ get_map (position_in past firings) (range_with_len 0 (length p.events)) e e (number_here e (length p.events) b) in
+          let place : slice_get o.positions e ≡ Some (position_in past firings e) = ap (λ (ps : List ℕ). slice_get ps e) r.there
+          ∙ get_map (position_in past firings) (range_with_len 0 (length p.events)) e e (number_here e (length p.events) b) in
           subst (HappensAt r.first o.later event) here (o.happens e event (position_in past firings e) named place);
     } in
     show a p run h.pieces happen (marks_in_order a p start value earlier past h.pieces solved.legal solved.complete back)
 
-short_parts : (file : File) (n : ℕ) (p : Pattern) → InScope file.automaton → (start : ℕ) (word : List Element) (vs : List ℕ) → SolvedWord file.automaton p start word vs → (run : Run) → Parts file.automaton p start word vs run → HasFewSteps file.automaton p run.lines
+short_parts : (file : File) (n : ℕ) (p : Pattern) → InScope file.automaton → (start : ℕ) (word : List Element) (vs : List ℕ)
+    → SolvedWord file.automaton p start word vs → (run : Run) → Parts file.automaton p start word vs run → HasFewSteps file.automaton p run.lines
 short_parts file n p scope start word vs solved run h =
     let a = file.automaton in
     let past = reverse word in
@@ -73,18 +87,30 @@ short_parts file n p scope start word vs solved run h =
     record { exist = w.exist; once = w.once }) in
     let short = are_short a h.pieces once in
     let weight = legal_weight a p start past solved.legal in
-    let few : length h.pieces ≤ length a.rise + length a.fall + length p.events = omega (arith, h.are.count, length-reverse word, weight, count_most (has_event past) (length p.events), count_most (has_rise past) (length a.rise), count_most (has_fallen start past) (length a.fall)) in
+    let few : length h.pieces ≤ length a.rise + length a.fall + length p.events = omega (
+      arith,
+      h.are.count,
+      length-reverse word,
+      weight,
+      count_most (has_event past) (length p.events),
+      count_most (has_rise past) (length a.rise),
+      count_most
+          (has_fallen start past) (length a.fall),
+    ) in
     let lines = ap steps_count h.lines in
-    product_most (length h.pieces) (length a.rise + length a.fall + length p.events) (length a.rules + 1) (steps_count run.lines) few (omega (arith, lines, short))
+    product_most (length h.pieces) (length a.rise + length a.fall + length p.events) (length a.rules + 1) (steps_count run.lines) few
+    (omega (arith, lines, short))
 
 -- the parts of a solution's run
-pub parts_of : (file : File) (solution : Solution) (s : IsSolution file solution) (run : Run) (w : WitnessOf file solution run) → Parts file.automaton s.pattern solution.start_mask solution.word s.values run
+pub parts_of : (file : File) (solution : Solution) (s : IsSolution file solution) (run : Run) (w : WitnessOf file solution run)
+    → Parts file.automaton s.pattern solution.start_mask solution.word s.values run
 parts_of file solution s run w =
     let a = file.automaton in
     let same : w.pattern ≡ s.pattern = same_Some w.pattern s.pattern (sym w.named ∙ s.named) in
     let values : Pattern → List ℤ → Meaning → ℤ = λ p vs m. unknown_value (meanings a p solution.start_mask (reverse solution.word)) vs m in
     let one : solution_value a w.pattern solution ≡ values s.pattern solution.values = ap (λ (p : Pattern). values p solution.values) same in
-    let two : values s.pattern solution.values ≡ values_of a s.pattern solution.start_mask (reverse solution.word) s.values = ap (λ (vs : List ℤ). values s.pattern vs) s.are in
+    let two : values s.pattern solution.values ≡ values_of a s.pattern solution.start_mask (reverse solution.word) s.values = ap
+    (λ (vs : List ℤ). values s.pattern vs) s.are in
     let both = one ∙ two in
     record {
       pieces = w.pieces;
@@ -103,5 +129,6 @@ witnesses_show file scope solution s run w =
         named = named;
         shows = shows_parts file solution.pattern s.pattern s.named scope solution.start_mask solution.word s.values s.solved run h;
       },
-      (λ p at. subst (λ (q : Pattern). HasFewSteps file.automaton q run.lines) (same_Some s.pattern p (sym named ∙ at)) (short_parts file solution.pattern s.pattern scope solution.start_mask solution.word s.values s.solved run h)),
+      (λ p at. subst (λ (q : Pattern). HasFewSteps file.automaton q run.lines) (same_Some s.pattern p (sym named ∙ at))
+          (short_parts file solution.pattern s.pattern scope solution.start_mask solution.word s.values s.solved run h)),
     )

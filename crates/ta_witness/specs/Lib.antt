@@ -1,3 +1,10 @@
 pub mod Values
 pub mod Witness
 pub mod Inside
+pub mod Runs
+pub mod Laws
+pub mod Stops
+pub mod MomentRuns
+pub mod MomentLaws
+pub mod Given
+pub mod Resting

@@ -61,7 +61,8 @@ pub record WitnessOf (file : File) (solution : Solution) (run : Run) : Type 0 wh
   pub pattern : Pattern
   pub named : slice_get file.patterns solution.pattern ≡ Some pattern
   pub same_pattern : run.pattern ≡ solution.pattern
-  pub parameters : run.parameters ≡ map (λ i. solution_value file.automaton pattern solution (Parameter i)) (range_with_len 0 (length file.automaton.parameters))
+  pub parameters : run.parameters ≡ map (λ i. solution_value file.automaton pattern solution (Parameter i))
+      (range_with_len 0 (length file.automaton.parameters))
   pub counts : run.counts ≡ map (λ l. solution_value file.automaton pattern solution (Start l)) file.automaton.initial
   pub pieces : List Piece
   pub are : PiecesOf file.automaton (solution_value file.automaton pattern solution) solution.word pieces

@@ -3,7 +3,6 @@
 use std::alloc::{AllocError, Global};
 use std::sync::atomic::{AtomicU64, Ordering};
 use std::test::Fail;
-use ta_claim::{Claim, ClaimTree};
 use ta_dense::{
     DenseDictionary, DensePivot, Dictionary, ExtendFault, NarrowDictionary, PivotFault,
 };
@@ -11,7 +10,7 @@ use ta_implied::Orders;
 use ta_linear::System;
 use ta_maker::make_family;
 use ta_meaning::read_file;
-use ta_rest::rest_scope;
+use ta_rest::{Claim, ClaimTree, rest_scope};
 use ta_syntax::print_tree;
 use ta_walk::{Gate, WalkEnd, walk, walk_gated};
 

@@ -7,10 +7,10 @@ use crate::layers::of_file;
 use crate::lines::lines;
 use crate::table::Row;
 use crate::texts::{fault, meaning};
+use crate::towers::pivots;
 use crate::trees;
 use std::alloc::{AllocError, Global};
 use std::thread::Threads;
-use worked_beside::pivots;
 
 /// What a row gives; nothing, where it gives a file, which is kept.
 pub fn answer<R: Threads + Sync>(

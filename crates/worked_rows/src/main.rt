@@ -3,6 +3,8 @@
 #![tactic(auto)]
 
 mod answers;
+mod backs;
+mod beside;
 mod commands;
 mod describing;
 mod files;
@@ -16,6 +18,7 @@ mod steps;
 mod systems;
 mod table;
 mod texts;
+mod towers;
 mod trees;
 mod walks;
 

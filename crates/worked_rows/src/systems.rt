@@ -5,6 +5,8 @@ ghost use Rattle.std.specs.Prelude.{◌<◌, ◌^◌, IfOk, IfSome, reverse};
 ghost use Rattle.ta_dense.specs.Slack.{variables};
 ghost use Rattle.ta_words.specs.Words.{LegalWord};
 
+use crate::backs::cells_held;
+use crate::beside::Beside;
 use crate::forms::{write_number, write_rows};
 use std::alloc::{AllocError, Global};
 use ta_automaton::File;
@@ -13,7 +15,6 @@ use ta_implied::Orders;
 use ta_linear::System;
 use ta_simplex::{End, SolveFault, solve};
 use ta_words::{Element, Task, Word, allowed_rules, children, is_complete};
-use worked_beside::{Beside, cells_held};
 
 /// What is said of words that are no word of pattern 0.
 const NO_WORD: &str = "no word of pattern 0";

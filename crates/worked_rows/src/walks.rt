@@ -1,15 +1,15 @@
 //! Rows of walks.
 #![tactic(auto)]
 
+use crate::beside::Beside;
 use std::alloc::{AllocError, Global};
 use std::thread::Threads;
 use ta_base::limits::MOST_NODES;
 use ta_cert::{Order, Proof, write_cert};
-use ta_claim::{Claim, ClaimTree};
 use ta_dense::NarrowDictionary;
+use ta_rest::{Claim, ClaimTree};
 use ta_scope::ScopedFile;
 use ta_walk::{PlaceKind, WalkEnd, find_orders, walk};
-use worked_beside::Beside;
 
 /// How the walk of pattern 0 ends under the orders that are found, and the certificate of a refutation.
 pub fn end<R: Threads + Sync>(

@@ -25,5 +25,6 @@ TakenTo subject text reader position (Err f) = IsToldOf subject text f
 -- where they stand after this many bytes, up to the next line feed; or after all bytes where there is none
 abbrev pub NextTaken : Subject → List ℕ → List ℕ → Reader → Position → Result (Option ℕ) CertFault → Type 0
 NextTaken subject text bytes reader position (Ok None) = StandBehind subject reader position (text ++ bytes)
-NextTaken subject text bytes reader position (Ok (Some taken)) = (0 < taken) × (taken ≤ length bytes) × StandBehind subject reader position (text ++ take taken bytes)
+NextTaken subject text bytes reader position (Ok (Some taken)) = (0 < taken) × (taken ≤ length bytes)
+    × StandBehind subject reader position (text ++ take taken bytes)
 NextTaken subject text bytes reader position (Err f) = IsToldOf subject (text ++ bytes) f

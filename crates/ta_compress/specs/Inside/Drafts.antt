@@ -1,5 +1,6 @@
 -- A compressed run while it is built.
-use Rattle.std.specs.Prelude.{ℕ, ℤ, pos, ◌<◌, ◌≤◌, ◌≡◌, ◌⊎◌, ◌+ℤ◌, ◌*ℤ◌, ◌≤ℤ◌, List, [], ◌∷◌, ◌++◌, length, map, replicate, unsigned_abs, slice_get, Some, IsBitSet}
+use Rattle.std.specs.Prelude.{ℕ, ℤ, pos, ◌<◌, ◌≤◌, ◌≡◌, ◌⊎◌, ◌+ℤ◌, ◌*ℤ◌, ◌≤ℤ◌, List, [], ◌∷◌, ◌++◌, length, map, replicate, unsigned_abs, slice_get, Some}
+use Rattle.std.specs.Prelude.{IsBitSet}
 use Rattle.ta_base.specs.Sums.{one_if, times_in}
 use Rattle.ta_linear.specs.Values.{point_of}
 use Rattle.ta_automaton.specs.declared.automaton.Automaton.{Automaton}
@@ -39,7 +40,8 @@ RepeatsRule a r values times after = (place : ℕ) → point_of after place ≡ 
 -- no check of this many unit steps in a row refuses, if all guards stay in range
 abbrev pub MayRepeat : Automaton → ℕ → ℕ → List ℤ → Type 0
 MayRepeat a r count values =
-    (times : ℕ) (now : Config) → times < count → IsOf a now → RepeatsRule a r values times now.values.items → GuardsStay a (point_of now.values.items) → MayStep a r now.values.items
+    (times : ℕ) (now : Config) → times < count → IsOf a now → RepeatsRule a r values times now.values.items → GuardsStay a (point_of now.values.items)
+    → MayStep a r now.values.items
 
 -- the draft's configuration is one of the automaton, its guards are those that hold there, and it has a count for each rule
 pub record DraftIsReady (a : Automaton) (draft : Draft) : Type 0 where

@@ -63,7 +63,11 @@ start_sense false = Plain
 
 -- a constant, and the sum of the unknowns from one number to another, written in a sense
 abbrev pub block_row : ℤ → ℕ → ℕ → Sense → LinearRow
-block_row constant from to sense = record { constant = constant; coefficients = map (λ k. pos 0) (range_with_len 0 from) ++ map (λ k. coefficient_in_sense sense (pos 1)) (range_with_len from (to - from)) }
+block_row constant from to sense = record {
+  constant = constant;
+  coefficients = map (λ k. pos 0) (range_with_len 0 from)
+      ++ map (λ k. coefficient_in_sense sense (pos 1)) (range_with_len from (to - from));
+}
 
 -- the row of a bound, as a block of one unknown
 abbrev pub bound_constant : Side → ℤ → ℤ

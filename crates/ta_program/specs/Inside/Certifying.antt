@@ -3,16 +3,16 @@ use Rattle.std.specs.Prelude.{ℕ, ◌<◌, ◌≤◌, ◌≡◌, List, [], ◌�
 use Rattle.std.specs.declared.alloc.AllocError.{AllocError}
 use Rattle.ta_program.specs.declared.telling.Report.{Report}
 use Rattle.ta_shelf.specs.Put.{Told}
-use Rattle.ta_shell.specs.Commands.{Meaning, Says}
-use Rattle.ta_shell.specs.Staging.{result_seen}
-use Rattle.ta_shell.specs.declared.staged_answer.StagedAnswer.{StagedAnswer}
-use Rattle.ta_shell.specs.declared.staged_answer.StagedOutput.TheVariants.{Unasked}
-use Rattle.ta_shell.specs.declared.answer.Answer.{Answer}
-use Rattle.ta_shell.specs.declared.answer.Put.{Put}
-use Rattle.ta_shell.specs.declared.answer.Refusal.{Refusal}
-use Rattle.ta_shell.specs.declared.answer.Refusal.TheVariants.{Refused, ReadFailed, PutFailed, Memory}
-use Rattle.ta_shell.specs.Lines.{file_line, phrase_text}
-use Rattle.ta_shell.specs.Puts.{put_bytes}
+use Rattle.ta_shelf.specs.Commands.{Meaning, Says}
+use Rattle.ta_shelf.specs.Staging.{result_seen}
+use Rattle.ta_shelf.specs.declared.staged_answer.StagedAnswer.{StagedAnswer}
+use Rattle.ta_shelf.specs.declared.staged_answer.StagedOutput.TheVariants.{Unasked}
+use Rattle.ta_shelf.specs.declared.answer.Answer.{Answer}
+use Rattle.ta_shelf.specs.declared.answer.Put.{Put}
+use Rattle.ta_shelf.specs.declared.answer.Refusal.{Refusal}
+use Rattle.ta_shelf.specs.declared.answer.Refusal.TheVariants.{Refused, ReadFailed, PutFailed, Memory}
+use Rattle.ta_shelf.specs.Lines.{file_line, phrase_text}
+use Rattle.ta_shelf.specs.Puts.{put_bytes}
 use Rattle.ta_program.specs.declared.limits.TheConstants.{CERTIFICATE}
 use Rattle.ta_program.specs.Certified.{long_line}
 
@@ -29,7 +29,8 @@ pub record ReportsAndPuts (number : ℕ) (report name text : List ℕ) (answer :
 -- the text is put, or it is too long
 abbrev pub Certifies : ℕ → List ℕ → List ℕ → List ℕ → Result Answer Refusal → Type 0
 Certifies number report name text (Ok answer) = ReportsAndPuts number report name text answer
-Certifies number report name text (Err (Refused n who why)) = (n ≡ CERTIFICATE.number) × (file_line who.now (phrase_text why) ≡ long_line name) × (CERTIFICATE.bytes < length text)
+Certifies number report name text (Err (Refused n who why)) = (n ≡ CERTIFICATE.number) × (file_line who.now (phrase_text why) ≡ long_line name)
+    × (CERTIFICATE.bytes < length text)
 Certifies number report name text (Err (ReadFailed who)) = ⊥
 Certifies number report name text (Err (PutFailed who)) = ⊥
 Certifies number report name text (Err Memory) = Unit {0}

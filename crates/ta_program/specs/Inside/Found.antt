@@ -1,14 +1,14 @@
 -- Refusals while FILE is read further: of a schema, of endings, of silent names.
 use Rattle.std.specs.Prelude.{ℕ, ◌≡◌, List, Option}
-use Rattle.ta_shell.specs.declared.answer.Refusal.{Refusal}
-use Rattle.ta_shell.specs.declared.answer.Refusal.TheVariants.{Refused, ReadFailed, PutFailed, Memory}
-use Rattle.ta_shell.specs.Lines.{file_line, phrase_text}
+use Rattle.ta_shelf.specs.declared.answer.Refusal.{Refusal}
+use Rattle.ta_shelf.specs.declared.answer.Refusal.TheVariants.{Refused, ReadFailed, PutFailed, Memory}
+use Rattle.ta_shelf.specs.Lines.{file_line, phrase_text}
 use Rattle.ta_smt.specs.declared.fault.WordFault.{WordFault}
 use Rattle.ta_automaton.specs.declared.automaton.Automaton.{Automaton}
 use Rattle.ta_automaton.specs.declared.file.File.{File}
-use Rattle.ta_shell.specs.Reading.{SaysOfFile}
-use Rattle.ta_silent.specs.declared.fault.SilentFault.{SilentFault}
-use Rattle.ta_silent.specs.declared.fault.SilentFault.TheVariants as fault
+use Rattle.ta_shelf.specs.Reading.{SaysOfFile}
+use Rattle.ta_moments.specs.declared.fault.SilentFault.{SilentFault}
+use Rattle.ta_moments.specs.declared.fault.SilentFault.TheVariants as fault
 use Rattle.ta_program.specs.declared.limits.TheConstants.{FILE}
 use Rattle.ta_program.specs.SilentNames.{NamesHinder, silent_fault_text}
 use Rattle.ta_program.specs.PatternOption.{PickHinders}

@@ -10,12 +10,12 @@ use Rattle.ta_check.specs.Subjects.{Subject}
 use Rattle.ta_report.specs.Faults.{cert_fault_text}
 use Rattle.ta_shelf.specs.Calls.{Call, Event, Grew, ReadsFirst, Spells}
 use Rattle.ta_shelf.specs.Put.{Told}
-use Rattle.ta_shell.specs.declared.answer.Refusal.{Refusal}
-use Rattle.ta_shell.specs.declared.answer.Refusal.TheVariants.{Memory}
-use Rattle.ta_shell.specs.Lines.{longer_than}
-use Rattle.ta_shell.specs.Reading.{SaysOfFile}
-use Rattle.ta_shell.specs.Sights.{Begins, HasBytes, seen, where_told}
-use Rattle.ta_shell.specs.Stages.{ReadingGoesOn, Stage}
+use Rattle.ta_shelf.specs.declared.answer.Refusal.{Refusal}
+use Rattle.ta_shelf.specs.declared.answer.Refusal.TheVariants.{Memory}
+use Rattle.ta_shelf.specs.Lines.{longer_than}
+use Rattle.ta_shelf.specs.Reading.{SaysOfFile}
+use Rattle.ta_shelf.specs.Sights.{Begins, HasBytes, seen, where_told}
+use Rattle.ta_shelf.specs.Stages.{ReadingGoesOn, Stage}
 use Rattle.ta_program.specs.declared.limits.TheConstants.{CERTIFICATE}
 use Rattle.ta_program.specs.Kinds.{certificate_kind}
 
@@ -49,7 +49,8 @@ JudgingGives subject files name (Err refusal) calls = IsUnproved subject files n
 
 -- what checking one piece gives, which begins at an offset: the offset after it, or that the file ended
 abbrev pub Turn : Subject → Option Told → List ℕ → ℕ → List Event → List Event → Checker → Result (Option ℕ) Refusal → Type 0
-Turn subject files name at first now checker (Ok (Some next)) = (at < next) × (text : List ℕ) × (next ≡ length text) × JudgedTo files name first now checker text
+Turn subject files name at first now checker (Ok (Some next)) = (at < next) × (text : List ℕ) × (next ≡ length text)
+    × JudgedTo files name first now checker text
 Turn subject files name at first now checker (Ok None) = Grew (JudgedWhole files name checker) first now
 Turn subject files name at first now checker (Err refusal) = Grew (IsUnproved subject files name refusal) first now
 
@@ -78,4 +79,5 @@ pub record Breaks (subject : Subject) (name text : List ℕ) (refusal : Refusal)
 abbrev pub PieceFed : Subject → List ℕ → List ℕ → List ℕ → Bool → Checker → Result (Option ℕ) Refusal → Type 0
 PieceFed subject name text piece ended checker (Ok (Some next)) = (ended ≡ false) × (next ≡ length (text ++ piece)) × IsAllowed checker (text ++ piece)
 PieceFed subject name text piece ended checker (Ok None) = (ended ≡ true) × IsAllowed checker (text ++ piece)
-PieceFed subject name text piece ended checker (Err refusal) = (refusal ≡ Memory) ⊎ (PassesLimit subject name (text ++ piece) refusal ⊎ Breaks subject name (text ++ piece) refusal)
+PieceFed subject name text piece ended checker (Err refusal) = (refusal ≡ Memory)
+    ⊎ (PassesLimit subject name (text ++ piece) refusal ⊎ Breaks subject name (text ++ piece) refusal)

@@ -30,8 +30,9 @@ pub record ReportedTo (form : Form) (file : File) (pick : Pick) (budget : Budget
   pub certified : Certified file pick budget verdicts Has
 
 -- the same of verdicts on runs that come to rest, for a file of endings
-pub record RestReportedTo (form : Form) (rest : RestFile) (pick : Pick) (budget : RestBudget) (number : ℕ) (text : List ℕ) (Has : List ℕ → Type 0) : Type 0 where
-  pub verdicts : List Verdict
-  pub are : OwnVerdicts rest pick budget verdicts
-  pub reported : SampleReported form rest.ending.file pick budget.nodes verdicts number text
-  pub certified : RestCertified rest.ending.file pick budget verdicts Has
+pub record RestReportedTo (form : Form) (rest : RestFile) (pick : Pick) (budget : RestBudget) (number : ℕ) (text : List ℕ) (Has : List ℕ → Type 0) : Type 0
+  where
+    pub verdicts : List Verdict
+    pub are : OwnVerdicts rest pick budget verdicts
+    pub reported : SampleReported form rest.ending.file pick budget.nodes verdicts number text
+    pub certified : RestCertified rest.ending.file pick budget verdicts Has

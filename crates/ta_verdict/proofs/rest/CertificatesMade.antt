@@ -8,7 +8,7 @@ use Rattle.ta_cert.specs.declared.line.Line.TheVariants as line
 use Rattle.ta_check.specs.Certificate.{QuietRestCertificate}
 use Rattle.ta_check.specs.Subjects.{Moments, Words, claiming_with}
 use Rattle.ta_moment_tree.specs.Makers.{moment_maker}
-use Rattle.ta_moment_walk.proofs.NodesMade.{proof_made as moments_proof}
+use Rattle.ta_walk.proofs.NodesMade.{proof_made as moments_proof}
 use Rattle.ta_verdict.proofs.CertificatesMade.{accepted, all_short, cert_written, made, question_written, safe_distinct, safe_named, version_short}
 
 -- the nodes of such a tree
@@ -42,7 +42,8 @@ accepted_by true ending pick budget words within vs trees are text written =
 
 -- a certificate of words is one for rest alone, without silent places
 pub rest_accepted : (ending : File) (pick : Pick) (budget : RestBudget) → (budget.lazy ≡ false → budget.silent ≡ []) → budget.nodes ≤ 1000000000
-    → (vs : List Verdict) (text : List ℕ) → RestCertificateOf ending pick budget vs text → QuietRestCertificate ending budget.silent text (safe_among ending pick vs)
+    → (vs : List Verdict) (text : List ℕ) → RestCertificateOf ending pick budget vs text
+    → QuietRestCertificate ending budget.silent text (safe_among ending pick vs)
 rest_accepted ending pick budget words within vs text c = accepted_by budget.lazy ending pick budget words within vs c.trees c.are text c.written
 
 text_made : (lazy : Bool) (proofs : List Proof) → (rest_head lazy ++ proofs_text proofs) ++ ended_line line.End ≡ rest_text_by lazy proofs

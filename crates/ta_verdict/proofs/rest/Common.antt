@@ -15,9 +15,9 @@ pub use Rattle.ta_base.proofs.Lists.{some_at}
 pub use Rattle.ta_cert.specs.Certificates.{AreWritable, cert_lines, cert_text, head_text, proofs_text}
 pub use Rattle.ta_cert.specs.declared.line.Node.{Node}
 pub use Rattle.ta_cert.specs.declared.line.Proof.{Proof}
-pub use Rattle.ta_claim.proofs.ClaimsShown.{come_after}
-pub use Rattle.ta_claim.specs.declared.claim.Claim.TheVariants.{RestSafe}
-pub use Rattle.ta_cursor.specs.Range.{IsJudged}
+pub use Rattle.ta_rest.proofs.ClaimsShown.{come_after}
+pub use Rattle.ta_rest.specs.declared.claim.Claim.TheVariants.{RestSafe}
+pub use Rattle.ta_encode.specs.Range.{IsJudged}
 pub use Rattle.ta_encode.proofs.Preorders.{in_order, weaker_proof}
 pub use Rattle.ta_encode.specs.Refutes.{IsLeaf}
 pub use Rattle.ta_encode.specs.Search.{Search}
@@ -38,10 +38,10 @@ pub use Rattle.ta_rest.specs.Faults.{EndingsOf}
 pub use Rattle.ta_rest.specs.RestSearch.{rest_rows, rest_search}
 pub use Rattle.ta_rest.specs.declared.rest_file.RestFile.{RestFile}
 pub use Rattle.ta_moment_tree.specs.Makers.{moments_of}
-pub use Rattle.ta_moment_walk.specs.Found.{Found, FoundAt}
+pub use Rattle.ta_walk.specs.Found.{Found, FoundAt}
 pub use Rattle.ta_moments.specs.Refutes.{of_rest}
 pub use Rattle.ta_moments.specs.declared.fact.Fact.{Fact}
-pub use Rattle.ta_rest_run.specs.Runs.{EndsAsAdded, IsRestSolution, ending_run}
+pub use Rattle.ta_witness.specs.Runs.{EndsAsAdded, IsRestSolution, ending_run}
 pub use Rattle.ta_verdict.specs.Rest.Budgets.{RestBudget, moments_within, resting, words_within}
 pub use Rattle.ta_verdict.specs.Rest.Certificates.{RestCertificateOf, RestCertificatesAreDetermined, rest_head, rest_text_by, rest_tree, rest_tree_by}
 pub use Rattle.ta_verdict.specs.Rest.Laws.{RestTextsAreAlike, RestVerdictsAreDetermined, RestsAreSolved}
@@ -57,4 +57,4 @@ pub use Rattle.ta_walk.proofs.ProofsMade.{proof_made}
 pub use Rattle.ta_walk.proofs.WordsVisited.{left_wait, starts_wait}
 pub use Rattle.ta_walk.specs.Ends.{IsProof, IsSpent, NodeOf, SolutionAt, TreeIs, TreeKept}
 pub use Rattle.ta_witness.specs.Witness.{WitnessFaultOf}
-pub use Rattle.ta_shell.specs.Staging.{Begun}
+pub use Rattle.ta_shelf.specs.Staging.{Begun}

@@ -6,15 +6,15 @@ use Rattle.ta_automaton.specs.Runs.{Config}
 use Rattle.ta_automaton.specs.declared.pattern.Event.{Event}
 use Rattle.ta_base.proofs.Bits.{bit_set}
 use Rattle.ta_base.specs.Masks.{has_bit}
-use Rattle.ta_moment_run.specs.Resting.{OccursAtQuietRest}
-use Rattle.ta_moment_run.proofs.EndMark.{ends_with_event}
-use Rattle.ta_moment_run.proofs.Resting.{runs_rest}
+use Rattle.ta_witness.specs.Resting.{OccursAtQuietRest}
+use Rattle.ta_witness.proofs.EndMark.{ends_with_event}
+use Rattle.ta_witness.proofs.MomentResting.{runs_rest}
 use Rattle.ta_moment_tree.specs.Makers.{node_of}
-use Rattle.ta_moment_walk.specs.Found.{RunAt, ShownRun}
+use Rattle.ta_walk.specs.Found.{RunAt, ShownRun}
 use Rattle.ta_replay.specs.Fits.{Fits}
 use Rattle.ta_rest.specs.Endings.{ComesLast}
 use Rattle.ta_rest.specs.Quiet.{QuietRest, QuietRestOccurs}
-use Rattle.ta_rest_run.proofs.OwnRuns.{ComesToAny, begins_own, ending_steps, own_comes}
+use Rattle.ta_witness.proofs.OwnRuns.{ComesToAny, begins_own, ending_steps, own_comes}
 use Rattle.ta_verdict.proofs.rest.VerdictsTold.{ending_of_own}
 use Rattle.ta_verdict.specs.Rest.QuietRuns.{ComesToQuietRest, QuietRunOf}
 use Rattle.ta_witness.specs.Witness.{IsShortRun}

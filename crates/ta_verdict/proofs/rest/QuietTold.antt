@@ -4,9 +4,9 @@ use Rattle.ta_verdict.proofs.rest.Common.{Safe, Unsafe, Spent, Overflow, IsSpent
 use Rattle.ta_verdict.proofs.rest.Common.{of_rest, EndsAsAdded, ending_run, moments_within, quiet_question, run_leaves}
 use Rattle.ta_automaton.specs.Runs.{LoopsPure}
 use Rattle.ta_check.specs.Subjects.{claimed_with}
-use Rattle.ta_claim.specs.declared.claim.Claim.TheVariants.{RestSafe}
-use Rattle.ta_moment_walk.proofs.NodesMade.{refuted_rest_hold}
-use Rattle.ta_moment_walk.specs.Ends.{LostAt, RunFound}
+use Rattle.ta_rest.specs.declared.claim.Claim.TheVariants.{RestSafe}
+use Rattle.ta_walk.proofs.NodesMade.{refuted_rest_hold}
+use Rattle.ta_walk.specs.MomentEnds.{LostAt, RunFound}
 use Rattle.ta_replay.specs.Fits.{Fits}
 use Rattle.ta_report.specs.declared.verdict.ReportKind.{ReportKind}
 use Rattle.ta_report.specs.declared.verdict.ReportKind.TheVariants as kind

@@ -3,14 +3,14 @@ use Rattle.ta_verdict.proofs.rest.Common.{◌≡◌, ◌∙◌, ℕ, Bool, true,
 use Rattle.ta_verdict.proofs.rest.Common.{Pattern, Run, Verdict, Safe, Unsafe, Spent, Overflow, RestBudget, RestVerdictHolds, rest_holds_by}
 use Rattle.ta_automaton.specs.Runs.{Config}
 use Rattle.ta_check.specs.Subjects.{claimed_with}
-use Rattle.ta_claim.specs.declared.claim.Claim.TheVariants as claim
-use Rattle.ta_moment_run.specs.Resting.{OccursAtQuietRest}
+use Rattle.ta_rest.specs.declared.claim.Claim.TheVariants as claim
+use Rattle.ta_witness.specs.Resting.{OccursAtQuietRest}
 use Rattle.ta_rest.proofs.QuietResting.{rest_is}
 use Rattle.ta_rest.specs.Quiet.{QuietRestOccurs}
 use Rattle.ta_rest.specs.Rest.{RestOccurs}
-use Rattle.ta_rest_run.proofs.Ends.{end_whole}
-use Rattle.ta_rest_run.proofs.OwnRuns.{ending_steps}
-use Rattle.ta_rest_run.specs.Runs.{OccursAtRest}
+use Rattle.ta_witness.proofs.Ends.{end_whole}
+use Rattle.ta_witness.proofs.OwnRuns.{ending_steps}
+use Rattle.ta_witness.specs.Runs.{OccursAtRest}
 use Rattle.ta_verdict.specs.Rest.Said.{IsLoudByWords, RestVerdictsClaim, RestVerdictsShow, SaidAtRest, occurs_with}
 use Rattle.ta_verdict.specs.Certificates.{tree_size}
 

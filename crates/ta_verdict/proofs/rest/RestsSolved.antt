@@ -1,12 +1,13 @@
 -- a whole node of a search of rest solves its word
-use Rattle.ta_verdict.proofs.rest.Common.{[], ◌∷◌, slice_get, refl, sym, ap, ◌∙◌, append-nil, subst, rest_rows, rest_search, left_wait, RestsAreSolved, RestSafe, starts_wait}
+use Rattle.ta_verdict.proofs.rest.Common.{[], ◌∷◌, slice_get, refl, sym, ap, ◌∙◌, append-nil, subst, rest_rows, rest_search, left_wait, RestsAreSolved}
+use Rattle.ta_verdict.proofs.rest.Common.{RestSafe, starts_wait}
 use Rattle.ta_encode.specs.System.{AllHold}
 use Rattle.ta_cert.specs.declared.line.Node.TheVariants.{Extend}
 use Rattle.ta_words.specs.Words.{children, is_complete}
 use Rattle.ta_encode.proofs.Asking.{settled_complete}
 use Rattle.ta_encode.proofs.Moments.{AllHold-left}
-use Rattle.ta_claim.proofs.PatternWords.{comes_legal}
-use Rattle.ta_claim.proofs.RestRows.{rest_comes}
+use Rattle.ta_rest.proofs.PatternWords.{comes_legal}
+use Rattle.ta_rest.proofs.RestRows.{rest_comes}
 use Rattle.ta_walk.proofs.WordsSolved.{unscaled_solve, whole_solves}
 
 pub found_solved : RestsAreSolved

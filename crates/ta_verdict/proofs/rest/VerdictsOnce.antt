@@ -2,10 +2,10 @@
 use Rattle.ta_verdict.proofs.rest.Common.{◌≡◌, ℕ, Bool, true, false, List, length, subst, arith, Some, slice_get, slice_get_within, some_at, File, Pattern}
 use Rattle.ta_verdict.proofs.rest.Common.{Verdict, ending_run, endings_count, EndingVerdictHolds, RestBudget, moments_of, of_rest, quiet_question}
 use Rattle.ta_verdict.proofs.rest.Common.{rest_holds_by, rest_question, RestVerdictsAreDetermined}
-use Rattle.ta_moment_walk.proofs.RunsOnce.{runs_once}
+use Rattle.ta_walk.proofs.RunsOnce.{runs_once}
 use Rattle.ta_replay.specs.Replays.{ReplayStays}
-use Rattle.ta_rest_run.proofs.Once.{marks_once, one_rest_witness}
-use Rattle.ta_rest_run.proofs.Resting.{solutions_solve}
+use Rattle.ta_witness.proofs.Once.{marks_once, one_rest_witness}
+use Rattle.ta_witness.proofs.Resting.{solutions_solve}
 use Rattle.ta_verdict.proofs.VerdictsOnce.{HasOneRun, HasOneSolution, answer_once, found_once, picked_same, words_have_one}
 use Rattle.ta_witness.proofs.WitnessOnce.{one_witness}
 use Rattle.ta_verdict.proofs.rest.RestsSolved.{found_solved}
@@ -13,7 +13,8 @@ use Rattle.ta_verdict.proofs.rest.RestsSolved.{found_solved}
 words_have_one_run : (file ending : File) (added number budget : ℕ) (own p : Pattern) → slice_get ending.patterns number ≡ Some p
     → HasOneRun (rest_question file ending added own p) number budget
 words_have_one_run file ending added number budget own p at = record {
-  one = λ count solution found r s a b. one_rest_witness ending added solution r s (found_solved ending number p at budget count solution found) a.witness b.witness;
+  one = λ count solution found r s a b. one_rest_witness ending added solution r s (found_solved ending number p at budget count solution found) a.witness
+      b.witness;
   apart = λ count solution found r a out.
       let solves = solutions_solve ending solution (found_solved ending number p at budget count solution found) in
       out.leaves (subst (ReplayStays ending) (one_witness ending solution (ending_run added r) out.run solves a.witness out.is) a.of_ending.stays);
@@ -54,4 +55,5 @@ verdict_once file ending added budget same k p v w at h g =
 
 pub verdicts_once : RestVerdictsAreDetermined
 verdicts_once file ending added pick budget ends vs ws h k =
-    picked_same (EndingVerdictHolds file ending added budget) pick ending.patterns vs ws (verdict_once file ending added budget (endings_count file.patterns ending.patterns ends.patterns)) h.hold k.hold
+    picked_same (EndingVerdictHolds file ending added budget) pick ending.patterns vs ws
+    (verdict_once file ending added budget (endings_count file.patterns ending.patterns ends.patterns)) h.hold k.hold

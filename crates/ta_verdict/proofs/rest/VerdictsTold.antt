@@ -20,10 +20,12 @@ pub ending_there : (ps qs : List Pattern) → Endings ps qs → (k : ℕ) (p : P
 ending_there [] qs h k p at = cc
 ending_there (x ∷ ps) [] h k p at = absurd h
 ending_there (x ∷ ps) (y ∷ qs) h zero p at = let same : x ≡ p = cc in record { ending = y; named = refl; is = subst (λ (o : Pattern). IsEnding o y) same h.0 }
-ending_there (x ∷ ps) (y ∷ qs) h (suc k) p at = let there = ending_there ps qs h.1 k p at in record { ending = there.ending; named = there.named; is = there.is }
+ending_there (x ∷ ps) (y ∷ qs) h (suc k) p at = let there = ending_there ps qs h.1 k p at in record
+    { ending = there.ending; named = there.named; is = there.is }
 
 pub ending_of_own : (ps qs : List Pattern) → Endings ps qs → (k : ℕ) (own q : Pattern) → slice_get ps k ≡ Some own → slice_get qs k ≡ Some q → IsEnding own q
-ending_of_own ps qs h k own q at there = let ending = ending_there ps qs h k own at in subst (IsEnding own) (same_Some ending.ending q (sym ending.named ∙ there)) ending.is
+ending_of_own ps qs h k own q at there = let ending = ending_there ps qs h k own at in subst (IsEnding own)
+    (same_Some ending.ending q (sym ending.named ∙ there)) ending.is
 
 -- a tree that refutes the words of rest of a pattern's ending
 pub safe_verdict : (rest : RestFile) (budget number : ℕ) (p : Pattern) (Keeps : List Node → Type 0) (nodes leaves : ℕ)
@@ -54,7 +56,9 @@ spent_verdict rest budget number p nodes spent file ends own at =
     record { is = spent; split = λ most. split_of_words a p [] s.question s.scaled s.unknowns s.rows budget nodes most spent }
 
 -- what a visit finds is a solution
-pub solution_found : (file : File) (number : ℕ) → number < length file.patterns → (budget nodes : ℕ) (solution : Solution) → OfPattern file number (λ p. NodeOf (rest_search file.automaton p) budget nodes (SolutionAt (rest_search file.automaton p) number solution)) → IsRestSolution file solution
+pub solution_found : (file : File) (number : ℕ) → number < length file.patterns → (budget nodes : ℕ) (solution : Solution)
+    → OfPattern file number (λ p. NodeOf (rest_search file.automaton p) budget nodes (SolutionAt (rest_search file.automaton p) number solution))
+    → IsRestSolution file solution
 solution_found file number within budget nodes solution found =
     let at = some_at file.patterns number within in
     found_solved file number at.0 at.1 budget nodes solution (found at.0 at.1)
@@ -66,6 +70,7 @@ keeps_nothing s budget Keeps (Spent nodes) other = tt
 keeps_nothing s budget Keeps (Overflow node kind) other = tt
 
 -- where a pattern isn't safe nothing is kept
-pub nothing_kept : (file : File) (number budget : ℕ) (Keeps : List Node → Type 0) (r : Result Verdict AllocError) → IfOk r IsNotSafe → IfOk r (λ v. OfPattern file number (λ p. KeepsSafe (rest_search file.automaton p) budget Keeps v))
+pub nothing_kept : (file : File) (number budget : ℕ) (Keeps : List Node → Type 0) (r : Result Verdict AllocError) → IfOk r IsNotSafe
+    → IfOk r (λ v. OfPattern file number (λ p. KeepsSafe (rest_search file.automaton p) budget Keeps v))
 nothing_kept file number budget Keeps (Ok v) other = λ p at. keeps_nothing (rest_search file.automaton p) budget Keeps v other
 nothing_kept file number budget Keeps (Err e) other = tt

@@ -11,7 +11,7 @@ use Rattle.ta_report.specs.declared.verdict.ReportSample.{ReportSample}
 use Rattle.ta_report.specs.declared.verdict.Verdict.{Verdict}
 use Rattle.ta_rest.specs.Faults.{EndingsOf}
 use Rattle.ta_rest.specs.RestSearch.{rest_search}
-use Rattle.ta_rest_run.specs.Runs.{IsRestSolution}
+use Rattle.ta_witness.specs.Runs.{IsRestSolution}
 use Rattle.ta_walk.specs.Ends.{NodeOf, SolutionAt}
 use Rattle.ta_verdict.specs.Rest.Budgets.{RestBudget}
 use Rattle.ta_verdict.specs.Rest.Verdicts.{AreRestVerdicts}

@@ -2,14 +2,14 @@
 use Rattle.std.specs.Prelude.{ℕ, ◌≡◌, List, slice_get, Some}
 use Rattle.ta_automaton.specs.declared.file.File.{File}
 use Rattle.ta_automaton.specs.declared.pattern.Pattern.{Pattern}
-use Rattle.ta_moment_run.specs.Resting.{EndRestsQuietly, OccursAtQuietRest}
-use Rattle.ta_moment_walk.specs.Found.{Found, RunAt}
+use Rattle.ta_witness.specs.Resting.{EndRestsQuietly, OccursAtQuietRest}
+use Rattle.ta_walk.specs.Found.{Found, RunAt}
 use Rattle.ta_moments.specs.Refutes.{of_rest}
 use Rattle.ta_replay.specs.Fits.{Fits}
 use Rattle.ta_replay.specs.Replays.{ReplayStays}
 use Rattle.ta_replay.specs.Shows.{Shows}
 use Rattle.ta_replay.specs.declared.run.Run.{Run}
-use Rattle.ta_rest_run.specs.Runs.{ending_run}
+use Rattle.ta_witness.specs.Runs.{ending_run}
 use Rattle.ta_witness.specs.Witness.{IsShortRun}
 
 -- the run fits the file and shows the pattern that it names, its replay stays in range, and its last configuration is at quiet rest

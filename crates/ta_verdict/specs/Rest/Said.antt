@@ -4,14 +4,14 @@ use Rattle.ta_automaton.specs.declared.automaton.Automaton.{Automaton}
 use Rattle.ta_automaton.specs.declared.file.File.{File}
 use Rattle.ta_automaton.specs.declared.pattern.Pattern.{Pattern}
 use Rattle.ta_check.specs.Subjects.{claimed_with}
-use Rattle.ta_claim.specs.declared.claim.Claim.TheVariants as claim
-use Rattle.ta_moment_run.specs.Resting.{OccursAtQuietRest}
+use Rattle.ta_rest.specs.declared.claim.Claim.TheVariants as claim
+use Rattle.ta_witness.specs.Resting.{OccursAtQuietRest}
 use Rattle.ta_replay.specs.Fits.{Fits}
 use Rattle.ta_replay.specs.Replays.{ReplayStays}
 use Rattle.ta_replay.specs.Shows.{Shows}
 use Rattle.ta_replay.specs.declared.run.Run.{Run}
 use Rattle.ta_report.specs.declared.verdict.Verdict.TheVariants.{Safe, Unsafe}
-use Rattle.ta_rest_run.specs.Runs.{OccursAtRest, ending_run}
+use Rattle.ta_witness.specs.Runs.{OccursAtRest, ending_run}
 use Rattle.ta_witness.specs.Witness.{IsShortRun}
 use Rattle.ta_verdict.specs.Rest.Budgets.{RestBudget}
 use Rattle.ta_verdict.specs.Rest.Verdicts.{RestVerdictHolds}

@@ -10,7 +10,7 @@ use Rattle.ta_rest.specs.Faults.{EndingsOf}
 use Rattle.ta_rest.specs.Rest.{RestSafe}
 use Rattle.ta_rest.specs.RestSearch.{rest_search}
 use Rattle.ta_rest.specs.declared.rest_file.RestFile.{RestFile}
-use Rattle.ta_rest_run.specs.Runs.{RestWitnessOf}
+use Rattle.ta_witness.specs.Runs.{RestWitnessOf}
 use Rattle.ta_report.specs.Picked.{first_picked, picked}
 use Rattle.ta_report.specs.declared.pick.Pick.{Pick}
 use Rattle.ta_report.specs.declared.verdict.Verdict.{Verdict}
@@ -19,10 +19,10 @@ use Rattle.ta_report.specs.Report.{VerdictFits}
 use Rattle.ta_verdict.specs.Verdicts.{EachHolds, Question, VerdictAnswers}
 use Rattle.ta_walk.specs.Ends.{IsProof, SolutionAt, TreeKept}
 use Rattle.ta_check.specs.Subjects.{claimed_with}
-use Rattle.ta_claim.specs.declared.claim.Claim.TheVariants as claim
+use Rattle.ta_rest.specs.declared.claim.Claim.TheVariants as claim
 use Rattle.ta_encode.specs.declared.encoded.Solution.{Solution}
 use Rattle.ta_moment_tree.specs.Makers.{moments_of}
-use Rattle.ta_moment_walk.specs.Found.{Found, FoundAt, RunLeaves}
+use Rattle.ta_walk.specs.Found.{Found, FoundAt, RunLeaves}
 use Rattle.ta_moments.specs.Refutes.{of_rest}
 use Rattle.ta_moments.specs.declared.fact.Fact.{Fact}
 use Rattle.ta_verdict.specs.Rest.Budgets.{RestBudget}
@@ -72,7 +72,8 @@ EndingVerdictHolds file ending added budget number p v =
 
 -- the same for each file whose patterns have these endings
 abbrev pub OwnVerdict : RestFile → RestBudget → ℕ → Pattern → Verdict → Type 0
-OwnVerdict rest budget number p v = (file : File) → EndingsOf file rest.ending.file rest.added → EndingVerdictHolds file rest.ending.file rest.added budget number p v
+OwnVerdict rest budget number p v = (file : File) → EndingsOf file rest.ending.file rest.added
+    → EndingVerdictHolds file rest.ending.file rest.added budget number p v
 
 -- `Keeps` holds of the nodes of a tree that refutes a pattern's ending
 abbrev pub KeepsSafe : {E : Type 0} → Search E → ℕ → (List Node → Type 0) → Verdict → Type 0

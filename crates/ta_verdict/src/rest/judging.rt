@@ -7,7 +7,7 @@ ghost use Rattle.ta_check.specs.Certificate.{QuietRestCertificate};
 ghost use Rattle.ta_report.specs.Picked.{picked};
 ghost use Rattle.ta_report.specs.Report.{VerdictFits};
 ghost use Rattle.ta_report.specs.declared.pick.Pick.TheVariants.{All, One};
-ghost use Rattle.ta_shell.specs.Staging.{Begun};
+ghost use Rattle.ta_shelf.specs.Staging.{Begun};
 ghost use Rattle.ta_automaton.specs.Numbered.{OfPattern};
 ghost use Rattle.ta_verdict.specs.Certificates.{safe_among, safe_ones, safe_picked};
 ghost use Rattle.ta_verdict.specs.Drafts.{AddsTree, DraftHasTree, HasProofs, HasText, HasTrees};

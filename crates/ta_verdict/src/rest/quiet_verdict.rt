@@ -13,11 +13,10 @@ use crate::report_kind;
 use std::alloc::{AllocError, Global};
 use ta_base::limits::MOST_NODES;
 use ta_dense::Dictionary;
-use ta_moment_walk::{MomentEnd, visit_moments};
 use ta_report::Verdict;
 use ta_rest::RestFile;
-use ta_rest_run::own_run;
-use ta_walk::Keeper;
+use ta_walk::{Keeper, MomentEnd, visit_moments};
+use ta_witness::own_run;
 
 /// The verdict on the pattern of a number, from 0, within so many nodes of moments: whether some run
 /// in which the pattern occurs comes to quiet rest where its last event happens. The keeper takes the

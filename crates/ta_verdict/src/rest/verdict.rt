@@ -4,7 +4,7 @@
 ghost use Rattle.std.specs.Prelude.{ℕ, ◌<◌, ◌≤◌, ◌≡◌, [], IfOk, length};
 ghost use Rattle.ta_automaton.specs.declared.pattern.Pattern.{Pattern};
 ghost use Rattle.ta_report.specs.Report.{VerdictFits};
-ghost use Rattle.ta_rest_run.specs.Runs.{IsRestSolution};
+ghost use Rattle.ta_witness.specs.Runs.{IsRestSolution};
 ghost use Rattle.ta_verdict.specs.Rest.Budgets.{words_within};
 ghost use Rattle.ta_verdict.specs.Rest.Verdicts.{IsNotSafe, KeepsSafe, OwnVerdict};
 ghost use Rattle.ta_rest.specs.RestSearch.{rest_search};
@@ -15,14 +15,13 @@ use crate::{report_kind, unwitnessed};
 use std::alloc::{AllocError, Global};
 use std::thread::Threads;
 use ta_base::limits::MOST_NODES;
-use ta_claim::{Claim, ClaimTree};
 use ta_dense::Dictionary;
 use ta_encode::Solution;
 use ta_implied::Orders;
 use ta_report::Verdict;
-use ta_rest::RestFile;
-use ta_rest_run::rest_witness;
+use ta_rest::{Claim, ClaimTree, RestFile};
 use ta_walk::{PartKeeper, VisitEnd, visit};
+use ta_witness::rest_witness;
 
 /// The verdict on the pattern of a number, from 0, within so many nodes of words: whether some run in which
 /// the pattern occurs comes to rest where its last event happens. The keeper takes the nodes of the

@@ -4,8 +4,8 @@ use Rattle.std.specs.List.{AllByRecursion}
 use Rattle.ta_base.specs.declared.limits.TheConstants.{MOST_NODES}
 use Rattle.ta_cert.specs.declared.line.Node.{Node}
 use Rattle.ta_encode.specs.Search.{Comes, Pending, Search}
-use Rattle.ta_cursor.specs.Cursors.{Within, left_at, node_at}
-use Rattle.ta_cursor.specs.declared.cursor.Cursor.{Cursor}
+use Rattle.ta_encode.specs.Cursors.{Within, left_at, node_at}
+use Rattle.ta_encode.specs.declared.cursor.Cursor.{Cursor}
 use Rattle.ta_walk.specs.Visit.{Visits}
 use Rattle.ta_walk.specs.Ends.{IsSpent, IsTreeEnd, leaf_count, node_count}
 use Rattle.ta_walk.specs.declared.end.TreeEnd.{TreeEnd}
@@ -35,7 +35,8 @@ PartEnds s budget Keeps (tree.Overflow node kind) = IsTreeEnd s budget Keeps (tr
 
 -- and its nodes were handed to a keeper, after those that it took before
 abbrev pub PartVisited : {K E : Type 0} → (K → K → List Node → Type 0) → Search E → ℕ → K → K → TreeEnd E → Type 0
-PartVisited {K} Keeps s budget begun kept end = (first : K) (before : List Node) → Keeps first begun before → PartEnds s budget (λ nodes. Keeps first kept (before ++ nodes)) end
+PartVisited {K} Keeps s budget begun kept end = (first : K) (before : List Node) → Keeps first begun before
+    → PartEnds s budget (λ nodes. Keeps first kept (before ++ nodes)) end
 
 -- the same end, for a visit with this many more nodes before, this many of them leaves
 abbrev pub shifted : {E : Type 0} → ℕ → ℕ → TreeEnd E → TreeEnd E
@@ -82,12 +83,13 @@ pub record HasFewLeft {E : Type 0} (s : Search E) (nodes : ℕ) (c : Cursor E) :
   pub few : AllByRecursion (HasFewBounds most) (left_at s c)
 
 -- after some nodes, this many of them leaves, the schemas are those of one cursor, and then those of another
-pub record LeadsToBoth {E : Type 0} (s : Search E) (words : List (Pending E)) (Keeps : List Node → Type 0) (first later : Cursor E) (count leaves : ℕ) : Type 0 where
-  pub nodes : List Node
-  pub visits : Visits s words nodes (left_at s first ++ left_at s later)
-  pub counted : count ≡ length nodes
-  pub leaves_are : leaves ≡ leaf_count nodes
-  pub kept : Keeps nodes
+pub record LeadsToBoth {E : Type 0} (s : Search E) (words : List (Pending E)) (Keeps : List Node → Type 0) (first later : Cursor E) (count leaves : ℕ) : Type 0
+  where
+    pub nodes : List Node
+    pub visits : Visits s words nodes (left_at s first ++ left_at s later)
+    pub counted : count ≡ length nodes
+    pub leaves_are : leaves ≡ leaf_count nodes
+    pub kept : Keeps nodes
 
 -- the result of a stretch of a visit, whose cursor is this one now
 abbrev pub StretchEnds : {E : Type 0} → Search E → List (Pending E) → ℕ → Cursor E → (List Node → Type 0) → Stretch E → Type 0

@@ -38,4 +38,5 @@ returns-in_err-admit-clause-only c = λ able.
 
 pub returns-in_err-lines-clause-only : goal.returns-in_err-lines-clause-only
 returns-in_err-lines-clause-only c = λ able.
-    rw (err_is c.from_residual-in_err-lines.result _ c.from_residual-in_err-lines.ensures.1) (only_memory c.args.scoped.now.file c.args.run.now _ c.requires able c.in_err-lines.ensures.fault)
+    rw (err_is c.from_residual-in_err-lines.result _ c.from_residual-in_err-lines.ensures.1)
+    (only_memory c.args.scoped.now.file c.args.run.now _ c.requires able c.in_err-lines.ensures.fault)

@@ -8,8 +8,10 @@ loop-number-preserved c =
     let rows = c.args.rows.now in
     let named = read_same rows rows c.loop-number.number c.index-rows-number.result refl c.loop-number-test.true c.index-rows-number.is in
     elim c.if-contains.branch [
-      | then-contains+in_ok-check_row w ↦ one_passed (λ j (row : Row). IsBitSet c.args.mask j → RowPasses (point_of c.args.values.now) row) rows c.loop-number.number c.index-rows-number.result named (λ bit. w.in_ok-check_row.ensures.passes) c.loop-number.invariant
-      | else-contains w ↦ one_passed (λ j (row : Row). IsBitSet c.args.mask j → RowPasses (point_of c.args.values.now) row) rows c.loop-number.number c.index-rows-number.result named (λ bit. absurd (false≢true (sym w.if-contains.false ∙ c.contains.ensures.tells.1 bit))) c.loop-number.invariant
+      | then-contains+in_ok-check_row w ↦ one_passed (λ j (row : Row). IsBitSet c.args.mask j → RowPasses (point_of c.args.values.now) row) rows
+          c.loop-number.number c.index-rows-number.result named (λ bit. w.in_ok-check_row.ensures.passes) c.loop-number.invariant
+      | else-contains w ↦ one_passed (λ j (row : Row). IsBitSet c.args.mask j → RowPasses (point_of c.args.values.now) row) rows c.loop-number.number
+          c.index-rows-number.result named (λ bit. absurd (false≢true (sym w.if-contains.false ∙ c.contains.ensures.tells.1 bit))) c.loop-number.invariant
     ]
 
 pub returns-in_err-check_row-clause-fails : goal.returns-in_err-check_row-clause-fails
@@ -17,4 +19,5 @@ returns-in_err-check_row-clause-fails c =
     let rows = c.args.rows.now in
     let named = read_same rows rows c.loop-number.number c.index-rows-number.result refl c.loop-number-test.true c.index-rows-number.is in
     rw (err_is c.from_residual.result _ c.from_residual.ensures.1)
-    (masked_fault (point_of c.args.values.now) c.args.mask rows (length c.args.values.now) c.args.first c.loop-number.number c.index-rows-number.result _ c.loop-number.invariant named (c.contains.ensures.tells.0 c.if-contains.true) c.in_err-check_row.ensures.fails)
+    (masked_fault (point_of c.args.values.now) c.args.mask rows (length c.args.values.now) c.args.first c.loop-number.number c.index-rows-number.result _
+    c.loop-number.invariant named (c.contains.ensures.tells.0 c.if-contains.true) c.in_err-check_row.ensures.fails)

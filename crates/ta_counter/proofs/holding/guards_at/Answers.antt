@@ -5,12 +5,14 @@ use Rattle.ta_counter.proofs.holding.guards_at.Goals as goal
 pub mask_at-requires-clause-over : goal.mask_at-requires-clause-over
 mask_at-requires-clause-over c =
     let places = ap (λ (vs : List ℤ). length vs) c.as_slice-values.ensures.value ∙ c.requires.places in
-    subst (RowsOver (length c.as_slice-values.result.now)) (sym c.as_slice.ensures) (rise_rows_over c.args.automaton.now (length c.as_slice-values.result.now) places)
+    subst (RowsOver (length c.as_slice-values.result.now)) (sym c.as_slice.ensures)
+    (rise_rows_over c.args.automaton.now (length c.as_slice-values.result.now) places)
 
 pub mask_at-requires-2-clause-over : goal.mask_at-requires-2-clause-over
 mask_at-requires-2-clause-over c =
     let places = ap (λ (vs : List ℤ). length vs) c.as_slice-values.ensures.value ∙ c.requires.places in
-    subst (RowsOver (length c.as_slice-values.result.now)) (sym c.as_slice-2.ensures) (fall_rows_over c.args.automaton.now (length c.as_slice-values.result.now) places)
+    subst (RowsOver (length c.as_slice-values.result.now)) (sym c.as_slice-2.ensures)
+    (fall_rows_over c.args.automaton.now (length c.as_slice-values.result.now) places)
 
 pub returns : goal.returns
 returns c =

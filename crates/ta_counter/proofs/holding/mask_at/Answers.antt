@@ -14,15 +14,19 @@ loop-number-preserved c =
     let point = point_of c.args.values.now in
     let named = read_same rows rows c.loop-number.number c.index-rows-number.result refl c.loop-number-test.true c.index-rows-number.is in
     record {
-      mask = mask_more point rows c.loop-number.number c.loop-number.mask c.with_bit-mask.result c.index-rows-number.result c.in_ok-holds.holds named c.in_ok-holds.ensures c.loop-number.invariant.mask c.with_bit-mask.ensures;
-      stay = one_passed (λ j (row : Row). StaysInRange point row.form.constant row.form.terms) rows c.loop-number.number c.index-rows-number.result named (told_stays point c.index-rows-number.result c.in_ok-holds.holds c.in_ok-holds.ensures) c.loop-number.invariant.stay;
+      mask = mask_more point rows c.loop-number.number c.loop-number.mask c.with_bit-mask.result c.index-rows-number.result c.in_ok-holds.holds named
+          c.in_ok-holds.ensures c.loop-number.invariant.mask c.with_bit-mask.ensures;
+      stay = one_passed (λ j (row : Row). StaysInRange point row.form.constant row.form.terms) rows c.loop-number.number c.index-rows-number.result named
+          (told_stays point c.index-rows-number.result c.in_ok-holds.holds c.in_ok-holds.ensures) c.loop-number.invariant.stay;
     }
 
 pub returns-clause-mask : goal.returns-clause-mask
-returns-clause-mask c = mask_all (point_of c.args.values.now) c.args.rows.now c.loop-number.number c.loop-number.mask c.loop-number-test.false c.loop-number.invariant.mask
+returns-clause-mask c = mask_all (point_of c.args.values.now) c.args.rows.now c.loop-number.number c.loop-number.mask c.loop-number-test.false
+    c.loop-number.invariant.mask
 
 pub returns-clause-stay : goal.returns-clause-stay
-returns-clause-stay c = all_passed (λ j (row : Row). StaysInRange (point_of c.args.values.now) row.form.constant row.form.terms) c.args.rows.now c.loop-number.number c.loop-number-test.false c.loop-number.invariant.stay
+returns-clause-stay c = all_passed (λ j (row : Row). StaysInRange (point_of c.args.values.now) row.form.constant row.form.terms) c.args.rows.now
+    c.loop-number.number c.loop-number-test.false c.loop-number.invariant.stay
 
 pub returns-in_err-holds-clause-leaves : goal.returns-in_err-holds-clause-leaves
 returns-in_err-holds-clause-leaves c = λ _ stay.

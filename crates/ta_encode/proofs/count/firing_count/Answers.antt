@@ -16,8 +16,10 @@ loop-rule-preserved c =
     let r = c.loop-rule.rule in
     let within : r < 128 = (let b = c.loop-rule-test.true in let most = c.requires in omega arith) in
     elim c.if-allowed-rule-ne0.branch [
-      | then-allowed-rule-ne0 w ↦ w.count-is ∙ ap (λ n. n + 1) c.loop-rule.invariant ∙ sym (count_one (has_bit c.args.allowed) r (bit_on 128 c.args.allowed r within w.if-allowed-rule-ne0.true))
-      | else-allowed-rule-ne0 w ↦ w.count-is ∙ c.loop-rule.invariant ∙ sym (count_none (has_bit c.args.allowed) r (bit_off 128 c.args.allowed r within w.if-allowed-rule-ne0.false))
+      | then-allowed-rule-ne0 w ↦ w.count-is ∙ ap (λ n. n + 1) c.loop-rule.invariant
+          ∙ sym (count_one (has_bit c.args.allowed) r (bit_on 128 c.args.allowed r within w.if-allowed-rule-ne0.true))
+      | else-allowed-rule-ne0 w ↦ w.count-is ∙ c.loop-rule.invariant
+          ∙ sym (count_none (has_bit c.args.allowed) r (bit_off 128 c.args.allowed r within w.if-allowed-rule-ne0.false))
     ]
 
 pub returns-clause-few : goal.returns-clause-few

@@ -1,4 +1,5 @@
-use Rattle.ta_encode.proofs.Common.{refl, ◌≡◌, ◌+◌, ◌<◌, ◌^◌, List, length, reverse, take, arith, sym, ap, ◌∙◌, take-length, length-reverse, length-take-le, reverse_more, Element, meanings}
+use Rattle.ta_encode.proofs.Common.{refl, ◌≡◌, ◌+◌, ◌<◌, ◌^◌, List, length, reverse, take, arith, sym, ap, ◌∙◌, take-length, length-reverse, length-take-le}
+use Rattle.ta_encode.proofs.Common.{reverse_more, Element, meanings}
 use Rattle.ta_encode.proofs.Drafts.{meanings_few, word_few}
 use Rattle.ta_encode.proofs.count.unknown_count.Goals as goal
 
@@ -24,10 +25,12 @@ pub loop-number-preserved : goal.loop-number-preserved
 loop-number-preserved c =
     let items = c.args.elements.now in
     ap (λ n. n + c.element_count-count.result) c.loop-number.invariant ∙ sym c.element_count-count.ensures.value
-    ∙ ap (λ (w : List Element). length (meanings c.args.task.automaton.now c.args.task.pattern.now c.args.start_mask w)) (sym (reverse_more items c.loop-number.number _ c.loop-number-test.true))
+    ∙ ap (λ (w : List Element). length (meanings c.args.task.automaton.now c.args.task.pattern.now c.args.start_mask w))
+    (sym (reverse_more items c.loop-number.number _ c.loop-number-test.true))
 
 pub returns : goal.returns
 returns c =
     let items = c.args.elements.now in
     let end : c.loop-number.number ≡ length items = (let low = c.loop-number-test.false in let high = c.loop-number.auto.number-end in omega arith) in
-    c.loop-number.invariant ∙ ap (λ (w : List Element). length (meanings c.args.task.automaton.now c.args.task.pattern.now c.args.start_mask (reverse w))) (ap (λ n. take n items) end ∙ take-length items)
+    c.loop-number.invariant ∙ ap (λ (w : List Element). length (meanings c.args.task.automaton.now c.args.task.pattern.now c.args.start_mask (reverse w)))
+    (ap (λ n. take n items) end ∙ take-length items)

@@ -13,7 +13,8 @@ returns c = λ elements before.
     record {
       within = omega arith;
       marked = ap (λ (xs : List Mark). length xs) (items ∙ ap (λ (xs : List Mark). xs ++ mark ∷ []) empty);
-      marks = marks_first o.task.automaton.now o.task.pattern.now o.start_mask elements draft.meanings.items draft.rows.items c.new-marks.result.items c.push.new.self.items mark empty items c.mark_of.ensures.unknowns c.mark_of.ensures.rows here.is;
+      marks = marks_first o.task.automaton.now o.task.pattern.now o.start_mask elements draft.meanings.items draft.rows.items c.new-marks.result.items
+          c.push.new.self.items mark empty items c.mark_of.ensures.unknowns c.mark_of.ensures.rows here.is;
       drafted = here;
       same = omega arith;
       rows_are = refl;

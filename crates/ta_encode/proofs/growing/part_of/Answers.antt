@@ -1,4 +1,5 @@
-use Rattle.ta_encode.proofs.Common.{ℕ, List, ap, refl, reverse, subst, take, ◌≡◌, ◌<◌, ◌≤◌, ◌^◌, ◌∙◌, length, arith, length-reverse, length-take-le, IfOk-weaker, Row, Element, AreMarks, IsPart, mark_at}
+use Rattle.ta_encode.proofs.Common.{ℕ, List, ap, refl, reverse, subst, take, ◌≡◌, ◌<◌, ◌≤◌, ◌^◌, ◌∙◌, length, arith, length-reverse, length-take-le}
+use Rattle.ta_encode.proofs.Common.{IfOk-weaker, Row, Element, AreMarks, IsPart, mark_at}
 use Rattle.ta_encode.proofs.Drafts.{meanings_few}
 use Rattle.ta_encode.proofs.Marking.{part_kept}
 use Rattle.ta_encode.proofs.growing.part_of.Goals as goal
@@ -29,11 +30,14 @@ returns-then-shared-len c =
     let o = c.args.origin.now in
     let e = c.args.encoding in
     let shared = c.shared_length-shared in
-    let are = subst (λ (s : ℕ). AreMarks o.task.automaton.now o.task.pattern.now s e.elements.items e.meanings.items e.system.rows e.marks.items) c.if-was-origin.true c.requires.encoding in
+    let are = subst (λ (s : ℕ). AreMarks o.task.automaton.now o.task.pattern.now s e.elements.items e.meanings.items e.system.rows e.marks.items)
+    c.if-was-origin.true c.requires.encoding in
     let inside : shared.result < length e.marks.items = omega (arith, c.len.ensures, e.marks.ok.0, c.if-shared-len.true) in
     let same = subst (λ (xs : List Element). take shared.result xs ≡ take shared.result c.args.elements.now) c.as_slice.ensures.value shared.ensures.same in
-    let rows = subst (λ (rs : List Row). c.cut-marks.result.2.items ≡ take (mark_at e.marks.items shared.result).rows rs) c.into_vec.ensures c.cut-marks.ensures.rows in
-    part_kept o e.elements.items c.args.elements.now e.meanings.items e.system.rows e.marks.items _ are inside shared.ensures.right same refl c.cut-marks.ensures.marks c.cut-marks.ensures.meanings rows (c.len-same.ensures ∙ c.cut-marks.result.2.ok.0)
+    let rows = subst (λ (rs : List Row). c.cut-marks.result.2.items ≡ take (mark_at e.marks.items shared.result).rows rs) c.into_vec.ensures
+    c.cut-marks.ensures.rows in
+    part_kept o e.elements.items c.args.elements.now e.meanings.items e.system.rows e.marks.items _ are inside shared.ensures.right same refl
+    c.cut-marks.ensures.marks c.cut-marks.ensures.meanings rows (c.len-same.ensures ∙ c.cut-marks.result.2.ok.0)
 
 pub returns : goal.returns
 returns c =

@@ -1,4 +1,5 @@
-use Rattle.ta_encode.proofs.Common.{◌≡◌, arith, ap, sym, subst, ◌∙◌, List, [], ◌∷◌, ◌++◌, length, pos, ℤ, inl, inr, ℕ, cases_lt, get_or_append_left, get_or_push, to_z_range, InRange, Count, line_coefficient, AreOfRules, length-append, All-push}
+use Rattle.ta_encode.proofs.Common.{◌≡◌, arith, ap, sym, subst, ◌∙◌, List, [], ◌∷◌, ◌++◌, length, pos, ℤ, inl, inr, ℕ, cases_lt, get_or_append_left}
+use Rattle.ta_encode.proofs.Common.{get_or_push, to_z_range, InRange, Count, line_coefficient, AreOfRules, length-append, All-push}
 use Rattle.ta_encode.proofs.line.coefficients_of_rules.Goals as goal
 
 pub loop-rule-preserved : goal.loop-rule-preserved

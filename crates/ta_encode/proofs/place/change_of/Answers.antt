@@ -7,5 +7,6 @@ returns-in-Some-clause-value c =
     let found = c.in-Some.ensures.lookup in
     let rule = c.in-Some.rule.now in
     let items = c.as_slice.result.now in
-    let at : slice_get c.args.automaton.now.rules c.args.rule ≡ Some rule = subst (λ (rs : List Rule). slice_get rs c.args.rule ≡ Some rule) c.as_slice.ensures (slice_get_read items (length items) c.args.rule rule refl found.3.0 found.1) in
+    let at : slice_get c.args.automaton.now.rules c.args.rule ≡ Some rule = subst (λ (rs : List Rule). slice_get rs c.args.rule ≡ Some rule) c.as_slice.ensures
+    (slice_get_read items (length items) c.args.rule rule refl found.3.0 found.1) in
     plain ∙ c.rule_change.ensures.value ∙ ap (λ o. rule_change c.args.automaton.now o c.args.place) (sym at)

@@ -16,7 +16,8 @@ returns-then-place-first_location-clause-value c =
     let low = c.if-place-first_shared.false in
     let high = c.if-place-first_location.true in
     let first = c.first_location-first_location.ensures in
-    plain ∙ change_shared c.args.automaton.now c.args.rule.now c.args.place c.update_of.result (omega arith) (omega arith) (c.update_of.ensures.value ∙ ap (λ n. coefficient c.args.rule.now.updates (c.args.place - n)) same)
+    plain ∙ change_shared c.args.automaton.now c.args.rule.now c.args.place c.update_of.result (omega arith) (omega arith)
+    (c.update_of.ensures.value ∙ ap (λ n. coefficient c.args.rule.now.updates (c.args.place - n)) same)
 
 pub returns-else-place-first_location-clause-value : goal.returns-else-place-first_location-clause-value
 returns-else-place-first_location-clause-value c =

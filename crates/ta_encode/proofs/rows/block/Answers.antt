@@ -1,4 +1,5 @@
-use Rattle.ta_encode.proofs.Common.{◌≡◌, ℤ, pos, ◌<◌, ◌≤◌, ◌^◌, ◌++◌, ◌∷◌, [], arith, sym, ap, ◌∙◌, subst, unsigned_abs, to_z_range, InRange, IsNormal, coefficient, IsNormal-higher, coefficient_in_sense}
+use Rattle.ta_encode.proofs.Common.{◌≡◌, ℤ, pos, ◌<◌, ◌≤◌, ◌^◌, ◌++◌, ◌∷◌, [], arith, sym, ap, ◌∙◌, subst, unsigned_abs, to_z_range, InRange, IsNormal}
+use Rattle.ta_encode.proofs.Common.{coefficient, IsNormal-higher, coefficient_in_sense}
 use Rattle.ta_encode.proofs.Sparse.{sparse_push}
 use Rattle.ta_encode.proofs.Blocks.{block, block_at, block_length, block_start, block_all, unit_some}
 use Rattle.ta_encode.proofs.rows.block.Goals as goal
@@ -24,18 +25,22 @@ invariant_of-result c =
     let few : c.loop-unknown.unknown ≤ 2 ^ 32 = (let high = c.loop-unknown.auto.unknown-end c.requires.order in let most = c.requires.numbers in omega arith) in
     record {
       constant_fits = subst InRange (sym (to_z_range c.args.constant c.requires.constant)) c.requires.constant;
-      normal = subst (IsNormal 0 (2 ^ 32)) (sym c.from_vec.ensures) (IsNormal-higher 0 c.loop-unknown.unknown (2 ^ 32) c.loop-unknown.terms.items few c.loop-unknown.invariant.normal);
+      normal = subst (IsNormal 0 (2 ^ 32)) (sym c.from_vec.ensures)
+          (IsNormal-higher 0 c.loop-unknown.unknown (2 ^ 32) c.loop-unknown.terms.items few c.loop-unknown.invariant.normal);
     }
 
 pub returns-clause-row : goal.returns-clause-row
 returns-clause-row c =
-    let end : c.loop-unknown.unknown ≡ c.args.to = (let low = c.loop-unknown-test.false in let high = c.loop-unknown.auto.unknown-end c.requires.order in omega arith) in
+    let end : c.loop-unknown.unknown ≡ c.args.to =
+    (let low = c.loop-unknown-test.false in let high = c.loop-unknown.auto.unknown-end c.requires.order in omega arith) in
     record {
       constant = to_z_range c.args.constant c.requires.constant;
-      coefficients = λ u. ap (λ ts. coefficient ts u) c.from_vec.ensures ∙ block_all c.args.from c.args.to c.loop-unknown.unknown c.args.sense c.loop-unknown.terms.items c.requires.order end c.loop-unknown.invariant u;
+      coefficients = λ u. ap (λ ts. coefficient ts u) c.from_vec.ensures
+          ∙ block_all c.args.from c.args.to c.loop-unknown.unknown c.args.sense c.loop-unknown.terms.items c.requires.order end c.loop-unknown.invariant u;
     }
 
 pub returns-clause-below : goal.returns-clause-below
 returns-clause-below c =
     let high = c.loop-unknown.auto.unknown-end c.requires.order in
-    subst (IsNormal 0 c.args.to) (sym c.from_vec.ensures) (IsNormal-higher 0 c.loop-unknown.unknown c.args.to c.loop-unknown.terms.items high c.loop-unknown.invariant.normal)
+    subst (IsNormal 0 c.args.to) (sym c.from_vec.ensures)
+    (IsNormal-higher 0 c.loop-unknown.unknown c.args.to c.loop-unknown.terms.items high c.loop-unknown.invariant.normal)

@@ -4,8 +4,10 @@ use Rattle.ta_encode.proofs.Smallness.{resilience_small}
 use Rattle.ta_encode.proofs.sample.encode_sample.Goals as goal
 use Rattle.ta_encode.proofs.sample.encode_sample.Goals.{In_ok-push_processes}
 
-written : (c : In_ok-push_processes) → (c.push_processes.new.self.meanings.items ≡ sample_meanings c.args.file.now.automaton) × AreWritten (sample_rows c.args.file.now.automaton) (length c.push_processes.new.self.meanings.items) c.push_processes.new.self.rows.items
-written c = sample_written c.args.file.now.automaton c.of-draft.ensures.automaton (c.of-draft.ensures.meanings ∙ c.in_ok-meanings.ensures) c.of-draft.ensures.rows c.in_ok-push_condition.ensures c.in_ok-push_processes.ensures
+written : (c : In_ok-push_processes) → (c.push_processes.new.self.meanings.items ≡ sample_meanings c.args.file.now.automaton)
+    × AreWritten (sample_rows c.args.file.now.automaton) (length c.push_processes.new.self.meanings.items) c.push_processes.new.self.rows.items
+written c = sample_written c.args.file.now.automaton c.of-draft.ensures.automaton (c.of-draft.ensures.meanings ∙ c.in_ok-meanings.ensures)
+    c.of-draft.ensures.rows c.in_ok-push_condition.ensures c.in_ok-push_processes.ensures
 
 pub of-draft-requires : goal.of-draft-requires
 of-draft-requires c =

@@ -1,10 +1,12 @@
-use Rattle.ta_encode.proofs.Common.{ℕ, Bool, ◌++◌, ◌∷◌, [], map, not, take, get_or, ap, ◌∙◌, append_assoc, filter, has_bit, bit_off, bit_on, item_none, item_one, Start}
+use Rattle.ta_encode.proofs.Common.{ℕ, Bool, ◌++◌, ◌∷◌, [], map, not, take, get_or, ap, ◌∙◌, append_assoc, filter, has_bit, bit_off, bit_on, item_none}
+use Rattle.ta_encode.proofs.Common.{item_one, Start}
 use Rattle.ta_encode.proofs.Masked.{initial_within}
 use Rattle.ta_encode.proofs.unknowns.push_starts.Goals as goal
 use Rattle.ta_encode.proofs.unknowns.push_starts.Goals.{then-empty-location-eq0+in_ok-push, else-empty-location-eq0}
 
 pub overflow_shl-location : goal.overflow_shl-location
-overflow_shl-location c = initial_within c.args.automaton.now c.as_slice-location-items.result.now c.loop-location.location-index 0 c.as_slice-location-items.ensures c.loop-location-test.true
+overflow_shl-location c = initial_within c.args.automaton.now c.as_slice-location-items.result.now c.loop-location.location-index 0
+    c.as_slice-location-items.ensures c.loop-location-test.true
 
 pub loop-location-preserved : goal.loop-location-preserved
 loop-location-preserved c =
@@ -17,8 +19,12 @@ loop-location-preserved c =
     let within = initial_within c.args.automaton.now items i 0 c.as_slice-location-items.ensures c.loop-location-test.true in
     elim c.if-empty-location-eq0.branch [
       | then-empty-location-eq0+in_ok-push w ↦
-          ap (λ v. v.items) w.meanings-is ∙ w.in_ok-push.ensures.items ∙ ap (λ ms. ms ++ Start l ∷ []) c.loop-location.invariant ∙ append_assoc before done (Start l ∷ [])
-          ∙ ap (λ ms. before ++ ms) (item_one Start test items i 0 c.loop-location-test.true (ap not (bit_off 32 c.args.empty l within w.if-empty-location-eq0.true)))
+          ap (λ v. v.items) w.meanings-is ∙ w.in_ok-push.ensures.items ∙ ap (λ ms. ms ++ Start l ∷ []) c.loop-location.invariant
+          ∙ append_assoc before done (Start l ∷ [])
+          ∙ ap (λ ms. before ++ ms) (item_one Start test items i 0 c.loop-location-test.true
+          (ap not (bit_off 32 c.args.empty l within w.if-empty-location-eq0.true)))
       | else-empty-location-eq0 w ↦
-          ap (λ v. v.items) w.meanings-is ∙ c.loop-location.invariant ∙ ap (λ ms. before ++ ms) (item_none Start test items i 0 c.loop-location-test.true (ap not (bit_on 32 c.args.empty l within w.if-empty-location-eq0.false)))
+          ap (λ v. v.items) w.meanings-is ∙ c.loop-location.invariant
+          ∙ ap (λ ms. before ++ ms) (item_none Start test items i 0 c.loop-location-test.true
+          (ap not (bit_on 32 c.args.empty l within w.if-empty-location-eq0.false)))
     ]

@@ -12,22 +12,29 @@ pub put-requires-clause-row : goal.put-requires-clause-row
 put-requires-clause-row c = let a = c.loop-column.invariant.rows in let b = c.requires.row in omega arith
 
 pub put-requires-clause-column : goal.put-requires-clause-column
-put-requires-clause-column c = (next_column c.args.links.now c.args.row c.args.list.now c.args.form.now.terms c.loop-column.column-index c.loop-column.left c.loop-column.links (0, pos 0) c.loop-column.invariant c.loop-column-test.true).0
+put-requires-clause-column c = (next_column c.args.links.now c.args.row c.args.list.now c.args.form.now.terms c.loop-column.column-index c.loop-column.left
+    c.loop-column.links (0, pos 0) c.loop-column.invariant c.loop-column-test.true).0
 
 pub put-requires-clause-start : goal.put-requires-clause-start
-put-requires-clause-start c = (next_column c.args.links.now c.args.row c.args.list.now c.args.form.now.terms c.loop-column.column-index c.loop-column.left c.loop-column.links (0, pos 0) c.loop-column.invariant c.loop-column-test.true).1
+put-requires-clause-start c = (next_column c.args.links.now c.args.row c.args.list.now c.args.form.now.terms c.loop-column.column-index c.loop-column.left
+    c.loop-column.links (0, pos 0) c.loop-column.invariant c.loop-column-test.true).1
 
 pub loop-column-preserved : goal.loop-column-preserved
 loop-column-preserved c =
     let f : SFits w128 c.coefficient_of-value.result = search rules in
     let e = simp to_z-of_z at c.in_ok-left.ensures in
-    let p : PutOver c.loop-column.links c.args.row (get_or c.args.list.now c.loop-column.column-index (0, pos 0)).0 c.coefficient_of-value.result c.in_ok-left.left c.put.new.links = record { sound = e.sound; rows = e.rows; columns = e.columns; values = e.values; before = e.before; fresh = e.fresh; held = e.held } in
-    overwritten_more c.args.links.now c.args.row c.args.list.now c.args.form.now.terms c.loop-column.column-index c.loop-column.left c.loop-column.links (0, pos 0) c.coefficient_of-value.result c.in_ok-left.left c.put.new.links c.loop-column.invariant c.loop-column-test.true c.coefficient_of-value.ensures.value p
+    let p : PutOver c.loop-column.links c.args.row (get_or c.args.list.now c.loop-column.column-index (0, pos 0)).0 c.coefficient_of-value.result
+    c.in_ok-left.left c.put.new.links = record
+    { sound = e.sound; rows = e.rows; columns = e.columns; values = e.values; before = e.before; fresh = e.fresh; held = e.held } in
+    overwritten_more c.args.links.now c.args.row c.args.list.now c.args.form.now.terms c.loop-column.column-index c.loop-column.left c.loop-column.links
+    (0, pos 0) c.coefficient_of-value.result c.in_ok-left.left c.put.new.links c.loop-column.invariant c.loop-column-test.true
+    c.coefficient_of-value.ensures.value p
 
 pub returns : goal.returns
 returns c =
     let w = c.loop-column.invariant in
-    let d = overwritten_all c.args.links.now c.args.row c.args.list.now c.args.form.now.terms c.loop-column.column-index c.loop-column.left c.loop-column.links w (omega arith) in
+    let d = overwritten_all c.args.links.now c.args.row c.args.list.now c.args.form.now.terms c.loop-column.column-index c.loop-column.left c.loop-column.links
+    w (omega arith) in
     record {
       sound = w.sound;
       rows = w.rows;

@@ -4,13 +4,15 @@ use Rattle.ta_links.proofs.linked_cells.set_value.Goals as goal
 use Rattle.ta_links.proofs.linked_cells.set_value.Goals.{After-write_value}
 
 -- the cells whose number is written
-done : (c : After-write_value) → (let l = c.args.links.now in SetDone l.cells.items l.row_heads.items l.column_heads.items l.free_head c.args.at c.args.value c.write_value.new.cells.items)
+done : (c : After-write_value) →
+    (let l = c.args.links.now in SetDone l.cells.items l.row_heads.items l.column_heads.items l.free_head c.args.at c.args.value c.write_value.new.cells.items)
 done c =
     let f = c.ranges.value in
     let l = c.args.links.now in
     let e : c.write_value.new.cells.items ≡ valued l.cells.items c.args.at c.args.value = simp to_z-of_z at c.write_value.ensures in
     subst (λ (xs : List Cell). SetDone l.cells.items l.row_heads.items l.column_heads.items l.free_head c.args.at c.args.value xs) (sym e)
-    (set_keeps l.cells.items l.row_heads.items l.column_heads.items l.free_head c.args.at c.args.value c.requires.sound c.requires.live c.requires.value c.requires.fits)
+    (set_keeps l.cells.items l.row_heads.items l.column_heads.items l.free_head c.args.at c.args.value c.requires.sound c.requires.live c.requires.value
+    c.requires.fits)
 
 pub returns-clause-sound : goal.returns-clause-sound
 returns-clause-sound c = (done (goal.at.returns-clause-sound c).After-write_value).linked

@@ -11,8 +11,11 @@ returns-then-value-eq0 c =
       sound = c.remove.ensures.sound;
       rows = c.remove.ensures.rows;
       columns = c.remove.ensures.columns;
-      values = λ q p. removed_is l.cells.items l.row_heads.items l.column_heads.items l.free_head c.args.row c.args.column c.args.at c.requires.sound c.requires.at (value_in n.cells.items) c.remove.ensures.values q p ∙ ap (λ (z : ℤ). written (value_in l.cells.items) c.args.row c.args.column z q p) (sym zero_);
-      kept = λ r h b. before_kept l.cells.items n.cells.items r c.args.column h b (c.remove.ensures.kept h b.live (before_apart l.cells.items c.args.row r c.args.column c.args.at h c.requires.at b));
+      values = λ q p. removed_is l.cells.items l.row_heads.items l.column_heads.items l.free_head c.args.row c.args.column c.args.at c.requires.sound
+          c.requires.at (value_in n.cells.items) c.remove.ensures.values q p
+          ∙ ap (λ (z : ℤ). written (value_in l.cells.items) c.args.row c.args.column z q p) (sym zero_);
+      kept = λ r h b. before_kept l.cells.items n.cells.items r c.args.column h b
+          (c.remove.ensures.kept h b.live (before_apart l.cells.items c.args.row r c.args.column c.args.at h c.requires.at b));
       held = c.remove.ensures.held;
     }
 
@@ -26,7 +29,8 @@ returns c =
       sound = e.sound;
       rows = e.rows;
       columns = e.columns;
-      values = set_is l.cells.items l.row_heads.items l.column_heads.items l.free_head c.args.row c.args.column c.args.at c.args.value c.requires.sound c.requires.at (value_in n.cells.items) e.values;
+      values = set_is l.cells.items l.row_heads.items l.column_heads.items l.free_head c.args.row c.args.column c.args.at c.args.value c.requires.sound
+          c.requires.at (value_in n.cells.items) e.values;
       kept = λ r h b. before_kept l.cells.items n.cells.items r c.args.column h b (e.kept h b.live);
       held = e.held;
     }

@@ -7,4 +7,5 @@ cell_behind-requires-clause-before c h e = (c.requires.before h e).live.inside
 
 pub cell_of-cell-requires : goal.cell_of-cell-requires
 cell_of-cell-requires c =
-    (following_live (direction c.args.way) c.args.cells.now c.args.heads.now c.args.line c.args.place c.args.before c.requires.chained c.requires.before c.in_ok-next.next (sym c.in_ok-next.ensures)).0.inside
+    (following_live (direction c.args.way) c.args.cells.now c.args.heads.now c.args.line c.args.place c.args.before c.requires.chained c.requires.before
+    c.in_ok-next.next (sym c.in_ok-next.ensures)).0.inside

@@ -12,7 +12,8 @@ write_columns-requires-clause-list c =
     let at = terms_at u list c.loop-row.row c.index-list-row.result all c.loop-row-test.true in
     let mine : IsNormal 0 u c.index-list-row.result.form.terms = subst (λ (r : Row). IsNormal 0 u r.form.terms) (sym c.index-list-row.is) at in
     let same : c.as_slice.result.now ≡ c.index-list-row.result.form.terms = c.as_slice.ensures ∙ ap (λ (r : Row). r.form.terms) (sym c.index-list-row.is) in
-    subst (λ (n : ℕ). IsNormal 0 n c.as_slice.result.now) (sym (c.loop-row.invariant.columns ∙ c.requires.columns)) (subst (λ (ts : List (ℕ × ℤ)). IsNormal 0 u ts) (sym same) mine)
+    subst (λ (n : ℕ). IsNormal 0 n c.as_slice.result.now) (sym (c.loop-row.invariant.columns ∙ c.requires.columns))
+    (subst (λ (ts : List (ℕ × ℤ)). IsNormal 0 u ts) (sym same) mine)
 
 pub loop-row-preserved : goal.loop-row-preserved
 loop-row-preserved c =
@@ -23,7 +24,8 @@ loop-row-preserved c =
     let terms = c.index-list-row.result.form.terms in
     let new = c.write_columns.new.links.cells.items in
     let old = c.loop-row.links.cells.items in
-    let is : (d : Row) → terms ≡ (get_or list k d).form.terms = λ d. ap (λ (r : Row). r.form.terms) (get_or_read list k c.index-list-row.result c.loop-row-test.true c.index-list-row.is d) in
+    let is : (d : Row) → terms ≡ (get_or list k d).form.terms = λ d. ap (λ (r : Row). r.form.terms)
+    (get_or_read list k c.index-list-row.result c.loop-row-test.true c.index-list-row.is d) in
     let same : c.as_slice.result.now ≡ terms = c.as_slice.ensures ∙ ap (λ (r : Row). r.form.terms) (sym c.index-list-row.is) in
     record {
       from = let from = inv.from in omega arith;
@@ -31,7 +33,8 @@ loop-row-preserved c =
       rows = e.rows ∙ inv.rows;
       columns = e.columns ∙ inv.columns;
       shows = shows_more c.args.first (value_in c.args.links.now.cells.items) list k (value_in old) (value_in new) terms inv.from inv.shows is e.others
-          (λ j ne. e.listed j (λ z. ne (ap (λ (ts : List (ℕ × ℤ)). coefficient ts j) (sym same) ∙ z)) ∙ ap (λ (r : Row). coefficient r.form.terms j) (sym c.index-list-row.is))
+          (λ j ne. e.listed j (λ z. ne (ap (λ (ts : List (ℕ × ℤ)). coefficient ts j) (sym same) ∙ z))
+          ∙ ap (λ (r : Row). coefficient r.form.terms j) (sym c.index-list-row.is))
           (λ j z. e.rest j (ap (λ (ts : List (ℕ × ℤ)). coefficient ts j) same ∙ z));
       free = λ none. e.fresh (inv.free none) (λ j. inv.shows.empty k j (omega arith));
     }

@@ -16,7 +16,8 @@ invariant_of-result c =
     let named = c.in_ok-spelled-2.field-0 in
     record {
       few_parameters = omega (arith, parameters);
-      few_shared = few_counted plain_name (numbered (codes "x")) c.in_ok-shared.field-0 c.args.k 16 (let b = c.requires.high in omega arith) c.in_ok-shared.ensures;
+      few_shared = few_counted plain_name (numbered (codes "x")) c.in_ok-shared.field-0 c.args.k 16 (let b = c.requires.high in omega arith)
+          c.in_ok-shared.ensures;
       some_locations = omega (arith, locations);
       few_locations = omega (arith, locations);
       is_processes = is_lone _ _ named.name c.in_ok-lone.ensures c.name_term.ensures named.legal;

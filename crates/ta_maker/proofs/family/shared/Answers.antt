@@ -15,5 +15,7 @@ loop-index-preserved c =
     let below = c.loop-index-test.true in
     record {
       low = omega arith;
-      all = rw c.in_ok-push.ensures.items (next_counted plain_name (numbered (codes "x")) c.loop-index.names.items c.in_ok-numbered.field-0 c.loop-index.index c.args.k _ (omega (arith, below)) c.in_ok-numbered.ensures c.loop-index.invariant.all);
+      all = rw c.in_ok-push.ensures.items
+          (next_counted plain_name (numbered (codes "x")) c.loop-index.names.items c.in_ok-numbered.field-0 c.loop-index.index c.args.k _ (omega (arith, below))
+          c.in_ok-numbered.ensures c.loop-index.invariant.all);
     }

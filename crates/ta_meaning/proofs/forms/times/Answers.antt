@@ -6,4 +6,5 @@ pub unreachable-requires : goal.unreachable-requires
 unreachable-requires c =
     let fits : FitsSigned w128 c.from.result = search rules in
     let small : unsigned_abs c.from.result ≤ 1000000000 = subst (λ (z : ℤ). unsigned_abs z ≤ 1000000000) (sym c.from.ensures) c.requires.factor in
-    product_stays c.args.a.now c.from.result c.requires.form small (simp to_z-of_z at (c.in-Err-Overflow.ensures.overflow (ap Err c.in-Err-Overflow.field-0-is)))
+    product_stays c.args.a.now c.from.result c.requires.form small
+    (simp to_z-of_z at (c.in-Err-Overflow.ensures.overflow (ap Err c.in-Err-Overflow.field-0-is)))

@@ -7,7 +7,8 @@ returns-then-is_same_number c =
     let left : FitsSigned w128 c.args.left.now.form.constant = search rules in
     let right : FitsSigned w128 c.args.right.now.form.constant = search rules in
     let same = simp to_z-of_z at (c.if-is_same_number.ensures.0 refl) in
-    let h = slice_eq-Decides (Decides-pair eqb int_eq Decides-eqb Decides-int_eq) c.as_slice.result.now c.as_slice-then-is_same_number.result.now c.eq.result c.eq.ensures in
+    let h = slice_eq-Decides (Decides-pair eqb int_eq Decides-eqb Decides-int_eq) c.as_slice.result.now c.as_slice-then-is_same_number.result.now c.eq.result
+    c.eq.ensures in
     let e = c.as_slice.ensures in
     let f = c.as_slice-then-is_same_number.ensures in (
       λ t. record { constant = same; terms = sym e ∙ h.0 t ∙ f },

@@ -1,4 +1,5 @@
-use Rattle.ta_meaning.proofs.Common.{◌≡◌, ℕ, ◌||◌, Bool, List, [], ◌∷◌, map, refl, ap, ◌∙◌, rules, tests, list_any, YieldsList-from_slice, any_from_yields_List, has_name}
+use Rattle.ta_meaning.proofs.Common.{◌≡◌, ℕ, ◌||◌, Bool, List, [], ◌∷◌, map, refl, ap, ◌∙◌, rules, tests, list_any, YieldsList-from_slice, any_from_yields_List}
+use Rattle.ta_meaning.proofs.Common.{has_name}
 use Rattle.std.proofs.Common.{bytes_eq}
 use Rattle.ta_meaning.proofs.named.has_name.Goals as goal
 
@@ -8,4 +9,6 @@ has_name-map f [] n = refl
 has_name-map f (x ∷ xs) n = ap (λ (b : Bool). bytes_eq (f x) n || b) (has_name-map f xs n)
 
 pub returns : goal.returns
-returns g c = any_from_yields_List (λ x. bytes_eq (g.T.Named.named x) c.args.name.now) _ _ c.any.result c.any.ensures.ran (YieldsList-from_slice c.args.items.now c.iter.ensures.rest) (λ x b q k. search (rules, tests)) ∙ has_name-map g.T.Named.named c.args.items.now c.args.name.now
+returns g c = any_from_yields_List (λ x. bytes_eq (g.T.Named.named x) c.args.name.now) _ _ c.any.result c.any.ensures.ran
+    (YieldsList-from_slice c.args.items.now c.iter.ensures.rest) (λ x b q k. search (rules, tests))
+    ∙ has_name-map g.T.Named.named c.args.items.now c.args.name.now

@@ -9,7 +9,8 @@ returns-then-number-gt-LARGEST_NUMBER c =
     let is : c.as_bytes-digit-items.result.now ≡ text = c.as_bytes-digit-items.ensures.value ∙ c.as_str.ensures in
     let legal = subst (λ (x : List ℕ). IsDigits x) (sym is) c.args.digits.now.legal in
     let more = number_more c.as_bytes-digit-items.result.now i legal c.digits-test.true in
-    let large : 1000000000 < number_of (take (i + 1) c.as_bytes-digit-items.result.now) = omega (arith, more, c.digits.invariant.is, c.from.ensures, c.if-number-gt-LARGEST_NUMBER.true) in
+    let large : 1000000000 < number_of (take (i + 1) c.as_bytes-digit-items.result.now) = omega
+    (arith, more, c.digits.invariant.is, c.from.ensures, c.if-number-gt-LARGEST_NUMBER.true) in
     too_large_at c.args.digits.now (i + 1) (subst (λ (x : List ℕ). 1000000000 < number_of (take (i + 1) x)) is large)
 
 pub digits-preserved : goal.digits-preserved

@@ -14,7 +14,8 @@ returns-then-passed-number c =
     let test : ℕ → Bool = λ g. has_guard a g (slice_get a.rules c.args.rule) in
     let below = c.loop-guard-test.true in
     let inside : c.loop-guard.guard < length a.rise + length a.fall = omega (arith, ap length c.as_slice.ensures, ap length c.as_slice-2.ensures) in
-    sym (passed_at test (length a.rise + length a.fall) c.loop-guard.guard c.args.number inside (sym c.has_guard.ensures ∙ c.if-has_guard.true) (sym c.if-passed-number.true ∙ c.loop-guard.invariant.is))
+    sym (passed_at test (length a.rise + length a.fall) c.loop-guard.guard c.args.number inside (sym c.has_guard.ensures ∙ c.if-has_guard.true)
+    (sym c.if-passed-number.true ∙ c.loop-guard.invariant.is))
 
 pub loop-guard-preserved : goal.loop-guard-preserved
 loop-guard-preserved c =

@@ -14,5 +14,6 @@ returns-in-Last-clause-value c silent end k =
     let test : ℕ → Bool = λ r. has_guard a g (slice_get a.rules r) in
     let both = length-filter_both test (λ r. not (test r)) (λ r. refl) (moving_rules a p) in
     let value = c.moving_count.ensures.value in
-    let sum : length (filter (λ r. not (test r)) (moving_rules a p)) + length (filter test (moving_rules a p)) ≡ c.moving_count.result = omega (arith, both, value) in
+    let sum : length (filter (λ r. not (test r)) (moving_rules a p)) + length (filter test (moving_rules a p)) ≡ c.moving_count.result = omega
+    (arith, both, value) in
     ap (λ (fact : Fact). (with_fact a p silent end k fact).unknowns) c.in-Last.is ∙ ap (λ n. k.unknowns + n) sum

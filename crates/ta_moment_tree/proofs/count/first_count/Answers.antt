@@ -1,11 +1,13 @@
 use Rattle.std.proofs.Common.{◌≡◌, ◌+◌, ◌*◌, ◌<◌, ◌≤◌, ◌^◌, length, arith, ap, refl, ◌∙◌}
 use Rattle.ta_encode.specs.Unknowns.{start_meanings}
 use Rattle.ta_moments.specs.Facts.{moving_rules}
-use Rattle.ta_moment_encode.proofs.Beginning.{count_room, meanings_none}
+use Rattle.ta_moment_tree.proofs.Beginning.{count_room, meanings_none}
 use Rattle.ta_moment_tree.proofs.count.first_count.Goals as goal
 use Rattle.ta_moment_tree.proofs.count.first_count.Goals.{After-moving_count}
 
-value : (c : After-moving_count) → c.unknown_count-starts.result + length c.as_slice.result.now * c.moving_count.result ≡ length (start_meanings c.args.task.automaton.now c.args.task.pattern.now) + length c.args.task.pattern.now.events * length (moving_rules c.args.task.automaton.now c.args.task.pattern.now)
+value : (c : After-moving_count) → c.unknown_count-starts.result + length c.as_slice.result.now * c.moving_count.result ≡ length
+    (start_meanings c.args.task.automaton.now c.args.task.pattern.now) + length c.args.task.pattern.now.events * length
+    (moving_rules c.args.task.automaton.now c.args.task.pattern.now)
 value c =
     let a = c.args.task.automaton.now in
     let p = c.args.task.pattern.now in
@@ -23,7 +25,8 @@ few c =
     omega (arith, value c, most, begun)
 
 pub overflow_add-result : goal.overflow_add-result
-overflow_add-result c = (let most = few c in let small : c.unknown_count-starts.result + length c.as_slice.result.now * c.moving_count.result < 2 ^ 32 = omega arith in record { fits = small })
+overflow_add-result c = (let most = few c in
+    let small : c.unknown_count-starts.result + length c.as_slice.result.now * c.moving_count.result < 2 ^ 32 = omega arith in record { fits = small })
 
 pub returns-clause-value : goal.returns-clause-value
 returns-clause-value c = value c

@@ -33,12 +33,17 @@ loop-fact-preserved c =
     elim c.if-not-is_plain.branch [
       | then-not-is_plain+else-count-moment w ↦ record {
         few = (let is = w.count-is in omega arith);
-        is = λ a silent candidate. w.count-is ∙ ap (λ n. n + 1) (old a silent candidate) ∙ sym (counts_one _ _ _ (moment_pushed a p silent candidate xs i _ c.loop-fact-test.true (sym c.is_plain.ensures ∙ w.if-not-is_plain.true)));
-        none = λ a silent candidate. pair_other _ _ _ c.args.moment (moment_pushed a p silent candidate xs i _ c.loop-fact-test.true (sym c.is_plain.ensures ∙ w.if-not-is_plain.true)) (λ same. w.if-count-moment.false (old a silent candidate ∙ sym same)) ∙ none a silent candidate;
+        is = λ a silent candidate. w.count-is ∙ ap (λ n. n + 1) (old a silent candidate)
+            ∙ sym (counts_one _ _ _ (moment_pushed a p silent candidate xs i _ c.loop-fact-test.true (sym c.is_plain.ensures ∙ w.if-not-is_plain.true)));
+        none = λ a silent candidate. pair_other _ _ _ c.args.moment
+            (moment_pushed a p silent candidate xs i _ c.loop-fact-test.true (sym c.is_plain.ensures ∙ w.if-not-is_plain.true))
+            (λ same. w.if-count-moment.false (old a silent candidate ∙ sym same)) ∙ none a silent candidate;
       }
       | else-not-is_plain w ↦ record {
         few = (let is = w.count-is in omega arith);
-        is = λ a silent candidate. w.count-is ∙ old a silent candidate ∙ sym (ap length (moments_kept a p silent candidate xs i _ c.loop-fact-test.true (sym c.is_plain.ensures ∙ w.if-not-is_plain.false)));
-        none = λ a silent candidate. ap (λ (ms : List Moment). is_pair_in (slice_get ms c.args.moment)) (moments_kept a p silent candidate xs i _ c.loop-fact-test.true (sym c.is_plain.ensures ∙ w.if-not-is_plain.false)) ∙ none a silent candidate;
+        is = λ a silent candidate. w.count-is ∙ old a silent candidate
+            ∙ sym (ap length (moments_kept a p silent candidate xs i _ c.loop-fact-test.true (sym c.is_plain.ensures ∙ w.if-not-is_plain.false)));
+        none = λ a silent candidate. ap (λ (ms : List Moment). is_pair_in (slice_get ms c.args.moment))
+            (moments_kept a p silent candidate xs i _ c.loop-fact-test.true (sym c.is_plain.ensures ∙ w.if-not-is_plain.false)) ∙ none a silent candidate;
       }
     ]

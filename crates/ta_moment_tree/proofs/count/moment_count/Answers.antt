@@ -17,10 +17,14 @@ loop-fact-preserved c =
     elim c.if-not-is_plain.branch [
       | then-not-is_plain w ↦ record {
         few = (let is = w.count-is in omega arith);
-        is = λ a silent candidate. w.count-is ∙ ap (λ n. n + 1) (old a silent candidate) ∙ sym (counts_one _ _ _ (moment_pushed a p silent candidate c.args.facts.now c.loop-fact.fact-index _ c.loop-fact-test.true (sym c.is_plain.ensures ∙ w.if-not-is_plain.true)));
+        is = λ a silent candidate. w.count-is ∙ ap (λ n. n + 1) (old a silent candidate)
+            ∙ sym (counts_one _ _ _ (moment_pushed a p silent candidate c.args.facts.now c.loop-fact.fact-index _ c.loop-fact-test.true
+            (sym c.is_plain.ensures ∙ w.if-not-is_plain.true)));
       }
       | else-not-is_plain w ↦ record {
         few = (let is = w.count-is in omega arith);
-        is = λ a silent candidate. w.count-is ∙ old a silent candidate ∙ sym (ap length (moments_kept a p silent candidate c.args.facts.now c.loop-fact.fact-index _ c.loop-fact-test.true (sym c.is_plain.ensures ∙ w.if-not-is_plain.false)));
+        is = λ a silent candidate. w.count-is ∙ old a silent candidate
+            ∙ sym (ap length (moments_kept a p silent candidate c.args.facts.now c.loop-fact.fact-index _ c.loop-fact-test.true
+            (sym c.is_plain.ensures ∙ w.if-not-is_plain.false)));
       }
     ]

@@ -6,5 +6,6 @@ use Rattle.ta_moment_tree.proofs.count.moment_count.Given as goal
 abbrev pub invariant-loop-fact : goal.invariant-loop-fact
 invariant-loop-fact l = record {
   few : l.count ≤ length l.pattern.events + l.fact-index;
-  is : (a : Automaton) (silent : List ℕ) (candidate : Option ℕ) → l.count ≡ length (known a l.pattern silent candidate (reverse (take l.fact-index l.facts))).moments;
+  is : (a : Automaton) (silent : List ℕ) (candidate : Option ℕ)
+      → l.count ≡ length (known a l.pattern silent candidate (reverse (take l.fact-index l.facts))).moments;
 }

@@ -6,7 +6,8 @@ use Rattle.ta_base.proofs.Ranges.{count_few, count_none, count_one}
 use Rattle.ta_moments.specs.Facts.{has_guard, is_moving}
 use Rattle.ta_moment_tree.proofs.Passed.{filter_twice, and_never, never_and}
 use Rattle.ta_moment_tree.proofs.count.sparing_count.Goals as goal
-use Rattle.ta_moment_tree.proofs.count.sparing_count.Goals.{then-is_moving+then-not-has_guard, else-is_moving, else-is_moving-via-then-is_moving+else-not-has_guard, else-is_moving-via-else-is_moving}
+use Rattle.ta_moment_tree.proofs.count.sparing_count.Goals.{then-is_moving+then-not-has_guard, else-is_moving}
+use Rattle.ta_moment_tree.proofs.count.sparing_count.Goals.{else-is_moving-via-then-is_moving+else-not-has_guard, else-is_moving-via-else-is_moving}
 
 pub overflow_add-count : goal.overflow_add-count
 overflow_add-count c =
@@ -27,10 +28,12 @@ loop-rule-preserved c =
     elim c.if-is_moving.branch [
       | then-is_moving+then-not-has_guard w ↦
           w.count-is ∙ ap (λ n. n + 1) c.loop-rule.invariant
-          ∙ sym (count_one test r (and_from (one r) (two r) (sym c.is_moving.ensures ∙ w.if-is_moving.true) (ap not (sym w.has_guard.ensures) ∙ ap not w.if-not-has_guard.true)))
+          ∙ sym (count_one test r (and_from (one r) (two r) (sym c.is_moving.ensures ∙ w.if-is_moving.true)
+          (ap not (sym w.has_guard.ensures) ∙ ap not w.if-not-has_guard.true)))
       | else-is_moving w ↦ elim w.else-is_moving.branch [
         | else-is_moving-via-then-is_moving+else-not-has_guard w' ↦
-            w.count-is ∙ c.loop-rule.invariant ∙ sym (count_none test r (and_never (one r) (two r) (ap not (sym w'.has_guard.ensures) ∙ ap not w'.if-not-has_guard.false)))
+            w.count-is ∙ c.loop-rule.invariant ∙ sym
+            (count_none test r (and_never (one r) (two r) (ap not (sym w'.has_guard.ensures) ∙ ap not w'.if-not-has_guard.false)))
         | else-is_moving-via-else-is_moving w' ↦
             w.count-is ∙ c.loop-rule.invariant ∙ sym (count_none test r (never_and (one r) (two r) (sym c.is_moving.ensures ∙ w'.if-is_moving.false)))
       ]

@@ -5,4 +5,6 @@ use Rattle.ta_moments.specs.Facts.{has_guard, is_moving}
 use Rattle.ta_moment_tree.proofs.count.sparing_count.Given as goal
 
 abbrev pub invariant-loop-rule : goal.invariant-loop-rule
-invariant-loop-rule l = l.count ≡ length (filter (λ r. is_moving l.pattern (slice_get l.automaton.rules r) && not (has_guard l.automaton l.guard (slice_get l.automaton.rules r))) (range_with_len 0 l.rule))
+invariant-loop-rule l = l.count ≡ length
+    (filter (λ r. is_moving l.pattern (slice_get l.automaton.rules r) && not (has_guard l.automaton l.guard (slice_get l.automaton.rules r)))
+    (range_with_len 0 l.rule))

@@ -14,7 +14,8 @@ returns-then-passed-number c =
     let test : ℕ → Bool = λ e. not (has_later p e) in
     let below = c.loop-event-test.true in
     let inside : c.loop-event.event < length p.events = omega (arith, ap length c.as_slice-event-end.ensures) in
-    sym (passed_at test (length p.events) c.loop-event.event c.args.number inside (ap not (sym c.has_later.ensures) ∙ ap (λ b. not b) c.if-not-has_later.true) (sym c.if-passed-number.true ∙ c.loop-event.invariant.is))
+    sym (passed_at test (length p.events) c.loop-event.event c.args.number inside (ap not (sym c.has_later.ensures) ∙ ap (λ b. not b) c.if-not-has_later.true)
+    (sym c.if-passed-number.true ∙ c.loop-event.invariant.is))
 
 pub loop-event-preserved : goal.loop-event-preserved
 loop-event-preserved c =
@@ -24,7 +25,8 @@ loop-event-preserved c =
     let most = c.loop-event.invariant.most in
     elim c.if-not-has_later.branch [
       | then-not-has_later+else-passed-number w ↦ record {
-        is = w.passed-is ∙ ap (λ n. n + 1) c.loop-event.invariant.is ∙ sym (count_one test e (ap not (sym c.has_later.ensures) ∙ ap not w.if-not-has_later.true));
+        is = w.passed-is ∙ ap (λ n. n + 1) c.loop-event.invariant.is
+            ∙ sym (count_one test e (ap not (sym c.has_later.ensures) ∙ ap not w.if-not-has_later.true));
         most = (let is = w.passed-is in let other = w.if-passed-number.false in grind arith);
       }
       | else-not-has_later w ↦ record {

@@ -18,14 +18,16 @@ overflow_add-result c =
 pub returns-in-None : goal.returns-in-None
 returns-in-None c =
     let p = c.args.pattern.now in
-    let some : length p.events ≢ 0 = λ none. eqb-false (length p.events) 0 (ap (λ n. n == 0) (sym (ap length c.as_slice.ensures)) ∙ sym c.is_empty.ensures ∙ c.if-is_empty.false) none in
+    let some : length p.events ≢ 0 = λ none. eqb-false (length p.events) 0
+    (ap (λ n. n == 0) (sym (ap length c.as_slice.ensures)) ∙ sym c.is_empty.ensures ∙ c.if-is_empty.false) none in
     sym (ap (λ (cs : List (Option ℕ)). option_map start_of (slice_get cs c.args.number)) (some_events p some)
     ∙ ap (option_map start_of) (slice_get-map Some (last_events p) c.args.number ∙ ap (option_map Some) (sym c.last_event.ensures ∙ c.in-None.is)))
 
 pub returns-in-Some : goal.returns-in-Some
 returns-in-Some c =
     let p = c.args.pattern.now in
-    let some : length p.events ≢ 0 = λ none. eqb-false (length p.events) 0 (ap (λ n. n == 0) (sym (ap length c.as_slice.ensures)) ∙ sym c.is_empty.ensures ∙ c.if-is_empty.false) none in
+    let some : length p.events ≢ 0 = λ none. eqb-false (length p.events) 0
+    (ap (λ n. n == 0) (sym (ap length c.as_slice.ensures)) ∙ sym c.is_empty.ensures ∙ c.if-is_empty.false) none in
     let next : c.in-Some.event + 1 ≡ suc c.in-Some.event = omega arith in
     ap Some next
     ∙ sym (ap (λ (cs : List (Option ℕ)). option_map start_of (slice_get cs c.args.number)) (some_events p some)

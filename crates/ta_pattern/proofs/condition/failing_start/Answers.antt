@@ -9,11 +9,14 @@ returns-clause-holds c = λ a.
     let config = c.args.config.now in
     let start = c.args.pattern.now.start in
     let told = rw c.values.ensures at c.first_false.ensures.holds in
-    IfOk-weaker c.first_false.result (λ first. IfNone first (HoldsAt (point_of config.values.items) start)) (λ first. IfNone first (Holds start (config_of a config))) (λ first h. none_weaker first (holds_there a start config) h) told
+    IfOk-weaker c.first_false.result (λ first. IfNone first (HoldsAt (point_of config.values.items) start))
+    (λ first. IfNone first (Holds start (config_of a config))) (λ first h. none_weaker first (holds_there a start config) h) told
 
 pub returns-clause-fails : goal.returns-clause-fails
 returns-clause-fails c = λ a.
     let config = c.args.config.now in
     let start = c.args.pattern.now.start in
     let told = rw c.values.ensures at c.first_false.ensures.fails in
-    IfOk-weaker c.first_false.result (λ first. IfSome first (λ k. ¬ HoldsAt (point_of config.values.items) start)) (λ first. IfSome first (λ k. ¬ Holds start (config_of a config))) (λ first h. IfSome_then first h (λ _. (λ fails holds. fails (holds_here a start config holds)))) told
+    IfOk-weaker c.first_false.result (λ first. IfSome first (λ k. ¬ HoldsAt (point_of config.values.items) start))
+    (λ first. IfSome first (λ k. ¬ Holds start (config_of a config)))
+    (λ first h. IfSome_then first h (λ _. (λ fails holds. fails (holds_here a start config holds)))) told

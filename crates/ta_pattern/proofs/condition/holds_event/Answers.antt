@@ -12,7 +12,9 @@ returns-clause-answer c =
     let exists : c.args.event < length c.as_slice.result.now = (let e = c.requires.exists in omega arith) in
     let named = read_same events c.as_slice.result.now c.args.event event c.as_slice.ensures exists c.index-as_slice-event.is in
     let told = subst (λ (vs : List ℤ). FirstFalse (point_of vs) event.condition (Ok c.in_ok-failing.failing)) c.values.ensures c.in_ok-failing.ensures.answer in
-    λ other at. subst (λ (e : Event). EventAnswer (point_of c.args.config.now.values.items) e.condition (Ok c.is_none.result)) (same_Some event other (sym named ∙ at)) (event_answer (point_of c.args.config.now.values.items) event.condition c.in_ok-failing.failing c.is_none.result told c.is_none.ensures)
+    λ other at. subst (λ (e : Event). EventAnswer (point_of c.args.config.now.values.items) e.condition (Ok c.is_none.result))
+    (same_Some event other (sym named ∙ at))
+    (event_answer (point_of c.args.config.now.values.items) event.condition c.in_ok-failing.failing c.is_none.result told c.is_none.ensures)
 
 pub returns-clause-holds : goal.returns-clause-holds
 returns-clause-holds c = λ a e at.

@@ -12,5 +12,6 @@ pub returns-in-Err-clause-fault : goal.returns-in-Err-clause-fault
 returns-in-Err-clause-fault c none = record {
   no_memory = none;
   first = c.in-Err.ensures.fault;
-  gives_no_run = λ run admits. (admits_are_exact c.args.scoped.now.file (word_seen c.args.word.now) c.args.bytes.now run admits).0 c.in-Err.fault none c.in-Err.ensures.fault;
+  gives_no_run = λ run admits. (admits_are_exact c.args.scoped.now.file (word_seen c.args.word.now) c.args.bytes.now run admits).0 c.in-Err.fault none
+      c.in-Err.ensures.fault;
 }

@@ -6,5 +6,6 @@ pub returns-in-Ok-clause-says : goal.returns-in-Ok-clause-says
 returns-in-Ok-clause-says g c =
     let asked = asked_seen c.args.asked.now in
     let values = c.args.values.now in
-    grew_then file_kind asked.file [] (run_meaning asked.file asked.word values) (run_monotone asked.file asked.word values) (λ (s : ScopedFile). s.file) _ c.in-Ok.scoped c.judge_word.result _ _ _ (λ v. refl)
+    grew_then file_kind asked.file [] (run_meaning asked.file asked.word values) (run_monotone asked.file asked.word values) (λ (s : ScopedFile). s.file) _
+    c.in-Ok.scoped c.judge_word.result _ _ _ (λ v. refl)
     c.in-Ok.ensures.stage (rw c.in-Ok.ensures.kept at c.judge_word.ensures.says)

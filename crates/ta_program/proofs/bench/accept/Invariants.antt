@@ -1,5 +1,5 @@
 use Rattle.ta_program.proofs.Common.{◌≡◌, take, CheckerStandsFor, subject_of, claiming, concat}
-use Rattle.ta_claim.specs.declared.claim.Claim.TheVariants.{Safe}
+use Rattle.ta_rest.specs.declared.claim.Claim.TheVariants.{Safe}
 use Rattle.ta_program.proofs.bench.accept.Given as goal
 
 -- the checker stands for the pieces so far

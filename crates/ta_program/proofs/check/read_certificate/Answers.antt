@@ -12,5 +12,6 @@ returns-in-Err-finish-clause-stage g c =
     record {
       added = judged.added;
       grown = judged.grown;
-      such = stage_ended (subject_of c.args.checker) (g.S.Shelf.files c.args.shelf.now) c.args.name.now c.in-Ok.checker judged.added whole f c.refused.result finished exact c.refused.ensures;
+      such = stage_ended (subject_of c.args.checker) (g.S.Shelf.files c.args.shelf.now) c.args.name.now c.in-Ok.checker judged.added whole f c.refused.result
+          finished exact c.refused.ensures;
     }

@@ -9,13 +9,15 @@ pub returns-in-Ok-clause-says : goal.returns-in-Ok-clause-says
 returns-in-Ok-clause-says c files =
     let asked = asked_seen c.args.asked.now in
     let file = c.args.file.now in
-    finds_then (IsWordOf file asked.word) (WordHinders (WordFaultOf file asked.word) asked.file) [] (λ word. replies [] (SaysSystem file word)) files (word_seen c.in-Ok.word) c.answer_system.result [] c.in-Ok.ensures.word (λ w. refl) (c.answer_system.ensures.says files)
+    finds_then (IsWordOf file asked.word) (WordHinders (WordFaultOf file asked.word) asked.file) [] (λ word. replies [] (SaysSystem file word)) files
+    (word_seen c.in-Ok.word) c.answer_system.result [] c.in-Ok.ensures.word (λ w. refl) (c.answer_system.ensures.says files)
 
 pub returns-in-Err-clause-says : goal.returns-in-Err-clause-says
 returns-in-Err-clause-says c files =
     let asked = asked_seen c.args.asked.now in
     let file = c.args.file.now in
-    word_refused (IsWordOf file asked.word) (WordFaultOf file asked.word) asked.file (λ word. replies [] (SaysSystem file word)) files c.in-Err.refusal c.in-Err.ensures.refusal
+    word_refused (IsWordOf file asked.word) (WordFaultOf file asked.word) asked.file (λ word. replies [] (SaysSystem file word)) files c.in-Err.refusal
+    c.in-Err.ensures.refusal
 
 pub returns-in-Err-clause-cause : goal.returns-in-Err-clause-cause
 returns-in-Err-clause-cause c =

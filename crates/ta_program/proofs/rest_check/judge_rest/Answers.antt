@@ -1,5 +1,5 @@
 use Rattle.ta_program.proofs.Common.{true, [], refl, Accepted, claiming_with, replies, grew_none, grew_then, replies_monotone, certificate_kind}
-use Rattle.ta_claim.specs.declared.claim.Claim.TheVariants.{RestSafe}
+use Rattle.ta_rest.specs.declared.claim.Claim.TheVariants.{RestSafe}
 use Rattle.ta_program.proofs.ProofsSaid.{said_own}
 use Rattle.ta_program.specs.Proofs.{SaysProofs}
 use Rattle.ta_program.proofs.rest_check.judge_rest.Goals as goal

@@ -1,6 +1,6 @@
 use Rattle.ta_program.proofs.Common.{ℕ, List, ◌++◌, ◌∙◌, ap, map, pair_of, refl}
-use Rattle.ta_show.specs.Show.{show_text}
-use Rattle.ta_show.specs.Unknowns.{unknowns_text}
+use Rattle.ta_report.specs.Show.{show_text}
+use Rattle.ta_report.specs.Unknowns.{unknowns_text}
 use Rattle.ta_program.proofs.show.file_text.Goals as goal
 
 pub returns : goal.returns

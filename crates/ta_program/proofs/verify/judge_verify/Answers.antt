@@ -1,4 +1,5 @@
-use Rattle.ta_program.proofs.Common.{[], ℕ, Err, sym, arith, option_map, refl, subst, Changed, List, StagedBy, ScopedFile, Grew, Says, Result, Answer, Refusal, grew_kept, grew_spared, may_put, file_kind, picked_meaning, verify_meaning, result_seen}
+use Rattle.ta_program.proofs.Common.{[], ℕ, Err, sym, arith, option_map, refl, subst, Changed, List, StagedBy, ScopedFile, Grew, Says, Result, Answer, Refusal}
+use Rattle.ta_program.proofs.Common.{grew_kept, grew_spared, may_put, file_kind, picked_meaning, verify_meaning, result_seen}
 use Rattle.ta_program.specs.Asking.{verify_seen}
 use Rattle.ta_program.proofs.Certifying.{none_staged, unread_seen, unread_staged}
 use Rattle.ta_program.proofs.Meanings.{picked_monotone}
@@ -12,9 +13,12 @@ returns-in-Ok-clause-says g c =
     record {
       lost = so.lost;
       middle = _;
-      says = grew_spared file_kind (λ (s : ScopedFile). s.file) files asked.file (may_put asked.out) (picked_meaning asked) (picked_monotone asked) (λ v. refl) c.in-Ok.scoped (result_seen g.S.Shelf.stage_bytes so.lost c.answer_picked.result) _ _
+      says = grew_spared file_kind (λ (s : ScopedFile). s.file) files asked.file (may_put asked.out) (picked_meaning asked) (picked_monotone asked) (λ v. refl)
+          c.in-Ok.scoped (result_seen g.S.Shelf.stage_bytes so.lost c.answer_picked.result) _ _
           (rw c.one.ensures at c.in-Ok.ensures.stage) so.says;
-      staged = subst (λ (n : ℕ). Changed (StagedBy (may_put asked.out) g.S.Shelf.stage_name g.S.Shelf.stage_bytes c.answer_picked.result n (g.S.Shelf.faults c.answer_picked.new.shelf)) (g.S.Shelf.calls c.read_spared.new.shelf) (g.S.Shelf.calls c.answer_picked.new.shelf)) c.in-Ok.ensures.cause c.answer_picked.ensures.staged;
+      staged = subst (λ (n : ℕ). Changed
+          (StagedBy (may_put asked.out) g.S.Shelf.stage_name g.S.Shelf.stage_bytes c.answer_picked.result n (g.S.Shelf.faults c.answer_picked.new.shelf))
+          (g.S.Shelf.calls c.read_spared.new.shelf) (g.S.Shelf.calls c.answer_picked.new.shelf)) c.in-Ok.ensures.cause c.answer_picked.ensures.staged;
     }
 
 pub returns-in-Err-clause-says : goal.returns-in-Err-clause-says
@@ -25,7 +29,9 @@ returns-in-Err-clause-says g c =
     record {
       lost = [];
       middle = _;
-      says = subst (λ (seen : Result Answer Refusal). Grew (Says m files seen) (g.S.Shelf.calls c.args.shelf.now) (g.S.Shelf.calls c.read_spared.new.shelf)) (sym (unread_seen ScopedFile g.S.Shelf.stage_bytes [] c.in-Err.refusal _ _ c.in-Err.ensures.cause))
-          (grew_kept file_kind (λ (s : ScopedFile). s.file) files asked.file (may_put asked.out) (picked_meaning asked) (omega arith) (omega arith) c.in-Err.refusal _ _ (rw c.one.ensures at c.in-Err.ensures.stage));
+      says = subst (λ (seen : Result Answer Refusal). Grew (Says m files seen) (g.S.Shelf.calls c.args.shelf.now) (g.S.Shelf.calls c.read_spared.new.shelf))
+          (sym (unread_seen ScopedFile g.S.Shelf.stage_bytes [] c.in-Err.refusal _ _ c.in-Err.ensures.cause))
+          (grew_kept file_kind (λ (s : ScopedFile). s.file) files asked.file (may_put asked.out) (picked_meaning asked) (omega arith) (omega arith)
+          c.in-Err.refusal _ _ (rw c.one.ensures at c.in-Err.ensures.stage));
       staged = none_staged _ _ (unread_staged ScopedFile m.puts g.S.Shelf.stage_name g.S.Shelf.stage_bytes c.in-Err.refusal _ _ c.in-Err.ensures.cause);
     }

@@ -3,7 +3,8 @@ use Rattle.ta_replay.proofs.Decimals.{natural, value_is}
 use Rattle.ta_replay.proofs.numbers.read_number.Goals as goal
 
 pub returns-in_err-value : goal.returns-in_err-value
-returns-in_err-value c = rw c.from_residual.ensures (λ value is. let n = natural value is.number in c.in_err-value.ensures n.0 record { text = is.text ∙ ap signed_decimal n.2; below = n.1 })
+returns-in_err-value c = rw c.from_residual.ensures
+    (λ value is. let n = natural value is.number in c.in_err-value.ensures n.0 record { text = is.text ∙ ap signed_decimal n.2; below = n.1 })
 
 pub returns : goal.returns
 returns c =

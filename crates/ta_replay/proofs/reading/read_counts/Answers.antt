@@ -1,4 +1,5 @@
-use Rattle.ta_replay.proofs.Common.{◌≡◌, ◌<◌, ◌+◌, length, get_or, ap, subst, ◌∙◌, arith, length_push, get_or_default, err_is, rises_at, start_slot, start_slots}
+use Rattle.ta_replay.proofs.Common.{◌≡◌, ◌<◌, ◌+◌, length, get_or, ap, subst, ◌∙◌, arith, length_push, get_or_default, err_is, rises_at, start_slot}
+use Rattle.ta_replay.proofs.Common.{start_slots}
 use Rattle.ta_replay.proofs.Decimals.{stored}
 use Rattle.ta_replay.proofs.ValueLines.{values_none, value_step, value_stop}
 use Rattle.ta_replay.proofs.reading.read_counts.Goals as goal
@@ -22,7 +23,9 @@ returns-in_err-value-clause-fault c =
     let x = get_or items i 0 in
     let place : c.args.first + c.len.result ≡ c.args.first + length c.loop-location.values.items = omega (arith, c.len.ensures, c.loop-location.values.ok.0) in
     rw (err_is c.from_residual.result _ c.from_residual.ensures.1)
-    (value_stop (start_slot a) a.initial items i x c.args.bytes.now c.loop-location.rest.now c.as_bytes.result.now c.loop-location.values.items c.args.first (c.args.first + c.len.result) c.in_err-value.field-0.0 inv.begun c.as_slice-location-items.ensures inv.count c.loop-location-test.true (get_or_default items i 0 x c.loop-location-test.true) (c.as_bytes.ensures.value ∙ c.location_name-name.ensures) place c.in_err-value.ensures.fault)
+    (value_stop (start_slot a) a.initial items i x c.args.bytes.now c.loop-location.rest.now c.as_bytes.result.now c.loop-location.values.items c.args.first
+    (c.args.first + c.len.result) c.in_err-value.field-0.0 inv.begun c.as_slice-location-items.ensures inv.count c.loop-location-test.true
+    (get_or_default items i 0 x c.loop-location-test.true) (c.as_bytes.ensures.value ∙ c.location_name-name.ensures) place c.in_err-value.ensures.fault)
 
 pub loop-location-preserved : goal.loop-location-preserved
 loop-location-preserved c =
@@ -34,6 +37,8 @@ loop-location-preserved c =
     let x = get_or items i 0 in
     rw (c.in_ok-push.ensures.items, stored c.in_ok-value.value read.number)
     (record {
-      begun = value_step (start_slot a) a.initial items i x c.args.bytes.now c.loop-location.rest.now c.in_ok-value.behind.now c.as_bytes.result.now c.loop-location.values.items c.in_ok-value.value inv.begun c.as_slice-location-items.ensures inv.count c.loop-location-test.true (get_or_default items i 0 x c.loop-location-test.true) (c.as_bytes.ensures.value ∙ c.location_name-name.ensures) read;
+      begun = value_step (start_slot a) a.initial items i x c.args.bytes.now c.loop-location.rest.now c.in_ok-value.behind.now c.as_bytes.result.now
+          c.loop-location.values.items c.in_ok-value.value inv.begun c.as_slice-location-items.ensures inv.count c.loop-location-test.true
+          (get_or_default items i 0 x c.loop-location-test.true) (c.as_bytes.ensures.value ∙ c.location_name-name.ensures) read;
       count = length_push c.loop-location.values.items c.in_ok-value.value ∙ ap (λ n. n + 1) inv.count;
     })

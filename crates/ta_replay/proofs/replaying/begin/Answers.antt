@@ -11,6 +11,7 @@ overflow_add-line-in-Some c =
 
 pub returns : goal.returns
 returns c = record {
-  begins = starting c.args.automaton.now c.args.pattern.now c.args.run.now c.in_ok-config.config c.requires.fits c.in_ok-config.ensures.starts c.in_ok-check_start.ensures.passes c.in_default.ensures.none;
+  begins = starting c.args.automaton.now c.args.pattern.now c.args.run.now c.in_ok-config.config c.requires.fits c.in_ok-config.ensures.starts
+      c.in_ok-check_start.ensures.passes c.in_default.ensures.none;
   refuses = tt;
 }

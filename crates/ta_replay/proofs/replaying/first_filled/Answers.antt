@@ -1,4 +1,5 @@
-use Rattle.ta_replay.proofs.Common.{◌≡◌, ℕ, ℤ, inl, inr, List, length, pos, slice_get, get_or, Some, IsBitSet, IsTrue, arith, rules, ap, sym, ◌∙◌, subst, cases_lt, false≢true, to_z-of_z, slice_get-get_or, same_Some, rises_within, point_of}
+use Rattle.ta_replay.proofs.Common.{◌≡◌, ℕ, ℤ, inl, inr, List, length, pos, slice_get, get_or, Some, IsBitSet, IsTrue, arith, rules, ap, sym, ◌∙◌, subst}
+use Rattle.ta_replay.proofs.Common.{cases_lt, false≢true, to_z-of_z, slice_get-get_or, same_Some, rises_within, point_of}
 use mir.Val.{SFits, to_z, of_z}
 use mir.Syntax.{w128}
 use Rattle.ta_replay.proofs.replaying.first_filled.Goals as goal
@@ -7,9 +8,12 @@ use Rattle.ta_replay.proofs.replaying.first_filled.Goals.{else-contains-via-then
 pub contains-requires : goal.contains-requires
 contains-requires c =
     let a = c.args.automaton.now in
-    let at : slice_get c.as_slice-location-items.result.now c.loop-place.place ≡ Some (get_or c.as_slice-location-items.result.now c.loop-place.place 0) = slice_get-get_or c.as_slice-location-items.result.now c.loop-place.place 0 (omega arith) in
-    let here = subst (λ (ls : List ℕ). slice_get ls c.loop-place.place ≡ Some (get_or c.as_slice-location-items.result.now c.loop-place.place 0)) c.as_slice-location-items.ensures at in
-    let w = rises_within 0 (length a.locations) a.initial a.shape.initial_rises c.loop-place.place (get_or c.as_slice-location-items.result.now c.loop-place.place 0) here in
+    let at : slice_get c.as_slice-location-items.result.now c.loop-place.place ≡ Some (get_or c.as_slice-location-items.result.now c.loop-place.place 0) =
+    slice_get-get_or c.as_slice-location-items.result.now c.loop-place.place 0 (omega arith) in
+    let here = subst (λ (ls : List ℕ). slice_get ls c.loop-place.place ≡ Some (get_or c.as_slice-location-items.result.now c.loop-place.place 0))
+    c.as_slice-location-items.ensures at in
+    let w = rises_within 0 (length a.locations) a.initial a.shape.initial_rises c.loop-place.place
+    (get_or c.as_slice-location-items.result.now c.loop-place.place 0) here in
     omega (arith, w.1, a.shape.limits.locations_limit)
 
 pub returns-then-counts-place-ne0-clause-some : goal.returns-then-counts-place-ne0-clause-some

@@ -19,11 +19,13 @@ returns-in_err-marks-clause-refuses c =
     let run = c.args.run.now in
     let i = c.loop-number.number in
     let line = get_or c.as_slice-line-items.result.now i (Step 0 (pos 0)) in
-    let at = subst (λ (lines : List RunLine). slice_get lines i ≡ Some line) c.as_slice-line-items.ensures (slice_get-get_or c.as_slice-line-items.result.now i (Step 0 (pos 0)) c.loop-number-test.true) in
+    let at = subst (λ (lines : List RunLine). slice_get lines i ≡ Some line) c.as_slice-line-items.ensures
+    (slice_get-get_or c.as_slice-line-items.result.now i (Step 0 (pos 0)) c.loop-number-test.true) in
     let parameters = ap (λ (xs : List (List ℕ)). length xs) c.as_slice.ensures in
     let initial = ap (λ (xs : List ℕ). length xs) c.as_slice-2.ensures in
     rw (err_is c.from_residual.result _ c.from_residual.ensures.1)
-    (following_stops a c.args.pattern.now run i c.loop-number.config c.loop-number.marks line _ c.in_err-marks.field-0.0 at c.loop-number.invariant (omega arith) c.in_err-marks.ensures.refuses)
+    (following_stops a c.args.pattern.now run i c.loop-number.config c.loop-number.marks line _ c.in_err-marks.field-0.0 at c.loop-number.invariant
+    (omega arith) c.in_err-marks.ensures.refuses)
 
 pub loop-number-preserved : goal.loop-number-preserved
 loop-number-preserved c =
@@ -31,5 +33,7 @@ loop-number-preserved c =
     let run = c.args.run.now in
     let i = c.loop-number.number in
     let line = get_or c.as_slice-line-items.result.now i (Step 0 (pos 0)) in
-    let at = subst (λ (lines : List RunLine). slice_get lines i ≡ Some line) c.as_slice-line-items.ensures (slice_get-get_or c.as_slice-line-items.result.now i (Step 0 (pos 0)) c.loop-number-test.true) in
-    following_next a c.args.pattern.now run i c.loop-number.config c.follow_line.new.config c.loop-number.marks c.in_ok-marks.marks line c.requires.fits at c.loop-number.invariant c.in_ok-marks.ensures.is_of c.in_ok-marks.ensures.takes c.in_ok-marks.ensures.marks
+    let at = subst (λ (lines : List RunLine). slice_get lines i ≡ Some line) c.as_slice-line-items.ensures
+    (slice_get-get_or c.as_slice-line-items.result.now i (Step 0 (pos 0)) c.loop-number-test.true) in
+    following_next a c.args.pattern.now run i c.loop-number.config c.follow_line.new.config c.loop-number.marks c.in_ok-marks.marks line c.requires.fits at
+    c.loop-number.invariant c.in_ok-marks.ensures.is_of c.in_ok-marks.ensures.takes c.in_ok-marks.ensures.marks

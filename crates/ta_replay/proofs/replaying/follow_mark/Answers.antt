@@ -8,5 +8,6 @@ holds_event-requires-clause-over c = λ event at. c.requires.over c.args.event e
 pub returns-clause-takes : goal.returns-clause-takes
 returns-clause-takes c = (
   c.is_in_order.ensures.0 c.if-not-is_in_order.false,
-  λ event at. subst (λ (b : Bool). EventAnswer (point_of c.args.config.now.values.items) event.condition (Ok b)) c.if-not-holds.false (c.in-Ok.ensures.answer event at),
+  λ event at. subst (λ (b : Bool). EventAnswer (point_of c.args.config.now.values.items) event.condition (Ok b)) c.if-not-holds.false
+      (c.in-Ok.ensures.answer event at),
 )

@@ -1,4 +1,5 @@
-use Rattle.ta_replay.proofs.Common.{◌-◌, ◌^◌, ◌≤◌, ◌∙◌, ℕ, List, length, min, ap, sym, subst, arith, same_Some, err_is, Event, Pattern, pattern_within, RunLine, NumbersStay, factors_sum}
+use Rattle.ta_replay.proofs.Common.{◌-◌, ◌^◌, ◌≤◌, ◌∙◌, ℕ, List, length, min, ap, sym, subst, arith, same_Some, err_is, Event, Pattern, pattern_within, RunLine}
+use Rattle.ta_replay.proofs.Common.{NumbersStay, factors_sum}
 use Rattle.ta_replay.specs.declared.run.Shown.{Shown}
 use Rattle.ta_replay.proofs.Counting.{marks_are_events}
 use Rattle.ta_replay.proofs.Naming.{named_read, fits_read, shows_read}
@@ -12,7 +13,9 @@ returns-in_err-replay_pattern-clause-only c = λ shown stays.
     let pattern = c.index-as_slice-run.result in
     let named = named_read file run c.as_slice.result.now pattern c.requires c.as_slice.ensures c.index-as_slice-run.is in
     rw (err_is c.from_residual.result _ c.from_residual.ensures.1)
-    (only_memory file.automaton pattern run (stays pattern named) c.in_err-replay_pattern.field-0.0 (denied file.automaton pattern run (fits_read file run pattern c.requires named) (shows_read file run pattern shown named) c.in_err-replay_pattern.field-0.0 c.in_err-replay_pattern.ensures.refuses))
+    (only_memory file.automaton pattern run (stays pattern named) c.in_err-replay_pattern.field-0.0
+    (denied file.automaton pattern run (fits_read file run pattern c.requires named) (shows_read file run pattern shown named)
+    c.in_err-replay_pattern.field-0.0 c.in_err-replay_pattern.ensures.refuses))
 
 pub returns-in_err-replay_pattern-clause-shown : goal.returns-in_err-replay_pattern-clause-shown
 returns-in_err-replay_pattern-clause-shown c = λ shown.
@@ -21,7 +24,9 @@ returns-in_err-replay_pattern-clause-shown c = λ shown.
     let pattern = c.index-as_slice-run.result in
     let named = named_read file run c.as_slice.result.now pattern c.requires c.as_slice.ensures c.index-as_slice-run.is in
     rw (err_is c.from_residual.result _ c.from_residual.ensures.1)
-    (refused_though file pattern run named c.in_err-replay_pattern.field-0.0 (denied file.automaton pattern run (fits_read file run pattern c.requires named) (shows_read file run pattern shown named) c.in_err-replay_pattern.field-0.0 c.in_err-replay_pattern.ensures.refuses))
+    (refused_though file pattern run named c.in_err-replay_pattern.field-0.0
+    (denied file.automaton pattern run (fits_read file run pattern c.requires named) (shows_read file run pattern shown named)
+    c.in_err-replay_pattern.field-0.0 c.in_err-replay_pattern.ensures.refuses))
 
 pub overflow_cast-result : goal.overflow_cast-result
 overflow_cast-result c =

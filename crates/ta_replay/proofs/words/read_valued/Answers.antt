@@ -8,9 +8,11 @@ returns-in_err-name c =
     (no_space c.args.word.now c.in_ok-rest.rest.now c.args.line.now c.in_ok-rest.ensures c.in_err-name.ensures)
 
 pub returns-then-not-is_word : goal.returns-then-not-is_word
-returns-then-not-is_word c = no_word c.args.word.now c.in_ok-rest.rest.now c.args.line.now c.in_ok-name.name.now c.in_ok-name.digits.now c.in_ok-rest.ensures c.in_ok-name.ensures (λ word. false≢true (sym c.if-not-is_word.true ∙ c.is_word.ensures.1 word))
+returns-then-not-is_word c = no_word c.args.word.now c.in_ok-rest.rest.now c.args.line.now c.in_ok-name.name.now c.in_ok-name.digits.now c.in_ok-rest.ensures
+    c.in_ok-name.ensures (λ word. false≢true (sym c.if-not-is_word.true ∙ c.is_word.ensures.1 word))
 
 pub returns-in_err-value : goal.returns-in_err-value
 returns-in_err-value c =
     rw c.from_residual-in_err-value.ensures
-    (no_number c.args.word.now c.in_ok-rest.rest.now c.args.line.now c.in_ok-name.name.now c.in_ok-name.digits.now c.in_ok-rest.ensures c.in_ok-name.ensures c.in_err-value.ensures)
+    (no_number c.args.word.now c.in_ok-rest.rest.now c.args.line.now c.in_ok-name.name.now c.in_ok-name.digits.now c.in_ok-rest.ensures c.in_ok-name.ensures
+    c.in_err-value.ensures)

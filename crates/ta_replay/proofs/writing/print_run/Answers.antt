@@ -1,4 +1,5 @@
-use Rattle.ta_replay.proofs.Common.{◌≡◌, Some, ◌++◌, ◌∷◌, [], map, codes, sym, ap, ◌∙◌, get_or, string_bytes, get_or_from_slice_get, parameter_slots, start_slots, value_lines, line_of, lines_text}
+use Rattle.ta_replay.proofs.Common.{◌≡◌, Some, ◌++◌, ◌∷◌, [], map, codes, sym, ap, ◌∙◌, get_or, string_bytes, get_or_from_slice_get, parameter_slots}
+use Rattle.ta_replay.proofs.Common.{start_slots, value_lines, line_of, lines_text}
 use Rattle.ta_replay.proofs.PrintedLines.{run_written}
 use Rattle.ta_replay.proofs.writing.print_run.Goals as goal
 
@@ -7,7 +8,8 @@ returns c =
     let file = c.args.file.now in
     let run = c.args.run.now in
     let p = c.index-as_slice-run.result in
-    let found : p ≡ c.requires.pattern = c.index-as_slice-run.is ∙ ap (λ ps. get_or ps run.pattern p) c.as_slice.ensures ∙ get_or_from_slice_get file.patterns run.pattern c.requires.pattern p c.requires.named in
+    let found : p ≡ c.requires.pattern = c.index-as_slice-run.is ∙ ap (λ ps. get_or ps run.pattern p) c.as_slice.ensures
+    ∙ get_or_from_slice_get file.patterns run.pattern c.requires.pattern p c.requires.named in
     let named = c.requires.named ∙ ap Some (sym found) in
     let a = file.automaton in
     let t1 = string_bytes c.in_ok-text.text in

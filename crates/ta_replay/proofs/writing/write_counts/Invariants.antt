@@ -2,4 +2,5 @@ use Rattle.ta_replay.proofs.Common.{◌≡◌, ◌++◌, drop, string_bytes, sta
 use Rattle.ta_replay.proofs.writing.write_counts.Given as goal
 
 abbrev pub invariant-loop-i : goal.invariant-loop-i
-invariant-loop-i l = string_bytes l.text ++ lines_text (value_lines (drop l.i (start_slots l.fn.automaton)) (drop l.i l.counts)) ≡ string_bytes l.initial.text ++ lines_text (value_lines (start_slots l.fn.automaton) l.counts)
+invariant-loop-i l = string_bytes l.text ++ lines_text (value_lines (drop l.i (start_slots l.fn.automaton)) (drop l.i l.counts)) ≡ string_bytes l.initial.text
+    ++ lines_text (value_lines (start_slots l.fn.automaton) l.counts)

@@ -13,11 +13,13 @@ loop-number-preserved c =
     let d = view c.in_ok-parameter_value.field-0 in
     let here = value_at names values l.number d name v c.requires within (search rules) (search rules) in
     let is : d ≡ value_data name v = search rules in
-    pushed (values_list names values) l.number l.items.items c.push.new.self.items c.in_ok-parameter_value.field-0 d l.invariant c.in_ok-push.ensures.items here.0 (is ∙ here.1)
+    pushed (values_list names values) l.number l.items.items c.push.new.self.items c.in_ok-parameter_value.field-0 d l.invariant c.in_ok-push.ensures.items
+    here.0 (is ∙ here.1)
 
 pub returns : goal.returns
 returns c =
     let l = c.loop-number in
     let names = c.args.names.now in
     let values = c.args.values.now in
-    view-Array l.items ∙ ap array (all_pushed (values_list names values) l.number l.items.items l.invariant (omega (arith, values_count names values, c.loop-number-test.false)) ∙ values_listed names values)
+    view-Array l.items ∙ ap array (all_pushed (values_list names values) l.number l.items.items l.invariant
+    (omega (arith, values_count names values, c.loop-number-test.false)) ∙ values_listed names values)

@@ -1,23 +1,12 @@
-use Rattle.ta_report.proofs.Common.{◌≡◌, ◌∙◌, ◌++◌, ap, arith, rules, map, take, length, ◌-◌, [], ◌∷◌, view, view-Array, lines_text, run_lines, run_clear}
-use Rattle.std.specs.Str.Iter.{split_has_more, split_pattern, split_text}
-use Rattle.std.proofs.lemmas.Iterator.Splits.{YieldsList-from_str_split}
-use Rattle.std.proofs.lemmas.Iterator.Consumers.{YieldsList-end}
+use Rattle.ta_report.proofs.Common.{◌≡◌, ◌∙◌, List, ℕ, ap, subst, lines_text, run_lines, run_clear, text_lines, texts_data, view}
+use Rattle.std.specs.Prelude.{IfOk}
 use Rattle.serde_json.specs.Data as json
-use Rattle.ta_report.proofs.JsonItems.{texts_listed, split_lines, last_off, items_of_views}
+use Rattle.ta_report.proofs.JsonItems.{lines_back}
 use Rattle.ta_report.proofs.object.run_value.Goals as goal
-use Rattle.ta_base.proofs.Lists.{map-map}
 
 pub returns : goal.returns
 returns c =
-    let l = c.loop-line in
     let lines = run_lines c.args.file.now c.args.run.now in
-    let free = run_clear c.args.file.now c.args.run.now c.requires in
     let bytes : c.as_str.result.now ≡ lines_text lines = c.as_str.ensures ∙ c.in_ok-text.ensures in
-    let same : c.into_iter-line-iterator.result ≡ c.split-line-items.result = c.into_iter-line-iterator.ensures.into_iter_gives in
-    let cut =
-    YieldsList-from_str_split {s = c.into_iter-line-iterator.result} 10 (lines_text lines) (omega arith) (ap split_text same ∙ c.split-line-items.ensures.text ∙ bytes) (ap split_has_more same ∙ c.split-line-items.ensures.has_more) (ap split_pattern same ∙ c.split-line-items.ensures.pattern) in
-    let end = YieldsList-end cut l.yielded _ l.yielded_by _ _ c.in-None.is c.next.ensures.steps in
-    let read : map (λ y. y.now) l.yielded ≡ lines ++ ([] ∷ []) = end.0 ∙ split_lines lines free in
-    let so_far : map view l.items.items ≡ map json.string (lines ++ ([] ∷ [])) = l.invariant ∙ map-map json.string (λ y. y.now) l.yielded ∙ ap (map json.string) read in
-    let count : l.items.len ≡ length l.items.items = search rules in
-    view-Array c.pop.new.self ∙ ap json.array (items_of_views _ _ (last_off lines l.items.items c.pop.new.self.items so_far (c.pop.ensures.rest ∙ ap (λ n. take (n - 1) l.items.items) count)) ∙ texts_listed lines)
+    let back : text_lines c.as_str.result.now ≡ lines = ap text_lines bytes ∙ lines_back lines (run_clear c.args.file.now c.args.run.now c.requires) in
+    subst (λ (ls : List (List ℕ)). IfOk c.lines_value.result (λ value. view value ≡ json.array (texts_data ls))) back c.lines_value.ensures

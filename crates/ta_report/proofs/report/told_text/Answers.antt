@@ -1,10 +1,15 @@
-use Rattle.ta_report.proofs.Common.{◌≡◌, ◌∙◌, sym, ap, subst, List, ℕ, [], ◌∷◌, ◌++◌, length, Bool, append-nil, append_assoc, refl, inl, inr, rules, zip_first, zip_second, iter_rest, string_bytes, AllByRecursion, File, Pattern, Verdict, VerdictFits, run_part, told_line, told_lines}
+use Rattle.ta_report.proofs.Common.{◌≡◌, ◌∙◌, sym, ap, subst, List, ℕ, [], ◌∷◌, ◌++◌, length, Bool, append-nil, append_assoc, refl, inl, inr, rules, zip_first}
+use Rattle.ta_report.proofs.Common.{zip_second, iter_rest, string_bytes, AllByRecursion, File, Pattern, Verdict, VerdictFits, run_part, told_line, told_lines}
 use Rattle.ta_report.proofs.report.told_text.Goals as goal
 
 -- a line more, and its run
-line_more : (rest : Bool) (file : File) (before middle after text : List ℕ) (p : Pattern) (v : Verdict) (ps qs : List Pattern) (vs ws : List Verdict) → before ++ told_lines rest file ps vs ≡ text → ps ≡ p ∷ qs → vs ≡ v ∷ ws → middle ≡ before ++ told_line rest p v → after ≡ middle ++ run_part file v → after ++ told_lines rest file qs ws ≡ text
+line_more : (rest : Bool) (file : File) (before middle after text : List ℕ) (p : Pattern) (v : Verdict) (ps qs : List Pattern) (vs ws : List Verdict) → before
+    ++ told_lines rest file ps vs ≡ text → ps ≡ p ∷ qs → vs ≡ v ∷ ws → middle ≡ before ++ told_line rest p v → after ≡ middle ++ run_part file v → after
+    ++ told_lines rest file qs ws ≡ text
 line_more rest file before middle after text p v ps qs vs ws so_far first second wrote added =
-    ap (λ bytes. bytes ++ told_lines rest file qs ws) (added ∙ ap (λ bytes. bytes ++ run_part file v) wrote) ∙ append_assoc (before ++ told_line rest p v) (run_part file v) (told_lines rest file qs ws) ∙ append_assoc before (told_line rest p v) (run_part file v ++ told_lines rest file qs ws)
+    ap (λ bytes. bytes ++ told_lines rest file qs ws) (added ∙ ap (λ bytes. bytes ++ run_part file v) wrote)
+    ∙ append_assoc (before ++ told_line rest p v) (run_part file v) (told_lines rest file qs ws)
+    ∙ append_assoc before (told_line rest p v) (run_part file v ++ told_lines rest file qs ws)
     ∙ sym (ap (λ left. before ++ told_lines rest file left vs) first ∙ ap (λ left. before ++ told_lines rest file (p ∷ qs) left) second) ∙ so_far
 
 -- no line where no pattern or no verdict is left
@@ -26,11 +31,18 @@ loop-pattern-preserved c =
     let turn = c.in-Some.ensures.steps in
     let left = subst (AllByRecursion (VerdictFits file)) turn.1 c.loop-pattern.invariant.0 in (
       left.1,
-      line_more c.args.rest file (string_bytes c.loop-pattern.text) (string_bytes c.write.new.self) (string_bytes c.write_run.new.text) _ c.in-Some.pattern.now c.in-Some.verdict.now _ _ _ _ c.loop-pattern.invariant.1 turn.0 turn.1 (search rules) (search rules),
+      line_more c.args.rest file (string_bytes c.loop-pattern.text) (string_bytes c.write.new.self) (string_bytes c.write_run.new.text) _ c.in-Some.pattern.now
+          c.in-Some.verdict.now _ _ _ _ c.loop-pattern.invariant.1 turn.0 turn.1 (search rules) (search rules),
     )
 
 pub returns : goal.returns
 returns c =
-    let none : told_lines c.args.rest c.args.said.now.file.now (iter_rest (zip_first c.loop-pattern.pattern-iterator)) (iter_rest (zip_second c.loop-pattern.pattern-iterator)) ≡ [] =
-    elim c.in-None.ensures.steps [ inl e ↦ no_pattern c.args.rest c.args.said.now.file.now _ _ e.1.0 | inr e ↦ no_verdict c.args.rest c.args.said.now.file.now _ _ e.1.0 ] in
-    c.from_string.ensures ∙ sym (append-nil (string_bytes c.loop-pattern.text)) ∙ ap (λ left. string_bytes c.loop-pattern.text ++ left) (sym none) ∙ c.loop-pattern.invariant.1
+    let none : told_lines c.args.rest c.args.said.now.file.now (iter_rest (zip_first c.loop-pattern.pattern-iterator))
+    (iter_rest (zip_second c.loop-pattern.pattern-iterator)) ≡ [] =
+    elim c.in-None.ensures.steps [
+      | inl e ↦ no_pattern c.args.rest c.args.said.now.file.now _ _ e.1.0
+      | inr e ↦ no_verdict c.args.rest c.args.said.now.file.now _
+          _ e.1.0
+    ] in
+    c.from_string.ensures ∙ sym (append-nil (string_bytes c.loop-pattern.text)) ∙ ap (λ left. string_bytes c.loop-pattern.text ++ left) (sym none)
+    ∙ c.loop-pattern.invariant.1

@@ -9,7 +9,8 @@ ending_of-requires c =
     let rest = c.remove-pattern.new.self.items in
     let endings = c.patterns.endings.items in
     let pattern = c.remove-pattern.result in
-    let parts : c.patterns.rest.items ≡ pattern ∷ rest = first_removed c.patterns.rest.items rest pattern c.remove-pattern.ensures.value c.remove-pattern.ensures.by_index.2 (omega (arith, c.remove-pattern.ensures.len, c.patterns.rest.ok)) in
+    let parts : c.patterns.rest.items ≡ pattern ∷ rest = first_removed c.patterns.rest.items rest pattern c.remove-pattern.ensures.value
+    c.remove-pattern.ensures.by_index.2 (omega (arith, c.remove-pattern.ensures.len, c.patterns.rest.ok)) in
     next_few all rest endings pattern (subst (λ (ps : List Pattern). EndingsSoFar all ps endings) parts c.patterns.invariant) c.requires
 
 pub patterns-preserved : goal.patterns-preserved
@@ -18,5 +19,8 @@ patterns-preserved c =
     let rest = c.remove-pattern.new.self.items in
     let endings = c.patterns.endings.items in
     let pattern = c.remove-pattern.result in
-    let parts : c.patterns.rest.items ≡ pattern ∷ rest = first_removed c.patterns.rest.items rest pattern c.remove-pattern.ensures.value c.remove-pattern.ensures.by_index.2 (omega (arith, c.remove-pattern.ensures.len, c.patterns.rest.ok)) in
-    subst (EndingsSoFar all rest) (sym c.in_ok-push.ensures.items) (so_far_more all rest endings pattern c.in_ok-ending_of.field-0 (subst (λ (ps : List Pattern). EndingsSoFar all ps endings) parts c.patterns.invariant) c.in_ok-ending_of.ensures)
+    let parts : c.patterns.rest.items ≡ pattern ∷ rest = first_removed c.patterns.rest.items rest pattern c.remove-pattern.ensures.value
+    c.remove-pattern.ensures.by_index.2 (omega (arith, c.remove-pattern.ensures.len, c.patterns.rest.ok)) in
+    subst (EndingsSoFar all rest) (sym c.in_ok-push.ensures.items)
+    (so_far_more all rest endings pattern c.in_ok-ending_of.field-0 (subst (λ (ps : List Pattern). EndingsSoFar all ps endings) parts c.patterns.invariant)
+    c.in_ok-ending_of.ensures)

@@ -2,7 +2,8 @@ use Rattle.ta_search.proofs.Common.{subst, sym, AllByRecursion, IsPlaced}
 use Rattle.ta_search.proofs.beside.in_places.Goals as goal
 
 pub placed-init : goal.placed-init
-placed-init c = λ t budget each. (c.in_ok-places.ensures t budget, subst (AllByRecursion (IsPlaced t budget)) (sym c.into_iter-place-iterator.ensures.into_iter_gives.0) each)
+placed-init c = λ t budget each.
+    (c.in_ok-places.ensures t budget, subst (AllByRecursion (IsPlaced t budget)) (sym c.into_iter-place-iterator.ensures.into_iter_gives.0) each)
 
 pub placed-preserved : goal.placed-preserved
 placed-preserved c = λ t budget each.

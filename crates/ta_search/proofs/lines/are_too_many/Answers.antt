@@ -7,4 +7,5 @@ returns c =
     λ h low high.
     let below = c.if-holes-ge-MOST_HOLES.false in
     many_tells c.args.holes.now h (c.vector_count.result * c.value_count.result) (omega arith)
-    (ap (λ n. n * c.value_count.result) c.vector_count.ensures ∙ ap (λ n. vector_count c.args.holes.now * n) (c.value_count.ensures.count h low high) ∙ vectors_push c.args.holes.now h)
+    (ap (λ n. n * c.value_count.result) c.vector_count.ensures ∙ ap (λ n. vector_count c.args.holes.now * n) (c.value_count.ensures.count h low high)
+    ∙ vectors_push c.args.holes.now h)

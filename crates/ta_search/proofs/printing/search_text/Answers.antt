@@ -11,5 +11,6 @@ vectors-preserved c =
     let front = take i xs in
     let more = take_more xs i x c.vectors-test.true ∙ ap (λ (y : Tried). front ++ y ∷ []) (sym c.next-item.is) in
     record {
-      so_far = c.in_ok-write_tried.ensures ∙ ap (λ (text : List ℕ). text ++ tried_text hs x) c.vectors.invariant.so_far ∙ sym (one_text_more hs front x) ∙ ap (tried_texts hs) (sym more);
+      so_far = c.in_ok-write_tried.ensures ∙ ap (λ (text : List ℕ). text ++ tried_text hs x) c.vectors.invariant.so_far ∙ sym (one_text_more hs front x)
+          ∙ ap (tried_texts hs) (sym more);
     }

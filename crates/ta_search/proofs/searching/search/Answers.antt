@@ -13,7 +13,8 @@ vectors-preserved g c =
     let below : c.vectors.place < vector_count c.args.template.now.holes = omega arith in
     let others =
     other_tried c.args.template.now c.args.budget c.vectors.place c.vectors.tried.items c.push.new.self.items c.in_ok-next.next
-    (record { below = below; searched = c.vectors.invariant.0; is = c.in_ok-next.ensures.tried; pushed = c.in_ok-push.ensures.items }) (sym c.is_found-found.ensures ∙ c.if-found.false) in
+    (record { below = below; searched = c.vectors.invariant.0; is = c.in_ok-next.ensures.tried; pushed = c.in_ok-push.ensures.items })
+    (sym c.is_found-found.ensures ∙ c.if-found.false) in
     (others, c.in_ok-next.ensures.at_hand)
 
 pub returns-then-found-clause-end : goal.returns-then-found-clause-end

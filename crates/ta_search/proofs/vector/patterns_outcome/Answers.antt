@@ -1,5 +1,6 @@
 use Rattle.std.specs.List.{concat}
-use Rattle.ta_search.proofs.Common.{◌≤◌, List, length, refl, subst, sym, slice_get_past, slice_get_read, Verdict, Certificate, CertificateOf, safe_numbers, AreVerdicts, IsSafe}
+use Rattle.ta_search.proofs.Common.{◌≤◌, List, length, refl, subst, sym, slice_get_past, slice_get_read, Verdict, Certificate, CertificateOf, safe_numbers}
+use Rattle.ta_search.proofs.Common.{AreVerdicts, IsSafe}
 use borrow.Author.Tests.{ltb-false}
 use Rattle.ta_search.proofs.Outcoming.{numbered, other_at, pattern_holds, safe_holds}
 use Rattle.ta_search.proofs.vector.patterns_outcome.Goals as goal
@@ -41,4 +42,5 @@ returns-in-None g c = λ bytes values sampled.
     let are = subst (AreVerdicts file budget) (sym c.as_slice-verdicts.ensures) ensures.verdicts in
     let certificate = subst (λ (ws : List Verdict). CertificateOf file budget ws text) (sym c.as_slice-verdicts.ensures) (ensures.certificate refl) in
     let accepted = subst (λ (ws : List Verdict). Certificate file text (safe_numbers file ws)) (sym c.as_slice-verdicts.ensures) (ensures.accepted refl) in
-    subst (IsSafe bytes budget) (sym c.from_pieces.ensures) (safe_holds bytes budget file vs place values text sampled are c.safe_before-place.ensures (slice_get_past vs place past) certificate accepted)
+    subst (IsSafe bytes budget) (sym c.from_pieces.ensures)
+    (safe_holds bytes budget file vs place values text sampled are c.safe_before-place.ensures (slice_get_past vs place past) certificate accepted)

@@ -13,7 +13,9 @@ loop-row-preserved c =
     elim c.if-multipliers-row-ne0.branch [
       | then-multipliers-row-ne0+in_ok-push w ↦
           let items = simp to_z-of_z at w.in_ok-push.ensures.items in
-          subst P (sym w.terms-is) (subst (ListsSlots ms (row + 1)) (sym items) (list-more ms row old c.requires.natural c.loop-row.invariant (λ e. w.if-multipliers-row-ne0.true (ap (of_z w128) e))))
+          subst P (sym w.terms-is) (subst (ListsSlots ms (row + 1)) (sym items)
+          (list-more ms row old c.requires.natural c.loop-row.invariant (λ e. w.if-multipliers-row-ne0.true (ap (of_z w128) e))))
       | else-multipliers-row-ne0 w ↦
-          subst P (sym w.terms-is) (list-skip ms row old c.loop-row.invariant (zero_from_bits (get_or c.args.multipliers.now c.loop-row.row (pos 0)) f w.if-multipliers-row-ne0.false))
+          subst P (sym w.terms-is) (list-skip ms row old c.loop-row.invariant
+          (zero_from_bits (get_or c.args.multipliers.now c.loop-row.row (pos 0)) f w.if-multipliers-row-ne0.false))
     ]

@@ -7,11 +7,13 @@ use Rattle.ta_simplex.proofs.solving.end_of.Goals as goal
 
 pub multipliers_of-requires-clause-dictionary : goal.multipliers_of-requires-clause-dictionary
 multipliers_of-requires-clause-dictionary g c κs within =
-    follows_dictionary c.args.system.now (map g.D.Dictionary.pivot_of c.args.kept.now) (length c.args.kept.now) (g.D.Dictionary.tableau c.args.stopped.now.dictionary) c.requires.follows
+    follows_dictionary c.args.system.now (map g.D.Dictionary.pivot_of c.args.kept.now) (length c.args.kept.now)
+    (g.D.Dictionary.tableau c.args.stopped.now.dictionary) c.requires.follows
 
 pub vertex_of-requires-after_bounds : goal.vertex_of-requires-after_bounds
 vertex_of-requires-after_bounds g c κs within =
-    follows_dictionary c.args.system.now (map g.D.Dictionary.pivot_of c.args.kept.now) (length c.args.kept.now) (g.D.Dictionary.tableau c.args.stopped.now.dictionary) c.requires.follows
+    follows_dictionary c.args.system.now (map g.D.Dictionary.pivot_of c.args.kept.now) (length c.args.kept.now)
+    (g.D.Dictionary.tableau c.args.stopped.now.dictionary) c.requires.follows
 
 pub returns-in_ok-multipliers_of-in-Some : goal.returns-in_ok-multipliers_of-in-Some
 returns-in_ok-multipliers_of-in-Some g c =

@@ -7,7 +7,8 @@ loop-row-preserved g c =
     let s = c.args.system.now in
     let t = g.D.Dictionary.tableau c.args.dictionary.now in
     let row = c.loop-row.row in
-    let inside : c.loop-row.row < length (g.D.Dictionary.tableau c.args.dictionary.now).rows = (let e = c.rows-row-end.ensures in let b = c.loop-row-test.true in omega arith) in
+    let inside : c.loop-row.row < length (g.D.Dictionary.tableau c.args.dictionary.now).rows =
+    (let e = c.rows-row-end.ensures in let b = c.loop-row-test.true in omega arith) in
     let ft : SFits w128 c.constant.result = search rules in
     let fb : SFits w128 c.denominator.result = search rules in
     let top = to_z-of_z w128 c.constant.result ft ∙ c.constant.ensures.value in

@@ -6,7 +6,8 @@ pub check_rows-requires-clause-over : goal.check_rows-requires-clause-over
 check_rows-requires-clause-over c =
     let system = c.args.system.now in
     let same : system.unknowns ≡ length c.args.values.now = omega arith in
-    subst (RowsOver (length c.args.values.now)) (sym c.as_slice.ensures) (subst (λ n. RowsOver n system.rows) same (rows_over system.unknowns system.rows system.within))
+    subst (RowsOver (length c.args.values.now)) (sym c.as_slice.ensures)
+    (subst (λ n. RowsOver n system.rows) same (rows_over system.unknowns system.rows system.within))
 
 pub returns-clause-passes : goal.returns-clause-passes
 returns-clause-passes c = record {

@@ -11,7 +11,8 @@ loop-term-preserved c =
     let fits : FitsSigned w128 z = search rules in
     let is : c.part.result ≡ part c.args.side z = c.part.ensures ∙ ap (part c.args.side) (to_z-of_z w128 z fits) in
     record {
-      counted = term_counted c.args.side c.args.terms.now c.loop-term.term-index c.part.result c.loop-term.count c.count_of-count.result _ c.loop-term-test.true is c.count_of-count.ensures.number c.loop-term.invariant.counted;
+      counted = term_counted c.args.side c.args.terms.now c.loop-term.term-index c.part.result c.loop-term.count c.count_of-count.result _ c.loop-term-test.true
+          is c.count_of-count.ensures.number c.loop-term.invariant.counted;
       few = omega arith;
     }
 

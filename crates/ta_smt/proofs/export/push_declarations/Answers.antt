@@ -9,7 +9,8 @@ loop-number-init c =
 
 pub loop-number-preserved : goal.loop-number-preserved
 loop-number-preserved c =
-    line_written declare_line c.loop-number.number-counter c.args.unknowns (string_bytes c.loop-number.text) (string_bytes c.write.new.self) _ _ c.loop-number-test.true (declared c.loop-number.number-counter) c.in_ok-write.ensures.bytes c.loop-number.invariant
+    line_written declare_line c.loop-number.number-counter c.args.unknowns (string_bytes c.loop-number.text) (string_bytes c.write.new.self) _ _
+    c.loop-number-test.true (declared c.loop-number.number-counter) c.in_ok-write.ensures.bytes c.loop-number.invariant
 
 pub returns : goal.returns
 returns c = lines_written declare_line c.loop-number.number-counter c.args.unknowns (string_bytes c.loop-number.text) _ (omega arith) c.loop-number.invariant

@@ -3,4 +3,5 @@ use Rattle.ta_smt.proofs.Written.{natural_line}
 use Rattle.ta_smt.proofs.export.push_naturals.Given as goal
 
 abbrev pub invariant-loop-number : goal.invariant-loop-number
-invariant-loop-number l = string_bytes l.text ++ lines_text (map natural_line (range_with_len l.number-counter (l.unknowns - l.number-counter))) ≡ string_bytes l.initial.text ++ lines_text (map natural_line (range_with_len 0 l.unknowns))
+invariant-loop-number l = string_bytes l.text ++ lines_text (map natural_line (range_with_len l.number-counter (l.unknowns - l.number-counter))) ≡ string_bytes
+    l.initial.text ++ lines_text (map natural_line (range_with_len 0 l.unknowns))

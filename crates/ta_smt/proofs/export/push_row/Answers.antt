@@ -12,7 +12,8 @@ returns c =
     let t3 = string_bytes c.push_str-2.new.self in
     let t4 = string_bytes c.push_side-2.new.text in
     let last : string_bytes c.push_str-3.new.self ≡ t4 ++ codes "))\n" = c.in_ok-push_str-3.ensures.bytes in
-    let line = append_assoc left (codes " " ++ (right ++ codes "))")) (10 ∷ []) ∙ ap (λ xs. left ++ (codes " " ++ xs)) (append_assoc right (codes "))") (10 ∷ [])) in
+    let line = append_assoc left (codes " " ++ (right ++ codes "))")) (10 ∷ [])
+    ∙ ap (λ xs. left ++ (codes " " ++ xs)) (append_assoc right (codes "))") (10 ∷ [])) in
     let written : string_bytes c.push_str-3.new.self ≡ t0 ++ ((codes "(assert (>= " ++ (left ++ (codes " " ++ (right ++ codes "))")))) ++ (10 ∷ [])) =
     last
     ∙ whole_more t4 t3 right (codes "))\n") c.in_ok-push_side-2.ensures

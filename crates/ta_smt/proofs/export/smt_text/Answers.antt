@@ -7,7 +7,8 @@ pub returns-clause-text : goal.returns-clause-text
 returns-clause-text c =
     c.from_string.ensures
     ∙ system_written c.args.system.now
-    (string_bytes c.push_str.new.self) (string_bytes c.push_declarations.new.text) (string_bytes c.push_naturals.new.text) (string_bytes c.push_rows.new.text) (string_bytes c.push_str-2.new.self)
+    (string_bytes c.push_str.new.self) (string_bytes c.push_declarations.new.text) (string_bytes c.push_naturals.new.text) (string_bytes c.push_rows.new.text)
+    (string_bytes c.push_str-2.new.self)
     (c.in_ok-push_str.ensures.bytes ∙ ap (λ xs. xs ++ codes "(set-logic QF_LIA)\n") c.new-text.ensures.bytes)
     c.in_ok-push_declarations.ensures
     c.in_ok-push_naturals.ensures

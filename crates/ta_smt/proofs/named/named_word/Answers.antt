@@ -6,7 +6,8 @@ pub returns-then-not-begins-clause-fault : goal.returns-then-not-begins-clause-f
 returns-then-not-begins-clause-fault c =
     let file = c.args.file.now in
     let named = rw c.as_slice.ensures at c.in-Some.ensures in
-    no_start file c.args.name.now c.args.start_mask c.args.elements.now c.in-Some.pattern named (beyond_by c.args.start_mask (2 ^ length file.automaton.fall) c.begins.result c.begins.ensures c.if-not-begins.true)
+    no_start file c.args.name.now c.args.start_mask c.args.elements.now c.in-Some.pattern named
+    (beyond_by c.args.start_mask (2 ^ length file.automaton.fall) c.begins.result c.begins.ensures c.if-not-begins.true)
 
 pub of-requires : goal.of-requires
 of-requires c =
@@ -17,12 +18,16 @@ pub returns-in-Ok-clause-word : goal.returns-in-Ok-clause-word
 returns-in-Ok-clause-word c =
     let file = c.args.file.now in
     let named = rw c.as_slice.ensures at c.in-Some.ensures in
-    word_found file c.args.name.now c.args.start_mask c.args.elements.now c.in-Ok.word c.in-Some.pattern named (below_by c.args.start_mask (2 ^ length file.automaton.fall) c.begins.result c.begins.ensures c.if-not-begins.false) c.in-Ok.ensures.word
-    (of_task file c.in-Some.pattern c.of.result (λ a p. LegalWord a p c.args.start_mask (reverse c.in-Ok.word)) c.of.ensures.automaton c.of.ensures.pattern c.in-Ok.ensures.legal)
+    word_found file c.args.name.now c.args.start_mask c.args.elements.now c.in-Ok.word c.in-Some.pattern named
+    (below_by c.args.start_mask (2 ^ length file.automaton.fall) c.begins.result c.begins.ensures c.if-not-begins.false) c.in-Ok.ensures.word
+    (of_task file c.in-Some.pattern c.of.result (λ a p. LegalWord a p c.args.start_mask (reverse c.in-Ok.word)) c.of.ensures.automaton c.of.ensures.pattern
+    c.in-Ok.ensures.legal)
 
 pub returns-in-Err-clause-fault : goal.returns-in-Err-clause-fault
 returns-in-Err-clause-fault c =
     let file = c.args.file.now in
     let named = rw c.as_slice.ensures at c.in-Some.ensures in
-    no_child file c.args.name.now c.args.start_mask c.args.elements.now c.in-Some.pattern c.in-Err.number named (below_by c.args.start_mask (2 ^ length file.automaton.fall) c.begins.result c.begins.ensures c.if-not-begins.false)
-    (of_task file c.in-Some.pattern c.of.result (λ a p. FirstStranger a p c.args.start_mask c.args.elements.now c.in-Err.number) c.of.ensures.automaton c.of.ensures.pattern c.in-Err.ensures.stranger)
+    no_child file c.args.name.now c.args.start_mask c.args.elements.now c.in-Some.pattern c.in-Err.number named
+    (below_by c.args.start_mask (2 ^ length file.automaton.fall) c.begins.result c.begins.ensures c.if-not-begins.false)
+    (of_task file c.in-Some.pattern c.of.result (λ a p. FirstStranger a p c.args.start_mask c.args.elements.now c.in-Err.number) c.of.ensures.automaton
+    c.of.ensures.pattern c.in-Err.ensures.stranger)

@@ -12,7 +12,8 @@ pub loop-i-preserved : goal.loop-i-preserved
 loop-i-preserved c =
     let ps = c.args.patterns.now in
     let item = c.index-patterns-i.result in
-    none_more ps c.args.name.now c.loop-i.i item (read_same ps ps c.loop-i.i item refl c.loop-i-test.true c.index-patterns-i.is) (λ e. false≢true (sym c.if-is_named.false ∙ c.is_named.ensures.1 e)) c.loop-i.invariant
+    none_more ps c.args.name.now c.loop-i.i item (read_same ps ps c.loop-i.i item refl c.loop-i-test.true c.index-patterns-i.is)
+    (λ e. false≢true (sym c.if-is_named.false ∙ c.is_named.ensures.1 e)) c.loop-i.invariant
 
 pub returns : goal.returns
 returns c = none_at_all c.args.patterns.now c.args.name.now c.loop-i.i (omega arith) c.loop-i.invariant

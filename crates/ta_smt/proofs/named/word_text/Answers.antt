@@ -9,7 +9,8 @@ of-task-requires c = let named = c.args.named.now in legal_exists c.args.file.no
 pub encode-requires-clause-legal : goal.encode-requires-clause-legal
 encode-requires-clause-legal c =
     let named = c.args.named.now in
-    to_task c.args.file.now named.pattern c.of-task.result (λ a p. LegalWord a p named.start_mask (reverse named.word)) c.of-task.ensures.automaton c.of-task.ensures.pattern (legal_of c.args.file.now (asked named.pattern named.start_mask named.word) c.requires)
+    to_task c.args.file.now named.pattern c.of-task.result (λ a p. LegalWord a p named.start_mask (reverse named.word)) c.of-task.ensures.automaton
+    c.of-task.ensures.pattern (legal_of c.args.file.now (asked named.pattern named.start_mask named.word) c.requires)
 
 pub returns : goal.returns
 returns c =
@@ -18,5 +19,6 @@ returns c =
     let word = asked named.pattern named.start_mask named.word in
     let system = c.in_ok-encoded.encoded.system in
     word_text_is file word system c.in_ok-text.text
-    (system_asked file named.pattern named.start_mask named.word system c.of-task.result c.of-task.ensures.automaton c.of-task.ensures.pattern c.in_ok-encoded.ensures.system)
+    (system_asked file named.pattern named.start_mask named.word system c.of-task.result c.of-task.ensures.automaton c.of-task.ensures.pattern
+    c.in_ok-encoded.ensures.system)
     c.in_ok-text.ensures.text c.in_ok-text.ensures.denotes

@@ -7,7 +7,8 @@ returns-in-Some c =
     let value = c.in-Some.value in
     let low : c.args.limit < 2 ^ 8 = search rules in
     let fits : FitsSigned w128 value = search rules in
-    number_by c.args.limit c.args.digits.now value (to_z w128 (of_z w128 value)) c.small.result low c.in-Some.ensures (to_z-of_z w128 value fits) c.small.ensures
+    number_by c.args.limit c.args.digits.now value (to_z w128 (of_z w128 value)) c.small.result low c.in-Some.ensures (to_z-of_z w128 value fits)
+    c.small.ensures
 
 pub returns-in-None : goal.returns-in-None
 returns-in-None c =

@@ -19,6 +19,9 @@ returns-then-not-push-clause-stranger c =
     let p = c.args.task.pattern.now in
     let i = c.loop-element.element-index in
     let within = c.loop-element-test.true in
-    let place : i ≡ length c.elements.result.now = sym (ap length c.elements.ensures ∙ spelled_length a p c.args.start_mask c.args.elements.now i c.loop-element.word (omega arith) c.loop-element.invariant) in
+    let place : i ≡ length c.elements.result.now = sym
+    (ap length c.elements.ensures ∙ spelled_length a p c.args.start_mask c.args.elements.now i c.loop-element.word (omega arith) c.loop-element.invariant)
+    in
     subst (FirstStranger a p c.args.start_mask c.args.elements.now) place
-    (stranger_found a p c.args.start_mask c.args.elements.now c.loop-element.word i _ c.push.result c.loop-element.invariant within (rw c.new-orders.ensures at c.push.ensures.child) c.if-not-push.true)
+    (stranger_found a p c.args.start_mask c.args.elements.now c.loop-element.word i _ c.push.result c.loop-element.invariant within
+    (rw c.new-orders.ensures at c.push.ensures.child) c.if-not-push.true)

@@ -14,7 +14,8 @@ returns-clause-certificate g c = λ begun has.
     let made = c.in_ok-verdicts.ensures.trees begun head (subst (g.T.Target.has begun c.add.new.self c.add.new.place) (sym (append-nil head)) first) in
     let are = subst (λ (vs : List Verdict). AreTrees file c.args.budget (safe_picked file c.args.pick vs) made.0) (sym c.from_vec.ensures) made.1 in
     let text = (head ++ proofs_text made.0) ++ ended_line line.End in
-    let certificate = certificate_made file c.args.pick c.args.budget c.from_vec.result trees c.in_ok-trees.ensures.known c.in_ok-trees.ensures.lazy made.0 are text refl in
+    let certificate = certificate_made file c.args.pick c.args.budget c.from_vec.result trees c.in_ok-trees.ensures.known c.in_ok-trees.ensures.lazy made.0 are
+    text refl in
     record {
       text = text;
       has = c.in_ok-add-2.ensures.added begun (head ++ proofs_text made.0) (ended_line line.End) made.2 c.in_ok-end.ensures.text;

@@ -4,7 +4,8 @@ use Rattle.ta_verdict.proofs.judging.verdicts_on.Goals as goal
 
 pub loop-pattern-init : goal.loop-pattern-init
 loop-pattern-init g c =
-    judged_none (VerdictHolds c.args.scoped.now.file c.args.budget) (tree_under c.args.scoped.now.file c.args.budget) c.args.scoped.now.file _ (λ (begun : Begun). g.T.Target.has begun c.args.target.now c.args.place.now)
+    judged_none (VerdictHolds c.args.scoped.now.file c.args.budget) (tree_under c.args.scoped.now.file c.args.budget) c.args.scoped.now.file _
+    (λ (begun : Begun). g.T.Target.has begun c.args.target.now c.args.place.now)
     (g.T.Target.wants c.args.target.now) (ap length c.as_slice.ensures) c.new-verdicts.result.items c.new-verdicts.ensures.items
 
 pub loop-pattern-preserved : goal.loop-pattern-preserved
@@ -37,7 +38,8 @@ returns-in_err-push-clause-stops g c = λ begun text has.
     c.loop-pattern-test.true made.holds made.fits made.adds made.wanted in
     let so = had_more (VerdictHolds c.args.scoped.now.file c.args.budget) (tree_under c.args.scoped.now.file c.args.budget) c.args.scoped.now.file
     (length c.as_slice.result.now) _ _ (λ (b : Begun). g.T.Target.has b c.args.target.now c.args.place.now)
-    (λ (b : Begun). g.T.Target.has b c.next_verdict.new.target c.next_verdict.new.place) (g.T.Target.wants c.args.target.now) (g.T.Target.wants c.next_verdict.new.target) next begun text has in
+    (λ (b : Begun). g.T.Target.has b c.next_verdict.new.target c.next_verdict.new.place) (g.T.Target.wants c.args.target.now)
+    (g.T.Target.wants c.next_verdict.new.target) next begun text has in
     err_any c.from_residual-in_err-push.result _ (g.met.T.Target.may_stop begun c.next_verdict.new.target c.next_verdict.new.place so.0 so.1)
 
 pub returns-clause-verdicts : goal.returns-clause-verdicts

@@ -10,4 +10,5 @@ pub returns : goal.returns
 returns g c =
     let refuted = rw c.in-Some.is at c.in_ok-multipliers.ensures in
     let may = c.takes.ensures.0 c.if-not-takes.false in
-    takes_pair c.args.automaton.now c.args.before c.args.after c.args.sought.now (record { list = c.push.new.self; orders = c.insert.new.self }) c.in-Some.multipliers c.requires may refuted c.in_ok-push.ensures.items c.insert.ensures
+    takes_pair c.args.automaton.now c.args.before c.args.after c.args.sought.now (record { list = c.push.new.self; orders = c.insert.new.self })
+    c.in-Some.multipliers c.requires may refuted c.in_ok-push.ensures.items c.insert.ensures

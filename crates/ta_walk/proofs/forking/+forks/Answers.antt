@@ -30,7 +30,8 @@ pub visit_beside-returns-clause-visited : goal.visit_beside-returns-clause-visit
 visit_beside-returns-clause-visited g t c =
     let one = rw c.in_ok-first.was at c.join-first.ensures.first.0 in
     let other = rw c.in_ok-second.was at c.join-first.ensures.second.0 in
-    c.merge.ensures.visited (search_of_claim c.args.tree.now) (map root_node c.args.starts.items) (map root_node c.args.others.items) c.args.keeper c.args.late
+    c.merge.ensures.visited (search_of_claim c.args.setting.tree.now) (map root_node c.args.starts.items) (map root_node c.args.others.items) c.args.keeper
+    c.args.late
     one other c.requires.fresh
 
 pub visit_list-returns-clause-visited : goal.visit_list-returns-clause-visited
@@ -38,18 +39,18 @@ visit_list-returns-clause-visited g t c =
     let all = halves_listed {E = Element} _ c.args.starts.items c.split_off.new.self.items c.in_ok-others.others.items c.in_ok-others.ensures.items
     c.in_ok-others.ensures.tail in
     subst (λ (us : List (Pending Element)). IfOk c.visit_halves.result
-    (λ part. PartVisited g.K.Keeper.keeps (beginning (search_of_claim c.args.tree.now) us) c.args.nodes c.args.keeper part.keeper part.end)) all
+    (λ part. PartVisited g.K.Keeper.keeps (beginning (search_of_claim c.args.setting.tree.now) us) c.args.nodes c.args.keeper part.keeper part.end)) all
     c.visit_halves.ensures.visited
 
 pub visit_halves-returns-in_default-clause-visited : goal.visit_halves-returns-in_default-clause-visited
 visit_halves-returns-in_default-clause-visited g t c =
     let part = c.in_ok-first.first in
-    decided_part g.K.Keeper.keeps (search_of_claim c.args.tree.now) (map root_node c.args.starts.items) (map root_node c.args.others.items) c.args.nodes
+    decided_part g.K.Keeper.keeps (search_of_claim c.args.setting.tree.now) (map root_node c.args.starts.items) (map root_node c.args.others.items) c.args.nodes
     c.args.keeper part.keeper part.end c.in_default.ensures.none c.in_ok-first.ensures.visited
 
 pub visit_halves-returns-clause-visited : goal.visit_halves-returns-clause-visited
 visit_halves-returns-clause-visited g t c =
-    let s = search_of_claim c.args.tree.now in
+    let s = search_of_claim c.args.setting.tree.now in
     let keeps = g.K.Keeper.keeps in
     let ws = map root_node c.args.starts.items in
     let vs = map root_node c.args.others.items in

@@ -27,10 +27,10 @@ use Rattle.ta_walk.proofs.forking.+shares.Goals as goal
 
 pub visit_shared-returns-clause-visited : goal.visit_shared-returns-clause-visited
 visit_shared-returns-clause-visited g t c =
-    let s = search_of_claim c.args.tree.now in
+    let s = search_of_claim c.args.setting.tree.now in
     let one = rw c.in_ok-first.was at c.join-second.ensures.second.0 in
     let other = rw c.in_ok-second.was at c.join-second.ensures.first.0 in
-    c.merge.ensures.visited s (left_at s c.args.cursor) (left_at s c.args.later) c.args.keeper c.in_ok-late.late one other
+    c.merge.ensures.visited s (left_at s c.args.at.cursor) (left_at s c.args.later) c.args.keeper c.in_ok-late.late one other
     (c.in_ok-late.ensures.begins, c.in_ok-late.ensures.keeps)
 
 pub visit_on-returns-in-Ended-clause-visited : goal.visit_on-returns-in-Ended-clause-visited
@@ -38,15 +38,17 @@ visit_on-returns-in-Ended-clause-visited g t c = λ first before has. rw c.in-En
 
 pub visit_on-returns-in_ok-part-in-Shared-clause-visited : goal.visit_on-returns-in_ok-part-in-Shared-clause-visited
 visit_on-returns-in_ok-part-in-Shared-clause-visited g t c =
-    let s = search_of_claim c.args.tree.now in
+    let s = search_of_claim c.args.setting.tree.now in
     let keeps = g.K.Keeper.keeps in
     let n = c.args.nodes in
     let count = c.in-Shared.count in
-    let words = left_at s c.args.cursor in
+    let words = left_at s c.args.at.cursor in
     let part = c.in_ok-part-in-Shared.part in
-    let small : SharesBudget s n count c.in-Shared.leaves c.visit_stretch.new.cursor c.in-Shared.later = rw c.in-Shared.is at c.in_ok-end.ensures.small in
+    let small : SharesBudget s n count c.in-Shared.leaves c.visit_stretch.new.at.cursor c.in-Shared.later = rw c.in-Shared.is at c.in_ok-end.ensures.small
+    in
     subst (λ (e : TreeEnd Element). PartVisited keeps (beginning s words) n c.args.keeper part.keeper e) (sym c.end_behind.ensures.is)
-    (shared_part keeps s words c.visit_stretch.new.cursor c.in-Shared.later n (n - count) count c.in-Shared.leaves c.args.keeper c.visit_stretch.new.keeper
+    (shared_part keeps s words c.visit_stretch.new.at.cursor c.in-Shared.later n (n - count) count c.in-Shared.leaves c.args.keeper
+    c.visit_stretch.new.keeper
     part.keeper part.end small.within
     (λ first before has. rw c.in-Shared.is at (c.in_ok-end.ensures.ends first before has)) c.in_ok-part-in-Shared.ensures.visited)
 
@@ -70,11 +72,12 @@ visit_on-returns-in-Ended-clause-counted g t c =
 
 pub visit_on-returns-in_ok-part-in-Shared-clause-counted : goal.visit_on-returns-in_ok-part-in-Shared-clause-counted
 visit_on-returns-in_ok-part-in-Shared-clause-counted g t c =
-    let s = search_of_claim c.args.tree.now in
+    let s = search_of_claim c.args.setting.tree.now in
     let n = c.args.nodes in
     let count = c.in-Shared.count in
     let part = c.in_ok-part-in-Shared.part in
-    let small : SharesBudget s n count c.in-Shared.leaves c.visit_stretch.new.cursor c.in-Shared.later = rw c.in-Shared.is at c.in_ok-end.ensures.small in
+    let small : SharesBudget s n count c.in-Shared.leaves c.visit_stretch.new.at.cursor c.in-Shared.later = rw c.in-Shared.is at c.in_ok-end.ensures.small
+    in
     let counted = rw c.in-Shared.is at c.in_ok-end.ensures.counted in
     subst (λ (e : TreeEnd Element). IsCounted n c.args.watch.forks e c.add.new.self.begun) (sym c.end_behind.ensures.is)
     (counted_shared n c.args.watch.forks count c.in-Shared.leaves part.end c.new-work.result.begun c.visit_stretch.new.work.begun part.begun

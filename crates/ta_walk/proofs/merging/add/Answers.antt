@@ -8,4 +8,5 @@ returns-clause-visited g c = λ s ws vs later begun late one other fresh.
     let keeps = g.K.Keeper.keeps in
     let n = c.args.nodes in
     subst (λ (e : TreeEnd Element). PartVisited keeps (beginning s (ws ++ vs)) n begun c.append.new.self e) (sym c.end_behind.ensures.is)
-    (merged_parts keeps g.K.PartKeeper.begins s ws vs n later c.args.count c.args.leaves begun late c.args.keeper c.args.second.keeper c.append.new.self c.args.second.end one other fresh c.in_ok-append.ensures)
+    (merged_parts keeps g.K.PartKeeper.begins s ws vs n later c.args.count c.args.leaves begun late c.args.keeper c.args.second.keeper c.append.new.self
+    c.args.second.end one other fresh c.in_ok-append.ensures)

@@ -1,11 +1,13 @@
-use Rattle.ta_walk.proofs.Common.{ℕ, ◌<◌, ◌^◌, List, length, ap, arith, sym, subst, Fraction, System, SystemAt, variables, slack_tableau, OverflowsAt, IsVertex, IsOutOfRangeAt, here}
+use Rattle.ta_walk.proofs.Common.{ℕ, ◌<◌, ◌^◌, List, length, ap, arith, sym, subst, Fraction, System, SystemAt, variables, slack_tableau, OverflowsAt, IsVertex}
+use Rattle.ta_walk.proofs.Common.{IsOutOfRangeAt, here}
 use Rattle.ta_walk.specs.declared.end.PlaceKind.TheVariants.{Pivot}
 use Rattle.ta_walk.proofs.Nodes.{few_variables}
 use Rattle.ta_walk.proofs.node.solve_node.Goals as goal
 
 pub solve-requires-clause-room : goal.solve-requires-clause-room
 solve-requires-clause-room g c κs within =
-    subst (λ (z : System). variables z < 2 ^ 32) (sym c.system-system.ensures) (few_variables (here c.args.cursor.now) (g.T.Tree.system_of c.args.kept.now) c.requires.few c.requires.small)
+    subst (λ (z : System). variables z < 2 ^ 32) (sym c.system-system.ensures)
+    (few_variables (here c.args.cursor.now) (g.T.Tree.system_of c.args.kept.now) c.requires.few c.requires.small)
 
 pub returns-in-Err-Overflow-clause-solved : goal.returns-in-Err-Overflow-clause-solved
 returns-in-Err-Overflow-clause-solved g c =
@@ -18,14 +20,16 @@ returns-in-Err-Overflow-clause-solved g c =
 
 pub take_refuted-requires-clause-few : goal.take_refuted-requires-clause-few
 take_refuted-requires-clause-few g c =
-    subst (λ (z : System). variables z < 2 ^ 32) (sym c.system-system.ensures) (few_variables (here c.args.cursor.now) (g.T.Tree.system_of c.args.kept.now) c.requires.few c.requires.small)
+    subst (λ (z : System). variables z < 2 ^ 32) (sym c.system-system.ensures)
+    (few_variables (here c.args.cursor.now) (g.T.Tree.system_of c.args.kept.now) c.requires.few c.requires.small)
 
 pub take_vertex-requires-clause-few : goal.take_vertex-requires-clause-few
 take_vertex-requires-clause-few g c =
     let system = c.system-system.result.now in
     let vertex : IsVertex system c.in-Ok-Vertex.values = rw c.in-Ok-Vertex.field-0-is at c.in-Ok-Vertex.ensures.ok in
     let count = vertex.gives.count in
-    let few = subst (λ (z : System). variables z < 2 ^ 32) (sym c.system-system.ensures) (few_variables (here c.args.cursor.now) (g.T.Tree.system_of c.args.kept.now) c.requires.few c.requires.small) in
+    let few = subst (λ (z : System). variables z < 2 ^ 32) (sym c.system-system.ensures)
+    (few_variables (here c.args.cursor.now) (g.T.Tree.system_of c.args.kept.now) c.requires.few c.requires.small) in
     let same = ap (λ (vs : List Fraction). length vs) c.as_slice.ensures in
     omega arith
 

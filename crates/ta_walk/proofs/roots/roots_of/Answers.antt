@@ -10,7 +10,8 @@ roots-preserved g c =
     let n : c.len.result ≡ length items = search rules in
     let at = subst (λ (k : ℕ). slice_get s.roots k ≡ Some (root_node root)) n c.in-Some.ensures.is in
     let small = subst (λ (k : ℕ). k < 2 ^ 31) n c.in-Some.ensures.small in
-    subst (Listed s s.roots) (sym c.in_ok-push.ensures.items) (listed_more s s.roots items root c.roots.invariant at (root_comes s c.len.result root c.in-Some.ensures) small)
+    subst (Listed s s.roots) (sym c.in_ok-push.ensures.items)
+    (listed_more s s.roots items root c.roots.invariant at (root_comes s c.len.result root c.in-Some.ensures) small)
 
 pub returns-clause-nodes : goal.returns-clause-nodes
 returns-clause-nodes g c =

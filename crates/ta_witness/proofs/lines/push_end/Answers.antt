@@ -18,5 +18,6 @@ returns-in_ok-push-in-Fall c =
     let value : Meaning → _ = unknown_value c.args.meanings.now c.args.values.now in
     let r = c.single_of-rule.result in
     let exists = subst (λ (n : ℕ). r < n) (ap (λ (rules : List Rule). length rules) c.as_slice-rules.ensures) c.single_of-rule.ensures.exists in
-    let ended = ended_fall a p value c.args.number c.in-Fall.field-0 r c.args.lines.now.items c.push-in-Fall.new.self.items (record { exists = exists; one = c.single_of-rule.ensures.one }) c.in_ok-push-in-Fall.ensures.items in
+    let ended = ended_fall a p value c.args.number c.in-Fall.field-0 r c.args.lines.now.items c.push-in-Fall.new.self.items
+    (record { exists = exists; one = c.single_of-rule.ensures.one }) c.in_ok-push-in-Fall.ensures.items in
     subst (λ (x : Element). AddsPieceEnd a p value c.args.number x c.args.lines.now.items c.push-in-Fall.new.self.items) (sym c.in-Fall.is) ended

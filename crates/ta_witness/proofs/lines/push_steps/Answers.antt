@@ -8,4 +8,5 @@ loop-step-preserved c =
     let fits : FitsSigned w128 z = search rules in
     let below : z <ℤ pos (2 ^ 127) = omega (arith, ints) in
     let items = simp to_z-of_z at c.in_ok-push.ensures.items in
-    steps_push c.args.steps.now c.loop-step.step-index (0, pos 0) c.args.lines.now.items c.loop-step.lines.items c.push.new.self.items c.loop-step-test.true c.loop-step.invariant items below
+    steps_push c.args.steps.now c.loop-step.step-index (0, pos 0) c.args.lines.now.items c.loop-step.lines.items c.push.new.self.items c.loop-step-test.true
+    c.loop-step.invariant items below

@@ -22,10 +22,12 @@ run_for-requires c =
     let t = c.of-task.result in
     record {
       named = c.of-task.ensures.pattern;
-      unknowns = c.as_slice-meanings.ensures ∙ c.in_ok-encoded.ensures.meanings ∙ ap (λ (a : Automaton). meanings a t.pattern.now s.start_mask (reverse s.word)) c.of-task.ensures.automaton;
+      unknowns = c.as_slice-meanings.ensures ∙ c.in_ok-encoded.ensures.meanings
+          ∙ ap (λ (a : Automaton). meanings a t.pattern.now s.start_mask (reverse s.word)) c.of-task.ensures.automaton;
       values = c.requires.values;
       are = c.requires.are;
-      solved = subst (λ (p : Pattern). SolvedWord file.automaton p s.start_mask s.word c.requires.values) (same_pattern file s.pattern c.requires.pattern t.pattern.now c.requires.named c.of-task.ensures.pattern) c.requires.solved;
+      solved = subst (λ (p : Pattern). SolvedWord file.automaton p s.start_mask s.word c.requires.values)
+          (same_pattern file s.pattern c.requires.pattern t.pattern.now c.requires.named c.of-task.ensures.pattern) c.requires.solved;
     }
 
 pub returns-clause-witness : goal.returns-clause-witness
@@ -35,7 +37,11 @@ pub returns-clause-fits : goal.returns-clause-fits
 returns-clause-fits c = IfOk-weaker c.run_for.result _ _ (λ run r. run_fits c.args.scoped.now.file _ _ c.args.solution.now run r) c.run_for.ensures
 
 pub returns-clause-shows : goal.returns-clause-shows
-returns-clause-shows c = IfOk-weaker c.run_for.result _ _ (λ run r. (witnesses_show c.args.scoped.now.file c.args.scoped.now.in_scope c.args.solution.now c.requires run (run_witness c.args.scoped.now.file _ _ c.args.solution.now run r)).0) c.run_for.ensures
+returns-clause-shows c = IfOk-weaker c.run_for.result _ _
+    (λ run r. (witnesses_show c.args.scoped.now.file c.args.scoped.now.in_scope c.args.solution.now c.requires run
+    (run_witness c.args.scoped.now.file _ _ c.args.solution.now run r)).0) c.run_for.ensures
 
 pub returns-clause-short : goal.returns-clause-short
-returns-clause-short c = IfOk-weaker c.run_for.result _ _ (λ run r. (witnesses_show c.args.scoped.now.file c.args.scoped.now.in_scope c.args.solution.now c.requires run (run_witness c.args.scoped.now.file _ _ c.args.solution.now run r)).1) c.run_for.ensures
+returns-clause-short c = IfOk-weaker c.run_for.result _ _
+    (λ run r. (witnesses_show c.args.scoped.now.file c.args.scoped.now.in_scope c.args.solution.now c.requires run
+    (run_witness c.args.scoped.now.file _ _ c.args.solution.now run r)).1) c.run_for.ensures

@@ -22,4 +22,6 @@ returns-in-None c = λ at is free.
     let subject = claiming_with c.args.claim c.args.file.now c.args.silent.now in
     let found = pattern_exists subject c.args.pattern c.requires.exists in
     let new = record s { proved = c.push.new.self } in
-    begins_none Moments subject s new at c.args.pattern found.0 c.requires.kind found.1 c.requires.fresh is free (record { version = refl; orders = refl; waiting = refl }) refl c.in_ok-push.ensures.items (empty_of Moments subject s found.0 _ (c.moment_tree-tree.ensures.search found.0 found.1) c.in-None.ensures)
+    begins_none Moments subject s new at c.args.pattern found.0 c.requires.kind found.1 c.requires.fresh is free
+    (record { version = refl; orders = refl; waiting = refl }) refl c.in_ok-push.ensures.items
+    (empty_of Moments subject s found.0 _ (c.moment_tree-tree.ensures.search found.0 found.1) c.in-None.ensures)

@@ -6,4 +6,5 @@ pub returns-then-not-has_version-clause-taken : goal.returns-then-not-has_versio
 returns-then-not-has_version-clause-taken c = λ at is. (refl, λ has. false≢true (sym c.if-not-has_version.true ∙ c.has_version.ensures.1 has))
 
 pub returns-clause-taken : goal.returns-clause-taken
-returns-clause-taken c = λ at is. header_taken (claiming_with c.args.claim c.args.file.now c.args.silent.now) c.args.self.now at c.args.number c.args.version (c.has_version.ensures.0 c.if-not-has_version.false) is
+returns-clause-taken c = λ at is. header_taken (claiming_with c.args.claim c.args.file.now c.args.silent.now) c.args.self.now at c.args.number c.args.version
+    (c.has_version.ensures.0 c.if-not-has_version.false) is

@@ -9,6 +9,7 @@ returns-then-not-has_form c = λ at is.
       refl,
       record {
         no_pair = inside_no_pair at c.args.pattern n.1.older c.args.node.now n.1.begun;
-        out = inl (λ form. false≢true (sym c.if-not-has_form.true ∙ c.has_form.ensures.1 (subst (λ (k : Kind). HasForm k c.args.claim c.args.node.now) (ap kind_of is.version) form)));
+        out = inl (λ form. false≢true (sym c.if-not-has_form.true
+            ∙ c.has_form.ensures.1 (subst (λ (k : Kind). HasForm k c.args.claim c.args.node.now) (ap kind_of is.version) form)));
       },
     )

@@ -14,8 +14,12 @@ returns-then-not-takes_order-clause-taken c = λ at is.
 
 pub returns-then-not-takes-clause-taken : goal.returns-then-not-takes-clause-taken
 returns-then-not-takes-clause-taken c = λ at is.
-    order_bad (claiming_with c.args.claim c.args.file.now c.args.silent.now) c.args.self.now at c.args.number c.args.before c.args.after c.args.self.now is ((c.takes_order.ensures (claiming_with c.args.claim c.args.file.now c.args.silent.now) at is).0 c.if-not-takes_order.false) (λ may. false≢true (sym c.if-not-takes.true ∙ c.takes.ensures.1 may))
+    order_bad (claiming_with c.args.claim c.args.file.now c.args.silent.now) c.args.self.now at c.args.number c.args.before c.args.after c.args.self.now is
+    ((c.takes_order.ensures (claiming_with c.args.claim c.args.file.now c.args.silent.now) at is).0 c.if-not-takes_order.false)
+    (λ may. false≢true (sym c.if-not-takes.true ∙ c.takes.ensures.1 may))
 
 pub returns-clause-taken : goal.returns-clause-taken
 returns-clause-taken c = λ at is.
-    order_taken (claiming_with c.args.claim c.args.file.now c.args.silent.now) c.args.self.now at c.args.number c.args.before c.args.after is ((c.takes_order.ensures (claiming_with c.args.claim c.args.file.now c.args.silent.now) at is).0 c.if-not-takes_order.false) (c.takes.ensures.0 c.if-not-takes.false)
+    order_taken (claiming_with c.args.claim c.args.file.now c.args.silent.now) c.args.self.now at c.args.number c.args.before c.args.after is
+    ((c.takes_order.ensures (claiming_with c.args.claim c.args.file.now c.args.silent.now) at is).0 c.if-not-takes_order.false)
+    (c.takes.ensures.0 c.if-not-takes.false)

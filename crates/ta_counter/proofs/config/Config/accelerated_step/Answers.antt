@@ -1,4 +1,5 @@
-use Rattle.ta_counter.proofs.Common.{◌≡◌, ◌<◌, ◌∙◌, Some, slice_get, sym, ap, subst, length, List, arith, FitsSigned, to_z-of_z, same_Some, err_is, w128, read_same, Rule, StepFails, StepIsTaken}
+use Rattle.ta_counter.proofs.Common.{◌≡◌, ◌<◌, ◌∙◌, Some, slice_get, sym, ap, subst, length, List, arith, FitsSigned, to_z-of_z, same_Some, err_is, w128}
+use Rattle.ta_counter.proofs.Common.{read_same, Rule, StepFails, StepIsTaken}
 use Rattle.ta_counter.proofs.Stepping.{taken_fires, no_steps}
 use Rattle.ta_counter.proofs.config.Config.accelerated_step.Goals as goal
 use Rattle.ta_counter.proofs.config.Config.accelerated_step.Goals.{After-index-as_slice-rule}
@@ -18,7 +19,8 @@ returns-in_err-after-clause-no_steps c =
     let factor : FitsSigned w128 c.args.factor = c.ranges.factor in
     let fails = simp to_z-of_z at c.in_err-after.ensures.fails in
     rw (err_is c.from_residual.result _ c.from_residual.ensures.1)
-    (no_steps a c.args.rule rule c.args.factor c.args.self.now _ named c.requires.factor c.requires.is_of (subst (λ vs. StepFails a rule c.args.factor vs c.in_err-after.field-0.0) c.as_slice-2.ensures.value fails))
+    (no_steps a c.args.rule rule c.args.factor c.args.self.now _ named c.requires.factor c.requires.is_of
+    (subst (λ vs. StepFails a rule c.args.factor vs c.in_err-after.field-0.0) c.as_slice-2.ensures.value fails))
 
 pub returns-clause-answer : goal.returns-clause-answer
 returns-clause-answer c =
@@ -28,7 +30,8 @@ returns-clause-answer c =
     let factor : FitsSigned w128 c.args.factor = c.ranges.factor in
     let told = simp to_z-of_z at c.in_ok-after.ensures.ok in
     let from = subst (λ vs. StepIsTaken a rule c.args.factor vs c.in_ok-after.after.items) c.as_slice-2.ensures.value told in
-    λ other at. subst (λ (q : Rule). StepIsTaken a q c.args.factor c.args.self.now.values.items c.in_ok-after.after.items) (same_Some rule other (sym named ∙ at)) from
+    λ other at. subst (λ (q : Rule). StepIsTaken a q c.args.factor c.args.self.now.values.items c.in_ok-after.after.items)
+    (same_Some rule other (sym named ∙ at)) from
 
 pub returns-clause-steps : goal.returns-clause-steps
 returns-clause-steps c =
@@ -38,4 +41,5 @@ returns-clause-steps c =
     let factor : FitsSigned w128 c.args.factor = c.ranges.factor in
     let told = simp to_z-of_z at c.in_ok-after.ensures.ok in
     let from = subst (λ vs. StepIsTaken a rule c.args.factor vs c.in_ok-after.after.items) c.as_slice-2.ensures.value told in
-    (taken_fires a c.args.rule rule c.args.factor c.args.self.now.values.items c.in_ok-after.after.items named c.requires.factor c.args.self.now.natural c.requires.is_of c.in_ok-after.ensures.natural from)
+    (taken_fires a c.args.rule rule c.args.factor c.args.self.now.values.items c.in_ok-after.after.items named c.requires.factor c.args.self.now.natural
+    c.requires.is_of c.in_ok-after.ensures.natural from)

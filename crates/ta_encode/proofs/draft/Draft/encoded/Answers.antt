@@ -15,7 +15,8 @@ pub invariant_of-result : goal.invariant_of-result
 invariant_of-result c =
     let n = c.len-unknowns.result in
     let written = c.requires.written in
-    let whole = c.in_ok-push_bounds.ensures.rows written.lines (subst (λ (k : ℕ). AreWritten written.lines k c.args.self.rows.items) (sym (c.len-unknowns.ensures ∙ c.args.self.meanings.ok.0)) written.are) in
+    let whole = c.in_ok-push_bounds.ensures.rows written.lines
+    (subst (λ (k : ℕ). AreWritten written.lines k c.args.self.rows.items) (sym (c.len-unknowns.ensures ∙ c.args.self.meanings.ok.0)) written.are) in
     record { within = subst (AllBelow n) (sym c.from_vec.ensures) whole.below }
 
 pub returns : goal.returns
@@ -25,6 +26,7 @@ returns c =
     record {
       meanings_are = c.from_vec-2.ensures;
       count = long;
-      rows_are = λ ls are. subst (AreRowsOf (ls ++ map bound_row c.args.bounds.now)) (sym c.from_vec.ensures) (c.in_ok-push_bounds.ensures.rows ls (subst (λ (k : ℕ). AreWritten ls k c.args.self.rows.items) (sym long) are)).rows_of;
+      rows_are = λ ls are. subst (AreRowsOf (ls ++ map bound_row c.args.bounds.now)) (sym c.from_vec.ensures)
+          (c.in_ok-push_bounds.ensures.rows ls (subst (λ (k : ℕ). AreWritten ls k c.args.self.rows.items) (sym long) are)).rows_of;
       behind = subst (IsBehind c.args.self.rows.items) (sym c.from_vec.ensures) c.in_ok-push_bounds.ensures.behind;
     }

@@ -13,6 +13,8 @@ returns c =
     record {
       automaton = refl;
       unknowns = refl;
-      rows = adds_one (length draft.meanings.items) draft.rows.items c.push.new.self.items (block_row c.args.constant from (length draft.meanings.items) sense) row
-          (subst (λ (n : ℕ). IsRowOf (block_row c.args.constant from n sense) row) long is) (subst (λ (n : ℕ). IsNormal 0 n row.form.terms) long c.in_ok-row.ensures.below) c.in_ok-push.ensures.items;
+      rows = adds_one (length draft.meanings.items) draft.rows.items c.push.new.self.items (block_row c.args.constant from (length draft.meanings.items) sense)
+          row
+          (subst (λ (n : ℕ). IsRowOf (block_row c.args.constant from n sense) row) long is)
+          (subst (λ (n : ℕ). IsNormal 0 n row.form.terms) long c.in_ok-row.ensures.below) c.in_ok-push.ensures.items;
     }

@@ -1,13 +1,17 @@
-use Rattle.ta_encode.proofs.Common.{true, false, ◌<◌, ◌^◌, ◌+◌, ◌≤◌, ◌∷◌, length, reverse, arith, sym, ap, ◌∙◌, subst, length-reverse, Element, counts_after, AddsUnknowns, Continues, length-append}
+use Rattle.ta_encode.proofs.Common.{true, false, ◌<◌, ◌^◌, ◌+◌, ◌≤◌, ◌∷◌, length, reverse, arith, sym, ap, ◌∙◌, subst, length-reverse, Element, counts_after}
+use Rattle.ta_encode.proofs.Common.{AddsUnknowns, Continues, length-append}
 use Rattle.ta_encode.proofs.Drafts.{fired_after, counts_few, draft_few, event_drafted, events_small, fall_drafted, fallen_more, rise_drafted}
 use Rattle.ta_encode.proofs.draft.Draft.push_element.Goals as goal
 use Rattle.ta_encode.proofs.draft.Draft.push_element.Goals.{In_ok-push_firings}
 
 -- the unknowns with the Counts of the element
-counts : (c : In_ok-push_firings) → AddsUnknowns (counts_after c.args.origin.now.task.automaton.now c.args.origin.now.task.pattern.now c.args.origin.now.start_mask (reverse c.args.before.now)) c.args.self.now c.push_firings.new.self
+counts : (c : In_ok-push_firings) → AddsUnknowns
+    (counts_after c.args.origin.now.task.automaton.now c.args.origin.now.task.pattern.now c.args.origin.now.start_mask (reverse c.args.before.now))
+    c.args.self.now c.push_firings.new.self
 counts c =
     let o = c.args.origin.now in
-    fired_after false o c.args.before.now c.allowed_after-allowed.result c.allowed_after-allowed.ensures c.requires.drafted.automaton_is c.in_ok-push_firings.ensures
+    fired_after false o c.args.before.now c.allowed_after-allowed.result c.allowed_after-allowed.ensures c.requires.drafted.automaton_is
+    c.in_ok-push_firings.ensures
 
 few : (c : In_ok-push_firings) → length c.push_firings.new.self.meanings.items ≤ 8000
 few c =
@@ -15,11 +19,20 @@ few c =
     let past = reverse c.args.before.now in
     let counted = counts c in
     let more = counts_after o.task.automaton.now o.task.pattern.now o.start_mask past in
-    omega (arith, c.requires.few, length-reverse c.args.before.now, draft_few o past c.args.self.now c.requires.drafted, ap length counted.unknowns, length-append c.args.self.now.meanings.items more, counts_few o.task.automaton.now o.task.pattern.now o.start_mask past)
+    omega (
+      arith,
+      c.requires.few,
+      length-reverse c.args.before.now,
+      draft_few o past c.args.self.now c.requires.drafted,
+      ap length counted.unknowns,
+      length-append c.args.self.now.meanings.items more,
+      counts_few o.task.automaton.now o.task.pattern.now o.start_mask past,
+    )
 
 pub push_firings-requires : goal.push_firings-requires
 push_firings-requires c =
-    let most : length c.args.self.now.meanings.items + 128 < 2 ^ 32 = omega (arith, c.requires.few, length-reverse c.args.before.now, draft_few c.args.origin.now (reverse c.args.before.now) c.args.self.now c.requires.drafted) in
+    let most : length c.args.self.now.meanings.items + 128 < 2 ^ 32 = omega
+    (arith, c.requires.few, length-reverse c.args.before.now, draft_few c.args.origin.now (reverse c.args.before.now) c.args.self.now c.requires.drafted) in
     record { room = most }
 
 pub push_firings-requires-in-Fall : goal.push_firings-requires-in-Fall
@@ -36,14 +49,16 @@ returns-in_ok-push_rise-in-Rise c =
     let o = c.args.origin.now in
     let past = reverse c.args.before.now in
     subst (λ (e : Element). Continues o (e ∷ past) c.args.self.now c.push_rise.new.self) (sym c.in-Rise.is)
-    (rise_drafted o past c.in-Rise.rise c.fallen_after-fallen.result c.requires.drafted (counts (goal.at.returns-in_ok-push_rise-in-Rise c).In_ok-push_firings) c.fallen_after-fallen.ensures c.in_ok-push_rise-in-Rise.ensures)
+    (rise_drafted o past c.in-Rise.rise c.fallen_after-fallen.result c.requires.drafted (counts (goal.at.returns-in_ok-push_rise-in-Rise c).In_ok-push_firings)
+    c.fallen_after-fallen.ensures c.in_ok-push_rise-in-Rise.ensures)
 
 pub returns-in_ok-push_event-in-Event : goal.returns-in_ok-push_event-in-Event
 returns-in_ok-push_event-in-Event c =
     let o = c.args.origin.now in
     let past = reverse c.args.before.now in
     subst (λ (e : Element). Continues o (e ∷ past) c.args.self.now c.push_event.new.self) (sym c.in-Event.is)
-    (event_drafted o past c.in-Event.event c.fallen_after-fallen.result c.requires.drafted (counts (goal.at.returns-in_ok-push_event-in-Event c).In_ok-push_firings) c.fallen_after-fallen.ensures c.in_ok-push_event-in-Event.ensures)
+    (event_drafted o past c.in-Event.event c.fallen_after-fallen.result c.requires.drafted
+    (counts (goal.at.returns-in_ok-push_event-in-Event c).In_ok-push_firings) c.fallen_after-fallen.ensures c.in_ok-push_event-in-Event.ensures)
 
 pub returns-in_ok-push_fallen-in-Fall : goal.returns-in_ok-push_fallen-in-Fall
 returns-in_ok-push_fallen-in-Fall c =
@@ -53,7 +68,9 @@ returns-in_ok-push_fallen-in-Fall c =
     let falls = c.in-Fall.falls in
     let counted = counts (goal.at.returns-in_ok-push_fallen-in-Fall c).In_ok-push_firings in
     let falling = c.in_ok-push_falling-in-Fall.ensures in
-    let singles = fired_after true o before c.allowed_after-allowed.result c.allowed_after-allowed.ensures (falling.automaton ∙ counted.automaton ∙ c.requires.drafted.automaton_is) c.in_ok-push_firings-in-Fall.ensures in
+    let singles = fired_after true o before c.allowed_after-allowed.result c.allowed_after-allowed.ensures
+    (falling.automaton ∙ counted.automaton ∙ c.requires.drafted.automaton_is) c.in_ok-push_firings-in-Fall.ensures in
     let stand = fallen_more o.start_mask past c.fallen_after-fallen.result falls c.from.result c.from.ensures c.fallen_after-fallen.ensures in
     subst (λ (e : Element). Continues o (e ∷ past) c.args.self.now c.push_fallen.new.self) (sym c.in-Fall.is)
-    (fall_drafted o past falls _ c.len-from.result c.requires.drafted counted singles stand (c.len-from.ensures ∙ c.push_firings.new.self.meanings.ok.0) falling c.in_ok-push_singles-in-Fall.ensures c.in_ok-push_fallen-in-Fall.ensures)
+    (fall_drafted o past falls _ c.len-from.result c.requires.drafted counted singles stand (c.len-from.ensures ∙ c.push_firings.new.self.meanings.ok.0) falling
+    c.in_ok-push_singles-in-Fall.ensures c.in_ok-push_fallen-in-Fall.ensures)

@@ -6,5 +6,6 @@ pub returns : goal.returns
 returns c =
     let draft = c.push_counters.new.self in
     let a = draft.automaton.now in
-    let fell = adds_alike {g = λ b ms. map negated (guard_rows b ms (has_bit c.args.falls) 0 b.fall)} (ap (λ m. map negated (guard_rows a draft.meanings.items (has_bit m) 0 a.fall)) c.from.ensures) c.in_ok-push_falls.ensures in
+    let fell = adds_alike {g = λ b ms. map negated (guard_rows b ms (has_bit c.args.falls) 0 b.fall)}
+    (ap (λ m. map negated (guard_rows a draft.meanings.items (has_bit m) 0 a.fall)) c.from.ensures) c.in_ok-push_falls.ensures in
     adds_both c.in_ok-push_counters.ensures (adds_both fell c.in_ok-push_standing.ensures)

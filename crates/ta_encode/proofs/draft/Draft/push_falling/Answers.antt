@@ -6,5 +6,6 @@ pub returns : goal.returns
 returns c =
     let draft = c.push_counters.new.self in
     let a = draft.automaton.now in
-    let falling = adds_alike {g = λ b ms. guard_rows b ms (has_bit c.args.falls) 0 b.fall} (as_they_are _ ∙ ap (λ m. guard_rows a draft.meanings.items (has_bit m) 0 a.fall) c.from.ensures) c.in_ok-push_falls.ensures in
+    let falling = adds_alike {g = λ b ms. guard_rows b ms (has_bit c.args.falls) 0 b.fall}
+    (as_they_are _ ∙ ap (λ m. guard_rows a draft.meanings.items (has_bit m) 0 a.fall) c.from.ensures) c.in_ok-push_falls.ensures in
     adds_both c.in_ok-push_counters.ensures falling

@@ -9,4 +9,5 @@ push_guards-requires-clause-small c = subst SmallRows (sym c.as_slice.ensures) (
 pub returns : goal.returns
 returns c =
     let draft = c.args.self.now in
-    adds_alike (ap (λ (rs : List Row). map (in_sense c.args.sense) (guard_rows draft.automaton.now draft.meanings.items (has_bit c.args.mask) 0 rs)) c.as_slice.ensures) c.in_ok-push_guards.ensures
+    adds_alike (ap (λ (rs : List Row). map (in_sense c.args.sense) (guard_rows draft.automaton.now draft.meanings.items (has_bit c.args.mask) 0 rs))
+    c.as_slice.ensures) c.in_ok-push_guards.ensures

@@ -1,4 +1,5 @@
-use Rattle.ta_encode.proofs.Common.{map, take, arith, ◌<◌, [], ◌∷◌, ◌++◌, ap, sym, ◌∙◌, subst, bit_off, bit_on, Row, has_bit, form_row, guard_rows, Adds, in_sense}
+use Rattle.ta_encode.proofs.Common.{map, take, arith, ◌<◌, [], ◌∷◌, ◌++◌, ap, sym, ◌∙◌, subst, bit_off, bit_on, Row, has_bit, form_row, guard_rows, Adds}
+use Rattle.ta_encode.proofs.Common.{in_sense}
 use Rattle.ta_encode.proofs.Adding.{adds_alike, adds_more, guard_taken, guard_left}
 use Rattle.ta_encode.proofs.draft.Draft.push_guards.Goals as goal
 use Rattle.ta_encode.proofs.draft.Draft.push_guards.Goals.{then-mask-number-ne0+in_ok-push_form, else-mask-number-ne0}
@@ -17,9 +18,12 @@ loop-number-preserved c =
       | then-mask-number-ne0+in_ok-push_form w ↦
           subst (Adds _ before) (sym w.self-is)
           (adds_more
-          (ap (λ (r : Row). map (in_sense c.args.sense) (guard_rows a ms test 0 (take i items)) ++ in_sense c.args.sense (form_row a ms r.form) ∷ []) c.index-guards-number.is
+          (ap (λ (r : Row). map (in_sense c.args.sense) (guard_rows a ms test 0 (take i items)) ++ in_sense c.args.sense (form_row a ms r.form) ∷ [])
+          c.index-guards-number.is
           ∙ guard_taken a ms test c.args.sense items i g c.loop-number-test.true (bit_on 32 c.args.mask i within w.if-mask-number-ne0.true))
           c.loop-number.invariant w.in_ok-push_form.ensures)
       | else-mask-number-ne0 w ↦
-          subst (Adds _ before) (sym w.self-is) (adds_alike (guard_left a ms test c.args.sense items i g c.loop-number-test.true (bit_off 32 c.args.mask i within w.if-mask-number-ne0.false)) c.loop-number.invariant)
+          subst (Adds _ before) (sym w.self-is)
+          (adds_alike (guard_left a ms test c.args.sense items i g c.loop-number-test.true (bit_off 32 c.args.mask i within w.if-mask-number-ne0.false))
+          c.loop-number.invariant)
     ]

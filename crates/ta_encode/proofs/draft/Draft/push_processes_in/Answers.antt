@@ -11,5 +11,6 @@ returns c =
     let a = c.args.self.now.automaton.now in
     let ms = c.args.self.now.meanings.items in
     adds_alike
-    (ap (λ ts. in_sense c.args.sense (line_row a ms ts true Plain (to_z w128 (of_z w128 a.processes.constant))) ∷ []) c.as_slice.ensures ∙ ap (λ z. in_sense c.args.sense (line_row a ms a.processes.terms true Plain z) ∷ []) (to_z_range a.processes.constant a.processes.constant_fits))
+    (ap (λ ts. in_sense c.args.sense (line_row a ms ts true Plain (to_z w128 (of_z w128 a.processes.constant))) ∷ []) c.as_slice.ensures
+    ∙ ap (λ z. in_sense c.args.sense (line_row a ms a.processes.terms true Plain z) ∷ []) (to_z_range a.processes.constant a.processes.constant_fits))
     c.in_ok-push_line.ensures

@@ -16,4 +16,5 @@ pub push_condition-requires-2 : goal.push_condition-requires-2
 push_condition-requires-2 c = record { small = start_small c.args.origin.now.task.automaton.now c.args.origin.now.task.pattern.now c.args.origin.now.task.over }
 
 pub returns : goal.returns
-returns c = start_drafted c.args.origin.now c.of-draft.ensures.automaton (c.of-draft.ensures.meanings ∙ c.in_ok-meanings.ensures) c.of-draft.ensures.rows c.in_ok-push_condition.ensures c.in_ok-push_processes.ensures c.in_ok-push_condition-2.ensures c.in_ok-push_start_guards.ensures
+returns c = start_drafted c.args.origin.now c.of-draft.ensures.automaton (c.of-draft.ensures.meanings ∙ c.in_ok-meanings.ensures) c.of-draft.ensures.rows
+    c.in_ok-push_condition.ensures c.in_ok-push_processes.ensures c.in_ok-push_condition-2.ensures c.in_ok-push_start_guards.ensures

@@ -9,5 +9,9 @@ returns-clause-system c =
     let past = reverse c.args.elements.now in
     let bounds = c.args.bounds.now in
     IfOk-weaker c.grown_to.result _ (λ grown. SystemOf a p start past bounds grown.encoding.system)
-    (λ grown is. record { unknowns = is.unknowns; rows = subst (λ (ls : List LinearRow). AreRowsOf (ls ++ map bound_row bounds) grown.encoding.system.rows) (append-nil (word_rows a p start past)) is.rows })
+    (λ grown is. record {
+      unknowns = is.unknowns;
+      rows = subst (λ (ls : List LinearRow). AreRowsOf (ls ++ map bound_row bounds) grown.encoding.system.rows)
+          (append-nil (word_rows a p start past)) is.rows;
+    })
     c.grown_to.ensures.system

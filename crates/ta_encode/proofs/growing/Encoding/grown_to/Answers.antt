@@ -25,4 +25,5 @@ pub returns-clause-same : goal.returns-clause-same
 returns-clause-same c =
     let part = c.in_ok-part.ensures in
     let told = c.in_ok-grown.ensures.same in
-    same_on_part c.args.self.system.rows c.in_ok-part.part.draft.rows.items c.in_ok-grown.grown.encoding.system.rows c.in_ok-part.part.same c.in_ok-grown.grown.same told.0 part.same part.rows_are told.1
+    same_on_part c.args.self.system.rows c.in_ok-part.part.draft.rows.items c.in_ok-grown.grown.encoding.system.rows c.in_ok-part.part.same
+    c.in_ok-grown.grown.same told.0 part.same part.rows_are told.1

@@ -7,5 +7,6 @@ invariant_of-result c =
     let wide : c.args.columns ≤ 2 ^ 32 = let b = c.ranges.columns.fits in omega arith in
     record {
       constant_fits = simp to_z-of_z c.requires.head.constant;
-      normal = subst (λ (ts : List (ℕ × ℤ)). IsNormal 0 (2 ^ 32) ts) (sym c.from_vec.ensures) (IsNormal-higher 0 c.args.columns (2 ^ 32) c.args.list.items wide c.requires.list);
+      normal = subst (λ (ts : List (ℕ × ℤ)). IsNormal 0 (2 ^ 32) ts) (sym c.from_vec.ensures)
+          (IsNormal-higher 0 c.args.columns (2 ^ 32) c.args.list.items wide c.requires.list);
     }

@@ -10,5 +10,6 @@ head_of-requires c =
 
 pub returns : goal.returns
 returns c =
-    let w = head_is c.self.inside c.args.self.now c.args.row c.head_of.result c.self.invariant c.self.view_is c.requires (c.head_of.ensures ∙ ap (λ (hs : List RowHead). get_or hs c.args.row no_head) c.deref.ensures.value) in
+    let w = head_is c.self.inside c.args.self.now c.args.row c.head_of.result c.self.invariant c.self.view_is c.requires
+    (c.head_of.ensures ∙ ap (λ (hs : List RowHead). get_or hs c.args.row no_head) c.deref.ensures.value) in
     sym (ap (λ (r : TableauRow). r.basic) w.row_is)

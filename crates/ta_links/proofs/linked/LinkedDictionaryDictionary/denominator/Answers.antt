@@ -7,18 +7,21 @@ head_of-requires c = head_below c.self.inside c.args.self.now c.args.row c.deref
 
 pub returns-clause-value : goal.returns-clause-value
 returns-clause-value c =
-    let w = head_is c.self.inside c.args.self.now c.args.row c.head_of.result c.self.invariant c.self.view_is c.requires (c.head_of.ensures ∙ ap (λ (hs : List RowHead). get_or hs c.args.row no_head) c.deref.ensures.value) in
+    let w = head_is c.self.inside c.args.self.now c.args.row c.head_of.result c.self.invariant c.self.view_is c.requires
+    (c.head_of.ensures ∙ ap (λ (hs : List RowHead). get_or hs c.args.row no_head) c.deref.ensures.value) in
     let f : SFits w128 c.head_of.result.denominator = search rules in
     simp to_z-of_z (sym (ap (λ (r : TableauRow). r.denominator) w.row_is))
 
 pub returns-clause-fits : goal.returns-clause-fits
 returns-clause-fits c =
-    let w = head_is c.self.inside c.args.self.now c.args.row c.head_of.result c.self.invariant c.self.view_is c.requires (c.head_of.ensures ∙ ap (λ (hs : List RowHead). get_or hs c.args.row no_head) c.deref.ensures.value) in
+    let w = head_is c.self.inside c.args.self.now c.args.row c.head_of.result c.self.invariant c.self.view_is c.requires
+    (c.head_of.ensures ∙ ap (λ (hs : List RowHead). get_or hs c.args.row no_head) c.deref.ensures.value) in
     let f : SFits w128 c.head_of.result.denominator = search rules in
     simp to_z-of_z w.proper.denominator
 
 pub returns-clause-positive : goal.returns-clause-positive
 returns-clause-positive c =
-    let w = head_is c.self.inside c.args.self.now c.args.row c.head_of.result c.self.invariant c.self.view_is c.requires (c.head_of.ensures ∙ ap (λ (hs : List RowHead). get_or hs c.args.row no_head) c.deref.ensures.value) in
+    let w = head_is c.self.inside c.args.self.now c.args.row c.head_of.result c.self.invariant c.self.view_is c.requires
+    (c.head_of.ensures ∙ ap (λ (hs : List RowHead). get_or hs c.args.row no_head) c.deref.ensures.value) in
     let f : SFits w128 c.head_of.result.denominator = search rules in
     simp to_z-of_z w.proper.positive

@@ -1,4 +1,5 @@
-use Rattle.ta_links.proofs.Common.{◌≡◌, ◌<◌, ◌∙◌, ap, sym, subst, rules, arith, length, ℕ, List, IfNone, IfSome, MatchOption, to_z-of_z, SFits, w128, Cell, Rows, cell_at, along_rows, EntersBelow, NoneEntersBelow, spot, Linked, value_in, Enters, NoneEnters}
+use Rattle.ta_links.proofs.Common.{◌≡◌, ◌<◌, ◌∙◌, ap, sym, subst, rules, arith, length, ℕ, List, IfNone, IfSome, MatchOption, to_z-of_z, SFits, w128, Cell}
+use Rattle.ta_links.proofs.Common.{Rows, cell_at, along_rows, EntersBelow, NoneEntersBelow, spot, Linked, value_in, Enters, NoneEnters}
 use Rattle.ta_links.proofs.LinkedFacts.{row_below, number_is}
 use Rattle.ta_links.proofs.Listed.{place_inside}
 use Rattle.ta_links.proofs.EnterSteps.{enters_far, enters_all}
@@ -17,13 +18,16 @@ inside c =
     omega arith
 
 -- every column was passed
-entered : (c : In_default) → IfSome c.chain.least (Enters c.args.self.now.tableau c.args.row) × IfNone c.chain.least (NoneEnters c.args.self.now.tableau c.args.row)
+entered : (c : In_default) → IfSome c.chain.least (Enters c.args.self.now.tableau c.args.row)
+    × IfNone c.chain.least (NoneEnters c.args.self.now.tableau c.args.row)
 entered c =
     let l = c.self.inside.links in
     let t = c.args.self.now.tableau in
-    let ek : spot along_rows c.args.self.now.cells c.chain.before ≡ spot along_rows l.cells.items c.chain.before = ap (λ (e : Linked). spot along_rows e.cells c.chain.before) (sym c.self.view_is) in
+    let ek : spot along_rows c.args.self.now.cells c.chain.before ≡ spot along_rows l.cells.items c.chain.before = ap
+    (λ (e : Linked). spot along_rows e.cells c.chain.before) (sym c.self.view_is) in
     let was = subst (λ (k : ℕ). MatchOption c.chain.least (NoneEntersBelow t c.args.row k) (EntersBelow t c.args.row k)) ek c.chain.invariant.least in
-    enters_all t c.args.row (spot along_rows l.cells.items c.chain.before) c.chain.least (λ j low b. sym (number_is c.self.inside c.args.self.now c.args.row j c.self.view_is c.requires b) ∙ c.in_default.ensures.none j low) was
+    enters_all t c.args.row (spot along_rows l.cells.items c.chain.before) c.chain.least
+    (λ j low b. sym (number_is c.self.inside c.args.self.now c.args.row j c.self.view_is c.requires b) ∙ c.in_default.ensures.none j low) was
 
 pub next_on-requires-clause-line : goal.next_on-requires-clause-line
 next_on-requires-clause-line c =
@@ -37,7 +41,8 @@ least_entering-least-requires-clause-value c =
     let n = c.in-Some.ensures.next in
     let at = (goal.at.least_entering-least-requires-clause-value c).After-cell_of-cell in
     let is = read at in
-    simp to_z-of_z (ap (λ (x : Cell). x.value) is ∙ sym n.value ∙ ap (λ (x : Cell). value_in l.cells.items c.args.row x.column) (sym is) ∙ number_is c.self.inside c.args.self.now c.args.row c.cell_of-cell.result.column c.self.view_is c.requires (inside at))
+    simp to_z-of_z (ap (λ (x : Cell). x.value) is ∙ sym n.value ∙ ap (λ (x : Cell). value_in l.cells.items c.args.row x.column) (sym is)
+    ∙ number_is c.self.inside c.args.self.now c.args.row c.cell_of-cell.result.column c.self.view_is c.requires (inside at))
 
 pub least_entering-least-requires-clause-least : goal.least_entering-least-requires-clause-least
 least_entering-least-requires-clause-least c =
@@ -47,10 +52,12 @@ least_entering-least-requires-clause-least c =
     let at = (goal.at.least_entering-least-requires-clause-least c).After-cell_of-cell in
     let col = ap (λ (x : Cell). x.column) (read at) in
     let b = inside at in
-    let ek : spot along_rows c.args.self.now.cells c.chain.before ≡ spot along_rows l.cells.items c.chain.before = ap (λ (e : Linked). spot along_rows e.cells c.chain.before) (sym c.self.view_is) in
+    let ek : spot along_rows c.args.self.now.cells c.chain.before ≡ spot along_rows l.cells.items c.chain.before = ap
+    (λ (e : Linked). spot along_rows e.cells c.chain.before) (sym c.self.view_is) in
     let was = subst (λ (k : ℕ). MatchOption c.chain.least (NoneEntersBelow t c.args.row k) (EntersBelow t c.args.row k)) ek c.chain.invariant.least in
     enters_far t c.args.row (spot along_rows l.cells.items c.chain.before) c.cell_of-cell.result.column c.chain.least (omega arith)
-    (λ j low high. let under : j < (cell_at l.cells.items c.in-Some.at).column = omega arith in sym (number_is c.self.inside c.args.self.now c.args.row j c.self.view_is c.requires (omega arith)) ∙ n.passed j low under) was
+    (λ j low high. let under : j < (cell_at l.cells.items c.in-Some.at).column = omega arith in sym
+    (number_is c.self.inside c.args.self.now c.args.row j c.self.view_is c.requires (omega arith)) ∙ n.passed j low under) was
 
 pub returns-clause-found : goal.returns-clause-found
 returns-clause-found c = (entered (goal.at.returns-clause-found c).In_default).0

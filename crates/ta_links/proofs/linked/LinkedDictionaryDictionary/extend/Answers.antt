@@ -1,4 +1,5 @@
-use Rattle.ta_links.proofs.Common.{◌≡◌, ◌≤◌, ◌+◌, ◌-◌, ◌++◌, ◌∙◌, ap, sym, subst, arith, length, map, get_or, List, ℕ, map-id, names_long, range_with_len, Row, Tableau, StayInRange, raised, extended, new_rows, FirstLeaving, RowHead, Linked, table_rows, no_head}
+use Rattle.ta_links.proofs.Common.{◌≡◌, ◌≤◌, ◌+◌, ◌-◌, ◌++◌, ◌∙◌, ap, sym, subst, arith, length, map, get_or, List, ℕ, map-id, names_long, range_with_len, Row}
+use Rattle.ta_links.proofs.Common.{Tableau, StayInRange, raised, extended, new_rows, FirstLeaving, RowHead, Linked, table_rows, no_head}
 use Rattle.ta_links.proofs.LinkedFacts.{length-table_rows}
 use Rattle.ta_links.proofs.ExtendedRows.{Lengthened}
 use Rattle.ta_links.proofs.ExtendedTable.{basic_is, lengthen, room_for, extend_is, extend_within, extend_refused, taken_proper}
@@ -8,7 +9,8 @@ use Rattle.ta_base.proofs.Lists.{taken_long}
 
 -- the rows are as many as the heads, and the columns as the free variables
 long : (c : After-deref) → c.rows-first.result ≡ length c.self.inside.rows.items
-long c = c.rows-first.ensures ∙ ap (λ (e : Linked). length e.tableau.rows) (sym c.self.view_is) ∙ length-table_rows c.self.inside.links.cells.items (length c.self.inside.non_basic.items) 0 c.self.inside.rows.items
+long c = c.rows-first.ensures ∙ ap (λ (e : Linked). length e.tableau.rows) (sym c.self.view_is)
+    ∙ length-table_rows c.self.inside.links.cells.items (length c.self.inside.non_basic.items) 0 c.self.inside.rows.items
 
 wide : (c : After-deref) → c.columns-old.result ≡ length c.self.inside.non_basic.items
 wide c = c.columns-old.ensures ∙ ap (λ (e : Linked). length e.tableau.non_basic) (sym c.self.view_is)
@@ -28,8 +30,13 @@ low : (c : In_ok-links) → c.rows-first.result ≤ length c.as_slice.result.now
 low c = let a = all c in let h = c.requires.longer.rows in let e = c.rows-first.ensures in omega arith
 
 -- the rows with the new ones behind them
-longer : (c : In_ok-links) → c.rows-first.result ≡ length c.self.inside.rows.items → Lengthened c.columns-old.result (c.args.longer.now.unknowns - c.columns-old.result) c.rows-first.result (length c.as_slice.result.now - c.rows-first.result) c.self.inside.rows.items c.self.inside.links c.args.longer.now.rows c.in_ok-rows.rows.items c.in_ok-links.links
-longer c is = lengthen c.columns-old.result c.args.longer.now.unknowns c.rows-first.result (length c.as_slice.result.now) c.self.inside.rows.items c.deref.result.now c.self.inside.links c.args.longer.now.rows c.in_ok-rows.rows.items c.in_ok-links.links c.deref.ensures.value is (few c) (low c) (all c) c.in_ok-rows.ensures c.in_ok-links.ensures.shows
+longer : (c : In_ok-links) → c.rows-first.result ≡ length c.self.inside.rows.items
+    → Lengthened c.columns-old.result (c.args.longer.now.unknowns - c.columns-old.result) c.rows-first.result
+    (length c.as_slice.result.now - c.rows-first.result) c.self.inside.rows.items c.self.inside.links c.args.longer.now.rows c.in_ok-rows.rows.items
+    c.in_ok-links.links
+longer c is = lengthen c.columns-old.result c.args.longer.now.unknowns c.rows-first.result (length c.as_slice.result.now) c.self.inside.rows.items
+    c.deref.result.now c.self.inside.links c.args.longer.now.rows c.in_ok-rows.rows.items c.in_ok-links.links c.deref.ensures.value is (few c) (low c) (all c)
+    c.in_ok-rows.ensures c.in_ok-links.ensures.shows
 
 pub begun_heads-requires-clause-rows : goal.begun_heads-requires-clause-rows
 begun_heads-requires-clause-rows c =
@@ -47,13 +54,15 @@ begun_heads-requires-clause-basic c i b =
 pub begun_cells-requires-clause-first : goal.begun_cells-requires-clause-first
 begun_cells-requires-clause-first c =
     let l = c.self.inside.links in
-    c.rows-first.ensures ∙ ap (λ (e : Linked). length e.tableau.rows) (sym c.self.view_is) ∙ length-table_rows l.cells.items (length c.self.inside.non_basic.items) 0 c.self.inside.rows.items ∙ sym c.self.invariant.rows_long
+    c.rows-first.ensures ∙ ap (λ (e : Linked). length e.tableau.rows) (sym c.self.view_is)
+    ∙ length-table_rows l.cells.items (length c.self.inside.non_basic.items) 0 c.self.inside.rows.items ∙ sym c.self.invariant.rows_long
 
 pub carry_rows-requires-clause-room : goal.carry_rows-requires-clause-room
 carry_rows-requires-clause-room c =
     let at = goal.at.carry_rows-requires-clause-room c in
     let w = longer at.In_ok-links (long at.After-deref) in
-    room_for c.args.longer.now.unknowns (length c.as_slice.result.now) (few at.In_ok-links) w c.self.invariant.proper c.in_ok-links.ensures.sound c.in_ok-links.ensures.rows c.in_ok-links.ensures.columns
+    room_for c.args.longer.now.unknowns (length c.as_slice.result.now) (few at.In_ok-links) w c.self.invariant.proper c.in_ok-links.ensures.sound
+    c.in_ok-links.ensures.rows c.in_ok-links.ensures.columns
 
 pub carry_rows-requires-clause-kept : goal.carry_rows-requires-clause-kept
 carry_rows-requires-clause-kept c j b =
@@ -72,7 +81,8 @@ returns-in-Some-clause-fault c =
     let below = rw c.in-Some.is at c.in_ok-refusal.ensures.below in
     let refused = rw c.in-Some.is at c.in_ok-refusal.ensures.refused in
     rw itself (subst (λ (t : Tableau). FirstLeaving t ks s c.in-Some.field-0.pivot c.in-Some.field-0.row) (ap (λ (e : Linked). e.tableau) c.self.view_is)
-    (extend_refused c.self.inside.non_basic.items s ks (length c.as_slice.result.now) c.in-Some.field-0.pivot c.in-Some.field-0.row (few at.In_ok-links) w below refused))
+    (extend_refused c.self.inside.non_basic.items s ks (length c.as_slice.result.now) c.in-Some.field-0.pivot c.in-Some.field-0.row (few at.In_ok-links) w below
+    refused))
 
 pub invariant_of-result : goal.invariant_of-result
 invariant_of-result c =
@@ -113,8 +123,10 @@ returns-clause-ok c =
     let names = c.in_ok-non_basic.ensures ∙ ap (λ (xs : List ℕ). map (raised u (m - u)) xs ++ range_with_len u (m - u)) c.deref-2.ensures.value in
     let itself = map-id ks in
     let nb = c.in_ok-non_basic.non_basic.items in
-    rw itself (subst (λ (t : Tableau). record { non_basic = nb; rows = table_rows c.drop_last.new.links.cells.items (length nb) 0 c.drop_last.new.heads.items } ≡ extended t ks s) (ap (λ (e : Linked). e.tableau) c.self.view_is)
-    (extend_is c.self.inside.non_basic.items nb c.drop_last.new.heads.items c.drop_last.new.links.cells.items s ks (length c.as_slice.result.now) cols (few at.In_ok-links) (low at.In_ok-links) w c.self.invariant.linked (c.self.invariant.columns_long ∙ sym cols) a
+    rw itself (subst (λ (t : Tableau). record { non_basic = nb; rows = table_rows c.drop_last.new.links.cells.items (length nb) 0 c.drop_last.new.heads.items }
+    ≡ extended t ks s) (ap (λ (e : Linked). e.tableau) c.self.view_is)
+    (extend_is c.self.inside.non_basic.items nb c.drop_last.new.heads.items c.drop_last.new.links.cells.items s ks (length c.as_slice.result.now) cols
+    (few at.In_ok-links) (low at.In_ok-links) w c.self.invariant.linked (c.self.invariant.columns_long ∙ sym cols) a
     c.drop_last.ensures.heads c.drop_last.ensures.cells names))
 
 pub returns-clause-in_range : goal.returns-clause-in_range

@@ -1,4 +1,5 @@
-use Rattle.ta_links.proofs.Common.{◌≡◌, ◌<◌, ◌+◌, ◌∙◌, ap, sym, arith, length, get_or, List, ℕ, ℤ, TableauRow, coefficients, RowHead, Linked, no_head, value_in, row_values}
+use Rattle.ta_links.proofs.Common.{◌≡◌, ◌<◌, ◌+◌, ◌∙◌, ap, sym, arith, length, get_or, List, ℕ, ℤ, TableauRow, coefficients, RowHead, Linked, no_head, value_in}
+use Rattle.ta_links.proofs.Common.{row_values}
 use Rattle.ta_links.proofs.LinkedFacts.{head_is, row_below, values_are}
 use Rattle.ta_links.proofs.linked.LinkedDictionaryDictionary.keep.Goals as goal
 
@@ -20,9 +21,14 @@ returns c =
     let n = length c.self.inside.non_basic.items in
     let h = c.head_of-head.result in
     let ts = c.in_ok-list.list.items in
-    let w = head_is c.self.inside c.args.self.now c.args.row c.head_of-head.result c.self.invariant c.self.view_is c.requires.row (c.head_of-head.ensures ∙ ap (λ (hs : List RowHead). get_or hs c.args.row no_head) c.deref.ensures.value) in
-    let width : c.columns.result ≡ length c.self.inside.non_basic.items = c.columns.ensures ∙ ap (λ (e : Linked). length e.tableau.non_basic) (sym c.self.view_is) in
+    let w = head_is c.self.inside c.args.self.now c.args.row c.head_of-head.result c.self.invariant c.self.view_is c.requires.row
+    (c.head_of-head.ensures ∙ ap (λ (hs : List RowHead). get_or hs c.args.row no_head) c.deref.ensures.value) in
+    let width : c.columns.result ≡ length c.self.inside.non_basic.items = c.columns.ensures
+    ∙ ap (λ (e : Linked). length e.tableau.non_basic) (sym c.self.view_is) in
     let same : 0 + c.args.row ≡ c.args.row = omega arith in
-    let values : coefficients c.columns.result ts ≡ row_values cells n (0 + c.args.row) = ap (λ (k : ℕ). coefficients k ts) width ∙ sym (values_are cells n (0 + c.args.row) ts (λ j. ap (λ (r : ℕ). value_in cells r j) same ∙ c.in_ok-list.ensures.numbers j)) in
-    c.of_row.ensures ∙ ap (λ (zs : List ℤ). record { row = c.args.row; column = c.args.column; denominator = h.denominator; constant = h.constant; cells = zs }) values
-    ∙ ap (λ (r : TableauRow). record { row = c.args.row; column = c.args.column; denominator = r.denominator; constant = r.constant; cells = r.cells }) (sym w.row_is)
+    let values : coefficients c.columns.result ts ≡ row_values cells n (0 + c.args.row) = ap (λ (k : ℕ). coefficients k ts) width
+    ∙ sym (values_are cells n (0 + c.args.row) ts (λ j. ap (λ (r : ℕ). value_in cells r j) same ∙ c.in_ok-list.ensures.numbers j)) in
+    c.of_row.ensures ∙ ap (λ (zs : List ℤ). record { row = c.args.row; column = c.args.column; denominator = h.denominator; constant = h.constant; cells = zs })
+    values
+    ∙ ap (λ (r : TableauRow). record { row = c.args.row; column = c.args.column; denominator = r.denominator; constant = r.constant; cells = r.cells })
+    (sym w.row_is)

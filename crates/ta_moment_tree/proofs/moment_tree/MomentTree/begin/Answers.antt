@@ -4,9 +4,9 @@ use Rattle.ta_words.specs.declared.task.Task.{Task}
 use Rattle.ta_moments.specs.Facts.{candidates}
 use Rattle.ta_moments.specs.Moments.{known}
 use Rattle.ta_moments.specs.Searched.{candidate_of}
-use Rattle.ta_moment_encode.specs.Cuts.{IsMark}
-use Rattle.ta_moment_encode.specs.Nodes.{IsNode}
-use Rattle.ta_moment_encode.specs.declared.mark.NodeMark.{NodeMark}
+use Rattle.ta_moment_tree.specs.Cuts.{IsMark}
+use Rattle.ta_moment_tree.specs.Nodes.{IsNode}
+use Rattle.ta_moment_tree.specs.declared.mark.NodeMark.{NodeMark}
 use Rattle.ta_moment_tree.specs.Makers.{moment_maker}
 use Rattle.ta_moment_tree.specs.Trees.{asking_of}
 use Rattle.ta_moment_tree.proofs.Coming.{comes_listed}
@@ -18,7 +18,8 @@ first-requires c =
     let t = c.args.self.now in
     let a = t.task.automaton.now in
     let p = t.task.pattern.now in
-    subst (λ (o : Option ℕ). In o (candidates p)) (sym c.candidate_of.ensures) (comes_listed a p (asking_of t) (moment_maker a p (asking_of t)) c.args.start c.requires.0 c.requires.1)
+    subst (λ (o : Option ℕ). In o (candidates p)) (sym c.candidate_of.ensures)
+    (comes_listed a p (asking_of t) (moment_maker a p (asking_of t)) c.args.start c.requires.0 c.requires.1)
 
 pub returns-clause-part : goal.returns-clause-part
 returns-clause-part c = λ facts.
@@ -29,10 +30,12 @@ returns-clause-part c = λ facts.
     let node = c.in_ok-node.node in
     let task = c.in_ok-node.ensures.task in
     let is = subst (λ (o : Option ℕ). IsNode silent o [] node) c.candidate_of.ensures (c.in_ok-node.ensures.node silent) in
-    let mark = subst (λ (k : Task). IsMark (known k.automaton.now k.pattern.now silent (candidate_of c.args.start) []) c.mark.result) task (c.mark.ensures.mark silent (candidate_of c.args.start) [] is) in
+    let mark = subst (λ (k : Task). IsMark (known k.automaton.now k.pattern.now silent (candidate_of c.args.start) []) c.mark.result) task
+    (c.mark.ensures.mark silent (candidate_of c.args.start) [] is) in
     record {
       within = omega arith;
       is = record { automaton = ap (λ (k : Task). k.automaton.now) task; pattern = ap (λ (k : Task). k.pattern.now) task; is = is };
-      marks = marks_first a p silent (candidate_of c.args.start) facts c.mark.result c.push.new.self.items (c.in_ok-push.ensures.items ∙ ap (λ (ms : List NodeMark). ms ++ c.mark.result ∷ []) c.new-marks.ensures.items) mark;
+      marks = marks_first a p silent (candidate_of c.args.start) facts c.mark.result c.push.new.self.items
+          (c.in_ok-push.ensures.items ∙ ap (λ (ms : List NodeMark). ms ++ c.mark.result ∷ []) c.new-marks.ensures.items) mark;
       same = same_nothing c.args.system.rows node.draft.rows.items;
     }

@@ -1,6 +1,6 @@
 use Rattle.std.proofs.Common.{◌+◌, [], reverse, take, arith, sym}
 use Rattle.std.proofs.lemmas.List.{append-nil}
-use Rattle.ta_moment_encode.proofs.Cutting.{front_on}
+use Rattle.ta_moment_tree.proofs.Cutting.{front_on}
 use Rattle.ta_moments.specs.Searched.{candidate_of}
 use Rattle.ta_moment_tree.specs.Makers.{moment_maker}
 use Rattle.ta_moment_tree.specs.Trees.{asking_of}
@@ -9,7 +9,8 @@ use Rattle.ta_moment_tree.proofs.Parts.{mark_of, marks_more, node_next, node_unk
 use Rattle.ta_moment_tree.proofs.moment_tree.MomentTree.grown.Goals as goal
 
 pub with_fact-requires-clause-node : goal.with_fact-requires-clause-node
-with_fact-requires-clause-node c = record { candidate = candidate_of c.args.start; past = reverse (take c.loop-number.number c.args.facts.now); is = c.loop-number.invariant.is.is }
+with_fact-requires-clause-node c = record
+    { candidate = candidate_of c.args.start; past = reverse (take c.loop-number.number c.args.facts.now); is = c.loop-number.invariant.is.is }
 
 pub with_fact-requires-clause-room : goal.with_fact-requires-clause-room
 with_fact-requires-clause-room c =
@@ -19,7 +20,8 @@ with_fact-requires-clause-room c =
     let asking = asking_of t in
     let maker = moment_maker a p asking in
     let past = reverse (take c.loop-number.number c.args.facts.now) in
-    let few = comes_few a p asking maker t.task.over c.args.start past (comes_first a p asking maker c.args.start c.args.facts.now c.loop-number.number c.requires.comes) in
+    let few = comes_few a p asking maker t.task.over c.args.start past
+    (comes_first a p asking maker c.args.start c.args.facts.now c.loop-number.number c.requires.comes) in
     let is = node_unknowns a p t.silent.now (candidate_of c.args.start) past c.loop-number.node c.loop-number.invariant.is in
     omega (arith, few, is)
 
@@ -36,14 +38,16 @@ loop-number-preserved c =
     let inv = c.loop-number.invariant in
     let old = c.loop-number.node in
     let new = c.in_ok-node.node in
-    let next = node_next a p silent o facts number _ old new below inv.is c.in_ok-node.ensures.task (c.in_ok-node.ensures.node o (reverse (take number facts)) inv.is.is) in
+    let next = node_next a p silent o facts number _ old new below inv.is c.in_ok-node.ensures.task
+    (c.in_ok-node.ensures.node o (reverse (take number facts)) inv.is.is) in
     let past = reverse (take (number + 1) facts) in
     let mark = mark_of a p silent o past new c.mark.result next (c.mark.ensures.mark silent o past next.is) in
     record {
       within = omega arith;
       is = next;
       marks = marks_more a p silent o facts number c.mark.result c.loop-number.marks.items c.push.new.self.items inv.marks c.in_ok-push.ensures.items mark;
-      rows = (let more = c.in_ok-node.ensures.rows in front_on c.args.part.node.draft.rows.items old.draft.rows.items new.draft.rows.items more.more inv.rows more.is);
+      rows = (let more = c.in_ok-node.ensures.rows in front_on c.args.part.node.draft.rows.items old.draft.rows.items new.draft.rows.items more.more inv.rows
+          more.is);
     }
 
 pub loop-number-init : goal.loop-number-init

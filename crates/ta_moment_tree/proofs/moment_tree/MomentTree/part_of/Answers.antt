@@ -2,8 +2,8 @@ use Rattle.std.proofs.Common.{◌≡◌, ℕ, ◌<◌, List, Option, Some, lengt
 use Rattle.std.proofs.lemmas.Option.{slice_get_read}
 use Rattle.ta_moments.specs.declared.fact.Fact.{Fact}
 use Rattle.ta_moments.specs.Searched.{candidate_of}
-use Rattle.ta_moment_encode.specs.declared.encoding.MomentEncoding.{MomentEncoding}
-use Rattle.ta_moment_encode.specs.declared.mark.NodeMark.{NodeMark}
+use Rattle.ta_moment_tree.specs.declared.encoding.MomentEncoding.{MomentEncoding}
+use Rattle.ta_moment_tree.specs.declared.mark.NodeMark.{NodeMark}
 use Rattle.ta_moment_tree.specs.Kept.{AreMarks, KeepsIfSome, NodeIs}
 use Rattle.ta_moment_tree.proofs.Parts.{mark_within, marks_cut, node_cut, same_cut}
 use Rattle.ta_moment_tree.proofs.moment_tree.MomentTree.part_of.Goals as goal
@@ -26,11 +26,15 @@ returns-in-Some-clause-part c =
     let same = subst (λ (xs : List Fact). take shared xs ≡ take shared facts) c.as_slice.ensures.value c.shared_length-shared.ensures.same in
     let inside : shared < length old.marks.items = omega (arith, c.len.ensures, old.marks.ok.0, c.if-shared-len.true) in
     let mark = c.index-mark.result.now in
-    let at : slice_get old.marks.items shared ≡ Some mark = slice_get_read old.marks.items (length old.marks.items) shared mark refl inside c.index-mark.ensures in
+    let at : slice_get old.marks.items shared ≡ Some mark = slice_get_read old.marks.items (length old.marks.items) shared mark refl inside c.index-mark.ensures
+    in
     let here = marks.each shared mark at in
     record {
       within = c.shared_length-shared.ensures.right;
-      is = node_cut a p silent o written facts shared mark node c.cut.result is c.cut.ensures.task (λ newer past. c.cut.ensures.node silent o newer past) here same;
-      marks = subst (λ (ms : List NodeMark). AreMarks a p silent o facts shared ms) (sym c.truncate.ensures.items) (marks_cut a p silent o written facts (length written) shared old.marks.items marks inside same);
-      same = same_cut old.system.rows node.draft.rows.items c.cut.result.draft.rows.items mark.rows kept.rows (mark_within a p silent o written shared mark node is here) c.cut.ensures.rows;
+      is = node_cut a p silent o written facts shared mark node c.cut.result is c.cut.ensures.task (λ newer past. c.cut.ensures.node silent o newer past) here
+          same;
+      marks = subst (λ (ms : List NodeMark). AreMarks a p silent o facts shared ms) (sym c.truncate.ensures.items)
+          (marks_cut a p silent o written facts (length written) shared old.marks.items marks inside same);
+      same = same_cut old.system.rows node.draft.rows.items c.cut.result.draft.rows.items mark.rows kept.rows
+          (mark_within a p silent o written shared mark node is here) c.cut.ensures.rows;
     }

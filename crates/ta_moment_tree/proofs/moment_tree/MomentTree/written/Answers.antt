@@ -12,11 +12,14 @@ use Rattle.ta_moment_tree.proofs.moment_tree.MomentTree.written.Goals as goal
 use Rattle.ta_moment_tree.proofs.moment_tree.MomentTree.written.Goals.{In_ok-node}
 
 -- the node with all facts, and what stays of the rows before
-whole : (c : In_ok-node) → IsPart c.args.self.now.task.automaton.now c.args.self.now.task.pattern.now c.args.self.now.silent.now c.args.start c.args.facts.now c.in_ok-node.field-0
+whole : (c : In_ok-node) → IsPart c.args.self.now.task.automaton.now c.args.self.now.task.pattern.now c.args.self.now.silent.now c.args.start c.args.facts.now
+    c.in_ok-node.field-0
 whole c = c.in_ok-node.ensures.part
 
-node_is : (c : In_ok-node) → NodeIs c.args.self.now.task.automaton.now c.args.self.now.task.pattern.now c.args.self.now.silent.now (candidate_of c.args.start) (reverse c.args.facts.now) c.in_ok-node.field-0.node
-node_is c = node_whole c.args.self.now.task.automaton.now c.args.self.now.task.pattern.now c.args.self.now.silent.now (candidate_of c.args.start) c.args.facts.now c.in_ok-node.field-0.from c.in_ok-node.field-0.node c.in_ok-node.ensures.from (whole c).is
+node_is : (c : In_ok-node) → NodeIs c.args.self.now.task.automaton.now c.args.self.now.task.pattern.now c.args.self.now.silent.now (candidate_of c.args.start)
+    (reverse c.args.facts.now) c.in_ok-node.field-0.node
+node_is c = node_whole c.args.self.now.task.automaton.now c.args.self.now.task.pattern.now c.args.self.now.silent.now (candidate_of c.args.start)
+    c.args.facts.now c.in_ok-node.field-0.from c.in_ok-node.field-0.node c.in_ok-node.ensures.from (whole c).is
 
 pub system_from-requires-clause-room : goal.system_from-requires-clause-room
 system_from-requires-clause-room c =
@@ -39,7 +42,8 @@ returns-clause-kept c =
     let items = sym c.in_ok-from_slice.ensures.items in
     record {
       is = subst (λ (xs : List Fact). NodeIs a p t.silent.now o (reverse xs) c.in_ok-node.field-0.node) items (node_is w);
-      marks = subst (λ (xs : List Fact). AreMarks a p t.silent.now o xs (length xs) c.in_ok-node.field-0.marks.items) items (subst (λ (n : ℕ). AreMarks a p t.silent.now o c.args.facts.now n c.in_ok-node.field-0.marks.items) c.in_ok-node.ensures.from (whole w).marks);
+      marks = subst (λ (xs : List Fact). AreMarks a p t.silent.now o xs (length xs) c.in_ok-node.field-0.marks.items) items
+          (subst (λ (n : ℕ). AreMarks a p t.silent.now o c.args.facts.now n c.in_ok-node.field-0.marks.items) c.in_ok-node.ensures.from (whole w).marks);
       rows = c.in_ok-system.ensures.rows;
     }
 
@@ -55,7 +59,8 @@ returns-clause-system c =
     let asking = asking_of t in
     let o = candidate_of c.args.start in
     let is = node_is w in
-    system_at a p asking (moment_maker a p asking) c.args.start (reverse c.args.facts.now) c.args.bounds.now c.in_ok-node.field-0.node c.in_ok-system.system is (c.in_ok-system.ensures.search asking (moment_maker a p asking) o (reverse c.args.facts.now) is.is)
+    system_at a p asking (moment_maker a p asking) c.args.start (reverse c.args.facts.now) c.args.bounds.now c.in_ok-node.field-0.node c.in_ok-system.system is
+    (c.in_ok-system.ensures.search asking (moment_maker a p asking) o (reverse c.args.facts.now) is.is)
 
 pub system_from-requires-clause-first : goal.system_from-requires-clause-first
 system_from-requires-clause-first c = (whole ((goal.at.system_from-requires-clause-first c).In_ok-node)).same

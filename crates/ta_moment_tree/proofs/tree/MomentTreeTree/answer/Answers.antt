@@ -1,6 +1,6 @@
 use Rattle.std.proofs.Common.{List, cond, Option, Some, None, slice_get, reverse, ap, sym, ◌∙◌}
 use Rattle.ta_encode.specs.Search.{all_or_none}
-use Rattle.ta_cursor.specs.Asking.{ask_node}
+use Rattle.ta_encode.specs.Asking.{ask_node}
 use Rattle.ta_moments.specs.declared.fact.Fact.{Fact}
 use Rattle.ta_moments.specs.Moments.{known}
 use Rattle.ta_moments.specs.Refutes.{answers}
@@ -20,8 +20,11 @@ returns-in-Some c =
     let q = c.in-Some.question in
     let o = candidate_of c.args.start in
     let es = answers a (known a p t.silent.now o past) q in
-    let asked = asked_if a p (asking_of t) (moment_maker a p (asking_of t)) c.args.start past c.args.ask q c.may_be_asked.result (sym c.question_in.ensures ∙ c.in-Some.is) (c.may_be_asked.ensures o) in
-    answer_is (search_of_moments t) c.args.start past (ask_node c.args.ask) c.args.number es c.answer_at.result (asked ∙ ap (λ b. cond b (Some es) None) c.if-may_be_asked.true) (c.answer_at.ensures o) (few_answers a (known a p t.silent.now o past) q) (fewer_next a p t.silent.now o past)
+    let asked = asked_if a p (asking_of t) (moment_maker a p (asking_of t)) c.args.start past c.args.ask q c.may_be_asked.result
+    (sym c.question_in.ensures ∙ c.in-Some.is) (c.may_be_asked.ensures o) in
+    answer_is (search_of_moments t) c.args.start past (ask_node c.args.ask) c.args.number es c.answer_at.result
+    (asked ∙ ap (λ b. cond b (Some es) None) c.if-may_be_asked.true) (c.answer_at.ensures o) (few_answers a (known a p t.silent.now o past) q)
+    (fewer_next a p t.silent.now o past)
 
 pub returns-in_default : goal.returns-in_default
 returns-in_default c =
@@ -32,5 +35,6 @@ returns-in_default c =
     let q = c.in-Some.question in
     let o = candidate_of c.args.start in
     let es = answers a (known a p t.silent.now o past) q in
-    let asked = asked_if a p (asking_of t) (moment_maker a p (asking_of t)) c.args.start past c.args.ask q c.may_be_asked.result (sym c.question_in.ensures ∙ c.in-Some.is) (c.may_be_asked.ensures o) in
+    let asked = asked_if a p (asking_of t) (moment_maker a p (asking_of t)) c.args.start past c.args.ask q c.may_be_asked.result
+    (sym c.question_in.ensures ∙ c.in-Some.is) (c.may_be_asked.ensures o) in
     ap (λ (fs : Option (List Fact)). slice_get (all_or_none fs) c.args.number) (asked ∙ ap (λ b. cond b (Some es) None) c.if-may_be_asked.false)

@@ -1,6 +1,6 @@
 use Rattle.std.proofs.lemmas.Result.{IfOk-weaker}
-use Rattle.ta_cursor.specs.Cursors.{node_at}
-use Rattle.ta_cursor.specs.TreeCalls.{IsSmall}
+use Rattle.ta_encode.specs.Cursors.{node_at}
+use Rattle.ta_encode.specs.TreeCalls.{IsSmall}
 use Rattle.ta_moment_tree.specs.Makers.{moment_maker}
 use Rattle.ta_moment_tree.specs.Trees.{asking_of}
 use Rattle.ta_moment_tree.proofs.Coming.{comes_small}
@@ -12,5 +12,6 @@ returns-clause-small c =
     let a = t.task.automaton.now in
     let p = t.task.pattern.now in
     IfOk-weaker c.written.result _ (λ written. IsSmall c.args.bounds.now written.kept.system)
-    (λ written is. comes_small a p (asking_of t) (moment_maker a p (asking_of t)) t.task.over (node_at c.args.start c.args.facts.now c.args.bounds.now) written.kept.system c.requires.comes is)
+    (λ written is. comes_small a p (asking_of t) (moment_maker a p (asking_of t)) t.task.over (node_at c.args.start c.args.facts.now c.args.bounds.now)
+    written.kept.system c.requires.comes is)
     c.written.ensures.system

@@ -1,5 +1,5 @@
 use Rattle.std.proofs.Common.{reverse, sym, ◌∙◌}
-use Rattle.ta_cursor.specs.Asking.{ask_node}
+use Rattle.ta_encode.specs.Asking.{ask_node}
 use Rattle.ta_moments.specs.Moments.{known}
 use Rattle.ta_moments.specs.Refutes.{answers}
 use Rattle.ta_moments.specs.Searched.{candidate_of}
@@ -15,5 +15,7 @@ returns-in-Some c =
     let p = t.task.pattern.now in
     let past = reverse c.args.facts.now in
     let q = c.in-Some.question in
-    tells (search_of_moments t) c.args.start past (ask_node c.args.ask) c.may_be_asked.result (answers a (known a p t.silent.now (candidate_of c.args.start) past) q)
-    (asked_if a p (asking_of t) (moment_maker a p (asking_of t)) c.args.start past c.args.ask q c.may_be_asked.result (sym c.question_in.ensures ∙ c.in-Some.is) (c.may_be_asked.ensures (candidate_of c.args.start)))
+    tells (search_of_moments t) c.args.start past (ask_node c.args.ask) c.may_be_asked.result
+    (answers a (known a p t.silent.now (candidate_of c.args.start) past) q)
+    (asked_if a p (asking_of t) (moment_maker a p (asking_of t)) c.args.start past c.args.ask q c.may_be_asked.result (sym c.question_in.ensures ∙ c.in-Some.is)
+    (c.may_be_asked.ensures (candidate_of c.args.start)))

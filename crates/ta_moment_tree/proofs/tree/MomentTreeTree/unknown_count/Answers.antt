@@ -12,4 +12,9 @@ unknown_count-requires c silent candidate =
     let a = t.task.automaton.now in
     let p = t.task.pattern.now in
     let past = reverse c.args.facts.now in
-    omega (arith, comes_few a p (asking_of t) (moment_maker a p (asking_of t)) t.task.over c.args.start past c.requires, unknowns_same a p silent t.silent.now candidate (candidate_of c.args.start) past)
+    omega (
+      arith,
+      comes_few a p (asking_of t) (moment_maker a p (asking_of t)) t.task.over c.args.start past c.requires,
+      unknowns_same a p silent t.silent.now
+          candidate (candidate_of c.args.start) past,
+    )

@@ -1,4 +1,4 @@
-use Rattle.ta_shell.proofs.Read.{grew_none}
+use Rattle.ta_shelf.proofs.Read.{grew_none}
 use Rattle.ta_program.proofs.version.VersionCommand.judge.Goals as goal
 
 pub returns-clause-says : goal.returns-clause-says

@@ -8,4 +8,5 @@ returns-clause-closed c =
     (c.in_ok-push.ensures.items ∙ ap (λ t. c.args.self.now.whole.items ++ t ∷ []) (c.from_string.ensures ∙ ap string_bytes c.replace-piece.ensures.value))
 
 pub returns-clause-text : goal.returns-clause-text
-returns-clause-text c = concat_begun c.push.new.self.items _ (string_bytes c.replace-piece.new.dest) (returns-clause-closed c) (ap string_bytes c.replace-piece.ensures.after ∙ c.new.ensures.bytes)
+returns-clause-text c = concat_begun c.push.new.self.items _ (string_bytes c.replace-piece.new.dest) (returns-clause-closed c)
+    (ap string_bytes c.replace-piece.ensures.after ∙ c.new.ensures.bytes)

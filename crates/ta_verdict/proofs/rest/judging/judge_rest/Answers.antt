@@ -10,13 +10,15 @@ pub returns-clause-certificate : goal.returns-clause-certificate
 returns-clause-certificate g c = λ wanted.
     let made = c.in_ok-verdicts.ensures.certificate nowhere c.new-draft.ensures.text in
     let same = c.in_ok-certificate.ensures.text (c.in_ok-verdicts.ensures.wanted ∙ c.new-draft.ensures.wanted ∙ wanted) made.text made.has in
-    subst (λ (text : List ℕ). RestCertificateOf c.args.rest.now.ending.file c.args.pick (resting c.args.budget c.args.silent.now) c.in_ok-verdicts.verdicts text) (sym same) made.certificate
+    subst (λ (text : List ℕ). RestCertificateOf c.args.rest.now.ending.file c.args.pick (resting c.args.budget c.args.silent.now) c.in_ok-verdicts.verdicts
+    text) (sym same) made.certificate
 
 pub returns-clause-accepted : goal.returns-clause-accepted
 returns-clause-accepted g c = λ wanted.
     let made = c.in_ok-verdicts.ensures.certificate nowhere c.new-draft.ensures.text in
     let same = c.in_ok-certificate.ensures.text (c.in_ok-verdicts.ensures.wanted ∙ c.new-draft.ensures.wanted ∙ wanted) made.text made.has in
-    subst (λ (text : List ℕ). QuietRestCertificate c.args.rest.now.ending.file c.args.silent.now text (safe_among c.args.rest.now.ending.file c.args.pick c.in_ok-verdicts.verdicts)) (sym same) made.accepted
+    subst (λ (text : List ℕ). QuietRestCertificate c.args.rest.now.ending.file c.args.silent.now text
+    (safe_among c.args.rest.now.ending.file c.args.pick c.in_ok-verdicts.verdicts)) (sym same) made.accepted
 
 pub returns-clause-unwanted : goal.returns-clause-unwanted
 returns-clause-unwanted g c = λ none. c.in_ok-certificate.ensures.unwanted (c.in_ok-verdicts.ensures.wanted ∙ c.new-draft.ensures.wanted ∙ none)

@@ -1,4 +1,5 @@
-use Rattle.ta_verdict.proofs.rest.Common.{◌≡◌, ◌<◌, ◌≤◌, ◌∙◌, ◌++◌, [], ◌∷◌, List, ap, arith, as_many, length, slice_get, subst, sym, One, OwnVerdict, OwnVerdicts}
+use Rattle.ta_verdict.proofs.rest.Common.{◌≡◌, ◌<◌, ◌≤◌, ◌∙◌, ◌++◌, [], ◌∷◌, List, ap, arith, as_many, length, slice_get, subst, sym, One, OwnVerdict}
+use Rattle.ta_verdict.proofs.rest.Common.{OwnVerdicts}
 use Rattle.ta_verdict.proofs.rest.Common.{Verdict, listed, rest_tree, resting, safe_ones}
 use Rattle.ta_verdict.proofs.Alone.{alone_holds, alone_text, alone_trees, none_holds}
 use Rattle.ta_verdict.proofs.rest.VerdictsMade.{own_verdicts}
@@ -58,7 +59,8 @@ returns-clause-trees g c = λ begun head begins.
     let tree = rest_tree file (resting c.args.budget c.args.silent.now) in
     let items : c.push.new.self.items ≡ v ∷ [] = c.in_ok-push.ensures.items ∙ ap (λ (vs : List Verdict). vs ++ v ∷ []) c.new-verdicts.ensures.items in
     let within : number < length file.patterns = omega (arith, c.if-as_slice-number.false, ap length c.as_slice.ensures) in
-    subst (λ (vs : List Verdict). HasTrees tree head (safe_ones number (listed (slice_get file.patterns number)) vs) (g.T.Target.has begun c.next_verdict.new.target c.next_verdict.new.place)) (sym items)
+    subst (λ (vs : List Verdict). HasTrees tree head (safe_ones number (listed (slice_get file.patterns number)) vs)
+    (g.T.Target.has begun c.next_verdict.new.target c.next_verdict.new.place)) (sym items)
     (alone_trees tree file number v (g.T.Target.has begun c.args.target.now c.args.place.now)
     (g.T.Target.has begun c.next_verdict.new.target c.next_verdict.new.place) within (c.in_ok-verdict.ensures.adds begun) head begins)
 
@@ -70,6 +72,7 @@ returns-in_err-push-clause-stops g c = λ begun text has.
     let file = c.args.rest.now.ending.file in
     let number = c.args.number in
     let within : number < length file.patterns = omega (arith, c.if-as_slice-number.false, ap length c.as_slice.ensures) in
-    let made = alone_text (rest_tree file (resting c.args.budget c.args.silent.now)) file number c.in_ok-verdict.verdict (g.T.Target.has begun c.args.target.now c.args.place.now)
+    let made = alone_text (rest_tree file (resting c.args.budget c.args.silent.now)) file number c.in_ok-verdict.verdict
+    (g.T.Target.has begun c.args.target.now c.args.place.now)
     (g.T.Target.has begun c.next_verdict.new.target c.next_verdict.new.place) within (c.in_ok-verdict.ensures.adds begun) text has in
     err_any _ _ (g.met.T.Target.may_stop begun c.next_verdict.new.target c.next_verdict.new.place made.0 made.1)

@@ -5,7 +5,9 @@ use Rattle.ta_verdict.proofs.rest.judging.verdicts_on.Goals as goal
 
 pub loop-pattern-init : goal.loop-pattern-init
 loop-pattern-init g c =
-    judged_none (OwnVerdict c.args.rest.now (resting c.args.budget c.args.silent.now)) (rest_tree c.args.rest.now.ending.file (resting c.args.budget c.args.silent.now)) c.args.rest.now.ending.file _ (λ (begun : Begun). g.T.Target.has begun c.args.target.now c.args.place.now)
+    judged_none (OwnVerdict c.args.rest.now (resting c.args.budget c.args.silent.now))
+    (rest_tree c.args.rest.now.ending.file (resting c.args.budget c.args.silent.now)) c.args.rest.now.ending.file _
+    (λ (begun : Begun). g.T.Target.has begun c.args.target.now c.args.place.now)
     (g.T.Target.wants c.args.target.now) (ap length c.as_slice.ensures) c.new-verdicts.result.items c.new-verdicts.ensures.items
 
 pub loop-pattern-preserved : goal.loop-pattern-preserved
@@ -13,7 +15,8 @@ loop-pattern-preserved g c =
     let l = c.loop-pattern in
     let made = c.in_ok-next_verdict.ensures in
     rw c.in_ok-push.ensures.items
-    (judged_more (OwnVerdict c.args.rest.now (resting c.args.budget c.args.silent.now)) (rest_tree c.args.rest.now.ending.file (resting c.args.budget c.args.silent.now)) c.args.rest.now.ending.file
+    (judged_more (OwnVerdict c.args.rest.now (resting c.args.budget c.args.silent.now))
+    (rest_tree c.args.rest.now.ending.file (resting c.args.budget c.args.silent.now)) c.args.rest.now.ending.file
     (length c.as_slice.result.now) l.pattern l.verdicts.items (λ (begun : Begun). g.T.Target.has begun c.args.target.now c.args.place.now)
     (λ (begun : Begun). g.T.Target.has begun l.target l.place) (λ (begun : Begun). g.T.Target.has begun c.next_verdict.new.target c.next_verdict.new.place)
     (g.T.Target.wants c.args.target.now) (g.T.Target.wants l.target) (g.T.Target.wants c.next_verdict.new.target) c.in_ok-next_verdict.field-0 l.invariant
@@ -22,7 +25,8 @@ loop-pattern-preserved g c =
 pub returns-in_err-next_verdict-clause-stops : goal.returns-in_err-next_verdict-clause-stops
 returns-in_err-next_verdict-clause-stops g c = λ begun text has.
     let l = c.loop-pattern in
-    let so = had_more (OwnVerdict c.args.rest.now (resting c.args.budget c.args.silent.now)) (rest_tree c.args.rest.now.ending.file (resting c.args.budget c.args.silent.now)) c.args.rest.now.ending.file
+    let so = had_more (OwnVerdict c.args.rest.now (resting c.args.budget c.args.silent.now))
+    (rest_tree c.args.rest.now.ending.file (resting c.args.budget c.args.silent.now)) c.args.rest.now.ending.file
     (length c.as_slice.result.now) l.pattern l.verdicts.items (λ (b : Begun). g.T.Target.has b c.args.target.now c.args.place.now)
     (λ (b : Begun). g.T.Target.has b l.target l.place) (g.T.Target.wants c.args.target.now) (g.T.Target.wants l.target) l.invariant begun text has in
     err_any c.from_residual.result _ (c.in_err-next_verdict.ensures.stops begun so.0 so.1)
@@ -31,20 +35,24 @@ pub returns-in_err-push-clause-stops : goal.returns-in_err-push-clause-stops
 returns-in_err-push-clause-stops g c = λ begun text has.
     let l = c.loop-pattern in
     let made = c.in_ok-next_verdict.ensures in
-    let next = judged_more (OwnVerdict c.args.rest.now (resting c.args.budget c.args.silent.now)) (rest_tree c.args.rest.now.ending.file (resting c.args.budget c.args.silent.now)) c.args.rest.now.ending.file
+    let next = judged_more (OwnVerdict c.args.rest.now (resting c.args.budget c.args.silent.now))
+    (rest_tree c.args.rest.now.ending.file (resting c.args.budget c.args.silent.now)) c.args.rest.now.ending.file
     (length c.as_slice.result.now) l.pattern l.verdicts.items (λ (b : Begun). g.T.Target.has b c.args.target.now c.args.place.now)
     (λ (b : Begun). g.T.Target.has b l.target l.place) (λ (b : Begun). g.T.Target.has b c.next_verdict.new.target c.next_verdict.new.place)
     (g.T.Target.wants c.args.target.now) (g.T.Target.wants l.target) (g.T.Target.wants c.next_verdict.new.target) c.in_ok-next_verdict.field-0 l.invariant
     c.loop-pattern-test.true made.holds made.fits made.adds made.wanted in
-    let so = had_more (OwnVerdict c.args.rest.now (resting c.args.budget c.args.silent.now)) (rest_tree c.args.rest.now.ending.file (resting c.args.budget c.args.silent.now)) c.args.rest.now.ending.file
+    let so = had_more (OwnVerdict c.args.rest.now (resting c.args.budget c.args.silent.now))
+    (rest_tree c.args.rest.now.ending.file (resting c.args.budget c.args.silent.now)) c.args.rest.now.ending.file
     (length c.as_slice.result.now) _ _ (λ (b : Begun). g.T.Target.has b c.args.target.now c.args.place.now)
-    (λ (b : Begun). g.T.Target.has b c.next_verdict.new.target c.next_verdict.new.place) (g.T.Target.wants c.args.target.now) (g.T.Target.wants c.next_verdict.new.target) next begun text has in
+    (λ (b : Begun). g.T.Target.has b c.next_verdict.new.target c.next_verdict.new.place) (g.T.Target.wants c.args.target.now)
+    (g.T.Target.wants c.next_verdict.new.target) next begun text has in
     err_any c.from_residual-in_err-push.result _ (g.met.T.Target.may_stop begun c.next_verdict.new.target c.next_verdict.new.place so.0 so.1)
 
 pub returns-clause-verdicts : goal.returns-clause-verdicts
 returns-clause-verdicts g c =
     let l = c.loop-pattern in
-    let all = judged_all (OwnVerdict c.args.rest.now (resting c.args.budget c.args.silent.now)) (rest_tree c.args.rest.now.ending.file (resting c.args.budget c.args.silent.now)) c.args.rest.now.ending.file
+    let all = judged_all (OwnVerdict c.args.rest.now (resting c.args.budget c.args.silent.now))
+    (rest_tree c.args.rest.now.ending.file (resting c.args.budget c.args.silent.now)) c.args.rest.now.ending.file
     (length c.as_slice.result.now) l.pattern l.verdicts.items (λ (begun : Begun). g.T.Target.has begun c.args.target.now c.args.place.now)
     (λ (begun : Begun). g.T.Target.has begun l.target l.place) (g.T.Target.wants c.args.target.now) (g.T.Target.wants l.target) l.invariant
     (omega (arith, c.loop-pattern-test.false)) in
@@ -65,7 +73,8 @@ returns-clause-all g c =
 pub returns-clause-trees : goal.returns-clause-trees
 returns-clause-trees g c =
     let l = c.loop-pattern in
-    let all = judged_all (OwnVerdict c.args.rest.now (resting c.args.budget c.args.silent.now)) (rest_tree c.args.rest.now.ending.file (resting c.args.budget c.args.silent.now)) c.args.rest.now.ending.file
+    let all = judged_all (OwnVerdict c.args.rest.now (resting c.args.budget c.args.silent.now))
+    (rest_tree c.args.rest.now.ending.file (resting c.args.budget c.args.silent.now)) c.args.rest.now.ending.file
     (length c.as_slice.result.now) l.pattern l.verdicts.items (λ (begun : Begun). g.T.Target.has begun c.args.target.now c.args.place.now)
     (λ (begun : Begun). g.T.Target.has begun l.target l.place) (g.T.Target.wants c.args.target.now) (g.T.Target.wants l.target) l.invariant
     (omega (arith, c.loop-pattern-test.false)) in

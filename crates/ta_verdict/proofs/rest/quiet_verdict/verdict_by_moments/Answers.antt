@@ -1,5 +1,5 @@
 use Rattle.ta_verdict.proofs.rest.Common.{arith, refl, rules, slice_get_within, subst, of_rest}
-use Rattle.ta_moment_walk.specs.Ends.{EndFits, IsMomentEnd}
+use Rattle.ta_walk.specs.MomentEnds.{EndFits, IsMomentEnd}
 use Rattle.ta_verdict.proofs.rest.QuietTold.{quiet_overflow, quiet_safe, quiet_spent, quiet_unsafe}
 use Rattle.ta_verdict.proofs.rest.quiet_verdict.verdict_by_moments.Goals as goal
 

@@ -1,5 +1,5 @@
 use Rattle.ta_verdict.proofs.rest.Common.{OwnVerdict, words_within, rest_question, rest_search, overflow_holds, said_of}
-use Rattle.ta_claim.specs.Trees.{search_of_claim}
+use Rattle.ta_rest.specs.Trees.{search_of_claim}
 use Rattle.ta_walk.proofs.ClaimsVisited.{visit_of}
 use Rattle.ta_walk.specs.declared.end.VisitEnd.TheVariants as visit
 use Rattle.ta_verdict.proofs.rest.VerdictsTold.{nothing_kept, safe_verdict, solution_found, spent_verdict}
@@ -8,18 +8,25 @@ use Rattle.ta_verdict.proofs.rest.verdict.rest_verdict.Goals as goal
 pub verdict_of-requires : goal.verdict_of-requires
 verdict_of-requires g c =
     solution_found c.args.rest.now.ending.file c.args.pattern c.requires.exists c.args.nodes c.in-Found.count c.in-Found.solution
-    (λ p at. visit_of (search_of_claim c.new-tree.result) (rest_search c.args.rest.now.ending.file.automaton p) c.new-tree.result.number c.args.pattern c.args.nodes (λ ns. Unit {0}) (visit.Found c.in-Found.count c.in-Found.solution) (c.new-tree.ensures.search p at) c.new-tree.ensures.number (rw c.in-Found.is at c.in_ok-count.ensures))
+    (λ p at. visit_of (search_of_claim c.new-tree.result) (rest_search c.args.rest.now.ending.file.automaton p) c.new-tree.result.number c.args.pattern
+    c.args.nodes (λ ns. Unit {0}) (visit.Found c.in-Found.count c.in-Found.solution) (c.new-tree.ensures.search p at) c.new-tree.ensures.number
+    (rw c.in-Found.is at c.in_ok-count.ensures))
 
 pub returns-in-Refuted-clause-holds : goal.returns-in-Refuted-clause-holds
 returns-in-Refuted-clause-holds g c = λ p at.
     safe_verdict c.args.rest.now c.args.nodes c.args.pattern p _ c.in-Refuted.count c.in-Refuted.leaves at c.requires.limit
-    (visit_of (search_of_claim c.new-tree.result) (rest_search c.args.rest.now.ending.file.automaton p) c.new-tree.result.number c.args.pattern c.args.nodes _ (visit.Refuted c.in-Refuted.count c.in-Refuted.leaves) (c.new-tree.ensures.search p at) c.new-tree.ensures.number (rw c.in-Refuted.is at c.in_ok-count.ensures))
+    (visit_of (search_of_claim c.new-tree.result) (rest_search c.args.rest.now.ending.file.automaton p) c.new-tree.result.number c.args.pattern c.args.nodes _
+    (visit.Refuted c.in-Refuted.count c.in-Refuted.leaves) (c.new-tree.ensures.search p at) c.new-tree.ensures.number
+    (rw c.in-Refuted.is at c.in_ok-count.ensures))
 
 pub returns-in-Overflow-clause-holds : goal.returns-in-Overflow-clause-holds
 returns-in-Overflow-clause-holds g c = λ p at file ends own named.
     let rest = c.args.rest.now in
-    overflow_holds (rest_question file rest.ending.file rest.added own p) c.args.pattern c.args.nodes c.in-Overflow.node c.in-Overflow.kind c.report_kind.result c.report_kind.ensures
-    (visit_of (search_of_claim c.new-tree.result) (rest_search c.args.rest.now.ending.file.automaton p) c.new-tree.result.number c.args.pattern c.args.nodes (λ ns. Unit {0}) (visit.Overflow c.in-Overflow.node c.in-Overflow.kind) (c.new-tree.ensures.search p at) c.new-tree.ensures.number (rw c.in-Overflow.is at c.in_ok-count.ensures))
+    overflow_holds (rest_question file rest.ending.file rest.added own p) c.args.pattern c.args.nodes c.in-Overflow.node c.in-Overflow.kind c.report_kind.result
+    c.report_kind.ensures
+    (visit_of (search_of_claim c.new-tree.result) (rest_search c.args.rest.now.ending.file.automaton p) c.new-tree.result.number c.args.pattern c.args.nodes
+    (λ ns. Unit {0}) (visit.Overflow c.in-Overflow.node c.in-Overflow.kind) (c.new-tree.ensures.search p at) c.new-tree.ensures.number
+    (rw c.in-Overflow.is at c.in_ok-count.ensures))
 
 pub returns-in-Found-clause-kept : goal.returns-in-Found-clause-kept
 returns-in-Found-clause-kept g c = nothing_kept c.args.rest.now.ending.file c.args.pattern c.args.nodes _ c.verdict_of.result c.verdict_of.ensures.other
@@ -27,11 +34,14 @@ returns-in-Found-clause-kept g c = nothing_kept c.args.rest.now.ending.file c.ar
 pub returns-in-Spent-clause-holds : goal.returns-in-Spent-clause-holds
 returns-in-Spent-clause-holds g c = λ p at.
     spent_verdict c.args.rest.now c.args.nodes c.args.pattern p c.in-Spent.count
-    (visit_of (search_of_claim c.new-tree.result) (rest_search c.args.rest.now.ending.file.automaton p) c.new-tree.result.number c.args.pattern c.args.nodes (λ ns. Unit {0}) (visit.Spent c.in-Spent.count) (c.new-tree.ensures.search p at) c.new-tree.ensures.number (rw c.in-Spent.is at c.in_ok-count.ensures))
+    (visit_of (search_of_claim c.new-tree.result) (rest_search c.args.rest.now.ending.file.automaton p) c.new-tree.result.number c.args.pattern c.args.nodes
+    (λ ns. Unit {0}) (visit.Spent c.in-Spent.count) (c.new-tree.ensures.search p at) c.new-tree.ensures.number (rw c.in-Spent.is at c.in_ok-count.ensures))
 
 pub returns-in-Refuted-clause-kept : goal.returns-in-Refuted-clause-kept
 returns-in-Refuted-clause-kept g c = λ p at.
-    visit_of (search_of_claim c.new-tree.result) (rest_search c.args.rest.now.ending.file.automaton p) c.new-tree.result.number c.args.pattern c.args.nodes _ (visit.Refuted c.in-Refuted.count c.in-Refuted.leaves) (c.new-tree.ensures.search p at) c.new-tree.ensures.number (rw c.in-Refuted.is at c.in_ok-count.ensures)
+    visit_of (search_of_claim c.new-tree.result) (rest_search c.args.rest.now.ending.file.automaton p) c.new-tree.result.number c.args.pattern c.args.nodes _
+    (visit.Refuted c.in-Refuted.count c.in-Refuted.leaves) (c.new-tree.ensures.search p at) c.new-tree.ensures.number
+    (rw c.in-Refuted.is at c.in_ok-count.ensures)
 
 pub returns-in-Found-clause-holds : goal.returns-in-Found-clause-holds
 returns-in-Found-clause-holds g c =
@@ -40,4 +50,6 @@ returns-in-Found-clause-holds g c =
     said_of rest.ending.file number c.verdict_of.result (λ p. OwnVerdict rest (words_within c.args.nodes) number p)
     (λ p at.
     c.verdict_of.ensures.holds c.args.nodes number p
-    (visit_of (search_of_claim c.new-tree.result) (rest_search rest.ending.file.automaton p) c.new-tree.result.number number c.args.nodes (λ ns. Unit {0}) (visit.Found c.in-Found.count c.in-Found.solution) (c.new-tree.ensures.search p at) c.new-tree.ensures.number (rw c.in-Found.is at c.in_ok-count.ensures)))
+    (visit_of (search_of_claim c.new-tree.result) (rest_search rest.ending.file.automaton p) c.new-tree.result.number number c.args.nodes (λ ns. Unit {0})
+    (visit.Found c.in-Found.count c.in-Found.solution) (c.new-tree.ensures.search p at) c.new-tree.ensures.number
+    (rw c.in-Found.is at c.in_ok-count.ensures)))

@@ -12,7 +12,8 @@ returns-in-Err-clause-holds c = λ budget number p at.
     c.unwitnessed.ensures.overflow
 
 pub returns-in-Err-clause-fits : goal.returns-in-Err-clause-fits
-returns-in-Err-clause-fits c = IfOk-weaker c.unwitnessed.result _ _ (λ v is. subst (VerdictFits c.args.rest.now.ending.file) (sym is.1) (search rules)) c.unwitnessed.ensures.overflow
+returns-in-Err-clause-fits c = IfOk-weaker c.unwitnessed.result _ _ (λ v is. subst (VerdictFits c.args.rest.now.ending.file) (sym is.1) (search rules))
+    c.unwitnessed.ensures.overflow
 
 pub returns-in-Err-clause-other : goal.returns-in-Err-clause-other
 returns-in-Err-clause-other c = IfOk-weaker c.unwitnessed.result _ _ (λ v is. subst IsNotSafe (sym is.1) tt) c.unwitnessed.ensures.overflow

@@ -1,6 +1,0 @@
-use Rattle.ta_claim.proofs.Common.{◌≡◌, ℕ, reverse, slice_get, has_bit, leads_out, any_below}
-use Rattle.ta_claim.proofs.rest_end.left_after.Given as goal
-
--- the locations out of which one of the first rules leads
-abbrev pub invariant-loop-rule : goal.invariant-loop-rule
-invariant-loop-rule l = (m : ℕ) → has_bit l.left m ≡ any_below l.rule-index (λ r. leads_out l.automaton l.start_mask (reverse l.elements) m (slice_get l.automaton.rules r))

@@ -1,5 +1,0 @@
-use Rattle.ta_cursor.proofs.Beginning.{begins_within}
-use Rattle.ta_cursor.proofs.laws.begins_within.Goals as goal
-
-pub returns : goal.returns
-returns g c = begins_within g.row.F.Denot

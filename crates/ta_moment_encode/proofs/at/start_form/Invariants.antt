@@ -1,6 +1,0 @@
-use Rattle.ta_moment_encode.proofs.Common.{Meaning, place_coefficient}
-use Rattle.ta_moment_encode.proofs.Sparse.{Sparse}
-use Rattle.ta_moment_encode.proofs.at.start_form.Given as goal
-
-abbrev pub invariant-loop-unknown : goal.invariant-loop-unknown
-invariant-loop-unknown l = Sparse (λ (m : Meaning). place_coefficient l.automaton m l.place) l.meaning-items l.unknown l.terms.items

@@ -1,8 +1,0 @@
-use Rattle.std.proofs.Common.{◌≡◌, map}
-use Rattle.std.specs.List.{range_with_len}
-use Rattle.ta_moments.specs.Moments.{Point, event_vector}
-use Rattle.ta_moment_encode.specs.Moments.{moments_of}
-use Rattle.ta_moment_encode.proofs.first.event_moments.Given as goal
-
-abbrev pub invariant-loop-event : goal.invariant-loop-event
-invariant-loop-event l = moments_of l.moments.items ≡ map (λ e. Point (event_vector l.plan.task.automaton.now l.plan.task.pattern.now e)) (range_with_len 0 l.event)

@@ -1,9 +1,0 @@
-use Rattle.ta_moments.specs.Moments.{rows_of_after}
-use Rattle.ta_moment_encode.proofs.Adding.{adds_more}
-use Rattle.ta_moment_encode.proofs.Lists.{flat_numbers}
-use Rattle.ta_moment_encode.proofs.first.push_afters.Goals as goal
-
-pub loop-event-preserved : goal.loop-event-preserved
-loop-event-preserved c =
-    let t = c.args.plan.now.task in
-    adds_more _ _ _ _ _ _ (flat_numbers (rows_of_after t.automaton.now t.pattern.now) c.loop-event.event) c.loop-event.invariant c.in_ok-push_after.ensures

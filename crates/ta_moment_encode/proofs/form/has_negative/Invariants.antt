@@ -1,6 +1,0 @@
-use Rattle.std.proofs.Common.{◌≡◌, drop}
-use Rattle.ta_moment_encode.specs.Forms.{has_negative}
-use Rattle.ta_moment_encode.proofs.form.has_negative.Given as goal
-
-abbrev pub invariant-loop-coefficient : goal.invariant-loop-coefficient
-invariant-loop-coefficient l = has_negative l.terms ≡ has_negative (drop l.coefficient-index l.terms)

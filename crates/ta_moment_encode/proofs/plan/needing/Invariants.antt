@@ -1,7 +1,0 @@
-use Rattle.std.proofs.Common.{◌≡◌, slice_get, take}
-use Rattle.std.specs.Prelude.{filter}
-use Rattle.ta_moments.specs.Facts.{has_guard}
-use Rattle.ta_moment_encode.proofs.plan.needing.Given as goal
-
-abbrev pub invariant-loop-rule : goal.invariant-loop-rule
-invariant-loop-rule l = l.rules.items ≡ filter (λ r. has_guard l.automaton l.guard (slice_get l.automaton.rules r)) (take l.rule-index l.moving)

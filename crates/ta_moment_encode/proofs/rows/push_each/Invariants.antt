@@ -1,7 +1,0 @@
-use Rattle.std.proofs.Common.{map, take}
-use Rattle.ta_moment_encode.specs.Forms.{vector_of}
-use Rattle.ta_moment_encode.specs.Rows.{AddsForms}
-use Rattle.ta_moment_encode.proofs.rows.push_each.Given as goal
-
-abbrev pub invariant-loop-rule : goal.invariant-loop-rule
-invariant-loop-rule l = AddsForms (map (vector_of l.vector) (take l.rule-index l.rules)) l.fn.rows.items l.rows.items

@@ -1,7 +1,0 @@
-use Rattle.ta_moment_encode.proofs.Common.{◌∙◌, sym, ap}
-use Rattle.std.specs.Prelude.{option_copied}
-use Rattle.ta_moment_encode.proofs.Smallness.{guard_small}
-use Rattle.ta_moment_encode.proofs.rows.push_guard.Goals as goal
-
-pub push_form_at-requires-clause-form : goal.push_form_at-requires-clause-form
-push_form_at-requires-clause-form c = guard_small c.args.plan.now.task.automaton.now c.args.guard c.in-Some.row.now (sym c.guard_row.ensures ∙ ap option_copied c.in-Some.is)

@@ -1,7 +1,0 @@
-use Rattle.ta_moment_encode.proofs.Common.{take}
-use Rattle.ta_moment_encode.specs.Rows.{AddsForms}
-use Rattle.ta_moment_encode.specs.Systems.{bound_forms}
-use Rattle.ta_moment_encode.proofs.system.push_bounds.Given as goal
-
-abbrev pub invariant-loop-bound : goal.invariant-loop-bound
-invariant-loop-bound l = AddsForms (bound_forms (take l.bound-index l.bounds)) l.fn.rows.items l.rows.items

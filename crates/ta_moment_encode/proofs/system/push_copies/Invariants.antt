@@ -1,8 +1,0 @@
-use Rattle.ta_moment_encode.proofs.Common.{◌≡◌, ◌≤◌, length, take}
-use Rattle.ta_moment_encode.proofs.system.push_copies.Given as goal
-
-abbrev pub invariant-loop-number : goal.invariant-loop-number
-invariant-loop-number l = record {
-  within : l.number ≤ length l.some;
-  rows : l.rows.items ≡ take l.number l.some;
-}

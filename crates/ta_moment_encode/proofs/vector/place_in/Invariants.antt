@@ -1,6 +1,0 @@
-use Rattle.std.proofs.Common.{◌≡◌, ℕ, ◌+◌, drop}
-use Rattle.ta_moments.specs.Moments.{Vector, fresh}
-use Rattle.ta_moment_encode.proofs.vector.place_in.Given as goal
-
-abbrev pub invariant-loop-number : goal.invariant-loop-number
-invariant-loop-number l = (first : ℕ) (other : Vector) → fresh first l.rules other l.rule ≡ fresh (first + l.number) (drop l.number l.rules) other l.rule

@@ -1,9 +1,0 @@
-use Rattle.std.proofs.Common.{◌≡◌, [], drop}
-use Rattle.ta_moments.specs.Vertices.{numbers_over}
-use Rattle.ta_simplex.specs.Vertex.{parts_of}
-use Rattle.ta_moment_maker.proofs.Lowest.{all_or_none}
-use Rattle.ta_moment_maker.proofs.vertices.numbers_over.Given as goal
-
--- the numbers so far go first
-abbrev pub invariant-loop-value : goal.invariant-loop-value
-invariant-loop-value l = all_or_none [] (numbers_over l.denominator (parts_of l.values)) ≡ all_or_none l.numbers.items (numbers_over l.denominator (parts_of (drop l.value-index l.values)))

@@ -1,3 +1,0 @@
-pub mod Fitting
-mod Merging
-mod Ordering

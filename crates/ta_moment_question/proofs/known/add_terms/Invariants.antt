@@ -1,9 +1,0 @@
-use Rattle.std.proofs.Common.{◌+◌, length}
-use Rattle.ta_moment_question.proofs.Merging.{Adding, difference}
-use Rattle.ta_moment_question.proofs.known.add_terms.Given as goal
-
-abbrev pub invariant-terms : goal.invariant-terms
-invariant-terms l = Adding (difference l.above l.beneath) l.numbers l.start l.left l.right l.sum
-
-abbrev pub decreases-terms : goal.decreases-terms
-decreases-terms l = length l.left + length l.right

@@ -1,9 +1,0 @@
-use Rattle.std.specs.Prelude.{◌≡◌, take}
-use Rattle.ta_moment_run.specs.Given.{VectorStays}
-use Rattle.ta_moment_run.specs.Inside.Making.{form_values}
-use Rattle.ta_moment_run.proofs.values.form_values.Given as goal
-
--- the values of the earlier forms
-abbrev pub invariant-loop-form : goal.invariant-loop-form
-invariant-loop-form l =
-    (l.numbers.items ≡ form_values l.values (take l.form-index l.forms)) × VectorStays l.values (take l.form-index l.forms)

@@ -1,6 +1,0 @@
-pub mod Stops
-pub mod Runs
-pub mod Laws
-pub mod Given
-pub mod Resting
-pub mod Inside

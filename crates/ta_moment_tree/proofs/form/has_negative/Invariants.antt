@@ -1,0 +1,6 @@
+use Rattle.std.proofs.Common.{◌≡◌, drop}
+use Rattle.ta_moment_tree.specs.Forms.{has_negative}
+use Rattle.ta_moment_tree.proofs.form.has_negative.Given as goal
+
+abbrev pub invariant-loop-coefficient : goal.invariant-loop-coefficient
+invariant-loop-coefficient l = has_negative l.terms ≡ has_negative (drop l.coefficient-index l.terms)

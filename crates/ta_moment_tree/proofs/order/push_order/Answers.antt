@@ -1,0 +1,25 @@
+use Rattle.ta_moment_tree.proofs.Common.{◌∙◌, slice_get, ap, sym}
+use Rattle.std.specs.Prelude.{option_copied}
+use Rattle.std.specs.Option.{option_map}
+use Rattle.ta_moments.specs.Moments.{rows_of_order}
+use Rattle.ta_moment_tree.specs.Moments.{moment_of, moments_of}
+use Rattle.ta_moment_tree.proofs.Adding.{adds_none, adds_same}
+use Rattle.ta_moment_tree.proofs.order.push_order.Goals as goal
+
+pub push_order_to-requires-clause-first : goal.push_order_to-requires-clause-first
+push_order_to-requires-clause-first c = c.requires.moments.late_small c.args.first (moment_of c.in-Some.moment.now)
+    (sym c.get_moment.ensures ∙ ap (λ o. option_map moment_of (option_copied o)) c.in-Some.is)
+
+pub returns-in-None : goal.returns-in-None
+returns-in-None c n h =
+    let t = c.args.plan.now.task in
+    let none = sym c.get_moment.ensures ∙ ap (λ o. option_map moment_of (option_copied o)) c.in-None.is in
+    adds_same _ _ _ _ (sym (ap (λ o. rows_of_order t.automaton.now t.pattern.now n o (slice_get (moments_of c.args.moments.now) c.args.second)) none))
+    (adds_none c.args.rows.now.items)
+
+pub returns-in_ok-push_order_to-in-Some : goal.returns-in_ok-push_order_to-in-Some
+returns-in_ok-push_order_to-in-Some c n h =
+    let t = c.args.plan.now.task in
+    let some = sym c.get_moment.ensures ∙ ap (λ o. option_map moment_of (option_copied o)) c.in-Some.is in
+    adds_same _ _ _ _ (sym (ap (λ o. rows_of_order t.automaton.now t.pattern.now n o (slice_get (moments_of c.args.moments.now) c.args.second)) some))
+    (c.in_ok-push_order_to-in-Some.ensures n h (h.late_speaks c.args.first (moment_of c.in-Some.moment.now) some))

@@ -1,0 +1,24 @@
+use Rattle.ta_moment_tree.proofs.Common.{◌∙◌, Some, ap, sym}
+use Rattle.std.specs.Prelude.{option_copied}
+use Rattle.std.specs.Option.{option_map}
+use Rattle.ta_moments.specs.Moments.{rows_of_order}
+use Rattle.ta_moment_tree.specs.Moments.{moment_of}
+use Rattle.ta_moment_tree.proofs.Adding.{adds_none, adds_same}
+use Rattle.ta_moment_tree.proofs.order.push_order_to.Goals as goal
+
+pub push_order_of-requires-clause-second : goal.push_order_of-requires-clause-second
+push_order_of-requires-clause-second c = c.requires.moments.early_small c.args.second (moment_of c.in-Some.other.now)
+    (sym c.get_moment.ensures ∙ ap (λ o. option_map moment_of (option_copied o)) c.in-Some.is)
+
+pub returns-in-None : goal.returns-in-None
+returns-in-None c n h k =
+    let t = c.args.plan.now.task in
+    let none = sym c.get_moment.ensures ∙ ap (λ o. option_map moment_of (option_copied o)) c.in-None.is in
+    adds_same _ _ _ _ (sym (ap (rows_of_order t.automaton.now t.pattern.now n (Some (moment_of c.args.first.now))) none)) (adds_none c.args.rows.now.items)
+
+pub returns-in_ok-push_order_of-in-Some : goal.returns-in_ok-push_order_of-in-Some
+returns-in_ok-push_order_of-in-Some c n h k =
+    let t = c.args.plan.now.task in
+    let some = sym c.get_moment.ensures ∙ ap (λ o. option_map moment_of (option_copied o)) c.in-Some.is in
+    adds_same _ _ _ _ (sym (ap (rows_of_order t.automaton.now t.pattern.now n (Some (moment_of c.args.first.now))) some))
+    (c.in_ok-push_order_of-in-Some.ensures n k (h.early_speaks c.args.second (moment_of c.in-Some.other.now) some))

@@ -1,0 +1,8 @@
+use Rattle.std.proofs.Common.{◌≡◌, slice_get}
+use Rattle.std.specs.Prelude.{filter}
+use Rattle.std.specs.List.{range_with_len}
+use Rattle.ta_moments.specs.Facts.{is_moving}
+use Rattle.ta_moment_tree.proofs.plan.moving_rules.Given as goal
+
+abbrev pub invariant-loop-rule : goal.invariant-loop-rule
+invariant-loop-rule l = l.rules.items ≡ filter (λ r. is_moving l.pattern (slice_get l.automaton.rules r)) (range_with_len 0 l.rule)

@@ -1,0 +1,6 @@
+use Rattle.std.proofs.Common.{◌≡◌, drop}
+use Rattle.ta_rest.specs.Quiet.{is_silent}
+use Rattle.ta_moment_tree.proofs.silence.is_silent.Given as goal
+
+abbrev pub invariant-loop-quiet : goal.invariant-loop-quiet
+invariant-loop-quiet l = is_silent l.silent l.place ≡ is_silent (drop l.quiet-index l.silent) l.place

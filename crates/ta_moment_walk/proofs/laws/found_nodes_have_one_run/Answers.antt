@@ -1,5 +1,0 @@
-use Rattle.ta_moment_walk.proofs.RunsOnce.{runs_once}
-use Rattle.ta_moment_walk.proofs.laws.found_nodes_have_one_run.Goals as goal
-
-pub returns : goal.returns
-returns c = runs_once

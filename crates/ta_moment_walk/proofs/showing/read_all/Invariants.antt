@@ -1,6 +1,0 @@
-use Rattle.std.proofs.Common.{pos, take, ◌<ℤ◌, ◌^◌}
-use Rattle.std.specs.List.{AllByRecursion}
-use Rattle.ta_moment_walk.proofs.showing.read_all.Given as goal
-
-abbrev pub invariant-loop-value : goal.invariant-loop-value
-invariant-loop-value l = AllByRecursion (λ z. z <ℤ pos (2 ^ 127)) (take l.value-index l.values)

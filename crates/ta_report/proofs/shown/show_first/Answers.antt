@@ -1,0 +1,18 @@
+use Rattle.std.proofs.Common.{◌≡◌, ◌++◌, ◌∙◌, ap, rules, string_bytes, FitsSigned}
+use Rattle.std.specs.Int.{w128}
+use Rattle.std.proofs.lemmas.Int.{to_z-of_z}
+use Rattle.std.proofs.lemmas.Result.{on_ok_weaker}
+use Rattle.ta_report.specs.Show.{amount_text, first_sign}
+use Rattle.ta_report.proofs.Showing.{behind}
+use Rattle.ta_report.proofs.shown.show_first.Goals as goal
+
+pub returns : goal.returns
+returns c =
+    let z = c.args.term.now.1 in
+    let fits : FitsSigned w128 z = search rules in
+    let old = string_bytes c.args.text.now in
+    let sign : c.first_sign.result.now ≡ first_sign z = c.first_sign.ensures ∙ ap first_sign (to_z-of_z w128 z fits) in
+    let first : string_bytes c.push_str.new.self ≡ old ++ first_sign z = c.in_ok-push_str.ensures.bytes ∙ ap (λ s. old ++ s) sign in
+    on_ok_weaker c.show_amount.result
+    (λ h. behind old (string_bytes c.push_str.new.self) (string_bytes c.show_amount.new.text) (first_sign z)
+    (amount_text c.args.automaton.now c.args.term.now) first h) c.show_amount.ensures

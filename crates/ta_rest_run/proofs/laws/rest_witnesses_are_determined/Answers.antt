@@ -1,5 +1,0 @@
-use Rattle.ta_rest_run.proofs.Once.{one_rest_witness}
-use Rattle.ta_rest_run.proofs.laws.rest_witnesses_are_determined.Goals as goal
-
-pub returns : goal.returns
-returns c = one_rest_witness

@@ -1,8 +1,0 @@
-use Rattle.ta_shell.proofs.Common.{may_put, option_map}
-use Rattle.ta_shell.specs.Lines.{holds_read}
-use Rattle.ta_shell.proofs.Compared.{compares_both}
-use Rattle.ta_shell.proofs.sparing.spare_each.Goals as goal
-
-pub returns-in-Ok-clause-spares : goal.returns-in-Ok-clause-spares
-returns-in-Ok-clause-spares g c =
-    compares_both (g.S.Shelf.files c.args.shelf.now) _ (may_put (option_map (λ w. w.now) c.args.outputs.now.first)) (may_put (option_map (λ w. w.now) c.args.outputs.now.second)) c.args.read.now holds_read c.spare_given-in-Ok.result _ _ _ c.in-Ok.ensures.kept c.in-Ok.ensures.spares c.spare_given-in-Ok.ensures.spares

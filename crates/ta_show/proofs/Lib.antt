@@ -1,5 +1,0 @@
-mod Showing
-mod Tells
-mod Sums
-pub mod FileTells
-mod UnknownNames

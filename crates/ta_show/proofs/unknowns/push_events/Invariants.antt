@@ -1,7 +1,0 @@
-use Rattle.std.proofs.Common.{◌≡◌, ◌++◌, take}
-use Rattle.std.specs.Prelude.{flat_map}
-use Rattle.ta_show.specs.Unknowns.{fired_names}
-use Rattle.ta_show.proofs.unknowns.push_events.Given as goal
-
-abbrev pub invariant-loop-event : goal.invariant-loop-event
-invariant-loop-event l = l.names.items ≡ l.initial.names.items ++ flat_map (fired_names l.automaton l.pattern) (take l.event-index l.pattern.events)

@@ -1,9 +1,0 @@
-use Rattle.std.proofs.Common.{◌≡◌, ◌++◌, map, not, take}
-use Rattle.std.specs.Prelude.{filter}
-use Rattle.ta_base.specs.Masks.{has_bit}
-use Rattle.ta_show.specs.Unknowns.{start_name}
-use Rattle.ta_show.proofs.unknowns.push_starts.Given as goal
-
-abbrev pub invariant-loop-location : goal.invariant-loop-location
-invariant-loop-location l = l.names.items ≡ l.initial.names.items ++ map (start_name l.automaton) (filter (λ k. not (has_bit l.pattern.empty k))
-    (take l.location-index l.automaton.initial))

@@ -1,8 +1,0 @@
-use Rattle.std.proofs.Common.{◌≡◌, ◌++◌, drop, string_bytes}
-use Rattle.ta_show.specs.Show.{each}
-use Rattle.ta_show.specs.Unknowns.{pattern_unknowns_text}
-use Rattle.ta_show.proofs.unknowns.show_unknowns.Given as goal
-
-abbrev pub invariant-loop-pattern : goal.invariant-loop-pattern
-invariant-loop-pattern l = string_bytes l.text ++ each (pattern_unknowns_text l.automaton)
-    (drop l.pattern-index l.patterns) ≡ string_bytes l.initial.text ++ each (pattern_unknowns_text l.automaton) l.patterns

@@ -1,4 +1,0 @@
-pub mod Show
-pub mod Determined
-pub mod Unknowns
-pub mod Named

@@ -1,3 +1,0 @@
--- lemmas for the crates above
-pub mod NoneNegative
-mod Places

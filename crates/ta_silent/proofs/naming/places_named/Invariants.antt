@@ -1,7 +1,0 @@
-use Rattle.std.proofs.Common.{◌≡◌, map}
-use Rattle.ta_silent.specs.Silent.{places_named}
-use Rattle.ta_silent.proofs.naming.places_named.Given as goal
-
--- the places of the names so far
-abbrev pub invariant-loop-name : goal.invariant-loop-name
-invariant-loop-name l = l.places.items ≡ places_named l.automaton (map (λ y. y.now) l.yielded)

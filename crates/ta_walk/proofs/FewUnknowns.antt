@@ -1,0 +1,86 @@
+-- a node to which the search of moments comes has few moments and few unknowns
+use Rattle.ta_moments.proofs.Common.{◌≡◌, ℕ, suc, ◌+◌, ◌*◌, ◌≤◌, Bool, true, false, not, cond, List, [], ◌∷◌, filter, length, Option, arith, refl}
+use Rattle.ta_moments.proofs.Common.{length-append, length-map, range_with_len, length-range_with_len, Automaton, Pattern, Vector, Point, Pair, Known, Asking}
+use Rattle.ta_moments.proofs.Common.{Node, known_at, is_moving, moving_rules, needing, sparing, has_guard, slice_get, event_vector, end_vector}
+use Rattle.ta_moments.proofs.Common.{unknowns_at_first, first_vector, before_vector, after_vector, with_fact}
+unfoldable use Rattle.ta_moments.specs.Moments.{known}
+use Rattle.ta_base.proofs.Ranges.{count_few}
+use Rattle.ta_automaton.specs.Patterns.{PatternOver}
+use Rattle.ta_encode.specs.Search.{Comes}
+use Rattle.ta_encode.specs.Unknowns.{start_meanings}
+use Rattle.ta_moments.specs.declared.fact.Fact.{Fact}
+use Rattle.ta_moments.specs.declared.fact.Fact.TheVariants.{Never, First, Stands, Last, Before, After, Same, Vacant, Fails}
+use Rattle.ta_moments.specs.Searched.{Maker, candidate_of, moment_search}
+use Rattle.ta_moments.specs.Whole.{AreAnswers}
+use Rattle.ta_moments.specs.Nodes.{AskedOnce}
+use Rattle.ta_moments.proofs.Short.{few_moments}
+use Rattle.ta_moment_tree.proofs.Beginning.{count_room}
+use Rattle.ta_walk.proofs.Answered.{comes_answered, comes_once}
+
+-- items that fail a test, and items that pass it
+one_part : (b : Bool) (x : ℕ) (us vs : List ℕ) → length (cond (not b) (x ∷ us) us) + length (cond b (x ∷ vs) vs) ≡ suc (length us + length vs)
+one_part true x us vs = omega arith
+one_part false x us vs = omega arith
+
+parted : (test : ℕ → Bool) (xs : List ℕ) → length (filter (λ x. not (test x)) xs) + length (filter test xs) ≡ length xs
+parted test [] = refl
+parted test (x ∷ xs) = omega (arith, one_part (test x) x (filter (λ y. not (test y)) xs) (filter test xs), parted test xs)
+
+few_moving : (a : Automaton) (p : Pattern) (g : ℕ) → length (sparing a p g) + length (needing a p g) ≤ 128
+few_moving a p g =
+    let rules = a.shape.limits.rules_limit in
+    omega (
+      arith,
+      parted (λ r. has_guard a g (slice_get a.rules r)) (moving_rules a p),
+      count_few (λ r. is_moving p (slice_get a.rules r)) (length a.rules),
+      rules,
+    )
+
+-- a fact with a moment has at most 128 unknowns; the others have none
+fact_adds : (a : Automaton) (p : Pattern) (silent : List ℕ) (end : Vector) (k : Known) (fact : Fact)
+    → (with_fact a p silent end k fact).unknowns + 128 * length k.moments ≤ k.unknowns + 128 * length (with_fact a p silent end k fact).moments
+fact_adds a p silent end k (First g) = omega (arith, few_moving a p g, length-append k.moments (Point (first_vector a p k.unknowns g) ∷ []))
+fact_adds a p silent end k (Last g) =
+    omega (arith, few_moving a p g, length-append k.moments (Pair (before_vector a p end k.unknowns g) (after_vector a p end k.unknowns g) ∷ []))
+fact_adds a p silent end k (Never g) = omega (arith, length-append k.moments [])
+fact_adds a p silent end k (Stands g) = omega (arith, length-append k.moments [])
+fact_adds a p silent end k (Before x y) = omega (arith, length-append k.moments [])
+fact_adds a p silent end k (After x y) = omega (arith, length-append k.moments [])
+fact_adds a p silent end k (Same x y) = omega (arith, length-append k.moments [])
+fact_adds a p silent end k (Vacant r) = omega (arith, length-append k.moments [])
+fact_adds a p silent end k (Fails r g) = omega (arith, length-append k.moments [])
+
+by_moments : (a : Automaton) (p : Pattern) (silent : List ℕ) (candidate : Option ℕ) (past : List Fact)
+    → (known a p silent candidate past).unknowns + 128 * length p.events ≤ unknowns_at_first a p + 128 * length (known a p silent candidate past).moments
+unfolding known
+by_moments a p silent candidate [] =
+    omega (arith, length-map (range_with_len 0 (length p.events)) (λ e. Point (event_vector a p e)), length-range_with_len 0 (length p.events))
+by_moments a p silent candidate (fact ∷ past) =
+    omega (arith, by_moments a p silent candidate past, fact_adds a p silent (end_vector a p candidate) (known a p silent candidate past) fact)
+
+pub record IsFew (a : Automaton) (p : Pattern) (asking : Asking) (node : Node) : Type 0 where
+  pub unknowns : (known_at a p asking node).unknowns ≤ 3888
+  pub moments : length (known_at a p asking node).moments ≤ 30
+
+-- each guard is asked at most once
+pub node_few : (a : Automaton) (p : Pattern) (asking : Asking) (node : Node) → PatternOver a p → AreAnswers a p asking node.candidate node.past
+    → AskedOnce node.past → IsFew a p asking node
+node_few a p asking node over answered once =
+    let events = over.events_limit in
+    let moments = few_moments a p asking node answered once in
+    let room = count_room a p (length p.events) (length (moving_rules a p)) (length (start_meanings a p)) refl refl events in
+    let rules = room.0 in
+    let starts = room.1 in
+    let rise = a.shape.limits.rise_limit in
+    let fall = a.shape.limits.fall_limit in
+    let most : length (known_at a p asking node).moments ≤ length p.events + 22 = omega (arith, moments, rise, fall) in
+    record {
+      unknowns = omega (arith, by_moments a p asking.silent node.candidate node.past, most, rules, starts);
+      moments = omega (arith, most, events);
+    }
+
+pub comes_few : (a : Automaton) (p : Pattern) (asking : Asking) (maker : Maker) → PatternOver a p → (start : ℕ) (past : List Fact)
+    → Comes (moment_search a p asking maker) start past → IsFew a p asking (record { candidate = candidate_of start; past = past; bounds = [] })
+comes_few a p asking maker over start past comes =
+    node_few a p asking (record { candidate = candidate_of start; past = past; bounds = [] }) over (comes_answered a p asking maker start past comes)
+    (comes_once a p asking maker start past comes)

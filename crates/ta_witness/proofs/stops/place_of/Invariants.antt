@@ -1,0 +1,8 @@
+use Rattle.std.specs.Prelude.{◌≡◌, ◌++◌, drop, map, take}
+use Rattle.ta_witness.specs.Inside.Stops.{Shape, shape, with_shape}
+use Rattle.ta_witness.proofs.stops.place_of.Given as goal
+
+-- it goes behind the earlier stops
+abbrev pub invariant-loop-number : goal.invariant-loop-number
+invariant-loop-number l = (s : Shape) → s.0 ≡ l.counts → with_shape s (map shape l.stops) ≡ take l.number (map shape l.stops)
+    ++ with_shape s (drop l.number (map shape l.stops))

@@ -1,8 +1,0 @@
-use Rattle.worked_beside.proofs.Common.{◌≡◌, ◌+◌, ◌*◌, length, AllBelow}
-use Rattle.worked_beside.proofs.towers.tower.Given as goal
-
-abbrev pub invariant-loop-lower : goal.invariant-loop-lower
-invariant-loop-lower l = record {
-  below : AllBelow l.unknowns l.rows.items;
-  long : length l.rows.items ≡ 2 * l.lower + 1;
-}
