@@ -1,5 +1,6 @@
 -- rules along a walk move one process from its beginning to its end, and along a circuit nobody
-use Rattle.ta_automaton.proofs.Common.{◌≡◌, inl, inr, ℕ, pos, ◌+ℤ◌, ◌-ℤ◌, List, [], ◌∷◌, arith, ap, ◌∙◌, slice_get, Some, Option, ints, coefficient, Rule, Automaton, Walk, one_if, shared_change, rule_change, location_place, total}
+use Rattle.ta_automaton.proofs.Common.{◌≡◌, inl, inr, ℕ, pos, ◌+ℤ◌, ◌-ℤ◌, List, [], ◌∷◌, arith, ap, ◌∙◌, slice_get, Some, Option, ints, coefficient, Rule}
+use Rattle.ta_automaton.proofs.Common.{Automaton, Walk, one_if, shared_change, rule_change, location_place, total}
 use Rattle.ta_automaton.proofs.Moves.{place_cases, shared_change-location, shared_change-parameter, shared_change-shared}
 use Rattle.ta_automaton.proofs.Onward.{change_of}
 
@@ -17,12 +18,15 @@ pure_change a rule h i = elim (place_cases a i) [
   ]
 ]
 
-pub walk_total : (a : Automaton) (x : ℕ) (rs : List ℕ) (y : ℕ) → Walk a x rs y → EachPure a rs → (i : ℕ) → total (change_of a i) rs ≡ (one_if (location_place a y) i -ℤ one_if (location_place a x) i)
+pub walk_total : (a : Automaton) (x : ℕ) (rs : List ℕ) (y : ℕ) → Walk a x rs y → EachPure a rs → (i : ℕ)
+    → total (change_of a i) rs ≡ (one_if (location_place a y) i -ℤ one_if (location_place a x) i)
 unfolding total
-walk_total a x [] y w h i = let e : one_if (location_place a x) i ≡ one_if (location_place a y) i = ap (λ (l : ℕ). one_if (location_place a l) i) w in omega (arith, ints, e)
+walk_total a x [] y w h i = let e : one_if (location_place a x) i ≡ one_if (location_place a y) i = ap (λ (l : ℕ). one_if (location_place a l) i) w in omega
+    (arith, ints, e)
 walk_total a x (r ∷ rs) y w h i =
     let rule = w.0 in
-    let change : change_of a i r ≡ (shared_change a rule i +ℤ (one_if (location_place a rule.to) i -ℤ one_if (location_place a rule.from) i)) = ap (λ (o : Option Rule). rule_change a o i) w.1 in
+    let change : change_of a i r ≡ (shared_change a rule i +ℤ (one_if (location_place a rule.to) i -ℤ one_if (location_place a rule.from) i)) = ap
+    (λ (o : Option Rule). rule_change a o i) w.1 in
     let begins : one_if (location_place a rule.from) i ≡ one_if (location_place a x) i = ap (λ (l : ℕ). one_if (location_place a l) i) w.2 in
     omega (arith, ints, change, begins, pure_change a rule (h.0 rule w.1) i, walk_total a rule.to rs y w.3 h.1 i)
 

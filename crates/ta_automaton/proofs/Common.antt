@@ -1,5 +1,7 @@
 -- The names that the proofs of this crate cite, passed on from one place. Declares nothing.
-pub use Rattle.std.proofs.Common.{All, Contains, IsBitSet, IsTrue, List, Option, Some, [], ap, append_assoc, arith, cond, count_by, eqb, false, get_or, inl, inr, length, length-append, ltb, map, negsuc, pos, refl, slice_get, subst, suc, sum, sym, take, true, zero, ℕ, ℤ, ◌*ℤ◌, ◌++◌, ◌+ℤ◌, ◌+◌, ◌-ℤ◌, ◌-◌, ◌<ℤ◌, ◌<◌, ◌∙◌, ◌∷◌, ◌≡◌, ◌≢◌, ◌≤ℤ◌, ◌≤◌, ◌⊎◌}
+pub use Rattle.std.proofs.Common.{All, Contains, IsBitSet, IsTrue, List, Option, Some, [], ap, append_assoc, arith, cond, count_by, eqb, false, get_or, inl}
+pub use Rattle.std.proofs.Common.{inr, length, length-append, ltb, map, negsuc, pos, refl, slice_get, subst, suc, sum, sym, take, true, zero, ℕ, ℤ, ◌*ℤ◌, ◌++◌}
+pub use Rattle.std.proofs.Common.{◌+ℤ◌, ◌+◌, ◌-ℤ◌, ◌-◌, ◌<ℤ◌, ◌<◌, ◌∙◌, ◌∷◌, ◌≡◌, ◌≢◌, ◌≤ℤ◌, ◌≤◌, ◌⊎◌}
 pub use Rattle.std.proofs.lemmas.Bool.{cases_lt}
 pub use Rattle.std.proofs.lemmas.Bool.Decides.{eqb_tells, nat_tests}
 pub use Rattle.std.proofs.lemmas.Int.{ints}
@@ -8,7 +10,8 @@ pub use Rattle.std.proofs.lemmas.List.Elements.{All-cons, All-nil}
 pub use Rattle.std.proofs.lemmas.Option.{get_or_from_slice_get, same_Some, slice_get_read, slice_get_within}
 pub use Rattle.std.specs.List.{AllByRecursion, range_with_len}
 pub use Rattle.ta_automaton.specs.Forms.{ConditionOver, FallRow, FormOver, RiseRow, RowOver}
-pub use Rattle.ta_automaton.specs.Laws.{CountersAddUp, CountersByFirings, FallGuardsStayFalse, ParametersStay, RiseGuardsStayTrue, SharedByFirings, SharedNeverFalls, SomeUnsafe, leads_into, leads_out_of, update_of}
+pub use Rattle.ta_automaton.specs.Laws.{CountersAddUp, CountersByFirings, FallGuardsStayFalse, ParametersStay, RiseGuardsStayTrue, SharedByFirings}
+pub use Rattle.ta_automaton.specs.Laws.{SharedNeverFalls, SomeUnsafe, leads_into, leads_out_of, update_of}
 pub use Rattle.ta_automaton.specs.Places.{location_place, rule_change}
 unfoldable pub use Rattle.ta_automaton.specs.Places.{shared_change}
 pub use Rattle.ta_automaton.specs.Runs.{At, Config, HappensAt, HoldsAt, InScope, Initial, MaskedHold, Move, Occurs, Run, Step, Steps, Walk, number_at, value_at}

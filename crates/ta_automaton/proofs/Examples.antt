@@ -1,5 +1,8 @@
 -- a file with one rule from A to B, whose pattern, that some process is in B, occurs
-use Rattle.ta_automaton.proofs.Common.{◌≡◌, ℕ, zero, suc, ◌+◌, ℤ, pos, negsuc, [], ◌∷◌, eqb, cond, arith, refl, sym, subst, ◌≤◌, slice_get, get_or, Some, All, Contains, IsBitSet, ints, nat_tests, no_bit, letters_apart, IsTerm, RowHolds, Form, Row, Comparison, Condition, Rule, Automaton, Event, Pattern, FormOver, Config, Initial, Move, Occurs, HoldsAt, HappensAt, number_at, value_at, SomeUnsafe, All-cons, All-nil}
+use Rattle.ta_automaton.proofs.Common.{◌≡◌, ℕ, zero, suc, ◌+◌, ℤ, pos, negsuc, [], ◌∷◌, eqb, cond, arith, refl, sym, subst, ◌≤◌, slice_get, get_or, Some, All}
+use Rattle.ta_automaton.proofs.Common.{Contains, IsBitSet, ints, nat_tests, no_bit, letters_apart, IsTerm, RowHolds, Form, Row, Comparison, Condition, Rule}
+use Rattle.ta_automaton.proofs.Common.{Automaton, Event, Pattern, FormOver, Config, Initial, Move, Occurs, HoldsAt, HappensAt, number_at, value_at, SomeUnsafe}
+use Rattle.ta_automaton.proofs.Common.{All-cons, All-nil}
 use Rattle.ta_automaton.proofs.ShortNames.{letter_name}
 
 one_term : (x : ℕ) → IsTerm (x, pos 1)
@@ -43,7 +46,15 @@ first = record {
   fall = [];
   rules = move ∷ [];
   shape = record {
-    limits = record { parameters_limit = omega arith; shared_limit = omega arith; locations_limit = omega arith; rise_limit = omega arith; fall_limit = omega arith; rules_limit = omega arith };
+    limits = record {
+      parameters_limit = omega arith;
+      shared_limit = omega arith;
+      locations_limit = omega arith;
+      rise_limit = omega arith;
+      fall_limit = omega
+          arith;
+      rules_limit = omega arith;
+    };
     name_legal = letter_name 102 refl;
     names_legal = (letter_name 110 refl, (letter_name 65 refl, (letter_name 66 refl, tt)));
     names_distinct = ((letters_apart 110 65 refl, (letters_apart 110 66 refl, tt)), ((letters_apart 65 66 refl, tt), (tt, tt)));
@@ -55,14 +66,33 @@ first = record {
     rise_distinct = tt;
     fall_rows = tt;
     fall_distinct = tt;
-    rules_within = (record { name = letter_name 114 refl; from = omega arith; to = omega arith; rise_mask = omega arith; fall_mask = omega arith; updates_limit = omega arith; updates = tt; variables_distinct = tt }, tt);
+    rules_within = (
+      record {
+        name = letter_name 114 refl;
+        from = omega arith;
+        to = omega arith;
+        rise_mask = omega arith;
+        fall_mask = omega arith;
+        updates_limit
+            = omega arith;
+        updates = tt;
+        variables_distinct = tt;
+      },
+      tt,
+    );
     rules_distinct = (tt, tt);
   };
 }
 
 -- pattern p { event e: B >= 1; }
 abbrev reached : Pattern
-reached = record { name = 112 ∷ []; start = record { comparisons = []; limit = omega arith }; empty = 0; events = record { name = 101 ∷ []; after = 0; condition = one_row second } ∷ [] }
+reached = record {
+  name = 112 ∷ [];
+  start = record { comparisons = []; limit = omega arith };
+  empty = 0;
+  events = record
+      { name = 101 ∷ []; after = 0; condition = one_row second } ∷ [];
+}
 
 -- one process in A, then in B
 abbrev at_first : Config
@@ -78,7 +108,8 @@ abbrev comparison : Form → Comparison
 comparison form = record { rows = row_of form ∷ []; some = omega arith; most = omega arith }
 
 one_holds : (point : ℕ → ℤ) (form : Form) → RowHolds point (row_of form) → HoldsAt point (one_row form)
-one_holds point form h = All-cons (λ (k : Comparison). All (RowHolds point) k.rows) (comparison form) [] (All-cons (RowHolds point) (row_of form) [] h (All-nil (RowHolds point))) (All-nil (λ (k : Comparison). All (RowHolds point) k.rows))
+one_holds point form h = All-cons (λ (k : Comparison). All (RowHolds point) k.rows) (comparison form) []
+    (All-cons (RowHolds point) (row_of form) [] h (All-nil (RowHolds point))) (All-nil (λ (k : Comparison). All (RowHolds point) k.rows))
 
 starts : Initial first at_first
 starts = record {
@@ -121,11 +152,14 @@ occurs = record {
   happens = happens;
   in_order = λ e f event at b. order e f event at b;
 } where
-  happens : (e : ℕ) (event : Event) (k : ℕ) → slice_get reached.events e ≡ Some event → slice_get (1 ∷ []) e ≡ Some k → HappensAt at_first (at_last ∷ []) event k
+  happens : (e : ℕ) (event : Event) (k : ℕ) → slice_get reached.events e ≡ Some event → slice_get (1 ∷ []) e ≡ Some k
+      → HappensAt at_first (at_last ∷ []) event k
   happens zero event k named at =
       let same : record { name = 101 ∷ []; after = 0; condition = one_row second } ≡ event = cc in
       let one : 1 ≡ k = cc in
-      subst (λ (w : Event). HappensAt at_first (at_last ∷ []) w k) same (subst (λ (n : ℕ). HappensAt at_first (at_last ∷ []) (record { name = 101 ∷ []; after = 0; condition = one_row second }) n) one (at_last, refl, one_holds (value_at at_last) second (omega (arith, ints))))
+      subst (λ (w : Event). HappensAt at_first (at_last ∷ []) w k) same
+      (subst (λ (n : ℕ). HappensAt at_first (at_last ∷ []) (record { name = 101 ∷ []; after = 0; condition = one_row second }) n) one
+      (at_last, refl, one_holds (value_at at_last) second (omega (arith, ints))))
   happens (suc e) event k named at = absurd (cc)
 
   order : (e f : ℕ) (event : Event) → slice_get reached.events e ≡ Some event → IsBitSet event.after f → get_or (1 ∷ []) f 0 ≤ get_or (1 ∷ []) e 0

@@ -1,5 +1,7 @@
 -- firing a rule
-use Rattle.ta_automaton.proofs.Common.{◌≡◌, inl, inr, ℕ, ◌+◌, ◌≤◌, pos, ◌+ℤ◌, ◌-ℤ◌, map, length, eqb, cond, false, arith, sym, ap, ◌∙◌, refl, slice_get, get_or, Some, List, ints, cases_lt, nat_tests, length-map, get_or_past, natural, pos_natural, coefficient, Rule, Automaton, Config, Step, MaskedHold, range_with_len, one_if}
+use Rattle.ta_automaton.proofs.Common.{◌≡◌, inl, inr, ℕ, ◌+◌, ◌≤◌, pos, ◌+ℤ◌, ◌-ℤ◌, map, length, eqb, cond, false, arith, sym, ap, ◌∙◌, refl, slice_get, get_or}
+use Rattle.ta_automaton.proofs.Common.{Some, List, ints, cases_lt, nat_tests, length-map, get_or_past, natural, pos_natural, coefficient, Rule, Automaton}
+use Rattle.ta_automaton.proofs.Common.{Config, Step, MaskedHold, range_with_len, one_if}
 use Rattle.ta_base.proofs.Ranges.{at_index, past_numbers}
 use Rattle.ta_base.proofs.Totals.{natural-moved}
 pub use Rattle.ta_automaton.specs.Places.{Whole}
@@ -21,7 +23,8 @@ fire_whole a rule c w = record {
   counters = length-map (range_with_len 0 (length a.locations)) _ ∙ length-range_with_len 0 (length a.locations);
 }
 
-pub fire_step : (a : Automaton) (r : ℕ) (rule : Rule) (c : Config) → slice_get a.rules r ≡ Some rule → Whole a c → MaskedHold rule.rise a.rise c → MaskedHold rule.fall a.fall c → 1 ≤ get_or c.counters rule.from 0 → Step a r c (fire a rule c)
+pub fire_step : (a : Automaton) (r : ℕ) (rule : Rule) (c : Config) → slice_get a.rules r ≡ Some rule → Whole a c → MaskedHold rule.rise a.rise c
+    → MaskedHold rule.fall a.fall c → 1 ≤ get_or c.counters rule.from 0 → Step a r c (fire a rule c)
 fire_step a r rule c named w rise fall some = record {
   rule = rule;
   named = named;
@@ -30,7 +33,9 @@ fire_step a r rule c named w rise fall some = record {
     fall = fall;
     some = some;
     moved = λ l. elim (cases_lt l (length a.locations)) [
-      | inl b ↦ ap (λ n. n + cond (eqb l rule.from) 1 0) (at_index (λ k. natural ((pos (get_or c.counters k 0) +ℤ one_if rule.to k) -ℤ one_if rule.from k)) (length a.locations) l b) ∙ natural-moved (get_or c.counters l 0) rule.from rule.to l (get_or c.counters rule.from 0) some (λ e. ap (λ k. get_or c.counters k 0) e)
+      | inl b ↦ ap (λ n. n + cond (eqb l rule.from) 1 0)
+          (at_index (λ k. natural ((pos (get_or c.counters k 0) +ℤ one_if rule.to k) -ℤ one_if rule.from k)) (length a.locations) l b)
+          ∙ natural-moved (get_or c.counters l 0) rule.from rule.to l (get_or c.counters rule.from 0) some (λ e. ap (λ k. get_or c.counters k 0) e)
       | inr b ↦ (
           let here = from_within a r rule named in
           let there = to_within a r rule named in
@@ -42,7 +47,8 @@ fire_step a r rule c named w rise fall some = record {
     ];
     counters_count = (fire_whole a rule c w).counters ∙ sym w.counters;
     added = λ x. elim (cases_lt x (length a.shared)) [
-      | inl b ↦ ap pos (at_index (λ k. natural (pos (get_or c.shared k 0) +ℤ coefficient rule.updates k)) (length a.shared) x b) ∙ pos_natural _ (omega (arith, ints, updates_natural a r rule named x))
+      | inl b ↦ ap pos (at_index (λ k. natural (pos (get_or c.shared k 0) +ℤ coefficient rule.updates k)) (length a.shared) x b)
+          ∙ pos_natural _ (omega (arith, ints, updates_natural a r rule named x))
       | inr b ↦ (
           let was : get_or c.shared x 0 ≡ 0 = get_or_past c.shared x 0 (omega (arith, w.shared)) in
           let is = past_numbers (λ k. natural (pos (get_or c.shared k 0) +ℤ coefficient rule.updates k)) (length a.shared) x b in

@@ -1,5 +1,7 @@
 -- firings in an order in which nobody arrives any more where one leaves are legal as they stand, if their end is natural
-use Rattle.ta_automaton.proofs.Common.{◌≡◌, ◌≢◌, inl, inr, ℕ, ◌+◌, ◌-◌, ◌<◌, ◌≤◌, ℤ, pos, ◌+ℤ◌, ◌-ℤ◌, ◌≤ℤ◌, List, [], ◌∷◌, length, arith, ap, ◌∙◌, refl, slice_get, get_or, Some, Option, IsBitSet, ints, eqb_tells, without_last, coefficient, RowHolds, Row, Rule, Automaton, At, Config, value_at, Steps, MaskedHold, In, one_if, shared_change, rule_change, location_place, total}
+use Rattle.ta_automaton.proofs.Common.{◌≡◌, ◌≢◌, inl, inr, ℕ, ◌+◌, ◌-◌, ◌<◌, ◌≤◌, ℤ, pos, ◌+ℤ◌, ◌-ℤ◌, ◌≤ℤ◌, List, [], ◌∷◌, length, arith, ap, ◌∙◌, refl}
+use Rattle.ta_automaton.proofs.Common.{slice_get, get_or, Some, Option, IsBitSet, ints, eqb_tells, without_last, coefficient, RowHolds, Row, Rule, Automaton}
+use Rattle.ta_automaton.proofs.Common.{At, Config, value_at, Steps, MaskedHold, In, one_if, shared_change, rule_change, location_place, total}
 use Rattle.ta_base.proofs.Totals.{one_if-shift, one_if-ne}
 use Rattle.ta_linear.proofs.TermLemmas.{terms_value-same}
 use Rattle.ta_automaton.proofs.Moves.{Fits, move_at, value_at-location, shared_change-location, shared_change-parameter, shared_change-shared}
@@ -32,8 +34,10 @@ after a f os i = f i +ℤ total (change_of a i) os
 pub record Piece (a : Automaton) (d : Config) (os : List ℕ) : Type 0 where
   pub whole : Whole a d
   pub exist : EachRule a os
-  pub rises : (o : ℕ) (rule : Rule) → In o os → slice_get a.rules o ≡ Some rule → (i : ℕ) (row : Row) → slice_get a.rise i ≡ Some row → IsBitSet rule.rise i → RowHolds (value_at d) row
-  pub falls : (o : ℕ) (rule : Rule) → In o os → slice_get a.rules o ≡ Some rule → (j : ℕ) (row : Row) → slice_get a.fall j ≡ Some row → IsBitSet rule.fall j → RowHolds (after a (value_at d) (without_last os)) row
+  pub rises : (o : ℕ) (rule : Rule) → In o os → slice_get a.rules o ≡ Some rule → (i : ℕ) (row : Row) → slice_get a.rise i ≡ Some row → IsBitSet rule.rise i
+      → RowHolds (value_at d) row
+  pub falls : (o : ℕ) (rule : Rule) → In o os → slice_get a.rules o ≡ Some rule → (j : ℕ) (row : Row) → slice_get a.fall j ≡ Some row → IsBitSet rule.fall j
+      → RowHolds (after a (value_at d) (without_last os)) row
   pub ends : (l : ℕ) → l < length a.locations → pos 0 ≤ℤ after a (value_at d) os (location_place a l)
 
 -- they are steps, in this order
@@ -45,21 +49,41 @@ pub record Fired (a : Automaton) (d : Config) (os : List ℕ) : Type 0 where
   pub whole : Whole a end
   pub values : (i : ℕ) → value_at end i ≡ after a (value_at d) os i
 
-pub change_named : (a : Automaton) (i r : ℕ) (rule : Rule) → slice_get a.rules r ≡ Some rule → change_of a i r ≡ (shared_change a rule i +ℤ (one_if (location_place a rule.to) i -ℤ one_if (location_place a rule.from) i))
+pub change_named : (a : Automaton) (i r : ℕ) (rule : Rule) → slice_get a.rules r ≡ Some rule
+    → change_of a i r ≡ (shared_change a rule i +ℤ (one_if (location_place a rule.to) i -ℤ one_if (location_place a rule.from) i))
 change_named a i r rule e = ap (λ (o : Option Rule). rule_change a o i) e
 
 pub change_parameter : (a : Automaton) (i r : ℕ) (rule : Rule) → slice_get a.rules r ≡ Some rule → i < length a.parameters → change_of a i r ≡ pos 0
 change_parameter a i r rule e b =
-    omega (arith, ints, change_named a i r rule e, shared_change-parameter a rule i b, one_if-ne (location_place a rule.to) i (omega arith), one_if-ne (location_place a rule.from) i (omega arith))
+    omega (
+      arith,
+      ints,
+      change_named a i r rule e,
+      shared_change-parameter a rule i b,
+      one_if-ne (location_place a rule.to) i (omega arith),
+      one_if-ne
+          (location_place a rule.from) i (omega arith),
+    )
 
-change_shared : (a : Automaton) (i r : ℕ) (rule : Rule) → slice_get a.rules r ≡ Some rule → length a.parameters ≤ i → i < length a.parameters + length a.shared → pos 0 ≤ℤ change_of a i r
+change_shared : (a : Automaton) (i r : ℕ) (rule : Rule) → slice_get a.rules r ≡ Some rule → length a.parameters ≤ i → i < length a.parameters + length a.shared
+    → pos 0 ≤ℤ change_of a i r
 change_shared a i r rule e low high =
     let x = i - length a.parameters in
     let s : i ≡ length a.parameters + x = omega arith in
     let here : shared_change a rule i ≡ coefficient rule.updates x = ap (shared_change a rule) s ∙ shared_change-shared a rule x (omega arith) in
-    omega (arith, ints, change_named a i r rule e, here, updates_natural a r rule e x, one_if-ne (location_place a rule.to) i (omega arith), one_if-ne (location_place a rule.from) i (omega arith))
+    omega (
+      arith,
+      ints,
+      change_named a i r rule e,
+      here,
+      updates_natural a r rule e x,
+      one_if-ne (location_place a rule.to) i (omega arith),
+      one_if-ne
+          (location_place a rule.from) i (omega arith),
+    )
 
-pub change_location : (a : Automaton) (l r : ℕ) (rule : Rule) → slice_get a.rules r ≡ Some rule → change_of a (location_place a l) r ≡ (one_if rule.to l -ℤ one_if rule.from l)
+pub change_location : (a : Automaton) (l r : ℕ) (rule : Rule) → slice_get a.rules r ≡ Some rule
+    → change_of a (location_place a l) r ≡ (one_if rule.to l -ℤ one_if rule.from l)
 change_location a l r rule e =
     let n = length a.parameters + length a.shared in
     omega (arith, ints, change_named a (location_place a l) r rule e, shared_change-location a rule l, one_if-shift n rule.to l, one_if-shift n rule.from l)
@@ -69,7 +93,8 @@ unfolding total
 total_parameter a [] i h b = refl
 total_parameter a (o ∷ os) i h b = omega (arith, ints, change_parameter a i o h.0.0 h.0.1 b, total_parameter a os i h.1 b)
 
-total_shared : (a : Automaton) (os : List ℕ) (i : ℕ) → EachRule a os → length a.parameters ≤ i → i < length a.parameters + length a.shared → pos 0 ≤ℤ total (change_of a i) os
+total_shared : (a : Automaton) (os : List ℕ) (i : ℕ) → EachRule a os → length a.parameters ≤ i → i < length a.parameters + length a.shared
+    → pos 0 ≤ℤ total (change_of a i) os
 unfolding total
 total_shared a [] i h low high = omega (arith, ints)
 total_shared a (o ∷ os) i h low high = omega (arith, ints, change_shared a i o h.0.0 h.0.1 low high, total_shared a os i h.1 low high)
@@ -85,14 +110,16 @@ each_front a [] h = tt
 each_front a (o ∷ []) h = tt
 each_front a (o ∷ q ∷ os) h = (h.0, each_front a (q ∷ os) h.1)
 
-front_shared : (a : Automaton) (os : List ℕ) (i : ℕ) → EachRule a os → length a.parameters ≤ i → i < length a.parameters + length a.shared → total (change_of a i) (without_last os) ≤ℤ total (change_of a i) os
+front_shared : (a : Automaton) (os : List ℕ) (i : ℕ) → EachRule a os → length a.parameters ≤ i → i < length a.parameters + length a.shared
+    → total (change_of a i) (without_last os) ≤ℤ total (change_of a i) os
 unfolding total
 front_shared a [] i h low high = omega (arith, ints)
 front_shared a (o ∷ []) i h low high = omega (arith, ints, change_shared a i o h.0.0 h.0.1 low high)
 front_shared a (o ∷ q ∷ os) i h low high = omega (arith, ints, front_shared a (q ∷ os) i h.1 low high)
 
 -- a fall guard that holds after firings holds before the last of them
-pub holds_before_last : (a : Automaton) (f : ℕ → ℤ) (os : List ℕ) → EachRule a os → (j : ℕ) (row : Row) → slice_get a.fall j ≡ Some row → RowHolds (after a f os) row → RowHolds (after a f (without_last os)) row
+pub holds_before_last : (a : Automaton) (f : ℕ → ℤ) (os : List ℕ) → EachRule a os → (j : ℕ) (row : Row) → slice_get a.fall j ≡ Some row
+    → RowHolds (after a f os) row → RowHolds (after a f (without_last os)) row
 holds_before_last a f os h j row at held =
     let later : Later a (after a f (without_last os)) (after a f os) = record {
       parameters = λ i b. omega (arith, ints, total_parameter a os i h b, total_parameter a (without_last os) i (each_front a os h) b);
@@ -101,7 +128,8 @@ holds_before_last a f os h j row at held =
     omega (arith, ints, held, fall_back a (after a f (without_last os)) (after a f os) later row.form.terms (falls_rows a j row at))
 
 -- the same before the last one, after one firing
-front_after : (a : Automaton) (f g : ℕ → ℤ) (o q : ℕ) (os : List ℕ) → In q os → ((i : ℕ) → g i ≡ (f i +ℤ change_of a i o)) → (i : ℕ) → after a g (without_last os) i ≡ after a f (without_last (o ∷ os)) i
+front_after : (a : Automaton) (f g : ℕ → ℤ) (o q : ℕ) (os : List ℕ) → In q os → ((i : ℕ) → g i ≡ (f i +ℤ change_of a i o)) → (i : ℕ)
+    → after a g (without_last os) i ≡ after a f (without_last (o ∷ os)) i
 unfolding total
 front_after a f g o q [] within moved i = absurd within
 front_after a f g o q (p ∷ os) within moved i = omega (arith, ints, moved i)
@@ -132,7 +160,14 @@ fire_in_order a (o ∷ os) d onward s =
     let some : 1 ≤ get_or d.counters l 0 = omega (arith, ints, out, end, mine, none, change_location a l o rule named, value_at-location a d l fits) in
     let all = later_after a (value_at d) (without_last (o ∷ os)) (each_front a (o ∷ os) s.exist) in
     let rise : MaskedHold rule.rise a.rise d = s.rises o rule (inl refl) named in
-    let fall : MaskedHold rule.fall a.fall d = (λ j row at set. omega (arith, ints, s.falls o rule (inl refl) named j row at set, fall_back a (value_at d) (after a (value_at d) (without_last (o ∷ os))) all row.form.terms (falls_rows a j row at))) in
+    let fall : MaskedHold rule.fall a.fall d =
+    (λ j row at set. omega (
+      arith,
+      ints,
+      s.falls o rule (inl refl) named j row at set,
+      fall_back a (value_at d)
+          (after a (value_at d) (without_last (o ∷ os))) all row.form.terms (falls_rows a j row at),
+    )) in
     let step = fire_step a o rule d named s.whole rise fall some in
     let next = fire a rule d in
     let whole = fire_whole a rule d s.whole in
@@ -146,7 +181,13 @@ fire_in_order a (o ∷ os) d onward s =
       whole = whole;
       exist = s.exist.1;
       rises = λ q other i n k row at set. stays_true a (value_at d) (value_at next) one k row at (s.rises q other (inr i) n k row at set);
-      falls = λ q other i n j row at set. omega (arith, ints, s.falls q other (inr i) n j row at set, terms_value-same row.form.terms (after a (value_at next) (without_last os)) (after a (value_at d) (without_last (o ∷ os))) (front_after a (value_at d) (value_at next) o q os i moved));
+      falls = λ q other i n j row at set. omega (
+        arith,
+        ints,
+        s.falls q other (inr i) n j row at set,
+        terms_value-same row.form.terms (after a (value_at next) (without_last os))
+            (after a (value_at d) (without_last (o ∷ os))) (front_after a (value_at d) (value_at next) o q os i moved),
+      );
       ends = λ m b. omega (arith, ints, s.ends m b, same (location_place a m));
     } in
     let more = fire_in_order a os next onward.1 rest in

@@ -4,7 +4,8 @@
 -- leads, or a location comes again, and the firings between are a circuit. In scope no rule of a circuit has an update, and each of
 -- its locations is left as often as it is entered: taken out together, its firings change no sum. The firing at which going back
 -- ends comes first in the order, and the same is done with the others. One or the other makes the list shorter each time.
-use Rattle.ta_automaton.proofs.Common.{◌≡◌, ◌≢◌, ◌⊎◌, inl, inr, ℕ, zero, suc, ◌≤◌, ℤ, pos, List, [], ◌∷◌, ◌++◌, length, arith, sym, ap, ◌∙◌, refl, subst, slice_get, Some, append_assoc, ints, eqb_tells, coefficient, Rule, Automaton, Walk, InScope, In, total, length-append}
+use Rattle.ta_automaton.proofs.Common.{◌≡◌, ◌≢◌, ◌⊎◌, inl, inr, ℕ, zero, suc, ◌≤◌, ℤ, pos, List, [], ◌∷◌, ◌++◌, length, arith, sym, ap, ◌∙◌, refl, subst}
+use Rattle.ta_automaton.proofs.Common.{slice_get, Some, append_assoc, ints, eqb_tells, coefficient, Rule, Automaton, Walk, InScope, In, total, length-append}
 use Rattle.ta_base.proofs.Integers.{zero_or_more}
 use Rattle.ta_base.proofs.Members.{In-left, In-right, in_append}
 use Rattle.ta_base.proofs.Totals.{total-append}
@@ -18,7 +19,8 @@ walk_append a x [] y qs z v w = subst (λ (l : ℕ). Walk a l qs z) (sym v) w
 walk_append a x (r ∷ rs) y qs z v w = (v.0, v.1, v.2, walk_append a (v.0).to rs y qs z v.3 w)
 
 -- a rule with a walk from its target back to its source has no update
-pub pure_rule : (a : Automaton) → InScope a → (r : ℕ) (rule : Rule) → slice_get a.rules r ≡ Some rule → (rs : List ℕ) → Walk a rule.to rs rule.from → (x : ℕ) → coefficient rule.updates x ≡ pos 0
+pub pure_rule : (a : Automaton) → InScope a → (r : ℕ) (rule : Rule) → slice_get a.rules r ≡ Some rule → (rs : List ℕ) → Walk a rule.to rs rule.from → (x : ℕ)
+    → coefficient rule.updates x ≡ pos 0
 pure_rule a scope r rule named rs back x = elim (zero_or_more (coefficient rule.updates x) (updates_natural a r rule named x)) [
   | inl e ↦ e
   | inr some ↦ absurd (scope r rule named (x, some) rs back)
@@ -30,7 +32,8 @@ pure_behind a scope x before c (r ∷ rs) v w =
     let rule = w.0 in
     let round : Walk a rule.to (rs ++ before) rule.from = walk_append a rule.to rs x before rule.from w.3 (subst (Walk a x before) (sym w.2) v) in
     let step : Walk a c (r ∷ []) rule.to = (rule, w.1, w.2, refl) in (
-      λ other named. pure_rule a scope r other named (rs ++ before) (let same : rule ≡ other = same_Some rule other (sym w.1 ∙ named) in subst (λ (q : Rule). Walk a q.to (rs ++ before) q.from) same round),
+      λ other named. pure_rule a scope r other named (rs ++ before)
+          (let same : rule ≡ other = same_Some rule other (sym w.1 ∙ named) in subst (λ (q : Rule). Walk a q.to (rs ++ before) q.from) same round),
       pure_behind a scope x (before ++ r ∷ []) rule.to rs (walk_append a x before c (r ∷ []) rule.to v step) w.3,
     )
 
@@ -54,15 +57,25 @@ into_or a x (o ∷ os) h = elim (eqb_tells (h.0.0).to x) [
   | inl e ↦ inr (record { front = []; firing = o; behind = os; cut = refl; rule = h.0.0; named = h.0.1; into = e.1 })
   | inr ne ↦ elim (into_or a x os h.1) [
     | inl none ↦ inl (other o h.0.0 h.0.1 ne.1, none)
-    | inr w ↦ inr (record { front = o ∷ w.front; firing = w.firing; behind = w.behind; cut = ap (λ (xs : List ℕ). o ∷ xs) w.cut; rule = w.rule; named = w.named; into = w.into })
+    | inr w ↦ inr (record {
+      front = o ∷ w.front;
+      firing = w.firing;
+      behind = w.behind;
+      cut = ap (λ (xs : List ℕ). o ∷ xs) w.cut;
+      rule = w.rule;
+      named = w.named;
+      into = w.into;
+    })
   ]
 ] where
   other : (o : ℕ) (rule : Rule) → slice_get a.rules o ≡ Some rule → rule.to ≢ x → (q : Rule) → slice_get a.rules o ≡ Some q → q.to ≢ x
   other o rule named ne q at = let e : Some rule ≡ Some q = sym named ∙ at in let same : rule ≡ q = cc in subst (λ (r : Rule). r.to ≢ x) same ne
 
 -- a walk up to one of its rules
-walk_cut : (a : Automaton) (x : ℕ) (front : List ℕ) (o : ℕ) (behind : List ℕ) (y : ℕ) (rule : Rule) → slice_get a.rules o ≡ Some rule → Walk a x (front ++ o ∷ behind) y → Walk a x (front ++ o ∷ []) rule.to
-walk_cut a x [] o behind y rule named w = (w.0, w.1, w.2, (let e : Some w.0 ≡ Some rule = sym w.1 ∙ named in let same : w.0 ≡ rule = cc in ap (λ (q : Rule). q.to) same))
+walk_cut : (a : Automaton) (x : ℕ) (front : List ℕ) (o : ℕ) (behind : List ℕ) (y : ℕ) (rule : Rule) → slice_get a.rules o ≡ Some rule
+    → Walk a x (front ++ o ∷ behind) y → Walk a x (front ++ o ∷ []) rule.to
+walk_cut a x [] o behind y rule named w =
+    (w.0, w.1, w.2, (let e : Some w.0 ≡ Some rule = sym w.1 ∙ named in let same : w.0 ≡ rule = cc in ap (λ (q : Rule). q.to) same))
 walk_cut a x (r ∷ front) o behind y rule named w = (w.0, w.1, w.2, walk_cut a (w.0).to front o behind y rule named w.3)
 
 -- the second list has the items of the first
@@ -82,15 +95,31 @@ same_trans os ps qs s t = record {
 same_moved : (rs front : List ℕ) (o : ℕ) (behind : List ℕ) → Same (rs ++ (front ++ o ∷ behind)) ((o ∷ rs) ++ (front ++ behind))
 unfolding total
 same_moved rs front o behind = record {
-  sums = λ g. omega (arith, ints, total-append g rs (front ++ o ∷ behind), total-append g front (o ∷ behind), total-append g rs (front ++ behind), total-append g front behind);
+  sums = λ g. omega (
+    arith,
+    ints,
+    total-append g rs (front ++ o ∷ behind),
+    total-append g front (o ∷ behind),
+    total-append g rs (front ++ behind),
+    total-append
+        g front behind,
+  );
   back = λ q i. elim i [
     | inl e ↦ In-right q rs (front ++ o ∷ behind) (In-right q front (o ∷ behind) (inl e))
     | inr j ↦ elim (in_append q rs (front ++ behind) j) [
       | inl k ↦ In-left q rs (front ++ o ∷ behind) k
-      | inr k ↦ In-right q rs (front ++ o ∷ behind) (elim (in_append q front behind k) [ inl m ↦ In-left q front (o ∷ behind) m | inr m ↦ In-right q front (o ∷ behind) (inr m) ])
+      | inr k ↦ In-right q rs (front ++ o ∷ behind)
+          (elim (in_append q front behind k) [ inl m ↦ In-left q front (o ∷ behind) m | inr m ↦ In-right q front (o ∷ behind) (inr m) ])
     ]
   ];
-  size = omega (arith, length-append rs (front ++ o ∷ behind), length-append front (o ∷ behind), length-append rs (front ++ behind), length-append front behind);
+  size = omega (
+    arith,
+    length-append rs (front ++ o ∷ behind),
+    length-append front (o ∷ behind),
+    length-append rs (front ++ behind),
+    length-append front
+        behind,
+  );
 }
 
 same_cut : (front : List ℕ) (o : ℕ) (behind left : List ℕ) → Same ((front ++ o ∷ behind) ++ left) ((front ++ o ∷ []) ++ (behind ++ left))
@@ -162,7 +191,9 @@ back_on a os fuel b w rest size = record {
   target = b.target;
   walk = (w.rule, w.named, refl, subst (λ (l : ℕ). Walk a l (b.first ∷ b.rs) b.target) (sym w.into) b.walk);
   left = w.front ++ w.behind;
-  same = same_trans os ((b.first ∷ b.rs) ++ b.left) ((w.firing ∷ b.first ∷ b.rs) ++ (w.front ++ w.behind)) b.same (subst (λ (xs : List ℕ). Same ((b.first ∷ b.rs) ++ xs) ((w.firing ∷ b.first ∷ b.rs) ++ (w.front ++ w.behind))) (sym w.cut) (same_moved (b.first ∷ b.rs) w.front w.firing w.behind));
+  same = same_trans os ((b.first ∷ b.rs) ++ b.left) ((w.firing ∷ b.first ∷ b.rs) ++ (w.front ++ w.behind)) b.same
+      (subst (λ (xs : List ℕ). Same ((b.first ∷ b.rs) ++ xs) ((w.firing ∷ b.first ∷ b.rs) ++ (w.front ++ w.behind))) (sym w.cut)
+      (same_moved (b.first ∷ b.rs) w.front w.firing w.behind));
   short = omega (arith, b.short, ap (λ (xs : List ℕ). length xs) w.cut, length-append w.front (w.firing ∷ w.behind), length-append w.front w.behind);
 }
 
@@ -174,31 +205,53 @@ back_round a os fuel b w =
     record {
       place = x;
       circuit = circuit;
-      walk = subst (Walk a x circuit) w.into (walk_cut a x w.front w.firing w.behind b.target w.rule w.named (subst (λ (xs : List ℕ). Walk a x xs b.target) w.cut b.walk));
+      walk = subst (Walk a x circuit) w.into
+          (walk_cut a x w.front w.firing w.behind b.target w.rule w.named (subst (λ (xs : List ℕ). Walk a x xs b.target) w.cut b.walk));
       some = omega (arith, length-append w.front (w.firing ∷ []));
       rest = w.behind ++ b.left;
-      same = same_trans os ((b.first ∷ b.rs) ++ b.left) (circuit ++ (w.behind ++ b.left)) b.same (subst (λ (xs : List ℕ). Same (xs ++ b.left) (circuit ++ (w.behind ++ b.left))) (sym w.cut) (same_cut w.front w.firing w.behind b.left));
+      same = same_trans os ((b.first ∷ b.rs) ++ b.left) (circuit ++ (w.behind ++ b.left)) b.same
+          (subst (λ (xs : List ℕ). Same (xs ++ b.left) (circuit ++ (w.behind ++ b.left))) (sym w.cut) (same_cut w.front w.firing w.behind b.left));
     }
 
 -- going back from firing to firing comes to one that nothing leads into the source of, or round a circuit
 go_back : (a : Automaton) (os : List ℕ) → EachRule a os → (fuel : ℕ) → Back a os fuel → Free a os ⊎ Circuit a os
 go_back a os rules zero b =
     let all : EachRule a ((b.first ∷ b.rs) ++ b.left) = each_rule_back a os ((b.first ∷ b.rs) ++ b.left) rules b.same.back in
-    elim (into_or a b.rule.from (b.first ∷ b.rs) (each_rule_back a ((b.first ∷ b.rs) ++ b.left) (b.first ∷ b.rs) all (λ q i. In-left q (b.first ∷ b.rs) b.left i))) [
+    elim (into_or a b.rule.from (b.first ∷ b.rs)
+    (each_rule_back a ((b.first ∷ b.rs) ++ b.left) (b.first ∷ b.rs) all (λ q i. In-left q (b.first ∷ b.rs) b.left i))) [
       | inr w ↦ inr (back_round a os zero b w)
-      | inl here ↦ elim (into_or a b.rule.from b.left (each_rule_back a ((b.first ∷ b.rs) ++ b.left) b.left all (λ q i. In-right q (b.first ∷ b.rs) b.left i))) [
-        | inl none ↦ inl (record { firing = b.first; rule = b.rule; named = b.named; rest = b.rs ++ b.left; same = b.same; none = none_append a b.rule.from (b.first ∷ b.rs) b.left here none })
-        | inr w ↦ absurd (omega (arith, b.short, ap (λ (xs : List ℕ). length xs) w.cut, length-append w.front (w.firing ∷ w.behind)))
-      ]
+      | inl here ↦ elim (into_or a b.rule.from b.left
+          (each_rule_back a ((b.first ∷ b.rs) ++ b.left) b.left all (λ q i. In-right q (b.first ∷ b.rs) b.left i))) [
+            | inl none ↦ inl (record {
+              firing = b.first;
+              rule = b.rule;
+              named = b.named;
+              rest = b.rs
+                  ++ b.left;
+              same = b.same;
+              none = none_append a b.rule.from (b.first ∷ b.rs) b.left here none;
+            })
+            | inr w ↦ absurd (omega (arith, b.short, ap (λ (xs : List ℕ). length xs) w.cut, length-append w.front (w.firing ∷ w.behind)))
+          ]
     ]
 go_back a os rules (suc fuel) b =
     let all : EachRule a ((b.first ∷ b.rs) ++ b.left) = each_rule_back a os ((b.first ∷ b.rs) ++ b.left) rules b.same.back in
-    elim (into_or a b.rule.from (b.first ∷ b.rs) (each_rule_back a ((b.first ∷ b.rs) ++ b.left) (b.first ∷ b.rs) all (λ q i. In-left q (b.first ∷ b.rs) b.left i))) [
+    elim (into_or a b.rule.from (b.first ∷ b.rs)
+    (each_rule_back a ((b.first ∷ b.rs) ++ b.left) (b.first ∷ b.rs) all (λ q i. In-left q (b.first ∷ b.rs) b.left i))) [
       | inr w ↦ inr (back_round a os (suc fuel) b w)
-      | inl here ↦ elim (into_or a b.rule.from b.left (each_rule_back a ((b.first ∷ b.rs) ++ b.left) b.left all (λ q i. In-right q (b.first ∷ b.rs) b.left i))) [
-        | inl none ↦ inl (record { firing = b.first; rule = b.rule; named = b.named; rest = b.rs ++ b.left; same = b.same; none = none_append a b.rule.from (b.first ∷ b.rs) b.left here none })
-        | inr w ↦ go_back a os rules fuel (back_on a os (suc fuel) b w fuel refl)
-      ]
+      | inl here ↦ elim (into_or a b.rule.from b.left
+          (each_rule_back a ((b.first ∷ b.rs) ++ b.left) b.left all (λ q i. In-right q (b.first ∷ b.rs) b.left i))) [
+            | inl none ↦ inl (record {
+              firing = b.first;
+              rule = b.rule;
+              named = b.named;
+              rest = b.rs
+                  ++ b.left;
+              same = b.same;
+              none = none_append a b.rule.from (b.first ∷ b.rs) b.left here none;
+            })
+            | inr w ↦ go_back a os rules fuel (back_on a os (suc fuel) b w fuel refl)
+          ]
     ]
 
 free_or_circuit : (a : Automaton) (o : ℕ) (os : List ℕ) → EachRule a (o ∷ os) → Free a (o ∷ os) ⊎ Circuit a (o ∷ os)
@@ -247,6 +300,14 @@ rearrange a scope (suc fuel) (o ∷ os) h short = elim (free_or_circuit a o os h
         firings = more.firings;
         onward = more.onward;
         among = λ q i. c.same.back q (In-right q c.circuit c.rest (more.among q i));
-        sums = λ i. omega (arith, ints, more.sums i, c.same.sums (change_of a i), total-append (change_of a i) c.circuit c.rest, circuit_total a c.place c.circuit c.walk (circuit_pure a scope c.place c.circuit c.walk) i);
+        sums = λ i. omega (
+          arith,
+          ints,
+          more.sums i,
+          c.same.sums (change_of a i),
+          total-append (change_of a i) c.circuit c.rest,
+          circuit_total a c.place
+              c.circuit c.walk (circuit_pure a scope c.place c.circuit c.walk) i,
+        );
       })
 ]

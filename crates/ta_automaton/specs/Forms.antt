@@ -36,7 +36,8 @@ ConditionOver places condition = AllByRecursion (λ (k : Comparison). AllByRecur
 
 pub ConditionOver-prop : (places : ℕ) (condition : Condition) → IsProp (ConditionOver places condition)
 ConditionOver-prop places condition =
-    AllByRecursion-prop (λ (k : Comparison). AllByRecursion (RowOver places) k.rows) (λ k. AllByRecursion-prop (RowOver places) (λ r. FormOver-prop places r.form) k.rows) condition.comparisons
+    AllByRecursion-prop (λ (k : Comparison). AllByRecursion (RowOver places) k.rows)
+    (λ k. AllByRecursion-prop (RowOver places) (λ r. FormOver-prop places r.form) k.rows) condition.comparisons
 
 -- a rise guard: over parameters and shared variables, with no negative coefficient of a shared variable
 pub record RiseRow (parameters shared : ℕ) (row : Row) : Type 0 where
@@ -45,7 +46,12 @@ pub record RiseRow (parameters shared : ℕ) (row : Row) : Type 0 where
 
 pub RiseRow-prop : (parameters shared : ℕ) (row : Row) → IsProp (RiseRow parameters shared row)
 RiseRow-prop parameters shared row =
-    hlevel (props, FormOver-prop (parameters + shared) row.form, AllByRecursion-prop (λ (t : ℕ × ℤ). parameters ≤ t.0 → pos 0 ≤ℤ t.1) (λ t. hlevel props) row.form.terms)
+    hlevel (
+      props,
+      FormOver-prop (parameters + shared) row.form,
+      AllByRecursion-prop (λ (t : ℕ × ℤ). parameters ≤ t.0 → pos 0 ≤ℤ t.1) (λ t. hlevel props)
+          row.form.terms,
+    )
 
 -- a fall guard: over parameters and shared variables, with some shared variable and no positive coefficient of one
 pub record FallRow (parameters shared : ℕ) (row : Row) : Type 0 where
@@ -55,4 +61,9 @@ pub record FallRow (parameters shared : ℕ) (row : Row) : Type 0 where
 
 pub FallRow-prop : (parameters shared : ℕ) (row : Row) → IsProp (FallRow parameters shared row)
 FallRow-prop parameters shared row =
-    hlevel (props, FormOver-prop (parameters + shared) row.form, AllByRecursion-prop (λ (t : ℕ × ℤ). parameters ≤ t.0 → t.1 ≤ℤ pos 0) (λ t. hlevel props) row.form.terms)
+    hlevel (
+      props,
+      FormOver-prop (parameters + shared) row.form,
+      AllByRecursion-prop (λ (t : ℕ × ℤ). parameters ≤ t.0 → t.1 ≤ℤ pos 0) (λ t. hlevel props)
+          row.form.terms,
+    )

@@ -63,7 +63,8 @@ abbrev pub CountersByFirings : Type 0
 CountersByFirings =
     (a : Automaton) (first : Config) (rules : List ℕ) (later : List Config) → Run a first rules later
     → (k : ℕ) (c : Config) → At first later k c
-    → (l : ℕ) → slice_index c.counters l + count_by (λ r. leads_out_of l (slice_get a.rules r)) (take k rules) ≡ slice_index first.counters l + count_by (λ r. leads_into l (slice_get a.rules r)) (take k rules)
+    → (l : ℕ) → slice_index c.counters l + count_by (λ r. leads_out_of l (slice_get a.rules r)) (take k rules) ≡ slice_index first.counters l + count_by
+    (λ r. leads_into l (slice_get a.rules r)) (take k rules)
 
 -- what a rule adds to a shared variable
 abbrev pub update_of : ℕ → Option Rule → ℤ
@@ -75,7 +76,8 @@ abbrev pub SharedByFirings : Type 0
 SharedByFirings =
     (a : Automaton) (first : Config) (rules : List ℕ) (later : List Config) → Run a first rules later
     → (k : ℕ) (c : Config) → At first later k c
-    → (x : ℕ) → pos (slice_index c.shared x) ≡ total (λ r. update_of x (slice_get a.rules r) *ℤ pos (times_in r (take k rules))) (range_with_len 0 (length a.rules))
+    → (x : ℕ) → pos (slice_index c.shared x) ≡ total (λ r. update_of x (slice_get a.rules r) *ℤ pos (times_in r (take k rules)))
+    (range_with_len 0 (length a.rules))
 
 -- some pattern is unsafe
 abbrev pub SomeUnsafe : Type 0

@@ -33,7 +33,14 @@ pub record PatternWithin (places locations : ℕ) (pattern : Pattern) : Type 0 w
 
 pub PatternWithin-prop : (places locations : ℕ) (pattern : Pattern) → IsProp (PatternWithin places locations pattern)
 PatternWithin-prop places locations pattern =
-    hlevel (props, Name-prop pattern.name, ConditionOver-prop places pattern.start, EachFrom-prop (EventWithin places) (EventWithin-prop places) 0 pattern.events, Distinct-prop (map event_name pattern.events))
+    hlevel (
+      props,
+      Name-prop pattern.name,
+      ConditionOver-prop places pattern.start,
+      EachFrom-prop (EventWithin places) (EventWithin-prop places) 0
+          pattern.events,
+      Distinct-prop (map event_name pattern.events),
+    )
 
 -- a pattern of an automaton
 abbrev pub PatternOver : Automaton → Pattern → Type 0
@@ -51,4 +58,9 @@ pub record PatternsShape (places locations : ℕ) (patterns : List Pattern) : Ty
 
 pub PatternsShape-prop : (places locations : ℕ) (patterns : List Pattern) → IsProp (PatternsShape places locations patterns)
 PatternsShape-prop places locations patterns =
-    hlevel (props, AllByRecursion-prop (PatternWithin places locations) (PatternWithin-prop places locations) patterns, Distinct-prop (map pattern_name patterns))
+    hlevel (
+      props,
+      AllByRecursion-prop (PatternWithin places locations) (PatternWithin-prop places locations) patterns,
+      Distinct-prop
+          (map pattern_name patterns),
+    )

@@ -1,7 +1,8 @@
 -- Runs of a threshold automaton, and the patterns that occur in them. Source: Konnov, Lazić, Veith, Widder, "A Short Counterexample
 -- Property for Safety and Liveness Verification of Fault-Tolerant Distributed Algorithms", POPL 2017: counter systems, here with
 -- transitions of one process, paths, and the safety part of ELTL_FT.
-use Rattle.std.specs.Prelude.{ℕ, ℤ, pos, ◌+◌, ◌+ℤ◌, ◌≤ℤ◌, ◌≤◌, ◌≡◌, ◌==◌, List, [], ◌∷◌, ◌++◌, length, All, Contains, sum, slice_get, slice_index, if◌then◌else◌, Some, IsBitSet}
+use Rattle.std.specs.Prelude.{ℕ, ℤ, pos, ◌+◌, ◌+ℤ◌, ◌≤ℤ◌, ◌≤◌, ◌≡◌, ◌==◌, List, [], ◌∷◌, ◌++◌, length, All, Contains, sum, slice_get, slice_index}
+use Rattle.std.specs.Prelude.{if◌then◌else◌, Some, IsBitSet}
 use Rattle.ta_linear.specs.Terms.{coefficient}
 use Rattle.ta_linear.specs.Values.{value_of, RowHolds}
 use Rattle.ta_linear.specs.declared.row.Row.{Row}

@@ -53,7 +53,8 @@ pub record WithinLimits (parameters shared locations : List (List ℕ)) (rise fa
   pub rules_limit : length rules ≤ 128
 
 -- an automaton of an automaton file
-pub record AutomatonShape (name : List ℕ) (parameters shared locations : List (List ℕ)) (initial : List ℕ) (processes : Form) (resilience : Condition) (rise fall : List Row) (rules : List Rule) : Type 0 where
+pub record AutomatonShape (name : List ℕ) (parameters shared locations : List (List ℕ)) (initial : List ℕ) (processes : Form) (resilience : Condition)
+    (rise fall : List Row) (rules : List Rule) : Type 0 where
   pub limits : WithinLimits parameters shared locations rise fall rules
   pub name_legal : Name name
   pub names_legal : AllByRecursion Name (parameters ++ shared ++ locations)
@@ -69,7 +70,8 @@ pub record AutomatonShape (name : List ℕ) (parameters shared locations : List 
   pub rules_within : AllByRecursion (RuleWithin (length shared) (length locations) (length rise) (length fall)) rules
   pub rules_distinct : Distinct (map name_of rules)
 
-pub AutomatonShape-prop : (name : List ℕ) (parameters shared locations : List (List ℕ)) (initial : List ℕ) (processes : Form) (resilience : Condition) (rise fall : List Row) (rules : List Rule) → IsProp (AutomatonShape name parameters shared locations initial processes resilience rise fall rules)
+pub AutomatonShape-prop : (name : List ℕ) (parameters shared locations : List (List ℕ)) (initial : List ℕ) (processes : Form) (resilience : Condition)
+    (rise fall : List Row) (rules : List Rule) → IsProp (AutomatonShape name parameters shared locations initial processes resilience rise fall rules)
 AutomatonShape-prop name parameters shared locations initial processes resilience rise fall rules =
     hlevel (
       props,
@@ -83,6 +85,7 @@ AutomatonShape-prop name parameters shared locations initial processes resilienc
       Distinct-prop rise,
       AllByRecursion-prop (FallRow (length parameters) (length shared)) (FallRow-prop (length parameters) (length shared)) fall,
       Distinct-prop fall,
-      AllByRecursion-prop (RuleWithin (length shared) (length locations) (length rise) (length fall)) (RuleWithin-prop (length shared) (length locations) (length rise) (length fall)) rules,
+      AllByRecursion-prop (RuleWithin (length shared) (length locations) (length rise) (length fall))
+          (RuleWithin-prop (length shared) (length locations) (length rise) (length fall)) rules,
       Distinct-prop (map name_of rules),
     )

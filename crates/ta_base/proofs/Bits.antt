@@ -1,7 +1,12 @@
 -- sets of numbers as masks and as tests
-use Rattle.ta_base.proofs.Common.{ℕ, ◌<◌, eqb, max, ◌≡◌, ◌||◌, zero, refl, suc, arith, min, ◌&&◌, true≢false, bit_or, ap, ◌∙◌, bit_and, ◌^◌, ◌==◌, inl, sym, inr, false, ◌≤◌, ◌-◌, true, Bool, not, eqb-true, eq-eqb, ◌*◌, ◌%◌, pow_pos, ◌+◌, ◌⊎◌, IsBitSet, ◌/◌, cond, ◌↔◌, List, filter, [], ◌∷◌, get_or, ◌≢◌, w32, false≢true, cases_lt, and_cases, bit_at, bit_not, eqb_tells, one_shl, and_le_r, AllByRecursion, has_bit, implies, all_below, nat_tests, cases_Bool, Decides-eqb, same_from_decides, ne_eqb, and_parts, subst, cases_eq, not-false, not-true, not-not, and_comm, bit_set_by_shift, Decides-below_and, Decides, filter_agree, any_below, add-one}
+use Rattle.ta_base.proofs.Common.{ℕ, ◌<◌, eqb, max, ◌≡◌, ◌||◌, zero, refl, suc, arith, min, ◌&&◌, true≢false, bit_or, ap, ◌∙◌, bit_and, ◌^◌, ◌==◌, inl, sym}
+use Rattle.ta_base.proofs.Common.{inr, false, ◌≤◌, ◌-◌, true, Bool, not, eqb-true, eq-eqb, ◌*◌, ◌%◌, pow_pos, ◌+◌, ◌⊎◌, IsBitSet, ◌/◌, cond, ◌↔◌, List, filter}
+use Rattle.ta_base.proofs.Common.{[], ◌∷◌, get_or, ◌≢◌, w32, false≢true, cases_lt, and_cases, bit_at, bit_not, eqb_tells, one_shl, and_le_r, AllByRecursion}
+use Rattle.ta_base.proofs.Common.{has_bit, implies, all_below, nat_tests, cases_Bool, Decides-eqb, same_from_decides, ne_eqb, and_parts, subst, cases_eq}
+use Rattle.ta_base.proofs.Common.{not-false, not-true, not-not, and_comm, bit_set_by_shift, Decides-below_and, Decides, filter_agree, any_below, add-one}
 use Rattle.std.proofs.Math.Pow.{pow-lt}
-use Rattle.std.proofs.lemmas.Nat.Bits.{bit_at_or, bit_at-lt, bit_at_and, same_from_bits, bit_at-pow_same, bit_at-pow_other, bit_at-zero, bit_at_above, bit_at_ones, bit_at_lowest, bit_at-suc, bit_at_cat_low, bit_at_not, shr_and_one}
+use Rattle.std.proofs.lemmas.Nat.Bits.{bit_at_or, bit_at-lt, bit_at_and, same_from_bits, bit_at-pow_same, bit_at-pow_other, bit_at-zero, bit_at_above}
+use Rattle.std.proofs.lemmas.Nat.Bits.{bit_at_ones, bit_at_lowest, bit_at-suc, bit_at_cat_low, bit_at_not, shr_and_one}
 use Rattle.std.proofs.lemmas.Nat.{or_lt}
 use Rattle.ta_base.proofs.Naturals.{mask_of, bit_small}
 use Rattle.ta_base.proofs.Booleans.{both_ways, implies-from, and_false, either_way}
@@ -71,13 +76,15 @@ and_none false y e = refl
 
 all_below_tells : (n : ℕ) (test : ℕ → Bool) → Decides (all_below n test) ((k : ℕ) → k < n → test k ≡ true)
 unfolding all_below
-all_below_tells n test = Decides-below_and test (λ k. test k ≡ true) (λ m. all_below m test) (λ k. (λ t. t, λ t. t)) refl (λ m. and_comm (all_below m test) (test m)) n
+all_below_tells n test = Decides-below_and test (λ k. test k ≡ true) (λ m. all_below m test) (λ k. (λ t. t, λ t. t)) refl
+    (λ m. and_comm (all_below m test) (test m)) n
 
 pub all_below-at : (n : ℕ) (test : ℕ → Bool) → all_below n test ≡ true → (k : ℕ) → k < n → test k ≡ true
 all_below-at n test = (all_below_tells n test).0
 
 -- a test of each number below another says the same of each number, where a mask has no bit above
-implied : (part n : ℕ) (test : ℕ → Bool) → part < 2 ^ n → all_below n (λ i. implies (has_bit part i) (test i)) ≡ true → (i : ℕ) → implies (has_bit part i) (test i) ≡ true
+implied : (part n : ℕ) (test : ℕ → Bool) → part < 2 ^ n → all_below n (λ i. implies (has_bit part i) (test i)) ≡ true → (i : ℕ)
+    → implies (has_bit part i) (test i) ≡ true
 implied part n test b h i = elim (cases_lt i n) [
   | inl below ↦ all_below-at n (λ k. implies (has_bit part k) (test k)) h i below
   | inr above ↦ ap (λ x. implies x (test i)) (has_above part n i b above)
@@ -88,24 +95,35 @@ all_below-from n test = (all_below_tells n test).1
 
 pub subset : (part whole n : ℕ) → part < 2 ^ n → (bit_and part whole == part) ≡ all_below n (λ i. implies (has_bit part i) (has_bit whole i))
 subset part whole n b = both_ways _ _
-    (λ e. all_below-from n (λ i. implies (has_bit part i) (has_bit whole i)) (λ i _. implies-from (has_bit part i) (has_bit whole i) (λ t. (and_parts (has_bit part i) (has_bit whole i) (sym (has_and part whole i) ∙ ap (λ m. has_bit m i) (eqb-true (bit_and part whole) part e) ∙ t)).1)))
-    (λ h. eq-eqb (bit_and part whole) part (same_mask (bit_and part whole) part (λ i. has_and part whole i ∙ and_same (has_bit part i) (has_bit whole i) (implied part n (has_bit whole) b h i))))
+    (λ e. all_below-from n (λ i. implies (has_bit part i) (has_bit whole i))
+    (λ i _. implies-from (has_bit part i) (has_bit whole i)
+    (λ t. (and_parts (has_bit part i) (has_bit whole i)
+    (sym (has_and part whole i) ∙ ap (λ m. has_bit m i) (eqb-true (bit_and part whole) part e) ∙ t)).1)))
+    (λ h. eq-eqb (bit_and part whole) part
+    (same_mask (bit_and part whole) part (λ i. has_and part whole i ∙ and_same (has_bit part i) (has_bit whole i) (implied part n (has_bit whole) b h i))))
 
 pub disjoint : (part other n : ℕ) → part < 2 ^ n → (bit_and part other == 0) ≡ all_below n (λ i. implies (has_bit part i) (not (has_bit other i)))
 disjoint part other n b = both_ways _ _
-    (λ e. all_below-from n (λ i. implies (has_bit part i) (not (has_bit other i))) (λ i _. implies-from (has_bit part i) (not (has_bit other i)) (λ t. ap not (and_false (has_bit part i) (has_bit other i) (sym (has_and part other i) ∙ ap (λ m. has_bit m i) (eqb-true (bit_and part other) 0 e) ∙ has_none i) t))))
-    (λ h. eq-eqb (bit_and part other) 0 (same_mask (bit_and part other) 0 (λ i. has_and part other i ∙ and_none (has_bit part i) (has_bit other i) (implied part n (λ k. not (has_bit other k)) b h i) ∙ sym (has_none i))))
+    (λ e. all_below-from n (λ i. implies (has_bit part i) (not (has_bit other i)))
+    (λ i _. implies-from (has_bit part i) (not (has_bit other i))
+    (λ t. ap not (and_false (has_bit part i) (has_bit other i)
+    (sym (has_and part other i) ∙ ap (λ m. has_bit m i) (eqb-true (bit_and part other) 0 e) ∙ has_none i) t))))
+    (λ h. eq-eqb (bit_and part other) 0
+    (same_mask (bit_and part other) 0
+    (λ i. has_and part other i ∙ and_none (has_bit part i) (has_bit other i) (implied part n (λ k. not (has_bit other k)) b h i) ∙ sym (has_none i))))
 
 pub set_test : (w mask k : ℕ) → k < w → not (eqb (bit_and mask ((1 * 2 ^ k) % 2 ^ w)) 0) ≡ has_bit mask k
 set_test w mask k h =
     ap (λ b. not (eqb (bit_and mask b) 0)) (one_shl k w h)
-    ∙ both_ways _ _ (λ t. bit_true mask k (λ e. true≢false (sym t ∙ ap not (eq-eqb (bit_and mask (2 ^ k)) 0 e)))) (λ t. ap not (ne_eqb (bit_and mask (2 ^ k)) 0 (bit_set mask k t)))
+    ∙ both_ways _ _ (λ t. bit_true mask k (λ e. true≢false (sym t ∙ ap not (eq-eqb (bit_and mask (2 ^ k)) 0 e))))
+    (λ t. ap not (ne_eqb (bit_and mask (2 ^ k)) 0 (bit_set mask k t)))
 
 pub with_bit : (w mask k i : ℕ) → k < w → has_bit (bit_or mask ((1 * 2 ^ k) % 2 ^ w)) i ≡ ((k == i) || has_bit mask i)
 with_bit w mask k i h = ap (λ b. has_bit (bit_or mask b) i) (one_shl k w h) ∙ has_or mask (2 ^ k) i ∙ ap (λ b. b || has_bit mask i) (has_pow k i)
 
 pub all_below-same : (n : ℕ) (f g : ℕ → Bool) → ((k : ℕ) → k < n → f k ≡ g k) → all_below n f ≡ all_below n g
-all_below-same n f g h = both_ways _ _ (λ t. all_below-from n g (λ k b. sym (h k b) ∙ all_below-at n f t k b)) (λ t. all_below-from n f (λ k b. h k b ∙ all_below-at n g t k b))
+all_below-same n f g h = both_ways _ _ (λ t. all_below-from n g (λ k b. sym (h k b) ∙ all_below-at n f t k b))
+    (λ t. all_below-from n f (λ k b. h k b ∙ all_below-at n g t k b))
 
 -- the mask of the first n numbers
 pub first_numbers : (n : ℕ) (test : ℕ → Bool) → n < 32 → all_below n (λ i. implies (has_bit ((1 * 2 ^ n) % 4294967296 - 1) i) (test i)) ≡ all_below n test
@@ -120,13 +138,15 @@ pub none_told : (test : ℕ → Bool) → Told test 0 0
 none_told test = record { below = λ k b. absurd (omega arith); above = λ k b. has_none k }
 
 -- one more number, at which alone the mask may change
-told_more : (test : ℕ → Bool) (mask more n : ℕ) → Told test mask n → ((k : ℕ) → k ≢ n → has_bit more k ≡ has_bit mask k) → has_bit more n ≡ test n → Told test more (n + 1)
+told_more : (test : ℕ → Bool) (mask more n : ℕ) → Told test mask n → ((k : ℕ) → k ≢ n → has_bit more k ≡ has_bit mask k) → has_bit more n ≡ test n
+    → Told test more (n + 1)
 told_more test mask more n told other here = record {
   below = λ k b. elim (cases_eq k n) [ inl e ↦ subst (λ j. has_bit more j ≡ test j) (sym e) here | inr ne ↦ other k ne ∙ told.below k (omega arith) ];
   above = λ k b. other k (omega arith) ∙ told.above k (omega arith);
 }
 
-pub one_told : (test : ℕ → Bool) (w mask more n : ℕ) → Told test mask n → n < w → test n ≡ true → more ≡ bit_or mask ((1 * 2 ^ n) % 2 ^ w) → Told test more (n + 1)
+pub one_told : (test : ℕ → Bool) (w mask more n : ℕ) → Told test mask n → n < w → test n ≡ true → more ≡ bit_or mask ((1 * 2 ^ n) % 2 ^ w)
+    → Told test more (n + 1)
 one_told test w mask more n told within passes is = told_more test mask more n told
     (λ k ne. ap (λ m. has_bit m k) is ∙ with_bit w mask n k within ∙ ap (λ b. b || has_bit mask k) (ne_eqb n k (λ e. ne (sym e))))
     (ap (λ m. has_bit m n) is ∙ with_bit w mask n n within ∙ ap (λ b. b || has_bit mask n) (eq-eqb n n refl) ∙ sym passes)
@@ -150,7 +170,8 @@ some_bit mask n least most = elim (cases_Bool (all_below n (λ k. not (has_bit m
 ]
   where
     no_bit_at : (i : ℕ) → all_below n (λ k. not (has_bit mask k)) ≡ true → has_bit mask i ≡ false
-    no_bit_at i all = elim (cases_lt i n) [ inl below ↦ not-true (has_bit mask i) (all_below-at n (λ k. not (has_bit mask k)) all i below) | inr above ↦ has_above mask n i most above ]
+    no_bit_at i all = elim (cases_lt i n)
+        [ inl below ↦ not-true (has_bit mask i) (all_below-at n (λ k. not (has_bit mask k)) all i below) | inr above ↦ has_above mask n i most above ]
 
 odd_part : (b m : ℕ) → b < 2 → (b + 2 * m) % 2 ≡ b
 odd_part b m h = omega arith
@@ -166,9 +187,12 @@ pub mask_of-bit : (test : ℕ → Bool) (n j : ℕ) → j < n → has_bit (mask_
 unfolding has_bit mask_of
 mask_of-bit test zero j h = absurd (omega arith)
 mask_of-bit test (suc n) zero h =
-    ap (λ k. eqb k 1) (bit_at_lowest (mask_of test (suc n)) ∙ odd_part (cond (test 0) 1 0) (mask_of (λ j. test (suc j)) n) (bit_small (test 0))) ∙ bit_same (test 0)
+    ap (λ k. eqb k 1) (bit_at_lowest (mask_of test (suc n)) ∙ odd_part (cond (test 0) 1 0) (mask_of (λ j. test (suc j)) n) (bit_small (test 0)))
+    ∙ bit_same (test 0)
 mask_of-bit test (suc n) (suc j) h =
-    ap (λ k. eqb k 1) (bit_at-suc (mask_of test (suc n)) j ∙ ap (λ m. bit_at m j) (half_part (cond (test 0) 1 0) (mask_of (λ j. test (suc j)) n) (bit_small (test 0)))) ∙ mask_of-bit (λ j. test (suc j)) n j (omega arith)
+    ap (λ k. eqb k 1) (bit_at-suc (mask_of test (suc n)) j
+    ∙ ap (λ m. bit_at m j) (half_part (cond (test 0) 1 0) (mask_of (λ j. test (suc j)) n) (bit_small (test 0))))
+    ∙ mask_of-bit (λ j. test (suc j)) n j (omega arith)
 
 pub no_bit : (i : ℕ) → IsBitSet 0 i → ⊥
 no_bit i b = b refl
@@ -243,7 +267,8 @@ pub none_kept_empty : (ls : List ℕ) → filter (λ l. not (has_bit 0 l)) ls �
 none_kept_empty ls = filter_agree (λ l. not (has_bit 0 l)) (λ l. true) (λ l. ap not (has_none l)) ls ∙ filter_all ls
 
 -- the complement of the locations that are left and aren't kept empty
-pub left_bit : (empty left l : ℕ) → empty < 2 ^ 32 → left < 2 ^ 32 → l < 32 → not (has_bit (bit_not w32 (bit_and (bit_not w32 empty) left)) l) ≡ (not (has_bit empty l) && has_bit left l)
+pub left_bit : (empty left l : ℕ) → empty < 2 ^ 32 → left < 2 ^ 32 → l < 32
+    → not (has_bit (bit_not w32 (bit_and (bit_not w32 empty) left)) l) ≡ (not (has_bit empty l) && has_bit left l)
 left_bit empty left l e f h =
     let b : bit_and (bit_not w32 empty) left < 2 ^ 32 = omega (arith, and_le_r (bit_not w32 empty) left) in
     ap not (standing_bit (bit_and (bit_not w32 empty) left) l b h)
@@ -301,7 +326,8 @@ pub ones_bit : (n k : ℕ) → IsBitSet (2 ^ n - 1) k → k < n
 ones_bit n k set = bit_below (2 ^ n - 1) n k (ones_below n) set
 
 -- a mask that differs at one bit, which is set
-pub one_bit_more : (mask n more : ℕ) → bit_at more n ≡ 1 → ((i : ℕ) → i ≢ n → bit_at more i ≡ bit_at mask i) → (i : ℕ) → IsBitSet more i ↔ (IsBitSet mask i ⊎ (i ≡ n))
+pub one_bit_more : (mask n more : ℕ) → bit_at more n ≡ 1 → ((i : ℕ) → i ≢ n → bit_at more i ≡ bit_at mask i) → (i : ℕ) → IsBitSet more i
+    ↔ (IsBitSet mask i ⊎ (i ≡ n))
 one_bit_more mask n more set kept i = (
   λ b. elim (eqb_tells i n) [
     | inl e ↦ inr e.1

@@ -1,5 +1,7 @@
 -- truth values: and, or, not, and choices by a test
-use Rattle.ta_base.proofs.Common.{Bool, ◌&&◌, ◌≡◌, true, false, refl, ◌||◌, not, sym, ap, ◌∙◌, true≢false, ◌⊎◌, inl, inr, false≢true, implies, cases_Bool, same_from_decides, beq, or-false, or-true, and-true, not-not, OnTrue, true_from_ne_false, OnTrue_at, OnTrue_from, cond, Decides}
+use Rattle.ta_base.proofs.Common.{Bool, ◌&&◌, ◌≡◌, true, false, refl, ◌||◌, not, sym, ap, ◌∙◌, true≢false, ◌⊎◌, inl, inr, false≢true, implies, cases_Bool}
+use Rattle.ta_base.proofs.Common.{same_from_decides, beq, or-false, or-true, and-true, not-not, OnTrue, true_from_ne_false, OnTrue_at, OnTrue_from, cond}
+use Rattle.ta_base.proofs.Common.{Decides}
 use Rattle.std.proofs.lemmas.Bool.Decides.{Decides-and, Decides-like}
 
 pub implies-from : (x y : Bool) → (x ≡ true → y ≡ true) → implies x y ≡ true
@@ -65,9 +67,11 @@ pub first_passed : {X : Type 0} (a b : Bool) (x y z : X) → cond a x (cond b y 
 first_passed a b x y z e second none = (chosen a x (cond b y z) x e (λ w. none (not_chosen b y z x w second).1)).0
 
 -- a test of pairs, by tests of their parts
-pub Decides-pair : {X Y : Type 0} (f : X → X → Bool) (g : Y → Y → Bool) → ((x y : X) → Decides (f x y) (x ≡ y)) → ((x y : Y) → Decides (g x y) (x ≡ y)) → (p q : X × Y) → Decides (f p.0 q.0 && g p.1 q.1) (p ≡ q)
+pub Decides-pair : {X Y : Type 0} (f : X → X → Bool) (g : Y → Y → Bool) → ((x y : X) → Decides (f x y) (x ≡ y)) → ((x y : Y) → Decides (g x y) (x ≡ y))
+    → (p q : X × Y) → Decides (f p.0 q.0 && g p.1 q.1) (p ≡ q)
 Decides-pair f g first second (x, c) (y, d) =
-    Decides-like (f x y && g c d) (λ w. let e = w.0 in let h = w.1 in cc) (λ e. (ap (λ t. t.0) e, ap (λ t. t.1) e)) (Decides-and (f x y) (g c d) (first x y) (second c d))
+    Decides-like (f x y && g c d) (λ w. let e = w.0 in let h = w.1 in cc) (λ e. (ap (λ t. t.0) e, ap (λ t. t.1) e))
+    (Decides-and (f x y) (g c d) (first x y) (second c d))
 
 -- a test that isn't one value is the other
 pub other_of : (a b v w : Bool) → (a ≡ b → ⊥) → b ≡ v → (a ≡ v) ⊎ (a ≡ w) → a ≡ w

@@ -1,5 +1,7 @@
 -- Numbers in decimal: the digits of each, and the number of digits
-use Rattle.ta_base.proofs.Common.{ℕ, ◌+◌, ◌/◌, ◌%◌, ◌^◌, ◌<◌, ◌≤◌, ◌≡◌, ◌≢◌, true, false, List, [], ◌∷◌, ◌++◌, length, get_or, refl, sym, ap, ◌∙◌, decimal, arith, rules, tests, IsTrue, ◌-◌, false≢true, decimal_by_steps_wide, is_ascii_digit, digit_value, AllByRecursion, nat_tests, DigitsAt, NoDecimalAt, is_padded, All-get_or, All-from_recursion, BeginsNoDigit}
+use Rattle.ta_base.proofs.Common.{ℕ, ◌+◌, ◌/◌, ◌%◌, ◌^◌, ◌<◌, ◌≤◌, ◌≡◌, ◌≢◌, true, false, List, [], ◌∷◌, ◌++◌, length, get_or, refl, sym, ap, ◌∙◌, decimal}
+use Rattle.ta_base.proofs.Common.{arith, rules, tests, IsTrue, ◌-◌, false≢true, decimal_by_steps_wide, is_ascii_digit, digit_value, AllByRecursion, nat_tests}
+use Rattle.ta_base.proofs.Common.{DigitsAt, NoDecimalAt, is_padded, All-get_or, All-from_recursion, BeginsNoDigit}
 use Rattle.ta_base.proofs.DecimalDigits.{digits_are, decimal_digits, digits_unique}
 use Rattle.ta_base.proofs.Naturals.{wide, small_is_wide}
 
@@ -8,7 +10,8 @@ Begins : ℕ → List ℕ → Type 0
 Begins n ds = (0 < n → 48 < get_or ds 0 0) × (0 < length ds) × (is_padded ds ≡ false)
 
 -- one digit more leaves the beginning
-begins_more : (n x : ℕ) (ds : List ℕ) → 0 < n → Begins n ds → (48 < get_or (ds ++ (x ∷ [])) 0 0) × (0 < length (ds ++ (x ∷ []))) × (is_padded (ds ++ (x ∷ [])) ≡ false)
+begins_more : (n x : ℕ) (ds : List ℕ) → 0 < n → Begins n ds → (48 < get_or (ds ++ (x ∷ [])) 0 0) × (0 < length (ds ++ (x ∷ [])))
+    × (is_padded (ds ++ (x ∷ [])) ≡ false)
 unfolding Begins
 begins_more n x [] some b = absurd (omega (arith, b.1))
 begins_more n x (c ∷ []) some b = let high = b.0 some in let other : c ≢ 48 = omega arith in (high, omega arith, search (rules, tests))
@@ -17,7 +20,8 @@ begins_more n x (c ∷ e ∷ es) some b = let high = b.0 some in let other : c �
 -- each number begins so
 begins_all : (n : ℕ) → n < 10 ^ 64 → Begins n (decimal n)
 unfolding Begins
-begins_all = decimal_by_steps_wide Begins (λ n low. (λ some. omega arith, omega arith, refl)) (λ n ds high b. let some : 0 < n / 10 = omega arith in let m = begins_more (n / 10) (48 + n % 10) ds some b in (λ _. m.0, m.1, m.2))
+begins_all = decimal_by_steps_wide Begins (λ n low. (λ some. omega arith, omega arith, refl))
+    (λ n ds high b. let some : 0 < n / 10 = omega arith in let m = begins_more (n / 10) (48 + n % 10) ds some b in (λ _. m.0, m.1, m.2))
 
 -- a number isn't padded
 pub decimal_plain : (n : ℕ) → n < 10 ^ 64 → is_padded (decimal n) ≡ false

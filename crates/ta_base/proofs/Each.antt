@@ -1,5 +1,11 @@
 -- facts about each item of a list
-use Rattle.ta_base.proofs.Common.{ℕ, Bool, List, ◌≡◌, true, IsTrue, [], ◌∷◌, refl, ◌≤◌, length, get_or, arith, sym, ◌∙◌, map, take, ◌+◌, suc, false, All, slice_get, Some, zero, subst, ℤ, filter, inl, inr, ◌⊎◌, ◌++◌, Contains, ◌<◌, ap, drop, take-append-drop, set, pos, ◌^◌, unsigned_abs, ◌-ℤ◌, replicate, ◌≤ℤ◌, length-append, list_all, AllByRecursion, prefix_len, false≢true, same_Some, slice_get-get_or, get_or_from_slice_get, slice_get_within, ints, is_letter, is_word, IsWord, Avoids, EachFrom, Distinct, In, range_with_len, get_or-take, All-take, All-drop, All-replicate, All-from_recursion, recursion_from_All, All-set, All-append, Contains-append_right, length-prefix_len, AllPass-from_list_all, list_all-from_AllPass, prefix_len_passes, length-range_with_len, get_or-range_with_len, cond, slice_range, ◌-◌}
+use Rattle.ta_base.proofs.Common.{ℕ, Bool, List, ◌≡◌, true, IsTrue, [], ◌∷◌, refl, ◌≤◌, length, get_or, arith, sym, ◌∙◌, map, take, ◌+◌, suc, false, All}
+use Rattle.ta_base.proofs.Common.{slice_get, Some, zero, subst, ℤ, filter, inl, inr, ◌⊎◌, ◌++◌, Contains, ◌<◌, ap, drop, take-append-drop, set, pos, ◌^◌}
+use Rattle.ta_base.proofs.Common.{unsigned_abs, ◌-ℤ◌, replicate, ◌≤ℤ◌, length-append, list_all, AllByRecursion, prefix_len, false≢true, same_Some}
+use Rattle.ta_base.proofs.Common.{slice_get-get_or, get_or_from_slice_get, slice_get_within, ints, is_letter, is_word, IsWord, Avoids, EachFrom, Distinct, In}
+use Rattle.ta_base.proofs.Common.{range_with_len, get_or-take, All-take, All-drop, All-replicate, All-from_recursion, recursion_from_All, All-set, All-append}
+use Rattle.ta_base.proofs.Common.{Contains-append_right, length-prefix_len, AllPass-from_list_all, list_all-from_AllPass, prefix_len_passes}
+use Rattle.ta_base.proofs.Common.{length-range_with_len, get_or-range_with_len, cond, slice_range, ◌-◌}
 use Rattle.ta_base.proofs.Lists.{get_map, cut_at}
 use Rattle.ta_base.proofs.Members.{contains_here, in_get_or, in_append, In-right, In-left, in_at, in_map, in_filter, in_or, place_of, in-here, In-map}
 use Rattle.ta_base.proofs.Integers.{less_small}
@@ -31,12 +37,14 @@ pub is_words : (bytes : List ℕ) → IsWord bytes → list_all is_word bytes �
 is_words bytes word = list_all-from_AllPass is_word bytes (All-from_recursion (λ b. IsTrue (is_word b)) bytes word.each)
 
 -- whether bytes that begin by a letter are a name
-pub word_tells : (bytes : List ℕ) (r : Bool) → 1 ≤ length bytes → is_letter (get_or bytes 0 0) ≡ true → r ≡ list_all is_word bytes → (IsTrue r → IsWord bytes) × (IsWord bytes → IsTrue r)
+pub word_tells : (bytes : List ℕ) (r : Bool) → 1 ≤ length bytes → is_letter (get_or bytes 0 0) ≡ true → r ≡ list_all is_word bytes → (IsTrue r → IsWord bytes)
+    × (IsWord bytes → IsTrue r)
 word_tells [] r some letter e = absurd (omega arith)
 word_tells (b ∷ bs) r some letter e = ((λ t. word_is b bs letter (sym e ∙ t)), (λ word. e ∙ is_words (b ∷ bs) word))
 
 -- what each item has, its image has
-pub each_map : {X Y : Type 0} (f : X → Y) (P : X → Type 0) (Q : Y → Type 0) (xs : List X) → ((x : X) → P x → Q (f x)) → AllByRecursion P xs → AllByRecursion Q (map f xs)
+pub each_map : {X Y : Type 0} (f : X → Y) (P : X → Type 0) (Q : Y → Type 0) (xs : List X) → ((x : X) → P x → Q (f x)) → AllByRecursion P xs
+    → AllByRecursion Q (map f xs)
 each_map f P Q xs gives each = each_from_in Q (map f xs) (λ y is. let w = in_map f y xs is in subst Q (sym w.2) (gives w.0 (each_in P xs w.0 each w.1)))
 
 pub each_map_all : {X Y : Type 0} (P : Y → Type 0) (f : X → Y) (xs : List X) → ((x : X) → P (f x)) → AllByRecursion P (map f xs)
@@ -76,8 +84,10 @@ each_from_at P k (y ∷ ys) (suc i) x h e = let n : k + 1 + i ≡ k + suc i = om
 pub each_map_of : {X Y : Type 0} (f : X → Y) (P : Y → Type 0) (xs : List X) → AllByRecursion (λ x. P (f x)) xs → AllByRecursion P (map f xs)
 each_map_of f P xs h = each_map f (λ x. P (f x)) P xs (λ x p. p) h
 
-pub each_listed : (P : (ℕ × ℤ) → Type 0) (t : ℕ → Bool) (count : ℕ → ℤ) (ns : List ℕ) → ((n : ℕ) → t n ≡ true → P (n, count n)) → AllByRecursion P (map {B = ℕ × ℤ} (λ q. (q, count q)) (filter t ns))
-each_listed P t count ns h = each_map_of (λ q. (q, count q)) P (filter t ns) (each_from_in (λ q. P (q, count q)) (filter t ns) (λ n is. h n (in_filter t n ns is).0))
+pub each_listed : (P : (ℕ × ℤ) → Type 0) (t : ℕ → Bool) (count : ℕ → ℤ) (ns : List ℕ) → ((n : ℕ) → t n ≡ true → P (n, count n))
+    → AllByRecursion P (map {B = ℕ × ℤ} (λ q. (q, count q)) (filter t ns))
+each_listed P t count ns h = each_map_of (λ q. (q, count q)) P (filter t ns)
+    (each_from_in (λ q. P (q, count q)) (filter t ns) (λ n is. h n (in_filter t n ns is).0))
 
 -- a number is an item that has a property, or differs from each item
 pub find_or : (P : ℕ → Type 0) (p : ℕ) (xs : List ℕ) → AllByRecursion P xs → P p ⊎ AllByRecursion (λ y. p ≡ y → ⊥) xs
@@ -152,7 +162,8 @@ distinct_range xs from to d = distinct_take (to - from) (drop from xs) (distinct
 
 pub distinct_append : {X : Type 0} (xs ys : List X) → Distinct xs → Distinct ys → ((x : X) → In x xs → In x ys → ⊥) → Distinct (xs ++ ys)
 distinct_append [] ys d e apart = e
-distinct_append (x ∷ xs) ys d e apart = (each_append (λ y. x ≡ y → ⊥) xs ys d.0 (not_in x ys (apart x (inl refl))), distinct_append xs ys d.1 e (λ z h. apart z (inr h)))
+distinct_append (x ∷ xs) ys d e apart =
+    (each_append (λ y. x ≡ y → ⊥) xs ys d.0 (not_in x ys (apart x (inl refl))), distinct_append xs ys d.1 e (λ z h. apart z (inr h)))
 
 pub distinct_unless : {X : Type 0} (b : Bool) (xs : List X) → Distinct xs → Distinct (cond b [] xs)
 distinct_unless true xs d = tt
@@ -160,7 +171,8 @@ distinct_unless false xs d = d
 
 -- one more item, from which each of the others differs
 pub distinct_push_apart : {X : Type 0} (xs : List X) (x : X) → Distinct xs → AllByRecursion (λ y. y ≡ x → ⊥) xs → Distinct (xs ++ x ∷ [])
-distinct_push_apart xs x d h = distinct_append xs (x ∷ []) d (tt, tt) (λ y is at. elim at [ inl same ↦ each_in (λ z. z ≡ x → ⊥) xs y h is same | inr none ↦ none ])
+distinct_push_apart xs x d h = distinct_append xs (x ∷ []) d (tt, tt)
+    (λ y is at. elim at [ inl same ↦ each_in (λ z. z ≡ x → ⊥) xs y h is same | inr none ↦ none ])
 
 -- one more item that was not there before
 pub distinct_push : {X : Type 0} (xs : List X) (x : X) → Distinct xs → ((i : ℕ) → slice_get xs i ≡ Some x → ⊥) → Distinct (xs ++ x ∷ [])
@@ -169,7 +181,10 @@ distinct_push xs x d h = distinct_push_apart xs x d (each_from (λ y. y ≡ x �
 -- items whose images are distinct are distinct
 pub distinct_unmap : {X Y : Type 0} (f : X → Y) (xs : List X) → Distinct (map f xs) → Distinct xs
 distinct_unmap f [] d = tt
-distinct_unmap f (x ∷ xs) d = (each_from (λ z. x ≡ z → ⊥) xs (λ i z e same. each_at (λ y. f x ≡ y → ⊥) (map f xs) i (f z) d.0 (get_map f xs i z e) (ap f same)), distinct_unmap f xs d.1)
+distinct_unmap f (x ∷ xs) d = (
+  each_from (λ z. x ≡ z → ⊥) xs (λ i z e same. each_at (λ y. f x ≡ y → ⊥) (map f xs) i (f z) d.0 (get_map f xs i z e) (ap f same)),
+  distinct_unmap f xs d.1,
+)
 
 pub map_each : {X Y : Type 0} (f : X → Y) (P : Y → Type 0) (xs : List X) → AllByRecursion P (map f xs) → AllByRecursion (λ x. P (f x)) xs
 map_each f P xs h = each_from_in (λ x. P (f x)) xs (λ x is. each_in P (map f xs) (f x) h (In-map f x xs is))
@@ -194,10 +209,13 @@ pub each_get_or : {X : Type 0} (P : X → Type 0) (xs : List X) (i : ℕ) (d : X
 each_get_or P xs i d h b = All-from_recursion P xs h i d b
 
 pub behind_distinct : (pair : ℕ × ℕ) (pairs : List (ℕ × ℕ)) → Distinct pairs → (In pair pairs → ⊥) → Distinct (pairs ++ pair ∷ [])
-behind_distinct pair pairs d none = distinct_append pairs (pair ∷ []) d (tt, tt) (λ q is at. elim at [ inl same ↦ none (subst (λ p. In p pairs) same is) | inr never ↦ never ])
+behind_distinct pair pairs d none = distinct_append pairs (pair ∷ []) d (tt, tt)
+    (λ q is at. elim at [ inl same ↦ none (subst (λ p. In p pairs) same is) | inr never ↦ never ])
 
-pub coefficients_turned : (cs : List ℤ) → AllByRecursion (λ (c : ℤ). unsigned_abs c ≤ 2 ^ 73) cs → AllByRecursion (λ (c : ℤ). unsigned_abs c ≤ 2 ^ 73) (map (λ c. pos 0 -ℤ c) cs)
-coefficients_turned cs h = each_map (λ c. pos 0 -ℤ c) (λ (c : ℤ). unsigned_abs c ≤ 2 ^ 73) (λ (c : ℤ). unsigned_abs c ≤ 2 ^ 73) cs (λ c small. less_small c (2 ^ 73) small) h
+pub coefficients_turned : (cs : List ℤ) → AllByRecursion (λ (c : ℤ). unsigned_abs c ≤ 2 ^ 73) cs
+    → AllByRecursion (λ (c : ℤ). unsigned_abs c ≤ 2 ^ 73) (map (λ c. pos 0 -ℤ c) cs)
+coefficients_turned cs h = each_map (λ c. pos 0 -ℤ c) (λ (c : ℤ). unsigned_abs c ≤ 2 ^ 73) (λ (c : ℤ). unsigned_abs c ≤ 2 ^ 73) cs
+    (λ c small. less_small c (2 ^ 73) small) h
 
 -- a number that began is none of those that come
 pub others : (number : ℕ) (begun ks : List ℕ) → AllByRecursion (λ k. In k (number ∷ begun) → ⊥) ks → AllByRecursion (λ k. number ≡ k → ⊥) ks
@@ -208,8 +226,10 @@ pub older_new : (number : ℕ) (begun ks : List ℕ) → AllByRecursion (λ k. I
 older_new number begun ks h = each_weaker (λ k. In k (number ∷ begun) → ⊥) (λ k. In k begun → ⊥) ks (λ k new is. new (inr is)) h
 
 -- numbers that differ from one that began and from the older are new
-pub still_new : (number : ℕ) (begun ks : List ℕ) → AllByRecursion (λ k. number ≡ k → ⊥) ks → AllByRecursion (λ k. In k begun → ⊥) ks → AllByRecursion (λ k. In k (number ∷ begun) → ⊥) ks
-still_new number begun ks apart new = all_both (λ k. number ≡ k → ⊥) (λ k. In k begun → ⊥) (λ k. In k (number ∷ begun) → ⊥) (λ k a n is. elim is [ inl e ↦ a (sym e) | inr j ↦ n j ]) ks apart new
+pub still_new : (number : ℕ) (begun ks : List ℕ) → AllByRecursion (λ k. number ≡ k → ⊥) ks → AllByRecursion (λ k. In k begun → ⊥) ks
+    → AllByRecursion (λ k. In k (number ∷ begun) → ⊥) ks
+still_new number begun ks apart new = all_both (λ k. number ≡ k → ⊥) (λ k. In k begun → ⊥) (λ k. In k (number ∷ begun) → ⊥)
+    (λ k a n is. elim is [ inl e ↦ a (sym e) | inr j ↦ n j ]) ks apart new
 
 -- of a good list of pairs each may join those before it
 pub apart_before : (xs rest : List (ℕ × ℕ)) (pair : ℕ × ℕ) → Distinct (xs ++ pair ∷ rest) → In pair xs → ⊥
@@ -219,7 +239,8 @@ apart_before (x ∷ xs) rest pair distinct (inr there) = apart_before xs rest pa
 
 -- a byte that may not stand in a name stands in none
 pub word_avoids : (byte : ℕ) (name : List ℕ) → is_word byte ≡ false → IsWord name → Avoids byte name
-word_avoids byte name other word = each_weaker (λ b. IsTrue (is_word b)) (λ b. b ≡ byte → ⊥) name (λ b letter same. false≢true (sym other ∙ ap is_word (sym same) ∙ letter)) word.each
+word_avoids byte name other word = each_weaker (λ b. IsTrue (is_word b)) (λ b. b ≡ byte → ⊥) name
+    (λ b letter same. false≢true (sym other ∙ ap is_word (sym same) ∙ letter)) word.each
 
 -- what stands last and nowhere before it stands at the end
 pub last_only : (e : List ℕ) (xs ls later : List (List ℕ)) → AllByRecursion (λ x. x ≡ e → ⊥) xs → xs ++ (e ∷ []) ≡ ls ++ (e ∷ later) → later ≡ []
@@ -243,8 +264,10 @@ pub above_apart : (number : ℕ) (ks : List ℕ) → AllByRecursion (λ k. numbe
 above_apart number ks low = each_weaker (λ k. number + 1 ≤ k) (λ k. number ≡ k → ⊥) ks (λ k first same. omega arith) low
 
 -- items with distinct images, each at one place
-pub distinct_map_at : {X Y : Type 0} (f : X → Y) (xs : List X) (i j : ℕ) (x y : X) → Distinct (map f xs) → slice_get xs i ≡ Some x → slice_get xs j ≡ Some y → f x ≡ f y → i ≡ j
-distinct_map_at f xs i j x y distinct at there same = distinct_at (map f xs) i j (f x) distinct (get_map f xs i x at) (get_map f xs j y there ∙ ap Some (sym same))
+pub distinct_map_at : {X Y : Type 0} (f : X → Y) (xs : List X) (i j : ℕ) (x y : X) → Distinct (map f xs) → slice_get xs i ≡ Some x → slice_get xs j ≡ Some y
+    → f x ≡ f y → i ≡ j
+distinct_map_at f xs i j x y distinct at there same = distinct_at (map f xs) i j (f x) distinct (get_map f xs i x at)
+    (get_map f xs j y there ∙ ap Some (sym same))
 
 -- ---- an item of a list, with the items before it and behind it
 pub record Cut {X : Type 0} (x : X) (xs : List X) : Type 0 where
@@ -271,7 +294,8 @@ fails_after p (x ∷ xs) = step (p x) refl (fails_after p xs)
     step true e h = let s : 1 + prefix_len p xs ≡ suc (prefix_len p xs) = omega arith in rw s h
     step false e h = e
 
-pub longest_unique : (p : ℕ → Bool) (a x b y : List ℕ) → AllByRecursion (λ c. IsTrue (p c)) a → Fails p x → AllByRecursion (λ c. IsTrue (p c)) b → Fails p y → a ++ x ≡ b ++ y → (a ≡ b) × (x ≡ y)
+pub longest_unique : (p : ℕ → Bool) (a x b y : List ℕ) → AllByRecursion (λ c. IsTrue (p c)) a → Fails p x → AllByRecursion (λ c. IsTrue (p c)) b → Fails p y → a
+    ++ x ≡ b ++ y → (a ≡ b) × (x ≡ y)
 longest_unique p [] x [] y all fails all' fails' e = (refl, e)
 longest_unique p [] x (c ∷ b) y all fails all' fails' e = absurd (let h : p c ≡ false = subst (Fails p) e fails in let g : p c ≡ true = all'.0 in cc)
 longest_unique p (c ∷ a) x [] y all fails all' fails' e = absurd (let h : p c ≡ false = subst (Fails p) (sym e) fails' in let g : p c ≡ true = all.0 in cc)

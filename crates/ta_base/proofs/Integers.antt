@@ -1,5 +1,11 @@
 -- whole numbers: signs, sizes, products, and a ruleset that writes polynomials as sums of sorted products
-use Rattle.ta_base.proofs.Common.{ℕ, ◌<◌, ◌*◌, ◌≡◌, sym, ◌∙◌, ap, ◌/◌, ℤ, pos, ◌*ℤ◌, arith, unsigned_abs, int_div, negsuc, suc, neg_ℤ, ◌≤ℤ◌, ◌<ℤ◌, ◌+ℤ◌, div-add-mod', ◌-ℤ◌, ◌≢◌, refl, cond, eqb, FitsSigned, w64, ◌≤◌, ◌^◌, true, false, ◌⊎◌, inl, inr, int_lt, Bool, ◌+◌, to_z, of_z, to_z-of_z, subst, mul-le-mul, true≢false, if◌then◌else◌, mul-le-mul_left, div-le_self, mul-le-mul_right, length, replicate, get_or, mul-div_cancel', mul-dvd-mul_left, dvd-mul_right, ◌∣◌, int_div_euclid, IsGcd, int_min, w128, int_rem_euclid, mod_below, ints, fits_signed_from_abs, unsigned_abs-mul, by_lt_z, *ℤ_comm, *ℤ-zero, ◌-◌, nat_tests, cases_Bool, false≢true, cases_eq, props, signed_decimal, length-decimal-le_wide, cases_lt, get_or-replicate, get_or_past, length-replicate, w32, +ℤ_idl, +ℤ_idr, +ℤ_invr, mul-pos, lt_of_mul-lt-mul_left, lt_of_mul-lt-mul_right, cond_both}
+use Rattle.ta_base.proofs.Common.{ℕ, ◌<◌, ◌*◌, ◌≡◌, sym, ◌∙◌, ap, ◌/◌, ℤ, pos, ◌*ℤ◌, arith, unsigned_abs, int_div, negsuc, suc, neg_ℤ, ◌≤ℤ◌, ◌<ℤ◌, ◌+ℤ◌}
+use Rattle.ta_base.proofs.Common.{div-add-mod', ◌-ℤ◌, ◌≢◌, refl, cond, eqb, FitsSigned, w64, ◌≤◌, ◌^◌, true, false, ◌⊎◌, inl, inr, int_lt, Bool, ◌+◌, to_z}
+use Rattle.ta_base.proofs.Common.{of_z, to_z-of_z, subst, mul-le-mul, true≢false, if◌then◌else◌, mul-le-mul_left, div-le_self, mul-le-mul_right, length}
+use Rattle.ta_base.proofs.Common.{replicate, get_or, mul-div_cancel', mul-dvd-mul_left, dvd-mul_right, ◌∣◌, int_div_euclid, IsGcd, int_min, w128}
+use Rattle.ta_base.proofs.Common.{int_rem_euclid, mod_below, ints, fits_signed_from_abs, unsigned_abs-mul, by_lt_z, *ℤ_comm, *ℤ-zero, ◌-◌, nat_tests}
+use Rattle.ta_base.proofs.Common.{cases_Bool, false≢true, cases_eq, props, signed_decimal, length-decimal-le_wide, cases_lt, get_or-replicate, get_or_past}
+use Rattle.ta_base.proofs.Common.{length-replicate, w32, +ℤ_idl, +ℤ_idr, +ℤ_invr, mul-pos, lt_of_mul-lt-mul_left, lt_of_mul-lt-mul_right, cond_both}
 use borrow.Author.Differences.{product_is, up, down, same_in, sum_is_lem}
 use Rattle.ta_base.proofs.Naturals.{cond_apart, cond_same, small_is_wide}
 use mir.Val.{SFits, hbits}
@@ -29,7 +35,8 @@ pub floor_high : (a b q : ℤ) → pos 0 <ℤ b → q ≡ int_div_euclid a b →
 floor_high a b q h e = rw e (omega (arith, ints, euclid a b h, rest_within a b h, distributes_right (int_div_euclid a b) (pos 1) b))
 
 -- from natural numbers to whole ones
-pub IsGcd-whole : (a b : ℤ) (x y g : ℕ) (r : ℤ) → x ≡ unsigned_abs a → y ≡ unsigned_abs b → r ≡ pos g → IsGcd x y g → IsGcd (unsigned_abs a) (unsigned_abs b) (unsigned_abs r)
+pub IsGcd-whole : (a b : ℤ) (x y g : ℕ) (r : ℤ) → x ≡ unsigned_abs a → y ≡ unsigned_abs b → r ≡ pos g → IsGcd x y g
+    → IsGcd (unsigned_abs a) (unsigned_abs b) (unsigned_abs r)
 IsGcd-whole a b x y g r d e f h = rw (← d, ← e, f) h
 
 pub mul-neg : (a b : ℤ) → (a *ℤ neg_ℤ b) ≡ neg_ℤ (a *ℤ b)
@@ -173,7 +180,8 @@ pub minus_alike : (a b c d : ℤ) → a ≡ c → b ≡ d → (a -ℤ b) ≡ (c 
 minus_alike a b c d e g = omega (arith, ints, e, g)
 
 -- ---- terms
-pub cond_small : (b : Bool) (z c : ℤ) → (b ≡ true → c ≡ pos 0) → unsigned_abs z ≤ 1000000000 → unsigned_abs c ≤ 1000000000 → unsigned_abs (cond b z (pos 0) +ℤ c) ≤ 1000000000
+pub cond_small : (b : Bool) (z c : ℤ) → (b ≡ true → c ≡ pos 0) → unsigned_abs z ≤ 1000000000 → unsigned_abs c ≤ 1000000000
+    → unsigned_abs (cond b z (pos 0) +ℤ c) ≤ 1000000000
 cond_small true z c e h k = let none : c ≡ pos 0 = e refl in omega (arith, ints, none)
 cond_small false z c e h k = omega (arith, ints)
 
@@ -272,7 +280,8 @@ quotient_le (pos a) g = div-le_self a g
 quotient_le (negsuc a) g = rw (unsigned_abs-neg (pos (suc a / g))) (div-le_self (suc a) g)
 
 -- smaller factors show as much
-pub factors_below : (c a : ℤ) (g b d : ℕ) → unsigned_abs c * b + unsigned_abs a * d < 2 ^ 31 → unsigned_abs (int_div c (pos g)) * b + unsigned_abs (int_div a (pos g)) * d < 2 ^ 31
+pub factors_below : (c a : ℤ) (g b d : ℕ) → unsigned_abs c * b + unsigned_abs a * d < 2 ^ 31
+    → unsigned_abs (int_div c (pos g)) * b + unsigned_abs (int_div a (pos g)) * d < 2 ^ 31
 factors_below c a g b d h = omega (arith, mul-le-mul_right b (quotient_le c g), mul-le-mul_right d (quotient_le a g))
 
 -- divisors of positive numbers of 32 bits
@@ -350,7 +359,8 @@ pub single-elsewhere : (u w : ℕ) (y : ℤ) → u ≢ w → single u y w ≡ po
 unfolding single
 single-elsewhere u w y ne = cond_apart u w y (pos 0) ne
 
-pub cross_arith : (d d' v m q b b' s s' : ℤ) → d *ℤ v ≡ (m *ℤ q) *ℤ b +ℤ m *ℤ s → d' *ℤ v ≡ (m *ℤ q) *ℤ b' +ℤ m *ℤ s' → m *ℤ (d' *ℤ (q *ℤ b +ℤ s)) ≡ m *ℤ (d *ℤ (q *ℤ b' +ℤ s'))
+pub cross_arith : (d d' v m q b b' s s' : ℤ) → d *ℤ v ≡ (m *ℤ q) *ℤ b +ℤ m *ℤ s → d' *ℤ v ≡ (m *ℤ q) *ℤ b' +ℤ m *ℤ s'
+    → m *ℤ (d' *ℤ (q *ℤ b +ℤ s)) ≡ m *ℤ (d *ℤ (q *ℤ b' +ℤ s'))
 cross_arith d d' v m q b b' s s' h k =
     let x = simp expand at (ap (λ (z : ℤ). d' *ℤ z) h) in
     let y = simp expand at (ap (λ (z : ℤ). d *ℤ z) k) in
@@ -358,7 +368,8 @@ cross_arith d d' v m q b b' s s' h k =
 
 pub dvd_cross : (d d' x x' : ℤ) → d' *ℤ x ≡ d *ℤ x' → unsigned_abs d ∣ unsigned_abs d' * unsigned_abs x
 dvd_cross d d' x x' e =
-    let k : unsigned_abs d * unsigned_abs x' ≡ unsigned_abs d' * unsigned_abs x = sym (unsigned_abs-mul d x') ∙ ap unsigned_abs (sym e) ∙ unsigned_abs-mul d' x in
+    let k : unsigned_abs d * unsigned_abs x' ≡ unsigned_abs d' * unsigned_abs x = sym (unsigned_abs-mul d x') ∙ ap unsigned_abs (sym e)
+    ∙ unsigned_abs-mul d' x in
     subst (λ (m : ℕ). unsigned_abs d ∣ m) k (dvd-mul_right (unsigned_abs d) (unsigned_abs x'))
 
 pub same_positive : (a b : ℤ) → pos 0 <ℤ a → pos 0 <ℤ b → unsigned_abs a ≡ unsigned_abs b → a ≡ b

@@ -1,5 +1,15 @@
 -- lists: items by number, parts, maps, filters
-use Rattle.ta_base.proofs.Common.{ℕ, List, [], ◌∙◌, sym, append-nil, decimal, ◌<◌, get_or, ◌≡◌, take, zero, suc, ◌∷◌, arith, length, ◌≤◌, subst, ◌-◌, ◌+◌, drop, length-drop, ap, ◌++◌, refl, not, eqb, true, rules, tests, ℤ, Bool, Option, if◌then◌else◌, Some, None, false, length-take-le, map, append_assoc, IsTrue, pos, ◌≤ℤ◌, ◌<ℤ◌, ◌^◌, negsuc, length-append, false-eqb, filter, get_or-append-add, eq-eqb, slice_get, ◌⊎◌, inr, inl, cond, take_at, drop_at, replicate, drop-drop, take-append-drop, ext_get_or, reverse, set, ◌+ℤ◌, get_or-set_same, get_or-set_other, ◌≢◌, neg_ℤ, int_div, IsSomeAnd, unsigned_abs, slice_index, ◌==◌, Result, is_ok, OnOk, Ok, Err, split_at, take-append-add, take-length, list_all, prefix_len, list_any, range_with_len, slice_split, onto_first, and_parts, false≢true, or_cases, cases_lt, cases_eq, none-some, same_Some, slice_get_read, slice_get_within, take-append-le, length-map, get_or_append_left, drop_more, get_or-append_right, get_or-replicate, length-replicate, take_more, reverse-append, map-append, nat_tests, eqb_tells, signed_decimal, ints, filter-append, IsDecimal, DecimalAt, Avoids, SplitAt, is_letter, is_word, BeginsByLetter, take_all as take_all_of_Common, get_or_past as get_or_past_of_List, take-take, length-filter, count_by-le-length, get_or_from_slice_get, slice_range, reverse-reverse}
+use Rattle.ta_base.proofs.Common.{ℕ, List, [], ◌∙◌, sym, append-nil, decimal, ◌<◌, get_or, ◌≡◌, take, zero, suc, ◌∷◌, arith, length, ◌≤◌, subst, ◌-◌, ◌+◌, drop}
+use Rattle.ta_base.proofs.Common.{length-drop, ap, ◌++◌, refl, not, eqb, true, rules, tests, ℤ, Bool, Option, if◌then◌else◌, Some, None, false, length-take-le}
+use Rattle.ta_base.proofs.Common.{map, append_assoc, IsTrue, pos, ◌≤ℤ◌, ◌<ℤ◌, ◌^◌, negsuc, length-append, false-eqb, filter, get_or-append-add, eq-eqb}
+use Rattle.ta_base.proofs.Common.{slice_get, ◌⊎◌, inr, inl, cond, take_at, drop_at, replicate, drop-drop, take-append-drop, ext_get_or, reverse, set, ◌+ℤ◌}
+use Rattle.ta_base.proofs.Common.{get_or-set_same, get_or-set_other, ◌≢◌, neg_ℤ, int_div, IsSomeAnd, unsigned_abs, slice_index, ◌==◌, Result, is_ok, OnOk, Ok}
+use Rattle.ta_base.proofs.Common.{Err, split_at, take-append-add, take-length, list_all, prefix_len, list_any, range_with_len, slice_split, onto_first}
+use Rattle.ta_base.proofs.Common.{and_parts, false≢true, or_cases, cases_lt, cases_eq, none-some, same_Some, slice_get_read, slice_get_within, take-append-le}
+use Rattle.ta_base.proofs.Common.{length-map, get_or_append_left, drop_more, get_or-append_right, get_or-replicate, length-replicate, take_more, reverse-append}
+use Rattle.ta_base.proofs.Common.{map-append, nat_tests, eqb_tells, signed_decimal, ints, filter-append, IsDecimal, DecimalAt, Avoids, SplitAt, is_letter}
+use Rattle.ta_base.proofs.Common.{is_word, BeginsByLetter, take_all as take_all_of_Common, get_or_past as get_or_past_of_List, take-take, length-filter}
+use Rattle.ta_base.proofs.Common.{count_by-le-length, get_or_from_slice_get, slice_range, reverse-reverse}
 use Rattle.std.proofs.Math.ListN.{get_or-map as get_or-map_of_ListN}
 use Rattle.std.proofs.lemmas.List.{replicate-append-replicate, append_cancel_left, take_rest}
 use Rattle.std.proofs.lemmas.List.Edits.{fill_by_more}
@@ -23,12 +33,15 @@ pub avoids_all : (byte : ℕ) (bytes : List ℕ) (i : ℕ) → length bytes ≤ 
 avoids_all byte bytes i all before = subst (Avoids byte) (take_all_of_Common i bytes all) (avoids_before byte bytes i before)
 
 -- a text is parted at its first such byte
-pub parted_at : (byte : ℕ) (bytes : List ℕ) (i : ℕ) → i < length bytes → get_or bytes i 0 ≡ byte → ((k : ℕ) → k < i → get_or bytes k 0 ≡ byte → ⊥) → SplitAt byte bytes (take i bytes) (take (length bytes - (i + 1)) (drop (i + 1) bytes))
+pub parted_at : (byte : ℕ) (bytes : List ℕ) (i : ℕ) → i < length bytes → get_or bytes i 0 ≡ byte → ((k : ℕ) → k < i → get_or bytes k 0 ≡ byte → ⊥)
+    → SplitAt byte bytes (take i bytes) (take (length bytes - (i + 1)) (drop (i + 1) bytes))
 parted_at byte bytes i within here before =
-    let rest : take (length bytes - (i + 1)) (drop (i + 1) bytes) ≡ drop (i + 1) bytes = take_all_of_Common (length bytes - (i + 1)) (drop (i + 1) bytes) (omega (arith, length-drop (i + 1) bytes)) in
+    let rest : take (length bytes - (i + 1)) (drop (i + 1) bytes) ≡ drop (i + 1) bytes = take_all_of_Common (length bytes - (i + 1)) (drop (i + 1) bytes)
+    (omega (arith, length-drop (i + 1) bytes)) in
     let next : i + 1 ≡ suc i = omega arith in
     record {
-      split = split_at bytes i 0 within ∙ ap (λ b. take i bytes ++ (b ∷ drop (suc i) bytes)) here ∙ ap (λ n. take i bytes ++ (byte ∷ drop n bytes)) (sym next) ∙ ap (λ xs. take i bytes ++ (byte ∷ xs)) (sym rest);
+      split = split_at bytes i 0 within ∙ ap (λ b. take i bytes ++ (b ∷ drop (suc i) bytes)) here ∙ ap (λ n. take i bytes ++ (byte ∷ drop n bytes)) (sym next)
+          ∙ ap (λ xs. take i bytes ++ (byte ∷ xs)) (sym rest);
       first = avoids_before byte bytes i before;
     }
 
@@ -63,7 +76,8 @@ other_byte byte b e same = search (rules, tests)
 -- a byte that known bytes are not
 pub avoids_known : (byte : ℕ) (bs : List ℕ) → list_all (λ b. not (eqb b byte)) bs ≡ true → Avoids byte bs
 avoids_known byte [] e = tt
-avoids_known byte (b ∷ bs) e = let parts = and_parts (not (eqb b byte)) (list_all (λ c. not (eqb c byte)) bs) e in (other_byte byte b parts.0, avoids_known byte bs parts.1)
+avoids_known byte (b ∷ bs) e = let parts = and_parts (not (eqb b byte)) (list_all (λ c. not (eqb c byte)) bs) e in
+    (other_byte byte b parts.0, avoids_known byte bs parts.1)
 
 -- a search that finds nothing passed over the first file and found nothing later
 pub passed_over : (b : Bool) (bytes : List ℕ) (later : Option (List ℕ)) → (if b then Some bytes else later) ≡ None → (b ≡ false) × (later ≡ None)
@@ -74,13 +88,16 @@ passed_over false bytes later none = (refl, none)
 pub filled_more : (a n : ℕ) (xs ys behind : List ℕ) → a ≤ length xs → n ≤ length ys → take (a + n) (take a xs ++ (ys ++ behind)) ≡ take a xs ++ take n ys
 filled_more a n xs ys behind fits few =
     let size : length (take a xs) ≡ a = length-take-le a xs fits in
-    ap (λ k. take (k + n) (take a xs ++ (ys ++ behind))) (sym size) ∙ take-append-add (take a xs) (ys ++ behind) n ∙ ap (λ zs. take a xs ++ zs) (take-append-le n ys behind few)
+    ap (λ k. take (k + n) (take a xs ++ (ys ++ behind))) (sym size) ∙ take-append-add (take a xs) (ys ++ behind) n
+    ∙ ap (λ zs. take a xs ++ zs) (take-append-le n ys behind few)
 
 pub length_of_map : {A P : Type 0} (plain : A → P) (xs : List A) (ps : List P) → map plain xs ≡ ps → length xs ≡ length ps
 length_of_map plain xs ps e = sym (length-map xs plain) ∙ ap length e
 
 -- the pieces of a file, each with its semicolon
-pub regroup : {B : Type 0} (a b c d e s t u v w : B) (la lb lc ld le r : List B) → (a ∷ (la ++ s ∷ [])) ++ ((b ∷ (lb ++ t ∷ [])) ++ ((c ∷ (lc ++ u ∷ [])) ++ ((d ∷ (ld ++ v ∷ [])) ++ ((e ∷ (le ++ w ∷ [])) ++ r)))) ≡ a ∷ (la ++ s ∷ b ∷ (lb ++ t ∷ c ∷ (lc ++ u ∷ d ∷ (ld ++ v ∷ e ∷ (le ++ w ∷ r)))))
+pub regroup : {B : Type 0} (a b c d e s t u v w : B) (la lb lc ld le r : List B) → (a ∷ (la ++ s ∷ []))
+    ++ ((b ∷ (lb ++ t ∷ [])) ++ ((c ∷ (lc ++ u ∷ [])) ++ ((d ∷ (ld ++ v ∷ [])) ++ ((e ∷ (le ++ w ∷ [])) ++ r)))) ≡ a ∷
+    (la ++ s ∷ b ∷ (lb ++ t ∷ c ∷ (lc ++ u ∷ d ∷ (ld ++ v ∷ e ∷ (le ++ w ∷ r)))))
 regroup a b c d e s t u v w la lb lc ld le r = simp append_assoc
 
 pub left_nested : {B : Type 0} (h a b c d e r q : List B) → ((((((h ++ a) ++ b) ++ c) ++ d) ++ e) ++ r) ++ q ≡ h ++ (a ++ (b ++ (c ++ (d ++ (e ++ (r ++ q))))))
@@ -193,20 +210,23 @@ last_item x y zero e = (refl, (let q : x ≡ y = cc in q))
 last_item x y (suc k) e = absurd (cc)
 
 -- an item of a list behind another is in one of the two
-pub get_parts : {X : Type 0} (xs ys : List X) (j : ℕ) (c : X) → slice_get (xs ++ ys) j ≡ Some c → (slice_get xs j ≡ Some c) ⊎ ((k : ℕ) × (j ≡ length xs + k) × (slice_get ys k ≡ Some c))
+pub get_parts : {X : Type 0} (xs ys : List X) (j : ℕ) (c : X) → slice_get (xs ++ ys) j ≡ Some c → (slice_get xs j ≡ Some c)
+    ⊎ ((k : ℕ) × (j ≡ length xs + k) × (slice_get ys k ≡ Some c))
 get_parts [] ys j c e = inr (j, omega arith, e)
 get_parts (x ∷ xs) ys zero c e = inl e
 get_parts (x ∷ xs) ys (suc j) c e = elim (get_parts xs ys j c e) [ inl h ↦ inl h | inr w ↦ inr (w.0, (let q = w.1 in omega arith), w.2) ]
 
 -- an item of a list that has one item more at its end
-pub push_cases : {X : Type 0} (xs : List X) (y : X) (k : ℕ) (x : X) → slice_get (xs ++ y ∷ []) k ≡ Some x → ((k < length xs) × (slice_get xs k ≡ Some x)) ⊎ ((k ≡ length xs) × (y ≡ x))
+pub push_cases : {X : Type 0} (xs : List X) (y : X) (k : ℕ) (x : X) → slice_get (xs ++ y ∷ []) k ≡ Some x → ((k < length xs) × (slice_get xs k ≡ Some x))
+    ⊎ ((k ≡ length xs) × (y ≡ x))
 push_cases xs y k x e = elim (get_parts xs (y ∷ []) k x e) [
   | inl w ↦ inl (slice_get_within xs k x w, w)
   | inr w ↦ (let last = last_item y x w.0 w.2 in inr ((let at = w.1 in let none = last.0 in omega arith), last.1))
 ]
 
 -- names in order, cut into their kinds
-pub cut_in_three : (ps ss ls : List (List ℕ)) (p s : ℕ) → length ps ≡ p → length ss ≡ s → (take p (ps ++ ss ++ ls) ≡ ps) × (take s (drop p (ps ++ ss ++ ls)) ≡ ss) × (drop (p + s) (ps ++ ss ++ ls) ≡ ls)
+pub cut_in_three : (ps ss ls : List (List ℕ)) (p s : ℕ) → length ps ≡ p → length ss ≡ s → (take p (ps ++ ss ++ ls) ≡ ps)
+    × (take s (drop p (ps ++ ss ++ ls)) ≡ ss) × (drop (p + s) (ps ++ ss ++ ls) ≡ ls)
 cut_in_three ps ss ls p s e f =
     let group : ps ++ ss ++ ls ≡ ps ++ (ss ++ ls) = append_assoc ps ss ls in (
       ap (take p) group ∙ take_at ps (ss ++ ls) p e,
@@ -222,12 +242,14 @@ number_gives test (z ∷ zs) h = elim (or_cases (test z) (list_any test zs) h) [
 ]
 
 -- ---- numbers made one by one
-pub at_map : (op : ℤ → ℤ) → op (pos 0) ≡ pos 0 → (f : List ℕ → ℤ) (names : List (List ℕ)) (i : ℕ) → get_or (map (λ x. op (f x)) names) i (pos 0) ≡ op (get_or (map f names) i (pos 0))
+pub at_map : (op : ℤ → ℤ) → op (pos 0) ≡ pos 0 → (f : List ℕ → ℤ) (names : List (List ℕ)) (i : ℕ)
+    → get_or (map (λ x. op (f x)) names) i (pos 0) ≡ op (get_or (map f names) i (pos 0))
 at_map op none f [] i = sym none
 at_map op none f (n ∷ names) zero = refl
 at_map op none f (n ∷ names) (suc i) = at_map op none f names i
 
-pub at_map_both : (op : ℤ → ℤ → ℤ) → op (pos 0) (pos 0) ≡ pos 0 → (f g : List ℕ → ℤ) (names : List (List ℕ)) (i : ℕ) → get_or (map (λ x. op (f x) (g x)) names) i (pos 0) ≡ op (get_or (map f names) i (pos 0)) (get_or (map g names) i (pos 0))
+pub at_map_both : (op : ℤ → ℤ → ℤ) → op (pos 0) (pos 0) ≡ pos 0 → (f g : List ℕ → ℤ) (names : List (List ℕ)) (i : ℕ)
+    → get_or (map (λ x. op (f x) (g x)) names) i (pos 0) ≡ op (get_or (map f names) i (pos 0)) (get_or (map g names) i (pos 0))
 at_map_both op none f g [] i = sym none
 at_map_both op none f g (n ∷ names) zero = refl
 at_map_both op none f g (n ∷ names) (suc i) = at_map_both op none f g names i
@@ -267,7 +289,8 @@ pub get_front : {X : Type 0} (xs : List X) (i j : ℕ) (x : X) → slice_get (ta
 get_front xs i j x at = let b = slice_get-take_within xs i j x at in (b, sym (slice_get-take xs i j b) ∙ at)
 
 -- an item of a list with one more is the last or was there before
-pub get_push : {X : Type 0} (xs : List X) (y : X) (i : ℕ) (x : X) → slice_get (xs ++ y ∷ []) i ≡ Some x → (slice_get xs i ≡ Some x) ⊎ ((i ≡ length xs) × (x ≡ y))
+pub get_push : {X : Type 0} (xs : List X) (y : X) (i : ℕ) (x : X) → slice_get (xs ++ y ∷ []) i ≡ Some x → (slice_get xs i ≡ Some x)
+    ⊎ ((i ≡ length xs) × (x ≡ y))
 get_push xs y i x e = elim (push_cases xs y i x e) [ inl w ↦ inl w.1 | inr w ↦ inr (w.0, sym w.1) ]
 
 pub get_map : {X Y : Type 0} (f : X → Y) (xs : List X) (i : ℕ) (x : X) → slice_get xs i ≡ Some x → slice_get (map f xs) i ≡ Some (f x)
@@ -276,7 +299,8 @@ get_map f (y ∷ ys) zero x e = ap (λ z. Some (f z)) (same_Some y x e)
 get_map f (y ∷ ys) (suc i) x e = get_map f ys i x e
 
 -- ---- a name at a place i of distinct names, among those from a place on and below another
-pub within_part : (names : List (List ℕ)) (n : List ℕ) (from to i : ℕ) → slice_get names i ≡ Some n → from ≤ i → i < to → slice_get (take (to - from) (drop from names)) (i - from) ≡ Some n
+pub within_part : (names : List (List ℕ)) (n : List ℕ) (from to i : ℕ) → slice_get names i ≡ Some n → from ≤ i → i < to
+    → slice_get (take (to - from) (drop from names)) (i - from) ≡ Some n
 within_part names n from to i e low high =
     let same : from + (i - from) ≡ i = omega arith in
     slice_get-take (drop from names) (to - from) (i - from) (omega arith)
@@ -341,7 +365,8 @@ PassedTo {X} Passes xs i = (j : ℕ) (x : X) → j < i → slice_get xs j ≡ So
 pub none_passed : {X : Type 0} (Passes : ℕ → X → Type 0) (xs : List X) → PassedTo Passes xs 0
 none_passed Passes xs j x b at = absurd (omega arith)
 
-pub one_passed : {X : Type 0} (Passes : ℕ → X → Type 0) (xs : List X) (i : ℕ) (x : X) → slice_get xs i ≡ Some x → Passes i x → PassedTo Passes xs i → PassedTo Passes xs (i + 1)
+pub one_passed : {X : Type 0} (Passes : ℕ → X → Type 0) (xs : List X) (i : ℕ) (x : X) → slice_get xs i ≡ Some x → Passes i x → PassedTo Passes xs i
+    → PassedTo Passes xs (i + 1)
 one_passed {X} Passes xs i x at here before j y b there = elim (cases_lt j i) [
   | inl c ↦ before j y c there
   | inr c ↦ (
@@ -350,16 +375,19 @@ one_passed {X} Passes xs i x at here before j y b there = elim (cases_lt j i) [
       subst (λ n. Passes n y) (sym same) (subst (λ z. Passes i z) item here))
 ]
 
-pub all_passed : {X : Type 0} (Passes : ℕ → X → Type 0) (xs : List X) (i : ℕ) → length xs ≤ i → PassedTo Passes xs i → (j : ℕ) (x : X) → slice_get xs j ≡ Some x → Passes j x
+pub all_passed : {X : Type 0} (Passes : ℕ → X → Type 0) (xs : List X) (i : ℕ) → length xs ≤ i → PassedTo Passes xs i → (j : ℕ) (x : X) → slice_get xs j ≡ Some x
+    → Passes j x
 all_passed Passes xs i enough before j x at = before j x (omega (arith, slice_get_within xs j x at)) at
 
 -- what a slice of the whole list leaves of it
 pub front_back : (old new : List ℤ) → length new ≡ length old → take (length old) (new ++ drop (length new) old) ≡ new
 front_back old new same = take_at new (drop (length new) old) (length old) same
 
-pub twice_back : (old new newer rest : List ℤ) → length new ≡ length old → length newer ≡ length old → take (length (take (length old) (new ++ drop (length new) old))) (newer ++ rest) ≡ newer
+pub twice_back : (old new newer rest : List ℤ) → length new ≡ length old → length newer ≡ length old
+    → take (length (take (length old) (new ++ drop (length new) old))) (newer ++ rest) ≡ newer
 twice_back old new newer rest same also =
-    take_at newer rest (length (take (length old) (new ++ drop (length new) old))) (also ∙ sym same ∙ sym (ap (λ (xs : List ℤ). length xs) (front_back old new same)))
+    take_at newer rest (length (take (length old) (new ++ drop (length new) old)))
+    (also ∙ sym same ∙ sym (ap (λ (xs : List ℤ). length xs) (front_back old new same)))
 
 pub take_next_read : {X : Type 0} (k : ℕ) (xs : List X) (x : X) → k < length xs → x ≡ get_or xs k x → take (k + 1) xs ≡ take k xs ++ x ∷ []
 take_next_read k xs x below is = take_more xs k x below ∙ ap (λ y. take k xs ++ y ∷ []) (sym is)
@@ -410,21 +438,36 @@ map_same f g (x ∷ xs) h = ap (λ y. y ∷ map f xs) (h x) ∙ ap (λ ys. g x �
 pub get_right : {X : Type 0} (xs ys : List X) (k : ℕ) (c : X) → slice_get ys k ≡ Some c → slice_get (xs ++ ys) (length xs + k) ≡ Some c
 get_right xs ys k c e = slice_get_right xs ys (length xs + k) k refl ∙ e
 
-item_more : {X : Type 0} (f : ℕ → X) (test : ℕ → Bool) (xs : List ℕ) (i d : ℕ) → i < length xs → map f (filter test (take (i + 1) xs)) ≡ map f (filter test (take i xs)) ++ map f (cond (test (get_or xs i d)) (get_or xs i d ∷ []) [])
-item_more f test xs i d b = ap (λ ys. map f (filter test ys)) (take_more xs i d b) ∙ ap (map f) (filter-append test (take i xs) (get_or xs i d ∷ [])) ∙ map-append f (filter test (take i xs)) (cond (test (get_or xs i d)) (get_or xs i d ∷ []) [])
+item_more : {X : Type 0} (f : ℕ → X) (test : ℕ → Bool) (xs : List ℕ) (i d : ℕ) → i < length xs
+    → map f (filter test (take (i + 1) xs)) ≡ map f (filter test (take i xs)) ++ map f (cond (test (get_or xs i d)) (get_or xs i d ∷ []) [])
+item_more f test xs i d b = ap (λ ys. map f (filter test ys)) (take_more xs i d b) ∙ ap (map f) (filter-append test (take i xs) (get_or xs i d ∷ []))
+    ∙ map-append f (filter test (take i xs)) (cond (test (get_or xs i d)) (get_or xs i d ∷ []) [])
 
-pub item_one : {X : Type 0} (f : ℕ → X) (test : ℕ → Bool) (xs : List ℕ) (i d : ℕ) → i < length xs → test (get_or xs i d) ≡ true → map f (filter test (take i xs)) ++ f (get_or xs i d) ∷ [] ≡ map f (filter test (take (i + 1) xs))
+pub item_one : {X : Type 0} (f : ℕ → X) (test : ℕ → Bool) (xs : List ℕ) (i d : ℕ) → i < length xs → test (get_or xs i d) ≡ true
+    → map f (filter test (take i xs)) ++ f (get_or xs i d) ∷ [] ≡ map f (filter test (take (i + 1) xs))
 item_one f test xs i d b t = sym (item_more f test xs i d b ∙ ap (λ c. map f (filter test (take i xs)) ++ map f (cond c (get_or xs i d ∷ []) [])) t)
 
-pub items_one : (test : ℕ → Bool) (xs : List ℕ) (i d : ℕ) → i < length xs → test (get_or xs i d) ≡ true → length (filter test (take (i + 1) xs)) ≡ length (filter test (take i xs)) + 1
+pub items_one : (test : ℕ → Bool) (xs : List ℕ) (i d : ℕ) → i < length xs → test (get_or xs i d) ≡ true
+    → length (filter test (take (i + 1) xs)) ≡ length (filter test (take i xs)) + 1
 items_one test xs i d b t =
     let f : ℕ → ℕ = λ k. k in
-    omega (arith, ap length (item_one f test xs i d b t), length-append (map f (filter test (take i xs))) (get_or xs i d ∷ []), length-map (filter test (take i xs)) f, length-map (filter test (take (i + 1) xs)) f)
+    omega (
+      arith,
+      ap length (item_one f test xs i d b t),
+      length-append (map f (filter test (take i xs))) (get_or xs i d ∷ []),
+      length-map
+          (filter test (take i xs)) f,
+      length-map (filter test (take (i + 1) xs)) f,
+    )
 
-pub item_none : {X : Type 0} (f : ℕ → X) (test : ℕ → Bool) (xs : List ℕ) (i d : ℕ) → i < length xs → test (get_or xs i d) ≡ false → map f (filter test (take i xs)) ≡ map f (filter test (take (i + 1) xs))
-item_none f test xs i d b t = sym (item_more f test xs i d b ∙ ap (λ c. map f (filter test (take i xs)) ++ map f (cond c (get_or xs i d ∷ []) [])) t ∙ append-nil (map f (filter test (take i xs))))
+pub item_none : {X : Type 0} (f : ℕ → X) (test : ℕ → Bool) (xs : List ℕ) (i d : ℕ) → i < length xs → test (get_or xs i d) ≡ false
+    → map f (filter test (take i xs)) ≡ map f (filter test (take (i + 1) xs))
+item_none f test xs i d b t = sym
+    (item_more f test xs i d b ∙ ap (λ c. map f (filter test (take i xs)) ++ map f (cond c (get_or xs i d ∷ []) [])) t
+    ∙ append-nil (map f (filter test (take i xs))))
 
-pub items_none : (test : ℕ → Bool) (xs : List ℕ) (i d : ℕ) → i < length xs → test (get_or xs i d) ≡ false → length (filter test (take (i + 1) xs)) ≡ length (filter test (take i xs))
+pub items_none : (test : ℕ → Bool) (xs : List ℕ) (i d : ℕ) → i < length xs → test (get_or xs i d) ≡ false
+    → length (filter test (take (i + 1) xs)) ≡ length (filter test (take i xs))
 items_none test xs i d b t =
     let f : ℕ → ℕ = λ k. k in
     omega (arith, ap length (item_none f test xs i d b t), length-map (filter test (take i xs)) f, length-map (filter test (take (i + 1) xs)) f)
@@ -484,7 +527,8 @@ all_taken n xs e = ap (λ m. take m xs) e ∙ take-length xs
 pub longer_by : {X : Type 0} (n : ℕ) (xs ys more : List X) → n ≡ length xs → ys ≡ xs ++ more → n ≤ length ys
 longer_by n xs ys more e f = omega (arith, ap length f, length-append xs more)
 
-pub get_set_added : (cells : List ℤ) (a x : ℕ) (z rest : ℤ) → a < length cells → get_or cells a (pos 0) ≡ pos 0 → (get_or (set cells a z) x (pos 0) +ℤ rest) ≡ (get_or cells x (pos 0) +ℤ (cond (eqb a x) z (pos 0) +ℤ rest))
+pub get_set_added : (cells : List ℤ) (a x : ℕ) (z rest : ℤ) → a < length cells → get_or cells a (pos 0) ≡ pos 0
+    → (get_or (set cells a z) x (pos 0) +ℤ rest) ≡ (get_or cells x (pos 0) +ℤ (cond (eqb a x) z (pos 0) +ℤ rest))
 get_set_added cells a x z rest inside none =
     elim (cases_eq x a) [
       | inl same ↦
@@ -498,7 +542,8 @@ get_set_added cells a x z rest inside none =
     ]
 
 -- one more number is written
-pub write_more : (numbers old : List ℤ) (j : ℕ) → j < length numbers → length numbers ≤ length old → set (take j numbers ++ drop j old) j (get_or numbers j (pos 0)) ≡ take (suc j) numbers ++ drop (suc j) old
+pub write_more : (numbers old : List ℤ) (j : ℕ) → j < length numbers → length numbers ≤ length old
+    → set (take j numbers ++ drop j old) j (get_or numbers j (pos 0)) ≡ take (suc j) numbers ++ drop (suc j) old
 write_more [] old j h k = absurd (omega arith)
 write_more (n ∷ ns) [] j h k = absurd (omega arith)
 write_more (n ∷ ns) (o ∷ old) zero h k = refl
@@ -524,7 +569,8 @@ map-div-one [] = refl
 map-div-one (c ∷ cs) = rw (div-one c, map-div-one cs) refl
 
 pub range_split : (a n e : ℕ) → range_with_len a (n + e) ≡ range_with_len a n ++ range_with_len (a + n) e
-range_split a zero e = let h : zero + e ≡ e = omega arith in let k : a + zero ≡ a = omega arith in ap (range_with_len a) h ∙ ap (λ (x : ℕ). range_with_len x e) (sym k)
+range_split a zero e = let h : zero + e ≡ e = omega arith in let k : a + zero ≡ a = omega arith in ap (range_with_len a) h
+    ∙ ap (λ (x : ℕ). range_with_len x e) (sym k)
 range_split a (suc n) e =
     let h : suc n + e ≡ suc (n + e) = omega arith in
     let k : (a + 1) + n ≡ a + suc n = omega arith in
@@ -591,7 +637,8 @@ replicate_cut (suc k) (suc t) r b =
     ap (λ (xs : List ℕ). r ∷ xs) (replicate_cut k t r (omega arith) ∙ ap (λ n. replicate t r ++ r ∷ replicate n r) e)
 
 -- where an item stands in a list with one more item
-pub split_last : (xs : List ℕ) (x : ℕ) (front : List ℕ) (r : ℕ) (behind : List ℕ) → xs ++ x ∷ [] ≡ front ++ r ∷ behind → (front ≡ xs) ⊎ ((rest : List ℕ) × (xs ≡ front ++ r ∷ rest))
+pub split_last : (xs : List ℕ) (x : ℕ) (front : List ℕ) (r : ℕ) (behind : List ℕ) → xs ++ x ∷ [] ≡ front ++ r ∷ behind → (front ≡ xs)
+    ⊎ ((rest : List ℕ) × (xs ≡ front ++ r ∷ rest))
 split_last [] x [] r behind e = inl refl
 split_last [] x (f ∷ []) r behind e = absurd (cc)
 split_last [] x (f ∷ g ∷ fs) r behind e = absurd (cc)
@@ -639,7 +686,8 @@ split_line (x ∷ xs) rest free =
     slice_split-cons_no (λ b. b == 10) x (xs ++ (10 ∷ rest)) other ∙ ap (λ parts. onto_first x parts) (split_line xs rest free.1)
 
 -- a line feed behind which something stands is that of the first line, or stands behind that one
-pub behind_line : (xs rest before tail : List ℕ) → Avoids 10 xs → xs ++ (10 ∷ rest) ≡ before ++ (10 ∷ tail) → (rest ≡ tail) ⊎ ((more : List ℕ) × (rest ≡ more ++ (10 ∷ tail)))
+pub behind_line : (xs rest before tail : List ℕ) → Avoids 10 xs → xs ++ (10 ∷ rest) ≡ before ++ (10 ∷ tail) → (rest ≡ tail)
+    ⊎ ((more : List ℕ) × (rest ≡ more ++ (10 ∷ tail)))
 behind_line [] rest [] tail free e = let same : rest ≡ tail = cc in inl same
 behind_line [] rest (y ∷ ys) tail free e = let same : rest ≡ ys ++ (10 ∷ tail) = cc in inr (ys, same)
 behind_line (x ∷ xs) rest [] tail free e = let head : x ≡ 10 = cc in absurd (free.0 head)
@@ -657,9 +705,11 @@ pub three_behind : (old a b c : List ℕ) → ((old ++ a) ++ b) ++ c ≡ old ++ 
 three_behind old a b c = append_assoc (old ++ a) b c ∙ append_assoc old a (b ++ c)
 
 -- the same behind a name with words around it
-pub named_ended : {E : Type 0} (r : Result (Unit {0}) E) (old new w a name b words c : List ℕ) → w ≡ (old ++ (a ++ (name ++ b))) ++ words → new ≡ (if is_ok r then w ++ c else w) → OnOk r (new ≡ old ++ (a ++ (name ++ (b ++ (words ++ c)))))
+pub named_ended : {E : Type 0} (r : Result (Unit {0}) E) (old new w a name b words c : List ℕ) → w ≡ (old ++ (a ++ (name ++ b))) ++ words
+    → new ≡ (if is_ok r then w ++ c else w) → OnOk r (new ≡ old ++ (a ++ (name ++ (b ++ (words ++ c)))))
 named_ended (Ok x) old new w a name b words c first last =
-    last ∙ ap (λ (text : List ℕ). text ++ c) first ∙ three_behind old (a ++ (name ++ b)) words c ∙ ap (λ (text : List ℕ). old ++ text) (append_assoc a (name ++ b) (words ++ c) ∙ ap (λ (text : List ℕ). a ++ text) (append_assoc name b (words ++ c)))
+    last ∙ ap (λ (text : List ℕ). text ++ c) first ∙ three_behind old (a ++ (name ++ b)) words c
+    ∙ ap (λ (text : List ℕ). old ++ text) (append_assoc a (name ++ b) (words ++ c) ∙ ap (λ (text : List ℕ). a ++ text) (append_assoc name b (words ++ c)))
 named_ended (Err e) old new w a name b words c first last = tt
 
 pub none_not_some : (file : Option (List ℕ)) (content : List ℕ) → file ≡ None → file ≡ Some content → ⊥
@@ -672,7 +722,8 @@ one_content file content other is are = let e : Some content ≡ Some other = sy
 pub piece_size : (text piece : List ℕ) (at : ℕ) → at ≡ length text → at + length piece ≡ length (text ++ piece)
 piece_size text piece at place = omega (arith, place, length-append text piece)
 
-pub cond_append : (pair other : ℕ × ℕ) (others rest ys : List (ℕ × ℕ)) (b : Bool) → cond b (pair ∷ other ∷ (others ++ ys)) (other ∷ (rest ++ ys)) ≡ cond b (pair ∷ other ∷ others) (other ∷ rest) ++ ys
+pub cond_append : (pair other : ℕ × ℕ) (others rest ys : List (ℕ × ℕ)) (b : Bool)
+    → cond b (pair ∷ other ∷ (others ++ ys)) (other ∷ (rest ++ ys)) ≡ cond b (pair ∷ other ∷ others) (other ∷ rest) ++ ys
 cond_append pair other others rest ys true = refl
 cond_append pair other others rest ys false = refl
 
@@ -690,7 +741,8 @@ map-replicate f zero x = refl
 map-replicate f (suc n) x = ap (λ ys. f x ∷ ys) (map-replicate f n x)
 
 -- copies behind a list that is filled up with them
-pub filled_up_more : {X : Type 0} (xs front : List X) (n k : ℕ) (x : X) → length front ≤ n → xs ≡ front ++ replicate (n - length front) x → xs ++ replicate k x ≡ front ++ replicate ((n + k) - length front) x
+pub filled_up_more : {X : Type 0} (xs front : List X) (n k : ℕ) (x : X) → length front ≤ n → xs ≡ front ++ replicate (n - length front) x → xs
+    ++ replicate k x ≡ front ++ replicate ((n + k) - length front) x
 filled_up_more xs front n k x within is =
     let sum : (n - length front) + k ≡ (n + k) - length front = omega arith in
     ap (λ ys. ys ++ replicate k x) is ∙ append_assoc front (replicate (n - length front) x) (replicate k x)
@@ -701,7 +753,8 @@ pub put_together : {X : Type 0} (xs front behind : List X) (n : ℕ) → front �
 put_together xs front behind n first rest = sym (ap (λ ys. ys ++ behind) first ∙ ap (λ ys. take n xs ++ ys) rest ∙ take-append-drop n xs)
 
 -- the last part, if it was written
-pub ended : {E : Type 0} (r : Result (Unit {0}) E) (old new w a b c : List ℕ) → w ≡ (old ++ a) ++ b → new ≡ (if is_ok r then w ++ c else w) → OnOk r (new ≡ old ++ (a ++ (b ++ c)))
+pub ended : {E : Type 0} (r : Result (Unit {0}) E) (old new w a b c : List ℕ) → w ≡ (old ++ a) ++ b → new ≡ (if is_ok r then w ++ c else w)
+    → OnOk r (new ≡ old ++ (a ++ (b ++ c)))
 ended (Ok x) old new w a b c first last = last ∙ ap (λ (text : List ℕ). text ++ c) first ∙ three_behind old a b c
 ended (Err e) old new w a b c first last = tt
 
@@ -773,8 +826,10 @@ map-map f g [] = refl
 map-map f g (x ∷ xs) = ap (λ ys. f (g x) ∷ ys) (map-map f g xs)
 
 -- behind three parts that are the same
-pub behind_three : {X : Type 0} (a b c x y m n t u : List X) → (a ++ (b ++ (c ++ (x ++ m)))) ++ t ≡ (a ++ (b ++ (c ++ (y ++ n)))) ++ u → x ++ (m ++ t) ≡ y ++ (n ++ u)
-behind_three a b c x y m n t u e = append_cancel_left c _ _ (append_cancel_left b _ _ (append_cancel_left a _ _ (five_parts a b c x m t ∙ e ∙ sym (five_parts a b c y n u))))
+pub behind_three : {X : Type 0} (a b c x y m n t u : List X) → (a ++ (b ++ (c ++ (x ++ m)))) ++ t ≡ (a ++ (b ++ (c ++ (y ++ n)))) ++ u → x ++ (m ++ t) ≡ y
+    ++ (n ++ u)
+behind_three a b c x y m n t u e = append_cancel_left c _ _
+    (append_cancel_left b _ _ (append_cancel_left a _ _ (five_parts a b c x m t ∙ e ∙ sym (five_parts a b c y n u))))
 
 -- of two texts the first was chosen
 pub first_chosen : {X : Type 0} (b : Bool) (x y rest behind : List X) → (if b then x else y) ++ rest ≡ x ++ behind → (y ++ rest ≡ x ++ behind → ⊥) → b ≡ true
@@ -791,12 +846,18 @@ concat_more ts t = concat-append ts (t ∷ []) ∙ ap (λ xs. concat ts ++ xs) (
 pub concat_next : (ts : List (List ℕ)) (k : ℕ) (t : List ℕ) → k < length ts → get_or ts k t ≡ t → concat (take (k + 1) ts) ≡ concat (take k ts) ++ t
 concat_next ts k t below is = ap concat (take_next_read k ts t below (sym is)) ∙ concat_more (take k ts) t
 
-pub concat_length : (ts : List (List ℕ)) (k : ℕ) (t : List ℕ) → k < length ts → get_or ts k t ≡ t → length (concat (take (k + 1) ts)) ≡ length (concat (take k ts)) + length t
+pub concat_length : (ts : List (List ℕ)) (k : ℕ) (t : List ℕ) → k < length ts → get_or ts k t ≡ t
+    → length (concat (take (k + 1) ts)) ≡ length (concat (take k ts)) + length t
 concat_length ts k t below is = ap length (concat_next ts k t below is) ∙ length-append (concat (take k ts)) t
 
 -- the first are no longer than all
 pub concat_within : (ts : List (List ℕ)) (k : ℕ) → length (concat (take k ts)) ≤ length (concat ts)
-concat_within ts k = omega (arith, ap length (ap concat (sym (take-append-drop k ts)) ∙ concat-append (take k ts) (drop k ts)), length-append (concat (take k ts)) (concat (drop k ts)))
+concat_within ts k = omega (
+  arith,
+  ap length (ap concat (sym (take-append-drop k ts)) ∙ concat-append (take k ts) (drop k ts)),
+  length-append
+      (concat (take k ts)) (concat (drop k ts)),
+)
 
 -- an open piece behind whole ones was ended, or is empty, or others came between
 pub concat_ended : (whole new : List (List ℕ)) (last : List ℕ) → new ≡ whole ++ last ∷ [] → concat new ≡ concat whole ++ last
@@ -805,7 +866,8 @@ concat_ended whole new last e = ap concat e ∙ concat_more whole last
 pub concat_begun : (whole : List (List ℕ)) (text last : List ℕ) → concat whole ≡ text → last ≡ [] → concat whole ++ last ≡ text
 concat_begun whole text last e none = ap (λ xs. concat whole ++ xs) none ∙ append-nil (concat whole) ∙ e
 
-pub concat_added : (whole new more : List (List ℕ)) (text last : List ℕ) → concat whole ≡ text → new ≡ whole ++ more → concat new ++ last ≡ text ++ (concat more ++ last)
+pub concat_added : (whole new more : List (List ℕ)) (text last : List ℕ) → concat whole ≡ text → new ≡ whole ++ more → concat new ++ last ≡ text
+    ++ (concat more ++ last)
 concat_added whole new more text last e added =
     ap (λ ts. concat ts ++ last) added
     ∙ ap (λ xs. xs ++ last) (concat-append whole more)

@@ -1,5 +1,9 @@
 -- members of lists
-use Rattle.ta_base.proofs.Common.{List, ◌++◌, [], ◌∷◌, inl, inr, map, ap, Bool, ◌≡◌, true, ◌⊎◌, cond, false, filter, sym, ◌∙◌, ℕ, refl, arith, replicate, zero, suc, Contains, subst, slice_get, length, Some, take, ◌<◌, get_or, ◌+◌, reverse, nat_eq, eqb-true, eq-eqb, IsTrue, ◌↔◌, false≢true, slice_get_within, get_or_from_slice_get, take_more, take-length, list_any, AllByRecursion, In, cases_eq, get_or-replicate, length-replicate, or_cases, cond_both, reverse-reverse, All-contains, All-from_recursion, list_any_at, slice_range, ◌-◌, drop, take-append-drop, Contains-append_right}
+use Rattle.ta_base.proofs.Common.{List, ◌++◌, [], ◌∷◌, inl, inr, map, ap, Bool, ◌≡◌, true, ◌⊎◌, cond, false, filter, sym, ◌∙◌, ℕ, refl, arith, replicate, zero}
+use Rattle.ta_base.proofs.Common.{suc, Contains, subst, slice_get, length, Some, take, ◌<◌, get_or, ◌+◌, reverse, nat_eq, eqb-true, eq-eqb, IsTrue, ◌↔◌}
+use Rattle.ta_base.proofs.Common.{false≢true, slice_get_within, get_or_from_slice_get, take_more, take-length, list_any, AllByRecursion, In, cases_eq}
+use Rattle.ta_base.proofs.Common.{get_or-replicate, length-replicate, or_cases, cond_both, reverse-reverse, All-contains, All-from_recursion, list_any_at}
+use Rattle.ta_base.proofs.Common.{slice_range, ◌-◌, drop, take-append-drop, Contains-append_right}
 use Rattle.std.proofs.lemmas.List.Elements.{Contains-append_left}
 use Rattle.ta_base.proofs.Lists.{without_last, only_item, slice_get_left, get_right, get_map, get_parts, get_of_map}
 use mathlib.Core.List.{reverse-cons}
@@ -93,12 +97,14 @@ in_filter ok x (y ∷ xs) h = cond_both (ok y) (y ∷ filter ok xs) (filter ok x
     (λ _ i. let w = in_filter ok x xs i in (w.0, inr w.1)) h
 
 -- the items of a list and one more
-pub either : (pair other : ℕ × ℕ) (others rest : List (ℕ × ℕ)) (b : Bool) (q : ℕ × ℕ) → (In q rest → In q (pair ∷ others)) → In q (cond b (pair ∷ other ∷ others) (other ∷ rest)) → In q (pair ∷ other ∷ others)
+pub either : (pair other : ℕ × ℕ) (others rest : List (ℕ × ℕ)) (b : Bool) (q : ℕ × ℕ) → (In q rest → In q (pair ∷ others))
+    → In q (cond b (pair ∷ other ∷ others) (other ∷ rest)) → In q (pair ∷ other ∷ others)
 either pair other others rest true q h i = i
 either pair other others rest false q h (inl e) = inr (inl e)
 either pair other others rest false q h (inr i) = elim (h i) [ inl e ↦ inl e | inr g ↦ inr (inr g) ]
 
-pub back : (pair other : ℕ × ℕ) (others rest : List (ℕ × ℕ)) (b : Bool) (q : ℕ × ℕ) → (In q (pair ∷ others) → In q rest) → In q (pair ∷ other ∷ others) → In q (cond b (pair ∷ other ∷ others) (other ∷ rest))
+pub back : (pair other : ℕ × ℕ) (others rest : List (ℕ × ℕ)) (b : Bool) (q : ℕ × ℕ) → (In q (pair ∷ others) → In q rest) → In q (pair ∷ other ∷ others)
+    → In q (cond b (pair ∷ other ∷ others) (other ∷ rest))
 back pair other others rest true q h i = i
 back pair other others rest false q h (inl e) = inr (h (inl e))
 back pair other others rest false q h (inr (inl e)) = inl e
@@ -117,7 +123,8 @@ cond_more x b xs ys more h = subst (λ c. In x (cond c [] ys)) (sym (cond_child 
 
 -- an item that isn't among the first ones, nor the next one
 pub not_yet : {X : Type 0} (x : X) (xs : List X) (i : ℕ) (d : X) → i < length xs → (In x (take i xs) → ⊥) → (get_or xs i d ≡ x → ⊥) → In x (take (i + 1) xs) → ⊥
-not_yet x xs i d b none other h = elim (in_append x (take i xs) (get_or xs i d ∷ []) (subst (In x) (take_more xs i d b) h)) [ inl g ↦ none g | inr (inl e) ↦ other (sym e) | inr (inr g) ↦ g ]
+not_yet x xs i d b none other h = elim (in_append x (take i xs) (get_or xs i d ∷ []) (subst (In x) (take_more xs i d b) h))
+    [ inl g ↦ none g | inr (inl e) ↦ other (sym e) | inr (inr g) ↦ g ]
 
 pub not_listed : {X : Type 0} (x : X) (xs : List X) (i : ℕ) → i ≡ length xs → (In x (take i xs) → ⊥) → In x xs → ⊥
 not_listed x xs i e none h = none (subst (λ (n : ℕ). In x (take n xs)) (sym e) (subst (In x) (sym (take-length xs)) h))
@@ -138,7 +145,8 @@ of_reverse x xs h = subst (In x) (reverse-reverse xs) (in_reverse x (reverse xs)
 -- the test that finds a number in a list
 found : (x : ℕ) (xs : List ℕ) → list_any (λ y. nat_eq y x) xs ≡ true → In x xs
 found x [] t = cc
-found x (y ∷ xs) t = elim (or_cases (nat_eq y x) (list_any (λ z. nat_eq z x) xs) t) [ inl same ↦ inl (sym (eqb-true y x same)) | inr rest ↦ inr (found x xs rest) ]
+found x (y ∷ xs) t = elim (or_cases (nat_eq y x) (list_any (λ z. nat_eq z x) xs) t)
+    [ inl same ↦ inl (sym (eqb-true y x same)) | inr rest ↦ inr (found x xs rest) ]
 
 finds : (x : ℕ) (xs : List ℕ) → In x xs → list_any (λ y. nat_eq y x) xs ≡ true
 finds x xs h = let w = contains_of xs x h in list_any_at (λ y. nat_eq y x) xs w.0 x w.1 (eq-eqb (get_or xs w.0 x) x w.2)
@@ -165,7 +173,8 @@ contains_from x y xs (inr c) = (suc c.0, (let b = c.1 in omega arith), c.2)
 -- what a part of a list contains, the list contains
 pub contains_in_range : {X : Type 0} (xs : List X) (from to : ℕ) (x : X) → Contains (slice_range xs from to) x → Contains xs x
 contains_in_range {X = X} xs from to x c =
-    let rest : Contains (drop from xs) x = subst (λ (z : List X). Contains z x) (take-append-drop (to - from) (drop from xs)) (Contains-append_left (slice_range xs from to) (drop (to - from) (drop from xs)) x c) in
+    let rest : Contains (drop from xs) x = subst (λ (z : List X). Contains z x) (take-append-drop (to - from) (drop from xs))
+    (Contains-append_left (slice_range xs from to) (drop (to - from) (drop from xs)) x c) in
     subst (λ (z : List X). Contains z x) (take-append-drop from xs) (Contains-append_right (take from xs) (drop from xs) x rest)
 
 -- ---- lists with the same members

@@ -1,5 +1,10 @@
 -- natural numbers: orders, products, powers
-use Rattle.ta_base.proofs.Common.{ℕ, eq-eqb, add-one, ◌<◌, ◌⊎◌, ◌≤◌, zero, inl, inr, arith, suc, ◌*◌, ◌^◌, ◌%◌, ◌-◌, pow_pos, lit<, Bool, cond, ◌+◌, true, false, ◌≡◌, eqb, IsTrue, refl, ◌∙◌, ap, sym, ◌≢◌, not, Option, Some, None, max, min, ◌&&◌, nat_lt, ◌/◌, mod-lt, ◌==◌, nat_tests, one_shl, props, cases_eq, cases_lt, pow-le-pow_right, is_letter, is_word, map, length, get_or, ne_eqb, eqb-true, range_with_len, list_any, IsDistinct, IsDistinct-from_apart, length-le_from_distinct_below, le_of_suc-le-suc, lt_of_not-le, lt_of_mul-lt-mul_left, cond_both, cond-true, cond-false, and_left, ltb-true, ltb-false, eqb-false, not-true, div_below, get_or-map-range_with_len, length-map-range_with_len, mul-le-mul_right}
+use Rattle.ta_base.proofs.Common.{ℕ, eq-eqb, add-one, ◌<◌, ◌⊎◌, ◌≤◌, zero, inl, inr, arith, suc, ◌*◌, ◌^◌, ◌%◌, ◌-◌, pow_pos, lit<, Bool, cond, ◌+◌, true}
+use Rattle.ta_base.proofs.Common.{false, ◌≡◌, eqb, IsTrue, refl, ◌∙◌, ap, sym, ◌≢◌, not, Option, Some, None, max, min, ◌&&◌, nat_lt, ◌/◌, mod-lt, ◌==◌}
+use Rattle.ta_base.proofs.Common.{nat_tests, one_shl, props, cases_eq, cases_lt, pow-le-pow_right, is_letter, is_word, map, length, get_or, ne_eqb, eqb-true}
+use Rattle.ta_base.proofs.Common.{range_with_len, list_any, IsDistinct, IsDistinct-from_apart, length-le_from_distinct_below, le_of_suc-le-suc, lt_of_not-le}
+use Rattle.ta_base.proofs.Common.{lt_of_mul-lt-mul_left, cond_both, cond-true, cond-false, and_left, ltb-true, ltb-false, eqb-false, not-true, div_below}
+use Rattle.ta_base.proofs.Common.{get_or-map-range_with_len, length-map-range_with_len, mul-le-mul_right}
 use Rattle.std.proofs.lemmas.Map.Views.{Contains-from_any}
 
 pub first_bits_below : (n : ℕ) → n < 32 → (1 * 2 ^ n) % 4294967296 - 1 < 2 ^ n
@@ -130,14 +135,17 @@ pigeon n f m below apart =
     let xs = map f (range_with_len 0 m) in
     let long : length xs ≡ m = length-map-range_with_len f 0 m in
     let read : (i d : ℕ) → i < m → get_or xs i d ≡ f i = λ i d h. get_or-map-range_with_len f 0 m i i d h (omega arith) in
-    let distinct : IsDistinct eqb xs = IsDistinct-from_apart eqb xs (λ i j d h k. rw (read i d (omega arith), read j d (omega arith)) (ne_eqb (f i) (f j) (apart i j h (omega arith)))) in
+    let distinct : IsDistinct eqb xs = IsDistinct-from_apart eqb xs
+    (λ i j d h k. rw (read i d (omega arith), read j d (omega arith)) (ne_eqb (f i) (f j) (apart i j h (omega arith)))) in
     let within : (q : ℕ) → list_any (eqb q) xs ≡ true → q < n = λ q found.
-    (let at = Contains-from_any {eq = eqb} eqb-true q xs found in let low = at.1 in let h = below at.0 (omega arith) in let e = read at.0 q (omega arith) in let e' = at.2 in omega arith) in
+    (let at = Contains-from_any {eq = eqb} eqb-true q xs found in let low = at.1 in let h = below at.0 (omega arith) in let e = read at.0 q (omega arith) in
+    let e' = at.2 in omega arith) in
     let few = length-le_from_distinct_below xs n distinct within in
     omega arith
 
 -- a test that has one value at one moment and the other at a later one switches between them
-pub switches : (f : ℕ → Bool) (v w : Bool) (s t : ℕ) → (v ≡ w → ⊥) → ((i : ℕ) → (f i ≡ v) ⊎ (f i ≡ w)) → s ≤ t → f s ≡ v → f t ≡ w → (i : ℕ) × (s ≤ i) × (i < t) × (f i ≡ v) × (f (i + 1) ≡ w)
+pub switches : (f : ℕ → Bool) (v w : Bool) (s t : ℕ) → (v ≡ w → ⊥) → ((i : ℕ) → (f i ≡ v) ⊎ (f i ≡ w)) → s ≤ t → f s ≡ v → f t ≡ w → (i : ℕ) × (s ≤ i) × (i < t)
+    × (f i ≡ v) × (f (i + 1) ≡ w)
 switches f v w s zero apart either h p q = let e : s ≡ zero = omega arith in absurd (apart (sym p ∙ ap f e ∙ q))
 switches f v w s (suc t) apart either h p q = elim (cases_lt s (suc t)) [
   | inl below ↦ elim (either t) [

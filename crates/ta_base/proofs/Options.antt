@@ -1,5 +1,7 @@
 -- options and results
-use Rattle.ta_base.proofs.Common.{Result, IfOk, Ok, Err, Option, ℕ, IfNone, None, Some, IfSome, ℤ, ◌≡◌, SomeIff, ◌∙◌, ◌⊎◌, inl, refl, inr, ◌<◌, IsSomeAnd, is_some, false, true≢false, option_map, arith, suc, Bool, cond, true, List, [], ◌∷◌, ◌++◌, slice_get, same_Some, none-some, ◌&&◌, ◌||◌, sym, if◌then◌else◌}
+use Rattle.ta_base.proofs.Common.{Result, IfOk, Ok, Err, Option, ℕ, IfNone, None, Some, IfSome, ℤ, ◌≡◌, SomeIff, ◌∙◌, ◌⊎◌, inl, refl, inr, ◌<◌, IsSomeAnd}
+use Rattle.ta_base.proofs.Common.{is_some, false, true≢false, option_map, arith, suc, Bool, cond, true, List, [], ◌∷◌, ◌++◌, slice_get, same_Some, none-some}
+use Rattle.ta_base.proofs.Common.{◌&&◌, ◌||◌, sym, if◌then◌else◌}
 use Rattle.ta_base.proofs.Lists.{push_cases}
 use Rattle.std.specs.Option.{unwrap_or}
 use Rattle.std.specs.Prelude.{option_and_then}
@@ -39,11 +41,13 @@ below_if n p false None below e = absurd (cc)
 below_if n p false (Some q) below e = let same = same_Some (suc q) p e in let low = below q refl in omega arith
 
 -- an empty place behind others is none of those with a value
-pub none_behind : {X : Type 0} (xs : List (Option X)) (place : ℕ) (x : X) → slice_get (xs ++ None ∷ []) place ≡ Some (Some x) → slice_get xs place ≡ Some (Some x)
+pub none_behind : {X : Type 0} (xs : List (Option X)) (place : ℕ) (x : X) → slice_get (xs ++ None ∷ []) place ≡ Some (Some x)
+    → slice_get xs place ≡ Some (Some x)
 none_behind xs place x at = elim (push_cases xs None place (Some x) at) [ inl h ↦ h.1 | inr h ↦ absurd (none-some x h.1) ]
 
 -- a value and a list of values, where there are both
-pub some_more : {X : Type 0} (o : Option X) (more : Option (List X)) → is_some (option_and_then (λ (x : X). option_map (λ xs. x ∷ xs) more) o) ≡ (is_some o && is_some more)
+pub some_more : {X : Type 0} (o : Option X) (more : Option (List X))
+    → is_some (option_and_then (λ (x : X). option_map (λ xs. x ∷ xs) more) o) ≡ (is_some o && is_some more)
 some_more None more = refl
 some_more (Some x) None = refl
 some_more (Some x) (Some xs) = refl
@@ -53,7 +57,8 @@ pub some_by : {X : Type 0} (b : Bool) (x : X) (o : Option X) → is_some (cond b
 some_by true x o = refl
 some_by false x o = refl
 
-pub value_by : {X : Type 0} (b : Bool) (x y : X) (o : Option X) → b ≡ false → is_some (cond b (Some x) o) ≡ true → (is_some o ≡ true → unwrap_or o x ≡ y) → y ≡ unwrap_or (cond b (Some x) o) x
+pub value_by : {X : Type 0} (b : Bool) (x y : X) (o : Option X) → b ≡ false → is_some (cond b (Some x) o) ≡ true → (is_some o ≡ true → unwrap_or o x ≡ y)
+    → y ≡ unwrap_or (cond b (Some x) o) x
 value_by true x y o e some same = absurd (cc)
 value_by false x y o e some same = sym (same some)
 

@@ -8,13 +8,15 @@ pairwise_with R S [] (y ∷ ys) f h = h
 pairwise_with R S (x ∷ xs) [] f h = h
 pairwise_with R S (x ∷ xs) (y ∷ ys) f h = (f x y h.0, pairwise_with R S xs ys f h.1)
 
-pub pairwise_push : {A B : Type 0} (R : A → B → Type 0) (xs : List A) (ys : List B) (x : A) (y : B) → Pairwise R xs ys → R x y → Pairwise R (xs ++ x ∷ []) (ys ++ y ∷ [])
+pub pairwise_push : {A B : Type 0} (R : A → B → Type 0) (xs : List A) (ys : List B) (x : A) (y : B) → Pairwise R xs ys → R x y
+    → Pairwise R (xs ++ x ∷ []) (ys ++ y ∷ [])
 pairwise_push R [] [] x y h r = (r, tt)
 pairwise_push R [] (v ∷ ys) x y h r = absurd h
 pairwise_push R (u ∷ xs) [] x y h r = absurd h
 pairwise_push R (u ∷ xs) (v ∷ ys) x y h r = (h.0, pairwise_push R xs ys x y h.1 r)
 
-pub pairwise_each : {A B : Type 0} (R : A → B → Type 0) (P : B → Type 0) (xs : List A) (ys : List B) → ((x : A) (y : B) → R x y → P y) → Pairwise R xs ys → AllByRecursion P ys
+pub pairwise_each : {A B : Type 0} (R : A → B → Type 0) (P : B → Type 0) (xs : List A) (ys : List B) → ((x : A) (y : B) → R x y → P y) → Pairwise R xs ys
+    → AllByRecursion P ys
 pairwise_each R P [] [] f h = tt
 pairwise_each R P [] (y ∷ ys) f h = absurd h
 pairwise_each R P (x ∷ xs) [] f h = absurd h
@@ -34,7 +36,8 @@ pairwise-equal (a ∷ firsts) [] h = absurd h
 pairwise-equal (a ∷ firsts) (b ∷ seconds) h = ap (λ z. z ∷ firsts) h.0 ∙ ap (λ zs. b ∷ zs) (pairwise-equal firsts seconds h.1)
 
 -- where each item has at most one other, each list has at most one other
-pub pairwise-one : {A B : Type 0} (R : A → B → Type 0) → ((a : A) (x y : B) → R a x → R a y → x ≡ y) → (ks : List A) (xs ys : List B) → Pairwise R ks xs → Pairwise R ks ys → xs ≡ ys
+pub pairwise-one : {A B : Type 0} (R : A → B → Type 0) → ((a : A) (x y : B) → R a x → R a y → x ≡ y) → (ks : List A) (xs ys : List B) → Pairwise R ks xs
+    → Pairwise R ks ys → xs ≡ ys
 pairwise-one R one [] [] [] p q = refl
 pairwise-one R one [] [] (y ∷ ys) p q = absurd q
 pairwise-one R one [] (x ∷ xs) ys p q = absurd p

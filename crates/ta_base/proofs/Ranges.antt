@@ -1,5 +1,10 @@
 -- numbers in a row, and lists of numbers that rise
-use Rattle.ta_base.proofs.Common.{ℕ, ◌≤◌, ◌<◌, ◌+◌, zero, arith, suc, get_or, map, ◌≡◌, ap, ◌∙◌, length, refl, List, [], ◌∷◌, ℤ, slice_get, Some, ◌++◌, Bool, filter, cond, pos, true, sym, length-append, false, subst, None, slice_index_or, get_or_past, length-map, map-append, filter-append, AllByRecursion, Distinct, In, range_with_len, Rises, get_or_from_slice_get, add-one, ◌-◌, get_or_append_left, get_or-append-add, append-nil, same_Some, cond_both, slice_get_past, fill_by_all, get_or-map-range_with_len, get_or-range_with_len, length-map-range_with_len, length-range_with_len, slice_get-get_or, cond-true, cond-false, append_assoc}
+use Rattle.ta_base.proofs.Common.{ℕ, ◌≤◌, ◌<◌, ◌+◌, zero, arith, suc, get_or, map, ◌≡◌, ap, ◌∙◌, length, refl, List, [], ◌∷◌, ℤ, slice_get, Some, ◌++◌, Bool}
+use Rattle.ta_base.proofs.Common.{filter, cond, pos, true, sym, length-append, false, subst, None, slice_index_or, get_or_past, length-map, map-append}
+use Rattle.ta_base.proofs.Common.{filter-append, AllByRecursion, Distinct, In, range_with_len, Rises, get_or_from_slice_get, add-one, ◌-◌, get_or_append_left}
+use Rattle.ta_base.proofs.Common.{get_or-append-add, append-nil, same_Some, cond_both, slice_get_past, fill_by_all, get_or-map-range_with_len}
+use Rattle.ta_base.proofs.Common.{get_or-range_with_len, length-map-range_with_len, length-range_with_len, slice_get-get_or, cond-true, cond-false}
+use Rattle.ta_base.proofs.Common.{append_assoc}
 use Rattle.ta_base.proofs.Lists.{filter_shorter, range_more}
 use Rattle.ta_base.proofs.Each.{each_in, each_from, each_from_in, each_get_or}
 use Rattle.ta_base.proofs.Members.{place_of, in_at, in_map, in_filter, In-map, In-filter}
@@ -14,7 +19,11 @@ rises_within low high (x ∷ ls) h (suc j) l e = let w = rises_within (x + 1) hi
 
 pub numbers_rise : (k n : ℕ) → Rises k (k + n) (range_with_len k n)
 numbers_rise k zero = tt
-numbers_rise k (suc n) = (omega arith, omega arith, (let e : k + 1 + n ≡ k + suc n = omega arith in subst (λ (h : ℕ). Rises (k + 1) h (range_with_len (k + 1) n)) e (numbers_rise (k + 1) n)))
+numbers_rise k (suc n) = (
+  omega arith,
+  omega arith,
+  (let e : k + 1 + n ≡ k + suc n = omega arith in subst (λ (h : ℕ). Rises (k + 1) h (range_with_len (k + 1) n)) e (numbers_rise (k + 1) n)),
+)
 
 -- a function's values at numbers in a row
 pub at_number : {X : Type 0} (f : ℕ → X) (k n i : ℕ) (d : X) → i < n → get_or (map f (range_with_len k n)) i d ≡ f (k + i)
@@ -32,7 +41,8 @@ past_numbers f n i h = get_or_past (map f (range_with_len 0 n)) i 0 (omega (arit
 -- ---- errors within bounds
 pub rises-wider : (low high low' high' : ℕ) (xs : List ℕ) → low' ≤ low → high ≤ high' → Rises low high xs → Rises low' high' xs
 rises-wider low high low' high' [] l r h = tt
-rises-wider low high low' high' (x ∷ xs) l r h = let here : low ≤ x = h.0 in let below : x < high = h.1 in (omega arith, omega arith, rises-wider (x + 1) high (x + 1) high' xs (omega arith) r h.2)
+rises-wider low high low' high' (x ∷ xs) l r h = let here : low ≤ x = h.0 in let below : x < high = h.1 in
+    (omega arith, omega arith, rises-wider (x + 1) high (x + 1) high' xs (omega arith) r h.2)
 
 pub rises_apart : (low high : ℕ) (ls : List ℕ) → Rises low high ls → (i j l k : ℕ) → j < i → slice_get ls i ≡ Some l → slice_get ls j ≡ Some k → k < l
 rises_apart low high [] h i j l k b at there = absurd (cc)
@@ -46,7 +56,8 @@ in_numbers x k n h = let w = place_of x (range_with_len k n) h in rises_within k
 pub numbers_more : (k n : ℕ) → range_with_len k (n + 1) ≡ range_with_len k n ++ (k + n) ∷ []
 numbers_more k n = ap (range_with_len k) (add-one n) ∙ range_more k n
 
-pub filter_more : (test : ℕ → Bool) (k n : ℕ) → filter test (range_with_len k (n + 1)) ≡ filter test (range_with_len k n) ++ cond (test (k + n)) ((k + n) ∷ []) []
+pub filter_more : (test : ℕ → Bool) (k n : ℕ) → filter test (range_with_len k (n + 1)) ≡ filter test (range_with_len k n)
+    ++ cond (test (k + n)) ((k + n) ∷ []) []
 filter_more test k n = ap (filter test) (numbers_more k n) ∙ filter-append test (range_with_len k n) ((k + n) ∷ [])
 
 -- numbers that rise are below the end
@@ -58,7 +69,8 @@ rises_below low high xs l r is = each_in (λ x. x < high) xs l (each_below low h
 
 pub before_block : (k from u : ℕ) (rest : List ℤ) → u < from → get_or (map (λ k. pos 0) (range_with_len k from) ++ rest) u (pos 0) ≡ pos 0
 before_block k from u rest b =
-    get_or_append_left (map (λ k. pos 0) (range_with_len k from)) rest (pos 0) u (omega (arith, b, length-map-range_with_len (λ k. pos 0) k from)) ∙ at_number (λ k. pos 0) k from u (pos 0) b
+    get_or_append_left (map (λ k. pos 0) (range_with_len k from)) rest (pos 0) u (omega (arith, b, length-map-range_with_len (λ k. pos 0) k from))
+    ∙ at_number (λ k. pos 0) k from u (pos 0) b
 
 pub after_zeros : (k from u : ℕ) (rest : List ℤ) (d : ℤ) → get_or (map (λ k. pos 0) (range_with_len k from) ++ rest) (from + u) d ≡ get_or rest u d
 after_zeros k from u rest d =
@@ -69,15 +81,18 @@ after_zeros k from u rest d =
 kept_more : (test : ℕ → Bool) (n : ℕ) (b : Bool) → test n ≡ b → filter test (range_with_len 0 (n + 1)) ≡ filter test (range_with_len 0 n) ++ cond b (n ∷ []) []
 kept_more test n b t =
     let here : 0 + n ≡ n = omega arith in
-    filter_more test 0 n ∙ ap (λ k. filter test (range_with_len 0 n) ++ cond (test k) (k ∷ []) []) here ∙ ap (λ c. filter test (range_with_len 0 n) ++ cond c (n ∷ []) []) t
+    filter_more test 0 n ∙ ap (λ k. filter test (range_with_len 0 n) ++ cond (test k) (k ∷ []) []) here
+    ∙ ap (λ c. filter test (range_with_len 0 n) ++ cond c (n ∷ []) []) t
 
-pub passed_one : {X : Type 0} (f : ℕ → X) (test : ℕ → Bool) (n : ℕ) → test n ≡ true → map f (filter test (range_with_len 0 n)) ++ f n ∷ [] ≡ map f (filter test (range_with_len 0 (n + 1)))
+pub passed_one : {X : Type 0} (f : ℕ → X) (test : ℕ → Bool) (n : ℕ) → test n ≡ true → map f (filter test (range_with_len 0 n))
+    ++ f n ∷ [] ≡ map f (filter test (range_with_len 0 (n + 1)))
 passed_one f test n t = sym (ap (map f) (kept_more test n true t) ∙ map-append f (filter test (range_with_len 0 n)) (n ∷ []))
 
 pub count_one : (test : ℕ → Bool) (n : ℕ) → test n ≡ true → length (filter test (range_with_len 0 (n + 1))) ≡ length (filter test (range_with_len 0 n)) + 1
 count_one test n t = omega (arith, ap length (kept_more test n true t), length-append (filter test (range_with_len 0 n)) (n ∷ []))
 
-pub passed_none : {X : Type 0} (f : ℕ → X) (test : ℕ → Bool) (n : ℕ) → test n ≡ false → map f (filter test (range_with_len 0 n)) ≡ map f (filter test (range_with_len 0 (n + 1)))
+pub passed_none : {X : Type 0} (f : ℕ → X) (test : ℕ → Bool) (n : ℕ) → test n ≡ false
+    → map f (filter test (range_with_len 0 n)) ≡ map f (filter test (range_with_len 0 (n + 1)))
 passed_none f test n t = sym (ap (map f) (kept_more test n false t ∙ append-nil (filter test (range_with_len 0 n))))
 
 pub count_none : (test : ℕ → Bool) (n : ℕ) → test n ≡ false → length (filter test (range_with_len 0 (n + 1))) ≡ length (filter test (range_with_len 0 n))
@@ -98,7 +113,8 @@ rises_filter ok low high [] r = tt
 rises_filter ok low high (x ∷ xs) r =
     let rest = rises_filter ok (x + 1) high xs r.2 in
     let least = r.0 in
-    cond_both (ok x) (x ∷ filter ok xs) (filter ok xs) (Rises low high) (λ _. (r.0, r.1, rest)) (λ _. rises-wider (x + 1) high low high (filter ok xs) (omega arith) (omega arith) rest)
+    cond_both (ok x) (x ∷ filter ok xs) (filter ok xs) (Rises low high) (λ _. (r.0, r.1, rest))
+    (λ _. rises-wider (x + 1) high low high (filter ok xs) (omega arith) (omega arith) rest)
 
 -- functions that agree on numbers that rise
 pub alike : {X : Type 0} (f g : ℕ → X) (low high : ℕ) (xs : List ℕ) → Rises low high xs → ((x : ℕ) → low ≤ x → x < high → f x ≡ g x) → map f xs ≡ map g xs
@@ -114,7 +130,8 @@ each_index xs = sym (fill_by_all (λ j. get_or xs j 0) xs (length xs) 0 refl (λ
 pub numbers_end : (k n i : ℕ) → n ≤ i → slice_get (range_with_len k n) i ≡ None
 numbers_end k n i h = slice_get_past (range_with_len k n) i (omega (arith, length-range_with_len k n))
 
-pub filter_numbers_same : (f g : ℕ → Bool) (k n most : ℕ) → ((l : ℕ) → l < most → f l ≡ g l) → k + n ≤ most → filter f (range_with_len k n) ≡ filter g (range_with_len k n)
+pub filter_numbers_same : (f g : ℕ → Bool) (k n most : ℕ) → ((l : ℕ) → l < most → f l ≡ g l) → k + n ≤ most
+    → filter f (range_with_len k n) ≡ filter g (range_with_len k n)
 filter_numbers_same f g k zero most same h = refl
 filter_numbers_same f g k (suc n) most same h =
     let first = same k (omega arith) in
@@ -146,41 +163,51 @@ each_number k n = each_from_in (λ x. (k ≤ x) × (x < k + n)) (range_with_len 
 -- numbers that rise are distinct
 pub rises_distinct : (low high : ℕ) (xs : List ℕ) → Rises low high xs → Distinct xs
 rises_distinct low high [] r = tt
-rises_distinct low high (x ∷ xs) r = (each_from (λ y. x ≡ y → ⊥) xs (λ i y at same. omega (arith, (rises_within (x + 1) high xs r.2 i y at).0)), rises_distinct (x + 1) high xs r.2)
+rises_distinct low high (x ∷ xs) r =
+    (each_from (λ y. x ≡ y → ⊥) xs (λ i y at same. omega (arith, (rises_within (x + 1) high xs r.2 i y at).0)), rises_distinct (x + 1) high xs r.2)
 
 -- what a function gives for the numbers in a row that pass a test
 pub passed_length : {X : Type 0} (f : ℕ → X) (test : ℕ → Bool) (k n : ℕ) → length (map f (filter test (range_with_len k n))) ≤ n
 passed_length f test k n = omega (arith, length-map (filter test (range_with_len k n)) f, filter_shorter test (range_with_len k n), length-range_with_len k n)
 
-pub passed_most : {X : Type 0} (f : ℕ → X) (test : ℕ → Bool) (before now : List X) (k n : ℕ) → now ≡ before ++ map f (filter test (range_with_len k n)) → length now ≤ length before + n
+pub passed_most : {X : Type 0} (f : ℕ → X) (test : ℕ → Bool) (before now : List X) (k n : ℕ) → now ≡ before ++ map f (filter test (range_with_len k n))
+    → length now ≤ length before + n
 passed_most f test before now k n e = omega (arith, ap length e, length-append before (map f (filter test (range_with_len k n))), passed_length f test k n)
 
-pub in_passed : {X : Type 0} (f : ℕ → X) (test : ℕ → Bool) (k n : ℕ) (x : X) → In x (map f (filter test (range_with_len k n))) → (i : ℕ) × (x ≡ f i) × (test i ≡ true) × (k ≤ i) × (i < k + n)
+pub in_passed : {X : Type 0} (f : ℕ → X) (test : ℕ → Bool) (k n : ℕ) (x : X) → In x (map f (filter test (range_with_len k n))) → (i : ℕ) × (x ≡ f i)
+    × (test i ≡ true) × (k ≤ i) × (i < k + n)
 in_passed f test k n x h =
     let mapped = in_map f x (filter test (range_with_len k n)) h in
     let kept = in_filter test mapped.0 (range_with_len k n) mapped.1 in
     let within = in_numbers mapped.0 k n kept.1 in
     (mapped.0, mapped.2, kept.0, within.0, within.1)
 
-pub passed_more : {X : Type 0} (f : ℕ → X) (test other : ℕ → Bool) (k n : ℕ) (x : X) → ((i : ℕ) → test i ≡ true → other i ≡ true) → In x (map f (filter test (range_with_len k n))) → In x (map f (filter other (range_with_len k n)))
+pub passed_more : {X : Type 0} (f : ℕ → X) (test other : ℕ → Bool) (k n : ℕ) (x : X) → ((i : ℕ) → test i ≡ true → other i ≡ true)
+    → In x (map f (filter test (range_with_len k n))) → In x (map f (filter other (range_with_len k n)))
 passed_more f test other k n x more h =
     let c = in_passed f test k n x h in
     subst (λ y. In y (map f (filter other (range_with_len k n)))) (sym c.1) (In-map f c.0 _ (In-filter other c.0 _ (more c.0 c.2) (In-numbers c.0 k n c.3 c.4)))
 
 -- a list with what passes among numbers in a row, and one number more
-pub pushed_passed : {X : Type 0} (f : ℕ → X) (test : ℕ → Bool) (before now after : List X) (k n : ℕ) → test (k + n) ≡ true → now ≡ before ++ map f (filter test (range_with_len k n)) → after ≡ now ++ f (k + n) ∷ [] → after ≡ before ++ map f (filter test (range_with_len k (n + 1)))
+pub pushed_passed : {X : Type 0} (f : ℕ → X) (test : ℕ → Bool) (before now after : List X) (k n : ℕ) → test (k + n) ≡ true → now ≡ before
+    ++ map f (filter test (range_with_len k n)) → after ≡ now ++ f (k + n) ∷ [] → after ≡ before ++ map f (filter test (range_with_len k (n + 1)))
 pushed_passed f test before now after k n t e g =
-    let more : filter test (range_with_len k (n + 1)) ≡ filter test (range_with_len k n) ++ (k + n) ∷ [] = filter_more test k n ∙ ap (λ ms. filter test (range_with_len k n) ++ ms) (cond-true (test (k + n)) ((k + n) ∷ []) [] t) in
+    let more : filter test (range_with_len k (n + 1)) ≡ filter test (range_with_len k n) ++ (k + n) ∷ [] = filter_more test k n
+    ∙ ap (λ ms. filter test (range_with_len k n) ++ ms) (cond-true (test (k + n)) ((k + n) ∷ []) [] t) in
     g ∙ ap (λ ns. ns ++ f (k + n) ∷ []) e ∙ append_assoc before (map f (filter test (range_with_len k n))) (f (k + n) ∷ [])
     ∙ ap (λ ns. before ++ ns) (sym (map-append f (filter test (range_with_len k n)) ((k + n) ∷ []))) ∙ ap (λ ms. before ++ map f ms) (sym more)
 
-pub left_unpassed : {X : Type 0} (f : ℕ → X) (test : ℕ → Bool) (before now after : List X) (k n : ℕ) → test (k + n) ≡ false → now ≡ before ++ map f (filter test (range_with_len k n)) → after ≡ now → after ≡ before ++ map f (filter test (range_with_len k (n + 1)))
+pub left_unpassed : {X : Type 0} (f : ℕ → X) (test : ℕ → Bool) (before now after : List X) (k n : ℕ) → test (k + n) ≡ false → now ≡ before
+    ++ map f (filter test (range_with_len k n)) → after ≡ now → after ≡ before ++ map f (filter test (range_with_len k (n + 1)))
 left_unpassed f test before now after k n t e g =
-    let more : filter test (range_with_len k (n + 1)) ≡ filter test (range_with_len k n) = filter_more test k n ∙ ap (λ ms. filter test (range_with_len k n) ++ ms) (cond-false (test (k + n)) ((k + n) ∷ []) [] t) ∙ append-nil (filter test (range_with_len k n)) in
+    let more : filter test (range_with_len k (n + 1)) ≡ filter test (range_with_len k n) = filter_more test k n
+    ∙ ap (λ ms. filter test (range_with_len k n) ++ ms) (cond-false (test (k + n)) ((k + n) ∷ []) [] t) ∙ append-nil (filter test (range_with_len k n)) in
     g ∙ e ∙ ap (λ ms. before ++ map f ms) (sym more)
 
 -- what different numbers give differently has no item twice
-one_passed_once : {X : Type 0} (f : ℕ → X) (test : ℕ → Bool) (k n : ℕ) (b : Bool) → ((x y : ℕ) → f x ≡ f y → x ≡ y) → Distinct (map f (filter test (range_with_len (k + 1) n))) → Distinct (map f (cond b (k ∷ filter test (range_with_len (k + 1) n)) (filter test (range_with_len (k + 1) n))))
+one_passed_once : {X : Type 0} (f : ℕ → X) (test : ℕ → Bool) (k n : ℕ) (b : Bool) → ((x y : ℕ) → f x ≡ f y → x ≡ y)
+    → Distinct (map f (filter test (range_with_len (k + 1) n)))
+    → Distinct (map f (cond b (k ∷ filter test (range_with_len (k + 1) n)) (filter test (range_with_len (k + 1) n))))
 one_passed_once f test k n false one d = d
 one_passed_once f test k n true one d = (
   each_from_in (λ x. f k ≡ x → ⊥) (map f (filter test (range_with_len (k + 1) n))) (λ x h same.
@@ -192,7 +219,8 @@ one_passed_once f test k n true one d = (
   d,
 )
 
-pub passed_distinct : {X : Type 0} (f : ℕ → X) (test : ℕ → Bool) (k n : ℕ) → ((x y : ℕ) → f x ≡ f y → x ≡ y) → Distinct (map f (filter test (range_with_len k n)))
+pub passed_distinct : {X : Type 0} (f : ℕ → X) (test : ℕ → Bool) (k n : ℕ) → ((x y : ℕ) → f x ≡ f y → x ≡ y)
+    → Distinct (map f (filter test (range_with_len k n)))
 passed_distinct f test k zero one = tt
 passed_distinct f test k (suc n) one = one_passed_once f test k n (test k) one (passed_distinct f test (k + 1) n one)
 
@@ -202,7 +230,8 @@ counted_on i k within =
     let one : k + 1 - i ≡ suc (k + 1 - (i + 1)) = omega (arith, within) in
     ap (range_with_len i) one
 
-pub next_counted : {X T : Type 0} (plain : T → X) (of : ℕ → X) (items : List T) (item : T) (i k : ℕ) (all : List X) → i ≤ k → plain item ≡ of i → map plain items ++ map of (range_with_len i (k + 1 - i)) ≡ all → map plain (items ++ item ∷ []) ++ map of (range_with_len (i + 1) (k + 1 - (i + 1))) ≡ all
+pub next_counted : {X T : Type 0} (plain : T → X) (of : ℕ → X) (items : List T) (item : T) (i k : ℕ) (all : List X) → i ≤ k → plain item ≡ of i
+    → map plain items ++ map of (range_with_len i (k + 1 - i)) ≡ all → map plain (items ++ item ∷ []) ++ map of (range_with_len (i + 1) (k + 1 - (i + 1))) ≡ all
 next_counted plain of items item i k all within is h =
     ap (λ xs. xs ++ map of (range_with_len (i + 1) (k + 1 - (i + 1)))) (map-append plain items (item ∷ []))
     ∙ append_assoc (map plain items) (plain item ∷ []) (map of (range_with_len (i + 1) (k + 1 - (i + 1))))
@@ -210,5 +239,7 @@ next_counted plain of items item i k all within is h =
     ∙ ap (λ ns. map plain items ++ map of ns) (sym (counted_on i k within))
     ∙ h
 
-pub few_counted : {X T : Type 0} (plain : T → X) (of : ℕ → X) (items : List T) (k most : ℕ) → k ≤ most → map plain items ≡ map of (range_with_len 1 k) → length items ≤ most
-few_counted plain of items k most small is = omega (arith, small, length-map items plain, ap length is, length-map (range_with_len 1 k) of, length-range_with_len 1 k)
+pub few_counted : {X T : Type 0} (plain : T → X) (of : ℕ → X) (items : List T) (k most : ℕ) → k ≤ most → map plain items ≡ map of (range_with_len 1 k)
+    → length items ≤ most
+few_counted plain of items k most small is = omega
+    (arith, small, length-map items plain, ap length is, length-map (range_with_len 1 k) of, length-range_with_len 1 k)

@@ -1,8 +1,11 @@
 -- sums over numbers and over lists
-use Rattle.ta_base.proofs.Common.{ℕ, ℤ, ◌<◌, ◌≡◌, zero, refl, suc, arith, ◌+ℤ◌, pos, inl, inr, cond, eqb, ◌*ℤ◌, ap, ◌∙◌, sym, ◌≤ℤ◌, ◌+◌, ◌≤◌, ◌-ℤ◌, ints, zero-*ℤ, cases_eq, Bool, List, count_by, ◌∷◌, sum_by-cons, [], ◌*◌, length, get_or, sum, false, subst, mul-le-mul_left, add-mul, eqb_tells, nat_tests, slice_get, Some, same_Some, sum_by, total, one_if, range_with_len, add-one}
+use Rattle.ta_base.proofs.Common.{ℕ, ℤ, ◌<◌, ◌≡◌, zero, refl, suc, arith, ◌+ℤ◌, pos, inl, inr, cond, eqb, ◌*ℤ◌, ap, ◌∙◌, sym, ◌≤ℤ◌, ◌+◌, ◌≤◌, ◌-ℤ◌, ints}
+use Rattle.ta_base.proofs.Common.{zero-*ℤ, cases_eq, Bool, List, count_by, ◌∷◌, sum_by-cons, [], ◌*◌, length, get_or, sum, false, subst, mul-le-mul_left}
+use Rattle.ta_base.proofs.Common.{add-mul, eqb_tells, nat_tests, slice_get, Some, same_Some, sum_by, total, one_if, range_with_len, add-one}
 use Rattle.ta_base.proofs.Integers.{single, single-elsewhere, single-at}
 use Rattle.ta_base.proofs.Lists.{range_split}
-use Rattle.ta_base.proofs.Totals.{one_if-other, one_if-same, one_inside, total-add, total-append, total-same, total-shift, total-times, total-within, total-zero}
+use Rattle.ta_base.proofs.Totals.{one_if-other, one_if-same, one_inside, total-add, total-append, total-same, total-shift, total-times, total-within}
+use Rattle.ta_base.proofs.Totals.{total-zero}
 use Rattle.ta_base.proofs.Naturals.{item_moves, sum_below}
 
 -- ---- the sum of a function over the numbers below another, and over numbers from one on
@@ -69,7 +72,13 @@ sum-single a n u y f h k = total-same (λ w. single u y w *ℤ f w) (λ w. one_i
 
 pub sum-sub : (a n : ℕ) (f g : ℕ → ℤ) → sum_between a n (λ w. f w -ℤ g w) ≡ sum_between a n f -ℤ sum_between a n g
 unfolding sum_between
-sum-sub a n f g = omega (arith, ints, total-add (λ w. f w -ℤ g w) g (range_with_len a n), total-same (λ w. (f w -ℤ g w) +ℤ g w) f (range_with_len a n) (λ w. omega (arith, ints)))
+sum-sub a n f g = omega (
+  arith,
+  ints,
+  total-add (λ w. f w -ℤ g w) g (range_with_len a n),
+  total-same (λ w. (f w -ℤ g w) +ℤ g w) f (range_with_len a n)
+      (λ w. omega (arith, ints)),
+)
 
 pub sum-split : (a n m : ℕ) (f : ℕ → ℤ) → sum_between a (n + m) f ≡ sum_between a n f +ℤ sum_between (a + n) m f
 unfolding sum_between
@@ -124,20 +133,27 @@ only-inside h k (suc n) l low high = elim (eqb_tells k l) [
   | inr ne ↦ rw ne.0 (omega (arith, only-inside h (k + 1) n l (let q = ne.1 in omega arith) (omega arith)))
 ]
 
-moved_from : (h : ℕ → ℕ) (k from to : ℕ) (xs ys : List ℕ) → length ys ≡ length xs → ((l : ℕ) → get_or ys l 0 + cond (eqb (k + l) from) 1 0 ≡ get_or xs l 0 + cond (eqb (k + l) to) 1 0) → weighted_sum h k ys + only h k (length xs) from ≡ weighted_sum h k xs + only h k (length xs) to
+moved_from : (h : ℕ → ℕ) (k from to : ℕ) (xs ys : List ℕ) → length ys ≡ length xs
+    → ((l : ℕ) → get_or ys l 0 + cond (eqb (k + l) from) 1 0 ≡ get_or xs l 0 + cond (eqb (k + l) to) 1 0)
+    → weighted_sum h k ys + only h k (length xs) from ≡ weighted_sum h k xs + only h k (length xs) to
 unfolding weighted_sum only
 moved_from h k from to [] [] count moved = refl
 moved_from h k from to [] (y ∷ ys) count moved = absurd (omega arith)
 moved_from h k from to (x ∷ xs) [] count moved = absurd (omega arith)
 moved_from h k from to (x ∷ xs) (y ∷ ys) count moved =
-    let head : y + cond (eqb k from) 1 0 ≡ x + cond (eqb k to) 1 0 = subst (λ n. y + cond (eqb n from) 1 0 ≡ x + cond (eqb n to) 1 0) (let e : k + 0 ≡ k = omega arith in e) (moved 0) in
-    let rest = moved_from h (k + 1) from to xs ys (omega arith) (λ l. subst (λ n. get_or ys l 0 + cond (eqb n from) 1 0 ≡ get_or xs l 0 + cond (eqb n to) 1 0) (let e : k + suc l ≡ k + 1 + l = omega arith in e) (moved (suc l))) in
+    let head : y + cond (eqb k from) 1 0 ≡ x + cond (eqb k to) 1 0 = subst (λ n. y + cond (eqb n from) 1 0 ≡ x + cond (eqb n to) 1 0)
+    (let e : k + 0 ≡ k = omega arith in e) (moved 0) in
+    let rest = moved_from h (k + 1) from to xs ys (omega arith)
+    (λ l. subst (λ n. get_or ys l 0 + cond (eqb n from) 1 0 ≡ get_or xs l 0 + cond (eqb n to) 1 0) (let e : k + suc l ≡ k + 1 + l = omega arith in e)
+    (moved (suc l))) in
     omega (arith, item_moves x y (h k) (eqb k from) (eqb k to) head, rest)
 
 -- one is taken at a place and added at another
-pub weighted_sum-moved : (h : ℕ → ℕ) (from to : ℕ) (xs ys : List ℕ) → from < length xs → to < length xs → length ys ≡ length xs → ((l : ℕ) → get_or ys l 0 + cond (eqb l from) 1 0 ≡ get_or xs l 0 + cond (eqb l to) 1 0) → weighted_sum h 0 ys + h from ≡ weighted_sum h 0 xs + h to
+pub weighted_sum-moved : (h : ℕ → ℕ) (from to : ℕ) (xs ys : List ℕ) → from < length xs → to < length xs → length ys ≡ length xs
+    → ((l : ℕ) → get_or ys l 0 + cond (eqb l from) 1 0 ≡ get_or xs l 0 + cond (eqb l to) 1 0) → weighted_sum h 0 ys + h from ≡ weighted_sum h 0 xs + h to
 weighted_sum-moved h from to xs ys a b count moved =
-    let all = moved_from h 0 from to xs ys count (λ l. subst (λ k. get_or ys l 0 + cond (eqb k from) 1 0 ≡ get_or xs l 0 + cond (eqb k to) 1 0) (let e : l ≡ 0 + l = omega arith in e) (moved l)) in
+    let all = moved_from h 0 from to xs ys count
+    (λ l. subst (λ k. get_or ys l 0 + cond (eqb k from) 1 0 ≡ get_or xs l 0 + cond (eqb k to) 1 0) (let e : l ≡ 0 + l = omega arith in e) (moved l)) in
     omega (arith, all, only-inside h 0 (length xs) from (omega arith) (omega arith), only-inside h 0 (length xs) to (omega arith) (omega arith))
 
 -- ---- sums over the items of a list
@@ -145,12 +161,14 @@ pub sum_by-no_more : {X : Type 0} (f g : X → ℕ) (xs : List X) → ((i : ℕ)
 sum_by-no_more f g [] h = omega arith
 sum_by-no_more f g (x ∷ xs) h = omega (arith, h 0 x refl, sum_by-no_more f g xs (λ i y at. h (suc i) y at), sum_by-cons f x xs, sum_by-cons g x xs)
 
-pub sum_by-less : {X : Type 0} (f g : X → ℕ) (xs : List X) → ((i : ℕ) (x : X) → slice_get xs i ≡ Some x → g x ≤ f x) → (j : ℕ) (this : X) → slice_get xs j ≡ Some this → g this < f this → sum_by g xs < sum_by f xs
+pub sum_by-less : {X : Type 0} (f g : X → ℕ) (xs : List X) → ((i : ℕ) (x : X) → slice_get xs i ≡ Some x → g x ≤ f x) → (j : ℕ) (this : X)
+    → slice_get xs j ≡ Some this → g this < f this → sum_by g xs < sum_by f xs
 sum_by-less f g [] h j this at less = absurd (cc)
 sum_by-less f g (x ∷ xs) h zero this at less =
     let here : g x < f x = subst (λ y. g y < f y) (same_Some this x (sym at)) less in
     omega (arith, here, sum_by-no_more f g xs (λ i y there. h (suc i) y there), sum_by-cons f x xs, sum_by-cons g x xs)
-sum_by-less f g (x ∷ xs) h (suc j) this at less = omega (arith, h 0 x refl, sum_by-less f g xs (λ i y there. h (suc i) y there) j this at less, sum_by-cons f x xs, sum_by-cons g x xs)
+sum_by-less f g (x ∷ xs) h (suc j) this at less = omega
+    (arith, h 0 x refl, sum_by-less f g xs (λ i y there. h (suc i) y there) j this at less, sum_by-cons f x xs, sum_by-cons g x xs)
 
 pub sum_by-most : {X : Type 0} (f : X → ℕ) (xs : List X) → ((x : X) → f x ≤ 1) → sum_by f xs ≤ length xs
 sum_by-most f [] h = omega arith

@@ -1,5 +1,7 @@
 -- how often a number is in a list
-use Rattle.ta_base.proofs.Common.{◌≡◌, inl, inr, ℕ, zero, suc, ◌+◌, ◌<◌, ◌≤◌, ℤ, pos, ◌+ℤ◌, ◌*ℤ◌, List, [], ◌∷◌, ◌++◌, length, eqb, cond, Bool, true, Some, slice_get, arith, sym, ap, ◌∙◌, refl, zero-add, ints, nat_tests, eqb_tells, cases_Bool, *ℤ-zero, filter, range_with_len, Distinct, In, total, times_in, one_if}
+use Rattle.ta_base.proofs.Common.{◌≡◌, inl, inr, ℕ, zero, suc, ◌+◌, ◌<◌, ◌≤◌, ℤ, pos, ◌+ℤ◌, ◌*ℤ◌, List, [], ◌∷◌, ◌++◌, length, eqb, cond, Bool, true, Some}
+use Rattle.ta_base.proofs.Common.{slice_get, arith, sym, ap, ◌∙◌, refl, zero-add, ints, nat_tests, eqb_tells, cases_Bool, *ℤ-zero, filter, range_with_len}
+use Rattle.ta_base.proofs.Common.{Distinct, In, total, times_in, one_if}
 use Rattle.ta_base.proofs.Integers.{by_one, distributes}
 use Rattle.ta_base.proofs.Lists.{filter_true, filter_false}
 use Rattle.ta_base.proofs.Members.{in_at, In-filter}
@@ -60,10 +62,12 @@ distinct-times (x ∷ xs) h = (
 pub times-passed : (ok : ℕ → Bool) (x k n : ℕ) → ok x ≡ true → k ≤ x → x < k + n → times_in x (filter ok (range_with_len k n)) ≡ 1
 times-passed ok x k n t low high =
     let numbers = range_with_len k n in
-    times-distinct x (filter ok numbers) (rises_distinct k (k + n) (filter ok numbers) (rises_filter ok k (k + n) numbers (numbers_rise k n))) (In-filter ok x numbers t (In-numbers x k n low high))
+    times-distinct x (filter ok numbers) (rises_distinct k (k + n) (filter ok numbers) (rises_filter ok k (k + n) numbers (numbers_rise k n)))
+    (In-filter ok x numbers t (In-numbers x k n low high))
 
 pub times-numbers : (x k n : ℕ) → k ≤ x → x < k + n → times_in x (range_with_len k n) ≡ 1
-times-numbers x k n low high = times-distinct x (range_with_len k n) (rises_distinct k (k + n) (range_with_len k n) (numbers_rise k n)) (In-numbers x k n low high)
+times-numbers x k n low high = times-distinct x (range_with_len k n) (rises_distinct k (k + n) (range_with_len k n) (numbers_rise k n))
+    (In-numbers x k n low high)
 
 pub times-filter : (ok : ℕ → Bool) (r : ℕ) (xs : List ℕ) → times_in r (filter ok xs) ≤ times_in r xs
 unfolding times_in
@@ -76,7 +80,9 @@ times-filter ok r (x ∷ xs) = elim (cases_Bool (ok x)) [
 -- ---- sums
 one_more : (x r : ℕ) (g : ℤ) (m : ℕ) → (g *ℤ pos (cond (eqb x r) 1 0 + m)) ≡ ((one_if r x *ℤ g) +ℤ (g *ℤ pos m))
 one_more x r g m = elim (eqb_tells x r) [
-  | inl e ↦ rw (e.0, ← e.1, one_if-same x g) (ap (λ z. g *ℤ z) (let s : pos (1 + m) ≡ (pos 1 +ℤ pos m) = omega (arith, ints) in s) ∙ distributes g (pos 1) (pos m) ∙ ap (λ z. z +ℤ (g *ℤ pos m)) (by_one g))
+  | inl e ↦ rw (e.0, ← e.1, one_if-same x g)
+      (ap (λ z. g *ℤ z) (let s : pos (1 + m) ≡ (pos 1 +ℤ pos m) = omega (arith, ints) in s) ∙ distributes g (pos 1) (pos m)
+      ∙ ap (λ z. z +ℤ (g *ℤ pos m)) (by_one g))
   | inr ne ↦ rw (ne.0, one_if-other r x g (λ e. ne.1 (sym e))) (omega (arith, ints, ap (λ z. g *ℤ pos z) (zero-add m)))
 ]
 
@@ -85,8 +91,25 @@ pub times-total : (g : ℕ → ℤ) (x : ℕ) (rs : List ℕ) → total (λ r. o
 unfolding total times_in
 times-total g x [] = sym (*ℤ-zero (g x))
 times-total g x (r ∷ rs) = elim (eqb_tells r x) [
-  | inl e ↦ omega (arith, ints, times-total g x rs, one_more r x (g x) (times_in x rs), ap (λ z. one_if r x *ℤ g z) e.1, ap (λ z. one_if z x *ℤ g x) e.1, ap (λ z. one_if x z *ℤ g x) e.1)
-  | inr ne ↦ omega (arith, ints, times-total g x rs, one_more r x (g x) (times_in x rs), one_if-other r x (g r) ne.1, one_if-other x r (g x) (λ e. ne.1 (sym e)))
+  | inl e ↦ omega (
+    arith,
+    ints,
+    times-total g x rs,
+    one_more r x (g x) (times_in x rs),
+    ap (λ z. one_if r x *ℤ g z) e.1,
+    ap (λ z. one_if z x *ℤ g x) e.1,
+    ap
+        (λ z. one_if x z *ℤ g x) e.1,
+  )
+  | inr ne ↦ omega (
+    arith,
+    ints,
+    times-total g x rs,
+    one_more r x (g x) (times_in x rs),
+    one_if-other r x (g r) ne.1,
+    one_if-other x r (g x)
+        (λ e. ne.1 (sym e)),
+  )
 ]
 
 -- each number of the first list is once in the second
@@ -99,7 +122,8 @@ pub total-by_times : (g : ℕ → ℤ) (rs xs : List ℕ) → EachOnce xs rs →
 unfolding total times_in
 total-by_times g rs [] h = total-zero (λ r. g r *ℤ pos 0) rs (λ r. *ℤ-zero (g r))
 total-by_times g rs (x ∷ xs) h =
-    let split = total-same (λ r. g r *ℤ pos (times_in r (x ∷ xs))) (λ r. (one_if r x *ℤ g r) +ℤ (g r *ℤ pos (times_in r xs))) rs (λ r. one_more x r (g r) (times_in r xs)) in
+    let split = total-same (λ r. g r *ℤ pos (times_in r (x ∷ xs))) (λ r. (one_if r x *ℤ g r) +ℤ (g r *ℤ pos (times_in r xs))) rs
+    (λ r. one_more x r (g r) (times_in r xs)) in
     let parts = total-add (λ r. one_if r x *ℤ g r) (λ r. g r *ℤ pos (times_in r xs)) rs in
     omega (arith, ints, total-by_times g rs xs h.1, split, parts, times-total g x rs, ap (λ z. g x *ℤ pos z) h.0, by_one (g x))
 
@@ -109,5 +133,9 @@ unfolding times_in
 once_at [] e i j one at bt = absurd (cc)
 once_at (x ∷ xs) e zero zero one at bt = refl
 once_at (x ∷ xs) e (suc i) (suc j) one at bt = ap suc (once_at xs e i j (let some = times-some e xs (in_at xs i e at) in omega arith) at bt)
-once_at (x ∷ xs) e zero (suc j) one at bt = absurd (let s : eqb x e ≡ true = (let same : x ≡ e = cc in grind (arith, nat_tests)) in let t = rw s at one in let some = times-some e xs (in_at xs j e bt) in omega arith)
-once_at (x ∷ xs) e (suc i) zero one at bt = absurd (let s : eqb x e ≡ true = (let same : x ≡ e = cc in grind (arith, nat_tests)) in let t = rw s at one in let some = times-some e xs (in_at xs i e at) in omega arith)
+once_at (x ∷ xs) e zero (suc j) one at bt = absurd
+    (let s : eqb x e ≡ true = (let same : x ≡ e = cc in grind (arith, nat_tests)) in let t = rw s at one in let some = times-some e xs (in_at xs j e bt) in
+    omega arith)
+once_at (x ∷ xs) e (suc i) zero one at bt = absurd
+    (let s : eqb x e ≡ true = (let same : x ≡ e = cc in grind (arith, nat_tests)) in let t = rw s at one in let some = times-some e xs (in_at xs i e at) in
+    omega arith)

@@ -1,5 +1,7 @@
 -- sums of whole numbers over lists, and the numbers that are 1 where two others are equal, else 0
-use Rattle.ta_base.proofs.Common.{◌≡◌, ◌≢◌, ◌⊎◌, inl, inr, ℕ, zero, suc, ◌+◌, ◌<◌, ◌≤◌, ℤ, to_z, of_z, w128, pos, ◌+ℤ◌, ◌-ℤ◌, ◌*ℤ◌, ◌≤ℤ◌, List, [], ◌∷◌, ◌++◌, length, get_or, set, slice_get, Some, eqb, cond, replicate, sum, unsigned_abs, add-one, arith, sym, ap, ◌∙◌, refl, ints, nat_tests, eqb_tells, zero-*ℤ, *ℤ-zero, sum_by-cons, range_with_len, In, Rises, total, one_if, ◌&&◌, true}
+use Rattle.ta_base.proofs.Common.{◌≡◌, ◌≢◌, ◌⊎◌, inl, inr, ℕ, zero, suc, ◌+◌, ◌<◌, ◌≤◌, ℤ, to_z, of_z, w128, pos, ◌+ℤ◌, ◌-ℤ◌, ◌*ℤ◌, ◌≤ℤ◌, List, [], ◌∷◌, ◌++◌}
+use Rattle.ta_base.proofs.Common.{length, get_or, set, slice_get, Some, eqb, cond, replicate, sum, unsigned_abs, add-one, arith, sym, ap, ◌∙◌, refl, ints}
+use Rattle.ta_base.proofs.Common.{nat_tests, eqb_tells, zero-*ℤ, *ℤ-zero, sum_by-cons, range_with_len, In, Rises, total, one_if, ◌&&◌, true}
 use Rattle.ta_base.proofs.Integers.{abs_minus, to_z_abs, distributes, distributes_right, natural, one_times, pos_natural}
 
 -- ---- 1 where two numbers are equal
@@ -34,16 +36,19 @@ pub one_if-small : (x y : ℕ) → unsigned_abs (one_if x y) ≤ 1
 one_if-small x y = omega (arith, ints, one_if-natural x y, one_if-most x y)
 
 -- the difference of two such numbers, as the code takes it
-pub one_if-difference : (x y z n : ℕ) (a b : ℤ) → a ≡ one_if x z → b ≡ one_if y n → to_z w128 (of_z w128 (to_z w128 (of_z w128 a) -ℤ to_z w128 (of_z w128 b))) ≡ (one_if x z -ℤ one_if y n)
+pub one_if-difference : (x y z n : ℕ) (a b : ℤ) → a ≡ one_if x z → b ≡ one_if y n
+    → to_z w128 (of_z w128 (to_z w128 (of_z w128 a) -ℤ to_z w128 (of_z w128 b))) ≡ (one_if x z -ℤ one_if y n)
 one_if-difference x y z n a b e f =
     let first = one_if-small x z in
     let second = one_if-small y n in
     let plain_a : to_z w128 (of_z w128 a) ≡ one_if x z = ap (λ k. to_z w128 (of_z w128 k)) e ∙ to_z_abs (one_if x z) 1 first (omega arith) in
     let plain_b : to_z w128 (of_z w128 b) ≡ one_if y n = ap (λ k. to_z w128 (of_z w128 k)) f ∙ to_z_abs (one_if y n) 1 second (omega arith) in
-    ap (λ k. to_z w128 (of_z w128 (k -ℤ to_z w128 (of_z w128 b)))) plain_a ∙ ap (λ k. to_z w128 (of_z w128 (one_if x z -ℤ k))) plain_b ∙ to_z_abs (one_if x z -ℤ one_if y n) 2 (abs_minus (one_if x z) (one_if y n) 1 1 first second) (omega arith)
+    ap (λ k. to_z w128 (of_z w128 (k -ℤ to_z w128 (of_z w128 b)))) plain_a ∙ ap (λ k. to_z w128 (of_z w128 (one_if x z -ℤ k))) plain_b
+    ∙ to_z_abs (one_if x z -ℤ one_if y n) 2 (abs_minus (one_if x z) (one_if y n) 1 1 first second) (omega arith)
 
 -- a natural number to which one is added at a place, and from which one is taken at another
-pub natural-moved : (b from to l n : ℕ) → 1 ≤ n → (l ≡ from → b ≡ n) → natural ((pos b +ℤ one_if to l) -ℤ one_if from l) + cond (eqb l from) 1 0 ≡ b + cond (eqb l to) 1 0
+pub natural-moved : (b from to l n : ℕ) → 1 ≤ n → (l ≡ from → b ≡ n)
+    → natural ((pos b +ℤ one_if to l) -ℤ one_if from l) + cond (eqb l from) 1 0 ≡ b + cond (eqb l to) 1 0
 natural-moved b from to l n some h =
     let e : pos (natural ((pos b +ℤ one_if to l) -ℤ one_if from l)) ≡ ((pos b +ℤ one_if to l) -ℤ one_if from l) = pos_natural _ (elim (eqb_tells from l) [
       | inl s ↦ (let q = h (sym s.1) in elim (eqb_tells to l) [ inl t ↦ rw (s.0, t.0) (omega (arith, ints)) | inr t ↦ rw (s.0, t.0) (omega (arith, ints)) ])
@@ -133,7 +138,15 @@ pub one_inside : (f : ℕ → ℤ) (k n i : ℕ) → k ≤ i → i < k + n → t
 unfolding total
 one_inside f k zero i h g = absurd (omega arith)
 one_inside f k (suc n) i h g = elim (eqb_tells k i) [
-  | inl e ↦ omega (arith, ints, one_outside f (k + 1) n i (inl (let p = e.1 in omega arith)), ap (λ z. one_if k z *ℤ f k) (sym e.1), one_if-same k (f k), ap f e.1)
+  | inl e ↦ omega (
+    arith,
+    ints,
+    one_outside f (k + 1) n i (inl (let p = e.1 in omega arith)),
+    ap (λ z. one_if k z *ℤ f k) (sym e.1),
+    one_if-same k (f k),
+    ap f
+        e.1,
+  )
   | inr ne ↦ omega (arith, ints, one_if-other k i (f k) ne.1, one_inside f (k + 1) n i (let p = ne.1 in omega arith) (omega arith))
 ]
 
@@ -150,12 +163,21 @@ pub one_among : (f : ℕ → ℤ) (low high : ℕ) (xs : List ℕ) (l : ℕ) →
 unfolding total
 one_among f low high [] l h out = sym (out (λ w. w))
 one_among f low high (x ∷ xs) l h out = elim (eqb_tells x l) [
-  | inl e ↦ omega (arith, ints, one_above f (x + 1) high xs l h.2 (let p = e.1 in omega arith), ap (λ z. one_if x z *ℤ f x) (sym e.1), one_if-same x (f x), ap f e.1)
+  | inl e ↦ omega (
+    arith,
+    ints,
+    one_above f (x + 1) high xs l h.2 (let p = e.1 in omega arith),
+    ap (λ z. one_if x z *ℤ f x) (sym e.1),
+    one_if-same x (f x),
+    ap f
+        e.1,
+  )
   | inr ne ↦ omega (arith, ints, one_if-other x l (f x) ne.1, one_among f (x + 1) high xs l h.2 (λ w. out (λ v. elim v [ inl e ↦ ne.1 (sym e) | inr g ↦ w g ])))
 ]
 
 -- each of the numbers is one of those below the end
-total-each_once : (f : ℕ → ℤ) (low high : ℕ) (xs : List ℕ) → Rises low high xs → total (λ j. total (λ l. one_if j l *ℤ f j) (range_with_len 0 high)) xs ≡ total f xs
+total-each_once : (f : ℕ → ℤ) (low high : ℕ) (xs : List ℕ) → Rises low high xs
+    → total (λ j. total (λ l. one_if j l *ℤ f j) (range_with_len 0 high)) xs ≡ total f xs
 unfolding total
 total-each_once f low high [] h = refl
 total-each_once f low high (x ∷ xs) h =
@@ -163,7 +185,8 @@ total-each_once f low high (x ∷ xs) h =
     omega (arith, ints, flip, one_inside (λ _. f x) 0 high x (omega arith) (omega (arith, h.1)), total-each_once f (x + 1) high xs h.2)
 
 -- a sum over numbers that rise is that over all numbers below the end, where the others' parts are 0
-pub total-rising : (f : ℕ → ℤ) (high : ℕ) (xs : List ℕ) → Rises 0 high xs → ((l : ℕ) → (In l xs → ⊥) → f l ≡ pos 0) → total f xs ≡ total f (range_with_len 0 high)
+pub total-rising : (f : ℕ → ℤ) (high : ℕ) (xs : List ℕ) → Rises 0 high xs → ((l : ℕ) → (In l xs → ⊥) → f l ≡ pos 0)
+    → total f xs ≡ total f (range_with_len 0 high)
 total-rising f high xs rises out =
     let once = total-each_once f 0 high xs rises in
     let swap = total-swap (λ j l. one_if j l *ℤ f j) xs (range_with_len 0 high) in
@@ -171,7 +194,8 @@ total-rising f high xs rises out =
     omega (arith, ints, once, swap, each)
 
 -- a function that has given values at the items of a list
-pub total-listed : (f : ℕ → ℤ) (ls : List ℕ) (zs : List ℤ) → length zs ≡ length ls → ((j l : ℕ) → slice_get ls j ≡ Some l → f l ≡ get_or zs j (pos 0)) → total f ls ≡ total (λ z. z) zs
+pub total-listed : (f : ℕ → ℤ) (ls : List ℕ) (zs : List ℤ) → length zs ≡ length ls → ((j l : ℕ) → slice_get ls j ≡ Some l → f l ≡ get_or zs j (pos 0))
+    → total f ls ≡ total (λ z. z) zs
 unfolding total
 total-listed f [] [] same h = refl
 total-listed f [] (z ∷ zs) same h = absurd (omega arith)

@@ -1,5 +1,10 @@
 -- What is written is read: lines, lists of lines, and pieces.
-use Rattle.ta_cert.proofs.Common.{ℕ, ℤ, pos, negsuc, ints, ◌+◌, ◌<◌, ◌≤◌, ◌^◌, ◌≡◌, Bool, true, false, List, [], ◌∷◌, ◌++◌, length, concat, codes, decimal, signed_decimal, Option, None, Some, Ok, Err, refl, sym, ap, subst, ◌∙◌, append_assoc, length-append, arith, lit<, lit≤, false≢true, beq, AllByRecursion, Avoids, avoids-append, avoids_known, decimal_avoids, multiplier_number, first_byte, ArePairs, IsLine, cert_lines_text, has_end, is_end, is_header, line_text, order_of, pair_text, pairs_text, split_text, AreLater, AreLines, by_pieces, has_line, line_number, numbered_lines, Outcome, State, add_lines, line_feed, line_limit, next, on, start, steps, text_lines, finished, Line}
+use Rattle.ta_cert.proofs.Common.{ℕ, ℤ, pos, negsuc, ints, ◌+◌, ◌<◌, ◌≤◌, ◌^◌, ◌≡◌, Bool, true, false, List, [], ◌∷◌, ◌++◌, length, concat, codes, decimal}
+use Rattle.ta_cert.proofs.Common.{signed_decimal, Option, None, Some, Ok, Err, refl, sym, ap, subst, ◌∙◌, append_assoc, length-append, arith, lit<, lit≤}
+use Rattle.ta_cert.proofs.Common.{false≢true, beq, AllByRecursion, Avoids, avoids-append, avoids_known, decimal_avoids, multiplier_number, first_byte, ArePairs}
+use Rattle.ta_cert.proofs.Common.{IsLine, cert_lines_text, has_end, is_end, is_header, line_text, order_of, pair_text, pairs_text, split_text, AreLater}
+use Rattle.ta_cert.proofs.Common.{AreLines, by_pieces, has_line, line_number, numbered_lines, Outcome, State, add_lines, line_feed, line_limit, next, on, start}
+use Rattle.ta_cert.proofs.Common.{steps, text_lines, finished, Line}
 use Rattle.ta_cert.specs.declared.line.Node.TheVariants as node
 use Rattle.ta_cert.specs.declared.line.Line.TheVariants as line
 use Rattle.ta_cert.specs.Lines.{line_of}
@@ -17,7 +22,9 @@ pairs_unbroken low [] are = tt
 pairs_unbroken low (t ∷ ts) are =
     let m = multiplier_number t.1 (signed_decimal t.1 ++ []) [] are.1.low are.1.high refl in
     let number = subst (λ z. Avoids 10 (signed_decimal z)) (sym m.4) (clear (2 ^ 127) m.0 m.2 (lit≤ tt)) in
-    avoids-append 10 (pair_text t) (pairs_text ts) ((λ e. omega arith), avoids-append 10 (decimal t.0) (58 ∷ signed_decimal t.1) (clear (2 ^ 32) t.0 are.1.row (lit≤ tt)) ((λ e. omega arith), number)) (pairs_unbroken (t.0 + 1) ts are.2)
+    avoids-append 10 (pair_text t) (pairs_text ts)
+    ((λ e. omega arith), avoids-append 10 (decimal t.0) (58 ∷ signed_decimal t.1) (clear (2 ^ 32) t.0 are.1.row (lit≤ tt)) ((λ e. omega arith), number))
+    (pairs_unbroken (t.0 + 1) ts are.2)
 
 behind_word : (w rest : List ℕ) → Avoids 10 w → Avoids 10 rest → Avoids 10 (w ++ rest)
 behind_word w rest front back = avoids-append 10 w rest front back
@@ -27,14 +34,17 @@ two m rest below back = avoids-append 10 (decimal m) (32 ∷ rest) (clear (2 ^ 3
 
 -- no line has a line feed in its text
 pub line_unbroken : (l : Line) → IsLine l → Avoids 10 (line_text l)
-line_unbroken (line.Header v) form = behind_word (codes "threshold-certificate ") (decimal v) (avoids_known 10 (codes "threshold-certificate ") refl) (clear 4 v form.1 (lit≤ tt))
+line_unbroken (line.Header v) form = behind_word (codes "threshold-certificate ") (decimal v) (avoids_known 10 (codes "threshold-certificate ") refl)
+    (clear 4 v form.1 (lit≤ tt))
 line_unbroken (line.Pattern k) form = behind_word (codes "pattern ") (decimal k) (avoids_known 10 (codes "pattern ") refl) (clear (2 ^ 32) k form (lit≤ tt))
 line_unbroken (line.Tree node.Extend) form = avoids_known 10 (codes "e") refl
-line_unbroken (line.Tree (node.Split u (pos k))) form = behind_word (codes "s ") (split_text u (pos k)) (avoids_known 10 (codes "s ") refl) (two u (decimal k) form.number (clear (2 ^ 126) k (omega (arith, ints, form.high)) (lit≤ tt)))
+line_unbroken (line.Tree (node.Split u (pos k))) form = behind_word (codes "s ") (split_text u (pos k)) (avoids_known 10 (codes "s ") refl)
+    (two u (decimal k) form.number (clear (2 ^ 126) k (omega (arith, ints, form.high)) (lit≤ tt)))
 line_unbroken (line.Tree (node.Split u (negsuc k))) form = absurd (omega (arith, ints, form.low))
 line_unbroken (line.Tree (node.Leaf ts)) form = behind_word (codes "f") (pairs_text ts) (avoids_known 10 (codes "f") refl) (pairs_unbroken 0 ts form.1)
 line_unbroken (line.Tree (node.Guard g)) form = behind_word (codes "g ") (decimal g) (avoids_known 10 (codes "g ") refl) (clear (2 ^ 32) g form (lit≤ tt))
-line_unbroken (line.Tree (node.Order j i)) form = behind_word (codes "o ") (order_of j i) (avoids_known 10 (codes "o ") refl) (two j (decimal i) form.0 (clear (2 ^ 32) i form.1 (lit≤ tt)))
+line_unbroken (line.Tree (node.Order j i)) form = behind_word (codes "o ") (order_of j i) (avoids_known 10 (codes "o ") refl)
+    (two j (decimal i) form.0 (clear (2 ^ 32) i form.1 (lit≤ tt)))
 line_unbroken (line.Tree (node.Stuck r)) form = behind_word (codes "r ") (decimal r) (avoids_known 10 (codes "r ") refl) (clear (2 ^ 32) r form (lit≤ tt))
 line_unbroken line.End form = avoids_known 10 (codes "end") refl
 
@@ -91,14 +101,16 @@ pub later_read : (ls : List Line) (n : ℕ) → AreLater ls
     → steps (cert_lines_text ls) (at_line n true false) ≡ (numbered_lines n ls, Ok (at_line (n + length ls) true (has_end ls)))
 later_read [] n later = let e : n ≡ n + 0 = omega arith in ap (λ k. ([], Ok (at_line k true false))) e
 later_read (l ∷ ls) n later =
-    on_line l ls (at_line n true false) (at_line (n + 1) true (is_end l)) ((line_number n, l) ∷ []) (line_read l n true later.0 later.1 (header_other l later.2))
+    on_line l ls (at_line n true false) (at_line (n + 1) true (is_end l)) ((line_number n, l) ∷ [])
+    (line_read l n true later.0 later.1 (header_other l later.2))
     ∙ by_end (is_end l) refl ls n later.3 (λ m. later_read ls m later.4)
   where
     by_end : (ends : Bool) → is_end l ≡ ends → (ks : List Line) (n : ℕ) → (is_end l ≡ true → ks ≡ [])
         → ((m : ℕ) → steps (cert_lines_text ks) (at_line m true false) ≡ (numbered_lines m ks, Ok (at_line (m + length ks) true (has_end ks))))
         → add_lines ((line_number n, l) ∷ []) (steps (cert_lines_text ks) (at_line (n + 1) true ends)) ≡
         (numbered_lines n (l ∷ ks), Ok (at_line (n + length (l ∷ ks)) true (has_end (l ∷ ks))))
-    by_end false is ks n none more = let e : n + 1 + length ks ≡ n + length (l ∷ ks) = omega arith in ap (add_lines ((line_number n, l) ∷ [])) (more (n + 1)) ∙ rw (is, e) refl
+    by_end false is ks n none more = let e : n + 1 + length ks ≡ n + length (l ∷ ks) = omega arith in ap (add_lines ((line_number n, l) ∷ [])) (more (n + 1))
+        ∙ rw (is, e) refl
     by_end true is [] n none more = rw is refl
     by_end true is (k ∷ ks) n none more = let nothing = none is in absurd cc
 
@@ -135,4 +147,5 @@ on_same (xs, Err e) f g same = refl
 
 pub pieces_same : (pieces : List (List ℕ)) (s : State) → by_pieces pieces s ≡ steps (concat pieces) s
 pieces_same [] s = refl
-pieces_same (piece ∷ pieces) s = on_same (steps piece s) (by_pieces pieces) (steps (concat pieces)) (pieces_same pieces) ∙ sym (steps-append piece (concat pieces) s)
+pieces_same (piece ∷ pieces) s = on_same (steps piece s) (by_pieces pieces) (steps (concat pieces)) (pieces_same pieces)
+    ∙ sym (steps-append piece (concat pieces) s)

@@ -1,5 +1,9 @@
 -- bounds of rows, and what they keep
-use Rattle.ta_dense.proofs.Common.{◌≡◌, inl, inr, ℕ, ◌<◌, ◌≤◌, ◌+◌, ◌*◌, ◌^◌, List, ◌∷◌, length, map, set, get_or, arith, sym, refl, ℤ, pos, neg_ℤ, ◌-ℤ◌, ◌*ℤ◌, ◌<ℤ◌, unsigned_abs, get_or-set_same, get_or-set_other, int_div, cases_eq, length-set, All-from_get_or, All-map, All-set, le_of_dvd, dvd_antisymm, one-dvd, SFits, abs_minus, abs_positive, div-one, product_le, quotient_le, unsigned_abs-neg, fits32, small_positive, InRange, TableauRow, combine, merged_by, divided, turned, divisor_of, factor_divisor, CombinesInRange, MergesByInRange, AreBounded, IsBound, CombinesIn32, AllCombineIn32, IsGcd-gcd_of}
+use Rattle.ta_dense.proofs.Common.{◌≡◌, inl, inr, ℕ, ◌<◌, ◌≤◌, ◌+◌, ◌*◌, ◌^◌, List, ◌∷◌, length, map, set, get_or, arith, sym, refl, ℤ, pos, neg_ℤ, ◌-ℤ◌, ◌*ℤ◌}
+use Rattle.ta_dense.proofs.Common.{◌<ℤ◌, unsigned_abs, get_or-set_same, get_or-set_other, int_div, cases_eq, length-set, All-from_get_or, All-map, All-set}
+use Rattle.ta_dense.proofs.Common.{le_of_dvd, dvd_antisymm, one-dvd, SFits, abs_minus, abs_positive, div-one, product_le, quotient_le, unsigned_abs-neg, fits32}
+use Rattle.ta_dense.proofs.Common.{small_positive, InRange, TableauRow, combine, merged_by, divided, turned, divisor_of, factor_divisor, CombinesInRange}
+use Rattle.ta_dense.proofs.Common.{MergesByInRange, AreBounded, IsBound, CombinesIn32, AllCombineIn32, IsGcd-gcd_of}
 use Rattle.std.specs.Int.{w32}
 use Rattle.ta_dense.proofs.Divide.{gcd_with_divides}
 use Rattle.ta_dense.proofs.PivotLaws.{length-combine, get_or-combine}
@@ -47,12 +51,14 @@ combines_in_range p a q c t h k = record {
 pub cell_le : (xs : List ℤ) (b j : ℕ) → AreBounded b xs → j < length xs → unsigned_abs (get_or xs j (pos 0)) ≤ b
 cell_le xs b j all h = all j (pos 0) h
 
-pub cells_in32 : (p q : ℤ) (b d : ℕ) (xs cs : List ℤ) → length xs ≡ length cs → AreBounded b xs → AreBounded d cs → unsigned_abs p * b + unsigned_abs q * d < 2 ^ 31 → AllCombineIn32 p q xs cs
+pub cells_in32 : (p q : ℤ) (b d : ℕ) (xs cs : List ℤ) → length xs ≡ length cs → AreBounded b xs → AreBounded d cs
+    → unsigned_abs p * b + unsigned_abs q * d < 2 ^ 31 → AllCombineIn32 p q xs cs
 cells_in32 p q b d xs cs e x c within j h =
     combine_in32 p (get_or xs j (pos 0)) q (get_or cs j (pos 0)) b d (cell_le xs b j x h) (cell_le cs d j c (omega arith)) within
 
 -- the bound of a merged row
-pub IsBound-merged_by : (p q : ℤ) (b d column : ℕ) (chosen r : TableauRow) → length r.cells ≡ length chosen.cells → column < length chosen.cells → IsBound d chosen → IsBound b r →
+pub IsBound-merged_by : (p q : ℤ) (b d column : ℕ) (chosen r : TableauRow) → length r.cells ≡ length chosen.cells → column < length chosen.cells
+    → IsBound d chosen → IsBound b r →
     IsBound (unsigned_abs p * b + unsigned_abs q * d) (merged_by p q column chosen r)
 IsBound-merged_by p q b d column chosen r same h c k =
     let long = length-combine p q r.cells chosen.cells same in
@@ -62,27 +68,37 @@ IsBound-merged_by p q b d column chosen r same h c k =
     record {
       denominator = omega arith;
       constant = (combines_below p r.constant q chosen.constant b d k.constant c.constant).difference;
-      cells = All-from_get_or (λ x. unsigned_abs x ≤ unsigned_abs p * b + unsigned_abs q * d) (set (combine p q r.cells chosen.cells) column (q *ℤ chosen.denominator)) (pos 0) (λ i below.
+      cells = All-from_get_or (λ x. unsigned_abs x ≤ unsigned_abs p * b + unsigned_abs q * d)
+          (set (combine p q r.cells chosen.cells) column (q *ℤ chosen.denominator)) (pos 0) (λ i below.
           elim (cases_eq i column) [
-            | inl at ↦ (let inside : column < length (combine p q r.cells chosen.cells) = omega arith in rw (at, get_or-set_same (combine p q r.cells chosen.cells) column (q *ℤ chosen.denominator) (pos 0) inside) (omega arith))
+            | inl at ↦ (let inside : column < length (combine p q r.cells chosen.cells) = omega arith in rw
+                (at, get_or-set_same (combine p q r.cells chosen.cells) column (q *ℤ chosen.denominator) (pos 0) inside) (omega arith))
             | inr apart ↦
-                rw (get_or-set_other (combine p q r.cells chosen.cells) column i (q *ℤ chosen.denominator) (pos 0) apart, get_or-combine p q r.cells chosen.cells i same)
-                (combines_below p (get_or r.cells i (pos 0)) q (get_or chosen.cells i (pos 0)) b d (cell_le r.cells b i k.cells (omega arith)) (cell_le chosen.cells d i c.cells (omega arith))).difference
+                rw (
+                  get_or-set_other (combine p q r.cells chosen.cells) column i (q *ℤ chosen.denominator) (pos 0) apart,
+                  get_or-combine p q r.cells
+                      chosen.cells i same,
+                )
+                (combines_below p (get_or r.cells i (pos 0)) q (get_or chosen.cells i (pos 0)) b d (cell_le r.cells b i k.cells (omega arith))
+                (cell_le chosen.cells d i c.cells (omega arith))).difference
           ]);
     }
 
 -- no listed product or difference of such a merge leaves the range
-pub merges_by_in_range : (p q : ℤ) (b d column : ℕ) (chosen r : TableauRow) → length r.cells ≡ length chosen.cells → IsBound d chosen → IsBound b r → unsigned_abs p * b + unsigned_abs q * d < 2 ^ 31 → MergesByInRange p q column chosen r
+pub merges_by_in_range : (p q : ℤ) (b d column : ℕ) (chosen r : TableauRow) → length r.cells ≡ length chosen.cells → IsBound d chosen → IsBound b r
+    → unsigned_abs p * b + unsigned_abs q * d < 2 ^ 31 → MergesByInRange p q column chosen r
 merges_by_in_range p q b d column chosen r same c k within =
     let turned_le = product_le q chosen.denominator d c.denominator in
     let own_le = product_le p r.denominator b k.denominator in
     record {
       denominator = omega arith;
-      constant = combines_in_range p r.constant q chosen.constant (unsigned_abs p * b + unsigned_abs q * d) (combines_below p r.constant q chosen.constant b d k.constant c.constant) within;
+      constant = combines_in_range p r.constant q chosen.constant (unsigned_abs p * b + unsigned_abs q * d)
+          (combines_below p r.constant q chosen.constant b d k.constant c.constant) within;
       turned = omega arith;
       cells = λ j h _.
           combines_in_range p (get_or r.cells j (pos 0)) q (get_or chosen.cells j (pos 0)) (unsigned_abs p * b + unsigned_abs q * d)
-          (combines_below p (get_or r.cells j (pos 0)) q (get_or chosen.cells j (pos 0)) b d (cell_le r.cells b j k.cells h) (cell_le chosen.cells d j c.cells (omega arith))) within;
+          (combines_below p (get_or r.cells j (pos 0)) q (get_or chosen.cells j (pos 0)) b d (cell_le r.cells b j k.cells h)
+          (cell_le chosen.cells d j c.cells (omega arith))) within;
     }
 
 -- the bounds of a divided and of a turned row
@@ -93,14 +109,16 @@ IsBound-divided b g r k =
     record {
       denominator = omega arith;
       constant = omega arith;
-      cells = All-map (λ x. unsigned_abs x ≤ b) (λ z. int_div z (pos g)) r.cells (λ i e h. (let q = quotient_le (get_or r.cells i e) g in let s = k.cells i e h in omega arith));
+      cells = All-map (λ x. unsigned_abs x ≤ b) (λ z. int_div z (pos g)) r.cells
+          (λ i e h. (let q = quotient_le (get_or r.cells i e) g in let s = k.cells i e h in omega arith));
     }
 
 pub IsBound-turned : (b entering column : ℕ) (r : TableauRow) → column < length r.cells → IsBound b r → IsBound b (turned entering column r)
 IsBound-turned b entering column r h k = record {
   denominator = cell_le r.cells b column k.cells h;
   constant = rw (unsigned_abs-neg r.constant) k.constant;
-  cells = All-set (λ x. unsigned_abs x ≤ b) (map neg_ℤ r.cells) column r.denominator k.denominator (All-map (λ x. unsigned_abs x ≤ b) neg_ℤ r.cells (λ i e inside. rw (unsigned_abs-neg (get_or r.cells i e)) (k.cells i e inside)));
+  cells = All-set (λ x. unsigned_abs x ≤ b) (map neg_ℤ r.cells) column r.denominator k.denominator
+      (All-map (λ x. unsigned_abs x ≤ b) neg_ℤ r.cells (λ i e inside. rw (unsigned_abs-neg (get_or r.cells i e)) (k.cells i e inside)));
 }
 
 pub divisor_le : (r : TableauRow) → pos 0 <ℤ r.denominator → divisor_of r ≤ unsigned_abs r.denominator

@@ -1,4 +1,5 @@
-use Rattle.ta_dense.proofs.Common.{◌≡◌, ◌≢◌, ℕ, ◌<◌, ◌≤◌, List, length, set, get_or, arith, sym, ◌∙◌, ℤ, pos, ◌-ℤ◌, ◌*ℤ◌, get_or-set_other, get_or-set_same, ext_get_or, length-set, combine}
+use Rattle.ta_dense.proofs.Common.{◌≡◌, ◌≢◌, ℕ, ◌<◌, ◌≤◌, List, length, set, get_or, arith, sym, ◌∙◌, ℤ, pos, ◌-ℤ◌, ◌*ℤ◌, get_or-set_other, get_or-set_same}
+use Rattle.ta_dense.proofs.Common.{ext_get_or, length-set, combine}
 use Rattle.ta_dense.proofs.PivotLaws.{get_or-combine, length-combine}
 
 pub target_at_column : (p q : ℤ) (xs cs : List ℤ) (column j : ℕ) (turned : ℤ) → length xs ≡ length cs → j < length xs → j ≡ column →
@@ -7,7 +8,8 @@ target_at_column p q xs cs column j turned e h same =
     let long = length-combine p q xs cs e in
     rw same (sym (get_or-set_same (combine p q xs cs) column turned (pos 0) (omega arith)))
 
-pub target_elsewhere : (p q : ℤ) (xs cs : List ℤ) (column j : ℕ) (turned x : ℤ) → length xs ≡ length cs → j ≢ column → x ≡ p *ℤ get_or xs j (pos 0) -ℤ q *ℤ get_or cs j (pos 0) →
+pub target_elsewhere : (p q : ℤ) (xs cs : List ℤ) (column j : ℕ) (turned x : ℤ) → length xs ≡ length cs → j ≢ column
+    → x ≡ p *ℤ get_or xs j (pos 0) -ℤ q *ℤ get_or cs j (pos 0) →
     x ≡ get_or (set (combine p q xs cs) column turned) j (pos 0)
 target_elsewhere p q xs cs column j turned x e apart is =
     is ∙ sym (get_or-combine p q xs cs j e) ∙ sym (get_or-set_other (combine p q xs cs) column j turned (pos 0) apart)

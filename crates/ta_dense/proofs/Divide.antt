@@ -1,4 +1,6 @@
-use Rattle.ta_dense.proofs.Common.{◌≡◌, ℕ, ◌<◌, List, [], ◌∷◌, map, arith, ap, ℤ, pos, ◌+ℤ◌, ◌*ℤ◌, int_div, ◌∣◌, one-dvd, dvd_refl, dvd_trans, dvd_antisymm, ints, div_exact, divided_arith, expand, mul_cancel, IsGcd-gcd_of, gcd_of, TableauRow, divided, gcd_with, dot, EquationHolds, AllDivided, unsigned_abs}
+use Rattle.ta_dense.proofs.Common.{◌≡◌, ℕ, ◌<◌, List, [], ◌∷◌, map, arith, ap, ℤ, pos, ◌+ℤ◌, ◌*ℤ◌, int_div, ◌∣◌, one-dvd, dvd_refl, dvd_trans, dvd_antisymm}
+use Rattle.ta_dense.proofs.Common.{ints, div_exact, divided_arith, expand, mul_cancel, IsGcd-gcd_of, gcd_of, TableauRow, divided, gcd_with, dot, EquationHolds}
+use Rattle.ta_dense.proofs.Common.{AllDivided, unsigned_abs}
 
 pub gcd_with_divides : (xs : List ℤ) (g : ℕ) → (gcd_with g xs ∣ g) × AllDivided (gcd_with g xs) xs
 gcd_with_divides [] g = (dvd_refl g, tt)
@@ -22,5 +24,8 @@ dot-divided g (c ∷ cs) (u ∷ us) value h =
 pub Holds-divided : (us : List ℕ) (g : ℕ) (r : TableauRow) (scale : ℤ) (value : ℕ → ℤ) → 0 < g →
     g ∣ unsigned_abs r.denominator → AllDivided g (r.constant ∷ r.cells) → EquationHolds us r scale value → EquationHolds us (divided g r) scale value
 Holds-divided us g r scale value some first others h =
-    mul_cancel g (int_div r.denominator (pos g) *ℤ value r.basic) (scale *ℤ int_div r.constant (pos g) +ℤ dot (map (λ z. int_div z (pos g)) r.cells) us value) some
-    (divided_arith (pos g) r.denominator (value r.basic) scale r.constant (dot r.cells us value) (int_div r.denominator (pos g)) (int_div r.constant (pos g)) (dot (map (λ z. int_div z (pos g)) r.cells) us value) h (div_exact g r.denominator first) (div_exact g r.constant others.0) (dot-divided g r.cells us value others.1))
+    mul_cancel g (int_div r.denominator (pos g) *ℤ value r.basic) (scale *ℤ int_div r.constant (pos g) +ℤ dot (map (λ z. int_div z (pos g)) r.cells) us value)
+    some
+    (divided_arith (pos g) r.denominator (value r.basic) scale r.constant (dot r.cells us value) (int_div r.denominator (pos g)) (int_div r.constant (pos g))
+    (dot (map (λ z. int_div z (pos g)) r.cells) us value) h (div_exact g r.denominator first) (div_exact g r.constant others.0)
+    (dot-divided g r.cells us value others.1))

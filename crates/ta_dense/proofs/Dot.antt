@@ -1,4 +1,5 @@
-use Rattle.ta_dense.proofs.Common.{◌≡◌, ◌≢◌, ℕ, zero, suc, ◌<◌, List, [], ◌∷◌, length, map, set, get_or, arith, refl, ap, ℤ, pos, ◌+ℤ◌, ◌*ℤ◌, ◌-ℤ◌, neg_ℤ, ints, expand, dot, combine}
+use Rattle.ta_dense.proofs.Common.{◌≡◌, ◌≢◌, ℕ, zero, suc, ◌<◌, List, [], ◌∷◌, length, map, set, get_or, arith, refl, ap, ℤ, pos, ◌+ℤ◌, ◌*ℤ◌, ◌-ℤ◌, neg_ℤ, ints}
+use Rattle.ta_dense.proofs.Common.{expand, dot, combine}
 
 -- a cell and its variable replaced
 pub dot-set : (cs : List ℤ) (us : List ℕ) (value : ℕ → ℤ) (column : ℕ) (y : ℤ) (w : ℕ) → column < length cs → length us ≡ length cs →
@@ -25,7 +26,8 @@ dot-combine p q (a ∷ xs) (c ∷ cs) (u ∷ us) value e =
     simp expand (omega (arith, ints, h))
 
 -- a variable with cell 0 replaced
-pub dot-replaced : (cs : List ℤ) (us : List ℕ) (value : ℕ → ℤ) (column w : ℕ) → get_or cs column (pos 0) ≡ pos 0 → dot cs (set us column w) value ≡ dot cs us value
+pub dot-replaced : (cs : List ℤ) (us : List ℕ) (value : ℕ → ℤ) (column w : ℕ) → get_or cs column (pos 0) ≡ pos 0
+    → dot cs (set us column w) value ≡ dot cs us value
 dot-replaced [] us value column w e = refl
 dot-replaced (c ∷ cs) [] value column w e = refl
 dot-replaced (c ∷ cs) (u ∷ us) value zero w e = rw e (omega (arith, ints))
@@ -49,7 +51,8 @@ dot-change (c ∷ cs) (u ∷ us) f h (suc column) below e same =
     let first = ap (λ (z : ℤ). c *ℤ z) (same 0 (omega arith) (omega arith)) in
     omega (arith, ints, first, dot-change cs us f h column (omega arith) (omega arith) (λ j inside ne. same (suc j) (omega arith) (omega arith)))
 
-pub dot-scaled : (cs : List ℤ) (us : List ℕ) (f h : ℕ → ℤ) (m : ℤ) → ((j : ℕ) → j < length us → f (get_or us j 0) ≡ m *ℤ h (get_or us j 0)) → dot cs us f ≡ m *ℤ dot cs us h
+pub dot-scaled : (cs : List ℤ) (us : List ℕ) (f h : ℕ → ℤ) (m : ℤ) → ((j : ℕ) → j < length us → f (get_or us j 0) ≡ m *ℤ h (get_or us j 0))
+    → dot cs us f ≡ m *ℤ dot cs us h
 dot-scaled [] us f h m same = omega (arith, ints)
 dot-scaled (c ∷ cs) [] f h m same = omega (arith, ints)
 dot-scaled (c ∷ cs) (u ∷ us) f h m same =

@@ -1,11 +1,14 @@
 -- a system has a row twice: the slacks of both have one value
-use Rattle.ta_dense.proofs.Common.{◌≡◌, ◌≢◌, inl, inr, ℕ, suc, ◌+◌, ◌<◌, List, [], ◌∷◌, ◌++◌, length, arith, sym, ap, ◌∙◌, subst, ℤ, pos, ◌*ℤ◌, ◌<ℤ◌, ◌≤ℤ◌, ints, length-append, ge-zero_of_mul, lt-zero_of_mul, mul-ge-zero, mul-lt-zero, Row, System, Tableau, row_of, basic_of, non_basic_of, IsDictionary, dot, IsAssignment, SlacksFollow, variables}
+use Rattle.ta_dense.proofs.Common.{◌≡◌, ◌≢◌, inl, inr, ℕ, suc, ◌+◌, ◌<◌, List, [], ◌∷◌, ◌++◌, length, arith, sym, ap, ◌∙◌, subst, ℤ, pos, ◌*ℤ◌, ◌<ℤ◌, ◌≤ℤ◌}
+use Rattle.ta_dense.proofs.Common.{ints, length-append, ge-zero_of_mul, lt-zero_of_mul, mul-ge-zero, mul-lt-zero, Row, System, Tableau, row_of, basic_of}
+use Rattle.ta_dense.proofs.Common.{non_basic_of, IsDictionary, dot, IsAssignment, SlacksFollow, variables}
 use Rattle.ta_dense.specs.Leaving.{Leaves}
 use Rattle.ta_dense.specs.Laws.{DictionaryOf}
 use Rattle.ta_dense.proofs.Dot.{dot-scaled}
 use Rattle.ta_dense.proofs.Unique.{dot-nothing}
 
-follow_rest : (before rest : List Row) (u : ℕ) (scale : ℤ) (value : ℕ → ℤ) → SlacksFollow (before ++ rest) u scale value → SlacksFollow rest (u + length before) scale value
+follow_rest : (before rest : List Row) (u : ℕ) (scale : ℤ) (value : ℕ → ℤ) → SlacksFollow (before ++ rest) u scale value
+    → SlacksFollow rest (u + length before) scale value
 follow_rest [] rest u scale value f =
     let e : u + 0 ≡ u = omega arith in
     subst (λ (v : ℕ). SlacksFollow rest v scale value) (sym e) f
@@ -14,14 +17,17 @@ follow_rest (b ∷ before) rest u scale value f =
     subst (λ (v : ℕ). SlacksFollow rest v scale value) e (follow_rest before rest (suc u) scale value f.1)
 
 -- where each non-basic variable is 0, the sign of a basic one is that of its row's constant
-at_vertex : (A : ℤ → (ℕ → ℤ) → Type 0) (n : ℕ) (t : Tableau) (m : ℕ) (value : ℕ → ℤ) → IsDictionary A n t → A (pos m *ℤ pos 1) value → ((j : ℕ) → j < length t.non_basic → value (non_basic_of t j) ≡ pos m *ℤ pos 0) →
+at_vertex : (A : ℤ → (ℕ → ℤ) → Type 0) (n : ℕ) (t : Tableau) (m : ℕ) (value : ℕ → ℤ) → IsDictionary A n t → A (pos m *ℤ pos 1) value
+    → ((j : ℕ) → j < length t.non_basic → value (non_basic_of t j) ≡ pos m *ℤ pos 0) →
     (i : ℕ) → i < length t.rows → (row_of t i).denominator *ℤ value (basic_of t i) ≡ pos m *ℤ (row_of t i).constant
 at_vertex A n t m value d a zero i h =
-    let none : dot (row_of t i).cells t.non_basic value ≡ pos 0 = dot-scaled (row_of t i).cells t.non_basic value (λ _. pos 0) (pos m) zero ∙ ap (λ (z : ℤ). pos m *ℤ z) (dot-nothing (row_of t i).cells t.non_basic) ∙ omega (arith, ints) in
+    let none : dot (row_of t i).cells t.non_basic value ≡ pos 0 = dot-scaled (row_of t i).cells t.non_basic value (λ _. pos 0) (pos m) zero
+    ∙ ap (λ (z : ℤ). pos m *ℤ z) (dot-nothing (row_of t i).cells t.non_basic) ∙ omega (arith, ints) in
     let one : pos m *ℤ pos 1 ≡ pos m = omega (arith, ints) in
     (d.rows i h).holds (pos m *ℤ pos 1) value a ∙ rw (none, one) (omega (arith, ints))
 
-pub equal_never_leaves : (s : System) (t : Tableau) (before rest between after : List Row) (r : Row) (k : ℕ) → DictionaryOf s t → s.rows ≡ before ++ r ∷ rest → rest ≡ between ++ r ∷ after → Leaves t k →
+pub equal_never_leaves : (s : System) (t : Tableau) (before rest between after : List Row) (r : Row) (k : ℕ) → DictionaryOf s t → s.rows ≡ before ++ r ∷ rest
+    → rest ≡ between ++ r ∷ after → Leaves t k →
     basic_of t k ≢ s.unknowns + length before + 1 + length between
 equal_never_leaves s t before rest between after r k d rows again leaves same =
     let f = d.free (pos 1) (λ _. pos 0) in
@@ -42,7 +48,8 @@ equal_never_leaves s t before rest between after r k d rows again leaves same =
           let least = leaves.least p.0 p.1 (let e = p.2 in omega arith) in
           let high : pos 0 ≤ℤ f.1 (basic_of t p.0) =
           ge-zero_of_mul (row_of t p.0).denominator (f.1 (basic_of t p.0)) (d.rows p.0 p.1).positive
-          (rw (at_vertex (IsAssignment s) (variables s) t f.0 f.1 d f.3 f.4 p.0 p.1) (mul-ge-zero (pos f.0) (row_of t p.0).constant (omega (arith, ints)) least)) in
+          (rw (at_vertex (IsAssignment s) (variables s) t f.0 f.1 d f.3 f.4 p.0 p.1)
+          (mul-ge-zero (pos f.0) (row_of t p.0).constant (omega (arith, ints)) least)) in
           let e = ap f.1 p.2 in
           omega (arith, ints, low, equal, high, e)
       | inr p ↦

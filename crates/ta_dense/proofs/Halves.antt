@@ -1,5 +1,6 @@
 -- the greatest common divisor where one of the two divides the other, or one is 1, or one is 2
-use Rattle.ta_dense.proofs.Common.{◌≡◌, ℕ, ◌<◌, ◌%◌, inl, inr, arith, sym, subst, IsGcd, ◌∣◌, one-dvd, cases_eq, dvd_refl, dvd_of_mod-eq-zero, IsGcd-swap, IsGcd-from_mod, gcd_of, gcd_of_is}
+use Rattle.ta_dense.proofs.Common.{◌≡◌, ℕ, ◌<◌, ◌%◌, inl, inr, arith, sym, subst, IsGcd, ◌∣◌, one-dvd, cases_eq, dvd_refl, dvd_of_mod-eq-zero, IsGcd-swap}
+use Rattle.ta_dense.proofs.Common.{IsGcd-from_mod, gcd_of, gcd_of_is}
 
 -- what divides a number is their divisor
 pub gcd_of-dvd : (d x : ℕ) → d ∣ x → d ≡ gcd_of d x

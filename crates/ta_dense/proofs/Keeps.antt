@@ -1,4 +1,7 @@
-use Rattle.ta_dense.proofs.Common.{◌≡◌, ◌≢◌, ◌⊎◌, inl, inr, ℕ, suc, ◌*◌, ◌<◌, length, map, arith, refl, sym, ap, ◌∙◌, subst, ℤ, pos, ◌+ℤ◌, ◌*ℤ◌, ◌-ℤ◌, neg_ℤ, ◌<ℤ◌, get_or-set_same, get_or-set_other, cases_eq, length-map, length-set, get_or-map, cancel_positive, leaving_arith, pos_out, product_positive, times_assoc, factor_divisor, TableauRow, Tableau, cell_of, turned, merged, row_of, no_row, pivoted, basic_of, non_basic_of, IsPrimitive, dot, IsDictionary, int_div}
+use Rattle.ta_dense.proofs.Common.{◌≡◌, ◌≢◌, ◌⊎◌, inl, inr, ℕ, suc, ◌*◌, ◌<◌, length, map, arith, refl, sym, ap, ◌∙◌, subst, ℤ, pos, ◌+ℤ◌, ◌*ℤ◌, ◌-ℤ◌, neg_ℤ}
+use Rattle.ta_dense.proofs.Common.{◌<ℤ◌, get_or-set_same, get_or-set_other, cases_eq, length-map, length-set, get_or-map, cancel_positive, leaving_arith}
+use Rattle.ta_dense.proofs.Common.{pos_out, product_positive, times_assoc, factor_divisor, TableauRow, Tableau, cell_of, turned, merged, row_of, no_row}
+use Rattle.ta_dense.proofs.Common.{pivoted, basic_of, non_basic_of, IsPrimitive, dot, IsDictionary, int_div}
 use Rattle.std.proofs.Common.{cond, eq-eqb, eqb}
 use Rattle.std.proofs.lemmas.Bool.{cond-false, cond-true, ne_eqb}
 use Rattle.ta_dense.proofs.Dot.{dot-change, dot-scaled}
@@ -26,13 +29,15 @@ pub column_count : (t : Tableau) (row column : ℕ) → length (pivoted t row co
 column_count t row column = length-set t.non_basic column (basic_of t row)
 
 pub merged_basic : (column : ℕ) (chosen r : TableauRow) → (merged column chosen r).basic ≡ r.basic
-merged_basic column chosen r = elim (merged_cases column chosen r) [ inl stays ↦ ap (λ (x : TableauRow). x.basic) stays.1 | inr is ↦ ap (λ (x : TableauRow). x.basic) is ]
+merged_basic column chosen r = elim (merged_cases column chosen r)
+    [ inl stays ↦ ap (λ (x : TableauRow). x.basic) stays.1 | inr is ↦ ap (λ (x : TableauRow). x.basic) is ]
 
 pub basic_at : (t : Tableau) (row column : ℕ) → row < length t.rows → basic_of (pivoted t row column) row ≡ non_basic_of t column
 basic_at t row column h = ap (λ (x : TableauRow). x.basic) (row_at t row column h)
 
 pub basic_elsewhere : (t : Tableau) (row column i : ℕ) → i ≢ row → i < length t.rows → basic_of (pivoted t row column) i ≡ basic_of t i
-basic_elsewhere t row column i apart h = ap (λ (x : TableauRow). x.basic) (row_elsewhere t row column i apart h) ∙ merged_basic column (row_of t row) (row_of t i)
+basic_elsewhere t row column i apart h = ap (λ (x : TableauRow). x.basic) (row_elsewhere t row column i apart h)
+    ∙ merged_basic column (row_of t row) (row_of t i)
 
 pub non_basic_at : (t : Tableau) (row column : ℕ) → column < length t.non_basic → non_basic_of (pivoted t row column) column ≡ basic_of t row
 non_basic_at t row column h = get_or-set_same t.non_basic column (basic_of t row) 0 h
@@ -43,7 +48,8 @@ non_basic_elsewhere t row column j apart = get_or-set_other t.non_basic column j
 good_row : (A : ℤ → (ℕ → ℤ) → Type 0) (n : ℕ) (t : Tableau) → IsDictionary A n t → (i : ℕ) → i < length t.rows → Good A t.non_basic (row_of t i)
 good_row A n t d i h = record { positive = (d.rows i h).positive; long = (d.rows i h).long; holds = (d.rows i h).holds }
 
-good_after : (A : ℤ → (ℕ → ℤ) → Type 0) (n : ℕ) (t : Tableau) (row column : ℕ) → IsDictionary A n t → row < length t.rows → column < length t.non_basic → pos 0 <ℤ cell_of (row_of t row) column →
+good_after : (A : ℤ → (ℕ → ℤ) → Type 0) (n : ℕ) (t : Tableau) (row column : ℕ) → IsDictionary A n t → row < length t.rows → column < length t.non_basic
+    → pos 0 <ℤ cell_of (row_of t row) column →
     (i : ℕ) → i < length t.rows → Good A (pivoted t row column).non_basic (row_of (pivoted t row column) i)
 good_after A n t row column d h k positive i below =
     elim (cases_eq i row) [
@@ -51,13 +57,16 @@ good_after A n t row column d h k positive i below =
           let long = (d.rows row h).long in
           rw (same, row_at t row column h) record {
             positive = positive;
-            long = length-set (map neg_ℤ (row_of t row).cells) column _ ∙ length-map (row_of t row).cells neg_ℤ ∙ long ∙ sym (length-set t.non_basic column (basic_of t row));
+            long = length-set (map neg_ℤ (row_of t row).cells) column _ ∙ length-map (row_of t row).cells neg_ℤ ∙ long
+                ∙ sym (length-set t.non_basic column (basic_of t row));
             holds = λ scale value a. Holds-turned t.non_basic (row_of t row) column scale value (omega arith) (sym long) ((d.rows row h).holds scale value a);
           }
-      | inr apart ↦ rw (row_elsewhere t row column i apart below) (Good-merged A t.non_basic (row_of t row) (row_of t i) column k positive (good_row A n t d row h) (good_row A n t d i below))
+      | inr apart ↦ rw (row_elsewhere t row column i apart below)
+          (Good-merged A t.non_basic (row_of t row) (row_of t i) column k positive (good_row A n t d row h) (good_row A n t d i below))
     ]
 
-primitive_after : (A : ℤ → (ℕ → ℤ) → Type 0) (n : ℕ) (t : Tableau) (row column : ℕ) → IsDictionary A n t → row < length t.rows → column < length t.non_basic → pos 0 <ℤ cell_of (row_of t row) column →
+primitive_after : (A : ℤ → (ℕ → ℤ) → Type 0) (n : ℕ) (t : Tableau) (row column : ℕ) → IsDictionary A n t → row < length t.rows → column < length t.non_basic
+    → pos 0 <ℤ cell_of (row_of t row) column →
     (i : ℕ) → i < length t.rows → IsPrimitive (row_of (pivoted t row column) i)
 primitive_after A n t row column d h k positive i below =
     let chosen = row_of t row in
@@ -67,7 +76,8 @@ primitive_after A n t row column d h k positive i below =
       | inr apart ↦
           let r = row_of t i in
           let p : pos 0 <ℤ (merged_with (cell_of (row_of t i) column) column (row_of t row) (row_of t i)).denominator =
-          product_positive (int_div (cell_of chosen column) (pos (factor_divisor (cell_of chosen column) (cell_of r column)))) r.denominator (factors_positive (cell_of chosen column) (cell_of r column) positive).1 (d.rows i below).positive in
+          product_positive (int_div (cell_of chosen column) (pos (factor_divisor (cell_of chosen column) (cell_of r column)))) r.denominator
+          (factors_positive (cell_of chosen column) (cell_of r column) positive).1 (d.rows i below).positive in
           rw (row_elsewhere t row column i apart below) (IsPrimitive-merged column chosen r p (d.rows i below).primitive)
     ]
 
@@ -83,9 +93,11 @@ pick-elsewhere : (e : ℕ) (entering c : ℤ) (want : ℕ → ℤ) (v : ℕ) →
 unfolding pick
 pick-elsewhere e entering c want v h = cond-false (eqb v e) entering (c *ℤ want v) (ne_eqb v e h)
 
-free_after : (A : ℤ → (ℕ → ℤ) → Type 0) (n : ℕ) (t : Tableau) (row column : ℕ) → IsDictionary A n t → row < length t.rows → column < length t.non_basic → pos 0 <ℤ cell_of (row_of t row) column →
+free_after : (A : ℤ → (ℕ → ℤ) → Type 0) (n : ℕ) (t : Tableau) (row column : ℕ) → IsDictionary A n t → row < length t.rows → column < length t.non_basic
+    → pos 0 <ℤ cell_of (row_of t row) column →
     (scale : ℤ) (want : ℕ → ℤ) → (m : ℕ) × (value : (ℕ → ℤ)) × (0 < m) × A (pos m *ℤ scale) value ×
-    ((j : ℕ) → j < length (pivoted t row column).non_basic → value (non_basic_of (pivoted t row column) j) ≡ pos m *ℤ want (non_basic_of (pivoted t row column) j))
+    ((j : ℕ) → j < length (pivoted t row column).non_basic
+    → value (non_basic_of (pivoted t row column) j) ≡ pos m *ℤ want (non_basic_of (pivoted t row column) j))
 free_after A n t row column d h k positive scale want =
     let r = row_of t row in
     let e = non_basic_of t column in
@@ -100,11 +112,13 @@ free_after A n t row column d h k positive scale want =
     let value = f.1 in
     let equation = (d.rows row h).holds (pos m *ℤ (c *ℤ scale)) value f.3 in
     let h2 = dot-scaled r.cells t.non_basic value choice (pos m) f.4 in
-    let h3 = dot-change r.cells t.non_basic choice (λ v. c *ℤ want v) column k ((d.rows row h).long) (λ j inside apart. pick-elsewhere e entering c want (non_basic_of t j) (λ same. apart (d.basis.non_basic_once j column inside k same))) in
+    let h3 = dot-change r.cells t.non_basic choice (λ v. c *ℤ want v) column k ((d.rows row h).long)
+    (λ j inside apart. pick-elsewhere e entering c want (non_basic_of t j) (λ same. apart (d.basis.non_basic_once j column inside k same))) in
     let h3' = rw (pick-at e entering c want e refl) at h3 in
     let h4 = dot-scaled r.cells t.non_basic (λ v. c *ℤ want v) want c (λ j inside. refl) in
     let leaving : value l ≡ (pos m *ℤ c) *ℤ want l = cancel_positive r.denominator (value l) ((pos m *ℤ c) *ℤ want l) ((d.rows row h).positive)
-    (leaving_arith r.denominator (value l) (pos m) c scale r.constant (dot r.cells t.non_basic value) (dot r.cells t.non_basic choice) (dot r.cells t.non_basic (λ v. c *ℤ want v)) w (want l) (want e) equation h2 h3' h4) in
+    (leaving_arith r.denominator (value l) (pos m) c scale r.constant (dot r.cells t.non_basic value) (dot r.cells t.non_basic choice)
+    (dot r.cells t.non_basic (λ v. c *ℤ want v)) w (want l) (want e) equation h2 h3' h4) in
     let same_scale : pos m *ℤ (c *ℤ scale) ≡ pos (m * suc cn.0) *ℤ scale = sym (times_assoc (pos m) c scale) ∙ ap (λ (z : ℤ). (pos m *ℤ z) *ℤ scale) cn.1 in (
       m * suc cn.0,
       value,
@@ -115,7 +129,8 @@ free_after A n t row column d h k positive scale want =
         | inr apart ↦
             let inside' : j < length t.non_basic = (let e' = column_count t row column in omega arith) in
             rw (non_basic_elsewhere t row column j apart)
-            (f.4 j inside' ∙ ap (λ (z : ℤ). pos m *ℤ z) (pick-elsewhere e entering c want (non_basic_of t j) (λ same. apart (d.basis.non_basic_once j column inside' k same)))
+            (f.4 j inside' ∙ ap (λ (z : ℤ). pos m *ℤ z)
+            (pick-elsewhere e entering c want (non_basic_of t j) (λ same. apart (d.basis.non_basic_once j column inside' k same)))
             ∙ sym (times_assoc (pos m) c (want (non_basic_of t j))) ∙ ap (λ (z : ℤ). (pos m *ℤ z) *ℤ want (non_basic_of t j)) cn.1)
       ]),
     )
@@ -137,8 +152,10 @@ non_basic_after t row column k j =
       | inr apart ↦ inr (apart, non_basic_elsewhere t row column j apart)
     ]
 
-cover_after : (A : ℤ → (ℕ → ℤ) → Type 0) (n : ℕ) (t : Tableau) (row column : ℕ) → IsDictionary A n t → row < length t.rows → column < length t.non_basic → (v : ℕ) → v < n →
-    ((i : ℕ) × (i < length (pivoted t row column).rows) × (basic_of (pivoted t row column) i ≡ v)) ⊎ ((j : ℕ) × (j < length (pivoted t row column).non_basic) × (non_basic_of (pivoted t row column) j ≡ v))
+cover_after : (A : ℤ → (ℕ → ℤ) → Type 0) (n : ℕ) (t : Tableau) (row column : ℕ) → IsDictionary A n t → row < length t.rows → column < length t.non_basic
+    → (v : ℕ) → v < n →
+    ((i : ℕ) × (i < length (pivoted t row column).rows) × (basic_of (pivoted t row column) i ≡ v))
+    ⊎ ((j : ℕ) × (j < length (pivoted t row column).non_basic) × (non_basic_of (pivoted t row column) j ≡ v))
 cover_after A n t row column d h k v below =
     let rows = row_count t row column in
     let columns = column_count t row column in
@@ -181,7 +198,8 @@ basic_once_after A n t row column d h k i j below inside e =
       ]
     ]
 
-non_basic_once_after : (A : ℤ → (ℕ → ℤ) → Type 0) (n : ℕ) (t : Tableau) (row column : ℕ) → IsDictionary A n t → row < length t.rows → column < length t.non_basic →
+non_basic_once_after : (A : ℤ → (ℕ → ℤ) → Type 0) (n : ℕ) (t : Tableau) (row column : ℕ) → IsDictionary A n t → row < length t.rows
+    → column < length t.non_basic →
     (i j : ℕ) → i < length t.non_basic → j < length t.non_basic → non_basic_of (pivoted t row column) i ≡ non_basic_of (pivoted t row column) j → i ≡ j
 non_basic_once_after A n t row column d h k i j below inside e =
     elim (non_basic_after t row column k i) [
@@ -196,7 +214,8 @@ non_basic_once_after A n t row column d h k i j below inside e =
     ]
 
 -- a pivot on a positive cell keeps a dictionary
-pub IsDictionary-pivoted : (A : ℤ → (ℕ → ℤ) → Type 0) (n : ℕ) (t : Tableau) (row column : ℕ) → IsDictionary A n t → row < length t.rows → column < length t.non_basic → pos 0 <ℤ cell_of (row_of t row) column →
+pub IsDictionary-pivoted : (A : ℤ → (ℕ → ℤ) → Type 0) (n : ℕ) (t : Tableau) (row column : ℕ) → IsDictionary A n t → row < length t.rows
+    → column < length t.non_basic → pos 0 <ℤ cell_of (row_of t row) column →
     IsDictionary A n (pivoted t row column)
 IsDictionary-pivoted A n t row column d h k positive =
     let rows = row_count t row column in

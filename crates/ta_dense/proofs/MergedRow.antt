@@ -1,4 +1,6 @@
-use Rattle.ta_dense.proofs.Common.{◌≡◌, ◌⊎◌, inl, inr, ℕ, zero, suc, ◌<◌, List, ◌∷◌, length, set, arith, refl, sym, ◌∙◌, ℤ, pos, negsuc, ◌<ℤ◌, int_div, length-map, length-set, div_exact, factor_positive, factors_agree, product_positive, IsGcd-gcd_of, TableauRow, combine, cell_of, merged, merged_at, merged_by, reduced, divisor_of, factor_divisor, EquationHolds, unsigned_abs}
+use Rattle.ta_dense.proofs.Common.{◌≡◌, ◌⊎◌, inl, inr, ℕ, zero, suc, ◌<◌, List, ◌∷◌, length, set, arith, refl, sym, ◌∙◌, ℤ, pos, negsuc, ◌<ℤ◌, int_div}
+use Rattle.ta_dense.proofs.Common.{length-map, length-set, div_exact, factor_positive, factors_agree, product_positive, IsGcd-gcd_of, TableauRow, combine}
+use Rattle.ta_dense.proofs.Common.{cell_of, merged, merged_at, merged_by, reduced, divisor_of, factor_divisor, EquationHolds, unsigned_abs}
 use Rattle.ta_dense.proofs.Dot.{dot-replaced}
 use Rattle.ta_dense.proofs.PivotLaws.{Holds-merged_by, length-combine}
 use Rattle.ta_dense.proofs.Divide.{gcd_with_divides, Holds-divided}
@@ -6,7 +8,8 @@ use Rattle.ta_dense.proofs.Divide.{gcd_with_divides, Holds-divided}
 -- the merged row by a cell
 abbrev pub merged_with : ℤ → ℕ → TableauRow → TableauRow → TableauRow
 merged_with a column chosen r =
-    merged_by (int_div (cell_of chosen column) (pos (factor_divisor (cell_of chosen column) a))) (int_div a (pos (factor_divisor (cell_of chosen column) a))) column chosen r
+    merged_by (int_div (cell_of chosen column) (pos (factor_divisor (cell_of chosen column) a))) (int_div a (pos (factor_divisor (cell_of chosen column) a)))
+    column chosen r
 
 -- the cell of the column is 0 and the row stays, or the row is merged
 pub merged_cases : (column : ℕ) (chosen r : TableauRow) →
@@ -14,7 +17,8 @@ pub merged_cases : (column : ℕ) (chosen r : TableauRow) →
 unfolding merged
 merged_cases column chosen r = go (cell_of r column) refl
   where
-    go : (a : ℤ) → a ≡ cell_of r column → ((a ≡ pos 0) × (merged_at a column chosen r ≡ r)) ⊎ (merged_at a column chosen r ≡ reduced (merged_with a column chosen r))
+    go : (a : ℤ) → a ≡ cell_of r column → ((a ≡ pos 0) × (merged_at a column chosen r ≡ r))
+        ⊎ (merged_at a column chosen r ≡ reduced (merged_with a column chosen r))
     go (pos zero) e = inl (refl, refl)
     go (pos (suc n)) e = inr refl
     go (negsuc n) e = inr refl
@@ -58,9 +62,12 @@ Good-merged A us chosen r column h positive good_chosen good =
           let some = factor_positive g (int_div c (pos g)) c p positive in
           rw is (Good-reduced A (set us column chosen.basic) (merged_with a column chosen r) record {
             positive = product_positive (int_div c (pos g)) r.denominator some.1 good.positive;
-            long = length-set (combine (int_div c (pos g)) (int_div a (pos g)) r.cells chosen.cells) column _ ∙ length-combine _ _ r.cells chosen.cells (good.long ∙ sym good_chosen.long) ∙ good.long ∙ sym (length-set us column chosen.basic);
+            long = length-set (combine (int_div c (pos g)) (int_div a (pos g)) r.cells chosen.cells) column _
+                ∙ length-combine _ _ r.cells chosen.cells (good.long ∙ sym good_chosen.long) ∙ good.long ∙ sym (length-set us column chosen.basic);
             holds = λ scale value assigned.
-                Holds-merged_by us chosen r column (int_div c (pos g)) (int_div a (pos g)) scale value (let e = good.long in omega arith) (sym good.long) (good_chosen.long ∙ sym good.long)
-                (factors_agree c a (int_div c (pos g)) (int_div a (pos g)) g some.0 p q) (good_chosen.holds scale value assigned) (good.holds scale value assigned);
+                Holds-merged_by us chosen r column (int_div c (pos g)) (int_div a (pos g)) scale value (let e = good.long in omega arith) (sym good.long)
+                (good_chosen.long ∙ sym good.long)
+                (factors_agree c a (int_div c (pos g)) (int_div a (pos g)) g some.0 p q) (good_chosen.holds scale value assigned)
+                (good.holds scale value assigned);
           })
     ]

@@ -1,4 +1,7 @@
-use Rattle.ta_dense.proofs.Common.{◌≡◌, inl, inr, ℕ, zero, suc, ◌*◌, ◌<◌, List, [], ◌∷◌, length, map, set, get_or, arith, subst, ℤ, pos, neg_ℤ, ◌<ℤ◌, get_or-set_same, int_div, ◌∣◌, length-map, length-set, dvd_of_mul-dvd-mul_left, eq-one_of_dvd-one, dvd_times, unsigned_abs-neg, IsGcd-gcd_of, gcd_of, IsPrimitive, AllDivided, TableauRow, cell_of, turned, merged, reduced, divisor_of, gcd_with, unsigned_abs}
+use Rattle.ta_dense.proofs.Common.{◌≡◌, inl, inr, ℕ, zero, suc, ◌*◌, ◌<◌, List, [], ◌∷◌, length, map, set, get_or, arith, subst, ℤ, pos, neg_ℤ, ◌<ℤ◌}
+use Rattle.ta_dense.proofs.Common.{get_or-set_same, int_div, ◌∣◌, length-map, length-set, dvd_of_mul-dvd-mul_left, eq-one_of_dvd-one, dvd_times}
+use Rattle.ta_dense.proofs.Common.{unsigned_abs-neg, IsGcd-gcd_of, gcd_of, IsPrimitive, AllDivided, TableauRow, cell_of, turned, merged, reduced, divisor_of}
+use Rattle.ta_dense.proofs.Common.{gcd_with, unsigned_abs}
 use Rattle.ta_dense.proofs.Divide.{gcd_with_divides}
 use Rattle.ta_dense.proofs.MergedRow.{merged_cases, merged_with}
 use Rattle.ta_dense.proofs.ReduceFacts.{divisor_positive}
@@ -29,7 +32,8 @@ unnegated : (j : ℕ) (xs : List ℤ) → AllDivided j (map neg_ℤ xs) → AllD
 unnegated j [] a = tt
 unnegated j (x ∷ xs) a = (subst (λ (m : ℕ). j ∣ m) (unsigned_abs-neg x) a.0, unnegated j xs a.1)
 
-all_unturned : (k : ℕ) (cs : List ℤ) (column : ℕ) (y : ℤ) → k ∣ unsigned_abs (get_or cs column (pos 0)) → AllDivided k (set (map neg_ℤ cs) column y) → AllDivided k cs
+all_unturned : (k : ℕ) (cs : List ℤ) (column : ℕ) (y : ℤ) → k ∣ unsigned_abs (get_or cs column (pos 0)) → AllDivided k (set (map neg_ℤ cs) column y)
+    → AllDivided k cs
 all_unturned k [] column y h d = tt
 all_unturned k (c ∷ cs) zero y h d = (h, unnegated k cs d.1)
 all_unturned k (c ∷ cs) (suc column) y h d = (subst (λ (m : ℕ). k ∣ m) (unsigned_abs-neg c) d.0, all_unturned k cs column y h d.1)
@@ -51,7 +55,8 @@ IsPrimitive-turned column entering r h p k d =
       cells = all_unturned k r.cells column r.denominator d.denominator d.cells;
     }
 
-pub IsPrimitive-merged : (column : ℕ) (chosen r : TableauRow) → pos 0 <ℤ (merged_with (cell_of r column) column chosen r).denominator → IsPrimitive r → IsPrimitive (merged column chosen r)
+pub IsPrimitive-merged : (column : ℕ) (chosen r : TableauRow) → pos 0 <ℤ (merged_with (cell_of r column) column chosen r).denominator → IsPrimitive r
+    → IsPrimitive (merged column chosen r)
 IsPrimitive-merged column chosen r positive p =
     elim (merged_cases column chosen r) [
       | inl stays ↦ rw stays.1 p

@@ -1,4 +1,8 @@
-use Rattle.ta_dense.proofs.Common.{◌≡◌, ◌⊎◌, inl, inr, ℕ, zero, suc, ◌+◌, ◌-◌, ◌<◌, ◌≤◌, List, [], ◌∷◌, length, map, get_or, arith, refl, sym, ap, ◌∙◌, subst, ℤ, pos, ◌+ℤ◌, ◌*ℤ◌, range_with_len, cases_lt, cases_eq, ints, length-map, length-range_with_len, get_or-range_with_len, eq-one_of_dvd-one, expand, single, single-at, single-elsewhere, coefficient, IsNormal, AllBelow, IsNormal-le, Row, System, ◌∣◌, TableauRow, no_row, IsPrimitive, dot, IsDictionary, EquationHolds, slack_tableau, slack_rows, coefficients, variables, IsAssignment, SlacksFollow, slack_at, unsigned_abs}
+use Rattle.ta_dense.proofs.Common.{◌≡◌, ◌⊎◌, inl, inr, ℕ, zero, suc, ◌+◌, ◌-◌, ◌<◌, ◌≤◌, List, [], ◌∷◌, length, map, get_or, arith, refl, sym, ap, ◌∙◌, subst}
+use Rattle.ta_dense.proofs.Common.{ℤ, pos, ◌+ℤ◌, ◌*ℤ◌, range_with_len, cases_lt, cases_eq, ints, length-map, length-range_with_len, get_or-range_with_len}
+use Rattle.ta_dense.proofs.Common.{eq-one_of_dvd-one, expand, single, single-at, single-elsewhere, coefficient, IsNormal, AllBelow, IsNormal-le, Row, System}
+use Rattle.ta_dense.proofs.Common.{◌∣◌, TableauRow, no_row, IsPrimitive, dot, IsDictionary, EquationHolds, slack_tableau, slack_rows, coefficients, variables}
+use Rattle.ta_dense.proofs.Common.{IsAssignment, SlacksFollow, slack_at, unsigned_abs}
 use Rattle.ta_linear.specs.Values.{terms_value}
 
 dot-map-add : (f g : ℕ → ℤ) (us : List ℕ) (value : ℕ → ℤ) → dot (map (λ v. f v +ℤ g v) us) us value ≡ dot (map f us) us value +ℤ dot (map g us) us value
@@ -9,7 +13,8 @@ dot-single-none : (x : ℕ) (y : ℤ) (a n : ℕ) (value : ℕ → ℤ) → x < 
 dot-single-none x y a zero value h = refl
 dot-single-none x y a (suc n) value h = rw (single-elsewhere x a y (omega arith), dot-single-none x y (a + 1) n value (omega arith)) (omega (arith, ints))
 
-dot-single : (x : ℕ) (y : ℤ) (a n : ℕ) (value : ℕ → ℤ) → a ≤ x → x < a + n → dot (map (single x y) (range_with_len a n)) (range_with_len a n) value ≡ y *ℤ value x
+dot-single : (x : ℕ) (y : ℤ) (a n : ℕ) (value : ℕ → ℤ) → a ≤ x → x < a + n
+    → dot (map (single x y) (range_with_len a n)) (range_with_len a n) value ≡ y *ℤ value x
 dot-single x y a zero value h k = absurd (omega arith)
 dot-single x y a (suc n) value h k =
     elim (cases_eq x a) [
@@ -21,7 +26,8 @@ dot-zeros : (us : List ℕ) (value : ℕ → ℤ) → dot (map (λ _. pos 0) us)
 dot-zeros [] value = refl
 dot-zeros (u ∷ us) value = omega (arith, ints, dot-zeros us value)
 
-dot-coefficients : (low n : ℕ) (ts : List (ℕ × ℤ)) (value : ℕ → ℤ) → IsNormal low n ts → dot (coefficients n ts) (range_with_len 0 n) value ≡ terms_value value ts
+dot-coefficients : (low n : ℕ) (ts : List (ℕ × ℤ)) (value : ℕ → ℤ) → IsNormal low n ts
+    → dot (coefficients n ts) (range_with_len 0 n) value ≡ terms_value value ts
 unfolding single
 dot-coefficients low n [] value normal = dot-zeros (range_with_len 0 n) value
 dot-coefficients low n (t ∷ ts) value normal =
@@ -34,7 +40,8 @@ length-slack_rows n v (r ∷ rs) = ap suc (length-slack_rows n (suc v) rs)
 
 -- what is known of the row at a place
 slack_row : (n v : ℕ) (rs : List Row) (i : ℕ) → i < length rs →
-    ((get_or (slack_rows n v rs) i no_row).basic ≡ v + i) × ((get_or (slack_rows n v rs) i no_row).denominator ≡ pos 1) × (length (get_or (slack_rows n v rs) i no_row).cells ≡ n)
+    ((get_or (slack_rows n v rs) i no_row).basic ≡ v + i) × ((get_or (slack_rows n v rs) i no_row).denominator ≡ pos 1)
+    × (length (get_or (slack_rows n v rs) i no_row).cells ≡ n)
 slack_row n v [] i h = absurd (omega arith)
 slack_row n v (r ∷ rs) zero h = (omega arith, refl, length-map (range_with_len 0 n) (coefficient r.form.terms) ∙ length-range_with_len 0 n)
 slack_row n v (r ∷ rs) (suc i) h = let k = slack_row n (suc v) rs i (omega arith) in (k.0 ∙ omega arith, k.1, k.2)
@@ -56,9 +63,11 @@ slack_value (r ∷ rs) scale want (suc i) = slack_value rs scale want i
 
 pub terms_value-same : (low n : ℕ) (ts : List (ℕ × ℤ)) (f g : ℕ → ℤ) → IsNormal low n ts → ((v : ℕ) → v < n → f v ≡ g v) → terms_value f ts ≡ terms_value g ts
 terms_value-same low n [] f g normal same = refl
-terms_value-same low n (t ∷ ts) f g normal same = rw (same t.0 (let h = IsNormal-le (t.0 + 1) n ts normal.2 in omega arith), terms_value-same (t.0 + 1) n ts f g normal.2 same) refl
+terms_value-same low n (t ∷ ts) f g normal same = rw
+    (same t.0 (let h = IsNormal-le (t.0 + 1) n ts normal.2 in omega arith), terms_value-same (t.0 + 1) n ts f g normal.2 same) refl
 
-pub slacks_follow : (n v : ℕ) (rs : List Row) (scale : ℤ) (value want : ℕ → ℤ) → AllBelow n rs → ((u : ℕ) → u < n → value u ≡ want u) → ((i : ℕ) → value (v + i) ≡ slack_value rs scale want i) → SlacksFollow rs v scale value
+pub slacks_follow : (n v : ℕ) (rs : List Row) (scale : ℤ) (value want : ℕ → ℤ) → AllBelow n rs → ((u : ℕ) → u < n → value u ≡ want u)
+    → ((i : ℕ) → value (v + i) ≡ slack_value rs scale want i) → SlacksFollow rs v scale value
 unfolding slack_value
 slacks_follow n v [] scale value want below same follow = tt
 slacks_follow n v (r ∷ rs) scale value want below same follow = (
@@ -125,7 +134,9 @@ IsDictionary-slack s =
         extended s.unknowns s.rows scale want,
         omega arith,
         (let e : scale ≡ pos 1 *ℤ scale = omega (arith, ints) in subst (λ (z : ℤ). IsAssignment s z (extended s.unknowns s.rows scale want)) e
-            (slacks_follow s.unknowns s.unknowns s.rows scale (extended s.unknowns s.rows scale want) want below (extended-unknown s.unknowns s.rows scale want) (extended-slack s.unknowns s.rows scale want))),
-        λ j h. (let e = column j h in extended-unknown s.unknowns s.rows scale want (get_or (range_with_len 0 s.unknowns) j 0) (omega arith) ∙ omega (arith, ints)),
+            (slacks_follow s.unknowns s.unknowns s.rows scale (extended s.unknowns s.rows scale want) want below (extended-unknown s.unknowns s.rows scale want)
+            (extended-slack s.unknowns s.rows scale want))),
+        λ j h. (let e = column j h in extended-unknown s.unknowns s.rows scale want (get_or (range_with_len 0 s.unknowns) j 0) (omega arith)
+            ∙ omega (arith, ints)),
       );
     }

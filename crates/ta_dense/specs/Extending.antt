@@ -15,7 +15,8 @@ raised unknowns new v = if nat_lt v unknowns then v else v + new
 
 -- a row where there are more unknowns: its cells of the new ones are 0
 abbrev pub widened : ℕ → ℕ → TableauRow → TableauRow
-widened unknowns new r = record { basic = raised unknowns new r.basic; denominator = r.denominator; constant = r.constant; cells = r.cells ++ replicate new (pos 0) }
+widened unknowns new r = record
+    { basic = raised unknowns new r.basic; denominator = r.denominator; constant = r.constant; cells = r.cells ++ replicate new (pos 0) }
 
 -- how many unknowns of a longer system are new, and its new rows, each solved for its slack
 abbrev pub new_unknowns : Tableau → System → ℕ

@@ -20,7 +20,14 @@ kept_at ks j = get_or ks j no_pivot
 
 -- the pivot in a row and a column of a tableau
 abbrev pub pivot_in : Tableau → ℕ → ℕ → KeptPivot
-pivot_in t row column = record { row = row; column = column; denominator = (row_of t row).denominator; constant = (row_of t row).constant; cells = (row_of t row).cells }
+pivot_in t row column = record {
+  row = row;
+  column = column;
+  denominator = (row_of t row).denominator;
+  constant = (row_of t row).constant;
+  cells =
+      (row_of t row).cells;
+}
 
 -- a pivot of a dictionary with this many columns or fewer
 pub record IsKept (columns : ℕ) (k : KeptPivot) : Type 0 where

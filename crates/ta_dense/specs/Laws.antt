@@ -16,15 +16,18 @@ SlacksAreADictionary = (s : System) → DictionaryOf s (slack_tableau s)
 
 abbrev pub PivotsKeepDictionaries : Type 0
 PivotsKeepDictionaries =
-    (s : System) (t : Tableau) (row column : ℕ) → DictionaryOf s t → row < length t.rows → column < length t.non_basic → pos 0 <ℤ cell_of (row_of t row) column →
+    (s : System) (t : Tableau) (row column : ℕ) → DictionaryOf s t → row < length t.rows → column < length t.non_basic → pos 0 <ℤ cell_of (row_of t row) column
+    →
     DictionaryOf s (pivoted t row column)
 
 abbrev pub RowsAreUnique : Type 0
 RowsAreUnique =
-    (s : System) (t : Tableau) (r r' : TableauRow) → DictionaryOf s t → IsDictionaryRow (IsAssignment s) t.non_basic r → IsDictionaryRow (IsAssignment s) t.non_basic r' → r.basic ≡ r'.basic → r ≡ r'
+    (s : System) (t : Tableau) (r r' : TableauRow) → DictionaryOf s t → IsDictionaryRow (IsAssignment s) t.non_basic r
+    → IsDictionaryRow (IsAssignment s) t.non_basic r' → r.basic ≡ r'.basic → r ≡ r'
 
 -- a system has a row twice: by the least-index rule the slack of the second never leaves
 abbrev pub EqualRowsNeverLeave : Type 0
 EqualRowsNeverLeave =
-    (s : System) (t : Tableau) (before rest between after : List Row) (r : Row) (k : ℕ) → DictionaryOf s t → s.rows ≡ before ++ r ∷ rest → rest ≡ between ++ r ∷ after → Leaves t k →
+    (s : System) (t : Tableau) (before rest between after : List Row) (r : Row) (k : ℕ) → DictionaryOf s t → s.rows ≡ before ++ r ∷ rest → rest ≡ between
+    ++ r ∷ after → Leaves t k →
     basic_of t k ≢ s.unknowns + length before + 1 + length between

@@ -25,7 +25,8 @@ AreNarrow columns rows = All (IsNarrow columns) rows
 -- the bounds of two rows show that what merging them computes fits 32 bits; a row whose cell is 0 is not merged
 abbrev pub MergesIn32 : ℕ → NarrowRow → NarrowRow → Type 0
 MergesIn32 column chosen r =
-    cell_of (narrow_view r) column ≢ pos 0 → unsigned_abs (cell_of (narrow_view chosen) column) * r.bound + unsigned_abs (cell_of (narrow_view r) column) * chosen.bound < 2 ^ 31
+    cell_of (narrow_view r) column ≢ pos 0 → unsigned_abs (cell_of (narrow_view chosen) column) * r.bound + unsigned_abs (cell_of (narrow_view r) column) *
+    chosen.bound < 2 ^ 31
 
 abbrev pub AllMergeIn32 : ℕ → NarrowRow → List NarrowRow → Type 0
 AllMergeIn32 column chosen rows = All (MergesIn32 column chosen) rows

@@ -47,7 +47,8 @@ pub record IsBasis (n : ℕ) (t : Tableau) : Type 0 where
 
 -- some positive multiple of each choice of a scale and of the non-basic variables is that of an assignment
 abbrev pub HasFreeValues : (ℤ → (ℕ → ℤ) → Type 0) → Tableau → Type 0
-HasFreeValues Assignment t = (scale : ℤ) (want : ℕ → ℤ) → (m : ℕ) × (value : (ℕ → ℤ)) × (0 < m) × Assignment (pos m *ℤ scale) value × ((j : ℕ) → j < length t.non_basic → value (non_basic_of t j) ≡ pos m *ℤ want (non_basic_of t j))
+HasFreeValues Assignment t = (scale : ℤ) (want : ℕ → ℤ) → (m : ℕ) × (value : (ℕ → ℤ)) × (0 < m) × Assignment (pos m *ℤ scale) value
+    × ((j : ℕ) → j < length t.non_basic → value (non_basic_of t j) ≡ pos m *ℤ want (non_basic_of t j))
 
 -- a dictionary of assignments of n variables
 pub record IsDictionary (Assignment : ℤ → (ℕ → ℤ) → Type 0) (n : ℕ) (t : Tableau) : Type 0 where

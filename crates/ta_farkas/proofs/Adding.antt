@@ -1,5 +1,6 @@
 -- a multiple of a row's terms, added to the sums of columns term by term
-use Rattle.ta_farkas.proofs.Common.{◌≡◌, ◌⊎◌, ℕ, ◌+◌, ◌<◌, inl, inr, List, ◌∷◌, length, get_or, set, drop, drop_more, ap, ◌∙◌, arith, ints, ℤ, pos, ◌*ℤ◌, Option, Some, None, IsAdded, coefficient, IsNormal}
+use Rattle.ta_farkas.proofs.Common.{◌≡◌, ◌⊎◌, ℕ, ◌+◌, ◌<◌, inl, inr, List, ◌∷◌, length, get_or, set, drop, drop_more, ap, ◌∙◌, arith, ints, ℤ, pos, ◌*ℤ◌}
+use Rattle.ta_farkas.proofs.Common.{Option, Some, None, IsAdded, coefficient, IsNormal}
 use Rattle.std.proofs.Math.IntN.{*ℤ-zero}
 use Rattle.std.proofs.lemmas.List.{get_or-set_other, get_or-set_same, length-set}
 use Rattle.std.proofs.lemmas.Bool.Decides.{eqb_tells, nat_tests}

@@ -8,7 +8,8 @@ part_alike n column [] [] k same = refl
 part_alike n column [] (q ∷ qs) k same = absurd same
 part_alike n column (r ∷ rs) [] k same = absurd same
 part_alike n column (r ∷ rs) (q ∷ qs) zero same =
-    ap (λ (z : ℤ). cond (nat_lt column n) z r.form.constant) (same.0.coefficients column) ∙ ap (λ (z : ℤ). cond (nat_lt column n) (coefficient q.form.terms column) z) same.0.constant
+    ap (λ (z : ℤ). cond (nat_lt column n) z r.form.constant) (same.0.coefficients column)
+    ∙ ap (λ (z : ℤ). cond (nat_lt column n) (coefficient q.form.terms column) z) same.0.constant
 part_alike n column (r ∷ rs) (q ∷ qs) (suc k) same = part_alike n column rs qs k same.1
 
 pub entry_alike : (s z : System) → SameNumbers s z → (column k : ℕ) → entry s column k ≡ entry z column k

@@ -1,5 +1,7 @@
 -- The names that the proofs of this crate cite, passed on from one place. Declares nothing.
-pub use Rattle.std.proofs.Common.{Bool, List, Option, Some, None, SomeIff, [], ap, arith, cond, drop, false, get_or, inl, inr, length, nat_lt, pos, refl, rules, set, slice_get, subst, suc, sym, true, zero, ℕ, ℤ, ◌*ℤ◌, ◌+ℤ◌, ◌+◌, ◌-◌, ◌<ℤ◌, ◌<◌, ◌^◌, ◌∙◌, ◌∷◌, ◌≡◌, ◌≢◌, ◌⊎◌, ◌*◌, ◌≤◌, min}
+pub use Rattle.std.proofs.Common.{Bool, List, Option, Some, None, SomeIff, [], ap, arith, cond, drop, false, get_or, inl, inr, length, nat_lt, pos, refl, rules}
+pub use Rattle.std.proofs.Common.{set, slice_get, subst, suc, sym, true, zero, ℕ, ℤ, ◌*ℤ◌, ◌+ℤ◌, ◌+◌, ◌-◌, ◌<ℤ◌, ◌<◌, ◌^◌, ◌∙◌, ◌∷◌, ◌≡◌, ◌≢◌, ◌⊎◌, ◌*◌, ◌≤◌}
+pub use Rattle.std.proofs.Common.{min}
 pub use Rattle.std.proofs.lemmas.Int.{ints, to_z-of_z}
 pub use Rattle.std.proofs.lemmas.List.{at_drop_more, drop_more}
 pub use Rattle.ta_farkas.specs.Blocks.{AreSums, IsAdded}

@@ -1,5 +1,7 @@
 -- What the columns of a check say of a leaf, and the other way
-use Rattle.ta_farkas.proofs.Common.{◌≡◌, ℕ, zero, suc, ◌+◌, ◌<◌, ◌≤◌, ◌^◌, inl, inr, List, [], ◌∷◌, length, Bool, true, false, cond, sym, subst, ap, refl, ℤ, pos, ◌*ℤ◌, ◌<ℤ◌, slice_get, nat_lt, arith, ints, weighted, coefficient_in, constant_in, AreMultipliers, LeafOf, column_sum, ColumnStays, CheckStays, row_at, FineBefore, IsFirstFaultOfLeaf, RowNumber, Overflow, Positive, NotNegative, Row, System}
+use Rattle.ta_farkas.proofs.Common.{◌≡◌, ℕ, zero, suc, ◌+◌, ◌<◌, ◌≤◌, ◌^◌, inl, inr, List, [], ◌∷◌, length, Bool, true, false, cond, sym, subst, ap, refl, ℤ}
+use Rattle.ta_farkas.proofs.Common.{pos, ◌*ℤ◌, ◌<ℤ◌, slice_get, nat_lt, arith, ints, weighted, coefficient_in, constant_in, AreMultipliers, LeafOf, column_sum}
+use Rattle.ta_farkas.proofs.Common.{ColumnStays, CheckStays, row_at, FineBefore, IsFirstFaultOfLeaf, RowNumber, Overflow, Positive, NotNegative, Row, System}
 use Rattle.std.proofs.lemmas.Bool.{cases_lt}
 use Rattle.std.proofs.lemmas.Bool.Decides.{nat_tests}
 use Rattle.std.proofs.Math.IntN.{*ℤ-zero}
@@ -30,9 +32,11 @@ none_beyond n x (r ∷ rs) (suc k) all h = none_beyond n x rs k all.1 h
 weighted-beyond : (n x : ℕ) (rows : List Row) (ts : List (ℕ × ℤ)) → AllBelow n rows → n ≤ x → weighted (coefficient_in x) rows ts ≡ pos 0
 unfolding weighted
 weighted-beyond n x rows [] all h = refl
-weighted-beyond n x rows (t ∷ ts) all h = omega (arith, ints, ap (λ (z : ℤ). t.1 *ℤ z) (none_beyond n x rows t.0 all h), *ℤ-zero t.1, weighted-beyond n x rows ts all h)
+weighted-beyond n x rows (t ∷ ts) all h = omega
+    (arith, ints, ap (λ (z : ℤ). t.1 *ℤ z) (none_beyond n x rows t.0 all h), *ℤ-zero t.1, weighted-beyond n x rows ts all h)
 
-multipliers-narrow : (low high count : ℕ) (ts : List (ℕ × ℤ)) → AreMultipliers low high ts → ((i : ℕ) → i < length ts → row_at ts i < count) → AreMultipliers low count ts
+multipliers-narrow : (low high count : ℕ) (ts : List (ℕ × ℤ)) → AreMultipliers low high ts → ((i : ℕ) → i < length ts → row_at ts i < count)
+    → AreMultipliers low count ts
 multipliers-narrow low high count [] m h = tt
 multipliers-narrow low high count (t ∷ ts) m h = (m.0, h 0 (omega arith), m.2, multipliers-narrow (t.0 + 1) high count ts m.3 (λ i b. h (suc i) (omega arith)))
 
@@ -41,7 +45,8 @@ multipliers-exist low count [] m i h = absurd (omega arith)
 multipliers-exist low count (t ∷ ts) m zero h = m.1
 multipliers-exist low count (t ∷ ts) m (suc i) h = multipliers-exist (t.0 + 1) count ts m.3 i (omega arith)
 
-pub leaf_of : (s : System) (ts : List (ℕ × ℤ)) → AreMultipliers 0 (2 ^ 32) ts → FineBefore s ts s.unknowns → ColumnStays s ts s.unknowns → column_sum s ts s.unknowns <ℤ pos 0 → LeafOf s ts × CheckStays s ts
+pub leaf_of : (s : System) (ts : List (ℕ × ℤ)) → AreMultipliers 0 (2 ^ 32) ts → FineBefore s ts s.unknowns → ColumnStays s ts s.unknowns
+    → column_sum s ts s.unknowns <ℤ pos 0 → LeafOf s ts × CheckStays s ts
 leaf_of s ts m fine last negative = (
   record {
     multipliers = multipliers-narrow 0 (2 ^ 32) (length s.rows) ts m fine.exist;
@@ -59,7 +64,8 @@ leaf_of s ts m fine last negative = (
 
 -- a leaf whose check stays in range has no error
 pub no_fault : (s : System) (ts : List (ℕ × ℤ)) (fault : LeafFault) → IsFirstFaultOfLeaf s ts fault → LeafOf s ts × CheckStays s ts → ⊥
-no_fault s ts (RowNumber row) f w = let b = multipliers-exist 0 (length s.rows) ts w.0.multipliers f.at f.below in let e = f.is in let m = f.missing in absurd (omega arith)
+no_fault s ts (RowNumber row) f w = let b = multipliers-exist 0 (length s.rows) ts w.0.multipliers f.at f.below in let e = f.is in let m = f.missing in absurd
+    (omega arith)
 no_fault s ts (Overflow column) f w = f.2 (w.1 column f.0)
 no_fault s ts (Positive x) f w = let e = column-unknown s ts x f.0 in let n = w.0.none_positive x in let p = f.3 in absurd (omega (arith, ints))
 no_fault s ts NotNegative f w = let e = column-constant s ts in let n = w.0.negative in let p = f.2 in absurd (omega (arith, ints))

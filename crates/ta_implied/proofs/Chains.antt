@@ -7,7 +7,8 @@ nothing_leads zero first last h = h
 nothing_leads (suc more) first last h = h.1
 
 -- a chain of pairs that are all in another list is one of that list
-pub leads_along : (xs ys : List (ℕ × ℕ)) → ((q : ℕ × ℕ) → In q xs → In q ys) → (more first last : ℕ) → ChainLeads xs more first last → ChainLeads ys more first last
+pub leads_along : (xs ys : List (ℕ × ℕ)) → ((q : ℕ × ℕ) → In q xs → In q ys) → (more first last : ℕ) → ChainLeads xs more first last
+    → ChainLeads ys more first last
 leads_along xs ys h zero first last l = h (first, last) l
 leads_along xs ys h (suc more) first last l = (l.0, h (first, l.0) l.1, leads_along xs ys h more l.0 last l.2)
 
@@ -24,19 +25,22 @@ leads_join pairs zero first next last h l = one_more pairs first next last h (in
 leads_join pairs (suc more) first next last h l = one_more pairs first h.0 last h.1 (inr (leads_join pairs more h.0 next last h.2 l))
 
 -- a chain in which one more pair may stand goes without it, or up to it and on from it
-pub through : (pairs : List (ℕ × ℕ)) (before after more first last : ℕ) → ChainLeads ((before, after) ∷ pairs) more first last → LeadsSome pairs first last ⊎ (Reaches pairs first before × Reaches pairs after last)
+pub through : (pairs : List (ℕ × ℕ)) (before after more first last : ℕ) → ChainLeads ((before, after) ∷ pairs) more first last → LeadsSome pairs first last
+    ⊎ (Reaches pairs first before × Reaches pairs after last)
 through pairs before after zero first last (inl e) = inr (inl (ap (λ (q : ℕ × ℕ). q.0) e), inl (sym (ap (λ (q : ℕ × ℕ). q.1) e)))
 through pairs before after zero first last (inr i) = inl (zero, i)
 through pairs before after (suc more) first last h = by_first h.1 (through pairs before after more h.0 last h.2)
   where
-    by_first : In (first, h.0) ((before, after) ∷ pairs) → LeadsSome pairs h.0 last ⊎ (Reaches pairs h.0 before × Reaches pairs after last) → LeadsSome pairs first last ⊎ (Reaches pairs first before × Reaches pairs after last)
+    by_first : In (first, h.0) ((before, after) ∷ pairs) → LeadsSome pairs h.0 last ⊎ (Reaches pairs h.0 before × Reaches pairs after last)
+        → LeadsSome pairs first last ⊎ (Reaches pairs first before × Reaches pairs after last)
     by_first (inl e) (inl l) = inr (inl (ap (λ (q : ℕ × ℕ). q.0) e), inr (subst (λ g. LeadsSome pairs g last) (ap (λ (q : ℕ × ℕ). q.1) e) l))
     by_first (inl e) (inr r) = inr (inl (ap (λ (q : ℕ × ℕ). q.0) e), r.1)
     by_first (inr i) (inl l) = inl (one_more pairs first h.0 last i (inr l))
     by_first (inr i) (inr r) = inr (inr (one_more pairs first h.0 before i r.0), r.1)
 
 -- where no chain leads from its guard after to its guard before, one more pair of different guards makes no circle
-pub still_no_circle : (pairs : List (ℕ × ℕ)) (before after : ℕ) → HasNoCircle pairs → before ≢ after → ((more : ℕ) → ChainLeads pairs more after before → ⊥) → HasNoCircle ((before, after) ∷ pairs)
+pub still_no_circle : (pairs : List (ℕ × ℕ)) (before after : ℕ) → HasNoCircle pairs → before ≢ after → ((more : ℕ) → ChainLeads pairs more after before → ⊥)
+    → HasNoCircle ((before, after) ∷ pairs)
 still_no_circle pairs before after none apart open_end more guard h = elim (through pairs before after more guard guard h) [
   | inl l ↦ none l.0 guard l.1
   | inr r ↦ closed r.1 r.0

@@ -1,5 +1,7 @@
 -- gathering the guards from which chains of pairs lead to a guard
-use Rattle.ta_implied.proofs.Common.{◌≡◌, ◌↔◌, ◌⊎◌, inl, inr, ℕ, zero, suc, ◌+◌, ◌<◌, ◌≤◌, ◌^◌, List, true, ◌||◌, bit_or, arith, sym, ◌∙◌, subst, le_or_l, false≢true, or_cases, or_left, or_right, eqb_tells, has_bit, In, has_above, has_or, ChainLeads, IsBeforeSome, LeadsSome, cases_lt}
+use Rattle.ta_implied.proofs.Common.{◌≡◌, ◌↔◌, ◌⊎◌, inl, inr, ℕ, zero, suc, ◌+◌, ◌<◌, ◌≤◌, ◌^◌, List, true, ◌||◌, bit_or, arith, sym, ◌∙◌, subst, le_or_l}
+use Rattle.ta_implied.proofs.Common.{false≢true, or_cases, or_left, or_right, eqb_tells, has_bit, In, has_above, has_or, ChainLeads, IsBeforeSome, LeadsSome}
+use Rattle.ta_implied.proofs.Common.{cases_lt}
 use Rattle.ta_implied.proofs.Chains.{one_more}
 
 -- some guards, with all that come before one of them whose number is below another
@@ -13,7 +15,8 @@ none_gathered pairs found = record {
   members = λ j. (λ h. inl h, λ h. elim h [ inl t ↦ t | inr b ↦ absurd (let w = b.1 in omega arith) ]);
 }
 
-pub one_gathered : (pairs : List (ℕ × ℕ)) (found all n part : ℕ) → Gathered pairs found all n → ((j : ℕ) → (has_bit part j ≡ true) ↔ ((has_bit found n ≡ true) × In (j, n) pairs)) → Gathered pairs found (bit_or all part) (n + 1)
+pub one_gathered : (pairs : List (ℕ × ℕ)) (found all n part : ℕ) → Gathered pairs found all n
+    → ((j : ℕ) → (has_bit part j ≡ true) ↔ ((has_bit found n ≡ true) × In (j, n) pairs)) → Gathered pairs found (bit_or all part) (n + 1)
 one_gathered pairs found all n part so is = record {
   grown = (let g = so.grown in omega (arith, le_or_l all part));
   members = λ j. (λ h. forth j (or_cases (has_bit part j) (has_bit all j) (sym (has_or all part j) ∙ h)), λ h. has_or all part j ∙ hither j h);
@@ -38,14 +41,17 @@ pub record Searched (pairs : List (ℕ × ℕ)) (guard found : ℕ) : Type 0 whe
 pub first_searched : (pairs : List (ℕ × ℕ)) (guard found : ℕ) → ((j : ℕ) → (has_bit found j ≡ true) ↔ In (j, guard) pairs) → Searched pairs guard found
 first_searched pairs guard found is = record { direct = λ j i. (is j).1 i; lead = λ j t. (zero, (is j).0 t) }
 
-pub more_searched : (pairs : List (ℕ × ℕ)) (guard found more : ℕ) → Searched pairs guard found → ((j : ℕ) → (has_bit more j ≡ true) ↔ ((has_bit found j ≡ true) ⊎ IsBeforeSome pairs found 16 j)) → Searched pairs guard more
+pub more_searched : (pairs : List (ℕ × ℕ)) (guard found more : ℕ) → Searched pairs guard found
+    → ((j : ℕ) → (has_bit more j ≡ true) ↔ ((has_bit found j ≡ true) ⊎ IsBeforeSome pairs found 16 j)) → Searched pairs guard more
 more_searched pairs guard found more so is = record {
   direct = λ j i. (is j).1 (inl (so.direct j i));
   lead = λ j t. elim ((is j).0 t) [ inl f ↦ so.lead j f | inr b ↦ one_more pairs j b.0 guard b.3 (inr (so.lead b.0 b.2)) ];
 }
 
 -- where no more are found, these are all
-pub all_searched : (pairs : List (ℕ × ℕ)) (guard found : ℕ) → found < 2 ^ 16 → Searched pairs guard found → ((j : ℕ) → (has_bit found j ≡ true) ↔ ((has_bit found j ≡ true) ⊎ IsBeforeSome pairs found 16 j)) → (j : ℕ) → (has_bit found j ≡ true) ↔ LeadsSome pairs j guard
+pub all_searched : (pairs : List (ℕ × ℕ)) (guard found : ℕ) → found < 2 ^ 16 → Searched pairs guard found
+    → ((j : ℕ) → (has_bit found j ≡ true) ↔ ((has_bit found j ≡ true) ⊎ IsBeforeSome pairs found 16 j)) → (j : ℕ) → (has_bit found j ≡ true)
+    ↔ LeadsSome pairs j guard
 all_searched pairs guard found fits so is j = (so.lead j, λ l. holds l.0 j l.1)
   where
     below : (k : ℕ) → has_bit found k ≡ true → k < 16

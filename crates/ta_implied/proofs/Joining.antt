@@ -1,5 +1,6 @@
 -- good pairs with one more, and in another order
-use Rattle.ta_implied.proofs.Common.{◌≡◌, inl, inr, ℕ, ℤ, List, [], ◌∷◌, ◌++◌, Bool, true, false, cond, sym, subst, behind_distinct, each_from_in, each_in, in_append, Automaton, In, ImplySystem, IsPair, IsImplied, Good, IsShown, JoinsPair, MayJoin, is_earlier, with_pair, System}
+use Rattle.ta_implied.proofs.Common.{◌≡◌, inl, inr, ℕ, ℤ, List, [], ◌∷◌, ◌++◌, Bool, true, false, cond, sym, subst, behind_distinct, each_from_in, each_in}
+use Rattle.ta_implied.proofs.Common.{in_append, Automaton, In, ImplySystem, IsPair, IsImplied, Good, IsShown, JoinsPair, MayJoin, is_earlier, with_pair, System}
 use Rattle.ta_base.specs.Lists.{Distinct}
 use Rattle.ta_linear.specs.Leaf.{LeafOf}
 use Rattle.ta_farkas.specs.Columns.{CheckStays}
@@ -23,7 +24,8 @@ good_first a pairs pair good may implied = record {
   acyclic = still_no_circle pairs pair.0 pair.1 good.acyclic may.is.apart may.closes_none;
 }
 
-distinct_if : (pair other : ℕ × ℕ) (others : List (ℕ × ℕ)) (b : Bool) → Distinct (pair ∷ other ∷ others) → Distinct (with_pair pair others) → Distinct (cond b (pair ∷ other ∷ others) (other ∷ with_pair pair others))
+distinct_if : (pair other : ℕ × ℕ) (others : List (ℕ × ℕ)) (b : Bool) → Distinct (pair ∷ other ∷ others) → Distinct (with_pair pair others)
+    → Distinct (cond b (pair ∷ other ∷ others) (other ∷ with_pair pair others))
 distinct_if pair other others true h g = h
 distinct_if pair other others false h g = (
   each_from_in (λ q. other ≡ q → ⊥) (with_pair pair others) (λ q i e. elim (in_placed pair others q i) [
@@ -53,7 +55,8 @@ implied_by a pair ts shown = record { system = shown.system; is = shown.is; mult
 pub joined_good : (a : Automaton) (pair : ℕ × ℕ) (ts : List (ℕ × ℤ)) (old new : List (ℕ × ℕ)) → JoinsPair a pair ts old new → Good a old → Good a new
 joined_good a pair ts old new joined good = subst (Good a) (sym joined.whole) (good_placed a old pair good joined.may (implied_by a pair ts joined.shown))
 
-pub joined_by : (a : Automaton) (pair : ℕ × ℕ) (ts : List (ℕ × ℤ)) (old new : List (ℕ × ℕ)) (system : System) → MayJoin a old pair → ImplySystem a pair.0 pair.1 system → LeafOf system ts × CheckStays system ts → new ≡ with_pair pair old → JoinsPair a pair ts old new
+pub joined_by : (a : Automaton) (pair : ℕ × ℕ) (ts : List (ℕ × ℤ)) (old new : List (ℕ × ℕ)) (system : System) → MayJoin a old pair
+    → ImplySystem a pair.0 pair.1 system → LeafOf system ts × CheckStays system ts → new ≡ with_pair pair old → JoinsPair a pair ts old new
 joined_by a pair ts old new system may is leaf whole = record {
   may = may;
   shown = record { system = system; is = is; leaf = leaf.0; stays = leaf.1 };

@@ -1,5 +1,7 @@
 -- the pairs of masks: which they are, their order, and one more at its place
-use Rattle.ta_implied.proofs.Common.{length, ◌≡◌, inl, inr, ℕ, zero, suc, ◌+◌, ◌-◌, ◌^◌, ◌<◌, ◌≤◌, List, [], ◌∷◌, ◌++◌, map, get_or, true, arith, sym, ap, ◌∙◌, refl, subst, filter, replicate, false≢true, AllByRecursion, has_bit, range_with_len, In, bit_in_masks_below, has_none, no_numbers, some_bit, In-filter, In-left, In-map, In-right, in_append, in_filter, in_map, In-numbers, pairs_at, pairs_from}
+use Rattle.ta_implied.proofs.Common.{length, ◌≡◌, inl, inr, ℕ, zero, suc, ◌+◌, ◌-◌, ◌^◌, ◌<◌, ◌≤◌, List, [], ◌∷◌, ◌++◌, map, get_or, true, arith, sym, ap, ◌∙◌}
+use Rattle.ta_implied.proofs.Common.{refl, subst, filter, replicate, false≢true, AllByRecursion, has_bit, range_with_len, In, bit_in_masks_below, has_none}
+use Rattle.ta_implied.proofs.Common.{no_numbers, some_bit, In-filter, In-left, In-map, In-right, in_append, in_filter, in_map, In-numbers, pairs_at, pairs_from}
 use Rattle.ta_base.proofs.Lists.{empty_left, empty_right}
 
 -- a pair of the guards of a mask
@@ -10,14 +12,17 @@ in_pairs_at j i guard mask h =
     (ap (λ (q : ℕ × ℕ). q.1) mapped.2, ap (λ (q : ℕ × ℕ). has_bit mask q.0) mapped.2 ∙ kept.0)
 
 pairs_at_in : (j guard mask : ℕ) → j < 16 → has_bit mask j ≡ true → In (j, guard) (pairs_at guard mask)
-pairs_at_in j guard mask below has = In-map (λ k. (k, guard)) j (filter (has_bit mask) (range_with_len 0 16)) (In-filter (has_bit mask) j (range_with_len 0 16) has (In-numbers j 0 16 (omega arith) (omega arith)))
+pairs_at_in j guard mask below has = In-map (λ k. (k, guard)) j (filter (has_bit mask) (range_with_len 0 16))
+    (In-filter (has_bit mask) j (range_with_len 0 16) has (In-numbers j 0 16 (omega arith) (omega arith)))
 
 -- a pair of masks is one of the mask of its guard after
 in_pairs : (j i k : ℕ) (masks : List ℕ) → In (j, i) (pairs_from k masks) → (k ≤ i) × (has_bit (get_or masks (i - k) 0) j ≡ true)
 in_pairs j i k [] h = absurd h
 in_pairs j i k (m ∷ ms) h = elim (in_append (j, i) (pairs_at k m) (pairs_from (k + 1) ms) h) [
-  | inl here ↦ (let g = in_pairs_at j i k m here in let none : i - k ≡ 0 = omega (arith, g.0) in (omega (arith, g.0), ap (λ d. has_bit (get_or (m ∷ ms) d 0) j) none ∙ g.1))
-  | inr later ↦ (let g = in_pairs j i (k + 1) ms later in let next : i - k ≡ suc (i - (k + 1)) = omega (arith, g.0) in (omega (arith, g.0), ap (λ d. has_bit (get_or (m ∷ ms) d 0) j) next ∙ g.1))
+  | inl here ↦ (let g = in_pairs_at j i k m here in let none : i - k ≡ 0 = omega (arith, g.0) in
+      (omega (arith, g.0), ap (λ d. has_bit (get_or (m ∷ ms) d 0) j) none ∙ g.1))
+  | inr later ↦ (let g = in_pairs j i (k + 1) ms later in let next : i - k ≡ suc (i - (k + 1)) = omega (arith, g.0) in
+      (omega (arith, g.0), ap (λ d. has_bit (get_or (m ∷ ms) d 0) j) next ∙ g.1))
 ]
 
 pairs_in : (j k d : ℕ) (masks : List ℕ) → j < 16 → has_bit (get_or masks d 0) j ≡ true → In (j, k + d) (pairs_from k masks)
@@ -27,7 +32,8 @@ pairs_in j k zero (m ∷ ms) below has =
     In-left (j, k + 0) (pairs_at k m) (pairs_from (k + 1) ms) (subst (λ i. In (j, i) (pairs_at k m)) (sym same) (pairs_at_in j k m below has))
 pairs_in j k (suc d) (m ∷ ms) below has =
     let same : k + suc d ≡ (k + 1) + d = omega arith in
-    In-right (j, k + suc d) (pairs_at k m) (pairs_from (k + 1) ms) (subst (λ i. In (j, i) (pairs_from (k + 1) ms)) (sym same) (pairs_in j (k + 1) d ms below has))
+    In-right (j, k + suc d) (pairs_at k m) (pairs_from (k + 1) ms)
+    (subst (λ i. In (j, i) (pairs_from (k + 1) ms)) (sym same) (pairs_in j (k + 1) d ms below has))
 
 -- masks of no guards have no pairs
 no_pairs_at : (k : ℕ) → pairs_at k 0 ≡ []
@@ -58,7 +64,8 @@ empty_mask k (suc m) fits none =
 empty_masks : (k : ℕ) (masks : List ℕ) → AllByRecursion (λ m. m < 2 ^ 16) masks → pairs_from k masks ≡ [] → masks ≡ replicate (length masks) 0
 empty_masks k [] fit none = refl
 empty_masks k (m ∷ ms) fit none =
-    ap (λ n. n ∷ ms) (empty_mask k m fit.0 (empty_left (pairs_at k m) (pairs_from (k + 1) ms) none)) ∙ ap (λ xs. 0 ∷ xs) (empty_masks (k + 1) ms fit.1 (empty_right (pairs_at k m) (pairs_from (k + 1) ms) none))
+    ap (λ n. n ∷ ms) (empty_mask k m fit.0 (empty_left (pairs_at k m) (pairs_from (k + 1) ms) none))
+    ∙ ap (λ xs. 0 ∷ xs) (empty_masks (k + 1) ms fit.1 (empty_right (pairs_at k m) (pairs_from (k + 1) ms) none))
 
 pub all_empty : (masks : List ℕ) → AllByRecursion (λ m. m < 2 ^ 16) masks → length masks ≡ 16 → pairs_from 0 masks ≡ [] → masks ≡ replicate 16 0
 all_empty masks fit count none = empty_masks 0 masks fit none ∙ ap (λ n. replicate n 0) count

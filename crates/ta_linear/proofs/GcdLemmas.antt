@@ -3,7 +3,8 @@ use Rattle.std.proofs.Common.{◌*◌, ◌/◌}
 use Rattle.std.proofs.Math.Nat.{dvd-add_iff_right, dvd-mul_right_of_dvd}
 use Rattle.std.proofs.lemmas.Nat.{div-add-mod'}
 use Rattle.std.specs.Int.{◌∣◌}
-use Rattle.ta_linear.proofs.Common.{◌≡◌, ℕ, zero, suc, ◌+◌, ◌<◌, ◌%◌, arith, ap, refl, subst, sym, IsGcd, IsGcd-from_zero, IsGcd-from_mod, same_from_IsGcd, mod_below}
+use Rattle.ta_linear.proofs.Common.{◌≡◌, ℕ, zero, suc, ◌+◌, ◌<◌, ◌%◌, arith, ap, refl, subst, sym, IsGcd, IsGcd-from_zero, IsGcd-from_mod, same_from_IsGcd}
+use Rattle.ta_linear.proofs.Common.{mod_below}
 use Rattle.ta_linear.specs.Gcd.{gcd_within, gcd_of}
 
 IsGcd-gcd_within : (n a b : ℕ) → b < n → IsGcd a b (gcd_within n a b)

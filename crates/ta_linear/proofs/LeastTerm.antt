@@ -1,4 +1,5 @@
-use Rattle.ta_linear.proofs.Common.{◌≡◌, ℕ, ℤ, ◌+◌, ◌<◌, ◌≤◌, ◌+ℤ◌, List, [], ◌∷◌, length, arith, ints, nat_tests, add_cond, InRange, coefficient, IsNormal, IsLeastTerm, SomeSumOutOfRange}
+use Rattle.ta_linear.proofs.Common.{◌≡◌, ℕ, ℤ, ◌+◌, ◌<◌, ◌≤◌, ◌+ℤ◌, List, [], ◌∷◌, length, arith, ints, nat_tests, add_cond, InRange, coefficient, IsNormal}
+use Rattle.ta_linear.proofs.Common.{IsLeastTerm, SomeSumOutOfRange}
 use Rattle.ta_linear.proofs.TermLemmas.{coefficient-below, IsNormal-le}
 
 -- the first variable of the terms is above another
@@ -26,14 +27,16 @@ least-right xs ys t ts e above = rw e (record {
   shorter = omega arith;
 })
 
-pub least-both : (xs ys : List (ℕ × ℤ)) (s : ℕ × ℤ) (ss : List (ℕ × ℤ)) (t : ℕ × ℤ) (ts : List (ℕ × ℤ)) → xs ≡ s ∷ ss → ys ≡ t ∷ ts → s.0 ≡ t.0 → (sum : ℤ) → sum ≡ (s.1 +ℤ t.1) → InRange (s.1 +ℤ t.1) → IsLeastTerm xs ys (s.0, sum) ss ts
+pub least-both : (xs ys : List (ℕ × ℤ)) (s : ℕ × ℤ) (ss : List (ℕ × ℤ)) (t : ℕ × ℤ) (ts : List (ℕ × ℤ)) → xs ≡ s ∷ ss → ys ≡ t ∷ ts → s.0 ≡ t.0 → (sum : ℤ)
+    → sum ≡ (s.1 +ℤ t.1) → InRange (s.1 +ℤ t.1) → IsLeastTerm xs ys (s.0, sum) ss ts
 least-both xs ys s ss t ts d e same sum is fits = rw (d, e, is) (record {
   sums = λ x. omega (arith, ints, add_cond s.0 t.0 x s.1 t.1 same);
   normal = λ low high left right. (left.0, fits, left.2, rw same right.2);
   shorter = omega arith;
 })
 
-pub leaves-both : (xs ys : List (ℕ × ℤ)) (s : ℕ × ℤ) (ss : List (ℕ × ℤ)) (t : ℕ × ℤ) (ts : List (ℕ × ℤ)) → xs ≡ s ∷ ss → ys ≡ t ∷ ts → s.0 ≡ t.0 → (InRange (s.1 +ℤ t.1) → ⊥) → SomeSumOutOfRange xs ys
+pub leaves-both : (xs ys : List (ℕ × ℤ)) (s : ℕ × ℤ) (ss : List (ℕ × ℤ)) (t : ℕ × ℤ) (ts : List (ℕ × ℤ)) → xs ≡ s ∷ ss → ys ≡ t ∷ ts → s.0 ≡ t.0
+    → (InRange (s.1 +ℤ t.1) → ⊥) → SomeSumOutOfRange xs ys
 leaves-both xs ys s ss t ts d e same leaves = rw (d, e) (λ low high left right.
     let p = coefficient-below (s.0 + 1) high ss s.0 left.2 (omega arith) in
     let q = coefficient-below (t.0 + 1) high ts s.0 right.2 (omega arith) in

@@ -1,5 +1,6 @@
 -- terms in order of their variables: their coefficients, and that these determine them
-use Rattle.ta_linear.proofs.Common.{◌≡◌, ℕ, ℤ, ◌+◌, List, ◌∷◌, arith, ◌≢◌, inl, inr, [], sym, ap, ◌∙◌, refl, subst, pos, ◌<◌, ◌≤◌, ints, nat_tests, coefficient, IsNormal, same_cons}
+use Rattle.ta_linear.proofs.Common.{◌≡◌, ℕ, ℤ, ◌+◌, List, ◌∷◌, arith, ◌≢◌, inl, inr, [], sym, ap, ◌∙◌, refl, subst, pos, ◌<◌, ◌≤◌, ints, nat_tests, coefficient}
+use Rattle.ta_linear.proofs.Common.{IsNormal, same_cons}
 use Rattle.std.proofs.Math.Nat.{lt_of_not-le}
 use Rattle.std.proofs.lemmas.Bool.{cases_eq, cases_order}
 use Rattle.ta_linear.proofs.TermLemmas.{coefficient-below}
@@ -34,7 +35,8 @@ normal_unique low high (s ∷ a) (t ∷ b) m n h = elim (cases_order s.0 t.0) [
 ]
 
 -- terms whose coefficients from a variable on are 0 stay below it
-pub normal_narrow : (low high places : ℕ) (ts : List (ℕ × ℤ)) → low ≤ places → IsNormal low high ts → ((x : ℕ) → places ≤ x → coefficient ts x ≡ pos 0) → IsNormal low places ts
+pub normal_narrow : (low high places : ℕ) (ts : List (ℕ × ℤ)) → low ≤ places → IsNormal low high ts → ((x : ℕ) → places ≤ x → coefficient ts x ≡ pos 0)
+    → IsNormal low places ts
 normal_narrow low high places [] h n none = h
 normal_narrow low high places (t ∷ ts) h n none =
     let first = coefficient-first high t ts n.2 in

@@ -9,7 +9,10 @@ pub record Summing (number : ℕ → ℤ) (high : ℕ) (start : ℤ) (all : List
   pub value : (sum +ℤ terms_value number left) ≡ (start +ℤ terms_value number all)
   pub stays : StaysInRange number sum left ↔ StaysInRange number start all
 
-pub sum-next : (number : ℕ → ℤ) (high : ℕ) (start : ℤ) (all : List (ℕ × ℤ)) (sum : ℤ) (xs : List (ℕ × ℤ)) (i : ℕ) (d : ℕ × ℤ) (next : ℤ) → Summing number high start all sum (drop i xs) → i < length xs → InRange ((get_or xs i d).1 *ℤ number (get_or xs i d).0) × InRange (sum +ℤ ((get_or xs i d).1 *ℤ number (get_or xs i d).0)) → next ≡ (sum +ℤ ((get_or xs i d).1 *ℤ number (get_or xs i d).0)) → Summing number high start all next (drop (i + 1) xs)
+pub sum-next : (number : ℕ → ℤ) (high : ℕ) (start : ℤ) (all : List (ℕ × ℤ)) (sum : ℤ) (xs : List (ℕ × ℤ)) (i : ℕ) (d : ℕ × ℤ) (next : ℤ)
+    → Summing number high start all sum (drop i xs) → i < length xs → InRange ((get_or xs i d).1 *ℤ number (get_or xs i d).0)
+    × InRange (sum +ℤ ((get_or xs i d).1 *ℤ number (get_or xs i d).0)) → next ≡ (sum +ℤ ((get_or xs i d).1 *ℤ number (get_or xs i d).0))
+    → Summing number high start all next (drop (i + 1) xs)
 sum-next number high start all sum xs i d next s h fits is =
     let m = rw (drop_more xs i d h) at s in
     rw is (record {
@@ -19,7 +22,8 @@ sum-next number high start all sum xs i d next s h fits is =
       stays = (λ rest. m.stays.0 (fits.0, fits.1, rest), λ whole. (m.stays.1 whole).2);
     })
 
-pub sum-place : (number : ℕ → ℤ) (high : ℕ) (start : ℤ) (all : List (ℕ × ℤ)) (sum : ℤ) (xs : List (ℕ × ℤ)) (i : ℕ) (d : ℕ × ℤ) → Summing number high start all sum (drop i xs) → i < length xs → (get_or xs i d).0 < high
+pub sum-place : (number : ℕ → ℤ) (high : ℕ) (start : ℤ) (all : List (ℕ × ℤ)) (sum : ℤ) (xs : List (ℕ × ℤ)) (i : ℕ) (d : ℕ × ℤ)
+    → Summing number high start all sum (drop i xs) → i < length xs → (get_or xs i d).0 < high
 sum-place number high start all sum xs i d s h =
     let m = rw (drop_more xs i d h) at s in
     let above = IsNormal-le _ high _ m.normal.2 in

@@ -1,4 +1,7 @@
-use Rattle.ta_linear.proofs.Common.{terms_value, length, drop, get_or, ◌≡◌, ◌≢◌, ℕ, ℤ, pos, negsuc, neg_ℤ, ◌-ℤ◌, inl, inr, ◌+◌, ◌<◌, ◌≤◌, ◌^◌, ◌+ℤ◌, ◌*ℤ◌, List, [], ◌∷◌, ◌++◌, eqb, cond, refl, arith, sym, ap, ◌∙◌, ints, unsigned_abs-mul, nat_tests, eqb_tells, distributes, if_zero, times_if, times_not_zero, InRange, coefficient, IsTerm, IsNormal, IsLeastTerm, SomeSumOutOfRange, IsSum, SumOutOfRange, IsMultiple, MultipleOutOfRange, IsNegation, Form, *ℤ-zero, drop_more}
+use Rattle.ta_linear.proofs.Common.{terms_value, length, drop, get_or, ◌≡◌, ◌≢◌, ℕ, ℤ, pos, negsuc, neg_ℤ, ◌-ℤ◌, inl, inr, ◌+◌, ◌<◌, ◌≤◌, ◌^◌, ◌+ℤ◌, ◌*ℤ◌, List}
+use Rattle.ta_linear.proofs.Common.{[], ◌∷◌, ◌++◌, eqb, cond, refl, arith, sym, ap, ◌∙◌, ints, unsigned_abs-mul, nat_tests, eqb_tells, distributes, if_zero}
+use Rattle.ta_linear.proofs.Common.{times_if, times_not_zero, InRange, coefficient, IsTerm, IsNormal, IsLeastTerm, SomeSumOutOfRange, IsSum, SumOutOfRange}
+use Rattle.ta_linear.proofs.Common.{IsMultiple, MultipleOutOfRange, IsNegation, Form, *ℤ-zero, drop_more}
 use Rattle.ta_base.proofs.Naturals.{cond_same}
 use Rattle.std.proofs.Math.ListN.{drop_of_length-le}
 
@@ -53,7 +56,8 @@ pub record Scaling (factor : ℤ) (all out left : List (ℕ × ℤ)) : Type 0 wh
   pub left_normal : IsNormal place (2 ^ 32) left
   pub sums : (x : ℕ) → (coefficient out x +ℤ (factor *ℤ coefficient left x)) ≡ (factor *ℤ coefficient all x)
 
-pub merge-push : (a b out left right : List (ℕ × ℤ)) (t : ℕ × ℤ) (left_rest right_rest : List (ℕ × ℤ)) → Merging a b out left right → IsLeastTerm left right t left_rest right_rest → (t.1 ≢ pos 0) → Merging a b (out ++ t ∷ []) left_rest right_rest
+pub merge-push : (a b out left right : List (ℕ × ℤ)) (t : ℕ × ℤ) (left_rest right_rest : List (ℕ × ℤ)) → Merging a b out left right
+    → IsLeastTerm left right t left_rest right_rest → (t.1 ≢ pos 0) → Merging a b (out ++ t ∷ []) left_rest right_rest
 merge-push a b out left right t left_rest right_rest m n ne =
     let next = n.normal m.place (2 ^ 32) m.left_normal m.right_normal in
     record {
@@ -64,7 +68,8 @@ merge-push a b out left right t left_rest right_rest m n ne =
       sums = λ x. omega (arith, ints, m.sums x, n.sums x, coefficient-append out (t ∷ []) x);
     }
 
-pub merge-skip : (a b out left right : List (ℕ × ℤ)) (t : ℕ × ℤ) (left_rest right_rest : List (ℕ × ℤ)) → Merging a b out left right → IsLeastTerm left right t left_rest right_rest → t.1 ≡ pos 0 → Merging a b out left_rest right_rest
+pub merge-skip : (a b out left right : List (ℕ × ℤ)) (t : ℕ × ℤ) (left_rest right_rest : List (ℕ × ℤ)) → Merging a b out left right
+    → IsLeastTerm left right t left_rest right_rest → t.1 ≡ pos 0 → Merging a b out left_rest right_rest
 merge-skip a b out left right t left_rest right_rest m n zero =
     let next = n.normal m.place (2 ^ 32) m.left_normal m.right_normal in
     record {
@@ -75,27 +80,40 @@ merge-skip a b out left right t left_rest right_rest m n zero =
       sums = λ x. omega (arith, ints, m.sums x, n.sums x, if_zero t.0 x t.1 zero);
     }
 
-pub merge-leaves : (a b out left right : List (ℕ × ℤ)) → Merging a b out left right → SomeSumOutOfRange left right → (x : ℕ) × (InRange (coefficient a x +ℤ coefficient b x) → ⊥)
+pub merge-leaves : (a b out left right : List (ℕ × ℤ)) → Merging a b out left right → SomeSumOutOfRange left right → (x : ℕ)
+    × (InRange (coefficient a x +ℤ coefficient b x) → ⊥)
 merge-leaves a b out left right m leaves =
     let w = leaves m.place (2 ^ 32) m.left_normal m.right_normal in
     let none = coefficient-above 0 m.place out w.0 m.out_normal w.1 in
     let same : (coefficient a w.0 +ℤ coefficient b w.0) ≡ (coefficient left w.0 +ℤ coefficient right w.0) = omega (arith, ints, m.sums w.0, none) in
     (w.0, λ h. w.2 (rw (← same) h))
 
-pub merge-end : (a b out left right : List (ℕ × ℤ)) → Merging a b out left right → left ≡ [] → right ≡ [] → (x : ℕ) → coefficient out x ≡ (coefficient a x +ℤ coefficient b x)
+pub merge-end : (a b out left right : List (ℕ × ℤ)) → Merging a b out left right → left ≡ [] → right ≡ [] → (x : ℕ)
+    → coefficient out x ≡ (coefficient a x +ℤ coefficient b x)
 merge-end a b out left right m none_left none_right x =
     let sums = rw (none_left, none_right) at (m.sums x) in
     omega (arith, ints, sums)
 
-pub scale-push : (factor : ℤ) (all out : List (ℕ × ℤ)) (t : ℕ × ℤ) (rest : List (ℕ × ℤ)) (product : ℤ) → Scaling factor all out (t ∷ rest) → factor ≢ pos 0 → product ≡ (factor *ℤ t.1) → InRange product → Scaling factor all (out ++ (t.0, product) ∷ []) rest
+pub scale-push : (factor : ℤ) (all out : List (ℕ × ℤ)) (t : ℕ × ℤ) (rest : List (ℕ × ℤ)) (product : ℤ) → Scaling factor all out (t ∷ rest) → factor ≢ pos 0
+    → product ≡ (factor *ℤ t.1) → InRange product → Scaling factor all (out ++ (t.0, product) ∷ []) rest
 scale-push factor all out t rest product m ne is fits = record {
   place = t.0 + 1;
-  out_normal = IsNormal-push 0 m.place out (t.0, product) m.out_normal m.left_normal.0 (record { not_zero = λ zero. times_not_zero factor t.1 ne m.left_normal.1.not_zero (sym is ∙ zero); in_range = fits });
+  out_normal = IsNormal-push 0 m.place out (t.0, product) m.out_normal m.left_normal.0
+      (record { not_zero = λ zero. times_not_zero factor t.1 ne m.left_normal.1.not_zero (sym is ∙ zero); in_range = fits });
   left_normal = m.left_normal.2;
-  sums = λ x. omega (arith, ints, m.sums x, coefficient-append out ((t.0, product) ∷ []) x, distributes factor (cond (eqb t.0 x) t.1 (pos 0)) (coefficient rest x), times_if factor t.1 product t.0 x is);
+  sums = λ x. omega (
+    arith,
+    ints,
+    m.sums x,
+    coefficient-append out ((t.0, product) ∷ []) x,
+    distributes factor (cond (eqb t.0 x) t.1 (pos 0))
+        (coefficient rest x),
+    times_if factor t.1 product t.0 x is,
+  );
 }
 
-pub scale-leaves : (factor : ℤ) (all out : List (ℕ × ℤ)) (t : ℕ × ℤ) (rest : List (ℕ × ℤ)) → Scaling factor all out (t ∷ rest) → (InRange (factor *ℤ t.1) → ⊥) → (x : ℕ) × (InRange (factor *ℤ coefficient all x) → ⊥)
+pub scale-leaves : (factor : ℤ) (all out : List (ℕ × ℤ)) (t : ℕ × ℤ) (rest : List (ℕ × ℤ)) → Scaling factor all out (t ∷ rest) → (InRange (factor *ℤ t.1) → ⊥)
+    → (x : ℕ) × (InRange (factor *ℤ coefficient all x) → ⊥)
 scale-leaves factor all out t rest m leaves =
     let none = coefficient-above 0 m.place out t.0 m.out_normal m.left_normal.0 in
     let later = coefficient-below (t.0 + 1) (2 ^ 32) rest t.0 m.left_normal.2 (omega arith) in
@@ -103,15 +121,19 @@ scale-leaves factor all out t rest m leaves =
     let same : (factor *ℤ t.1) ≡ (factor *ℤ coefficient all t.0) = omega (arith, ints, m.sums t.0, none, ap (λ z. factor *ℤ z) this) in
     (t.0, λ h. leaves (rw same h))
 
-pub scale-push-at : (factor : ℤ) (all out xs : List (ℕ × ℤ)) (i : ℕ) (d : ℕ × ℤ) (product : ℤ) → Scaling factor all out (drop i xs) → i < length xs → factor ≢ pos 0 → product ≡ (factor *ℤ (get_or xs i d).1) → InRange product → Scaling factor all (out ++ ((get_or xs i d).0, product) ∷ []) (drop (i + 1) xs)
+pub scale-push-at : (factor : ℤ) (all out xs : List (ℕ × ℤ)) (i : ℕ) (d : ℕ × ℤ) (product : ℤ) → Scaling factor all out (drop i xs) → i < length xs
+    → factor ≢ pos 0 → product ≡ (factor *ℤ (get_or xs i d).1) → InRange product
+    → Scaling factor all (out ++ ((get_or xs i d).0, product) ∷ []) (drop (i + 1) xs)
 scale-push-at factor all out xs i d product m h ne is fits =
     scale-push factor all out (get_or xs i d) (drop (i + 1) xs) product (rw (drop_more xs i d h) at m) ne is fits
 
-pub scale-leaves-at : (factor : ℤ) (all out xs : List (ℕ × ℤ)) (i : ℕ) (d : ℕ × ℤ) → Scaling factor all out (drop i xs) → i < length xs → (InRange (factor *ℤ (get_or xs i d).1) → ⊥) → (x : ℕ) × (InRange (factor *ℤ coefficient all x) → ⊥)
+pub scale-leaves-at : (factor : ℤ) (all out xs : List (ℕ × ℤ)) (i : ℕ) (d : ℕ × ℤ) → Scaling factor all out (drop i xs) → i < length xs
+    → (InRange (factor *ℤ (get_or xs i d).1) → ⊥) → (x : ℕ) × (InRange (factor *ℤ coefficient all x) → ⊥)
 scale-leaves-at factor all out xs i d m h leaves =
     scale-leaves factor all out (get_or xs i d) (drop (i + 1) xs) (rw (drop_more xs i d h) at m) leaves
 
-pub scale-end : (factor : ℤ) (all out xs : List (ℕ × ℤ)) (i : ℕ) → Scaling factor all out (drop i xs) → length xs ≤ i → (x : ℕ) → coefficient out x ≡ (factor *ℤ coefficient all x)
+pub scale-end : (factor : ℤ) (all out xs : List (ℕ × ℤ)) (i : ℕ) → Scaling factor all out (drop i xs) → length xs ≤ i → (x : ℕ)
+    → coefficient out x ≡ (factor *ℤ coefficient all x)
 scale-end factor all out xs i m h x =
     let none : drop i xs ≡ [] = drop_of_length-le xs h in
     let sums = rw none at (m.sums x) in
@@ -123,7 +145,8 @@ pub record Looking (all left : List (ℕ × ℤ)) (x : ℕ) : Type 0 where
   pub normal : IsNormal place (2 ^ 32) left
   pub same : coefficient left x ≡ coefficient all x
 
-pub look-found : (all xs : List (ℕ × ℤ)) (i x : ℕ) (d : ℕ × ℤ) → Looking all (drop i xs) x → i < length xs → (get_or xs i d).0 ≡ x → ((get_or xs i d).1 ≡ coefficient all x) × InRange (get_or xs i d).1
+pub look-found : (all xs : List (ℕ × ℤ)) (i x : ℕ) (d : ℕ × ℤ) → Looking all (drop i xs) x → i < length xs → (get_or xs i d).0 ≡ x
+    → ((get_or xs i d).1 ≡ coefficient all x) × InRange (get_or xs i d).1
 look-found all xs i x d l h e =
     let m = rw (drop_more xs i d h) at l in
     let t = get_or xs i d in
@@ -154,7 +177,8 @@ sum-stays sum a b h (inr leaves) = leaves.1 (rw (← h.coefficients leaves.0) (c
 
 pub multiple-stays : (multiple a : Form) (factor : ℤ) → IsMultiple multiple a factor → MultipleOutOfRange a factor → ⊥
 multiple-stays multiple a factor h (inl leaves) = leaves (rw (← h.constant) multiple.constant_fits)
-multiple-stays multiple a factor h (inr leaves) = leaves.1 (rw (← h.coefficients leaves.0) (coefficient-fits 0 (2 ^ 32) multiple.terms leaves.0 multiple.normal))
+multiple-stays multiple a factor h (inr leaves) = leaves.1
+    (rw (← h.coefficients leaves.0) (coefficient-fits 0 (2 ^ 32) multiple.terms leaves.0 multiple.normal))
 
 pub negation-stays : (negation a : Form) → IsNegation negation a → InRange (neg_ℤ a.constant -ℤ pos 1)
 negation-stays negation a h = rw (← h.constant) negation.constant_fits

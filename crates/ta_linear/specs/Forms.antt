@@ -32,8 +32,10 @@ pub record IsNegation (negation a : Form) : Type 0 where
 
 -- what two lists have apart from a term that is taken off them
 pub record IsLeastTerm (left right : List (ℕ × ℤ)) (term : ℕ × ℤ) (left_rest right_rest : List (ℕ × ℤ)) : Type 0 where
-  pub sums : (x : ℕ) → ((if term.0 == x then term.1 else pos 0) +ℤ (coefficient left_rest x +ℤ coefficient right_rest x)) ≡ (coefficient left x +ℤ coefficient right x)
-  pub normal : (low high : ℕ) → IsNormal low high left → IsNormal low high right → (low ≤ term.0) × InRange term.1 × IsNormal (term.0 + 1) high left_rest × IsNormal (term.0 + 1) high right_rest
+  pub sums : (x : ℕ) → ((if term.0 == x then term.1 else pos 0) +ℤ (coefficient left_rest x +ℤ coefficient right_rest x)) ≡
+      (coefficient left x +ℤ coefficient right x)
+  pub normal : (low high : ℕ) → IsNormal low high left → IsNormal low high right → (low ≤ term.0) × InRange term.1 × IsNormal (term.0 + 1) high left_rest
+      × IsNormal (term.0 + 1) high right_rest
   pub shorter : length left_rest + length right_rest < length left + length right
 
 -- some coefficient of the sum of two normal lists leaves the range

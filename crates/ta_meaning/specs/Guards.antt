@@ -1,6 +1,7 @@
 -- Which comparisons are threshold guards, and how guards are numbered. Source: Konnov, Lazić, Veith, Widder, POPL 2017 (threshold guards,
 -- here also with sums of shared variables).
-use Rattle.std.specs.Prelude.{ℕ, ℤ, pos, negsuc, ◌≡◌, ◌↔◌, Bool, true, false, ◌&&◌, not, ltb, List, [], ◌∷◌, ◌++◌, length, drop, flat_map, slice_get, Some, IsBitSet, IsTrue, if◌then◌else◌}
+use Rattle.std.specs.Prelude.{ℕ, ℤ, pos, negsuc, ◌≡◌, ◌↔◌, Bool, true, false, ◌&&◌, not, ltb, List, [], ◌∷◌, ◌++◌, length, drop, flat_map, slice_get, Some}
+use Rattle.std.specs.Prelude.{IsBitSet, IsTrue, if◌then◌else◌}
 use Rattle.std.specs.Ordering.{int_eq}
 use Rattle.std.specs.List.{list_any}
 use lib.Pointwise.{pointwise}
@@ -41,8 +42,7 @@ with_row rows r = if has_row rows r then rows else rows ++ r ∷ []
 abbrev pub with_guard : ℕ → Guards → Linear → Guards
 with_guard parameters g r =
     if falls parameters r
-    then record { rise = g.rise; fall = with_row g.fall r }
-    else record { rise = with_row g.rise r; fall = g.fall }
+    then record { rise = g.rise; fall = with_row g.fall r } else record { rise = with_row g.rise r; fall = g.fall }
 
 abbrev pub with_guards : ℕ → Guards → List Linear → Guards
 with_guards parameters g [] = g
@@ -77,5 +77,4 @@ is_one_more parameters g (r ∷ rows) = not (is_no_threshold parameters (r ∷ r
 
 -- the mask names the guards that are among rows
 abbrev pub NamesGuards : List Linear → List Linear → ℕ → Type 0
-NamesGuards guards rows mask =
-    (i : ℕ) → IsBitSet mask i ↔ ((guard : Linear) × (slice_get guards i ≡ Some guard) × IsTrue (has_row rows guard))
+NamesGuards guards rows mask = (i : ℕ) → IsBitSet mask i ↔ ((guard : Linear) × (slice_get guards i ≡ Some guard) × IsTrue (has_row rows guard))

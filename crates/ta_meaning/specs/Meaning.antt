@@ -25,7 +25,8 @@ abbrev pub MeansUpdates : List (List ℕ) → List PlainUpdate → List (ℕ × 
 MeansUpdates shared [] updates = updates ≡ []
 MeansUpdates shared (u ∷ us) updates =
     ((number_of u.amount ≡ 0) × Contains shared u.name × MeansUpdates shared us updates)
-    ⊎ ((number_of u.amount ≢ 0) × ((x : ℕ) × (rest : List (ℕ × ℤ)) × (slice_get shared x ≡ Some u.name) × (updates ≡ (x, pos (number_of u.amount)) ∷ rest) × MeansUpdates shared us rest))
+    ⊎ ((number_of u.amount ≢ 0) × ((x : ℕ) × (rest : List (ℕ × ℤ)) × (slice_get shared x ≡ Some u.name) × (updates ≡ (x, pos (number_of u.amount)) ∷ rest)
+    × MeansUpdates shared us rest))
 
 -- a rule's locations, the masks of its guards among those of the file, and its updates
 pub record MeansRule (ns : Names) (guards : Guards) (r : PlainRule) (rule : Rule) : Type 0 where

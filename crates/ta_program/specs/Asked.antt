@@ -1,5 +1,5 @@
 -- What a command line asks for, and when a run of the program does it.
-use Rattle.std.specs.Prelude.{ℕ, ◌≡◌, Bool, true, false, List, codes, Option, None, Some}
+use Rattle.std.specs.Prelude.{◌++◌, ℕ, ◌≡◌, Bool, true, false, List, codes, Option, None, Some}
 use Rattle.std.specs.Str.{bytes_eq}
 use Rattle.ta_automaton.specs.declared.file.File.{File}
 use Rattle.ta_shelf.specs.Put.{Told}
@@ -49,8 +49,12 @@ abbrev pub Passes : Option (List ℕ) → Meaning → Type 0
 Passes file m = PassesWhere (λ told. LegalFile told file) m
 
 abbrev pub usage_line : List ℕ
-usage_line = codes
-    "tav: usage: verify FILE [--nodes N] [--certificate OUT] [--json], check FILE CERT, replay FILE RUN, compress FILE RUN, bench K, rest FILE [--nodes N] [--certificate OUT], rest-check FILE CERT, search FILE [--nodes N] [--certificate OUT] [--filled OUT2], show FILE, export FILE PATTERN START WORD, admit FILE PATTERN START WORD VALUES, version, --lazy with verify, rest or search, --silent NAMES with rest or rest-check, --json with rest, search, check, rest-check or replay, --pattern NAME with verify or rest, --all with verify, rest, check or rest-check, --parameters with check\n"
+usage_line =
+    codes "tav: usage: verify FILE [--nodes N] [--certificate OUT] [--json], check FILE CERT, replay FILE RUN, compress FILE RUN, bench K, "
+    ++ codes "rest FILE [--nodes N] [--certificate OUT], rest-check FILE CERT, search FILE [--nodes N] [--certificate OUT] [--filled OUT2], "
+    ++ codes "show FILE, export FILE PATTERN START WORD, admit FILE PATTERN START WORD VALUES, version, --lazy with verify, rest or search, "
+    ++ codes "--silent NAMES with rest or rest-check, --json with rest, search, check, rest-check or replay, --pattern NAME with verify or rest, "
+    ++ codes "--all with verify, rest, check or rest-check, --parameters with check\n"
 
 -- the words are no command's: nothing is read or written, and the line says so
 pub record OfNoCommand (number : ℕ) (before after : State) : Type 0 where

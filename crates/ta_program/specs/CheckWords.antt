@@ -1,8 +1,8 @@
 -- The command-line words of `check` and of `replay`.
-use Rattle.std.specs.Prelude.{Bool, false, List, [], ◌∷◌, ℕ, codes, is_some, option_and_then, option_map, Option}
+use Rattle.std.specs.Prelude.{Bool, false, List, [], ◌∷◌, ℕ, codes, option_and_then, option_map, Option}
 use Rattle.ta_program.specs.declared.proof_options.ProofOptions.{ProofOptions}
 use Rattle.ta_program.specs.Values.{file_name_of}
-use Rattle.ta_program.specs.Words.{Form, Taken, behind_name, flag, option_value, plain_of, taken_by}
+use Rattle.ta_program.specs.Words.{Form, Taken, asked_by, behind_name, flag, is_given, plain_of}
 
 -- what `check` asks for: the names of FILE and of CERT, whether all patterns are to be proved, and what is to be printed
 pub record CheckWords : Type 0 where
@@ -15,18 +15,17 @@ check_form = record { plain = 2; options = flag (codes "--all") ∷ flag (codes 
 
 abbrev pub check_taken : Taken → Option CheckWords
 check_taken taken =
-    option_and_then (λ file.
-    option_map (λ other.
-    record { file = file; other = other; options = record { all = is_some (option_value taken 0); parameters = is_some (option_value taken 1); json = is_some (option_value taken 2) } })
+    option_and_then (λ file. option_map (λ other.
+    record { file = file; other = other; options = record { all = is_given taken 0; parameters = is_given taken 1; json = is_given taken 2 } })
     (file_name_of (plain_of taken 1))) (file_name_of (plain_of taken 0))
 
 -- the request of the words after the command's name
 abbrev pub check_words : List (List ℕ) → Option CheckWords
-check_words words = option_and_then check_taken (taken_by check_form words)
+check_words = asked_by check_form check_taken
 
 -- `check FILE CERT [--all] [--parameters] [--json]`
 abbrev pub check_of : List (List ℕ) → Option CheckWords
-check_of = behind_name (codes "check") check_words
+check_of = behind_name (codes "check") (asked_by check_form check_taken)
 
 -- no option
 abbrev pub no_options : ProofOptions
@@ -43,13 +42,13 @@ replay_form = record { plain = 2; options = flag (codes "--json") ∷ [] }
 
 abbrev pub replay_taken : Taken → Option ReplayWords
 replay_taken taken =
-    option_and_then (λ file. option_map (λ other. record { file = file; other = other; json = is_some (option_value taken 0) }) (file_name_of (plain_of taken 1)))
+    option_and_then (λ file. option_map (λ other. record { file = file; other = other; json = is_given taken 0 }) (file_name_of (plain_of taken 1)))
     (file_name_of (plain_of taken 0))
 
 -- the request of the words after the command's name
 abbrev pub replay_words : List (List ℕ) → Option ReplayWords
-replay_words words = option_and_then replay_taken (taken_by replay_form words)
+replay_words = asked_by replay_form replay_taken
 
 -- `replay FILE RUN [--json]`
 abbrev pub replay_of : List (List ℕ) → Option ReplayWords
-replay_of = behind_name (codes "replay") replay_words
+replay_of = behind_name (codes "replay") (asked_by replay_form replay_taken)

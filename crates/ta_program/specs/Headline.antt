@@ -78,11 +78,18 @@ pub record ShownOccurs (view : View) (name run_name : List ℕ) : Type 0 where
   pub occurs : runs.Occurs file.automaton pattern first (unit_steps run.lines)
 
 -- what each status claims, of what is seen in the calls of the run and in the files
-pub record StatusTells (number : ℕ) (words : List (List ℕ)) (files : Option Told) (calls calls' : List Event) (written written' : Option (List ℕ)) : Type 0 where
-  pub safe : (asked : VerifyWords) → verify_of words ≡ Some asked → number ≡ 0 → Acts (may_put asked.out) (λ read made. EachPatternSafe (seen files read) asked.file asked.pattern) calls calls'
-  pub occurs : (asked : VerifyWords) → verify_of words ≡ Some asked → number ≡ 1 → Acts (may_put asked.out) (λ read made. SomePatternOccurs (seen files read) asked.file asked.pattern) calls calls'
-  pub proved : (asked : CheckWords) → check_of words ≡ Some asked → number ≤ 2 → Grew (λ read. EachPrinted runs.Safe (codes "proved") (seen files read) asked.file written written') calls calls'
-  pub rest_safe : (asked : RestWords) → rest_of words ≡ Some asked → asked.silent ≡ None → number ≤ 2 → Acts (may_put asked.out) (λ read made. EachPrinted RestSafe (codes "rest safe, ") (seen files read) asked.file written written') calls calls'
-  pub rest_proved : (asked : RestCheckWords) → rest_check_of words ≡ Some asked → asked.silent ≡ None → number ≤ 2 → Grew (λ read. EachPrinted RestSafe (codes "rest proved") (seen files read) asked.file written written') calls calls'
-  pub safe_lines : (asked : VerifyWords) → verify_of words ≡ Some asked → asked.json ≡ false → number ≤ 2 → Acts (may_put asked.out) (λ read made. EachPrinted runs.Safe (codes "safe, ") (seen files read) asked.file written written') calls calls'
-  pub shown : (asked : ReplayWords) → replay_of words ≡ Some asked → number ≡ 0 → Grew (λ read. ShownOccurs (seen files read) asked.file asked.other) calls calls'
+pub record StatusTells (exit : ℕ) (words : List (List ℕ)) (files : Option Told) (calls calls' : List Event) (written written' : Option (List ℕ)) : Type 0 where
+  pub safe : (asked : VerifyWords) → verify_of words ≡ Some asked → exit ≡ 0
+      → Acts (may_put asked.out) (λ read made. EachPatternSafe (seen files read) asked.file asked.pattern) calls calls'
+  pub occurs : (asked : VerifyWords) → verify_of words ≡ Some asked → exit ≡ 1
+      → Acts (may_put asked.out) (λ read made. SomePatternOccurs (seen files read) asked.file asked.pattern) calls calls'
+  pub proved : (asked : CheckWords) → check_of words ≡ Some asked → exit ≤ 2
+      → Grew (λ read. EachPrinted runs.Safe (codes "proved") (seen files read) asked.file written written') calls calls'
+  pub rest_safe : (asked : RestWords) → rest_of words ≡ Some asked → asked.silent ≡ None → exit ≤ 2
+      → Acts (may_put asked.out) (λ read made. EachPrinted RestSafe (codes "rest safe, ") (seen files read) asked.file written written') calls calls'
+  pub rest_proved : (asked : RestCheckWords) → rest_check_of words ≡ Some asked → asked.silent ≡ None → exit ≤ 2
+      → Grew (λ read. EachPrinted RestSafe (codes "rest proved") (seen files read) asked.file written written') calls calls'
+  pub safe_lines : (asked : VerifyWords) → verify_of words ≡ Some asked → asked.json ≡ false → exit ≤ 2
+      → Acts (may_put asked.out) (λ read made. EachPrinted runs.Safe (codes "safe, ") (seen files read) asked.file written written') calls calls'
+  pub shown : (asked : ReplayWords) → replay_of words ≡ Some asked → exit ≡ 0
+      → Grew (λ read. ShownOccurs (seen files read) asked.file asked.other) calls calls'

@@ -45,68 +45,76 @@ use Rattle.ta_program.specs.WordAsked.{WordAsked}
 -- verdicts give the status, and the output gained the report: 1 if some pattern is unsafe, otherwise 2 if some pattern is unknown,
 -- otherwise 0
 abbrev pub VerifyReports : ℕ → List (List ℕ) → Option Told → List Event → List Event → Option (List ℕ) → Option (List ℕ) → Type 0
-VerifyReports number words files calls calls' written written' =
-    (asked : VerifyWords) → verify_of words ≡ Some asked → number ≤ 2
-    → Acts (may_put asked.out) (λ read made. ReportHolds number (seen files read) asked written written') calls calls'
+VerifyReports exit words files calls calls' written written' =
+    (asked : VerifyWords) → verify_of words ≡ Some asked → exit ≤ 2
+    → Acts (may_put asked.out) (λ read made. ReportHolds exit (seen files read) asked written written') calls calls'
 
 -- `verify FILE --certificate OUT` with status 0, 1 or 2: the report holds, OUT holds the certificate of the patterns that it calls safe,
 -- which `check` accepts as one of exactly these, and every other file is unchanged; the log records that exactly this text was put in the
 -- place of OUT, whole
 abbrev pub CertificateWritten : ℕ → List (List ℕ) → Option Told → Option Told → List Event → List Event → Option (List ℕ) → Option (List ℕ) → Type 0
-CertificateWritten number words files files' calls calls' written written' =
-    (asked : VerifyWords) (out : List ℕ) → verify_of words ≡ Some asked → asked.out ≡ Some out → number ≤ 2
-    → Acts (may_put asked.out) (λ read made. CertificateStands number (seen files read) asked out files files' written written' made) calls calls'
+CertificateWritten exit words files files' calls calls' written written' =
+    (asked : VerifyWords) (out : List ℕ) → verify_of words ≡ Some asked → asked.out ≡ Some out → exit ≤ 2
+    → Acts (may_put asked.out) (λ read made. CertificateStands exit (seen files read) asked out files files' written written' made) calls calls'
 
 -- `check FILE CERT` with status 0, 1 or 2, whatever its options: FILE is legal, CERT is a certificate of it, each pattern that it proves is
 -- safe, and the output gained the text that says which patterns these are, with what is known of the parameters, where that is asked for.
 -- The status is 2 exactly if `--all` is asked for and some pattern is not proved, or there is none, or no parameters are known that have an
 -- initial configuration; otherwise it is 0. So with `--all` and 0 FILE has patterns, each of them is safe, and some initial configuration
 -- exists
-pub record CheckProves (number : ℕ) (words : List (List ℕ)) (files : Option Told) (calls calls' : List Event) (written written' : Option (List ℕ)) : Type 0 where
-  pub holds : (asked : CheckWords) → check_of words ≡ Some asked → number ≤ 2 → Grew (λ read. CheckHolds number (seen files read) asked.file asked.other asked.options written written') calls calls'
-  pub every : (asked : CheckWords) → check_of words ≡ Some asked → asked.options.all ≡ true → number ≡ 0 → Grew (λ read. EveryPattern runs.Safe (seen files read) asked.file) calls calls'
+pub record CheckProves (exit : ℕ) (words : List (List ℕ)) (files : Option Told) (calls calls' : List Event) (written written' : Option (List ℕ)) : Type 0 where
+  pub holds : (asked : CheckWords) → check_of words ≡ Some asked → exit ≤ 2
+      → Grew (λ read. CheckHolds exit (seen files read) asked.file asked.other asked.options written written') calls calls'
+  pub every : (asked : CheckWords) → check_of words ≡ Some asked → asked.options.all ≡ true → exit ≡ 0
+      → Grew (λ read. EveryPattern runs.Safe (seen files read) asked.file) calls calls'
 
 -- `compress FILE RUN` with status 0: FILE is legal, RUN is the text of a run that can be compressed, and the output gained the text
 -- of the compressed run, which shows the pattern, marks the same events at the same configurations, and is short. If known files have all
 -- that, the status is 0; if the run is replayed and has few steps, but a guard leaves the range on its way, it is 4; 6 and 7 aside
-pub record RunShortens (number : ℕ) (words : List (List ℕ)) (files : Option Told) (calls calls' : List Event) (written written' : Option (List ℕ)) : Type 0 where
-  pub holds : (asked : TwoNames) → compress_of words ≡ Some asked → number ≡ 0 → Grew (λ read. CompressHolds (seen files read) asked.file asked.other written written') calls calls'
-  pub exact : (asked : TwoNames) (told : Told) → compress_of words ≡ Some asked → files ≡ Some told → CanCompress told asked → (number ≡ 0) ⊎ ((number ≡ 6) ⊎ (number ≡ 7))
-  pub outside : (asked : TwoNames) (told : Told) (line : ℕ) → compress_of words ≡ Some asked → files ≡ Some told → LeavesRange told asked line → (number ≡ 4) ⊎ ((number ≡ 6) ⊎ (number ≡ 7))
+pub record RunShortens (exit : ℕ) (words : List (List ℕ)) (files : Option Told) (calls calls' : List Event) (written written' : Option (List ℕ)) : Type 0 where
+  pub holds : (asked : TwoNames) → compress_of words ≡ Some asked → exit ≡ 0
+      → Grew (λ read. CompressHolds (seen files read) asked.file asked.other written written') calls calls'
+  pub exact : (asked : TwoNames) (told : Told) → compress_of words ≡ Some asked → files ≡ Some told → CanCompress told asked
+      → (exit ≡ 0) ⊎ ((exit ≡ 6) ⊎ (exit ≡ 7))
+  pub outside : (asked : TwoNames) (told : Told) (line : ℕ) → compress_of words ≡ Some asked → files ≡ Some told → LeavesRange told asked line
+      → (exit ≡ 4) ⊎ ((exit ≡ 6) ⊎ (exit ≡ 7))
 
 -- `replay FILE RUN` with status 0: FILE is legal, RUN is the text of a run that shows its pattern, and the output gained the text
 -- that says so
 abbrev pub ReplayShows : ℕ → List (List ℕ) → Option Told → List Event → List Event → Option (List ℕ) → Option (List ℕ) → Type 0
-ReplayShows number words files calls calls' written written' =
-    (asked : ReplayWords) → replay_of words ≡ Some asked → number ≡ 0
+ReplayShows exit words files calls calls' written written' =
+    (asked : ReplayWords) → replay_of words ≡ Some asked → exit ≡ 0
     → Grew (λ read. ReplayHolds (seen files read) asked.file asked.other asked.json written written') calls calls'
 
 -- `bench K` with status 0 or 2: the automaton with this number was verified, and the output gained the lines that say so; 0 if its pattern
 -- is safe, and 2 if it is unknown. It never ends with 1, 3 or 4
-pub record Benches (number : ℕ) (words : List (List ℕ)) (written written' : Option (List ℕ)) : Type 0 where
-  pub holds : (k : ℕ) → bench_of words ≡ Some k → number ≤ 2 → BenchHolds number k written written'
-  pub others : (k : ℕ) → bench_of words ≡ Some k → (number ≢ 1) × (number ≢ 3) × (number ≢ 4)
+pub record Benches (exit : ℕ) (words : List (List ℕ)) (written written' : Option (List ℕ)) : Type 0 where
+  pub holds : (k : ℕ) → bench_of words ≡ Some k → exit ≤ 2 → BenchHolds exit k written written'
+  pub others : (k : ℕ) → bench_of words ≡ Some k → (exit ≢ 1) × (exit ≢ 3) × (exit ≢ 4)
 
 -- `export FILE PATTERN START WORD` with status 0: FILE is legal and has the schema, and the output gained a text that denotes, of all lists
 -- of integers, exactly those that are natural and solve the schema's system without bounds
 abbrev pub Exports : ℕ → List (List ℕ) → Option Told → List Event → List Event → Option (List ℕ) → Option (List ℕ) → Type 0
-Exports number words files calls calls' written written' =
-    (asked : WordAsked) → export_of words ≡ Some asked → number ≡ 0
+Exports exit words files calls calls' written written' =
+    (asked : WordAsked) → export_of words ≡ Some asked → exit ≡ 0
     → Grew (λ read. ExportHolds (seen files read) asked written written') calls calls'
 
 -- `admit FILE PATTERN START WORD VALUES` with status 0: FILE is legal and has the complete schema, VALUES solve its system, and the output
 -- gained the text of their run, which shows the pattern. If known files have all that, the status is 0, 6 and 7 aside
-pub record Admitting (number : ℕ) (words : List (List ℕ)) (files : Option Told) (calls calls' : List Event) (written written' : Option (List ℕ)) : Type 0 where
-  pub holds : (all : AdmitAsked) → admit_of words ≡ Some all → number ≡ 0 → Grew (λ read. AdmitHolds (seen files read) all written written') calls calls'
-  pub exact : (all : AdmitAsked) (told : Told) → admit_of words ≡ Some all → files ≡ Some told → IsAdmitted told all → (number ≡ 0) ⊎ ((number ≡ 6) ⊎ (number ≡ 7))
+pub record Admitting (exit : ℕ) (words : List (List ℕ)) (files : Option Told) (calls calls' : List Event) (written written' : Option (List ℕ)) : Type 0 where
+  pub holds : (all : AdmitAsked) → admit_of words ≡ Some all → exit ≡ 0 → Grew (λ read. AdmitHolds (seen files read) all written written') calls calls'
+  pub exact : (all : AdmitAsked) (told : Told) → admit_of words ≡ Some all → files ≡ Some told → IsAdmitted told all → (exit ≡ 0) ⊎ ((exit ≡ 6) ⊎ (exit ≡ 7))
 
 -- `rest FILE` with status 0, 1 or 2, whatever its options: FILE is legal and its cycles are self-loops, so the number of other steps of a
 -- run is bounded; what is said of the parameters holds, each verdict on runs that come to rest holds, the verdicts give the status, and the
 -- output gained the report. With `--certificate OUT`, OUT holds the certificate of the patterns that are called safe at rest, which
 -- `rest-check` accepts as one of exactly these, and every other file is unchanged
-pub record RestsReport (number : ℕ) (words : List (List ℕ)) (files files' : Option Told) (calls calls' : List Event) (written written' : Option (List ℕ)) : Type 0 where
-  pub report : (asked : RestWords) → rest_of words ≡ Some asked → number ≤ 2 → Acts (may_put asked.out) (λ read made. RestReportHolds number (seen files read) asked written written') calls calls'
-  pub certificate : (asked : RestWords) (out : List ℕ) → rest_of words ≡ Some asked → asked.out ≡ Some out → number ≤ 2 → Acts (may_put asked.out) (λ read made. RestCertificateStands number (seen files read) asked out files files' written written' made) calls calls'
+pub record RestsReport (exit : ℕ) (words : List (List ℕ)) (files files' : Option Told) (calls calls' : List Event)
+    (written written' : Option (List ℕ)) : Type 0 where
+  pub report : (asked : RestWords) → rest_of words ≡ Some asked → exit ≤ 2
+      → Acts (may_put asked.out) (λ read made. RestReportHolds exit (seen files read) asked written written') calls calls'
+  pub certificate : (asked : RestWords) (out : List ℕ) → rest_of words ≡ Some asked → asked.out ≡ Some out → exit ≤ 2
+      → Acts (may_put asked.out) (λ read made. RestCertificateStands exit (seen files read) asked out files files' written written' made) calls calls'
 
 -- `rest-check FILE CERT` with status 0, 1 or 2, whatever its options: FILE is legal and its cycles are self-loops, CERT is a certificate for
 -- its endings, no run comes to rest where the last event of a pattern that CERT proves happens, and the output gained the text that says
@@ -114,9 +122,11 @@ pub record RestsReport (number : ℕ) (words : List (List ℕ)) (files files' : 
 -- their places are silent. The status is 2 exactly if `--all` is asked for and some pattern is not proved, or there is none, or no
 -- parameters are known that have an initial configuration; otherwise it is 0. So with `--all` and 0 FILE has patterns, each of them is safe
 -- at rest, and some initial configuration exists
-pub record RestProves (number : ℕ) (words : List (List ℕ)) (files : Option Told) (calls calls' : List Event) (written written' : Option (List ℕ)) : Type 0 where
-  pub holds : (asked : RestCheckWords) → rest_check_of words ≡ Some asked → number ≤ 2 → Grew (λ read. RestCheckHolds number (seen files read) asked.file asked.other asked.silent asked.options written written') calls calls'
-  pub every : (asked : RestCheckWords) → rest_check_of words ≡ Some asked → asked.options.all ≡ true → number ≡ 0 → Grew (λ read. EveryPattern (RestSafeBut asked.silent) (seen files read) asked.file) calls calls'
+pub record RestProves (exit : ℕ) (words : List (List ℕ)) (files : Option Told) (calls calls' : List Event) (written written' : Option (List ℕ)) : Type 0 where
+  pub holds : (asked : RestCheckWords) → rest_check_of words ≡ Some asked → exit ≤ 2
+      → Grew (λ read. RestCheckHolds exit (seen files read) asked.file asked.other asked.silent asked.options written written') calls calls'
+  pub every : (asked : RestCheckWords) → rest_check_of words ≡ Some asked → asked.options.all ≡ true → exit ≡ 0
+      → Grew (λ read. EveryPattern (RestSafeBut asked.silent) (seen files read) asked.file) calls calls'
 
 -- `search FILE` with status 0, 1 or 2, whatever its options: FILE is a template, and the output gained the text of the search for values of
 -- its holes, in lines or in JSON: its vectors were tried in order, each is listed once with an outcome that holds, up to the first that is
@@ -124,23 +134,23 @@ pub record RestProves (number : ℕ) (words : List (List ℕ)) (files : Option T
 -- OUT a certificate of it, which `check` accepts as one of all its patterns. With 1 and 2 every file is unchanged; 2 means that some outcome
 -- is unknown
 abbrev pub Searches : ℕ → List (List ℕ) → Option Told → Option Told → List Event → List Event → Option (List ℕ) → Option (List ℕ) → Type 0
-Searches number words files files' calls calls' written written' =
-    (asked : SearchWords) → search_of words ≡ Some asked → number ≤ 2
-    → Acts (found_names asked) (λ read made. SearchHolds number (seen files read) asked files files' written written' made) calls calls'
+Searches exit words files files' calls calls' written written' =
+    (asked : SearchWords) → search_of words ≡ Some asked → exit ≤ 2
+    → Acts (found_names asked) (λ read made. SearchHolds exit (seen files read) asked files files' written written' made) calls calls'
 
 -- `show FILE` with status 0: FILE is legal, and the output gained the text of the file that its bytes mean, and of the orders of its guards
 -- that are found; and behind it the unknowns of its patterns' nodes without facts, by name. No two files have the same text, and none
 -- begins with that of another (`shows_differ` of ta_report); the names are those of the unknowns (`unknowns_are_named`)
 abbrev pub ShowsFile : ℕ → List (List ℕ) → Option Told → List Event → List Event → Option (List ℕ) → Option (List ℕ) → Type 0
-ShowsFile number words files calls calls' written written' =
-    (name : List ℕ) → show_of words ≡ Some name → number ≡ 0
+ShowsFile exit words files calls calls' written written' =
+    (name : List ℕ) → show_of words ≡ Some name → exit ≡ 0
     → Grew (λ read. ShowHolds (seen files read) name written written') calls calls'
 
 -- `verify FILE` with status 0, its words in any order: if `show FILE` prints a text for FILE's bytes, the patterns of each file with this
 -- text, or the one that is asked for, occur in no run
 abbrev pub SafeAsShown : ℕ → List (List ℕ) → Option Told → List Event → List Event → Type 0
-SafeAsShown number words files calls calls' =
-    (asked : VerifyWords) → verify_of words ≡ Some asked → number ≡ 0
+SafeAsShown exit words files calls calls' =
+    (asked : VerifyWords) → verify_of words ≡ Some asked → exit ≡ 0
     → Acts (may_put asked.out) (λ read made. SafeAsPrinted (seen files read) asked.file asked.pattern) calls calls'
 
 -- with status 0, 1 or 2 of `verify` a pattern that the report calls safe, by its line or in JSON, is safe, and one that it calls unsafe
@@ -150,32 +160,45 @@ SafeAsShown number words files calls calls' =
 -- infinite run; of one that is `rest unsafe` the printed run comes to rest so. With `--silent NAMES` the same holds of quiet rest, and of
 -- runs that are fair where these are silent. With status 0, 1 or 2 of `search`, by lines or in JSON, each outcome that it lists is so of the
 -- filled text, and it ends with `found` exactly with 0; with status 0 or 2 of `bench` the pattern of its automaton is safe
-pub record PrintedHolds (number : ℕ) (words : List (List ℕ)) (files : Option Told) (calls calls' : List Event) (written written' : Option (List ℕ)) : Type 0 where
-  pub safe : (asked : VerifyWords) → verify_of words ≡ Some asked → number ≤ 2 → Acts (may_put asked.out) (λ read made. EachToldSafe runs.Safe false asked.json (seen files read) asked.file written written') calls calls'
-  pub unsafe_ : (asked : VerifyWords) → verify_of words ≡ Some asked → number ≤ 2 → Acts (may_put asked.out) (λ read made. EachPrintedUnsafe runs.Occurs (telling_of false asked.json) (seen files read) asked.file written written') calls calls'
-  pub proved : (asked : CheckWords) → check_of words ≡ Some asked → number ≤ 2 → Grew (λ read. EachToldProved runs.Safe asked.options.json false (seen files read) asked.file written written') calls calls'
-  pub rest_safe : (asked : RestWords) → rest_of words ≡ Some asked → number ≤ 2 → Acts (may_put asked.out) (λ read made. EachToldSafe (RestSafeBut asked.silent) true asked.json (seen files read) asked.file written written') calls calls'
-  pub rest_unsafe : (asked : RestWords) → rest_of words ≡ Some asked → number ≤ 2 → Acts (may_put asked.out) (λ read made. EachPrintedUnsafe (RestOccursBut asked.silent) (telling_of true asked.json) (seen files read) asked.file written written') calls calls'
-  pub rest_proved : (asked : RestCheckWords) → rest_check_of words ≡ Some asked → number ≤ 2 → Grew (λ read. EachToldProved (RestSafeBut asked.silent) asked.options.json true (seen files read) asked.file written written') calls calls'
-  pub rest_fair : (asked : RestWords) → rest_of words ≡ Some asked → number ≤ 2 → Acts (may_put asked.out) (λ read made. EachToldSafe (FairlySafeBut asked.silent) true asked.json (seen files read) asked.file written written') calls calls'
-  pub rest_proved_fair : (asked : RestCheckWords) → rest_check_of words ≡ Some asked → number ≤ 2 → Grew (λ read. EachToldProved (FairlySafeBut asked.silent) asked.options.json true (seen files read) asked.file written written') calls calls'
-  pub tried : (asked : SearchWords) → search_of words ≡ Some asked → number ≤ 2 → Acts (found_names asked) (λ read made. EachTried number (seen files read) asked.json asked.file written written') calls calls'
-  pub benched : (k : ℕ) → bench_of words ≡ Some k → number ≤ 2 → FamilySafe k
+pub record PrintedHolds (exit : ℕ) (words : List (List ℕ)) (files : Option Told) (calls calls' : List Event) (written written' : Option (List ℕ)) : Type 0 where
+  pub safe : (asked : VerifyWords) → verify_of words ≡ Some asked → exit ≤ 2
+      → Acts (may_put asked.out) (λ read made. EachToldSafe runs.Safe false asked.json (seen files read) asked.file written written') calls calls'
+  pub unsafe_ : (asked : VerifyWords) → verify_of words ≡ Some asked → exit ≤ 2
+      → Acts (may_put asked.out)
+      (λ read made. EachPrintedUnsafe runs.Occurs (telling_of false asked.json) (seen files read) asked.file written written') calls calls'
+  pub proved : (asked : CheckWords) → check_of words ≡ Some asked → exit ≤ 2
+      → Grew (λ read. EachToldProved runs.Safe asked.options.json false (seen files read) asked.file written written') calls calls'
+  pub rest_safe : (asked : RestWords) → rest_of words ≡ Some asked → exit ≤ 2
+      → Acts (may_put asked.out)
+      (λ read made. EachToldSafe (RestSafeBut asked.silent) true asked.json (seen files read) asked.file written written') calls calls'
+  pub rest_unsafe : (asked : RestWords) → rest_of words ≡ Some asked → exit ≤ 2
+      → Acts (may_put asked.out)
+      (λ read made. EachPrintedUnsafe (RestOccursBut asked.silent) (telling_of true asked.json) (seen files read) asked.file written written') calls calls'
+  pub rest_proved : (asked : RestCheckWords) → rest_check_of words ≡ Some asked → exit ≤ 2
+      → Grew (λ read. EachToldProved (RestSafeBut asked.silent) asked.options.json true (seen files read) asked.file written written') calls calls'
+  pub rest_fair : (asked : RestWords) → rest_of words ≡ Some asked → exit ≤ 2
+      → Acts (may_put asked.out)
+      (λ read made. EachToldSafe (FairlySafeBut asked.silent) true asked.json (seen files read) asked.file written written') calls calls'
+  pub rest_proved_fair : (asked : RestCheckWords) → rest_check_of words ≡ Some asked → exit ≤ 2
+      → Grew (λ read. EachToldProved (FairlySafeBut asked.silent) asked.options.json true (seen files read) asked.file written written') calls calls'
+  pub tried : (asked : SearchWords) → search_of words ≡ Some asked → exit ≤ 2
+      → Acts (found_names asked) (λ read made. EachTried exit (seen files read) asked.json asked.file written written') calls calls'
+  pub benched : (k : ℕ) → bench_of words ≡ Some k → exit ≤ 2 → FamilySafe k
 
 -- 5 exactly if the words are no command's
-pub record UsageExactly (number : ℕ) (asked : Asked) : Type 0 where
-  pub no_command : number ≡ 5 → IsNoCommand asked
-  pub command : number ≢ 5 → ¬ IsNoCommand asked
+pub record UsageExactly (exit : ℕ) (asked : Asked) : Type 0 where
+  pub no_command : exit ≡ 5 → IsNoCommand asked
+  pub command : exit ≢ 5 → ¬ IsNoCommand asked
 
 -- what is printed on standard error
 abbrev pub Tellings : Asked → ℕ → State → State → Type 0
-Tellings NoCommand number before after = (number ≡ 5) × Tells usage_line before.err after.err
-Tellings (Command legal m) number before after = Telling m number before after
+Tellings NoCommand exit before after = (exit ≡ 5) × Tells usage_line before.err after.err
+Tellings (Command legal m) exit before after = Telling m exit before after
 
 -- if the files are known, the status is the one that they determine, 6 and 7 aside
 abbrev pub ExactlySo : ℕ → Asked → Option Told → Type 0
-ExactlySo number NoCommand files = Unit {0}
-ExactlySo number (Command legal m) files = Exact m files number
+ExactlySo exit NoCommand files = Unit {0}
+ExactlySo exit (Command legal m) files = Exact m files exit
 
 -- the calls are those of the command that is asked for, and no others: those that read, unless an output cannot be begun, and those on
 -- staged files of its outputs; no call creates a file or appends to one in its place
@@ -190,10 +213,10 @@ put_by (Command legal m) = m.puts
 
 -- every file is unchanged, except OUT if `--certificate OUT` is asked for, and OUT2 if `--filled OUT2` is; with 3, 4 and 5 these are
 -- unchanged too, and with 6 and 7 if no publishing was refused
-pub record KeepsFiles (number : ℕ) (words : List (List ℕ)) (before after : ShelfState) : Type 0 where
+pub record KeepsFiles (exit : ℕ) (words : List (List ℕ)) (before after : ShelfState) : Type 0 where
   pub others : KeptBut (put_by (request_of words)) before.files after.files
-  pub refused : 3 ≤ number → number ≤ 5 → after.files ≡ before.files
-  pub spared : Spares (put_by (request_of words)) number before after
+  pub refused : 3 ≤ exit → exit ≤ 5 → after.files ≡ before.files
+  pub spared : Spares (put_by (request_of words)) exit before after
 
 -- before a call changes a file, the reads of this run showed FILE's bytes, that no output held just these, and that two outputs lead to
 -- different places
@@ -208,8 +231,8 @@ pub record SparesRead (words : List (List ℕ)) (files : Option Told) (calls cal
 
 -- if FILE is legal, the status is neither 3 nor 5
 abbrev pub PassesLegal : Asked → ℕ → Option Told → Type 0
-PassesLegal NoCommand number files = Unit {0}
-PassesLegal (Command legal m) number files = (told : Told) → files ≡ Some told → legal told → (number ≢ 3) × (number ≢ 5)
+PassesLegal NoCommand exit files = Unit {0}
+PassesLegal (Command legal m) exit files = (told : Told) → files ≡ Some told → legal told → (exit ≢ 3) × (exit ≢ 5)
 
 -- known files hold the same under FILE's name and under that of OUT, if it is given
 abbrev pub HoldsSame : Told → List ℕ → Option (List ℕ) → Type 0
@@ -218,33 +241,36 @@ HoldsSame told file (Some out) = told out ≡ told file
 
 -- a report of verdicts ends with 2 only if a verdict holds that leaves a pattern unknown, and with 4 exactly if a certificate is asked for
 -- that is too long or whose file holds what was read, 6 and 7 aside
-pub record EndsSo (number : ℕ) (out : Option (List ℕ)) (Known Long Same : Type 0) : Type 0 where
-  pub known : Known → number ≢ 2
-  pub fits : number ≡ 4 → IsSome out × (Long ⊎ Same)
-  pub long : IsSome out → Long → (number ≡ 4) ⊎ ((number ≡ 6) ⊎ (number ≡ 7))
-  pub same : Same → (number ≡ 4) ⊎ ((number ≡ 6) ⊎ (number ≡ 7))
+pub record EndsSo (exit : ℕ) (out : Option (List ℕ)) (Known Long Same : Type 0) : Type 0 where
+  pub known : Known → exit ≢ 2
+  pub fits : exit ≡ 4 → IsSome out × (Long ⊎ Same)
+  pub long : IsSome out → Long → (exit ≡ 4) ⊎ ((exit ≡ 6) ⊎ (exit ≡ 7))
+  pub same : Same → (exit ≡ 4) ⊎ ((exit ≡ 6) ⊎ (exit ≡ 7))
 
 -- the same for `verify`, if known files hold a legal FILE that has the pattern that is asked for
 abbrev pub ReportEnds : ℕ → Option Told → Option VerifyWords → Type 0
-ReportEnds number files words =
-    (told : Told) (asked : VerifyWords) (file : File) (pick : Pick) → files ≡ Some told → words ≡ Some asked → IsFile (in_files told) asked.file file
+ReportEnds exit files words =
+    (told : Told) (asked : VerifyWords) (file : File) (pick : Pick) → files ≡ Some told → words ≡ Some asked
+    → IsFile (in_files told) asked.file file
     → IsPick file asked.pattern pick
-    → EndsSo number asked.out (IsDecided asked file pick) (LongCertificate file pick asked.budget) (HoldsSame told asked.file asked.out)
+    → EndsSo exit asked.out (IsDecided asked file pick) (LongCertificate file pick asked.budget) (HoldsSame told asked.file asked.out)
 
 -- the same for `rest`, if the names may be silent in FILE
 abbrev pub RestReportEnds : ℕ → Option Told → Option RestWords → Type 0
-RestReportEnds number files words =
-    (told : Told) (asked : RestWords) (file : File) (places : List ℕ) (pick : Pick) → files ≡ Some told → words ≡ Some asked → IsFile (in_files told) asked.file file
+RestReportEnds exit files words =
+    (told : Told) (asked : RestWords) (file : File) (places : List ℕ) (pick : Pick) → files ≡ Some told → words ≡ Some asked
+    → IsFile (in_files told) asked.file file
     → AreSilent file.automaton asked.silent places → IsPick file asked.pattern pick
-    → EndsSo number asked.out (IsDecidedAtRest asked file (resting asked.budget places) pick) (LongAtRest file (resting asked.budget places) pick) (HoldsSame told asked.file asked.out)
+    → EndsSo exit asked.out (IsDecidedAtRest asked file (resting asked.budget places) pick) (LongAtRest file (resting asked.budget places) pick)
+    (HoldsSame told asked.file asked.out)
 
 -- a legal FILE passes; for `verify` and `rest`, one that has the pattern that is asked for; for `rest` and `rest-check`, one whose cycles
 -- are self-loops, with names that may be silent in it. With known files
 -- the status is neither 3 nor 5; if no call failed or stalled, it is not 6; for `verify` and `rest`, if no verdict holds that leaves a
 -- pattern unknown, it is not 2; and it is 4 exactly if the certificate that is asked for is too long, or its
 -- file holds what FILE does
-pub record Completes (number : ℕ) (words : List (List ℕ)) (before after : State) : Type 0 where
-  pub passes : PassesLegal (request_of words) number before.shelf.files
-  pub calm : ¬ Faulted before.shelf.faults after.shelf.faults → ¬ SinkFaltered before.out after.out → number ≢ 6
-  pub verify : ReportEnds number before.shelf.files (verify_of words)
-  pub rest : RestReportEnds number before.shelf.files (rest_of words)
+pub record Completes (exit : ℕ) (words : List (List ℕ)) (before after : State) : Type 0 where
+  pub passes : PassesLegal (request_of words) exit before.shelf.files
+  pub calm : ¬ Faulted before.shelf.faults after.shelf.faults → ¬ SinkFaltered before.out after.out → exit ≢ 6
+  pub verify : ReportEnds exit before.shelf.files (verify_of words)
+  pub rest : RestReportEnds exit before.shelf.files (rest_of words)

@@ -5,7 +5,7 @@ use Rattle.ta_program.specs.SilentNames.{names_of}
 use Rattle.ta_program.specs.Values.{file_name_of}
 use Rattle.ta_verdict.specs.declared.budget.Budget.{Budget}
 use Rattle.ta_program.specs.VerifyWords.{verify_form, verify_taken}
-use Rattle.ta_program.specs.Words.{Form, Taken, behind_name, flag, plain_of, taken_by, option_value, valued}
+use Rattle.ta_program.specs.Words.{Form, Taken, asked_by, behind_name, flag, is_given, plain_of, option_value, valued}
 
 -- what `rest` asks for: the same as `verify`, and the names that are to be silent, if they are given
 pub record RestWords : Type 0 where
@@ -27,24 +27,17 @@ quiet_names lazy names = if lazy || not (is_some names) then names_of names else
 
 abbrev pub rest_taken : Taken → Option RestWords
 rest_taken taken =
-    option_and_then (λ v. option_map (λ silent. record {
-      file = v.file;
-      budget = v.budget;
-      out = v.out;
-      silent = silent;
-      json = v.json;
-      pattern = v.pattern;
-      all = v.all;
-    })
+    option_and_then (λ v. option_map (λ silent.
+    record { file = v.file; budget = v.budget; out = v.out; silent = silent; json = v.json; pattern = v.pattern; all = v.all })
     (quiet_names v.budget.lazy (option_value taken 6))) (verify_taken taken)
 
 -- the request of the words after the command's name
 abbrev pub rest_words : List (List ℕ) → Option RestWords
-rest_words words = option_and_then rest_taken (taken_by rest_form words)
+rest_words = asked_by rest_form rest_taken
 
 -- `rest FILE [--nodes N] [--certificate OUT] [--lazy [--silent NAMES]] [--json] [--pattern NAME] [--all]`
 abbrev pub rest_of : List (List ℕ) → Option RestWords
-rest_of = behind_name (codes "rest") rest_words
+rest_of = behind_name (codes "rest") (asked_by rest_form rest_taken)
 
 -- what `rest-check` asks for: the names of FILE and of CERT, the names that are to be silent, whether all patterns are to be proved, and
 -- whether JSON is to be printed
@@ -59,16 +52,14 @@ rest_check_form = record { plain = 2; options = valued (codes "--silent") ∷ fl
 
 abbrev pub rest_check_taken : Taken → Option RestCheckWords
 rest_check_taken taken =
-    option_and_then (λ file.
-    option_and_then (λ other.
-    option_map (λ silent.
-    record { file = file; other = other; silent = silent; options = record { all = is_some (option_value taken 1); parameters = false; json = is_some (option_value taken 2) } })
+    option_and_then (λ file. option_and_then (λ other. option_map (λ silent.
+    record { file = file; other = other; silent = silent; options = record { all = is_given taken 1; parameters = false; json = is_given taken 2 } })
     (names_of (option_value taken 0))) (file_name_of (plain_of taken 1))) (file_name_of (plain_of taken 0))
 
 -- the request of the words after the command's name
 abbrev pub rest_check_words : List (List ℕ) → Option RestCheckWords
-rest_check_words words = option_and_then rest_check_taken (taken_by rest_check_form words)
+rest_check_words = asked_by rest_check_form rest_check_taken
 
 -- `rest-check FILE CERT [--silent NAMES] [--all] [--json]`
 abbrev pub rest_check_of : List (List ℕ) → Option RestCheckWords
-rest_check_of = behind_name (codes "rest-check") rest_check_words
+rest_check_of = behind_name (codes "rest-check") (asked_by rest_check_form rest_check_taken)

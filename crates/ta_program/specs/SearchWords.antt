@@ -1,8 +1,8 @@
 -- The command-line words of `search`.
-use Rattle.std.specs.Prelude.{ℕ, Bool, List, [], ◌∷◌, codes, is_some, option_and_then, option_map, Option}
+use Rattle.std.specs.Prelude.{ℕ, Bool, List, [], ◌∷◌, codes, option_and_then, option_map, Option}
 use Rattle.ta_verdict.specs.declared.budget.Budget.{Budget}
 use Rattle.ta_program.specs.Values.{budget_of, filled_of, file_name_of, out_of}
-use Rattle.ta_program.specs.Words.{Form, Taken, behind_name, flag, plain_of, taken_by, option_value, valued}
+use Rattle.ta_program.specs.Words.{Form, Taken, asked_by, behind_name, flag, is_given, plain_of, option_value, valued}
 
 -- what they ask for: the names of FILE, of OUT and of OUT2, as far as these are given, the budget for each pattern, and whether JSON is to be
 -- printed
@@ -27,18 +27,17 @@ search_taken taken =
     option_and_then (λ out.
     option_map (λ filled. record {
       file = file;
-      budget = record { nodes = nodes; lazy = is_some (option_value taken 3) };
+      budget = record { nodes = nodes; lazy = is_given taken 3 };
       out = out;
       filled = filled;
-      json =
-          is_some (option_value taken 4);
+      json = is_given taken 4;
     })
     (filled_of file out (option_value taken 2))) (out_of file (option_value taken 1))) (budget_of (option_value taken 0))) (file_name_of (plain_of taken 0))
 
 -- the request of the words after the command's name
 abbrev pub search_words : List (List ℕ) → Option SearchWords
-search_words words = option_and_then search_taken (taken_by search_form words)
+search_words = asked_by search_form search_taken
 
 -- `search FILE [--nodes N] [--certificate OUT] [--filled OUT2] [--lazy] [--json]`
 abbrev pub search_of : List (List ℕ) → Option SearchWords
-search_of = behind_name (codes "search") search_words
+search_of = behind_name (codes "search") (asked_by search_form search_taken)

@@ -13,7 +13,8 @@ file_name_of name = if nat_lt 0 (length name) then Some name else None
 
 -- whether a text is a budget of nodes: 1 to 10 digits, and its value within the limits
 abbrev pub is_budget : List ℕ → Bool
-is_budget text = nat_lt 0 (length text) && nat_le (length text) 10 && list_all is_ascii_digit text && nat_le 1 (digits_value 10 text) && nat_le (digits_value 10 text) MOST_NODES
+is_budget text = nat_lt 0 (length text) && nat_le (length text) 10 && list_all is_ascii_digit text && nat_le 1 (digits_value 10 text)
+    && nat_le (digits_value 10 text) MOST_NODES
 
 -- the budget that is asked for: 1,000,000 if none is given
 abbrev pub budget_of : Option (List ℕ) → Option ℕ
@@ -41,4 +42,6 @@ pub record TwoNames : Type 0 where
 
 -- two plain words that are names of files, and no option
 abbrev pub two_names : List (List ℕ) → Option TwoNames
-two_names words = option_and_then (λ taken. option_and_then (λ file. option_map (λ other. record { file = file; other = other }) (file_name_of (plain_of taken 1))) (file_name_of (plain_of taken 0))) (taken_by (record { plain = 2; options = [] }) words)
+two_names words = option_and_then
+    (λ taken. option_and_then (λ file. option_map (λ other. record { file = file; other = other }) (file_name_of (plain_of taken 1)))
+    (file_name_of (plain_of taken 0))) (taken_by (record { plain = 2; options = [] }) words)

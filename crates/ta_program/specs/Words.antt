@@ -1,5 +1,6 @@
 -- The words of a command line: plain words and options, taken from left to right.
-use Rattle.std.specs.Prelude.{ℕ, ◌+◌, ◌==◌, ◌||◌, nat_lt, Bool, true, false, List, [], ◌∷◌, ◌++◌, codes, length, get_or, slice_set, is_some, Option, None, Some, if◌then◌else◌, option_and_then}
+use Rattle.std.specs.Prelude.{ℕ, ◌+◌, ◌==◌, ◌||◌, nat_lt, Bool, true, false, List, [], ◌∷◌, ◌++◌, codes, length, get_or, slice_set, is_some, Option, None, Some}
+use Rattle.std.specs.Prelude.{if◌then◌else◌, option_and_then}
 use Rattle.std.specs.Str.{bytes_eq}
 
 -- an option of a command: its word, and whether a value belongs to it
@@ -49,9 +50,14 @@ plain_of taken number = get_or taken.plain number []
 abbrev pub option_value : Taken → ℕ → Option (List ℕ)
 option_value taken number = get_or taken.values number None
 
+-- whether the option with this number was given
+abbrev pub is_given : Taken → ℕ → Bool
+is_given taken number = is_some (option_value taken number)
+
 -- the value of the option, if it was not given before
 abbrev pub with_value : Taken → ℕ → List ℕ → Option Taken
-with_value taken number value = if is_some (option_value taken number) then None else Some (record taken { values = slice_set taken.values number (Some value); awaits = None })
+with_value taken number value =
+    if is_given taken number then None else Some (record taken { values = slice_set taken.values number (Some value); awaits = None })
 
 -- the rest of a word that begins with a text
 abbrev pub behind : List ℕ → List ℕ → Option (List ℕ)
@@ -70,13 +76,13 @@ abbrev pub with_word : List OptionForm → ℕ → ℕ → Taken → List ℕ �
 with_word [] number plain taken word = if is_dashed word then None else with_plain plain taken word
 with_word (o ∷ os) number plain taken word =
     if bytes_eq word o.word then (if o.valued then Some (record taken { awaits = Some number }) else with_value taken number [])
-    else otherwise (if o.valued then option_and_then (behind (codes "=")) (behind o.word word) else None) number taken (with_word os (number + 1) plain taken word)
+    else otherwise (if o.valued then option_and_then (behind (codes "=")) (behind o.word word) else None) number taken
+    (with_word os (number + 1) plain taken word)
 
 -- one more word, given the option whose value it is, if any; after `--` all words are plain
 abbrev pub take_by : Option ℕ → Form → Taken → List ℕ → Option Taken
 take_by (Some number) form taken word = if is_dashed word then None else with_value taken number word
-take_by None form taken word =
-    if taken.ended then with_plain form.plain taken word
+take_by None form taken word = if taken.ended then with_plain form.plain taken word
     else (if bytes_eq word (codes "--") then Some (record taken { ended = true }) else with_word form.options 0 form.plain taken word)
 
 -- all words, from left to right
@@ -91,6 +97,10 @@ whole plain taken = if is_some taken.awaits || nat_lt (length taken.plain) plain
 -- what the words of a form give
 abbrev pub taken_by : Form → List (List ℕ) → Option Taken
 taken_by form words = option_and_then (whole form.plain) (take_all form nothing words)
+
+-- what the words of a form ask for
+abbrev pub asked_by : {W : Type 0} → Form → (Taken → Option W) → List (List ℕ) → Option W
+asked_by form read words = option_and_then read (taken_by form words)
 
 -- what a command line asks for after the command's name, if its words are those of this command
 abbrev pub behind_name : {W : Type 0} → List ℕ → (List (List ℕ) → Option W) → List (List ℕ) → Option W

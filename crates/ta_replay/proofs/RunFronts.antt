@@ -78,7 +78,8 @@ each_run_line Q file run head parameter start step mark end =
     let a = file.automaton in
     let found = slice_get file.patterns run.pattern in
     let values = each_valued Q a.parameters (map (start_slot a) a.initial) (run.parameters ++ run.counts) parameter (λ ws. each_start Q a a.initial ws start) in
-    let body = each_append Q (lines_of a found run.lines) (codes "end" ∷ []) (each_lines_of Q a found run.lines (λ p l. line_by Q a p l step mark)) (end, tt) in (
+    let listed = each_lines_of Q a found run.lines (λ p l. line_by Q a p l step mark) in
+    let body = each_append Q (lines_of a found run.lines) (codes "end" ∷ []) listed (end, tt) in (
       head (name_at (map pattern_name file.patterns) run.pattern),
       each_append Q (value_lines (slots a) (run.parameters ++ run.counts))
           (lines_of a found run.lines ++ (codes "end" ∷ [])) values body,

@@ -67,7 +67,8 @@ head_line file number = named_line (codes "run ") (name_at (map pattern_name fil
 -- the lines of a run: its pattern, its values, its steps and marks, and the end
 abbrev pub run_lines : File → Run → List (List ℕ)
 run_lines file run =
-    head_line file run.pattern ∷ (value_lines (slots file.automaton) (run.parameters ++ run.counts) ++ (lines_of file.automaton (slice_get file.patterns run.pattern) run.lines ++ (codes "end" ∷ [])))
+    head_line file run.pattern ∷ (value_lines (slots file.automaton) (run.parameters ++ run.counts)
+    ++ (lines_of file.automaton (slice_get file.patterns run.pattern) run.lines ++ (codes "end" ∷ [])))
 
 -- lines, each with its line feed
 abbrev pub lines_text : List (List ℕ) → List ℕ

@@ -1,6 +1,7 @@
 -- When a run shows its pattern, and so is a counterexample. Source of steps with a factor: Konnov, Lazić, Veith, Widder, POPL 2017
 -- (accelerated transitions).
-use Rattle.std.specs.Prelude.{ℕ, ◌+◌, ◌-◌, ◌^◌, ◌<◌, ◌≡◌, List, [], ◌∷◌, ◌++◌, length, take, replicate, slice_get, slice_index, unsigned_abs, min, Some, IsBitSet}
+use Rattle.std.specs.Prelude.{ℕ, ◌+◌, ◌-◌, ◌^◌, ◌<◌, ◌≡◌, List, [], ◌∷◌, ◌++◌, length, take, replicate, slice_get, slice_index, unsigned_abs, min, Some}
+use Rattle.std.specs.Prelude.{IsBitSet}
 use Rattle.ta_automaton.specs.declared.automaton.Automaton.{Automaton}
 use Rattle.ta_automaton.specs.declared.pattern.Event.{Event}
 use Rattle.ta_automaton.specs.declared.pattern.Pattern.{Pattern}
@@ -54,7 +55,8 @@ pub record ShowsPattern (a : Automaton) (p : Pattern) (run : Run) : Type 0 where
   pub start : Holds p.start first
   pub kept_empty : (k : ℕ) (c : runs.Config) → At first later k c → KeepsEmpty p.empty c
   pub marked : (e : ℕ) (event : Event) → slice_get p.events e ≡ Some event → MarkedOnce run.lines first later e event
-  pub in_order : (e f i : ℕ) (event : Event) → slice_get p.events e ≡ Some event → IsBitSet event.after f → MarksAt run.lines i e → (j : ℕ) × (j < i) × MarksAt run.lines j f
+  pub in_order : (e f i : ℕ) (event : Event) → slice_get p.events e ≡ Some event → IsBitSet event.after f → MarksAt run.lines i e → (j : ℕ) × (j < i)
+      × MarksAt run.lines j f
 
 -- the run shows the pattern that it names
 pub record Shows (file : File) (run : Run) : Type 0 where

@@ -1,5 +1,6 @@
 -- The text of a file as it was understood.
-use Rattle.std.specs.Prelude.{ℕ, ℤ, pos, negsuc, unsigned_abs, ◌+◌, ◌==◌, Bool, true, false, List, [], ◌∷◌, ◌++◌, length, codes, decimal, filter, slice_index_or}
+use Rattle.std.specs.Prelude.{ℕ, ℤ, pos, negsuc, unsigned_abs, ◌+◌, ◌==◌, Bool, true, false, List, [], ◌∷◌, ◌++◌, length, codes, decimal, filter}
+use Rattle.std.specs.Prelude.{slice_index_or}
 use Rattle.std.specs.Fmt.{signed_decimal}
 use Rattle.std.specs.List.{range_with_len}
 use Rattle.ta_base.specs.Masks.{has_bit}
@@ -111,7 +112,8 @@ way_text a r = r.name ++ (codes " " ++ (name_at a.locations r.from ++ (codes " -
 
 -- a rule: its way, the numbers of its rise guards and of its fall guards, and its updates
 abbrev pub rule_text : Automaton → Rule → List ℕ
-rule_text a r = way_text a r ++ (mask_text r.rise ++ (codes ", fall" ++ (mask_text r.fall ++ ((10 ∷ []) ++ listed (codes "updates ") (update_text a) r.updates))))
+rule_text a r = way_text a r ++
+    (mask_text r.rise ++ (codes ", fall" ++ (mask_text r.fall ++ ((10 ∷ []) ++ listed (codes "updates ") (update_text a) r.updates))))
 
 -- an event: its name, the numbers of the events that it comes after, and what holds
 abbrev pub event_text : Automaton → Event → List ℕ
@@ -119,7 +121,8 @@ event_text a e = (e.name ++ codes " after") ++ (mask_text e.after ++ ((10 ∷ []
 
 -- a pattern: its name, the numbers of the locations that stay empty, its start, and its events
 abbrev pub pattern_text : Automaton → Pattern → List ℕ
-pattern_text a p = (p.name ++ codes " empty") ++ (mask_text p.empty ++ ((10 ∷ []) ++ (condition_text (codes "start ") a p.start ++ listed (codes "events ") (event_text a) p.events)))
+pattern_text a p = (p.name ++ codes " empty") ++
+    (mask_text p.empty ++ ((10 ∷ []) ++ (condition_text (codes "start ") a p.start ++ listed (codes "events ") (event_text a) p.events)))
 
 -- a pair of rise guards; the first comes before the second
 abbrev pub order_text : ℕ × ℕ → List ℕ
@@ -141,4 +144,5 @@ automaton_text a =
 
 -- the text of a file and of pairs of rise guards
 abbrev pub show_text : File → List (ℕ × ℕ) → List ℕ
-show_text file orders = automaton_text file.automaton ++ (listed (codes "patterns ") (pattern_text file.automaton) file.patterns ++ listed (codes "orders ") order_text orders)
+show_text file orders = automaton_text file.automaton ++
+    (listed (codes "patterns ") (pattern_text file.automaton) file.patterns ++ listed (codes "orders ") order_text orders)

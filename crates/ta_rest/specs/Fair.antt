@@ -42,7 +42,8 @@ pub record OccursForEver (a : Automaton) (silent : List ℕ) (p : Pattern) (run 
   pub happens : (e : ℕ) (event : Event) (k : ℕ) → slice_get p.events e ≡ Some event → slice_get positions e ≡ Some k → Holds event.condition (run.config k)
   pub in_order : (e f : ℕ) (event : Event) → slice_get p.events e ≡ Some event → IsBitSet event.after f → slice_index positions f ≤ slice_index positions e
   pub behind : (last : ℕ) → last + 1 ≡ length p.events → (e : ℕ) → e < length p.events → slice_index positions e ≤ slice_index positions last
-  pub lasts : (last : ℕ) (event : Event) → last + 1 ≡ length p.events → slice_get p.events last ≡ Some event → (n : ℕ) → slice_index positions last ≤ n → Holds event.condition (run.config n)
+  pub lasts : (last : ℕ) (event : Event) → last + 1 ≡ length p.events → slice_get p.events last ≡ Some event → (n : ℕ) → slice_index positions last ≤ n
+      → Holds event.condition (run.config n)
 
 -- the pattern occurs for ever in no fair run, for any admissible parameters
 abbrev pub FairlySafe : Automaton → List ℕ → Pattern → Type 0

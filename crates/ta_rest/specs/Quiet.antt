@@ -1,6 +1,7 @@
 -- Quiet rest: no rule must move. A rule must move only if its guards hold whatever the silent places give; silent places model Byzantine
 -- senders that may stay silent.
-use Rattle.std.specs.Prelude.{Bool, true, not, ℕ, ℤ, pos, ◌==◌, ◌≡◌, ◌≢◌, ◌≤◌, ◌≤ℤ◌, ◌<ℤ◌, ◌⊎◌, List, filter, if◌then◌else◌, slice_get, slice_index, Some, IsBitSet}
+use Rattle.std.specs.Prelude.{Bool, true, not, ℕ, ℤ, pos, ◌==◌, ◌≡◌, ◌≢◌, ◌≤◌, ◌≤ℤ◌, ◌<ℤ◌, ◌⊎◌, List, filter, if◌then◌else◌, slice_get, slice_index, Some}
+use Rattle.std.specs.Prelude.{IsBitSet}
 use Rattle.std.specs.List.{list_any}
 use Rattle.ta_linear.specs.Terms.{coefficient}
 use Rattle.ta_linear.specs.Values.{RowHolds, value_of}
@@ -65,4 +66,5 @@ QuietRestSafe a silent p = (first : Config) (rules : List ℕ) → QuietRestOccu
 
 -- no row subtracts a silent place
 abbrev pub NoneSubtracted : List ℕ → List Row → Type 0
-NoneSubtracted silent rows = (i : ℕ) (row : Row) → slice_get rows i ≡ Some row → (place : ℕ) → is_silent silent place ≡ true → pos 0 ≤ℤ coefficient row.form.terms place
+NoneSubtracted silent rows = (i : ℕ) (row : Row) → slice_get rows i ≡ Some row → (place : ℕ) → is_silent silent place ≡ true
+    → pos 0 ≤ℤ coefficient row.form.terms place

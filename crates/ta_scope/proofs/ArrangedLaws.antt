@@ -3,7 +3,11 @@
 -- They go forward, each from a location where nobody arrives any more, and their end is that of the counts. If the counters at this
 -- end are natural, none is negative on the way. Rise guards are asked for at the beginning and stay true. Fall guards are asked for
 -- at the end, so they hold before every step, the last one among them.
-use Rattle.ta_scope.proofs.Common.{◌≡◌, ℕ, ℤ, pos, ◌+ℤ◌, ◌≤ℤ◌, List, [], ◌∷◌, ◌++◌, inl, arith, sym, ap, ◌∙◌, refl, subst, slice_get, Some, ints, without_last, In-right, last_of, Rule, Automaton, In, location_place, Config, value_at, InScope, total, total-append, terms_value-same, fall_back, change_of, Onward, Piece, after, later_after, fire_in_order, each_rule_from, AreRuleCounts, ArrangedOf, count_at, steps_along, ArrangedStepsAreLegal, ArrangedStepsReachTheEnd, GuardsHold, Passable, LeadsToEnd, arranged_steps, fall_mask, value_after_steps, value_at_end, falls as falls_rows}
+use Rattle.ta_scope.proofs.Common.{◌≡◌, ℕ, ℤ, pos, ◌+ℤ◌, ◌≤ℤ◌, List, [], ◌∷◌, ◌++◌, inl, arith, sym, ap, ◌∙◌, refl, subst, slice_get, Some, ints, without_last}
+use Rattle.ta_scope.proofs.Common.{In-right, last_of, Rule, Automaton, In, location_place, Config, value_at, InScope, total, total-append, terms_value-same}
+use Rattle.ta_scope.proofs.Common.{fall_back, change_of, Onward, Piece, after, later_after, fire_in_order, each_rule_from, AreRuleCounts, ArrangedOf, count_at}
+use Rattle.ta_scope.proofs.Common.{steps_along, ArrangedStepsAreLegal, ArrangedStepsReachTheEnd, GuardsHold, Passable, LeadsToEnd, arranged_steps, fall_mask}
+use Rattle.ta_scope.proofs.Common.{value_after_steps, value_at_end, falls as falls_rows}
 use Rattle.ta_linear.specs.Values.{RowHolds}
 use Rattle.ta_scope.proofs.Circulations.{Rest, rest_same, rest_all, weighted}
 use Rattle.ta_scope.proofs.Listing.{in_along, along_total, along_onward}
@@ -15,7 +19,8 @@ pub record FromCounts (a : Automaton) (counts : List ℤ) (os : List ℕ) : Type
   pub above : (q : ℕ) → In q os → pos 1 ≤ℤ count_at counts q
   pub sums : (i : ℕ) → total (change_of a i) os ≡ weighted a counts i
 
-pub from_counts : (a : Automaton) → InScope a → (counts : List ℤ) → AreRuleCounts a counts → (steps : List (ℕ × ℤ)) → ArrangedOf a counts steps → FromCounts a counts (arranged_steps steps)
+pub from_counts : (a : Automaton) → InScope a → (counts : List ℤ) → AreRuleCounts a counts → (steps : List (ℕ × ℤ)) → ArrangedOf a counts steps
+    → FromCounts a counts (arranged_steps steps)
 from_counts a scope counts c steps s =
     let rest : Rest a counts s.rest = rest_all a scope counts counts s.later s.rest (rest_same a counts c) s.taken_out in
     let along : FromCounts a counts (arranged_steps (steps_along a s.rest s.order)) = record {
@@ -50,16 +55,27 @@ pub arranged_legal : ArrangedStepsAreLegal
 arranged_legal a scope counts natural steps s c p = legal a counts (arranged_steps steps) (from_counts a scope counts natural steps s) c p
 
 -- fall guards that hold at the end hold before the last step
-before_last : (a : Automaton) (counts : List ℤ) (os : List ℕ) → FromCounts a counts os → (c : Config) → GuardsHold a counts fall_mask a.fall (value_at_end a c counts) → (front : List ℕ) (last : ℕ) → os ≡ front ++ last ∷ [] → GuardsHold a counts fall_mask a.fall (value_after_steps a c front)
+before_last : (a : Automaton) (counts : List ℤ) (os : List ℕ) → FromCounts a counts os → (c : Config)
+    → GuardsHold a counts fall_mask a.fall (value_at_end a c counts) → (front : List ℕ) (last : ℕ) → os ≡ front ++ last ∷ []
+    → GuardsHold a counts fall_mask a.fall (value_after_steps a c front)
 before_last a counts os f c falls front last cut r rule named above j row at set =
     let within : In last os = subst (In last) (sym cut) (In-right last front (last ∷ []) (inl refl)) in
     let point = value_after_steps a c front in
     let later = later_after a point (last ∷ []) (f.named last within, tt) in
-    let same : (i : ℕ) → after a point (last ∷ []) i ≡ value_at_end a c counts i = (λ i. omega (arith, ints, total-append (change_of a i) front (last ∷ []), ap (total (change_of a i)) cut, f.sums i)) in
+    let same : (i : ℕ) → after a point (last ∷ []) i ≡ value_at_end a c counts i =
+    (λ i. omega (arith, ints, total-append (change_of a i) front (last ∷ []), ap (total (change_of a i)) cut, f.sums i)) in
     let held : RowHolds (value_at_end a c counts) row = falls r rule named above j row at set in
-    omega (arith, ints, held, fall_back a point (after a point (last ∷ [])) later row.form.terms (falls_rows a j row at), terms_value-same row.form.terms (after a point (last ∷ [])) (value_at_end a c counts) same)
+    omega (
+      arith,
+      ints,
+      held,
+      fall_back a point (after a point (last ∷ [])) later row.form.terms (falls_rows a j row at),
+      terms_value-same row.form.terms
+          (after a point (last ∷ [])) (value_at_end a c counts) same,
+    )
 
 pub arranged_end : ArrangedStepsReachTheEnd
 arranged_end a scope counts natural steps s c whole rise fall ends =
     let f = from_counts a scope counts natural steps s in
-    legal a counts (arranged_steps steps) f c (record { whole = whole; rise = rise; fall = before_last a counts (arranged_steps steps) f c fall; natural = ends })
+    legal a counts (arranged_steps steps) f c
+    (record { whole = whole; rise = rise; fall = before_last a counts (arranged_steps steps) f c fall; natural = ends })

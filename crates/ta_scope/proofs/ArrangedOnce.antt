@@ -1,5 +1,8 @@
 -- Counts have one list of arranged steps.
-use Rattle.ta_scope.proofs.Common.{◌≡◌, inl, inr, ℕ, ℤ, suc, ◌<◌, List, [], ◌∷◌, ◌++◌, length, take, arith, sym, ap, ◌∙◌, refl, subst, slice_get, Some, Contains, append_assoc, append-nil, ints, AllByRecursion, in_or, Rule, Automaton, AllTakenOut, FirstPath, LeastCount, LeastCycle, NoLater, NotAbove, SubtractsFrom, Support, TakenOut, count_at, steps_along, NoCycle, ArrangedStepsAreDetermined, IsLocationOrder, Next, Ready, IsBitSet}
+use Rattle.ta_scope.proofs.Common.{◌≡◌, inl, inr, ℕ, ℤ, suc, ◌<◌, List, [], ◌∷◌, ◌++◌, length, take, arith, sym, ap, ◌∙◌, refl, subst, slice_get, Some}
+use Rattle.ta_scope.proofs.Common.{Contains, append_assoc, append-nil, ints, AllByRecursion, in_or, Rule, Automaton, AllTakenOut, FirstPath, LeastCount}
+use Rattle.ta_scope.proofs.Common.{LeastCycle, NoLater, NotAbove, SubtractsFrom, Support, TakenOut, count_at, steps_along, NoCycle, ArrangedStepsAreDetermined}
+use Rattle.ta_scope.proofs.Common.{IsLocationOrder, Next, Ready, IsBitSet}
 use Rattle.ta_base.proofs.Naturals.{neither_below}
 use Rattle.ta_scope.proofs.OrderLaws.{placed}
 
@@ -88,7 +91,8 @@ taken_once a before xs ys first second =
     let rules : first.number ∷ first.back ≡ second.number ∷ second.back = ap (λ r. r ∷ first.back) cycle.0 ∙ ap (λ rs. second.number ∷ rs) cycle.1 in
     let least = subst (λ rs. LeastCount before rs first.amount) rules first.least in
     let amount = least_once before (second.number ∷ second.back) first.amount second.amount least second.least in
-    let taken = subst (λ z. SubtractsFrom (second.number ∷ second.back) z before xs) amount (subst (λ rs. SubtractsFrom rs first.amount before xs) rules first.subtracted) in
+    let taken = subst (λ z. SubtractsFrom (second.number ∷ second.back) z before xs) amount
+    (subst (λ rs. SubtractsFrom rs first.amount before xs) rules first.subtracted) in
     subtracted_once (second.number ∷ second.back) second.amount before xs ys taken second.subtracted
 
 -- nothing is taken out where no rule of the support lies on a cycle
@@ -96,10 +100,12 @@ none_taken : (a : Automaton) (counts after : List ℤ) (rules : ℕ) → Support
 none_taken a counts after rules support none taken =
     let within = support_within counts taken.rules rules taken.support support in
     let cycle = taken.cycle in
-    none taken.number cycle.rule cycle.named (within taken.number cycle.member) (taken.back, cycle.path.walk, each_within taken.rules rules taken.back within cycle.path.members)
+    none taken.number cycle.rule cycle.named (within taken.number cycle.member)
+    (taken.back, cycle.path.walk, each_within taken.rules rules taken.back within cycle.path.members)
 
 -- what is left where all circulations are taken out
-all_once : (a : Automaton) (counts : List ℤ) (xs ys : List (List ℤ)) (r s : List ℤ) (m n : ℕ) → Support r m → NoCycle a m → Support s n → NoCycle a n → AllTakenOut a counts xs r → AllTakenOut a counts ys s → r ≡ s
+all_once : (a : Automaton) (counts : List ℤ) (xs ys : List (List ℤ)) (r s : List ℤ) (m n : ℕ) → Support r m → NoCycle a m → Support s n → NoCycle a n
+    → AllTakenOut a counts xs r → AllTakenOut a counts ys s → r ≡ s
 all_once a counts [] [] r s m n first none second never first_out second_out = sym first_out ∙ second_out
 all_once a counts [] (y ∷ ys) r s m n first none second never first_out second_out =
     absurd (none_taken a counts y m (subst (λ c. Support c m) (sym first_out) first) none second_out.0)
@@ -115,7 +121,8 @@ ready_within a m n done l nm ready = record { remains = ready.remains; free = λ
 
 next_once : (a : Automaton) (m n : ℕ) (done : List ℕ) (k l : ℕ) → Within m n → Within n m → Next a m done k → Next a n done l → k ≡ l
 next_once a m n done k l mn nm first second =
-    neither_below k l (λ less. second.least k less (ready_within a m n done k nm first.ready)) (λ less. first.least l less (ready_within a n m done l mn second.ready))
+    neither_below k l (λ less. second.least k less (ready_within a m n done k nm first.ready))
+    (λ less. first.least l less (ready_within a n m done l mn second.ready))
 
 -- each item is next behind those before it and some that are done
 abbrev BuiltOn : Automaton → ℕ → List ℕ → List ℕ → Type 0
@@ -133,7 +140,8 @@ built_on a rules done (l ∷ ls) built = (
   built_on a rules (done ++ l ∷ []) ls (λ k x at. subst (λ xs. Next a rules xs x) (sym (append_assoc done (l ∷ []) (take k ls))) (built (suc k) x at)),
 )
 
-all_same : (a : Automaton) (m n : ℕ) (done xs ys : List ℕ) → Within m n → Within n m → BuiltOn a m done xs → BuiltOn a n done ys → AllPlaced a (done ++ xs) → AllPlaced a (done ++ ys) → xs ≡ ys
+all_same : (a : Automaton) (m n : ℕ) (done xs ys : List ℕ) → Within m n → Within n m → BuiltOn a m done xs → BuiltOn a n done ys → AllPlaced a (done ++ xs)
+    → AllPlaced a (done ++ ys) → xs ≡ ys
 all_same a m n done [] [] mn nm first second all every = refl
 all_same a m n done [] (y ∷ ys) mn nm first second all every =
     let next = second.0 in
@@ -156,7 +164,8 @@ order_once a m n xs ys mn nm first second =
 
 pub arranged_once : ArrangedStepsAreDetermined
 arranged_once a counts xs ys first second =
-    let rest = all_once a counts first.later second.later first.rest second.rest first.rules second.rules first.support first.no_cycle second.support second.no_cycle first.taken_out second.taken_out in
+    let rest = all_once a counts first.later second.later first.rest second.rest first.rules second.rules first.support first.no_cycle second.support
+    second.no_cycle first.taken_out second.taken_out in
     let support = subst (λ c. Support c first.rules) rest first.support in
     let mn = support_within second.rest first.rules second.rules support second.support in
     let nm = support_within second.rest second.rules first.rules second.support support in

@@ -1,5 +1,7 @@
 -- arranged steps are of existing rules, each at most once, and no rule fires more often than its count
-use Rattle.ta_scope.proofs.Common.{◌≡◌, inl, inr, ℕ, ◌<◌, ◌≤◌, ℤ, pos, ◌≤ℤ◌, List, [], ◌∷◌, map, length, arith, sym, ap, ◌∙◌, subst, slice_get, Some, filter, eqb_tells, map-append, slice_get_within, same_Some, AllByRecursion, each_append, each_listed, Rule, Automaton, In, in_or, range_with_len, times_in, from_within, count_at, is_step_from, steps_along, ArrangedStepsAreWithin, StepsWithin, steps_from}
+use Rattle.ta_scope.proofs.Common.{◌≡◌, inl, inr, ℕ, ◌<◌, ◌≤◌, ℤ, pos, ◌≤ℤ◌, List, [], ◌∷◌, map, length, arith, sym, ap, ◌∙◌, subst, slice_get, Some, filter}
+use Rattle.ta_scope.proofs.Common.{eqb_tells, map-append, slice_get_within, same_Some, AllByRecursion, each_append, each_listed, Rule, Automaton, In, in_or}
+use Rattle.ta_scope.proofs.Common.{range_with_len, times_in, from_within, count_at, is_step_from, steps_along, ArrangedStepsAreWithin, StepsWithin, steps_from}
 use Rattle.ta_base.proofs.Lists.{firsts}
 use Rattle.ta_base.proofs.Members.{in_filter}
 use Rattle.ta_base.proofs.Times.{times-append, times-filter, times-none, times-numbers}
@@ -11,7 +13,8 @@ abbrev rule_of : (ℕ × ℤ) → ℕ
 rule_of step = step.0
 
 -- what holds of each rule that leaves a location with a count above 0 holds of each step along an order
-each_along : (P : (ℕ × ℤ) → Type 0) (a : Automaton) (counts : List ℤ) (ls : List ℕ) → ((l r : ℕ) → StepFrom a counts l r → P (r, count_at counts r)) → AllByRecursion P (steps_along a counts ls)
+each_along : (P : (ℕ × ℤ) → Type 0) (a : Automaton) (counts : List ℤ) (ls : List ℕ) → ((l r : ℕ) → StepFrom a counts l r → P (r, count_at counts r))
+    → AllByRecursion P (steps_along a counts ls)
 each_along P a counts [] h = tt
 each_along P a counts (l ∷ ls) h =
     each_append P (steps_from a counts l (length a.rules)) (steps_along a counts ls)
@@ -19,7 +22,8 @@ each_along P a counts (l ∷ ls) h =
     (each_along P a counts ls h)
 
 -- a rule is among the steps from its source alone
-from_source : (a : Automaton) (counts : List ℤ) (r : ℕ) (rule : Rule) → slice_get a.rules r ≡ Some rule → (l : ℕ) → times_in r (map rule_of (steps_from a counts l (length a.rules))) ≤ times_in rule.from (l ∷ [])
+from_source : (a : Automaton) (counts : List ℤ) (r : ℕ) (rule : Rule) → slice_get a.rules r ≡ Some rule → (l : ℕ)
+    → times_in r (map rule_of (steps_from a counts l (length a.rules))) ≤ times_in rule.from (l ∷ [])
 unfolding times_in
 from_source a counts r rule named l =
     let t = is_step_from a counts l in
@@ -35,16 +39,20 @@ from_source a counts r rule named l =
           elim (eqb_tells l rule.from) [ inl e ↦ rw e.0 (omega (arith, same, times-filter t r ns, once)) | inr ne ↦ absurd (ne.1 (sym from)) ])
     ]
 
-along_once : (a : Automaton) (counts : List ℤ) (r : ℕ) (rule : Rule) → slice_get a.rules r ≡ Some rule → (ls : List ℕ) → times_in r (map rule_of (steps_along a counts ls)) ≤ times_in rule.from ls
+along_once : (a : Automaton) (counts : List ℤ) (r : ℕ) (rule : Rule) → slice_get a.rules r ≡ Some rule → (ls : List ℕ)
+    → times_in r (map rule_of (steps_along a counts ls)) ≤ times_in rule.from ls
 unfolding times_in
 along_once a counts r rule named [] = omega arith
 along_once a counts r rule named (l ∷ ls) =
     let here = from_source a counts r rule named l in
-    let both = ap (times_in r) (map-append rule_of (steps_from a counts l (length a.rules)) (steps_along a counts ls)) ∙ times-append r (map rule_of (steps_from a counts l (length a.rules))) (map rule_of (steps_along a counts ls)) in
+    let both = ap (times_in r) (map-append rule_of (steps_from a counts l (length a.rules)) (steps_along a counts ls))
+    ∙ times-append r (map rule_of (steps_from a counts l (length a.rules))) (map rule_of (steps_along a counts ls)) in
     omega (arith, here, both, along_once a counts r rule named ls)
 
 -- a rule among the steps
-in_steps : (a : Automaton) (counts : List ℤ) (r : ℕ) (steps : List (ℕ × ℤ)) → AllByRecursion (λ (step : ℕ × ℤ). (rule : Rule) × (slice_get a.rules step.0 ≡ Some rule)) steps → In r (map rule_of steps) → (rule : Rule) × (slice_get a.rules r ≡ Some rule)
+in_steps : (a : Automaton) (counts : List ℤ) (r : ℕ) (steps : List (ℕ × ℤ))
+    → AllByRecursion (λ (step : ℕ × ℤ). (rule : Rule) × (slice_get a.rules step.0 ≡ Some rule)) steps → In r (map rule_of steps) → (rule : Rule)
+    × (slice_get a.rules r ≡ Some rule)
 in_steps a counts r [] h i = absurd i
 in_steps a counts r (step ∷ steps) h (inl e) = (h.0.0, ap (slice_get a.rules) e ∙ h.0.1)
 in_steps a counts r (step ∷ steps) h (inr i) = in_steps a counts r steps h.1 i

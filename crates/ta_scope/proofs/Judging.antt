@@ -1,5 +1,7 @@
 -- rules that put an automaton out of scope
-use Rattle.ta_scope.proofs.Common.{◌≡◌, ◌≢◌, inl, inr, ℕ, ℤ, pos, ◌≤ℤ◌, List, [], ◌∷◌, length, arith, refl, sym, slice_get, get_or, Some, IsBitSet, ◌↔◌, ints, eqb_tells, AllByRecursion, zero_or_more, Rule, Automaton, InScope, LoopsPure, rule_within, natural_terms, updates_natural, to_within, every_rule, IsReachTable, AtFault}
+use Rattle.ta_scope.proofs.Common.{◌≡◌, ◌≢◌, inl, inr, ℕ, ℤ, pos, ◌≤ℤ◌, List, [], ◌∷◌, length, arith, refl, sym, slice_get, get_or, Some, IsBitSet, ◌↔◌, ints}
+use Rattle.ta_scope.proofs.Common.{eqb_tells, AllByRecursion, zero_or_more, Rule, Automaton, InScope, LoopsPure, rule_within, natural_terms, updates_natural}
+use Rattle.ta_scope.proofs.Common.{to_within, every_rule, IsReachTable, AtFault}
 use Rattle.ta_linear.specs.Terms.{coefficient}
 use Rattle.ta_automaton.specs.Shape.{Update}
 use Rattle.ta_scope.proofs.Reaching.{every_walk}
@@ -32,7 +34,8 @@ first_update shared (t ∷ ts) h some =
     (t.0, elim (eqb_tells t.0 t.0) [ inl e ↦ rw e.0 (omega (arith, ints)) | inr ne ↦ absurd (ne.1 refl) ])
 
 -- a rule is in error exactly where it has updates and the table of all rules leads from its target back to its source
-pub fault_exactly : (a : Automaton) (table : List ℕ) (r : ℕ) (rule : Rule) → IsReachTable a every_rule table → slice_get a.rules r ≡ Some rule → ((rule.updates ≢ []) × IsBitSet (get_or table rule.to 0) rule.from) ↔ AtFault a rule
+pub fault_exactly : (a : Automaton) (table : List ℕ) (r : ℕ) (rule : Rule) → IsReachTable a every_rule table → slice_get a.rules r ≡ Some rule
+    → ((rule.updates ≢ []) × IsBitSet (get_or table rule.to 0) rule.from) ↔ AtFault a rule
 fault_exactly a table r rule leads named =
     let exact = leads.exact rule.to rule.from (to_within a r rule named) in (
       λ (updates, back). let walk = exact.0 back in record {

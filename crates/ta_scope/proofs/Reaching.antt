@@ -1,7 +1,11 @@
 -- what growing masks of locations say of walks
-use Rattle.ta_scope.proofs.Common.{◌≡◌, inl, inr, ℕ, ◌<◌, ◌^◌, List, [], ◌∷◌, ◌++◌, arith, sym, ap, ◌∙◌, refl, subst, slice_get, Some, IsBitSet, ◌%◌, ◌*◌, ◌↔◌, bit_or, w32, length, length-append, get_or, bit_at, le_or_l, bit_at_set_same, bit_at_set_other, bit_at-pow_same, bit_at-pow_other, bit_at_ones, slice_get_within, eqb_tells, AllByRecursion, at_set, set_at, set_or, each_push, Rule, Automaton, Walk, every_rule, Reaches, to_within, LeadsOut, AddsLocation, IsClosed, get_or_append_left, get_or_push, one_shl}
+use Rattle.ta_scope.proofs.Common.{◌≡◌, inl, inr, ℕ, ◌<◌, ◌^◌, List, [], ◌∷◌, ◌++◌, arith, sym, ap, ◌∙◌, refl, subst, slice_get, Some, IsBitSet, ◌%◌, ◌*◌, ◌↔◌}
+use Rattle.ta_scope.proofs.Common.{bit_or, w32, length, length-append, get_or, bit_at, le_or_l, bit_at_set_same, bit_at_set_other, bit_at-pow_same}
+use Rattle.ta_scope.proofs.Common.{bit_at-pow_other, bit_at_ones, slice_get_within, eqb_tells, AllByRecursion, at_set, set_at, set_or, each_push, Rule}
+use Rattle.ta_scope.proofs.Common.{Automaton, Walk, every_rule, Reaches, to_within, LeadsOut, AddsLocation, IsClosed, get_or_append_left, get_or_push, one_shl}
 
-pub walk_push : (a : Automaton) (x : ℕ) (rs : List ℕ) (y r : ℕ) (rule : Rule) → Walk a x rs y → slice_get a.rules r ≡ Some rule → rule.from ≡ y → Walk a x (rs ++ r ∷ []) rule.to
+pub walk_push : (a : Automaton) (x : ℕ) (rs : List ℕ) (y r : ℕ) (rule : Rule) → Walk a x rs y → slice_get a.rules r ≡ Some rule → rule.from ≡ y
+    → Walk a x (rs ++ r ∷ []) rule.to
 walk_push a x [] y r rule walk named from = (rule, named, from ∙ sym walk, refl)
 walk_push a x (q ∷ rs) y r rule walk named from = (walk.0, walk.1, walk.2, walk_push a (walk.0).to rs y r rule walk.3 named from)
 
@@ -24,7 +28,8 @@ reached_more a rules first mask more reached grown = record {
 }
 
 -- a walk from a location of a closed mask stays in it
-pub walk_stays : (a : Automaton) (rules mask : ℕ) → IsClosed a rules mask → (x : ℕ) (rs : List ℕ) (y : ℕ) → IsBitSet mask x → Walk a x rs y → AllByRecursion (IsBitSet rules) rs → IsBitSet mask y
+pub walk_stays : (a : Automaton) (rules mask : ℕ) → IsClosed a rules mask → (x : ℕ) (rs : List ℕ) (y : ℕ) → IsBitSet mask x → Walk a x rs y
+    → AllByRecursion (IsBitSet rules) rs → IsBitSet mask y
 walk_stays a rules mask closed x [] y b walk each = subst (IsBitSet mask) walk b
 walk_stays a rules mask closed x (r ∷ rs) y b walk each =
     let rule = walk.0 in
@@ -38,7 +43,8 @@ walk_stays a rules mask closed x (r ∷ rs) y b walk each =
 abbrev pub bit_of : ℕ → ℕ
 bit_of l = 1 * 2 ^ l % 4294967296
 
-pub grown_by : (a : Automaton) (rules mask r : ℕ) (rule : Rule) → slice_get a.rules r ≡ Some rule → LeadsOut rules mask r rule → rule.to < 32 → AddsLocation a rules mask (bit_or mask (1 * 2 ^ rule.to % 4294967296))
+pub grown_by : (a : Automaton) (rules mask r : ℕ) (rule : Rule) → slice_get a.rules r ≡ Some rule → LeadsOut rules mask r rule → rule.to < 32
+    → AddsLocation a rules mask (bit_or mask (1 * 2 ^ rule.to % 4294967296))
 grown_by a rules mask r rule named out within = record {
   number = r;
   rule = rule;
@@ -76,17 +82,21 @@ reached_first a rules first within =
     }
 
 -- where the mask is closed, it has exactly the locations that the first one leads to
-pub reaches_exactly : (a : Automaton) (rules first mask : ℕ) → Reached a rules first mask → IsClosed a rules mask → (y : ℕ) → IsBitSet mask y ↔ Reaches a rules first y
+pub reaches_exactly : (a : Automaton) (rules first mask : ℕ) → Reached a rules first mask → IsClosed a rules mask → (y : ℕ) → IsBitSet mask y
+    ↔ Reaches a rules first y
 reaches_exactly a rules first mask reached closed y = (reached.walks y, λ w. walk_stays a rules mask closed first w.0 y reached.has_first w.1 w.2)
 
 -- the masks of the first locations
 abbrev pub LeadsSoFar : Automaton → ℕ → List ℕ → Type 0
 LeadsSoFar a rules table = (x y : ℕ) → x < length table → IsBitSet (get_or table x 0) y ↔ Reaches a rules x y
 
-pub leads_push : (a : Automaton) (rules : ℕ) (table : List ℕ) (mask : ℕ) → LeadsSoFar a rules table → ((y : ℕ) → IsBitSet mask y ↔ Reaches a rules (length table) y) → LeadsSoFar a rules (table ++ mask ∷ [])
+pub leads_push : (a : Automaton) (rules : ℕ) (table : List ℕ) (mask : ℕ) → LeadsSoFar a rules table
+    → ((y : ℕ) → IsBitSet mask y ↔ Reaches a rules (length table) y) → LeadsSoFar a rules (table ++ mask ∷ [])
 leads_push a rules table mask before here x y b = elim (eqb_tells x (length table)) [
-  | inl e ↦ subst (λ z. IsBitSet (get_or (table ++ mask ∷ []) z 0) y ↔ Reaches a rules z y) (sym e.1) (subst (λ m. IsBitSet m y ↔ Reaches a rules (length table) y) (sym (get_or_push table mask 0 (length table) refl)) (here y))
-  | inr ne ↦ (let within : x < length table = omega (arith, ne.1, b, length-append table (mask ∷ [])) in subst (λ m. IsBitSet m y ↔ Reaches a rules x y) (sym (get_or_append_left table (mask ∷ []) 0 x within)) (before x y within))
+  | inl e ↦ subst (λ z. IsBitSet (get_or (table ++ mask ∷ []) z 0) y ↔ Reaches a rules z y) (sym e.1)
+      (subst (λ m. IsBitSet m y ↔ Reaches a rules (length table) y) (sym (get_or_push table mask 0 (length table) refl)) (here y))
+  | inr ne ↦ (let within : x < length table = omega (arith, ne.1, b, length-append table (mask ∷ [])) in subst (λ m. IsBitSet m y ↔ Reaches a rules x y)
+      (sym (get_or_append_left table (mask ∷ []) 0 x within)) (before x y within))
 ]
 
 -- every rule is in the mask of all rules

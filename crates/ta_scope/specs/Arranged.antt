@@ -1,5 +1,6 @@
 -- Arranged steps: counts of rules, with circulations removed, as accelerated steps that go forward.
-use Rattle.std.specs.Prelude.{ℕ, ℤ, pos, ◌<◌, ◌≡◌, ◌≤ℤ◌, ◌-ℤ◌, ◌⊎◌, ◌↔◌, ◌&&◌, Bool, List, [], ◌∷◌, length, map, filter, flat_map, int_lt, slice_get, slice_index_or, Some, IsBitSet}
+use Rattle.std.specs.Prelude.{ℕ, ℤ, pos, ◌<◌, ◌≡◌, ◌≤ℤ◌, ◌-ℤ◌, ◌⊎◌, ◌↔◌, ◌&&◌, Bool, List, [], ◌∷◌, length, map, filter, flat_map, int_lt, slice_get}
+use Rattle.std.specs.Prelude.{slice_index_or, Some, IsBitSet}
 use Rattle.std.specs.List.{AllByRecursion, range_with_len}
 use Rattle.ta_automaton.specs.declared.rule.Rule.{Rule}
 use Rattle.ta_automaton.specs.declared.automaton.Automaton.{Automaton}

@@ -1,6 +1,7 @@
 -- Arranged steps are legal, and lead where their counts lead. Source of reordering and acceleration: Konnov, Lazić, Veith, Widder, POPL
 -- 2017.
-use Rattle.std.specs.Prelude.{ℕ, ℤ, pos, ◌<◌, ◌≡◌, ◌≤ℤ◌, ◌+ℤ◌, ◌*ℤ◌, ◌≤◌, List, [], ◌∷◌, ◌++◌, length, map, flat_map, replicate, unsigned_abs, slice_get, Some, IsBitSet}
+use Rattle.std.specs.Prelude.{ℕ, ℤ, pos, ◌<◌, ◌≡◌, ◌≤ℤ◌, ◌+ℤ◌, ◌*ℤ◌, ◌≤◌, List, [], ◌∷◌, ◌++◌, length, map, flat_map, replicate, unsigned_abs, slice_get, Some}
+use Rattle.std.specs.Prelude.{IsBitSet}
 use Rattle.ta_base.specs.Sums.{total, times_in}
 use Rattle.std.specs.List.{AllByRecursion, range_with_len}
 use Rattle.ta_linear.specs.Values.{RowHolds}
@@ -21,7 +22,8 @@ value_after_steps a c rules place = value_at c place +ℤ total (λ r. rule_chan
 
 -- the value at a place at the end that counts have from a configuration: what each rule adds there, times its count
 abbrev pub value_at_end : Automaton → Config → List ℤ → ℕ → ℤ
-value_at_end a c counts place = value_at c place +ℤ total (λ r. rule_change a (slice_get a.rules r) place *ℤ count_at counts r) (range_with_len 0 (length a.rules))
+value_at_end a c counts place = value_at c place +ℤ total (λ r. rule_change a (slice_get a.rules r) place *ℤ count_at counts r)
+    (range_with_len 0 (length a.rules))
 
 -- each guard of some rows that a rule with a count above 0 names holds at a point
 abbrev pub GuardsHold : Automaton → List ℤ → (Rule → ℕ) → List Row → (ℕ → ℤ) → Type 0

@@ -1,5 +1,7 @@
 -- a comparison of a file with bytes, so far and at its end
-use Rattle.ta_shelf.proofs.Common.{◌≡◌, ◌≢◌, ◌∙◌, ℕ, ◌+◌, ◌≤◌, Bool, true, false, List, ◌++◌, length, take, drop, Ok, inl, inr, refl, sym, ap, subst, arith, take-add, take-append-drop, take-append_seam, append_assoc, length-append, length-drop, length-take-le, bytes_eq, bytes_eq-Decides, Call, Event}
+use Rattle.ta_shelf.proofs.Common.{◌≡◌, ◌≢◌, ◌∙◌, ℕ, ◌+◌, ◌≤◌, Bool, true, false, List, ◌++◌, length, take, drop, Ok, inl, inr, refl, sym, ap, subst, arith}
+use Rattle.ta_shelf.proofs.Common.{take-add, take-append-drop, take-append_seam, append_assoc, length-append, length-drop, length-take-le, bytes_eq}
+use Rattle.ta_shelf.proofs.Common.{bytes_eq-Decides, Call, Event}
 use Rattle.std.specs.Prelude.{Decides, MatchBool, nat_eq}
 use Rattle.std.proofs.lemmas.Bool.{true≢false}
 use Rattle.std.proofs.lemmas.Bool.Decides.{Decides-eqb}
@@ -9,7 +11,8 @@ use Rattle.ta_shelf.specs.Compare.{ComparesBy}
 use Rattle.ta_shelf.proofs.CallLemmas.{TurnsFrom}
 
 -- bytes begin with others exactly where as many of their first ones are equal to them
-pub begins_by : (b : Bool) (bytes first : List ℕ) → b ≡ bytes_eq (take (length first) bytes) first → MatchBool b (bytes ≡ first ++ drop (length first) bytes) ((rest : List ℕ) → bytes ≢ first ++ rest)
+pub begins_by : (b : Bool) (bytes first : List ℕ) → b ≡ bytes_eq (take (length first) bytes) first
+    → MatchBool b (bytes ≡ first ++ drop (length first) bytes) ((rest : List ℕ) → bytes ≢ first ++ rest)
 begins_by true bytes first is =
     let same : take (length first) bytes ≡ first = (bytes_eq-Decides (take (length first) bytes) first).0 (sym is) in
     sym (take-append-drop (length first) bytes) ∙ ap (λ (xs : List ℕ). xs ++ drop (length first) bytes) same
@@ -36,10 +39,12 @@ next_piece bytes piece at inside begins =
 -- bytes whose later ones don't begin with a piece don't begin with what was read and it
 pub unlike : (bytes piece : List ℕ) (at : ℕ) → ((rest : List ℕ) → drop at bytes ≢ piece ++ rest) → (rest : List ℕ) → bytes ≢ (take at bytes ++ piece) ++ rest
 unlike bytes piece at differs rest whole =
-    differs rest (append_cancel_left (take at bytes) (drop at bytes) (piece ++ rest) (take-append-drop at bytes ∙ whole ∙ append_assoc (take at bytes) piece rest))
+    differs rest (append_cancel_left (take at bytes) (drop at bytes) (piece ++ rest)
+    (take-append-drop at bytes ∙ whole ∙ append_assoc (take at bytes) piece rest))
 
 -- calls that spell the first bytes as a whole file tell whether these are all
-pub spelled : (name bytes : List ℕ) (at : ℕ) (calls : List Call) → at ≤ length bytes → Spells name calls (take at bytes) → ComparesBy name bytes (Ok (nat_eq at (length bytes))) calls
+pub spelled : (name bytes : List ℕ) (at : ℕ) (calls : List Call) → at ≤ length bytes → Spells name calls (take at bytes)
+    → ComparesBy name bytes (Ok (nat_eq at (length bytes))) calls
 spelled name bytes at calls inside spells = decided (nat_eq at (length bytes)) (Decides-eqb at (length bytes))
   where
     decided : (b : Bool) → Decides b (at ≡ length bytes) → ComparesBy name bytes (Ok b) calls
@@ -55,7 +60,8 @@ spelled name bytes at calls inside spells = decided (nat_eq at (length bytes)) (
     )
 
 -- calls that give a piece which differs tell that the file does
-pub differs_by : (name bytes piece : List ℕ) (at : ℕ) (before after : List Event) → ((rest : List ℕ) → drop at bytes ≢ piece ++ rest) → TurnsFrom name 0 (take at bytes ++ piece) before after → Grew (ComparesBy name bytes (Ok false)) before after
+pub differs_by : (name bytes piece : List ℕ) (at : ℕ) (before after : List Event) → ((rest : List ℕ) → drop at bytes ≢ piece ++ rest)
+    → TurnsFrom name 0 (take at bytes ++ piece) before after → Grew (ComparesBy name bytes (Ok false)) before after
 differs_by name bytes piece at before after differs log = record {
   added = log.turns;
   grown = log.grown;

@@ -1,5 +1,8 @@
 -- logs of calls that change files
-use Rattle.ta_shelf.proofs.ShellCommon.{◌≡◌, ◌∙◌, ℕ, List, [], ◌∷◌, ◌++◌, Result, Ok, Err, Refusal, Refused, ReadFailed, PutFailed, Memory, BeginRefuses, refl, sym, ap, subst, append_assoc, append-nil, ◌+◌, ◌<◌, length, take, take_more, get_or, concat, concat_more, AddsOr, PutFault, Contains, Contains-append_left, Contains-append_right, contains_here, each_append, each_weaker, Event, PutCall, Puts, puts, Changed, AreStaging, AreOfStages, LeavesFiles, IsOfStage, Stages, added, begun, Step}
+use Rattle.ta_shelf.proofs.ShellCommon.{◌≡◌, ◌∙◌, ℕ, List, [], ◌∷◌, ◌++◌, Result, Ok, Err, Refusal, Refused, ReadFailed, PutFailed, Memory, BeginRefuses, refl}
+use Rattle.ta_shelf.proofs.ShellCommon.{sym, ap, subst, append_assoc, append-nil, ◌+◌, ◌<◌, length, take, take_more, get_or, concat, concat_more, AddsOr}
+use Rattle.ta_shelf.proofs.ShellCommon.{PutFault, Contains, Contains-append_left, Contains-append_right, contains_here, each_append, each_weaker, Event}
+use Rattle.ta_shelf.proofs.ShellCommon.{PutCall, Puts, puts, Changed, AreStaging, AreOfStages, LeavesFiles, IsOfStage, Stages, added, begun, Step}
 use Rattle.ta_shelf.specs.declared.entry.Step.TheVariants.{Create, Append, Begin, Add, Publish, Abandon}
 
 pub puts-append : (first later : List PutCall) → puts (first ++ later) ≡ puts first ++ puts later
@@ -11,24 +14,30 @@ pub changed_none : (Such : List PutCall → Type 0) (before after : List Event) 
 changed_none Such before after same such = record { made = []; grown = same ∙ sym (append-nil before); such = such }
 
 -- one call
-pub changed_one : (Such : List PutCall → Type 0) (before after : List Event) (call : PutCall) → after ≡ before ++ Puts call ∷ [] → Such (call ∷ []) → Changed Such before after
+pub changed_one : (Such : List PutCall → Type 0) (before after : List Event) (call : PutCall) → after ≡ before ++ Puts call ∷ [] → Such (call ∷ [])
+    → Changed Such before after
 changed_one Such before after call grown such = record { made = call ∷ []; grown = grown; such = such }
 
 -- some calls, and then others
-pub changed_both : (First Second Such : List PutCall → Type 0) (before middle after : List Event) → Changed First before middle → Changed Second middle after → ((first second : List PutCall) → First first → Second second → Such (first ++ second)) → Changed Such before after
+pub changed_both : (First Second Such : List PutCall → Type 0) (before middle after : List Event) → Changed First before middle → Changed Second middle after
+    → ((first second : List PutCall) → First first → Second second → Such (first ++ second)) → Changed Such before after
 changed_both First Second Such before middle after one other so = record {
   made = one.made ++ other.made;
-  grown = other.grown ∙ ap (λ (events : List Event). events ++ puts other.made) one.grown ∙ append_assoc before (puts one.made) (puts other.made) ∙ ap (λ (events : List Event). before ++ events) (sym (puts-append one.made other.made));
+  grown = other.grown ∙ ap (λ (events : List Event). events ++ puts other.made) one.grown ∙ append_assoc before (puts one.made) (puts other.made)
+      ∙ ap (λ (events : List Event). before ++ events) (sym (puts-append one.made other.made));
   such = so one.made other.made one.such other.such;
 }
 
 -- some calls, and then one
-pub changed_then : (First Such : List PutCall → Type 0) (before middle after : List Event) (call : PutCall) → Changed First before middle → after ≡ middle ++ Puts call ∷ [] → ((first : List PutCall) → First first → Such (first ++ call ∷ [])) → Changed Such before after
+pub changed_then : (First Such : List PutCall → Type 0) (before middle after : List Event) (call : PutCall) → Changed First before middle → after ≡ middle
+    ++ Puts call ∷ [] → ((first : List PutCall) → First first → Such (first ++ call ∷ [])) → Changed Such before after
 changed_then First Such before middle after call one more so =
-    changed_both First (λ calls. calls ≡ call ∷ []) Such before middle after one (changed_one (λ calls. calls ≡ call ∷ []) middle after call more refl) (λ first second such is. subst (λ (calls : List PutCall). Such (first ++ calls)) (sym is) (so first such))
+    changed_both First (λ calls. calls ≡ call ∷ []) Such before middle after one (changed_one (λ calls. calls ≡ call ∷ []) middle after call more refl)
+    (λ first second such is. subst (λ (calls : List PutCall). Such (first ++ calls)) (sym is) (so first such))
 
 -- calls of which something else holds
-pub changed_weaker : (First Such : List PutCall → Type 0) (before after : List Event) → Changed First before after → ((calls : List PutCall) → First calls → Such calls) → Changed Such before after
+pub changed_weaker : (First Such : List PutCall → Type 0) (before after : List Event) → Changed First before after
+    → ((calls : List PutCall) → First calls → Such calls) → Changed Such before after
 changed_weaker First Such before after one so = record { made = one.made; grown = one.grown; such = so one.made one.such }
 
 -- names that stand in more names
@@ -69,7 +78,8 @@ stages_staging name bytes calls stages = subst (AreStaging (name ∷ [])) (sym s
 -- a piece more is added
 pub added-append : (name : List ℕ) (first later : List (List ℕ)) → added name (first ++ later) ≡ added name first ++ added name later
 added-append name [] later = refl
-added-append name (piece ∷ first) later = ap (λ (calls : List PutCall). record { name = name; step = Step.Add; bytes = piece; answer = Ok tt } ∷ calls) (added-append name first later)
+added-append name (piece ∷ first) later = ap (λ (calls : List PutCall). record { name = name; step = Step.Add; bytes = piece; answer = Ok tt } ∷ calls)
+    (added-append name first later)
 
 -- a name that can't be begun stands in more names
 pub begin_within : (names more : List (List ℕ)) (result : Result (Unit {0}) Refusal) → Within names more → BeginRefuses names result → BeginRefuses more result
@@ -80,24 +90,38 @@ begin_within names more (Err (PutFailed name)) within h = within name.now h
 begin_within names more (Err Memory) within h = tt
 
 -- one more piece
-pub added_more : (start : List ℕ) (pieces : List (List ℕ)) (count : ℕ) (piece now after : List ℕ) → now ≡ start ++ concat (take count pieces) → count < length pieces → get_or pieces count piece ≡ piece → after ≡ now ++ piece → after ≡ start ++ concat (take (count + 1) pieces)
+pub added_more : (start : List ℕ) (pieces : List (List ℕ)) (count : ℕ) (piece now after : List ℕ) → now ≡ start ++ concat (take count pieces)
+    → count < length pieces → get_or pieces count piece ≡ piece → after ≡ now ++ piece → after ≡ start ++ concat (take (count + 1) pieces)
 added_more start pieces count piece now after so_far below is more =
-    let next : take (count + 1) pieces ≡ take count pieces ++ piece ∷ [] = take_more pieces count piece below ∙ ap (λ (p : List ℕ). take count pieces ++ p ∷ []) is in
-    more ∙ ap (λ (bytes : List ℕ). bytes ++ piece) so_far ∙ append_assoc start (concat (take count pieces)) piece ∙ ap (λ (bytes : List ℕ). start ++ bytes) (sym (ap concat next ∙ concat_more (take count pieces) piece))
+    let next : take (count + 1) pieces ≡ take count pieces ++ piece ∷ [] = take_more pieces count piece below
+    ∙ ap (λ (p : List ℕ). take count pieces ++ p ∷ []) is in
+    more ∙ ap (λ (bytes : List ℕ). bytes ++ piece) so_far ∙ append_assoc start (concat (take count pieces)) piece
+    ∙ ap (λ (bytes : List ℕ). start ++ bytes) (sym (ap concat next ∙ concat_more (take count pieces) piece))
 
-pub grown_more : (name : List ℕ) (pieces : List (List ℕ)) (count : ℕ) (piece : List ℕ) (before now after : List Event) → now ≡ before ++ puts (added name (take count pieces)) → count < length pieces → get_or pieces count piece ≡ piece → after ≡ now ++ Puts (record { name = name; step = Step.Add; bytes = piece; answer = Ok tt }) ∷ [] → after ≡ before ++ puts (added name (take (count + 1) pieces))
+pub grown_more : (name : List ℕ) (pieces : List (List ℕ)) (count : ℕ) (piece : List ℕ) (before now after : List Event) → now ≡ before
+    ++ puts (added name (take count pieces)) → count < length pieces → get_or pieces count piece ≡ piece → after ≡ now
+    ++ Puts (record { name = name; step = Step.Add; bytes = piece; answer = Ok tt }) ∷ [] → after ≡ before ++ puts (added name (take (count + 1) pieces))
 grown_more name pieces count piece before now after so_far below is more =
-    let next : take (count + 1) pieces ≡ take count pieces ++ piece ∷ [] = take_more pieces count piece below ∙ ap (λ (p : List ℕ). take count pieces ++ p ∷ []) is in
+    let next : take (count + 1) pieces ≡ take count pieces ++ piece ∷ [] = take_more pieces count piece below
+    ∙ ap (λ (p : List ℕ). take count pieces ++ p ∷ []) is in
     let call : PutCall = record { name = name; step = Step.Add; bytes = piece; answer = Ok tt } in
-    more ∙ ap (λ (events : List Event). events ++ Puts call ∷ []) so_far ∙ append_assoc before (puts (added name (take count pieces))) (Puts call ∷ []) ∙ ap (λ (events : List Event). before ++ events) (sym (ap (λ (ps : List (List ℕ)). puts (added name ps)) next ∙ ap puts (added-append name (take count pieces) (piece ∷ [])) ∙ puts-append (added name (take count pieces)) (call ∷ [])))
+    more ∙ ap (λ (events : List Event). events ++ Puts call ∷ []) so_far ∙ append_assoc before (puts (added name (take count pieces))) (Puts call ∷ [])
+    ∙ ap (λ (events : List Event). before ++ events)
+    (sym (ap (λ (ps : List (List ℕ)). puts (added name ps)) next ∙ ap puts (added-append name (take count pieces) (piece ∷ []))
+    ∙ puts-append (added name (take count pieces)) (call ∷ [])))
 
-pub refused_adding : (name : List ℕ) (pieces : List (List ℕ)) (own bytes : List ℕ) (fault : PutFault) (before now : List Event) {after : List Event} → now ≡ before ++ puts (added name pieces) → own ≡ name → after ≡ now ++ Puts (record { name = own; step = Step.Add; bytes = bytes; answer = Err fault }) ∷ [] → Changed (AreStaging (name ∷ [])) before after
+pub refused_adding : (name : List ℕ) (pieces : List (List ℕ)) (own bytes : List ℕ) (fault : PutFault) (before now : List Event) {after : List Event}
+    → now ≡ before ++ puts (added name pieces) → own ≡ name → after ≡ now
+    ++ Puts (record { name = own; step = Step.Add; bytes = bytes; answer = Err fault }) ∷ [] → Changed (AreStaging (name ∷ [])) before after
 refused_adding name pieces own bytes fault before now {after} so_far is more =
-    changed_then (λ calls. calls ≡ added name pieces) (AreStaging (name ∷ [])) before now after (record { name = own; step = Step.Add; bytes = bytes; answer = Err fault }) (record { made = added name pieces; grown = so_far; such = refl }) more
-    (λ first same. each_append _ first _ (subst (AreStaging (name ∷ [])) (sym same) (added_staging name pieces)) ((subst (Contains (name ∷ [])) (sym is) (contains_here name []), tt), tt))
+    changed_then (λ calls. calls ≡ added name pieces) (AreStaging (name ∷ [])) before now after
+    (record { name = own; step = Step.Add; bytes = bytes; answer = Err fault }) (record { made = added name pieces; grown = so_far; such = refl }) more
+    (λ first same. each_append _ first _ (subst (AreStaging (name ∷ [])) (sym same) (added_staging name pieces))
+    ((subst (Contains (name ∷ [])) (sym is) (contains_here name []), tt), tt))
 
 -- begun, and filled
-pub added_all : (name bytes : List ℕ) (before now after : List Event) → now ≡ before ++ Puts (begun name) ∷ [] → Changed (AddsOr (Ok tt) name bytes) now after → Changed (Stages name bytes) before after
+pub added_all : (name bytes : List ℕ) (before now after : List Event) → now ≡ before ++ Puts (begun name) ∷ [] → Changed (AddsOr (Ok tt) name bytes) now after
+    → Changed (Stages name bytes) before after
 added_all name bytes before now after first adds = record {
   made = begun name ∷ adds.made;
   grown = adds.grown ∙ ap (λ (events : List Event). events ++ puts adds.made) first ∙ append_assoc before (Puts (begun name) ∷ []) (puts adds.made);
@@ -105,7 +129,8 @@ added_all name bytes before now after first adds = record {
 }
 
 -- begun, and let go behind a refusal
-pub changed_behind : (name : List ℕ) (before now then after : List Event) → now ≡ before ++ Puts (begun name) ∷ [] → Changed (AreStaging (name ∷ [])) now then → after ≡ then ++ Puts (record { name = name; step = Step.Abandon; bytes = []; answer = Ok tt }) ∷ [] → Changed (AreStaging (name ∷ [])) before after
+pub changed_behind : (name : List ℕ) (before now then after : List Event) → now ≡ before ++ Puts (begun name) ∷ [] → Changed (AreStaging (name ∷ [])) now then
+    → after ≡ then ++ Puts (record { name = name; step = Step.Abandon; bytes = []; answer = Ok tt }) ∷ [] → Changed (AreStaging (name ∷ [])) before after
 changed_behind name before now then after first adds last =
     let mine = contains_here name [] in
     changed_both (AreStaging (name ∷ [])) (AreStaging (name ∷ [])) (AreStaging (name ∷ [])) before now after

@@ -1,5 +1,8 @@
 -- what the calls of a reading give is seen in them and in the files
-use Rattle.ta_shelf.proofs.ShellCommon.{◌≡◌, ◌∷◌, ◌∙◌, refl, ap, Event, Reads, Puts, reads, List, [], ℕ, Option, None, Some, Result, Ok, Err, sym, subst, inl, inr, append-nil, Call, ReadsBy, Spells, bytes_given, Told, BeginsWith, GivesFirst, ReadsWhole, Missing, TooLong, Refusal, Refused, ReadFailed, PutFailed, Gives, IsReading, IsUnreadable, SaysOfFile, Absent, Begins, HasMore, Part, View, Whole, seen, where_told, Memory as NoMemory}
+use Rattle.ta_shelf.proofs.ShellCommon.{◌≡◌, ◌∷◌, ◌∙◌, refl, ap, Event, Reads, Puts, reads, List, [], ℕ, Option, None, Some, Result, Ok, Err, sym, subst, inl}
+use Rattle.ta_shelf.proofs.ShellCommon.{inr, append-nil, Call, ReadsBy, Spells, bytes_given, Told, BeginsWith, GivesFirst, ReadsWhole, Missing, TooLong}
+use Rattle.ta_shelf.proofs.ShellCommon.{Refusal, Refused, ReadFailed, PutFailed, Gives, IsReading, IsUnreadable, SaysOfFile, Absent, Begins, HasMore, Part}
+use Rattle.ta_shelf.proofs.ShellCommon.{View, Whole, seen, where_told, Memory as NoMemory}
 use Rattle.std.specs.Prelude.{IfSome}
 use Rattle.ta_shelf.specs.declared.fault.WholeFault.{WholeFault}
 use Rattle.ta_shelf.specs.declared.fault.WholeFault.TheVariants.{Failed, Memory}
@@ -31,20 +34,24 @@ is_reading name limit (Err Failed) calls h = inr (h.read, _, h.ends)
 is_reading name limit (Err TooLong) calls h = inl h.0
 is_reading name limit (Err Memory) calls h = elim h [ inl order ↦ inl order | inr stops ↦ inr (stops.read, _, stops.ends) ]
 
-pub sees_whole : (files : Option Told) (name : List ℕ) (limit : ℕ) (bytes : List ℕ) (calls : List Call) → Spells name calls bytes → IfSome files (λ m. ReadsWhole (m name) limit (Ok bytes)) → seen files calls name (Whole bytes)
+pub sees_whole : (files : Option Told) (name : List ℕ) (limit : ℕ) (bytes : List ℕ) (calls : List Call) → Spells name calls bytes
+    → IfSome files (λ m. ReadsWhole (m name) limit (Ok bytes)) → seen files calls name (Whole bytes)
 sees_whole None name limit bytes calls spells told = (all_of _ calls spells, tt)
 sees_whole (Some m) name limit bytes calls spells told = (all_of _ calls spells, told)
 
-pub sees_absent : (files : Option Told) (name : List ℕ) (limit : ℕ) (calls : List Call) → ReadsBy name limit (Err Missing) calls → IfSome files (λ m. ReadsWhole (m name) limit (Err Missing)) → seen files calls name Absent
+pub sees_absent : (files : Option Told) (name : List ℕ) (limit : ℕ) (calls : List Call) → ReadsBy name limit (Err Missing) calls
+    → IfSome files (λ m. ReadsWhole (m name) limit (Err Missing)) → seen files calls name Absent
 sees_absent None name limit calls stops told = (all_of _ calls stops, tt)
 sees_absent (Some m) name limit calls stops told = (all_of _ calls stops, told)
 
 -- the file is told to begin with what the calls gave
-begins_there : (files : Option Told) (name : List ℕ) (calls : List Call) → IfSome files (λ m. BeginsWith (m name) (bytes_given calls)) → where_told files name (Begins (bytes_given calls))
+begins_there : (files : Option Told) (name : List ℕ) (calls : List Call) → IfSome files (λ m. BeginsWith (m name) (bytes_given calls))
+    → where_told files name (Begins (bytes_given calls))
 begins_there None name calls told = tt
 begins_there (Some m) name calls told = told
 
-pub sees_more : (files : Option Told) (name : List ℕ) (limit : ℕ) (calls : List Call) → ReadsBy name limit (Err TooLong) calls → IfSome files (λ m. GivesFirst (m name) (Err TooLong) calls) → HasMore (seen files calls) name limit (λ bytes. Unit {0})
+pub sees_more : (files : Option Told) (name : List ℕ) (limit : ℕ) (calls : List Call) → ReadsBy name limit (Err TooLong) calls
+    → IfSome files (λ m. GivesFirst (m name) (Err TooLong) calls) → HasMore (seen files calls) name limit (λ bytes. Unit {0})
 sees_more files name limit calls longer told = record {
   bytes = bytes_given calls;
   seen = (all_of _ calls ([], record { in_order = longer.0; given = append-nil (bytes_given calls) }), begins_there files name calls told);
@@ -53,8 +60,10 @@ sees_more files name limit calls longer told = record {
 }
 
 -- a refusal that says why a file is no use
-pub gives_refusal : (view : View) (name : List ℕ) (limit : Limit) (calls : List Call) (words : List ℕ) (refusal : Refusal) → SaysOfFile limit name words refusal → IsUnreadable view name limit.bytes (λ bytes. Unit {0}) words → Gives view name limit calls (Err refusal)
-gives_refusal view name limit calls words (Refused number who why) says unreadable = (says.0, says.1, subst (IsUnreadable view name limit.bytes (λ bytes. Unit {0})) (sym says.2) unreadable)
+pub gives_refusal : (view : View) (name : List ℕ) (limit : Limit) (calls : List Call) (words : List ℕ) (refusal : Refusal) → SaysOfFile limit name words refusal
+    → IsUnreadable view name limit.bytes (λ bytes. Unit {0}) words → Gives view name limit calls (Err refusal)
+gives_refusal view name limit calls words (Refused number who why) says unreadable =
+    (says.0, says.1, subst (IsUnreadable view name limit.bytes (λ bytes. Unit {0})) (sym says.2) unreadable)
 gives_refusal view name limit calls words (ReadFailed who) says unreadable = absurd says
 gives_refusal view name limit calls words (PutFailed who) says unreadable = absurd says
 gives_refusal view name limit calls words NoMemory says unreadable = absurd says

@@ -1,5 +1,6 @@
 -- what is seen in some calls is seen in more, and known files show one thing
-use Rattle.ta_shelf.proofs.ShellCommon.{◌≡◌, ◌+◌, ◌∙◌, List, ◌++◌, ℕ, length, length-append, Option, Some, None, sym, ap, arith, append_assoc, Call, Told, Meaning, Absent, Begins, Leads, HasBytes, HasMore, Part, Sight, Unlike, View, Whole, in_calls, in_files, seen, Answer}
+use Rattle.ta_shelf.proofs.ShellCommon.{◌≡◌, ◌+◌, ◌∙◌, List, ◌++◌, ℕ, length, length-append, Option, Some, None, sym, ap, arith, append_assoc, Call, Told}
+use Rattle.ta_shelf.proofs.ShellCommon.{Meaning, Absent, Begins, Leads, HasBytes, HasMore, Part, Sight, Unlike, View, Whole, in_calls, in_files, seen, Answer}
 
 -- what is seen in one view is seen in another
 abbrev pub Sub : View → View → Type 0
@@ -32,19 +33,22 @@ pub has_more : (v w : View) → Sub v w → (name : List ℕ) (limit : ℕ) (byt
 has_more v w sub name limit bytes h = record { seen = sub name (Whole bytes) h.seen; within = h.within }
 
 -- told files show one content
-pub whole_one : (told : Told) (name : List ℕ) (limit : ℕ) (bytes other : List ℕ) → HasBytes (in_files told) name limit bytes → HasBytes (in_files told) name limit other → bytes ≡ other
+pub whole_one : (told : Told) (name : List ℕ) (limit : ℕ) (bytes other : List ℕ) → HasBytes (in_files told) name limit bytes
+    → HasBytes (in_files told) name limit other → bytes ≡ other
 whole_one told name limit bytes other h k = let e : Some bytes ≡ Some other = sym h.seen ∙ k.seen in cc
 
 pub not_absent : (told : Told) (name : List ℕ) (limit : ℕ) (bytes : List ℕ) → HasBytes (in_files told) name limit bytes → in_files told name Absent → ⊥
 not_absent told name limit bytes h absent = let e : Some bytes ≡ None = sym h.seen ∙ absent in cc
 
 -- told bytes are what others begin with
-pub begins_some : (told : Told) (name : List ℕ) (limit : ℕ) (bytes first : List ℕ) → HasBytes (in_files told) name limit bytes → in_files told name (Begins first) → (rest : List ℕ) × (bytes ≡ first ++ rest)
+pub begins_some : (told : Told) (name : List ℕ) (limit : ℕ) (bytes first : List ℕ) → HasBytes (in_files told) name limit bytes
+    → in_files told name (Begins first) → (rest : List ℕ) × (bytes ≡ first ++ rest)
 begins_some told name limit bytes first h begins =
     let e : Some bytes ≡ Some (first ++ begins.rest) = sym h.seen ∙ begins.held in
     (begins.rest, cc)
 
-pub not_longer : (told : Told) (name : List ℕ) (limit : ℕ) (Such : List ℕ → Type 0) (bytes : List ℕ) → HasBytes (in_files told) name limit bytes → HasMore (in_files told) name limit Such → ⊥
+pub not_longer : (told : Told) (name : List ℕ) (limit : ℕ) (Such : List ℕ → Type 0) (bytes : List ℕ) → HasBytes (in_files told) name limit bytes
+    → HasMore (in_files told) name limit Such → ⊥
 not_longer told name limit Such bytes h longer =
     let same = begins_some told name limit bytes longer.bytes h longer.seen in
     let past = longer.more in

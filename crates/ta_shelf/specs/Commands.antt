@@ -48,9 +48,11 @@ IsSo m view number = ((answer : Answer) × (answer.number ≡ number) × m.answe
 -- known files determine the status, whatever the calls
 pub record Decides (m : Meaning) : Type 0 where
   pub answers : (told : Told) (calls : List Call) (answer : Answer) → m.answers (seen (Some told) calls) answer → m.answers (in_files told) answer
-  pub refuses : (told : Told) (calls : List Call) (number : ℕ) (line : List ℕ) → m.refuses (seen (Some told) calls) number line → m.refuses (in_files told) number line
+  pub refuses : (told : Told) (calls : List Call) (number : ℕ) (line : List ℕ) → m.refuses (seen (Some told) calls) number line
+      → m.refuses (in_files told) number line
   pub one : (told : Told) (number other : ℕ) → IsSo m (in_files told) number → IsSo m (in_files told) other → number ≡ other
 
 -- if the files are known, the status is the one that they determine, 6 and 7 aside
 abbrev pub Exact : Meaning → Option Told → ℕ → Type 0
-Exact m files number = (told : Told) → files ≡ Some told → (expected : ℕ) → IsSo m (in_files told) expected → (number ≡ expected) ⊎ ((number ≡ 6) ⊎ (number ≡ 7))
+Exact m files number = (told : Told) → files ≡ Some told → (expected : ℕ) → IsSo m (in_files told) expected → (number ≡ expected)
+    ⊎ ((number ≡ 6) ⊎ (number ≡ 7))

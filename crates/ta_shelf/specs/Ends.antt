@@ -58,7 +58,8 @@ pub record Unstaged (names : List (List ℕ)) (before after : Option Told) (made
   pub staging : AreStaging names made
 
 -- a text was written whole, and then files were put in their places, up to that with this name
-pub record Unpublished (names : List (List ℕ)) (puts : List answer.Put) (name text : List ℕ) (before after : Option Told) (out out' : SinkState) (made : List Put) : Type 0 where
+pub record Unpublished (names : List (List ℕ)) (puts : List answer.Put) (name text : List ℕ) (before after : Option Told) (out out' : SinkState)
+    (made : List Put) : Type 0 where
   pub stopped : StopAt name puts before after
   pub refused : StopsPublishing names made
   pub written : out'.written ≡ with_text out.written text
@@ -189,13 +190,16 @@ abbrev pub FailureTold : Meaning → State → State → Type 0
 FailureTold m before after =
     (SinkFaltered before.out after.out × Tells output_line before.err after.err)
     ⊎ (Faulted before.shelf.faults after.shelf.faults
-    × (Acts m.puts (λ read made. (made ≡ []) × (name : List ℕ) × m.reads (seen before.shelf.files read) name × Tells (file_line name (codes "read failed")) before.err after.err) before.shelf.calls after.shelf.calls
+    × (Acts m.puts (λ read made. (made ≡ []) × (name : List ℕ) × m.reads (seen before.shelf.files read) name
+    × Tells (file_line name (codes "read failed")) before.err after.err) before.shelf.calls after.shelf.calls
     ⊎ ((name : List ℕ) × Contains m.puts name × Tells (file_line name (codes "write failed")) before.err after.err)))
 
 -- standard error: nothing with 0, 1 and 2; with 3 and 4 why the command was refused; with 6 what failed; and with 7 that memory ran out
 pub record Telling (m : Meaning) (number : ℕ) (before after : State) : Type 0 where
   pub silent : number ≤ 2 → after.err ≡ before.err
-  pub hindered : 3 ≤ number → number ≤ 4 → Acts m.puts (λ read made. (line : List ℕ) × LetGo m.puts line made × m.refuses (seen before.shelf.files read) number line × Tells line before.err after.err) before.shelf.calls after.shelf.calls
+  pub hindered : 3 ≤ number → number ≤ 4 → Acts m.puts
+      (λ read made. (line : List ℕ) × LetGo m.puts line made × m.refuses (seen before.shelf.files read) number line × Tells line before.err after.err)
+      before.shelf.calls after.shelf.calls
   pub failed : number ≡ 6 → FailureTold m before after
   pub memory : number ≡ 7 → Tells memory_line before.err after.err
 

@@ -15,4 +15,5 @@ LeadsSo name other (Err Memory) = Unit {0}
 -- the call by which a log records whether a name and another one lead to the same place: it asks for no bytes of a file, and its answer is
 -- 1 or 0, and then the other name
 abbrev pub asks_place : List ℕ → List ℕ → Result Bool ShelfFault → Call
-asks_place name other answer = record { name = name; at = 0; asked = 0; gave = result_map_both (λ same. (if same then 1 else 0) ∷ other) (λ fault. fault) answer }
+asks_place name other answer = record
+    { name = name; at = 0; asked = 0; gave = result_map_both (λ same. (if same then 1 else 0) ∷ other) (λ fault. fault) answer }

@@ -65,8 +65,10 @@ PublishesOne (Err halt.Memory) name bytes files files' made = PublishRefused nam
 
 -- files are put, and a text was written whole, or not, by such calls
 abbrev pub Settled : List answer.Put → List ℕ → Result (Unit {0}) Halt → Option Told → Option Told → SinkState → SinkState → List Put → Type 0
-Settled puts text (Ok u) files files' out out' made = Stand puts files files' × PutWhole (map put_text puts) made × (out'.written ≡ with_text out.written text) × Calm out out'
-Settled puts text (Err halt.Unwritten) files files' out out' made = Unstaged (names_put puts) files files' made × AddsPrefix text out.written out'.written × SinkFaltered out out'
+Settled puts text (Ok u) files files' out out' made = Stand puts files files' × PutWhole (map put_text puts) made × (out'.written ≡ with_text out.written text)
+    × Calm out out'
+Settled puts text (Err halt.Unwritten) files files' out out' made = Unstaged (names_put puts) files files' made × AddsPrefix text out.written out'.written
+    × SinkFaltered out out'
 Settled puts text (Err (halt.Unput name)) files files' out out' made =
     Contains (names_put puts) name.now
     × ((Unstaged (names_put puts) files files' made × Tells text out out')

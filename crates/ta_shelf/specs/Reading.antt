@@ -41,7 +41,8 @@ IsReading name calls = ReadsOn name 0 calls ⊎ ((read : List ℕ) × (last : Re
 -- the bytes of a file; or it is refused; or reading it failed
 abbrev pub Gives : View → List ℕ → Limit → List Call → Result (List ℕ) Refusal → Type 0
 Gives view name limit calls (Ok bytes) = HasBytes view name limit.bytes bytes × Spells name calls bytes
-Gives view name limit calls (Err (Refused n who why)) = (n ≡ limit.number) × (who.now ≡ name) × IsUnreadable view name limit.bytes (λ bytes. Unit {0}) (phrase_text why)
+Gives view name limit calls (Err (Refused n who why)) = (n ≡ limit.number) × (who.now ≡ name)
+    × IsUnreadable view name limit.bytes (λ bytes. Unit {0}) (phrase_text why)
 Gives view name limit calls (Err (ReadFailed who)) = who.now ≡ name
 Gives view name limit calls (Err (PutFailed who)) = ⊥
 Gives view name limit calls (Err Memory) = Unit {0}

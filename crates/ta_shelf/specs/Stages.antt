@@ -125,12 +125,15 @@ MeantBy {A} {F} {T} kind value name bytes (Err Memory) = Unit {0}
 
 -- what reading a file of a kind gives of what is seen in its calls and in the files
 abbrev pub Yields : {A F T : Type 0} → Kind A F → (T → A) → Option Told → List ℕ → Result T Refusal → List Call → Type 0
-Yields {A} {F} {T} kind value files name (Ok given) calls = (bytes : List ℕ) × Spells name calls bytes × HasBytes (seen files calls) name kind.limit.bytes bytes × kind.means bytes (value given)
-Yields {A} {F} {T} kind value files name (Err (Refused number who why)) calls = Hinders kind (seen files calls) name number (file_line who.now (phrase_text why))
+Yields {A} {F} {T} kind value files name (Ok given) calls = (bytes : List ℕ) × Spells name calls bytes × HasBytes (seen files calls) name kind.limit.bytes bytes
+    × kind.means bytes (value given)
+Yields {A} {F} {T} kind value files name (Err (Refused number who why)) calls = Hinders kind (seen files calls) name number
+    (file_line who.now (phrase_text why))
 Yields {A} {F} {T} kind value files name (Err (ReadFailed who)) calls = who.now ≡ name
 Yields {A} {F} {T} kind value files name (Err (PutFailed who)) calls = ⊥
 Yields {A} {F} {T} kind value files name (Err Memory) calls = Unit {0}
 
-pub record Stage {A F T : Type 0} (kind : Kind A F) (value : T → A) (files : Option Told) (name : List ℕ) (result : Result T Refusal) (calls : List Call) : Type 0 where
+pub record Stage {A F T : Type 0} (kind : Kind A F) (value : T → A) (files : Option Told) (name : List ℕ) (result : Result T Refusal) (calls : List Call) : Type
+    0 where
   pub reading : IsReading name calls
   pub yields : Yields kind value files name result calls

@@ -105,11 +105,12 @@ SettlesFile bytes number text name written (Err (PutFailed who)) = Unit {0}
 SettlesFile bytes number text name written (Err Memory) = ⊥
 
 -- the calls before an answer is decided: those that read, and then those that stage its output; and what the answer is, given what is seen
-pub record SaysAndStages {T : Type 0} (m : Meaning) (named bytes : T → List ℕ) (result : Result (StagedAnswer T) Refusal) (before after : ShelfState) : Type 0 where
-  pub lost : List ℕ
-  pub middle : List Event
-  pub says : Grew (Says m before.files (result_seen bytes lost result)) before.calls middle
-  pub staged : Changed (StagedBy m.puts named bytes result before.faults after.faults) middle after.calls
+pub record SaysAndStages {T : Type 0} (m : Meaning) (named bytes : T → List ℕ) (result : Result (StagedAnswer T) Refusal) (before after : ShelfState) : Type 0
+  where
+    pub lost : List ℕ
+    pub middle : List Event
+    pub says : Grew (Says m before.files (result_seen bytes lost result)) before.calls middle
+    pub staged : Changed (StagedBy m.puts named bytes result before.faults after.faults) middle after.calls
 
 -- the output of a name that a stage took, if there is one
 abbrev pub IsOutputOf : {T : Type 0} → List ℕ → Option T → StagedOutput T → Type 0

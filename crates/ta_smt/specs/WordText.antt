@@ -1,5 +1,6 @@
 -- The texts that name a schema: its pattern's name, its start set and its elements.
-use Rattle.std.specs.Prelude.{ℕ, zero, suc, ◌&&◌, ◌==◌, Bool, false, List, [], ◌∷◌, codes, decimal, not, Option, None, Some, if◌then◌else◌, option_and_then, option_map}
+use Rattle.std.specs.Prelude.{ℕ, zero, suc, ◌&&◌, ◌==◌, Bool, false, List, [], ◌∷◌, codes, decimal, not, Option, None, Some, if◌then◌else◌, option_and_then}
+use Rattle.std.specs.Prelude.{option_map}
 use Rattle.std.specs.List.{list_all, list_any, slice_split}
 use Rattle.std.specs.Option.{unwrap_or}
 use Rattle.std.specs.Str.{bytes_eq}
@@ -10,8 +11,8 @@ use Rattle.ta_words.specs.declared.element.Element.TheVariants.{Event, Rise, Fal
 -- the keywords, which are not names
 abbrev pub keywords : List (List ℕ)
 keywords =
-    codes "automaton" ∷ codes "parameters" ∷ codes "shared" ∷ codes "locations" ∷ codes "initial" ∷ codes "processes" ∷ codes "resilience" ∷ codes "rule" ∷ codes "when"
-    ∷ codes "do" ∷ codes "pattern" ∷ codes "start" ∷ codes "empty" ∷ codes "event" ∷ codes "after" ∷ []
+    codes "automaton" ∷ codes "parameters" ∷ codes "shared" ∷ codes "locations" ∷ codes "initial" ∷ codes "processes" ∷ codes "resilience" ∷ codes "rule"
+    ∷ codes "when" ∷ codes "do" ∷ codes "pattern" ∷ codes "start" ∷ codes "empty" ∷ codes "event" ∷ codes "after" ∷ []
 
 -- a letter or `_` stands first
 abbrev pub begins_by_letter : List ℕ → Bool
@@ -33,7 +34,8 @@ number_up_to (suc limit) text = if bytes_eq text (decimal (suc limit)) then Some
 
 -- an event, a rise guard, or a set of fall guards, by its letter: `e`, `r`, `f`
 abbrev pub element_by : ℕ → ℕ → Option Element
-element_by letter number = if letter == 101 then Some (Event number) else (if letter == 114 then Some (Rise number) else (if letter == 102 then Some (Fall number) else None))
+element_by letter number = if letter == 101 then Some (Event number) else
+    (if letter == 114 then Some (Rise number) else (if letter == 102 then Some (Fall number) else None))
 
 -- `eN`, `rN` or `fN`, with N from 0 to 255
 abbrev pub element_of : List ℕ → Option Element

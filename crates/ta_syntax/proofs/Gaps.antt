@@ -1,5 +1,6 @@
 -- White space and comments.
-use Rattle.ta_syntax.proofs.Common.{◌≡◌, ℕ, Bool, true, false, List, [], ◌∷◌, ◌++◌, length, inl, inr, ⊎_elim, refl, sym, ap, ◌∙◌, append_assoc, arith, ◌<◌, length-append, AllByRecursion, append-nil, Avoids, IsSpace, IsGap, IsLastGap, SkipsComment, SkipsPiece, SkipsGap}
+use Rattle.ta_syntax.proofs.Common.{◌≡◌, ℕ, Bool, true, false, List, [], ◌∷◌, ◌++◌, length, inl, inr, ⊎_elim, refl, sym, ap, ◌∙◌, append_assoc, arith, ◌<◌}
+use Rattle.ta_syntax.proofs.Common.{length-append, AllByRecursion, append-nil, Avoids, IsSpace, IsGap, IsLastGap, SkipsComment, SkipsPiece, SkipsGap}
 
 pub comment_is_last : (bytes rest : List ℕ) → Avoids 10 bytes → rest ≡ [] → SkipsComment bytes rest
 comment_is_last bytes rest free e = (bytes, free, inr (refl, e))
@@ -30,14 +31,32 @@ pub gap_goes_on : (bytes rest after : List ℕ) → SkipsGap bytes rest → Skip
 gap_goes_on bytes [] after so_far piece = absurd piece
 gap_goes_on bytes (b ∷ rest) after so_far (inl white) =
     ⊎_elim
-    (λ (g : IsGap so_far.0). (so_far.0 ++ b ∷ [], so_far.1 ∙ ap (λ (x : List ℕ). so_far.0 ++ b ∷ x) white.1 ∙ sym (append_assoc so_far.0 (b ∷ []) after), inl (with_piece false so_far.0 (b ∷ []) g (inl (white.0, tt)))))
+    (λ (g : IsGap so_far.0). (
+      so_far.0 ++ b ∷ [],
+      so_far.1 ∙ ap (λ (x : List ℕ). so_far.0 ++ b ∷ x) white.1
+          ∙ sym (append_assoc so_far.0 (b ∷ []) after),
+      inl (with_piece false so_far.0 (b ∷ []) g (inl (white.0, tt))),
+    ))
     (λ (g : IsLastGap so_far.0 × (b ∷ rest ≡ [])). absurd (let e = g.1 in cc))
     so_far.2
 gap_goes_on bytes (b ∷ rest) after so_far (inr comment) =
     ⊎_elim
     (λ (g : IsGap so_far.0). ⊎_elim
-    (λ (e : rest ≡ comment.1.0 ++ 10 ∷ after). (so_far.0 ++ b ∷ (comment.1.0 ++ 10 ∷ []), so_far.1 ∙ ap (λ (x : List ℕ). so_far.0 ++ b ∷ x) (e ∙ sym (append_assoc comment.1.0 (10 ∷ []) after)) ∙ sym (append_assoc so_far.0 (b ∷ (comment.1.0 ++ 10 ∷ [])) after), inl (with_piece false so_far.0 (b ∷ (comment.1.0 ++ 10 ∷ [])) g (inr (comment.0, comment_space comment.1.0 comment.1.1)))))
-    (λ (e : (rest ≡ comment.1.0) × (after ≡ [])). (so_far.0 ++ b ∷ comment.1.0, so_far.1 ∙ ap (λ (x : List ℕ). so_far.0 ++ b ∷ x) (e.0 ∙ sym (append-nil comment.1.0)) ∙ ap (λ (x : List ℕ). so_far.0 ++ b ∷ (comment.1.0 ++ x)) (sym e.1) ∙ sym (append_assoc so_far.0 (b ∷ comment.1.0) after), inr (with_piece true so_far.0 (b ∷ comment.1.0) g (inr (comment.0, comment_last comment.1.0 comment.1.1)), e.1)))
+    (λ (e : rest ≡ comment.1.0 ++ 10 ∷ after). (
+      so_far.0 ++ b ∷ (comment.1.0 ++ 10 ∷ []),
+      so_far.1 ∙ ap (λ (x : List ℕ). so_far.0 ++ b ∷ x) (e ∙ sym (append_assoc comment.1.0 (10 ∷ []) after))
+          ∙ sym (append_assoc so_far.0 (b ∷ (comment.1.0 ++ 10 ∷ [])) after),
+      inl
+          (with_piece false so_far.0 (b ∷ (comment.1.0 ++ 10 ∷ [])) g (inr (comment.0, comment_space comment.1.0 comment.1.1))),
+    ))
+    (λ (e : (rest ≡ comment.1.0) × (after ≡ [])). (
+      so_far.0 ++ b ∷ comment.1.0,
+      so_far.1 ∙ ap (λ (x : List ℕ). so_far.0 ++ b ∷ x) (e.0 ∙ sym (append-nil comment.1.0))
+          ∙ ap (λ (x : List ℕ). so_far.0 ++ b ∷ (comment.1.0 ++ x)) (sym e.1)
+          ∙ sym (append_assoc so_far.0 (b ∷ comment.1.0) after),
+      inr
+          (with_piece true so_far.0 (b ∷ comment.1.0) g (inr (comment.0, comment_last comment.1.0 comment.1.1)), e.1),
+    ))
     comment.1.2)
     (λ (g : IsLastGap so_far.0 × (b ∷ rest ≡ [])). absurd (let e = g.1 in cc))
     so_far.2
@@ -46,4 +65,5 @@ gap_goes_on bytes (b ∷ rest) after so_far (inr comment) =
 pub piece_shorter : (rest after : List ℕ) → SkipsPiece rest after → length after < length rest
 piece_shorter [] after h = absurd h
 piece_shorter (b ∷ bs) after (inl h) = let e = ap length h.1 in omega arith
-piece_shorter (b ∷ bs) after (inr h) = ⊎_elim (λ (e : bs ≡ h.1.0 ++ 10 ∷ after). omega (arith, ap length e, length-append h.1.0 (10 ∷ after))) (λ (e : (bs ≡ h.1.0) × (after ≡ [])). omega (arith, ap length e.1)) h.1.2
+piece_shorter (b ∷ bs) after (inr h) = ⊎_elim (λ (e : bs ≡ h.1.0 ++ 10 ∷ after). omega (arith, ap length e, length-append h.1.0 (10 ∷ after)))
+    (λ (e : (bs ≡ h.1.0) × (after ≡ [])). omega (arith, ap length e.1)) h.1.2

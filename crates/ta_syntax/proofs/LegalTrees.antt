@@ -1,5 +1,9 @@
 -- What the type of a tree keeps, in the words of the grammar and of the limits.
-use Rattle.ta_syntax.proofs.Common.{ℕ, ◌≤◌, List, [], ◌∷◌, length, map, arith, short_map, IsNameText, IsSome, IsComparison, IsUpdate, IsRule, IsEvent, IsPattern, IsTree, plain_name, plain_comparison, plain_location, plain_update, plain_rule, plain_event, plain_pattern, plain_tree, at_start, IsShallow, IsRuleWithin, IsEventWithin, IsPatternWithin, IsTreeWithin, AreTokens, ScanStops, FileText, IsStopped, FirstGrammarFault, IsSpelled, IsTreeOf, Spelled, TreeComparison, TreeUpdate, TreeRule, TreeEvent, TreePattern, Tree, Token, FileFault, each_map_all}
+use Rattle.ta_syntax.proofs.Common.{ℕ, ◌≤◌, List, [], ◌∷◌, length, map, arith, short_map, IsNameText, IsSome, IsComparison, IsUpdate, IsRule, IsEvent}
+use Rattle.ta_syntax.proofs.Common.{IsPattern, IsTree, plain_name, plain_comparison, plain_location, plain_update, plain_rule, plain_event, plain_pattern}
+use Rattle.ta_syntax.proofs.Common.{plain_tree, at_start, IsShallow, IsRuleWithin, IsEventWithin, IsPatternWithin, IsTreeWithin, AreTokens, ScanStops, FileText}
+use Rattle.ta_syntax.proofs.Common.{IsStopped, FirstGrammarFault, IsSpelled, IsTreeOf, Spelled, TreeComparison, TreeUpdate, TreeRule, TreeEvent, TreePattern}
+use Rattle.ta_syntax.proofs.Common.{Tree, Token, FileFault, each_map_all}
 use Rattle.ta_syntax.specs.declared.fault.FileFault.TheVariants as fault
 
 some_map : {A B : Type 0} (g : A → B) (xs : List A) → 1 ≤ length xs → IsSome (map g xs)
@@ -19,22 +23,59 @@ update_legal : (u : TreeUpdate) → IsUpdate (plain_update u)
 update_legal u = record { name = u.name.legal; amount = u.amount.legal }
 
 rule_legal : (r : TreeRule) → IsRule (plain_rule r)
-rule_legal r = record { name = r.name.legal; from = r.from.legal; to = r.to.legal; guards = each_map_all IsComparison plain_comparison r.guards comparison_legal; updates = each_map_all IsUpdate plain_update r.updates update_legal }
+rule_legal r = record {
+  name = r.name.legal;
+  from = r.from.legal;
+  to = r.to.legal;
+  guards = each_map_all IsComparison plain_comparison r.guards
+      comparison_legal;
+  updates = each_map_all IsUpdate plain_update r.updates update_legal;
+}
 
 rule_within : (r : TreeRule) → IsRuleWithin (plain_rule r)
-rule_within r = record { guards = short_map plain_comparison r.guards 16 r.few_guards; shallow = each_map_all IsShallow plain_comparison r.guards comparison_shallow; updates = short_map plain_update r.updates 16 r.few_updates }
+rule_within r = record {
+  guards = short_map plain_comparison r.guards 16 r.few_guards;
+  shallow = each_map_all IsShallow plain_comparison r.guards
+      comparison_shallow;
+  updates = short_map plain_update r.updates 16 r.few_updates;
+}
 
 event_legal : (e : TreeEvent) → IsEvent (plain_event e)
-event_legal e = record { name = e.name.legal; after = each_map_all IsNameText plain_name e.after name_legal; some = some_map plain_comparison e.condition e.some; condition = each_map_all IsComparison plain_comparison e.condition comparison_legal }
+event_legal e = record {
+  name = e.name.legal;
+  after = each_map_all IsNameText plain_name e.after name_legal;
+  some = some_map plain_comparison e.condition
+      e.some;
+  condition = each_map_all IsComparison plain_comparison e.condition comparison_legal;
+}
 
 event_within : (e : TreeEvent) → IsEventWithin (plain_event e)
-event_within e = record { after = short_map plain_name e.after 8 e.few_after; condition = short_map plain_comparison e.condition 16 e.few; shallow = each_map_all IsShallow plain_comparison e.condition comparison_shallow }
+event_within e = record {
+  after = short_map plain_name e.after 8 e.few_after;
+  condition = short_map plain_comparison e.condition 16 e.few;
+  shallow =
+      each_map_all IsShallow plain_comparison e.condition comparison_shallow;
+}
 
 pattern_legal : (p : TreePattern) → IsPattern (plain_pattern p)
-pattern_legal p = record { name = p.name.legal; start = each_map_all IsComparison plain_comparison p.start comparison_legal; empty = each_map_all IsNameText plain_name p.empty name_legal; events = each_map_all IsEvent plain_event p.events event_legal }
+pattern_legal p = record {
+  name = p.name.legal;
+  start = each_map_all IsComparison plain_comparison p.start comparison_legal;
+  empty = each_map_all IsNameText
+      plain_name p.empty name_legal;
+  events = each_map_all IsEvent plain_event p.events event_legal;
+}
 
 pattern_within : (p : TreePattern) → IsPatternWithin (plain_pattern p)
-pattern_within p = record { start = short_map plain_comparison p.start 16 p.few_start; shallow = each_map_all IsShallow plain_comparison p.start comparison_shallow; empty = short_map plain_name p.empty 32 p.few_empty; events = short_map plain_event p.events 8 p.few_events; each_event = each_map_all IsEventWithin plain_event p.events event_within }
+pattern_within p = record {
+  start = short_map plain_comparison p.start 16 p.few_start;
+  shallow = each_map_all IsShallow plain_comparison p.start
+      comparison_shallow;
+  empty = short_map plain_name p.empty 32 p.few_empty;
+  events = short_map plain_event p.events 8 p.few_events;
+  each_event = each_map_all
+      IsEventWithin plain_event p.events event_within;
+}
 
 pub tree_legal : (t : Tree) → IsTree (plain_tree t)
 tree_legal t = record {
@@ -72,7 +113,8 @@ scan_fault bytes fault.Memory h = tt
 scan_fault bytes (fault.Byte at) h = h
 scan_fault bytes _ h = absurd h
 
-pub file_fault : (bytes : List ℕ) (tokens : List Token) (e : FileFault) → AreTokens bytes tokens → IsStopped FileText at_start (length bytes) tokens e → FirstGrammarFault bytes e
+pub file_fault : (bytes : List ℕ) (tokens : List Token) (e : FileFault) → AreTokens bytes tokens → IsStopped FileText at_start (length bytes) tokens e
+    → FirstGrammarFault bytes e
 file_fault bytes tokens fault.Memory are h = tt
 file_fault bytes tokens (fault.Syntax at) are h = record { tokens = tokens; are = are; stopped = h }
 file_fault bytes tokens (fault.TooDeep at) are h = record { tokens = tokens; are = are; stopped = h }

@@ -1,5 +1,11 @@
 -- The tokens of what is printed.
-use Rattle.ta_syntax.proofs.Common.{◌≡◌, ℕ, Bool, true, false, List, [], ◌∷◌, ◌++◌, length, ◌+◌, inl, refl, ap, AllByRecursion, is_white, kind_bytes, IsKind, IsNameText, lengthens, IsSpace, IsLastGap, ScansTo, AreTokens, kinds, separator, printed, Terms, Term, Factor, done, term, number, times, alone, blank, named, nested, sign_kind, relation_kind, sum_kinds, more_kinds, term_kinds, factor_kinds, IsSum, AreTerms, IsTerm, IsFactor, further, listed, led, ended, each, PlainComparison, PlainLocation, PlainUpdate, PlainRule, PlainEvent, PlainPattern, PlainTree, name_kinds, initial_kinds, location_kinds, comparison_kinds, update_kinds, rule_kinds, event_kinds, pattern_kinds, file_kinds, IsComparison, IsUpdate, IsRule, IsEvent, IsPattern, IsTree, Kind, Mark, Relation, Sign, Token}
+use Rattle.ta_syntax.proofs.Common.{◌≡◌, ℕ, Bool, true, false, List, [], ◌∷◌, ◌++◌, length, ◌+◌, inl, refl, ap, AllByRecursion, is_white, kind_bytes, IsKind}
+use Rattle.ta_syntax.proofs.Common.{IsNameText, lengthens, IsSpace, IsLastGap, ScansTo, AreTokens, kinds, separator, printed, Terms, Term, Factor, done, term}
+use Rattle.ta_syntax.proofs.Common.{number, times, alone, blank, named, nested, sign_kind, relation_kind, sum_kinds, more_kinds, term_kinds, factor_kinds}
+use Rattle.ta_syntax.proofs.Common.{IsSum, AreTerms, IsTerm, IsFactor, further, listed, led, ended, each, PlainComparison, PlainLocation, PlainUpdate}
+use Rattle.ta_syntax.proofs.Common.{PlainRule, PlainEvent, PlainPattern, PlainTree, name_kinds, initial_kinds, location_kinds, comparison_kinds, update_kinds}
+use Rattle.ta_syntax.proofs.Common.{rule_kinds, event_kinds, pattern_kinds, file_kinds, IsComparison, IsUpdate, IsRule, IsEvent, IsPattern, IsTree, Kind, Mark}
+use Rattle.ta_syntax.proofs.Common.{Relation, Sign, Token}
 use Rattle.ta_syntax.specs.declared.tokens.Kind.TheVariants as kind
 use Rattle.ta_syntax.specs.declared.tokens.Mark.TheVariants as mark
 use Rattle.ta_syntax.specs.declared.tokens.Relation.TheVariants as relation
@@ -47,7 +53,8 @@ small_last [] s = tt
 small_last (b ∷ []) s = inl (s, tt)
 small_last (b ∷ c ∷ bs) s = absurd s
 
-printed_from : (gap : List ℕ) (at : ℕ) (ks : List Kind) → IsSmall gap → AllByRecursion IsKind ks → (ts : List Token) × ScansTo (λ a r. IsLastGap r) at (gap ++ printed ks) ts × (kinds ts ≡ ks)
+printed_from : (gap : List ℕ) (at : ℕ) (ks : List Kind) → IsSmall gap → AllByRecursion IsKind ks → (ts : List Token)
+    × ScansTo (λ a r. IsLastGap r) at (gap ++ printed ks) ts × (kinds ts ≡ ks)
 printed_from gap at [] s legal = ([], small_last gap s, refl)
 printed_from gap at (k ∷ ks) s legal =
     let t = made k (at + length gap) legal.0 in
@@ -96,23 +103,29 @@ mutual
   factor_legal (named n) h = (h, tt)
   factor_legal (nested ts) h = (tt, legal-append (sum_kinds ts) (kind.Fixed mark.Close ∷ []) (sum_legal ts h) (tt, tt))
 
-further_legal : {A : Type 0} (P : A → Type 0) (item : A → List Kind) → ((x : A) → P x → Legal (item x)) → (xs : List A) → AllByRecursion P xs → Legal (further kind.Fixed item xs)
+further_legal : {A : Type 0} (P : A → Type 0) (item : A → List Kind) → ((x : A) → P x → Legal (item x)) → (xs : List A) → AllByRecursion P xs
+    → Legal (further kind.Fixed item xs)
 further_legal P item f [] h = tt
 further_legal P item f (x ∷ xs) h = (tt, legal-append (item x) (further kind.Fixed item xs) (f x h.0) (further_legal P item f xs h.1))
 
-listed_legal : {A : Type 0} (P : A → Type 0) (item : A → List Kind) → ((x : A) → P x → Legal (item x)) → (xs : List A) → AllByRecursion P xs → Legal (listed kind.Fixed item xs)
+listed_legal : {A : Type 0} (P : A → Type 0) (item : A → List Kind) → ((x : A) → P x → Legal (item x)) → (xs : List A) → AllByRecursion P xs
+    → Legal (listed kind.Fixed item xs)
 listed_legal P item f [] h = tt
 listed_legal P item f (x ∷ xs) h = legal-append (item x) (further kind.Fixed item xs) (f x h.0) (further_legal P item f xs h.1)
 
-led_legal : {A : Type 0} (m : Mark) (P : A → Type 0) (item : A → List Kind) → ((x : A) → P x → Legal (item x)) → (xs : List A) → AllByRecursion P xs → Legal (led kind.Fixed m item xs)
+led_legal : {A : Type 0} (m : Mark) (P : A → Type 0) (item : A → List Kind) → ((x : A) → P x → Legal (item x)) → (xs : List A) → AllByRecursion P xs
+    → Legal (led kind.Fixed m item xs)
 led_legal m P item f [] h = tt
 led_legal m P item f (x ∷ xs) h = (tt, listed_legal P item f (x ∷ xs) h)
 
-ended_legal : {A : Type 0} (m : Mark) (P : A → Type 0) (item : A → List Kind) → ((x : A) → P x → Legal (item x)) → (xs : List A) → AllByRecursion P xs → Legal (ended kind.Fixed m item xs)
+ended_legal : {A : Type 0} (m : Mark) (P : A → Type 0) (item : A → List Kind) → ((x : A) → P x → Legal (item x)) → (xs : List A) → AllByRecursion P xs
+    → Legal (ended kind.Fixed m item xs)
 ended_legal m P item f [] h = tt
-ended_legal m P item f (x ∷ xs) h = (tt, legal-append (listed kind.Fixed item (x ∷ xs)) (kind.Fixed mark.Semicolon ∷ []) (listed_legal P item f (x ∷ xs) h) (tt, tt))
+ended_legal m P item f (x ∷ xs) h =
+    (tt, legal-append (listed kind.Fixed item (x ∷ xs)) (kind.Fixed mark.Semicolon ∷ []) (listed_legal P item f (x ∷ xs) h) (tt, tt))
 
-each_legal : {A : Type 0} (P : A → Type 0) (item : A → List Kind) → ((x : A) → P x → Legal (item x)) → (xs : List A) → AllByRecursion P xs → Legal (each item xs)
+each_legal : {A : Type 0} (P : A → Type 0) (item : A → List Kind) → ((x : A) → P x → Legal (item x)) → (xs : List A) → AllByRecursion P xs
+    → Legal (each item xs)
 each_legal P item f [] h = tt
 each_legal P item f (x ∷ xs) h = legal-append (item x) (each item xs) (f x h.0) (each_legal P item f xs h.1)
 
@@ -127,7 +140,8 @@ location_legal : (l : PlainLocation) → IsNameText l.name → Legal (location_k
 location_legal l h = (h, initial_legal l.initial)
 
 comparison_legal : (c : PlainComparison) → IsComparison c → Legal (comparison_kinds c)
-comparison_legal c h = legal-append (sum_kinds c.left) (relation_kind c.relation ∷ sum_kinds c.right) (sum_legal c.left h.left) (relation_legal c.relation, sum_legal c.right h.right)
+comparison_legal c h = legal-append (sum_kinds c.left) (relation_kind c.relation ∷ sum_kinds c.right) (sum_legal c.left h.left)
+    (relation_legal c.relation, sum_legal c.right h.right)
 
 update_legal : (u : PlainUpdate) → IsUpdate u → Legal (update_kinds u)
 update_legal u h = (h.name, (tt, (h.amount, tt)))
@@ -147,7 +161,8 @@ rule_legal r h = (
             h.to,
             legal-append (led kind.Fixed mark.When comparison_kinds r.guards) (led kind.Fixed mark.Do update_kinds r.updates ++ kind.Fixed mark.Semicolon ∷ [])
                 (led_legal mark.When IsComparison comparison_kinds comparison_legal r.guards h.guards)
-                (legal-append (led kind.Fixed mark.Do update_kinds r.updates) (kind.Fixed mark.Semicolon ∷ []) (led_legal mark.Do IsUpdate update_kinds update_legal r.updates h.updates) (tt, tt)),
+                (legal-append (led kind.Fixed mark.Do update_kinds r.updates) (kind.Fixed mark.Semicolon ∷ [])
+                (led_legal mark.Do IsUpdate update_kinds update_legal r.updates h.updates) (tt, tt)),
           ),
         ),
       ),
@@ -160,9 +175,13 @@ event_legal e h = (
   tt,
   (
     h.name,
-    legal-append (led kind.Fixed mark.After name_kinds e.after) (kind.Fixed mark.Colon ∷ (listed kind.Fixed comparison_kinds e.condition ++ kind.Fixed mark.Semicolon ∷ []))
-        (led_legal mark.After IsNameText name_kinds name_legal e.after h.after)
-        (tt, legal-append (listed kind.Fixed comparison_kinds e.condition) (kind.Fixed mark.Semicolon ∷ []) (listed_legal IsComparison comparison_kinds comparison_legal e.condition h.condition) (tt, tt)),
+    legal-append (led kind.Fixed mark.After name_kinds e.after)
+        (kind.Fixed mark.Colon ∷ (listed kind.Fixed comparison_kinds e.condition ++ kind.Fixed mark.Semicolon ∷ []))
+        (led_legal mark.After IsNameText name_kinds name_legal e.after h.after) (
+          tt,
+          legal-append (listed kind.Fixed comparison_kinds e.condition) (kind.Fixed mark.Semicolon ∷ [])
+              (listed_legal IsComparison comparison_kinds comparison_legal e.condition h.condition) (tt, tt),
+        ),
   ),
 )
 
@@ -173,7 +192,8 @@ pattern_legal p h = (
     h.name,
     (
       tt,
-      legal-append (ended kind.Fixed mark.Start comparison_kinds p.start) (ended kind.Fixed mark.Empty name_kinds p.empty ++ (each event_kinds p.events ++ kind.Fixed mark.CloseBrace ∷ []))
+      legal-append (ended kind.Fixed mark.Start comparison_kinds p.start)
+          (ended kind.Fixed mark.Empty name_kinds p.empty ++ (each event_kinds p.events ++ kind.Fixed mark.CloseBrace ∷ []))
           (ended_legal mark.Start IsComparison comparison_kinds comparison_legal p.start h.start)
           (legal-append (ended kind.Fixed mark.Empty name_kinds p.empty) (each event_kinds p.events ++ kind.Fixed mark.CloseBrace ∷ [])
           (ended_legal mark.Empty IsNameText name_kinds name_legal p.empty h.empty)
@@ -188,10 +208,15 @@ declared_legal ks ls h g = legal-append ks (kind.Fixed mark.Semicolon ∷ ls) h 
 
 pub file_legal : (t : PlainTree) → IsTree t → Legal (file_kinds t)
 file_legal t h =
-    let blocks = legal-append (each rule_kinds t.rules) (each pattern_kinds t.patterns) (each_legal IsRule rule_kinds rule_legal t.rules h.rules) (each_legal IsPattern pattern_kinds pattern_legal t.patterns h.patterns) in
-    let resilience = declared_legal (listed kind.Fixed comparison_kinds t.resilience) (blocks_kinds t) (listed_legal IsComparison comparison_kinds comparison_legal t.resilience h.resilience) blocks in
+    let blocks = legal-append (each rule_kinds t.rules) (each pattern_kinds t.patterns) (each_legal IsRule rule_kinds rule_legal t.rules h.rules)
+    (each_legal IsPattern pattern_kinds pattern_legal t.patterns h.patterns) in
+    let resilience = declared_legal (listed kind.Fixed comparison_kinds t.resilience) (blocks_kinds t)
+    (listed_legal IsComparison comparison_kinds comparison_legal t.resilience h.resilience) blocks in
     let processes = declared_legal (sum_kinds t.processes) (resilience_kinds t) (sum_legal t.processes h.processes) (tt, resilience) in
-    let locations = declared_legal (listed kind.Fixed location_kinds t.locations) (processes_kinds t) (listed_legal (λ (l : PlainLocation). IsNameText l.name) location_kinds location_legal t.locations h.locations) (tt, processes) in
-    let shared = declared_legal (listed kind.Fixed name_kinds t.shared) (locations_kinds t) (listed_legal IsNameText name_kinds name_legal t.shared h.shared) (tt, locations) in
-    let parameters = declared_legal (listed kind.Fixed name_kinds t.parameters) (shared_kinds t) (listed_legal IsNameText name_kinds name_legal t.parameters h.parameters) (tt, shared) in
+    let locations = declared_legal (listed kind.Fixed location_kinds t.locations) (processes_kinds t)
+    (listed_legal (λ (l : PlainLocation). IsNameText l.name) location_kinds location_legal t.locations h.locations) (tt, processes) in
+    let shared = declared_legal (listed kind.Fixed name_kinds t.shared) (locations_kinds t) (listed_legal IsNameText name_kinds name_legal t.shared h.shared)
+    (tt, locations) in
+    let parameters = declared_legal (listed kind.Fixed name_kinds t.parameters) (shared_kinds t)
+    (listed_legal IsNameText name_kinds name_legal t.parameters h.parameters) (tt, shared) in
     (tt, (h.name, (tt, (tt, parameters))))

@@ -1,5 +1,7 @@
 -- The tokens read so far.
-use Rattle.ta_syntax.proofs.Common.{◌≡◌, ℕ, Bool, true, false, List, [], ◌∷◌, ◌++◌, length, refl, sym, ap, subst, ◌∙◌, arith, ◌<◌, ◌≤◌, ◌+◌, ◌-◌, length-append, inl, inr, lit<, append-nil, ◌⊎◌, ScansTo, IsSpace, IsGap, IsLastGap, IsRefusedHere, AreTokens, TokenFrom, SkipsGap, BeginsNoGap, TokenStops, ScanStops, mark_bytes, kind_bytes, IsKind, Token, Kind, Mark, FileFault}
+use Rattle.ta_syntax.proofs.Common.{◌≡◌, ℕ, Bool, true, false, List, [], ◌∷◌, ◌++◌, length, refl, sym, ap, subst, ◌∙◌, arith, ◌<◌, ◌≤◌, ◌+◌, ◌-◌, length-append}
+use Rattle.ta_syntax.proofs.Common.{inl, inr, lit<, append-nil, ◌⊎◌, ScansTo, IsSpace, IsGap, IsLastGap, IsRefusedHere, AreTokens, TokenFrom, SkipsGap}
+use Rattle.ta_syntax.proofs.Common.{BeginsNoGap, TokenStops, ScanStops, mark_bytes, kind_bytes, IsKind, Token, Kind, Mark, FileFault}
 use Rattle.ta_syntax.specs.declared.tokens.Kind.TheVariants as kind
 use Rattle.ta_syntax.specs.declared.tokens.Mark.TheVariants as mark
 use Rattle.ta_syntax.specs.declared.fault.FileFault.TheVariants as fault
@@ -15,7 +17,8 @@ pub record ScanSoFar (bytes rest : List ℕ) (ts : List Token) : Type 0 where
   pub so_far : ScannedTo bytes rest ts
   pub within : length rest ≤ length bytes
 
-pub scans_then : (P Q : ℕ → List ℕ → Type 0) (more : List Token) → ((at : ℕ) (r : List ℕ) → P at r → ScansTo Q at r more) → (at : ℕ) (bytes : List ℕ) (ts : List Token) → ScansTo P at bytes ts → ScansTo Q at bytes (ts ++ more)
+pub scans_then : (P Q : ℕ → List ℕ → Type 0) (more : List Token) → ((at : ℕ) (r : List ℕ) → P at r → ScansTo Q at r more)
+    → (at : ℕ) (bytes : List ℕ) (ts : List Token) → ScansTo P at bytes ts → ScansTo Q at bytes (ts ++ more)
 scans_then P Q more f at bytes [] h = f at bytes h
 scans_then P Q more f at bytes (t ∷ ts) h = (h.0, h.1, h.2, h.3, h.4, h.5, h.6, scans_then P Q more f (t.at + length (kind_bytes t.kind)) h.1 ts h.7)
 
@@ -26,20 +29,32 @@ gap_of : (rest start : List ℕ) (gap : List ℕ) → (IsGap gap ⊎ (IsLastGap 
 gap_of rest start gap (inl g) some = g
 gap_of rest start gap (inr g) some = absurd (omega (arith, ap length g.1))
 
-pub after_shorter : (rest start after : List ℕ) (k : Kind) → SkipsGap rest start → TokenFrom start k after → 0 < length (kind_bytes k) → length after < length rest
+pub after_shorter : (rest start after : List ℕ) (k : Kind) → SkipsGap rest start → TokenFrom start k after → 0 < length (kind_bytes k)
+    → length after < length rest
 after_shorter rest start after k g t some = omega (arith, ap length g.1, length-append g.0 start, ap length t.split, length-append (kind_bytes k) after)
 
-pub scan_goes_on : (bytes rest start after : List ℕ) (ts : List Token) (t : Token) → ScanSoFar bytes rest ts → SkipsGap rest start → 0 < length start → t.at ≡ length bytes - length start → TokenFrom start t.kind after → ScanSoFar bytes after (ts ++ t ∷ [])
+pub scan_goes_on : (bytes rest start after : List ℕ) (ts : List Token) (t : Token) → ScanSoFar bytes rest ts → SkipsGap rest start → 0 < length start
+    → t.at ≡ length bytes - length start → TokenFrom start t.kind after → ScanSoFar bytes after (ts ++ t ∷ [])
 scan_goes_on bytes rest start after ts t so_far g some at_is from = record {
   so_far = scans_then (Left bytes rest) (Left bytes after) (t ∷ []) (λ at r left.
       let len_rest : length rest ≡ length g.0 + length start = ap length g.1 ∙ length-append g.0 start in
       let len_start : length start ≡ length (kind_bytes t.kind) + length after = ap length from.split ∙ length-append (kind_bytes t.kind) after in
-      let place : t.at ≡ at + length g.0 = omega (arith, left.1) in
-      (g.0, after, gap_of rest start g.0 g.2 some, left.0 ∙ g.1 ∙ ap (λ (x : List ℕ). g.0 ++ x) from.split, place, from.is, from.longest, (refl, omega (arith, left.1)))) 0 bytes ts so_far.so_far;
+      let place : t.at ≡ at + length g.0 = omega (arith, left.1) in (
+        g.0,
+        after,
+        gap_of rest start g.0 g.2 some,
+        left.0 ∙ g.1
+            ∙ ap (λ (x : List ℕ). g.0 ++ x) from.split,
+        place,
+        from.is,
+        from.longest,
+        (refl, omega (arith, left.1)),
+      )) 0 bytes ts so_far.so_far;
   within = omega (arith, so_far.within, ap length g.1, length-append g.0 start, ap length from.split, length-append (kind_bytes t.kind) after);
 }
 
-scans_map : (P Q : ℕ → List ℕ → Type 0) → ((at : ℕ) (r : List ℕ) → P at r → Q at r) → (at : ℕ) (bytes : List ℕ) (ts : List Token) → ScansTo P at bytes ts → ScansTo Q at bytes ts
+scans_map : (P Q : ℕ → List ℕ → Type 0) → ((at : ℕ) (r : List ℕ) → P at r → Q at r) → (at : ℕ) (bytes : List ℕ) (ts : List Token) → ScansTo P at bytes ts
+    → ScansTo Q at bytes ts
 scans_map P Q f at bytes [] h = f at bytes h
 scans_map P Q f at bytes (t ∷ ts) h = (h.0, h.1, h.2, h.3, h.4, h.5, h.6, scans_map P Q f (t.at + length (kind_bytes t.kind)) h.1 ts h.7)
 
@@ -60,7 +75,8 @@ scan_ends bytes rest start ts so_far g none =
     let whole : rest ≡ g.0 = g.1 ∙ ap (λ (x : List ℕ). g.0 ++ x) none ∙ append-nil g.0 in
     scans_map (Left bytes rest) (λ at r. IsLastGap r) (λ at r left. subst IsLastGap (sym whole ∙ sym left.0) (last_gap g.0 start g.2)) 0 bytes ts so_far.so_far
 
-pub scan_stops : (bytes rest start : List ℕ) (ts : List Token) (at : ℕ) (e : FileFault) → ScanSoFar bytes rest ts → SkipsGap rest start → BeginsNoGap start → 0 < length start → at ≡ length bytes - length start → TokenStops at start e → ScanStops bytes e
+pub scan_stops : (bytes rest start : List ℕ) (ts : List Token) (at : ℕ) (e : FileFault) → ScanSoFar bytes rest ts → SkipsGap rest start → BeginsNoGap start
+    → 0 < length start → at ≡ length bytes - length start → TokenStops at start e → ScanStops bytes e
 scan_stops bytes rest start ts at fault.Memory so_far g ends some at_is stops = tt
 scan_stops bytes rest [] ts at (fault.Byte k) so_far g ends some at_is stops = absurd (omega arith)
 scan_stops bytes rest (b ∷ bs) ts at (fault.Byte k) so_far g ends some at_is stops = (

@@ -1,5 +1,8 @@
 -- Each text has tokens, or a first refused byte.
-use Rattle.ta_syntax.proofs.Common.{Option, Some, None, MatchOption, ◌≡◌, ℕ, zero, suc, ◌-◌, ◌<◌, Bool, true, false, List, [], ◌∷◌, ◌++◌, length, take, drop, inl, inr, ⊎_elim, refl, sym, ap, ◌∙◌, arith, eqb-true, take-append-drop, ◌==◌, is_ascii_digit, prefix_len, nat_tests, begins_word, is_white, is_lone, mark_bytes, is_letter, is_word, BeginsByLetter, lengthens, IsLongest, IsSpace, AreTokens, begins_mark, IsRefused, MarkAt, BeginsNoGap, TokenFrom, NoToken, SkipsGap, Kind, Mark, Token, ◌⊎◌}
+use Rattle.ta_syntax.proofs.Common.{Option, Some, None, MatchOption, ◌≡◌, ℕ, zero, suc, ◌-◌, ◌<◌, Bool, true, false, List, [], ◌∷◌, ◌++◌, length, take, drop}
+use Rattle.ta_syntax.proofs.Common.{inl, inr, ⊎_elim, refl, sym, ap, ◌∙◌, arith, eqb-true, take-append-drop, ◌==◌, is_ascii_digit, prefix_len, nat_tests}
+use Rattle.ta_syntax.proofs.Common.{begins_word, is_white, is_lone, mark_bytes, is_letter, is_word, BeginsByLetter, lengthens, IsLongest, IsSpace, AreTokens}
+use Rattle.ta_syntax.proofs.Common.{begins_mark, IsRefused, MarkAt, BeginsNoGap, TokenFrom, NoToken, SkipsGap, Kind, Mark, Token, ◌⊎◌}
 use Rattle.std.proofs.lemmas.Bool.{cases_Bool, cases_eq}
 use Rattle.ta_syntax.specs.declared.tokens.Kind.TheVariants as kind
 use Rattle.ta_syntax.specs.declared.tokens.Mark.TheVariants as mark
@@ -19,12 +22,14 @@ record Gap (inside : Bool) (bytes : List ℕ) : Type 0 where
   space : IsSpace false inside gap ⊎ (IsSpace true inside gap × (rest ≡ []))
   begins : BeginsNoGap rest
 
-longer : (before inside : Bool) (b : ℕ) (bs : List ℕ) → ((last : Bool) (gap : List ℕ) → IsSpace last inside gap → IsSpace last before (b ∷ gap)) → Gap inside bs → Gap before (b ∷ bs)
+longer : (before inside : Bool) (b : ℕ) (bs : List ℕ) → ((last : Bool) (gap : List ℕ) → IsSpace last inside gap → IsSpace last before (b ∷ gap)) → Gap inside bs
+    → Gap before (b ∷ bs)
 longer before inside b bs f g = record {
   gap = b ∷ g.gap;
   rest = g.rest;
   split = ap (λ (x : List ℕ). b ∷ x) g.split;
-  space = ⊎_elim (λ (s : IsSpace false inside g.gap). inl (f false g.gap s)) (λ (s : IsSpace true inside g.gap × (g.rest ≡ [])). inr (f true g.gap s.0, s.1)) g.space;
+  space = ⊎_elim (λ (s : IsSpace false inside g.gap). inl (f false g.gap s)) (λ (s : IsSpace true inside g.gap × (g.rest ≡ [])). inr (f true g.gap s.0, s.1))
+      g.space;
   begins = g.begins;
 }
 
@@ -61,11 +66,16 @@ alone : (n : ℕ) (m : Mark) → mark_bytes m ≡ n ∷ [] → ((c : ℕ) → le
 alone n m spelled never b bs e = (m, bs, (ap (λ (z : ℕ). z ∷ bs) e ∙ ap (λ (z : List ℕ). z ++ bs) (sym spelled), never_longer m never bs))
 
 -- a sign of two bytes, or that of the first alone
-pair : (n c : ℕ) (short long : Mark) → mark_bytes short ≡ n ∷ [] → mark_bytes long ≡ n ∷ c ∷ [] → ((x : ℕ) → lengthens (kind.Fixed short) x ≡ (x == c)) → ((x : ℕ) → lengthens (kind.Fixed long) x ≡ false) → (b : ℕ) (bs : List ℕ) → b ≡ n → Sign (b ∷ bs)
+pair : (n c : ℕ) (short long : Mark) → mark_bytes short ≡ n ∷ [] → mark_bytes long ≡ n ∷ c ∷ [] → ((x : ℕ) → lengthens (kind.Fixed short) x ≡ (x == c))
+    → ((x : ℕ) → lengthens (kind.Fixed long) x ≡ false) → (b : ℕ) (bs : List ℕ) → b ≡ n → Sign (b ∷ bs)
 pair n c short long s l ends never b [] e = (short, [], (ap (λ (z : ℕ). z ∷ []) e ∙ ap (λ (z : List ℕ). z ++ []) (sym s), tt))
 pair n c short long s l ends never b (x ∷ bs) e =
     ⊎_elim
-    (λ (t : (x == c) ≡ true). (long, bs, (ap (λ (z : ℕ). z ∷ x ∷ bs) e ∙ ap (λ (z : ℕ). n ∷ z ∷ bs) (eqb-true x c t) ∙ ap (λ (z : List ℕ). z ++ bs) (sym l), never_longer long never bs)))
+    (λ (t : (x == c) ≡ true). (
+      long,
+      bs,
+      (ap (λ (z : ℕ). z ∷ x ∷ bs) e ∙ ap (λ (z : ℕ). n ∷ z ∷ bs) (eqb-true x c t) ∙ ap (λ (z : List ℕ). z ++ bs) (sym l), never_longer long never bs),
+    ))
     (λ (t : (x == c) ≡ false). (short, x ∷ bs, (ap (λ (z : ℕ). z ∷ x ∷ bs) e ∙ ap (λ (z : List ℕ). z ++ x ∷ bs) (sym s), ends x ∙ t)))
     (cases_Bool (x == c))
 
@@ -85,7 +95,8 @@ record OtherByte (b : ℕ) : Type 0 where
   star : b ≡ 42 → ⊥
 
 not_lone : (b : ℕ) → OtherByte b → is_lone b ≡ false
-not_lone b o = let f1 = o.plus in let f2 = o.minus in let f3 = o.less in let f4 = o.more in let f5 = o.semicolon in let f6 = o.comma in let f7 = o.colon in let f8 = o.open_brace in let f9 = o.close_brace in let f10 = o.opening in let f11 = o.closing in let f12 = o.star in grind (arith, nat_tests)
+not_lone b o = let f1 = o.plus in let f2 = o.minus in let f3 = o.less in let f4 = o.more in let f5 = o.semicolon in let f6 = o.comma in let f7 = o.colon in
+    let f8 = o.open_brace in let f9 = o.close_brace in let f10 = o.opening in let f11 = o.closing in let f12 = o.star in grind (arith, nat_tests)
 
 -- two equals signs, where none of the other signs stands
 equal : (b : ℕ) (bs : List ℕ) → OtherByte b → begins_mark (b ∷ bs) ≡ true → Sign (b ∷ bs)
@@ -93,7 +104,11 @@ equal b [] o h = absurd (let f = not_lone b o in cc)
 equal b (c ∷ bs) o h = step (cases_Bool (b == 61)) (cases_Bool (c == 61))
   where
     step : ((b == 61) ≡ true) ⊎ ((b == 61) ≡ false) → ((c == 61) ≡ true) ⊎ ((c == 61) ≡ false) → Sign (b ∷ c ∷ bs)
-    step (inl e) (inl f) = (mark.Equal, bs, (ap (λ (z : ℕ). z ∷ c ∷ bs) (eqb-true b 61 e) ∙ ap (λ (z : ℕ). 61 ∷ z ∷ bs) (eqb-true c 61 f), never_longer mark.Equal (λ x. refl) bs))
+    step (inl e) (inl f) = (
+      mark.Equal,
+      bs,
+      (ap (λ (z : ℕ). z ∷ c ∷ bs) (eqb-true b 61 e) ∙ ap (λ (z : ℕ). 61 ∷ z ∷ bs) (eqb-true c 61 f), never_longer mark.Equal (λ x. refl) bs),
+    )
     step (inl e) (inr f) = absurd (let g = not_lone b o in let i : begins_mark (b ∷ c ∷ bs) ≡ false = rw (g, e, f) refl in cc)
     step (inr e) g = absurd (let i = not_lone b o in let j : begins_mark (b ∷ c ∷ bs) ≡ false = rw (i, e) refl in cc)
 
@@ -112,8 +127,22 @@ sign_from b bs h =
     ⊎_elim (λ (e : b ≡ 40). alone 40 mark.Open refl (λ x. refl) b bs e) (λ (opening : b ≡ 40 → ⊥).
     ⊎_elim (λ (e : b ≡ 41). alone 41 mark.Close refl (λ x. refl) b bs e) (λ (closing : b ≡ 41 → ⊥).
     ⊎_elim (λ (e : b ≡ 42). alone 42 mark.Star refl (λ x. refl) b bs e) (λ (star : b ≡ 42 → ⊥).
-    equal b bs (record { plus = plus; minus = minus; less = less; more = more; semicolon = semicolon; comma = comma; colon = colon; open_brace = open_brace; close_brace = close_brace; opening = opening; closing = closing; star = star }) h
-    ) (cases_eq b 42)) (cases_eq b 41)) (cases_eq b 40)) (cases_eq b 125)) (cases_eq b 123)) (cases_eq b 58)) (cases_eq b 44)) (cases_eq b 59)) (cases_eq b 62)) (cases_eq b 60)) (cases_eq b 45)) (cases_eq b 43)
+    equal b bs (record {
+      plus = plus;
+      minus = minus;
+      less = less;
+      more = more;
+      semicolon = semicolon;
+      comma = comma;
+      colon = colon;
+      open_brace = open_brace;
+      close_brace = close_brace;
+      opening = opening;
+      closing = closing;
+      star = star;
+    }) h
+    ) (cases_eq b 42)) (cases_eq b 41)) (cases_eq b 40)) (cases_eq b 125)) (cases_eq b 123)) (cases_eq b 58)) (cases_eq b 44)) (cases_eq b 59)) (cases_eq b 62))
+    (cases_eq b 60)) (cases_eq b 45)) (cases_eq b 43)
 
 -- ---- tokens
 abbrev FromToken : List ℕ → Type 0
@@ -150,26 +179,35 @@ module _ (bytes : List ℕ) (first : BeginsByLetter bytes) where
 token_or_none : (b : ℕ) (bs : List ℕ) → FromToken (b ∷ bs) ⊎ NoToken (b ∷ bs)
 token_or_none b bs =
     ⊎_elim (λ (e : is_letter b ≡ true). inl (word_token (b ∷ bs) e)) (λ (letter : is_letter b ≡ false).
-    ⊎_elim (λ (e : is_ascii_digit b ≡ true). inl (kind.Number (take (prefix_len is_ascii_digit (b ∷ bs)) (b ∷ bs)), drop (prefix_len is_ascii_digit (b ∷ bs)) (b ∷ bs), number_from (b ∷ bs) e)) (λ (digit : is_ascii_digit b ≡ false).
-    ⊎_elim (λ (e : begins_mark (b ∷ bs) ≡ true). let s = sign_from b bs e in inl (kind.Fixed s.0, s.1, record { split = s.2.0; is = tt; longest = s.2.1 })) (λ (sign : begins_mark (b ∷ bs) ≡ false). inr (letter, digit, sign))
+    ⊎_elim (λ (e : is_ascii_digit b ≡ true). inl
+    (kind.Number (take (prefix_len is_ascii_digit (b ∷ bs)) (b ∷ bs)), drop (prefix_len is_ascii_digit (b ∷ bs)) (b ∷ bs), number_from (b ∷ bs) e))
+    (λ (digit : is_ascii_digit b ≡ false).
+    ⊎_elim (λ (e : begins_mark (b ∷ bs) ≡ true). let s = sign_from b bs e in inl (kind.Fixed s.0, s.1, record { split = s.2.0; is = tt; longest = s.2.1 }))
+    (λ (sign : begins_mark (b ∷ bs) ≡ false). inr (letter, digit, sign))
     (cases_Bool (begins_mark (b ∷ bs)))) (cases_Bool (is_ascii_digit b))) (cases_Bool (is_letter b))
 
 -- ---- texts
 abbrev TokensOrRefused : List ℕ → Type 0
 TokensOrRefused bytes = ((ts : List Token) × AreTokens bytes ts) ⊎ ((refused : ℕ) × IsRefused bytes refused)
 
-module _ (bytes rest : List ℕ) (ts : List Token) (so_far : ScanSoFar bytes rest ts) (go_on : (after : List ℕ) (us : List Token) → length after < length rest → ScanSoFar bytes after us → TokensOrRefused bytes) where
+module _ (bytes rest : List ℕ) (ts : List Token) (so_far : ScanSoFar bytes rest ts)
+    (go_on : (after : List ℕ) (us : List Token) → length after < length rest → ScanSoFar bytes after us → TokensOrRefused bytes) where
   went_on : (start after : List ℕ) (k : Kind) → SkipsGap rest start → 0 < length start → TokenFrom start k after → TokensOrRefused bytes
   went_on start after k skip some from =
       let t : Token = record { kind = k; at = length bytes - length start; legal = from.is } in
-      go_on after (ts ++ t ∷ []) (after_shorter rest start after k skip from (kind_some k from.is)) (scan_goes_on bytes rest start after ts t so_far skip some refl from)
+      go_on after (ts ++ t ∷ []) (after_shorter rest start after k skip from (kind_some k from.is))
+      (scan_goes_on bytes rest start after ts t so_far skip some refl from)
 
   from_start : (start : List ℕ) → SkipsGap rest start → BeginsNoGap start → TokensOrRefused bytes
   from_start [] skip begins = inl (ts, scan_ends bytes rest [] ts so_far skip refl)
   from_start (b ∷ bs) skip begins =
       ⊎_elim
       (λ (t : FromToken (b ∷ bs)). went_on (b ∷ bs) t.1 t.0 skip (omega arith) t.2)
-      (λ (none : NoToken (b ∷ bs)). inr (length bytes - length (b ∷ bs), scan_stops bytes rest (b ∷ bs) ts (length bytes - length (b ∷ bs)) (fault.Byte (length bytes - length (b ∷ bs))) so_far skip begins (omega arith) refl (refl, none)))
+      (λ (none : NoToken (b ∷ bs)). inr (
+        length bytes - length (b ∷ bs),
+        scan_stops bytes rest (b ∷ bs) ts (length bytes - length (b ∷ bs)) (fault.Byte (length bytes - length (b ∷ bs)))
+            so_far skip begins (omega arith) refl (refl, none),
+      ))
       (token_or_none b bs)
 
 -- the text from rest on, which has fewer than n bytes

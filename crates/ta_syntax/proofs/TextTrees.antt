@@ -1,5 +1,6 @@
 -- A text has a tree, or a first error of its tokens or its grammar.
-use Rattle.ta_syntax.proofs.Common.{ℕ, ◌≤◌, List, length, ⊎_elim, sym, subst, FileText, at_start, StaysWithin, AreTokens, IsRefused, kinds, IsTextOf, Either, HasTree, HasGrammarFault, Token}
+use Rattle.ta_syntax.proofs.Common.{ℕ, ◌≤◌, List, length, ⊎_elim, sym, subst, FileText, at_start, StaysWithin, AreTokens, IsRefused, kinds, IsTextOf, Either}
+use Rattle.ta_syntax.proofs.Common.{HasTree, HasGrammarFault, Token}
 use Rattle.ta_syntax.specs.declared.fault.FileFault.TheVariants as fault
 use Rattle.ta_syntax.proofs.LegalTrees.{file_fault}
 use Rattle.ta_syntax.proofs.TextTokens.{texts_have_tokens}
@@ -7,7 +8,8 @@ use Rattle.ta_syntax.proofs.FirstTokens.{tokens_have_answers}
 use Rattle.ta_syntax.proofs.TreeLimits.{tree_limits}
 use Rattle.ta_syntax.proofs.BuiltTrees.{trees_exist}
 
-with_tree : (bytes : List ℕ) (ts : List Token) → length bytes ≤ 1048576 → AreTokens bytes ts → FileText (kinds ts) × StaysWithin at_start (kinds ts) → HasTree bytes
+with_tree : (bytes : List ℕ) (ts : List Token) → length bytes ≤ 1048576 → AreTokens bytes ts → FileText (kinds ts) × StaysWithin at_start (kinds ts)
+    → HasTree bytes
 with_tree bytes ts small are (file, within) =
     let text : IsTextOf bytes file.0 = record { tokens = ts; are = are; spelled = sym file.2; legal = file.1 } in
     let b = trees_exist bytes file.0 small text (tree_limits file.0 (subst (StaysWithin at_start) (sym file.2) within)) in

@@ -36,7 +36,8 @@ LimitsAgree = (t : PlainTree) → IsTree t → (StaysWithin at_start (file_kinds
 
 -- a text of the grammar within the limits has a tree
 abbrev pub TreesExist : Type 0
-TreesExist = (bytes : List ℕ) (t : PlainTree) → length bytes ≤ FILE_BYTES → IsTextOf bytes t → IsTreeWithin t → (tree : Tree) × IsTreeOf bytes tree × (plain_tree tree ≡ t)
+TreesExist = (bytes : List ℕ) (t : PlainTree) → length bytes ≤ FILE_BYTES → IsTextOf bytes t → IsTreeWithin t → (tree : Tree) × IsTreeOf bytes tree
+    × (plain_tree tree ≡ t)
 
 -- a text has a tree
 abbrev pub HasTree : List ℕ → Type 0

@@ -173,14 +173,14 @@ rule_kinds r =
 -- Event = "event" Name [ "after" Names ] ":" Condition ";"
 abbrev pub event_kinds : PlainEvent → List Kind
 event_kinds e =
-    kind.Fixed mark.Event ∷ kind.Name e.name
-    ∷ (led kind.Fixed mark.After name_kinds e.after ++ kind.Fixed mark.Colon ∷ (listed kind.Fixed comparison_kinds e.condition ++ kind.Fixed mark.Semicolon ∷ []))
+    kind.Fixed mark.Event ∷ kind.Name e.name ∷ (led kind.Fixed mark.After name_kinds e.after ++ kind.Fixed mark.Colon
+    ∷ (listed kind.Fixed comparison_kinds e.condition ++ kind.Fixed mark.Semicolon ∷ []))
 
 -- Pattern = "pattern" Name "{" [ "start" Condition ";" ] [ "empty" Names ";" ] { Event } "}"
 abbrev pub pattern_kinds : PlainPattern → List Kind
 pattern_kinds p =
-    kind.Fixed mark.Pattern ∷ kind.Name p.name ∷ kind.Fixed mark.OpenBrace
-    ∷ (ended kind.Fixed mark.Start comparison_kinds p.start ++ (ended kind.Fixed mark.Empty name_kinds p.empty ++ (each event_kinds p.events ++ kind.Fixed mark.CloseBrace ∷ [])))
+    kind.Fixed mark.Pattern ∷ kind.Name p.name ∷ kind.Fixed mark.OpenBrace ∷ (ended kind.Fixed mark.Start comparison_kinds p.start
+    ++ (ended kind.Fixed mark.Empty name_kinds p.empty ++ (each event_kinds p.events ++ kind.Fixed mark.CloseBrace ∷ [])))
 
 -- File = "automaton" Name ";" "parameters" [ Names ] ";" "shared" [ Names ] ";" "locations" Location { "," Location } ";"
 --        "processes" Sum ";" "resilience" [ Condition ] ";" { Rule } { Pattern }

@@ -13,7 +13,8 @@ use Rattle.ta_syntax.specs.declared.fault.FileFault.TheVariants as fault
 
 -- The tokens of `text` were read, at the stated offsets, and `rest` is left. Before them L had to come, and now M has to come: every text
 -- of M completes them, and every text of L that agrees with them and with the next token does so with a text of M.
-pub record ReadsPart (L : GrammarPart) (c : Counts) (tokens rest : List Token) (M : GrammarPart) (d : Counts) (text : List Kind) (stated : List Offsets) : Type 0 where
+pub record ReadsPart (L : GrammarPart) (c : Counts) (tokens rest : List Token) (M : GrammarPart) (d : Counts) (text : List Kind) (stated : List Offsets) : Type
+    0 where
   pub front : List Token
   pub split : tokens ≡ front ++ rest
   pub spelled : kinds front ≡ text

@@ -119,7 +119,8 @@ event_stated e = [] ∷ (e.name.at ∷ []) ∷ (led unplaced mark.After name_sta
 
 -- the offsets of the name, of the conditions and of the events
 abbrev pub pattern_stated : TreePattern → List Offsets
-pattern_stated p = [] ∷ (p.name.at ∷ []) ∷ [] ∷ (ended unplaced mark.Start comparison_stated p.start ++ (ended unplaced mark.Empty name_stated p.empty ++ (each event_stated p.events ++ [] ∷ [])))
+pattern_stated p = [] ∷ (p.name.at ∷ []) ∷ [] ∷
+    (ended unplaced mark.Start comparison_stated p.start ++ (ended unplaced mark.Empty name_stated p.empty ++ (each event_stated p.events ++ [] ∷ [])))
 
 -- the offsets that a whole tree states: the keyword `locations`, the first token of the sum of `processes`, and those of all parts
 abbrev pub tree_stated : Tree → List Offsets

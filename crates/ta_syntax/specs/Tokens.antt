@@ -43,7 +43,8 @@ IsLastGap = IsSpace true false
 -- The tokens in order, each after a gap and the longest that fits; and a fact about the bytes that are left, with their offset.
 abbrev pub ScansTo : (ℕ → List ℕ → Type 0) → ℕ → List ℕ → List Token → Type 0
 ScansTo end at bytes [] = end at bytes
-ScansTo end at bytes (t ∷ ts) = (gap rest : List ℕ) × IsGap gap × (bytes ≡ gap ++ (kind_bytes t.kind ++ rest)) × (t.at ≡ at + length gap) × IsKind t.kind × IsLongest t.kind rest × ScansTo end (t.at + length (kind_bytes t.kind)) rest ts
+ScansTo end at bytes (t ∷ ts) = (gap rest : List ℕ) × IsGap gap × (bytes ≡ gap ++ (kind_bytes t.kind ++ rest)) × (t.at ≡ at + length gap) × IsKind t.kind
+    × IsLongest t.kind rest × ScansTo end (t.at + length (kind_bytes t.kind)) rest ts
 
 -- the tokens of a text
 abbrev pub AreTokens : List ℕ → List Token → Type 0

@@ -1,5 +1,7 @@
 -- what follows a word, and how long words and lists of children get
-use Rattle.ta_words.proofs.Common.{◌≡◌, ℕ, ◌+◌, ◌-◌, ◌^◌, ◌<◌, ◌≤◌, List, [], ◌++◌, length, map, true, false, arith, sym, ap, ◌∙◌, append_assoc, filter, slice_get_within, range_with_len, Automaton, Pattern, EventsNamed, is_complete, is_ready, is_standing, may_rise, children, Element, Event, Rise, Fall, cond-false, cond-true}
+use Rattle.ta_words.proofs.Common.{◌≡◌, ℕ, ◌+◌, ◌-◌, ◌^◌, ◌<◌, ◌≤◌, List, [], ◌++◌, length, map, true, false, arith, sym, ap, ◌∙◌, append_assoc, filter}
+use Rattle.ta_words.proofs.Common.{slice_get_within, range_with_len, Automaton, Pattern, EventsNamed, is_complete, is_ready, is_standing, may_rise, children}
+use Rattle.ta_words.proofs.Common.{Element, Event, Rise, Fall, cond-false, cond-true}
 use Rattle.std.proofs.Math.Nat.{pow-le-pow_right}
 use Rattle.ta_base.proofs.Each.{each_from_at}
 use Rattle.ta_automaton.specs.Patterns.{EventWithin, PatternOver}
@@ -28,12 +30,17 @@ rise_children a pairs past = map Rise (filter (may_rise pairs past) (range_with_
 abbrev fall_children : Automaton → ℕ → List Element → List Element
 fall_children a start past = map Fall (filter (is_standing a start past) (range_with_len 1 (2 ^ length a.fall - 1)))
 
-pub children_listed : (a : Automaton) (p : Pattern) (pairs : List (ℕ × ℕ)) (start : ℕ) (past first second third fourth : List Element) → is_complete p past ≡ false → first ≡ [] → second ≡ first ++ event_children p past → third ≡ second ++ rise_children a pairs past → fourth ≡ third ++ fall_children a start past → fourth ≡ children a p pairs start past
+pub children_listed : (a : Automaton) (p : Pattern) (pairs : List (ℕ × ℕ)) (start : ℕ) (past first second third fourth : List Element)
+    → is_complete p past ≡ false → first ≡ [] → second ≡ first ++ event_children p past → third ≡ second ++ rise_children a pairs past → fourth ≡ third
+    ++ fall_children a start past → fourth ≡ children a p pairs start past
 unfolding children
 children_listed a p pairs start past first second third fourth more e f g h =
     h ∙ ap (λ xs. xs ++ fall_children a start past) (g ∙ ap (λ xs. xs ++ rise_children a pairs past) (f ∙ ap (λ xs. xs ++ event_children p past) e))
-    ∙ append_assoc (event_children p past) (rise_children a pairs past) (fall_children a start past) ∙ sym (cond-false (is_complete p past) [] (event_children p past ++ (rise_children a pairs past ++ fall_children a start past)) more)
+    ∙ append_assoc (event_children p past) (rise_children a pairs past) (fall_children a start past)
+    ∙ sym (cond-false (is_complete p past) [] (event_children p past ++ (rise_children a pairs past ++ fall_children a start past)) more)
 
-pub no_children : (a : Automaton) (p : Pattern) (pairs : List (ℕ × ℕ)) (start : ℕ) (past none : List Element) → is_complete p past ≡ true → none ≡ [] → none ≡ children a p pairs start past
+pub no_children : (a : Automaton) (p : Pattern) (pairs : List (ℕ × ℕ)) (start : ℕ) (past none : List Element) → is_complete p past ≡ true → none ≡ []
+    → none ≡ children a p pairs start past
 unfolding children
-no_children a p pairs start past none done e = e ∙ sym (cond-true (is_complete p past) [] (event_children p past ++ (rise_children a pairs past ++ fall_children a start past)) done)
+no_children a p pairs start past none done e = e ∙ sym
+    (cond-true (is_complete p past) [] (event_children p past ++ (rise_children a pairs past ++ fall_children a start past)) done)

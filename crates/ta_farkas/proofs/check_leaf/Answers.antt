@@ -1,4 +1,5 @@
-use Rattle.ta_farkas.proofs.Common.{◌≡◌, ◌<ℤ◌, ◌*◌, min, arith, rules, pos, subst, refl, ints, to_z-of_z, SFits, w128, FineBefore, IsFirstFaultOfLeaf, RowNumber, NotNegative}
+use Rattle.ta_farkas.proofs.Common.{◌≡◌, ◌<ℤ◌, ◌*◌, min, arith, rules, pos, subst, refl, ints, to_z-of_z, SFits, w128, FineBefore, IsFirstFaultOfLeaf}
+use Rattle.ta_farkas.proofs.Common.{RowNumber, NotNegative}
 use Rattle.std.proofs.lemmas.Result.{err_from_is_err_and}
 use Rattle.ta_farkas.proofs.Judging.{leaf_of, no_fault}
 use Rattle.ta_farkas.proofs.check_leaf.Goals as goal

@@ -68,39 +68,50 @@ NameThenStops m end tokens e = (K : GrammarPart) (c : Counts) → HasRoom c → 
 -- ---- a list and a semicolon
 
 -- a list and the semicolon after it were read
-pub record TookEnd {A : Type 0} (p : GrammarPart) (spelled : A → List Kind) (stated : A → List Offsets) (limit : ℕ) (items : List A) (tokens rest : List Token) : Type 0 where
+pub record TookEnd {A : Type 0} (p : GrammarPart) (spelled : A → List Kind) (stated : A → List Offsets) (limit : ℕ) (items : List A) (tokens rest : List Token)
+    : Type 0 where
   pub some : 1 ≤ length items
   pub few : length items ≤ limit
   pub shorter : length rest ≤ length tokens
-  pub reads : (K : GrammarPart) (c : Counts) → IsFresh limit c → ReadsKept (both (list_part p) (both (a_mark mark.Semicolon) K)) c tokens rest K (listed kind.Fixed spelled items ++ kind.Fixed mark.Semicolon ∷ []) (listed unplaced stated items ++ [] ∷ [])
+  pub reads : (K : GrammarPart) (c : Counts) → IsFresh limit c
+      → ReadsKept (both (list_part p) (both (a_mark mark.Semicolon) K)) c tokens rest K (listed kind.Fixed spelled items ++ kind.Fixed mark.Semicolon ∷ [])
+      (listed unplaced stated items ++ [] ∷ [])
 
 -- a list with its semicolon could not be read
 abbrev pub EndStops : GrammarPart → ℕ → ℕ → List Token → FileFault → Type 0
-EndStops p limit end tokens e = (K : GrammarPart) (c : Counts) → IsFresh limit c → IsStopped (Text (both (list_part p) (both (a_mark mark.Semicolon) K))) c end tokens e
+EndStops p limit end tokens e = (K : GrammarPart) (c : Counts) → IsFresh limit c
+    → IsStopped (Text (both (list_part p) (both (a_mark mark.Semicolon) K))) c end tokens e
 
 -- ---- [ keyword list ]
 
 -- an optional list after its keyword was read
-pub record TookLed {A : Type 0} (m : Mark) (p : GrammarPart) (spelled : A → List Kind) (stated : A → List Offsets) (limit : ℕ) (items : List A) (tokens rest : List Token) : Type 0 where
+pub record TookLed {A : Type 0} (m : Mark) (p : GrammarPart) (spelled : A → List Kind) (stated : A → List Offsets) (limit : ℕ) (items : List A)
+    (tokens rest : List Token) : Type 0 where
   pub few : length items ≤ limit
   pub shorter : length rest ≤ length tokens
-  pub reads : (K : GrammarPart) (c : Counts) → NeverBegins extends_list K → AvoidsMark m K → IsReady c → ReadsKept (both (maybe m (list_part p)) K) c tokens rest K (led kind.Fixed m spelled items) (led unplaced m stated items)
+  pub reads : (K : GrammarPart) (c : Counts) → NeverBegins extends_list K → AvoidsMark m K → IsReady c
+      → ReadsKept (both (maybe m (list_part p)) K) c tokens rest K (led kind.Fixed m spelled items) (led unplaced m stated items)
 
 -- an optional list could not be read
 abbrev pub LedStops : Mark → GrammarPart → ℕ → List Token → FileFault → Type 0
-LedStops m p end tokens e = (K : GrammarPart) (c : Counts) → NeverBegins extends_list K → AvoidsMark m K → IsReady c → IsStopped (Text (both (maybe m (list_part p)) K)) c end tokens e
+LedStops m p end tokens e = (K : GrammarPart) (c : Counts) → NeverBegins extends_list K → AvoidsMark m K → IsReady c
+    → IsStopped (Text (both (maybe m (list_part p)) K)) c end tokens e
 
 -- ---- [ keyword list ";" ]
 
 -- an optional list between its keyword and a semicolon was read
-pub record TookEnded {A : Type 0} (m : Mark) (p : GrammarPart) (spelled : A → List Kind) (stated : A → List Offsets) (limit : ℕ) (items : List A) (tokens rest : List Token) : Type 0 where
+pub record TookEnded {A : Type 0} (m : Mark) (p : GrammarPart) (spelled : A → List Kind) (stated : A → List Offsets) (limit : ℕ) (items : List A)
+    (tokens rest : List Token) : Type 0 where
   pub few : length items ≤ limit
   pub shorter : length rest ≤ length tokens
-  pub reads : (K : GrammarPart) (c : Counts) → AvoidsMark m K → IsReady c → ReadsKept (both (maybe m (both (list_part p) (a_mark mark.Semicolon))) K) c tokens rest K (ended kind.Fixed m spelled items) (ended unplaced m stated items)
+  pub reads : (K : GrammarPart) (c : Counts) → AvoidsMark m K → IsReady c
+      → ReadsKept (both (maybe m (both (list_part p) (a_mark mark.Semicolon))) K) c tokens rest K (ended kind.Fixed m spelled items)
+      (ended unplaced m stated items)
 
 -- an optional list with its semicolon could not be read
 abbrev pub EndedStops : Mark → GrammarPart → ℕ → List Token → FileFault → Type 0
-EndedStops m p end tokens e = (K : GrammarPart) (c : Counts) → AvoidsMark m K → IsReady c → IsStopped (Text (both (maybe m (both (list_part p) (a_mark mark.Semicolon))) K)) c end tokens e
+EndedStops m p end tokens e = (K : GrammarPart) (c : Counts) → AvoidsMark m K → IsReady c
+    → IsStopped (Text (both (maybe m (both (list_part p) (a_mark mark.Semicolon))) K)) c end tokens e
 
 -- ---- keyword [ list ] ";"
 
@@ -109,9 +120,12 @@ abbrev pub declared_part : Mark → GrammarPart → GrammarPart → GrammarPart
 declared_part m p K = both (a_mark m) (both (upto mark.Semicolon (list_part p)) K)
 
 -- a keyword, a list and a semicolon were read
-pub record TookDeclared {A : Type 0} (m : Mark) (p : GrammarPart) (spelled : A → List Kind) (stated : A → List Offsets) (limit : ℕ) (items : List A) (tokens rest : List Token) : Type 0 where
+pub record TookDeclared {A : Type 0} (m : Mark) (p : GrammarPart) (spelled : A → List Kind) (stated : A → List Offsets) (limit : ℕ) (items : List A)
+    (tokens rest : List Token) : Type 0 where
   pub few : length items ≤ limit
-  pub reads : (K : GrammarPart) (c : Counts) → IsReady c → ReadsKept (declared_part m p K) c tokens rest K (kind.Fixed m ∷ (listed kind.Fixed spelled items ++ kind.Fixed mark.Semicolon ∷ [])) ([] ∷ (listed unplaced stated items ++ [] ∷ []))
+  pub reads : (K : GrammarPart) (c : Counts) → IsReady c
+      → ReadsKept (declared_part m p K) c tokens rest K (kind.Fixed m ∷ (listed kind.Fixed spelled items ++ kind.Fixed mark.Semicolon ∷ []))
+      ([] ∷ (listed unplaced stated items ++ [] ∷ []))
 
 -- a keyword, a list and a semicolon could not be read
 abbrev pub DeclaredStops : Mark → GrammarPart → ℕ → List Token → FileFault → Type 0
@@ -145,12 +159,15 @@ abbrev pub with_mark : {A B : Type 0} → B → (A → List B) → A → List B
 with_mark first body x = first ∷ body x
 
 -- all blocks of a kind that stand here were read
-pub record TookBlocks {A : Type 0} (m : Mark) (p : GrammarPart) (body : A → List Kind) (stated : A → List Offsets) (limit : ℕ) (items : List A) (tokens rest : List Token) : Type 0 where
+pub record TookBlocks {A : Type 0} (m : Mark) (p : GrammarPart) (body : A → List Kind) (stated : A → List Offsets) (limit : ℕ) (items : List A)
+    (tokens rest : List Token) : Type 0 where
   pub few : length items ≤ limit
   pub shorter : length rest ≤ length tokens
   pub reads : (K : GrammarPart) (c : Counts) → AvoidsMark m K → IsReady c → block_count m c ≡ 0
-      → (d : Counts) × KeptOthers m c d × ReadsPart (both (many m p) K) c tokens rest K d (each (with_mark (kind.Fixed m) body) items) (each (with_mark [] stated) items)
+      → (d : Counts) × KeptOthers m c d × ReadsPart (both (many m p) K) c tokens rest K d (each (with_mark (kind.Fixed m) body) items)
+      (each (with_mark [] stated) items)
 
 -- some block could not be read
 abbrev pub BlocksStop : Mark → GrammarPart → ℕ → List Token → FileFault → Type 0
-BlocksStop m p end tokens e = (K : GrammarPart) (c : Counts) → AvoidsMark m K → IsReady c → block_count m c ≡ 0 → IsStopped (Text (both (many m p) K)) c end tokens e
+BlocksStop m p end tokens e = (K : GrammarPart) (c : Counts) → AvoidsMark m K → IsReady c → block_count m c ≡ 0
+    → IsStopped (Text (both (many m p) K)) c end tokens e

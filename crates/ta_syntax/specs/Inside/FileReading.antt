@@ -29,7 +29,10 @@ locations_part K = both (a_mark mark.Locations) (both (list_part location_part) 
 pub record TookLocations (at : ℕ) (locations : List TreeLocation) (tokens rest : List Token) : Type 0 where
   pub some : 1 ≤ length locations
   pub few : length locations ≤ 32
-  pub reads : (K : GrammarPart) (c : Counts) → IsReady c → ReadsKept (locations_part K) c tokens rest K (kind.Fixed mark.Locations ∷ (listed kind.Fixed spell_location locations ++ kind.Fixed mark.Semicolon ∷ [])) ((at ∷ []) ∷ (listed unplaced location_stated locations ++ [] ∷ []))
+  pub reads : (K : GrammarPart) (c : Counts) → IsReady c
+      → ReadsKept (locations_part K) c tokens rest K
+      (kind.Fixed mark.Locations ∷ (listed kind.Fixed spell_location locations ++ kind.Fixed mark.Semicolon ∷ []))
+      ((at ∷ []) ∷ (listed unplaced location_stated locations ++ [] ∷ []))
 
 -- the locations could not be read
 abbrev pub LocationsStop : ℕ → List Token → FileFault → Type 0
@@ -43,7 +46,9 @@ processes_part K = both (a_mark mark.Processes) (both a_sum (both (a_mark mark.S
 pub record TookProcesses (at : ℕ) (s : TreeSum) (tokens rest : List Token) : Type 0 where
   pub is : IsSum (plain_sum s)
   pub shallow : sum_depth (plain_sum s) ≤ 32
-  pub reads : (K : GrammarPart) (c : Counts) → IsReady c → ReadsKept (processes_part K) c tokens rest K (kind.Fixed mark.Processes ∷ (sum_kinds (plain_sum s) ++ kind.Fixed mark.Semicolon ∷ [])) ([] ∷ (at_first at (sum_stated s) ++ [] ∷ []))
+  pub reads : (K : GrammarPart) (c : Counts) → IsReady c
+      → ReadsKept (processes_part K) c tokens rest K (kind.Fixed mark.Processes ∷ (sum_kinds (plain_sum s) ++ kind.Fixed mark.Semicolon ∷ []))
+      ([] ∷ (at_first at (sum_stated s) ++ [] ∷ []))
 
 -- the number of processes could not be read
 abbrev pub ProcessesStop : ℕ → List Token → FileFault → Type 0

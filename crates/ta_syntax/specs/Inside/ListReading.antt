@@ -37,12 +37,15 @@ abbrev pub with_commas : ℕ → Counts → Counts
 with_commas n c = record { open_now = c.open_now; commas = n; limit = c.limit; rules = c.rules; patterns = c.patterns; events = c.events }
 
 -- a list was read, whatever part may come after that does not continue it
-pub record TookList {A : Type 0} (p : GrammarPart) (spelled : A → List Kind) (stated : A → List Offsets) (limit : ℕ) (items : List A) (tokens rest : List Token) : Type 0 where
+pub record TookList {A : Type 0} (p : GrammarPart) (spelled : A → List Kind) (stated : A → List Offsets) (limit : ℕ) (items : List A) (tokens rest : List Token)
+    : Type 0 where
   pub some : 1 ≤ length items
   pub few : length items ≤ limit
   pub shorter : length rest ≤ length tokens
-  pub reads : (K : GrammarPart) (c : Counts) → NeverBegins extends_list K → IsFresh limit c → ReadsPart (both (list_part p) K) c tokens rest K (with_commas (length items - 1) c) (listed kind.Fixed spelled items) (listed unplaced stated items)
+  pub reads : (K : GrammarPart) (c : Counts) → NeverBegins extends_list K → IsFresh limit c
+      → ReadsPart (both (list_part p) K) c tokens rest K (with_commas (length items - 1) c) (listed kind.Fixed spelled items) (listed unplaced stated items)
 
 -- a list could not be read
 abbrev pub ListStops : GrammarPart → ℕ → ℕ → List Token → FileFault → Type 0
-ListStops p limit end tokens e = (K : GrammarPart) (c : Counts) → NeverBegins extends_list K → IsFresh limit c → IsStopped (Text (both (list_part p) K)) c end tokens e
+ListStops p limit end tokens e = (K : GrammarPart) (c : Counts) → NeverBegins extends_list K → IsFresh limit c
+    → IsStopped (Text (both (list_part p) K)) c end tokens e

@@ -20,7 +20,9 @@ comparison_part = both a_sum (both a_relation a_sum)
 
 -- a rule after its keyword
 abbrev pub rule_part : GrammarPart
-rule_part = both a_name (both (a_mark mark.Colon) (both a_name (both (a_mark mark.Arrow) (both a_name (both (maybe mark.When (list_part comparison_part)) (both (maybe mark.Do (list_part update_part)) (a_mark mark.Semicolon)))))))
+rule_part = both a_name (both (a_mark mark.Colon)
+    (both a_name (both (a_mark mark.Arrow)
+    (both a_name (both (maybe mark.When (list_part comparison_part)) (both (maybe mark.Do (list_part update_part)) (a_mark mark.Semicolon)))))))
 
 -- an event after its keyword
 abbrev pub event_part : GrammarPart
@@ -28,7 +30,9 @@ event_part = both a_name (both (maybe mark.After (list_part a_name)) (both (a_ma
 
 -- a pattern after its keyword
 abbrev pub pattern_part : GrammarPart
-pattern_part = both a_name (both (a_mark mark.OpenBrace) (both (maybe mark.Start (both (list_part comparison_part) (a_mark mark.Semicolon))) (both (maybe mark.Empty (both (list_part a_name) (a_mark mark.Semicolon))) (both (many mark.Event event_part) (a_mark mark.CloseBrace)))))
+pattern_part = both a_name (both (a_mark mark.OpenBrace)
+    (both (maybe mark.Start (both (list_part comparison_part) (a_mark mark.Semicolon)))
+    (both (maybe mark.Empty (both (list_part a_name) (a_mark mark.Semicolon))) (both (many mark.Event event_part) (a_mark mark.CloseBrace)))))
 
 -- rules and patterns
 abbrev pub blocks_part : GrammarPart

@@ -86,21 +86,24 @@ pub record TookFactor (left : ℕ) (f : TreeFactor) (tokens rest : List Token) :
   pub is : IsFactor (plain_factor f)
   pub shallow : factor_depth (plain_factor f) ≤ left
   pub shorter : length rest ≤ length tokens
-  pub reads : (K : GrammarPart) (c : Counts) → MayOpen left c → ReadsPart (both a_factor K) c tokens rest K c (factor_kinds (plain_factor f)) (sum_factor_stated f)
+  pub reads : (K : GrammarPart) (c : Counts) → MayOpen left c
+      → ReadsPart (both a_factor K) c tokens rest K c (factor_kinds (plain_factor f)) (sum_factor_stated f)
 
 -- a term was read, whatever part may come after that does not continue it
 pub record TookTerm (left : ℕ) (t : TreeTerm) (tokens rest : List Token) : Type 0 where
   pub is : IsTerm (plain_term t)
   pub shallow : term_depth (plain_term t) ≤ left
   pub shorter : length rest ≤ length tokens
-  pub reads : (K : GrammarPart) (c : Counts) → NeverBegins is_star K → MayOpen left c → ReadsPart (both a_term K) c tokens rest K c (term_kinds (plain_term t)) (sum_term_stated t)
+  pub reads : (K : GrammarPart) (c : Counts) → NeverBegins is_star K → MayOpen left c
+      → ReadsPart (both a_term K) c tokens rest K c (term_kinds (plain_term t)) (sum_term_stated t)
 
 -- a sum was read, whatever part may come after that does not continue it
 pub record TookSum (left : ℕ) (s : TreeSum) (tokens rest : List Token) : Type 0 where
   pub is : IsSum (plain_sum s)
   pub shallow : sum_depth (plain_sum s) ≤ left
   pub shorter : length rest ≤ length tokens
-  pub reads : (K : GrammarPart) (c : Counts) → NeverBegins is_operator K → MayOpen left c → ReadsPart (both a_sum K) c tokens rest K c (sum_kinds (plain_sum s)) (sum_stated s)
+  pub reads : (K : GrammarPart) (c : Counts) → NeverBegins is_operator K → MayOpen left c
+      → ReadsPart (both a_sum K) c tokens rest K c (sum_kinds (plain_sum s)) (sum_stated s)
 
 -- a factor could not be read
 abbrev pub FactorStops : ℕ → ℕ → List Token → FileFault → Type 0

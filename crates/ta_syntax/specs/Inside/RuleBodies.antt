@@ -45,7 +45,8 @@ rule_body_stated r =
 
 -- the tokens of an event after its keyword
 abbrev pub event_body : TreeEvent → List Kind
-event_body e = kind.Name e.name.name ∷ (led kind.Fixed mark.After spell_name e.after ++ kind.Fixed mark.Colon ∷ (listed kind.Fixed spell_comparison e.condition ++ kind.Fixed mark.Semicolon ∷ []))
+event_body e = kind.Name e.name.name ∷
+    (led kind.Fixed mark.After spell_name e.after ++ kind.Fixed mark.Colon ∷ (listed kind.Fixed spell_comparison e.condition ++ kind.Fixed mark.Semicolon ∷ []))
 
 -- the offsets that these tokens are stated to have
 abbrev pub event_body_stated : TreeEvent → List Offsets
@@ -55,8 +56,11 @@ event_body_stated e = (e.name.at ∷ []) ∷ (led unplaced mark.After name_state
 abbrev pub pattern_body : TreePattern → List Kind
 pattern_body p =
     kind.Name p.name.name ∷ kind.Fixed mark.OpenBrace
-    ∷ (ended kind.Fixed mark.Start spell_comparison p.start ++ (ended kind.Fixed mark.Empty spell_name p.empty ++ (each (with_mark (kind.Fixed mark.Event) event_body) p.events ++ kind.Fixed mark.CloseBrace ∷ [])))
+    ∷ (ended kind.Fixed mark.Start spell_comparison p.start
+    ++ (ended kind.Fixed mark.Empty spell_name p.empty
+    ++ (each (with_mark (kind.Fixed mark.Event) event_body) p.events ++ kind.Fixed mark.CloseBrace ∷ [])))
 
 -- the offsets that these tokens are stated to have
 abbrev pub pattern_body_stated : TreePattern → List Offsets
-pattern_body_stated p = (p.name.at ∷ []) ∷ [] ∷ (ended unplaced mark.Start comparison_stated p.start ++ (ended unplaced mark.Empty name_stated p.empty ++ (each event_stated p.events ++ [] ∷ [])))
+pattern_body_stated p = (p.name.at ∷ []) ∷ [] ∷
+    (ended unplaced mark.Start comparison_stated p.start ++ (ended unplaced mark.Empty name_stated p.empty ++ (each event_stated p.events ++ [] ∷ [])))

@@ -1,5 +1,6 @@
 use Rattle.ta_automaton.proofs.Examples.{first_unsafe}
-use Rattle.ta_automaton.proofs.RunLaws.{counters_add_up, parameters_stay, shared_never_falls, rise_guards_stay_true, fall_guards_stay_false, counters_by_firings, shared_by_firings}
+use Rattle.ta_automaton.proofs.RunLaws.{counters_add_up, parameters_stay, shared_never_falls, rise_guards_stay_true, fall_guards_stay_false}
+use Rattle.ta_automaton.proofs.RunLaws.{counters_by_firings, shared_by_firings}
 use Rattle.ta_automaton.proofs.law.laws.Goals as goal
 
 pub returns-clause-counters_add_up : goal.returns-clause-counters_add_up

@@ -25,9 +25,11 @@ loop-j-preserved c =
     (elim c.if-j-column.branch [
       | then-j-column w ↦
           let e = simp to_z-of_z at w.cells-is in
-          let at_column = target_at_column c.args.p c.args.q c.args.cells.now c.args.chosen.now c.args.column c.loop-j.j c.args.turned c.requires.long c.loop-j-test.true w.if-j-column.true in
+          let at_column = target_at_column c.args.p c.args.q c.args.cells.now c.args.chosen.now c.args.column c.loop-j.j c.args.turned c.requires.long
+          c.loop-j-test.true w.if-j-column.true in
           rw e record {
-            done = done_more (λ (k : ℕ). get_or (set (combine c.args.p c.args.q c.args.cells.now c.args.chosen.now) c.args.column c.args.turned) k (pos 0)) (pos 0) c.loop-j.cells c.loop-j.j c.args.turned (omega arith) at_column inv.done;
+            done = done_more (λ (k : ℕ). get_or (set (combine c.args.p c.args.q c.args.cells.now c.args.chosen.now) c.args.column c.args.turned) k (pos 0))
+                (pos 0) c.loop-j.cells c.loop-j.j c.args.turned (omega arith) at_column inv.done;
             rest = rest_more (pos 0) c.args.cells.now c.loop-j.cells c.loop-j.j c.args.turned inv.rest;
             fits = below_more _ _ inv.fits (λ ne. absurd (ne w.if-j-column.true));
           }
@@ -38,9 +40,11 @@ loop-j-preserved c =
           let e = simp to_z-of_z at w.cells-is in
           let r = inv.rest c.loop-j.j (omega arith) in
           let f = rw r at (simp to_z-of_z at w.in-Some.ensures) in
-          let elsewhere = target_elsewhere c.args.p c.args.q c.args.cells.now c.args.chosen.now c.args.column c.loop-j.j c.args.turned w.in-Some.cell c.requires.long w.if-j-column.false f.1 in
+          let elsewhere = target_elsewhere c.args.p c.args.q c.args.cells.now c.args.chosen.now c.args.column c.loop-j.j c.args.turned w.in-Some.cell
+          c.requires.long w.if-j-column.false f.1 in
           rw e record {
-            done = done_more (λ (k : ℕ). get_or (set (combine c.args.p c.args.q c.args.cells.now c.args.chosen.now) c.args.column c.args.turned) k (pos 0)) (pos 0) c.loop-j.cells c.loop-j.j w.in-Some.cell (omega arith) elsewhere inv.done;
+            done = done_more (λ (k : ℕ). get_or (set (combine c.args.p c.args.q c.args.cells.now c.args.chosen.now) c.args.column c.args.turned) k (pos 0))
+                (pos 0) c.loop-j.cells c.loop-j.j w.in-Some.cell (omega arith) elsewhere inv.done;
             rest = rest_more (pos 0) c.args.cells.now c.loop-j.cells c.loop-j.j w.in-Some.cell inv.rest;
             fits = below_more _ _ inv.fits (λ ne. f.0);
           }
@@ -52,4 +56,5 @@ returns-clause-value c =
     let fq = c.ranges.q in
     let ft = c.ranges.turned in
     let inv = simp to_z-of_z at c.loop-j.invariant in
-    target_done c.args.p c.args.q c.args.cells.now c.args.chosen.now c.loop-j.cells c.args.column c.loop-j.j c.args.turned c.requires.long (omega arith) (omega arith) inv.done
+    target_done c.args.p c.args.q c.args.cells.now c.args.chosen.now c.loop-j.cells c.args.column c.loop-j.j c.args.turned c.requires.long (omega arith)
+    (omega arith) inv.done

@@ -13,4 +13,5 @@ returns c =
     let k = simp to_z-of_z at c.in_ok-left.ensures in
     let m = simp to_z-of_z at c.in_ok-right.ensures in
     let n = rw (k.1, m.1) at (simp to_z-of_z at c.minus.ensures) in
-    SomeIff-same c.minus.result _ (CombinesInRange c.args.p c.args.a c.args.q c.args.c) _ _ (λ d. record { left = k.0; right = m.0; difference = d }) (λ f. f.difference) refl n
+    SomeIff-same c.minus.result _ (CombinesInRange c.args.p c.args.a c.args.q c.args.c) _ _ (λ d. record { left = k.0; right = m.0; difference = d })
+    (λ f. f.difference) refl n

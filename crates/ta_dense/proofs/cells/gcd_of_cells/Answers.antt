@@ -9,7 +9,8 @@ loop-cell-preserved c =
     let v = gcd_of_is _ _ _ c.gcd_natural-divisor.ensures.value ∙ ap (gcd_of c.loop-cell.divisor) u in
     record {
       bound = c.gcd_natural-divisor.ensures.fits;
-      rest = rw v (sym (at_drop_more (gcd_with c.loop-cell.divisor) c.args.cells.now c.loop-cell.cell-index (pos 0) c.loop-cell-test.true) ∙ c.loop-cell.invariant.rest);
+      rest = rw v (sym (at_drop_more (gcd_with c.loop-cell.divisor) c.args.cells.now c.loop-cell.cell-index (pos 0) c.loop-cell-test.true)
+          ∙ c.loop-cell.invariant.rest);
     }
 
 pub returns-then-divisor-eq1-clause-value : goal.returns-then-divisor-eq1-clause-value

@@ -1,4 +1,5 @@
-use Rattle.ta_dense.proofs.Common.{◌≡◌, ℕ, List, arith, sym, ◌∙◌, ap, subst, length, map, below_more, get_or_default, length-map, TableauRow, merged, row_view, views, AreProper, RowsMergeBelow, KeptPivot, kept_at, no_pivot, chosen_row, carried}
+use Rattle.ta_dense.proofs.Common.{◌≡◌, ℕ, List, arith, sym, ◌∙◌, ap, subst, length, map, below_more, get_or_default, length-map, TableauRow, merged, row_view}
+use Rattle.ta_dense.proofs.Common.{views, AreProper, RowsMergeBelow, KeptPivot, kept_at, no_pivot, chosen_row, carried}
 use Rattle.ta_dense.proofs.ExtendFacts.{carried_more}
 use Rattle.ta_dense.proofs.extending.carry_rows.Goals as goal
 
@@ -11,8 +12,10 @@ loop-pivot-preserved c =
     let rows = views c.loop-pivot.rows in
     let old = views c.args.rows.now in
     let inside = c.loop-pivot-test.true in
-    let at : c.index-kept-pivot.result ≡ kept_at c.args.kept.now c.loop-pivot.pivot = c.index-kept-pivot.is ∙ get_or_default ks j c.index-kept-pivot.result no_pivot inside in
-    let at_column : c.index-kept-pivot-in-loop-pivot.result ≡ kept_at c.args.kept.now c.loop-pivot.pivot = c.index-kept-pivot-in-loop-pivot.is ∙ get_or_default ks j c.index-kept-pivot-in-loop-pivot.result no_pivot inside in
+    let at : c.index-kept-pivot.result ≡ kept_at c.args.kept.now c.loop-pivot.pivot = c.index-kept-pivot.is
+    ∙ get_or_default ks j c.index-kept-pivot.result no_pivot inside in
+    let at_column : c.index-kept-pivot-in-loop-pivot.result ≡ kept_at c.args.kept.now c.loop-pivot.pivot = c.index-kept-pivot-in-loop-pivot.is
+    ∙ get_or_default ks j c.index-kept-pivot-in-loop-pivot.result no_pivot inside in
     let k = kept_at ks j in
     let chosen = c.in_ok-chosen.ensures.value ∙ ap (chosen_row n) at in
     let column = c.column.ensures ∙ ap (λ (p : KeptPivot). p.column) at_column in
@@ -24,7 +27,9 @@ loop-pivot-preserved c =
     (subst (λ (r : TableauRow). RowsMergeBelow k.column r rows (length c.loop-pivot.rows)) chosen
     (subst (λ (m : ℕ). RowsMergeBelow m (row_view c.in_ok-chosen.chosen) rows (length c.loop-pivot.rows)) column c.in_default.ensures.in_range))) in
     record {
-      value = c.in_default.ensures.value ∙ ap (λ (m : ℕ). map (merged m (row_view c.in_ok-chosen.chosen)) rows) column ∙ ap (λ (r : TableauRow). map (merged k.column r) rows) chosen ∙ ap (map (merged k.column (chosen_row n k))) inv.value ∙ sym (carried_more n j ks old);
+      value = c.in_default.ensures.value ∙ ap (λ (m : ℕ). map (merged m (row_view c.in_ok-chosen.chosen)) rows) column
+          ∙ ap (λ (r : TableauRow). map (merged k.column r) rows) chosen ∙ ap (map (merged k.column (chosen_row n k))) inv.value
+          ∙ sym (carried_more n j ks old);
       within = below_more (λ i. RowsMergeBelow (kept_at ks i).column (chosen_row n (kept_at ks i)) (carried n ks i old) (length old)) j inv.within within;
       proper = subst (λ (m : ℕ). AreProper m c.merge_all.new.rows) c.in_ok-chosen.ensures.proper.long c.in_default.ensures.proper;
     }

@@ -6,7 +6,8 @@ loop-unknown-preserved c =
     let n = c.loop-unknown.unknown in
     let e : suc c.loop-unknown.unknown ≡ c.loop-unknown.unknown + 1 = omega arith in
     let z : 0 + c.loop-unknown.unknown ≡ c.loop-unknown.unknown = omega arith in
-    c.in_ok-push.ensures.items ∙ ap (λ (xs : List ℕ). xs ++ n ∷ []) c.loop-unknown.invariant ∙ ap (λ (x : ℕ). range_with_len 0 n ++ x ∷ []) (sym z) ∙ sym (range_more 0 n) ∙ ap (range_with_len 0) e
+    c.in_ok-push.ensures.items ∙ ap (λ (xs : List ℕ). xs ++ n ∷ []) c.loop-unknown.invariant ∙ ap (λ (x : ℕ). range_with_len 0 n ++ x ∷ []) (sym z)
+    ∙ sym (range_more 0 n) ∙ ap (range_with_len 0) e
 
 pub returns : goal.returns
 returns c =

@@ -7,4 +7,5 @@ loop-unknown-preserved c =
     let n = c.loop-unknown.unknown in
     let e : suc c.loop-unknown.unknown ≡ c.loop-unknown.unknown + 1 = omega arith in
     let old = map (raised c.args.unknowns c.args.new) c.args.non_basic.now in
-    c.in_ok-push.ensures.items ∙ ap (λ (xs : List ℕ). xs ++ (u + n) ∷ []) c.loop-unknown.invariant ∙ append_assoc old (range_with_len u n) ((u + n) ∷ []) ∙ ap (λ (xs : List ℕ). old ++ xs) (sym (range_more u n) ∙ ap (range_with_len u) e)
+    c.in_ok-push.ensures.items ∙ ap (λ (xs : List ℕ). xs ++ (u + n) ∷ []) c.loop-unknown.invariant ∙ append_assoc old (range_with_len u n) ((u + n) ∷ [])
+    ∙ ap (λ (xs : List ℕ). old ++ xs) (sym (range_more u n) ∙ ap (range_with_len u) e)

@@ -1,4 +1,5 @@
-use Rattle.ta_dense.proofs.Common.{◌≡◌, arith, sym, ◌∙◌, ap, subst, ◌+◌, ◌++◌, ◌∷◌, [], List, get_or, map-append, get_or-map, TableauRow, no_row, IsProper, widened, row_view, views, AreProper, DenseRow}
+use Rattle.ta_dense.proofs.Common.{◌≡◌, arith, sym, ◌∙◌, ap, subst, ◌+◌, ◌++◌, ◌∷◌, [], List, get_or, map-append, get_or-map, TableauRow, no_row, IsProper}
+use Rattle.ta_dense.proofs.Common.{widened, row_view, views, AreProper, DenseRow}
 use Rattle.ta_dense.proofs.DenseFacts.{proper_read}
 use Rattle.ta_dense.proofs.SlackRows.{proper-push}
 use Rattle.ta_dense.proofs.ExtendFacts.{IsProper-padded, padded_widened, map_take_more}
@@ -7,7 +8,8 @@ use Rattle.ta_dense.proofs.extending.widened_rows.Goals as goal
 pub raised_variable-basic-requires : goal.raised_variable-basic-requires
 raised_variable-basic-requires c =
     let rows = c.args.rows.now in
-    let read : row_view c.row-item.result ≡ get_or (views c.args.rows.now) c.loop-row.row-index no_row = ap row_view c.row-item.is ∙ sym (get_or-map row_view rows c.loop-row.row-index c.row-item.result no_row c.loop-row-test.true) in
+    let read : row_view c.row-item.result ≡ get_or (views c.args.rows.now) c.loop-row.row-index no_row = ap row_view c.row-item.is
+    ∙ sym (get_or-map row_view rows c.loop-row.row-index c.row-item.result no_row c.loop-row-test.true) in
     let same = ap (λ (r : TableauRow). r.basic) read in
     let room = c.requires.room c.loop-row.row-index c.loop-row-test.true in
     omega arith
@@ -29,8 +31,12 @@ loop-row-preserved c =
     let proper = proper_read u rows i c.row-item.result c.requires.proper c.loop-row-test.true c.row-item.is in
     let items = c.in_ok-push.ensures.items in
     let P : List DenseRow → Type 0 = AreProper (u + n) in
-    let same = c.in_ok-padded_row.ensures ∙ padded_widened u n c.raised_variable-basic.result (row_view c.row-item.result) proper.long c.raised_variable-basic.ensures in
+    let same = c.in_ok-padded_row.ensures ∙ padded_widened u n c.raised_variable-basic.result (row_view c.row-item.result) proper.long
+    c.raised_variable-basic.ensures in
     record {
-      value = ap views items ∙ map-append row_view old (new ∷ []) ∙ ap (λ (xs : List TableauRow). xs ++ row_view new ∷ []) inv.value ∙ map_take_more row_view (widened u n) rows i c.row-item.result c.row-item.result (row_view new) c.loop-row-test.true c.row-item.is same;
-      proper = subst P (sym items) (proper-push (u + n) old new inv.proper (subst (IsProper (u + n)) (sym c.in_ok-padded_row.ensures) (IsProper-padded u c.raised_variable-basic.result (u + n) (row_view c.row-item.result) proper (omega arith))));
+      value = ap views items ∙ map-append row_view old (new ∷ []) ∙ ap (λ (xs : List TableauRow). xs ++ row_view new ∷ []) inv.value
+          ∙ map_take_more row_view (widened u n) rows i c.row-item.result c.row-item.result (row_view new) c.loop-row-test.true c.row-item.is same;
+      proper = subst P (sym items) (proper-push (u + n) old new inv.proper
+          (subst (IsProper (u + n)) (sym c.in_ok-padded_row.ensures)
+          (IsProper-padded u c.raised_variable-basic.result (u + n) (row_view c.row-item.result) proper (omega arith))));
     }

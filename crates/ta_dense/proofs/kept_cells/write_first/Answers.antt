@@ -1,4 +1,5 @@
-use Rattle.ta_dense.proofs.Common.{◌≡◌, ◌+◌, suc, ◌++◌, take, drop, set, get_or, arith, ap, sym, ◌∙◌, ℕ, List, ℤ, pos, rules, to_z-of_z, SFits, w16, w32, write_more, fits_more}
+use Rattle.ta_dense.proofs.Common.{◌≡◌, ◌+◌, suc, ◌++◌, take, drop, set, get_or, arith, ap, sym, ◌∙◌, ℕ, List, ℤ, pos, rules, to_z-of_z, SFits, w16, w32}
+use Rattle.ta_dense.proofs.Common.{write_more, fits_more}
 use Rattle.ta_dense.proofs.kept_cells.write_first.Goals as goal
 
 pub loop-j-preserved : goal.loop-j-preserved

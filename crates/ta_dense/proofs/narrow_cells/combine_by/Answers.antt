@@ -1,4 +1,5 @@
-use Rattle.ta_dense.proofs.Common.{ℕ, arith, sym, ◌∙◌, ap, subst, pos, ◌-ℤ◌, ◌*ℤ◌, ℤ, get_or, rules, to_z-of_z, ext_get_or, SFits, w32, done_more, rest_more, combine, CombinesIn32}
+use Rattle.ta_dense.proofs.Common.{ℕ, arith, sym, ◌∙◌, ap, subst, pos, ◌-ℤ◌, ◌*ℤ◌, ℤ, get_or, rules, to_z-of_z, ext_get_or, SFits, w32, done_more, rest_more}
+use Rattle.ta_dense.proofs.Common.{combine, CombinesIn32}
 use Rattle.ta_dense.proofs.PivotLaws.{get_or-combine, length-combine}
 use Rattle.ta_dense.proofs.narrow_cells.combine_by.Goals as goal
 
@@ -39,9 +40,11 @@ loop-j-preserved c =
     let fr = fit.right in
     let fd = fit.difference in
     let x = c.args.p *ℤ get_or c.loop-j.cells c.loop-j.j (pos 0) -ℤ c.args.q *ℤ get_or c.args.chosen.now c.loop-j.j (pos 0) in
-    let is = ap (λ (z : ℤ). c.args.p *ℤ z -ℤ c.args.q *ℤ get_or c.args.chosen.now c.loop-j.j (pos 0)) e ∙ sym (get_or-combine c.args.p c.args.q c.args.cells.now c.args.chosen.now c.loop-j.j c.requires.long) in
+    let is = ap (λ (z : ℤ). c.args.p *ℤ z -ℤ c.args.q *ℤ get_or c.args.chosen.now c.loop-j.j (pos 0)) e
+    ∙ sym (get_or-combine c.args.p c.args.q c.args.cells.now c.args.chosen.now c.loop-j.j c.requires.long) in
     simp to_z-of_z record {
-      done = done_more (λ (k : ℕ). get_or (combine c.args.p c.args.q c.args.cells.now c.args.chosen.now) k (pos 0)) (pos 0) c.loop-j.cells c.loop-j.j x (omega arith) is inv.done;
+      done = done_more (λ (k : ℕ). get_or (combine c.args.p c.args.q c.args.cells.now c.args.chosen.now) k (pos 0)) (pos 0) c.loop-j.cells c.loop-j.j x
+          (omega arith) is inv.done;
       rest = rest_more (pos 0) c.args.cells.now c.loop-j.cells c.loop-j.j x inv.rest;
     }
 

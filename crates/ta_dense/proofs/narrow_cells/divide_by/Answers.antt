@@ -8,4 +8,6 @@ loop-cell-preserved c =
     let fr : SFits w32 c.quotient.result = search rules in
     let e = simp to_z-of_z at c.quotient.ensures in
     let inv = simp to_z-of_z at c.loop-cell.invariant in
-    simp to_z-of_z (rw e (map_over_more (λ (z : ℤ). int_div z c.args.divisor) c.args.cells.now c.loop-cell.cells c.loop-cell.cell-index (get_or c.loop-cell.cells c.loop-cell.cell-index (pos 0)) c.loop-cell-test.true inv (get_or_default c.loop-cell.cells c.loop-cell.cell-index (pos 0) (get_or c.loop-cell.cells c.loop-cell.cell-index (pos 0)) (omega arith))))
+    simp to_z-of_z (rw e (map_over_more (λ (z : ℤ). int_div z c.args.divisor) c.args.cells.now c.loop-cell.cells c.loop-cell.cell-index
+    (get_or c.loop-cell.cells c.loop-cell.cell-index (pos 0)) c.loop-cell-test.true inv
+    (get_or_default c.loop-cell.cells c.loop-cell.cell-index (pos 0) (get_or c.loop-cell.cells c.loop-cell.cell-index (pos 0)) (omega arith))))

@@ -8,5 +8,6 @@ loop-cell-preserved c =
     record {
       some = c.halved-divisor.ensures.some;
       few = c.halved-divisor.ensures.few;
-      value = rw v (sym (at_drop_more (gcd_with c.loop-cell.divisor) c.args.cells.now c.loop-cell.cell-index (pos 0) c.loop-cell-test.true) ∙ c.loop-cell.invariant.value);
+      value = rw v (sym (at_drop_more (gcd_with c.loop-cell.divisor) c.args.cells.now c.loop-cell.cell-index (pos 0) c.loop-cell-test.true)
+          ∙ c.loop-cell.invariant.value);
     }

@@ -1,4 +1,5 @@
-use Rattle.ta_dense.proofs.Common.{◌≡◌, ℕ, List, arith, sym, ◌∙◌, ap, subst, length, map, below_more, get_or-map, length-map, TableauRow, merged, RowsMergeBelow, narrow_views, KeptPivot, IsKept, kept_at, no_pivot, chosen_row, carried, pivot_in_either, pivots_of}
+use Rattle.ta_dense.proofs.Common.{◌≡◌, ℕ, List, arith, sym, ◌∙◌, ap, subst, length, map, below_more, get_or-map, length-map, TableauRow, merged}
+use Rattle.ta_dense.proofs.Common.{RowsMergeBelow, narrow_views, KeptPivot, IsKept, kept_at, no_pivot, chosen_row, carried, pivot_in_either, pivots_of}
 use Rattle.ta_dense.proofs.ExtendFacts.{carried_more, length-carried}
 use Rattle.ta_dense.proofs.narrow_extending.carry_narrow_rows.Goals as goal
 
@@ -7,7 +8,8 @@ carry_narrow-requires-clause-kept c =
     let j = c.loop-pivot.pivot in
     let inside = c.loop-pivot-test.true in
     let l = length-map c.args.kept.now pivot_in_either in
-    let at : pivot_in_either c.index-kept-pivot.result ≡ kept_at (pivots_of c.args.kept.now) c.loop-pivot.pivot = ap pivot_in_either c.index-kept-pivot.is ∙ sym (get_or-map pivot_in_either c.args.kept.now j c.index-kept-pivot.result no_pivot inside) in
+    let at : pivot_in_either c.index-kept-pivot.result ≡ kept_at (pivots_of c.args.kept.now) c.loop-pivot.pivot = ap pivot_in_either c.index-kept-pivot.is
+    ∙ sym (get_or-map pivot_in_either c.args.kept.now j c.index-kept-pivot.result no_pivot inside) in
     subst (IsKept c.args.columns) (sym at) (c.requires.kept j (omega arith))
 
 pub loop-pivot-preserved : goal.loop-pivot-preserved
@@ -19,7 +21,8 @@ loop-pivot-preserved c =
     let rows = narrow_views c.loop-pivot.rows in
     let old = narrow_views c.args.rows.now in
     let inside = c.loop-pivot-test.true in
-    let at : pivot_in_either c.index-kept-pivot.result ≡ kept_at (pivots_of c.args.kept.now) c.loop-pivot.pivot = ap pivot_in_either c.index-kept-pivot.is ∙ sym (get_or-map pivot_in_either c.args.kept.now j c.index-kept-pivot.result no_pivot inside) in
+    let at : pivot_in_either c.index-kept-pivot.result ≡ kept_at (pivots_of c.args.kept.now) c.loop-pivot.pivot = ap pivot_in_either c.index-kept-pivot.is
+    ∙ sym (get_or-map pivot_in_either c.args.kept.now j c.index-kept-pivot.result no_pivot inside) in
     let k = kept_at ks j in
     let value = rw c.if-not-branch.false at c.in_ok-carry_narrow.ensures.value in
     let narrow = rw c.if-not-branch.false at c.in_ok-carry_narrow.ensures.narrow in
@@ -28,7 +31,8 @@ loop-pivot-preserved c =
     let second = subst (λ (xs : List TableauRow). RowsMergeBelow k.column (chosen_row n k) xs (length xs)) inv.value first in
     let third = subst (λ (m : ℕ). RowsMergeBelow k.column (chosen_row n k) (carried n ks j old) m) (length-carried n j ks old) second in
     record {
-      value = value ∙ ap (λ (p : KeptPivot). map (merged p.column (chosen_row n p)) rows) at ∙ ap (map (merged k.column (chosen_row n k))) inv.value ∙ sym (carried_more n j ks old);
+      value = value ∙ ap (λ (p : KeptPivot). map (merged p.column (chosen_row n p)) rows) at ∙ ap (map (merged k.column (chosen_row n k))) inv.value
+          ∙ sym (carried_more n j ks old);
       within = below_more (λ i. RowsMergeBelow (kept_at ks i).column (chosen_row n (kept_at ks i)) (carried n ks i old) (length old)) j inv.within third;
       narrow = narrow;
     }

@@ -1,4 +1,5 @@
-use Rattle.ta_dense.proofs.Common.{sym, ◌∙◌, ap, subst, ◌+◌, ◌++◌, ◌∷◌, [], List, map-append, All-push, TableauRow, zero_filled, narrow_view, narrow_views, IsNarrow, AreNarrow, NarrowRow}
+use Rattle.ta_dense.proofs.Common.{sym, ◌∙◌, ap, subst, ◌+◌, ◌++◌, ◌∷◌, [], List, map-append, All-push, TableauRow, zero_filled, narrow_view, narrow_views}
+use Rattle.ta_dense.proofs.Common.{IsNarrow, AreNarrow, NarrowRow}
 use Rattle.ta_dense.proofs.ExtendFacts.{padded_filled, map_take_more}
 use Rattle.ta_dense.proofs.narrow_extending.filled_rows.Goals as goal
 
@@ -15,6 +16,8 @@ loop-row-preserved c =
     let P : List NarrowRow → Type 0 = AreNarrow (u + n) in
     let same = c.in_ok-padded_narrow.ensures.value ∙ padded_filled u n (narrow_view c.row-item.result) own.proper.long in
     record {
-      value = ap narrow_views items ∙ map-append narrow_view old (new ∷ []) ∙ ap (λ (xs : List TableauRow). xs ++ narrow_view new ∷ []) inv.value ∙ map_take_more narrow_view (zero_filled n) c.args.rows.now i c.row-item.result c.row-item.result (narrow_view new) c.loop-row-test.true c.row-item.is same;
+      value = ap narrow_views items ∙ map-append narrow_view old (new ∷ []) ∙ ap (λ (xs : List TableauRow). xs ++ narrow_view new ∷ []) inv.value
+          ∙ map_take_more narrow_view (zero_filled n) c.args.rows.now i c.row-item.result c.row-item.result (narrow_view new) c.loop-row-test.true c.row-item.is
+          same;
       narrow = subst P (sym items) (All-push (IsNarrow (u + n)) old new inv.narrow c.in_ok-padded_narrow.ensures.narrow);
     }

@@ -13,5 +13,6 @@ loop-at-preserved c =
     record {
       views = map-set_same narrow_view c.loop-at.rows c.loop-at.at c.merges.new.row c.index-rows-at.result c.if-not-merges.ensures.view ∙ inv.views;
       narrow = All-set (IsNarrow n) c.loop-at.rows c.loop-at.at c.merges.new.row c.if-not-merges.ensures.narrow inv.narrow;
-      within = AllWithin-more_set c.loop-at.rows c.loop-at.at c.merges.new.row (omega arith) (MergesIn32 c.args.column c.args.chosen.now) inv.within c.if-not-merges.ensures.within;
+      within = AllWithin-more_set c.loop-at.rows c.loop-at.at c.merges.new.row (omega arith) (MergesIn32 c.args.column c.args.chosen.now) inv.within
+          c.if-not-merges.ensures.within;
     }

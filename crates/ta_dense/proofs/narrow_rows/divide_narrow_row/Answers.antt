@@ -10,6 +10,7 @@ returns-clause-value c =
     let g1 : SFits w32 (int_div c.args.row.now.denominator c.args.divisor) = quot_fits w32 _ _ f1 c.requires in
     let g2 : SFits w32 (int_div c.args.row.now.constant c.args.divisor) = quot_fits w32 _ _ f2 c.requires in
     let e = rw c.deref_mut.ensures.value at (simp to_z-of_z at c.divide_narrow.ensures) in
-    let items = with_items_is c.args.row.now.cells c.divide_narrow.new.cells (c.divide_narrow.auto.cells ∙ ap length c.deref_mut.ensures.value ∙ search rules) in
+    let items = with_items_is c.args.row.now.cells c.divide_narrow.new.cells (c.divide_narrow.auto.cells ∙ ap length c.deref_mut.ensures.value ∙ search rules)
+    in
     simp to_z-of_z
     (rw (pos_abs c.args.divisor c.requires) (row_same c.args.row.now.basic _ _ _ _ _ _ refl refl (items ∙ e)))

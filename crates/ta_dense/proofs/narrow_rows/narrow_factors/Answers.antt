@@ -1,4 +1,5 @@
-use Rattle.ta_dense.proofs.Common.{◌≡◌, ◌<◌, ◌^◌, ap, arith, pos, ◌<ℤ◌, sym, ◌∙◌, ℕ, int_div, to_z-of_z, to_z_pos, quot_fits, ints, fits_signed_from_abs, SFits, to_z, w32, div-one, gcd_of_is, factor_divisor}
+use Rattle.ta_dense.proofs.Common.{◌≡◌, ◌<◌, ◌^◌, ap, arith, pos, ◌<ℤ◌, sym, ◌∙◌, ℕ, int_div, to_z-of_z, to_z_pos, quot_fits, ints, fits_signed_from_abs, SFits}
+use Rattle.ta_dense.proofs.Common.{to_z, w32, div-one, gcd_of_is, factor_divisor}
 use Rattle.ta_dense.proofs.Bounded.{factor_small, first_one, second_one}
 use Rattle.ta_dense.proofs.narrow_rows.narrow_factors.Goals as goal
 use Rattle.ta_dense.proofs.narrow_rows.narrow_factors.Goals.{After-gcd_narrow-divisor}

@@ -13,7 +13,8 @@ below c =
     omega (arith, e)
 
 pub overflow_cast-divisor : goal.overflow_cast-divisor
-overflow_cast-divisor c = fits_signed_from_abs w32 (pos c.divisor_of_narrow-divisor.result) (below (goal.at.overflow_cast-divisor c).After-divisor_of_narrow-divisor)
+overflow_cast-divisor c = fits_signed_from_abs w32 (pos c.divisor_of_narrow-divisor.result)
+    (below (goal.at.overflow_cast-divisor c).After-divisor_of_narrow-divisor)
 
 pub divide_narrow_row-requires : goal.divide_narrow_row-requires
 divide_narrow_row-requires c =
@@ -29,4 +30,5 @@ returns-else-divisor-gt1-clause-value c =
 pub returns-then-divisor-gt1-clause-value : goal.returns-then-divisor-gt1-clause-value
 returns-then-divisor-gt1-clause-value c =
     let b = below (goal.at.returns-then-divisor-gt1-clause-value c).After-divisor_of_narrow-divisor in
-    c.divide_narrow_row.ensures.value ∙ ap (λ (g : ℕ). divided g (narrow_view c.args.row.now)) (ap unsigned_abs (to_z_pos w32 c.divisor_of_narrow-divisor.result b) ∙ c.divisor_of_narrow-divisor.ensures.value)
+    c.divide_narrow_row.ensures.value ∙ ap (λ (g : ℕ). divided g (narrow_view c.args.row.now))
+    (ap unsigned_abs (to_z_pos w32 c.divisor_of_narrow-divisor.result b) ∙ c.divisor_of_narrow-divisor.ensures.value)

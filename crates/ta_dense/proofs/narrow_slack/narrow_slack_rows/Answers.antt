@@ -1,10 +1,12 @@
-use Rattle.ta_dense.proofs.Common.{arith, sym, ◌∙◌, ap, ◌+◌, ◌++◌, ◌∷◌, [], List, length, subst, take, map-append, length-append, All-push, TableauRow, slack_rows, slack_row_of, narrow_view, narrow_views, IsNarrow, AreNarrow, NarrowRow}
+use Rattle.ta_dense.proofs.Common.{arith, sym, ◌∙◌, ap, ◌+◌, ◌++◌, ◌∷◌, [], List, length, subst, take, map-append, length-append, All-push, TableauRow}
+use Rattle.ta_dense.proofs.Common.{slack_rows, slack_row_of, narrow_view, narrow_views, IsNarrow, AreNarrow, NarrowRow}
 use Rattle.ta_dense.proofs.ExtendFacts.{dropped_normal}
 use Rattle.ta_dense.proofs.SlackRows.{slack_rows-more}
 use Rattle.ta_dense.proofs.narrow_slack.narrow_slack_rows.Goals as goal
 
 pub narrow_slack_row-requires : goal.narrow_slack_row-requires
-narrow_slack_row-requires c = dropped_normal c.args.system.now.unknowns c.args.first c.loop-row.row-index c.args.system.now.rows c.as_slice.result.now c.split_at.result.1.now c.row-item.result c.as_slice.ensures c.split_at.ensures.back c.args.system.now.within c.loop-row-test.true c.row-item.is
+narrow_slack_row-requires c = dropped_normal c.args.system.now.unknowns c.args.first c.loop-row.row-index c.args.system.now.rows c.as_slice.result.now
+    c.split_at.result.1.now c.row-item.result c.as_slice.ensures c.split_at.ensures.back c.args.system.now.within c.loop-row-test.true c.row-item.is
 
 pub loop-row-preserved : goal.loop-row-preserved
 loop-row-preserved c =
@@ -24,7 +26,8 @@ loop-row-preserved c =
     let P : List NarrowRow → Type 0 = AreNarrow u in
     record {
       slack = omega arith;
-      value = ap narrow_views items ∙ map-append narrow_view old (new ∷ []) ∙ ap (λ (xs : List TableauRow). xs ++ narrow_view new ∷ []) inv.value ∙ ap (λ (x : TableauRow). slack_rows u (u + c.args.first) (take c.loop-row.row-index list) ++ x ∷ []) view ∙ sym more;
+      value = ap narrow_views items ∙ map-append narrow_view old (new ∷ []) ∙ ap (λ (xs : List TableauRow). xs ++ narrow_view new ∷ []) inv.value
+          ∙ ap (λ (x : TableauRow). slack_rows u (u + c.args.first) (take c.loop-row.row-index list) ++ x ∷ []) view ∙ sym more;
       long = omega arith;
       narrow = subst P (sym items) (All-push (IsNarrow u) old new inv.narrow narrow);
     }

@@ -20,15 +20,21 @@ pub nonzero_div-result : goal.nonzero_div-result
 nonzero_div-result c =
     let at = (goal.at.nonzero_div-result c).After-gcd-divisor in
     let fc = c.ranges.c in
-    let fd : SFits w128 c.gcd-divisor.result = search rules in
-    (rw (is_divisor at) (factors_positive c.args.c c.args.a c.requires.c_positive).0, simp to_z-of_z (quot_fits w128 c.args.c c.gcd-divisor.result fc (above at)))
+    let fd : SFits w128 c.gcd-divisor.result = search rules in (
+      rw (is_divisor at) (factors_positive c.args.c c.args.a c.requires.c_positive).0,
+      simp to_z-of_z
+          (quot_fits w128 c.args.c c.gcd-divisor.result fc (above at)),
+    )
 
 pub nonzero_div-result-2 : goal.nonzero_div-result-2
 nonzero_div-result-2 c =
     let at = (goal.at.nonzero_div-result-2 c).After-gcd-divisor in
     let fa = c.ranges.a in
-    let fd : SFits w128 c.gcd-divisor.result = search rules in
-    (rw (is_divisor at) (factors_positive c.args.c c.args.a c.requires.c_positive).0, simp to_z-of_z (quot_fits w128 c.args.a c.gcd-divisor.result fa (above at)))
+    let fd : SFits w128 c.gcd-divisor.result = search rules in (
+      rw (is_divisor at) (factors_positive c.args.c c.args.a c.requires.c_positive).0,
+      simp to_z-of_z
+          (quot_fits w128 c.args.a c.gcd-divisor.result fa (above at)),
+    )
 
 pub returns : goal.returns
 returns c =

@@ -1,4 +1,5 @@
-use Rattle.ta_dense.proofs.Common.{◌≡◌, arith, ap, ◌∙◌, sym, refl, pos, rules, length, subst, true, false, to_z-of_z, get_or_read, SFits, of_z, w128, row_view, TableauRow, merged_by, reduced, IsProper, MergesByInRange, zero_from_bits}
+use Rattle.ta_dense.proofs.Common.{◌≡◌, arith, ap, ◌∙◌, sym, refl, pos, rules, length, subst, true, false, to_z-of_z, get_or_read, SFits, of_z, w128, row_view}
+use Rattle.ta_dense.proofs.Common.{TableauRow, merged_by, reduced, IsProper, MergesByInRange, zero_from_bits}
 use Rattle.ta_dense.proofs.ProperFacts.{Factored, factored, merged_from, IsProper-reduced, IsProper-merged_by, IsProper-self, merged-zero}
 use Rattle.ta_dense.proofs.rows.merge.Goals as goal
 use Rattle.ta_dense.proofs.rows.merge.Goals.{After-factors-p}
@@ -11,20 +12,24 @@ ours c =
     let fp : SFits w128 c.factors-p.result.0 = search rules in
     let fq : SFits w128 c.factors-p.result.1 = search rules in
     let e = simp to_z-of_z at c.factors-p.ensures in
-    factored c.args.column (row_view c.args.chosen.now) (row_view c.args.row.now) c.index-a.result.now c.index.result.now c.factors-p.result.0 c.factors-p.result.1
+    factored c.args.column (row_view c.args.chosen.now) (row_view c.args.row.now) c.index-a.result.now c.index.result.now c.factors-p.result.0
+    c.factors-p.result.1
     (get_or_read c.args.row.now.cells.items c.args.column c.index-a.result.now (omega arith) c.index-a.ensures (pos 0))
     (get_or_read c.args.chosen.now.cells.items c.args.column c.index.result.now (omega arith) c.index.ensures (pos 0))
     (λ zero. c.if-a-eq0.false (ap (of_z w128) zero)) e.first e.second
 
 -- a row that is merged by them is proper
-proper : (c : After-factors-p) → MergesByInRange c.factors-p.result.0 c.factors-p.result.1 c.args.column (row_view c.args.chosen.now) (row_view c.args.row.now) → IsProper (length c.args.chosen.now.cells.items) (merged_by c.factors-p.result.0 c.factors-p.result.1 c.args.column (row_view c.args.chosen.now) (row_view c.args.row.now))
+proper : (c : After-factors-p) → MergesByInRange c.factors-p.result.0 c.factors-p.result.1 c.args.column (row_view c.args.chosen.now) (row_view c.args.row.now)
+    → IsProper (length c.args.chosen.now.cells.items)
+    (merged_by c.factors-p.result.0 c.factors-p.result.1 c.args.column (row_view c.args.chosen.now) (row_view c.args.row.now))
 proper c within =
     let f1 : SFits w128 c.index-a.result.now = search rules in
     let f2 : SFits w128 c.index.result.now = search rules in
     let fp : SFits w128 c.factors-p.result.0 = search rules in
     let fq : SFits w128 c.factors-p.result.1 = search rules in
     let e = simp to_z-of_z at c.factors-p.ensures in
-    IsProper-merged_by (length c.args.chosen.now.cells.items) c.factors-p.result.0 c.factors-p.result.1 c.args.column (row_view c.args.chosen.now) (row_view c.args.row.now) c.requires.column e.positive c.requires.chosen c.requires.row within
+    IsProper-merged_by (length c.args.chosen.now.cells.items) c.factors-p.result.0 c.factors-p.result.1 c.args.column (row_view c.args.chosen.now)
+    (row_view c.args.row.now) c.requires.column e.positive c.requires.chosen c.requires.row within
 
 pub returns : goal.returns
 returns c =
@@ -39,7 +44,8 @@ returns c =
     record {
       within = (λ t apart. rw (← f.first, ← f.second) within, λ h. refl);
       value = value ∙ merged_from c.args.column (row_view c.args.chosen.now) (row_view c.args.row.now) c.factors-p.result.0 c.factors-p.result.1 f;
-      proper = subst P (sym value) (IsProper-reduced (length c.args.chosen.now.cells.items) (merged_by c.factors-p.result.0 c.factors-p.result.1 c.args.column (row_view c.args.chosen.now) (row_view c.args.row.now)) (proper at within));
+      proper = subst P (sym value) (IsProper-reduced (length c.args.chosen.now.cells.items)
+          (merged_by c.factors-p.result.0 c.factors-p.result.1 c.args.column (row_view c.args.chosen.now) (row_view c.args.row.now)) (proper at within));
     }
 
 pub reduce-requires : goal.reduce-requires
@@ -48,7 +54,9 @@ reduce-requires c =
     let fq : SFits w128 c.factors-p.result.1 = search rules in
     let m = simp to_z-of_z at c.if-not-merge_by.ensures in
     let P : TableauRow → Type 0 = λ r. IsProper (length r.cells) r in
-    subst P (sym m.value) (IsProper-self (length c.args.chosen.now.cells.items) (merged_by c.factors-p.result.0 c.factors-p.result.1 c.args.column (row_view c.args.chosen.now) (row_view c.args.row.now)) (proper (goal.at.reduce-requires c).After-factors-p (m.within.0 refl)))
+    subst P (sym m.value) (IsProper-self (length c.args.chosen.now.cells.items)
+    (merged_by c.factors-p.result.0 c.factors-p.result.1 c.args.column (row_view c.args.chosen.now) (row_view c.args.row.now))
+    (proper (goal.at.reduce-requires c).After-factors-p (m.within.0 refl)))
 
 pub returns-then-not-merge_by-clause-within : goal.returns-then-not-merge_by-clause-within
 returns-then-not-merge_by-clause-within c =

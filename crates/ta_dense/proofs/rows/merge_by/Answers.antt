@@ -19,9 +19,12 @@ returns c =
     let d = simp to_z-of_z at c.in-Some-multiply.ensures in
     let within = rw (c.deref_mut.ensures.value, c.deref.ensures.value) at (simp to_z-of_z at c.combine_cells.ensures.within) in
     let value = rw (c.deref_mut.ensures.value, c.deref.ensures.value) at (simp to_z-of_z at c.combine_cells.ensures.value) in
-    let items = with_items_is c.args.row.now.cells c.combine_cells.new.cells (c.combine_cells.auto.cells ∙ ap length c.deref_mut.ensures.value ∙ search rules) in
+    let items = with_items_is c.args.row.now.cells c.combine_cells.new.cells (c.combine_cells.auto.cells ∙ ap length c.deref_mut.ensures.value ∙ search rules)
+    in
     record {
       within = (λ t. record { denominator = a.0; constant = b.0; turned = d.0; cells = within.0 t }, λ m. within.1 m.cells);
       value = simp to_z-of_z
-          (OnTrue-weaker c.combine_cells.result _ _ (λ same. row_same c.args.row.now.basic _ _ _ _ _ _ a.1 b.1 (items ∙ same ∙ ap (set (combine c.args.p c.args.q c.args.row.now.cells.items c.args.chosen.now.cells.items) c.args.column) d.1)) value);
+          (OnTrue-weaker c.combine_cells.result _ _
+          (λ same. row_same c.args.row.now.basic _ _ _ _ _ _ a.1 b.1
+          (items ∙ same ∙ ap (set (combine c.args.p c.args.q c.args.row.now.cells.items c.args.chosen.now.cells.items) c.args.column) d.1)) value);
     }

@@ -11,4 +11,5 @@ returns-else-divisor-gt1 c =
 pub returns-then-divisor-gt1 : goal.returns-then-divisor-gt1
 returns-then-divisor-gt1 c =
     let b = c.divisor_of_row-divisor.ensures.bound in
-    c.divide_row.ensures ∙ ap (λ (g : ℕ). divided g (row_view c.args.row.now)) (ap unsigned_abs (to_z_pos w128 c.divisor_of_row-divisor.result b) ∙ c.divisor_of_row-divisor.ensures.value)
+    c.divide_row.ensures ∙ ap (λ (g : ℕ). divided g (row_view c.args.row.now))
+    (ap unsigned_abs (to_z_pos w128 c.divisor_of_row-divisor.result b) ∙ c.divisor_of_row-divisor.ensures.value)

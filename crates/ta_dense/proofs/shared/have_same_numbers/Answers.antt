@@ -15,4 +15,5 @@ returns c =
     let denominator = simp to_z-of_z at raw1 in
     let constant = simp to_z-of_z at raw2 in
     let same = slice_eq-Decides Decides-int_eq c.as_slice.result.now c.as_slice-2.result.now c.eq.result c.eq.ensures in
-    λ t. row_same 0 c.args.row.now.denominator c.args.other.now.denominator c.args.row.now.constant c.args.other.now.constant c.args.row.now.cells.items c.args.other.now.cells.items denominator constant (sym c.as_slice.ensures.value ∙ same.0 t ∙ c.as_slice-2.ensures.value)
+    λ t. row_same 0 c.args.row.now.denominator c.args.other.now.denominator c.args.row.now.constant c.args.other.now.constant c.args.row.now.cells.items
+    c.args.other.now.cells.items denominator constant (sym c.as_slice.ensures.value ∙ same.0 t ∙ c.as_slice-2.ensures.value)

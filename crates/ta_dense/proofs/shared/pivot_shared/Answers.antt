@@ -6,11 +6,13 @@ pub pivot_alone-requires-clause-shared : goal.pivot_alone-requires-clause-shared
 pivot_alone-requires-clause-shared c =
     let n = length (shared_at c.args.shared.now c.args.row).cells in
     let same = ap (λ (rs : List TableauRow). length (get_or rs c.args.row no_row).cells) c.part.ensures.value in
-    subst (λ (m : ℕ). AreShared m c.part.new.shared) (sym same) (record { narrow = c.part.ensures.narrow n c.requires.shared.narrow; inside = c.part.ensures.inside })
+    subst (λ (m : ℕ). AreShared m c.part.new.shared) (sym same)
+    (record { narrow = c.part.ensures.narrow n c.requires.shared.narrow; inside = c.part.ensures.inside })
 
 pub returns-in-Ok-clause-in_range : goal.returns-in-Ok-clause-in_range
 returns-in-Ok-clause-in_range c =
-    subst (λ (rs : List TableauRow). OnTrue c.pivot_alone.result (OthersMergeBelow c.args.row c.args.column (get_or rs c.args.row no_row) rs (length rs))) c.part.ensures.value c.pivot_alone.ensures.in_range
+    subst (λ (rs : List TableauRow). OnTrue c.pivot_alone.result (OthersMergeBelow c.args.row c.args.column (get_or rs c.args.row no_row) rs (length rs)))
+    c.part.ensures.value c.pivot_alone.ensures.in_range
 
 pub returns-in-Err-clause-kept : goal.returns-in-Err-clause-kept
 returns-in-Err-clause-kept c =

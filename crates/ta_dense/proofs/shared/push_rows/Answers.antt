@@ -1,4 +1,5 @@
-use Rattle.ta_dense.proofs.Common.{◌≡◌, ◌∙◌, List, [], ◌∷◌, ◌++◌, length, ap, sym, subst, arith, append_assoc, into_iter_items, All-head, All-tail, TableauRow, narrow_view, narrow_views, IsNarrow, AreNarrow, shared_views, NarrowRow}
+use Rattle.ta_dense.proofs.Common.{◌≡◌, ◌∙◌, List, [], ◌∷◌, ◌++◌, length, ap, sym, subst, arith, append_assoc, into_iter_items, All-head, All-tail, TableauRow}
+use Rattle.ta_dense.proofs.Common.{narrow_view, narrow_views, IsNarrow, AreNarrow, shared_views, NarrowRow}
 use Rattle.ta_dense.proofs.shared.push_rows.Goals as goal
 
 pub loop-row-preserved : goal.loop-row-preserved
@@ -13,7 +14,8 @@ loop-row-preserved c =
     let all : AreNarrow c.args.columns (c.in-Some.row ∷ into_iter_items c.next.new.self) = subst P steps inv.narrow in
     let short = ap (λ (xs : List NarrowRow). length xs) steps in
     record {
-      value = ap (λ (rs : List TableauRow). rs ++ narrow_views rest) c.in_ok-push_row.ensures.value ∙ append_assoc so_far (narrow_view x ∷ []) (narrow_views rest) ∙ ap (λ (xs : List NarrowRow). so_far ++ narrow_views xs) (sym steps) ∙ inv.value;
+      value = ap (λ (rs : List TableauRow). rs ++ narrow_views rest) c.in_ok-push_row.ensures.value
+          ∙ append_assoc so_far (narrow_view x ∷ []) (narrow_views rest) ∙ ap (λ (xs : List NarrowRow). so_far ++ narrow_views xs) (sym steps) ∙ inv.value;
       shared = record {
         narrow = c.in_ok-push_row.ensures.narrow n inv.shared.narrow (All-head (IsNarrow n) x rest all);
         inside = c.in_ok-push_row.ensures.inside;

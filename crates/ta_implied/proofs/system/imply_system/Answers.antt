@@ -9,9 +9,13 @@ invariant_of-result c =
     let second = c.index-guards-after.result in
     let negation = c.in_ok-negated_row.field-0 in
     let guards = c.as_slice-guards.ensures in
-    let second_is : slice_get a.rise c.args.after ≡ Some second = slice_get_read a.rise (length a.rise) c.args.after second refl c.requires.after (rw guards at c.index-guards-after.is) in
-    let first_is : slice_get a.rise c.args.before ≡ Some first = slice_get_read a.rise (length a.rise) c.args.before first refl c.requires.before (rw guards at c.index-guards-before.is) in
-    let copies = system_copies (resilience_rows a) c.new-rows.result.items c.push_condition.new.rows.items c.push.new.self.items c.push-2.new.self.items second c.in_ok-copy_row.field-0 negation c.new-rows.ensures.items c.in_ok-push_condition.ensures c.in_ok-copy_row.ensures c.in_ok-push.ensures.items c.in_ok-push-2.ensures.items in
+    let second_is : slice_get a.rise c.args.after ≡ Some second = slice_get_read a.rise (length a.rise) c.args.after second refl c.requires.after
+    (rw guards at c.index-guards-after.is) in
+    let first_is : slice_get a.rise c.args.before ≡ Some first = slice_get_read a.rise (length a.rise) c.args.before first refl c.requires.before
+    (rw guards at c.index-guards-before.is) in
+    let copies = system_copies (resilience_rows a) c.new-rows.result.items c.push_condition.new.rows.items c.push.new.self.items c.push-2.new.self.items second
+    c.in_ok-copy_row.field-0 negation c.new-rows.ensures.items c.in_ok-push_condition.ensures c.in_ok-copy_row.ensures c.in_ok-push.ensures.items
+    c.in_ok-push-2.ensures.items in
     let below = system_below a c.args.before c.args.after first second negation c.push-2.new.self.items first_is second_is c.in_ok-negated_row.ensures copies in
     record { within = rw (c.as_slice-parameters.ensures, c.as_slice-shared.ensures, c.from_vec.ensures) below }
 
@@ -22,9 +26,13 @@ returns c =
     let second = c.index-guards-after.result in
     let negation = c.in_ok-negated_row.field-0 in
     let guards = c.as_slice-guards.ensures in
-    let second_is : slice_get a.rise c.args.after ≡ Some second = slice_get_read a.rise (length a.rise) c.args.after second refl c.requires.after (rw guards at c.index-guards-after.is) in
-    let first_is : slice_get a.rise c.args.before ≡ Some first = slice_get_read a.rise (length a.rise) c.args.before first refl c.requires.before (rw guards at c.index-guards-before.is) in
-    let copies = system_copies (resilience_rows a) c.new-rows.result.items c.push_condition.new.rows.items c.push.new.self.items c.push-2.new.self.items second c.in_ok-copy_row.field-0 negation c.new-rows.ensures.items c.in_ok-push_condition.ensures c.in_ok-copy_row.ensures c.in_ok-push.ensures.items c.in_ok-push-2.ensures.items in
+    let second_is : slice_get a.rise c.args.after ≡ Some second = slice_get_read a.rise (length a.rise) c.args.after second refl c.requires.after
+    (rw guards at c.index-guards-after.is) in
+    let first_is : slice_get a.rise c.args.before ≡ Some first = slice_get_read a.rise (length a.rise) c.args.before first refl c.requires.before
+    (rw guards at c.index-guards-before.is) in
+    let copies = system_copies (resilience_rows a) c.new-rows.result.items c.push_condition.new.rows.items c.push.new.self.items c.push-2.new.self.items second
+    c.in_ok-copy_row.field-0 negation c.new-rows.ensures.items c.in_ok-push_condition.ensures c.in_ok-copy_row.ensures c.in_ok-push.ensures.items
+    c.in_ok-push-2.ensures.items in
     record {
       unknowns = (let p = c.as_slice-parameters.ensures in let s = c.as_slice-shared.ensures in cc);
       first = first;

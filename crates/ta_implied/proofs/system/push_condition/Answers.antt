@@ -8,4 +8,5 @@ loop-comparison-preserved c =
     let test = rw c.as_slice-comparison-items.ensures at c.loop-comparison-test.true in
     let item = rw c.as_slice-comparison-items.ensures at c.comparison-item.is in
     let more = subst (λ (rs : List Row). AreCopied rs l.rows.items c.push_rows.new.rows.items) c.as_slice.ensures c.in_ok-push_rows.ensures in
-    comparison_copied c.args.condition.now.comparisons l.comparison-index c.comparison-item.result c.args.rows.now.items l.rows.items c.push_rows.new.rows.items test item l.invariant more
+    comparison_copied c.args.condition.now.comparisons l.comparison-index c.comparison-item.result c.args.rows.now.items l.rows.items c.push_rows.new.rows.items
+    test item l.invariant more

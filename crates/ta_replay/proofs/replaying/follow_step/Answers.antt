@@ -30,7 +30,8 @@ returns-then-not-holds_empty-clause-refuses c =
         after.values.items,
         told,
         λ empty. false≢true
-            (sym c.if-not-holds_empty.true ∙ c.holds_empty.ensures.1 (keeps_at c.args.automaton.now after c.args.pattern.now.empty c.in-Ok.ensures.is_of empty)),
+            (sym c.if-not-holds_empty.true ∙ c.holds_empty.ensures.1
+            (keeps_at c.args.automaton.now after c.args.pattern.now.empty c.in-Ok.ensures.is_of empty)),
       ),
     )
 

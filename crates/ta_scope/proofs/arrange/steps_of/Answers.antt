@@ -17,4 +17,5 @@ loop-location-preserved c =
     ∙ ap (steps_along a c.args.counts.now) (sym (take_more order i 0 c.loop-location-test.true))
 
 pub returns : goal.returns
-returns c = c.loop-location.invariant ∙ ap (steps_along c.args.automaton.now c.args.counts.now) (take_all c.loop-location.location-index c.args.order.now c.loop-location-test.false)
+returns c = c.loop-location.invariant ∙ ap (steps_along c.args.automaton.now c.args.counts.now)
+    (take_all c.loop-location.location-index c.args.order.now c.loop-location-test.false)

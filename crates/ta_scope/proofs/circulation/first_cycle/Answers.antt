@@ -5,7 +5,8 @@ use Rattle.ta_base.proofs.Lists.{one_passed}
 pub returns-in-Some-clause-some : goal.returns-in-Some-clause-some
 returns-in-Some-clause-some c =
     let a = c.args.automaton.now in
-    let named = read_same a.rules c.as_slice-rule-items.result.now c.loop-number.number c.rule-item.result c.as_slice-rule-items.ensures c.loop-number-test.true c.rule-item.is in
+    let named = read_same a.rules c.as_slice-rule-items.result.now c.loop-number.number c.rule-item.result c.as_slice-rule-items.ensures c.loop-number-test.true
+    c.rule-item.is in
     let cycle = rw c.in-Some.is at c.in_ok-cycle.ensures.some in
     record {
       number = c.loop-number.number;
@@ -23,9 +24,11 @@ returns-in-Some-clause-some c =
 pub loop-number-preserved : goal.loop-number-preserved
 loop-number-preserved c =
     let a = c.args.automaton.now in
-    let named = read_same a.rules c.as_slice-rule-items.result.now c.loop-number.number c.rule-item.result c.as_slice-rule-items.ensures c.loop-number-test.true c.rule-item.is in
+    let named = read_same a.rules c.as_slice-rule-items.result.now c.loop-number.number c.rule-item.result c.as_slice-rule-items.ensures c.loop-number-test.true
+    c.rule-item.is in
     let none = rw c.in_default.is at c.in_ok-cycle.ensures.none in
-    one_passed (λ (r : ℕ) (rule : Rule). IsBitSet c.args.rules r → ¬ OnCycle a c.args.rules rule) a.rules c.loop-number.number c.rule-item.result named none c.loop-number.invariant
+    one_passed (λ (r : ℕ) (rule : Rule). IsBitSet c.args.rules r → ¬ OnCycle a c.args.rules rule) a.rules c.loop-number.number c.rule-item.result named none
+    c.loop-number.invariant
 
 pub returns-clause-none : goal.returns-clause-none
 returns-clause-none c = λ r rule named.

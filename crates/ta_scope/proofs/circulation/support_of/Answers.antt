@@ -6,7 +6,8 @@ pub loop-number-init : goal.loop-number-init
 loop-number-init c = support_none c.args.counts.now
 
 pub loop-number-preserved : goal.loop-number-preserved
-loop-number-preserved c = support_more c.args.counts.now c.loop-number.number c.loop-number.rules c.with_rule-rules.result _ (omega (arith, ints)) c.loop-number.invariant c.with_rule-rules.ensures
+loop-number-preserved c = support_more c.args.counts.now c.loop-number.number c.loop-number.rules c.with_rule-rules.result _ (omega (arith, ints))
+    c.loop-number.invariant c.with_rule-rules.ensures
 
 pub returns : goal.returns
 returns c = support_all c.args.counts.now c.loop-number.number c.loop-number.rules (omega arith) c.loop-number.invariant

@@ -6,7 +6,8 @@ use Rattle.ta_base.proofs.Lists.{one_passed}
 pub returns-then-is_at_fault-clause-fault : goal.returns-then-is_at_fault-clause-fault
 returns-then-is_at_fault-clause-fault c =
     let a = c.args.automaton.now in
-    let named = read_same a.rules c.as_slice-rule-items.result.now c.loop-number.number c.rule-item.result c.as_slice-rule-items.ensures c.loop-number-test.true c.rule-item.is in
+    let named = read_same a.rules c.as_slice-rule-items.result.now c.loop-number.number c.rule-item.result c.as_slice-rule-items.ensures c.loop-number-test.true
+    c.rule-item.is in
     record {
       rule = c.rule-item.result;
       named = named;
@@ -17,13 +18,16 @@ returns-then-is_at_fault-clause-fault c =
 pub returns-then-is_at_fault-clause-out_of_scope : goal.returns-then-is_at_fault-clause-out_of_scope
 returns-then-is_at_fault-clause-out_of_scope c =
     let a = c.args.automaton.now in
-    let named = read_same a.rules c.as_slice-rule-items.result.now c.loop-number.number c.rule-item.result c.as_slice-rule-items.ensures c.loop-number-test.true c.rule-item.is in
-    fault_out a c.loop-number.number c.rule-item.result named ((fault_exactly a c.args.table.now c.loop-number.number c.rule-item.result c.requires named).0 (c.if-is_at_fault.ensures.0 refl))
+    let named = read_same a.rules c.as_slice-rule-items.result.now c.loop-number.number c.rule-item.result c.as_slice-rule-items.ensures c.loop-number-test.true
+    c.rule-item.is in
+    fault_out a c.loop-number.number c.rule-item.result named
+    ((fault_exactly a c.args.table.now c.loop-number.number c.rule-item.result c.requires named).0 (c.if-is_at_fault.ensures.0 refl))
 
 pub loop-number-preserved : goal.loop-number-preserved
 loop-number-preserved c =
     let a = c.args.automaton.now in
-    let named = read_same a.rules c.as_slice-rule-items.result.now c.loop-number.number c.rule-item.result c.as_slice-rule-items.ensures c.loop-number-test.true c.rule-item.is in
+    let named = read_same a.rules c.as_slice-rule-items.result.now c.loop-number.number c.rule-item.result c.as_slice-rule-items.ensures c.loop-number-test.true
+    c.rule-item.is in
     one_passed (λ (r : ℕ) (rule : Rule). ¬ AtFault a rule) a.rules c.loop-number.number c.rule-item.result named
     (λ fault. false≢true (c.if-is_at_fault.ensures.1 ((fault_exactly a c.args.table.now c.loop-number.number c.rule-item.result c.requires named).1 fault)))
     c.loop-number.invariant

@@ -6,7 +6,8 @@ use Rattle.ta_base.proofs.Lists.{one_passed}
 pub returns-then-is_on_longer_cycle-clause-some : goal.returns-then-is_on_longer_cycle-clause-some
 returns-then-is_on_longer_cycle-clause-some c =
     let a = c.args.automaton.now in
-    let named = read_same a.rules c.as_slice-rule-items.result.now c.loop-number.number c.rule-item.result c.as_slice-rule-items.ensures c.loop-number-test.true c.rule-item.is in
+    let named = read_same a.rules c.as_slice-rule-items.result.now c.loop-number.number c.rule-item.result c.as_slice-rule-items.ensures c.loop-number-test.true
+    c.rule-item.is in
     record {
       rule = c.rule-item.result;
       named = named;
@@ -17,9 +18,11 @@ returns-then-is_on_longer_cycle-clause-some c =
 pub loop-number-preserved : goal.loop-number-preserved
 loop-number-preserved c =
     let a = c.args.automaton.now in
-    let named = read_same a.rules c.as_slice-rule-items.result.now c.loop-number.number c.rule-item.result c.as_slice-rule-items.ensures c.loop-number-test.true c.rule-item.is in
+    let named = read_same a.rules c.as_slice-rule-items.result.now c.loop-number.number c.rule-item.result c.as_slice-rule-items.ensures c.loop-number-test.true
+    c.rule-item.is in
     one_passed (λ (r : ℕ) (rule : Rule). ¬ OnLongerCycle a rule) a.rules c.loop-number.number c.rule-item.result named
-    (λ cycle. false≢true (c.if-is_on_longer_cycle.ensures.1 ((longer_exactly a c.args.table.now c.loop-number.number c.rule-item.result c.requires named).1 cycle)))
+    (λ cycle. false≢true (c.if-is_on_longer_cycle.ensures.1
+    ((longer_exactly a c.args.table.now c.loop-number.number c.rule-item.result c.requires named).1 cycle)))
     c.loop-number.invariant
 
 pub returns-clause-none : goal.returns-clause-none

@@ -14,7 +14,8 @@ returns-then-more-reached-clause-none c =
     (λ b. false≢true (sym c.loop-more-test.true ∙ c.contains.ensures.tells.1 b)) c.stepped-more.ensures.stepped c.if-more-reached.true
 
 pub overflow_add-count : goal.overflow_add-count
-overflow_add-count c = let differ = c.if-more-reached.false in let grows = c.stepped-more.ensures.grows in let below = c.loop-more.invariant.below in omega arith
+overflow_add-count c = let differ = c.if-more-reached.false in let grows = c.stepped-more.ensures.grows in let below = c.loop-more.invariant.below in omega
+    arith
 
 pub loop-more-smaller : goal.loop-more-smaller
 loop-more-smaller c = let differ = c.if-more-reached.false in let grows = c.stepped-more.ensures.grows in omega arith
@@ -22,8 +23,10 @@ loop-more-smaller c = let differ = c.if-more-reached.false in let grows = c.step
 pub loop-more-preserved : goal.loop-more-preserved
 loop-more-preserved c =
     layer_next c.args.automaton.now c.args.rules c.args.from c.args.to c.loop-more.count c.loop-more.reached c.stepped-more.result c.loop-more.invariant
-    (λ b. false≢true (sym c.loop-more-test.true ∙ c.contains.ensures.tells.1 b)) c.stepped-more.ensures.stepped (let differ = c.if-more-reached.false in let grows = c.stepped-more.ensures.grows in omega arith)
+    (λ b. false≢true (sym c.loop-more-test.true ∙ c.contains.ensures.tells.1 b)) c.stepped-more.ensures.stepped
+    (let differ = c.if-more-reached.false in let grows = c.stepped-more.ensures.grows in omega arith)
 
 pub returns-clause-some : goal.returns-clause-some
 returns-clause-some c =
-    layer_done c.args.automaton.now c.args.rules c.args.from c.args.to c.loop-more.count c.loop-more.reached c.loop-more.invariant (c.contains.ensures.tells.0 c.loop-more-test.false)
+    layer_done c.args.automaton.now c.args.rules c.args.from c.args.to c.loop-more.count c.loop-more.reached c.loop-more.invariant
+    (c.contains.ensures.tells.0 c.loop-more-test.false)

@@ -6,14 +6,17 @@ use Rattle.ta_base.proofs.Lists.{one_passed}
 pub returns-then-is_step : goal.returns-then-is_step
 returns-then-is_step c =
     let a = c.args.automaton.now in
-    let named = read_same a.rules c.as_slice-rule-items.result.now c.loop-number.number c.rule-item.result c.as_slice-rule-items.ensures c.loop-number-test.true c.rule-item.is in
+    let named = read_same a.rules c.as_slice-rule-items.result.now c.loop-number.number c.rule-item.result c.as_slice-rule-items.ensures c.loop-number-test.true
+    c.rule-item.is in
     record { rule = c.rule-item.result; named = named; step = c.if-is_step.ensures.0 refl; first = c.loop-number.invariant }
 
 pub loop-number-preserved : goal.loop-number-preserved
 loop-number-preserved c =
     let a = c.args.automaton.now in
-    let named = read_same a.rules c.as_slice-rule-items.result.now c.loop-number.number c.rule-item.result c.as_slice-rule-items.ensures c.loop-number-test.true c.rule-item.is in
-    one_passed (λ (r : ℕ) (rule : Rule). ¬ IsStep a c.args.rules c.args.from c.args.to c.args.left r rule) a.rules c.loop-number.number c.rule-item.result named (λ step. false≢true (c.if-is_step.ensures.1 step)) c.loop-number.invariant
+    let named = read_same a.rules c.as_slice-rule-items.result.now c.loop-number.number c.rule-item.result c.as_slice-rule-items.ensures c.loop-number-test.true
+    c.rule-item.is in
+    one_passed (λ (r : ℕ) (rule : Rule). ¬ IsStep a c.args.rules c.args.from c.args.to c.args.left r rule) a.rules c.loop-number.number c.rule-item.result named
+    (λ step. false≢true (c.if-is_step.ensures.1 step)) c.loop-number.invariant
 
 pub unreachable-requires : goal.unreachable-requires
 unreachable-requires c =

@@ -8,9 +8,11 @@ loop-number-init c = record { stepped = stepped_none c.args.automaton.now c.args
 pub loop-number-preserved : goal.loop-number-preserved
 loop-number-preserved c =
     let a = c.args.automaton.now in
-    let named = read_same a.rules c.as_slice-rule-items.result.now c.loop-number.number c.rule-item.result c.as_slice-rule-items.ensures c.loop-number-test.true c.rule-item.is in
+    let named = read_same a.rules c.as_slice-rule-items.result.now c.loop-number.number c.rule-item.result c.as_slice-rule-items.ensures c.loop-number-test.true
+    c.rule-item.is in
     record {
-      stepped = stepped_more a c.args.rules c.args.mask c.loop-number.number c.loop-number.more c.with_target-more.result c.rule-item.result named c.loop-number.invariant.stepped c.with_target-more.ensures.grown;
+      stepped = stepped_more a c.args.rules c.args.mask c.loop-number.number c.loop-number.more c.with_target-more.result c.rule-item.result named
+          c.loop-number.invariant.stepped c.with_target-more.ensures.grown;
       grows = omega (arith, c.loop-number.invariant.grows, c.with_target-more.ensures.grows);
     }
 

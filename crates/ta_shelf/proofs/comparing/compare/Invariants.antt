@@ -10,7 +10,8 @@ pub record Compared (Within Read : Type 0) : Type 0 where
 abbrev pub invariant-comparing : goal.invariant-comparing
 invariant-comparing g l = Compared
     (l.at ≤ length l.bytes)
-    (Kept (g.S.Shelf.calls l.fn.shelf) (g.S.Shelf.calls l.shelf) (g.S.Shelf.files l.fn.shelf) l.name 0 (take l.at l.bytes) (g.S.Shelf.files l.shelf) (g.S.Shelf.faults l.fn.shelf) (g.S.Shelf.faults l.shelf))
+    (Kept (g.S.Shelf.calls l.fn.shelf) (g.S.Shelf.calls l.shelf) (g.S.Shelf.files l.fn.shelf) l.name 0 (take l.at l.bytes) (g.S.Shelf.files l.shelf)
+    (g.S.Shelf.faults l.fn.shelf) (g.S.Shelf.faults l.shelf))
 
 -- the bytes that aren't compared yet
 abbrev pub decreases-comparing : goal.decreases-comparing

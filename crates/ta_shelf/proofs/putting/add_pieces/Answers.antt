@@ -12,8 +12,10 @@ loop-piece-preserved g c =
     let here = c.loop-piece.invariant in
     record {
       named = c.in-Ok.ensures.named ∙ here.named;
-      bytes = added_more _ c.args.pieces.now c.loop-piece.piece-index c.piece-item.result _ _ here.bytes c.loop-piece-test.true (sym c.piece-item.is) (rw (c.as_bytes.ensures.value, c.as_str.ensures) at c.in-Ok.ensures.added);
-      log = grown_more (g.S.Shelf.stage_name c.args.stage.now) c.args.pieces.now c.loop-piece.piece-index c.piece-item.result _ _ _ here.log c.loop-piece-test.true (sym c.piece-item.is) (rw (c.as_bytes.ensures.value, c.as_str.ensures, here.named) at c.in-Ok.ensures.log);
+      bytes = added_more _ c.args.pieces.now c.loop-piece.piece-index c.piece-item.result _ _ here.bytes c.loop-piece-test.true (sym c.piece-item.is)
+          (rw (c.as_bytes.ensures.value, c.as_str.ensures) at c.in-Ok.ensures.added);
+      log = grown_more (g.S.Shelf.stage_name c.args.stage.now) c.args.pieces.now c.loop-piece.piece-index c.piece-item.result _ _ _ here.log
+          c.loop-piece-test.true (sym c.piece-item.is) (rw (c.as_bytes.ensures.value, c.as_str.ensures, here.named) at c.in-Ok.ensures.log);
       calm = c.in-Ok.ensures.cause ∙ here.calm;
       kept = c.in-Ok.ensures.kept ∙ here.kept;
     }

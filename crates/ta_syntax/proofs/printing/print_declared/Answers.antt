@@ -5,4 +5,9 @@ use Rattle.ta_syntax.proofs.PrintSteps.{prints_then}
 use Rattle.ta_syntax.proofs.printing.print_declared.Goals as goal
 
 pub returns : goal.returns
-returns g c = if_ok_then c.put_mark-2.result (λ (p : Prints (string_bytes c.print_listed.new.text) (string_bytes c.put_mark-2.new.text) (kind.Fixed mark.Semicolon ∷ [])). (prints_then (string_bytes c.args.text.now) (string_bytes c.put_mark.new.text) (string_bytes c.put_mark-2.new.text) (kind.Fixed c.args.mark ∷ []) ((listed kind.Fixed g.T.Printed.spelled c.args.items.now) ++ (kind.Fixed mark.Semicolon ∷ [])) c.in_ok-put_mark.ensures (prints_then (string_bytes c.put_mark.new.text) (string_bytes c.print_listed.new.text) (string_bytes c.put_mark-2.new.text) (listed kind.Fixed g.T.Printed.spelled c.args.items.now) (kind.Fixed mark.Semicolon ∷ []) c.in_ok-print_listed.ensures p))) c.put_mark-2.ensures
+returns g c = if_ok_then c.put_mark-2.result
+    (λ (p : Prints (string_bytes c.print_listed.new.text) (string_bytes c.put_mark-2.new.text) (kind.Fixed mark.Semicolon ∷ [])).
+    (prints_then (string_bytes c.args.text.now) (string_bytes c.put_mark.new.text) (string_bytes c.put_mark-2.new.text) (kind.Fixed c.args.mark ∷ [])
+    ((listed kind.Fixed g.T.Printed.spelled c.args.items.now) ++ (kind.Fixed mark.Semicolon ∷ [])) c.in_ok-put_mark.ensures
+    (prints_then (string_bytes c.put_mark.new.text) (string_bytes c.print_listed.new.text) (string_bytes c.put_mark-2.new.text)
+    (listed kind.Fixed g.T.Printed.spelled c.args.items.now) (kind.Fixed mark.Semicolon ∷ []) c.in_ok-print_listed.ensures p))) c.put_mark-2.ensures

@@ -11,7 +11,8 @@ items-preserved g c =
     let start = string_bytes c.args.text.now in
     let now = string_bytes c.items.text in
     let here : drop i xs ≡ x ∷ drop (i + 1) xs = drop_more xs i x (omega arith) ∙ ap (λ y. y ∷ drop (i + 1) xs) (sym c.item-item.is) in
-    goes_on start now (string_bytes c.print.new.text) (each f xs) (f x) (each f (drop (i + 1) xs)) (subst (λ ys. Goes start now (each f xs) (each f ys)) here c.items.invariant) c.in_ok-print.ensures
+    goes_on start now (string_bytes c.print.new.text) (each f xs) (f x) (each f (drop (i + 1) xs))
+    (subst (λ ys. Goes start now (each f xs) (each f ys)) here c.items.invariant) c.in_ok-print.ensures
 
 pub returns : goal.returns
 returns g c =

@@ -17,7 +17,8 @@ items-preserved g c =
     let all = further kind.Fixed f xs in
     let here : drop i xs ≡ x ∷ drop (i + 1) xs = drop_more xs i x (omega arith) ∙ ap (λ y. y ∷ drop (i + 1) xs) (sym c.item-item.is) in
     let one = prints_then now between next (kind.Fixed mark.Comma ∷ []) (f x) c.in_ok-put_mark.ensures c.in_ok-print-2.ensures in
-    goes_on start now next all (kind.Fixed mark.Comma ∷ f x) (further kind.Fixed f (drop (i + 1) xs)) (subst (λ ys. Goes start now all (further kind.Fixed f ys)) here c.items.invariant) one
+    goes_on start now next all (kind.Fixed mark.Comma ∷ f x) (further kind.Fixed f (drop (i + 1) xs))
+    (subst (λ ys. Goes start now all (further kind.Fixed f ys)) here c.items.invariant) one
 
 pub returns : goal.returns
 returns g c =
@@ -27,6 +28,7 @@ returns g c =
     let start = string_bytes c.print.new.text in
     let now = string_bytes c.items.text in
     let all = further kind.Fixed f xs in
-    let rest = goes_to_end start now all (subst (λ ys. Goes start now all (further kind.Fixed f ys)) (drop_of_length-le xs c.items-test.false) c.items.invariant) in
+    let rest = goes_to_end start now all
+    (subst (λ ys. Goes start now all (further kind.Fixed f ys)) (drop_of_length-le xs c.items-test.false) c.items.invariant) in
     let whole = prints_then before start now (f c.in-Some.first.now) all c.in_ok-print.ensures rest in
     subst (λ ys. Prints before now (listed kind.Fixed f ys)) (sym c.in-Some.ensures.cases.0) whole

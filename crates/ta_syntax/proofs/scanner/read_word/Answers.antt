@@ -7,7 +7,8 @@ pub split_at-requires : goal.split_at-requires
 split_at-requires c = rw c.word_len.ensures (prefix_len-le-length is_word c.args.bytes.now)
 
 pub ascii_text-requires : goal.ascii_text-requires
-ascii_text-requires c = rw (c.split_at.ensures.front, c.word_len.ensures) (words_ascii (take (prefix_len is_word c.args.bytes.now) c.args.bytes.now) (all_front is_word c.args.bytes.now))
+ascii_text-requires c = rw (c.split_at.ensures.front, c.word_len.ensures)
+    (words_ascii (take (prefix_len is_word c.args.bytes.now) c.args.bytes.now) (all_front is_word c.args.bytes.now))
 
 pub returns : goal.returns
 returns c =

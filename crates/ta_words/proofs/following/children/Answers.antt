@@ -10,7 +10,13 @@ pub push_rises-requires : goal.push_rises-requires
 push_rises-requires c =
     let p = c.args.task.pattern.now in
     let past = reverse c.args.elements.now in
-    omega (arith, ap length c.new-children.ensures, c.args.task.over.events_limit, passed_most Event (is_ready p past) c.new-children.result c.push_events.new.self 0 (length p.events) (c.push_events.ensures c.args.start_mask past c.of-seen.ensures))
+    omega (
+      arith,
+      ap length c.new-children.ensures,
+      c.args.task.over.events_limit,
+      passed_most Event (is_ready p past) c.new-children.result
+          c.push_events.new.self 0 (length p.events) (c.push_events.ensures c.args.start_mask past c.of-seen.ensures),
+    )
 
 pub push_falls-requires : goal.push_falls-requires
 push_falls-requires c =
@@ -22,8 +28,10 @@ push_falls-requires c =
       ap length c.new-children.ensures,
       c.args.task.over.events_limit,
       a.shape.limits.rise_limit,
-      passed_most Event (is_ready p past) c.new-children.result c.push_events.new.self 0 (length p.events) (c.push_events.ensures c.args.start_mask past c.of-seen.ensures),
-      passed_most Rise (may_rise c.args.orders.now past) c.push_events.new.self c.push_rises.new.self 0 (length a.rise) (c.push_rises.ensures c.args.start_mask past c.of-seen.ensures),
+      passed_most Event (is_ready p past) c.new-children.result c.push_events.new.self 0 (length p.events)
+          (c.push_events.ensures c.args.start_mask past c.of-seen.ensures),
+      passed_most Rise (may_rise c.args.orders.now past) c.push_events.new.self c.push_rises.new.self 0 (length a.rise)
+          (c.push_rises.ensures c.args.start_mask past c.of-seen.ensures),
     )
 
 pub returns-then-not-is_complete : goal.returns-then-not-is_complete
@@ -32,7 +40,10 @@ returns-then-not-is_complete c =
     let p = c.args.task.pattern.now in
     let past = reverse c.args.elements.now in
     let start = c.args.start_mask in
-    children_listed a p c.args.orders.now start past c.new-children.result c.push_events.new.self c.push_rises.new.self c.push_falls.new.self (sym (c.is_complete.ensures start past c.of-seen.ensures) ∙ c.if-not-is_complete.true) c.new-children.ensures (c.push_events.ensures start past c.of-seen.ensures) (c.push_rises.ensures start past c.of-seen.ensures) (c.push_falls.ensures start past c.of-seen.ensures)
+    children_listed a p c.args.orders.now start past c.new-children.result c.push_events.new.self c.push_rises.new.self c.push_falls.new.self
+    (sym (c.is_complete.ensures start past c.of-seen.ensures) ∙ c.if-not-is_complete.true) c.new-children.ensures
+    (c.push_events.ensures start past c.of-seen.ensures) (c.push_rises.ensures start past c.of-seen.ensures)
+    (c.push_falls.ensures start past c.of-seen.ensures)
 
 pub returns-else-not-is_complete : goal.returns-else-not-is_complete
 returns-else-not-is_complete c =
@@ -40,4 +51,5 @@ returns-else-not-is_complete c =
     let p = c.args.task.pattern.now in
     let past = reverse c.args.elements.now in
     let start = c.args.start_mask in
-    no_children a p c.args.orders.now start past c.new-children.result (sym (c.is_complete.ensures start past c.of-seen.ensures) ∙ c.if-not-is_complete.false) c.new-children.ensures
+    no_children a p c.args.orders.now start past c.new-children.result (sym (c.is_complete.ensures start past c.of-seen.ensures) ∙ c.if-not-is_complete.false)
+    c.new-children.ensures

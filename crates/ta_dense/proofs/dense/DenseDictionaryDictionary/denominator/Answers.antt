@@ -6,7 +6,8 @@ pub returns-clause-fits : goal.returns-clause-fits
 returns-clause-fits c =
     let rows = ap (λ (t : Tableau). length t.rows) c.self.view_is in
     let l = length-map c.self.inside.rows.items row_view in
-    let proper = proper_read (length c.self.inside.non_basic.items) c.self.inside.rows.items c.args.row c.index.result.now c.self.invariant.proper (let h = c.requires in omega arith) c.index.ensures in
+    let proper = proper_read (length c.self.inside.non_basic.items) c.self.inside.rows.items c.args.row c.index.result.now c.self.invariant.proper
+    (let h = c.requires in omega arith) c.index.ensures in
     let f : SFits w128 c.index.result.now.denominator = search rules in
     simp to_z-of_z proper.denominator
 
@@ -14,6 +15,7 @@ pub returns-clause-positive : goal.returns-clause-positive
 returns-clause-positive c =
     let rows = ap (λ (t : Tableau). length t.rows) c.self.view_is in
     let l = length-map c.self.inside.rows.items row_view in
-    let proper = proper_read (length c.self.inside.non_basic.items) c.self.inside.rows.items c.args.row c.index.result.now c.self.invariant.proper (let h = c.requires in omega arith) c.index.ensures in
+    let proper = proper_read (length c.self.inside.non_basic.items) c.self.inside.rows.items c.args.row c.index.result.now c.self.invariant.proper
+    (let h = c.requires in omega arith) c.index.ensures in
     let f : SFits w128 c.index.result.now.denominator = search rules in
     simp to_z-of_z proper.positive

@@ -1,4 +1,5 @@
-use Rattle.ta_dense.proofs.Common.{◌≡◌, ◌+◌, ◌-◌, ◌++◌, arith, sym, ◌∙◌, ap, subst, length, List, ℕ, rules, length-map, length-append, map-id, with_items_is, Tableau, TableauRow, row_view, views, AreProper, StayInRange, widened, DenseRow}
+use Rattle.ta_dense.proofs.Common.{◌≡◌, ◌+◌, ◌-◌, ◌++◌, arith, sym, ◌∙◌, ap, subst, length, List, ℕ, rules, length-map, length-append, map-id, with_items_is}
+use Rattle.ta_dense.proofs.Common.{Tableau, TableauRow, row_view, views, AreProper, StayInRange, widened, DenseRow}
 use Rattle.ta_dense.proofs.ExtendFacts.{length-carried, names_long, kept_more, new_rows_are, leaving_from, proper_joined}
 use Rattle.ta_dense.proofs.dense.DenseDictionaryDictionary.extend.Goals as goal
 
@@ -35,7 +36,8 @@ returns-in-Some-clause-fault c =
     let below = rw c.in-Some.is at c.in_ok-refusal.ensures.below in
     let before = rw c.deref_mut.ensures.value at (rw c.in-Some.is at c.in_ok-refusal.ensures.before) in
     let refused = rw c.deref_mut.ensures.value at (rw c.in-Some.is at c.in_ok-refusal.ensures.refused) in
-    rw itself (leaving_from c.args.self.now c.args.longer.now c.args.kept.now c.in-Some.refusal.pivot c.in-Some.refusal.row c.rows-first.result (views c.in_ok-carried.carried.items) new first below before refused)
+    rw itself (leaving_from c.args.self.now c.args.longer.now c.args.kept.now c.in-Some.refusal.pivot c.in-Some.refusal.row c.rows-first.result
+    (views c.in_ok-carried.carried.items) new first below before refused)
 
 pub returns-clause-in_range : goal.returns-clause-in_range
 returns-clause-in_range c =
@@ -48,7 +50,8 @@ returns-clause-in_range c =
 pub invariant_of-result : goal.invariant_of-result
 invariant_of-result c =
     let n = c.args.longer.now.unknowns in
-    let held = with_items_is c.in_ok-carried.carried c.carry_rows.new.rows (c.carry_rows.auto.rows ∙ ap (λ (xs : List DenseRow). length xs) c.deref_mut.ensures.value ∙ search rules) in
+    let held = with_items_is c.in_ok-carried.carried c.carry_rows.new.rows
+    (c.carry_rows.auto.rows ∙ ap (λ (xs : List DenseRow). length xs) c.deref_mut.ensures.value ∙ search rules) in
     let items = c.in_ok-append.ensures.items ∙ ap (λ (xs : List DenseRow). c.in_ok-rows.rows.items ++ xs) held in
     let proper = rw c.in_default.is at c.in_ok-refusal.ensures.proper in
     let new = c.args.longer.now.unknowns - c.columns-columns.result in
@@ -59,7 +62,8 @@ invariant_of-result c =
     let view_columns = ap (λ (t : Tableau). length t.non_basic) c.self.view_is in
     let view_rows = ap (λ (t : Tableau). length t.rows) c.self.view_is in
     let names = ap (λ (xs : List ℕ). length xs) c.deref-2.ensures.value in
-    let wide = names_long c.deref-2.result.now c.in_ok-non_basic.non_basic.items c.columns-columns.result c.args.longer.now.unknowns (omega arith) (omega arith) c.in_ok-non_basic.ensures in
+    let wide = names_long c.deref-2.result.now c.in_ok-non_basic.non_basic.items c.columns-columns.result c.args.longer.now.unknowns (omega arith) (omega arith)
+    c.in_ok-non_basic.ensures in
     let P : ℕ → List DenseRow → Type 0 = AreProper in
     let r1 = length-append c.in_ok-rows.rows.items c.carry_rows.new.rows in
     let r2 = ap (λ (xs : List TableauRow). length xs) c.in_ok-rows.ensures.value in
@@ -75,7 +79,8 @@ invariant_of-result c =
     let long = c.in_ok-carried.ensures.long in
     let room = c.requires.room in
     record {
-      proper = subst (λ (m : ℕ). P m c.append.new.self.items) (sym wide) (subst (P n) (sym items) (proper_joined n c.in_ok-rows.rows.items c.carry_rows.new.rows old proper));
+      proper = subst (λ (m : ℕ). P m c.append.new.self.items) (sym wide)
+          (subst (P n) (sym items) (proper_joined n c.in_ok-rows.rows.items c.carry_rows.new.rows old proper));
       rows_fit = omega arith;
       columns_fit = omega arith;
     }

@@ -11,4 +11,6 @@ of_row-requires c =
     let n = length c.self.inside.non_basic.items in
     let proper = proper_read n c.self.inside.rows.items c.args.row c.index-chosen.result.now c.self.invariant.proper (omega arith) c.index-chosen.ensures in
     let items : length c.index-chosen.result.now.cells.items ≡ c.index-chosen.result.now.cells.len = search rules in
-    IsProper-self c.len.result (row_view c.in_ok-copy.copy) (subst (IsProper c.len.result) (sym c.in_ok-copy.ensures) (IsProper-padded n c.index-chosen.result.now.basic c.len.result (row_view c.index-chosen.result.now) proper (omega arith)))
+    IsProper-self c.len.result (row_view c.in_ok-copy.copy)
+    (subst (IsProper c.len.result) (sym c.in_ok-copy.ensures)
+    (IsProper-padded n c.index-chosen.result.now.basic c.len.result (row_view c.index-chosen.result.now) proper (omega arith)))

@@ -1,4 +1,5 @@
-use Rattle.ta_dense.proofs.Common.{◌<ℤ◌, arith, sym, ◌∙◌, ap, subst, List, length, rules, ℕ, pos, length-map, with_items_is, length-set, Tableau, cell_of, row_of, AllMergeInRange, row_view, AreProper, DenseRow}
+use Rattle.ta_dense.proofs.Common.{◌<ℤ◌, arith, sym, ◌∙◌, ap, subst, List, length, rules, ℕ, pos, length-map, with_items_is, length-set, Tableau, cell_of}
+use Rattle.ta_dense.proofs.Common.{row_of, AllMergeInRange, row_view, AreProper, DenseRow}
 use Rattle.std.specs.Vec.{with_items}
 use Rattle.ta_dense.proofs.DenseFacts.{proper_after_pivot, others_of_views}
 use Rattle.ta_dense.proofs.dense.DenseDictionaryDictionary.pivot.Goals as goal
@@ -14,12 +15,14 @@ invariant_of-result c =
     let others = rw c.deref_mut.ensures.value at c.in_default.ensures.in_range in
     let auto = c.pivot_rows.auto.rows ∙ ap (λ (xs : List DenseRow). length xs) c.deref_mut.ensures.value in
     let items = with_items_is c.self.inside.rows c.pivot_rows.new.rows (auto ∙ search rules) in
-    let proper = proper_after_pivot (length c.self.inside.non_basic.items) c.args.row c.args.column c.index-entering.result.now c.self.inside.rows.items c.pivot_rows.new.rows c.self.invariant.proper (omega arith) (omega arith) positive others value auto in
+    let proper = proper_after_pivot (length c.self.inside.non_basic.items) c.args.row c.args.column c.index-entering.result.now c.self.inside.rows.items
+    c.pivot_rows.new.rows c.self.invariant.proper (omega arith) (omega arith) positive others value auto in
     let wide = length-set c.self.inside.non_basic.items c.args.column c.index.result.now.basic in
     let Q : ℕ → List DenseRow → Type 0 = AreProper in
     let long = ap (λ (xs : List DenseRow). length xs) items in
     record {
-      proper = subst (λ (n : ℕ). Q n (with_items c.self.inside.rows c.pivot_rows.new.rows).items) (sym wide) (subst (Q (length c.self.inside.non_basic.items)) (sym items) proper);
+      proper = subst (λ (n : ℕ). Q n (with_items c.self.inside.rows c.pivot_rows.new.rows).items) (sym wide)
+          (subst (Q (length c.self.inside.non_basic.items)) (sym items) proper);
       rows_fit = omega arith;
       columns_fit = let narrow = c.self.invariant.columns_fit in omega arith;
     }
@@ -27,4 +30,5 @@ invariant_of-result c =
 pub returns-clause-in_range : goal.returns-clause-in_range
 returns-clause-in_range c =
     let others = rw c.deref_mut.ensures.value at c.in_default.ensures.in_range in
-    subst (λ (t : Tableau). AllMergeInRange t c.args.row c.args.column) c.self.view_is (others_of_views c.args.row c.args.column c.self.inside.rows.items others)
+    subst (λ (t : Tableau). AllMergeInRange t c.args.row c.args.column) c.self.view_is
+    (others_of_views c.args.row c.args.column c.self.inside.rows.items others)

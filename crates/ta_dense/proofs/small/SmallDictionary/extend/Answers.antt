@@ -1,15 +1,18 @@
-use Rattle.ta_dense.proofs.Common.{◌-◌, ◌++◌, arith, sym, ◌∙◌, ap, subst, length, List, ℕ, rules, length-map, length-append, with_items_is, Tableau, TableauRow, narrow_view, narrow_views, row_at_place, shared_views, AreShared, widened, NarrowRow}
+use Rattle.ta_dense.proofs.Common.{◌-◌, ◌++◌, arith, sym, ◌∙◌, ap, subst, length, List, ℕ, rules, length-map, length-append, with_items_is, Tableau, TableauRow}
+use Rattle.ta_dense.proofs.Common.{narrow_view, narrow_views, row_at_place, shared_views, AreShared, widened, NarrowRow}
 use Rattle.ta_dense.proofs.ExtendFacts.{names_long}
 use Rattle.ta_dense.proofs.small.SmallDictionary.extend.Goals as goal
 
 pub invariant_of-result : goal.invariant_of-result
 invariant_of-result c =
-    let held = with_items_is c.in-Some.carried c.carry_narrow_rows.new.rows (c.carry_narrow_rows.auto.rows ∙ ap (λ (xs : List NarrowRow). length xs) c.deref_mut.ensures.value ∙ search rules) in
+    let held = with_items_is c.in-Some.carried c.carry_narrow_rows.new.rows
+    (c.carry_narrow_rows.auto.rows ∙ ap (λ (xs : List NarrowRow). length xs) c.deref_mut.ensures.value ∙ search rules) in
     let new = c.args.longer.now.unknowns - c.columns-columns.result in
     let view_columns = ap (λ (t : Tableau). length t.non_basic) c.self.view_is in
     let view_rows = ap (λ (t : Tableau). length t.rows) c.self.view_is in
     let names = ap (λ (xs : List ℕ). length xs) c.deref.ensures.value in
-    let wide = names_long c.deref.result.now c.in_ok-non_basic.non_basic.items c.columns-columns.result c.args.longer.now.unknowns (omega arith) (omega arith) c.in_ok-non_basic.ensures in
+    let wide = names_long c.deref.result.now c.in_ok-non_basic.non_basic.items c.columns-columns.result c.args.longer.now.unknowns (omega arith) (omega arith)
+    c.in_ok-non_basic.ensures in
     let value = c.in_ok-push_rows.ensures.value ∙ ap (λ (xs : List NarrowRow). shared_views c.in_ok-rows.rows ++ narrow_views xs) held in
     let r1 = ap (λ (xs : List TableauRow). length xs) value in
     let r2 = length-append (shared_views c.in_ok-rows.rows) (narrow_views c.carry_narrow_rows.new.rows) in

@@ -1,4 +1,5 @@
-use Rattle.ta_dense.proofs.Common.{◌≡◌, arith, sym, ◌∙◌, ap, ◌+◌, ◌++◌, List, ℕ, length, subst, drop, length-map, length-range_with_len, TableauRow, slack_rows, narrow_view, narrow_views, row_at_place, shared_views, AreShared}
+use Rattle.ta_dense.proofs.Common.{◌≡◌, arith, sym, ◌∙◌, ap, ◌+◌, ◌++◌, List, ℕ, length, subst, drop, length-map, length-range_with_len, TableauRow, slack_rows}
+use Rattle.ta_dense.proofs.Common.{narrow_view, narrow_views, row_at_place, shared_views, AreShared}
 use Rattle.ta_dense.proofs.SlackRows.{slack_tableau-is}
 use Rattle.ta_dense.proofs.small.SmallDictionary.from_system.Goals as goal
 

@@ -10,7 +10,8 @@ returns-then-more-found c =
     let found = c.loop-found.found in
     let same : c.with_sources-more.result ≡ found = c.if-more-found.true in
     let fits : found < 2 ^ 16 = subst (λ n. n < 2 ^ 16) same c.with_sources-more.type_inv in
-    let members = subst (λ n. (j : ℕ) → (has_bit n j ≡ true) ↔ ((has_bit found j ≡ true) ⊎ IsBeforeSome c.args.self.now found 16 j)) same c.with_sources-more.ensures.members in
+    let members = subst (λ n. (j : ℕ) → (has_bit n j ≡ true) ↔ ((has_bit found j ≡ true) ⊎ IsBeforeSome c.args.self.now found 16 j)) same
+    c.with_sources-more.ensures.members in
     all_searched c.args.self.now c.args.guard found fits c.loop-found.invariant members
 
 pub loop-found-preserved : goal.loop-found-preserved

@@ -13,8 +13,11 @@ loop-falls-preserved c =
     let here : c.loop-falls.falls ≡ 1 + (c.loop-falls.falls - 1) = omega arith in
     subst (λ n. Pushed Fall (is_standing c.args.automaton.now) c.args.seen c.args.self.now c.if-is_standing.self 1 n) more
     (elim c.if-is_standing.branch [
-      | then-is_standing w ↦ push_passed Fall (is_standing c.args.automaton.now) c.args.seen c.args.self.now c.loop-falls.self c.if-is_standing.self 1 (c.loop-falls.falls - 1) c.loop-falls.falls c.is_standing.result c.loop-falls.invariant here c.is_standing.ensures w.if-is_standing.true (w.self-is ∙ w.push.ensures)
-      | else-is_standing w ↦ pass_over Fall (is_standing c.args.automaton.now) c.args.seen c.args.self.now c.loop-falls.self c.if-is_standing.self 1 (c.loop-falls.falls - 1) c.loop-falls.falls c.is_standing.result c.loop-falls.invariant here c.is_standing.ensures w.if-is_standing.false w.self-is
+      | then-is_standing w ↦ push_passed Fall (is_standing c.args.automaton.now) c.args.seen c.args.self.now c.loop-falls.self c.if-is_standing.self 1
+          (c.loop-falls.falls - 1) c.loop-falls.falls c.is_standing.result c.loop-falls.invariant here c.is_standing.ensures w.if-is_standing.true
+          (w.self-is ∙ w.push.ensures)
+      | else-is_standing w ↦ pass_over Fall (is_standing c.args.automaton.now) c.args.seen c.args.self.now c.loop-falls.self c.if-is_standing.self 1
+          (c.loop-falls.falls - 1) c.loop-falls.falls c.is_standing.result c.loop-falls.invariant here c.is_standing.ensures w.if-is_standing.false w.self-is
     ])
 
 pub push-requires : goal.push-requires
@@ -30,5 +33,7 @@ returns c = λ start past is.
     let limit = c.args.automaton.now.shape.limits.fall_limit in
     let most = end_of_masks (length c.as_slice.result.now) (omega arith) in
     let end : c.loop-falls.falls - 1 ≡ 2 ^ length c.args.automaton.now.fall - 1 =
-    (let low = c.loop-falls-test.false in let high = c.loop-falls.auto.falls-end (let p = most.2 in omega arith) in let equal : 2 ^ length c.as_slice.result.now ≡ 2 ^ length c.args.automaton.now.fall = ap (λ n. 2 ^ n) same in omega (arith, most.0, equal)) in
-    subst (λ n. c.loop-falls.self ≡ with_passed Fall (is_standing c.args.automaton.now start past) c.args.self.now 1 n) end (c.loop-falls.invariant.passed start past is)
+    (let low = c.loop-falls-test.false in let high = c.loop-falls.auto.falls-end (let p = most.2 in omega arith) in
+    let equal : 2 ^ length c.as_slice.result.now ≡ 2 ^ length c.args.automaton.now.fall = ap (λ n. 2 ^ n) same in omega (arith, most.0, equal)) in
+    subst (λ n. c.loop-falls.self ≡ with_passed Fall (is_standing c.args.automaton.now start past) c.args.self.now 1 n) end
+    (c.loop-falls.invariant.passed start past is)
