@@ -26,7 +26,7 @@ pub use Rattle.ta_walk.specs.Found.{Found, FoundAt}
 pub use Rattle.ta_moments.specs.Refutes.{of_events}
 pub use Rattle.ta_moments.specs.declared.fact.Fact.{Fact}
 pub use Rattle.ta_report.proofs.Picks.{entry_picked, entry_place, picked_count, picked_there}
-pub use Rattle.ta_report.specs.Picked.{entry_of, first_picked, listed, picked}
+pub use Rattle.ta_report.specs.Picked.{entry_of, first_picked, picked}
 pub use Rattle.ta_report.specs.Report.{VerdictFits}
 pub use Rattle.ta_report.specs.declared.pick.Pick.{Pick}
 pub use Rattle.ta_report.specs.declared.pick.Pick.TheVariants.{All, One}

@@ -1,8 +1,9 @@
 -- a certificate as it is written
-use Rattle.ta_verdict.proofs.Common.{◌≡◌, ◌∙◌, ℕ, ◌+◌, ◌<◌, true, List, [], ◌∷◌, ◌++◌, length, take, Option, Some, None, refl, sym, ap, subst, arith}
+use Rattle.ta_verdict.proofs.Common.{◌≡◌, ◌∙◌, ℕ, ◌+◌, ◌<◌, true, List, [], ◌∷◌, ◌++◌, length, slice_get, take, Option, Some, None, refl, sym, ap, subst, arith}
 use Rattle.ta_verdict.proofs.Common.{append_assoc, append-nil, length-take-le, take_next, some_at, File, Pattern, nodes_text, proof_text, proofs_text}
 use Rattle.ta_verdict.proofs.Common.{line_text, node_text, Node, Proof, Verdict, OfPattern, AreTreesOf, SafeOne, safe_ones, tree_size, with_safe, AddsTree}
 use Rattle.ta_verdict.proofs.Common.{DraftBegins, DraftKeeps, DraftHasTree, HasProofs, HasText, HasTrees, ended_line, pieces_text, AllocError, Draft}
+use Rattle.ta_verdict.proofs.Common.{Bool, Budget, VerdictFits, VerdictHolds, holds_by, tree_by, tree_under}
 use Rattle.std.specs.Prelude.{is_some, OnOk, Result, Ok, Err}
 use Rattle.std.proofs.lemmas.Bool.{false≢true}
 use Rattle.ta_cert.specs.declared.line.Line.TheVariants as line
@@ -12,6 +13,21 @@ nodes_joined : (ns ms : List Node) → nodes_text (ns ++ ms) ≡ nodes_text ns +
 nodes_joined [] ms = refl
 nodes_joined (n ∷ ns) ms = ap (λ (xs : List ℕ). node_text n ++ (10 ∷ xs)) (nodes_joined ns ms)
     ∙ sym (append_assoc (node_text n) (10 ∷ nodes_text ns) (nodes_text ms))
+
+-- a fact of a verdict on the pattern with this number; the verdict fits the file; and if it calls the pattern safe, the second draft is the first
+-- and the lines of its tree
+pub record Drafted (Fact : ℕ → Pattern → Verdict → Type 0) (Tree : Pattern → List Node → ℕ → Type 0) (file : File) (number : ℕ) (v : Verdict)
+    (begun proof : Draft) : Type 0 where
+  pub holds : OfPattern file number (λ p. Fact number p v)
+  pub fits : VerdictFits file v
+  pub drafted : OfPattern file number (λ p. DraftHasTree Tree p v begun proof)
+
+-- with the trees that a budget asks for
+pub drafted_within : (file : File) (budget : Budget) (number : ℕ) (v : Verdict) (begun proof : Draft) (lazy : Bool) → lazy ≡ budget.lazy
+    → Drafted (holds_by lazy file budget.nodes) (tree_by lazy file budget.nodes) file number v begun proof
+    → Drafted (VerdictHolds file budget) (tree_under file budget) file number v begun proof
+drafted_within file budget number v begun proof lazy same by =
+    subst (λ (b : Bool). Drafted (holds_by b file budget.nodes) (tree_by b file budget.nodes) file number v begun proof) same by
 
 -- without nodes it is what it was
 pub keeps_none : (draft : Draft) → DraftKeeps draft draft []
@@ -124,20 +140,21 @@ ones_more number (q ∷ ps) (w ∷ vs) p v same =
     (ones_more (number + 1) ps vs p v (omega arith) ∙ ap (λ (k : ℕ). safe_ones (number + 1) ps vs ++ with_safe k p (tree_size v) []) there)
     ∙ with_append number q (tree_size w) (safe_ones (number + 1) ps vs) (with_safe (number + length (q ∷ ps)) p (tree_size v) [])
 
--- one more verdict, whose tree is added
-pub trees_more : (file : File) (Tree : Pattern → List Node → ℕ → Type 0) (head : List ℕ) (done : ℕ) (vs : List Verdict) (v : Verdict)
-    (Had Has : List ℕ → Type 0) → done < length file.patterns → length vs ≡ done → HasTrees Tree head (safe_ones 0 (take done file.patterns) vs) Had
-    → OfPattern file done (λ p. AddsTree Tree done p v Had Has) → HasTrees Tree head (safe_ones 0 (take (done + 1) file.patterns) (vs ++ v ∷ [])) Has
-trees_more file Tree head done vs v Had Has within counted has adds =
-    let ps = file.patterns in
+-- one more verdict on these patterns, of which the first has this number, and its tree is added
+pub trees_more : (Tree : Pattern → List Node → ℕ → Type 0) (head : List ℕ) (first : ℕ) (ps : List Pattern) (done : ℕ) (vs : List Verdict) (v : Verdict)
+    (Had Has : List ℕ → Type 0) → done < length ps → length vs ≡ done → HasTrees Tree head (safe_ones first (take done ps) vs) Had
+    → ((p : Pattern) → slice_get ps done ≡ Some p → AddsTree Tree (first + done) p v Had Has)
+    → HasTrees Tree head (safe_ones first (take (done + 1) ps) (vs ++ v ∷ [])) Has
+trees_more Tree head first ps done vs v Had Has within counted has adds =
     let at = some_at ps done within in
     let p = at.0 in
     let more = sym (take_next ps done p at.1) in
     let long : length (take done ps) ≡ done = length-take-le done ps (omega arith) in
-    let number : 0 + length (take done ps) ≡ done = omega arith in
+    let number : first + length (take done ps) ≡ first + done = ap (λ (k : ℕ). first + k) long in
     let added = adds p at.1 head has.0 has.2 in
-    let trees = trees_append Tree (safe_ones 0 (take done ps) vs) (with_safe done p (tree_size v) []) has.0 added.0 has.1 added.1 in
-    let ones : safe_ones 0 (take done ps) vs ++ with_safe done p (tree_size v) [] ≡ safe_ones 0 (take (done + 1) ps) (vs ++ v ∷ []) =
-    sym (ones_more 0 (take done ps) vs p v (counted ∙ sym long) ∙ ap (λ (k : ℕ). safe_ones 0 (take done ps) vs ++ with_safe k p (tree_size v) []) number)
-    ∙ ap (λ (qs : List Pattern). safe_ones 0 qs (vs ++ v ∷ [])) more in
+    let trees = trees_append Tree (safe_ones first (take done ps) vs) (with_safe (first + done) p (tree_size v) []) has.0 added.0 has.1 added.1 in
+    let ones : safe_ones first (take done ps) vs ++ with_safe (first + done) p (tree_size v) [] ≡ safe_ones first (take (done + 1) ps) (vs ++ v ∷ []) =
+    sym (ones_more first (take done ps) vs p v (counted ∙ sym long)
+    ∙ ap (λ (k : ℕ). safe_ones first (take done ps) vs ++ with_safe k p (tree_size v) []) number)
+    ∙ ap (λ (qs : List Pattern). safe_ones first qs (vs ++ v ∷ [])) more in
     (has.0 ++ added.0, subst (λ (xs : List SafeOne). AreTreesOf Tree xs (has.0 ++ added.0)) ones trees, added.2)

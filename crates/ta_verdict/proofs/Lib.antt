@@ -6,7 +6,6 @@ pub mod DraftsMade
 mod TargetsMade
 pub mod JudgedSoFar
 mod MomentVerdicts
-mod Alone
 pub mod CertificatesMade
 pub mod CertificatesOnce
 pub mod SamplesMade

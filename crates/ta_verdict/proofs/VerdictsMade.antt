@@ -155,29 +155,32 @@ holds_weaker Fact Other number [] (v ∷ vs) gives hold = absurd hold
 holds_weaker Fact Other number (p ∷ ps) [] gives hold = absurd hold
 holds_weaker Fact Other number (p ∷ ps) (v ∷ vs) gives hold = (gives number p v hold.0, holds_weaker Fact Other (number + 1) ps vs gives hold.1)
 
--- a fact of the verdicts on so many of the first patterns
-pub record SoFar (Fact : ℕ → Pattern → Verdict → Type 0) (patterns : List Pattern) (done : ℕ) (vs : List Verdict) : Type 0 where
+-- a fact of the verdicts on so many of these patterns, of which the first has this number
+pub record SoFar (Fact : ℕ → Pattern → Verdict → Type 0) (first : ℕ) (patterns : List Pattern) (done : ℕ) (vs : List Verdict) : Type 0 where
   pub within : done ≤ length patterns
-  pub hold : EachHolds Fact 0 (take done patterns) vs
+  pub hold : EachHolds Fact first (take done patterns) vs
 
-pub one_more : (Fact : ℕ → Pattern → Verdict → Type 0) (patterns : List Pattern) (done : ℕ) (vs : List Verdict) (v : Verdict) → SoFar Fact patterns done vs
-    → done < length patterns → ((p : Pattern) → slice_get patterns done ≡ Some p → Fact done p v) → SoFar Fact patterns (done + 1) (vs ++ v ∷ [])
-one_more Fact patterns done vs v so below here =
+pub one_more : (Fact : ℕ → Pattern → Verdict → Type 0) (first : ℕ) (patterns : List Pattern) (done : ℕ) (vs : List Verdict) (v : Verdict)
+    → SoFar Fact first patterns done vs → done < length patterns → ((p : Pattern) → slice_get patterns done ≡ Some p → Fact (first + done) p v)
+    → SoFar Fact first patterns (done + 1) (vs ++ v ∷ [])
+one_more Fact first patterns done vs v so below here =
     let at = some_at patterns done below in
     let p = at.0 in
     let long = length-take-le done patterns so.within in
-    let number : done ≡ 0 + length (take done patterns) = omega (arith, long) in
+    let number : first + done ≡ first + length (take done patterns) = ap (λ (k : ℕ). first + k) (sym long) in
     record {
       within = omega arith;
-      hold = subst (λ (ps : List Pattern). EachHolds Fact 0 ps (vs ++ v ∷ [])) (sym (take_next patterns done p at.1))
-          (holds_more Fact 0 (take done patterns) vs p v so.hold (subst (λ (k : ℕ). Fact k p v) number (here p at.1)));
+      hold = subst (λ (ps : List Pattern). EachHolds Fact first ps (vs ++ v ∷ [])) (sym (take_next patterns done p at.1))
+          (holds_more Fact first (take done patterns) vs p v so.hold (subst (λ (k : ℕ). Fact k p v) number (here p at.1)));
     }
 
 -- there are as many verdicts
-pub so_many : (Fact : ℕ → Pattern → Verdict → Type 0) (patterns : List Pattern) (done : ℕ) (vs : List Verdict) → SoFar Fact patterns done vs → length vs ≡ done
-so_many Fact patterns done vs so = as_many Fact 0 (take done patterns) vs so.hold ∙ length-take-le done patterns so.within
+pub so_many : (Fact : ℕ → Pattern → Verdict → Type 0) (first : ℕ) (patterns : List Pattern) (done : ℕ) (vs : List Verdict) → SoFar Fact first patterns done vs
+    → length vs ≡ done
+so_many Fact first patterns done vs so = as_many Fact first (take done patterns) vs so.hold ∙ length-take-le done patterns so.within
 
--- the verdicts on all patterns
-pub all_hold : (Fact : ℕ → Pattern → Verdict → Type 0) (patterns : List Pattern) (done : ℕ) (vs : List Verdict) → length patterns ≤ done
-    → SoFar Fact patterns done vs → EachHolds Fact 0 patterns vs
-all_hold Fact patterns done vs all so = subst (λ (ps : List Pattern). EachHolds Fact 0 ps vs) (take_all done patterns all) so.hold
+-- the verdicts on all of them
+pub all_hold : (Fact : ℕ → Pattern → Verdict → Type 0) (first : ℕ) (patterns : List Pattern) (done : ℕ) (vs : List Verdict) → length patterns ≤ done
+    → SoFar Fact first patterns done vs → EachHolds Fact first patterns vs
+all_hold Fact first patterns done vs all so =
+    subst (λ (ps : List Pattern). EachHolds Fact first ps vs) (take_all done patterns all) so.hold

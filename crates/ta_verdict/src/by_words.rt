@@ -27,7 +27,7 @@ use ta_encode::Solution;
 use ta_report::Verdict;
 use ta_rest::{Claim, ClaimTree};
 use ta_scope::ScopedFile;
-use ta_walk::{OrdersFound, VisitEnd, visit};
+use ta_walk::{Idle, OrdersFound, VisitEnd, Work, visit};
 use ta_witness::witness;
 
 /// The verdict on the pattern of a number by its words, under the orders that were found. The lines of
@@ -50,7 +50,16 @@ pub fn words_verdict<R: Threads + Sync>(
     ensures drafted { IfOk result (λ verdict. OfPattern scoped.now.file pattern (λ p. DraftHasTree (tree_by false scoped.now.file nodes) p verdict draft.old draft.new)) }
 {
     let tree = ClaimTree::new(Claim::Safe, &scoped.file, pattern, &found.orders);
-    match visit::<NarrowDictionary, Draft, R>(rt, alloc, &tree, nodes, draft)? {
+    let mut work = Work::new();
+    match visit::<NarrowDictionary, Draft, R, Idle>(
+        rt,
+        alloc,
+        &tree,
+        nodes,
+        &Idle {},
+        draft,
+        &mut work,
+    )? {
         VisitEnd::Refuted { count, leaves } => Ok(Verdict::Safe {
             nodes: count,
             leaves,

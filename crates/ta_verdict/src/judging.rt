@@ -6,10 +6,9 @@ ghost use Rattle.std.specs.Prelude.{ℕ, ◌≡◌, ◌<◌, ◌≤◌, [], IfEr
 ghost use Rattle.ta_automaton.specs.Numbered.{OfPattern};
 ghost use Rattle.ta_check.specs.Certificate.{Certificate};
 ghost use Rattle.ta_report.specs.Report.{VerdictFits};
-ghost use Rattle.ta_report.specs.declared.pick.Pick.TheVariants.{One};
 ghost use Rattle.ta_shelf.specs.Staging.{Begun};
-ghost use Rattle.ta_verdict.specs.Certificates.{CertificateOf, Certified, safe_numbers, safe_ones, safe_picked, tree_under};
-ghost use Rattle.ta_verdict.specs.Drafts.{AddsTree, DraftHasTree, HasProofs, HasTrees};
+ghost use Rattle.ta_verdict.specs.Certificates.{CertificateOf, Certified, safe_numbers, safe_picked, tree_under};
+ghost use Rattle.ta_verdict.specs.Drafts.{AddsTree, HasProofs, HasTrees};
 ghost use Rattle.ta_verdict.specs.Trees.{AreTreesOfFile, is_lazy};
 ghost use Rattle.ta_verdict.specs.Verdicts.{AreVerdicts, AreVerdictsOn, VerdictHolds};
 
@@ -17,6 +16,7 @@ use crate::budget::Budget;
 use crate::by_moments::moments_verdict;
 use crate::by_words::words_verdict;
 use crate::draft::Draft;
+use crate::picking::picked_range;
 use crate::saying::is_safe;
 use crate::target::Target;
 use crate::trees::Trees;
@@ -112,66 +112,9 @@ fn verdicts_picked<R: Threads + Sync, P, T: Target<P>>(
     ensures stops { (begun : Begun) (text : List ℕ) → T.has begun target.old place.old text → IfErr result (λ _. T.stopped begun target.new place.new) }
     ensures wanted { IfOk result (λ verdicts. T.wants target.new ≡ T.wants target.old) }
 {
-    match pick {
-        Pick::All => verdicts_on(rt, alloc, scoped, trees, budget, place, target),
-        Pick::One(number) => {
-            verdict_alone(rt, alloc, scoped, trees, number, budget, place, target)
-        }
-    }
-}
-
-/// The verdict on the pattern of a number, alone, if there is one with the number.
-fn verdict_alone<R: Threads + Sync, P, T: Target<P>>(
-    rt: &R,
-    alloc: Global,
-    scoped: &ScopedFile,
-    trees: &Trees,
-    number: u32,
-    budget: Budget,
-    place: &mut P,
-    target: &mut T,
-) -> Result<Vec<Verdict>, AllocError>
-    requires some { 0 < budget.nodes }
-    requires limit { budget.nodes ≤ MOST_NODES }
-    requires known { AreTreesOfFile scoped.now.file trees.now }
-    requires lazy { is_lazy trees.now ≡ budget.lazy }
-    ensures verdicts { IfOk result (λ verdicts. AreVerdictsOn scoped.now.file (One number) budget verdicts.items) }
-    ensures trees { (begun : Begun) (head : List ℕ) → HasProofs (T.has begun target.old place.old) head [] → IfOk result (λ verdicts. HasTrees (tree_under scoped.now.file budget) head (safe_picked scoped.now.file (One number) verdicts.items) (T.has begun target.new place.new)) }
-    ensures stops { (begun : Begun) (text : List ℕ) → T.has begun target.old place.old text → IfErr result (λ _. T.stopped begun target.new place.new) }
-    ensures wanted { IfOk result (λ verdicts. T.wants target.new ≡ T.wants target.old) }
-{
-    if scoped.file.patterns.as_slice().len() <= number as usize {
-        return Ok(Vec::new(alloc));
-    }
-    let verdict = next_verdict(rt, alloc, scoped, trees, number, budget, place, target)?;
+    let (first, end) = picked_range(&scoped.file, pick);
     let mut verdicts = Vec::new(alloc);
-    verdicts.push(verdict)?;
-    Ok(verdicts)
-}
-
-/// A verdict on each pattern of a file, in order, by such trees. Those of the patterns that are safe
-/// are added to a target.
-fn verdicts_on<R: Threads + Sync, P, T: Target<P>>(
-    rt: &R,
-    alloc: Global,
-    scoped: &ScopedFile,
-    trees: &Trees,
-    budget: Budget,
-    place: &mut P,
-    target: &mut T,
-) -> Result<Vec<Verdict>, AllocError>
-    requires some { 0 < budget.nodes }
-    requires limit { budget.nodes ≤ MOST_NODES }
-    requires known { AreTreesOfFile scoped.now.file trees.now }
-    requires lazy { is_lazy trees.now ≡ budget.lazy }
-    ensures verdicts { IfOk result (λ verdicts. AreVerdicts scoped.now.file budget verdicts.items) }
-    ensures trees { (begun : Begun) (head : List ℕ) → HasProofs (T.has begun target.old place.old) head [] → IfOk result (λ verdicts. HasTrees (tree_under scoped.now.file budget) head (safe_ones 0 scoped.now.file.patterns verdicts.items) (T.has begun target.new place.new)) }
-    ensures stops { (begun : Begun) (text : List ℕ) → T.has begun target.old place.old text → IfErr result (λ _. T.stopped begun target.new place.new) }
-    ensures wanted { IfOk result (λ verdicts. T.wants target.new ≡ T.wants target.old) }
-{
-    let count = scoped.file.patterns.as_slice().len() as u32;
-    let mut verdicts = Vec::new(alloc);
-    for pattern in 0..count {
+    for pattern in first..end {
         verdicts.push(next_verdict(rt, alloc, scoped, trees, pattern, budget, place, target)?)?;
     }
     Ok(verdicts)
@@ -200,38 +143,14 @@ fn next_verdict<R: Threads + Sync, P, T: Target<P>>(
     ensures wanted { IfOk result (λ verdict. T.wants target.new ≡ T.wants target.old) }
 {
     let mut proof = Draft::begin(alloc, target.wanted(), &Line::Pattern(pattern))?;
-    let verdict = verdict_on(rt, alloc, scoped, trees, pattern, budget, &mut proof)?;
+    let nodes = budget.nodes;
+    let verdict = match trees {
+        Trees::Words(found) => words_verdict(rt, alloc, scoped, found, pattern, nodes, &mut proof)?,
+        Trees::Moments => moments_verdict(alloc, scoped, pattern, nodes, &mut proof)?,
+    };
     if !is_safe(&verdict) {
         return Ok(verdict);
     }
     target.add(alloc, place, proof)?;
     Ok(verdict)
-}
-
-/// The verdict on the pattern of a number. The lines of its tree, if it is safe, stand at the end of
-/// a draft then.
-fn verdict_on<R: Threads + Sync>(
-    rt: &R,
-    alloc: Global,
-    scoped: &ScopedFile,
-    trees: &Trees,
-    pattern: u32,
-    budget: Budget,
-    draft: &mut Draft,
-) -> Result<Verdict, AllocError>
-    requires some { 0 < budget.nodes }
-    requires limit { budget.nodes ≤ MOST_NODES }
-    requires exists { pattern < length scoped.now.file.patterns }
-    requires known { AreTreesOfFile scoped.now.file trees.now }
-    requires lazy { is_lazy trees.now ≡ budget.lazy }
-    ensures holds { IfOk result (λ verdict. OfPattern scoped.now.file pattern (λ p. VerdictHolds scoped.now.file budget pattern p verdict)) }
-    ensures fits { IfOk result (VerdictFits scoped.now.file) }
-    ensures drafted { IfOk result (λ verdict. OfPattern scoped.now.file pattern (λ p. DraftHasTree (tree_under scoped.now.file budget) p verdict draft.old draft.new)) }
-{
-    match trees {
-        Trees::Words(found) => {
-            words_verdict(rt, alloc, scoped, found, pattern, budget.nodes, draft)
-        }
-        Trees::Moments => moments_verdict(alloc, scoped, pattern, budget.nodes, draft),
-    }
 }

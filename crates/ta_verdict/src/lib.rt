@@ -18,6 +18,7 @@ mod by_words;
 mod draft;
 mod judging;
 mod laws;
+mod picking;
 mod pieces;
 pub mod rest;
 mod sampling;

@@ -80,7 +80,8 @@ pub use Rattle.ta_walk.specs.Ends.{TreeKept, WalksAreDetermined, Whole, WholeNod
 pub use Rattle.ta_walk.specs.Ends.{visit_count}
 pub use Rattle.ta_walk.specs.FoundOrders.{AreSoundOrders, FoundAfter, FoundBefore, FoundOrdersAreDetermined, FoundOrdersAreSound, IsTaken, RefutedPair}
 pub use Rattle.ta_walk.specs.FoundOrders.{TryAnswers}
-pub use Rattle.ta_walk.specs.Inside.Counted.{IsCounted, RoseBy, StretchCounted, VisitCounted}
+pub use Rattle.ta_walk.specs.Inside.Counted.{IsCounted, RoseBy, StretchCounted}
+pub use Rattle.ta_walk.specs.Inside.Whole.{HasFewFacts, visit_end}
 pub use Rattle.ta_walk.specs.Work.{Rose, most_begun}
 pub use Rattle.ta_walk.specs.Inside.Parts.{ComesTo, HasFewBounds, HasFewLeft, IsLaterKeeper, IsNotRefuted, IsWholeEnd, LeadsToBoth, PartEnds, PartVisited}
 pub use Rattle.ta_walk.specs.Inside.Parts.{SharesBudget, beginning, behind, root_node}

@@ -31,6 +31,7 @@ mod EndsBehind
 mod RootsListed
 mod PartsMerged
 mod NodesCounted
+mod Passes
 mod FewBounds
 mod WordSoFar
 mod ChildrenOnce

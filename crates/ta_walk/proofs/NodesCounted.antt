@@ -1,30 +1,8 @@
 -- how many nodes parts of a visit begin
 use Rattle.std.proofs.Math.Nat.{add-mul}
 use Rattle.std.proofs.lemmas.Nat.{mul-le}
-use Rattle.ta_walk.proofs.Common.{
-  nat_tests,
-  ◌≡◌,
-  ℕ,
-  ◌+◌,
-  ◌*◌,
-  ◌-◌,
-  ◌^◌,
-  ◌<◌,
-  ◌≤◌,
-  cond_both,
-  nat_lt,
-  arith,
-  min,
-  IfOk,
-  Ok,
-  IsCounted,
-  Rose,
-  RoseBy,
-  TreeEnd,
-  behind,
-  most_begun,
-  node_count,
-}
+use Rattle.ta_walk.proofs.Common.{nat_tests, ◌≡◌, ℕ, ◌+◌, ◌*◌, ◌-◌, ◌<◌, ◌≤◌, cond_both, nat_lt, arith, IfOk, Ok, IsCounted, Rose, RoseBy, TreeEnd, behind}
+use Rattle.ta_walk.proofs.Common.{most_begun, node_count}
 use Rattle.std.specs.Prelude.{Result, Err}
 use Rattle.ta_walk.specs.declared.end.TreeEnd.TheVariants as tree
 
@@ -166,7 +144,7 @@ counted_once budget forks end old begun new none is rose =
     let many = is.most in
     omega arith
 
--- a first visit, and a second one
+-- a first pass, and a second one
 pub rose_first : (budget old new low : ℕ) → Rose old new low ((65534 + 1) * budget) → Rose old new low (most_begun budget)
 rose_first budget old new low rose =
     let least = rose.least in

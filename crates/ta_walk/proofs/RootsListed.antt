@@ -24,6 +24,14 @@ root_stands s root c nodes comes is limit =
       few = subst (AllByRecursion (HasFewBounds 0)) left (omega arith, tt);
     }
 
+-- the last start of a list of at most one is the only one
+pub last_alone : (xs ys : List ℕ) (x : ℕ) → xs ≡ ys ++ x ∷ [] → length xs < 2 → xs ≡ x ∷ []
+last_alone xs [] x all few = all
+last_alone xs (y ∷ ys) x all few =
+    let same = ap (λ (zs : List ℕ). length zs) all in
+    let sum = length-append ys (x ∷ []) in
+    absurd (omega arith)
+
 -- the first so many words of a list
 pub record Listed {E : Type 0} (s : Search E) (all : List (Pending E)) (roots : List ℕ) : Type 0 where
   pub words : map root_node roots ++ drop (length roots) all ≡ all

@@ -7,6 +7,6 @@ pub record Rose (old new low high : ℕ) : Type 0 where
   pub least : min (old + low) (2 ^ 64 - 1) ≤ new
   pub most : new ≤ old + high
 
--- how many nodes a search in parallel begins at most within a budget, over all forks and both visits, dropped parts included
+-- how many nodes a search in parallel begins at most within a budget, over all forks and both passes, dropped parts included
 abbrev pub most_begun : ℕ → ℕ
 most_begun budget = (MOST_FORKS + 2) * budget

@@ -1,21 +1,21 @@
 //! The walk of a claim in parallel: the calls `walk` and `visit`.
 //!
-//! The tree is visited twice at most. The first visit may abandon parts (part.rt). Its end counts
+//! The tree is visited twice at most. The first pass may abandon parts (part.rt). Its end counts
 //! unless it says that the budget is spent at fewer nodes than the budget has: then a part was
-//! abandoned whose result matters. The second visit is patient: it abandons none, so its end is
+//! abandoned whose result matters. The second pass is patient: it abandons none, so its end is
 //! that of one thread; it doesn't fork. By the counts on the board it never happens, but no proof
-//! says so. The nodes of a visit go to a keeper of their own and are handed on once its end counts.
+//! says so. The nodes of a pass go to a keeper of their own and are handed on once its end counts.
 //!
-//! So a budget of n nodes begins at most (`MOST_FORKS` + 1) n nodes in the first visit and n in the
+//! So a budget of n nodes begins at most (`MOST_FORKS` + 1) n nodes in the first pass and n in the
 //! second one.
 #![tactic(auto)]
 
-ghost use Rattle.std.specs.Prelude.{◌+◌, ◌*◌, ◌≤◌, ◌≡◌, [], IfNone, IfOk, IfSome, is_some, true, false};
+ghost use Rattle.std.specs.Prelude.{◌≤◌, ◌≡◌, [], IfNone, IfOk, IfSome};
 ghost use Rattle.ta_rest.specs.Trees.{search_of_claim};
-ghost use Rattle.ta_walk.specs.Ends.{IsWalkEnd, IsTreeEnd, IsVisitEnd, node_count, visit_count};
+ghost use Rattle.ta_walk.specs.Ends.{IsWalkEnd, IsVisitEnd, visit_count};
 ghost use Rattle.ta_walk.specs.Work.{Rose, most_begun};
-ghost use Rattle.ta_walk.specs.Inside.Counted.{VisitCounted};
 ghost use Rattle.ta_walk.specs.Inside.Parts.{IsSmallEnd, IsWholeEnd};
+ghost use Rattle.ta_walk.specs.Inside.Whole.{HasFewFacts, visit_end};
 
 use crate::end::{TreeEnd, VisitEnd, WalkEnd};
 use crate::forking::{Setting, visit_list};
@@ -23,7 +23,7 @@ use crate::gate::{Gate, Idle};
 use crate::keeper::{Keeper, Nodes, PartKeeper};
 use crate::part::{BESIDE, Board, Part, Watch};
 use crate::roots::roots_of;
-use crate::work::{MOST_FORKS, Work};
+use crate::work::Work;
 use std::alloc::{AllocError, Global};
 use std::thread::{Threads, available_parallelism};
 use ta_base::List;
@@ -69,7 +69,7 @@ pub fn walk_gated<D: Dictionary, R: Threads + Sync, G: Gate>(
         items: Vec::new(alloc),
     };
     let mut work = Work::new();
-    match visit_gated::<D, Nodes, R, G>(rt, alloc, tree, nodes, &mut kept, gate, &mut work)? {
+    match visit::<D, Nodes, R, G>(rt, alloc, tree, nodes, gate, &mut kept, &mut work)? {
         VisitEnd::Refuted { count, .. } => Ok(WalkEnd::Refuted {
             nodes: List::from_vec(kept.items),
             count,
@@ -80,30 +80,15 @@ pub fn walk_gated<D: Dictionary, R: Threads + Sync, G: Gate>(
     }
 }
 
-/// Visits the tree of a claim as `walk` does, and hands the nodes on in order: no node stays in
-/// memory but those that the keepers of the parts keep.
-pub fn visit<D: Dictionary, K: PartKeeper, R: Threads + Sync>(
-    rt: &R,
+/// Visits the tree of a claim as `walk_gated` does, and hands the nodes on in order: no node stays in
+/// memory but those that the keepers of the parts keep. It counts the nodes that it begins, in all
+/// threads and in both passes, those of dropped parts included.
+pub fn visit<'v, D: Dictionary, K: PartKeeper, R: Threads + Sync, G: Gate>(
+    rt: &'v R,
     alloc: Global,
-    tree: &ClaimTree<'_>,
+    tree: &'v ClaimTree<'v>,
     nodes: u64,
-    keeper: &mut K,
-) -> Result<VisitEnd, AllocError>
-    requires limit { nodes ≤ MOST_NODES }
-    requires keeps { K.keeps keeper.old keeper.old [] }
-    ensures { IfOk result (IsVisitEnd (search_of_claim tree.now) tree.now.number nodes (K.keeps keeper.old keeper.new)) }
-{
-    let mut work = Work::new();
-    visit_counted::<D, K, R>(rt, alloc, tree, nodes, keeper, &mut work)
-}
-
-/// Visits the tree of a claim as `visit` does, and counts the nodes that it begins, in all threads
-/// and in both visits, those of dropped parts included.
-pub fn visit_counted<D: Dictionary, K: PartKeeper, R: Threads + Sync>(
-    rt: &R,
-    alloc: Global,
-    tree: &ClaimTree<'_>,
-    nodes: u64,
+    gate: &'v G,
     keeper: &mut K,
     work: &mut Work,
 ) -> Result<VisitEnd, AllocError>
@@ -112,116 +97,30 @@ pub fn visit_counted<D: Dictionary, K: PartKeeper, R: Threads + Sync>(
     ensures ends { IfOk result (IsVisitEnd (search_of_claim tree.now) tree.now.number nodes (K.keeps keeper.old keeper.new)) }
     ensures counted { IfOk result (λ end. Rose work.old.begun work.new.begun (visit_count end) (most_begun nodes)) }
 {
-    visit_gated::<D, K, R, Idle>(rt, alloc, tree, nodes, keeper, &Idle {}, work)
-}
-
-/// Visits the tree of a claim as `visit` does, through a gate.
-fn visit_gated<D: Dictionary, K: PartKeeper, R: Threads + Sync, G: Gate>(
-    rt: &R,
-    alloc: Global,
-    tree: &ClaimTree<'_>,
-    nodes: u64,
-    keeper: &mut K,
-    gate: &G,
-    work: &mut Work,
-) -> Result<VisitEnd, AllocError>
-    requires limit { nodes ≤ MOST_NODES }
-    requires keeps { K.keeps keeper.old keeper.old [] }
-    ensures ends { IfOk result (IsVisitEnd (search_of_claim tree.now) tree.now.number nodes (K.keeps keeper.old keeper.new)) }
-    ensures counted { IfOk result (λ end. Rose work.old.begun work.new.begun (visit_count end) (most_begun nodes)) }
-{
-    match fork_tree::<D, K, R, G>(rt, alloc, tree, nodes, gate, keeper, work)? {
-        TreeEnd::Refuted { count, leaves } => Ok(VisitEnd::Refuted { count, leaves }),
-        TreeEnd::Found {
-            count,
-            start,
-            facts,
-            values,
-        } => Ok(VisitEnd::Found {
-            count,
-            solution: Solution {
-                pattern: tree.number,
-                start_mask: start,
-                word: Word::of(facts.as_slice()),
-                values,
-            },
-        }),
-        TreeEnd::Spent { count } => Ok(VisitEnd::Spent { count }),
-        TreeEnd::Overflow { node, kind } => Ok(VisitEnd::Overflow { node, kind }),
-    }
-}
-
-/// Visits the trees of a search, one for each word with which it begins, at most so many nodes of
-/// them, and hands the nodes on in order. The halves of a list of words are visited beside each other,
-/// each behind the gate.
-fn fork_tree<D: Dictionary, K: PartKeeper, R: Threads + Sync, G: Gate>(
-    rt: &R,
-    alloc: Global,
-    tree: &ClaimTree<'_>,
-    nodes: u64,
-    gate: &G,
-    keeper: &mut K,
-    work: &mut Work,
-) -> Result<TreeEnd<Element>, AllocError>
-    requires limit { nodes ≤ MOST_NODES }
-    requires keeps { K.keeps keeper.old keeper.old [] }
-    ensures ends { IfOk result (IsTreeEnd (search_of_claim tree.now) nodes (K.keeps keeper.old keeper.new)) }
-    ensures counted { IfOk result (λ end. Rose work.old.begun work.new.begun (node_count end) (most_begun nodes)) }
-{
-    let hasty = visit_parts::<D, K, R, G>(rt, alloc, tree, nodes, gate, false, keeper, work)?;
-    if let Some(end) = hasty {
-        return Ok(end);
-    }
-    let patient = visit_parts::<D, K, R, G>(rt, alloc, tree, nodes, gate, true, keeper, work)?;
-    match patient {
-        Some(end) => Ok(end),
-        None => unreachable!(),
-    }
-}
-
-/// Visits the trees of a search as `fork_tree` does. It has no end where a part was given up that
-/// matters; no part is given up by who is patient.
-fn visit_parts<D: Dictionary, K: PartKeeper, R: Threads + Sync, G: Gate>(
-    rt: &R,
-    alloc: Global,
-    tree: &ClaimTree<'_>,
-    nodes: u64,
-    gate: &G,
-    patient: bool,
-    keeper: &mut K,
-    work: &mut Work,
-) -> Result<Option<TreeEnd<Element>>, AllocError>
-    requires limit { nodes ≤ MOST_NODES }
-    requires keeps { K.keeps keeper.old keeper.old [] }
-    ensures ends { IfOk result (λ end. IfSome end (IsTreeEnd (search_of_claim tree.now) nodes (K.keeps keeper.old keeper.new))) }
-    ensures patient { patient ≡ true → IfOk result (λ end. is_some end ≡ true) }
-    ensures kept { IfOk result (λ end. is_some end ≡ false → keeper.new ≡ keeper.old) }
-    ensures counted { IfOk result (VisitCounted work.old.begun work.new.begun ((MOST_FORKS + 1) * nodes)) }
-    ensures alone { patient ≡ true → IfOk result (λ end. work.new.begun ≤ work.old.begun + nodes) }
-{
-    let board = Board::new(alloc, nodes, most_beside(rt))?;
-    let watch = Watch::new(&board, patient);
-    let late = keeper.later(alloc)?;
-    let starts = roots_of(alloc, tree)?;
     let setting = Setting {
         rt,
         alloc,
         tree,
         gate,
     };
-    let part = visit_list::<D, K, R, G>(setting, watch, starts, nodes, late)?;
-    let Part {
-        end,
-        keeper: late,
-        begun,
-    } = part;
-    work.add(begun);
-    match whole_end(nodes, end) {
-        None => Ok(None),
-        Some(end) => {
+    let mut patient = false;
+    'passes: loop {
+        let board = Board::new(alloc, nodes, most_beside(rt))?;
+        let watch = Watch::new(&board, patient);
+        let late = keeper.later(alloc)?;
+        let starts = roots_of(alloc, tree)?;
+        let part = visit_list::<D, K, R, G>(setting, watch, starts, nodes, late)?;
+        let Part {
+            end,
+            keeper: late,
+            begun,
+        } = part;
+        work.add(begun);
+        if let Some(end) = whole_end(nodes, end) {
             keeper.append(alloc, late)?;
-            Ok(Some(end))
+            return Ok(visit_end(tree.number, end));
         }
+        patient = true;
     }
 }
 
@@ -244,5 +143,32 @@ fn whole_end(nodes: u64, end: TreeEnd<Element>) -> Option<TreeEnd<Element>>
     match end {
         TreeEnd::Spent { count } if count < nodes => None,
         end => Some(end),
+    }
+}
+
+/// The end of the visit of a pattern's tree for the pattern of this number: the facts of a whole node are
+/// the word of its solution.
+fn visit_end(pattern: u32, end: TreeEnd<Element>) -> VisitEnd
+    requires { HasFewFacts end }
+    ensures { result ≡ visit_end pattern end }
+{
+    match end {
+        TreeEnd::Refuted { count, leaves } => VisitEnd::Refuted { count, leaves },
+        TreeEnd::Found {
+            count,
+            start,
+            facts,
+            values,
+        } => VisitEnd::Found {
+            count,
+            solution: Solution {
+                pattern,
+                start_mask: start,
+                word: Word::of(facts.as_slice()),
+                values,
+            },
+        },
+        TreeEnd::Spent { count } => VisitEnd::Spent { count },
+        TreeEnd::Overflow { node, kind } => VisitEnd::Overflow { node, kind },
     }
 }

@@ -22,7 +22,7 @@
 //! larger, has two thirds. So a part with f forks begins at most the nodes of its end and f budgets.
 #![tactic(auto)]
 
-ghost use Rattle.std.specs.Prelude.{◌+◌, ◌-◌, ◌<◌, ◌≤◌, ◌^◌, ◌≡◌, ◌++◌, [], ◌∷◌, IfOk, map, true, vec_len};
+ghost use Rattle.std.specs.Prelude.{◌+◌, ◌-◌, ◌<◌, ◌≤◌, ◌^◌, ◌≡◌, ◌++◌, IfOk, map, true, vec_len};
 ghost use Rattle.std.specs.List.{AllByRecursion};
 ghost use denote.Param.Send.{IsSend, IsSync};
 ghost use Rattle.ta_rest.specs.Trees.{IsKeptFor, search_of_claim};
@@ -82,17 +82,19 @@ pub(crate) fn visit_list<D: Dictionary, K: PartKeeper, R: Threads + Sync, G: Gat
 {
     let mut starts = starts;
     if starts.len() < 2 {
-        return match starts.pop() {
-            None => Ok(Part {
+        let Some(start) = starts.pop() else {
+            return Ok(Part {
                 end: TreeEnd::Refuted {
                     count: 0,
                     leaves: 0,
                 },
                 keeper,
                 begun: 0,
-            }),
-            Some(start) => visit_start::<D, K, R, G>(setting, watch, start, nodes, keeper),
+            });
         };
+        let cursor = Cursor::new(setting.alloc, start);
+        let at = frontier_at(setting.alloc, setting.tree, cursor);
+        return visit_on::<D, K, R, G>(setting, watch, at, nodes, keeper);
     }
     let others = starts.split_off(starts.len() / 2)?;
     visit_halves::<D, K, R, G>(setting, watch, starts, others, nodes, keeper)
@@ -204,49 +206,21 @@ fn visit_beside<D: Dictionary, K: PartKeeper, R: Threads + Sync, G: Gate>(
     merge(setting.alloc, nodes, first?, second?)
 }
 
-/// Visits the tree of a start, at most so many nodes of it.
-fn visit_start<D: Dictionary, K: PartKeeper, R: Threads + Sync, G: Gate>(
-    setting: Setting<'_, R, G>,
-    watch: Watch<'_>,
-    start: u8,
-    nodes: u64,
-    keeper: K,
-) -> Result<Part<K>, AllocError>
-    requires comes { ComesTo (search_of_claim setting.tree.now) start }
-    requires limit { nodes ≤ MOST_NODES }
-    ensures visited { IfOk result (λ part. PartVisited K.keeps
-        (beginning (search_of_claim setting.entry.tree.now) (root_node start ∷ [])) nodes keeper part.keeper part.end) }
-    ensures small { IfOk result (λ part. IsSmallEnd nodes part.end) }
-    ensures patient { watch.entry.patient ≡ true → IfOk result (λ part. IsWholeEnd nodes part.end) }
-    ensures counted { IfOk result (λ part. IsCounted nodes watch.entry.forks part.end part.begun) }
-{
-    let cursor = Cursor::new(setting.alloc, start);
-    visit_tree_at::<D, K, R, G>(setting, watch, cursor, nodes, keeper)
-}
-
-/// Visits the words that are left at a cursor, at most so many nodes: none of their systems is solved yet.
-#[cycle(shares)]
-fn visit_tree_at<D: Dictionary, K: PartKeeper, R: Threads + Sync, G: Gate>(
-    setting: Setting<'_, R, G>,
-    watch: Watch<'_>,
+/// What a visit goes on from at a cursor where no system is written and no dictionary made yet.
+fn frontier_at<D: Dictionary>(
+    alloc: Global,
+    tree: &ClaimTree<'_>,
     cursor: Cursor<Element>,
-    nodes: u64,
-    keeper: K,
-) -> Result<Part<K>, AllocError>
-    requires stands { HasFewLeft (search_of_claim setting.tree.now) nodes cursor }
-    requires limit { nodes ≤ MOST_NODES }
-    ensures visited { IfOk result (λ part. PartVisited K.keeps
-        (beginning (search_of_claim setting.entry.tree.now) (left_at (search_of_claim setting.entry.tree.now) cursor)) nodes keeper part.keeper part.end) }
-    ensures small { IfOk result (λ part. IsSmallEnd nodes part.end) }
-    ensures patient { watch.entry.patient ≡ true → IfOk result (λ part. IsWholeEnd nodes part.end) }
-    ensures counted { IfOk result (λ part. IsCounted nodes watch.entry.forks part.end part.begun) }
+) -> Frontier<D, Element, Encoding>
+    ensures cursor { result.cursor ≡ cursor }
+    ensures kept { IsKeptFor tree.now result.kept }
+    ensures branch { IsBranch D.tableau D.pivot_of result.kept.system.rows result.branch }
 {
-    let at = Frontier {
+    Frontier {
         cursor,
-        kept: setting.tree.nothing(setting.alloc),
-        branch: Branch::new(setting.alloc),
-    };
-    visit_on::<D, K, R, G>(setting, watch, at, nodes, keeper)
+        kept: tree.nothing(alloc),
+        branch: Branch::new(alloc),
+    }
 }
 
 /// Visits the words that are left at a cursor, going on from a branch. Where a processor is free, the
@@ -345,7 +319,8 @@ fn visit_shared<D: Dictionary, K: PartKeeper, R: Threads + Sync, G: Gate>(
         ensures counted { IfOk result (λ part. IsCounted nodes high.entry.forks part.end part.begun) }
     {
         setting.gate.enter();
-        let part = visit_tree_at::<D, K, R, G>(setting, high, later, nodes, late);
+        let at = frontier_at(setting.alloc, setting.tree, later);
+        let part = visit_on::<D, K, R, G>(setting, high, at, nodes, late);
         high.came_back(ended);
         part
     };

@@ -70,7 +70,7 @@ pub use asked_next::next_question;
 pub use asking::vertex_question;
 pub use end::{PlaceKind, SampleEnd, TreeEnd, VisitEnd, WalkEnd};
 pub use finding::{OrdersFound, find_orders};
-pub use forked::{most_beside, visit, visit_counted, walk, walk_gated};
+pub use forked::{most_beside, visit, walk, walk_gated};
 pub use gate::{Gate, Idle};
 pub use keeper::{Keeper, Nothing, PartKeeper};
 pub use known::is_met;

@@ -1,7 +1,7 @@
 //! How many nodes were begun.
 //!
 //! A budget bounds the nodes of the answer. The search may begin more: parts whose results are
-//! dropped, and a second visit. The bound on all of them is a bound on this count.
+//! dropped, and a second pass. The bound on all of them is a bound on this count.
 #![tactic(auto)]
 
 ghost use Rattle.std.specs.Prelude.{◌≡◌, ◌+◌, ◌-◌, ◌^◌, min};

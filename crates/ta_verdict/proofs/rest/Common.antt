@@ -47,10 +47,10 @@ pub use Rattle.ta_verdict.specs.Rest.Certificates.{RestCertificateOf, RestCertif
 pub use Rattle.ta_verdict.specs.Rest.Laws.{RestTextsAreAlike, RestVerdictsAreDetermined, RestsAreSolved}
 pub use Rattle.ta_verdict.specs.Rest.Verdicts.{EndingVerdictHolds, IsNotSafe, KeepsSafe, OwnVerdict, OwnVerdicts, RestVerdictHolds, quiet_question}
 pub use Rattle.ta_verdict.specs.Rest.Verdicts.{rest_holds_by, rest_question}
-pub use Rattle.ta_verdict.proofs.DraftsMade.{adds_tree, wanted_same}
+pub use Rattle.ta_verdict.proofs.DraftsMade.{Drafted, adds_tree, wanted_same}
 pub use Rattle.ta_verdict.proofs.JudgedSoFar.{JudgedSoFar}
-pub use Rattle.ta_verdict.proofs.VerdictsMade.{as_many, held_by, holds_weaker, overflow_holds, run_leaves, said_of, so_many}
-pub use Rattle.ta_verdict.specs.Certificates.{AreTreesOf, safe_among, safe_ones, safe_picked}
+pub use Rattle.ta_verdict.proofs.VerdictsMade.{as_many, held_by, holds_weaker, overflow_holds, run_leaves, said_of}
+pub use Rattle.ta_verdict.specs.Certificates.{AreTreesOf, safe_among, safe_picked}
 pub use Rattle.ta_verdict.specs.Drafts.{DraftHasTree, DraftKeeps, ended_line}
 pub use Rattle.ta_verdict.specs.Verdicts.{EachHolds}
 pub use Rattle.ta_walk.proofs.ProofsMade.{proof_made}

@@ -6,15 +6,15 @@ ghost use Rattle.std.specs.List.{AllByRecursion, concat};
 ghost use Rattle.ta_check.specs.Certificate.{QuietRestCertificate};
 ghost use Rattle.ta_report.specs.Picked.{picked};
 ghost use Rattle.ta_report.specs.Report.{VerdictFits};
-ghost use Rattle.ta_report.specs.declared.pick.Pick.TheVariants.{All, One};
 ghost use Rattle.ta_shelf.specs.Staging.{Begun};
 ghost use Rattle.ta_automaton.specs.Numbered.{OfPattern};
-ghost use Rattle.ta_verdict.specs.Certificates.{safe_among, safe_ones, safe_picked};
-ghost use Rattle.ta_verdict.specs.Drafts.{AddsTree, DraftHasTree, HasProofs, HasText, HasTrees};
+ghost use Rattle.ta_verdict.specs.Certificates.{safe_among, safe_picked};
+ghost use Rattle.ta_verdict.specs.Drafts.{AddsTree, HasProofs, HasText, HasTrees};
 ghost use Rattle.ta_verdict.specs.Rest.Budgets.{resting};
 ghost use Rattle.ta_verdict.specs.Rest.Certificates.{RestCertificateOf, RestCertified, rest_head, rest_tree};
 ghost use Rattle.ta_verdict.specs.Rest.Verdicts.{OwnVerdict, OwnVerdicts};
 
+use crate::picking::picked_range;
 use crate::rest::quiet_verdict::verdict_by_moments;
 use crate::rest::verdict::rest_verdict;
 use crate::{Budget, Draft, Judged, Target, is_safe};
@@ -119,62 +119,9 @@ fn verdicts_picked<R: Threads + Sync, P, T: Target<P>>(
     ensures stops { (begun : Begun) (text : List ℕ) → T.has begun target.old place.old text → IfErr result (λ _. T.stopped begun target.new place.new) }
     ensures wanted { IfOk result (λ verdicts. T.wants target.new ≡ T.wants target.old) }
 {
-    match pick {
-        Pick::All => verdicts_on(rt, alloc, rest, budget, silent, place, target),
-        Pick::One(number) => verdict_alone(rt, alloc, rest, number, budget, silent, place, target),
-    }
-}
-
-/// The verdict on the pattern of a number, alone, if there is one with the number.
-fn verdict_alone<R: Threads + Sync, P, T: Target<P>>(
-    rt: &R,
-    alloc: Global,
-    rest: &RestFile,
-    number: u32,
-    budget: Budget,
-    silent: &[u32],
-    place: &mut P,
-    target: &mut T,
-) -> Result<Vec<Verdict>, AllocError>
-    requires limit { budget.nodes ≤ MOST_NODES }
-    ensures verdicts { IfOk result (λ verdicts. OwnVerdicts rest.now (One number) (resting budget silent.now) verdicts.items) }
-    ensures all { IfOk result (λ verdicts. length verdicts.items ≡ length (picked (One number) rest.now.ending.file.patterns)) }
-    ensures fit { IfOk result (λ verdicts. AllByRecursion (VerdictFits rest.now.ending.file) verdicts.items) }
-    ensures trees { (begun : Begun) (head : List ℕ) → HasProofs (T.has begun target.old place.old) head [] → IfOk result (λ verdicts. HasTrees (rest_tree rest.now.ending.file (resting budget silent.now)) head (safe_picked rest.now.ending.file (One number) verdicts.items) (T.has begun target.new place.new)) }
-    ensures stops { (begun : Begun) (text : List ℕ) → T.has begun target.old place.old text → IfErr result (λ _. T.stopped begun target.new place.new) }
-    ensures wanted { IfOk result (λ verdicts. T.wants target.new ≡ T.wants target.old) }
-{
-    if rest.ending.file.patterns.as_slice().len() <= number as usize {
-        return Ok(Vec::new(alloc));
-    }
-    let verdict = next_verdict(rt, alloc, rest, number, budget, silent, place, target)?;
+    let (first, end) = picked_range(&rest.ending.file, pick);
     let mut verdicts = Vec::new(alloc);
-    verdicts.push(verdict)?;
-    Ok(verdicts)
-}
-
-/// A verdict on each pattern of a file, in order. The trees of those that are safe are added to a
-/// target.
-fn verdicts_on<R: Threads + Sync, P, T: Target<P>>(
-    rt: &R,
-    alloc: Global,
-    rest: &RestFile,
-    budget: Budget,
-    silent: &[u32],
-    place: &mut P,
-    target: &mut T,
-) -> Result<Vec<Verdict>, AllocError>
-    requires limit { budget.nodes ≤ MOST_NODES }
-    ensures verdicts { IfOk result (λ verdicts. OwnVerdicts rest.now All (resting budget silent.now) verdicts.items) }
-    ensures all { IfOk result (λ verdicts. length verdicts.items ≡ length rest.now.ending.file.patterns) }
-    ensures fit { IfOk result (λ verdicts. AllByRecursion (VerdictFits rest.now.ending.file) verdicts.items) }
-    ensures trees { (begun : Begun) (head : List ℕ) → HasProofs (T.has begun target.old place.old) head [] → IfOk result (λ verdicts. HasTrees (rest_tree rest.now.ending.file (resting budget silent.now)) head (safe_ones 0 rest.now.ending.file.patterns verdicts.items) (T.has begun target.new place.new)) }
-    ensures stops { (begun : Begun) (text : List ℕ) → T.has begun target.old place.old text → IfErr result (λ _. T.stopped begun target.new place.new) }
-    ensures wanted { IfOk result (λ verdicts. T.wants target.new ≡ T.wants target.old) }
-{
-    let count = rest.ending.file.patterns.as_slice().len() as u32;
-    let mut verdicts = Vec::new(alloc);
-    for pattern in 0..count {
+    for pattern in first..end {
         verdicts.push(next_verdict(rt, alloc, rest, pattern, budget, silent, place, target)?)?;
     }
     Ok(verdicts)
@@ -200,36 +147,17 @@ fn next_verdict<R: Threads + Sync, P, T: Target<P>>(
     ensures wanted { IfOk result (λ verdict. T.wants target.new ≡ T.wants target.old) }
 {
     let mut proof = Draft::begin(alloc, target.wanted(), &Line::Pattern(pattern))?;
-    let verdict = verdict_on(rt, alloc, rest, pattern, budget, silent, &mut proof)?;
+    let nodes = budget.nodes;
+    let verdict = if budget.lazy {
+        verdict_by_moments::<NarrowDictionary, Draft>(
+            alloc, rest, pattern, silent, nodes, &mut proof,
+        )?
+    } else {
+        rest_verdict::<NarrowDictionary, Draft, R>(rt, alloc, rest, pattern, nodes, &mut proof)?
+    };
     if !is_safe(&verdict) {
         return Ok(verdict);
     }
     target.add(alloc, place, proof)?;
     Ok(verdict)
-}
-
-/// The verdict on the pattern of a number. The lines of its tree, if it is safe, stand at the end of
-/// a draft then.
-fn verdict_on<R: Threads + Sync>(
-    rt: &R,
-    alloc: Global,
-    rest: &RestFile,
-    pattern: u32,
-    budget: Budget,
-    silent: &[u32],
-    draft: &mut Draft,
-) -> Result<Verdict, AllocError>
-    requires limit { budget.nodes ≤ MOST_NODES }
-    requires exists { pattern < length rest.now.ending.file.patterns }
-    ensures holds { IfOk result (λ verdict. OfPattern rest.now.ending.file pattern (λ p. OwnVerdict rest.now (resting budget silent.now) pattern p verdict)) }
-    ensures fits { IfOk result (VerdictFits rest.now.ending.file) }
-    ensures drafted { IfOk result (λ verdict. OfPattern rest.now.ending.file pattern (λ p. DraftHasTree (rest_tree rest.now.ending.file (resting budget silent.now)) p verdict draft.old draft.new)) }
-{
-    let nodes = budget.nodes;
-    if budget.lazy {
-        return verdict_by_moments::<NarrowDictionary, Draft>(
-            alloc, rest, pattern, silent, nodes, draft,
-        );
-    }
-    rest_verdict::<NarrowDictionary, Draft, R>(rt, alloc, rest, pattern, nodes, draft)
 }

@@ -20,7 +20,7 @@ use ta_encode::Solution;
 use ta_implied::Orders;
 use ta_report::Verdict;
 use ta_rest::{Claim, ClaimTree, RestFile};
-use ta_walk::{PartKeeper, VisitEnd, visit};
+use ta_walk::{Idle, PartKeeper, VisitEnd, Work, visit};
 use ta_witness::rest_witness;
 
 /// The verdict on the pattern of a number, from 0, within so many nodes of words: whether some run in which
@@ -43,7 +43,8 @@ pub fn rest_verdict<D: Dictionary, K: PartKeeper, R: Threads + Sync>(
 {
     let orders = Orders::new();
     let tree = ClaimTree::new(Claim::RestSafe, &rest.ending.file, pattern, &orders);
-    match visit::<D, K, R>(rt, alloc, &tree, nodes, keeper)? {
+    let mut work = Work::new();
+    match visit::<D, K, R, Idle>(rt, alloc, &tree, nodes, &Idle {}, keeper, &mut work)? {
         VisitEnd::Refuted { count, leaves } => Ok(Verdict::Safe {
             nodes: count,
             leaves,

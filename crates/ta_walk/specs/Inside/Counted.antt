@@ -1,7 +1,6 @@
 -- How many nodes the parts of a visit begin.
-use Rattle.std.specs.Prelude.{ℕ, ◌+◌, ◌*◌, ◌-◌, ◌^◌, ◌≤◌, ◌≡◌, min, Option, Some, None}
+use Rattle.std.specs.Prelude.{ℕ, ◌+◌, ◌*◌, ◌-◌, ◌^◌, ◌≤◌, ◌≡◌, min}
 use Rattle.ta_walk.specs.Ends.{node_count}
-use Rattle.ta_walk.specs.Work.{Rose}
 use Rattle.ta_walk.specs.declared.end.TreeEnd.{TreeEnd}
 use Rattle.ta_walk.specs.declared.visiting.Stretch.{Stretch}
 use Rattle.ta_walk.specs.declared.visiting.Stretch.TheVariants as stretch
@@ -20,8 +19,3 @@ pub record IsCounted {E : Type 0} (budget forks : ℕ) (end : TreeEnd E) (begun 
   pub within : node_count end ≤ budget
   pub least : node_count end ≤ begun
   pub most : begun ≤ node_count end + forks * budget
-
--- a visit, which may have no end, began at least the nodes of its end
-abbrev pub VisitCounted : {E : Type 0} → ℕ → ℕ → ℕ → Option (TreeEnd E) → Type 0
-VisitCounted old new most None = Rose old new 0 most
-VisitCounted old new most (Some end) = Rose old new (node_count end) most

@@ -12,14 +12,14 @@ verdict_of-requires g c =
     solution_found s.file c.args.pattern c.requires.exists c.args.found.now.orders c.args.nodes c.in-Found.count c.in-Found.solution
     (λ p at. visit_of (search_of_claim c.new-tree.result) (pattern_search s.file.automaton p c.args.found.now.orders) c.new-tree.result.number c.args.pattern
     c.args.nodes (λ ns. Unit {0}) (visit.Found c.in-Found.count c.in-Found.solution) (c.new-tree.ensures.search p at) c.new-tree.ensures.number
-    (rw c.in-Found.is at c.in_ok-count.ensures))
+    (rw c.in-Found.is at c.in_ok-count.ensures.ends))
 
 pub returns-in-Refuted-clause-holds : goal.returns-in-Refuted-clause-holds
 returns-in-Refuted-clause-holds g c = λ p at.
     let s = c.args.scoped.now in
     let tree = visit_of (search_of_claim c.new-tree.result) (pattern_search s.file.automaton p c.args.found.now.orders) c.new-tree.result.number c.args.pattern
     c.args.nodes _ (visit.Refuted c.in-Refuted.count c.in-Refuted.leaves) (c.new-tree.ensures.search p at) c.new-tree.ensures.number
-    (rw c.in-Refuted.is at c.in_ok-count.ensures) in
+    (rw c.in-Refuted.is at c.in_ok-count.ensures.ends) in
     safe_holds s.file c.args.pattern p at (loops_pure s.file.automaton s.in_scope) c.args.found.now.list c.args.found.now.orders c.requires.found.orders
     c.requires.found.pairs c.args.nodes c.requires.limit tree.nodes c.in-Refuted.count c.in-Refuted.leaves tree.is tree.counted
 
@@ -29,7 +29,7 @@ returns-in-Refuted-clause-drafted g c = λ p at nodes size.
     let budget = c.args.nodes in
     let tree = visit_of (search_of_claim c.new-tree.result) (pattern_search file.automaton p c.args.found.now.orders) c.new-tree.result.number c.args.pattern
     c.args.nodes _ (visit.Refuted c.in-Refuted.count c.in-Refuted.leaves) (c.new-tree.ensures.search p at) c.new-tree.ensures.number
-    (rw c.in-Refuted.is at c.in_ok-count.ensures) in
+    (rw c.in-Refuted.is at c.in_ok-count.ensures.ends) in
     let same : c.in-Refuted.count ≡ nodes = cc in (
       tree.nodes,
       under file (λ pairs. TreeIs (pattern_search file.automaton p pairs) budget tree.nodes nodes) c.args.found.now.list c.args.found.now.orders
@@ -44,7 +44,7 @@ returns-in-Spent-clause-holds g c = λ p at.
     let budget = c.args.nodes in
     let spent = visit_of (search_of_claim c.new-tree.result) (pattern_search file.automaton p c.args.found.now.orders) c.new-tree.result.number c.args.pattern
     c.args.nodes (λ ns. Unit {0}) (visit.Spent c.in-Spent.count) (c.new-tree.ensures.search p at) c.new-tree.ensures.number
-    (rw c.in-Spent.is at c.in_ok-count.ensures) in
+    (rw c.in-Spent.is at c.in_ok-count.ensures.ends) in
     under file (λ pairs. SpentHolds (safety_question file pairs p) budget c.in-Spent.count) c.args.found.now.list c.args.found.now.orders
     c.requires.found.orders c.requires.found.pairs (spent_holds file c.args.found.now.orders p budget c.in-Spent.count spent)
 
@@ -54,7 +54,7 @@ returns-in-Overflow-clause-holds g c = λ p at.
     let budget = c.args.nodes in
     let left = visit_of (search_of_claim c.new-tree.result) (pattern_search file.automaton p c.args.found.now.orders) c.new-tree.result.number c.args.pattern
     c.args.nodes (λ ns. Unit {0}) (visit.Overflow c.in-Overflow.node c.in-Overflow.kind) (c.new-tree.ensures.search p at) c.new-tree.ensures.number
-    (rw c.in-Overflow.is at c.in_ok-count.ensures) in
+    (rw c.in-Overflow.is at c.in_ok-count.ensures.ends) in
     under file (λ pairs. VerdictAnswers (safety_question file pairs p) budget c.args.pattern (Overflow c.in-Overflow.node c.report_kind.result))
     c.args.found.now.list c.args.found.now.orders c.requires.found.orders c.requires.found.pairs
     (overflow_holds (safety_question file c.args.found.now.orders p) c.args.pattern budget c.in-Overflow.node c.in-Overflow.kind c.report_kind.result
@@ -71,4 +71,4 @@ returns-in-Found-clause-holds g c =
     (SolutionAt (pattern_search file.automaton p pairs) number c.in-Found.solution)) c.requires.found.pairs
     (visit_of (search_of_claim c.new-tree.result) (pattern_search file.automaton p c.args.found.now.orders) c.new-tree.result.number number c.args.nodes
     (λ ns. Unit {0}) (visit.Found c.in-Found.count c.in-Found.solution) (c.new-tree.ensures.search p at) c.new-tree.ensures.number
-    (rw c.in-Found.is at c.in_ok-count.ensures))))
+    (rw c.in-Found.is at c.in_ok-count.ensures.ends))))

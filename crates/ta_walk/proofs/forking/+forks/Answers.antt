@@ -1,29 +1,9 @@
-use Rattle.ta_walk.proofs.Common.{
-  ℕ,
-  ◌-◌,
-  ◌+◌,
-  ◌/◌,
-  ◌≤◌,
-  ◌≡◌,
-  ◌∙◌,
-  IsCounted,
-  List,
-  IfOk,
-  arith,
-  map,
-  subst,
-  sym,
-  Pending,
-  TreeEnd,
-  PartVisited,
-  beginning,
-  root_node,
-  search_of_claim,
-}
+use Rattle.ta_walk.proofs.Common.{ℕ, ◌-◌, ◌+◌, ◌<◌, ◌≡◌, ◌∙◌, IsCounted, List, IfOk, ap, arith, left_at, length, map, subst, sym, Pending, rules}
+use Rattle.ta_walk.proofs.Common.{AllByRecursion, TreeEnd, ComesTo, HasFewLeft, PartVisited, beginning, root_node, search_of_claim}
 use Rattle.ta_words.specs.declared.element.Element.{Element}
 use Rattle.ta_walk.proofs.NodesCounted.{counted_after, counted_more, ok_both}
 use Rattle.ta_walk.proofs.PartsMerged.{decided_part}
-use Rattle.ta_walk.proofs.RootsListed.{halves_listed}
+use Rattle.ta_walk.proofs.RootsListed.{halves_listed, last_alone, root_left, root_stands}
 use Rattle.ta_walk.proofs.forking.+forks.Goals as goal
 
 pub visit_beside-returns-clause-visited : goal.visit_beside-returns-clause-visited
@@ -33,6 +13,26 @@ visit_beside-returns-clause-visited g t c =
     c.merge.ensures.visited (search_of_claim c.args.setting.tree.now) (map root_node c.args.starts.items) (map root_node c.args.others.items) c.args.keeper
     c.args.late
     one other c.requires.fresh
+
+pub visit_list-visit_on-requires-clause-stands : goal.visit_list-visit_on-requires-clause-stands
+visit_list-visit_on-requires-clause-stands g t c κs within =
+    let s = search_of_claim c.args.setting.tree.now in
+    let n = c.args.nodes in
+    let comes : ComesTo s c.in-Some.start = search rules in
+    subst (HasFewLeft s n) (sym c.frontier_at-at.ensures.cursor)
+    (root_stands s c.in-Some.start c.new-cursor.result n comes c.new-cursor.ensures c.requires.limit)
+
+pub visit_list-returns-then-len-lt2-clause-visited : goal.visit_list-returns-then-len-lt2-clause-visited
+visit_list-returns-then-len-lt2-clause-visited g t c =
+    let s = search_of_claim c.args.setting.tree.now in
+    let start = c.in-Some.start in
+    let few : length c.args.starts.items < 2 = search rules in
+    let one = last_alone c.args.starts.items c.pop.new.self.items start c.in-Some.ensures.items few in
+    let comes = (subst (AllByRecursion (ComesTo s)) one c.requires.come).0 in
+    let left = ap (left_at s) c.frontier_at-at.ensures.cursor ∙ root_left s start c.new-cursor.result comes c.new-cursor.ensures
+    ∙ ap (map root_node) (sym one) in
+    subst (λ (us : List (Pending Element)). IfOk c.visit_on.result
+    (λ part. PartVisited g.K.Keeper.keeps (beginning s us) c.args.nodes c.args.keeper part.keeper part.end)) left c.visit_on.ensures.visited
 
 pub visit_list-returns-clause-visited : goal.visit_list-returns-clause-visited
 visit_list-returns-clause-visited g t c =

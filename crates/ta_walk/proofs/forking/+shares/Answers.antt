@@ -1,25 +1,4 @@
-use Rattle.ta_walk.proofs.Common.{
-  ◌-◌,
-  ◌+◌,
-  ◌/◌,
-  ◌≤◌,
-  ◌≡◌,
-  ℕ,
-  IfOk,
-  arith,
-  sym,
-  subst,
-  left_at,
-  TreeEnd,
-  IsCounted,
-  PartVisited,
-  RoseBy,
-  SharesBudget,
-  StretchCounted,
-  beginning,
-  node_count,
-  search_of_claim,
-}
+use Rattle.ta_walk.proofs.Common.{◌-◌, ◌+◌, ◌≡◌, ℕ, IfOk, arith, sym, subst, left_at, TreeEnd, IsCounted, PartVisited, SharesBudget, beginning, search_of_claim}
 use Rattle.ta_walk.proofs.NodesCounted.{counted_alone, counted_shared}
 use Rattle.ta_words.specs.declared.element.Element.{Element}
 use Rattle.ta_walk.proofs.PartsMerged.{shared_part}
