@@ -105,7 +105,7 @@ module _ (name out : List ℕ) (names : Option (List ℕ)) (told : Told) (file :
 
 pub written_at_rest_is_accepted : WrittenAtRestIsAccepted
 written_at_rest_is_accepted words first before after h asked out is given low told after_told again checked second begun ended begun_told done =
-    let name = asked.file in
+    let name = asked.verify.file in
     let names = asked.silent in
     let written = (rests_report words first before after h).certificate asked out is given low in
     let c = written.such in
@@ -121,10 +121,10 @@ written_at_rest_is_accepted words first before after h asked out is given low to
     let is_now = is_kept file_kind files.0 told name r.file (files.2.others name (said.differs name out refl given)) is_first in
     let loud = loud_by_words words first before after h asked is r.file r.silent r.are_silent in
     let pick = r.pick in
-    let at = safe_at r.file ending r.ends.added (resting asked.budget r.silent) loud endings.automaton pick r.verdicts endings.patterns r.are.hold in
+    let at = safe_at r.file ending r.ends.added (resting asked.verify.budget r.silent) loud endings.automaton pick r.verdicts endings.patterns r.are.hold in
     let safe = ones_hold (claiming_with claim.RestSafe ending r.silent) (first_picked pick) (picked pick ending.patterns) r.verdicts at
     (picked_there pick ending.patterns) in
-    let many = as_many (EndingVerdictHolds r.file ending r.ends.added (resting asked.budget r.silent)) (first_picked pick) (picked pick ending.patterns)
+    let many = as_many (EndingVerdictHolds r.file ending r.ends.added (resting asked.verify.budget r.silent)) (first_picked pick) (picked pick ending.patterns)
     r.verdicts r.are.hold in
     let performs = as_rest_check again second begun ended done (record { file = name; other = out; silent = names; options = no_options }) checked in
     let accepted = rest_checks name out names told r.file r.ends r.silent (safe_among ending pick r.verdicts) c.text is_now r.are_ends r.are_silent files.2.held

@@ -1,6 +1,6 @@
 -- what `bench` makes and says
-use Rattle.ta_program.proofs.Common.{true, ◌≡◌, ◌∙◌, ◌≤◌, ◌+◌, ◌++◌, ◌⊎◌, inl, inr, List, [], ◌∷◌, ℕ, length, false, refl, sym, ap, subst, arith}
-use Rattle.ta_program.proofs.Common.{slice_get, None, Some, Result, Ok, Err, IfOk, File, Pattern, CertFault}
+use Rattle.ta_program.proofs.Common.{true, ◌≡◌, ◌∙◌, ◌≤◌, ◌+◌, ◌++◌, ◌⊎◌, inl, inr, List, ℕ, length, false, refl, sym, ap, subst, arith}
+use Rattle.ta_program.proofs.Common.{slice_get, Some, Result, Ok, Err, IfOk, File, Pattern, CertFault}
 use Rattle.ta_program.proofs.Common.{Certificate, CertificateFor, Subject, CheckerFeedAnswers, IsExactCheck, Checker, Verdict}
 use Rattle.ta_program.proofs.Common.{Safe, Unsafe, Spent, Overflow, VerdictHolds, Writes, Answer, claiming, subject_of, no_longer_certificate}
 use Rattle.ta_program.proofs.Common.{BUDGET, IsCertified, SaysBench, bench_status, bench_text, family_text, CertificateOf, safe_numbers, AreVerdicts}
@@ -22,7 +22,6 @@ use Rattle.ta_syntax.specs.Grammar.{PlainTree, file_kinds}
 use Rattle.ta_syntax.specs.Printed.{printed}
 use Rattle.ta_syntax.specs.declared.fault.FileFault.{FileFault}
 use Rattle.ta_syntax.specs.declared.fault.FileFault.TheVariants as file_fault
-use Rattle.ta_verdict.specs.Verdicts.{EachHolds}
 use Rattle.ta_rest.specs.declared.claim.Claim.TheVariants as claim
 
 -- the printed text of the family's automaton means a file

@@ -9,6 +9,7 @@ use Rattle.ta_program.proofs.Common.{bench_status, bench_words, CheckHolds, chec
 use Rattle.ta_program.proofs.Common.{AdmitHolds, admit_meaning, admit_of, admit_words, ExportHolds, export_meaning, export_of, export_words, Admitting, Benches}
 use Rattle.ta_program.proofs.Common.{CertificateWritten, CheckProves, ExactlySo, Exports, KeepsFiles, PassesLegal, PrintedHolds, ReplayShows, RestProves}
 use Rattle.ta_program.proofs.Common.{RestsReport, RunShortens, Searches, VerifyReports, put_by, CompressHolds, compress_meaning, compress_of, ReplayHolds}
+use Rattle.ta_program.specs.Asked.{IsNoCommand}
 use Rattle.ta_program.proofs.Common.{replay_meaning, request_of, ClaimHolds, LegalRest, RestCertificateStands, RestReportHolds, rest_meaning, RestCheckHolds}
 use Rattle.ta_program.proofs.Common.{rest_check_meaning, rest_check_of, rest_of, rest_words, CertificateStands, ReportHolds, verify_meaning, VerdictHolds}
 use Rattle.ta_program.proofs.Common.{VerdictsHold, is_unsafe, is_unknown, LegalTemplate, SearchHolds, end_number, leaves_unknown, search_meaning, SearchWords}
@@ -17,7 +18,7 @@ use Rattle.ta_program.proofs.Common.{held_by, false_from_ne_true, PutCall, PutTe
 use Rattle.ta_program.proofs.Common.{Spares, ◌⊎◌, AreOfStages, made_of_stages, Opens, AreStaging, ComparesFirst, Differ, Kind, SparesRead, at_ends}
 use Rattle.ta_program.proofs.Common.{found_meaning, found_names, held_or_staged, rest_quietly, spared, template_kind, inr}
 use Rattle.ta_program.proofs.Common.{ShowHolds, show_meaning, show_of, show_words, slice_get}
-use Rattle.ta_program.specs.Program.{SafeAsShown, ShowsFile}
+use Rattle.ta_program.specs.Program.{SafeAsShown, ShowsFile, Tellings, UsageExactly}
 use Rattle.ta_program.specs.Show.{SafeAsPrinted}
 use Rattle.ta_program.specs.Version.{VersionPrints, version_meaning, version_of, version_text, version_words}
 use Rattle.ta_program.proofs.Common.{cases_order}
@@ -33,6 +34,7 @@ use Rattle.ta_program.specs.Printed.{EachToldProved}
 use Rattle.ta_program.specs.Proofs.{TellsProofs, printed_sample, wants_sample}
 use Rattle.ta_program.specs.declared.proof_options.ProofOptions.{ProofOptions}
 use Rattle.ta_program.specs.Proofs.{EveryPattern}
+use Rattle.ta_program.specs.Ended.{Did, Ended, Saw, World}
 use Rattle.ta_program.specs.Headline.{EachPatternSafe, EachPrinted, HoldsFile, ShownOccurs, SomePatternOccurs, StatusTells}
 use Rattle.ta_replay.proofs.Occurring.{shown_occurs}
 use Rattle.ta_check.proofs.OwnPatterns.{all_own}
@@ -56,7 +58,7 @@ use Rattle.ta_program.proofs.UnsafePrinted.{run_within, unsafe_occurs, unsafe_pr
 use Rattle.ta_program.proofs.WordMeanings.{admit_decides}
 use Rattle.ta_base.proofs.Members.{listed}
 use Rattle.ta_base.proofs.Booleans.{first_passed}
-use Rattle.ta_program.proofs.Common.{All, EachPicked, LegalPicked, first_picked, held_entry, picked, picked_meaning, telling_of}
+use Rattle.ta_program.proofs.Common.{EachPicked, LegalPicked, first_picked, held_entry, picked, picked_meaning, telling_of}
 use Rattle.ta_program.proofs.PatternPicks.{each_picked_of, picked_name}
 use Rattle.ta_program.proofs.StrictNumbers.{number_other}
 use Rattle.ta_program.specs.Certified.{PutsCertificate}
@@ -147,7 +149,17 @@ holds_text put out named (Some b) (Some a) h = record {
 tells_put : (put : Put) (out : List ℕ) → put.name ≡ out → (calls : List PutCall) → PutWhole (put_text put ∷ []) calls → TellsFile out (put_bytes put) calls
 tells_put put out named calls whole = subst (λ (n : List ℕ). TellsFile n (put_bytes put) calls) named (tells_file (put_text put) calls whole)
 
+-- a run with these words
+abbrev pub world : State → World
+world s = record { files = s.shelf.files; calls = s.shelf.calls; written = s.out.written }
+
+abbrev pub run_of : List (List ℕ) → ℕ → State → State → Ended
+run_of words number before after = record { status = number; words = words; before = world before; after = world after }
+
 module _ (words : List (List ℕ)) (number : ℕ) (before after : State) (h : Runs (request_of words) number before after) where
+  abbrev ended : Ended
+  ended = run_of words number before after
+
   pub as_verify : (asked : VerifyWords) → verify_of words ≡ Some asked → Performs (verify_meaning asked) number before after
   as_verify asked is = performed_where (codes "verify") verify_words (λ a. LegalPicked a.file a.pattern) verify_meaning number before after (λ rest r. r) words
       asked is h
@@ -213,7 +225,7 @@ module _ (words : List (List ℕ)) (number : ℕ) (before after : State) (h : Ru
         wrote = a.written ∙ ap (with_text before.out.written) reports.written;
       }
 
-  pub verify_reports : VerifyReports number words before.shelf.files before.shelf.calls after.shelf.calls before.out.written after.out.written
+  pub verify_reports : VerifyReports ended
   verify_reports asked is low = gives_verify asked is low (λ view. ReportHolds number view asked before.out.written after.out.written) (reported asked)
 
   certified : (asked : VerifyWords) (out : List ℕ) → asked.out ≡ Some out → (view : View) (made : List PutCall)
@@ -237,8 +249,7 @@ module _ (words : List (List ℕ)) (number : ℕ) (before after : State) (h : Ru
         accepted = puts.accepted;
       }
 
-  pub certificate_written : CertificateWritten number words before.shelf.files after.shelf.files before.shelf.calls after.shelf.calls before.out.written
-      after.out.written
+  pub certificate_written : CertificateWritten ended
   certificate_written asked out is given low =
       gives_all (verify_meaning asked) (as_verify asked is) low
       (λ view made. CertificateStands number view asked out before.shelf.files after.shelf.files before.out.written after.out.written made)
@@ -275,7 +286,7 @@ module _ (words : List (List ℕ)) (number : ℕ) (before after : State) (h : Ru
             ∙ ap (with_text before.out.written) rest.2.writes.written;
       }
 
-  pub run_shortens : RunShortens number words before.shelf.files before.shelf.calls after.shelf.calls before.out.written after.out.written
+  pub run_shortens : RunShortens ended
   run_shortens = record {
     holds = λ asked is none. gives (compress_meaning asked.file asked.other) refl (as_compress asked is) (omega (arith, none))
         (λ view. CompressHolds view asked.file asked.other before.out.written after.out.written) (shortened asked.file asked.other);
@@ -298,7 +309,7 @@ module _ (words : List (List ℕ)) (number : ℕ) (before after : State) (h : Ru
             a.written ∙ ap (with_text before.out.written) rest.2.writes.written;
       }
 
-  pub replay_shows : ReplayShows number words before.shelf.files before.shelf.calls after.shelf.calls before.out.written after.out.written
+  pub replay_shows : ReplayShows ended
   replay_shows asked is none = gives (replay_meaning asked.file asked.other asked.json) refl (as_replay asked is) (omega (arith, none))
       (λ view. ReplayHolds view asked.file asked.other asked.json before.out.written after.out.written) (shown asked.file asked.other asked.json)
 
@@ -325,7 +336,7 @@ module _ (words : List (List ℕ)) (number : ℕ) (before after : State) (h : Ru
   never : (k : ℕ) → Performs (bench_meaning k) number before after → 3 ≤ number → number ≤ 4 → ⊥
   never k performs three four = (hindered (bench_meaning k) number before after performs.ends three four).1
 
-  pub benches : Benches number words before.out.written after.out.written
+  pub benches : Benches ended
   benches = record {
     holds = λ k is low. benched k (as_bench k is) low;
     others = λ k is. (
@@ -345,7 +356,7 @@ module _ (words : List (List ℕ)) (number : ℕ) (before after : State) (h : Ru
       let a = answered version_meaning (seen before.shelf.files performs.ends.read) number before after performs.ends.made performs.ends.end low in
       (a.numbered ∙ a.holds.holds.numbered, a.written ∙ ap (with_text before.out.written) a.holds.holds.written)
 
-  pub version_prints : VersionPrints number words before.out.written after.out.written
+  pub version_prints : VersionPrints ended
   version_prints asked is five =
       let performs = as_version asked is in
       elim (cases_order number 5) [
@@ -385,7 +396,7 @@ module _ (words : List (List ℕ)) (number : ℕ) (before after : State) (h : Ru
         denotes = says.is.denotes;
       }
 
-  pub exports : Exports number words before.shelf.files before.shelf.calls after.shelf.calls before.out.written after.out.written
+  pub exports : Exports ended
   exports asked is none = gives (export_meaning asked) refl (as_export asked is) (omega (arith, none))
       (λ view. ExportHolds view asked before.out.written after.out.written) (exported asked)
 
@@ -406,7 +417,7 @@ module _ (words : List (List ℕ)) (number : ℕ) (before after : State) (h : Ru
             = a.written ∙ ap (with_text before.out.written) (says.writes.written ∙ says.is.whole);
       }
 
-  pub shows_file : ShowsFile number words before.shelf.files before.shelf.calls after.shelf.calls before.out.written after.out.written
+  pub shows_file : ShowsFile ended
   shows_file name is none = gives (show_meaning name) refl (as_show name is) (omega (arith, none))
       (λ view. ShowHolds view name before.out.written after.out.written) (shown_file name)
 
@@ -430,7 +441,7 @@ module _ (words : List (List ℕ)) (number : ℕ) (before after : State) (h : Ru
         wrote = a.written ∙ ap (with_text before.out.written) rest.2.written;
       }
 
-  pub admitting : Admitting number words before.shelf.files before.shelf.calls after.shelf.calls before.out.written after.out.written
+  pub admitting : Admitting ended
   admitting = record {
     holds = λ all is none. gives (admit_meaning all) refl (as_admit all is) (omega (arith, none))
         (λ view. AdmitHolds view all before.out.written after.out.written) (admitted all);
@@ -481,7 +492,7 @@ module _ (words : List (List ℕ)) (number : ℕ) (before after : State) (h : Ru
         wrote = a.written ∙ ap (with_text before.out.written) reports.written;
       }
 
-  rest_certified : (asked : RestWords) (out : List ℕ) → asked.out ≡ Some out → (view : View) (made : List PutCall)
+  rest_certified : (asked : RestWords) (out : List ℕ) → asked.verify.out ≡ Some out → (view : View) (made : List PutCall)
       → IsAnswered (rest_meaning asked) view number before after made
       → RestCertificateStands number view asked out before.shelf.files after.shelf.files before.out.written after.out.written made
   unfolding at_rest
@@ -490,7 +501,7 @@ module _ (words : List (List ℕ)) (number : ℕ) (before after : State) (h : Ru
       let quiet = found.2 in
       let one = quiet.2 in
       let reports = one.2 in
-      let puts = subst (λ (o : Option (List ℕ)). PutsRest found.0.ending one.0 (resting asked.budget quiet.0) reports.verdicts o a.answer.puts) given
+      let puts = subst (λ (o : Option (List ℕ)). PutsRest found.0.ending one.0 (resting asked.verify.budget quiet.0) reports.verdicts o a.answer.puts) given
       reports.puts in
       let stand : Stand (puts.put ∷ []) before.shelf.files after.shelf.files = subst (λ (ps : List Put). Stand ps before.shelf.files after.shelf.files)
       puts.only a.stand in
@@ -508,10 +519,10 @@ module _ (words : List (List ℕ)) (number : ℕ) (before after : State) (h : Ru
   -- what an answer of `rest` says
   pub gives_rest : (asked : RestWords) → rest_of words ≡ Some asked → number ≤ 2 → (Of : View → Type 0)
       → ((view : View) → RestReportHolds number view asked before.out.written after.out.written → Of view)
-      → Acts (may_put asked.out) (λ read made. Of (seen before.shelf.files read)) before.shelf.calls after.shelf.calls
+      → Acts (may_put asked.verify.out) (λ read made. Of (seen before.shelf.files read)) before.shelf.calls after.shelf.calls
   gives_rest asked is low Of from = gives_some (rest_meaning asked) (as_rest asked is) low Of (λ view made a. from view (at_rest asked view made a))
 
-  pub rests_report : RestsReport number words before.shelf.files after.shelf.files before.shelf.calls after.shelf.calls before.out.written after.out.written
+  pub rests_report : RestsReport ended
   rests_report = record {
     report = λ asked is low. gives_rest asked is low (λ view. RestReportHolds number view asked before.out.written after.out.written) (λ view r. r);
     certificate = λ asked out is given low.
@@ -594,7 +605,7 @@ module _ (words : List (List ℕ)) (number : ℕ) (before after : State) (h : Ru
             );
       }
 
-  pub searches : Searches number words before.shelf.files after.shelf.files before.shelf.calls after.shelf.calls before.out.written after.out.written
+  pub searches : Searches ended
   searches asked is low =
       gives_all (search_meaning asked) (as_search asked is) low
       (λ view made. SearchHolds number view asked before.shelf.files after.shelf.files before.out.written after.out.written made)
@@ -656,7 +667,7 @@ module _ (words : List (List ℕ)) (number : ℕ) (before after : State) (h : Ru
 
   lines_of_check : (name certificate : List ℕ) (options : ProofOptions) (view : View)
       → CheckHolds number view name certificate options before.out.written after.out.written
-      → EachPrinted runs.Safe (codes "proved") view name before.out.written after.out.written
+      → EachPrinted runs.Safe (codes "proved") ended name view
   lines_of_check name certificate options view r = record {
     file = r.file;
     holds = holds_file view name r.file r.is_file;
@@ -694,37 +705,38 @@ module _ (words : List (List ℕ)) (number : ℕ) (before after : State) (h : Ru
 
   -- by words no places are silent
   pub loud_by_words : (asked : RestWords) → rest_of words ≡ Some asked → (file : File) (places : List ℕ) → AreSilent file.automaton asked.silent places
-      → IsLoudByWords (resting asked.budget places)
+      → IsLoudByWords (resting asked.verify.budget places)
   loud_by_words asked is file places silent = λ by_words. none_silent file.automaton asked.silent places ((rest_said words asked is).quiet by_words) silent
 
   -- the same of `rest`
   pub tells_rest_safe : (asked : RestWords) → rest_of words ≡ Some asked
       → (view : View) (r : RestReportHolds number view asked before.out.written after.out.written) (k : ℕ) (p : Pattern) → slice_get r.file.patterns k ≡ Some p
-      → TellsSafe true asked.json p.name (report_of true asked.json r.file r.pick r.sample r.verdicts) → RestSafeBut asked.silent r.file.automaton p
+      → TellsSafe true asked.verify.json p.name (report_of true asked.verify.json r.file r.pick r.sample r.verdicts)
+      → RestSafeBut asked.silent r.file.automaton p
   tells_rest_safe asked is view r k p named line =
-      let said = told_safe r.file r.pick r.sample r.verdicts k p named r.is_sample.fits r.are.fit true asked.json line in
+      let said = told_safe r.file r.pick r.sample r.verdicts k p named r.is_sample.fits r.are.fit true asked.verify.json line in
       let loud = loud_by_words asked is r.file r.silent r.are_silent in
       safe_but asked.silent r.file.automaton p r.silent r.are_silent
-      (rest_safe_at r.file r.ends.ending r.ends.added r.pick (resting asked.budget r.silent) loud r.verdicts r.are k p said.0 said.1 named said.2)
+      (rest_safe_at r.file r.ends.ending r.ends.added r.pick (resting asked.verify.budget r.silent) loud r.verdicts r.are k p said.0 said.1 named said.2)
 
   printed_rest : (asked : RestWords) → rest_of words ≡ Some asked → (view : View) → RestReportHolds number view asked before.out.written after.out.written
-      → EachToldSafe (RestSafeBut asked.silent) true asked.json view asked.file before.out.written after.out.written
+      → EachToldSafe (RestSafeBut asked.silent) true asked.verify.json view asked.verify.file before.out.written after.out.written
   printed_rest asked is view r = record {
     file = r.file;
-    holds = holds_file view asked.file r.file r.is_file;
-    text = report_of true asked.json r.file r.pick r.sample r.verdicts;
+    holds = holds_file view asked.verify.file r.file r.is_file;
+    text = report_of true asked.verify.json r.file r.pick r.sample r.verdicts;
     gained = r.wrote;
     safe = tells_rest_safe asked is view r;
   }
 
   lines_of_rest : (asked : RestWords) → rest_of words ≡ Some asked → (view : View) → RestReportHolds number view asked before.out.written after.out.written
-      → EachPrinted (RestSafeBut asked.silent) (codes "rest safe, ") view asked.file before.out.written after.out.written
+      → EachPrinted (RestSafeBut asked.silent) (codes "rest safe, ") ended asked.verify.file view
   lines_of_rest asked is view r = record {
     file = r.file;
-    holds = holds_file view asked.file r.file r.is_file;
-    text = report_of true asked.json r.file r.pick r.sample r.verdicts;
+    holds = holds_file view asked.verify.file r.file r.is_file;
+    text = report_of true asked.verify.json r.file r.pick r.sample r.verdicts;
     gained = r.wrote;
-    holds_of = λ k p named line. tells_rest_safe asked is view r k p named (tells_by_line true asked.json r.file r.pick r.sample r.verdicts p.name line);
+    holds_of = λ k p named line. tells_rest_safe asked is view r k p named (tells_by_line true asked.verify.json r.file r.pick r.sample r.verdicts p.name line);
   }
 
   -- and of `rest-check`
@@ -765,7 +777,7 @@ module _ (words : List (List ℕ)) (number : ℕ) (before after : State) (h : Ru
 
   lines_of_rest_check : (name certificate : List ℕ) (names : Option (List ℕ)) (options : ProofOptions) (view : View)
       → RestCheckHolds number view name certificate names options before.out.written after.out.written
-      → EachPrinted (RestSafeBut names) (codes "rest proved") view name before.out.written after.out.written
+      → EachPrinted (RestSafeBut names) (codes "rest proved") ended name view
   lines_of_rest_check name certificate names options view r = record {
     file = r.file;
     holds = holds_file view name r.file r.is_file;
@@ -790,7 +802,7 @@ module _ (words : List (List ℕ)) (number : ℕ) (before after : State) (h : Ru
         initial = start.1;
       }
 
-  pub check_proves : CheckProves number words before.shelf.files before.shelf.calls after.shelf.calls before.out.written after.out.written
+  pub check_proves : CheckProves ended
   check_proves = record {
     holds = λ asked is low. gives_check asked is low (λ view. CheckHolds number view asked.file asked.other asked.options before.out.written after.out.written)
         (λ view r. r);
@@ -798,7 +810,7 @@ module _ (words : List (List ℕ)) (number : ℕ) (before after : State) (h : Ru
         (λ view r. every_check asked.file asked.other asked.options view all none r);
   }
 
-  pub rest_proves : RestProves number words before.shelf.files before.shelf.calls after.shelf.calls before.out.written after.out.written
+  pub rest_proves : RestProves ended
   rest_proves = record {
     holds = λ asked is low. gives_rest_check asked is low
         (λ view. RestCheckHolds number view asked.file asked.other asked.silent asked.options before.out.written after.out.written) (λ view r. r);
@@ -807,12 +819,12 @@ module _ (words : List (List ℕ)) (number : ℕ) (before after : State) (h : Ru
   }
 
   printed_rest_fair : (asked : RestWords) → rest_of words ≡ Some asked → (view : View) → RestReportHolds number view asked before.out.written after.out.written
-      → EachToldSafe (FairlySafeBut asked.silent) true asked.json view asked.file before.out.written after.out.written
+      → EachToldSafe (FairlySafeBut asked.silent) true asked.verify.json view asked.verify.file before.out.written after.out.written
   printed_rest_fair asked is view r =
       record {
         file = r.file;
-        holds = holds_file view asked.file r.file r.is_file;
-        text = report_of true asked.json r.file r.pick r.sample r.verdicts;
+        holds = holds_file view asked.verify.file r.file r.is_file;
+        text = report_of true asked.verify.json r.file r.pick r.sample r.verdicts;
         gained = r.wrote;
         safe = λ k p named line. fair_but r.is_file.bytes r.file r.is_file.means r.are_ends.loops k p named asked.silent
             (tells_rest_safe asked is view r k p named line);
@@ -833,13 +845,13 @@ module _ (words : List (List ℕ)) (number : ℕ) (before after : State) (h : Ru
 
   printed_rest_unsafes : (asked : RestWords) → rest_of words ≡ Some asked → (view : View)
       → RestReportHolds number view asked before.out.written after.out.written
-      → EachPrintedUnsafe (RestOccursBut asked.silent) (telling_of true asked.json) view asked.file before.out.written after.out.written
+      → EachPrintedUnsafe (RestOccursBut asked.silent) (telling_of true asked.verify.json) view asked.verify.file before.out.written after.out.written
   printed_rest_unsafes asked is view r = record {
     file = r.file;
-    holds = holds_file view asked.file r.file r.is_file;
-    text = report_of true asked.json r.file r.pick r.sample r.verdicts;
+    holds = holds_file view asked.verify.file r.file r.is_file;
+    text = report_of true asked.verify.json r.file r.pick r.sample r.verdicts;
     gained = r.wrote;
-    unsafe_ = rest_unsafe_printed asked.silent asked.json r.file r.ends.ending r.ends.added r.pick (resting asked.budget r.silent) r.are_silent
+    unsafe_ = rest_unsafe_printed asked.silent asked.verify.json r.file r.ends.ending r.ends.added r.pick (resting asked.verify.budget r.silent) r.are_silent
         (loud_by_words asked is r.file r.silent r.are_silent) r.sample r.is_sample r.verdicts r.are;
   }
 
@@ -854,7 +866,7 @@ module _ (words : List (List ℕ)) (number : ℕ) (before after : State) (h : Ru
       (λ view made a. tries_printed number view asked before.shelf.files after.shelf.files before.out.written after.out.written made
       (searched asked (names_apart words asked is).puts view made a))
 
-  pub printed_holds : PrintedHolds number words before.shelf.files before.shelf.calls after.shelf.calls before.out.written after.out.written
+  pub printed_holds : PrintedHolds ended
   printed_holds = record {
     tried = tried;
     benched = λ k is low. bench_safe k (benches.holds k is low);
@@ -864,15 +876,17 @@ module _ (words : List (List ℕ)) (number : ℕ) (before after : State) (h : Ru
         (λ view. EachPrintedUnsafe runs.Occurs (telling_of false asked.json) view asked.file before.out.written after.out.written)
         (λ view made a. printed_unsafes asked view (reported asked view made a));
     rest_safe = λ asked is low. gives_rest asked is low
-        (λ view. EachToldSafe (RestSafeBut asked.silent) true asked.json view asked.file before.out.written after.out.written) (printed_rest asked is);
+        (λ view. EachToldSafe (RestSafeBut asked.silent) true asked.verify.json view asked.verify.file before.out.written after.out.written)
+        (printed_rest asked is);
     rest_unsafe = λ asked is low. gives_rest asked is low
-        (λ view. EachPrintedUnsafe (RestOccursBut asked.silent) (telling_of true asked.json) view asked.file before.out.written after.out.written)
+        (λ view. EachPrintedUnsafe (RestOccursBut asked.silent) (telling_of true asked.verify.json) view asked.verify.file before.out.written after.out.written)
         (printed_rest_unsafes asked is);
     rest_proved = λ asked is low. gives_rest_check asked is low
         (λ view. EachToldProved (RestSafeBut asked.silent) asked.options.json true view asked.file before.out.written after.out.written)
         (printed_rest_check asked.file asked.other asked.silent asked.options);
     rest_fair = λ asked is low. gives_rest asked is low
-        (λ view. EachToldSafe (FairlySafeBut asked.silent) true asked.json view asked.file before.out.written after.out.written) (printed_rest_fair asked is);
+        (λ view. EachToldSafe (FairlySafeBut asked.silent) true asked.verify.json view asked.verify.file before.out.written after.out.written)
+        (printed_rest_fair asked is);
     rest_proved_fair = λ asked is low. gives_rest_check asked is low
         (λ view. EachToldProved (FairlySafeBut asked.silent) asked.options.json true view asked.file before.out.written after.out.written)
         (printed_rest_check_fair asked.file asked.other asked.silent asked.options);
@@ -883,7 +897,7 @@ module _ (words : List (List ℕ)) (number : ℕ) (before after : State) (h : Ru
 
   -- some picked pattern of a file whose report has the number 1 occurs in a run
   some_occurring : (asked : VerifyWords) (view : View) → number ≡ 1 → ReportHolds number view asked before.out.written after.out.written
-      → SomePatternOccurs view asked.file asked.pattern
+      → SomePatternOccurs asked.file asked.pattern view
   some_occurring asked view one r =
       let own = number_other asked.all r.sample r.verdicts 1 (λ e. omega (arith, e)) (r.numbered ∙ one) in
       let some = unsafe_there r.verdicts (kind_of_one (list_any is_unsafe r.verdicts) (list_any is_unknown r.verdicts) own) in
@@ -902,7 +916,7 @@ module _ (words : List (List ℕ)) (number : ℕ) (before after : State) (h : Ru
       }
 
   occurs_shown : (name run : List ℕ) (json : Bool) (view : View) → ReplayHolds view name run json before.out.written after.out.written
-      → ShownOccurs view name run
+      → ShownOccurs name run view
   occurs_shown name run json view r =
       let s = r.is_run.means in
       record {
@@ -928,7 +942,7 @@ module _ (words : List (List ℕ)) (number : ℕ) (before after : State) (h : Ru
       each_picked_of runs.Safe r.file asked.pattern r.pick r.is_pick
       (each_safe r.file asked.budget (first_picked r.pick) (picked r.pick r.file.patterns) r.verdicts kinds.0 kinds.1 r.are.hold)
 
-  pub safe_as_shown : ZeroSays → SafeAsShown number words before.shelf.files before.shelf.calls after.shelf.calls
+  pub safe_as_shown : ZeroSays → SafeAsShown ended
   safe_as_shown zero_says = λ asked is none. gives_verify asked is (omega (arith, none)) (λ view. SafeAsPrinted view asked.file asked.pattern) (λ view made a.
       let r = reported asked view made a in
       let safe = picked_safe zero_says asked view r none in
@@ -941,29 +955,14 @@ module _ (words : List (List ℕ)) (number : ℕ) (before after : State) (h : Ru
             subst (EachPicked runs.Safe asked.pattern) same safe;
       })
 
-  pub status_tells : ZeroSays → StatusTells number words before.shelf.files before.shelf.calls after.shelf.calls before.out.written after.out.written
+  pub status_tells : ZeroSays → StatusTells ended
   status_tells zero_says = record {
-    safe = λ asked is none. gives_verify asked is (omega (arith, none)) (λ view. EachPatternSafe view asked.file asked.pattern) (λ view made a.
+    safe = λ asked is none. gives_verify asked is (omega (arith, none)) (EachPatternSafe asked.file asked.pattern) (λ view made a.
         let r = reported asked view made a in
         record { file = r.file; holds = holds_file view asked.file r.file r.is_file; safe = picked_safe zero_says asked view r none });
-    occurs = λ asked is one. gives_verify asked is (omega (arith, one)) (λ view. SomePatternOccurs view asked.file asked.pattern)
+    occurs = λ asked is one. gives_verify asked is (omega (arith, one)) (SomePatternOccurs asked.file asked.pattern)
         (λ view made a. some_occurring asked view one (reported asked view made a));
-    proved = λ asked is low. gives_check asked is low (λ view. EachPrinted runs.Safe (codes "proved") view asked.file before.out.written after.out.written)
-        (lines_of_check asked.file asked.other asked.options);
-    rest_safe = λ asked is alone low. subst
-        (λ (names : Option (List ℕ)). Acts (may_put asked.out)
-        (λ read made. EachPrinted (RestSafeBut names) (codes "rest safe, ") (seen before.shelf.files read) asked.file before.out.written after.out.written)
-        before.shelf.calls after.shelf.calls) alone
-        (gives_rest asked is low (λ view. EachPrinted (RestSafeBut asked.silent) (codes "rest safe, ") view asked.file before.out.written after.out.written)
-        (lines_of_rest asked is));
-    rest_proved = λ asked is alone low. subst
-        (λ (names : Option (List ℕ)). Grew
-        (λ read. EachPrinted (RestSafeBut names) (codes "rest proved") (seen before.shelf.files read) asked.file before.out.written after.out.written)
-        before.shelf.calls after.shelf.calls) alone
-        (gives_rest_check asked is low (λ view. EachPrinted (RestSafeBut asked.silent) (codes "rest proved") view asked.file before.out.written
-        after.out.written) (lines_of_rest_check asked.file asked.other asked.silent asked.options));
-    safe_lines = λ asked is plain low. gives_verify asked is low
-        (λ view. EachPrinted runs.Safe (codes "safe, ") view asked.file before.out.written after.out.written) (λ view made a.
+    safe_lines = λ asked is plain low. gives_verify asked is low (EachPrinted runs.Safe (codes "safe, ") ended asked.file) (λ view made a.
         let e = printed_verify asked view (reported asked view made a) in
         record {
           file = e.file;
@@ -973,9 +972,18 @@ module _ (words : List (List ℕ)) (number : ℕ) (before after : State) (h : Ru
           holds_of = λ k p named line. e.safe k p named
               (subst (λ (json : Bool). TellsSafe false json p.name e.text) (sym plain) line);
         });
+    proved = λ asked is low. gives_check asked is low (EachPrinted runs.Safe (codes "proved") ended asked.file)
+        (lines_of_check asked.file asked.other asked.options);
     shown = λ asked is none. gives (replay_meaning asked.file asked.other asked.json) refl (as_replay asked is) (omega (arith, none))
-        (λ view. ShownOccurs view asked.file asked.other)
+        (ShownOccurs asked.file asked.other)
         (λ view made a. occurs_shown asked.file asked.other asked.json view (shown asked.file asked.other asked.json view made a));
+    rest_safe = λ asked is alone low. subst
+        (λ (names : Option (List ℕ)). Did ended (may_put asked.verify.out) (EachPrinted (RestSafeBut names) (codes "rest safe, ") ended asked.verify.file))
+        alone (gives_rest asked is low (EachPrinted (RestSafeBut asked.silent) (codes "rest safe, ") ended asked.verify.file) (lines_of_rest asked is));
+    rest_proved = λ asked is alone low. subst
+        (λ (names : Option (List ℕ)). Saw ended (EachPrinted (RestSafeBut names) (codes "rest proved") ended asked.file)) alone
+        (gives_rest_check asked is low (EachPrinted (RestSafeBut asked.silent) (codes "rest proved") ended asked.file)
+        (lines_of_rest_check asked.file asked.other asked.silent asked.options));
   }
 
 pub quiet : (asked : Asked) (number : ℕ) (before after : State) → Runs asked number before after → Quiet number before after
@@ -1005,8 +1013,8 @@ kept_by_refusal (Command legal m) number before after h three five = kept_refuse
 
 -- before a call changes a file outputs were compared with what was read
 differs : {A F : Type 0} (kind : Kind A F) (name : List ℕ) (outs : List (List ℕ)) (rest : A → Meaning) (number : ℕ) (before after : State)
-    → Performs (spared kind name outs rest) number before after → ComparesFirst before.shelf.files name outs before.shelf.calls after.shelf.calls
-differs kind name outs rest number before after performs =
+    → Performs (spared kind name outs rest) number before after → (words : List (List ℕ)) → ComparesFirst (run_of words number before after) name outs
+differs kind name outs rest number before after performs words =
     let m = spared kind name outs rest in
     let ends = performs.ends in
     acts m number before after ends (λ read made. Differ (seen before.shelf.files read) name outs ⊎ AreStaging outs made)
@@ -1014,17 +1022,34 @@ differs kind name outs rest number before after performs =
     [ inl answer ↦ inl answer.1.2.0 | inr staged ↦ inr staged ])
 
 pub spares_read : (words : List (List ℕ)) (number : ℕ) (before after : State) → Runs (request_of words) number before after
-    → SparesRead words before.shelf.files before.shelf.calls after.shelf.calls
+    → SparesRead (run_of words number before after)
 spares_read words number before after h = record {
   verify = λ asked is. differs file_kind asked.file (may_put asked.out) (picked_meaning asked) number before after
-      (as_verify words number before after h asked is);
-  rest = λ asked is. differs file_kind asked.file (may_put asked.out) (at_ends asked.file (may_put asked.out) (rest_quietly asked)) number before after
-      (as_rest words number before after h asked is);
+      (as_verify words number before after h asked is) words;
+  rest = λ asked is. differs file_kind asked.verify.file (may_put asked.verify.out)
+      (at_ends asked.verify.file (may_put asked.verify.out) (rest_quietly asked)) number before after (as_rest words number before after h asked is) words;
   search = λ asked is. differs template_kind asked.file (found_names asked) (found_meaning asked) number before after
-      (as_search words number before after h asked is);
+      (as_search words number before after h asked is) words;
 }
 
 -- the calls are those of the command
+-- 5 is the status of words that are no command's alone
+usage_by : (asked : Asked) (number : ℕ) (before after : State) → Runs asked number before after
+    → (number ≡ 5 → IsNoCommand asked) × (number ≢ 5 → ¬ IsNoCommand asked)
+usage_by NoCommand number before after h = (λ five. tt, λ other none. absurd (other h.five))
+usage_by (Command legal m) number before after h = (λ five. absurd (never_five m number before after h.performs.ends five), λ other none. none)
+
+pub usage_exactly : (words : List (List ℕ)) (number : ℕ) (before after : State) → Runs (request_of words) number before after
+    → UsageExactly (run_of words number before after)
+usage_exactly words number before after h =
+    let both = usage_by (request_of words) number before after h in
+    record { no_command = both.0; command = both.1 }
+
+-- what is printed on standard error is what the command's end says
+pub tellings : (asked : Asked) (number : ℕ) (before after : State) → Runs asked number before after → Tellings asked number before after
+tellings NoCommand number before after h = (h.five, h.told)
+tellings (Command legal m) number before after h = h.performs.telling
+
 pub opens : (asked : Asked) (number : ℕ) (before after : State) → Runs asked number before after → Opens asked before.shelf.calls after.shelf.calls
 opens NoCommand number before after h = ap (λ (s : ShelfState). s.calls) h.shelf
 opens (Command legal m) number before after h =

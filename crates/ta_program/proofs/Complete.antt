@@ -129,15 +129,15 @@ module _ (told : Told) (asked : VerifyWords) (file : File) (pick : Pick) (number
 
 -- of `rest`
 module _ (told : Told) (asked : RestWords) (file : File) (places : List ℕ) (pick : Pick) (number : ℕ) (before after : State)
-    (is : before.shelf.files ≡ Some told) (is_file : IsFile (in_files told) asked.file file) (silent : AreSilent file.automaton asked.silent places)
-    (is_pick : IsPick file asked.pattern pick) (h : Performs (rest_meaning asked) number before after) where
+    (is : before.shelf.files ≡ Some told) (is_file : IsFile (in_files told) asked.verify.file file) (silent : AreSilent file.automaton asked.silent places)
+    (is_pick : IsPick file asked.verify.pattern pick) (h : Performs (rest_meaning asked) number before after) where
   abbrev budget : RestBudget
-  budget = resting asked.budget places
+  budget = resting asked.verify.budget places
 
   decided_at_ends : (ends : FileEndings) → IsEnds file ends → (answer : Answer) → RestReports asked file ends budget pick answer
       → IsDecidedAtRest asked file budget pick → number ≡ answer.number → number ≢ 2
   decided_at_ends ends are answer r decided numbered two =
-      let number_is = never_empty asked.all r.sample r.verdicts (sym r.numbered ∙ sym numbered ∙ two)
+      let number_is = never_empty asked.verify.all r.sample r.verdicts (sym r.numbered ∙ sym numbered ∙ two)
       (λ all. decided.tells all ends are r.sample r.verdicts r.is_sample r.are) in
       never_two r.verdicts number_is (λ place v given unknown.
       let by = held_by (EndingVerdictHolds file ends.ending ends.added budget) pick ends.ending.patterns r.verdicts r.are.hold place v given in
@@ -146,14 +146,14 @@ module _ (told : Told) (asked : RestWords) (file : File) (places : List ℕ) (pi
 
   known_then :
       (f : File) (ends : FileEndings) (others : List ℕ) (k : Pick) (answer : Answer) → f ≡ file → IsEnds f ends → AreSilent f.automaton asked.silent others
-      → IsPick f asked.pattern k → RestReports asked f ends (resting asked.budget others) k answer → IsDecidedAtRest asked file budget pick
+      → IsPick f asked.verify.pattern k → RestReports asked f ends (resting asked.verify.budget others) k answer → IsDecidedAtRest asked file budget pick
       → number ≡ answer.number → number ≢ 2
   known_then f ends others k answer same are quiet found reports decided numbered two =
       let one : others ≡ places = silent_once file.automaton asked.silent others places
       (subst (λ (x : File). AreSilent x.automaton asked.silent others) same quiet) silent in
-      let picks : k ≡ pick = pick_once file asked.pattern k pick (subst (λ (x : File). IsPick x asked.pattern k) same found) is_pick in
-      let own = subst (λ (x : File). RestReports asked x ends (resting asked.budget others) k answer) same reports in
-      let there = subst (λ (ps : List ℕ). RestReports asked file ends (resting asked.budget ps) k answer) one own in
+      let picks : k ≡ pick = pick_once file asked.verify.pattern k pick (subst (λ (x : File). IsPick x asked.verify.pattern k) same found) is_pick in
+      let own = subst (λ (x : File). RestReports asked x ends (resting asked.verify.budget others) k answer) same reports in
+      let there = subst (λ (ps : List ℕ). RestReports asked file ends (resting asked.verify.budget ps) k answer) one own in
       let r = subst (λ (q : Pick). RestReports asked file ends budget q answer) picks there in
       decided_at_ends ends (subst (λ (x : File). IsEnds x ends) same are) answer r decided numbered two
 
@@ -164,20 +164,21 @@ module _ (told : Told) (asked : RestWords) (file : File) (places : List ℕ) (pi
       let found = answers.2.1 in
       let quiet = found.2 in
       let one = quiet.2 in
-      known_then answers.0 found.0 quiet.0 one.0 a.answer (same_file told asked.file file answers.0 answers.1 is_file) found.1 quiet.1 one.1 one.2 decided
-      a.numbered two
+      known_then answers.0 found.0 quiet.0 one.0 a.answer (same_file told asked.verify.file file answers.0 answers.1 is_file) found.1 quiet.1 one.1 one.2
+      decided a.numbered two
 
   abbrev LongOrSame : Type 0
-  LongOrSame = IsSome asked.out × (LongAtRest file budget pick ⊎ HoldsSame told asked.file asked.out)
+  LongOrSame = IsSome asked.verify.out × (LongAtRest file budget pick ⊎ HoldsSame told asked.verify.file asked.verify.out)
 
   -- with 4 the pattern does not hinder
   pick_long : (f : File) (ends : FileEndings) → f ≡ file → IsEnds f ends → number ≡ 4 → (line : List ℕ)
       → (rest_picked asked f ends budget).refuses (in_files told) number line → LongOrSame
   pick_long f ends same are four line refuses = elim refuses [
-    | inl own ↦ let three = pick_number asked.file f asked.pattern number line own in absurd (omega (arith, three, four))
+    | inl own ↦ let three = pick_number asked.verify.file f asked.verify.pattern number line own in absurd (omega (arith, three, four))
     | inr later ↦
-        let one : later.0 ≡ pick = pick_once file asked.pattern later.0 pick (subst (λ (x : File). IsPick x asked.pattern later.0) same later.1) is_pick in
-        let long = hinders_rest f ends budget later.0 asked.out number line later.2 in
+        let one : later.0 ≡ pick = pick_once file asked.verify.pattern later.0 pick
+        (subst (λ (x : File). IsPick x asked.verify.pattern later.0) same later.1) is_pick in
+        let long = hinders_rest f ends budget later.0 asked.verify.out number line later.2 in
         let there : LongAtRest f budget later.0 = record { ends = ends; are_ends = are; long = long.2 } in
         (long.1, inl (subst (λ (x : File). LongAtRest x budget pick) same (subst (λ (k : Pick). LongAtRest f budget k) one there)))
   ]
@@ -186,12 +187,12 @@ module _ (told : Told) (asked : RestWords) (file : File) (places : List ℕ) (pi
   long_then : (f : File) (ends : FileEndings) → f ≡ file → IsEnds f ends → number ≡ 4 → (line : List ℕ)
       → (rest_quietly asked f ends).refuses (in_files told) number line → LongOrSame
   long_then f ends same are four line refuses = elim refuses [
-    | inl own ↦ let three = silent_number asked.file f.automaton asked.silent number line own in absurd (omega (arith, three, four))
+    | inl own ↦ let three = silent_number asked.verify.file f.automaton asked.silent number line own in absurd (omega (arith, three, four))
     | inr later ↦
         let quiet : later.0 ≡ places = silent_once file.automaton asked.silent later.0 places
         (subst (λ (x : File). AreSilent x.automaton asked.silent later.0) same later.1) silent in
         pick_long f ends same are four line
-        (subst (λ (others : List ℕ). (rest_picked asked f ends (resting asked.budget others)).refuses (in_files told) number line) quiet later.2)
+        (subst (λ (others : List ℕ). (rest_picked asked f ends (resting asked.verify.budget others)).refuses (in_files told) number line) quiet later.2)
   ]
 
   fits_at_rest : number ≡ 4 → LongOrSame
@@ -200,25 +201,27 @@ module _ (told : Told) (asked : RestWords) (file : File) (places : List ℕ) (pi
       elim hinders.1 [
         | inl own ↦ let three : number ≡ 3 = own.numbered in absurd (omega (arith, three, four))
         | inr rest ↦ elim rest.2 [
-          | inl holds ↦ let same = same_told told asked.file asked.out number hinders.0 holds in (same.0, inr same.1)
+          | inl holds ↦ let same = same_told told asked.verify.file asked.verify.out number hinders.0 holds in (same.0, inr same.1)
           | inr ended ↦ elim ended.1 [
             | inl cycle ↦ let three : number ≡ 3 = cycle.numbered in absurd (omega (arith, three, four))
-            | inr later ↦ long_then rest.0 later.0 (same_file told asked.file file rest.0 rest.1 is_file) later.1 four hinders.0 later.2
+            | inr later ↦ long_then rest.0 later.0 (same_file told asked.verify.file file rest.0 rest.1 is_file) later.1 four hinders.0 later.2
           ]
         ]
       ]
 
-  pub rest_ends : EndsSo number asked.out (IsDecidedAtRest asked file budget pick) (LongAtRest file budget pick) (HoldsSame told asked.file asked.out)
+  pub rest_ends : EndsSo number asked.verify.out (IsDecidedAtRest asked file budget pick) (LongAtRest file budget pick)
+      (HoldsSame told asked.verify.file asked.verify.out)
   rest_ends = record {
     known = known_at_rest;
     fits = fits_at_rest;
     long = λ some long.
-        let hinders = rest_hinders_where file long.ends budget pick asked.out some long.long in
+        let hinders = rest_hinders_where file long.ends budget pick asked.verify.out some long.long in
         h.exact (rest_decides asked) told is 4
-        (hinders_so file_kind told asked.file (at_ends asked.file (may_put asked.out) (rest_quietly asked)) file is_file asked.out hinders.0
-        (inr (long.ends, long.are_ends, inr (places, silent, inr (pick, is_pick, hinders.1)))));
+        (hinders_so file_kind told asked.verify.file (at_ends asked.verify.file (may_put asked.verify.out) (rest_quietly asked)) file is_file
+        asked.verify.out hinders.0 (inr (long.ends, long.are_ends, inr (places, silent, inr (pick, is_pick, hinders.1)))));
     same = λ same. h.exact (rest_decides asked) told is 4
-        (same_so file_kind told asked.file (at_ends asked.file (may_put asked.out) (rest_quietly asked)) file is_file asked.out same);
+        (same_so file_kind told asked.verify.file (at_ends asked.verify.file (may_put asked.verify.out) (rest_quietly asked)) file is_file
+        asked.verify.out same);
   }
 
 pub completes : (words : List (List ℕ)) (number : ℕ) (before after : State) → Runs (request_of words) number before after → Completes number words before after

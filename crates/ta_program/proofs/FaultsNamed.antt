@@ -174,7 +174,7 @@ module _ (unique : FirstFaultsAreUnique) (told : Told) where
   rest_report_once : (asked : RestWords) (file : File) (ends : FileEndings) (budget : RestBudget) (pick : Pick)
       → HinderOnce (rest_report_meaning asked file ends budget pick) told
   rest_report_once asked file ends budget pick =
-      let out = asked.out in
+      let out = asked.verify.out in
       settles_once (may_put out) (RestReports asked file ends budget pick) (HindersRest file ends budget pick out) told
       (λ number line h. let is = (hinders_rest file ends budget pick out number line h).0 in (omega (arith, is), omega (arith, is)))
       (λ number other line words h k. (
@@ -198,16 +198,16 @@ module _ (unique : FirstFaultsAreUnique) (told : Told) where
 
   rest_once : (asked : RestWords) → HinderOnce (rest_meaning asked) told
   rest_once asked =
-      let name = asked.file in
-      let puts = may_put asked.out in
+      let name = asked.verify.file in
+      let puts = may_put asked.verify.out in
       let quietly = rest_quietly asked in
       let monotone = rest_quietly_monotone asked in
       spared_once file_kind name puts (at_ends name puts quietly) (ends_monotone name puts quietly monotone) told
       (λ bytes file fault legal found. legal.no_fault fault found)
       (ends_line name puts quietly monotone (λ file ends.
-      names_once name asked.silent puts file (λ places. rest_picked asked file ends (resting asked.budget places)) (λ places.
-      picks_once name asked.pattern puts file (rest_report_meaning asked file ends (resting asked.budget places)) told
-      (rest_report_once asked file ends (resting asked.budget places)))))
+      names_once name asked.silent puts file (λ places. rest_picked asked file ends (resting asked.verify.budget places)) (λ places.
+      picks_once name asked.verify.pattern puts file (rest_report_meaning asked file ends (resting asked.verify.budget places)) told
+      (rest_report_once asked file ends (resting asked.verify.budget places)))))
 
   proved_once : (certificate : List ℕ) (options : ProofOptions) (file : File) (ends : FileEndings) (silent : List ℕ)
       → HinderOnce (rest_proved_meaning certificate options file ends silent) told

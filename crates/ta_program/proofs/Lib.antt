@@ -28,6 +28,7 @@ mod FirstWord
 mod NeverResting
 mod WhatIsShown
 mod Complete
+mod Promising
 mod Accepting
 mod Accepted
 mod AcceptedAtRest

@@ -1,17 +1,16 @@
 -- what `check` and `rest-check` say of proved patterns
-use Rattle.ta_program.proofs.Common.{◌≡◌, ◌∙◌, ◌≤◌, ◌+◌, ◌++◌, ◌∷◌, [], ℕ, Bool, true, false, List, Option, None, Some, Ok, refl, sym, ap, subst, arith, codes}
+use Rattle.ta_program.proofs.Common.{◌≡◌, ◌∙◌, ◌≤◌, ◌+◌, ◌∷◌, [], ℕ, Bool, true, false, List, Option, None, Some, Ok, refl, sym, ap, subst, arith}
 use Rattle.ta_program.proofs.Common.{if◌then◌else◌, ◌&&◌, not, length, nat_lt, slice_get}
-use Rattle.ta_program.proofs.Common.{AllByRecursion, and_parts, false≢true, zero, suc, Automaton, File, Pattern, ReportSample, Told, Answer, Refusal, Result}
+use Rattle.ta_program.proofs.Common.{AllByRecursion, and_parts, false≢true, zero, suc, File, Pattern, ReportSample, Told, Answer, Refusal, Result}
 use Rattle.ta_program.proofs.Common.{Err, Refused, ReadFailed, PutFailed, Memory, Says, replies, endings_count}
 use Rattle.std.proofs.lemmas.Option.{none-some}
 use Rattle.std.specs.Prelude.{IfSome, IsTrue}
 use Rattle.ta_automaton.specs.Runs as runs
 use Rattle.ta_base.specs.declared.limits.TheConstants.{DEFAULT_NODES}
-use Rattle.ta_report.specs.Check.{given_line, is_proved, proofs_text, proofs_told, word_told}
+use Rattle.ta_report.specs.Check.{is_proved, proofs_text}
 use Rattle.ta_report.proofs.CheckSayings.{told_proved}
-use Rattle.ta_report.specs.CheckJson.{TellsProved, given_members, proofs_data, proofs_json, proofs_member, proofs_of, told_data}
-use Rattle.ta_report.specs.Json.{values_data}
-use Rattle.ta_report.specs.Report.{SampleFits, values_text}
+use Rattle.ta_report.specs.CheckJson.{TellsProved, proofs_of}
+use Rattle.ta_report.specs.Report.{SampleFits}
 use Rattle.ta_report.specs.declared.verdict.ReportSample.TheVariants as sample
 use Rattle.ta_rest.specs.Endings.{Endings}
 use Rattle.ta_rest.specs.Faults.{EndingsOf}

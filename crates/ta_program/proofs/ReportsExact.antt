@@ -1,10 +1,10 @@
 -- A report gives exactly the verdicts that hold, and exactly what holds of the parameters.
-use Rattle.ta_program.proofs.Common.{Budget, ◌≡◌, ◌⊎◌, ◌∙◌, ◌+◌, ℕ, zero, suc, Bool, true, false, List, [], ◌∷◌, Option, Some, refl, sym, ap, inl, inr}
+use Rattle.ta_program.proofs.Common.{◌≡◌, ◌⊎◌, ◌∙◌, ◌+◌, ℕ, zero, suc, Bool, true, false, List, [], ◌∷◌, Option, Some, refl, sym, ap, inl, inr}
 use Rattle.ta_program.proofs.Common.{None, subst, arith, AllByRecursion, File, Pattern, Verdict, VerdictHolds, VerdictFits, IsSample}
 use Rattle.ta_program.proofs.Common.{ReportSample, View, as_many, held_entry, report_of, slice_get, Runs, State, request_of, verify_meaning}
 use Rattle.ta_program.proofs.Common.{Pick, All, One, picked, HasName, IsPick, VerifyWords, EndingVerdictHolds, RestReportHolds}
 use Rattle.ta_program.proofs.Common.{RestWords, endings_count, resting}
-use Rattle.ta_program.proofs.Clauses.{as_verify, gives_rest, gives_some, holds_file, reported}
+use Rattle.ta_program.proofs.Clauses.{as_verify, gives_rest, gives_some, holds_file, reported, run_of}
 use Rattle.ta_program.proofs.RestTexts.{rest_reports_distinct}
 use Rattle.ta_program.specs.Reported.{EachReported, EachReportedAtRest, GivesSample, GivesVerdict, IsReportOf, ReportsExactly}
 use Rattle.ta_program.specs.Reporting.{ReportHolds}
@@ -163,10 +163,10 @@ module _ (lines_differ : ReportsAreDistinct) (json_differs : JsonIsDistinct) whe
       let file = r.file in
       let ending = r.ends.ending in
       let pick = r.pick in
-      let budget = resting asked.budget r.silent in
+      let budget = resting asked.verify.budget r.silent in
       let Fact = EndingVerdictHolds file ending r.ends.added budget in
-      let text = report_of true asked.json file pick r.sample r.verdicts in
-      let made : IsReportOf true asked.json file pick r.sample r.verdicts text = record {
+      let text = report_of true asked.verify.json file pick r.sample r.verdicts in
+      let made : IsReportOf true asked.verify.json file pick r.sample r.verdicts text = record {
         sample_fits = r.is_sample.fits;
         count = r.are.each;
         fit = r.are.fit;
@@ -182,7 +182,7 @@ module _ (lines_differ : ReportsAreDistinct) (json_differs : JsonIsDistinct) whe
       }) in
       record {
         file = file;
-        holds = holds_file view asked.file r.file r.is_file;
+        holds = holds_file view asked.verify.file r.file r.is_file;
         ends = r.ends;
         are_ends = r.are_ends;
         silent = r.silent;
@@ -192,18 +192,18 @@ module _ (lines_differ : ReportsAreDistinct) (json_differs : JsonIsDistinct) whe
         text = text;
         gained = r.wrote;
         verdict = λ k own p v at there named fit.
-            let told = verdict_told true asked.json file pick r.sample r.verdicts text made k v in (
+            let told = verdict_told true asked.verify.json file pick r.sample r.verdicts text made k v in (
               λ gives. held_entry Fact pick ending.patterns r.verdicts r.are.hold k p v there (told.0 gives) own at,
               λ holds. told.1 (given Fact file pick ending.patterns r.verdicts once r.are.hold r.are.fit k p v
-                  (named_place pick k (picks_named file asked.pattern pick r.is_pick k own at named) ending.patterns p there) fit
+                  (named_place pick k (picks_named file asked.verify.pattern pick r.is_pick k own at named) ending.patterns p there) fit
                   (λ other is. subst (λ (q : Pattern). RestVerdictHolds file ending r.ends.added budget k q p v) (same_some own other (sym at ∙ is)) holds)),
             );
-        parameters = sample_told true asked.json file pick r.sample r.verdicts text made asked.budget.nodes r.is_sample;
+        parameters = sample_told true asked.verify.json file pick r.sample r.verdicts text made asked.verify.budget.nodes r.is_sample;
       }
 
   -- `verify` and `rest` with status 0, 1 or 2
   pub reported_exactly : (words : List (List ℕ)) (number : ℕ) (before after : State) → Runs (request_of words) number before after
-      → ReportsExactly number words before.shelf.files before.shelf.calls after.shelf.calls before.out.written after.out.written
+      → ReportsExactly (run_of words number before after)
   reported_exactly words number before after h = record {
     verify = λ asked is low.
         gives_some words number before after h (verify_meaning asked) (as_verify words number before after h asked is) low

@@ -106,17 +106,17 @@ module _ (name : List ℕ) (names : Option (List ℕ)) (puts : List (List ℕ)) 
 -- of what `rest` is asked for
 module _ (asked : RestWords) where
   pub rest_report_monotone : (file : File) (ends : FileEndings) (budget : RestBudget) (pick : Pick) → Monotone (rest_report_meaning asked file ends budget pick)
-  rest_report_monotone file ends budget pick = settles_monotone (may_put asked.out) (RestReports asked file ends budget pick)
-      (HindersRest file ends budget pick asked.out)
+  rest_report_monotone file ends budget pick = settles_monotone (may_put asked.verify.out) (RestReports asked file ends budget pick)
+      (HindersRest file ends budget pick asked.verify.out)
 
   pub rest_picked_monotone : (file : File) (ends : FileEndings) (budget : RestBudget) → Monotone (rest_picked asked file ends budget)
-  rest_picked_monotone file ends budget = pick_monotone asked.file asked.pattern (may_put asked.out) file (rest_report_meaning asked file ends budget)
-      (rest_report_monotone file ends budget)
+  rest_picked_monotone file ends budget = pick_monotone asked.verify.file asked.verify.pattern (may_put asked.verify.out) file
+      (rest_report_meaning asked file ends budget) (rest_report_monotone file ends budget)
 
   pub rest_quietly_monotone : (file : File) (ends : FileEndings) → Monotone (rest_quietly asked file ends)
   rest_quietly_monotone file ends =
-      names_monotone asked.file asked.silent (may_put asked.out) file (λ places. rest_picked asked file ends (resting asked.budget places))
-      (λ places. rest_picked_monotone file ends (resting asked.budget places))
+      names_monotone asked.verify.file asked.silent (may_put asked.verify.out) file (λ places. rest_picked asked file ends (resting asked.verify.budget places))
+      (λ places. rest_picked_monotone file ends (resting asked.verify.budget places))
 
 -- only a certificate that is too long hinders a report at rest, with 4
 pub hinders_rest : (file : File) (ends : FileEndings) (budget : RestBudget) (pick : Pick) (out : Option (List ℕ)) (number : ℕ) (line : List ℕ)
@@ -147,7 +147,8 @@ number_once :
 number_once asked file ends budget pick is answer other a b =
     let samples = samples_once file budget.nodes a.sample b.sample a.is_sample b.is_sample in
     let verdicts = verdicts_once file ends.ending ends.added pick budget is.endings a.verdicts b.verdicts a.are b.are in
-    a.numbered ∙ ap (λ (s : ReportSample). report_number asked.all s a.verdicts) samples ∙ ap (report_number asked.all b.sample) verdicts ∙ sym b.numbered
+    a.numbered ∙ ap (λ (s : ReportSample). report_number asked.verify.all s a.verdicts) samples ∙ ap (report_number asked.verify.all b.sample) verdicts
+    ∙ sym b.numbered
 
 rest_one : (asked : RestWords) (file : File) (ends : FileEndings) → IsEnds file ends → (budget : RestBudget) (pick : Pick) (told : Told) (number other : ℕ)
     → IsSo (rest_report_meaning asked file ends budget pick) (in_files told) number
@@ -155,39 +156,39 @@ rest_one : (asked : RestWords) (file : File) (ends : FileEndings) → IsEnds fil
 rest_one asked file ends is budget pick told number other so so' = elim so [
   | inl a ↦ elim so' [
     | inl b ↦ sym a.1 ∙ number_once asked file ends budget pick is a.0 b.0 a.2 b.2 ∙ b.1
-    | inr r ↦ absurd (not_both file ends budget pick is a.2.verdicts a.2.are asked.out a.0.puts other r.0 a.2.puts r.1)
+    | inr r ↦ absurd (not_both file ends budget pick is a.2.verdicts a.2.are asked.verify.out a.0.puts other r.0 a.2.puts r.1)
   ]
   | inr q ↦ elim so' [
-    | inl b ↦ absurd (not_both file ends budget pick is b.2.verdicts b.2.are asked.out b.0.puts number q.0 b.2.puts q.1)
-    | inr r ↦ (hinders_rest file ends budget pick asked.out number q.0 q.1).0 ∙ sym (hinders_rest file ends budget pick asked.out other r.0 r.1).0
+    | inl b ↦ absurd (not_both file ends budget pick is b.2.verdicts b.2.are asked.verify.out b.0.puts number q.0 b.2.puts q.1)
+    | inr r ↦ (hinders_rest file ends budget pick asked.verify.out number q.0 q.1).0 ∙ sym (hinders_rest file ends budget pick asked.verify.out other r.0 r.1).0
   ]
 ]
 
 pub rest_decides : (asked : RestWords) → Decides (rest_meaning asked)
 rest_decides asked =
-    let puts = may_put asked.out in
+    let puts = may_put asked.verify.out in
     let quietly = rest_quietly asked in
     let monotone = rest_quietly_monotone asked in
-    spared_decides file_kind asked.file puts (at_ends asked.file puts quietly) (ends_monotone asked.file puts quietly monotone)
+    spared_decides file_kind asked.verify.file puts (at_ends asked.verify.file puts quietly) (ends_monotone asked.verify.file puts quietly monotone)
     (λ bytes file fault legal found. legal.no_fault fault found)
-    (ends_decides asked.file puts quietly monotone (λ file ends is told.
-    names_one asked.file asked.silent puts file (λ places. rest_picked asked file ends (resting asked.budget places)) told (λ places.
-    pick_one asked.file asked.pattern puts file (rest_report_meaning asked file ends (resting asked.budget places)) told (λ pick.
-    rest_one asked file ends is (resting asked.budget places) pick told))))
+    (ends_decides asked.verify.file puts quietly monotone (λ file ends is told.
+    names_one asked.verify.file asked.silent puts file (λ places. rest_picked asked file ends (resting asked.verify.budget places)) told (λ places.
+    pick_one asked.verify.file asked.verify.pattern puts file (rest_report_meaning asked file ends (resting asked.verify.budget places)) told (λ pick.
+    rest_one asked file ends is (resting asked.verify.budget places) pick told))))
 
 -- where the names may be silent and the pattern is there, neither they nor the certificate hinder with 3
 pub rest_passes : (asked : RestWords) → PassesWhere (LegalRest asked) (rest_meaning asked)
 rest_passes asked told line legal =
-    let puts = may_put asked.out in
-    spared_passes file_kind asked.file puts (at_ends asked.file puts (rest_quietly asked)) (in_files told) line
-    (ends_passes_where asked.file puts (rest_quietly asked) (rest_quietly_monotone asked) (LegalRest asked) (λ told legal.
+    let puts = may_put asked.verify.out in
+    spared_passes file_kind asked.verify.file puts (at_ends asked.verify.file puts (rest_quietly asked)) (in_files told) line
+    (ends_passes_where asked.verify.file puts (rest_quietly asked) (rest_quietly_monotone asked) (LegalRest asked) (λ told legal.
     let quiet = legal.silently in (
       record { file = quiet.file; is_file = quiet.is_file; loops = quiet.loops },
-      λ ends line. names_pass asked.file asked.silent puts quiet.file (λ places. rest_picked asked quiet.file ends (resting asked.budget places)) told
-          quiet.places quiet.are_silent line (λ places.
-          pick_passes asked.file asked.pattern puts quiet.file (rest_report_meaning asked quiet.file ends (resting asked.budget places)) told legal.pick
-          legal.is_pick line (λ found hinders.
-          let four = (hinders_rest quiet.file ends (resting asked.budget places) found asked.out 3 line hinders).0 in
+      λ ends line. names_pass asked.verify.file asked.silent puts quiet.file (λ places. rest_picked asked quiet.file ends (resting asked.verify.budget places))
+          told quiet.places quiet.are_silent line (λ places.
+          pick_passes asked.verify.file asked.verify.pattern puts quiet.file (rest_report_meaning asked quiet.file ends (resting asked.verify.budget places))
+          told legal.pick legal.is_pick line (λ found hinders.
+          let four = (hinders_rest quiet.file ends (resting asked.verify.budget places) found asked.verify.out 3 line hinders).0 in
           absurd (omega (arith, four)))),
     )) told line legal)
 

@@ -8,13 +8,13 @@ use Rattle.ta_smt.specs.Named.{IsNamed}
 use Rattle.ta_verdict.proofs.rest.VerdictsTold.{ending_of_own, ending_there}
 use Rattle.ta_program.specs.declared.telling.Form.{Form}
 use Rattle.ta_program.specs.declared.telling.Report.{Report}
-use Rattle.ta_program.proofs.Common.{AllocError, ◌≤◌, ◌≡◌, ◌∙◌, ◌+◌, ℕ, true, List, [], ◌∷◌, ◌++◌, Option, None, Some, Result, Ok, Err, refl, sym, ap, subst}
-use Rattle.ta_program.proofs.Common.{arith, length, Automaton, File, Pattern, proofs_told, word_told, report_of, ReportSample, Verdict, Endings}
+use Rattle.ta_program.proofs.Common.{AllocError, ◌≤◌, ◌≡◌, ◌∙◌, ℕ, true, List, [], ◌∷◌, Option, None, Some, Result, Ok, Err, refl, sym, ap, subst}
+use Rattle.ta_program.proofs.Common.{arith, length, Automaton, File, Pattern, report_of, ReportSample, Verdict}
 use Rattle.ta_program.proofs.Common.{AreRestVerdicts, RestCertificateOf, Told, Answer, Refusal, Refused, ReadFailed, PutFailed, Memory, Meaning, Says}
-use Rattle.ta_program.proofs.Common.{PutsWithin, ReadCause, finds, finds_memory, finds_wrong, safe_among, IsSample, NoSample, SampleReal, place_of, Certifies}
+use Rattle.ta_program.proofs.Common.{ReadCause, finds, finds_memory, finds_wrong, safe_among, IsSample, NoSample, SampleReal, place_of, Certifies}
 use Rattle.ta_program.proofs.Common.{EndsRefused, ReportsAndPuts, RestReports, HindersRest, rest_report_meaning, CycleHinders, FileEndings, IsEnds, ends_of}
-use Rattle.ta_program.proofs.Common.{codes, QuietRestCertificate, RestBudget, SampleReported, Pick, IsPick, PickHinders, RestWords, StagedAnswer}
-use Rattle.ta_program.proofs.Common.{endings_count, file_line, may_put, phrase_text, result_seen, settles, slice_get, slice_get_within, some_at}
+use Rattle.ta_program.proofs.Common.{QuietRestCertificate, RestBudget, SampleReported, Pick, IsPick, PickHinders, RestWords, StagedAnswer}
+use Rattle.ta_program.proofs.Common.{endings_count, file_line, may_put, phrase_text, result_seen, settles, slice_get_within, some_at}
 use Rattle.ta_report.specs.declared.verdict.ReportSample.TheVariants as sample
 use Rattle.ta_rest.specs.Faults.{EndingsOf}
 use Rattle.ta_rest.specs.declared.rest_file.RestFile.{RestFile}
@@ -89,16 +89,16 @@ module _ (file ending : File) (added : ℕ) (ends : EndingsOf file ending added)
 
 -- how the report of `rest` is told
 abbrev rest_form : RestWords → Form
-rest_form asked = record { rest = true; json = asked.json; all = asked.all }
+rest_form asked = record { rest = true; json = asked.verify.json; all = asked.verify.all }
 
 -- the report on a file's endings is one on the file
 module _ (asked : RestWords) (rest : RestFile) (file : File) (ends : EndingsOf file rest.ending.file rest.added) (budget : RestBudget) (pick : Pick)
     (vs : List Verdict) (are : AreRestVerdicts file rest.ending.file rest.added pick budget vs) (number : ℕ) (report : List ℕ)
     (reported : SampleReported (rest_form asked) rest.ending.file pick budget.nodes vs number report) where
-  text_own : report ≡ report_of true asked.json file pick reported.sample vs
-  text_own = reported.written ∙ texts_alike file rest.ending.file rest.added ends asked.json pick reported.sample vs are.fit
+  text_own : report ≡ report_of true asked.verify.json file pick reported.sample vs
+  text_own = reported.written ∙ texts_alike file rest.ending.file rest.added ends asked.verify.json pick reported.sample vs are.fit
 
-  plain_rest : asked.out ≡ None → RestReports asked file (ends_of rest) budget pick (record { number = number; text = report; puts = [] })
+  plain_rest : asked.verify.out ≡ None → RestReports asked file (ends_of rest) budget pick (record { number = number; text = report; puts = [] })
   plain_rest none = record {
     sample = reported.sample;
     is_sample = sample_own file rest.ending.file budget.nodes reported.sample ends.automaton reported.is_sample;
@@ -109,7 +109,7 @@ module _ (asked : RestWords) (rest : RestFile) (file : File) (ends : EndingsOf f
     puts = subst (λ (o : Option (List ℕ)). PutsRest rest.ending.file pick budget vs o []) (sym none) refl;
   }
 
-  module _ (out : List ℕ) (given : asked.out ≡ Some out) (text : List ℕ) (certificate : RestCertificateOf rest.ending.file pick budget vs text)
+  module _ (out : List ℕ) (given : asked.verify.out ≡ Some out) (text : List ℕ) (certificate : RestCertificateOf rest.ending.file pick budget vs text)
       (accepted : QuietRestCertificate rest.ending.file budget.silent text (safe_among rest.ending.file pick vs)) where
     reports : (answer : Answer) → ReportsAndPuts number report out text answer → RestReports asked file (ends_of rest) budget pick answer
     reports answer c = record {
@@ -133,7 +133,7 @@ module _ (asked : RestWords) (rest : RestFile) (file : File) (ends : EndingsOf f
         → Says (settles (out ∷ []) (RestReports asked file (ends_of rest) budget pick) (HindersRest file (ends_of rest) budget pick (Some out))) files result []
     certified_says =
         settled (RestReports asked file (ends_of rest) budget pick) (HindersRest file (ends_of rest) budget pick (Some out)) number report out text
-        (few_told asked.all reported.sample vs number reported.numbered) reports
+        (few_told asked.verify.all reported.sample vs number reported.numbered) reports
         (λ n line same said longer. record
         { numbered = same; said = said; long = record { verdicts = vs; are = are; text = text; certificate = certificate; longer = longer } })
 
@@ -148,16 +148,16 @@ module _ (asked : RestWords) (rest : RestFile) (budget : RestBudget) (pick : Pic
   rest_text_has (Err e) to = tt
 
   module _ (file : File) (ends : EndingsOf file rest.ending.file rest.added) where
-    told_plain : asked.out ≡ None → (report : Result Report AllocError) → Tells report
+    told_plain : asked.verify.out ≡ None → (report : Result Report AllocError) → Tells report
         → IfOk report (λ r. (r.number ≤ 2) × RestReports asked file (ends_of rest) budget pick (record { number = r.number; text = r.text; puts = [] }))
     told_plain none (Ok r) to = (
-      few_told asked.all to.reported.sample to.verdicts r.number to.reported.numbered,
+      few_told asked.verify.all to.reported.sample to.verdicts r.number to.reported.numbered,
       plain_rest asked rest file ends budget pick
           to.verdicts (to.are file ends) r.number r.text to.reported none,
     )
     told_plain none (Err e) to = tt
 
-    told_certified : (out : List ℕ) → asked.out ≡ Some out → (report : Result Report AllocError) → Tells report
+    told_certified : (out : List ℕ) → asked.verify.out ≡ Some out → (report : Result Report AllocError) → Tells report
         → IfOk report (λ r. (written : List ℕ) × Has written
         × ((files : Option Told) (seen : Result Answer Refusal) → Certifies r.number r.text out written seen
         → Says (settles (out ∷ []) (RestReports asked file (ends_of rest) budget pick) (HindersRest file (ends_of rest) budget pick (Some out))) files seen []))
@@ -171,7 +171,7 @@ module _ (asked : RestWords) (rest : RestFile) (budget : RestBudget) (pick : Pic
     told_certified out given (Err e) to = tt
 
     -- what the answer without a certificate says
-    pub rest_plain : {T : Type 0} (bytes : T → List ℕ) (report : Result Report AllocError) (result : Result (StagedAnswer T) Refusal) → asked.out ≡ None
+    pub rest_plain : {T : Type 0} (bytes : T → List ℕ) (report : Result Report AllocError) (result : Result (StagedAnswer T) Refusal) → asked.verify.out ≡ None
         → Tells report → IsPlain report result → (files : Option Told)
         → SaysStaged (rest_report_meaning asked file (ends_of rest) budget pick) bytes files result
     rest_plain bytes report result none to is files =
@@ -183,7 +183,7 @@ module _ (asked : RestWords) (rest : RestFile) (budget : RestBudget) (pick : Pic
 
     -- and what that with one says
     pub rest_certified : {T : Type 0} (out : List ℕ) (bytes : T → List ℕ) (report : Result Report AllocError) (result : Result (StagedAnswer T) Refusal)
-        → asked.out ≡ Some out → Tells report →
+        → asked.verify.out ≡ Some out → Tells report →
         ((written : List ℕ) → OnOk report (Has written) → CertifiesReport report out written (result_seen bytes written result)) → (files : Option Told)
         → SaysStaged (rest_report_meaning asked file (ends_of rest) budget pick) bytes files result
     rest_certified out bytes report result given to certifies files =

@@ -62,16 +62,17 @@ runs_replayed words number before after h asked asks low told is =
 
 pub rest_runs_replayed : PrintedRestRunsAreReplayed
 rest_runs_replayed words number before after h asked asks low told is =
-    let name = asked.file in
+    let name = asked.verify.file in
     let reports = (rests_report words number before after h).report asked asks low in
     let r = subst (λ (files : Option Told). RestReportHolds number (seen files reports.read) asked before.out.written after.out.written) is reports.such in
     record {
       file = r.file;
-      text = report_of true asked.json r.file r.pick r.sample r.verdicts;
+      text = report_of true asked.verify.json r.file r.pick r.sample r.verdicts;
       gained = r.wrote;
       replayed = λ k p named line bytes part.
-          let printed = rest_unsafe_printed asked.silent asked.json r.file r.ends.ending r.ends.added r.pick (resting asked.budget r.silent) r.are_silent
-          (loud_by_words words number before after h asked asks r.file r.silent r.are_silent) r.sample r.is_sample r.verdicts r.are k p named line in
+          let printed = rest_unsafe_printed asked.silent asked.verify.json r.file r.ends.ending r.ends.added r.pick
+          (resting asked.verify.budget r.silent) r.are_silent (loud_by_words words number before after h asked asks r.file r.silent r.are_silent) r.sample
+          r.is_sample r.verdicts r.are k p named line in
           let same = sym (printed.only bytes part) in
           replays told name r.file printed.run bytes (told_file told reports.read name r.file r.is_file)
           (subst (λ (bs : List ℕ). ShowsRun r.file bs printed.run) same printed.shows) (subst (λ (bs : List ℕ). length bs ≤ RUN.bytes) same printed.within);

@@ -1,7 +1,7 @@
 -- what a run says of the file that `show` prints
 use Rattle.ta_program.proofs.Common.{arith, ◌≡◌, ◌≤◌, ◌∙◌, ◌++◌, ◌∷◌, ℕ, Bool, true, false, List, [], Option, None, Some, refl, sym, ap, subst, map, codes}
 use Rattle.ta_program.proofs.Common.{append_assoc, option_map, option_and_then_some, AllByRecursion, nat_lt, length}
-use Rattle.ta_program.proofs.Common.{Acts, Call, LegalFile, LegalSilently, CheckHolds, Event, IsFile, Meaning, PutCall, ReplayHolds, ReportHolds}
+use Rattle.ta_program.proofs.Common.{Call, LegalFile, LegalSilently, CheckHolds, Event, IsFile, Meaning, PutCall, ReplayHolds, ReportHolds}
 use Rattle.ta_program.proofs.Common.{RestCheckHolds, RestReportHolds, Runs, ShowHolds, State, Told, View, ask_where, pair_of, reads, reads-append, report_of}
 use Rattle.ta_program.proofs.Common.{request_of, seen, where_told, with_text}
 use Rattle.ta_program.proofs.Common.{File, RestCheckWords, RestWords, VerifyWords, budget_of, check_meaning, file_name_of, one_legal, option_value, out_of}
@@ -16,6 +16,7 @@ use Rattle.ta_shelf.specs.Sights.{Whole}
 use Rattle.ta_report.proofs.FileTells.{file_same}
 use Rattle.ta_report.specs.Unknowns.{unknowns_text}
 use Rattle.ta_program.proofs.Clauses.{ZeroSays, as_check, as_replay, as_rest, as_rest_check, as_show, as_verify, at_rest, gives_some, proved, reported}
+use Rattle.ta_program.proofs.Clauses.{run_of}
 use Rattle.ta_program.proofs.Clauses.{rest_checked, shown, shown_file, line_proved, line_rest_proved, tells_rest_safe, tells_safe, picked_safe}
 use Rattle.ta_program.proofs.FirstWord.{first_plain, second_plain, not_behind}
 use Rattle.ta_report.proofs.JsonLines.{tells_by_line, tells_unsafe_by_line}
@@ -24,9 +25,10 @@ use Rattle.ta_program.proofs.UnsafePrinted.{unsafe_printed}
 use Rattle.ta_report.specs.CheckJson.{shown_text}
 use Rattle.ta_program.specs.CheckWords.{CheckWords, ReplayWords, check_form, check_of, check_taken, check_words, replay_form, replay_of, replay_taken}
 use Rattle.ta_program.specs.CheckWords.{replay_words}
+use Rattle.ta_program.specs.Ended.{Did, Ended}
 use Rattle.ta_program.specs.RestWords.{rest_check_form, rest_check_taken}
 use Rattle.ta_program.specs.SilentNames.{names_of}
-use Rattle.ta_program.specs.Understood.{Asks, EachLine, Ended, IsOfAll, NeverRests, OccursSomewhere, Prints, ReadsWhole, RunOccurs, Says, Understood}
+use Rattle.ta_program.specs.Understood.{Asks, EachLine, IsOfAll, NeverRests, OccursSomewhere, Prints, ReadsWhole, RunOccurs, Says, Understood}
 use Rattle.ta_program.specs.Words.{OptionForm, is_dashed, valued}
 use Rattle.ta_program.proofs.Common.{Taken, EachPicked, LegalPicked, LegalRest, slice_get}
 use Rattle.ta_program.proofs.OptionUnset.{option_unset_of}
@@ -66,11 +68,12 @@ of_all words asked none is = option_and_then_some verify_taken (taken_by verify_
     none refl by in
     sym (ap (λ (w : VerifyWords). w.pattern) made.2) ∙ unset)))
 
-file_of_rest : (name : List ℕ) (more : List (List ℕ)) (asked : RestWords) → is_dashed name ≡ false → rest_words (name ∷ more) ≡ Some asked → asked.file ≡ name
+file_of_rest : (name : List ℕ) (more : List (List ℕ)) (asked : RestWords) → is_dashed name ≡ false → rest_words (name ∷ more) ≡ Some asked
+    → asked.verify.file ≡ name
 file_of_rest name more asked plain is = option_and_then_some rest_taken (taken_by rest_form (name ∷ more)) asked is (λ taken by taken_is.
     option_and_then_some _ (verify_taken taken) asked taken_is (λ v v_is silent_is.
     let made = made_of _ (quiet_names v.budget.lazy (option_value taken 6)) asked silent_is in
-    sym (ap (λ (w : RestWords). w.file) made.2) ∙ file_taken name taken v (first_plain rest_form refl name more taken plain by) v_is))
+    sym (ap (λ (w : RestWords). w.verify.file) made.2) ∙ file_taken name taken v (first_plain rest_form refl name more taken plain by) v_is))
 
 file_of_rest_check : (name : List ℕ) (more : List (List ℕ)) (asked : RestCheckWords) → is_dashed name ≡ false → rest_check_words (name ∷ more) ≡ Some asked
     → asked.file ≡ name
@@ -120,8 +123,9 @@ parts_of tried before those after made =
     ap (λ (es : List Event). tried ++ es) (append_assoc before (those ++ after) made ∙ ap (λ (es : List Event). before ++ es) (append_assoc those after made))
     ∙ sym (append_assoc tried before (those ++ (after ++ made)))
 
-read_so : (r : Ended) (tried made : List PutCall) (read : List Call) → r.calls' ≡ r.calls ++ (puts tried ++ (reads read ++ puts made)) → (name bytes : List ℕ)
-    → seen r.files read name (Whole bytes) → ReadsWhole r name bytes
+read_so : (r : Ended) (tried made : List PutCall) (read : List Call)
+    → r.after.calls ≡ r.before.calls ++ (puts tried ++ (reads read ++ puts made)) → (name bytes : List ℕ)
+    → seen r.before.files read name (Whole bytes) → ReadsWhole r name bytes
 read_so r tried made read grown name bytes sees =
     let part = sees.0 in
     let split : reads read ≡ reads part.before ++ (reads part.those ++ reads part.after) = ap reads part.all
@@ -130,8 +134,8 @@ read_so r tried made read grown name bytes sees =
       front = puts tried ++ reads part.before;
       those = part.those;
       behind = reads part.after ++ puts made;
-      logged = grown ∙ ap (λ (es : List Event). r.calls ++ (puts tried ++ (es ++ puts made))) split
-          ∙ ap (λ (es : List Event). r.calls ++ es) (parts_of (puts tried) (reads part.before) (reads part.those) (reads part.after) (puts made));
+      logged = grown ∙ ap (λ (es : List Event). r.before.calls ++ (puts tried ++ (es ++ puts made))) split
+          ∙ ap (λ (es : List Event). r.before.calls ++ es) (parts_of (puts tried) (reads part.before) (reads part.those) (reads part.after) (puts made));
       gave = part.such;
       held = λ told is. subst (λ (files : Option Told). where_told files name (Whole bytes)) is sees.1;
     }
@@ -141,12 +145,12 @@ abbrev Sees : Ended → View → Type 0
 Sees r view = (name bytes : List ℕ) → view name (Whole bytes) → ReadsWhole r name bytes
 
 of_calls : {names : List (List ℕ)} {Goal : Type 0} (r : Ended) (Of : View → Type 0) → ((view : View) → Sees r view → Of view → Goal)
-    → Acts names (λ read made. Of (seen r.files read)) r.calls r.calls' → Goal
-of_calls r Of goal a = goal (seen r.files a.read) (λ name bytes sees. read_so r a.tried a.made a.read a.grown name bytes sees) a.such
+    → Did r names Of → Goal
+of_calls r Of goal a = goal (seen r.before.files a.read) (λ name bytes sees. read_so r a.tried a.made a.read a.grown name bytes sees) a.such
 
 -- what is so of the file that FILE means, is so of each file that `show` prints of FILE's bytes
 says : (r : Ended) (Such : List ℕ → File → Type 0) (name : List ℕ) (view : View) → Sees r view → (file : File) → IsFile view name file → (text : List ℕ)
-    → r.written' ≡ with_text r.written text → Such text file → Says Such r name
+    → r.after.written ≡ with_text r.before.written text → Such text file → Says Such r name
 says r Such name view sees file is_file text gained such = record {
   bytes = is_file.bytes;
   read = sees name is_file.bytes is_file.had.seen;
@@ -160,16 +164,7 @@ says r Such name view sees file is_file text gained such = record {
 
 module _ (words : List (List ℕ)) (number : ℕ) (before after : State) (h : Runs (request_of words) number before after) where
   abbrev ended : Ended
-  ended = record {
-    status = number;
-    words = words;
-    files = before.shelf.files;
-    calls = before.shelf.calls;
-    calls' = after.shelf.calls;
-    written =
-        before.out.written;
-    written' = after.out.written;
-  }
+  ended = run_of words number before after
 
   -- the words ask for a command
   abbrev runs_so : List (List ℕ) → Type 0
@@ -211,7 +206,7 @@ module _ (words : List (List ℕ)) (number : ℕ) (before after : State) (h : Ru
 
   of_rest : (Such : List ℕ → File → Type 0) (name : List ℕ) (more : List (List ℕ)) → Asks ended (codes "rest") name more → number ≤ 2
       → ((asked : RestWords) → rest_of words ≡ Some asked → (view : View) (r : RestReportHolds number view asked before.out.written after.out.written)
-      → Such (report_of true asked.json r.file r.pick r.sample r.verdicts) r.file)
+      → Such (report_of true asked.verify.json r.file r.pick r.sample r.verdicts) r.file)
       → Says Such ended name
   of_rest Such name more asks low such =
       let so : runs_so (codes "rest" ∷ name ∷ more) = subst runs_so asks.are h in
@@ -220,9 +215,8 @@ module _ (words : List (List ℕ)) (number : ℕ) (before after : State) (h : Ru
       let is : rest_of words ≡ Some asked = ap rest_of asks.are ∙ found.1 in
       let Of : View → Type 0 = λ view. RestReportHolds number view asked before.out.written after.out.written in
       subst (Says Such ended) (file_of_rest name more asked asks.plain found.1)
-      (of_calls ended Of (λ view sees r. says ended Such asked.file view sees r.file r.is_file (report_of true asked.json r.file r.pick r.sample r.verdicts)
-      r.wrote
-      (such asked is view r))
+      (of_calls ended Of (λ view sees r. says ended Such asked.verify.file view sees r.file r.is_file
+      (report_of true asked.verify.json r.file r.pick r.sample r.verdicts) r.wrote (such asked is view r))
       (gives_some words number before after h (rest_meaning asked) (as_rest words number before after h asked is) low Of
       (λ view made a. at_rest words number before after h asked view made a)))
 
@@ -326,7 +320,7 @@ module _ (words : List (List ℕ)) (number : ℕ) (before after : State) (h : Ru
     rest_safe = λ name more asks low. of_rest (EachLine NeverRests (codes "rest safe, ")) name more asks low (λ asked is view r k p named line.
         never_rests r.is_file.bytes r.file r.is_file.means r.are_ends.loops k p named asked.silent
         (tells_rest_safe words number before after h asked is view r k p named
-        (tells_by_line true asked.json r.file r.pick r.sample r.verdicts p.name line)));
+        (tells_by_line true asked.verify.json r.file r.pick r.sample r.verdicts p.name line)));
     rest_proved = λ name more asks low. of_rest_check (EachLine NeverRests (codes "rest proved")) name more asks low (λ asked view r k p named line.
         never_rests r.is_file.bytes r.file r.is_file.means r.are_ends.loops k p named asked.silent
         (line_rest_proved words number before after h asked.file asked.other asked.silent asked.options view r k p named line));

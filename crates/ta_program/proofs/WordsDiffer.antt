@@ -68,8 +68,8 @@ out_differs words asked out is given = behind Differs (codes "verify") verify_wo
 
 -- ---- the words of `rest`: OUT differs from FILE, and names are silent with moments on demand alone
 pub record RestSaid (asked : RestWords) : Type 0 where
-  pub differs : Apart (Some asked.file) asked.out
-  pub quiet : asked.budget.lazy ≡ false → asked.silent ≡ None
+  pub differs : Apart (Some asked.verify.file) asked.verify.out
+  pub quiet : asked.verify.budget.lazy ≡ false → asked.silent ≡ None
 
 names_quiet : (lazy : Bool) (given silent : Option (List ℕ)) → quiet_names lazy given ≡ Some silent → lazy ≡ false → silent ≡ None
 names_quiet true given silent is words = absurd (cc)
@@ -78,11 +78,10 @@ names_quiet false (Some names) silent is words = absurd (cc)
 
 by_names :
     (v : VerifyWords) (given : Option (List ℕ)) → Differs v → (names : Option (Option (List ℕ))) → quiet_names v.budget.lazy given ≡ names → (asked : RestWords)
-    → option_map (λ s. record { file = v.file; budget = v.budget; out = v.out; silent = s; json = v.json; pattern = v.pattern; all = v.all }) names ≡ Some asked
-    → RestSaid asked
+    → option_map (λ s. record { verify = v; silent = s }) names ≡ Some asked → RestSaid asked
 by_names v given apart None from asked is = absurd (cc)
 by_names v given apart (Some silent) from asked is =
-    let words : RestWords = record { file = v.file; budget = v.budget; out = v.out; silent = silent; json = v.json; pattern = v.pattern; all = v.all } in
+    let words : RestWords = record { verify = v; silent = silent } in
     let same : words ≡ asked = cc in
     subst RestSaid same (record { differs = apart; quiet = names_quiet v.budget.lazy given silent from })
 

@@ -14,8 +14,7 @@ abbrev pub check_form : Form
 check_form = record { plain = 2; options = flag (codes "--all") ∷ flag (codes "--parameters") ∷ flag (codes "--json") ∷ [] }
 
 abbrev pub check_taken : Taken → Option CheckWords
-check_taken taken =
-    option_and_then (λ file. option_map (λ other.
+check_taken taken = option_and_then (λ file. option_map (λ other.
     record { file = file; other = other; options = record { all = is_given taken 0; parameters = is_given taken 1; json = is_given taken 2 } })
     (file_name_of (plain_of taken 1))) (file_name_of (plain_of taken 0))
 
@@ -41,9 +40,8 @@ abbrev pub replay_form : Form
 replay_form = record { plain = 2; options = flag (codes "--json") ∷ [] }
 
 abbrev pub replay_taken : Taken → Option ReplayWords
-replay_taken taken =
-    option_and_then (λ file. option_map (λ other. record { file = file; other = other; json = is_given taken 0 }) (file_name_of (plain_of taken 1)))
-    (file_name_of (plain_of taken 0))
+replay_taken taken = option_and_then (λ file. option_map (λ other. record { file = file; other = other; json = is_given taken 0 })
+    (file_name_of (plain_of taken 1))) (file_name_of (plain_of taken 0))
 
 -- the request of the words after the command's name
 abbrev pub replay_words : List (List ℕ) → Option ReplayWords

@@ -73,7 +73,7 @@ PrintedRestRunsAreReplayed =
     (words : List (List ℕ)) (number : ℕ) (before after : State) → Runs (request_of words) number before after
     → (asked : RestWords) → rest_of words ≡ Some asked → number ≤ 2
     → (told : Told) → before.shelf.files ≡ Some told
-    → TellsReplayed (telling_of true asked.json) told asked.file before after
+    → TellsReplayed (telling_of true asked.verify.json) told asked.verify.file before after
 
 -- the output gained a text, which is replayed
 pub record WritesReplayed (told : Told) (name : List ℕ) (before after : State) : Type 0 where
@@ -148,11 +148,11 @@ WrittenIsAccepted =
 abbrev pub WrittenAtRestIsAccepted : Type 0
 WrittenAtRestIsAccepted =
     (words : List (List ℕ)) (first : ℕ) (before after : State) → Runs (request_of words) first before after
-    → (asked : RestWords) (out : List ℕ) → rest_of words ≡ Some asked → asked.out ≡ Some out → first ≤ 2
+    → (asked : RestWords) (out : List ℕ) → rest_of words ≡ Some asked → asked.verify.out ≡ Some out → first ≤ 2
     → (told : Told) → after.shelf.files ≡ Some told
-    → (again : List (List ℕ)) → rest_check_of again ≡ Some (record { file = asked.file; other = out; silent = asked.silent; options = no_options })
+    → (again : List (List ℕ)) → rest_check_of again ≡ Some (record { file = asked.verify.file; other = out; silent = asked.silent; options = no_options })
     → (second : ℕ) (begun ended : State) → begun.shelf.files ≡ Some told → Runs (request_of again) second begun ended
-    → SaysTheSame (report_of true asked.json) rest_check_text told asked.file before after second begun ended
+    → SaysTheSame (report_of true asked.verify.json) rest_check_text told asked.verify.file before after second begun ended
 
 -- a first run reported the search of FILE, a template, and its last values were found; OUT2 holds FILE's body with these values, which
 -- means a file; and a second run said that each of its patterns is proved, or it ended with 6 or 7

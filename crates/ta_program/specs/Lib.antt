@@ -27,12 +27,14 @@ pub mod SearchSeen
 pub mod Show
 pub mod Version
 pub mod Requests
+pub mod Ended
 pub mod Headline
 pub mod Understood
 pub mod Printed
 pub mod Tries
 pub mod Reported
 pub mod Program
+pub mod Promises
 pub mod Laws
 pub mod Faults
 pub mod Inside

@@ -1,15 +1,15 @@
--- What a run of the program says, command by command and status by status.
+-- What a run of the program promises, command by command and status by status: each line of `Promises` is one of these.
 use Rattle.std.specs.Prelude.{ℕ, ◌≡◌, ◌≢◌, ◌≤◌, ◌⊎◌, List, [], Option, None, Some, IsSome, true, false}
 use Rattle.ta_automaton.specs.declared.file.File.{File}
 use Rattle.ta_automaton.specs.Runs as runs
-use Rattle.ta_shelf.specs.Calls.{Event, Grew}
+use Rattle.ta_shelf.specs.Calls.{Event}
 use Rattle.ta_shelf.specs.Counts.{Faulted}
 use Rattle.ta_shelf.specs.Put.{Told}
 use Rattle.ta_shelf.specs.Commands.{Exact}
 use Rattle.ta_shelf.specs.Ends.{ShelfState, SinkFaltered, Spares, State, Telling, Tells}
 use Rattle.ta_shelf.specs.OutputCalls.{Acts, AreOfStages, AreStaging}
 use Rattle.ta_shelf.specs.Puts.{KeptBut, may_put}
-use Rattle.ta_shelf.specs.Sights.{in_files, seen}
+use Rattle.ta_shelf.specs.Sights.{in_files}
 use Rattle.ta_shelf.specs.Sparing.{Differ}
 use Rattle.ta_program.specs.Asked.{Asked, IsNoCommand, usage_line}
 use Rattle.ta_program.specs.Asked.Asked.{Command, NoCommand}
@@ -19,6 +19,7 @@ use Rattle.ta_program.specs.Certified.{LongCertificate}
 use Rattle.ta_program.specs.Check.{CheckHolds}
 use Rattle.ta_program.specs.CheckWords.{CheckWords, ReplayWords, check_of, replay_of}
 use Rattle.ta_program.specs.Compress.{CanCompress, CompressHolds, LeavesRange, compress_of}
+use Rattle.ta_program.specs.Ended.{Did, Ended, Made, Saw}
 use Rattle.ta_program.specs.Export.{ExportHolds, export_of}
 use Rattle.ta_program.specs.Kinds.{IsFile}
 use Rattle.ta_program.specs.Printed.{EachPrintedUnsafe, EachToldProved, EachToldSafe, telling_of}
@@ -41,80 +42,82 @@ use Rattle.ta_program.specs.Values.{TwoNames}
 use Rattle.ta_program.specs.VerifyWords.{VerifyWords, verify_of}
 use Rattle.ta_program.specs.WordAsked.{WordAsked}
 
+-- a status is the one that is wanted, 6 and 7 aside
+abbrev pub Exits : ℕ → ℕ → Type 0
+Exits exit wanted = (exit ≡ wanted) ⊎ ((exit ≡ 6) ⊎ (exit ≡ 7))
+
 -- `verify FILE` with status 0, 1 or 2, whatever its options: FILE is legal, what is said of the parameters holds, each verdict holds, the
 -- verdicts give the status, and the output gained the report: 1 if some pattern is unsafe, otherwise 2 if some pattern is unknown,
 -- otherwise 0
-abbrev pub VerifyReports : ℕ → List (List ℕ) → Option Told → List Event → List Event → Option (List ℕ) → Option (List ℕ) → Type 0
-VerifyReports exit words files calls calls' written written' =
-    (asked : VerifyWords) → verify_of words ≡ Some asked → exit ≤ 2
-    → Acts (may_put asked.out) (λ read made. ReportHolds exit (seen files read) asked written written') calls calls'
+abbrev pub VerifyReports : Ended → Type 0
+VerifyReports r = (asked : VerifyWords) → verify_of r.words ≡ Some asked → r.status ≤ 2
+    → Did r (may_put asked.out) (λ view. ReportHolds r.status view asked r.before.written r.after.written)
 
 -- `verify FILE --certificate OUT` with status 0, 1 or 2: the report holds, OUT holds the certificate of the patterns that it calls safe,
 -- which `check` accepts as one of exactly these, and every other file is unchanged; the log records that exactly this text was put in the
 -- place of OUT, whole
-abbrev pub CertificateWritten : ℕ → List (List ℕ) → Option Told → Option Told → List Event → List Event → Option (List ℕ) → Option (List ℕ) → Type 0
-CertificateWritten exit words files files' calls calls' written written' =
-    (asked : VerifyWords) (out : List ℕ) → verify_of words ≡ Some asked → asked.out ≡ Some out → exit ≤ 2
-    → Acts (may_put asked.out) (λ read made. CertificateStands exit (seen files read) asked out files files' written written' made) calls calls'
+abbrev pub CertificateWritten : Ended → Type 0
+CertificateWritten r = (asked : VerifyWords) (out : List ℕ) → verify_of r.words ≡ Some asked → asked.out ≡ Some out → r.status ≤ 2
+    → Made r (may_put asked.out) (λ view made.
+    CertificateStands r.status view asked out r.before.files r.after.files r.before.written r.after.written made)
 
 -- `check FILE CERT` with status 0, 1 or 2, whatever its options: FILE is legal, CERT is a certificate of it, each pattern that it proves is
 -- safe, and the output gained the text that says which patterns these are, with what is known of the parameters, where that is asked for.
 -- The status is 2 exactly if `--all` is asked for and some pattern is not proved, or there is none, or no parameters are known that have an
 -- initial configuration; otherwise it is 0. So with `--all` and 0 FILE has patterns, each of them is safe, and some initial configuration
 -- exists
-pub record CheckProves (exit : ℕ) (words : List (List ℕ)) (files : Option Told) (calls calls' : List Event) (written written' : Option (List ℕ)) : Type 0 where
-  pub holds : (asked : CheckWords) → check_of words ≡ Some asked → exit ≤ 2
-      → Grew (λ read. CheckHolds exit (seen files read) asked.file asked.other asked.options written written') calls calls'
-  pub every : (asked : CheckWords) → check_of words ≡ Some asked → asked.options.all ≡ true → exit ≡ 0
-      → Grew (λ read. EveryPattern runs.Safe (seen files read) asked.file) calls calls'
+pub record CheckProves (r : Ended) : Type 0 where
+  pub holds : (asked : CheckWords) → check_of r.words ≡ Some asked → r.status ≤ 2
+      → Saw r (λ view. CheckHolds r.status view asked.file asked.other asked.options r.before.written r.after.written)
+  pub every : (asked : CheckWords) → check_of r.words ≡ Some asked → asked.options.all ≡ true → r.status ≡ 0
+      → Saw r (λ view. EveryPattern runs.Safe view asked.file)
 
 -- `compress FILE RUN` with status 0: FILE is legal, RUN is the text of a run that can be compressed, and the output gained the text
 -- of the compressed run, which shows the pattern, marks the same events at the same configurations, and is short. If known files have all
 -- that, the status is 0; if the run is replayed and has few steps, but a guard leaves the range on its way, it is 4; 6 and 7 aside
-pub record RunShortens (exit : ℕ) (words : List (List ℕ)) (files : Option Told) (calls calls' : List Event) (written written' : Option (List ℕ)) : Type 0 where
-  pub holds : (asked : TwoNames) → compress_of words ≡ Some asked → exit ≡ 0
-      → Grew (λ read. CompressHolds (seen files read) asked.file asked.other written written') calls calls'
-  pub exact : (asked : TwoNames) (told : Told) → compress_of words ≡ Some asked → files ≡ Some told → CanCompress told asked
-      → (exit ≡ 0) ⊎ ((exit ≡ 6) ⊎ (exit ≡ 7))
-  pub outside : (asked : TwoNames) (told : Told) (line : ℕ) → compress_of words ≡ Some asked → files ≡ Some told → LeavesRange told asked line
-      → (exit ≡ 4) ⊎ ((exit ≡ 6) ⊎ (exit ≡ 7))
+pub record RunShortens (r : Ended) : Type 0 where
+  pub holds : (asked : TwoNames) → compress_of r.words ≡ Some asked → r.status ≡ 0
+      → Saw r (λ view. CompressHolds view asked.file asked.other r.before.written r.after.written)
+  pub exact : (asked : TwoNames) (told : Told) → compress_of r.words ≡ Some asked → r.before.files ≡ Some told
+      → CanCompress told asked → Exits r.status 0
+  pub outside : (asked : TwoNames) (told : Told) (line : ℕ) → compress_of r.words ≡ Some asked → r.before.files ≡ Some told
+      → LeavesRange told asked line → Exits r.status 4
 
 -- `replay FILE RUN` with status 0: FILE is legal, RUN is the text of a run that shows its pattern, and the output gained the text
 -- that says so
-abbrev pub ReplayShows : ℕ → List (List ℕ) → Option Told → List Event → List Event → Option (List ℕ) → Option (List ℕ) → Type 0
-ReplayShows exit words files calls calls' written written' =
-    (asked : ReplayWords) → replay_of words ≡ Some asked → exit ≡ 0
-    → Grew (λ read. ReplayHolds (seen files read) asked.file asked.other asked.json written written') calls calls'
+abbrev pub ReplayShows : Ended → Type 0
+ReplayShows r = (asked : ReplayWords) → replay_of r.words ≡ Some asked → r.status ≡ 0
+    → Saw r (λ view. ReplayHolds view asked.file asked.other asked.json r.before.written r.after.written)
 
 -- `bench K` with status 0 or 2: the automaton with this number was verified, and the output gained the lines that say so; 0 if its pattern
 -- is safe, and 2 if it is unknown. It never ends with 1, 3 or 4
-pub record Benches (exit : ℕ) (words : List (List ℕ)) (written written' : Option (List ℕ)) : Type 0 where
-  pub holds : (k : ℕ) → bench_of words ≡ Some k → exit ≤ 2 → BenchHolds exit k written written'
-  pub others : (k : ℕ) → bench_of words ≡ Some k → (exit ≢ 1) × (exit ≢ 3) × (exit ≢ 4)
+pub record Benches (r : Ended) : Type 0 where
+  pub holds : (k : ℕ) → bench_of r.words ≡ Some k → r.status ≤ 2 → BenchHolds r.status k r.before.written r.after.written
+  pub others : (k : ℕ) → bench_of r.words ≡ Some k → (r.status ≢ 1) × (r.status ≢ 3) × (r.status ≢ 4)
 
 -- `export FILE PATTERN START WORD` with status 0: FILE is legal and has the schema, and the output gained a text that denotes, of all lists
 -- of integers, exactly those that are natural and solve the schema's system without bounds
-abbrev pub Exports : ℕ → List (List ℕ) → Option Told → List Event → List Event → Option (List ℕ) → Option (List ℕ) → Type 0
-Exports exit words files calls calls' written written' =
-    (asked : WordAsked) → export_of words ≡ Some asked → exit ≡ 0
-    → Grew (λ read. ExportHolds (seen files read) asked written written') calls calls'
+abbrev pub Exports : Ended → Type 0
+Exports r = (asked : WordAsked) → export_of r.words ≡ Some asked → r.status ≡ 0
+    → Saw r (λ view. ExportHolds view asked r.before.written r.after.written)
 
 -- `admit FILE PATTERN START WORD VALUES` with status 0: FILE is legal and has the complete schema, VALUES solve its system, and the output
 -- gained the text of their run, which shows the pattern. If known files have all that, the status is 0, 6 and 7 aside
-pub record Admitting (exit : ℕ) (words : List (List ℕ)) (files : Option Told) (calls calls' : List Event) (written written' : Option (List ℕ)) : Type 0 where
-  pub holds : (all : AdmitAsked) → admit_of words ≡ Some all → exit ≡ 0 → Grew (λ read. AdmitHolds (seen files read) all written written') calls calls'
-  pub exact : (all : AdmitAsked) (told : Told) → admit_of words ≡ Some all → files ≡ Some told → IsAdmitted told all → (exit ≡ 0) ⊎ ((exit ≡ 6) ⊎ (exit ≡ 7))
+pub record Admitting (r : Ended) : Type 0 where
+  pub holds : (all : AdmitAsked) → admit_of r.words ≡ Some all → r.status ≡ 0
+      → Saw r (λ view. AdmitHolds view all r.before.written r.after.written)
+  pub exact : (all : AdmitAsked) (told : Told) → admit_of r.words ≡ Some all → r.before.files ≡ Some told → IsAdmitted told all → Exits r.status 0
 
 -- `rest FILE` with status 0, 1 or 2, whatever its options: FILE is legal and its cycles are self-loops, so the number of other steps of a
 -- run is bounded; what is said of the parameters holds, each verdict on runs that come to rest holds, the verdicts give the status, and the
 -- output gained the report. With `--certificate OUT`, OUT holds the certificate of the patterns that are called safe at rest, which
 -- `rest-check` accepts as one of exactly these, and every other file is unchanged
-pub record RestsReport (exit : ℕ) (words : List (List ℕ)) (files files' : Option Told) (calls calls' : List Event)
-    (written written' : Option (List ℕ)) : Type 0 where
-  pub report : (asked : RestWords) → rest_of words ≡ Some asked → exit ≤ 2
-      → Acts (may_put asked.out) (λ read made. RestReportHolds exit (seen files read) asked written written') calls calls'
-  pub certificate : (asked : RestWords) (out : List ℕ) → rest_of words ≡ Some asked → asked.out ≡ Some out → exit ≤ 2
-      → Acts (may_put asked.out) (λ read made. RestCertificateStands exit (seen files read) asked out files files' written written' made) calls calls'
+pub record RestsReport (r : Ended) : Type 0 where
+  pub report : (asked : RestWords) → rest_of r.words ≡ Some asked → r.status ≤ 2
+      → Did r (may_put asked.verify.out) (λ view. RestReportHolds r.status view asked r.before.written r.after.written)
+  pub certificate : (asked : RestWords) (out : List ℕ) → rest_of r.words ≡ Some asked → asked.verify.out ≡ Some out → r.status ≤ 2
+      → Made r (may_put asked.verify.out) (λ view made.
+      RestCertificateStands r.status view asked out r.before.files r.after.files r.before.written r.after.written made)
 
 -- `rest-check FILE CERT` with status 0, 1 or 2, whatever its options: FILE is legal and its cycles are self-loops, CERT is a certificate for
 -- its endings, no run comes to rest where the last event of a pattern that CERT proves happens, and the output gained the text that says
@@ -122,36 +125,33 @@ pub record RestsReport (exit : ℕ) (words : List (List ℕ)) (files files' : Op
 -- their places are silent. The status is 2 exactly if `--all` is asked for and some pattern is not proved, or there is none, or no
 -- parameters are known that have an initial configuration; otherwise it is 0. So with `--all` and 0 FILE has patterns, each of them is safe
 -- at rest, and some initial configuration exists
-pub record RestProves (exit : ℕ) (words : List (List ℕ)) (files : Option Told) (calls calls' : List Event) (written written' : Option (List ℕ)) : Type 0 where
-  pub holds : (asked : RestCheckWords) → rest_check_of words ≡ Some asked → exit ≤ 2
-      → Grew (λ read. RestCheckHolds exit (seen files read) asked.file asked.other asked.silent asked.options written written') calls calls'
-  pub every : (asked : RestCheckWords) → rest_check_of words ≡ Some asked → asked.options.all ≡ true → exit ≡ 0
-      → Grew (λ read. EveryPattern (RestSafeBut asked.silent) (seen files read) asked.file) calls calls'
+pub record RestProves (r : Ended) : Type 0 where
+  pub holds : (asked : RestCheckWords) → rest_check_of r.words ≡ Some asked → r.status ≤ 2
+      → Saw r (λ view. RestCheckHolds r.status view asked.file asked.other asked.silent asked.options r.before.written r.after.written)
+  pub every : (asked : RestCheckWords) → rest_check_of r.words ≡ Some asked → asked.options.all ≡ true → r.status ≡ 0
+      → Saw r (λ view. EveryPattern (RestSafeBut asked.silent) view asked.file)
 
 -- `search FILE` with status 0, 1 or 2, whatever its options: FILE is a template, and the output gained the text of the search for values of
 -- its holes, in lines or in JSON: its vectors were tried in order, each is listed once with an outcome that holds, up to the first that is
 -- Safe. With 0 every pattern of the last filled text is safe and some parameters have an initial configuration; OUT2 holds that text, and
 -- OUT a certificate of it, which `check` accepts as one of all its patterns. With 1 and 2 every file is unchanged; 2 means that some outcome
 -- is unknown
-abbrev pub Searches : ℕ → List (List ℕ) → Option Told → Option Told → List Event → List Event → Option (List ℕ) → Option (List ℕ) → Type 0
-Searches exit words files files' calls calls' written written' =
-    (asked : SearchWords) → search_of words ≡ Some asked → exit ≤ 2
-    → Acts (found_names asked) (λ read made. SearchHolds exit (seen files read) asked files files' written written' made) calls calls'
+abbrev pub Searches : Ended → Type 0
+Searches r = (asked : SearchWords) → search_of r.words ≡ Some asked → r.status ≤ 2
+    → Made r (found_names asked) (λ view made.
+    SearchHolds r.status view asked r.before.files r.after.files r.before.written r.after.written made)
 
 -- `show FILE` with status 0: FILE is legal, and the output gained the text of the file that its bytes mean, and of the orders of its guards
 -- that are found; and behind it the unknowns of its patterns' nodes without facts, by name. No two files have the same text, and none
 -- begins with that of another (`shows_differ` of ta_report); the names are those of the unknowns (`unknowns_are_named`)
-abbrev pub ShowsFile : ℕ → List (List ℕ) → Option Told → List Event → List Event → Option (List ℕ) → Option (List ℕ) → Type 0
-ShowsFile exit words files calls calls' written written' =
-    (name : List ℕ) → show_of words ≡ Some name → exit ≡ 0
-    → Grew (λ read. ShowHolds (seen files read) name written written') calls calls'
+abbrev pub ShowsFile : Ended → Type 0
+ShowsFile r = (name : List ℕ) → show_of r.words ≡ Some name → r.status ≡ 0 → Saw r (λ view. ShowHolds view name r.before.written r.after.written)
 
 -- `verify FILE` with status 0, its words in any order: if `show FILE` prints a text for FILE's bytes, the patterns of each file with this
 -- text, or the one that is asked for, occur in no run
-abbrev pub SafeAsShown : ℕ → List (List ℕ) → Option Told → List Event → List Event → Type 0
-SafeAsShown exit words files calls calls' =
-    (asked : VerifyWords) → verify_of words ≡ Some asked → exit ≡ 0
-    → Acts (may_put asked.out) (λ read made. SafeAsPrinted (seen files read) asked.file asked.pattern) calls calls'
+abbrev pub SafeAsShown : Ended → Type 0
+SafeAsShown r = (asked : VerifyWords) → verify_of r.words ≡ Some asked → r.status ≡ 0
+    → Did r (may_put asked.out) (λ view. SafeAsPrinted view asked.file asked.pattern)
 
 -- with status 0, 1 or 2 of `verify` a pattern that the report calls safe, by its line or in JSON, is safe, and one that it calls unsafe
 -- occurs in the run whose text it prints; with status 0, 1 or 2 of `check` a pattern that it calls `proved`, by its line or in JSON, is
@@ -160,35 +160,35 @@ SafeAsShown exit words files calls calls' =
 -- infinite run; of one that is `rest unsafe` the printed run comes to rest so. With `--silent NAMES` the same holds of quiet rest, and of
 -- runs that are fair where these are silent. With status 0, 1 or 2 of `search`, by lines or in JSON, each outcome that it lists is so of the
 -- filled text, and it ends with `found` exactly with 0; with status 0 or 2 of `bench` the pattern of its automaton is safe
-pub record PrintedHolds (exit : ℕ) (words : List (List ℕ)) (files : Option Told) (calls calls' : List Event) (written written' : Option (List ℕ)) : Type 0 where
-  pub safe : (asked : VerifyWords) → verify_of words ≡ Some asked → exit ≤ 2
-      → Acts (may_put asked.out) (λ read made. EachToldSafe runs.Safe false asked.json (seen files read) asked.file written written') calls calls'
-  pub unsafe_ : (asked : VerifyWords) → verify_of words ≡ Some asked → exit ≤ 2
-      → Acts (may_put asked.out)
-      (λ read made. EachPrintedUnsafe runs.Occurs (telling_of false asked.json) (seen files read) asked.file written written') calls calls'
-  pub proved : (asked : CheckWords) → check_of words ≡ Some asked → exit ≤ 2
-      → Grew (λ read. EachToldProved runs.Safe asked.options.json false (seen files read) asked.file written written') calls calls'
-  pub rest_safe : (asked : RestWords) → rest_of words ≡ Some asked → exit ≤ 2
-      → Acts (may_put asked.out)
-      (λ read made. EachToldSafe (RestSafeBut asked.silent) true asked.json (seen files read) asked.file written written') calls calls'
-  pub rest_unsafe : (asked : RestWords) → rest_of words ≡ Some asked → exit ≤ 2
-      → Acts (may_put asked.out)
-      (λ read made. EachPrintedUnsafe (RestOccursBut asked.silent) (telling_of true asked.json) (seen files read) asked.file written written') calls calls'
-  pub rest_proved : (asked : RestCheckWords) → rest_check_of words ≡ Some asked → exit ≤ 2
-      → Grew (λ read. EachToldProved (RestSafeBut asked.silent) asked.options.json true (seen files read) asked.file written written') calls calls'
-  pub rest_fair : (asked : RestWords) → rest_of words ≡ Some asked → exit ≤ 2
-      → Acts (may_put asked.out)
-      (λ read made. EachToldSafe (FairlySafeBut asked.silent) true asked.json (seen files read) asked.file written written') calls calls'
-  pub rest_proved_fair : (asked : RestCheckWords) → rest_check_of words ≡ Some asked → exit ≤ 2
-      → Grew (λ read. EachToldProved (FairlySafeBut asked.silent) asked.options.json true (seen files read) asked.file written written') calls calls'
-  pub tried : (asked : SearchWords) → search_of words ≡ Some asked → exit ≤ 2
-      → Acts (found_names asked) (λ read made. EachTried exit (seen files read) asked.json asked.file written written') calls calls'
-  pub benched : (k : ℕ) → bench_of words ≡ Some k → exit ≤ 2 → FamilySafe k
+pub record PrintedHolds (r : Ended) : Type 0 where
+  pub safe : (asked : VerifyWords) → verify_of r.words ≡ Some asked → r.status ≤ 2
+      → Did r (may_put asked.out) (λ view. EachToldSafe runs.Safe false asked.json view asked.file r.before.written r.after.written)
+  pub unsafe_ : (asked : VerifyWords) → verify_of r.words ≡ Some asked → r.status ≤ 2
+      → Did r (may_put asked.out) (λ view.
+      EachPrintedUnsafe runs.Occurs (telling_of false asked.json) view asked.file r.before.written r.after.written)
+  pub proved : (asked : CheckWords) → check_of r.words ≡ Some asked → r.status ≤ 2
+      → Saw r (λ view. EachToldProved runs.Safe asked.options.json false view asked.file r.before.written r.after.written)
+  pub rest_safe : (asked : RestWords) → rest_of r.words ≡ Some asked → r.status ≤ 2
+      → Did r (may_put asked.verify.out) (λ view.
+      EachToldSafe (RestSafeBut asked.silent) true asked.verify.json view asked.verify.file r.before.written r.after.written)
+  pub rest_unsafe : (asked : RestWords) → rest_of r.words ≡ Some asked → r.status ≤ 2
+      → Did r (may_put asked.verify.out) (λ view.
+      EachPrintedUnsafe (RestOccursBut asked.silent) (telling_of true asked.verify.json) view asked.verify.file r.before.written r.after.written)
+  pub rest_proved : (asked : RestCheckWords) → rest_check_of r.words ≡ Some asked → r.status ≤ 2
+      → Saw r (λ view. EachToldProved (RestSafeBut asked.silent) asked.options.json true view asked.file r.before.written r.after.written)
+  pub rest_fair : (asked : RestWords) → rest_of r.words ≡ Some asked → r.status ≤ 2
+      → Did r (may_put asked.verify.out) (λ view.
+      EachToldSafe (FairlySafeBut asked.silent) true asked.verify.json view asked.verify.file r.before.written r.after.written)
+  pub rest_proved_fair : (asked : RestCheckWords) → rest_check_of r.words ≡ Some asked → r.status ≤ 2
+      → Saw r (λ view. EachToldProved (FairlySafeBut asked.silent) asked.options.json true view asked.file r.before.written r.after.written)
+  pub tried : (asked : SearchWords) → search_of r.words ≡ Some asked → r.status ≤ 2
+      → Did r (found_names asked) (λ view. EachTried r.status view asked.json asked.file r.before.written r.after.written)
+  pub benched : (k : ℕ) → bench_of r.words ≡ Some k → r.status ≤ 2 → FamilySafe k
 
 -- 5 exactly if the words are no command's
-pub record UsageExactly (exit : ℕ) (asked : Asked) : Type 0 where
-  pub no_command : exit ≡ 5 → IsNoCommand asked
-  pub command : exit ≢ 5 → ¬ IsNoCommand asked
+pub record UsageExactly (r : Ended) : Type 0 where
+  pub no_command : r.status ≡ 5 → IsNoCommand (request_of r.words)
+  pub command : r.status ≢ 5 → ¬ IsNoCommand (request_of r.words)
 
 -- what is printed on standard error
 abbrev pub Tellings : Asked → ℕ → State → State → Type 0
@@ -220,14 +220,14 @@ pub record KeepsFiles (exit : ℕ) (words : List (List ℕ)) (before after : She
 
 -- before a call changes a file, the reads of this run showed FILE's bytes, that no output held just these, and that two outputs lead to
 -- different places
-abbrev pub ComparesFirst : Option Told → List ℕ → List (List ℕ) → List Event → List Event → Type 0
-ComparesFirst files name outs calls calls' = Acts outs (λ read made. Differ (seen files read) name outs ⊎ AreStaging outs made) calls calls'
+abbrev pub ComparesFirst : Ended → List ℕ → List (List ℕ) → Type 0
+ComparesFirst r name outs = Made r outs (λ view made. Differ view name outs ⊎ AreStaging outs made)
 
 -- what was read or written isn't destroyed, whatever the status: by no name, and by no link
-pub record SparesRead (words : List (List ℕ)) (files : Option Told) (calls calls' : List Event) : Type 0 where
-  pub verify : (asked : VerifyWords) → verify_of words ≡ Some asked → ComparesFirst files asked.file (may_put asked.out) calls calls'
-  pub rest : (asked : RestWords) → rest_of words ≡ Some asked → ComparesFirst files asked.file (may_put asked.out) calls calls'
-  pub search : (asked : SearchWords) → search_of words ≡ Some asked → ComparesFirst files asked.file (found_names asked) calls calls'
+pub record SparesRead (r : Ended) : Type 0 where
+  pub verify : (asked : VerifyWords) → verify_of r.words ≡ Some asked → ComparesFirst r asked.file (may_put asked.out)
+  pub rest : (asked : RestWords) → rest_of r.words ≡ Some asked → ComparesFirst r asked.verify.file (may_put asked.verify.out)
+  pub search : (asked : SearchWords) → search_of r.words ≡ Some asked → ComparesFirst r asked.file (found_names asked)
 
 -- if FILE is legal, the status is neither 3 nor 5
 abbrev pub PassesLegal : Asked → ℕ → Option Told → Type 0
@@ -244,8 +244,8 @@ HoldsSame told file (Some out) = told out ≡ told file
 pub record EndsSo (exit : ℕ) (out : Option (List ℕ)) (Known Long Same : Type 0) : Type 0 where
   pub known : Known → exit ≢ 2
   pub fits : exit ≡ 4 → IsSome out × (Long ⊎ Same)
-  pub long : IsSome out → Long → (exit ≡ 4) ⊎ ((exit ≡ 6) ⊎ (exit ≡ 7))
-  pub same : Same → (exit ≡ 4) ⊎ ((exit ≡ 6) ⊎ (exit ≡ 7))
+  pub long : IsSome out → Long → Exits exit 4
+  pub same : Same → Exits exit 4
 
 -- the same for `verify`, if known files hold a legal FILE that has the pattern that is asked for
 abbrev pub ReportEnds : ℕ → Option Told → Option VerifyWords → Type 0
@@ -259,10 +259,9 @@ ReportEnds exit files words =
 abbrev pub RestReportEnds : ℕ → Option Told → Option RestWords → Type 0
 RestReportEnds exit files words =
     (told : Told) (asked : RestWords) (file : File) (places : List ℕ) (pick : Pick) → files ≡ Some told → words ≡ Some asked
-    → IsFile (in_files told) asked.file file
-    → AreSilent file.automaton asked.silent places → IsPick file asked.pattern pick
-    → EndsSo exit asked.out (IsDecidedAtRest asked file (resting asked.budget places) pick) (LongAtRest file (resting asked.budget places) pick)
-    (HoldsSame told asked.file asked.out)
+    → IsFile (in_files told) asked.verify.file file → AreSilent file.automaton asked.silent places → IsPick file asked.verify.pattern pick
+    → EndsSo exit asked.verify.out (IsDecidedAtRest asked file (resting asked.verify.budget places) pick)
+    (LongAtRest file (resting asked.verify.budget places) pick) (HoldsSame told asked.verify.file asked.verify.out)
 
 -- a legal FILE passes; for `verify` and `rest`, one that has the pattern that is asked for; for `rest` and `rest-check`, one whose cycles
 -- are self-loops, with names that may be silent in it. With known files

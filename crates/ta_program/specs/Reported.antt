@@ -10,15 +10,13 @@ use Rattle.ta_report.specs.Telling.{report_of}
 use Rattle.ta_report.specs.declared.pick.Pick.{Pick}
 use Rattle.ta_report.specs.declared.verdict.ReportSample.{ReportSample}
 use Rattle.ta_report.specs.declared.verdict.Verdict.{Verdict}
-use Rattle.ta_shelf.specs.Calls.{Event}
-use Rattle.ta_shelf.specs.Put.{Told}
 use Rattle.ta_shelf.specs.Sink.{with_text}
-use Rattle.ta_shelf.specs.OutputCalls.{Acts}
 use Rattle.ta_shelf.specs.Puts.{may_put}
-use Rattle.ta_shelf.specs.Sights.{View, seen}
+use Rattle.ta_shelf.specs.Sights.{View}
 use Rattle.ta_verdict.specs.Rest.Budgets.{resting}
 use Rattle.ta_verdict.specs.Rest.Verdicts.{RestVerdictHolds}
 use Rattle.ta_verdict.specs.Verdicts.{IsSample, VerdictHolds}
+use Rattle.ta_program.specs.Ended.{Did, Ended}
 use Rattle.ta_program.specs.Headline.{HoldsFile}
 use Rattle.ta_program.specs.PatternOption.{HasName, IsPick}
 use Rattle.ta_program.specs.RestEnds.{FileEndings, IsEnds}
@@ -65,25 +63,24 @@ pub record EachReported (asked : VerifyWords) (view : View) (written written' : 
 -- which has the pattern's number
 pub record EachReportedAtRest (asked : RestWords) (view : View) (written written' : Option (List ℕ)) : Type 0 where
   pub file : File
-  pub holds : HoldsFile view asked.file file
+  pub holds : HoldsFile view asked.verify.file file
   pub ends : FileEndings
   pub are_ends : IsEnds file ends
   pub silent : List ℕ
   pub are_silent : AreSilent file.automaton asked.silent silent
   pub pick : Pick
-  pub is_pick : IsPick file asked.pattern pick
+  pub is_pick : IsPick file asked.verify.pattern pick
   pub text : List ℕ
   pub gained : written' ≡ with_text written text
   pub verdict : (number : ℕ) (own p : Pattern) (v : Verdict) → slice_get file.patterns number ≡ Some own → slice_get ends.ending.patterns number ≡ Some p
-      → HasName asked.pattern own → VerdictFits file v
-      → GivesVerdict true asked.json file pick number v text
-      ↔ RestVerdictHolds file ends.ending ends.added (resting asked.budget silent) number own p v
-  pub parameters : (sample : ReportSample) → GivesSample true asked.json file pick sample text ↔ IsSample file asked.budget.nodes sample
+      → HasName asked.verify.pattern own → VerdictFits file v
+      → GivesVerdict true asked.verify.json file pick number v text
+      ↔ RestVerdictHolds file ends.ending ends.added (resting asked.verify.budget silent) number own p v
+  pub parameters : (sample : ReportSample) → GivesSample true asked.verify.json file pick sample text ↔ IsSample file asked.verify.budget.nodes sample
 
 -- `verify FILE` and `rest FILE` with status 0, 1 or 2
-pub record ReportsExactly (number : ℕ) (words : List (List ℕ)) (files : Option Told) (calls calls' : List Event) (written written' : Option (List ℕ)) : Type 0
-  where
-    pub verify : (asked : VerifyWords) → verify_of words ≡ Some asked → number ≤ 2
-        → Acts (may_put asked.out) (λ read made. EachReported asked (seen files read) written written') calls calls'
-    pub rest : (asked : RestWords) → rest_of words ≡ Some asked → number ≤ 2
-        → Acts (may_put asked.out) (λ read made. EachReportedAtRest asked (seen files read) written written') calls calls'
+pub record ReportsExactly (r : Ended) : Type 0 where
+  pub verify : (asked : VerifyWords) → verify_of r.words ≡ Some asked → r.status ≤ 2
+      → Did r (may_put asked.out) (λ view. EachReported asked view r.before.written r.after.written)
+  pub rest : (asked : RestWords) → rest_of r.words ≡ Some asked → r.status ≤ 2
+      → Did r (may_put asked.verify.out) (λ view. EachReportedAtRest asked view r.before.written r.after.written)

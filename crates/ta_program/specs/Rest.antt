@@ -55,9 +55,9 @@ pub record RestReports (asked : RestWords) (file : File) (ends : FileEndings) (b
   pub is_sample : IsSample file budget.nodes sample
   pub verdicts : List Verdict
   pub are : AreRestVerdicts file ends.ending ends.added pick budget verdicts
-  pub numbered : answer.number ≡ report_number asked.all sample verdicts
-  pub written : answer.text ≡ report_of true asked.json file pick sample verdicts
-  pub puts : PutsRest ends.ending pick budget verdicts asked.out answer.puts
+  pub numbered : answer.number ≡ report_number asked.verify.all sample verdicts
+  pub written : answer.text ≡ report_of true asked.verify.json file pick sample verdicts
+  pub puts : PutsRest ends.ending pick budget verdicts asked.verify.out answer.puts
 
 -- the certificate of a file's picked patterns is longer than a certificate may be
 pub record LongRest (file : File) (ends : FileEndings) (budget : RestBudget) (pick : Pick) : Type 0 where
@@ -81,27 +81,28 @@ HindersRest file ends budget pick (Some out) number line = IsLongRest file ends 
 -- the report says what is known of the parameters and, for each picked pattern, of runs that come to rest, unless the certificate that is
 -- asked for is too long
 abbrev pub rest_report_meaning : RestWords → File → FileEndings → RestBudget → Pick → Meaning
-rest_report_meaning asked file ends budget pick = settles (may_put asked.out) (RestReports asked file ends budget pick)
-    (HindersRest file ends budget pick asked.out)
+rest_report_meaning asked file ends budget pick = settles (may_put asked.verify.out) (RestReports asked file ends budget pick)
+    (HindersRest file ends budget pick asked.verify.out)
 
 -- the patterns are picked, and the report says what is known
 abbrev pub rest_picked : RestWords → File → FileEndings → RestBudget → Meaning
-rest_picked asked file ends budget = with_pick asked.file asked.pattern (may_put asked.out) file (rest_report_meaning asked file ends budget)
+rest_picked asked file ends budget = with_pick asked.verify.file asked.verify.pattern (may_put asked.verify.out) file
+    (rest_report_meaning asked file ends budget)
 
 -- the silent places are found, and the patterns and the report follow
 abbrev pub rest_quietly : RestWords → File → FileEndings → Meaning
-rest_quietly asked file ends = with_silent asked.file asked.silent (may_put asked.out) file
-    (λ places. rest_picked asked file ends (resting asked.budget places))
+rest_quietly asked file ends = with_silent asked.verify.file asked.silent (may_put asked.verify.out) file
+    (λ places. rest_picked asked file ends (resting asked.verify.budget places))
 
 -- FILE is read, OUT is compared with it, its endings are computed, and then the silent places, the patterns and the report follow
 abbrev pub rest_meaning : RestWords → Meaning
-rest_meaning asked = spared file_kind asked.file (may_put asked.out) (at_ends asked.file (may_put asked.out) (rest_quietly asked))
+rest_meaning asked = spared file_kind asked.verify.file (may_put asked.verify.out) (at_ends asked.verify.file (may_put asked.verify.out) (rest_quietly asked))
 
 -- FILE means an automaton whose cycles of rules are self-loops, the names may be silent in it, and it has the pattern that is asked for
 pub record LegalRest (asked : RestWords) (told : Told) : Type 0 where
-  pub silently : LegalSilently asked.file asked.silent told
+  pub silently : LegalSilently asked.verify.file asked.silent told
   pub pick : Pick
-  pub is_pick : IsPick silently.file asked.pattern pick
+  pub is_pick : IsPick silently.file asked.verify.pattern pick
 
 abbrev pub rest_asked : List (List ℕ) → Asked
 rest_asked words = ask_where LegalRest rest_meaning (rest_words words)
@@ -117,7 +118,7 @@ IsKnownAtRest file budget pick =
 -- the same; and with `--all`, what holds of the parameters and of these patterns tells something
 pub record IsDecidedAtRest (asked : RestWords) (file : File) (budget : RestBudget) (pick : Pick) : Type 0 where
   pub known : IsKnownAtRest file budget pick
-  pub tells : asked.all ≡ true → (ends : FileEndings) → IsEnds file ends → (s : ReportSample) (vs : List Verdict) → IsSample file budget.nodes s
+  pub tells : asked.verify.all ≡ true → (ends : FileEndings) → IsEnds file ends → (s : ReportSample) (vs : List Verdict) → IsSample file budget.nodes s
       → AreRestVerdicts file ends.ending ends.added pick budget vs → tells_nothing s vs ≡ false
 
 -- the certificate of its endings is longer than a certificate may be
@@ -130,19 +131,19 @@ pub record LongAtRest (file : File) (budget : RestBudget) (pick : Pick) : Type 0
 -- parameters holds, each verdict holds, these give the status, and the output gained the report
 pub record RestReportHolds (number : ℕ) (view : View) (asked : RestWords) (written written' : Option (List ℕ)) : Type 0 where
   pub file : File
-  pub is_file : IsFile view asked.file file
+  pub is_file : IsFile view asked.verify.file file
   pub ends : FileEndings
   pub are_ends : IsEnds file ends
   pub silent : List ℕ
   pub are_silent : AreSilent file.automaton asked.silent silent
   pub pick : Pick
-  pub is_pick : IsPick file asked.pattern pick
+  pub is_pick : IsPick file asked.verify.pattern pick
   pub sample : ReportSample
-  pub is_sample : IsSample file asked.budget.nodes sample
+  pub is_sample : IsSample file asked.verify.budget.nodes sample
   pub verdicts : List Verdict
-  pub are : AreRestVerdicts file ends.ending ends.added pick (resting asked.budget silent) verdicts
-  pub numbered : report_number asked.all sample verdicts ≡ number
-  pub wrote : written' ≡ with_text written (report_of true asked.json file pick sample verdicts)
+  pub are : AreRestVerdicts file ends.ending ends.added pick (resting asked.verify.budget silent) verdicts
+  pub numbered : report_number asked.verify.all sample verdicts ≡ number
+  pub wrote : written' ≡ with_text written (report_of true asked.verify.json file pick sample verdicts)
 
 -- the report holds; OUT holds the certificate of the patterns that it calls safe at rest, every other file is unchanged, and the calls put
 -- exactly this text in the place of OUT, whole; the text is a certificate that proves exactly these patterns, so `rest-check` accepts it
@@ -150,7 +151,7 @@ pub record RestCertificateStands (number : ℕ) (view : View) (asked : RestWords
     (made : List calls.Put) : Type 0 where
   pub report : RestReportHolds number view asked written written'
   pub text : List ℕ
-  pub certificate : RestCertificateOf report.ends.ending report.pick (resting asked.budget report.silent) report.verdicts text
+  pub certificate : RestCertificateOf report.ends.ending report.pick (resting asked.verify.budget report.silent) report.verdicts text
   pub within : length text ≤ CERTIFICATE.bytes
   pub stands : WhereTold (HoldsText out text) files files'
   pub told : TellsFile out text made

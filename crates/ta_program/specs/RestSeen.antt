@@ -6,13 +6,15 @@ use Rattle.ta_program.specs.RestWords.{RestCheckWords, RestWords}
 
 abbrev pub rest_seen : Rest → RestWords
 rest_seen command = record {
-  file = command.file.now;
-  budget = command.silent.budget.given;
-  out = option_map (λ w. w.now) command.out;
+  verify = record {
+    file = command.file.now;
+    budget = command.silent.budget.given;
+    out = option_map (λ w. w.now) command.out;
+    json = command.json;
+    pattern = option_map (λ w. w.now) command.pattern;
+    all = command.all;
+  };
   silent = option_map (λ w. w.now) command.silent.names;
-  json = command.json;
-  pattern = option_map (λ w. w.now) command.pattern;
-  all = command.all;
 }
 
 abbrev pub rest_check_seen : RestCheck → RestCheckWords

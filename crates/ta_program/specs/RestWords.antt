@@ -3,19 +3,13 @@ use Rattle.std.specs.Prelude.{ℕ, ◌++◌, ◌||◌, Bool, List, [], ◌∷◌
 use Rattle.ta_program.specs.declared.proof_options.ProofOptions.{ProofOptions}
 use Rattle.ta_program.specs.SilentNames.{names_of}
 use Rattle.ta_program.specs.Values.{file_name_of}
-use Rattle.ta_verdict.specs.declared.budget.Budget.{Budget}
-use Rattle.ta_program.specs.VerifyWords.{verify_form, verify_taken}
+use Rattle.ta_program.specs.VerifyWords.{VerifyWords, verify_form, verify_taken}
 use Rattle.ta_program.specs.Words.{Form, Taken, asked_by, behind_name, flag, is_given, plain_of, option_value, valued}
 
--- what `rest` asks for: the same as `verify`, and the names that are to be silent, if they are given
+-- what `rest` asks for: what `verify` asks for, and the names that are to be silent, if they are given
 pub record RestWords : Type 0 where
-  pub file : List ℕ
-  pub budget : Budget
-  pub out : Option (List ℕ)
+  pub verify : VerifyWords
   pub silent : Option (List ℕ)
-  pub json : Bool
-  pub pattern : Option (List ℕ)
-  pub all : Bool
 
 -- the options of `verify`, and `--silent`
 abbrev pub rest_form : Form
@@ -26,9 +20,7 @@ abbrev pub quiet_names : Bool → Option (List ℕ) → Option (Option (List ℕ
 quiet_names lazy names = if lazy || not (is_some names) then names_of names else None
 
 abbrev pub rest_taken : Taken → Option RestWords
-rest_taken taken =
-    option_and_then (λ v. option_map (λ silent.
-    record { file = v.file; budget = v.budget; out = v.out; silent = silent; json = v.json; pattern = v.pattern; all = v.all })
+rest_taken taken = option_and_then (λ v. option_map (λ silent. record { verify = v; silent = silent })
     (quiet_names v.budget.lazy (option_value taken 6))) (verify_taken taken)
 
 -- the request of the words after the command's name
@@ -51,8 +43,7 @@ abbrev pub rest_check_form : Form
 rest_check_form = record { plain = 2; options = valued (codes "--silent") ∷ flag (codes "--all") ∷ flag (codes "--json") ∷ [] }
 
 abbrev pub rest_check_taken : Taken → Option RestCheckWords
-rest_check_taken taken =
-    option_and_then (λ file. option_and_then (λ other. option_map (λ silent.
+rest_check_taken taken = option_and_then (λ file. option_and_then (λ other. option_map (λ silent.
     record { file = file; other = other; silent = silent; options = record { all = is_given taken 1; parameters = false; json = is_given taken 2 } })
     (names_of (option_value taken 0))) (file_name_of (plain_of taken 1))) (file_name_of (plain_of taken 0))
 

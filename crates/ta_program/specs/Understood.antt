@@ -1,6 +1,6 @@
 -- The short headline: what a run of the program says of the file that `show` prints. It names neither the grammar nor what a text means:
 -- whoever has read what `tav show FILE` prints knows of which file the other commands speak.
-use Rattle.std.specs.Prelude.{ℕ, ◌≡◌, ◌≤◌, false, List, [], ◌∷◌, ◌++◌, codes, slice_get, Option, None, Some}
+use Rattle.std.specs.Prelude.{ℕ, ◌≡◌, ◌≤◌, false, List, [], ◌∷◌, ◌++◌, codes, slice_get, None, Some}
 use Rattle.std.specs.List.{AllByRecursion}
 use Rattle.ta_automaton.specs.declared.automaton.Automaton.{Automaton}
 use Rattle.ta_automaton.specs.declared.file.File.{File}
@@ -16,19 +16,9 @@ use Rattle.ta_shelf.specs.Calls.{Call, Event, Spells, reads}
 use Rattle.ta_shelf.specs.Put.{Told}
 use Rattle.ta_shelf.specs.Sink.{with_text}
 use Rattle.ta_report.specs.Show.{show_text}
+use Rattle.ta_program.specs.Ended.{Ended}
 use Rattle.ta_program.specs.Show.{ShowPrints}
 use Rattle.ta_program.specs.Words.{behind, is_dashed}
-
--- a run of the program: its status, its words, what the shelf tells of its files, the shelf's log before and after, and what the output
--- took before and after
-pub record Ended : Type 0 where
-  pub status : ℕ
-  pub words : List (List ℕ)
-  pub files : Option Told
-  pub calls : List Event
-  pub calls' : List Event
-  pub written : Option (List ℕ)
-  pub written' : Option (List ℕ)
 
 -- the words are a command's name, behind it the name of FILE, which is no option, and then more: options, or names of other files
 pub record Asks (r : Ended) (command name : List ℕ) (more : List (List ℕ)) : Type 0 where
@@ -41,9 +31,9 @@ pub record ReadsWhole (r : Ended) (name bytes : List ℕ) : Type 0 where
   pub front : List Event
   pub those : List Call
   pub behind : List Event
-  pub logged : r.calls' ≡ r.calls ++ (front ++ (reads those ++ behind))
+  pub logged : r.after.calls ≡ r.before.calls ++ (front ++ (reads those ++ behind))
   pub gave : Spells name those bytes
-  pub held : (told : Told) → r.files ≡ Some told → told name ≡ Some bytes
+  pub held : (told : Told) → r.before.files ≡ Some told → told name ≡ Some bytes
 
 -- a word does not begin with `--pattern`, so it asks for no pattern alone
 abbrev pub IsOfAll : List ℕ → Type 0
@@ -55,7 +45,7 @@ pub record Prints (r : Ended) (name : List ℕ) : Type 0 where
   pub read : ReadsWhole r name bytes
   pub text : List ℕ
   pub more : List ℕ
-  pub gained : r.written' ≡ with_text r.written (text ++ more)
+  pub gained : r.after.written ≡ with_text r.before.written (text ++ more)
   pub printed : ShowPrints bytes text
   pub file : File
   pub orders : List (ℕ × ℕ)
@@ -66,7 +56,7 @@ pub record Says (Such : List ℕ → File → Type 0) (r : Ended) (name : List �
   pub bytes : List ℕ
   pub read : ReadsWhole r name bytes
   pub text : List ℕ
-  pub gained : r.written' ≡ with_text r.written text
+  pub gained : r.after.written ≡ with_text r.before.written text
   pub such : (shown : List ℕ) (file : File) (orders : List (ℕ × ℕ)) → ShowPrints bytes shown → show_text file orders ≡ shown → Such text file
 
 -- a fact holds of each pattern of a file whose line with this word stands in a text

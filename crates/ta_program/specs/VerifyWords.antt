@@ -22,15 +22,14 @@ verify_form = record {
 }
 
 abbrev pub verify_taken : Taken → Option VerifyWords
-verify_taken taken =
-    option_and_then (λ file. option_and_then (λ nodes. option_map (λ out. record {
-      file = file;
-      budget = record { nodes = nodes; lazy = is_given taken 3 };
-      out = out;
-      json = is_given taken 2;
-      pattern = option_value taken 4;
-      all = is_given taken 5;
-    })
+verify_taken taken = option_and_then (λ file. option_and_then (λ nodes. option_map (λ out. record {
+  file = file;
+  budget = record { nodes = nodes; lazy = is_given taken 3 };
+  out = out;
+  json = is_given taken 2;
+  pattern = option_value taken 4;
+  all = is_given taken 5;
+})
     (out_of file (option_value taken 1))) (budget_of (option_value taken 0))) (file_name_of (plain_of taken 0))
 
 -- the request of the words after the command's name

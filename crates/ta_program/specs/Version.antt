@@ -4,6 +4,7 @@ use Rattle.ta_shelf.specs.Sink.{with_text}
 use Rattle.ta_shelf.specs.Commands.{Meaning}
 use Rattle.ta_shelf.specs.Stages.{Writes, replies}
 use Rattle.ta_program.specs.Asked.{Asked, ask}
+use Rattle.ta_program.specs.Ended.{Ended}
 use Rattle.ta_program.specs.Words.{behind_name, taken_by}
 
 -- the version of the program, and the kit that it is proved with
@@ -26,6 +27,6 @@ abbrev pub version_asked : List (List ℕ) → Asked
 version_asked words = ask (λ asked. None) (λ asked. version_meaning) (version_words words)
 
 -- `version` ends with status 0, 6 and 7 aside, and then the output gained the version and the kit
-abbrev pub VersionPrints : ℕ → List (List ℕ) → Option (List ℕ) → Option (List ℕ) → Type 0
-VersionPrints number words written written' =
-    (asked : Unit {0}) → version_of words ≡ Some asked → number ≤ 5 → (number ≡ 0) × (written' ≡ with_text written version_text)
+abbrev pub VersionPrints : Ended → Type 0
+VersionPrints r =
+    (asked : Unit {0}) → version_of r.words ≡ Some asked → r.status ≤ 5 → (r.status ≡ 0) × (r.after.written ≡ with_text r.before.written version_text)

@@ -2,15 +2,10 @@
 #![tactic(auto)]
 
 ghost use Rattle.std.specs.Prelude.{◌≡◌, map};
-ghost use Rattle.ta_shelf.specs.Ends.{Quiet, SinkState, Tells, state};
+ghost use Rattle.ta_shelf.specs.Ends.{SinkState, Tells, state};
 ghost use Rattle.ta_program.specs.Asked.{Runs, usage_line};
-ghost use Rattle.ta_program.specs.Headline.{StatusTells};
-ghost use Rattle.ta_program.specs.Program.{Admitting, Benches, CertificateWritten, CheckProves, Completes, ExactlySo, Exports, KeepsFiles, Opens, PrintedHolds, ReplayShows, RestProves, RestsReport, RunShortens, Searches, SparesRead, Tellings, UsageExactly, VerifyReports};
-ghost use Rattle.ta_program.specs.Program.{SafeAsShown, ShowsFile};
-ghost use Rattle.ta_program.specs.Reported.{ReportsExactly};
+ghost use Rattle.ta_program.specs.Promises.{EndPromises, Promises};
 ghost use Rattle.ta_program.specs.Requests.{request_of};
-ghost use Rattle.ta_program.specs.Understood.{Understood};
-ghost use Rattle.ta_program.specs.Version.{VersionPrints};
 
 use crate::admit::Admit;
 use crate::bench::Bench;
@@ -55,49 +50,13 @@ pub fn run<R: Threads + Sync, S: Shelf, O: Sink, E: Sink>(
     out: &mut O,
     err: &mut E,
 ) -> u8
-    ensures understood { Understood (record {
+    ensures promises { Promises (record {
       status = result;
       words = map (λ w. w.now) words.now;
-      files = S.files shelf.old;
-      calls = S.calls shelf.old;
-      calls' = S.calls shelf.new;
-      written = O.written out.old;
-      written' = O.written out.new;
+      before = record { files = S.files shelf.old; calls = S.calls shelf.old; written = O.written out.old };
+      after = record { files = S.files shelf.new; calls = S.calls shelf.new; written = O.written out.new };
     }) }
-    ensures headline { StatusTells result (map (λ w. w.now) words.now) (S.files shelf.old) (S.calls shelf.old) (S.calls shelf.new) (O.written out.old) (O.written out.new) }
-    ensures verify { VerifyReports result (map (λ w. w.now) words.now) (S.files shelf.old) (S.calls shelf.old) (S.calls shelf.new) (O.written out.old) (O.written out.new) }
-    ensures certificate { CertificateWritten result (map (λ w. w.now) words.now) (S.files shelf.old) (S.files shelf.new) (S.calls shelf.old) (S.calls shelf.new) (O.written out.old) (O.written out.new) }
-    ensures check { CheckProves result (map (λ w. w.now) words.now) (S.files shelf.old) (S.calls shelf.old) (S.calls shelf.new) (O.written out.old) (O.written out.new) }
-    ensures replay { ReplayShows result (map (λ w. w.now) words.now) (S.files shelf.old) (S.calls shelf.old) (S.calls shelf.new) (O.written out.old) (O.written out.new) }
-    ensures compress { RunShortens result (map (λ w. w.now) words.now) (S.files shelf.old) (S.calls shelf.old) (S.calls shelf.new) (O.written out.old) (O.written out.new) }
-    ensures bench { Benches result (map (λ w. w.now) words.now) (O.written out.old) (O.written out.new) }
-    ensures export { Exports result (map (λ w. w.now) words.now) (S.files shelf.old) (S.calls shelf.old) (S.calls shelf.new) (O.written out.old) (O.written out.new) }
-    ensures admit { Admitting result (map (λ w. w.now) words.now) (S.files shelf.old) (S.calls shelf.old) (S.calls shelf.new) (O.written out.old) (O.written out.new) }
-    ensures rests { RestsReport result (map (λ w. w.now) words.now) (S.files shelf.old) (S.files shelf.new) (S.calls shelf.old) (S.calls shelf.new) (O.written out.old) (O.written out.new) }
-    ensures rest_proves { RestProves result (map (λ w. w.now) words.now) (S.files shelf.old) (S.calls shelf.old) (S.calls shelf.new) (O.written out.old) (O.written out.new) }
-    ensures searches { Searches result (map (λ w. w.now) words.now) (S.files shelf.old) (S.files shelf.new) (S.calls shelf.old) (S.calls shelf.new) (O.written out.old) (O.written out.new) }
-    ensures shows { ShowsFile result (map (λ w. w.now) words.now) (S.files shelf.old) (S.calls shelf.old) (S.calls shelf.new) (O.written out.old) (O.written out.new) }
-    ensures shown_safe { SafeAsShown result (map (λ w. w.now) words.now) (S.files shelf.old) (S.calls shelf.old) (S.calls shelf.new) }
-    ensures version { VersionPrints result (map (λ w. w.now) words.now) (O.written out.old) (O.written out.new) }
-    ensures printed { PrintedHolds result (map (λ w. w.now) words.now) (S.files shelf.old) (S.calls shelf.old) (S.calls shelf.new) (O.written out.old) (O.written out.new) }
-    ensures reported { ReportsExactly result (map (λ w. w.now) words.now) (S.files shelf.old) (S.calls shelf.old) (S.calls shelf.new) (O.written out.old) (O.written out.new) }
-    ensures usage { UsageExactly result (request_of (map (λ w. w.now) words.now)) }
-    ensures exact { ExactlySo result (request_of (map (λ w. w.now) words.now)) (S.files shelf.old) }
-    ensures kept { KeepsFiles result (map (λ w. w.now) words.now)
-        (record { files = S.files shelf.old; calls = S.calls shelf.old; faults = S.faults shelf.old })
-        (record { files = S.files shelf.new; calls = S.calls shelf.new; faults = S.faults shelf.new }) }
-    ensures spares { SparesRead (map (λ w. w.now) words.now) (S.files shelf.old) (S.calls shelf.old) (S.calls shelf.new) }
-    ensures opened { Opens (request_of (map (λ w. w.now) words.now)) (S.calls shelf.old) (S.calls shelf.new) }
-    ensures runs { Runs (request_of (map (λ w. w.now) words.now)) result
-        (state (S.files shelf.old) (S.calls shelf.old) (S.faults shelf.old) (O.written out.old) (O.faults out.old) (O.stalls out.old) (E.written err.old) (E.faults err.old) (E.stalls err.old))
-        (state (S.files shelf.new) (S.calls shelf.new) (S.faults shelf.new) (O.written out.new) (O.faults out.new) (O.stalls out.new) (E.written err.new) (E.faults err.new) (E.stalls err.new)) }
-    ensures refused { Quiet result
-        (state (S.files shelf.old) (S.calls shelf.old) (S.faults shelf.old) (O.written out.old) (O.faults out.old) (O.stalls out.old) (E.written err.old) (E.faults err.old) (E.stalls err.old))
-        (state (S.files shelf.new) (S.calls shelf.new) (S.faults shelf.new) (O.written out.new) (O.faults out.new) (O.stalls out.new) (E.written err.new) (E.faults err.new) (E.stalls err.new)) }
-    ensures told { Tellings (request_of (map (λ w. w.now) words.now)) result
-        (state (S.files shelf.old) (S.calls shelf.old) (S.faults shelf.old) (O.written out.old) (O.faults out.old) (O.stalls out.old) (E.written err.old) (E.faults err.old) (E.stalls err.old))
-        (state (S.files shelf.new) (S.calls shelf.new) (S.faults shelf.new) (O.written out.new) (O.faults out.new) (O.stalls out.new) (E.written err.new) (E.faults err.new) (E.stalls err.new)) }
-    ensures complete { Completes result (map (λ w. w.now) words.now)
+    ensures ends { EndPromises result (map (λ w. w.now) words.now)
         (state (S.files shelf.old) (S.calls shelf.old) (S.faults shelf.old) (O.written out.old) (O.faults out.old) (O.stalls out.old) (E.written err.old) (E.faults err.old) (E.stalls err.old))
         (state (S.files shelf.new) (S.calls shelf.new) (S.faults shelf.new) (O.written out.new) (O.faults out.new) (O.stalls out.new) (E.written err.new) (E.faults err.new) (E.stalls err.new)) }
 {

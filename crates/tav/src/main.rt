@@ -33,12 +33,6 @@ fn main(rt: HostRuntime) -> ExitCode {
             return ExitCode::from(7);
         }
     }
-    ExitCode::from(run(
-        &rt,
-        rt.alloc(),
-        words.as_slice(),
-        &mut shelf,
-        &mut out,
-        &mut err,
-    ))
+    let words = words.as_slice();
+    ExitCode::from(run(&rt, rt.alloc(), words, &mut shelf, &mut out, &mut err))
 }

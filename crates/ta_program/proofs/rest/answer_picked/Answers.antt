@@ -27,12 +27,12 @@ pub returns-in-Ok-clause-says : goal.returns-in-Ok-clause-says
 returns-in-Ok-clause-says g c = λ files file ends.
     let asked = rest_seen c.args.asked.now in
     let rest = c.args.rest.now in
-    let is = own_pick file rest.ending.file rest.added ends asked.pattern c.in-Ok.pick c.in-Ok.ensures.pick in
+    let is = own_pick file rest.ending.file rest.added ends asked.verify.pattern c.in-Ok.pick c.in-Ok.ensures.pick in
     let so = c.answer_rest.ensures.says files file ends in
     record {
       lost = so.lost;
-      says = finds_then (IsPick file asked.pattern) (PickHinders asked.file file asked.pattern) (may_put asked.out)
-          (rest_report_meaning asked file (ends_of rest) (resting asked.budget c.args.silent.now)) files c.in-Ok.pick
+      says = finds_then (IsPick file asked.verify.pattern) (PickHinders asked.verify.file file asked.verify.pattern) (may_put asked.verify.out)
+          (rest_report_meaning asked file (ends_of rest) (resting asked.verify.budget c.args.silent.now)) files c.in-Ok.pick
           (result_seen g.S.Shelf.stage_bytes so.lost c.answer_rest.result) _ is (λ w. refl) so.says;
     }
 
@@ -40,18 +40,19 @@ pub returns-in-Err-clause-says : goal.returns-in-Err-clause-says
 returns-in-Err-clause-says g c = λ files file ends.
     let asked = rest_seen c.args.asked.now in
     let rest = c.args.rest.now in
-    let refused = own_refused file rest.ending.file rest.added ends asked.file asked.pattern c.in-Err.refusal c.in-Err.ensures.refusal in
-    let cause = pick_cause Answer asked.file file asked.pattern c.in-Err.refusal 0 refused in
+    let refused = own_refused file rest.ending.file rest.added ends asked.verify.file asked.verify.pattern c.in-Err.refusal c.in-Err.ensures.refusal in
+    let cause = pick_cause Answer asked.verify.file file asked.verify.pattern c.in-Err.refusal 0 refused in
     record {
       lost = [];
-      says = subst (λ (seen : Result Answer Refusal). Says (rest_picked asked file (ends_of rest) (resting asked.budget c.args.silent.now)) files seen [])
-          (sym (unread_seen Answer g.S.Shelf.stage_bytes [] c.in-Err.refusal 0 0 cause))
-          (pick_refused asked.file file asked.pattern (may_put asked.out)
-          (rest_report_meaning asked file (ends_of rest) (resting asked.budget c.args.silent.now)) files c.in-Err.refusal refused);
+      says = subst (λ (seen : Result Answer Refusal). Says (rest_picked asked file (ends_of rest) (resting asked.verify.budget c.args.silent.now)) files
+          seen []) (sym (unread_seen Answer g.S.Shelf.stage_bytes [] c.in-Err.refusal 0 0 cause))
+          (pick_refused asked.verify.file file asked.verify.pattern (may_put asked.verify.out)
+          (rest_report_meaning asked file (ends_of rest) (resting asked.verify.budget c.args.silent.now)) files c.in-Err.refusal refused);
     }
 
 pub returns-in-Err-clause-staged : goal.returns-in-Err-clause-staged
 returns-in-Err-clause-staged g c =
     let asked = rest_seen c.args.asked.now in
     none_staged _ _ (unread_staged Answer _ g.S.Shelf.stage_name g.S.Shelf.stage_bytes c.in-Err.refusal _ _
-    (pick_cause Answer asked.file c.args.rest.now.ending.file asked.pattern c.in-Err.refusal (g.S.Shelf.faults c.args.shelf.now) c.in-Err.ensures.refusal))
+    (pick_cause Answer asked.verify.file c.args.rest.now.ending.file asked.verify.pattern c.in-Err.refusal (g.S.Shelf.faults c.args.shelf.now)
+    c.in-Err.ensures.refusal))

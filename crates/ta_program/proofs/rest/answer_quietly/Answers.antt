@@ -1,30 +1,5 @@
-use Rattle.ta_program.proofs.Common.{
-  ◌≡◌,
-  ◌∙◌,
-  [],
-  ap,
-  false,
-  None,
-  refl,
-  rules,
-  subst,
-  sym,
-  option_map,
-  Answer,
-  Automaton,
-  AreSilent,
-  NamesHinder,
-  Refusal,
-  Result,
-  Says,
-  finds_then,
-  may_put,
-  rest_picked,
-  rest_quietly,
-  result_seen,
-  resting,
-  ends_of,
-}
+use Rattle.ta_program.proofs.Common.{◌≡◌, ◌∙◌, [], ap, None, refl, rules, subst, sym, option_map, Answer, Automaton, AreSilent, NamesHinder, Refusal, Result}
+use Rattle.ta_program.proofs.Common.{Says, finds_then, may_put, rest_picked, rest_quietly, result_seen, resting, ends_of}
 use Rattle.ta_program.specs.RestSeen.{rest_seen}
 use Rattle.ta_program.proofs.Certifying.{none_staged, unread_seen, unread_staged}
 use Rattle.ta_program.specs.Inside.Found.{SilentRefused}
@@ -48,8 +23,8 @@ returns-in-Ok-clause-says g c = λ files file ends.
     let so = rw c.as_slice.ensures at (c.answer_picked.ensures.says files file ends) in
     record {
       lost = so.lost;
-      says = finds_then (AreSilent file.automaton names) (NamesHinder asked.file file.automaton names) (may_put asked.out)
-          (λ places. rest_picked asked file (ends_of c.args.rest.now) (resting asked.budget places)) files c.in-Ok.places
+      says = finds_then (AreSilent file.automaton names) (NamesHinder asked.verify.file file.automaton names) (may_put asked.verify.out)
+          (λ places. rest_picked asked file (ends_of c.args.rest.now) (resting asked.verify.budget places)) files c.in-Ok.places
           (result_seen g.S.Shelf.stage_bytes so.lost c.answer_picked.result) _ are (λ w. refl) so.says;
     }
 
@@ -57,14 +32,14 @@ pub returns-in-Err-clause-says : goal.returns-in-Err-clause-says
 returns-in-Err-clause-says g c = λ files file ends.
     let asked = rest_seen c.args.asked.now in
     let names = asked.silent in
-    let refused = subst (λ (a : Automaton). SilentRefused asked.file a names c.in-Err.refusal) ends.automaton c.in-Err.ensures.refusal in
-    let cause = names_cause Answer asked.file c.args.rest.now.ending.file.automaton names c.in-Err.refusal 0 c.in-Err.ensures.refusal in
+    let refused = subst (λ (a : Automaton). SilentRefused asked.verify.file a names c.in-Err.refusal) ends.automaton c.in-Err.ensures.refusal in
+    let cause = names_cause Answer asked.verify.file c.args.rest.now.ending.file.automaton names c.in-Err.refusal 0 c.in-Err.ensures.refusal in
     record {
       lost = [];
       says = subst (λ (seen : Result Answer Refusal). Says (rest_quietly asked file (ends_of c.args.rest.now)) files seen [])
           (sym (unread_seen Answer g.S.Shelf.stage_bytes [] c.in-Err.refusal 0 0 cause))
-          (names_refused asked.file file.automaton names (may_put asked.out)
-          (λ places. rest_picked asked file (ends_of c.args.rest.now) (resting asked.budget places)) files c.in-Err.refusal refused);
+          (names_refused asked.verify.file file.automaton names (may_put asked.verify.out)
+          (λ places. rest_picked asked file (ends_of c.args.rest.now) (resting asked.verify.budget places)) files c.in-Err.refusal refused);
     }
 
 pub returns-in-Err-clause-staged : goal.returns-in-Err-clause-staged

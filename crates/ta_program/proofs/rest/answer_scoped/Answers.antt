@@ -29,7 +29,7 @@ returns-in-Ok-clause-says g c = λ files.
     let so = c.answer_quietly.ensures.says files file ends.endings in
     record {
       lost = so.lost;
-      says = finds_then (IsEnds file) (CycleHinders asked.file file) (may_put asked.out) (rest_quietly asked file) files (ends_of c.in-Ok.rest)
+      says = finds_then (IsEnds file) (CycleHinders asked.verify.file file) (may_put asked.verify.out) (rest_quietly asked file) files (ends_of c.in-Ok.rest)
           (result_seen g.S.Shelf.stage_bytes so.lost c.answer_quietly.result) _ ends (λ w. refl) so.says;
     }
 
@@ -39,10 +39,10 @@ returns-in-Err-clause-says g c = λ files.
     let asked = rest_seen c.args.asked.now in
     record {
       lost = [];
-      says = subst (λ (seen : Result Answer Refusal). Says (finds (IsEnds file) (CycleHinders asked.file file) (may_put asked.out) (rest_quietly asked file))
-          files seen []) (sym (unread_seen Answer g.S.Shelf.stage_bytes [] c.in-Err.refusal 0 0
-          (refused_cause Answer asked.file file c.in-Err.refusal 0 c.in-Err.ensures.refusal)))
-          (ends_refused asked.file file (may_put asked.out) (rest_quietly asked file) files c.in-Err.refusal c.in-Err.ensures.refusal);
+      says = subst (λ (seen : Result Answer Refusal). Says (finds (IsEnds file) (CycleHinders asked.verify.file file) (may_put asked.verify.out)
+          (rest_quietly asked file)) files seen []) (sym (unread_seen Answer g.S.Shelf.stage_bytes [] c.in-Err.refusal 0 0
+          (refused_cause Answer asked.verify.file file c.in-Err.refusal 0 c.in-Err.ensures.refusal)))
+          (ends_refused asked.verify.file file (may_put asked.verify.out) (rest_quietly asked file) files c.in-Err.refusal c.in-Err.ensures.refusal);
     }
 
 pub returns-in-Err-clause-staged : goal.returns-in-Err-clause-staged

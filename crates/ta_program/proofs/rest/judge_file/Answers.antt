@@ -30,14 +30,14 @@ use Rattle.ta_program.proofs.rest.judge_file.Goals as goal
 pub returns-in-Ok-clause-says : goal.returns-in-Ok-clause-says
 returns-in-Ok-clause-says g c =
     let asked = rest_seen c.args.asked.now in
-    let puts = may_put asked.out in
+    let puts = may_put asked.verify.out in
     let files = g.S.Shelf.files c.args.shelf.now in
     let so = c.answer_scoped.ensures.says files in
     record {
       lost = so.lost;
       middle = _;
-      says = grew_spared file_kind (λ (s : ScopedFile). s.file) files asked.file puts (at_ends asked.file puts (rest_quietly asked))
-          (ends_monotone asked.file puts (rest_quietly asked) (rest_quietly_monotone asked)) (λ v. refl) c.in-Ok.scoped
+      says = grew_spared file_kind (λ (s : ScopedFile). s.file) files asked.verify.file puts (at_ends asked.verify.file puts (rest_quietly asked))
+          (ends_monotone asked.verify.file puts (rest_quietly asked) (rest_quietly_monotone asked)) (λ v. refl) c.in-Ok.scoped
           (result_seen g.S.Shelf.stage_bytes so.lost c.answer_scoped.result) _ _
           (rw c.one.ensures at c.in-Ok.ensures.stage) so.says;
       staged = subst (λ (n : ℕ). Changed
@@ -48,14 +48,14 @@ returns-in-Ok-clause-says g c =
 pub returns-in-Err-clause-says : goal.returns-in-Err-clause-says
 returns-in-Err-clause-says g c =
     let asked = rest_seen c.args.asked.now in
-    let puts = may_put asked.out in
+    let puts = may_put asked.verify.out in
     let files = g.S.Shelf.files c.args.shelf.now in
     record {
       lost = [];
       middle = _;
       says = subst (λ (seen : Result Answer Refusal). Grew (Says (rest_meaning asked) files seen) (g.S.Shelf.calls c.args.shelf.now)
           (g.S.Shelf.calls c.read_spared.new.shelf)) (sym (unread_seen ScopedFile g.S.Shelf.stage_bytes [] c.in-Err.refusal _ _ c.in-Err.ensures.cause))
-          (grew_kept file_kind (λ (s : ScopedFile). s.file) files asked.file puts (at_ends asked.file puts (rest_quietly asked)) (omega arith) (omega arith)
-          c.in-Err.refusal _ _ (rw c.one.ensures at c.in-Err.ensures.stage));
+          (grew_kept file_kind (λ (s : ScopedFile). s.file) files asked.verify.file puts (at_ends asked.verify.file puts (rest_quietly asked)) (omega arith)
+          (omega arith) c.in-Err.refusal _ _ (rw c.one.ensures at c.in-Err.ensures.stage));
       staged = none_staged _ _ (unread_staged ScopedFile puts g.S.Shelf.stage_name g.S.Shelf.stage_bytes c.in-Err.refusal _ _ c.in-Err.ensures.cause);
     }

@@ -1,21 +1,4 @@
-use Rattle.ta_program.proofs.Common.{
-  ◌≡◌,
-  ◌∙◌,
-  List,
-  ap,
-  subst,
-  sym,
-  length,
-  false,
-  true,
-  picked,
-  AllByRecursion,
-  Form,
-  SampleReported,
-  Verdict,
-  VerdictFits,
-  resting,
-}
+use Rattle.ta_program.proofs.Common.{◌≡◌, List, subst, sym, length, true, picked, AllByRecursion, Form, SampleReported, Verdict, VerdictFits}
 use Rattle.ta_program.proofs.rest.report_to.Goals as goal
 
 pub tell-requires-clause-all : goal.tell-requires-clause-all

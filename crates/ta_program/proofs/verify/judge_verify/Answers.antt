@@ -1,4 +1,4 @@
-use Rattle.ta_program.proofs.Common.{[], ℕ, Err, sym, arith, option_map, refl, subst, Changed, List, StagedBy, ScopedFile, Grew, Says, Result, Answer, Refusal}
+use Rattle.ta_program.proofs.Common.{[], ℕ, sym, arith, refl, subst, Changed, StagedBy, ScopedFile, Grew, Says, Result, Answer, Refusal}
 use Rattle.ta_program.proofs.Common.{grew_kept, grew_spared, may_put, file_kind, picked_meaning, verify_meaning, result_seen}
 use Rattle.ta_program.specs.Asking.{verify_seen}
 use Rattle.ta_program.proofs.Certifying.{none_staged, unread_seen, unread_staged}

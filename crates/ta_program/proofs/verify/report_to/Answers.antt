@@ -1,4 +1,4 @@
-use Rattle.ta_program.proofs.Common.{◌≡◌, ◌∙◌, List, ap, as_many, first_picked, picked, subst, sym, length, false, AllByRecursion, Form, SampleReported}
+use Rattle.ta_program.proofs.Common.{◌∙◌, List, ap, as_many, first_picked, picked, subst, sym, length, false, AllByRecursion, Form, SampleReported}
 use Rattle.ta_program.proofs.Common.{Verdict, VerdictFits, VerdictHolds}
 use Rattle.ta_program.proofs.verify.report_to.Goals as goal
 
