@@ -5,9 +5,9 @@ ghost use Rattle.ta_linear.specs.Leaf.{AreMultipliers};
 ghost use Rattle.ta_linear.specs.Numbers.{InRange};
 ghost use Rattle.ta_linear.specs.Terms.{IsNormal};
 
-use std::alloc::{AllocError, Global};
+use crate::expecting::{expect, list_of};
+use std::alloc::Global;
 use std::process::Abort;
-use std::test::Fail;
 use ta_base::List;
 use ta_farkas::{LeafFault, check_leaf};
 use ta_linear::{Form, Row, System};
@@ -15,95 +15,102 @@ use ta_linear::{Form, Row, System};
 const M: i128 = i128::MAX;
 
 /// A row over three unknowns.
-pub(crate) fn row(constant: i128, terms: Vec<(u32, i128)>) -> Row
+pub(crate) fn row(rt: &impl Abort, alloc: Global, constant: i128, terms: &[(u32, i128)]) -> Row
     requires constant { InRange constant }
-    requires terms { IsNormal 0 3 terms.items }
+    requires terms { IsNormal 0 3 terms.now }
     ensures { IsNormal 0 3 result.form.terms }
 {
-    row_over(3, constant, terms)
+    row_over(rt, alloc, 3, constant, terms)
 }
 
 // A row over this many unknowns.
-fn row_over(unknowns: u32, constant: i128, terms: Vec<(u32, i128)>) -> Row
+fn row_over(
+    rt: &impl Abort,
+    alloc: Global,
+    unknowns: u32,
+    constant: i128,
+    terms: &[(u32, i128)],
+) -> Row
     requires constant { InRange constant }
-    requires terms { IsNormal 0 unknowns terms.items }
+    requires terms { IsNormal 0 unknowns terms.now }
     ensures { IsNormal 0 unknowns result.form.terms }
 {
     let form = Form {
         constant,
-        terms: List::from_vec(terms),
+        terms: list_of(rt, alloc, terms),
     };
     Row { form }
 }
 
 // Some n processes all start in A, of which r left: A and what came after it are more than n.
-fn kept(alloc: Global) -> Result<System, AllocError> {
+fn kept(rt: &impl Abort, alloc: Global) -> System {
     let rows = vec![in alloc;
-        row(-1, vec![in alloc; (0, 1)]?),
-        row(0, vec![in alloc; (0, 1), (1, -1)]?),
-        row(0, vec![in alloc; (0, -1), (1, 1)]?),
-        row(0, vec![in alloc; (1, 1), (2, -1)]?),
-        row(0, vec![in alloc; (2, 1)]?),
-        row(-1, vec![in alloc; (0, -1), (1, 1)]?),
-    ]?;
-    Ok(System {
+        row(rt, alloc, -1, &[(0, 1)]),
+        row(rt, alloc, 0, &[(0, 1), (1, -1)]),
+        row(rt, alloc, 0, &[(0, -1), (1, 1)]),
+        row(rt, alloc, 0, &[(1, 1), (2, -1)]),
+        row(rt, alloc, 0, &[(2, 1)]),
+        row(rt, alloc, -1, &[(0, -1), (1, 1)]),
+    ]
+    .expect(rt, "memory");
+    System {
         unknowns: 3,
         rows: List::from_vec(rows),
-    })
+    }
 }
 
 // Rows on both sides of the end of the first 64 columns.
-fn wide(alloc: Global) -> Result<System, AllocError> {
+fn wide(rt: &impl Abort, alloc: Global) -> System {
     let rows = vec![in alloc;
-        row_over(70, 0, vec![in alloc; (63, -1), (64, -1)]?),
-        row_over(70, 0, vec![in alloc; (64, -1), (65, 1)]?),
-        row_over(70, -1, vec![in alloc; (65, -1), (69, -1)]?),
-    ]?;
-    Ok(System {
+        row_over(rt, alloc, 70, 0, &[(63, -1), (64, -1)]),
+        row_over(rt, alloc, 70, 0, &[(64, -1), (65, 1)]),
+        row_over(rt, alloc, 70, -1, &[(65, -1), (69, -1)]),
+    ]
+    .expect(rt, "memory");
+    System {
         unknowns: 70,
         rows: List::from_vec(rows),
-    })
+    }
 }
 
 /// Compares the answer on a leaf.
-fn expect(
+fn expect_leaf(
     rt: &impl Abort,
     system: &System,
     multipliers: &[(u32, i128)],
     want: Result<(), LeafFault>,
+    name: &str,
 )
     requires { AreMultipliers 0 (2 ^ 32) multipliers.now }
 {
-    assert_eq!(rt; check_leaf(system, multipliers), want);
+    expect(rt, check_leaf(system, multipliers) == want, name);
 }
 
 #[test]
-fn judges(rt: HostRuntime) -> Result<(), Fail> {
-    let system = kept(rt.alloc())?;
+fn judges(rt: HostRuntime) {
+    let system = kept(&rt, rt.alloc());
     let positive = Err(LeafFault::Positive(1));
     let not_negative = Err(LeafFault::NotNegative);
-    expect(&rt, &system, &[(1, 1), (5, 1)], Ok(()));
-    expect(&rt, &system, &[(1, M), (5, M)], Ok(()));
-    expect(&rt, &system, &[(1, 1), (5, 2)], positive);
-    expect(&rt, &system, &[(5, 1)], positive);
-    expect(&rt, &system, &[(1, 1), (2, 1)], not_negative);
-    expect(&rt, &system, &[], not_negative);
+    expect_leaf(&rt, &system, &[(1, 1), (5, 1)], Ok(()), "refutes");
+    expect_leaf(&rt, &system, &[(1, M), (5, M)], Ok(()), "at the edge");
+    expect_leaf(&rt, &system, &[(1, 1), (5, 2)], positive, "row 5 twice");
+    expect_leaf(&rt, &system, &[(5, 1)], positive, "row 5 alone");
+    expect_leaf(&rt, &system, &[(1, 1), (2, 1)], not_negative, "rows 1, 2");
+    expect_leaf(&rt, &system, &[], not_negative, "no rows");
     let row_number = Err(LeafFault::RowNumber(9));
-    expect(&rt, &system, &[(0, 1), (9, 1)], row_number);
+    expect_leaf(&rt, &system, &[(0, 1), (9, 1)], row_number, "no row 9");
     let overflow = Err(LeafFault::Overflow(0));
-    expect(&rt, &system, &[(0, M), (1, M)], overflow);
-    Ok(())
+    expect_leaf(&rt, &system, &[(0, M), (1, M)], overflow, "a sum leaves");
 }
 
 #[test]
-fn judges_more_than_64_columns(rt: HostRuntime) -> Result<(), Fail> {
-    let system = wide(rt.alloc())?;
-    expect(&rt, &system, &[(0, 1), (1, 1), (2, 1)], Ok(()));
+fn judges_more_than_64_columns(rt: HostRuntime) {
+    let system = wide(&rt, rt.alloc());
+    expect_leaf(&rt, &system, &[(0, 1), (1, 1), (2, 1)], Ok(()), "refutes");
     let positive = Err(LeafFault::Positive(65));
-    expect(&rt, &system, &[(0, 1), (1, 1)], positive);
+    expect_leaf(&rt, &system, &[(0, 1), (1, 1)], positive, "rows 0 and 1");
     let overflow = Err(LeafFault::Overflow(64));
-    expect(&rt, &system, &[(0, M), (1, M)], overflow);
+    expect_leaf(&rt, &system, &[(0, M), (1, M)], overflow, "a sum leaves");
     let not_negative = Err(LeafFault::NotNegative);
-    expect(&rt, &system, &[(0, 1)], not_negative);
-    Ok(())
+    expect_leaf(&rt, &system, &[(0, 1)], not_negative, "row 0 alone");
 }

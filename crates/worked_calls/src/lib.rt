@@ -5,6 +5,8 @@
 #[cfg(test)]
 mod cert;
 #[cfg(test)]
+mod expecting;
+#[cfg(test)]
 mod farkas;
 #[cfg(test)]
 mod linear;

@@ -1,6 +1,6 @@
 //! Numbers at the edges of the family of test automata.
 
-use std::test::Fail;
+use crate::expecting::expect;
 use ta_maker::{MakerFault, make_family};
 
 /// How many rules the automaton of a number has, or that it is none of the family.
@@ -12,16 +12,18 @@ fn rules_of(rt: &HostRuntime, k: u32) -> Option<usize> {
     }
 }
 
+/// Numbers, each with how many rules its automaton has.
+const RULES: &[(&str, u32, Option<usize>)] = &[
+    ("0", 0, None),
+    ("1", 1, Some(2)),
+    ("3", 3, Some(6)),
+    ("7", 7, Some(14)),
+    ("8", 8, None),
+];
+
 #[test]
-fn family_is_of_1_to_7(rt: HostRuntime) -> Result<(), Fail> {
-    for (k, want) in [
-        (0, None),
-        (1, Some(2)),
-        (3, Some(6)),
-        (7, Some(14)),
-        (8, None),
-    ] {
-        assert_eq!(rt; rules_of(&rt, k), want, "{k}");
+fn family_is_of_1_to_7(rt: HostRuntime) {
+    for (name, k, want) in RULES {
+        expect(&rt, rules_of(&rt, *k) == *want, name);
     }
-    Ok(())
 }

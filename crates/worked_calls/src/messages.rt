@@ -1,6 +1,7 @@
 //! The message of each error: its name.
 
-use std::alloc::{AllocError, Global};
+use crate::expecting::expect_text;
+use std::alloc::Global;
 use std::fmt::Display;
 use std::process::Abort;
 use ta_cert::CertFault;
@@ -10,15 +11,10 @@ use ta_replay::RunFault;
 use ta_syntax::FileFault;
 
 /// Compares the message of each error of a table with the one beside it.
-fn expect<F: Display>(
-    rt: &impl Abort,
-    alloc: Global,
-    faults: &[(F, &str)],
-) -> Result<(), AllocError> {
+fn expect_messages<F: Display>(rt: &impl Abort, alloc: Global, faults: &[(F, &str)]) {
     for (fault, message) in faults {
-        assert_eq!(rt; format!(in alloc; "{fault}")?.as_str(), *message);
+        expect_text(rt, alloc, fault, message);
     }
-    Ok(())
 }
 
 const FILE_FAULTS: &[(FileFault, &str)] = &[
@@ -37,8 +33,8 @@ const FILE_FAULTS: &[(FileFault, &str)] = &[
 ];
 
 #[test]
-fn names_faults_of_files(rt: HostRuntime) -> Result<(), AllocError> {
-    expect(&rt, rt.alloc(), FILE_FAULTS)
+fn names_faults_of_files(rt: HostRuntime) {
+    expect_messages(&rt, rt.alloc(), FILE_FAULTS);
 }
 
 const CERT_FAULTS: &[(CertFault, &str)] = &[
@@ -66,8 +62,8 @@ const CERT_FAULTS: &[(CertFault, &str)] = &[
 ];
 
 #[test]
-fn names_faults_of_certificates(rt: HostRuntime) -> Result<(), AllocError> {
-    expect(&rt, rt.alloc(), CERT_FAULTS)
+fn names_faults_of_certificates(rt: HostRuntime) {
+    expect_messages(&rt, rt.alloc(), CERT_FAULTS);
 }
 
 const RUN_FAULTS: &[(RunFault, &str)] = &[
@@ -87,8 +83,8 @@ const RUN_FAULTS: &[(RunFault, &str)] = &[
 ];
 
 #[test]
-fn names_faults_of_runs(rt: HostRuntime) -> Result<(), AllocError> {
-    expect(&rt, rt.alloc(), RUN_FAULTS)
+fn names_faults_of_runs(rt: HostRuntime) {
+    expect_messages(&rt, rt.alloc(), RUN_FAULTS);
 }
 
 const LINEAR_FAULTS: &[(LinearFault, &str)] = &[
@@ -102,7 +98,7 @@ const MAKER_FAULTS: &[(MakerFault, &str)] = &[
 ];
 
 #[test]
-fn names_other_faults(rt: HostRuntime) -> Result<(), AllocError> {
-    expect(&rt, rt.alloc(), LINEAR_FAULTS)?;
-    expect(&rt, rt.alloc(), MAKER_FAULTS)
+fn names_other_faults(rt: HostRuntime) {
+    expect_messages(&rt, rt.alloc(), LINEAR_FAULTS);
+    expect_messages(&rt, rt.alloc(), MAKER_FAULTS);
 }

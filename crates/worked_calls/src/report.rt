@@ -1,36 +1,30 @@
 //! The words of each verdict.
 
-use std::test::Fail;
+use crate::expecting::expect_text;
 use ta_report::{ReportKind, Verdict};
 
+/// That a number left 128 bits at node 7.
+fn overflow(kind: ReportKind) -> Verdict {
+    Verdict::Overflow { node: 7, kind }
+}
+
 #[test]
-fn tells_verdicts(rt: HostRuntime) -> Result<(), Fail> {
+fn tells_verdicts(rt: HostRuntime) {
     let alloc = rt.alloc();
-    let overflow = |kind| Verdict::Overflow { node: 7, kind };
-    let rows = [
-        (
-            Verdict::Safe {
-                nodes: 12,
-                leaves: 3,
-            },
-            "safe, 12 nodes, 3 leaves",
-        ),
-        (Verdict::Spent { nodes: 1000 }, "unknown, 1000 nodes spent"),
-        (
-            overflow(ReportKind::Pivot(0)),
-            "unknown, outside 128 bits at node 7, pivot 0",
-        ),
-        (
-            overflow(ReportKind::Leaf),
-            "unknown, outside 128 bits at node 7, leaf",
-        ),
-        (
-            overflow(ReportKind::Run),
-            "unknown, outside 128 bits at node 7, run",
-        ),
-    ];
-    for (verdict, words) in &rows {
-        assert_eq!(rt; format!(in alloc; "{verdict}")?.as_str(), *words);
-    }
-    Ok(())
+    let safe = Verdict::Safe {
+        nodes: 12,
+        leaves: 3,
+    };
+    expect_text(&rt, alloc, safe, "safe, 12 nodes, 3 leaves");
+    let spent = Verdict::Spent { nodes: 1000 };
+    expect_text(&rt, alloc, spent, "unknown, 1000 nodes spent");
+    let pivot = overflow(ReportKind::Pivot(0));
+    let words = "unknown, outside 128 bits at node 7, pivot 0";
+    expect_text(&rt, alloc, pivot, words);
+    let leaf = overflow(ReportKind::Leaf);
+    let words = "unknown, outside 128 bits at node 7, leaf";
+    expect_text(&rt, alloc, leaf, words);
+    let run = overflow(ReportKind::Run);
+    let words = "unknown, outside 128 bits at node 7, run";
+    expect_text(&rt, alloc, run, words);
 }

@@ -1,10 +1,12 @@
 //! The worked rows of reading and writing, and the adapters over the real thing at work.
 
-use std::alloc::{AllocError, Global};
+ghost use Rattle.ta_shelf.specs.Files.{AreDistinct};
+
+use crate::expecting::{expect, list_of};
+use std::alloc::Global;
 use std::io::{ErrorKind, Write};
 use std::os::fd::AsRawFd;
 use std::process::Abort;
-use std::test::Fail;
 use std::{fs, io};
 use ta_base::{List, Text};
 use ta_shelf::{
@@ -14,154 +16,173 @@ use ta_shelf::{
 
 const TEXT: &[u8] = b"automaton first\n";
 
-/// Four files: of 3, 4, no and 20,000 bytes.
-fn four_files(alloc: Global) -> Result<List<(Text, List<u8>)>, AllocError> {
-    let long = vec![in alloc; b'e'; 20_000]?;
-    let mut files = Vec::new(alloc);
-    for (name, bytes) in [
-        ("three", b"abc".as_slice()),
-        ("four", b"abcd"),
-        ("empty", b""),
-        ("long", long.as_slice()),
-    ] {
-        let name = Text::from_string(String::from_str(alloc, name)?);
-        files.push((name, List::from_vec(bytes.to_vec(alloc)?)))?;
-    }
-    Ok(List::from_vec(files))
+/// Adds a file.
+fn add_file(
+    rt: &impl Abort,
+    alloc: Global,
+    files: &mut List<(Text, List<u8>)>,
+    name: &str,
+    bytes: &[u8],
+) {
+    let name = Text::from_string(String::from_str(alloc, name).expect(rt, "memory"));
+    let bytes = list_of(rt, alloc, bytes);
+    files.push((name, bytes)).expect(rt, "memory");
 }
 
-/// The numbers of calls.
-fn numbers(alloc: Global, numbers: &[u64]) -> Result<List<u64>, AllocError> {
-    Ok(List::from_vec(numbers.to_vec(alloc)?))
+/// Four files: of 3, 4, no and 20,000 bytes.
+fn four_files(rt: &impl Abort, alloc: Global) -> List<(Text, List<u8>)>
+    ensures { AreDistinct result }
+{
+    let mut files = List::empty(alloc);
+    add_file(rt, alloc, &mut files, "three", b"abc");
+    add_file(rt, alloc, &mut files, "four", b"abcd");
+    add_file(rt, alloc, &mut files, "empty", b"");
+    let long = vec![in alloc; b'e'; 20_000].expect(rt, "memory");
+    add_file(rt, alloc, &mut files, "long", long.as_slice());
+    assert!(rt; are_distinct(files.as_slice()));
+    files
 }
+
+/// A shelf of the four files at which the calls of these numbers fail.
+fn memory_shelf(rt: &impl Abort, alloc: Global, failing: &[u64]) -> MemoryShelf {
+    let files = four_files(rt, alloc);
+    MemoryShelf::new(files, list_of(rt, alloc, failing)).expect(rt, "memory")
+}
+
+/// A shelf of the four files at which no call fails.
+fn quiet_shelf(rt: &impl Abort, alloc: Global) -> QuietShelf {
+    QuietShelf::new(four_files(rt, alloc)).expect(rt, "memory")
+}
+
+/// A read of a file of this name up to a limit, and the length or the refusal that is wanted.
+type Read = (&'static str, u16, Result<usize, WholeFault>);
 
 /// The length of what was read, or the refusal.
 fn length_of(read: Result<List<u8>, WholeFault>) -> Result<usize, WholeFault> {
     Ok(read?.as_slice().len())
 }
 
-/// A read of a file of this name up to a limit, and the length or the refusal that is wanted.
-type Read = (&'static str, u16, Result<usize, WholeFault>);
+/// Compares the length or the refusal of a read.
+fn expect_read<S: Shelf>(rt: &impl Abort, alloc: Global, shelf: &mut S, read: &Read, name: &str) {
+    let (file, limit, want) = read;
+    let found = length_of(read_whole(alloc, shelf, file, u64::from(*limit)));
+    expect(rt, found == *want, name);
+}
 
-/// Compares the length or the refusal of each read.
-fn expect_lengths<S: Shelf>(rt: &impl Abort, alloc: Global, shelf: &mut S, reads: &[Read]) {
-    for (name, limit, want) in reads {
-        let read = length_of(read_whole(alloc, shelf, name, u64::from(*limit)));
-        assert_eq!(rt; read, *want, "{name} up to {limit}");
+/// Whether a shelf has a file of this name with these bytes, or none of this name for `None`.
+fn holds_file<S: Shelf>(alloc: Global, shelf: &mut S, name: &str, want: Option<&[u8]>) -> bool {
+    match read_whole(alloc, shelf, name, 20_000) {
+        Ok(bytes) => want == Some(bytes.as_slice()),
+        Err(fault) => want.is_none() && fault == WholeFault::Missing,
     }
 }
 
-/// Compares all bytes of a file.
-fn expect_whole<S: Shelf>(rt: &impl Abort, alloc: Global, shelf: &mut S, name: &str, bytes: &[u8]) {
-    let read = read_whole(alloc, shelf, name, 20_000);
-    let same = read.is_ok_and(|read| read.as_slice() == bytes);
-    assert!(rt; same, "{name}");
-}
-
-/// A shelf of the four files at which the calls of these numbers fail.
-fn memory_shelf(
-    rt: &impl Abort,
-    alloc: Global,
-    failing: &[u64],
-) -> Result<MemoryShelf, AllocError> {
-    let files = four_files(alloc)?;
-    assert!(rt; are_distinct(files.as_slice()));
-    MemoryShelf::new(files, numbers(alloc, failing)?)
-}
-
-/// A shelf of the four files at which no call fails.
-fn quiet_shelf(rt: &impl Abort, alloc: Global) -> Result<QuietShelf, AllocError> {
-    let files = four_files(alloc)?;
-    assert!(rt; are_distinct(files.as_slice()));
-    QuietShelf::new(files)
-}
-
-/// Two reads of a shelf of the four files, behind the numbers of its calls that fail.
-const READS: &[(&[u64], &[Read])] = &[
+/// The numbers of the calls that fail at a shelf of the four files, and two reads of it.
+const READS: &[(&str, &[u64], Read, Read)] = &[
     (
+        "beyond the limit",
         &[0],
-        &[("three", 3, Ok(3)), ("four", 3, Err(WholeFault::TooLong))],
+        ("three", 3, Ok(3)),
+        ("four", 3, Err(WholeFault::TooLong)),
     ),
     (
+        "a limit of no bytes",
         &[0],
-        &[("empty", 0, Ok(0)), ("three", 0, Err(WholeFault::TooLong))],
+        ("empty", 0, Ok(0)),
+        ("three", 0, Err(WholeFault::TooLong)),
     ),
     (
+        "no such file",
         &[0],
-        &[
-            ("gone", 9, Err(WholeFault::Missing)),
-            ("gone", 9, Err(WholeFault::Missing)),
-        ],
+        ("gone", 9, Err(WholeFault::Missing)),
+        ("gone", 9, Err(WholeFault::Missing)),
     ),
     (
+        "more than a buffer",
         &[0],
-        &[
-            ("long", 20_000, Ok(20_000)),
-            ("long", 19_999, Err(WholeFault::TooLong)),
-        ],
+        ("long", 20_000, Ok(20_000)),
+        ("long", 19_999, Err(WholeFault::TooLong)),
     ),
     (
+        "the first call fails",
         &[1],
-        &[("three", 9, Err(WholeFault::Failed)), ("three", 9, Ok(3))],
+        ("three", 9, Err(WholeFault::Failed)),
+        ("three", 9, Ok(3)),
     ),
     (
+        "the second call fails",
         &[2],
-        &[("three", 9, Err(WholeFault::Failed)), ("three", 9, Ok(3))],
+        ("three", 9, Err(WholeFault::Failed)),
+        ("three", 9, Ok(3)),
     ),
     (
+        "the third call fails",
         &[3, 9],
-        &[("three", 9, Ok(3)), ("gone", 9, Err(WholeFault::Failed))],
+        ("three", 9, Ok(3)),
+        ("gone", 9, Err(WholeFault::Failed)),
     ),
 ];
 
 #[test]
-fn reads_whole_files(rt: HostRuntime) -> Result<(), Fail> {
+fn reads_whole_files(rt: HostRuntime) {
     let alloc = rt.alloc();
-    for (failing, reads) in READS {
-        let mut shelf = memory_shelf(&rt, alloc, failing)?;
-        expect_lengths(&rt, alloc, &mut shelf, reads);
+    for (name, failing, first, second) in READS {
+        let mut shelf = memory_shelf(&rt, alloc, failing);
+        expect_read(&rt, alloc, &mut shelf, first, name);
+        expect_read(&rt, alloc, &mut shelf, second, name);
     }
-    let mut shelf = quiet_shelf(&rt, alloc)?;
-    expect_whole(&rt, alloc, &mut shelf, "four", b"abcd");
-    Ok(())
+    let mut shelf = quiet_shelf(&rt, alloc);
+    let same = holds_file(alloc, &mut shelf, "four", Some(b"abcd"));
+    expect(&rt, same, "no call fails");
 }
 
 /// A sink of so much room that takes so many bytes at a time, the call that fails, the answer of
 /// writing the text to it, and the bytes that it has then.
-type Wrote = (usize, usize, u64, Result<(), SinkFault>, &'static [u8]);
+type Wrote = (
+    &'static str,
+    usize,
+    usize,
+    u64,
+    Result<(), SinkFault>,
+    &'static [u8],
+);
 
 const WRITES: &[Wrote] = &[
-    (64, 64, 0, Ok(()), TEXT),
-    (16, 1, 17, Ok(()), TEXT),
-    (64, 1, 3, Err(SinkFault::Failed), b"au"),
-    (0, 64, 0, Err(SinkFault::Stuck { at: 0 }), b""),
-    (5, 64, 0, Err(SinkFault::Stuck { at: 5 }), b"autom"),
-    (64, 0, 0, Err(SinkFault::Stuck { at: 0 }), b""),
+    ("at once", 64, 64, 0, Ok(()), TEXT),
+    ("a byte at a time", 16, 1, 17, Ok(()), TEXT),
+    ("a call fails", 64, 1, 3, Err(SinkFault::Failed), b"au"),
+    ("no room", 0, 64, 0, Err(SinkFault::Stuck { at: 0 }), b""),
+    (
+        "little room",
+        5,
+        64,
+        0,
+        Err(SinkFault::Stuck { at: 5 }),
+        b"autom",
+    ),
+    ("no bytes", 64, 0, 0, Err(SinkFault::Stuck { at: 0 }), b""),
 ];
 
 #[test]
-fn writes_whole_texts(rt: HostRuntime) -> Result<(), Fail> {
+fn writes_whole_texts(rt: HostRuntime) {
     let alloc = rt.alloc();
-    for (room, piece, failing, want, bytes) in WRITES {
-        let mut sink = MemorySink::new(alloc, *room, *piece, numbers(alloc, &[*failing])?)?;
-        let wrote = write_whole(&mut sink, TEXT);
-        assert_eq!(rt; wrote, *want, "room {room}, pieces of {piece}");
-        assert_eq!(rt; sink.as_slice(), *bytes);
+    for (name, room, piece, failing, want, bytes) in WRITES {
+        let failing = list_of(&rt, alloc, &[*failing]);
+        let mut sink = MemorySink::new(alloc, *room, *piece, failing).expect(&rt, "memory");
+        expect(&rt, write_whole(&mut sink, TEXT) == *want, name);
+        expect(&rt, sink.as_slice() == *bytes, name);
     }
-    Ok(())
 }
 
 #[test]
-fn fills_a_quiet_sink(rt: HostRuntime) -> Result<(), Fail> {
-    let mut sink = QuietSink::new(rt.alloc(), 5)?;
+fn fills_a_quiet_sink(rt: HostRuntime) {
+    let mut sink = QuietSink::new(rt.alloc(), 5).expect(&rt, "memory");
     let wrote = write_whole(&mut sink, TEXT);
-    assert_eq!(rt; wrote, Err(SinkFault::Stuck { at: 5 }));
-    assert_eq!(rt; sink.as_slice(), b"autom".as_slice());
-    Ok(())
+    expect(&rt, wrote == Err(SinkFault::Stuck { at: 5 }), "the answer");
+    expect(&rt, sink.as_slice() == b"autom".as_slice(), "the bytes");
 }
 
 /// What a test does to a file.
-#[derive(Clone, Copy, Debug)]
 enum Put {
     Create,
     Append(&'static [u8]),
@@ -171,20 +192,25 @@ enum Put {
     Dropped(&'static [u8]),
 }
 
+/// A file in the making, of these bytes.
+fn staged<S: Shelf>(shelf: &mut S, name: &str, bytes: &[u8]) -> Result<S::Stage, PutFault> {
+    let mut stage = shelf.begin(name)?;
+    shelf.add(&mut stage, bytes)?;
+    Ok(stage)
+}
+
 impl Put {
     /// Does it to the file of a name.
-    fn apply<S: Shelf>(self, shelf: &mut S, name: &str) -> Result<(), PutFault> {
+    fn apply<S: Shelf>(&self, shelf: &mut S, name: &str) -> Result<(), PutFault> {
         match self {
             Put::Create => shelf.create(name),
             Put::Append(bytes) => shelf.append(name, bytes),
             Put::Whole(bytes) => {
-                let mut stage = shelf.begin(name)?;
-                shelf.add(&mut stage, bytes)?;
+                let stage = staged(shelf, name, bytes)?;
                 shelf.publish(stage)
             }
             Put::Dropped(bytes) => {
-                let mut stage = shelf.begin(name)?;
-                shelf.add(&mut stage, bytes)?;
+                let stage = staged(shelf, name, bytes)?;
                 shelf.abandon(stage);
                 Ok(())
             }
@@ -195,6 +221,9 @@ impl Put {
 /// The files that a shelf in memory holds after one change, by name, with None for an absent one.
 type After = &'static [(&'static str, Option<&'static [u8]>)];
 
+/// A change of the file of a name, and the files after it.
+type Change = (&'static str, &'static str, Put, After);
+
 /// What a shelf of the four files holds of these names.
 const BEFORE: After = &[
     ("new", None),
@@ -202,9 +231,10 @@ const BEFORE: After = &[
     ("four", Some(b"abcd")),
 ];
 
-/// Changes of a shelf of the four files: what is done to which name, and the files after it.
-const PUTS: &[(&str, Put, After)] = &[
+/// Changes of a shelf of the four files.
+const CHANGES: &[Change] = &[
     (
+        "makes a file",
         "new",
         Put::Create,
         &[
@@ -214,11 +244,13 @@ const PUTS: &[(&str, Put, After)] = &[
         ],
     ),
     (
+        "empties a file",
         "three",
         Put::Create,
         &[("new", None), ("three", Some(b"")), ("four", Some(b"abcd"))],
     ),
     (
+        "adds to a file",
         "three",
         Put::Append(b"xy"),
         &[
@@ -228,6 +260,7 @@ const PUTS: &[(&str, Put, After)] = &[
         ],
     ),
     (
+        "adds to no file",
         "new",
         Put::Append(b"xy"),
         &[
@@ -237,6 +270,7 @@ const PUTS: &[(&str, Put, After)] = &[
         ],
     ),
     (
+        "replaces a file",
         "three",
         Put::Whole(b"xy"),
         &[
@@ -246,6 +280,7 @@ const PUTS: &[(&str, Put, After)] = &[
         ],
     ),
     (
+        "publishes a file",
         "new",
         Put::Whole(b"xy"),
         &[
@@ -254,54 +289,43 @@ const PUTS: &[(&str, Put, After)] = &[
             ("four", Some(b"abcd")),
         ],
     ),
-    ("three", Put::Dropped(b"xy"), BEFORE),
+    ("lets a file go", "three", Put::Dropped(b"xy"), BEFORE),
 ];
 
-/// Whether a shelf has the files of these names, each with these bytes.
+/// Whether a shelf holds these files.
 fn holds<S: Shelf>(alloc: Global, shelf: &mut S, files: After) -> bool {
     for (name, want) in files {
-        let read = read_whole(alloc, shelf, name, 9);
-        let same = match want {
-            Some(bytes) => read.is_ok_and(|read| read.as_slice() == *bytes),
-            None => read.is_err_and(|fault| fault == WholeFault::Missing),
-        };
-        if !same {
+        if !holds_file(alloc, shelf, name, *want) {
             return false;
         }
     }
     true
 }
 
-/// Changes a file and compares the files after it.
-fn expect_put<S: Shelf>(
-    rt: &impl Abort,
-    alloc: Global,
-    shelf: &mut S,
-    name: &str,
-    put: Put,
-    after: After,
-) {
-    assert_eq!(rt; put.apply(shelf, name), Ok(()), "{put:?} of {name}");
-    assert!(rt; holds(alloc, shelf, after), "{put:?} of {name}");
+/// Makes a change and compares the files after it.
+fn expect_put<S: Shelf>(rt: &impl Abort, alloc: Global, shelf: &mut S, change: &Change) {
+    let (name, file, put, after) = change;
+    expect(rt, put.apply(shelf, file) == Ok(()), name);
+    expect(rt, holds(alloc, shelf, after), name);
 }
 
-/// Changes a file where that fails, and compares the files after it.
-fn expect_no_put<S: Shelf>(rt: &impl Abort, alloc: Global, shelf: &mut S, name: &str, put: Put) {
-    assert_eq!(rt; put.apply(shelf, name), Err(PutFault::Failed));
-    assert!(rt; holds(alloc, shelf, BEFORE), "failed {put:?} of {name}");
+/// Makes a change where that fails, and compares the files after it.
+fn expect_no_put<S: Shelf>(rt: &impl Abort, alloc: Global, shelf: &mut S, change: &Change) {
+    let (name, file, put, _) = change;
+    expect(rt, put.apply(shelf, file) == Err(PutFault::Failed), name);
+    expect(rt, holds(alloc, shelf, BEFORE), name);
 }
 
 #[test]
-fn changes_files_in_memory(rt: HostRuntime) -> Result<(), Fail> {
+fn changes_files_in_memory(rt: HostRuntime) {
     let alloc = rt.alloc();
-    for (name, put, after) in PUTS {
-        let mut quiet = quiet_shelf(&rt, alloc)?;
-        expect_put(&rt, alloc, &mut quiet, name, *put, after);
-        let mut shelf = memory_shelf(&rt, alloc, &[1])?;
-        expect_no_put(&rt, alloc, &mut shelf, name, *put);
-        expect_put(&rt, alloc, &mut shelf, name, *put, after);
+    for change in CHANGES {
+        let mut quiet = quiet_shelf(&rt, alloc);
+        expect_put(&rt, alloc, &mut quiet, change);
+        let mut shelf = memory_shelf(&rt, alloc, &[1]);
+        expect_no_put(&rt, alloc, &mut shelf, change);
+        expect_put(&rt, alloc, &mut shelf, change);
     }
-    Ok(())
 }
 
 /// A writer that takes a byte a call, and fails where it has no more room.
@@ -330,28 +354,27 @@ impl Write for Narrow {
 }
 
 #[test]
-fn hands_texts_to_writers(rt: HostRuntime) -> Result<(), Fail> {
+fn hands_texts_to_writers(rt: HostRuntime) {
     let mut bytes = [0u8; 5];
     let mut short = StdSink::new(bytes.as_mut_slice());
-    assert_eq!(rt;
-        write_whole(&mut short, TEXT),
-        Err(SinkFault::Stuck { at: 5 })
-    );
+    let wrote = write_whole(&mut short, TEXT);
     drop(short);
-    assert_eq!(rt; bytes, *b"autom");
+    expect(&rt, wrote == Err(SinkFault::Stuck { at: 5 }), "no room");
+    expect(&rt, bytes == *b"autom", "the bytes");
     let mut enough = StdSink::new(Narrow { room: 16 });
-    assert_eq!(rt; write_whole(&mut enough, TEXT), Ok(()));
-    assert_eq!(rt; write_whole(&mut enough, TEXT), Err(SinkFault::Failed));
-    Ok(())
+    let wrote = write_whole(&mut enough, TEXT);
+    expect(&rt, wrote == Ok(()), "a byte a call");
+    let wrote = write_whole(&mut enough, TEXT);
+    expect(&rt, wrote == Err(SinkFault::Failed), "a writer fails");
 }
 
 /// So many bytes that differ by their places, also where these are a buffer's length apart.
-fn bytes_by_place(alloc: Global, count: u32) -> Result<Vec<u8>, AllocError> {
+fn bytes_by_place(rt: &impl Abort, alloc: Global, count: u32) -> Vec<u8> {
     let mut bytes = Vec::new(alloc);
     for place in 0..count {
-        bytes.push((place % 251) as u8)?;
+        bytes.push((place % 251) as u8).expect(rt, "memory");
     }
-    Ok(bytes)
+    bytes
 }
 
 /// The byte that a shelf gives of a file at an offset.
@@ -363,103 +386,106 @@ fn byte_at<S: Shelf>(shelf: &mut S, name: &str, at: u64) -> Option<u8> {
     }
 }
 
-/// Compares the bytes that a shelf gives of a file at these offsets.
-fn expect_bytes<S: Shelf>(rt: &impl Abort, shelf: &mut S, name: &str, bytes: &[(u64, Option<u8>)]) {
-    for (at, want) in bytes {
-        assert_eq!(rt; byte_at(shelf, name, *at), *want, "at {at}");
+/// Compares the bytes that a shelf gives of a file at these offsets, each behind its name.
+fn expect_bytes<S: Shelf>(
+    rt: &impl Abort,
+    shelf: &mut S,
+    file: &str,
+    bytes: &[(&str, u64, Option<u8>)],
+) {
+    for (name, at, want) in bytes {
+        expect(rt, byte_at(shelf, file, *at) == *want, name);
     }
 }
 
 const LONG: &str = "ta_shelf_test_file";
 
-#[test]
-fn reads_real_files(rt: HostRuntime) -> Result<(), Fail> {
-    let bytes = bytes_by_place(rt.alloc(), 20_000)?;
-    fs::write(&rt, LONG, bytes.as_slice())?;
-    let mut shelf = DiskShelf::new(rt.clone()?);
-    expect_lengths(
-        &rt,
-        rt.alloc(),
-        &mut shelf,
-        &[
-            (LONG, 19_999, Err(WholeFault::TooLong)),
-            (LONG, 20_000, Ok(20_000)),
-            ("ta_shelf_test_no_file", 3, Err(WholeFault::Missing)),
-            (".", 3, Err(WholeFault::Failed)),
-        ],
-    );
-    expect_whole(&rt, rt.alloc(), &mut shelf, LONG, bytes.as_slice());
-    expect_bytes(
-        &rt,
-        &mut shelf,
-        LONG,
-        &[
-            (16_384, Some(69)),
-            (5, Some(5)),
-            (6, Some(6)),
-            (12_000, Some(203)),
-            (20_000, None),
-        ],
-    );
-    fs::remove_file(&rt, LONG)?;
-    Ok(())
-}
-
-#[test]
-fn reads_on_in_one_file(rt: HostRuntime) -> Result<(), Fail> {
-    let name = "ta_shelf_test_swapped_file";
-    let newer = "ta_shelf_test_newer_file";
-    fs::write(&rt, name, b"old".as_slice())?;
-    fs::write(&rt, newer, b"new".as_slice())?;
-    let mut shelf = DiskShelf::new(rt.clone()?);
-    expect_bytes(&rt, &mut shelf, name, &[(0, Some(b'o'))]);
-    fs::rename(&rt, newer, name)?;
-    expect_bytes(
-        &rt,
-        &mut shelf,
-        name,
-        &[(1, Some(b'l')), (0, Some(b'n')), (2, Some(b'w'))],
-    );
-    fs::remove_file(&rt, name)?;
-    Ok(())
-}
-
-#[test]
-fn reads_pipes(rt: HostRuntime) -> Result<(), Fail> {
-    let bytes = bytes_by_place(rt.alloc(), 20_000)?;
-    let (reader, mut writer) = io::pipe(&rt)?;
-    writer.write_all(bytes.as_slice())?;
-    drop(writer);
-    let name = format!(in rt.alloc(); "/proc/self/fd/{}", reader.as_raw_fd())?;
-    let mut shelf = DiskShelf::new(rt.clone()?);
-    expect_whole(&rt, rt.alloc(), &mut shelf, name.as_str(), bytes.as_slice());
-    Ok(())
-}
-
-/// Changes a file, each change with what it holds then.
-const GROWS: &[(Put, &[u8])] = &[
-    (Put::Create, b""),
-    (Put::Append(b"ab"), b"ab"),
-    (Put::Append(b"cde"), b"abcde"),
-    (Put::Whole(b"xyz"), b"xyz"),
-    (Put::Dropped(b"uvw"), b"xyz"),
-    (Put::Create, b""),
+/// Bytes of the long file, or none, each at its offset.
+const BYTES: &[(&str, u64, Option<u8>)] = &[
+    ("behind a buffer", 16_384, Some(69)),
+    ("byte 5", 5, Some(5)),
+    ("byte 6", 6, Some(6)),
+    ("byte 12,000", 12_000, Some(203)),
+    ("the end", 20_000, None),
 ];
 
-/// Makes each change of a file of a name, and then of a folder, where it fails.
-fn expect_growth<S: Shelf>(rt: &impl Abort, alloc: Global, shelf: &mut S, name: &str) {
-    for (put, want) in GROWS {
-        assert_eq!(rt; put.apply(shelf, name), Ok(()), "{put:?}");
-        expect_whole(rt, alloc, shelf, name, want);
-        assert_eq!(rt; put.apply(shelf, "."), Err(PutFault::Failed), "{put:?}");
+/// Reads of a folder with the long file.
+const REAL_READS: &[(&str, Read)] = &[
+    ("too long", (LONG, 19_999, Err(WholeFault::TooLong))),
+    ("as long as the limit", (LONG, 20_000, Ok(20_000))),
+    (
+        "no such file",
+        ("ta_shelf_test_no_file", 3, Err(WholeFault::Missing)),
+    ),
+    ("a folder", (".", 3, Err(WholeFault::Failed))),
+];
+
+#[test]
+fn reads_real_files(rt: HostRuntime) {
+    let alloc = rt.alloc();
+    let bytes = bytes_by_place(&rt, alloc, 20_000);
+    fs::write(&rt, LONG, bytes.as_slice()).expect(&rt, LONG);
+    let mut shelf = DiskShelf::new(rt);
+    for (name, read) in REAL_READS {
+        expect_read(&rt, alloc, &mut shelf, read, name);
+    }
+    let same = holds_file(alloc, &mut shelf, LONG, Some(bytes.as_slice()));
+    expect(&rt, same, "all bytes");
+    expect_bytes(&rt, &mut shelf, LONG, BYTES);
+    fs::remove_file(&rt, LONG).expect(&rt, LONG);
+}
+
+#[test]
+fn reads_on_in_one_file(rt: HostRuntime) {
+    let file = "ta_shelf_test_swapped_file";
+    let newer = "ta_shelf_test_newer_file";
+    fs::write(&rt, file, b"old".as_slice()).expect(&rt, file);
+    fs::write(&rt, newer, b"new".as_slice()).expect(&rt, newer);
+    let mut shelf = DiskShelf::new(rt);
+    expect(&rt, byte_at(&mut shelf, file, 0) == Some(b'o'), "old file");
+    fs::rename(&rt, newer, file).expect(&rt, newer);
+    expect(&rt, byte_at(&mut shelf, file, 1) == Some(b'l'), "byte 1");
+    expect(&rt, byte_at(&mut shelf, file, 0) == Some(b'n'), "byte 0");
+    expect(&rt, byte_at(&mut shelf, file, 2) == Some(b'w'), "byte 2");
+    fs::remove_file(&rt, file).expect(&rt, file);
+}
+
+#[test]
+fn reads_pipes(rt: HostRuntime) {
+    let alloc = rt.alloc();
+    let bytes = bytes_by_place(&rt, alloc, 20_000);
+    let (reader, mut writer) = io::pipe(&rt).expect(&rt, "a pipe");
+    writer.write_all(bytes.as_slice()).expect(&rt, "a pipe");
+    drop(writer);
+    let file = format!(in alloc; "/proc/self/fd/{}", reader.as_raw_fd()).expect(&rt, "memory");
+    let mut shelf = DiskShelf::new(rt);
+    let same = holds_file(alloc, &mut shelf, file.as_str(), Some(bytes.as_slice()));
+    expect(&rt, same, "the bytes of a pipe");
+}
+
+/// Changes of a file, each with what it holds then.
+const GROWS: &[(&str, Put, &[u8])] = &[
+    ("makes it", Put::Create, b""),
+    ("adds to it", Put::Append(b"ab"), b"ab"),
+    ("adds to it again", Put::Append(b"cde"), b"abcde"),
+    ("replaces it", Put::Whole(b"xyz"), b"xyz"),
+    ("lets a file go", Put::Dropped(b"uvw"), b"xyz"),
+    ("empties it", Put::Create, b""),
+];
+
+/// Makes each change of a file, and then of a folder, where it fails.
+fn expect_growth<S: Shelf>(rt: &impl Abort, alloc: Global, shelf: &mut S, file: &str) {
+    for (name, put, want) in GROWS {
+        expect(rt, put.apply(shelf, file) == Ok(()), name);
+        expect(rt, holds_file(alloc, shelf, file, Some(*want)), name);
+        expect(rt, put.apply(shelf, ".") == Err(PutFault::Failed), name);
     }
 }
 
 #[test]
-fn changes_real_files(rt: HostRuntime) -> Result<(), Fail> {
-    let name = "ta_shelf_test_changed_file";
-    let mut shelf = DiskShelf::new(rt.clone()?);
-    expect_growth(&rt, rt.alloc(), &mut shelf, name);
-    fs::remove_file(&rt, name)?;
-    Ok(())
+fn changes_real_files(rt: HostRuntime) {
+    let file = "ta_shelf_test_changed_file";
+    let mut shelf = DiskShelf::new(rt);
+    expect_growth(&rt, rt.alloc(), &mut shelf, file);
+    fs::remove_file(&rt, file).expect(&rt, file);
 }

@@ -1,63 +1,71 @@
 //! The system without unknowns and rows, and what a branch counts.
 
-ghost use Rattle.std.specs.Prelude.{◌≢◌, ◌<◌, ◌^◌, pos, IfOk};
+ghost use Rattle.std.specs.Prelude.{◌≢◌, ◌<◌, ◌^◌, pos};
 ghost use Rattle.ta_linear.specs.Numbers.{InRange};
 ghost use Rattle.ta_dense.specs.Slack.{variables};
 
+use crate::expecting::expect;
 use crate::farkas::row;
-use std::alloc::{AllocError, Global};
-use std::test::Fail;
+use std::alloc::Global;
+use std::process::Abort;
 use ta_base::List;
 use ta_dense::{DenseDictionary, NarrowDictionary};
 use ta_linear::System;
 use ta_links::LinkedDictionary;
 use ta_simplex::{Branch, Effort, End, SolveFault, solve};
 
+/// Expects a vertex of no values.
+fn expect_no_values(rt: &impl Abort, end: Result<End, SolveFault>, name: &str) {
+    let none = match &end {
+        Ok(End::Vertex(values)) => values.as_slice().is_empty(),
+        _ => false,
+    };
+    expect(rt, none, name);
+}
+
 #[test]
-fn ends(rt: HostRuntime) -> Result<(), Fail> {
+fn ends(rt: HostRuntime) {
     let system = System {
         unknowns: 0,
-        rows: List::from_vec(Vec::new(rt.alloc())),
+        rows: List::empty(rt.alloc()),
     };
     let dense = solve::<DenseDictionary>(rt.alloc(), &system);
-    assert!(rt; matches!(&dense, Ok(End::Vertex(values)) if values.as_slice().is_empty()));
+    expect_no_values(&rt, dense, "dense rows");
     let linked = solve::<LinkedDictionary>(rt.alloc(), &system);
-    assert!(rt; matches!(&linked, Ok(End::Vertex(values)) if values.as_slice().is_empty()));
-    Ok(())
+    expect_no_values(&rt, linked, "linked rows");
 }
 
 // So many times the first of three unknowns is at least 1.
-fn multiple(alloc: Global, times: i128) -> Result<System, AllocError>
+fn multiple(rt: &impl Abort, alloc: Global, times: i128) -> System
     requires some { times ≢ pos 0 }
     requires fits { InRange times }
-    ensures { IfOk result (λ s. variables s < 2 ^ 32) }
+    ensures { variables result < 2 ^ 32 }
 {
-    let rows = vec![in alloc; row(-1, vec![in alloc; (0, times)]?)]?;
-    Ok(System {
+    let rows = vec![in alloc; row(rt, alloc, -1, &[(0, times)])].expect(rt, "memory");
+    System {
         unknowns: 3,
         rows: List::from_vec(rows),
-    })
+    }
 }
 
 // What a branch counts of two systems, each of one pivot, that share no row. The
 // numbers of the second have more than 32 bits.
-fn counted(alloc: Global) -> Result<Effort, SolveFault> {
+fn counted(rt: &impl Abort, alloc: Global) -> Effort {
     let mut branch: Branch<NarrowDictionary> = Branch::new(alloc);
-    let small = multiple(alloc, 2)?;
-    let large = multiple(alloc, 1_099_511_627_776)?;
-    branch.solve(alloc, &small, 0)?;
-    branch.solve(alloc, &large, 0)?;
-    Ok(branch.effort())
+    let small = multiple(rt, alloc, 2);
+    let large = multiple(rt, alloc, 1_099_511_627_776);
+    branch.solve(alloc, &small, 0).expect(rt, "small numbers");
+    branch.solve(alloc, &large, 0).expect(rt, "large numbers");
+    branch.effort()
 }
 
 #[test]
-fn counts(rt: HostRuntime) -> Result<(), Fail> {
+fn counts(rt: HostRuntime) {
     let effort = Effort {
         pivots: 2,
         begun: 2,
         widened: 1,
         given_up: 0,
     };
-    assert_eq!(rt; counted(rt.alloc()), Ok(effort));
-    Ok(())
+    expect(&rt, counted(&rt, rt.alloc()) == effort, "counts");
 }

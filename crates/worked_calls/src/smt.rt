@@ -2,11 +2,11 @@
 
 ghost use Rattle.std.specs.Prelude.{◌≡◌, []};
 ghost use Rattle.ta_linear.specs.Numbers.{InRange};
-ghost use Rattle.ta_linear.specs.Rows.{AllBelow};
 
+use crate::expecting::expect;
 use crate::farkas::row;
-use std::alloc::{AllocError, Global};
-use std::test::Fail;
+use std::alloc::Global;
+use std::process::Abort;
 use ta_base::List;
 use ta_linear::{Form, Row, System};
 use ta_smt::smt_text;
@@ -50,47 +50,46 @@ fn constant_row(alloc: Global, constant: i128) -> Row
     }
 }
 
-/// The text of a system without unknowns.
-fn text_of_constants(alloc: Global, rows: Vec<Row>) -> Result<String, AllocError>
-    requires { AllBelow 0 rows.items }
-{
-    let system = System {
-        unknowns: 0,
-        rows: List::from_vec(rows),
-    };
-    Ok(smt_text(alloc, &system)?.into_string())
+/// Compares the text of a system.
+fn expect_script(rt: &impl Abort, alloc: Global, system: System, want: &str) {
+    let text = smt_text(alloc, &system).expect(rt, "memory");
+    expect(rt, text.as_str() == want, want);
 }
 
 #[test]
-fn writes_systems_without_unknowns(rt: HostRuntime) -> Result<(), Fail> {
+fn writes_systems_without_unknowns(rt: HostRuntime) {
     let alloc = rt.alloc();
-    assert_eq!(rt;
-        text_of_constants(alloc, Vec::new(alloc))?.as_str(),
-        NOTHING
-    );
+    let empty = System {
+        unknowns: 0,
+        rows: List::empty(alloc),
+    };
+    expect_script(&rt, alloc, empty, NOTHING);
     let rows = vec![in alloc;
         constant_row(alloc, 0),
         constant_row(alloc, -1),
         constant_row(alloc, MOST),
-    ]?;
-    assert_eq!(rt; text_of_constants(alloc, rows)?.as_str(), CONSTANTS);
-    Ok(())
+    ]
+    .expect(&rt, "memory");
+    let system = System {
+        unknowns: 0,
+        rows: List::from_vec(rows),
+    };
+    expect_script(&rt, alloc, system, CONSTANTS);
 }
 
 #[test]
-fn writes_wide_numbers(rt: HostRuntime) -> Result<(), Fail> {
+fn writes_wide_numbers(rt: HostRuntime) {
     let alloc = rt.alloc();
     let rows = vec![in alloc;
         constant_row(alloc, 0),
-        row(0, vec![in alloc; (0, 1), (2, -1)]?),
-        row(-1, vec![in alloc; (0, WIDE), (1, -1), (2, -WIDE)]?),
-        row(MOST, vec![in alloc; (1, 1), (2, -MOST)]?),
-    ]?;
+        row(&rt, alloc, 0, &[(0, 1), (2, -1)]),
+        row(&rt, alloc, -1, &[(0, WIDE), (1, -1), (2, -WIDE)]),
+        row(&rt, alloc, MOST, &[(1, 1), (2, -MOST)]),
+    ]
+    .expect(&rt, "memory");
     let system = System {
         unknowns: 3,
         rows: List::from_vec(rows),
     };
-    let text = smt_text(alloc, &system)?;
-    assert_eq!(rt; text.as_str(), WIDE_ROWS);
-    Ok(())
+    expect_script(&rt, alloc, system, WIDE_ROWS);
 }

@@ -1,8 +1,6 @@
 //! Templates: how they are read, refused and filled.
 
-use std::alloc::Global;
-use std::process::Abort;
-use std::test::Fail;
+use crate::expecting::expect;
 use ta_search::{TemplateFault, fill, read_template};
 
 /// Refused texts, each with its first error.
@@ -31,27 +29,23 @@ const REFUSED: &[(&str, TemplateFault)] = &[
     ),
 ];
 
-/// Compares the error of a text with the one beside it.
-fn expect(rt: &impl Abort, alloc: Global, text: &str, fault: TemplateFault) {
-    assert!(rt; text.len() <= 1_048_576);
-    assert_eq!(rt; read_template(alloc, text.as_bytes()).err(), Some(fault));
-}
-
 #[test]
-fn refuses_templates(rt: HostRuntime) -> Result<(), Fail> {
+fn refuses_templates(rt: HostRuntime) {
     for (text, fault) in REFUSED {
-        expect(&rt, rt.alloc(), text, *fault);
+        assert!(rt; text.len() <= 1_048_576);
+        let refused = read_template(rt.alloc(), text.as_bytes()).err();
+        expect(&rt, refused == Some(*fault), text);
     }
-    Ok(())
 }
 
 #[test]
-fn fills_templates(rt: HostRuntime) -> Result<(), Fail> {
+fn fills_templates(rt: HostRuntime) {
     let text = b"hole c 0 2\nhole d2 7 7\nbegin\nn >= $c*t+$d2; # $d2-$c.\n";
-    let template = read_template(rt.alloc(), text.as_slice())?;
+    let template = read_template(rt.alloc(), text.as_slice()).expect(&rt, "a template");
     let values = [1u32, 7];
     assert!(rt; template.holes.as_slice().len() == values.len());
-    let filled = fill(rt.alloc(), &template, values.as_slice())?;
-    assert_eq!(rt; filled.as_slice(), b"n >= 1*t+7; # 7-1.\n".as_slice());
-    Ok(())
+    let filled = fill(rt.alloc(), &template, values.as_slice());
+    let filled = filled.expect(&rt, "memory");
+    let same = filled.as_slice() == b"n >= 1*t+7; # 7-1.\n".as_slice();
+    expect(&rt, same, "the filled text");
 }

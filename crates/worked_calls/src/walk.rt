@@ -2,7 +2,6 @@
 
 use std::alloc::{AllocError, Global};
 use std::sync::atomic::{AtomicU64, Ordering};
-use std::test::Fail;
 use ta_dense::{
     DenseDictionary, DensePivot, Dictionary, ExtendFault, NarrowDictionary, PivotFault,
 };
@@ -103,14 +102,13 @@ impl Dictionary for NoRoom {
 }
 
 #[test]
-fn walks_without_room(rt: HostRuntime) -> Result<(), Fail> {
-    let scoped = read_file(rt.alloc(), FILE)?;
+fn walks_without_room(rt: HostRuntime) {
+    let scoped = read_file(rt.alloc(), FILE).expect(&rt, "a file");
     assert!(rt; !scoped.file().patterns.as_slice().is_empty());
     let orders = Orders::new();
     let tree = ClaimTree::new(Claim::Safe, scoped.file(), 0, &orders);
     assert!(rt; walk::<NoRoom, HostRuntime>(&rt, rt.alloc(), &tree, 10).is_err());
     assert!(rt; walk::<DenseDictionary, HostRuntime>(&rt, rt.alloc(), &tree, 10).is_ok());
-    Ok(())
 }
 
 /// A gate at which each half waits until another one came, for so long that it may be said that none
@@ -135,12 +133,12 @@ impl Gate for Meeting {
 
 // Halves that are visited one after the other never meet.
 #[test]
-fn halves_meet(rt: HostRuntime) -> Result<(), Fail> {
-    let tree = make_family(rt.alloc(), 2)?;
-    let text = print_tree(rt.alloc(), &tree)?;
+fn halves_meet(rt: HostRuntime) {
+    let tree = make_family(rt.alloc(), 2).expect(&rt, "a tree");
+    let text = print_tree(rt.alloc(), &tree).expect(&rt, "memory");
     let bytes = text.as_str().as_bytes();
     assert!(rt; bytes.len() <= 1_048_576);
-    let scoped = read_file(rt.alloc(), bytes)?;
+    let scoped = read_file(rt.alloc(), bytes).expect(&rt, "a file");
     assert!(rt; !scoped.file().patterns.as_slice().is_empty());
     let gate = Meeting {
         came: AtomicU64::new(0),
@@ -154,21 +152,20 @@ fn halves_meet(rt: HostRuntime) -> Result<(), Fail> {
         &tree,
         1_000,
         &gate,
-    )?;
+    ).expect(&rt, "memory");
     assert!(rt; matches!(end, WalkEnd::Refuted { count: 10, .. }));
     assert!(rt; gate.vain.load(Ordering::SeqCst) == 0);
-    Ok(())
 }
 
 // At rest nobody is in A, so the word of the event is refuted.
 #[test]
-fn words_of_rest_are_walked(rt: HostRuntime) -> Result<(), Fail> {
-    let scoped = read_file(rt.alloc(), LEFT)?;
-    let rest = rest_scope(rt.alloc(), scoped)?;
+fn words_of_rest_are_walked(rt: HostRuntime) {
+    let scoped = read_file(rt.alloc(), LEFT).expect(&rt, "a file");
+    let rest = rest_scope(rt.alloc(), scoped).expect(&rt, "the scope of rest");
     assert!(rt; !rest.ending().file().patterns.as_slice().is_empty());
     let orders = Orders::new();
     let tree = ClaimTree::new(Claim::RestSafe, rest.ending().file(), 0, &orders);
-    let end = walk::<NarrowDictionary, HostRuntime>(&rt, rt.alloc(), &tree, 10)?;
+    let end = walk::<NarrowDictionary, HostRuntime>(&rt, rt.alloc(), &tree, 10);
+    let end = end.expect(&rt, "memory");
     assert!(rt; matches!(end, WalkEnd::Refuted { count: 2, .. }));
-    Ok(())
 }

@@ -4,9 +4,9 @@ use Rattle.ta_linear.proofs.TermLemmas.{IsNormal-higher}
 use Rattle.worked_calls.proofs.farkas.row_over.Goals as goal
 
 pub invariant_of-form-clause-normal : goal.invariant_of-form-clause-normal
-invariant_of-form-clause-normal c =
+invariant_of-form-clause-normal g c =
     let n = c.args.unknowns in
-    let same = c.from_vec.ensures in
+    let same = c.list_of.ensures in
     let below : n ≤ 2 ^ 32 = omega arith in
-    let narrow : IsNormal 0 n c.from_vec.result = rw same c.requires.terms in
-    IsNormal-higher 0 n (2 ^ 32) c.from_vec.result below narrow
+    let narrow : IsNormal 0 n c.list_of.result = rw same c.requires.terms in
+    IsNormal-higher 0 n (2 ^ 32) c.list_of.result below narrow
