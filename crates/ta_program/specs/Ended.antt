@@ -22,10 +22,10 @@ pub record Ended : Type 0 where
 abbrev pub Saw : Ended → (View → Type 0) → Type 0
 Saw r Such = Grew (λ read. Such (seen r.before.files read)) r.before.calls r.after.calls
 
--- it read, and made files with these names alone; what it saw is such
+-- it began files with these names, discarded them, and read; what it saw is such. Of the calls that changed files after that it says nothing
 abbrev pub Did : Ended → List (List ℕ) → (View → Type 0) → Type 0
 Did r names Such = Acts names (λ read made. Such (seen r.before.files read)) r.before.calls r.after.calls
 
--- the same of what it saw and of the calls that made the files
+-- the same, and such are what it saw and the calls that changed files after it had read
 abbrev pub Made : Ended → List (List ℕ) → (View → List Put → Type 0) → Type 0
 Made r names Such = Acts names (λ read made. Such (seen r.before.files read) made) r.before.calls r.after.calls

@@ -7,7 +7,8 @@
 //! end is that of one thread. Where there is no memory for a vector, none behind it is tried in
 //! parallel, and it is tried again alone.
 //!
-//! Cost: at worst 16 threads, since each vector's walk forks too, and three vectors tried in vain.
+//! Cost: at worst four times the threads of a walk, since each vector's walk forks too, and three
+//! vectors tried in vain.
 #![tactic(auto)]
 
 ghost use Rattle.std.specs.Prelude.{◌≡◌, ◌≤◌, ◌<◌, IfOk, IfSome};
@@ -29,6 +30,9 @@ use std::thread::{Threads, join};
 use ta_base::limits::MOST_NODES;
 use ta_verdict::Budget;
 use ta_walk::most_beside;
+
+/// In how many parts vectors are tried at most.
+const MOST_PARTS: u64 = 4;
 
 /// A vector that was tried, behind its number.
 #[derive(Drop)]
@@ -79,7 +83,7 @@ impl Board {
 }
 
 /// Tries vectors of a template beside each other, where there are several and processors for them, in
-/// as many parts as a walk has at most. What comes of each stands at its number.
+/// four parts at most. What comes of each stands at its number.
 pub(crate) fn try_beside<R: Threads + Sync>(
     rt: &R,
     alloc: Global,
@@ -92,7 +96,7 @@ pub(crate) fn try_beside<R: Threads + Sync>(
     requires limit { budget.nodes ≤ MOST_NODES }
     ensures { IfOk result (λ places. AtHand template.now budget places.items) }
 {
-    let parts = (1 + most_beside(rt)).min(count);
+    let parts = (1 + most_beside(rt)).min(MOST_PARTS).min(count);
     if parts < 2 {
         return Ok(Vec::new(alloc));
     }

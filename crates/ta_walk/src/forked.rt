@@ -124,13 +124,14 @@ pub fn visit<'v, D: Dictionary, K: PartKeeper, R: Threads + Sync, G: Gate>(
     }
 }
 
-/// How many parts run beside a first one at most: no more than there are processors for.
+/// How many parts run beside a first one at most: no more than there are processors for, and none
+/// where nobody knows how many there are.
 pub fn most_beside<R: Threads>(rt: &R) -> u64
-    ensures { result ≤ 3 }
+    ensures { result ≤ 63 }
 {
     match available_parallelism(rt) {
         Ok(count) => (count.get() as u64).saturating_sub(1).min(BESIDE),
-        Err(_) => BESIDE,
+        Err(_) => 0,
     }
 }
 

@@ -33,13 +33,13 @@ pub(crate) struct Part<K: Drop> {
 }
 
 /// How many parts run beside the first one at most.
-pub(crate) const BESIDE: u64 = 3;
+pub(crate) const BESIDE: u64 = 63;
 
 /// How many nodes a part visits before words of it are given to another one.
 const EACH: u64 = 16;
 
-/// How many counts of nodes there are.
-const COUNTS: usize = 128;
+/// How many counts of nodes there are: four for each part that may run.
+const COUNTS: usize = 256;
 
 /// How many nodes were visited from a place on. Nobody counts where the place is the greatest number.
 #[derive(Drop)]
