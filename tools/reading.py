@@ -123,6 +123,35 @@ def pattern_of(automaton, name):
     raise Stop(4, f"no pattern {name} in the file: it has {', '.join(it.name for it in automaton.patterns) or 'none'}")
 
 
+# ---- comments for scripts
+COMMENTS = ("expect", "silent", "never", "next", "sums", "own", "across")
+COMMENT = re.compile(r"#:[ \t]*(\w*)[ \t]*(.*?)[ \t\r]*$")
+
+
+def told_in(text, name, word):
+    """What the comments `#: WORD ..` of a file say: (the number of the line, what stands behind the word). No other words are taken."""
+    found = []
+    for number, line in enumerate(text.decode(errors="replace").split("\n"), 1):
+        told = COMMENT.search(line)
+        if told and told[1] not in COMMENTS:
+            kinds = "`#:` begins an expectation: #: expect PATTERN safe; or names: #: silent f; or #: never rule r; or rounds: #: next E -> J"
+            raise Stop(3, f"{name}:{number}: {kinds}")
+        if told and told[1] == word:
+            found.append((number, told[2]))
+    return found
+
+
+def listed_in(text, name, word):
+    """What these comments list, with commas between and each once -> the number of its line."""
+    found = {}
+    for number, told in told_in(text, name, word):
+        for part in (" ".join(it.split()) for it in told.split(",")):
+            if not part or part in found:
+                raise Stop(3, f"{name}:{number}: nothing, or a second time: #: {word} {part}")
+            found[part] = number
+    return found
+
+
 # ---- the words of a legal file
 PIECE = re.compile(r"#[^\n]*|[A-Za-z_][A-Za-z0-9_]*|[0-9]+|\+=|->|<=|==|>=|\S")
 
