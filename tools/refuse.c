@@ -1,6 +1,7 @@
 /* Refuses one request for memory of a program into which it is loaded (LD_PRELOAD), by number: REFUSED=5 is
    the fifth, and 0 is none. Into the descriptor REFUSED_TO it writes a line "refused" where it refused it, and
-   at the end how many requests there were. tools/hostile compiles and uses it, over the C library of GNU. */
+   at the end how many requests there were. PROCESSORS=64 says that the program may run on so many. tools/hostile
+   compiles and uses it, over the C library of GNU. */
 #include <errno.h>
 #include <stdio.h>
 #include <stdlib.h>
@@ -50,6 +51,18 @@ static int is_refused(void)
     tell("refused\n");
     errno = ENOMEM;
     return 1;
+}
+
+int sched_getaffinity(pid_t process, size_t size, void *mask)
+{
+    const char *number = getenv("PROCESSORS");
+    unsigned char *bytes = mask;
+    memset(mask, 0, size);
+    if (!number)
+        return syscall(SYS_sched_getaffinity, process, size, mask) < 0 ? -1 : 0;
+    for (size_t i = 0; i < 8 * size && i < (size_t)atol(number); i++)
+        bytes[i / 8] |= 1 << i % 8;
+    return 0;
 }
 
 void *malloc(size_t size)

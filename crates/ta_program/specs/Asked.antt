@@ -40,7 +40,7 @@ abbrev pub IsNoCommand : Asked → Type 0
 IsNoCommand NoCommand = Unit {0}
 IsNoCommand (Command legal m) = ⊥
 
--- a legal FILE is never refused with status 3
+-- files that are legal for the command are never refused with status 3
 abbrev pub PassesWhere : (Told → Type 0) → Meaning → Type 0
 PassesWhere legal m = (told : Told) (line : List ℕ) → legal told → ¬ m.refuses (in_files told) 3 line
 
@@ -63,7 +63,7 @@ pub record OfNoCommand (number : ℕ) (before after : State) : Type 0 where
   pub out : after.out ≡ before.out
   pub told : Tells usage_line before.err after.err
 
--- the command is done; known files determine its answer, and a legal FILE passes
+-- the command is done; known files determine its status, and a legal FILE passes
 pub record IsObeyed (legal : Told → Type 0) (m : Meaning) (number : ℕ) (before after : State) : Type 0 where
   pub performs : Performs m number before after
   pub decides : Decides m

@@ -35,7 +35,7 @@ abbrev pub HindersCertificate : File → Pick → Budget → Option (List ℕ) �
 HindersCertificate file pick budget None number line = ⊥
 HindersCertificate file pick budget (Some out) number line = IsLong file pick budget out number line
 
--- the certificate is put in the file with this name; the checker accepts it as one of exactly these patterns
+-- the certificate is put in the file with this name; the checker accepts it as one of exactly the patterns that are safe by the verdicts
 pub record PutsOne (file : File) (pick : Pick) (budget : Budget) (verdicts : List Verdict) (out : List ℕ) (puts : List Put) : Type 0 where
   pub put : Put
   pub only : puts ≡ put ∷ []

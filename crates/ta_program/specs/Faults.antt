@@ -24,7 +24,7 @@ pub record HinderOnce (m : Meaning) (told : Told) : Type 0 where
   pub one : HinderAlike m m told
 
 -- with status 3 and 4 the line says why known files refuse the command; and if they refuse it, the status is the one that belongs to the
--- reason, and exactly this line is printed, statuses 6 and 7 aside
+-- reason, and this line is printed, or as much of it as standard error takes, statuses 6 and 7 aside
 pub record NamesFault (m : Meaning) (told : Told) (number : ℕ) (before after : SinkState) : Type 0 where
   pub hindered : 3 ≤ number → number ≤ 4 → (line : List ℕ) × m.refuses (in_files told) number line × Tells line before after
   pub just : (expected : ℕ) (line : List ℕ) → m.refuses (in_files told) expected line → ((number ≡ expected) × Tells line before after)
@@ -35,8 +35,8 @@ abbrev pub OfCommand : (Meaning → Type 0) → Asked → Type 0
 OfCommand Fact NoCommand = Unit {0}
 OfCommand Fact (Command legal m) = Fact m
 
--- known files refuse what the words ask for with at most one line, and a run prints that line; so it names the first error of the first
--- file that is refused
+-- known files refuse what the words ask for with at most one line, and a run prints that line, statuses 6 and 7 aside; so it names the
+-- first error of the first file that is refused
 pub record FaultsAreNamed : Type 0 where
   pub one : (words : List (List ℕ)) (told : Told) → OfCommand (λ m. HinderOnce m told) (request_of words)
   pub named : (words : List (List ℕ)) (number : ℕ) (before after : State) → Runs (request_of words) number before after → (told : Told)

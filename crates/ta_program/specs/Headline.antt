@@ -1,8 +1,10 @@
--- What an exit status claims, and no more. `verify FILE` with status 0: FILE holds a text that means an automaton with patterns, and each
--- of these patterns occurs in no run; with status 1: some pattern occurs in a run. With `--pattern NAME`: the pattern with this name.
--- `check FILE CERT` with status 0 or 2: each pattern that is printed as proved occurs in no run. `rest FILE` and `rest-check FILE CERT`,
--- without silent names: of each pattern that is printed as safe or proved, no run in which it occurs is at rest (a deadlock) where its last
--- event happens. To believe this, read these definitions and those that they name, and no others.
+-- What an exit status claims, and no more. `verify FILE` with status 0: FILE holds a text that means an automaton and its patterns, if any,
+-- and each of these patterns occurs in no run; with status 1: some pattern occurs in a run; with 0, 1 or 2, in lines: each pattern with a
+-- line `safe` occurs in no run. With `--pattern NAME`: the pattern with this name. `check FILE CERT` with status 0 or 2: each pattern with a
+-- line `proved` occurs in no run. `replay FILE RUN` with status 0: the pattern that RUN names occurs in the run of which RUN is the text.
+-- `rest FILE` and `rest-check FILE CERT`, without silent names: of each pattern with a line `rest safe` or `rest proved`, no run in which it
+-- occurs is at rest (a deadlock) where its last event happens. To believe this, read these definitions and those that they name, and no
+-- others.
 use Rattle.std.specs.Prelude.{ℕ, ◌≤◌, ◌≡◌, false, List, codes, slice_get, Option, None, Some}
 use Rattle.ta_syntax.specs.Grammar.{PlainTree}
 use Rattle.ta_syntax.specs.TreeOf.{IsTextOf}

@@ -21,7 +21,7 @@ use Rattle.ta_shelf.specs.Sights.{View}
 use Rattle.ta_shelf.specs.Stages.{FileMeans, Kind}
 use Rattle.ta_program.specs.declared.limits.TheConstants.{CERTIFICATE, FILE, RUN}
 
--- FILE: bytes that mean an automaton with patterns, or have a first error
+-- FILE: bytes that mean an automaton and its patterns, if any, or have a first error
 abbrev pub file_kind : Kind File FileFault
 file_kind = record { limit = FILE; means = Legal; at_fault = FirstFault; broken = λ bytes fault. ⊥; words = file_fault_text }
 
@@ -56,7 +56,7 @@ pub record IsReplayFault (file : File) (bytes : List ℕ) (found : RunFault) : T
   pub text : IsRunText file run bytes
   pub first : ReplayFault file run found
 
--- the first error of a text as a run of a file, or of its replay; so it is not the text of a run that shows its pattern
+-- the first error of a text as a run of a file, or of its replay; so it is not the text of a run that shows its pattern in range
 pub record RunFaultIn (file : File) (bytes : List ℕ) (found : RunFault) : Type 0 where
   pub no_memory : found ≢ fault.Memory
   pub first : TextFault file bytes found ⊎ IsReplayFault file bytes found

@@ -46,16 +46,16 @@ use Rattle.ta_program.specs.WordAsked.{WordAsked}
 abbrev pub Exits : ℕ → ℕ → Type 0
 Exits exit wanted = (exit ≡ wanted) ⊎ ((exit ≡ 6) ⊎ (exit ≡ 7))
 
--- `verify FILE` with status 0, 1 or 2, whatever its options: FILE is legal, what is said of the parameters holds, each verdict holds, the
--- verdicts give the status, and the output gained the report: 1 if some pattern is unsafe, otherwise 2 if some pattern is unknown,
--- otherwise 0
+-- `verify FILE` with status 0, 1 or 2, whatever its options: FILE is legal, what is said of the parameters holds, each verdict holds, and
+-- the output gained the report. The status is 1 if some pattern is unsafe, otherwise 2 if some pattern is unknown, or if `--all` is asked
+-- for and there is no pattern or no parameters are known, otherwise 0
 abbrev pub VerifyReports : Ended → Type 0
 VerifyReports r = (asked : VerifyWords) → verify_of r.words ≡ Some asked → r.status ≤ 2
     → Did r (may_put asked.out) (λ view. ReportHolds r.status view asked r.before.written r.after.written)
 
--- `verify FILE --certificate OUT` with status 0, 1 or 2: the report holds, OUT holds the certificate of the patterns that it calls safe,
--- which `check` accepts as one of exactly these, and every other file is unchanged; the log records that exactly this text was put in the
--- place of OUT, whole
+-- `verify FILE --certificate OUT` with status 0, 1 or 2: the report holds, and the log records that the certificate of the patterns that it
+-- calls safe, which `check` accepts as one of exactly these, was put in the place of OUT, whole. If the files are known, OUT holds it and
+-- every other file is unchanged
 abbrev pub CertificateWritten : Ended → Type 0
 CertificateWritten r = (asked : VerifyWords) (out : List ℕ) → verify_of r.words ≡ Some asked → asked.out ≡ Some out → r.status ≤ 2
     → Made r (may_put asked.out) (λ view made.
@@ -102,16 +102,17 @@ Exports r = (asked : WordAsked) → export_of r.words ≡ Some asked → r.statu
     → Saw r (λ view. ExportHolds view asked r.before.written r.after.written)
 
 -- `admit FILE PATTERN START WORD VALUES` with status 0: FILE is legal and has the complete schema, VALUES solve its system, and the output
--- gained the text of their run, which shows the pattern. If known files have all that, the status is 0, 6 and 7 aside
+-- gained the text of their run, which shows the pattern. If known files have all that, and the run stays in range, the status is 0, 6 and 7
+-- aside
 pub record Admitting (r : Ended) : Type 0 where
   pub holds : (all : AdmitAsked) → admit_of r.words ≡ Some all → r.status ≡ 0
       → Saw r (λ view. AdmitHolds view all r.before.written r.after.written)
   pub exact : (all : AdmitAsked) (told : Told) → admit_of r.words ≡ Some all → r.before.files ≡ Some told → IsAdmitted told all → Exits r.status 0
 
 -- `rest FILE` with status 0, 1 or 2, whatever its options: FILE is legal and its cycles are self-loops, so the number of other steps of a
--- run is bounded; what is said of the parameters holds, each verdict on runs that come to rest holds, the verdicts give the status, and the
--- output gained the report. With `--certificate OUT`, OUT holds the certificate of the patterns that are called safe at rest, which
--- `rest-check` accepts as one of exactly these, and every other file is unchanged
+-- run is bounded; what is said of the parameters holds, each verdict on runs that come to rest holds, they and `--all` give the status as with
+-- `verify`, and the output gained the report. With `--certificate OUT` the certificate of the patterns that are called safe at rest, which
+-- `rest-check` accepts as one of exactly these, was put in the place of OUT; if the files are known, every other file is unchanged
 pub record RestsReport (r : Ended) : Type 0 where
   pub report : (asked : RestWords) → rest_of r.words ≡ Some asked → r.status ≤ 2
       → Did r (may_put asked.verify.out) (λ view. RestReportHolds r.status view asked r.before.written r.after.written)
@@ -133,9 +134,9 @@ pub record RestProves (r : Ended) : Type 0 where
 
 -- `search FILE` with status 0, 1 or 2, whatever its options: FILE is a template, and the output gained the text of the search for values of
 -- its holes, in lines or in JSON: its vectors were tried in order, each is listed once with an outcome that holds, up to the first that is
--- Safe. With 0 every pattern of the last filled text is safe and some parameters have an initial configuration; OUT2 holds that text, and
--- OUT a certificate of it, which `check` accepts as one of all its patterns. With 1 and 2 every file is unchanged; 2 means that some outcome
--- is unknown
+-- Safe. With 0 every pattern of the last filled text is safe and some parameters have an initial configuration; that text was put in
+-- the place of OUT2, and in that of OUT a certificate of it, which `check` accepts as one of all its patterns. With 1 and 2 no file is put
+-- in its place; if the files are known, they are unchanged. 2 means that some outcome is unknown
 abbrev pub Searches : Ended → Type 0
 Searches r = (asked : SearchWords) → search_of r.words ≡ Some asked → r.status ≤ 2
     → Made r (found_names asked) (λ view made.
@@ -158,8 +159,9 @@ SafeAsShown r = (asked : VerifyWords) → verify_of r.words ≡ Some asked → r
 -- safe. For `rest` and `rest-check`, by lines or in JSON: of a
 -- pattern that is `rest safe` or `rest proved` no run comes to rest with its last event at the end, and it occurs for ever in no fair
 -- infinite run; of one that is `rest unsafe` the printed run comes to rest so. With `--silent NAMES` the same holds of quiet rest, and of
--- runs that are fair where these are silent. With status 0, 1 or 2 of `search`, by lines or in JSON, each outcome that it lists is so of the
--- filled text, and it ends with `found` exactly with 0; with status 0 or 2 of `bench` the pattern of its automaton is safe
+-- runs that are fair where these are silent. With status 0, 1 or 2 of `search`, by lines or in JSON, each outcome that it lists as safe,
+-- unsafe or without parameters is so of the filled text, and it ends with `found` exactly with 0; with status 0 or 2 of `bench` the pattern
+-- of its automaton is safe
 pub record PrintedHolds (r : Ended) : Type 0 where
   pub safe : (asked : VerifyWords) → verify_of r.words ≡ Some asked → r.status ≤ 2
       → Did r (may_put asked.out) (λ view. EachToldSafe runs.Safe false asked.json view asked.file r.before.written r.after.written)
@@ -200,8 +202,8 @@ abbrev pub ExactlySo : ℕ → Asked → Option Told → Type 0
 ExactlySo exit NoCommand files = Unit {0}
 ExactlySo exit (Command legal m) files = Exact m files exit
 
--- the calls are those of the command that is asked for, and no others: those that read, unless an output cannot be begun, and those on
--- staged files of its outputs; no call creates a file or appends to one in its place
+-- the calls are those of the command that is asked for, and no others: those that read, or none of them, and those on staged files
+-- of its outputs; no call creates a file or appends to one in its place
 abbrev pub Opens : Asked → List Event → List Event → Type 0
 Opens NoCommand calls calls' = calls' ≡ calls
 Opens (Command legal m) calls calls' = Acts m.puts (λ read made. (m.opens read ⊎ (read ≡ [])) × AreOfStages m.puts made) calls calls'
@@ -211,15 +213,15 @@ abbrev pub put_by : Asked → List (List ℕ)
 put_by NoCommand = []
 put_by (Command legal m) = m.puts
 
--- every file is unchanged, except OUT if `--certificate OUT` is asked for, and OUT2 if `--filled OUT2` is; with 3, 4 and 5 these are
+-- every known file is unchanged, except OUT if `--certificate OUT` is asked for, and OUT2 if `--filled OUT2` is; with 3, 4 and 5 these are
 -- unchanged too, and with 6 and 7 if no publishing was refused
 pub record KeepsFiles (exit : ℕ) (words : List (List ℕ)) (before after : ShelfState) : Type 0 where
   pub others : KeptBut (put_by (request_of words)) before.files after.files
   pub refused : 3 ≤ exit → exit ≤ 5 → after.files ≡ before.files
   pub spared : Spares (put_by (request_of words)) exit before after
 
--- before a call changes a file, the reads of this run showed FILE's bytes, that no output held just these, and that two outputs lead to
--- different places
+-- before a call changes a file, the reads of this run showed FILE's bytes, that no output that can be read again held just these, and that
+-- two outputs lead to different places
 abbrev pub ComparesFirst : Ended → List ℕ → List (List ℕ) → Type 0
 ComparesFirst r name outs = Made r outs (λ view made. Differ view name outs ⊎ AreStaging outs made)
 
@@ -229,7 +231,7 @@ pub record SparesRead (r : Ended) : Type 0 where
   pub rest : (asked : RestWords) → rest_of r.words ≡ Some asked → ComparesFirst r asked.verify.file (may_put asked.verify.out)
   pub search : (asked : SearchWords) → search_of r.words ≡ Some asked → ComparesFirst r asked.file (found_names asked)
 
--- if FILE is legal, the status is neither 3 nor 5
+-- if known files are legal for the command, the status is neither 3 nor 5
 abbrev pub PassesLegal : Asked → ℕ → Option Told → Type 0
 PassesLegal NoCommand exit files = Unit {0}
 PassesLegal (Command legal m) exit files = (told : Told) → files ≡ Some told → legal told → (exit ≢ 3) × (exit ≢ 5)
@@ -239,8 +241,8 @@ abbrev pub HoldsSame : Told → List ℕ → Option (List ℕ) → Type 0
 HoldsSame told file None = ⊥
 HoldsSame told file (Some out) = told out ≡ told file
 
--- a report of verdicts ends with 2 only if a verdict holds that leaves a pattern unknown, and with 4 exactly if a certificate is asked for
--- that is too long or whose file holds what was read, 6 and 7 aside
+-- a report of verdicts doesn't end with 2 if all that it tells is known, and ends with 4 exactly if a certificate is asked for that is too
+-- long or whose file holds what was read, 6 and 7 aside
 pub record EndsSo (exit : ℕ) (out : Option (List ℕ)) (Known Long Same : Type 0) : Type 0 where
   pub known : Known → exit ≢ 2
   pub fits : exit ≡ 4 → IsSome out × (Long ⊎ Same)
@@ -264,10 +266,9 @@ RestReportEnds exit files words =
     (LongAtRest file (resting asked.verify.budget places) pick) (HoldsSame told asked.verify.file asked.verify.out)
 
 -- a legal FILE passes; for `verify` and `rest`, one that has the pattern that is asked for; for `rest` and `rest-check`, one whose cycles
--- are self-loops, with names that may be silent in it. With known files
--- the status is neither 3 nor 5; if no call failed or stalled, it is not 6; for `verify` and `rest`, if no verdict holds that leaves a
--- pattern unknown, it is not 2; and it is 4 exactly if the certificate that is asked for is too long, or its
--- file holds what FILE does
+-- are self-loops, with names that may be silent in it. With known files the status is neither 3 nor 5; if no call failed or stalled, it is
+-- not 6; for `verify` and `rest` it is not 2 if all is decided (`IsDecided`), and it is 4 exactly if the certificate that is asked for is
+-- too long, or its file holds what FILE does, 6 and 7 aside
 pub record Completes (exit : ℕ) (words : List (List ℕ)) (before after : State) : Type 0 where
   pub passes : PassesLegal (request_of words) exit before.shelf.files
   pub calm : ¬ Faulted before.shelf.faults after.shelf.faults → ¬ SinkFaltered before.out after.out → exit ≢ 6

@@ -24,7 +24,7 @@ use Rattle.ta_program.specs.RestWords.{RestWords, rest_of}
 use Rattle.ta_program.specs.SilentNames.{AreSilent}
 use Rattle.ta_program.specs.VerifyWords.{VerifyWords, verify_of}
 
--- the text is the report of the picked patterns of a file, or that of `rest`, in lines or as JSON, of these parts, whose numbers are below
+-- the text is the report of the picked patterns of a file, or that of `rest`, in lines or as JSON, of these parts, whose counts are below
 -- 2^64
 pub record IsReportOf (rest json : Bool) (file : File) (pick : Pick) (sample : ReportSample) (verdicts : List Verdict) (text : List ℕ) : Type 0 where
   pub sample_fits : SampleFits file sample
@@ -45,8 +45,8 @@ pub record GivesSample (rest json : Bool) (file : File) (pick : Pick) (sample : 
   pub report : IsReportOf rest json file pick sample verdicts text
 
 -- the bytes under FILE mean a file; the output gives of each pattern, or of the one with the name that is given, a verdict exactly if it
--- holds, unknown ones too: `N nodes spent` exactly if the defined search visits N nodes within the budget and one is left, and `outside 128
--- bits at node K` exactly if its node K meets that cause. Of the parameters it gives a sample, that there are none, or why none was found,
+-- holds, unknown ones too: `N nodes spent` exactly if N is the budget, the defined search visits N nodes and one is left, and `outside
+-- 128 bits at node K` exactly if its node K meets that cause. Of the parameters it gives a sample, that there are none, or why none was found,
 -- exactly if that holds of them
 pub record EachReported (asked : VerifyWords) (view : View) (written written' : Option (List ℕ)) : Type 0 where
   pub file : File

@@ -52,8 +52,9 @@ OutcomeMeans bytes (outcome.Unsafe name run) = MeansOccurring bytes name
 OutcomeMeans bytes (outcome.Unknown name v) = Unit {0}
 OutcomeMeans bytes (outcome.Safe certificate) = MeansSafe bytes
 
--- the bytes under a name are the text of a template, and the output gained the text of what was tried, in JSON or in lines; each outcome that
--- this text lists is so of the text filled with the values that stand with it, and it ends with `found` exactly with status 0
+-- the bytes under a name are the text of a template, and the output gained the text of what was tried, in JSON or in lines; each outcome
+-- safe, unsafe or without parameters that this text lists is so of the text filled with the values that stand with it, and it ends with
+-- `found` exactly with status 0
 pub record EachTried (number : ℕ) (view : View) (json : Bool) (name : List ℕ) (written written' : Option (List ℕ)) : Type 0 where
   pub template : Template
   pub is_template : IsTemplate view name template

@@ -1,4 +1,4 @@
-//! Calls of the lowest crates, with numbers and files at their edges, against values that were worked
+//! Single calls, with numbers and files at their edges, against values that were worked
 //! out apart. It has tests alone; what can be written as a table stands in `worked_rows`.
 #![tactic(auto)]
 

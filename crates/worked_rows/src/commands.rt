@@ -41,7 +41,10 @@ pub fn perform<R: Threads + Sync>(
     let mut setting = CALM;
     let words = words_of(alloc, rest, &mut setting)?;
     match shelf_of(alloc, files, setting.shelf)? {
-        Some(mut shelf) => perform_over(rt, alloc, &mut shelf, setting, words.as_slice(), noted),
+        Some(mut shelf) => {
+            let words = words.as_slice();
+            perform_over(rt, alloc, files, &mut shelf, setting, words, noted)
+        }
         None => String::from_str(alloc, "files of one name"),
     }
 }
@@ -59,7 +62,8 @@ pub fn put<R: Threads + Sync>(
     let Some(mut shelf) = shelf_of(alloc, files, setting.shelf)? else {
         return String::from_str(alloc, "files of one name");
     };
-    let mut given = perform_over(rt, alloc, &mut shelf, setting, words.as_slice(), false)?;
+    let words = words.as_slice();
+    let mut given = perform_over(rt, alloc, files, &mut shelf, setting, words, false)?;
     let Ok(bytes) = read_whole(alloc, &mut shelf, name, CERTIFICATE_BYTES) else {
         return Ok(given);
     };
@@ -85,10 +89,11 @@ fn words_of<'a>(
     Ok(words)
 }
 
-/// What words give over a shelf.
+/// What words give over a shelf of these files.
 fn perform_over<R: Threads + Sync>(
     rt: &R,
     alloc: Global,
+    files: &Files,
     shelf: &mut Noting<MemoryShelf>,
     setting: Setting,
     words: &[&str],
@@ -98,7 +103,7 @@ fn perform_over<R: Threads + Sync>(
     let mut err = sink_of(alloc, 4096, 4096, 0)?;
     let number = run(rt, alloc, words, shelf, &mut out, &mut err);
     let calls = noted.then_some(shelf.noted.as_str());
-    told(alloc, out.as_slice(), err.as_slice(), calls, number)
+    told(alloc, files, out.as_slice(), err.as_slice(), calls, number)
 }
 
 /// What words give where a file goes on with spaces behind its text, up to so many bytes, which are
@@ -117,7 +122,7 @@ pub fn grown<R: Threads + Sync>(
     let mut out = sink_of(alloc, setting.room, setting.piece, setting.out)?;
     let mut err = sink_of(alloc, 4096, 4096, 0)?;
     let number = run(rt, alloc, words.as_slice(), &mut shelf, &mut out, &mut err);
-    told(alloc, out.as_slice(), err.as_slice(), None, number)
+    told(alloc, files, out.as_slice(), err.as_slice(), None, number)
 }
 
 /// A sink, of which the call with a number fails.
@@ -126,9 +131,10 @@ fn sink_of(alloc: Global, room: usize, piece: usize, fails: u64) -> Result<Memor
     MemorySink::new(alloc, room, piece, fails)
 }
 
-/// The lines of an answer.
+/// The lines of an answer. `! usage` stands for the text of the row `usage` on standard error.
 fn told(
     alloc: Global,
+    files: &Files,
     out: &[u8],
     err: &[u8],
     calls: Option<&str>,
@@ -136,7 +142,11 @@ fn told(
 ) -> Result<String, AllocError> {
     let mut given = String::new(alloc);
     write_lines(&mut given, "", out)?;
-    write_lines(&mut given, "! ", err)?;
+    if !err.is_empty() && err == files.text("usage").as_bytes() {
+        given.push_str("! usage\n")?;
+    } else {
+        write_lines(&mut given, "! ", err)?;
+    }
     if let Some(calls) = calls {
         writeln!(given, "@{calls}")?;
     }
