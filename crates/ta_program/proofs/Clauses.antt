@@ -17,8 +17,8 @@ use Rattle.ta_program.proofs.Common.{search_of, search_words, TwoNames, two_name
 use Rattle.ta_program.proofs.Common.{held_by, false_from_ne_true, PutCall, PutText, PutWhole, Acts, TellsFile, acts, grew_alone, may_put, put_text, tells_file}
 use Rattle.ta_program.proofs.Common.{Spares, ◌⊎◌, AreOfStages, made_of_stages, Opens, AreStaging, ComparesFirst, Differ, Kind, SparesRead, at_ends}
 use Rattle.ta_program.proofs.Common.{found_meaning, found_names, held_or_staged, rest_quietly, spared, template_kind, inr}
-use Rattle.ta_program.proofs.Common.{ShowHolds, show_meaning, show_of, show_words, slice_get}
-use Rattle.ta_program.specs.Program.{SafeAsShown, ShowsFile, Tellings, UsageExactly}
+use Rattle.ta_program.proofs.Common.{CountHolds, IsCount, IsShown, ShowHolds, count_of, one_file_meaning, one_name, show_of, slice_get}
+use Rattle.ta_program.specs.Program.{CountsFile, SafeAsShown, ShowsFile, Tellings, UsageExactly}
 use Rattle.ta_program.specs.Show.{SafeAsPrinted}
 use Rattle.ta_program.specs.Version.{VersionPrints, version_meaning, version_of, version_text, version_words}
 use Rattle.ta_program.proofs.Common.{cases_order}
@@ -59,18 +59,16 @@ use Rattle.ta_program.proofs.WordMeanings.{admit_decides}
 use Rattle.ta_base.proofs.Members.{listed}
 use Rattle.ta_base.proofs.Booleans.{first_passed}
 use Rattle.ta_program.proofs.Common.{EachPicked, LegalPicked, first_picked, held_entry, picked, picked_meaning, telling_of}
+use Rattle.ta_program.proofs.Counting.{counts_within}
 use Rattle.ta_program.proofs.PatternPicks.{each_picked_of, picked_name}
 use Rattle.ta_program.proofs.StrictNumbers.{number_other}
 use Rattle.ta_program.specs.Certified.{PutsCertificate}
+use Rattle.ta_program.specs.Statuses.{ZeroSays}
 
--- the number of a report is 0 only where nothing is unsafe and nothing unknown, 1 only where something is unsafe, and 2 only where
--- something is unknown
+-- the number of a report is 1 only where something is unsafe, and 2 only where something is unknown; that it is 0 only where nothing is either
+-- says the clause of `zero_says`, so that a number which says less is refused there
 abbrev pub number_by : Bool → Bool → ℕ
 number_by found unknown = if found then 1 else (if unknown then 2 else 0)
-
--- what the number 0 has to say; that it does is an answer of `run`, so that a number which says less is refused at its clause
-abbrev pub ZeroSays : Type 0
-ZeroSays = (found unknown : Bool) → number_by found unknown ≡ 0 → (found ≡ false) × (unknown ≡ false)
 
 kind_of_one : (found unknown : Bool) → number_by found unknown ≡ 1 → found ≡ true
 kind_of_one true unknown e = refl
@@ -400,10 +398,10 @@ module _ (words : List (List ℕ)) (number : ℕ) (before after : State) (h : Ru
   exports asked is none = gives (export_meaning asked) refl (as_export asked is) (omega (arith, none))
       (λ view. ExportHolds view asked before.out.written after.out.written) (exported asked)
 
-  pub as_show : (name : List ℕ) → show_of words ≡ Some name → Performs (show_meaning name) number before after
-  as_show name is = performed (codes "show") show_words (λ n. Some n) show_meaning number before after (λ rest r. r) words name is h
+  pub as_show : (name : List ℕ) → show_of words ≡ Some name → Performs (one_file_meaning IsShown name) number before after
+  as_show name is = performed (codes "show") one_name (λ n. Some n) (one_file_meaning IsShown) number before after (λ rest r. r) words name is h
 
-  pub shown_file : (name : List ℕ) (view : View) (made : List PutCall) → IsAnswered (show_meaning name) view number before after made
+  pub shown_file : (name : List ℕ) (view : View) (made : List PutCall) → IsAnswered (one_file_meaning IsShown name) view number before after made
       → ShowHolds view name before.out.written after.out.written
   shown_file name view made a =
       let is = a.holds.holds.1 in
@@ -418,8 +416,27 @@ module _ (words : List (List ℕ)) (number : ℕ) (before after : State) (h : Ru
       }
 
   pub shows_file : ShowsFile ended
-  shows_file name is none = gives (show_meaning name) refl (as_show name is) (omega (arith, none))
+  shows_file name is none = gives (one_file_meaning IsShown name) refl (as_show name is) (omega (arith, none))
       (λ view. ShowHolds view name before.out.written after.out.written) (shown_file name)
+
+  as_count : (name : List ℕ) → count_of words ≡ Some name → Performs (one_file_meaning IsCount name) number before after
+  as_count name is = performed (codes "count") one_name (λ n. Some n) (one_file_meaning IsCount) number before after (λ rest r. r) words name is h
+
+  counted : (name : List ℕ) (view : View) (made : List PutCall) → IsAnswered (one_file_meaning IsCount name) view number before after made
+      → CountHolds view name before.out.written after.out.written
+  counted name view made a =
+      let says = a.holds.holds.2 in
+      record {
+        file = a.holds.holds.0;
+        is_file = a.holds.holds.1;
+        wrote = a.written
+            ∙ ap (with_text before.out.written) (says.writes.written ∙ says.is);
+        within = counts_within a.holds.holds.0;
+      }
+
+  pub counts_file : CountsFile ended
+  counts_file name is none = gives (one_file_meaning IsCount name) refl (as_count name is) (omega (arith, none))
+      (λ view. CountHolds view name before.out.written after.out.written) (counted name)
 
   pub admitted : (all : AdmitAsked) (view : View) (made : List PutCall) → IsAnswered (admit_meaning all) view number before after made
       → AdmitHolds view all before.out.written after.out.written
@@ -938,7 +955,7 @@ module _ (words : List (List ℕ)) (number : ℕ) (before after : State) (h : Ru
       → EachPicked runs.Safe asked.pattern r.file
   picked_safe zero_says asked view r none =
       let own = number_other asked.all r.sample r.verdicts 0 (λ e. omega (arith, e)) (r.numbered ∙ none) in
-      let kinds = zero_says (list_any is_unsafe r.verdicts) (list_any is_unknown r.verdicts) own in
+      let kinds = zero_says r.verdicts own in
       each_picked_of runs.Safe r.file asked.pattern r.pick r.is_pick
       (each_safe r.file asked.budget (first_picked r.pick) (picked r.pick r.file.patterns) r.verdicts kinds.0 kinds.1 r.are.hold)
 

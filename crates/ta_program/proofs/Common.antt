@@ -1,12 +1,12 @@
 -- The names that the proofs of this crate cite, passed on from one place. Declares nothing.
-pub use Rattle.std.proofs.Common.{Bool, Err, List, None, Ok, Option, Result, Some, [], ap, append_assoc, arith, cond, drop, false, inl, inr, length}
-pub use Rattle.std.proofs.Common.{length-append, ltb-false, ltb-true, map, min, nat_le, nat_lt, not, option_map, refl, rules, slice_get, subst, suc, sym, take}
-pub use Rattle.std.proofs.Common.{take_all, tests, true, zero, ℕ, ◌&&◌, ◌++◌, ◌+◌, ◌-◌, ◌<◌, ◌^◌, ◌∙◌, ◌∷◌, ◌≡◌, ◌≢◌, ◌≤◌, ◌⊎◌}
+pub use Rattle.std.proofs.Common.{Bool, Err, List, None, Ok, Option, Result, Some, [], ap, append_assoc, arith, cond, drop, false, get_or, inl, inr, length}
+pub use Rattle.std.proofs.Common.{length-append, ltb-false, ltb-true, map, max, min, nat_le, nat_lt, not, option_map, refl, rules, slice_get, string_bytes}
+pub use Rattle.std.proofs.Common.{subst, suc, sym, take, take_all, tests, true, zero, ℕ, ◌&&◌, ◌++◌, ◌+◌, ◌-◌, ◌<◌, ◌^◌, ◌∙◌, ◌∷◌, ◌≡◌, ◌≢◌, ◌≤◌, ◌⊎◌}
 pub use Rattle.std.proofs.Math.Seq.{take-append-add}
 pub use Rattle.std.proofs.lemmas.Bool.{and_parts, cases_order, eqb-true, false_from_ne_true, false≢true, or_parts}
 pub use Rattle.std.proofs.lemmas.Iterator.{YieldsList-from_slice}
 pub use Rattle.std.proofs.lemmas.Iterator.Search.{any_from_yields_List}
-pub use Rattle.std.proofs.lemmas.List.{append-nil, length-drop, length-take-le, take-append-drop, take-append-le}
+pub use Rattle.std.proofs.lemmas.List.{append-nil, at_drop_all, length-drop, length-take-le, take-append-drop, take-append-le}
 pub use Rattle.std.proofs.lemmas.Option.{get_or_from_slice_get, option_and_then_some, slice_get_within}
 pub use Rattle.std.specs.List.{AllByRecursion, list_all, list_any, range_with_len, concat}
 pub use Rattle.std.specs.Prelude.{Contains, IfOk, IsSome, codes, if◌then◌else◌, is_some, option_and_then, ◌==◌}
@@ -15,7 +15,7 @@ pub use Rattle.ta_automaton.specs.declared.automaton.Automaton.{Automaton}
 pub use Rattle.ta_automaton.specs.declared.file.File.{File}
 pub use Rattle.ta_automaton.specs.declared.pattern.Pattern.{Pattern}
 pub use Rattle.ta_base.proofs.Each.{each_append, each_at, each_back}
-pub use Rattle.ta_base.proofs.Lists.{none_not_some, one_content, piece_size, same_parts, some_at}
+pub use Rattle.ta_base.proofs.Lists.{next_item, none_not_some, one_content, piece_size, piece_written, same_parts, some_at}
 pub use Rattle.ta_base.specs.Masks.{has_bit}
 pub use Rattle.ta_cert.specs.Certificates.{pair_of, proofs_of}
 pub use Rattle.ta_cert.specs.declared.fault.CertFault.{CertFault}
@@ -37,6 +37,7 @@ pub use Rattle.ta_program.specs.Certified.{HindersCertificate, LongCertificate, 
 pub use Rattle.ta_program.specs.Check.{CheckHolds, check_meaning, proved_meaning}
 pub use Rattle.ta_program.specs.Compress.{CanCompress, CompressFaultIn, CompressHolds, Compresses, IsRefusedRun, IsTextFault, LeavesRange, SaysShort, ShortOf}
 pub use Rattle.ta_program.specs.Compress.{compress_meaning, compress_of, long_kind, of_run, out_of_range_line, short_meaning}
+pub use Rattle.ta_program.specs.Count.{CountHolds, IsCount, count_line, count_of, count_text, counts_of, most_events}
 pub use Rattle.ta_program.specs.Export.{ExportHolds, SaysSystem, WordHinders, export_meaning, export_of, export_words, system_meaning, word_fault_text}
 pub use Rattle.ta_program.specs.Faults.{FaultsAreNamed, HinderAlike, HinderOnce, NamesFault, OfCommand, OneFault}
 pub use Rattle.ta_program.specs.Inside.Certifying.{Certifies, ReportsAndPuts}
@@ -49,6 +50,7 @@ pub use Rattle.ta_program.specs.Printed.{EachPrintedUnsafe, EachToldSafe, Unsafe
 pub use Rattle.ta_program.specs.Program.{Admitting, Benches, CertificateWritten, CheckProves, ComparesFirst, Completes, EndsSo, ExactlySo, Exports, HoldsSame}
 pub use Rattle.ta_program.specs.Program.{KeepsFiles, Opens, PassesLegal, PrintedHolds, ReplayShows, RestProves, RestsReport, RunShortens, Searches, SparesRead}
 pub use Rattle.ta_program.specs.Program.{VerifyReports, put_by}
+pub use Rattle.ta_program.specs.OneFile.{SaysText, one_file_asked, one_file_meaning, one_name, printing}
 pub use Rattle.ta_program.specs.Replay.{ReplayHolds, SaysShown, replay_meaning, shown_meaning}
 pub use Rattle.ta_program.specs.Reporting.{CertificateStands, ReportHolds, Reports, report_meaning, verify_meaning, IsDecided, picked_meaning}
 pub use Rattle.ta_program.specs.PatternOption.{EachPicked, HasName, IsPick, LegalPicked, PickHinders, with_pick}
@@ -63,7 +65,7 @@ pub use Rattle.ta_program.specs.Search.{Finds, HindersFound, HoldFound, IsTempla
 pub use Rattle.ta_program.specs.Search.{found_meaning, found_names, leaves_unknown, search_meaning, template_kind}
 pub use Rattle.ta_program.specs.SearchSeen.{search_seen}
 pub use Rattle.ta_program.specs.SearchWords.{SearchWords, search_form, search_of, search_taken, search_words}
-pub use Rattle.ta_program.specs.Show.{IsFileText, SaysFile, ShowHolds, file_meaning, show_meaning, show_of, show_words}
+pub use Rattle.ta_program.specs.Show.{IsFileText, IsShown, ShowHolds, show_of}
 pub use Rattle.ta_program.specs.Statuses.{report_number, tells_nothing, verdicts_number}
 pub use Rattle.ta_program.specs.Taken.{names_seen}
 pub use Rattle.ta_program.specs.Values.{TwoNames, are_same, budget_of, file_name_of, filled_of, is_budget, out_of, two_names}

@@ -12,7 +12,7 @@ use Rattle.ta_program.proofs.Common.{rest_meaning, rest_report_meaning, rest_che
 use Rattle.ta_program.proofs.Common.{with_ends, rest_words, Finds, HindersFound, LegalTemplate, found_meaning, found_names, search_meaning, template_kind}
 use Rattle.ta_program.proofs.Common.{SearchWords, search_words, two_names, verify_words, WordAsked, ◌⊎◌, AskedWord as Word, RestBudget, resting, rest_quietly}
 use Rattle.ta_program.proofs.Common.{with_silent, at_ends}
-use Rattle.ta_program.proofs.Common.{SaysFile, file_meaning, show_meaning, show_words}
+use Rattle.ta_program.proofs.Common.{IsCount, IsShown, SaysText, one_file_asked, one_file_meaning, one_name, printing}
 use Rattle.ta_meaning.specs.Laws.{FirstFaultsAreUnique}
 use Rattle.ta_rest.specs.declared.claim.Claim.TheVariants as claim
 use Rattle.ta_program.proofs.EndsOnce.{ends_once}
@@ -136,8 +136,11 @@ module _ (unique : FirstFaultsAreUnique) (told : Told) where
   admit_once all = file_first all.asked.file [] (run_meaning all.asked.file all.asked.word all.values) (run_monotone all.asked.file all.asked.word all.values)
       (run_line all.asked.file all.asked.word all.values)
 
-  show_once : (name : List ℕ) → HinderOnce (show_meaning name) told
-  show_once name = file_first name [] file_meaning (λ file. replies_monotone [] (SaysFile file)) (λ file. replies_hinder [] (SaysFile file) told)
+  -- of a command of one file
+  one_file_once : (text : File → List ℕ → Type 0) (name : List ℕ) → HinderOnce (one_file_meaning text name) told
+  one_file_once text name =
+      file_first name [] (λ file. printing (text file)) (λ file. replies_monotone [] (SaysText (text file)))
+      (λ file. replies_hinder [] (SaysText (text file)) told)
 
   found_once : (asked : SearchWords) (t : Template) → HinderOnce (found_meaning asked t) told
   found_once asked t =
@@ -233,6 +236,9 @@ module _ (unique : FirstFaultsAreUnique) (told : Told) where
       → OfCommand (λ m. HinderOnce m told) (ask file says words)
   asked_once file says = asked_where_once (λ w told. LegalFile told (file w)) says
 
+  one_file_asked_once : (text : File → List ℕ → Type 0) (words : List (List ℕ)) → OfCommand (λ m. HinderOnce m told) (one_file_asked text words)
+  one_file_asked_once text words = asked_once (λ name. Some name) (one_file_meaning text) (one_name words) (one_file_once text)
+
   row_once : (named : Bool) (asked others : Asked) → OfCommand (λ m. HinderOnce m told) asked → OfCommand (λ m. HinderOnce m told) others
       → OfCommand (λ m. HinderOnce m told) (choose named asked others)
   row_once true asked others once more = once
@@ -248,6 +254,7 @@ module _ (unique : FirstFaultsAreUnique) (told : Told) where
       (row_once (bytes_eq word (codes "compress")) _ _
       (asked_once (λ names. Some names.file) (λ names. compress_meaning names.file names.other) (two_names words)
       (λ names. compress_once names.file names.other))
+      (row_once (bytes_eq word (codes "count")) _ _ (one_file_asked_once IsCount words)
       (row_once (bytes_eq word (codes "export")) _ _ (asked_once (λ asked. Some asked.file) export_meaning (export_words words) export_once)
       (row_once (bytes_eq word (codes "replay")) _ _
       (asked_once (λ a. Some a.file) (λ a. replay_meaning a.file a.other a.json) (replay_words words) (λ a. replay_once a.file a.other a.json))
@@ -256,10 +263,10 @@ module _ (unique : FirstFaultsAreUnique) (told : Told) where
       (asked_where_once (λ a. LegalSilently a.file a.silent) (λ a. rest_check_meaning a.file a.other a.silent a.options) (rest_check_words words)
       (λ a. rest_check_once a.file a.other a.silent a.options))
       (row_once (bytes_eq word (codes "search")) _ _ (asked_where_once LegalTemplate search_meaning (search_words words) search_once)
-      (row_once (bytes_eq word (codes "show")) _ _ (asked_once (λ name. Some name) show_meaning (show_words words) show_once)
+      (row_once (bytes_eq word (codes "show")) _ _ (one_file_asked_once IsShown words)
       (row_once (bytes_eq word (codes "verify")) _ _ (asked_where_once (λ a. LegalPicked a.file a.pattern) verify_meaning (verify_words words) verify_once)
       (row_once (bytes_eq word (codes "version")) _ NoCommand
-      (asked_once (λ asked. None) (λ asked. version_meaning) (version_words words) (λ asked. replies_hinder [] (Writes 0 version_text) told)) tt)))))))))))
+      (asked_once (λ asked. None) (λ asked. version_meaning) (version_words words) (λ asked. replies_hinder [] (Writes 0 version_text) told)) tt))))))))))))
 
 -- what a run tells of told files
 module _ (m : Meaning) (told : Told) (number : ℕ) (before after : State) (is : before.shelf.files ≡ Some told) (performs : Performs m number before after)

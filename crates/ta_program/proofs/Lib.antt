@@ -11,7 +11,7 @@ mod RestTexts
 mod ReportsExact
 mod Meanings
 mod WordMeanings
-mod ShowMeanings
+mod OneFileMeanings
 mod EndsOnce
 mod SilentPlaces
 mod RestMeanings
@@ -23,6 +23,7 @@ mod FoundStands
 mod AtRest
 mod FairAtRest
 mod Compressing
+mod Counting
 mod Clauses
 mod FirstWord
 mod NeverResting

@@ -1,12 +1,13 @@
 -- from how a run ends to all that is promised of it
 use Rattle.ta_program.proofs.Common.{ℕ, List, Runs, State, request_of}
-use Rattle.ta_program.proofs.Clauses.{ZeroSays, admitting, benches, certificate_written, check_proves, exactly_so, exports, keeps_files, opens, printed_holds}
-use Rattle.ta_program.proofs.Clauses.{quiet, replay_shows, rest_proves, rests_report, run_of, run_shortens, safe_as_shown, searches, shows_file, spares_read}
-use Rattle.ta_program.proofs.Clauses.{status_tells, tellings, usage_exactly, verify_reports, version_prints}
+use Rattle.ta_program.proofs.Clauses.{admitting, benches, certificate_written, check_proves, counts_file, exactly_so, exports, keeps_files, opens}
+use Rattle.ta_program.proofs.Clauses.{printed_holds, quiet, replay_shows, rest_proves, rests_report, run_of, run_shortens, safe_as_shown, searches, shows_file}
+use Rattle.ta_program.proofs.Clauses.{spares_read, status_tells, tellings, usage_exactly, verify_reports, version_prints}
 use Rattle.ta_program.proofs.Complete.{completes}
 use Rattle.ta_program.proofs.ReportsExact.{reported_exactly}
 use Rattle.ta_program.proofs.WhatIsShown.{understood}
 use Rattle.ta_program.specs.Promises.{EndPromises, Promises}
+use Rattle.ta_program.specs.Statuses.{ZeroSays}
 use Rattle.ta_report.specs.Json.{JsonIsDistinct}
 use Rattle.ta_report.specs.Report.{ReportsAreDistinct}
 
@@ -31,6 +32,7 @@ promises lines_differ json_differs zero_says words number before after h = recor
   admit = admitting words number before after h;
   bench = benches words number before after h;
   version = version_prints words number before after h;
+  counts = counts_file words number before after h;
   exact = exactly_so (request_of words) number before after h;
   usage = usage_exactly words number before after h;
   opened = opens (request_of words) number before after h;

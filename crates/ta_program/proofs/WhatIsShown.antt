@@ -6,7 +6,7 @@ use Rattle.ta_program.proofs.Common.{RestCheckHolds, RestReportHolds, Runs, Show
 use Rattle.ta_program.proofs.Common.{request_of, seen, where_told, with_text}
 use Rattle.ta_program.proofs.Common.{File, RestCheckWords, RestWords, VerifyWords, budget_of, check_meaning, file_name_of, one_legal, option_value, out_of}
 use Rattle.ta_program.proofs.Common.{plain_of, quiet_names, replay_meaning, rest_check_meaning, rest_check_of, rest_check_words, rest_meaning, rest_of}
-use Rattle.ta_program.proofs.Common.{rest_taken, rest_words, show_meaning, show_of, show_words, shown_of, taken_by, unit_steps, verify_meaning}
+use Rattle.ta_program.proofs.Common.{rest_taken, rest_words, IsShown, one_file_meaning, one_name, show_of, shown_of, taken_by, unit_steps, verify_meaning}
 use Rattle.ta_program.proofs.Common.{verify_of, verify_taken, verify_words, rest_form, verify_form}
 use Rattle.std.proofs.lemmas.Option.{cond_some, none-some}
 use Rattle.ta_automaton.specs.Runs as runs
@@ -15,7 +15,7 @@ use Rattle.ta_shelf.specs.Calls.{puts}
 use Rattle.ta_shelf.specs.Sights.{Whole}
 use Rattle.ta_report.proofs.FileTells.{file_same}
 use Rattle.ta_report.specs.Unknowns.{unknowns_text}
-use Rattle.ta_program.proofs.Clauses.{ZeroSays, as_check, as_replay, as_rest, as_rest_check, as_show, as_verify, at_rest, gives_some, proved, reported}
+use Rattle.ta_program.proofs.Clauses.{as_check, as_replay, as_rest, as_rest_check, as_show, as_verify, at_rest, gives_some, proved, reported}
 use Rattle.ta_program.proofs.Clauses.{run_of}
 use Rattle.ta_program.proofs.Clauses.{rest_checked, shown, shown_file, line_proved, line_rest_proved, tells_rest_safe, tells_safe, picked_safe}
 use Rattle.ta_program.proofs.FirstWord.{first_plain, second_plain, not_behind}
@@ -23,6 +23,7 @@ use Rattle.ta_report.proofs.JsonLines.{tells_by_line, tells_unsafe_by_line}
 use Rattle.ta_program.proofs.NeverResting.{never_rests}
 use Rattle.ta_program.proofs.UnsafePrinted.{unsafe_printed}
 use Rattle.ta_report.specs.CheckJson.{shown_text}
+use Rattle.ta_program.specs.Statuses.{ZeroSays}
 use Rattle.ta_program.specs.CheckWords.{CheckWords, ReplayWords, check_form, check_of, check_taken, check_words, replay_form, replay_of, replay_taken}
 use Rattle.ta_program.specs.CheckWords.{replay_words}
 use Rattle.ta_program.specs.Ended.{Did, Ended}
@@ -107,7 +108,7 @@ run_of_replay name other asked plain is = option_and_then_some replay_taken (tak
     sym (ap (λ (w : ReplayWords). w.other) made.2)
     ∙ named_so (plain_of taken 1) other made.0 (second_plain replay_form refl refl name other taken plain by) made.1))
 
-file_of_show : (name : List ℕ) (more : List (List ℕ)) (asked : List ℕ) → is_dashed name ≡ false → show_words (name ∷ more) ≡ Some asked → asked ≡ name
+file_of_show : (name : List ℕ) (more : List (List ℕ)) (asked : List ℕ) → is_dashed name ≡ false → one_name (name ∷ more) ≡ Some asked → asked ≡ name
 file_of_show name more asked plain is = option_and_then_some _ (taken_by (record { plain = 1; options = [] }) (name ∷ more)) asked is (λ taken by taken_is.
     named_so (plain_of taken 0) name asked (first_plain (record { plain = 1; options = [] }) refl name more taken plain by) taken_is)
 
@@ -292,13 +293,13 @@ module _ (words : List (List ℕ)) (number : ℕ) (before after : State) (h : Ru
   of_show name more asks none =
       let so : runs_so (codes "show" ∷ name ∷ more) = subst runs_so asks.are h in
       let low : number ≤ 2 = omega (arith, none) in
-      let found = were_asked (λ n told. LegalFile told (Some n)) show_meaning (show_words (name ∷ more)) number before after so low in
+      let found = were_asked (λ n told. LegalFile told (Some n)) (one_file_meaning IsShown) (one_name (name ∷ more)) number before after so low in
       let asked = found.0 in
       let is : show_of words ≡ Some asked = ap show_of asks.are ∙ found.1 in
       let Of : View → Type 0 = λ view. ShowHolds view asked before.out.written after.out.written in
       subst (Prints ended) (file_of_show name more asked asks.plain found.1)
       (of_calls ended Of (λ view sees r. prints_so asked view sees r)
-      (gives_some words number before after h (show_meaning asked) (as_show words number before after h asked is) low Of
+      (gives_some words number before after h (one_file_meaning IsShown asked) (as_show words number before after h asked is) low Of
       (λ view made a. shown_file words number before after h asked view made a)))
 
   pub understood : ZeroSays → Understood ended

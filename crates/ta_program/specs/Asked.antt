@@ -50,8 +50,8 @@ Passes file m = PassesWhere (λ told. LegalFile told file) m
 
 abbrev pub usage_line : List ℕ
 usage_line =
-    codes "tav: usage: verify FILE [--nodes N] [--certificate OUT] [--json], check FILE CERT, replay FILE RUN, compress FILE RUN, bench K, "
-    ++ codes "rest FILE [--nodes N] [--certificate OUT], rest-check FILE CERT, search FILE [--nodes N] [--certificate OUT] [--filled OUT2], "
+    codes "tav: usage: verify FILE [--nodes N] [--certificate OUT] [--json], check FILE CERT, replay FILE RUN, compress FILE RUN, count FILE, "
+    ++ codes "bench K, rest FILE [--nodes N] [--certificate OUT], rest-check FILE CERT, search FILE [--nodes N] [--certificate OUT] [--filled OUT2], "
     ++ codes "show FILE, export FILE PATTERN START WORD, admit FILE PATTERN START WORD VALUES, version, --lazy with verify, rest or search, "
     ++ codes "--silent NAMES with rest or rest-check, --json with rest, search, check, rest-check or replay, --pattern NAME with verify or rest, "
     ++ codes "--all with verify, rest, check or rest-check, --parameters with check\n"

@@ -24,6 +24,8 @@ pub mod AdmitSeen
 pub mod SearchWords
 pub mod Search
 pub mod SearchSeen
+pub mod OneFile
+pub mod Count
 pub mod Show
 pub mod Version
 pub mod Requests

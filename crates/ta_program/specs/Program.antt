@@ -19,6 +19,7 @@ use Rattle.ta_program.specs.Certified.{LongCertificate}
 use Rattle.ta_program.specs.Check.{CheckHolds}
 use Rattle.ta_program.specs.CheckWords.{CheckWords, ReplayWords, check_of, replay_of}
 use Rattle.ta_program.specs.Compress.{CanCompress, CompressHolds, LeavesRange, compress_of}
+use Rattle.ta_program.specs.Count.{CountHolds, count_of}
 use Rattle.ta_program.specs.Ended.{Did, Ended, Made, Saw}
 use Rattle.ta_program.specs.Export.{ExportHolds, export_of}
 use Rattle.ta_program.specs.Kinds.{IsFile}
@@ -147,6 +148,11 @@ Searches r = (asked : SearchWords) → search_of r.words ≡ Some asked → r.st
 -- begins with that of another (`shows_differ` of ta_report); the names are those of the unknowns (`unknowns_are_named`)
 abbrev pub ShowsFile : Ended → Type 0
 ShowsFile r = (name : List ℕ) → show_of r.words ≡ Some name → r.status ≡ 0 → Saw r (λ view. ShowHolds view name r.before.written r.after.written)
+
+-- `count FILE` with status 0: FILE is legal, and the output gained a line for each limit of its lists, which says how much of it the file
+-- that FILE's bytes mean uses, and nothing else; none says more than its limit
+abbrev pub CountsFile : Ended → Type 0
+CountsFile r = (name : List ℕ) → count_of r.words ≡ Some name → r.status ≡ 0 → Saw r (λ view. CountHolds view name r.before.written r.after.written)
 
 -- `verify FILE` with status 0, its words in any order: if `show FILE` prints a text for FILE's bytes, the patterns of each file with this
 -- text, or the one that is asked for, occur in no run

@@ -5,9 +5,9 @@ use Rattle.ta_shelf.specs.Ends.{Quiet, State}
 use Rattle.ta_program.specs.Asked.{Runs}
 use Rattle.ta_program.specs.Ended.{Ended}
 use Rattle.ta_program.specs.Headline.{StatusTells}
-use Rattle.ta_program.specs.Program.{Admitting, Benches, CertificateWritten, CheckProves, Completes, ExactlySo, Exports, KeepsFiles, Opens, PrintedHolds}
-use Rattle.ta_program.specs.Program.{ReplayShows, RestProves, RestsReport, RunShortens, SafeAsShown, Searches, ShowsFile, SparesRead, Tellings, UsageExactly}
-use Rattle.ta_program.specs.Program.{VerifyReports}
+use Rattle.ta_program.specs.Program.{Admitting, Benches, CertificateWritten, CheckProves, Completes, CountsFile, ExactlySo, Exports, KeepsFiles, Opens}
+use Rattle.ta_program.specs.Program.{PrintedHolds, ReplayShows, RestProves, RestsReport, RunShortens, SafeAsShown, Searches, ShowsFile, SparesRead}
+use Rattle.ta_program.specs.Program.{Tellings, UsageExactly, VerifyReports}
 use Rattle.ta_program.specs.Reported.{ReportsExactly}
 use Rattle.ta_program.specs.Requests.{request_of}
 use Rattle.ta_program.specs.Understood.{Understood}
@@ -36,6 +36,8 @@ pub record Promises (r : Ended) : Type 0 where
   pub admit : Admitting r
   pub bench : Benches r
   pub version : VersionPrints r
+  -- how near is FILE to the limits of the format
+  pub counts : CountsFile r
   -- with which status does it end, and when
   pub exact : ExactlySo r.status (request_of r.words) r.before.files
   pub usage : UsageExactly r

@@ -1,23 +1,18 @@
 -- The command `show`: it prints a file as it was understood.
-use Rattle.std.specs.Prelude.{ℕ, ◌≡◌, List, [], ◌++◌, map, codes, Option, Some, option_and_then}
+use Rattle.std.specs.Prelude.{ℕ, ◌≡◌, List, ◌++◌, map, codes, Option}
 use Rattle.ta_automaton.specs.declared.file.File.{File}
 use Rattle.ta_automaton.specs.Runs.{Safe}
 use Rattle.ta_cert.specs.Certificates.{pair_of}
 use Rattle.ta_cert.specs.declared.line.Order.{Order}
 use Rattle.ta_meaning.specs.Reading.{Legal}
 use Rattle.ta_shelf.specs.Sink.{with_text}
-use Rattle.ta_shelf.specs.declared.answer.Answer.{Answer}
-use Rattle.ta_shelf.specs.Commands.{Meaning}
 use Rattle.ta_shelf.specs.Sights.{View, Whole}
-use Rattle.ta_shelf.specs.Stages.{Writes, after, replies}
 use Rattle.ta_report.specs.Show.{show_text}
 use Rattle.ta_report.specs.Unknowns.{unknowns_text}
 use Rattle.ta_walk.specs.FoundOrders.{FoundOrders}
-use Rattle.ta_program.specs.Asked.{Asked, ask}
-use Rattle.ta_program.specs.Kinds.{file_kind}
+use Rattle.ta_program.specs.OneFile.{one_name}
 use Rattle.ta_program.specs.PatternOption.{EachPicked}
-use Rattle.ta_program.specs.Values.{file_name_of}
-use Rattle.ta_program.specs.Words.{behind_name, plain_of, taken_by}
+use Rattle.ta_program.specs.Words.{behind_name}
 
 -- the text is that of a file as it was understood, and of the orders that are found of its guards
 pub record IsFileText (file : File) (text : List ℕ) : Type 0 where
@@ -31,28 +26,9 @@ pub record IsShown (file : File) (written : List ℕ) : Type 0 where
   pub is : IsFileText file text
   pub whole : written ≡ text ++ unknowns_text file
 
-pub record SaysFile (file : File) (answer : Answer) : Type 0 where
-  pub written : List ℕ
-  pub is : IsShown file written
-  pub writes : Writes 0 written answer
-
-abbrev pub file_meaning : File → Meaning
-file_meaning file = replies [] (SaysFile file)
-
--- FILE is read, and its text is written
-abbrev pub show_meaning : List ℕ → Meaning
-show_meaning name = after file_kind name [] file_meaning
-
--- one plain word that is the name of a file, and no option
-abbrev pub show_words : List (List ℕ) → Option (List ℕ)
-show_words words = option_and_then (λ taken. file_name_of (plain_of taken 0)) (taken_by (record { plain = 1; options = [] }) words)
-
 -- `show FILE`
 abbrev pub show_of : List (List ℕ) → Option (List ℕ)
-show_of = behind_name (codes "show") show_words
-
-abbrev pub show_asked : List (List ℕ) → Asked
-show_asked words = ask (λ name. Some name) show_meaning (show_words words)
+show_of = behind_name (codes "show") one_name
 
 -- what `show FILE` prints first if these are FILE's bytes: the text of the file that they mean. Who has that text need not read what a
 -- text means, since no other file has it

@@ -1,5 +1,5 @@
 -- The exit status of a report.
-use Rattle.std.specs.Prelude.{ℕ, ◌==◌, ◌&&◌, Bool, true, false, List, [], ◌∷◌, if◌then◌else◌}
+use Rattle.std.specs.Prelude.{ℕ, ◌≡◌, ◌==◌, ◌&&◌, Bool, true, false, List, [], ◌∷◌, if◌then◌else◌}
 use Rattle.std.specs.List.{list_any}
 use Rattle.ta_report.specs.declared.verdict.ReportSample.{ReportSample}
 use Rattle.ta_report.specs.declared.verdict.ReportSample.TheVariants as sample
@@ -9,6 +9,10 @@ use Rattle.ta_verdict.specs.Verdicts.{is_unknown, is_unsafe}
 -- 1 if some pattern is unsafe, otherwise 2 if some pattern is unknown, otherwise 0
 abbrev pub verdicts_number : List Verdict → ℕ
 verdicts_number vs = if list_any is_unsafe vs then 1 else (if list_any is_unknown vs then 2 else 0)
+
+-- verdicts have the number 0 only where none is unsafe and none unknown
+abbrev pub ZeroSays : Type 0
+ZeroSays = (vs : List Verdict) → verdicts_number vs ≡ 0 → (list_any is_unsafe vs ≡ false) × (list_any is_unknown vs ≡ false)
 
 -- no parameters are known that have an initial configuration, or there is no verdict
 abbrev pub tells_nothing : ReportSample → List Verdict → Bool

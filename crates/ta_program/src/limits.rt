@@ -1,4 +1,5 @@
-//! How long the files of the commands may be, and the numbers where they are no use.
+//! How long the files of the commands may be, and the numbers where they are no use; and the limits
+//! of lists that `ta_base` has no name for.
 
 use ta_base::limits::{CERTIFICATE_BYTES, FILE_BYTES, RUN_BYTES};
 use ta_shelf::Limit;
@@ -26,3 +27,9 @@ pub const VALUES: Limit = Limit {
     bytes: FILE_BYTES as u64,
     number: 4,
 };
+
+/// How many shared variables an automaton has at most, as its type keeps (`WithinLimits`).
+pub const MOST_SHARED: usize = 16;
+
+/// How many patterns a file has at most, as its type keeps (`PatternsShape`).
+pub const MOST_PATTERNS: usize = 16;

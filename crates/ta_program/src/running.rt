@@ -11,13 +11,16 @@ use crate::admit::Admit;
 use crate::bench::Bench;
 use crate::check::Check;
 use crate::compress::Compress;
+use crate::count::Count;
 use crate::export::Export;
+use crate::one_file::OneFile;
 use crate::replay::Replay;
 use crate::request::{Request, StagingRequest};
 use crate::rest::Rest;
 use crate::rest_check::RestCheck;
 use crate::search::Search;
 use crate::show::Show;
+use crate::telling::zero_says;
 use crate::two_files::TwoFiles;
 use crate::verify::Verify;
 use crate::version::Version;
@@ -28,7 +31,7 @@ use ta_shelf::{Shelf, Sink, perform, perform_staging, tell_line};
 
 /// The line where the words are no command's.
 const USAGE: &str =
-    "tav: usage: verify FILE [--nodes N] [--certificate OUT] [--json], check FILE CERT, replay FILE RUN, compress FILE RUN, bench K, rest FILE [--nodes N] [--certificate OUT], rest-check FILE CERT, search FILE [--nodes N] [--certificate OUT] [--filled OUT2], show FILE, export FILE PATTERN START WORD, admit FILE PATTERN START WORD VALUES, version, --lazy with verify, rest or search, --silent NAMES with rest or rest-check, --json with rest, search, check, rest-check or replay, --pattern NAME with verify or rest, --all with verify, rest, check or rest-check, --parameters with check\n";
+    "tav: usage: verify FILE [--nodes N] [--certificate OUT] [--json], check FILE CERT, replay FILE RUN, compress FILE RUN, count FILE, bench K, rest FILE [--nodes N] [--certificate OUT], rest-check FILE CERT, search FILE [--nodes N] [--certificate OUT] [--filled OUT2], show FILE, export FILE PATTERN START WORD, admit FILE PATTERN START WORD VALUES, version, --lazy with verify, rest or search, --silent NAMES with rest or rest-check, --json with rest, search, check, rest-check or replay, --pattern NAME with verify or rest, --all with verify, rest, check or rest-check, --parameters with check\n";
 
 /// Does what the words ask for, and answers the number that the process ends with: 0 where all is
 /// done, 1 where some pattern is unsafe or no values were found, 2 where that isn't known, 3 where FILE hinders, 4
@@ -60,8 +63,9 @@ pub fn run<R: Threads + Sync, S: Shelf, O: Sink, E: Sink>(
         (state (S.files shelf.old) (S.calls shelf.old) (S.faults shelf.old) (O.written out.old) (O.faults out.old) (O.stalls out.old) (E.written err.old) (E.faults err.old) (E.stalls err.old))
         (state (S.files shelf.new) (S.calls shelf.new) (S.faults shelf.new) (O.written out.new) (O.faults out.new) (O.stalls out.new) (E.written err.new) (E.faults err.new) (E.stalls err.new)) }
 {
-    // the law by which the text of a report tells its verdicts; the call does nothing
+    // the laws by which the text of a report and its number tell its verdicts; the calls do nothing
     reports_are_distinct();
+    zero_says();
     obey(rt, alloc, words, shelf, out, err)
 }
 
@@ -88,12 +92,13 @@ fn obey<R: Threads + Sync, S: Shelf, O: Sink, E: Sink>(
         "compress" => attempt::<TwoFiles<'_, Compress>, R, S, O, E>(
             rt, alloc, words, shelf, out, err,
         ),
+        "count" => attempt::<OneFile<'_, Count>, R, S, O, E>(rt, alloc, words, shelf, out, err),
         "export" => attempt::<Export<'_>, R, S, O, E>(rt, alloc, words, shelf, out, err),
         "replay" => attempt::<Replay<'_>, R, S, O, E>(rt, alloc, words, shelf, out, err),
         "rest" => attempt_staging::<Rest<'_>, R, S, O, E>(rt, alloc, words, shelf, out, err),
         "rest-check" => attempt::<RestCheck<'_>, R, S, O, E>(rt, alloc, words, shelf, out, err),
         "search" => attempt::<Search<'_>, R, S, O, E>(rt, alloc, words, shelf, out, err),
-        "show" => attempt::<Show<'_>, R, S, O, E>(rt, alloc, words, shelf, out, err),
+        "show" => attempt::<OneFile<'_, Show>, R, S, O, E>(rt, alloc, words, shelf, out, err),
         "verify" => attempt_staging::<Verify<'_>, R, S, O, E>(rt, alloc, words, shelf, out, err),
         "version" => attempt::<Version, R, S, O, E>(rt, alloc, words, shelf, out, err),
         _ => refuse(err),

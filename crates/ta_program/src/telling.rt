@@ -7,7 +7,7 @@ ghost use Rattle.ta_report.specs.Picked.{picked};
 ghost use Rattle.ta_report.specs.Report.{SampleFits, VerdictFits};
 ghost use Rattle.ta_report.specs.Telling.{report_of};
 ghost use Rattle.ta_program.specs.Inside.Reported.{SampleReported};
-ghost use Rattle.ta_program.specs.Statuses.{report_number, tells_nothing, verdicts_number};
+ghost use Rattle.ta_program.specs.Statuses.{ZeroSays, report_number, tells_nothing, verdicts_number};
 
 use crate::budget::Budget;
 use std::alloc::{AllocError, Global};
@@ -102,6 +102,12 @@ fn tells_nothing(sample: &ReportSample, verdicts: &[Verdict]) -> bool
         ReportSample::Overflow { .. } => true,
     }
 }
+
+/// The law that verdicts have the number 0 only where none is unsafe and none unknown; the call does
+/// nothing.
+pub(crate) fn zero_says()
+    ensures { ZeroSays }
+{}
 
 /// The number of verdicts: 1 where some pattern is unsafe, else 2 where some is unknown, else 0.
 fn number_of(verdicts: &[Verdict]) -> u8

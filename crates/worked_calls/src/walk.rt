@@ -1,6 +1,7 @@
 //! Walks over a dictionary for which there is never memory, through a gate, and over words of rest.
 
 use std::alloc::{AllocError, Global};
+use std::process::Abort;
 use std::sync::atomic::{AtomicU64, Ordering};
 use ta_dense::{
     DenseDictionary, DensePivot, Dictionary, ExtendFault, NarrowDictionary, PivotFault,
@@ -9,7 +10,8 @@ use ta_implied::Orders;
 use ta_linear::System;
 use ta_maker::make_family;
 use ta_meaning::read_file;
-use ta_rest::{Claim, ClaimTree, rest_scope};
+use ta_rest::{Claim, ClaimTree, RestFile, rest_scope};
+use ta_scope::ScopedFile;
 use ta_syntax::print_tree;
 use ta_walk::{Gate, WalkEnd, walk, walk_gated};
 
@@ -131,14 +133,20 @@ impl Gate for Meeting {
     }
 }
 
+/// The file of the family with two guards. It has no contract, so that what the crates below promise
+/// of it doesn't lengthen the proof of its caller.
+fn family<R: Abort>(rt: &R, alloc: Global) -> ScopedFile {
+    let tree = make_family(alloc, 2).expect(rt, "a tree");
+    let text = print_tree(alloc, &tree).expect(rt, "memory");
+    let bytes = text.as_str().as_bytes();
+    assert!(rt; bytes.len() <= 1_048_576);
+    read_file(alloc, bytes).expect(rt, "a file")
+}
+
 // Halves that are visited one after the other never meet.
 #[test]
 fn halves_meet(rt: HostRuntime) {
-    let tree = make_family(rt.alloc(), 2).expect(&rt, "a tree");
-    let text = print_tree(rt.alloc(), &tree).expect(&rt, "memory");
-    let bytes = text.as_str().as_bytes();
-    assert!(rt; bytes.len() <= 1_048_576);
-    let scoped = read_file(rt.alloc(), bytes).expect(&rt, "a file");
+    let scoped = family(&rt, rt.alloc());
     assert!(rt; !scoped.file().patterns.as_slice().is_empty());
     let gate = Meeting {
         came: AtomicU64::new(0),
@@ -157,11 +165,16 @@ fn halves_meet(rt: HostRuntime) {
     assert!(rt; gate.vain.load(Ordering::SeqCst) == 0);
 }
 
+/// The scope of rest of a file, without a contract for the same reason.
+fn left<R: Abort>(rt: &R, alloc: Global) -> RestFile {
+    let scoped = read_file(alloc, LEFT).expect(rt, "a file");
+    rest_scope(alloc, scoped).expect(rt, "the scope of rest")
+}
+
 // At rest nobody is in A, so the word of the event is refuted.
 #[test]
 fn words_of_rest_are_walked(rt: HostRuntime) {
-    let scoped = read_file(rt.alloc(), LEFT).expect(&rt, "a file");
-    let rest = rest_scope(rt.alloc(), scoped).expect(&rt, "the scope of rest");
+    let rest = left(&rt, rt.alloc());
     assert!(rt; !rest.ending().file().patterns.as_slice().is_empty());
     let orders = Orders::new();
     let tree = ClaimTree::new(Claim::RestSafe, rest.ending().file(), 0, &orders);
