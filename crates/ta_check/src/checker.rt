@@ -168,17 +168,27 @@ impl<'a> Checker<'a> {
         ensures holds { IfOk result (λ accepted. AllClaimsHold (subject_of self.entry) accepted.patterns) }
         ensures unsolved { self.entry.claim ≡ Claim.Safe → IfOk result (λ accepted. AllUnsolved self.entry.scoped.now.file accepted.patterns) }
     {
-        if self.failed {
+        let failed = self.failed;
+        let (reader, proved) = self.into_parts();
+        if failed {
             return Err(CertFault::Failed);
         }
+        reader.finish()?;
+        Ok(Accepted {
+            patterns: List::from_vec(proved),
+        })
+    }
+
+    /// The reader and the patterns whose proofs began; the rest is dropped.
+    fn into_parts(self) -> (Reader, Vec<u32>)
+        ensures reader { result.0 ≡ self.entry.reader }
+        ensures proved { result.1 ≡ self.entry.position.proved }
+    {
         let Checker {
             reader,
             position,
             ..
         } = self;
-        reader.finish()?;
-        Ok(Accepted {
-            patterns: List::from_vec(position.proved),
-        })
+        (reader, position.proved)
     }
 }

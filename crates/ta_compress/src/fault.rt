@@ -8,7 +8,7 @@ use std::alloc::{AllocError, AllocFailed};
 use ta_replay::RunFault;
 
 /// Why a run isn't compressed.
-#[derive(Clone, Copy, Debug, Drop, PartialEq, Eq)]
+#[derive(Clone, Copy, Debug, Drop)]
 pub enum CompressFault {
     /// An error of the replay, or N11 for a guard of the file that the replay may not need.
     Replay(RunFault),

@@ -7,7 +7,7 @@ ghost use Rattle.ta_encode.specs.Asking.{AsksNothing, ask_node};
 use ta_cert::Node;
 
 /// What a node asks.
-#[derive(Clone, Copy, Debug, PartialEq, Eq)]
+#[derive(Clone, Copy)]
 pub enum Ask {
     /// Which element comes next.
     Extend,
@@ -20,7 +20,7 @@ pub enum Ask {
 }
 
 /// An inner node.
-#[derive(Clone, Copy, Debug, PartialEq, Eq)]
+#[derive(Clone, Copy)]
 pub enum Inner {
     /// It asks: one tree follows for each answer.
     Asks(Ask),

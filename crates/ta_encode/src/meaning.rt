@@ -2,7 +2,7 @@
 #![tactic(auto)]
 
 /// What an unknown of a word's system stands for.
-#[derive(Clone, Copy, Debug, PartialEq, Eq)]
+#[derive(Clone, Copy, PartialEq, Eq)]
 pub enum Meaning {
     /// The value of a parameter.
     Parameter(u32),
@@ -15,7 +15,7 @@ pub enum Meaning {
 }
 
 /// Which side of a split a bound keeps.
-#[derive(Clone, Copy, Debug, PartialEq, Eq)]
+#[derive(Clone, Copy)]
 pub enum Side {
     /// At most the floor.
     Low,
@@ -24,7 +24,7 @@ pub enum Side {
 }
 
 /// A bound of an unknown, by its number in the system: at most `floor`, or at least `floor + 1`.
-#[derive(Clone, Copy, Debug, PartialEq, Eq)]
+#[derive(Clone, Copy)]
 pub struct Bound {
     pub unknown: u32,
     pub floor: i128,

@@ -6,7 +6,8 @@ pub use Rattle.std.proofs.lemmas.List.{append_assoc, length-map, map-append}
 pub use Rattle.std.specs.Prelude.{codes}
 pub use Rattle.ta_maker.specs.Family.{lone, name, numbered, rules_of, sender, waiter}
 pub use Rattle.ta_syntax.specs.Grammar.{IsSum, PlainRule, Term, Terms}
-pub use Rattle.ta_syntax.specs.PlainTrees.{plain_location, plain_name, plain_rule}
+pub use Rattle.ta_syntax.specs.PlainTrees.{plain_comparison, plain_location, plain_name, plain_pattern, plain_rule}
+pub use Rattle.ta_syntax.specs.PlainSums.{plain_sum}
 pub use Rattle.std.specs.List.{AllByRecursion}
 pub use Rattle.ta_maker.specs.Made.{IsFamilyNumber}
 pub use Rattle.ta_syntax.specs.Kinds.{IsDigits}

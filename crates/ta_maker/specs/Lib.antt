@@ -1,3 +1,4 @@
 pub mod Family
 pub mod FamilyLaws
 pub mod Made
+pub mod FamilyParts

@@ -70,15 +70,30 @@ pub(crate) fn at_least_one(alloc: Global, named: Spelled) -> Result<TreeComparis
 pub(crate) fn one_too_many(alloc: Global) -> Result<TreeComparison, AllocError>
     ensures { IfOk result (λ it. plain_comparison it ≡ at_least (pair (name (codes "A")) (name (codes "B"))) (pair (name (codes "n")) (number (codes "1")))) }
 {
-    let before = name_term(spelled(alloc, "A")?);
-    let behind = name_term(spelled(alloc, "B")?);
-    let left = pair(alloc, before, behind)?;
-    let all = name_term(spelled(alloc, "n")?);
-    let right = pair(alloc, all, one_term(alloc)?)?;
+    let left = both_locations(alloc)?;
+    let right = one_more(alloc)?;
     Ok(TreeComparison {
         at: 0,
         left,
         relation: Relation::AtLeast,
         right,
     })
+}
+
+/// The processes in the two locations.
+fn both_locations(alloc: Global) -> Result<TreeSum, AllocError>
+    ensures { IfOk result (λ it. plain_sum it ≡ pair (name (codes "A")) (name (codes "B"))) }
+{
+    let first = name_term(spelled(alloc, "A")?);
+    let second = name_term(spelled(alloc, "B")?);
+    pair(alloc, first, second)
+}
+
+/// One more than the processes that there are.
+fn one_more(alloc: Global) -> Result<TreeSum, AllocError>
+    ensures { IfOk result (λ it. plain_sum it ≡ pair (name (codes "n")) (number (codes "1"))) }
+{
+    let all = name_term(spelled(alloc, "n")?);
+    let one = one_term(alloc)?;
+    pair(alloc, all, one)
 }

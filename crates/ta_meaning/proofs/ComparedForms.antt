@@ -1,16 +1,19 @@
 -- The rows of compared forms, and what a comparison and a condition mean.
-use Rattle.ta_meaning.proofs.Common.{◌≡◌, ℕ, ℤ, pos, ◌+◌, ◌^◌, ◌-ℤ◌, Bool, List, [], ◌∷◌, ◌++◌, length, map, get_or, Result, sym, ap, subst, ◌∙◌, append-nil}
+use Rattle.ta_meaning.proofs.Common.{◌≡◌, ◌≤◌, ℕ, ℤ, pos, ◌+◌, ◌^◌, ◌-ℤ◌, Bool, List, [], ◌∷◌, ◌++◌, length, map, get_or, Result, sym, ap, subst, ◌∙◌}
+use Rattle.ta_meaning.proofs.Common.{append-nil, append_assoc}
 use Rattle.ta_meaning.proofs.Common.{length-map, AllByRecursion, less_alike, minus_alike, at_map_both, coefficient, Form, Row, Terms, plain_sum}
 use Rattle.ta_meaning.proofs.Common.{plain_comparison, Relation, TreeComparison, FileFault, RowOver, Comparison, Condition, sum_coefficient, sum_constant}
 use Rattle.ta_meaning.proofs.Common.{sum_uses, Difference, FormOf, RowOf, Pairwise, linear_sum, linear_difference, differences_by, comparison_rows, any_large}
 use Rattle.ta_meaning.proofs.Common.{MeansComparison, is_large_linear, Scope, FirstOrMemory, Answers, where_, else_, sum_faults, comparison_faults}
 use Rattle.ta_meaning.proofs.Common.{condition_faults, ResolvedForm, ResolvedComparison, ResolvedCondition, IsDifference, PartOf, is_large_form, any_large_row}
-use Rattle.ta_meaning.proofs.Common.{form_differences, RowOfDifference, refl}
+use Rattle.ta_meaning.proofs.Common.{form_differences, RowOfDifference, refl, arith, each_push, length_push}
 use Rattle.ta_syntax.specs.declared.tokens.Relation.TheVariants as relation
 use Rattle.ta_syntax.specs.declared.fault.FileFault.TheVariants as fault
-use Rattle.ta_meaning.proofs.Answering.{else-left-none, not-where, answers-along, answers-knowing, answers-otherwise, append-left-first, else-left-first}
+use Rattle.ta_meaning.proofs.Answering.{else-left-none, not-where, answers-along, answers-knowing, answers-otherwise, append-left-first, append-right-first}
+use Rattle.ta_meaning.proofs.Answering.{else-left-first}
 use Rattle.ta_meaning.proofs.LargeNumbers.{same_large, same_large_rows, form_over, rows_over}
-use Rattle.ta_base.proofs.Lists.{empty_both}
+use Rattle.ta_base.proofs.Lists.{empty_before, empty_both}
+use Rattle.ta_base.proofs.Pairwise.{paired_length}
 
 -- ---- a sum
 
@@ -66,6 +69,21 @@ rows_are names relation.Equal left right l r (a ∷ b ∷ c ∷ rows) is_l is_r 
 rows_are names relation.AtLeast left right l r (a ∷ b ∷ rows) is_l is_r h = absurd h.1
 rows_are names relation.More left right l r (a ∷ b ∷ rows) is_l is_r h = absurd h.1
 
+differences_count : (rel : Relation) (l r : Form) → (1 ≤ length (form_differences rel l r)) × (length (form_differences rel l r) ≤ 2)
+differences_count relation.Less l r = (omega arith, omega arith)
+differences_count relation.AtMost l r = (omega arith, omega arith)
+differences_count relation.Equal l r = (omega arith, omega arith)
+differences_count relation.AtLeast l r = (omega arith, omega arith)
+differences_count relation.More l r = (omega arith, omega arith)
+
+-- a comparison has one row or two
+pub rows_count : (rel : Relation) (l r : Form) (rows : List Row) → Pairwise RowOfDifference (form_differences rel l r) rows
+    → (1 ≤ length rows) × (length rows ≤ 2)
+rows_count rel l r rows h =
+    let same : length (form_differences rel l r) ≡ length rows = sym (paired_length RowOfDifference (form_differences rel l r) rows h) in
+    let few : (1 ≤ length (form_differences rel l r)) × (length (form_differences rel l r) ≤ 2) = differences_count rel l r in
+    (omega (arith, same, few.0), omega (arith, same, few.1))
+
 pub each_length : (names : List (List ℕ)) (ds : List Difference) → AllByRecursion (λ l. length l.coefficients ≡ length names) (map (linear_difference names) ds)
 each_length names [] = tt
 each_length names (d ∷ ds) = (length-map names (λ x. sum_coefficient x d.greater -ℤ sum_coefficient x d.less), each_length names ds)
@@ -101,6 +119,13 @@ left_first s c e first =
     else-left-first (sum_faults s c.left ++ sum_faults s c.right) (where_ (any_large (comparison_rows s.allowed (plain_comparison c))) (fault.TooLarge c.at)) e
     (append-left-first (sum_faults s c.left) (sum_faults s c.right) e first)
 
+-- an error of its second sum is its first where the first sum has none
+pub right_first : (s : Scope) (c : TreeComparison) (e : FileFault) → sum_faults s c.left ≡ [] → FirstOrMemory (sum_faults s c.right) e
+    → FirstOrMemory (comparison_faults s c) e
+right_first s c e none first =
+    else-left-first (sum_faults s c.left ++ sum_faults s c.right) (where_ (any_large (comparison_rows s.allowed (plain_comparison c))) (fault.TooLarge c.at)) e
+    (append-right-first (sum_faults s c.left) (sum_faults s c.right) e none first)
+
 -- where the sums have no error, that of the whole comparison is left
 pub last_of_comparison : (s : Scope) (c : TreeComparison) → sum_faults s c.left ≡ [] → sum_faults s c.right ≡ []
     → comparison_faults s c ≡ where_ (any_large (comparison_rows s.allowed (plain_comparison c))) (fault.TooLarge c.at)
@@ -117,6 +142,26 @@ pub record Resolving (s : Scope) (all left : List TreeComparison) (so_far : List
       → Pairwise (MeansComparison s.allowed) (map plain_comparison all) (so_far ++ rest)
   pub over : AllByRecursion (λ (k : Comparison). AllByRecursion (RowOver (length s.allowed)) k.rows) so_far
   pub count : length so_far + length left ≡ length all
+
+pub condition_begins : (s : Scope) (all : List TreeComparison) (so_far : List Comparison) → so_far ≡ [] → Resolving s all all so_far
+condition_begins s all so_far none =
+    let begin : Resolving s all all [] = record { faults = refl; means = λ rest h. h; over = tt; count = omega arith } in
+    subst (λ (ks : List Comparison). Resolving s all all ks) (sym none) begin
+
+pub condition_stops : (s : Scope) (all left : List TreeComparison) (c : TreeComparison) (so_far : List Comparison) (e : FileFault)
+    → Resolving s all (c ∷ left) so_far → FirstOrMemory (comparison_faults s c) e → FirstOrMemory (condition_faults s all) e
+condition_stops s all left c so_far e had first = rw had.faults (append-left-first (comparison_faults s c) (condition_faults s left) e first)
+
+pub condition_goes_on : (s : Scope) (all left : List TreeComparison) (c : TreeComparison) (so_far : List Comparison) (k : Comparison)
+    → Resolving s all (c ∷ left) so_far → comparison_faults s c ≡ [] → ResolvedComparison s.allowed (plain_comparison c) k
+    → Resolving s all left (so_far ++ k ∷ [])
+condition_goes_on s all left c so_far k had none one = record {
+  faults = had.faults ∙ empty_before (comparison_faults s c) (condition_faults s left) none;
+  means = λ rest h. subst (λ (ks : List Comparison). Pairwise (MeansComparison s.allowed) (map plain_comparison all) ks)
+      (sym (append_assoc so_far (k ∷ []) rest)) (had.means (k ∷ rest) (one.means, h));
+  over = each_push (λ (j : Comparison). AllByRecursion (RowOver (length s.allowed)) j.rows) so_far k had.over one.over;
+  count = let count = had.count in omega (arith, length_push so_far k);
+}
 
 pub condition_ends : (s : Scope) (all : List TreeComparison) (so_far : List Comparison) (condition : Condition) → Resolving s all [] so_far
     → condition.comparisons ≡ so_far → (condition_faults s all ≡ []) × ResolvedCondition s.allowed (map plain_comparison all) condition

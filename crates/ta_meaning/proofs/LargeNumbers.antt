@@ -3,7 +3,7 @@ use Rattle.ta_meaning.proofs.Common.{◌≡◌, ℕ, zero, suc, ℤ, pos, ◌+�
 use Rattle.ta_meaning.proofs.Common.{ap, subst, ◌∙◌, arith, list_any, AllByRecursion, ints, nat_tests, or_parts, or_from, both_or_neither, cond_small}
 use Rattle.ta_meaning.proofs.Common.{coefficient, IsNormal, Form, Row, coefficient-below, coefficient-first, coefficient-other, normal_narrow, FormOver, Linear}
 use Rattle.ta_meaning.proofs.Common.{FormOf, Pairwise, RowOf, is_large, is_large_linear, any_large, FormWithin, is_large_form, any_large_term, any_large_row}
-use Rattle.ta_meaning.proofs.Common.{get_or_past}
+use Rattle.ta_meaning.proofs.Common.{get_or_past, true, drop, drop_more, ◌<◌}
 
 pub small_tells : (z : ℤ) → is_large z ≡ false → unsigned_abs z ≤ 1000000000
 small_tells z h = grind (arith, nat_tests)
@@ -102,3 +102,14 @@ rows_over (l ∷ ls) places (r ∷ rows) h e small = (
 )
 rows_over [] places (r ∷ rows) h e small = absurd h
 rows_over (l ∷ ls) places [] h e small = absurd h
+
+-- ---- terms one after another
+pub large_here : (ts : List (ℕ × ℤ)) (i : ℕ) → i < length ts → any_large_term ts ≡ any_large_term (drop i ts) → is_large (get_or ts i (0, pos 0)).1 ≡ true
+    → any_large_term ts ≡ true
+large_here ts i within before large = before ∙ ap any_large_term (drop_more ts i (0, pos 0) within)
+    ∙ ap (λ (b : Bool). b || any_large_term (drop (i + 1) ts)) large
+
+pub none_large : (ts : List (ℕ × ℤ)) (i : ℕ) → i < length ts → any_large_term ts ≡ any_large_term (drop i ts)
+    → is_large (get_or ts i (0, pos 0)).1 ≡ false → any_large_term ts ≡ any_large_term (drop (i + 1) ts)
+none_large ts i within before small = before ∙ ap any_large_term (drop_more ts i (0, pos 0) within)
+    ∙ ap (λ (b : Bool). b || any_large_term (drop (i + 1) ts)) small

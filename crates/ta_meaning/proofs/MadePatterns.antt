@@ -60,7 +60,7 @@ module _ (ns : Names) (fine : FineNames ns) where
       let mask = mask_exists before before e.after distinct (omega arith) (empty_left listed holds later) in
       let condition = condition_exists (in_conditions ns) e.condition fine.all e.few (empty_right listed holds later) in
       let event : Event = record { name = e.name.name; after = mask.0; condition = condition.0 } in
-      (event, event_resolved ns before e e.after refl e.condition refl (before ++ e.name.name ∷ []) event distinct name refl refl mask.1 condition.1)
+      (event, event_resolved ns before e (before ++ e.name.name ∷ []) event distinct name refl refl mask.1 condition.1)
 
   events_from : (all rest : List TreeEvent) (names : List (List ℕ)) (resolved : List Event) → length all ≤ 8 → events_faults ns [] all ≡ []
       → EventsTo ns all rest names resolved → (events : List Event) × ResolvedEvents ns (map plain_event all) events
@@ -87,8 +87,7 @@ module _ (ns : Names) (fine : FineNames ns) where
       let events = events_from p.events p.events [] [] p.few_events (empty_right listed many last) (events_begin ns p.events [] [] refl refl) in
       let pattern : Pattern = record { name = p.name.name; start = start.0; empty = empty.0; events = events.0 } in (
         pattern,
-        pattern_resolved ns before p p.start refl p.empty refl p.events refl (before ++ p.name.name ∷ []) pattern distinct name refl refl start.1
-            empty.1 events.1,
+        pattern_resolved ns before p (before ++ p.name.name ∷ []) pattern distinct name refl refl start.1 empty.1 events.1,
       )
 
   patterns_from : (all rest : List TreePattern) (names : List (List ℕ)) (resolved : List Pattern) → length all ≤ 16 → patterns_faults ns [] all ≡ []

@@ -8,14 +8,19 @@ use Rattle.ta_meaning.proofs.Common.{factor_uses, FormOf, linear_sum, is_large_l
 use Rattle.ta_meaning.proofs.Common.{FormWithin, judged_term, judged_factor, is_large_form, linear_factor, number_or, PartOf, IsSignedSum, less_small, ◌&&◌}
 use Rattle.ta_syntax.specs.declared.sums.Sign.TheVariants as sign
 use Rattle.ta_syntax.specs.declared.fault.FileFault.TheVariants as fault
-use Rattle.ta_meaning.proofs.Answering.{append-left-first, else-none, else-left-first, where-false, not-where, answers-along, answers-knowing}
+use Rattle.ta_meaning.proofs.Answering.{append-left-first, append-right-first, else-none, else-left-first, where-false, not-where, answers-along}
+use Rattle.ta_meaning.proofs.Answering.{answers-knowing}
 use Rattle.ta_meaning.proofs.Answering.{answers-otherwise}
 use Rattle.ta_meaning.proofs.LargeNumbers.{small_within, linear_small, same_large}
 use Rattle.ta_meaning.proofs.ListedNames.{has_name-at}
 use Rattle.ta_meaning.proofs.WrittenNumbers.{number_is_small}
 use Rattle.ta_meaning.proofs.SmallForms.{within_more}
 use Rattle.ta_meaning.proofs.LinearSums.{name_numbers}
-use Rattle.ta_meaning.proofs.TreeSums.{terms_faults, large_term, term_faults_none, term_faults_some, plain_term_none, plain_term_some}
+use Rattle.ta_syntax.specs.declared.sums.TreeFactor.{Named, Nested}
+use Rattle.ta_syntax.proofs.SumSteps.{plain_named, plain_nested}
+use Rattle.ta_meaning.proofs.Common.{TreeSum, Spelled, nested, plain_sum, sum_faults, used_faults}
+use Rattle.ta_meaning.proofs.TreeSums.{named_faults, nested_faults, terms_faults, large_term, term_faults_none, term_faults_some, plain_term_none}
+use Rattle.ta_meaning.proofs.TreeSums.{plain_term_some}
 use Rattle.std.proofs.Math.IntN.{+ℤ_idr, +ℤ_idl, *ℤ-zero}
 use Rattle.ta_base.proofs.Lists.{empty_before, empty_both}
 
@@ -169,6 +174,14 @@ sum_fails s all left t count form e so_far first =
 -- ---- the answers of a term
 
 -- a number alone, or a blank, has no error but that of its number
+-- an error of a number alone
+pub alone_first : (s : Scope) (t : TreeTerm) (e : FileFault) → (out-TreeTerm t).body ≡ None → FirstOrMemory (number_faults (out-TreeTerm t).factor) e
+    → FirstOrMemory (judged_term s t).faults e
+alone_first s t e body first =
+    subst (λ (fs : List FileFault). FirstOrMemory fs e) (sym (term_faults_none s t body))
+    (else-left-first (number_faults (out-TreeTerm t).factor ++ []) (large_term s (out-TreeTerm t).at (term_of (out-TreeTerm t).factor None)) e
+    (append-left-first (number_faults (out-TreeTerm t).factor) [] e first))
+
 pub alone_answers : (s : Scope) (t : TreeTerm) (n : ℕ) (form : Form) → (out-TreeTerm t).body ≡ None → number_faults (out-TreeTerm t).factor ≡ []
     → n ≡ number_or 0 (out-TreeTerm t).factor → form.constant ≡ pos n → form.terms ≡ []
     → ((judged_term s t).faults ≡ []) × PartOf (term_uses s.allowed (plain_term t)) (linear_term s.allowed (plain_term t)) 1000000000 form
@@ -184,6 +197,43 @@ alone_answers s t n form body none is constant terms =
     )
 
 -- an error of a term's number is its first
+-- an error of a factor behind a number that has none
+pub factor_first : (s : Scope) (t : TreeTerm) (f : TreeFactor) (e : FileFault) → (out-TreeTerm t).body ≡ Some f
+    → number_faults (out-TreeTerm t).factor ≡ [] → FirstOrMemory (judged_factor s f).faults e → FirstOrMemory (judged_term s t).faults e
+factor_first s t f e body none first =
+    subst (λ (fs : List FileFault). FirstOrMemory fs e) (sym (term_faults_some s t f body))
+    (else-left-first (number_faults (out-TreeTerm t).factor ++ (judged_factor s f).faults)
+    (large_term s (out-TreeTerm t).at (term_of (out-TreeTerm t).factor (Some (plain_factor f)))) e
+    (append-right-first (number_faults (out-TreeTerm t).factor) (judged_factor s f).faults e none first))
+
+-- the number before a factor, 1 where there is none
+pub number_small : (factor : Option Digits) (n : ℕ) → number_faults factor ≡ [] → n ≡ number_or 1 factor → n ≤ 1000000000
+number_small None n none is = omega (arith, is)
+number_small (Some d) n none is = omega (arith, is, number_is_small d none)
+
+-- what a factor answers, from what its name or its sum does
+factor_answers : (s : Scope) (f : TreeFactor) (faults : List FileFault) (plain : Factor) (bound : ℕ) (r : Result Form FileFault)
+    → (judged_factor s f).faults ≡ faults → plain_factor f ≡ plain → bound ≤ 2 ^ 93
+    → Answers faults (PartOf (factor_uses s.allowed plain) (linear_factor s.allowed plain) bound) r
+    → Answers (judged_factor s f).faults (PartOf (factor_uses s.allowed (plain_factor f)) (linear_factor s.allowed (plain_factor f)) (2 ^ 93)) r
+factor_answers s f faults plain bound r same alike below answer =
+    let wide = answers-knowing faults _ (PartOf (factor_uses s.allowed plain) (linear_factor s.allowed plain) (2 ^ 93)) r
+    (λ form none part. record { known = part.known; numbers = part.numbers; within = within_more bound (2 ^ 93) form below part.within }) answer in
+    answers-along faults (judged_factor s f).faults _ r (sym same)
+    (subst (λ (p : Factor). Answers faults (PartOf (factor_uses s.allowed p) (linear_factor s.allowed p) (2 ^ 93)) r) (sym alike) wide)
+
+pub named_answers : (s : Scope) (f : TreeFactor) (n : Spelled) (r : Result Form FileFault) → f ≡ Named n
+    → Answers (used_faults s.places s.allowed n) (PartOf (factor_uses s.allowed (named n.name)) (linear_factor s.allowed (named n.name)) 1) r
+    → Answers (judged_factor s f).faults (PartOf (factor_uses s.allowed (plain_factor f)) (linear_factor s.allowed (plain_factor f)) (2 ^ 93)) r
+named_answers s f n r is answer = factor_answers s f _ _ 1 r (ap (λ (x : TreeFactor). (judged_factor s x).faults) is ∙ named_faults s n)
+    (ap plain_factor is ∙ plain_named n) (omega arith) answer
+
+pub nested_answers : (s : Scope) (f : TreeFactor) (t : TreeSum) (r : Result Form FileFault) → f ≡ Nested t
+    → Answers (sum_faults s t) (PartOf (sum_uses s.allowed (plain_sum t)) (linear_sum s.allowed (plain_sum t)) (2 ^ 93)) r
+    → Answers (judged_factor s f).faults (PartOf (factor_uses s.allowed (plain_factor f)) (linear_factor s.allowed (plain_factor f)) (2 ^ 93)) r
+nested_answers s f t r is answer = factor_answers s f _ (nested (plain_sum t)) (2 ^ 93) r
+    (ap (λ (x : TreeFactor). (judged_factor s x).faults) is ∙ nested_faults s t) (ap plain_factor is ∙ plain_nested t) (omega arith) answer
+
 pub number_first : (s : Scope) (t : TreeTerm) (f : TreeFactor) (e : FileFault) → (out-TreeTerm t).body ≡ Some f
     → FirstOrMemory (number_faults (out-TreeTerm t).factor) e → FirstOrMemory (judged_term s t).faults e
 number_first s t f e body first =

@@ -2,14 +2,15 @@
 use Rattle.ta_base.proofs.Pairwise.{pairwise_push}
 use Rattle.ta_meaning.proofs.Common.{◌≡◌, ℕ, ◌+◌, ◌<◌, ◌≤◌, List, [], ◌∷◌, ◌++◌, length, map, refl, sym, ap, subst, ◌∙◌, append_assoc, arith, append-nil}
 use Rattle.ta_meaning.proofs.Common.{length-map, length_push, map_push, AllByRecursion, each_append, each_from-push, PlainEvent, PlainPattern, plain_name}
-use Rattle.ta_meaning.proofs.Common.{plain_comparison, plain_event, plain_pattern, Spelled, TreeComparison, TreeEvent, TreePattern, FileFault, Event, Pattern}
+use Rattle.ta_meaning.proofs.Common.{plain_comparison, plain_event, plain_pattern, Spelled, TreeEvent, TreePattern, FileFault, Event, Pattern}
 use Rattle.ta_meaning.proofs.Common.{EachFrom, Distinct, Name, EventWithin, event_name, PatternWithin, pattern_name, Names, all_names, Pairwise, MeansEvent}
-use Rattle.ta_meaning.proofs.Common.{MeansEvents, MeansPattern, FirstOrMemory, in_conditions, declared_faults, listed_faults, condition_faults, event_faults}
+use Rattle.ta_meaning.proofs.Common.{MeansEvents, MeansPattern, FirstOrMemory, in_conditions, declared_faults, condition_faults, event_faults}
 use Rattle.ta_meaning.proofs.Common.{events_faults, pattern_faults, patterns_faults, ResolvedCondition, ResolvedPatterns, ListedMask, DeclaredNext}
 use Rattle.ta_meaning.proofs.Common.{ResolvedEvent, ResolvedEvents, ResolvedPattern}
 use Rattle.ta_meaning.proofs.Answering.{append-left-first, append-right-first}
 use Rattle.ta_meaning.proofs.Declared.{declared-legal, declared-distinct}
 use Rattle.ta_base.proofs.Lists.{empty_before, empty_both}
+use Rattle.ta_meaning.specs.Inside.PatternParts.{pattern_head_faults}
 
 declared_next : (before : List (List ℕ)) (n : Spelled) (names : List (List ℕ)) → Distinct before → declared_faults before n ≡ [] → names ≡ before ++ n.name ∷ []
     → DeclaredNext before n.name names
@@ -20,38 +21,15 @@ copied_legal : (before : List (List ℕ)) (n : Spelled) (text : List ℕ) → de
 copied_legal before n text none is = subst Name (sym is) (declared-legal before n none)
 
 -- ---- one event
-module _ (ns : Names) (before : List (List ℕ)) (e : TreeEvent) (after : List Spelled) (is_after : after ≡ e.after) (condition : List TreeComparison)
-    (is_condition : condition ≡ e.condition) where
-  pub event_stops_at_after : (f : FileFault) → declared_faults before e.name ≡ [] → FirstOrMemory (listed_faults before before [] after) f
-      → FirstOrMemory (event_faults ns before e) f
-  event_stops_at_after f name first =
-      append-right-first _ _ f name (append-left-first _ _ f (subst (λ (z : List Spelled). FirstOrMemory (listed_faults before before [] z) f) is_after first))
-
-  pub event_stops_at_condition : (f : FileFault) → declared_faults before e.name ≡ [] → listed_faults before before [] after ≡ []
-      → FirstOrMemory (condition_faults (in_conditions ns) condition) f → FirstOrMemory (event_faults ns before e) f
-  event_stops_at_condition f name listed first =
-      append-right-first _ _ f name (append-right-first _ _ f (subst (λ (z : List Spelled). listed_faults before before [] z ≡ []) is_after listed)
-      (subst (λ (z : List TreeComparison). FirstOrMemory (condition_faults (in_conditions ns) z) f) is_condition first))
-
-  pub event_has_none : declared_faults before e.name ≡ [] → listed_faults before before [] after ≡ [] → condition_faults (in_conditions ns) condition ≡ []
-      → event_faults ns before e ≡ []
-  event_has_none name listed none =
-      empty_both _ _ name (empty_both _ _ (subst (λ (z : List Spelled). listed_faults before before [] z ≡ []) is_after listed)
-      (subst (λ (z : List TreeComparison). condition_faults (in_conditions ns) z ≡ []) is_condition none))
-
-  pub event_resolved : (names : List (List ℕ)) (event : Event) → Distinct before → declared_faults before e.name ≡ [] → names ≡ before ++ e.name.name ∷ []
-      → event.name ≡ e.name.name → ListedMask before (map plain_name after) event.after
-      → ResolvedCondition (all_names ns) (map plain_comparison condition) event.condition → ResolvedEvent ns before (plain_event e) names event
-  event_resolved names event d none is name mask holds =
-      let listed : ListedMask before (map plain_name e.after) event.after = subst (λ (z : List Spelled). ListedMask before (map plain_name z) event.after)
-      is_after mask in
-      let resolved : ResolvedCondition (all_names ns) (map plain_comparison e.condition) event.condition = subst
-      (λ (z : List TreeComparison). ResolvedCondition (all_names ns) (map plain_comparison z) event.condition) is_condition holds in
-      record {
-        means = record { name = name; after = listed.bits; condition = resolved.means };
-        within = record { name = copied_legal before e.name event.name none name; after = listed.below; condition = resolved.over };
-        declared = declared_next before e.name names d none is;
-      }
+pub event_resolved : (ns : Names) (before : List (List ℕ)) (e : TreeEvent) (names : List (List ℕ)) (event : Event) → Distinct before
+    → declared_faults before e.name ≡ [] → names ≡ before ++ e.name.name ∷ [] → event.name ≡ e.name.name
+    → ListedMask before (map plain_name e.after) event.after → ResolvedCondition (all_names ns) (map plain_comparison e.condition) event.condition
+    → ResolvedEvent ns before (plain_event e) names event
+event_resolved ns before e names event d none is name listed resolved = record {
+  means = record { name = name; after = listed.bits; condition = resolved.means };
+  within = record { name = copied_legal before e.name event.name none name; after = listed.below; condition = resolved.over };
+  declared = declared_next before e.name names d none is;
+}
 
 means_events-push : (ns : Names) (before : List (List ℕ)) (es : List PlainEvent) (events : List Event) (e : PlainEvent) (event : Event)
     → MeansEvents ns before es events → MeansEvent ns (before ++ map event_name events) e event → MeansEvents ns before (es ++ e ∷ []) (events ++ event ∷ [])
@@ -122,62 +100,39 @@ events_end ns all names resolved few to = (
 )
 
 -- ---- one pattern
-module _ (ns : Names) (before : List (List ℕ)) (p : TreePattern) (start : List TreeComparison) (is_start : start ≡ p.start) (empty : List Spelled)
-    (is_empty : empty ≡ p.empty) (events : List TreeEvent) (is_events : events ≡ p.events) where
-  pub pattern_stops_at_start : (f : FileFault) → declared_faults before p.name ≡ [] → FirstOrMemory (condition_faults (in_conditions ns) start) f
-      → FirstOrMemory (pattern_faults ns before p) f
-  pattern_stops_at_start f name first =
-      append-right-first _ _ f name (append-left-first _ _ f
-      (subst (λ (z : List TreeComparison). FirstOrMemory (condition_faults (in_conditions ns) z) f) is_start first))
+in_parts : (ns : Names) (before : List (List ℕ)) (p : TreePattern) → pattern_faults ns before p ≡ pattern_head_faults ns before p
+    ++ events_faults ns [] p.events
+in_parts ns before p = sym (append_assoc (declared_faults before p.name) _ _
+    ∙ ap (λ (fs : List FileFault). declared_faults before p.name ++ fs) (append_assoc (condition_faults (in_conditions ns) p.start) _ _))
 
-  start_none : condition_faults (in_conditions ns) start ≡ [] → condition_faults (in_conditions ns) p.start ≡ []
-  start_none none = subst (λ (z : List TreeComparison). condition_faults (in_conditions ns) z ≡ []) is_start none
+pub pattern_stops_at_head : (ns : Names) (before : List (List ℕ)) (p : TreePattern) (f : FileFault) → FirstOrMemory (pattern_head_faults ns before p) f
+    → FirstOrMemory (pattern_faults ns before p) f
+pattern_stops_at_head ns before p f first = rw (in_parts ns before p) (append-left-first _ _ f first)
 
-  empty_none : listed_faults (all_names ns) ns.locations [] empty ≡ [] → listed_faults (all_names ns) ns.locations [] p.empty ≡ []
-  empty_none none = subst (λ (z : List Spelled). listed_faults (all_names ns) ns.locations [] z ≡ []) is_empty none
+pub pattern_stops_at_events : (ns : Names) (before : List (List ℕ)) (p : TreePattern) (f : FileFault) → pattern_head_faults ns before p ≡ []
+    → FirstOrMemory (events_faults ns [] p.events) f → FirstOrMemory (pattern_faults ns before p) f
+pattern_stops_at_events ns before p f none first = rw (in_parts ns before p) (append-right-first _ _ f none first)
 
-  pub pattern_stops_at_empty : (f : FileFault) → declared_faults before p.name ≡ [] → condition_faults (in_conditions ns) start ≡ []
-      → FirstOrMemory (listed_faults (all_names ns) ns.locations [] empty) f → FirstOrMemory (pattern_faults ns before p) f
-  pattern_stops_at_empty f name none first =
-      append-right-first _ _ f name (append-right-first _ _ f (start_none none)
-      (append-left-first _ _ f (subst (λ (z : List Spelled). FirstOrMemory (listed_faults (all_names ns) ns.locations [] z) f) is_empty first)))
+pub pattern_has_none : (ns : Names) (before : List (List ℕ)) (p : TreePattern) → pattern_head_faults ns before p ≡ [] → events_faults ns [] p.events ≡ []
+    → pattern_faults ns before p ≡ []
+pattern_has_none ns before p head events = in_parts ns before p ∙ empty_both _ _ head events
 
-  pub pattern_stops_at_events : (f : FileFault) → declared_faults before p.name ≡ [] → condition_faults (in_conditions ns) start ≡ []
-      → listed_faults (all_names ns) ns.locations [] empty ≡ [] → FirstOrMemory (events_faults ns [] events) f → FirstOrMemory (pattern_faults ns before p) f
-  pattern_stops_at_events f name none listed first =
-      append-right-first _ _ f name (append-right-first _ _ f (start_none none)
-      (append-right-first _ _ f (empty_none listed) (subst (λ (z : List TreeEvent). FirstOrMemory (events_faults ns [] z) f) is_events first)))
-
-  pub pattern_has_none : declared_faults before p.name ≡ [] → condition_faults (in_conditions ns) start ≡ []
-      → listed_faults (all_names ns) ns.locations [] empty ≡ [] → events_faults ns [] events ≡ [] → pattern_faults ns before p ≡ []
-  pattern_has_none name none listed rest =
-      empty_both _ _ name (empty_both _ _ (start_none none)
-      (empty_both _ _ (empty_none listed) (subst (λ (z : List TreeEvent). events_faults ns [] z ≡ []) is_events rest)))
-
-  pub pattern_resolved : (names : List (List ℕ)) (pattern : Pattern) → Distinct before → declared_faults before p.name ≡ [] → names ≡ before ++ p.name.name ∷ []
-      → pattern.name ≡ p.name.name → ResolvedCondition (all_names ns) (map plain_comparison start) pattern.start
-      → ListedMask ns.locations (map plain_name empty) pattern.empty → ResolvedEvents ns (map plain_event events) pattern.events
-      → ResolvedPattern ns before (plain_pattern p) names pattern
-  pattern_resolved names pattern d none is name holds mask many =
-      let begins : ResolvedCondition (all_names ns) (map plain_comparison p.start) pattern.start = subst
-      (λ (z : List TreeComparison). ResolvedCondition (all_names ns) (map plain_comparison z) pattern.start) is_start holds in
-      let listed : ListedMask ns.locations (map plain_name p.empty) pattern.empty = subst
-      (λ (z : List Spelled). ListedMask ns.locations (map plain_name z) pattern.empty) is_empty mask in
-      let each : ResolvedEvents ns (map plain_event p.events) pattern.events = subst
-      (λ (z : List TreeEvent). ResolvedEvents ns (map plain_event z) pattern.events) is_events many in
-      record {
-        means = record { name = name; start = begins.means; empty = listed.bits; events = each.means };
-        within = record {
-          name = copied_legal before p.name pattern.name none name;
-          start = begins.over;
-          empty = listed.below;
-          events_limit = each.limit;
-          events
-              = each.within;
-          events_distinct = each.distinct;
-        };
-        declared = declared_next before p.name names d none is;
-      }
+pub pattern_resolved : (ns : Names) (before : List (List ℕ)) (p : TreePattern) (names : List (List ℕ)) (pattern : Pattern) → Distinct before
+    → declared_faults before p.name ≡ [] → names ≡ before ++ p.name.name ∷ [] → pattern.name ≡ p.name.name
+    → ResolvedCondition (all_names ns) (map plain_comparison p.start) pattern.start → ListedMask ns.locations (map plain_name p.empty) pattern.empty
+    → ResolvedEvents ns (map plain_event p.events) pattern.events → ResolvedPattern ns before (plain_pattern p) names pattern
+pattern_resolved ns before p names pattern d none is name start empty each = record {
+  means = record { name = name; start = start.means; empty = empty.bits; events = each.means };
+  within = record {
+    name = copied_legal before p.name pattern.name none name;
+    start = start.over;
+    empty = empty.below;
+    events_limit = each.limit;
+    events = each.within;
+    events_distinct = each.distinct;
+  };
+  declared = declared_next before p.name names d none is;
+}
 
 -- ---- patterns one after another
 

@@ -1,7 +1,7 @@
 -- Forms with small numbers: their sums, negatives and multiples.
-use Rattle.ta_meaning.proofs.Common.{◌≡◌, ℕ, ℤ, negsuc, ◌^◌, ◌≤◌, ◌+ℤ◌, ◌*ℤ◌, unsigned_abs, List, [], inl, inr, sym, ap, subst, ◌∙◌, arith, unsigned_abs-mul}
-use Rattle.ta_meaning.proofs.Common.{mul-le-mul, less_both, less_one, minus_one_times, InRange, coefficient, IsMultiple, MultipleOutOfRange, Form, Sign, Result}
-use Rattle.ta_meaning.proofs.Common.{Ok, Err, MatchResult, FileFault, FormWithin, IsDifference, IsSignedSum}
+use Rattle.ta_meaning.proofs.Common.{◌≡◌, ℕ, ℤ, pos, negsuc, ◌^◌, ◌≤◌, ◌+ℤ◌, ◌-ℤ◌, ◌*ℤ◌, unsigned_abs, List, inl, inr, ap, ◌∙◌, arith, ints, unsigned_abs-mul}
+use Rattle.ta_meaning.proofs.Common.{mul-le-mul, minus_one_times, InRange, coefficient, IsMultiple, MultipleOutOfRange, Form, Result}
+use Rattle.ta_meaning.proofs.Common.{Ok, Err, MatchResult, FileFault, FitsSigned, rules, w128, ◌<◌, FormWithin, IsDifference, IsSignedSum}
 use Rattle.ta_linear.specs.Forms.{IsSum}
 use Rattle.ta_syntax.specs.declared.sums.Sign.TheVariants as sign
 use Rattle.ta_syntax.specs.declared.fault.FileFault.TheVariants as fault
@@ -23,19 +23,27 @@ plus_negative s a m b is times = record {
   coefficients = λ x. is.coefficients x ∙ ap (λ (z : ℤ). coefficient a.terms x +ℤ z) (times.coefficients x ∙ minus_one_times (coefficient b.terms x));
 }
 
--- a form and the negative of another with a number added
-pub difference_of : (form greater less number shifted negative : Form) (z : ℤ) → IsSum shifted less number → number.constant ≡ z → number.terms ≡ []
-    → IsMultiple negative shifted (negsuc 0) → IsSum form greater negative → IsDifference form greater less z
-difference_of form greater less number shifted negative z is_shifted is none is_negative is_form = record {
-  constant = less_both form.constant greater.constant less.constant number.constant shifted.constant negative.constant z is_form.constant is_negative.constant
-      is_shifted.constant is;
-  coefficients = λ x. less_one (coefficient form.terms x) (coefficient greater.terms x) (coefficient less.terms x) (coefficient number.terms x)
-      (coefficient shifted.terms x) (coefficient negative.terms x) (is_form.coefficients x) (is_negative.coefficients x) (is_shifted.coefficients x)
-      (ap (λ (ts : List (ℕ × ℤ)). coefficient ts x) none);
-}
-
 -- a form plus the negative of another
-pub minus_signed : (r : Result Form FileFault) (a : Form) (s : Sign) (b m : Form) → s ≡ sign.Minus → IsMultiple m b (negsuc 0)
-    → MatchResult r (λ sum. IsSum sum a m) (λ e. e ≡ fault.Memory) → MatchResult r (λ sum. IsSignedSum sum a s b) (λ e. e ≡ fault.Memory)
-minus_signed (Ok sum) a s b m e times is = subst (λ (x : Sign). IsSignedSum sum a x b) (sym e) (plus_negative sum a m b is times)
-minus_signed (Err f) a s b m e times is = is
+pub minus_answers : (r : Result Form FileFault) (a b m : Form) → IsMultiple m b (negsuc 0) → MatchResult r (λ sum. IsSum sum a m) (λ e. e ≡ fault.Memory)
+    → MatchResult r (λ sum. IsSignedSum sum a sign.Minus b) (λ e. e ≡ fault.Memory)
+minus_answers (Ok sum) a b m times is = plus_negative sum a m b is times
+minus_answers (Err f) a b m times is = is
+
+plus_less : (a b : ℤ) → (a +ℤ (pos 0 -ℤ b)) ≡ (a -ℤ b)
+plus_less a b = omega (arith, ints)
+
+less_again : (u a b z : ℤ) → u ≡ (a +ℤ (pos 0 -ℤ b)) → (u -ℤ z) ≡ ((a -ℤ b) -ℤ z)
+less_again u a b z e = omega (arith, ints, e)
+
+-- the constant of such a difference stays in range
+pub shifted_fits : (u a b z : ℤ) → u ≡ (a +ℤ (pos 0 -ℤ b)) → unsigned_abs a ≤ 2 ^ 93 → unsigned_abs b ≤ 2 ^ 93 → unsigned_abs z ≤ 1 → FitsSigned w128 (u -ℤ z)
+shifted_fits u a b z e h k l = let small : unsigned_abs (u -ℤ z) < 2 ^ 127 = omega (arith, ints, e) in search rules
+
+-- a form less another, and less a number
+pub shifted_difference : (unshifted greater less form : Form) (z : ℤ) → IsSignedSum unshifted greater sign.Minus less → form.terms ≡ unshifted.terms
+    → form.constant ≡ (unshifted.constant -ℤ z) → IsDifference form greater less z
+shifted_difference unshifted greater less form z is terms constant = record {
+  constant = constant ∙ less_again unshifted.constant greater.constant less.constant z is.constant;
+  coefficients = λ x. ap (λ (ts : List (ℕ × ℤ)). coefficient ts x) terms ∙ is.coefficients x
+      ∙ plus_less (coefficient greater.terms x) (coefficient less.terms x);
+}

@@ -5,7 +5,9 @@ use Rattle.ta_meaning.proofs.Common.{TreeTerm, TreeFactor, TreeFactor-F, TreeSum
 use Rattle.ta_meaning.proofs.Common.{out-TreeTerm, map-TreeFactor, map-TreeSum, map-TreeTerm, fold-roll-TreeSum, fold-roll-TreeTerm, fold-roll-TreeFactor}
 use Rattle.ta_meaning.proofs.Common.{fold_out-TreeSum, fold_out-TreeTerm, ind-TreeFactor, FileFault, Scope, WithFaults, judged_sum, judged_terms, factor_judged}
 use Rattle.ta_meaning.proofs.Common.{sum_judged, term_judged, sum_faults, number_faults, else_, where_, linear_term, is_large_linear, judged_term}
-use Rattle.ta_meaning.proofs.Common.{judged_factor}
+use Rattle.ta_meaning.proofs.Common.{judged_factor, Spelled, used_faults}
+use Rattle.ta_syntax.specs.declared.sums.TreeFactor.{Named, Nested}
+use Rattle.ta_syntax.specs.declared.sums.TreeFactor.TheViews.{rolls-Named, rolls-Nested}
 use Rattle.ta_syntax.specs.declared.sums.TreeFactor.TheOpen as open_factor
 use Rattle.ta_syntax.specs.declared.fault.FileFault.TheVariants as fault
 
@@ -70,6 +72,15 @@ same_factor s = ind-TreeFactor (SameFactor s) (SameSum s) (SameTerm s)
     (sum_step s (λ e. e.0) (λ e. e.0) (λ e. e.0) (λ e. e.1) (λ e. e.1) (λ e. e.1) y))
     (λ x y is. subst (λ (z : TreeTerm-F TreeFactor TreeSum TreeTerm). SameTerm s (roll-TreeTerm z)) is
     (term_step s (λ e. e.0) (λ e. e.0) (λ e. e.0) (λ e. e.1) (λ e. e.1) (λ e. e.1) y))
+
+-- the errors of a factor
+pub named_faults : (s : Scope) (n : Spelled) → (judged_factor s (Named n)).faults ≡ used_faults s.places s.allowed n
+named_faults s n = ap (λ (f : TreeFactor). (judged_factor s f).faults) (sym (rolls-Named n)) ∙ ap (λ (j : WithFaults Factor). j.faults)
+    (fold-roll-TreeFactor (WithFaults Factor) (WithFaults Terms) (WithFaults Term) (factor_judged s) (sum_judged s) (term_judged s) (open_factor.Named n))
+
+pub nested_faults : (s : Scope) (t : TreeSum) → (judged_factor s (Nested t)).faults ≡ sum_faults s t
+nested_faults s t = ap (λ (f : TreeFactor). (judged_factor s f).faults) (sym (rolls-Nested t)) ∙ ap (λ (j : WithFaults Factor). j.faults)
+    (fold-roll-TreeFactor (WithFaults Factor) (WithFaults Terms) (WithFaults Term) (factor_judged s) (sum_judged s) (term_judged s) (open_factor.Nested t))
 
 -- the errors of terms one after another
 abbrev pub terms_faults : Scope → List (Sign × TreeTerm) → List FileFault

@@ -1,5 +1,6 @@
 -- The errors of a tree from those of its parts
-use Rattle.ta_meaning.proofs.Common.{ℕ, ◌+◌, ◌≡◌, List, [], take, map, length, length-append, Result, refl, sym, ap, subst, ◌∙◌, Vec, Form, Row, plain_sum}
+use Rattle.ta_meaning.proofs.Common.{ℕ, ◌+◌, ◌≡◌, List, [], ◌++◌, append_assoc, take, map, length, length-append, Result, refl, sym, ap, subst, ◌∙◌, Vec, Form}
+use Rattle.ta_meaning.proofs.Common.{Row, plain_sum}
 use Rattle.ta_meaning.proofs.Common.{plain_comparison, plain_location, plain_rule, plain_pattern, plain_tree, Tree, FileFault, Condition, Pattern, Rule, Places}
 use Rattle.ta_meaning.proofs.Common.{Automaton, PatternsShape, MeansAutomaton, initial_from, Names, guard_names, all_names, names_of, linear_sum}
 use Rattle.ta_meaning.proofs.Common.{is_large_linear, no_guards, where_, else_, sum_faults, condition_faults, processes_faults, in_parameters, rules_faults}
@@ -7,6 +8,7 @@ use Rattle.ta_meaning.proofs.Common.{patterns_faults, names_faults, meaning_faul
 use Rattle.ta_meaning.proofs.Common.{ResolvedCondition, ResolvedRules, ResolvedPatterns}
 use Rattle.ta_syntax.specs.declared.fault.FileFault.TheVariants as fault
 use Rattle.ta_meaning.specs.declared.rules.Rules.{Rules}
+use Rattle.ta_meaning.specs.Inside.TreeHead.{head_faults, HeadClean}
 use Rattle.ta_meaning.proofs.Answering.{append-left-first, append-right-first}
 use Rattle.ta_meaning.proofs.PlaceNames.{in_parameters_are}
 use Rattle.ta_base.proofs.Lists.{empty_both}
@@ -56,42 +58,29 @@ patterns-answer places t r k h = subst
 pub at-names : (t : Tree) (e : FileFault) → FirstOrMemory (names_faults (names_of t) t) e → FirstOrMemory (meaning_faults t) e
 at-names t e h = append-left-first _ _ e h
 
-pub at-processes : (t : Tree) (e : FileFault) → names_faults (names_of t) t ≡ [] → FirstOrMemory (processes_faults (names_of t) t) e
-    → FirstOrMemory (meaning_faults t) e
-at-processes t e names h = append-right-first (names_faults (names_of t) t) _ e names (append-left-first _ _ e h)
+-- the errors of the head stand together
+in_parts : (t : Tree) → meaning_faults t
+    ≡ names_faults (names_of t) t ++ (head_faults t ++ (rules_faults (names_of t) [] no_guards t.rules ++ patterns_faults (names_of t) [] t.patterns))
+in_parts t = ap (λ (fs : List FileFault). names_faults (names_of t) t ++ fs) (sym (append_assoc (processes_faults (names_of t) t) _ _))
 
-pub at-resilience : (t : Tree) (e : FileFault) → names_faults (names_of t) t ≡ [] → processes_faults (names_of t) t ≡ []
-    → FirstOrMemory (condition_faults (in_parameters (names_of t)) t.resilience) e → FirstOrMemory (meaning_faults t) e
-at-resilience t e names processes h =
-    append-right-first (names_faults (names_of t) t) _ e names (append-right-first (processes_faults (names_of t) t) _ e processes (append-left-first _ _ e h))
-
--- what stands before the rules has no error
-pub record HeadClean (t : Tree) : Type 0 where
-  pub names : names_faults (names_of t) t ≡ []
-  pub processes : processes_faults (names_of t) t ≡ []
-  pub resilience : condition_faults (in_parameters (names_of t)) t.resilience ≡ []
+pub at-head : (t : Tree) (e : FileFault) → names_faults (names_of t) t ≡ [] → FirstOrMemory (head_faults t) e → FirstOrMemory (meaning_faults t) e
+at-head t e names h = rw (in_parts t) (append-right-first (names_faults (names_of t) t) _ e names (append-left-first _ _ e h))
 
 pub at-rules : (t : Tree) (e : FileFault) → HeadClean t → FirstOrMemory (rules_faults (names_of t) [] no_guards t.rules) e → FirstOrMemory (meaning_faults t) e
-at-rules t e clean h =
-    append-right-first (names_faults (names_of t) t) _ e clean.names
-    (append-right-first (processes_faults (names_of t) t) _ e clean.processes
-    (append-right-first (condition_faults (in_parameters (names_of t)) t.resilience) _ e clean.resilience (append-left-first _ _ e h)))
+at-rules t e clean h = rw (in_parts t)
+    (append-right-first (names_faults (names_of t) t) _ e clean.names (append-right-first (head_faults t) _ e clean.head (append-left-first _ _ e h)))
 
 pub at-patterns : (t : Tree) (e : FileFault) → HeadClean t → rules_faults (names_of t) [] no_guards t.rules ≡ []
     → FirstOrMemory (patterns_faults (names_of t) [] t.patterns) e → FirstOrMemory (meaning_faults t) e
-at-patterns t e clean rules h =
-    append-right-first (names_faults (names_of t) t) _ e clean.names
-    (append-right-first (processes_faults (names_of t) t) _ e clean.processes
-    (append-right-first (condition_faults (in_parameters (names_of t)) t.resilience) _ e clean.resilience
-    (append-right-first (rules_faults (names_of t) [] no_guards t.rules) _ e rules h)))
+at-patterns t e clean rules h = rw (in_parts t)
+    (append-right-first (names_faults (names_of t) t) _ e clean.names
+    (append-right-first (head_faults t) _ e clean.head (append-right-first (rules_faults (names_of t) [] no_guards t.rules) _ e rules h)))
 
 pub all-clean : (t : Tree) → HeadClean t → rules_faults (names_of t) [] no_guards t.rules ≡ [] → patterns_faults (names_of t) [] t.patterns ≡ []
     → meaning_faults t ≡ []
-all-clean t clean rules patterns =
-    empty_both (names_faults (names_of t) t) _ clean.names
-    (empty_both (processes_faults (names_of t) t) _ clean.processes
-    (empty_both (condition_faults (in_parameters (names_of t)) t.resilience) _ clean.resilience
-    (empty_both (rules_faults (names_of t) [] no_guards t.rules) _ rules patterns)))
+all-clean t clean rules patterns = in_parts t
+    ∙ empty_both (names_faults (names_of t) t) _ clean.names
+    (empty_both (head_faults t) _ clean.head (empty_both (rules_faults (names_of t) [] no_guards t.rules) _ rules patterns))
 
 -- ---- the tree's file
 

@@ -5,3 +5,4 @@ pub mod Resolved
 pub mod RuleReading
 pub mod SumParts
 pub mod Updating
+pub mod TreeHead

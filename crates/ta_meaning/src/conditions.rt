@@ -2,14 +2,14 @@
 #![tactic(auto)]
 
 ghost use Rattle.ta_base.specs.Lists.{Pairwise};
-ghost use Rattle.std.specs.Prelude.{◌≡◌, ◌≤◌, ◌^◌, length, take, map, MatchResult};
+ghost use Rattle.std.specs.Prelude.{◌≡◌, ◌≤◌, ◌^◌, ◌∷◌, [], pos, length, take, map, MatchResult};
 ghost use Rattle.ta_syntax.specs.PlainSums.{plain_sum};
 ghost use Rattle.ta_syntax.specs.PlainTrees.{plain_comparison};
 ghost use Rattle.ta_meaning.specs.Linear.{linear_sum, is_large_linear};
 ghost use Rattle.ta_meaning.specs.Faults.{Judges, Answers, else_, where_, sum_faults, comparison_faults, condition_faults};
 ghost use Rattle.ta_meaning.specs.Inside.Resolved.{first_places, ResolvedForm, ResolvedComparison, ResolvedCondition};
 ghost use Rattle.ta_meaning.specs.SumParts.{FormWithin};
-ghost use Rattle.ta_meaning.specs.Inside.SumParts.{any_large_row, form_differences, RowOfDifference};
+ghost use Rattle.ta_meaning.specs.Inside.SumParts.{any_large_row, form_minus, form_differences, RowOfDifference};
 
 use crate::forms::{difference, is_large_form};
 use crate::places::Places;
@@ -36,6 +36,30 @@ pub fn resolve_sum(
     small_form(form, at)
 }
 
+/// The row of the difference of two small forms and a number, alone.
+fn one_row(alloc: Global, greater: &Form, less: &Form, shift: u32) -> Result<Vec<Row>, FileFault>
+    requires greater { FormWithin (2 ^ 93) greater.now }
+    requires less { FormWithin (2 ^ 93) less.now }
+    requires shift { shift ≤ 1 }
+    ensures { MatchResult result (λ rows. Pairwise RowOfDifference (form_minus greater.now less.now (pos shift) ∷ []) rows.items) (λ e. e ≡ FileFault.Memory) }
+{
+    let row = difference(alloc, greater, less, shift)?;
+    let mut rows = Vec::new(alloc);
+    rows.push(row)?;
+    Ok(rows)
+}
+
+/// The rows of the differences of two small forms, each less the other.
+fn both_rows(alloc: Global, left: &Form, right: &Form) -> Result<Vec<Row>, FileFault>
+    requires left { FormWithin (2 ^ 93) left.now }
+    requires right { FormWithin (2 ^ 93) right.now }
+    ensures { MatchResult result (λ rows. Pairwise RowOfDifference (form_minus left.now right.now (pos 0) ∷ form_minus right.now left.now (pos 0) ∷ []) rows.items) (λ e. e ≡ FileFault.Memory) }
+{
+    let mut rows = one_row(alloc, left, right, 0)?;
+    rows.push(difference(alloc, right, left, 0)?)?;
+    Ok(rows)
+}
+
 /// The normal rows of the comparison of two small forms.
 fn normal_rows(
     alloc: Global,
@@ -47,18 +71,13 @@ fn normal_rows(
     requires right { FormWithin (2 ^ 93) right.now }
     ensures { MatchResult result (λ rows. Pairwise RowOfDifference (form_differences relation left.now right.now) rows.items) (λ e. e ≡ FileFault.Memory) }
 {
-    let mut rows = Vec::new(alloc);
     match relation {
-        Relation::Less => rows.push(difference(alloc, right, left, 1)?)?,
-        Relation::AtMost => rows.push(difference(alloc, right, left, 0)?)?,
-        Relation::Equal => {
-            rows.push(difference(alloc, left, right, 0)?)?;
-            rows.push(difference(alloc, right, left, 0)?)?;
-        }
-        Relation::AtLeast => rows.push(difference(alloc, left, right, 0)?)?,
-        Relation::More => rows.push(difference(alloc, left, right, 1)?)?,
+        Relation::Less => one_row(alloc, right, left, 1),
+        Relation::AtMost => one_row(alloc, right, left, 0),
+        Relation::Equal => both_rows(alloc, left, right),
+        Relation::AtLeast => one_row(alloc, left, right, 0),
+        Relation::More => one_row(alloc, left, right, 1),
     }
-    Ok(rows)
 }
 
 /// Rows, or F6 at an offset where one of their numbers is too large.

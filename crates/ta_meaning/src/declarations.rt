@@ -1,7 +1,7 @@
 //! The names that a file declares for its places.
 #![tactic(auto)]
 
-ghost use Rattle.std.specs.Prelude.{◌≡◌, ◌++◌, map, not};
+ghost use Rattle.std.specs.Prelude.{◌≡◌, [], ◌++◌, map, not};
 ghost use Rattle.std.specs.List.{list_any};
 ghost use Rattle.ta_syntax.specs.PlainTrees.{plain_name};
 ghost use Rattle.ta_meaning.specs.Names.{all_names, names_of};
@@ -30,13 +30,22 @@ pub fn declare_places(alloc: Global, tree: &Tree) -> Result<Places, FileFault>
 fn declare_tree(alloc: Global, tree: &Tree) -> Result<NameList, FileFault>
     ensures { Answers (names_faults (names_of tree.now) tree.now) (λ names. names ≡ all_names (names_of tree.now)) result }
 {
-    check_length(&tree.name)?;
     let mut names = NameList::new(alloc);
-    declare_names(alloc, &mut names, tree.parameters.as_slice())?;
-    declare_names(alloc, &mut names, tree.shared.as_slice())?;
-    check_initial(tree)?;
-    declare_locations(alloc, &mut names, tree.locations.as_slice())?;
+    declare_into(alloc, &mut names, tree)?;
     Ok(names)
+}
+
+/// Declares the names of a tree's places, in order.
+fn declare_into(alloc: Global, names: &mut NameList, tree: &Tree) -> Result<(), FileFault>
+    requires { names.old ≡ [] }
+    ensures { Answers (names_faults (names_of tree.now) tree.now) (λ _. names.new ≡ all_names (names_of tree.now)) result }
+{
+    check_length(&tree.name)?;
+    declare_names(alloc, names, tree.parameters.as_slice())?;
+    declare_names(alloc, names, tree.shared.as_slice())?;
+    check_initial(tree)?;
+    declare_locations(alloc, names, tree.locations.as_slice())?;
+    Ok(())
 }
 
 /// F12 where no location is initial.

@@ -3,17 +3,21 @@
 
 ghost use Rattle.std.specs.Prelude.{◌≡◌, ◌≤◌, IfOk, length, map};
 ghost use Rattle.ta_syntax.specs.PlainTrees.{plain_tree, plain_name, plain_location};
-ghost use Rattle.ta_meaning.specs.Names.{location_name};
+ghost use Rattle.ta_meaning.specs.Names.{names_of, location_name};
 ghost use Rattle.ta_meaning.specs.Faults.{Answers, meaning_faults};
 ghost use Rattle.ta_meaning.specs.Meaning.{MeansTree, initial_from};
+ghost use Rattle.ta_meaning.specs.Inside.Resolved.{kinds_of};
+ghost use Rattle.ta_meaning.specs.Inside.TreeHead.{head_faults, HeadClean, HeadOf};
 
 use crate::conditions::{resolve_condition, resolve_sum};
 use crate::declarations::declare_places;
 use crate::patterns::resolve_patterns;
+use crate::places::Places;
 use crate::rules::resolve_rules;
 use std::alloc::{AllocError, Global};
-use ta_automaton::{Automaton, File};
+use ta_automaton::{Automaton, Condition, File};
 use ta_base::{List, Text};
+use ta_linear::Form;
 use ta_syntax::{FileFault, Spelled, Tree, TreeLocation};
 
 /// The file that a tree means: Ok exactly where no error of meaning is there, else the first one.
@@ -21,12 +25,46 @@ pub fn resolve(alloc: Global, tree: Tree) -> Result<File, FileFault>
     ensures { Answers (meaning_faults tree) (MeansTree (plain_tree tree)) result }
 {
     let places = declare_places(alloc, &tree)?;
+    let head = resolve_head(alloc, &places, &tree)?;
+    resolve_rest(alloc, &places, head, tree)
+}
+
+/// The number of processes and the resilience condition of a tree.
+#[derive(Drop)]
+pub struct TreeHead {
+    pub processes: Form,
+    pub resilience: Condition,
+}
+
+/// What stands in a tree between the names of its places and its rules.
+fn resolve_head(alloc: Global, places: &Places, tree: &Tree) -> Result<TreeHead, FileFault>
+    requires { kinds_of places.now ≡ names_of tree.now }
+    ensures { Answers (head_faults tree.now) (HeadOf tree.now) result }
+{
     let parameters = places.parameters;
     let at = tree.processes_at;
-    let processes = resolve_sum(alloc, &places, parameters, at, &tree.processes)?;
-    let resilience = resolve_condition(alloc, &places, parameters, tree.resilience.as_slice())?;
-    let rules = resolve_rules(alloc, &places, tree.rules.into_vec())?;
-    let patterns = resolve_patterns(alloc, &places, tree.patterns.into_vec())?;
+    let processes = resolve_sum(alloc, places, parameters, at, &tree.processes)?;
+    let resilience = resolve_condition(alloc, places, parameters, tree.resilience.as_slice())?;
+    Ok(TreeHead {
+        processes,
+        resilience,
+    })
+}
+
+/// The file that a tree means, given what stands before its rules, where that has no error.
+fn resolve_rest(
+    alloc: Global,
+    places: &Places,
+    head: TreeHead,
+    tree: Tree,
+) -> Result<File, FileFault>
+    requires places { kinds_of places.now ≡ names_of tree }
+    requires clean { HeadClean tree }
+    requires head { HeadOf tree head }
+    ensures { Answers (meaning_faults tree) (MeansTree (plain_tree tree)) result }
+{
+    let rules = resolve_rules(alloc, places, tree.rules.into_vec())?;
+    let patterns = resolve_patterns(alloc, places, tree.patterns.into_vec())?;
     let names = declared_names(alloc, tree.parameters, tree.shared, tree.locations)?;
     let automaton = Automaton {
         name: tree.name.name,
@@ -34,8 +72,8 @@ pub fn resolve(alloc: Global, tree: Tree) -> Result<File, FileFault>
         shared: names.shared,
         locations: names.locations,
         initial: names.initial,
-        processes,
-        resilience,
+        processes: head.processes,
+        resilience: head.resilience,
         rise: List::from_vec(rules.rise),
         fall: List::from_vec(rules.fall),
         rules: List::from_vec(rules.rules),

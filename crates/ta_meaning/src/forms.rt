@@ -4,13 +4,13 @@
 ghost use Rattle.std.specs.Prelude.{◌≡◌, ◌≤◌, ◌^◌, pos, negsuc, MatchResult};
 ghost use Rattle.ta_linear.specs.Forms.{IsSum, IsMultiple};
 ghost use Rattle.ta_meaning.specs.SumParts.{FormWithin, IsDifference};
-ghost use Rattle.ta_meaning.specs.Inside.SumParts.{is_large_form};
+ghost use Rattle.ta_meaning.specs.Inside.SumParts.{IsSignedSum, is_large_form};
 ghost use Rattle.ta_meaning.specs.Linear.{is_large};
 
 use std::alloc::Global;
 use ta_base::limits::LARGEST_NUMBER;
 use ta_linear::{Form, LinearFault, Row};
-use ta_syntax::FileFault;
+use ta_syntax::{FileFault, Sign};
 
 /// The sum of two small forms.
 pub(crate) fn plus(alloc: Global, a: &Form, b: &Form) -> Result<Form, FileFault>
@@ -71,6 +71,16 @@ pub(crate) fn is_large_form(form: &Form) -> bool
     false
 }
 
+/// A small form less another.
+pub(crate) fn minus(alloc: Global, a: &Form, b: &Form) -> Result<Form, FileFault>
+    requires a { FormWithin (2 ^ 93) a.now }
+    requires b { FormWithin (2 ^ 93) b.now }
+    ensures { MatchResult result (λ less. IsSignedSum less a.now Sign.Minus b.now) (λ e. e ≡ FileFault.Memory) }
+{
+    let negative = negative(alloc, b)?;
+    plus(alloc, a, &negative)
+}
+
 /// The row `greater - less - shift >= 0` of two small forms.
 pub(crate) fn difference(
     alloc: Global,
@@ -83,7 +93,11 @@ pub(crate) fn difference(
     requires shift { shift ≤ 1 }
     ensures { MatchResult result (λ row. IsDifference row.form greater.now less.now (pos shift)) (λ e. e ≡ FileFault.Memory) }
 {
-    let shifted = plus(alloc, less, &Form::constant_of(alloc, i128::from(shift)))?;
-    let form = plus(alloc, greater, &negative(alloc, &shifted)?)?;
-    Ok(Row { form })
+    let unshifted = minus(alloc, greater, less)?;
+    Ok(Row {
+        form: Form {
+            constant: unshifted.constant - i128::from(shift),
+            terms: unshifted.terms,
+        },
+    })
 }

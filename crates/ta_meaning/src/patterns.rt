@@ -9,7 +9,7 @@ ghost use Rattle.ta_meaning.specs.Names.{all_names};
 ghost use Rattle.ta_meaning.specs.Faults.{Judges, Answers, in_conditions, condition_faults, listed_faults, event_faults, events_faults, pattern_faults, patterns_faults};
 ghost use Rattle.ta_meaning.specs.Inside.Resolved.{kinds_of, ResolvedCondition, ResolvedPatterns};
 ghost use Rattle.ta_meaning.specs.Inside.Listed.{ListedMask};
-ghost use Rattle.ta_meaning.specs.Inside.PatternParts.{ResolvedEvent, ResolvedEvents, ResolvedPattern};
+ghost use Rattle.ta_meaning.specs.Inside.PatternParts.{ResolvedEvent, ResolvedEvents, ResolvedPattern, event_of, pattern_head_faults, PatternHeadOf};
 
 use crate::conditions::resolve_condition;
 use crate::masks::listed_mask;
@@ -48,16 +48,36 @@ fn resolve_pattern(
     requires { Distinct (map pattern_name before.now) }
     ensures { Answers (pattern_faults (kinds_of places.now) (map pattern_name before.now) pattern) (ResolvedPattern (kinds_of places.now) (map pattern_name before.now) (plain_pattern pattern) (map pattern_name before.now ++ pattern.name.name ∷ [])) result }
 {
-    check_declared(before, &pattern.name)?;
-    let start = resolve_over_all(alloc, places, pattern.start.as_slice())?;
-    let empty = empty_mask(places, pattern.empty.as_slice())?;
+    let head = pattern_head(alloc, places, before, &pattern)?;
     let events = resolve_events(alloc, places, pattern.events.into_vec())?;
     Ok(Pattern {
         name: pattern.name.name,
-        start,
-        empty,
+        start: head.start,
+        empty: head.empty,
         events: List::from_vec(events),
     })
+}
+
+/// What a tree's pattern means but for its name and its events.
+#[derive(Drop)]
+pub struct PatternHead {
+    pub start: Condition,
+    pub empty: u32,
+}
+
+/// What a tree's pattern means before its events, its name being after those of others.
+fn pattern_head(
+    alloc: Global,
+    places: &Places,
+    before: &[Pattern],
+    pattern: &TreePattern,
+) -> Result<PatternHead, FileFault>
+    ensures { Answers (pattern_head_faults (kinds_of places.now) (map pattern_name before.now) pattern.now) (PatternHeadOf (kinds_of places.now) pattern.now) result }
+{
+    check_declared(before, &pattern.name)?;
+    let start = resolve_over_all(alloc, places, pattern.start.as_slice())?;
+    let empty = empty_mask(places, pattern.empty.as_slice())?;
+    Ok(PatternHead { start, empty })
 }
 
 /// The events that a pattern's events mean.
@@ -77,9 +97,7 @@ fn resolve_events(
     Ok(resolved)
 }
 
-/// The event that a pattern's event means, after others; its name is declared then. It may come
-/// after the others, and not after itself: so they are looked up before its name is declared,
-/// though an error of its name comes first.
+/// The event that a pattern's event means, after others; its name is declared then.
 fn resolve_event(
     alloc: Global,
     places: &Places,
@@ -90,15 +108,39 @@ fn resolve_event(
     requires distinct { Distinct names.old }
     ensures { Answers (event_faults (kinds_of places.now) names.old event) (ResolvedEvent (kinds_of places.now) names.old (plain_event event) names.new) result }
 {
+    let parts = event_parts(alloc, places, names, &event)?;
+    Ok(Event {
+        name: event.name.name,
+        after: parts.after,
+        condition: parts.condition,
+    })
+}
+
+/// What a pattern's event means but for its name.
+#[derive(Drop)]
+pub struct EventParts {
+    pub after: u8,
+    pub condition: Condition,
+}
+
+/// The parts of the event that a pattern's event means, after others; its name is declared then. It
+/// may come after the others, and not after itself: so they are looked up before its name is
+/// declared, though an error of its name comes first.
+fn event_parts(
+    alloc: Global,
+    places: &Places,
+    names: &mut NameList,
+    event: &TreeEvent,
+) -> Result<EventParts, FileFault>
+    requires few { length names.old < 8 }
+    requires distinct { Distinct names.old }
+    ensures { Answers (event_faults (kinds_of places.now) names.old event.now) (λ parts. ResolvedEvent (kinds_of places.now) names.old (plain_event event.now) names.new (event_of event.now parts)) result }
+{
     let after = after_mask(names, event.after.as_slice());
     names.declare(alloc, &event.name)?;
     let after = after?;
     let condition = resolve_over_all(alloc, places, event.condition.as_slice())?;
-    Ok(Event {
-        name: event.name.name,
-        after,
-        condition,
-    })
+    Ok(EventParts { after, condition })
 }
 
 /// The mask of the earlier events that an event comes after.

@@ -8,10 +8,10 @@ ghost use Rattle.ta_meaning.specs.Guards.{no_guards};
 ghost use Rattle.ta_meaning.specs.Faults.{Judges, Answers, used_faults, rule_faults, rules_faults};
 ghost use Rattle.ta_meaning.specs.Names.{all_names};
 ghost use Rattle.ta_meaning.specs.Inside.Numbering.{guards_so_far, GuardsKept};
-ghost use Rattle.ta_meaning.specs.Inside.RuleReading.{RuleRead};
+ghost use Rattle.ta_meaning.specs.Inside.RuleReading.{RuleRead, rule_of};
 ghost use Rattle.ta_meaning.specs.Inside.Resolved.{kinds_of, ResolvedRules};
 
-use crate::guards::{GuardList, number_guards};
+use crate::guards::{GuardList, GuardMasks, number_guards};
 use crate::named::check_declared;
 use crate::places::Places;
 use crate::updates::read_updates;
@@ -65,17 +65,46 @@ fn resolve_rule(
     requires { GuardsKept (kinds_of places.now) guards.old }
     ensures { Answers (rule_faults (kinds_of places.now) (map name_of before.now) (guards_so_far (kinds_of places.now) guards.old) rule) (λ r. RuleRead (kinds_of places.now) (map name_of before.now) guards.old rule (map name_of before.now ++ rule.name.name ∷ []) guards.new r) result }
 {
+    let parts = rule_parts(alloc, places, before, guards, &rule)?;
+    Ok(Rule {
+        name: rule.name.name,
+        from: parts.from,
+        to: parts.to,
+        rise: parts.masks.rise,
+        fall: parts.masks.fall,
+        updates: parts.updates,
+    })
+}
+
+/// What a tree's rule means but for its name.
+#[derive(Drop)]
+pub struct RuleParts {
+    pub from: u32,
+    pub to: u32,
+    pub masks: GuardMasks,
+    pub updates: List<(u32, i128)>,
+}
+
+/// The parts of the rule that a tree's rule means, after the names of rules and the guards so far.
+fn rule_parts(
+    alloc: Global,
+    places: &Places,
+    before: &[Rule],
+    guards: &mut GuardList,
+    rule: &TreeRule,
+) -> Result<RuleParts, FileFault>
+    requires { GuardsKept (kinds_of places.now) guards.old }
+    ensures { Answers (rule_faults (kinds_of places.now) (map name_of before.now) (guards_so_far (kinds_of places.now) guards.old) rule.now) (λ parts. RuleRead (kinds_of places.now) (map name_of before.now) guards.old rule.now (map name_of before.now ++ rule.now.name.name ∷ []) guards.new (rule_of rule.now parts)) result }
+{
     check_declared(before, &rule.name)?;
     let from = location_in(places, &rule.from)?;
     let to = location_in(places, &rule.to)?;
     let masks = number_guards(alloc, places, guards, rule.guards.as_slice())?;
     let updates = read_updates(alloc, places, rule.updates.as_slice())?;
-    Ok(Rule {
-        name: rule.name.name,
+    Ok(RuleParts {
         from,
         to,
-        rise: masks.rise,
-        fall: masks.fall,
+        masks,
         updates: List::from_vec(updates),
     })
 }

@@ -11,7 +11,7 @@ ghost use Rattle.ta_meaning.specs.Inside.Resolved.{first_places};
 ghost use Rattle.ta_meaning.specs.SumParts.{FormWithin};
 ghost use Rattle.ta_meaning.specs.Inside.SumParts.{judged_term, judged_factor, linear_factor, number_or, PartOf, IsSignedSum, is_large_form};
 
-use crate::forms::{is_large_form, negative, plus, times};
+use crate::forms::{is_large_form, minus, plus, times};
 use crate::numbers::read_number;
 use crate::places::Places;
 use std::alloc::Global;
@@ -68,7 +68,7 @@ fn plus_signed(alloc: Global, a: &Form, sign: Sign, b: &Form) -> Result<Form, Fi
 {
     match sign {
         Sign::Plus => plus(alloc, a, b),
-        Sign::Minus => plus(alloc, a, &negative(alloc, b)?),
+        Sign::Minus => minus(alloc, a, b),
     }
 }
 

@@ -10,7 +10,6 @@ use Rattle.std.specs.declared.alloc.AllocError.{AllocError}
 use Rattle.ta_automaton.specs.Runs as runs
 use Rattle.ta_base.specs.declared.limits.TheConstants.{FILE_BYTES}
 use Rattle.ta_cert.specs.declared.fault.CertFault.TheVariants as cert_fault
-use Rattle.ta_maker.specs.Family.{family}
 use Rattle.ta_maker.specs.FamilyLaws.{IsFlawless}
 use Rattle.ta_maker.specs.Made.{IsFamilyNumber, Makes}
 use Rattle.ta_maker.specs.declared.fault.MakerFault.{MakerFault}
@@ -18,17 +17,9 @@ use Rattle.ta_maker.specs.declared.fault.MakerFault.TheVariants as maker_fault
 use Rattle.ta_meaning.specs.FirstFault.{FirstFault}
 use Rattle.ta_meaning.specs.Reading.{Legal}
 use Rattle.ta_program.proofs.UnsafePrinted.{unsafe_occurs}
-use Rattle.ta_syntax.specs.Grammar.{PlainTree, file_kinds}
-use Rattle.ta_syntax.specs.Printed.{printed}
 use Rattle.ta_syntax.specs.declared.fault.FileFault.{FileFault}
 use Rattle.ta_syntax.specs.declared.fault.FileFault.TheVariants as file_fault
 use Rattle.ta_rest.specs.declared.claim.Claim.TheVariants as claim
-
--- the printed text of the family's automaton means a file
-pub legal_family : (k : ℕ) (bytes : List ℕ) (tree : PlainTree) (file : File) → bytes ≡ printed (file_kinds tree) → tree ≡ family k → Legal bytes file
-    → Legal (family_text k) file
-unfolding family_text
-legal_family k bytes tree file are is legal = subst (λ (bs : List ℕ). Legal bs file) (are ∙ ap (λ (t : PlainTree). printed (file_kinds t)) is) legal
 
 -- ---- only want of memory hinders
 pub made_memory : (k : ℕ) (f : MakerFault) → IsFamilyNumber k → Makes k (Err f) → f ≡ maker_fault.Memory
@@ -36,15 +27,15 @@ made_memory k maker_fault.Memory is h = refl
 made_memory k maker_fault.Range is (inl none) = let low = is.low in absurd (omega (arith, low, none))
 made_memory k maker_fault.Range is (inr more) = let high = is.high in absurd (omega (arith, high, more))
 
-pub family_fits : (k : ℕ) (bytes : List ℕ) (tree : PlainTree) → IsFlawless k → bytes ≡ printed (file_kinds tree) → tree ≡ family k → length bytes ≤ FILE_BYTES
-family_fits k bytes tree fine are is = subst (λ (bs : List ℕ). length bs ≤ FILE_BYTES) (sym (are ∙ ap (λ (t : PlainTree). printed (file_kinds t)) is))
-    fine.short
+pub family_fits : (k : ℕ) (bytes : List ℕ) → IsFlawless k → bytes ≡ family_text k → length bytes ≤ FILE_BYTES
+unfolding family_text
+family_fits k bytes fine are = subst (λ (bs : List ℕ). length bs ≤ FILE_BYTES) (sym are) fine.short
 
-pub read_memory : (k : ℕ) (bytes : List ℕ) (tree : PlainTree) (e : FileFault) → IsFlawless k → bytes ≡ printed (file_kinds tree) → tree ≡ family k
+pub read_memory : (k : ℕ) (bytes : List ℕ) (e : FileFault) → IsFlawless k → bytes ≡ family_text k
     → (e ≡ file_fault.Memory) ⊎ FirstFault bytes e → e ≡ file_fault.Memory
-read_memory k bytes tree e fine are is (inl memory) = memory
-read_memory k bytes tree e fine are is (inr first) = absurd
-    (fine.no_fault e (subst (λ (bs : List ℕ). FirstFault bs e) (are ∙ ap (λ (t : PlainTree). printed (file_kinds t)) is) first))
+unfolding family_text
+read_memory k bytes e fine are (inl memory) = memory
+read_memory k bytes e fine are (inr first) = absurd (fine.no_fault e (subst (λ (bs : List ℕ). FirstFault bs e) are first))
 
 pub feed_memory : (file : File) (text piece rest : List ℕ) (new : Checker) (f : CertFault) → subject_of new ≡ claiming claim.Safe file
     → CheckerFeedAnswers text piece new (Err f) → IsCertified file ((text ++ piece) ++ rest) → f ≡ cert_fault.Memory

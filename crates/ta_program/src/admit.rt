@@ -93,7 +93,11 @@ fn judge_admit<'a, S: Shelf>(
     ensures kept { S.files shelf.new ≡ S.files shelf.old }
 {
     match read_legal(alloc, shelf, asked.file) {
-        Ok(scoped) => judge_word(alloc, shelf, &scoped, asked, values),
+        Ok(scoped) => {
+            let answer = judge_word(alloc, shelf, &scoped, asked, values);
+            drop(scoped);
+            answer
+        }
         Err(refusal) => Err(refusal),
     }
 }

@@ -13,7 +13,9 @@ ghost use Rattle.ta_shelf.specs.Commands.{Says};
 ghost use Rattle.ta_shelf.specs.Reading.{ReadCause};
 ghost use Rattle.ta_shelf.specs.Stages.{Writes};
 ghost use Rattle.ta_syntax.specs.PlainTrees.{plain_tree};
-ghost use Rattle.ta_program.specs.Bench.{IsCertified, SaysBench, bench_meaning, bench_status, bench_text, bench_words, family_number, family_text};
+ghost use Rattle.ta_verdict.specs.Certificates.{CertificateOf, safe_numbers};
+ghost use Rattle.ta_verdict.specs.Verdicts.{AreVerdicts};
+ghost use Rattle.ta_program.specs.Bench.{BUDGET, IsCertified, SaysBench, bench_meaning, bench_status, bench_text, bench_words, family_number, family_text};
 
 use crate::request::Request;
 use crate::words::take_words;
@@ -30,7 +32,7 @@ use ta_report::Verdict;
 use ta_scope::ScopedFile;
 use ta_shelf::{Answer, Command, Outputs, Refusal, Shelf};
 use ta_syntax::{FileFault, Tree, print_tree};
-use ta_verdict::{Budget, is_unknown, judge_file};
+use ta_verdict::{Budget, Judged, is_unknown, judge_file};
 
 /// What `bench` is asked for: a number of the family.
 #[derive(Drop)]
@@ -110,12 +112,52 @@ fn bench_family<R: Threads + Sync>(rt: &R, alloc: Global, k: u32) -> Result<Answ
     ensures { IfOk result (SaysBench k) }
 {
     let scoped = read_family(alloc, k)?;
+    let answer = judge_family(rt, alloc, k, &scoped);
+    drop(scoped);
+    answer
+}
+
+/// Verifies the file of the automaton of a number, and checks its certificate.
+fn judge_family<R: Threads + Sync>(
+    rt: &R,
+    alloc: Global,
+    k: u32,
+    scoped: &ScopedFile,
+) -> Result<Answer, AllocError>
+    requires number { IsFamilyNumber k }
+    requires legal { Legal (family_text k) scoped.now.file }
+    requires one { length scoped.now.file.patterns ≡ 1 }
+    requires safe { AllByRecursion (runs.Safe scoped.now.file.automaton) scoped.now.file.patterns }
+    ensures { IfOk result (SaysBench k) }
+{
     let budget = Budget {
         nodes: DEFAULT_NODES,
         lazy: false,
     };
-    let judged = judge_file(rt, alloc, &scoped, budget, true)?;
-    let _ = accept(alloc, &scoped, judged.certificate.as_slice())?;
+    let judged = judge_file(rt, alloc, scoped, budget, true)?;
+    let answer = answer_judged(alloc, k, scoped, &judged);
+    drop(judged);
+    answer
+}
+
+/// Checks the certificate of the verdicts on the file of the automaton of a number, and answers with the
+/// first verdict.
+fn answer_judged(
+    alloc: Global,
+    k: u32,
+    scoped: &ScopedFile,
+    judged: &Judged,
+) -> Result<Answer, AllocError>
+    requires number { IsFamilyNumber k }
+    requires legal { Legal (family_text k) scoped.now.file }
+    requires one { length scoped.now.file.patterns ≡ 1 }
+    requires safe { AllByRecursion (runs.Safe scoped.now.file.automaton) scoped.now.file.patterns }
+    requires verdicts { AreVerdicts scoped.now.file BUDGET judged.now.verdicts }
+    requires certificate { CertificateOf scoped.now.file BUDGET judged.now.verdicts (concat judged.now.certificate) }
+    requires accepted { Certificate scoped.now.file (concat judged.now.certificate) (safe_numbers scoped.now.file judged.now.verdicts) }
+    ensures { IfOk result (SaysBench k) }
+{
+    let _ = accept(alloc, scoped, judged.certificate.as_slice())?;
     let Some(pattern) = scoped.file.patterns.as_slice().first() else {
         unreachable!()
     };
@@ -134,12 +176,22 @@ fn read_family(alloc: Global, k: u32) -> Result<ScopedFile, AllocError>
 {
     // the law of the family; the call does nothing
     family_is_flawless();
-    let tree = made_family(alloc, k)?;
-    let text = print_tree(alloc, &tree)?;
+    let text = print_family(alloc, k)?;
     match read_file(alloc, text.as_str().as_bytes()) {
         Ok(scoped) => Ok(scoped),
         Err(fault) => Err(file_memory(&fault)),
     }
+}
+
+/// The text of the automaton of a number.
+fn print_family(alloc: Global, k: u32) -> Result<Text, AllocError>
+    requires { IsFamilyNumber k }
+    ensures { IfOk result (λ text. text ≡ family_text k) }
+{
+    let tree = made_family(alloc, k)?;
+    let text = print_tree(alloc, &tree);
+    drop(tree);
+    text
 }
 
 /// The automaton of a number.
@@ -186,7 +238,10 @@ fn accept(alloc: Global, scoped: &ScopedFile, pieces: &[Text]) -> Result<Accepte
     for piece in pieces {
         match checker.feed(piece.as_str().as_bytes()) {
             Ok(()) => {}
-            Err(fault) => return Err(certificate_memory(&fault)),
+            Err(fault) => {
+                drop(checker);
+                return Err(certificate_memory(&fault));
+            }
         }
     }
     match checker.finish() {

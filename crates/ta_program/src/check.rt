@@ -108,7 +108,11 @@ fn judge_files<'a, S: Shelf>(
     ensures kept { S.files shelf.new ≡ S.files shelf.old }
 {
     match read_legal(alloc, shelf, file) {
-        Ok(scoped) => judge_certificate(alloc, shelf, &scoped, certificate, options),
+        Ok(scoped) => {
+            let answer = judge_certificate(alloc, shelf, &scoped, certificate, options);
+            drop(scoped);
+            answer
+        }
         Err(refusal) => Err(refusal),
     }
 }
@@ -172,7 +176,10 @@ fn judge_pieces<'a, 'b, S: Shelf>(
         match judge_piece(shelf, name, at, &mut buffer, &mut checker) {
             Ok(Some(next)) => at = next,
             Ok(None) => return Ok(checker),
-            Err(refusal) => return Err(refusal),
+            Err(refusal) => {
+                drop(checker);
+                return Err(refusal);
+            }
         }
     }
 }

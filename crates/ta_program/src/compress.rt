@@ -46,7 +46,11 @@ impl OfTwoFiles for Compress {
         other: &'a str,
     ) -> Result<Answer, Refusal<'a>> {
         match read_legal(alloc, shelf, file) {
-            Ok(scoped) => judge_long(alloc, shelf, &scoped, other),
+            Ok(scoped) => {
+                let answer = judge_long(alloc, shelf, &scoped, other);
+                drop(scoped);
+                answer
+            }
             Err(refusal) => Err(refusal),
         }
     }
@@ -66,7 +70,11 @@ fn judge_long<'a, S: Shelf>(
     ensures kept { S.files shelf.new ≡ S.files shelf.old }
 {
     match read_shortened(alloc, shelf, scoped, name) {
-        Ok(runs) => answer_short(alloc, &scoped.file, &runs),
+        Ok(runs) => {
+            let answer = answer_short(alloc, &scoped.file, &runs);
+            drop(runs);
+            answer
+        }
         Err(refusal) => Err(refusal),
     }
 }

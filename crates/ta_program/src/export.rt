@@ -80,7 +80,11 @@ fn judge_export<'a, S: Shelf>(
     ensures kept { S.files shelf.new ≡ S.files shelf.old }
 {
     match read_legal(alloc, shelf, asked.file) {
-        Ok(scoped) => answer_export(alloc, &scoped.file, asked),
+        Ok(scoped) => {
+            let answer = answer_export(alloc, &scoped.file, asked);
+            drop(scoped);
+            answer
+        }
         Err(refusal) => Err(refusal),
     }
 }

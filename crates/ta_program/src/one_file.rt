@@ -92,7 +92,11 @@ fn judge_one_file<'a, C: OfOneFile, S: Shelf>(
     ensures kept { S.files shelf.new ≡ S.files shelf.old }
 {
     match read_legal(alloc, shelf, name) {
-        Ok(scoped) => answer_one_file::<C>(alloc, &scoped),
+        Ok(scoped) => {
+            let answer = answer_one_file::<C>(alloc, &scoped);
+            drop(scoped);
+            answer
+        }
         Err(refusal) => Err(refusal),
     }
 }

@@ -49,7 +49,10 @@ pub(crate) fn read_spared<'a, S: Shelf>(
         Ok(bytes) => match legal_of(alloc, name, bytes.as_slice()) {
             Ok(scoped) => match spare_read(shelf, outputs, bytes.as_slice()) {
                 Ok(()) => Ok(scoped),
-                Err(refusal) => Err(refusal),
+                Err(refusal) => {
+                    drop(scoped);
+                    Err(refusal)
+                }
             },
             Err(refusal) => Err(refusal),
         },

@@ -99,7 +99,11 @@ fn judge_files<'a, S: Shelf>(
     ensures kept { S.files shelf.new ≡ S.files shelf.old }
 {
     match read_legal(alloc, shelf, file) {
-        Ok(scoped) => judge_run(alloc, shelf, scoped.file(), run, json),
+        Ok(scoped) => {
+            let answer = judge_run(alloc, shelf, scoped.file(), run, json);
+            drop(scoped);
+            answer
+        }
         Err(refusal) => Err(refusal),
     }
 }

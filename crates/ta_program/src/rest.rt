@@ -168,7 +168,11 @@ fn answer_scoped<'a, R: Threads + Sync, S: Shelf>(
     ensures kept { S.files shelf.new ≡ S.files shelf.old }
 {
     match find_ends(alloc, asked.file, scoped) {
-        Ok(rest) => answer_quietly(rt, alloc, shelf, &rest, asked),
+        Ok(rest) => {
+            let answer = answer_quietly(rt, alloc, shelf, &rest, asked);
+            drop(rest);
+            answer
+        }
         Err(refusal) => Err(refusal),
     }
 }

@@ -139,7 +139,11 @@ fn judge_scoped<'a, S: Shelf>(
     ensures kept { S.files shelf.new ≡ S.files shelf.old }
 {
     match find_ends(alloc, name, scoped) {
-        Ok(rest) => judge_quietly(alloc, shelf, name, &rest, certificate, silent, options),
+        Ok(rest) => {
+            let answer = judge_quietly(alloc, shelf, name, &rest, certificate, silent, options);
+            drop(rest);
+            answer
+        }
         Err(refusal) => Err(refusal),
     }
 }

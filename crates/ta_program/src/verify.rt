@@ -125,7 +125,11 @@ fn judge_verify<'a, R: Threads + Sync, S: Shelf>(
     ensures kept { S.files shelf.new ≡ S.files shelf.old }
 {
     match read_spared(alloc, shelf, asked.file, &Outputs::one(asked.out)) {
-        Ok(scoped) => answer_picked(rt, alloc, shelf, &scoped, asked),
+        Ok(scoped) => {
+            let answer = answer_picked(rt, alloc, shelf, &scoped, asked);
+            drop(scoped);
+            answer
+        }
         Err(refusal) => Err(refusal),
     }
 }

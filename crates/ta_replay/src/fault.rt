@@ -7,7 +7,7 @@ use std::alloc::{AllocError, AllocFailed};
 use thiserror::Error;
 
 /// Why a run is refused. A line is counted from 1; guards are numbered with the rise guards first.
-#[derive(Clone, Copy, Debug, Drop, PartialEq, Eq, Error)]
+#[derive(Clone, Copy, Debug, Drop, Error)]
 pub enum RunFault {
     /// N1: a line of another form or out of its place, a text that ends before the line feed of `end`, or a byte after it.
     #[error("Line")]

@@ -2,16 +2,17 @@
 #![tactic(auto)]
 
 ghost use Rattle.std.specs.Prelude.{◌≡◌, ◌++◌, codes, false, true, IfOk, IfSome};
-ghost use Rattle.serde_json.specs.Data.{array};
-ghost use Rattle.serde_json.specs.View.{view};
+ghost use Rattle.serde_json.specs.Data.{array, object, put as with_member};
+ghost use Rattle.serde_json.specs.View.{members_view, view};
 ghost use Rattle.serde_json.specs.Written.{compact_text, has_float};
 ghost use Rattle.ta_report.specs.CheckJson.{all_proofs_data, proofs_data, proofs_json, replay_data, shown_data, shown_text, told_data};
 ghost use Rattle.ta_report.specs.Report.{SampleFits};
 
 use crate::check::word_told;
-use crate::object::{digits_value, sample_value};
+use crate::members::{with_digits, with_patterns, with_text, with_value, with_verdict};
+use crate::object::sample_value;
 use crate::verdict::ReportSample;
-use serde_json::{Value, json};
+use serde_json::{Map, Value};
 use std::alloc::{AllocError, Global};
 use ta_automaton::File;
 use ta_base::Text;
@@ -68,18 +69,29 @@ fn proofs_value(
     ensures { IfOk result (λ value. view value ≡ all_proofs_data rest file.now sample.now numbers.now) }
 {
     let automaton = file.automaton.name.as_str();
-    let patterns = proof_values(alloc, rest, file, numbers)?;
+    let members = with_text(alloc, Map::new(alloc), "automaton", automaton)?;
     match sample {
         Some(sample) => {
             let parameters = sample_value(alloc, file, sample)?;
-            json!(in alloc; {
-                "automaton": automaton,
-                "parameters": parameters,
-                "patterns": patterns
-            })
+            let members = with_value(alloc, members, "parameters", parameters)?;
+            with_proofs(alloc, members, rest, file, numbers)
         }
-        None => json!(in alloc; {"automaton": automaton, "patterns": patterns}),
+        None => with_proofs(alloc, members, rest, file, numbers),
     }
+}
+
+/// The object of these members and of what is said of each pattern.
+fn with_proofs(
+    alloc: Global,
+    members: Map<String, Value>,
+    rest: bool,
+    file: &File,
+    numbers: &[u32],
+) -> Result<Value, AllocError>
+    ensures { IfOk result (λ value. view value ≡ object (with_member (codes "patterns") (array (proofs_data rest numbers.now 0 file.now.patterns)) (members_view members.entries))) }
+{
+    let patterns = proof_values(alloc, rest, file, numbers)?;
+    with_patterns(alloc, members, patterns)
 }
 
 /// Whether each pattern is proved.
@@ -103,7 +115,8 @@ fn proof_values(
 fn told_value(alloc: Global, name: &str, word: &str) -> Result<Value, AllocError>
     ensures { IfOk result (λ value. view value ≡ told_data name.now word.now) }
 {
-    json!(in alloc; {"name": name, "verdict": word})
+    let members = with_text(alloc, Map::new(alloc), "name", name)?;
+    with_verdict(alloc, members, word)
 }
 
 /// A pattern of an automaton that a run shows.
@@ -115,16 +128,18 @@ fn replay_value(
 ) -> Result<Value, AllocError>
     ensures { IfOk result (λ value. view value ≡ replay_data automaton.now name.now shown) }
 {
+    let members = with_text(alloc, Map::new(alloc), "automaton", automaton)?;
     let pattern = shown_value(alloc, name, shown)?;
-    let patterns = json!(in alloc; [pattern])?;
-    json!(in alloc; {"automaton": automaton, "patterns": patterns})
+    let patterns = vec![in alloc; pattern]?;
+    with_patterns(alloc, members, Value::Array(patterns))
 }
 
 /// A pattern that a run shows.
 fn shown_value(alloc: Global, name: &str, shown: Shown) -> Result<Value, AllocError>
     ensures { IfOk result (λ value. view value ≡ shown_data name.now shown) }
 {
-    let marks = digits_value(alloc, u64::from(shown.marks))?;
-    let steps = digits_value(alloc, shown.steps)?;
-    json!(in alloc; {"marks": marks, "name": name, "steps": steps, "verdict": "shown"})
+    let members = with_digits(alloc, Map::new(alloc), "marks", u64::from(shown.marks))?;
+    let members = with_text(alloc, members, "name", name)?;
+    let members = with_digits(alloc, members, "steps", shown.steps)?;
+    with_verdict(alloc, members, "shown")
 }

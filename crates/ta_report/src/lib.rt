@@ -6,6 +6,7 @@ mod check;
 mod check_object;
 mod faults;
 mod laws;
+mod members;
 mod object;
 mod pick;
 mod report;

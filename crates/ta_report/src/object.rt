@@ -3,18 +3,19 @@
 
 ghost use Rattle.std.specs.Prelude.{◌≡◌, IfOk, codes, length};
 ghost use Rattle.std.specs.List.{AllByRecursion};
-ghost use Rattle.serde_json.specs.Data.{array, member, object, string};
-ghost use Rattle.serde_json.specs.View.{view};
+ghost use Rattle.serde_json.specs.Data.{array, object, put as with_member, string};
+ghost use Rattle.serde_json.specs.View.{members_view, view};
 ghost use Rattle.ta_replay.specs.Fits.{Fits};
 ghost use Rattle.ta_replay.specs.RunText.{run_lines};
-ghost use Rattle.ta_report.specs.Json.{digits_data, json_text, place_members, report_data, sample_data, text_lines, texts_data, unknown_sample_data, unknown_verdict_data, value_data, values_data, verdict_data, verdicts_data};
+ghost use Rattle.ta_report.specs.Json.{digits_data, json_text, report_data, sample_data, text_lines, texts_data, unknown_sample_data, unknown_verdict_data, value_data, values_data, verdict_data, verdicts_data};
 ghost use Rattle.ta_report.specs.Picked.{picked};
 ghost use Rattle.ta_report.specs.Report.{SampleFits, VerdictFits, place_text, safe_word, unsafe_word};
 ghost use Rattle.ta_report.specs.declared.verdict.Verdict.TheVariants.{Overflow, Safe, Spent, Unsafe};
 
+use crate::members::{with_digits, with_patterns, with_text, with_value, with_verdict};
 use crate::said::Said;
 use crate::verdict::{ReportKind, ReportSample, Verdict};
-use serde_json::{Value, json};
+use serde_json::{Map, Value, json};
 use std::alloc::{AllocError, Global};
 use ta_automaton::{File, Pattern};
 use ta_base::Text;
@@ -42,15 +43,13 @@ fn report_value(alloc: Global, rest: bool, said: &Said<'_>) -> Result<Value, All
     requires fit { AllByRecursion (VerdictFits said.now.file.now) said.now.verdicts.now }
     ensures { IfOk result (λ value. view value ≡ report_data rest said.now.file.now said.now.pick said.now.sample.now said.now.verdicts.now) }
 {
+    let automaton = said.file.automaton.name.as_str();
+    let members = with_text(alloc, Map::new(alloc), "automaton", automaton)?;
     let parameters = sample_value(alloc, said.file, said.sample)?;
+    let members = with_value(alloc, members, "parameters", parameters)?;
     let told = said.pick.of(said.file.patterns.as_slice());
     let patterns = verdict_values(alloc, rest, said.file, told, said.verdicts)?;
-    let automaton = said.file.automaton.name.as_str();
-    json!(in alloc; {
-        "automaton": automaton,
-        "parameters": parameters,
-        "patterns": patterns
-    })
+    with_patterns(alloc, members, patterns)
 }
 
 /// A number as a value: the text of its digits.
@@ -60,11 +59,27 @@ pub fn digits_value(alloc: Global, number: u64) -> Result<Value, AllocError>
     Ok(Value::String(format!(in alloc; "{number}")?))
 }
 
-/// The place where a number left 128 bits.
-fn place_value(alloc: Global, kind: ReportKind) -> Result<Value, AllocError>
-    ensures { IfOk result (λ value. view value ≡ string (place_text kind)) }
+/// The object of these members and the nodes that were spent.
+fn with_spent(alloc: Global, members: Map<String, Value>, nodes: u64) -> Result<Value, AllocError>
+    ensures { IfOk result (λ value. view value ≡ object (with_member (codes "verdict") (string (codes "spent")) (with_member (codes "nodes") (digits_data nodes) (members_view members.entries)))) }
 {
-    Ok(Value::String(format!(in alloc; "{kind}")?))
+    let members = with_digits(alloc, members, "nodes", nodes)?;
+    with_verdict(alloc, members, "spent")
+}
+
+/// The object of these members, of a node, and of the place in it where a number left 128 bits.
+fn with_overflow(
+    alloc: Global,
+    members: Map<String, Value>,
+    node: u64,
+    kind: ReportKind,
+) -> Result<Value, AllocError>
+    ensures { IfOk result (λ value. view value ≡ object (with_member (codes "verdict") (string (codes "overflow")) (with_member (codes "place") (string (place_text kind)) (with_member (codes "node") (digits_data node) (members_view members.entries))))) }
+{
+    let members = with_digits(alloc, members, "node", node)?;
+    let place = format!(in alloc; "{kind}")?;
+    let members = with_value(alloc, members, "place", Value::String(place))?;
+    with_verdict(alloc, members, "overflow")
 }
 
 /// What is said of the parameters.
@@ -80,9 +95,10 @@ pub(crate) fn sample_value(
         ReportSample::Sample(values) => {
             let names = file.automaton.parameters.as_slice();
             let values = parameter_values(alloc, names, values.as_slice())?;
-            json!(in alloc; {"values": values, "verdict": "sample"})
+            let members = with_value(alloc, Map::new(alloc), "values", values)?;
+            with_verdict(alloc, members, "sample")
         }
-        ReportSample::Empty => json!(in alloc; {"verdict": "none"}),
+        ReportSample::Empty => with_verdict(alloc, Map::new(alloc), "none"),
         ReportSample::Spent { .. } | ReportSample::Overflow { .. } => {
             unknown_sample_value(alloc, sample)
         }
@@ -96,14 +112,9 @@ pub fn unknown_sample_value(alloc: Global, sample: &ReportSample) -> Result<Valu
 {
     match sample {
         ReportSample::Sample(_) | ReportSample::Empty => Ok(Value::Null),
-        ReportSample::Spent { count } => {
-            let nodes = digits_value(alloc, *count)?;
-            json!(in alloc; {"nodes": nodes, "verdict": "spent"})
-        }
+        ReportSample::Spent { count } => with_spent(alloc, Map::new(alloc), *count),
         ReportSample::Overflow { node, kind } => {
-            let node = digits_value(alloc, *node)?;
-            let place = place_value(alloc, *kind)?;
-            json!(in alloc; {"node": node, "place": place, "verdict": "overflow"})
+            with_overflow(alloc, Map::new(alloc), *node, *kind)
         }
     }
 }
@@ -161,16 +172,17 @@ fn verdict_value(
     let name = pattern.name.as_str();
     match verdict {
         Verdict::Safe { nodes, leaves } => {
-            let nodes = digits_value(alloc, *nodes)?;
-            let leaves = digits_value(alloc, *leaves)?;
-            let word = safe_word(rest);
-            json!(in alloc; {"leaves": leaves, "name": name, "nodes": nodes, "verdict": word})
+            let members = with_digits(alloc, Map::new(alloc), "leaves", *leaves)?;
+            let members = with_text(alloc, members, "name", name)?;
+            let members = with_digits(alloc, members, "nodes", *nodes)?;
+            with_verdict(alloc, members, safe_word(rest))
         }
         Verdict::Unsafe { nodes, run } => {
-            let nodes = digits_value(alloc, *nodes)?;
+            let members = with_text(alloc, Map::new(alloc), "name", name)?;
+            let members = with_digits(alloc, members, "nodes", *nodes)?;
             let lines = run_value(alloc, file, run)?;
-            let word = unsafe_word(rest);
-            json!(in alloc; {"name": name, "nodes": nodes, "run": lines, "verdict": word})
+            let members = with_value(alloc, members, "run", lines)?;
+            with_verdict(alloc, members, unsafe_word(rest))
         }
         Verdict::Spent { .. } | Verdict::Overflow { .. } => {
             unknown_verdict_value(alloc, name, verdict)
@@ -190,10 +202,13 @@ pub fn unknown_verdict_value(
     match verdict {
         Verdict::Safe { .. } | Verdict::Unsafe { .. } => Ok(Value::Null),
         Verdict::Spent { nodes } => {
-            let nodes = digits_value(alloc, *nodes)?;
-            json!(in alloc; {"name": name, "nodes": nodes, "verdict": "spent"})
+            let members = with_text(alloc, Map::new(alloc), "name", name)?;
+            with_spent(alloc, members, *nodes)
         }
-        Verdict::Overflow { node, kind } => overflow_value(alloc, name, *node, *kind),
+        Verdict::Overflow { node, kind } => {
+            let members = with_text(alloc, Map::new(alloc), "name", name)?;
+            with_overflow(alloc, members, *node, *kind)
+        }
     }
 }
 
@@ -209,20 +224,6 @@ fn unsafe_word(rest: bool) -> &'static str
     ensures { result.now ≡ unsafe_word rest }
 {
     if rest { "rest unsafe" } else { "unsafe" }
-}
-
-/// What is said of a pattern where a number left 128 bits.
-fn overflow_value(
-    alloc: Global,
-    name: &str,
-    node: u64,
-    kind: ReportKind,
-) -> Result<Value, AllocError>
-    ensures { IfOk result (λ value. view value ≡ object (member (codes "name") (string name.now) (place_members node kind))) }
-{
-    let node = digits_value(alloc, node)?;
-    let place = place_value(alloc, kind)?;
-    json!(in alloc; {"name": name, "node": node, "place": place, "verdict": "overflow"})
 }
 
 /// The lines of a run's text.

@@ -5,12 +5,13 @@ ghost use Rattle.std.specs.Prelude.{◌≡◌, ◌++◌, IfOk, OnOk, length, str
 ghost use Rattle.std.specs.List.{AllByRecursion};
 ghost use Rattle.ta_counter.specs.Values.{Value};
 ghost use Rattle.ta_report.specs.Picked.{picked};
-ghost use Rattle.ta_report.specs.Report.{SampleFits, VerdictFits, report_text, rest_text, run_part, sample_line, told_text, values_text, word_before};
+ghost use Rattle.ta_report.specs.Report.{SampleFits, VerdictFits, report_text, rest_text, run_part, sample_line, told_line, told_lines, told_text, values_text, word_before};
 
+use crate::pick::Pick;
 use crate::said::Said;
 use crate::verdict::{ReportSample, Verdict};
 use std::alloc::{AllocError, Global};
-use ta_automaton::File;
+use ta_automaton::{File, Pattern};
 use ta_base::Text;
 use ta_replay::print_run;
 
@@ -42,15 +43,69 @@ fn told_text(alloc: Global, rest: bool, said: &Said<'_>) -> Result<Text, AllocEr
     requires fit { AllByRecursion (VerdictFits said.now.file.now) said.now.verdicts.now }
     ensures { IfOk result (λ text. text ≡ told_text rest said.now.file.now said.now.pick said.now.sample.now said.now.verdicts.now) }
 {
-    let mut text = format!(in alloc; "automaton {}\n", said.file.automaton.name.as_str())?;
-    write_sample(&mut text, said.file, said.sample)?;
-    let patterns = said.pick.of(said.file.patterns.as_slice());
-    for (pattern, verdict) in patterns.iter().zip(said.verdicts) {
-        let word = word_before(rest, verdict);
-        write!(text, "pattern {}: {word}{verdict}\n", pattern.name.as_str())?;
-        write_run(alloc, &mut text, said.file, verdict)?;
-    }
+    told_of(
+        alloc,
+        rest,
+        said.file,
+        said.pick,
+        said.sample,
+        said.verdicts,
+    )
+}
+
+/// The same of a report's parts.
+fn told_of(
+    alloc: Global,
+    rest: bool,
+    file: &File,
+    pick: Pick,
+    sample: &ReportSample,
+    verdicts: &[Verdict],
+) -> Result<Text, AllocError>
+    requires sample { SampleFits file.now sample.now }
+    requires fit { AllByRecursion (VerdictFits file.now) verdicts.now }
+    ensures { IfOk result (λ text. text ≡ told_text rest file.now pick sample.now verdicts.now) }
+{
+    let mut text = format!(in alloc; "automaton {}\n", file.automaton.name.as_str())?;
+    write_sample(&mut text, file, sample)?;
+    let patterns = pick.of(file.patterns.as_slice());
+    write_patterns(alloc, &mut text, rest, file, patterns, verdicts)?;
     Ok(Text::from_string(text))
+}
+
+/// Writes for each pattern its line and the text of its run, where it has one.
+fn write_patterns(
+    alloc: Global,
+    text: &mut String,
+    rest: bool,
+    file: &File,
+    patterns: &[Pattern],
+    verdicts: &[Verdict],
+) -> Result<(), AllocError>
+    requires { AllByRecursion (VerdictFits file.now) verdicts.now }
+    ensures { OnOk result (string_bytes text.new ≡ string_bytes text.old ++ told_lines rest file.now patterns.now verdicts.now) }
+{
+    for (pattern, verdict) in patterns.iter().zip(verdicts) {
+        write_pattern(alloc, text, rest, file, pattern, verdict)?;
+    }
+    Ok(())
+}
+
+/// Writes the line of a pattern and the text of its run, where it has one.
+fn write_pattern(
+    alloc: Global,
+    text: &mut String,
+    rest: bool,
+    file: &File,
+    pattern: &Pattern,
+    verdict: &Verdict,
+) -> Result<(), AllocError>
+    requires { VerdictFits file.now verdict.now }
+    ensures { OnOk result (string_bytes text.new ≡ string_bytes text.old ++ (told_line rest pattern.now verdict.now ++ run_part file.now verdict.now)) }
+{
+    let word = word_before(rest, verdict);
+    write!(text, "pattern {}: {word}{verdict}\n", pattern.name.as_str())?;
+    write_run(alloc, text, file, verdict)
 }
 
 /// What stands before a verdict: where it decides, the word of `rest`.
@@ -120,8 +175,9 @@ fn write_run(
     requires { VerdictFits file.now verdict.now }
     ensures { OnOk result (string_bytes text.new ≡ string_bytes text.old ++ run_part file.now verdict.now) }
 {
-    if let Verdict::Unsafe { run, .. } = verdict {
-        text.push_str(print_run(alloc, file, run)?.as_str())?;
-    }
-    Ok(())
+    let Verdict::Unsafe { run, .. } = verdict else {
+        return Ok(());
+    };
+    let run = print_run(alloc, file, run)?;
+    text.push_str(run.as_str())
 }

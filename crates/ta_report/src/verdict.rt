@@ -9,7 +9,7 @@ use ta_base::List;
 use ta_replay::Run;
 
 /// Where a number left 128 bits.
-#[derive(Clone, Copy, Debug, PartialEq, Eq)]
+#[derive(Clone, Copy)]
 pub enum ReportKind {
     /// In the pivot of this number of the node's solving.
     Pivot(u64),

@@ -5,6 +5,7 @@ mod Alike
 mod Distinct
 mod Endings
 mod Handed
+mod PieceRefused
 mod ReadSoFar
 mod WithFile
 mod Walks

@@ -176,3 +176,45 @@ pub log_unmade : (put : Put) (puts' : List Put) (text : List ℕ) (files : Optio
     → Changed (AreStaging (put.name ∷ [])) first second → Changed (Settled (put ∷ puts') text (Err halt.Memory) files files out out) first second
 log_unmade put puts' text files out first second one = record
     { made = one.made; grown = one.grown; such = no_memory put puts' text files out out one.made one.such refl }
+
+-- the same of a list that isn't empty, and of what its calls answer
+pub all_published : (whole : List Put) (put : Put) (puts' : List Put) (text name bytes : List ℕ) (result : Result (Unit {0}) Halt)
+    (files begun middle after : Option Told) (out out' : SinkState) (first second third fourth : List Event) → whole ≡ put ∷ puts' → begun ≡ files
+    → name ≡ put.name → bytes ≡ put_bytes put → Changed (Stages put.name (put_bytes put)) first second
+    → Changed (Settled puts' text (Ok tt) begun middle out out') second third → Changed (PublishesOne result name bytes middle after) third fourth
+    → Changed (Settled whole text result files after out out') first fourth
+all_published whole put puts' text name bytes result files begun middle after out out' first second third fourth is kept named own one two three =
+    let settled = subst (λ (f : Option Told). Changed (Settled puts' text (Ok tt) f middle out out') second third) kept two in
+    let called = subst (λ (n : List ℕ). Changed (PublishesOne result n bytes middle after) third fourth) named three in
+    let ours = subst (λ (b : List ℕ). Changed (PublishesOne result put.name b middle after) third fourth) own called in
+    subst (λ (p : List Put). Changed (Settled p text result files after out out') first fourth) (sym is)
+    (log_published put puts' text result files middle after out out' first second third fourth one settled ours)
+
+pub all_halted : (whole : List Put) (put : Put) (puts' : List Put) (text name : List ℕ) (found : Halt) (files begun middle after : Option Told)
+    (out out' : SinkState) (first second third fourth : List Event) → whole ≡ put ∷ puts' → begun ≡ files → after ≡ middle → name ≡ put.name
+    → Changed (Stages put.name (put_bytes put)) first second → Changed (Settled puts' text (Err found) begun middle out out') second third
+    → fourth ≡ third ++ Puts (record { name = name; step = Step.Abandon; bytes = []; answer = Ok tt }) ∷ []
+    → Changed (Settled whole text (Err found) files after out out') first fourth
+all_halted whole put puts' text name found files begun middle after out out' first second third fourth is kept same named one two three =
+    let settled = subst (λ (f : Option Told). Changed (Settled puts' text (Err found) f middle out out') second third) kept two in
+    let gone = subst (λ (n : List ℕ). fourth ≡ third ++ Puts (let_go n) ∷ []) named three in
+    let there = subst (λ (f : Option Told). Changed (Settled puts' text (Err found) files f out out') second third) (sym same) settled in
+    subst (λ (p : List Put). Changed (Settled p text (Err found) files after out out') first fourth) (sym is)
+    (log_halted put puts' text found files after out out' first second third fourth one there gone)
+
+pub all_unstaged : (whole : List Put) (put : Put) (puts' : List Put) (text : List ℕ) (who : Bor (List ℕ)) (result : Result (Unit {0}) Halt)
+    (files after : Option Told) (out out' : SinkState) (first second : List Event) → whole ≡ put ∷ puts' → after ≡ files → who.now ≡ put.name
+    → Changed (AreStaging (put.name ∷ [])) first second → WritesText result text out out'
+    → Changed (Settled whole text (Err (halt.Unput who)) files after out out') first second
+all_unstaged whole put puts' text who result files after out out' first second is kept named one wrote =
+    let there = subst (λ (f : Option Told). Changed (Settled (put ∷ puts') text (Err (halt.Unput who)) files f out out') first second) (sym kept)
+    (log_unstaged put puts' text who result files out out' first second named one wrote) in
+    subst (λ (p : List Put). Changed (Settled p text (Err (halt.Unput who)) files after out out') first second) (sym is) there
+
+pub all_unmade : (whole : List Put) (put : Put) (puts' : List Put) (text : List ℕ) (files after : Option Told) (out : SinkState) (first second : List Event)
+    → whole ≡ put ∷ puts' → after ≡ files → Changed (AreStaging (put.name ∷ [])) first second
+    → Changed (Settled whole text (Err halt.Memory) files after out out) first second
+all_unmade whole put puts' text files after out first second is kept one =
+    let there = subst (λ (f : Option Told). Changed (Settled (put ∷ puts') text (Err halt.Memory) files f out out) first second) (sym kept)
+    (log_unmade put puts' text files out first second one) in
+    subst (λ (p : List Put). Changed (Settled p text (Err halt.Memory) files after out out) first second) (sym is) there

@@ -1,5 +1,6 @@
 -- an output that is staged already is put, or not
 use Rattle.ta_shelf.proofs.ShellCommon.{◌≡◌, ◌∙◌, ℕ, List, [], ◌∷◌, ◌++◌, Step, Option, Result, Ok, Err, Bor, refl, sym, subst, append-nil, Event, PutCall}
+use Rattle.ta_shelf.proofs.ShellCommon.{arith, length}
 use Rattle.ta_shelf.proofs.ShellCommon.{Puts, Changed, AreStaging, Told, Halt, SinkState, Stages, Settled, SettledCause, PublishesOne, WritesText, OutputStaged}
 use Rattle.ta_shelf.proofs.ShellCommon.{Unasked, Staged, Lost}
 use Rattle.ta_shelf.specs.declared.answer.Content.TheVariants.{Bytes}
@@ -26,6 +27,12 @@ wrote_cause (Err halt.Memory) text out out' before after w same = absurd w
 wrote_log : (result : Result (Unit {0}) Halt) (text : List ℕ) (files : Option Told) (out out' : SinkState) (calls : List Event)
     → WritesText result text out out' → Changed (Settled [] text result files files out out') calls calls
 wrote_log result text files out out' calls w = record { made = []; grown = sym (append-nil calls); such = wrote result text files out out' w }
+
+-- no file is put
+pub only_wrote : (puts : List answer.Put) (result : Result (Unit {0}) Halt) (text : List ℕ) (files : Option Told) (out out' : SinkState) (calls : List Event)
+    → length puts ≡ 0 → WritesText result text out out' → Changed (Settled puts text result files files out out') calls calls
+only_wrote [] result text files out out' calls none w = wrote_log result text files out out' calls w
+only_wrote (put ∷ puts) result text files out out' calls none w = absurd (omega arith)
 
 module _ {T : Type 0} (named bytes : T → List ℕ) (text : List ℕ) (files : Option Told) (out out' : SinkState) (first : List Event) (before : ℕ) where
   -- none is asked for

@@ -73,21 +73,29 @@ fn tell_of_file<E: Sink>(err: &mut E, name: &str, why: &Phrase)
     ensures { Tells (file_line name.now (phrase_text why.now)) (record { written = E.written err.old; faults = E.faults err.old; stalls = E.stalls err.old })
         (record { written = E.written err.new; faults = E.faults err.new; stalls = E.stalls err.new }) }
 {
-    let [begin, between, end] = [
+    tell_pieces(err, &file_pieces(name, why));
+}
+
+/// The pieces of the line about a file. Those after its end are empty.
+fn file_pieces<'a>(name: &'a str, why: &Phrase) -> [Piece<'a>; 9]
+    ensures { pieces_text result ≡ file_line name.now (phrase_text why.now) }
+{
+    let [begin, between, end, none] = [
         Piece::Words("tav: "),
         Piece::Words(": "),
         Piece::Words("\n"),
+        Piece::Words(""),
     ];
     let name = Piece::Words(name);
     match *why {
-        Phrase::Plain(words) => tell_pieces(err, &[begin, name, between, Piece::Words(words), end]),
+        Phrase::Plain(words) => {
+            let words = Piece::Words(words);
+            [begin, name, between, words, end, none, none, none, none]
+        }
         Phrase::One { head, number, tail } => {
-            let (head, number, tail) = (
-                Piece::Words(head),
-                Piece::Number(number),
-                Piece::Words(tail),
-            );
-            tell_pieces(err, &[begin, name, between, head, number, tail, end])
+            let (head, tail) = (Piece::Words(head), Piece::Words(tail));
+            let number = Piece::Number(number);
+            [begin, name, between, head, number, tail, end, none, none]
         }
         Phrase::Two {
             head,
@@ -105,10 +113,7 @@ fn tell_of_file<E: Sink>(err: &mut E, name: &str, why: &Phrase)
                 Piece::Number(u128::from(first)),
                 Piece::Number(u128::from(second)),
             );
-            tell_pieces(
-                err,
-                &[begin, name, between, head, first, middle, second, tail, end],
-            )
+            [begin, name, between, head, first, middle, second, tail, end]
         }
     }
 }

@@ -14,7 +14,7 @@ use Rattle.ta_syntax.specs.declared.tokens.Mark.TheVariants as mark
 use Rattle.ta_syntax.proofs.BuiltSums.{tail, before, behind, Small, small_tail, small_before, small_behind, kinds_tail, kinds_before, kinds_behind, placed_mark}
 use Rattle.ta_syntax.proofs.BuiltSums.{placed_name, placed_last, placed_none, placed_first, placed_both, sum_built}
 use Rattle.ta_syntax.proofs.Scans.{kind_some}
-use Rattle.ta_syntax.proofs.FileTexts.{blocks_kinds, resilience_kinds, processes_kinds, locations_kinds, shared_kinds, parameters_kinds}
+use Rattle.ta_syntax.proofs.FileKinds.{blocks_kinds, resilience_kinds, processes_kinds, locations_kinds, shared_kinds, parameters_kinds}
 
 abbrev fixed : Mark → Kind
 fixed m = kind.Fixed m

@@ -17,37 +17,24 @@ pub use Rattle.ta_base.proofs.Lists.{begins_word, front_is, left_nested, length_
 pub use Rattle.ta_base.proofs.Options.{if_ok_then}
 pub use Rattle.ta_base.specs.Bytes.{Avoids, BeginsByLetter, is_letter, is_word}
 pub use Rattle.ta_syntax.specs.AnswerLaws.{Either, HasGrammarFault, HasTree, StopsReading}
-pub use Rattle.ta_syntax.specs.BlockReading.{BlockStops, IsEntered, KeptBlock, TookBlock}
 pub use Rattle.ta_syntax.specs.Faults.{Begins, FirstGrammarFault, IsPast, IsStopped, IsWrong, SameStart, kinds, offset_of}
 pub use Rattle.ta_syntax.specs.Grammar.{AreTerms, Factor, FileText, IsComparison, IsEvent, IsFactor, IsPattern, IsRule, IsSome, IsSum, IsTerm, IsTree, IsUpdate}
 pub use Rattle.ta_syntax.specs.Grammar.{PlainComparison, PlainEvent, PlainLocation, PlainPattern, PlainRule, PlainTree, PlainUpdate, Term, Terms, alone, blank}
 pub use Rattle.ta_syntax.specs.Grammar.{comparison_kinds, done, each, ended, event_kinds, factor_kinds, file_kinds, further, initial_kinds, led, listed}
 pub use Rattle.ta_syntax.specs.Grammar.{location_kinds, more_kinds, name_kinds, named, nested, number, pattern_kinds, relation_kind, rule_kinds, sign_kind}
 pub use Rattle.ta_syntax.specs.Grammar.{sum_kinds, term, term_kinds, times, update_kinds}
-pub use Rattle.ta_syntax.specs.Inside.BlockReading.{AvoidsMark, BeginsListOf, BlocksStop, DeclaredStops, EndStops, EndedStops, IsBetweenParts, IsBlock}
-pub use Rattle.ta_syntax.specs.Inside.BlockReading.{KeptOthers, LedStops, NameThenStops, ReadsKept, StartsOther, TookBlocks, TookDeclared, TookEnd, TookEnded}
-pub use Rattle.ta_syntax.specs.Inside.BlockReading.{TookLed, TookNameThen, block_count, declared_part, with_mark}
-pub use Rattle.ta_syntax.specs.Inside.FileReading.{IsSpelled, LocationsStop, ProcessesStop, TookLocations, TookProcesses, locations_part, processes_part}
-pub use Rattle.ta_syntax.specs.Inside.ListReading.{IsFresh, ListStops, PastStops, TookList, extends_list, with_commas}
-pub use Rattle.ta_syntax.specs.Inside.Parts.{blocks_part, comparison_part, event_part, file_part, list_part, location_part, pattern_part, rule_part}
-pub use Rattle.ta_syntax.specs.Inside.Parts.{update_part}
 pub use Rattle.ta_syntax.specs.Inside.Printed.{Prints, head_kinds, sign_before}
-pub use Rattle.ta_syntax.specs.Inside.Reading.{FactorStops, IsUnnamed, LeadingSign, MayOpen, NoName, NoRelation, SumStops, TermStops, TookFactor, TookSum}
-pub use Rattle.ta_syntax.specs.Inside.Reading.{TookTerm, is_name, is_operator, is_sign, is_star, is_sum_start}
+pub use Rattle.ta_syntax.specs.FileReading.{IsSpelled}
 pub use Rattle.ta_syntax.specs.Inside.RuleBodies.{event_body, event_body_stated, pattern_body, pattern_body_stated, rule_body, rule_body_stated}
 pub use Rattle.ta_syntax.specs.Inside.RuleBodies.{spell_comparison, spell_location, spell_name, spell_update}
 pub use Rattle.ta_syntax.specs.Inside.Tokens.{BeginsByDigit, BeginsNoGap, MarkAt, NoToken, ScanStops, SkipsComment, SkipsGap, SkipsPiece, TokenFrom, TokenStops}
 pub use Rattle.ta_syntax.specs.Kinds.{IsDigits, IsKind, IsKind-prop, IsNameText, is_lone, is_white, kind_bytes, mark_bytes}
 pub use Rattle.ta_syntax.specs.Limits.{Counts, IsBlockPast, IsDeep, IsEventWithin, IsMany, IsPatternWithin, IsRuleWithin, IsShallow, IsTreeWithin, StaysWithin}
 pub use Rattle.ta_syntax.specs.Limits.{after_mark, at_start, begin_list, counted_after, run}
-pub use Rattle.ta_syntax.specs.ListReading.{IsReady, IsStart, ItemStops, TookItem, extends_item}
-pub use Rattle.ta_syntax.specs.Parts.{GrammarPart, Text, a_factor, a_mark, a_name, a_number, a_relation, a_sum, a_term, blocks, both, many, maybe, more_terms}
-pub use Rattle.ta_syntax.specs.Parts.{nothing, upto}
 pub use Rattle.ta_syntax.specs.PlainSums.{factor_depth, factor_layer, plain_factor, plain_sum, plain_term, plain_terms, sum_depth, sum_layer, term_depth}
 pub use Rattle.ta_syntax.specs.PlainSums.{term_layer, terms_of}
 pub use Rattle.ta_syntax.specs.PlainTrees.{plain_comparison, plain_event, plain_location, plain_name, plain_pattern, plain_rule, plain_tree, plain_update}
 pub use Rattle.ta_syntax.specs.Printed.{printed, separator}
-pub use Rattle.ta_syntax.specs.Reading.{BeginsWithKind, HasRoom, IsOther, IsUnexpected, NeverBegins, NoNumber, ReadsPart, begins_by}
 pub use Rattle.ta_syntax.specs.Stated.{IsPlaced, Offsets, at_first, comparison_stated, event_stated, factor_stated, initial_stated, leading, location_stated}
 pub use Rattle.ta_syntax.specs.Stated.{more_of, name_stated, pattern_stated, rule_stated, signed_sum, sum_factor_stated, sum_layer_stated, sum_stated}
 pub use Rattle.ta_syntax.specs.Stated.{sum_term_stated, term_layer_stated, tree_stated, unplaced, unplaced_sign, update_stated}

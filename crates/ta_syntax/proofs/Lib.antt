@@ -1,5 +1,6 @@
 -- lemmas for the crates above
 pub mod Scans
+pub mod Counting
 pub mod Steps
 pub mod SumSteps
 pub mod PrintSteps
@@ -9,22 +10,21 @@ mod Gaps
 mod Words
 mod SumExits
 mod ListSteps
-mod ItemSteps
 mod ClauseSteps
-mod BlockSteps
-mod RuleSteps
-mod FileSteps
-mod FileTexts
-mod WholeFile
 mod LegalTrees
-mod WithinLimits
 mod PrintedTokens
 mod ReadBack
 mod UniqueTrees
 mod TextTokens
-mod FirstTokens
-mod TreeLimits
 pub mod BuiltSums
 mod BuiltTrees
 pub mod TextTrees
 mod Common
+mod Parsing
+mod Halting
+mod FileReady
+mod FileSpans
+mod FileKinds
+mod FileCounts
+mod Answered
+mod FileSteps

@@ -4,15 +4,14 @@ use Rattle.ta_syntax.proofs.Common.{HasTree, HasGrammarFault, Token}
 use Rattle.ta_syntax.specs.declared.fault.FileFault.TheVariants as fault
 use Rattle.ta_syntax.proofs.LegalTrees.{file_fault}
 use Rattle.ta_syntax.proofs.TextTokens.{texts_have_tokens}
-use Rattle.ta_syntax.proofs.FirstTokens.{tokens_have_answers}
-use Rattle.ta_syntax.proofs.TreeLimits.{tree_limits}
+use Rattle.ta_syntax.proofs.Answered.{tokens_have_answers, tree_limits}
 use Rattle.ta_syntax.proofs.BuiltTrees.{trees_exist}
 
 with_tree : (bytes : List ℕ) (ts : List Token) → length bytes ≤ 1048576 → AreTokens bytes ts → FileText (kinds ts) × StaysWithin at_start (kinds ts)
     → HasTree bytes
 with_tree bytes ts small are (file, within) =
     let text : IsTextOf bytes file.0 = record { tokens = ts; are = are; spelled = sym file.2; legal = file.1 } in
-    let b = trees_exist bytes file.0 small text (tree_limits file.0 (subst (StaysWithin at_start) (sym file.2) within)) in
+    let b = trees_exist bytes file.0 small text (tree_limits file.0 file.1 (subst (StaysWithin at_start) (sym file.2) within)) in
     (b.0, b.1)
 
 pub texts_have_trees : (bytes : List ℕ) → length bytes ≤ 1048576 → Either (HasTree bytes) (HasGrammarFault bytes)

@@ -4,13 +4,49 @@ use Rattle.ta_syntax.proofs.Common.{IsNameText, Terms, Term, Factor, done, term,
 use Rattle.ta_syntax.proofs.Common.{factor_kinds, relation_kind, IsSum, AreTerms, IsTerm, IsFactor, PlainComparison, PlainLocation, PlainUpdate, PlainRule}
 use Rattle.ta_syntax.proofs.Common.{PlainEvent, PlainPattern, PlainTree, listed, further, led, ended, each, name_kinds, initial_kinds, location_kinds}
 use Rattle.ta_syntax.proofs.Common.{comparison_kinds, update_kinds, rule_kinds, event_kinds, pattern_kinds, file_kinds, IsSome, IsComparison, IsUpdate, IsRule}
-use Rattle.ta_syntax.proofs.Common.{IsEvent, IsPattern, IsTree, begins_by, is_star, is_operator, extends_item, extends_list, Kind, Mark, Relation, Sign}
+use Rattle.ta_syntax.proofs.Common.{IsEvent, IsPattern, IsTree, Kind, Mark, Relation, Sign}
 use Rattle.ta_syntax.specs.declared.tokens.Kind.TheVariants as kind
 use Rattle.ta_syntax.specs.declared.tokens.Mark.TheVariants as mark
 use Rattle.ta_syntax.specs.declared.tokens.Relation.TheVariants as relation
 use Rattle.ta_syntax.specs.declared.sums.Sign.TheVariants as sign
 use Rattle.ta_syntax.proofs.SumSteps.{term_not}
 use Rattle.ta_base.proofs.Lists.{heads}
+
+-- ---- tokens that would continue a part
+
+-- whether the first token is one of them
+abbrev begins_by : (Kind → Bool) → List Kind → Bool
+begins_by p [] = false
+begins_by p (k ∷ ks) = p k
+
+-- a token that would continue a number
+abbrev is_star : Kind → Bool
+is_star (kind.Fixed mark.Star) = true
+is_star _ = false
+
+-- a token that would continue a sum
+abbrev is_operator : Kind → Bool
+is_operator (kind.Fixed mark.Plus) = true
+is_operator (kind.Fixed mark.Minus) = true
+is_operator (kind.Fixed mark.Star) = true
+is_operator _ = false
+
+-- a token that would continue an item of a list
+abbrev extends_item : Kind → Bool
+extends_item (kind.Fixed mark.Plus) = true
+extends_item (kind.Fixed mark.Minus) = true
+extends_item (kind.Fixed mark.Star) = true
+extends_item (kind.Fixed mark.Initial) = true
+extends_item _ = false
+
+-- a token that would continue a list or its last item
+abbrev extends_list : Kind → Bool
+extends_list (kind.Fixed mark.Plus) = true
+extends_list (kind.Fixed mark.Minus) = true
+extends_list (kind.Fixed mark.Star) = true
+extends_list (kind.Fixed mark.Initial) = true
+extends_list (kind.Fixed mark.Comma) = true
+extends_list _ = false
 
 -- ---- sums
 

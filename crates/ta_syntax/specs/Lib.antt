@@ -5,11 +5,11 @@ pub mod PlainSums
 pub mod PlainTrees
 pub mod Stated
 pub mod Limits
-pub mod Parts
 pub mod Faults
+pub mod Productions
+pub mod FileGrammar
 pub mod Reading
-pub mod ListReading
-pub mod BlockReading
+pub mod FileReading
 pub mod Printed
 pub mod TreeOf
 pub mod TokenLaws

@@ -2,11 +2,13 @@
 #![tactic(auto)]
 
 ghost use Rattle.std.specs.Prelude.{◌≡◌, List, ℕ, MatchResult};
-ghost use Rattle.ta_syntax.specs.Parts.{GrammarPart};
-ghost use Rattle.ta_syntax.specs.BlockReading.{TookBlock, BlockStops};
-ghost use Rattle.ta_syntax.specs.Inside.BlockReading.{IsBlock, TookBlocks, BlocksStop};
+ghost use Rattle.std.specs.Prelude.{[]};
+ghost use Rattle.ta_syntax.specs.FileGrammar.{blocks};
+ghost use Rattle.ta_syntax.specs.Grammar.{each};
+ghost use Rattle.ta_syntax.specs.Productions.{Production};
+ghost use Rattle.ta_syntax.specs.Reading.{Halts, Took, TookUpTo, with_mark};
 ghost use Rattle.ta_syntax.specs.declared.tokens.Kind.{Kind};
-ghost use Rattle.ta_syntax.specs.declared.tokens.Mark.{Mark};
+ghost use Rattle.ta_syntax.specs.declared.tokens.Kind.TheVariants.{Fixed};
 
 use crate::fault::FileFault;
 use crate::placed::Token;
@@ -16,9 +18,7 @@ use std::alloc::Global;
 
 /// What stands behind a keyword any number of times.
 pub trait Block: Sized + Drop {
-    ghost mark: { Mark };
-
-    ghost part: { GrammarPart };
+    ghost grammar: { Production };
 
     ghost spelled: { Self → List Kind };
 
@@ -26,7 +26,7 @@ pub trait Block: Sized + Drop {
 
     /// Reads a block behind its keyword.
     fn read(alloc: Global, tokens: &[Token], end: u32) -> Result<(Self, &[Token]), FileFault>
-        ensures { MatchResult result (λ x. TookBlock mark part (spelled x.0) (stated x.0) tokens.now x.1.now) (λ e. BlockStops mark part end tokens.now e) };
+        ensures { MatchResult result (λ x. Took grammar (spelled x.0) (stated x.0) tokens.now x.1.now) (λ e. Halts grammar end tokens.now e) };
 }
 
 /// Reads blocks, each behind its keyword, at most `limit`.
@@ -37,9 +37,7 @@ pub fn read_blocks<T: Block>(
     mark: Mark,
     limit: usize,
 ) -> Result<(Vec<T>, &[Token]), FileFault>
-    requires block { IsBlock mark limit }
-    requires own { mark ≡ T.mark }
-    ensures { MatchResult result (λ x. TookBlocks mark T.part T.spelled T.stated limit x.0.items tokens.now x.1.now) (λ e. BlocksStop mark T.part end tokens.now e) }
+    ensures { MatchResult result (λ x. TookUpTo limit x.0.items (blocks limit mark T.grammar) (each (with_mark (Fixed mark) T.spelled) x.0.items) (each (with_mark [] T.stated) x.0.items) tokens.now x.1.now) (λ e. Halts (blocks limit mark T.grammar) end tokens.now e) }
 {
     let mut items = Vec::new(alloc);
     let mut rest = tokens;

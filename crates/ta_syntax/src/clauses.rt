@@ -1,9 +1,15 @@
 //! Lists behind keywords, and lists that a semicolon ends.
 #![tactic(auto)]
 
-ghost use Rattle.std.specs.Prelude.{◌≡◌, ◌≤◌, MatchResult};
-ghost use Rattle.ta_syntax.specs.Inside.Parts.{list_part};
-ghost use Rattle.ta_syntax.specs.Inside.BlockReading.{StartsOther, BeginsListOf, TookNameThen, NameThenStops, TookEnd, EndStops, TookLed, LedStops, TookEnded, EndedStops, TookDeclared, DeclaredStops};
+ghost use Rattle.std.specs.Prelude.{[], ◌++◌, ◌∷◌, MatchResult};
+ghost use Rattle.ta_syntax.specs.FileGrammar.{a_mark, a_name, declared_list};
+ghost use Rattle.ta_syntax.specs.FileGrammar as grammar;
+ghost use Rattle.ta_syntax.specs.Grammar.{ended, led, listed};
+ghost use Rattle.ta_syntax.specs.Productions.{both};
+ghost use Rattle.ta_syntax.specs.Reading.{Halts, Took, TookSome, TookUpTo};
+ghost use Rattle.ta_syntax.specs.Stated.{unplaced};
+ghost use Rattle.ta_syntax.specs.declared.tokens.Kind.TheVariants.{Fixed, Name};
+ghost use Rattle.ta_syntax.specs.declared.tokens.Mark.TheVariants.{Semicolon};
 
 use crate::fault::FileFault;
 use crate::lists::{Item, read_list};
@@ -21,7 +27,7 @@ pub fn read_name_then(
     end: u32,
     mark: Mark,
 ) -> Result<(Spelled, &[Token]), FileFault>
-    ensures { MatchResult result (λ x. TookNameThen mark end x.0 tokens.now x.1.now) (λ e. NameThenStops mark end tokens.now e) }
+    ensures { MatchResult result (λ x. Took (both a_name (a_mark mark)) (Name x.0.name ∷ Fixed mark ∷ []) ((x.0.at ∷ []) ∷ [] ∷ []) tokens.now x.1.now) (λ e. Halts (both a_name (a_mark mark)) end tokens.now e) }
 {
     let (name, after_name) = read_name(alloc, tokens, end)?;
     let rest = expect(after_name, end, mark)?;
@@ -35,8 +41,7 @@ pub fn read_list_end<T: Item>(
     end: u32,
     limit: usize,
 ) -> Result<(List<T>, &[Token]), FileFault>
-    requires { 1 ≤ limit }
-    ensures { MatchResult result (λ x. TookEnd T.part T.spelled T.stated limit x.0 tokens.now x.1.now) (λ e. EndStops T.part limit end tokens.now e) }
+    ensures { MatchResult result (λ x. TookSome limit x.0 (grammar.list_end limit T.grammar) (listed Fixed T.spelled x.0 ++ Fixed Semicolon ∷ []) (listed unplaced T.stated x.0 ++ [] ∷ []) tokens.now x.1.now) (λ e. Halts (grammar.list_end limit T.grammar) end tokens.now e) }
 {
     let (items, after_list) = read_list::<T>(alloc, tokens, end, limit)?;
     let rest = expect(after_list, end, Mark::Semicolon)?;
@@ -51,8 +56,7 @@ pub fn read_led<T: Item>(
     mark: Mark,
     limit: usize,
 ) -> Result<(List<T>, &[Token]), FileFault>
-    requires { BeginsListOf mark limit }
-    ensures { MatchResult result (λ x. TookLed mark T.part T.spelled T.stated limit x.0 tokens.now x.1.now) (λ e. LedStops mark T.part end tokens.now e) }
+    ensures { MatchResult result (λ x. TookUpTo limit x.0 (grammar.led mark limit T.grammar) (led Fixed mark T.spelled x.0) (led unplaced mark T.stated x.0) tokens.now x.1.now) (λ e. Halts (grammar.led mark limit T.grammar) end tokens.now e) }
 {
     let Some(inner) = skip(tokens, mark) else {
         return Ok((List::from_vec(Vec::new(alloc)), tokens));
@@ -69,8 +73,7 @@ pub fn read_ended<T: Item>(
     mark: Mark,
     limit: usize,
 ) -> Result<(List<T>, &[Token]), FileFault>
-    requires { BeginsListOf mark limit }
-    ensures { MatchResult result (λ x. TookEnded mark T.part T.spelled T.stated limit x.0 tokens.now x.1.now) (λ e. EndedStops mark T.part end tokens.now e) }
+    ensures { MatchResult result (λ x. TookUpTo limit x.0 (grammar.ended mark limit T.grammar) (ended Fixed mark T.spelled x.0) (ended unplaced mark T.stated x.0) tokens.now x.1.now) (λ e. Halts (grammar.ended mark limit T.grammar) end tokens.now e) }
 {
     let Some(inner) = skip(tokens, mark) else {
         return Ok((List::from_vec(Vec::new(alloc)), tokens));
@@ -87,9 +90,7 @@ pub fn read_declared<T: Item>(
     mark: Mark,
     limit: usize,
 ) -> Result<(List<T>, &[Token]), FileFault>
-    requires leads { BeginsListOf mark limit }
-    requires other { StartsOther Mark.Semicolon (list_part T.part) }
-    ensures { MatchResult result (λ x. TookDeclared mark T.part T.spelled T.stated limit x.0 tokens.now x.1.now) (λ e. DeclaredStops mark T.part end tokens.now e) }
+    ensures { MatchResult result (λ x. TookUpTo limit x.0 (declared_list mark limit T.grammar) (Fixed mark ∷ (listed Fixed T.spelled x.0 ++ Fixed Semicolon ∷ [])) ([] ∷ (listed unplaced T.stated x.0 ++ [] ∷ [])) tokens.now x.1.now) (λ e. Halts (declared_list mark limit T.grammar) end tokens.now e) }
 {
     let inner = expect(tokens, end, mark)?;
     if let Some(rest) = skip(inner, Mark::Semicolon) {

@@ -6,7 +6,9 @@ ghost use Rattle.ta_syntax.specs.Grammar.{FileText, PlainTree};
 ghost use Rattle.ta_syntax.specs.PlainTrees.{plain_tree};
 ghost use Rattle.ta_syntax.specs.Limits.{at_start, IsTreeWithin};
 ghost use Rattle.ta_syntax.specs.Faults.{IsStopped, FirstGrammarFault};
-ghost use Rattle.ta_syntax.specs.Inside.FileReading.{TookLocations, LocationsStop, TookProcesses, ProcessesStop, TookHead, IsSpelled};
+ghost use Rattle.ta_syntax.specs.FileGrammar as grammar;
+ghost use Rattle.ta_syntax.specs.FileReading.{TookProcesses, TookHead, IsSpelled, locations_kinds, locations_stated};
+ghost use Rattle.ta_syntax.specs.Reading.{Halts, TookSome};
 ghost use Rattle.ta_syntax.specs.TreeOf.{IsTextOf, IsTreeOf};
 
 use crate::blocks::read_blocks;
@@ -49,7 +51,7 @@ struct Head {
 
 /// Reads the head of an automaton file.
 fn read_head(alloc: Global, tokens: &[Token], end: u32) -> Result<(Head, &[Token]), FileFault>
-    ensures { MatchResult result (λ x. TookHead end x.0 tokens.now x.1.now) (λ e. IsStopped FileText at_start end tokens.now e) }
+    ensures { MatchResult result (λ x. TookHead x.0 tokens.now x.1.now) (λ e. Halts grammar.head end tokens.now e) }
 {
     let begun = expect(tokens, end, Mark::Automaton)?;
     let (name, after_name) = read_name_then(alloc, begun, end, Mark::Semicolon)?;
@@ -124,7 +126,7 @@ fn read_locations(
     tokens: &[Token],
     end: u32,
 ) -> Result<(u32, List<TreeLocation>, &[Token]), FileFault>
-    ensures { MatchResult result (λ x. TookLocations x.0 x.1 tokens.now x.2.now) (λ e. LocationsStop end tokens.now e) }
+    ensures { MatchResult result (λ x. TookSome 32 x.1 grammar.locations (locations_kinds x.1) (locations_stated x.0 x.1) tokens.now x.2.now) (λ e. Halts grammar.locations end tokens.now e) }
 {
     let at = first_offset(tokens, end);
     let begun = expect(tokens, end, Mark::Locations)?;
@@ -138,7 +140,7 @@ fn read_processes(
     tokens: &[Token],
     end: u32,
 ) -> Result<(u32, TreeSum, &[Token]), FileFault>
-    ensures { MatchResult result (λ x. TookProcesses x.0 x.1 tokens.now x.2.now) (λ e. ProcessesStop end tokens.now e) }
+    ensures { MatchResult result (λ x. TookProcesses x.0 x.1 tokens.now x.2.now) (λ e. Halts grammar.processes end tokens.now e) }
 {
     let begun = expect(tokens, end, Mark::Processes)?;
     let at = first_offset(begun, end);

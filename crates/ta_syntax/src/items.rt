@@ -1,16 +1,14 @@
 //! The items of lists: names, locations, comparisons and updates.
 #![tactic(auto)]
 
-ghost use Rattle.std.specs.Prelude.{◌≡◌, MatchResult, MatchOption};
+ghost use Rattle.std.specs.Prelude.{◌≡◌, MatchOption};
 ghost use Rattle.ta_syntax.specs.Grammar.{name_kinds, location_kinds, update_kinds, comparison_kinds, relation_kind};
 ghost use Rattle.ta_syntax.specs.PlainTrees.{plain_location, plain_update, plain_comparison};
 ghost use Rattle.ta_syntax.specs.Stated.{name_stated, location_stated, update_stated, comparison_stated};
-ghost use Rattle.ta_syntax.specs.Parts.{a_name};
-ghost use Rattle.ta_syntax.specs.Inside.Parts.{location_part, update_part, comparison_part};
+ghost use Rattle.ta_syntax.specs.FileGrammar.{a_name, comparison, location, update};
+ghost use Rattle.ta_syntax.specs.Productions.{first, stands};
 ghost use Rattle.ta_syntax.specs.Faults.{kinds};
-ghost use Rattle.ta_syntax.specs.Reading.{BeginsWithKind, begins_by};
-ghost use Rattle.ta_syntax.specs.Inside.Reading.{NoRelation, is_name, is_sum_start};
-ghost use Rattle.ta_syntax.specs.ListReading.{TookItem, ItemStops};
+ghost use Rattle.ta_syntax.specs.Reading.{BeginsWithKind, NoRelation};
 
 use crate::fault::FileFault;
 use crate::lists::Item;
@@ -23,7 +21,7 @@ use crate::tree::{TreeComparison, TreeLocation, TreeUpdate};
 use std::alloc::Global;
 
 impl Item for Spelled {
-    ghost part = { a_name };
+    ghost grammar = { a_name };
 
     ghost spelled = { λ n. name_kinds n.name };
 
@@ -40,7 +38,7 @@ impl Item for Spelled {
 }
 
 impl Item for TreeLocation {
-    ghost part = { location_part };
+    ghost grammar = { location };
 
     ghost spelled = { λ l. location_kinds (plain_location l) };
 
@@ -76,7 +74,7 @@ impl Item for TreeLocation {
 }
 
 impl Item for TreeUpdate {
-    ghost part = { update_part };
+    ghost grammar = { update };
 
     ghost spelled = { λ u. update_kinds (plain_update u) };
 
@@ -101,7 +99,7 @@ impl Item for TreeUpdate {
 }
 
 impl Item for TreeComparison {
-    ghost part = { comparison_part };
+    ghost grammar = { comparison };
 
     ghost spelled = { λ c. comparison_kinds (plain_comparison c) };
 
@@ -152,7 +150,7 @@ fn next_relation(tokens: &[Token]) -> Option<(Relation, &[Token])>
 
 /// Whether a name stands first.
 fn is_name_next(tokens: &[Token]) -> bool
-    ensures { result ≡ begins_by is_name (kinds tokens.now) }
+    ensures { result ≡ stands (first a_name) tokens.now }
 {
     match tokens.split_first() {
         Some((first, _)) => matches!(first.kind, Kind::Name(_)),
@@ -162,7 +160,7 @@ fn is_name_next(tokens: &[Token]) -> bool
 
 /// Whether a token stands first that may begin a sum.
 fn is_sum_next(tokens: &[Token]) -> bool
-    ensures { result ≡ begins_by is_sum_start (kinds tokens.now) }
+    ensures { result ≡ stands (first comparison) tokens.now }
 {
     match tokens.split_first() {
         Some((first, _)) => matches!(

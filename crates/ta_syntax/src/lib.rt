@@ -1,11 +1,12 @@
 //! Automaton files: tokens, trees, reading and printing.
 //!
 //! The grammar is one function from trees to tokens for each production, so that tokens are of the
-//! grammar is an equation (`file_kinds`). How the first parse error is proved: each reader keeps
-//! what may still come, at first a file. A token that is taken shortens it, and a choice by the
-//! next token replaces a part by one of its alternatives. Every part has some text, so the tokens
-//! read so far always begin a file; a token with which no such text begins is the first wrong one.
-//! One token of lookahead suffices.
+//! grammar is an equation (`file_kinds`). The same grammar stands as data in `FileGrammar`, and
+//! `parse` is one parser for all such grammars, with one token of lookahead: each reader answers
+//! what `parse` does. A limit is a part that is barred: its texts are texts of the grammar, but the
+//! parser stops before them. How the first parse error is proved: which tokens may begin and follow
+//! a part is computed, and no two choices begin alike, so a token at which `parse` stops is wrong
+//! in every text; every part has some text, so the tokens before it always begin a file.
 #![tactic(auto)]
 
 mod answers;

@@ -1,11 +1,14 @@
 //! Lists with commas.
 #![tactic(auto)]
 
-ghost use Rattle.std.specs.Prelude.{◌≡◌, ◌≤◌, List, ℕ, MatchResult};
-ghost use Rattle.ta_syntax.specs.Parts.{GrammarPart};
-ghost use Rattle.ta_syntax.specs.ListReading.{TookItem, ItemStops, IsStart};
-ghost use Rattle.ta_syntax.specs.Inside.ListReading.{PastStops, TookList, ListStops};
+ghost use Rattle.std.specs.Prelude.{◌≡◌, List, ℕ, MatchResult};
+ghost use Rattle.ta_syntax.specs.FileGrammar.{items};
+ghost use Rattle.ta_syntax.specs.Grammar.{listed};
+ghost use Rattle.ta_syntax.specs.Productions.{Production, first, stands};
+ghost use Rattle.ta_syntax.specs.Reading.{Halts, Took, TookSome};
+ghost use Rattle.ta_syntax.specs.Stated.{unplaced};
 ghost use Rattle.ta_syntax.specs.declared.tokens.Kind.{Kind};
+ghost use Rattle.ta_syntax.specs.declared.tokens.Kind.TheVariants.{Fixed};
 
 use crate::fault::FileFault;
 use crate::placed::Token;
@@ -15,7 +18,7 @@ use std::alloc::Global;
 
 /// What a list has, with commas between.
 pub trait Item: Sized + Drop {
-    ghost part: { GrammarPart };
+    ghost grammar: { Production };
 
     ghost spelled: { Self → List Kind };
 
@@ -23,16 +26,16 @@ pub trait Item: Sized + Drop {
 
     /// Whether an item may begin by the first token.
     fn starts(tokens: &[Token]) -> bool
-        ensures { IsStart part tokens.now result };
+        ensures { result ≡ stands (first grammar) tokens.now };
 
     /// Reads an item.
     fn read(alloc: Global, tokens: &[Token], end: u32) -> Result<(Self, &[Token]), FileFault>
-        ensures { MatchResult result (λ x. TookItem part (spelled x.0) (stated x.0) tokens.now x.1.now) (λ e. ItemStops part end tokens.now e) };
+        ensures { MatchResult result (λ x. Took grammar (spelled x.0) (stated x.0) tokens.now x.1.now) (λ e. Halts grammar end tokens.now e) };
 }
 
 /// The error of the first token where as many items as there may be stand before it.
 fn past_limit<T: Item>(tokens: &[Token], end: u32) -> FileFault
-    ensures { PastStops T.part end tokens.now result }
+    ensures { Halts (items 0 T.grammar) end tokens.now result }
 {
     let at = first_offset(tokens, end);
     if T::starts(tokens) {
@@ -48,8 +51,7 @@ pub fn read_list<T: Item>(
     end: u32,
     limit: usize,
 ) -> Result<(Vec<T>, &[Token]), FileFault>
-    requires { 1 ≤ limit }
-    ensures { MatchResult result (λ x. TookList T.part T.spelled T.stated limit x.0.items tokens.now x.1.now) (λ e. ListStops T.part limit end tokens.now e) }
+    ensures { MatchResult result (λ x. TookSome limit x.0.items (items limit T.grammar) (listed Fixed T.spelled x.0.items) (listed unplaced T.stated x.0.items) tokens.now x.1.now) (λ e. Halts (items limit T.grammar) end tokens.now e) }
 {
     let mut items = Vec::new(alloc);
     let mut rest = tokens;

@@ -2,10 +2,11 @@
 #![tactic(auto)]
 
 ghost use Rattle.std.specs.Prelude.{◌≡◌, ℕ, MatchResult, MatchOption, false};
+ghost use Rattle.ta_syntax.specs.FileGrammar.{factor, signs, sum_with, term_with};
 ghost use Rattle.ta_syntax.specs.Grammar.{sign_kind};
+ghost use Rattle.ta_syntax.specs.Productions.{stands};
 ghost use Rattle.ta_syntax.specs.Faults.{kinds, offset_of};
-ghost use Rattle.ta_syntax.specs.Reading.{BeginsWithKind, IsOther, IsUnexpected, NoNumber, begins_by};
-ghost use Rattle.ta_syntax.specs.Inside.Reading.{TookSum, TookTerm, TookFactor, SumStops, TermStops, FactorStops, LeadingSign, IsUnnamed, is_sign};
+ghost use Rattle.ta_syntax.specs.Reading.{BeginsWithKind, Halts, IsOther, IsUnexpected, IsUnnamed, LeadingSign, NoNumber, TookFactor, TookSum, TookTerm};
 
 use crate::fault::FileFault;
 use crate::names::{Digits, Spelled};
@@ -22,7 +23,7 @@ fn read_factor(
     end: u32,
     left: u32,
 ) -> Result<(TreeFactor, &[Token]), FileFault>
-    ensures { MatchResult result (λ x. TookFactor left x.0 tokens.now x.1.now) (λ e. FactorStops left end tokens.now e) }
+    ensures { MatchResult result (λ x. TookFactor left x.0 tokens.now x.1.now) (λ e. Halts (factor left) end tokens.now e) }
 {
     let Some(inner) = skip(tokens, Mark::Open) else {
         let (name, rest) = read_name(alloc, tokens, end)?;
@@ -44,7 +45,7 @@ fn read_term(
     end: u32,
     left: u32,
 ) -> Result<(TreeTerm, &[Token]), FileFault>
-    ensures { MatchResult result (λ x. TookTerm left x.0 tokens.now x.1.now) (λ e. TermStops left end tokens.now e) }
+    ensures { MatchResult result (λ x. TookTerm left x.0 tokens.now x.1.now) (λ e. Halts (term_with (factor left)) end tokens.now e) }
 {
     let at = first_offset(tokens, end);
     let Some((factor, rest)) = read_number(alloc, tokens)? else {
@@ -87,7 +88,7 @@ pub fn read_sum(
     end: u32,
     left: u32,
 ) -> Result<(TreeSum, &[Token]), FileFault>
-    ensures { MatchResult result (λ x. TookSum left x.0 tokens.now x.1.now) (λ e. SumStops left end tokens.now e) }
+    ensures { MatchResult result (λ x. TookSum left x.0 tokens.now x.1.now) (λ e. Halts (sum_with (factor left)) end tokens.now e) }
 {
     let (mut sign, mut rest) = leading_sign(tokens);
     let mut terms = Vec::new(alloc);
@@ -146,7 +147,7 @@ fn leading_sign(tokens: &[Token]) -> (Sign, &[Token])
 
 /// The sign before a further term, and the tokens after it.
 fn next_sign(tokens: &[Token]) -> Option<(Sign, &[Token])>
-    ensures { MatchOption result (begins_by is_sign (kinds tokens.now) ≡ false) (λ x. BeginsWithKind tokens.now (sign_kind x.0) x.1.now) }
+    ensures { MatchOption result (stands signs tokens.now ≡ false) (λ x. BeginsWithKind tokens.now (sign_kind x.0) x.1.now) }
 {
     if let Some(rest) = skip(tokens, Mark::Plus) {
         return Some((Sign::Plus, rest));

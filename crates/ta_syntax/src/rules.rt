@@ -2,8 +2,7 @@
 #![tactic(auto)]
 
 ghost use Rattle.ta_syntax.specs.Inside.RuleBodies.{rule_body, rule_body_stated, event_body, event_body_stated, pattern_body, pattern_body_stated};
-ghost use Rattle.ta_syntax.specs.Inside.Parts.{rule_part, event_part, pattern_part};
-ghost use Rattle.ta_syntax.specs.declared.tokens.Mark.TheVariants as mark;
+ghost use Rattle.ta_syntax.specs.FileGrammar.{event, pattern, rule};
 
 use crate::blocks::{Block, read_blocks};
 use crate::clauses::{read_ended, read_led, read_list_end, read_name_then};
@@ -17,9 +16,7 @@ use std::alloc::Global;
 use ta_base::List;
 
 impl Block for TreeRule {
-    ghost mark = { mark.Rule };
-
-    ghost part = { rule_part };
+    ghost grammar = { rule };
 
     ghost spelled = { λ r. rule_body r };
 
@@ -58,9 +55,7 @@ impl Block for TreeRule {
 }
 
 impl Block for TreeEvent {
-    ghost mark = { mark.Event };
-
-    ghost part = { event_part };
+    ghost grammar = { event };
 
     ghost spelled = { λ e. event_body e };
 
@@ -83,9 +78,7 @@ impl Block for TreeEvent {
 }
 
 impl Block for TreePattern {
-    ghost mark = { mark.Pattern };
-
-    ghost part = { pattern_part };
+    ghost grammar = { pattern };
 
     ghost spelled = { λ p. pattern_body p };
 

@@ -17,6 +17,7 @@ mod DeterminedNodes
 mod DeterminedOutcomes
 mod DeterminedValues
 mod DeterminedVisits
+mod VertexTaken
 mod Vertices
 pub mod Nodes
 mod WalkSoFar

@@ -1,7 +1,7 @@
 -- fractions in lowest terms, and their common denominators
 use Rattle.std.proofs.Common.{◌≡◌, ◌∙◌, ℕ, zero, suc, ◌+◌, ◌*◌, ◌/◌, ◌%◌, ◌<◌, ◌≤◌, ◌^◌, ℤ, pos, ◌*ℤ◌, ◌<ℤ◌, List, [], ◌∷◌, ◌++◌, map, Bool, true, false}
 use Rattle.std.proofs.Common.{Option, Some, None, cond, ◌&&◌, arith, ap, refl, sym, subst, unsigned_abs}
-use Rattle.std.proofs.Common.{append_assoc, drop, get_or, length}
+use Rattle.std.proofs.Common.{append-nil, append_assoc, drop, get_or, length}
 use Rattle.std.proofs.lemmas.List.{drop_all, drop_more, length-map}
 use Rattle.ta_linear.specs.Numbers.{InRange}
 use Rattle.ta_moments.specs.Questions.{fits}
@@ -69,6 +69,11 @@ pub next_numbers : (n : ℕ) (fs : List Fraction) (i : ℕ) (f : Fraction) (befo
     → all_or_none before (numbers_over n (parts_of (drop i fs))) ≡ all_or_none before
     (number_over n (f.top, f.bottom) ∷ numbers_over n (parts_of (drop (i + 1) fs)))
 next_numbers n fs i f before less is = ap (λ (gs : List Fraction). all_or_none before (numbers_over n (parts_of gs))) (next_parts fs i f less is)
+
+-- no number is left
+pub last_numbers : (n : ℕ) (fs : List Fraction) (i : ℕ) (before : List ℤ) → length fs ≤ i
+    → all_or_none before (numbers_over n (parts_of (drop i fs))) ≡ Some before
+last_numbers n fs i before h = ap (λ (gs : List Fraction). all_or_none before (numbers_over n (parts_of gs))) (drop_all i fs h) ∙ ap Some (append-nil before)
 
 -- numbers that are given are as many as the fractions
 pub given_length : (b : Bool) (n : ℕ) (fs : List Fraction) (numbers : List ℤ) → Some numbers ≡ cond b (Some (numbers_over n (parts_of fs))) None

@@ -34,7 +34,7 @@ ghost use Rattle.ta_walk.specs.Inside.Parts.{IsLaterKeeper, ComesTo, IsSmallEnd,
 use crate::end::TreeEnd;
 use crate::gate::Gate;
 use crate::keeper::{Keeper, PartKeeper};
-use crate::merging::{add, end_behind, merge, refuted};
+use crate::merging::{add, end_behind, merge_both, refuted};
 use crate::part::{Part, Watch};
 use crate::visiting::{Frontier, Stretch, visit_stretch};
 use crate::work::Work;
@@ -126,6 +126,33 @@ fn visit_halves<D: Dictionary, K: PartKeeper, R: Threads + Sync, G: Gate>(
     if watch.goes_beside() {
         return visit_beside::<D, K, R, G>(setting, watch, starts, others, keeper, late, nodes);
     }
+    visit_in_turn::<D, K, R, G>(setting, watch, starts, others, keeper, late, nodes)
+}
+
+/// Visits the starts of the halves of a list one after the other: the second half has the budget that
+/// the first one left.
+#[cycle(forks)]
+fn visit_in_turn<D: Dictionary, K: PartKeeper, R: Threads + Sync, G: Gate>(
+    setting: Setting<'_, R, G>,
+    watch: Watch<'_>,
+    starts: Vec<u8>,
+    others: Vec<u8>,
+    keeper: K,
+    late: K,
+    nodes: u64,
+) -> Result<Part<K>, AllocError>
+    requires first { AllByRecursion (ComesTo (search_of_claim setting.tree.now)) starts.items }
+    requires second { AllByRecursion (ComesTo (search_of_claim setting.tree.now)) others.items }
+    requires some { (0 < vec_len starts) × (0 < vec_len others) }
+    requires few { vec_len starts + vec_len others ≤ 2 ^ 31 }
+    requires limit { nodes ≤ MOST_NODES }
+    requires fresh { IsLaterKeeper K.begins K.keeps keeper late }
+    ensures visited { IfOk result (λ part. PartVisited K.keeps
+        (beginning (search_of_claim setting.entry.tree.now) (map root_node starts.items ++ map root_node others.items)) nodes keeper part.keeper part.end) }
+    ensures small { IfOk result (λ part. IsSmallEnd nodes part.end) }
+    ensures patient { watch.entry.patient ≡ true → IfOk result (λ part. IsWholeEnd nodes part.end) }
+    ensures counted { IfOk result (λ part. IsCounted nodes watch.entry.forks part.end part.begun) }
+{
     let low = watch.first_half(watch.forks / 2);
     let high = watch.second_half(watch.forks / 2);
     let first = visit_list::<D, K, R, G>(setting, low, starts, nodes, keeper)?;
@@ -203,7 +230,7 @@ fn visit_beside<D: Dictionary, K: PartKeeper, R: Threads + Sync, G: Gate>(
     };
     let (first, second) = join(setting.rt, front, back);
     watch.takes_in(high);
-    merge(setting.alloc, nodes, first?, second?)
+    merge_both(setting.alloc, nodes, first, second)
 }
 
 /// What a visit goes on from at a cursor where no system is written and no dictionary made yet.
@@ -341,5 +368,5 @@ fn visit_shared<D: Dictionary, K: PartKeeper, R: Threads + Sync, G: Gate>(
     };
     let (second, first) = join(setting.rt, back, front);
     watch.takes_in(high);
-    merge(setting.alloc, nodes, first?, second?)
+    merge_both(setting.alloc, nodes, first, second)
 }

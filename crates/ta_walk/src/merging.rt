@@ -50,6 +50,28 @@ pub(crate) fn merge<K: PartKeeper>(
     add(alloc, nodes, count, leaves, begun, first.keeper, second)
 }
 
+/// Two parts that were visited beside each other as one, as `merge` does, where memory sufficed for both.
+pub(crate) fn merge_both<K: PartKeeper>(
+    alloc: Global,
+    nodes: u64,
+    first: Result<Part<K>, AllocError>,
+    second: Result<Part<K>, AllocError>,
+) -> Result<Part<K>, AllocError>
+    requires limit { nodes ≤ MOST_NODES }
+    requires first { IfOk first (λ part. IsSmallEnd nodes part.end) }
+    requires second { IfOk second (λ part. IsSmallEnd nodes part.end) }
+    ensures visited { (s : Search Element) (ws vs : List (Pending Element)) (begun late : K)
+        → IfOk first (λ part. PartVisited K.keeps (beginning s ws) nodes begun part.keeper part.end)
+        → IfOk second (λ part. PartVisited K.keeps (beginning s vs) nodes late part.keeper part.end) → IsLaterKeeper K.begins K.keeps begun late
+        → IfOk result (λ whole. PartVisited K.keeps (beginning s (ws ++ vs)) nodes begun whole.keeper whole.end) }
+    ensures small { IfOk result (λ whole. IsSmallEnd nodes whole.end) }
+    ensures whole { IfOk first (λ part. IsWholeEnd nodes part.end) → IfOk second (λ part. IsWholeEnd nodes part.end) → IfOk result (λ whole. IsWholeEnd nodes whole.end) }
+    ensures counted { (low high : ℕ) → IfOk first (λ part. IsCounted nodes low part.end part.begun) → IfOk second (λ part. IsCounted nodes high part.end part.begun)
+        → IfOk result (λ whole. IsCounted nodes (low + high + 1) whole.end whole.begun) }
+{
+    merge(alloc, nodes, first?, second?)
+}
+
 /// A refuted part, which began so many nodes, and one behind it, as one.
 pub(crate) fn add<K: PartKeeper>(
     alloc: Global,

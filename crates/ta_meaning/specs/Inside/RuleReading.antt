@@ -11,6 +11,7 @@ use Rattle.ta_meaning.specs.Guards.{with_guards, rows_of}
 use Rattle.ta_meaning.specs.Meaning.{MeansRule}
 use Rattle.ta_meaning.specs.Inside.Numbering.{guards_so_far, GuardsKept, AmongGuards}
 use Rattle.ta_meaning.specs.declared.guards.GuardList.{GuardList}
+use Rattle.ta_meaning.specs.declared.rules.RuleParts.{RuleParts}
 
 -- a rule that is meant, each row of whose guards is among the guards so far
 pub record RuleSoFar (ns : Names) (guards : GuardList) (r : PlainRule) (rule : Rule) : Type 0 where
@@ -25,3 +26,14 @@ pub record RuleRead (ns : Names) (names : List (List ℕ)) (before : GuardList) 
   pub kept : GuardsKept ns after
   pub guards : guards_so_far ns after ≡ with_guards (length ns.parameters) (guards_so_far ns before) (rows_of (guard_names ns) (plain_rule r).guards)
   pub so_far : RuleSoFar ns after (plain_rule r) rule
+
+-- the rule with the name of a tree's rule and these parts
+abbrev pub rule_of : TreeRule → RuleParts → Rule
+rule_of r parts = record {
+  name = r.name.name;
+  from = parts.from;
+  to = parts.to;
+  rise = parts.masks.rise;
+  fall = parts.masks.fall;
+  updates = parts.updates;
+}

@@ -1,7 +1,7 @@
 //! Where a name leads.
 #![tactic(auto)]
 
-use std::alloc::AllocGlobal;
+use std::alloc::{AllocGlobal, Global};
 use std::fs::Metadata;
 use std::io::ErrorKind;
 use std::rt::Files;
@@ -51,12 +51,15 @@ fn is_of_system(name: &str) -> bool {
 /// The name to which a link leads.
 fn behind<R: Files + AllocGlobal>(rt: &R, link: &str) -> io::Result<String> {
     let target = fs::read_link(rt, link)?; // trusted
-    if target.is_absolute() {
-        return Ok(String::from_str(rt.alloc(), target.as_str())?);
-    }
+    lead_on(rt.alloc(), link, target.as_str(), target.is_absolute())
+}
+
+/// The name to which a link with this target leads: the target itself if it is absolute, and else the
+/// name that it has in the folder of the link.
+fn lead_on(alloc: Global, link: &str, target: &str, is_absolute: bool) -> io::Result<String> {
     match link.rfind('/') {
-        Some(end) => Ok(format!(in rt.alloc(); "{}/{}", &link[..end], target.as_str())?),
-        None => Ok(String::from_str(rt.alloc(), target.as_str())?),
+        Some(end) if !is_absolute => Ok(format!(in alloc; "{}/{}", &link[..end], target)?),
+        _ => Ok(String::from_str(alloc, target)?),
     }
 }
 

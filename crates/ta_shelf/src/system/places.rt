@@ -11,15 +11,19 @@ use std::{fs, io};
 /// Whether a file that comes in the place of one name comes in that of another: both lead to one name in
 /// one folder. A folder is told by its device and number, so that no link, mount or spelling hides it.
 pub fn lead_to_one<R: Files + AllocGlobal>(rt: &R, name: &str, other: &str) -> io::Result<bool> {
-    let (target, place) = match (target_of(rt, name)?, target_of(rt, other)?) {
-        (Some(target), Some(place)) => (target, place),
-        _ => return Ok(false),
-    };
-    if own_name(target.as_str()) != own_name(place.as_str()) {
+    match (target_of(rt, name)?, target_of(rt, other)?) {
+        (Some(target), Some(place)) => are_one(rt, target.as_str(), place.as_str()),
+        _ => Ok(false),
+    }
+}
+
+/// The same for two names that are no links.
+fn are_one<R: Files>(rt: &R, target: &str, place: &str) -> io::Result<bool> {
+    if own_name(target) != own_name(place) {
         return Ok(false);
     }
-    let first = fs::metadata(rt, folder_of(target.as_str()))?; // trusted
-    let second = fs::metadata(rt, folder_of(place.as_str()))?; // trusted
+    let first = fs::metadata(rt, folder_of(target))?; // trusted
+    let second = fs::metadata(rt, folder_of(place))?; // trusted
     Ok(first.dev() == second.dev() && first.ino() == second.ino()) // trusted
 }
 

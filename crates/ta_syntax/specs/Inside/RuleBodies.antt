@@ -3,7 +3,7 @@ use Rattle.std.specs.Prelude.{List, [], ◌∷◌, ◌++◌}
 use Rattle.ta_syntax.specs.Grammar.{name_kinds, location_kinds, comparison_kinds, update_kinds, listed, led, ended, each}
 use Rattle.ta_syntax.specs.PlainTrees.{plain_location, plain_comparison, plain_update}
 use Rattle.ta_syntax.specs.Stated.{Offsets, unplaced, name_stated, comparison_stated, update_stated, event_stated}
-use Rattle.ta_syntax.specs.Inside.BlockReading.{with_mark}
+use Rattle.ta_syntax.specs.Reading.{with_mark}
 use Rattle.ta_syntax.specs.declared.tokens.Kind.{Kind}
 use Rattle.ta_syntax.specs.declared.tokens.Kind.TheVariants as kind
 use Rattle.ta_syntax.specs.declared.tokens.Mark.TheVariants as mark

@@ -1,5 +1,6 @@
 use Rattle.ta_check.proofs.Common.{◌≡◌, ◌+◌, ◌<◌, ◌^◌, ◌++◌, ◌∷◌, [], take, get_or, pos, to_z, of_z, arith, sym, ap, ◌∙◌, w128, renumbered}
 use Rattle.std.proofs.Math.Facts.{Fits-of_lt}
+use Rattle.std.proofs.lemmas.List.{take_all}
 use Rattle.ta_check.proofs.Leaves.{pairs_few, renumbered_more, pair_clean}
 use Rattle.ta_check.proofs.leaf.renumbered.Goals as goal
 
@@ -21,3 +22,6 @@ loop-place-preserved c =
     ∙ ap (λ y. renumbered 0 (take i ts) ++ (i, y) ∷ []) (pair_clean 0 ts i c.requires c.loop-place-test.true)
     ∙ ap (λ n. renumbered 0 (take i ts) ++ (n, z) ∷ []) zero
     ∙ sym (renumbered_more 0 i ts c.loop-place-test.true)
+
+pub returns : goal.returns
+returns c = c.loop-place.invariant ∙ ap (renumbered 0) (take_all _ _ c.loop-place-test.false)

@@ -1,3 +1,4 @@
+use Rattle.ta_dense.proofs.Common.{drop, take_all}
 use Rattle.ta_dense.proofs.Common.{arith, sym, ◌∙◌, ap, ◌+◌, ◌++◌, ◌∷◌, [], List, length, subst, take, map-append, length-append, All-push, TableauRow}
 use Rattle.ta_dense.proofs.Common.{slack_rows, slack_row_of, narrow_view, narrow_views, IsNarrow, AreNarrow, NarrowRow}
 use Rattle.ta_dense.proofs.ExtendFacts.{dropped_normal}
@@ -31,3 +32,12 @@ loop-row-preserved c =
       long = omega arith;
       narrow = subst P (sym items) (All-push (IsNarrow u) old new inv.narrow narrow);
     }
+
+pub returns-clause-value : goal.returns-clause-value
+returns-clause-value c =
+    c.loop-row.invariant.value
+    ∙ ap (slack_rows c.args.system.now.unknowns (c.args.system.now.unknowns + c.args.first))
+    (take_all c.loop-row.row-index c.split_at.result.1.now c.loop-row-test.false ∙ c.split_at.ensures.back ∙ ap (drop c.args.first) c.as_slice.ensures)
+
+pub returns-clause-narrow : goal.returns-clause-narrow
+returns-clause-narrow c = c.loop-row.invariant.narrow

@@ -1,5 +1,7 @@
 use Rattle.ta_encode.proofs.Common.{ℕ, Bool, ◌++◌, ◌∷◌, [], map, not, take, get_or, ap, ◌∙◌, append_assoc, filter, has_bit, bit_off, bit_on, item_none}
-use Rattle.ta_encode.proofs.Common.{item_one, Start}
+use Rattle.ta_encode.proofs.Common.{◌≡◌, item_one, sym, Start}
+use Rattle.std.proofs.Common.{append-nil}
+use Rattle.std.proofs.lemmas.List.{take_all}
 use Rattle.ta_encode.proofs.Masked.{initial_within}
 use Rattle.ta_encode.proofs.unknowns.push_starts.Goals as goal
 use Rattle.ta_encode.proofs.unknowns.push_starts.Goals.{then-empty-location-eq0+in_ok-push, else-empty-location-eq0}
@@ -28,3 +30,13 @@ loop-location-preserved c =
           ∙ ap (λ ms. before ++ ms) (item_none Start test items i 0 c.loop-location-test.true
           (ap not (bit_on 32 c.args.empty l within w.if-empty-location-eq0.false)))
     ]
+
+pub loop-location-init : goal.loop-location-init
+loop-location-init c = sym (append-nil c.args.meanings.now.items)
+
+pub returns : goal.returns
+returns c =
+    let items = c.as_slice-location-items.result.now in
+    let all : take c.loop-location.location-index items ≡ items = take_all _ _ c.loop-location-test.false in
+    c.loop-location.invariant
+    ∙ ap (λ ls. c.args.meanings.now.items ++ map Start (filter (λ k. not (has_bit c.args.empty k)) ls)) (all ∙ c.as_slice-location-items.ensures)

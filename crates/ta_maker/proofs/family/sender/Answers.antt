@@ -4,5 +4,5 @@ use Rattle.ta_maker.proofs.family.sender.Goals as goal
 pub numbered-requires : goal.numbered-requires
 numbered-requires c = name_x c.args.index c.requires
 
-pub numbered-requires-2 : goal.numbered-requires-2
-numbered-requires-2 c = name_s c.args.index c.requires
+pub rule_of-requires-clause-name : goal.rule_of-requires-clause-name
+rule_of-requires-clause-name c = name_s c.args.index c.requires

@@ -1,10 +1,15 @@
-use Rattle.ta_meaning.proofs.Common.{◌≡◌, pos, FitsSigned, ◌∙◌, rules, w128, to_z-of_z}
-use Rattle.ta_meaning.proofs.SmallForms.{difference_of}
+use Rattle.ta_meaning.proofs.Common.{ℤ, pos, ◌≤◌, ◌-ℤ◌, unsigned_abs, FitsSigned, sym, ap, refl, subst, rules, w128, to_z-of_z}
+use Rattle.ta_meaning.proofs.SmallForms.{shifted_difference, shifted_fits}
 use Rattle.ta_meaning.proofs.forms.difference.Goals as goal
 
 pub returns : goal.returns
 returns c =
-    let fits : FitsSigned w128 c.from.result = search rules in
-    let is : c.constant_of.result.constant ≡ pos c.args.shift = (simp to_z-of_z at c.constant_of.ensures.constant) ∙ c.from.ensures in
-    difference_of c.in_ok-form.form c.args.greater.now c.args.less.now c.constant_of.result c.in_ok-shifted.shifted c.in_ok-negative.field-0 (pos c.args.shift)
-    c.in_ok-shifted.ensures is c.constant_of.ensures.terms c.in_ok-negative.ensures c.in_ok-form.ensures
+    let unshifted = c.in_ok-unshifted.unshifted in
+    let is = c.in_ok-unshifted.ensures in
+    let one : FitsSigned w128 unshifted.constant = search rules in
+    let two : FitsSigned w128 c.from.result = search rules in
+    let small : unsigned_abs c.from.result ≤ 1 = subst (λ (z : ℤ). unsigned_abs z ≤ 1) (sym c.from.ensures) c.requires.shift in
+    let all : FitsSigned w128 (unshifted.constant -ℤ c.from.result) = shifted_fits unshifted.constant c.args.greater.now.constant c.args.less.now.constant
+    c.from.result is.constant c.requires.greater.constant c.requires.less.constant small in
+    shifted_difference unshifted c.args.greater.now c.args.less.now _ (pos c.args.shift) is refl
+    (simp to_z-of_z (ap (λ (z : ℤ). unshifted.constant -ℤ z) c.from.ensures))

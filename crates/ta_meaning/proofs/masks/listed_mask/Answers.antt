@@ -62,3 +62,13 @@ returns c =
     let allowed = slice_range names c.args.from c.args.to in
     listing_ends names allowed xs c.loop-name.mask
     (subst (λ (ys : List Spelled). ListedTo names allowed xs ys c.loop-name.mask) (drop_of_length-le xs c.loop-name-test.false) c.loop-name.invariant)
+
+pub overflow_shl-mask : goal.overflow_shl-mask
+overflow_shl-mask c =
+    let few : length (slice_range c.args.names.now c.args.from c.args.to) ≡ c.args.to - c.args.from = length-between c.args.names.now c.args.from c.args.to
+    c.requires.within in
+    let within = slice_get_within (slice_range c.args.names.now c.args.from c.args.to) c.in_ok-number.number c.name-item.result.name c.in_ok-number.ensures.1 in
+    omega (arith, few, within, c.requires.few)
+
+pub number_in-requires-clause-order : goal.number_in-requires-clause-order
+number_in-requires-clause-order c = c.requires.order

@@ -1,10 +1,12 @@
 use Rattle.ta_meaning.proofs.Common.{◌≡◌, inr, ◌+◌, ◌^◌, ◌∷◌, List, drop, sym, ap, subst, ◌∙◌, rules, arith, pos, FitsSigned, w128, to_z-of_z, err_is}
 use Rattle.ta_meaning.proofs.Common.{drop_more, drop_of_length-le, Terms, plain_sum, plain_terms, Sign, TreeTerm, FileFault, sum_uses, linear_sum}
-use Rattle.ta_meaning.proofs.Common.{FirstOrMemory, sum_faults, first_places, PartOf}
+use Rattle.ta_meaning.proofs.Common.{out-TreeTerm, FirstOrMemory, sum_faults, first_places, PartOf}
 use Rattle.ta_syntax.proofs.PrintSteps.{plain_sum_out}
 use Rattle.ta_meaning.proofs.Answering.{judges-answer}
 use Rattle.ta_meaning.proofs.TreeSums.{terms_faults, sum_faults_out}
-use Rattle.ta_meaning.proofs.PartForms.{alone_answers, number_first, product_answers, Summing, sum_begins, sum_more, sum_fails, sum_ends, sum_within}
+use Rattle.ta_meaning.proofs.SmallForms.{within_more}
+use Rattle.ta_meaning.proofs.PartForms.{named_answers, nested_answers, factor_first, alone_first, number_small, alone_answers, number_first, product_answers}
+use Rattle.ta_meaning.proofs.PartForms.{Summing, sum_begins, sum_more, sum_fails, sum_ends, sum_within}
 use Rattle.ta_meaning.proofs.sums.+sums.Goals as goal
 
 pub sum_form-terms-init : goal.sum_form-terms-init
@@ -72,3 +74,33 @@ term_form-returns-in_ok-product-in-Some t c =
     c.in_ok-product-in-Some.product c.small_form.result
     c.in-Some.is c.in_ok-number-in-Some.ensures.0 c.in_ok-number-in-Some.ensures.1 c.in_ok-form-in-Some.ensures.0 c.in_ok-form-in-Some.ensures.1
     c.in_ok-product-in-Some.ensures (judges-answer _ _ c.small_form.result c.small_form.ensures)
+
+pub factor_form-returns-in-Named : goal.factor_form-returns-in-Named
+factor_form-returns-in-Named t c = named_answers (first_places c.args.places.now.names c.args.allowed) c.args.factor.now c.in-Named.name c.name_form.result
+    c.in-Named.is c.name_form.ensures
+
+pub factor_form-returns-in-Nested : goal.factor_form-returns-in-Nested
+factor_form-returns-in-Nested t c = nested_answers (first_places c.args.places.now.names c.args.allowed) c.args.factor.now c.in-Nested.sum c.sum_form.result
+    c.in-Nested.is c.sum_form.ensures
+
+pub term_form-returns-in_err-form-in-Some : goal.term_form-returns-in_err-form-in-Some
+term_form-returns-in_err-form-in-Some t c =
+    rw (err_is c.from_residual-in_err-form-in-Some.result _ c.from_residual-in_err-form-in-Some.ensures.1)
+    (factor_first (first_places c.args.places.now.names c.args.allowed) c.args.term.now c.in-Some.body c.in_err-form-in-Some.field-0.0 c.in-Some.is
+    c.in_ok-number-in-Some.ensures.0 c.in_err-form-in-Some.ensures)
+
+pub term_form-returns-in_err-number-in-None : goal.term_form-returns-in_err-number-in-None
+term_form-returns-in_err-number-in-None t c =
+    rw (err_is c.from_residual.result _ c.from_residual.ensures.1)
+    (alone_first (first_places c.args.places.now.names c.args.allowed) c.args.term.now c.in_err-number-in-None.field-0.0 c.in-None.is
+    (inr c.in_err-number-in-None.ensures))
+
+pub term_form-times-requires-clause-form : goal.term_form-times-requires-clause-form
+term_form-times-requires-clause-form t c = within_more (2 ^ 93) (2 ^ 94) c.in_ok-form-in-Some.form (omega arith) c.in_ok-form-in-Some.ensures.1.within
+
+pub term_form-times-requires-clause-factor : goal.term_form-times-requires-clause-factor
+term_form-times-requires-clause-factor t c = number_small (out-TreeTerm c.args.term.now).factor c.in_ok-number-in-Some.number c.in_ok-number-in-Some.ensures.0
+    c.in_ok-number-in-Some.ensures.1
+
+pub sum_form-plus_signed-requires-clause-b : goal.sum_form-plus_signed-requires-clause-b
+sum_form-plus_signed-requires-clause-b t c = c.in_ok-next.ensures.1.within

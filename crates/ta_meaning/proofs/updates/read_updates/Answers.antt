@@ -1,6 +1,6 @@
 use Rattle.ta_meaning.proofs.Common.{◌≡◌, inr, ◌+◌, ℕ, List, [], drop, sym, subst, err_is, drop_of_length-le, next_item, TreeUpdate, First, kinds_of, names_at}
 use Rattle.ta_meaning.proofs.Common.{variable_faults, IsNewVariable}
-use Rattle.ta_meaning.proofs.UpdateReading.{UpdatesReading, variable_stops, amount_stops, updates_more, updates_end}
+use Rattle.ta_meaning.proofs.UpdateReading.{UpdatesReading, updates_begin, variable_stops, amount_stops, updates_more, updates_end}
 use Rattle.ta_meaning.proofs.updates.read_updates.Goals as goal
 
 pub returns-in_err-variable : goal.returns-in_err-variable
@@ -45,3 +45,9 @@ pub returns : goal.returns
 returns c =
     let all = c.args.updates.now in
     updates_end (kinds_of c.args.places.now) all _ _ c.loop-update.read.items (drop_of_length-le all c.loop-update-test.false) c.loop-update.invariant
+
+pub loop-update-init : goal.loop-update-init
+loop-update-init c = rw (c.new-seen.ensures.items, c.new-read.ensures.items) (updates_begin (kinds_of c.args.places.now) c.args.updates.now)
+
+pub variable_in-requires : goal.variable_in-requires
+variable_in-requires c = rw c.as_slice.ensures.value c.loop-update.invariant.known

@@ -7,5 +7,5 @@ returns-in-Ok-clause-says g c =
     let asked = asked_seen c.args.asked.now in
     let values = c.args.values.now in
     grew_then file_kind asked.file [] (run_meaning asked.file asked.word values) (run_monotone asked.file asked.word values) (λ (s : ScopedFile). s.file) _
-    c.in-Ok.scoped c.judge_word.result _ _ _ (λ v. refl)
-    c.in-Ok.ensures.stage (rw c.in-Ok.ensures.kept at c.judge_word.ensures.says)
+    c.in-Ok.scoped c.judge_word-answer.result _ _ _ (λ v. refl)
+    c.in-Ok.ensures.stage (rw c.in-Ok.ensures.kept at c.judge_word-answer.ensures.says)

@@ -1,21 +1,21 @@
-use Rattle.ta_program.proofs.Common.{◌∙◌, family_text, plain_tree}
-use Rattle.ta_program.proofs.Benching.{family_fits, legal_family, read_memory}
+use Rattle.ta_program.proofs.Common.{◌∙◌, List, ℕ, family_text, subst}
+use Rattle.ta_meaning.specs.Reading.{Legal}
+use Rattle.ta_program.proofs.Benching.{family_fits, read_memory}
 use Rattle.ta_program.proofs.bench.read_family.Goals as goal
 
 pub read_file-requires : goal.read_file-requires
 read_file-requires c =
-    family_fits c.args.k c.as_bytes.result.now (plain_tree c.in_ok-tree.tree) (c.family_is_flawless.ensures c.args.k c.requires)
-    (c.as_bytes.ensures.value ∙ c.as_str.ensures ∙ c.in_ok-text.ensures) c.in_ok-tree.ensures
+    family_fits c.args.k c.as_bytes.result.now (c.family_is_flawless.ensures c.args.k c.requires)
+    (c.as_bytes.ensures.value ∙ c.as_str.ensures ∙ c.in_ok-text.ensures)
 
 pub file_memory-requires : goal.file_memory-requires
 file_memory-requires c =
-    read_memory c.args.k c.as_bytes.result.now (plain_tree c.in_ok-tree.tree) c.in-Err.fault (c.family_is_flawless.ensures c.args.k c.requires)
-    (c.as_bytes.ensures.value ∙ c.as_str.ensures ∙ c.in_ok-text.ensures) c.in_ok-tree.ensures c.in-Err.ensures
+    read_memory c.args.k c.as_bytes.result.now c.in-Err.fault (c.family_is_flawless.ensures c.args.k c.requires)
+    (c.as_bytes.ensures.value ∙ c.as_str.ensures ∙ c.in_ok-text.ensures) c.in-Err.ensures
 
 pub returns-in-Ok-clause-legal : goal.returns-in-Ok-clause-legal
 returns-in-Ok-clause-legal c =
-    legal_family c.args.k c.as_bytes.result.now (plain_tree c.in_ok-tree.tree) c.in-Ok.scoped.file
-    (c.as_bytes.ensures.value ∙ c.as_str.ensures ∙ c.in_ok-text.ensures) c.in_ok-tree.ensures c.in-Ok.ensures
+    subst (λ (bytes : List ℕ). Legal bytes c.in-Ok.scoped.file) (c.as_bytes.ensures.value ∙ c.as_str.ensures ∙ c.in_ok-text.ensures) c.in-Ok.ensures
 
 pub returns-in-Ok-clause-one : goal.returns-in-Ok-clause-one
 unfolding family_text

@@ -8,4 +8,4 @@ returns-in-Ok-clause-says g c =
     let options = c.args.options in
     grew_then file_kind c.args.file.now [] (λ file. proved_meaning file options name) (λ file. proved_monotone file options name) (λ (s : ScopedFile). s.file) _
     c.in-Ok.scoped
-    c.judge_certificate.result _ _ _ (λ v. refl) c.in-Ok.ensures.stage (rw c.in-Ok.ensures.kept at c.judge_certificate.ensures.says)
+    c.judge_certificate-answer.result _ _ _ (λ v. refl) c.in-Ok.ensures.stage (rw c.in-Ok.ensures.kept at c.judge_certificate-answer.ensures.says)

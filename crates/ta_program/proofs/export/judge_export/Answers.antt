@@ -6,5 +6,5 @@ pub returns-in-Ok-clause-says : goal.returns-in-Ok-clause-says
 returns-in-Ok-clause-says g c =
     let asked = asked_seen c.args.asked.now in
     grew_then file_kind asked.file [] (system_meaning asked.file asked.word) (system_monotone asked.file asked.word) (λ (s : ScopedFile). s.file) _
-    c.in-Ok.scoped c.answer_export.result _ _ _ (λ v. refl)
-    c.in-Ok.ensures.stage (grew_none _ _ c.answer_export.result _ (c.answer_export.ensures.says (g.S.Shelf.files c.args.shelf.now)))
+    c.in-Ok.scoped c.answer_export-answer.result _ _ _ (λ v. refl)
+    c.in-Ok.ensures.stage (grew_none _ _ c.answer_export-answer.result _ (c.answer_export-answer.ensures.says (g.S.Shelf.files c.args.shelf.now)))

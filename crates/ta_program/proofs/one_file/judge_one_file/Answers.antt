@@ -6,5 +6,5 @@ returns-in-Ok-clause-says g c =
     let text = g.C.OfOneFile.text in
     grew_then file_kind c.args.name.now [] (λ file. printing (text file)) (λ file. replies_monotone [] (SaysText (text file))) (λ (s : ScopedFile). s.file) _
     c.in-Ok.scoped
-    c.answer_one_file.result _ _ _ (λ v. refl)
-    c.in-Ok.ensures.stage (grew_none _ _ c.answer_one_file.result _ (c.answer_one_file.ensures.says (g.S.Shelf.files c.args.shelf.now)))
+    c.answer_one_file-answer.result _ _ _ (λ v. refl)
+    c.in-Ok.ensures.stage (grew_none _ _ c.answer_one_file-answer.result _ (c.answer_one_file-answer.ensures.says (g.S.Shelf.files c.args.shelf.now)))

@@ -8,4 +8,4 @@ returns-in-Ok-clause-says g c =
     let json = c.args.json in
     grew_then file_kind c.args.file.now [] (λ file. shown_meaning file json name) (λ file. shown_monotone file json name) (λ (s : ScopedFile). s.file) _
     c.in-Ok.scoped
-    c.judge_run.result _ _ _ (λ v. refl) c.in-Ok.ensures.stage (rw (c.in-Ok.ensures.kept, c.file.ensures) at c.judge_run.ensures.says)
+    c.judge_run-answer.result _ _ _ (λ v. refl) c.in-Ok.ensures.stage (rw (c.in-Ok.ensures.kept, c.file.ensures) at c.judge_run-answer.ensures.says)

@@ -26,11 +26,11 @@ returns-in-Ok-clause-says g c = λ files.
     let file = c.args.scoped.file in
     let asked = rest_seen c.args.asked.now in
     let ends = c.in-Ok.ensures.ends in
-    let so = c.answer_quietly.ensures.says files file ends.endings in
+    let so = c.answer_quietly-answer.ensures.says files file ends.endings in
     record {
       lost = so.lost;
       says = finds_then (IsEnds file) (CycleHinders asked.verify.file file) (may_put asked.verify.out) (rest_quietly asked file) files (ends_of c.in-Ok.rest)
-          (result_seen g.S.Shelf.stage_bytes so.lost c.answer_quietly.result) _ ends (λ w. refl) so.says;
+          (result_seen g.S.Shelf.stage_bytes so.lost c.answer_quietly-answer.result) _ ends (λ w. refl) so.says;
     }
 
 pub returns-in-Err-clause-says : goal.returns-in-Err-clause-says

@@ -9,7 +9,8 @@ returns-in-Ok-clause-says g c =
     let names = option_map (λ w. w.now) c.args.silent in
     let ends = c.in-Ok.ensures.ends in
     grew_found (IsEnds file) (CycleHinders name file) [] (quietly_meaning name c.args.certificate.now names c.args.options file)
-    (g.S.Shelf.files c.args.shelf.now) (ends_of c.in-Ok.rest) c.judge_quietly.result _ _ ends (λ w. refl) (c.judge_quietly.ensures.says file ends.endings)
+    (g.S.Shelf.files c.args.shelf.now) (ends_of c.in-Ok.rest) c.judge_quietly-answer.result _ _ ends (λ w. refl)
+    (c.judge_quietly-answer.ensures.says file ends.endings)
 
 pub returns-in-Err-clause-says : goal.returns-in-Err-clause-says
 returns-in-Err-clause-says g c =

@@ -9,16 +9,18 @@ pub returns-in-Ok-clause-says : goal.returns-in-Ok-clause-says
 returns-in-Ok-clause-says g c =
     let asked = verify_seen c.args.asked.now in
     let files = g.S.Shelf.files c.args.shelf.now in
-    let so = c.answer_picked.ensures.says files in
+    let so = c.answer_picked-answer.ensures.says files in
     record {
       lost = so.lost;
       middle = _;
       says = grew_spared file_kind (λ (s : ScopedFile). s.file) files asked.file (may_put asked.out) (picked_meaning asked) (picked_monotone asked) (λ v. refl)
-          c.in-Ok.scoped (result_seen g.S.Shelf.stage_bytes so.lost c.answer_picked.result) _ _
+          c.in-Ok.scoped (result_seen g.S.Shelf.stage_bytes so.lost c.answer_picked-answer.result) _ _
           (rw c.one.ensures at c.in-Ok.ensures.stage) so.says;
       staged = subst (λ (n : ℕ). Changed
-          (StagedBy (may_put asked.out) g.S.Shelf.stage_name g.S.Shelf.stage_bytes c.answer_picked.result n (g.S.Shelf.faults c.answer_picked.new.shelf))
-          (g.S.Shelf.calls c.read_spared.new.shelf) (g.S.Shelf.calls c.answer_picked.new.shelf)) c.in-Ok.ensures.cause c.answer_picked.ensures.staged;
+          (StagedBy (may_put asked.out) g.S.Shelf.stage_name g.S.Shelf.stage_bytes c.answer_picked-answer.result n
+          (g.S.Shelf.faults c.answer_picked-answer.new.shelf))
+          (g.S.Shelf.calls c.read_spared.new.shelf) (g.S.Shelf.calls c.answer_picked-answer.new.shelf)) c.in-Ok.ensures.cause
+          c.answer_picked-answer.ensures.staged;
     }
 
 pub returns-in-Err-clause-says : goal.returns-in-Err-clause-says

@@ -1,10 +1,42 @@
 use Rattle.ta_replay.proofs.Common.{◌-◌, ◌^◌, ◌≤◌, ◌∙◌, ℕ, List, length, min, ap, sym, subst, arith, same_Some, err_is, Event, Pattern, pattern_within, RunLine}
-use Rattle.ta_replay.proofs.Common.{NumbersStay, factors_sum}
+use Rattle.ta_replay.proofs.Common.{FirstRefusal, NumbersStay, factors_sum, slice_get_within}
 use Rattle.ta_replay.specs.declared.run.Shown.{Shown}
 use Rattle.ta_replay.proofs.Counting.{marks_are_events}
 use Rattle.ta_replay.proofs.Naming.{named_read, fits_read, shows_read}
 use Rattle.ta_replay.proofs.Refusing.{denied, only_memory, refused_though}
 use Rattle.ta_replay.proofs.replaying.replay.Goals as goal
+
+pub bounds-as_slice-run : goal.bounds-as_slice-run
+bounds-as_slice-run c =
+    let within = slice_get_within c.args.file.now.patterns c.args.run.now.pattern c.requires.pattern c.requires.named in
+    let count = ap (λ (ps : List Pattern). length ps) c.as_slice.ensures in
+    omega (arith, within, count)
+
+pub replay_pattern-requires-clause-fits : goal.replay_pattern-requires-clause-fits
+replay_pattern-requires-clause-fits c =
+    let file = c.args.file.now in
+    let run = c.args.run.now in
+    let pattern = c.index-as_slice-run.result in
+    let named = named_read file run c.as_slice.result.now pattern c.requires c.as_slice.ensures c.index-as_slice-run.is in
+    fits_read file run pattern c.requires named
+
+pub replay_pattern-requires-clause-within : goal.replay_pattern-requires-clause-within
+replay_pattern-requires-clause-within c =
+    let file = c.args.file.now in
+    let run = c.args.run.now in
+    let pattern = c.index-as_slice-run.result in
+    let named = named_read file run c.as_slice.result.now pattern c.requires c.as_slice.ensures c.index-as_slice-run.is in
+    pattern_within file run.pattern pattern named
+
+pub returns-in_err-replay_pattern-clause-fault : goal.returns-in_err-replay_pattern-clause-fault
+returns-in_err-replay_pattern-clause-fault c =
+    let file = c.args.file.now in
+    let run = c.args.run.now in
+    let pattern = c.index-as_slice-run.result in
+    let named = named_read file run c.as_slice.result.now pattern c.requires c.as_slice.ensures c.index-as_slice-run.is in
+    let e = c.in_err-replay_pattern.field-0.0 in
+    rw (err_is c.from_residual.result _ c.from_residual.ensures.1)
+    (λ p at. subst (λ (q : Pattern). FirstRefusal file.automaton q run e) (same_Some pattern p (sym named ∙ at)) c.in_err-replay_pattern.ensures.refuses)
 
 pub returns-in_err-replay_pattern-clause-only : goal.returns-in_err-replay_pattern-clause-only
 returns-in_err-replay_pattern-clause-only c = λ shown stays.

@@ -1,4 +1,5 @@
-use Rattle.ta_shelf.proofs.ShellCommon.{◌∙◌, sym}
+use Rattle.ta_shelf.proofs.ShellCommon.{◌≡◌, ◌∙◌, ◌++◌, List, ℕ, ap, append-nil, concat, refl, sym, take, added, puts}
+use Rattle.std.proofs.lemmas.List.{take_all}
 use Rattle.ta_shelf.proofs.OutputCalls.{added_more, grown_more, refused_adding}
 use Rattle.ta_shelf.proofs.putting.add_pieces.Goals as goal
 
@@ -18,4 +19,29 @@ loop-piece-preserved g c =
           c.loop-piece-test.true (sym c.piece-item.is) (rw (c.as_bytes.ensures.value, c.as_str.ensures, here.named) at c.in-Ok.ensures.log);
       calm = c.in-Ok.ensures.cause ∙ here.calm;
       kept = c.in-Ok.ensures.kept ∙ here.kept;
+    }
+
+pub loop-piece-init : goal.loop-piece-init
+loop-piece-init g c = record {
+  named = refl;
+  bytes = sym (append-nil (g.S.Shelf.stage_bytes c.args.stage.now));
+  log = sym (append-nil (g.S.Shelf.calls c.args.shelf.now));
+  calm = refl;
+  kept = refl;
+}
+
+pub returns-clause-bytes : goal.returns-clause-bytes
+returns-clause-bytes g c =
+    let all : take c.loop-piece.piece-index c.args.pieces.now ≡ c.args.pieces.now = take_all _ _ c.loop-piece-test.false in
+    c.loop-piece.invariant.bytes ∙ ap (λ (pieces : List (List ℕ)). g.S.Shelf.stage_bytes c.args.stage.now ++ concat pieces) all
+
+pub returns-clause-log : goal.returns-clause-log
+returns-clause-log g c =
+    let name = g.S.Shelf.stage_name c.args.stage.now in
+    let all : take c.loop-piece.piece-index c.args.pieces.now ≡ c.args.pieces.now = take_all _ _ c.loop-piece-test.false in
+    record {
+      made = added name c.args.pieces.now;
+      grown = c.loop-piece.invariant.log
+          ∙ ap (λ (pieces : List (List ℕ)). g.S.Shelf.calls c.args.shelf.now ++ puts (added name pieces)) all;
+      such = (c.args.pieces.now, refl, refl);
     }

@@ -1,62 +1,56 @@
-use Rattle.std.proofs.result.Match.{err_is}
-use Rattle.ta_syntax.proofs.FileSteps.{file_unmarked, file_name_stops, file_parameters_stop, file_shared_stop, file_locations_stop, file_processes_stop}
-use Rattle.ta_syntax.proofs.WholeFile.{whole_stops}
+use Rattle.ta_syntax.proofs.Common.{err_is}
+use Rattle.ta_syntax.specs.FileGrammar as grammar
+use Rattle.ta_syntax.specs.Productions.{Production, both}
+use Rattle.ta_syntax.specs.declared.tokens.Mark.TheVariants as mark
+use Rattle.ta_syntax.proofs.Steps.{then, past, take_mark, mark_stops, halts_by, halts_in, stops_first}
 use Rattle.ta_syntax.proofs.file.read_head.Goals as goal
+
+abbrev rest_5 : Production
+rest_5 = grammar.processes
+
+abbrev rest_4 : Production
+rest_4 = both (grammar.locations) rest_5
+
+abbrev rest_3 : Production
+rest_3 = both (grammar.declared_list mark.Shared 16 grammar.a_name) rest_4
+
+abbrev rest_2 : Production
+rest_2 = both (grammar.declared_list mark.Parameters 16 grammar.a_name) rest_3
+
+abbrev rest_1 : Production
+rest_1 = both (both grammar.a_name (grammar.a_mark mark.Semicolon)) rest_2
 
 pub returns-in_err-begun : goal.returns-in_err-begun
 returns-in_err-begun c = rw (err_is c.from_residual.result _ c.from_residual.ensures.1)
-    (whole_stops c.args.end c.args.tokens.now c.in_err-begun.field-0.0
-    (file_unmarked c.args.end c.args.tokens.now c.in_err-begun.field-0.0 c.in_err-begun.ensures))
+    (stops_first (grammar.a_mark mark.Automaton) rest_1 c.args.end c.args.tokens.now c.in_err-begun.field-0.0 (mark_stops mark.Automaton c.args.end c.args.tokens.now c.in_err-begun.field-0.0 c.in_err-begun.ensures))
 
 pub returns-in_err-name : goal.returns-in_err-name
-returns-in_err-name c =
-    rw (err_is c.from_residual-in_err-name.result _ c.from_residual-in_err-name.ensures.1)
-    (whole_stops c.args.end c.args.tokens.now c.in_err-name.field-0.0
-    (file_name_stops c.args.end c.args.tokens.now c.in_ok-begun.begun.now c.in_ok-begun.ensures c.in_err-name.field-0.0 c.in_err-name.ensures))
+returns-in_err-name c = rw (err_is c.from_residual-in_err-name.result _ c.from_residual-in_err-name.ensures.1)
+    (halts_in grammar.head (both grammar.a_name (grammar.a_mark mark.Semicolon)) rest_2 c.args.end c.in_err-name.field-0.0 (past (take_mark mark.Automaton c.in_ok-begun.ensures)) c.in_err-name.ensures)
 
 pub returns-in_err-parameters : goal.returns-in_err-parameters
-returns-in_err-parameters c =
-    rw (err_is c.from_residual-in_err-parameters.result _ c.from_residual-in_err-parameters.ensures.1)
-    (whole_stops c.args.end c.args.tokens.now c.in_err-parameters.field-0.0
-    (file_parameters_stop c.args.end c.args.tokens.now c.in_ok-begun.begun.now c.in_ok-begun.ensures c.in_ok-name.after_name.now c.in_ok-name.name
-    c.in_ok-name.ensures c.in_err-parameters.field-0.0 c.in_err-parameters.ensures))
+returns-in_err-parameters c = rw (err_is c.from_residual-in_err-parameters.result _ c.from_residual-in_err-parameters.ensures.1)
+    (halts_in grammar.head (grammar.declared_list mark.Parameters 16 grammar.a_name) rest_3 c.args.end c.in_err-parameters.field-0.0 (then (past (take_mark mark.Automaton c.in_ok-begun.ensures)) (past c.in_ok-name.ensures)) c.in_err-parameters.ensures)
 
 pub returns-in_err-shared : goal.returns-in_err-shared
-returns-in_err-shared c =
-    rw (err_is c.from_residual-in_err-shared.result _ c.from_residual-in_err-shared.ensures.1)
-    (whole_stops c.args.end c.args.tokens.now c.in_err-shared.field-0.0
-    (file_shared_stop c.args.end c.args.tokens.now c.in_ok-begun.begun.now c.in_ok-begun.ensures c.in_ok-name.after_name.now c.in_ok-name.name
-    c.in_ok-name.ensures c.in_ok-parameters.after_parameters.now c.in_ok-parameters.parameters c.in_ok-parameters.ensures c.in_err-shared.field-0.0
-    c.in_err-shared.ensures))
+returns-in_err-shared c = rw (err_is c.from_residual-in_err-shared.result _ c.from_residual-in_err-shared.ensures.1)
+    (halts_in grammar.head (grammar.declared_list mark.Shared 16 grammar.a_name) rest_4 c.args.end c.in_err-shared.field-0.0 (then (past (take_mark mark.Automaton c.in_ok-begun.ensures)) (then (past c.in_ok-name.ensures) (past c.in_ok-parameters.ensures.took))) c.in_err-shared.ensures)
 
 pub returns-in_err-locations_at : goal.returns-in_err-locations_at
-returns-in_err-locations_at c =
-    rw (err_is c.from_residual-in_err-locations_at.result _ c.from_residual-in_err-locations_at.ensures.1)
-    (whole_stops c.args.end c.args.tokens.now c.in_err-locations_at.field-0.0
-    (file_locations_stop c.args.end c.args.tokens.now c.in_ok-begun.begun.now c.in_ok-begun.ensures c.in_ok-name.after_name.now c.in_ok-name.name
-    c.in_ok-name.ensures c.in_ok-parameters.after_parameters.now c.in_ok-parameters.parameters c.in_ok-parameters.ensures c.in_ok-shared.after_shared.now
-    c.in_ok-shared.shared c.in_ok-shared.ensures c.in_err-locations_at.field-0.0 c.in_err-locations_at.ensures))
+returns-in_err-locations_at c = rw (err_is c.from_residual-in_err-locations_at.result _ c.from_residual-in_err-locations_at.ensures.1)
+    (halts_in grammar.head (grammar.locations) rest_5 c.args.end c.in_err-locations_at.field-0.0 (then (past (take_mark mark.Automaton c.in_ok-begun.ensures)) (then (past c.in_ok-name.ensures) (then (past c.in_ok-parameters.ensures.took) (past c.in_ok-shared.ensures.took)))) c.in_err-locations_at.ensures)
 
 pub returns-in_err-processes_at : goal.returns-in_err-processes_at
-returns-in_err-processes_at c =
-    rw (err_is c.from_residual-in_err-processes_at.result _ c.from_residual-in_err-processes_at.ensures.1)
-    (whole_stops c.args.end c.args.tokens.now c.in_err-processes_at.field-0.0
-    (file_processes_stop c.args.end c.args.tokens.now c.in_ok-begun.begun.now c.in_ok-begun.ensures c.in_ok-name.after_name.now c.in_ok-name.name
-    c.in_ok-name.ensures c.in_ok-parameters.after_parameters.now c.in_ok-parameters.parameters c.in_ok-parameters.ensures c.in_ok-shared.after_shared.now
-    c.in_ok-shared.shared c.in_ok-shared.ensures c.in_ok-locations_at.after_locations.now c.in_ok-locations_at.locations_at c.in_ok-locations_at.locations
-    c.in_ok-locations_at.ensures c.in_err-processes_at.field-0.0 c.in_err-processes_at.ensures))
+returns-in_err-processes_at c = rw (err_is c.from_residual-in_err-processes_at.result _ c.from_residual-in_err-processes_at.ensures.1)
+    (halts_by grammar.head (grammar.processes) c.args.end c.in_err-processes_at.field-0.0 (then (past (take_mark mark.Automaton c.in_ok-begun.ensures)) (then (past c.in_ok-name.ensures) (then (past c.in_ok-parameters.ensures.took) (then (past c.in_ok-shared.ensures.took) (past c.in_ok-locations_at.ensures.took))))) c.in_err-processes_at.ensures)
 
 pub returns : goal.returns
 returns c = record {
-  begun = c.in_ok-begun.begun.now;
-  after_name = c.in_ok-name.after_name.now;
-  after_parameters = c.in_ok-parameters.after_parameters.now;
-  after_shared = c.in_ok-shared.after_shared.now;
-  after_locations = c.in_ok-locations_at.after_locations.now;
-  keyword = c.in_ok-begun.ensures;
-  name = c.in_ok-name.ensures;
-  parameters = c.in_ok-parameters.ensures;
-  shared = c.in_ok-shared.ensures;
-  locations = c.in_ok-locations_at.ensures;
-  processes = c.in_ok-processes_at.ensures;
+  parameters = c.in_ok-parameters.ensures.few;
+  shared = c.in_ok-shared.ensures.few;
+  some = c.in_ok-locations_at.ensures.some;
+  locations = c.in_ok-locations_at.ensures.few;
+  is = c.in_ok-processes_at.ensures.is;
+  shallow = c.in_ok-processes_at.ensures.shallow;
+  took = then (past (take_mark mark.Automaton c.in_ok-begun.ensures)) (then (past c.in_ok-name.ensures) (then (past c.in_ok-parameters.ensures.took) (then (past c.in_ok-shared.ensures.took) (then (past c.in_ok-locations_at.ensures.took) (c.in_ok-processes_at.ensures.took)))));
 }

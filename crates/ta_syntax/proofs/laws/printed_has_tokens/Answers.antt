@@ -1,4 +1,5 @@
-use Rattle.ta_syntax.proofs.PrintedTokens.{tokens_printed, file_legal}
+use Rattle.ta_syntax.proofs.FileSpans.{file_legal}
+use Rattle.ta_syntax.proofs.PrintedTokens.{tokens_printed}
 use Rattle.ta_syntax.proofs.laws.printed_has_tokens.Goals as goal
 
 pub returns : goal.returns

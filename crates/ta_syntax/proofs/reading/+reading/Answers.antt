@@ -1,6 +1,7 @@
 use Rattle.ta_syntax.proofs.Common.{arith, ◌<◌, ap, length, err_is}
 use Rattle.ta_syntax.proofs.SumExits.{sum_begins, sum_stops, sum_goes_on, sum_ends, took_named, took_nested, nested_stops, close_stops, unnamed_stops, too_deep}
 use Rattle.ta_syntax.proofs.SumExits.{took_number, took_times, times_stops, took_alone, alone_stops}
+use Rattle.ta_syntax.proofs.Steps.{step_shorter}
 use Rattle.ta_syntax.proofs.reading.+reading.Goals as goal
 
 pub read_factor-returns-in_err-name : goal.read_factor-returns-in_err-name
@@ -50,7 +51,7 @@ read_sum-loop-terms-preserved t c =
     c.loop-terms.sign c.in-Some.next c.loop-terms.terms.items c.in_ok-term.term c.loop-terms.invariant c.in_ok-term.ensures c.in-Some.ensures)
 
 pub read_sum-loop-terms-smaller : goal.read_sum-loop-terms-smaller
-read_sum-loop-terms-smaller t c = omega (arith, c.in_ok-term.ensures.shorter, ap length c.in-Some.ensures.split)
+read_sum-loop-terms-smaller t c = omega (arith, step_shorter c.in_ok-term.ensures.took, ap length c.in-Some.ensures.split)
 
 pub read_sum-returns-in_default : goal.read_sum-returns-in_default
 read_sum-returns-in_default t c =

@@ -8,11 +8,13 @@ use Rattle.ta_walk.proofs.forking.+forks.Goals as goal
 
 pub visit_beside-returns-clause-visited : goal.visit_beside-returns-clause-visited
 visit_beside-returns-clause-visited g t c =
-    let one = rw c.in_ok-first.was at c.join-first.ensures.first.0 in
-    let other = rw c.in_ok-second.was at c.join-first.ensures.second.0 in
-    c.merge.ensures.visited (search_of_claim c.args.setting.tree.now) (map root_node c.args.starts.items) (map root_node c.args.others.items) c.args.keeper
-    c.args.late
-    one other c.requires.fresh
+    c.merge_both.ensures.visited (search_of_claim c.args.setting.tree.now) (map root_node c.args.starts.items) (map root_node c.args.others.items)
+    c.args.keeper c.args.late c.join-first.ensures.first.0 c.join-first.ensures.second.0 c.requires.fresh
+
+pub visit_beside-returns-clause-patient : goal.visit_beside-returns-clause-patient
+visit_beside-returns-clause-patient g t c = λ patient.
+    c.merge_both.ensures.whole (c.join-first.ensures.first.1.1.0 (c.first_half-low.ensures.patient ∙ patient))
+    (c.join-first.ensures.second.1.1.0 (c.half_beside-high.ensures.patient ∙ patient))
 
 pub visit_list-visit_on-requires-clause-stands : goal.visit_list-visit_on-requires-clause-stands
 visit_list-visit_on-requires-clause-stands g t c κs within =
@@ -42,14 +44,14 @@ visit_list-returns-clause-visited g t c =
     (λ part. PartVisited g.K.Keeper.keeps (beginning (search_of_claim c.args.setting.tree.now) us) c.args.nodes c.args.keeper part.keeper part.end)) all
     c.visit_halves.ensures.visited
 
-pub visit_halves-returns-in_default-clause-visited : goal.visit_halves-returns-in_default-clause-visited
-visit_halves-returns-in_default-clause-visited g t c =
+pub visit_in_turn-returns-in_default-clause-visited : goal.visit_in_turn-returns-in_default-clause-visited
+visit_in_turn-returns-in_default-clause-visited g t c =
     let part = c.in_ok-first.first in
     decided_part g.K.Keeper.keeps (search_of_claim c.args.setting.tree.now) (map root_node c.args.starts.items) (map root_node c.args.others.items) c.args.nodes
     c.args.keeper part.keeper part.end c.in_default.ensures.none c.in_ok-first.ensures.visited
 
-pub visit_halves-returns-clause-visited : goal.visit_halves-returns-clause-visited
-visit_halves-returns-clause-visited g t c =
+pub visit_in_turn-returns-clause-visited : goal.visit_in_turn-returns-clause-visited
+visit_in_turn-returns-clause-visited g t c =
     let s = search_of_claim c.args.setting.tree.now in
     let keeps = g.K.Keeper.keeps in
     let ws = map root_node c.args.starts.items in
@@ -58,21 +60,21 @@ visit_halves-returns-clause-visited g t c =
     let first = c.in_ok-first.first in
     let one = subst (λ (e : TreeEnd Element). PartVisited keeps (beginning s ws) n c.args.keeper first.keeper e) c.in-Some.ensures.some
     c.in_ok-first.ensures.visited in
-    c.add.ensures.visited s ws vs (n - c.in-Some.count) c.args.keeper c.in_ok-late.late one c.in_ok-second.ensures.visited
-    (c.in_ok-late.ensures.begins, c.in_ok-late.ensures.keeps)
+    c.add.ensures.visited s ws vs (n - c.in-Some.count) c.args.keeper c.args.late one c.in_ok-second.ensures.visited
+    c.requires.fresh
 
-pub visit_halves-returns-clause-patient : goal.visit_halves-returns-clause-patient
-visit_halves-returns-clause-patient g t c = λ patient. c.add.ensures.whole (c.args.nodes - c.in-Some.count) (omega arith)
+pub visit_in_turn-returns-clause-patient : goal.visit_in_turn-returns-clause-patient
+visit_in_turn-returns-clause-patient g t c = λ patient. c.add.ensures.whole (c.args.nodes - c.in-Some.count) (omega arith)
     (c.in_ok-second.ensures.patient (c.second_half-high.ensures.patient ∙ patient))
 
-pub visit_halves-returns-in_default-clause-counted : goal.visit_halves-returns-in_default-clause-counted
-visit_halves-returns-in_default-clause-counted g t c =
+pub visit_in_turn-returns-in_default-clause-counted : goal.visit_in_turn-returns-in_default-clause-counted
+visit_in_turn-returns-in_default-clause-counted g t c =
     let part = c.in_ok-first.first in
     let forks = c.first_half-low.ensures.forks in
     counted_more c.args.nodes c.first_half-low.result.forks c.args.watch.forks part.end part.begun (omega arith) c.in_ok-first.ensures.counted
 
-pub visit_halves-returns-clause-counted : goal.visit_halves-returns-clause-counted
-visit_halves-returns-clause-counted g t c =
+pub visit_in_turn-returns-clause-counted : goal.visit_in_turn-returns-clause-counted
+visit_in_turn-returns-clause-counted g t c =
     let n = c.args.nodes in
     let low = c.first_half-low.result.forks in
     let high = c.second_half-high.result.forks in
@@ -93,8 +95,8 @@ visit_beside-returns-clause-counted g t c =
     let high = c.half_beside-high.result.forks in
     let few = c.first_half-low.ensures.forks in
     let more = c.half_beside-high.ensures.forks in
-    let one = rw c.in_ok-first.was at c.join-first.ensures.first.1.1.1 in
-    let other = rw c.in_ok-second.was at c.join-first.ensures.second.1.1.1 in
     let some = c.requires.forks in
     let all : low + high + 1 ≡ c.args.watch.forks = omega arith in
-    subst (λ (k : ℕ). IfOk c.merge.result (λ part. IsCounted c.args.nodes k part.end part.begun)) all (c.merge.ensures.counted low high one other)
+    subst (λ (k : ℕ). IfOk c.merge_both.result (λ part. IsCounted c.args.nodes k part.end part.begun)) all
+    (c.merge_both.ensures.counted low high c.join-first.ensures.first.1.1.1
+    c.join-first.ensures.second.1.1.1)

@@ -15,3 +15,6 @@ decreases-visit_beside-front g l = 4 * vec_len l.starts + 5
 
 abbrev pub decreases-visit_beside-back : goal.decreases-visit_beside-back
 decreases-visit_beside-back g l = 4 * vec_len l.others + 5
+
+abbrev pub decreases-visit_in_turn : goal.decreases-visit_in_turn
+decreases-visit_in_turn g l = 4 * (vec_len l.starts + vec_len l.others) + 2

@@ -1,4 +1,5 @@
-use Rattle.ta_walk.proofs.Common.{◌-◌, ◌+◌, ◌≡◌, ℕ, IfOk, arith, sym, subst, left_at, TreeEnd, IsCounted, PartVisited, SharesBudget, beginning, search_of_claim}
+use Rattle.ta_walk.proofs.Common.{◌∙◌, ◌-◌, ◌+◌, ◌≡◌, ℕ, IfOk, arith, sym, subst, left_at, TreeEnd, IsCounted, PartVisited, SharesBudget, beginning}
+use Rattle.ta_walk.proofs.Common.{search_of_claim}
 use Rattle.ta_walk.proofs.NodesCounted.{counted_alone, counted_shared}
 use Rattle.ta_words.specs.declared.element.Element.{Element}
 use Rattle.ta_walk.proofs.PartsMerged.{shared_part}
@@ -7,10 +8,13 @@ use Rattle.ta_walk.proofs.forking.+shares.Goals as goal
 pub visit_shared-returns-clause-visited : goal.visit_shared-returns-clause-visited
 visit_shared-returns-clause-visited g t c =
     let s = search_of_claim c.args.setting.tree.now in
-    let one = rw c.in_ok-first.was at c.join-second.ensures.second.0 in
-    let other = rw c.in_ok-second.was at c.join-second.ensures.first.0 in
-    c.merge.ensures.visited s (left_at s c.args.at.cursor) (left_at s c.args.later) c.args.keeper c.in_ok-late.late one other
-    (c.in_ok-late.ensures.begins, c.in_ok-late.ensures.keeps)
+    c.merge_both.ensures.visited s (left_at s c.args.at.cursor) (left_at s c.args.later) c.args.keeper c.in_ok-late.late c.join-second.ensures.second.0
+    c.join-second.ensures.first.0 (c.in_ok-late.ensures.begins, c.in_ok-late.ensures.keeps)
+
+pub visit_shared-returns-clause-patient : goal.visit_shared-returns-clause-patient
+visit_shared-returns-clause-patient g t c = λ patient.
+    c.merge_both.ensures.whole (c.join-second.ensures.second.1.1.0 (c.first_half-low.ensures.patient ∙ patient))
+    (c.join-second.ensures.first.1.1.0 (c.half_beside-high.ensures.patient ∙ patient))
 
 pub visit_on-returns-in-Ended-clause-visited : goal.visit_on-returns-in-Ended-clause-visited
 visit_on-returns-in-Ended-clause-visited g t c = λ first before has. rw c.in-Ended.is at (c.in_ok-end.ensures.ends first before has)
@@ -37,11 +41,11 @@ visit_shared-returns-clause-counted g t c =
     let high = c.half_beside-high.result.forks in
     let few = c.first_half-low.ensures.forks in
     let more = c.half_beside-high.ensures.forks in
-    let one = rw c.in_ok-first.was at c.join-second.ensures.second.1.1.1 in
-    let other = rw c.in_ok-second.was at c.join-second.ensures.first.1.1.1 in
     let some = c.requires.forks in
     let all : low + high + 1 ≡ c.args.watch.forks = omega arith in
-    subst (λ (k : ℕ). IfOk c.merge.result (λ part. IsCounted c.args.nodes k part.end part.begun)) all (c.merge.ensures.counted low high one other)
+    subst (λ (k : ℕ). IfOk c.merge_both.result (λ part. IsCounted c.args.nodes k part.end part.begun)) all
+    (c.merge_both.ensures.counted low high c.join-second.ensures.second.1.1.1
+    c.join-second.ensures.first.1.1.1)
 
 pub visit_on-returns-in-Ended-clause-counted : goal.visit_on-returns-in-Ended-clause-counted
 visit_on-returns-in-Ended-clause-counted g t c =

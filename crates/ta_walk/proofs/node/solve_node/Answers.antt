@@ -2,6 +2,8 @@ use Rattle.ta_walk.proofs.Common.{ℕ, ◌<◌, ◌^◌, List, length, ap, arith
 use Rattle.ta_walk.proofs.Common.{IsOutOfRangeAt, here}
 use Rattle.ta_walk.specs.declared.end.PlaceKind.TheVariants.{Pivot}
 use Rattle.ta_walk.proofs.Nodes.{few_variables}
+use Rattle.ta_walk.proofs.Common.{IsBranch, IsRefuted}
+use Rattle.ta_walk.proofs.VertexTaken.{on_inner, on_inner_ok}
 use Rattle.ta_walk.proofs.node.solve_node.Goals as goal
 
 pub solve-requires-clause-room : goal.solve-requires-clause-room
@@ -39,3 +41,28 @@ take_vertex-requires-clause-vertex g c =
     let is = subst (SystemAt (g.T.Tree.search c.args.tree.now) (here c.args.cursor.now)) (sym c.system-system.ensures) c.requires.system in
     let vertex : IsVertex system c.in-Ok-Vertex.values = rw c.in-Ok-Vertex.field-0-is at c.in-Ok-Vertex.ensures.ok in
     record { system = system; is = is; holds = subst (IsVertex system) (sym c.as_slice.ensures) vertex }
+
+pub take_refuted-requires-clause-refuted : goal.take_refuted-requires-clause-refuted
+take_refuted-requires-clause-refuted g c =
+    let refuted : IsRefuted c.system-system.result.now c.in-Ok-Refuted.multipliers = rw c.in-Ok-Refuted.field-0-is at c.in-Ok-Refuted.ensures.ok in refuted
+
+pub returns-in-Ok-Refuted-clause-branch : goal.returns-in-Ok-Refuted-clause-branch
+returns-in-Ok-Refuted-clause-branch g c =
+    on_inner c.take_refuted.result
+    (subst (λ (z : System). IsBranch g.D.Dictionary.tableau g.D.Dictionary.pivot_of z.rows c.solve.new.self) c.system-system.ensures
+    c.in-Ok-Refuted.ensures.branch)
+
+pub returns-in-Ok-Refuted-clause-solved : goal.returns-in-Ok-Refuted-clause-solved
+returns-in-Ok-Refuted-clause-solved g c =
+    let s = g.T.Tree.search c.args.tree.now in
+    let w = here c.args.cursor.now in
+    c.take_refuted.ensures s w (subst (SystemAt s w) (sym c.system-system.ensures) c.requires.system)
+
+pub returns-in-Ok-Vertex-clause-branch : goal.returns-in-Ok-Vertex-clause-branch
+returns-in-Ok-Vertex-clause-branch g c =
+    on_inner_ok c.take_vertex.result
+    (subst (λ (z : System). IsBranch g.D.Dictionary.tableau g.D.Dictionary.pivot_of z.rows c.solve.new.self) c.system-system.ensures
+    c.in-Ok-Vertex.ensures.branch)
+
+pub returns-in-Ok-Vertex-clause-solved : goal.returns-in-Ok-Vertex-clause-solved
+returns-in-Ok-Vertex-clause-solved g c = c.take_vertex.ensures

@@ -21,9 +21,12 @@ use Rattle.ta_walk.proofs.Common.{
   IsSpent,
   WholeNode,
   leaf_count,
+  node_count,
+  RoseBy,
   IsOutOfRangeAt,
   NodeAt,
   PartEnds,
+  TreeEnd,
   beginning,
 }
 use Rattle.ta_walk.proofs.LeavesCounted.{leaves_below, leaves_few, leaves_more}
@@ -196,3 +199,33 @@ loop-before-preserved g c =
       branch = rw c.in-Inner.is at c.in_ok-kind.ensures.branch;
       begun = rose_next c.args.work.now.begun l.before l.work.begun c.solve_next.new.work.begun l.invariant.begun c.in_ok-kind.ensures.counted;
     }
+
+pub returns-in-OutOfRange-clause-counted : goal.returns-in-OutOfRange-clause-counted
+returns-in-OutOfRange-clause-counted g c =
+    let l = c.loop-before in
+    (omega arith, rose_next c.args.work.now.begun l.before l.work.begun c.solve_next.new.work.begun l.invariant.begun c.in_ok-kind.ensures.counted)
+
+pub returns-in-Whole-clause-counted : goal.returns-in-Whole-clause-counted
+returns-in-Whole-clause-counted g c =
+    let l = c.loop-before in
+    let old = c.args.work.now.begun in
+    let new = c.solve_next.new.work.begun in
+    let within : l.before + 1 ≤ c.args.nodes = omega arith in
+    subst (λ (e : TreeEnd _). (node_count e ≤ c.args.nodes) × RoseBy old (node_count e) new) (sym c.in_ok-end-in-Whole.ensures)
+    (within, rose_next old l.before l.work.begun new l.invariant.begun c.in_ok-kind.ensures.counted)
+
+pub returns-then-not-more-clause-counted : goal.returns-then-not-more-clause-counted
+returns-then-not-more-clause-counted g c =
+    let l = c.loop-before in
+    (omega arith, rose_next c.args.work.now.begun l.before l.work.begun c.solve_next.new.work.begun l.invariant.begun c.in_ok-kind.ensures.counted)
+
+pub returns-in-Some-clause-counted : goal.returns-in-Some-clause-counted
+returns-in-Some-clause-counted g c =
+    let l = c.loop-before in
+    rose_next c.args.work.now.begun l.before l.work.begun c.solve_next.new.work.begun l.invariant.begun c.in_ok-kind.ensures.counted
+
+pub returns-in-Some-clause-branch : goal.returns-in-Some-clause-branch
+returns-in-Some-clause-branch g c = rw c.in-Inner.is at c.in_ok-kind.ensures.branch
+
+pub returns-in-Some-clause-forks : goal.returns-in-Some-clause-forks
+returns-in-Some-clause-forks g c = rw c.in-Some.is at c.in_ok-later-in-Inner.ensures.forks

@@ -1,4 +1,4 @@
-use Rattle.ta_check.proofs.Common.{◌≤◌, List, length, subst, sym, refl, ◌∙◌, false≢true, In, Pattern, claiming_with, NothingIsLeft}
+use Rattle.ta_check.proofs.Common.{◌≤◌, ◌<◌, List, length, ap, subst, sym, refl, ◌∙◌, false≢true, In, Pattern, claiming_with, kind_of, NothingIsLeft}
 use Rattle.ta_check.proofs.position.Position.begin.Goals as goal
 
 pub returns-then-not-is_free : goal.returns-then-not-is_free
@@ -24,3 +24,18 @@ returns-then-self-eq3 c = λ at is. c.begin_moments.ensures at is
 pub returns-else-self-eq3 : goal.returns-else-self-eq3
 returns-else-self-eq3 c = λ at is. c.begin_words.ensures at is
     ((c.is_free.ensures (claiming_with c.args.claim c.args.file.now c.args.silent.now) at is).0 c.if-not-is_free.false)
+
+pub begin_moments-requires-clause-exists : goal.begin_moments-requires-clause-exists
+begin_moments-requires-clause-exists c = subst (λ (ps : List Pattern). c.args.pattern < length ps) c.as_slice.ensures c.if-pattern-as_slice.false
+
+pub begin_moments-requires-clause-kind : goal.begin_moments-requires-clause-kind
+begin_moments-requires-clause-kind c = ap kind_of c.if-self-eq3.true
+
+pub begin_moments-requires-clause-fresh : goal.begin_moments-requires-clause-fresh
+begin_moments-requires-clause-fresh c = λ there. false≢true (sym c.if-is_begun.false ∙ c.is_begun.ensures.1 there)
+
+pub begin_words-requires-clause-exists : goal.begin_words-requires-clause-exists
+begin_words-requires-clause-exists c = subst (λ (ps : List Pattern). c.args.pattern < length ps) c.as_slice.ensures c.if-pattern-as_slice.false
+
+pub begin_words-requires-clause-fresh : goal.begin_words-requires-clause-fresh
+begin_words-requires-clause-fresh c = λ there. false≢true (sym c.if-is_begun.false ∙ c.is_begun.ensures.1 there)

@@ -21,3 +21,12 @@ returns-in_ok-push_condition-in-Some c =
     let at : slice_get c.args.pattern.now.events c.args.event ≡ Some event = subst (λ (es : List Event). slice_get es c.args.event ≡ Some event)
     c.as_slice.ensures (slice_get_read items (length items) c.args.event event refl found.3.0 found.1) in
     adds_alike (sym (ap (event_rows draft.automaton.now draft.meanings.items) at)) c.in_ok-push_condition-in-Some.ensures
+
+pub push_condition-requires : goal.push_condition-requires
+push_condition-requires c =
+    let items = c.as_slice.result.now in
+    let found = c.in-Some.ensures.lookup in
+    let event = c.in-Some.event.now in
+    let at : slice_get c.args.pattern.now.events c.args.event ≡ Some event = subst (λ (es : List Event). slice_get es c.args.event ≡ Some event)
+    c.as_slice.ensures (slice_get_read items (length items) c.args.event event refl found.3.0 found.1) in
+    record { small = c.requires.small.small c.args.event event at }

@@ -6,5 +6,5 @@ pub returns-in-Ok-clause-says : goal.returns-in-Ok-clause-says
 returns-in-Ok-clause-says g c =
     let name = c.args.other.now in
     grew_then file_kind c.args.file.now [] (λ file. short_meaning file name) (λ file. short_monotone file name) (λ (s : ScopedFile). s.file) _ c.in-Ok.scoped
-    c.judge_long.result _ _ _ (λ v. refl)
-    c.in-Ok.ensures.stage (rw c.in-Ok.ensures.kept at c.judge_long.ensures.says)
+    c.judge_long-answer.result _ _ _ (λ v. refl)
+    c.in-Ok.ensures.stage (rw c.in-Ok.ensures.kept at c.judge_long-answer.ensures.says)

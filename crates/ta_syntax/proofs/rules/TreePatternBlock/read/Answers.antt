@@ -1,39 +1,42 @@
-use Rattle.std.proofs.result.Match.{err_is}
-use Rattle.ta_syntax.proofs.RuleSteps.{pattern_name_stops, pattern_start_stops, pattern_empty_stops, pattern_events_stop, pattern_end_stops, took_pattern}
+use Rattle.ta_syntax.proofs.Common.{err_is}
+use Rattle.ta_syntax.specs.FileGrammar as grammar
+use Rattle.ta_syntax.specs.Productions.{Production, both}
+use Rattle.ta_syntax.specs.declared.tokens.Mark.TheVariants as mark
+use Rattle.ta_syntax.proofs.Steps.{then, past, take_mark, mark_stops, halts_by, halts_in, stops_first}
 use Rattle.ta_syntax.proofs.rules.TreePatternBlock.read.Goals as goal
+
+abbrev rest_4 : Production
+rest_4 = grammar.a_mark mark.CloseBrace
+
+abbrev rest_3 : Production
+rest_3 = both (grammar.blocks 8 mark.Event grammar.event) rest_4
+
+abbrev rest_2 : Production
+rest_2 = both (grammar.ended mark.Empty 32 grammar.a_name) rest_3
+
+abbrev rest_1 : Production
+rest_1 = both (grammar.ended mark.Start 16 grammar.comparison) rest_2
 
 pub returns-in_err-name : goal.returns-in_err-name
 returns-in_err-name c = rw (err_is c.from_residual.result _ c.from_residual.ensures.1)
-    (pattern_name_stops c.args.end c.args.tokens.now c.in_err-name.field-0.0 c.in_err-name.ensures)
+    (stops_first (both grammar.a_name (grammar.a_mark mark.OpenBrace)) rest_1 c.args.end c.args.tokens.now c.in_err-name.field-0.0 c.in_err-name.ensures)
 
 pub returns-in_err-start : goal.returns-in_err-start
-returns-in_err-start c =
-    rw (err_is c.from_residual-in_err-start.result _ c.from_residual-in_err-start.ensures.1)
-    (pattern_start_stops c.args.end c.args.tokens.now c.in_ok-name.after_name.now c.in_ok-name.name c.in_ok-name.ensures c.in_err-start.field-0.0
-    c.in_err-start.ensures)
+returns-in_err-start c = rw (err_is c.from_residual-in_err-start.result _ c.from_residual-in_err-start.ensures.1)
+    (halts_in grammar.pattern (grammar.ended mark.Start 16 grammar.comparison) rest_2 c.args.end c.in_err-start.field-0.0 (past c.in_ok-name.ensures) c.in_err-start.ensures)
 
 pub returns-in_err-empty : goal.returns-in_err-empty
-returns-in_err-empty c =
-    rw (err_is c.from_residual-in_err-empty.result _ c.from_residual-in_err-empty.ensures.1)
-    (pattern_empty_stops c.args.end c.args.tokens.now c.in_ok-name.after_name.now c.in_ok-name.name c.in_ok-name.ensures c.in_ok-start.after_start.now
-    c.in_ok-start.start c.in_ok-start.ensures c.in_err-empty.field-0.0 c.in_err-empty.ensures)
+returns-in_err-empty c = rw (err_is c.from_residual-in_err-empty.result _ c.from_residual-in_err-empty.ensures.1)
+    (halts_in grammar.pattern (grammar.ended mark.Empty 32 grammar.a_name) rest_3 c.args.end c.in_err-empty.field-0.0 (then (past c.in_ok-name.ensures) (past c.in_ok-start.ensures.took)) c.in_err-empty.ensures)
 
 pub returns-in_err-events : goal.returns-in_err-events
-returns-in_err-events c =
-    rw (err_is c.from_residual-in_err-events.result _ c.from_residual-in_err-events.ensures.1)
-    (pattern_events_stop c.args.end c.args.tokens.now c.in_ok-name.after_name.now c.in_ok-name.name c.in_ok-name.ensures c.in_ok-start.after_start.now
-    c.in_ok-start.start c.in_ok-start.ensures c.in_ok-empty.after_empty.now c.in_ok-empty.empty c.in_ok-empty.ensures c.in_err-events.field-0.0
-    c.in_err-events.ensures)
+returns-in_err-events c = rw (err_is c.from_residual-in_err-events.result _ c.from_residual-in_err-events.ensures.1)
+    (halts_in grammar.pattern (grammar.blocks 8 mark.Event grammar.event) rest_4 c.args.end c.in_err-events.field-0.0 (then (past c.in_ok-name.ensures) (then (past c.in_ok-start.ensures.took) (past c.in_ok-empty.ensures.took))) c.in_err-events.ensures)
 
 pub returns-in_err-rest : goal.returns-in_err-rest
-returns-in_err-rest c =
-    rw (err_is c.from_residual-in_err-rest.result _ c.from_residual-in_err-rest.ensures.1)
-    (pattern_end_stops c.args.end c.args.tokens.now c.in_ok-name.after_name.now c.in_ok-name.name c.in_ok-name.ensures c.in_ok-start.after_start.now
-    c.in_ok-start.start c.in_ok-start.ensures c.in_ok-empty.after_empty.now c.in_ok-empty.empty c.in_ok-empty.ensures c.in_ok-events.after_events.now
-    c.in_ok-events.events.items c.in_ok-events.ensures c.in_err-rest.field-0.0 c.in_err-rest.ensures)
+returns-in_err-rest c = rw (err_is c.from_residual-in_err-rest.result _ c.from_residual-in_err-rest.ensures.1)
+    (halts_by grammar.pattern (grammar.a_mark mark.CloseBrace) c.args.end c.in_err-rest.field-0.0 (then (past c.in_ok-name.ensures) (then (past c.in_ok-start.ensures.took) (then (past c.in_ok-empty.ensures.took) (past c.in_ok-events.ensures.took)))) (mark_stops mark.CloseBrace c.args.end c.in_ok-events.after_events.now c.in_err-rest.field-0.0 c.in_err-rest.ensures))
 
 pub returns : goal.returns
 returns c = rw c.from_vec.ensures
-    (took_pattern c.args.end c.args.tokens.now c.in_ok-name.after_name.now c.in_ok-name.name c.in_ok-name.ensures c.in_ok-start.after_start.now
-    c.in_ok-start.start c.in_ok-start.ensures c.in_ok-empty.after_empty.now c.in_ok-empty.empty c.in_ok-empty.ensures c.in_ok-events.after_events.now
-    c.in_ok-events.events.items c.in_ok-events.ensures c.in_ok-rest.rest.now c.in_ok-rest.ensures)
+    (then (past c.in_ok-name.ensures) (then (past c.in_ok-start.ensures.took) (then (past c.in_ok-empty.ensures.took) (then (past c.in_ok-events.ensures.took) (take_mark mark.CloseBrace c.in_ok-rest.ensures)))))
