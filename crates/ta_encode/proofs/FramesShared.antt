@@ -2,6 +2,9 @@
 use Rattle.ta_encode.proofs.CursorCommon.{◌≡◌, ℕ, ◌+◌, ◌≤◌, List, [], ◌∷◌, ◌++◌, length, take, drop, reverse, slice_get, Some, arith, sym, ap, ◌∙◌, refl, subst}
 use Rattle.ta_encode.proofs.CursorCommon.{append_assoc, length-take-le, Pending, Search, Frame, Cursor, here, open_node, behind, all_behind, left_at, FramesFit}
 use Rattle.ta_encode.proofs.CursorCommon.{Inside, IsBeforeWords, IsShared, IsUnshared, IsWord, Within, GoesOn, Ok, true, false, take-take, take_all}
+use Rattle.ta_encode.proofs.CursorCommon.{None, Option, none_dropped}
+use Rattle.std.proofs.Common.{length-drop}
+use Rattle.std.specs.Prelude.{MatchOption}
 use Rattle.ta_encode.proofs.FramesLeft.{SamePlace, inside_moved}
 use Rattle.ta_encode.proofs.FramesKept.{BeginAlike, frames_kept, left_kept, same_pending}
 use Rattle.ta_base.proofs.Lists.{reversed_parts, reversed_at}
@@ -35,15 +38,16 @@ behind_both {E} s c (f ∷ inner) outers =
     ap (λ (ws : List (Pending E)). behind s c f ++ ws) (behind_both s c inner outers)
     ∙ sym (append_assoc (behind s c f) (all_behind s c inner) (all_behind s c outers))
 
--- a cursor that stands where an open node does, with the nodes around that one open
-pub record StandsAt {E : Type 0} (c d : Cursor E) (k : ℕ) (g : Frame) : Type 0 where
+-- a cursor that stands at a beginning of the facts and of the bounds, with so many of the outermost nodes open
+pub record StandsAt {E : Type 0} (c d : Cursor E) (k n m : ℕ) : Type 0 where
   pub start : d.start ≡ c.start
-  pub word : d.facts.items ≡ take g.length c.facts.items
-  pub bounds : d.bounds.items ≡ take g.bounds c.bounds.items
+  pub word : d.facts.items ≡ take n c.facts.items
+  pub bounds : d.bounds.items ≡ take m c.bounds.items
   pub frames : d.frames.items ≡ take k c.frames.items
 
-pub stands_inside : {E : Type 0} (s : Search E) (c d : Cursor E) (k : ℕ) (g : Frame) (words : List (Pending E)) → Inside s c words
-    → slice_get c.frames.items k ≡ Some g → StandsAt c d k g → Inside s d (all_behind s c (reverse (take k c.frames.items)))
+-- where an open node does, with the nodes around that one open
+stands_inside : {E : Type 0} (s : Search E) (c d : Cursor E) (k : ℕ) (g : Frame) (words : List (Pending E)) → Inside s c words
+    → slice_get c.frames.items k ≡ Some g → StandsAt c d k g.length g.bounds → Inside s d (all_behind s c (reverse (take k c.frames.items)))
 stands_inside {E} s c d k g words inside at o =
     let fs = reverse (take k c.frames.items) in
     let fit = subst (FramesFit s c (here c) (length c.facts.items) (length c.bounds.items)) (reversed_at k c.frames.items g at) inside.frames in
@@ -117,11 +121,31 @@ shared {E} s c d later outer pending within o none is =
     }
 
 -- a cursor at the same place, with all nodes open
-pub all_inside : {E : Type 0} (s : Search E) (c d : Cursor E) (k : ℕ) (words : List (Pending E)) → Inside s c words → SamePlace c d → length c.frames.items ≤ k
+all_inside : {E : Type 0} (s : Search E) (c d : Cursor E) (k : ℕ) (words : List (Pending E)) → Inside s c words → SamePlace c d → length c.frames.items ≤ k
     → Inside s d (all_behind s c (reverse (take k c.frames.items)))
 all_inside s c d k words inside same most =
     let left = inside.left ∙ ap (λ (fs : List Frame). all_behind s c (reverse fs)) (sym (take_all k c.frames.items most)) in
     subst (Inside s d) left (inside_moved s c d words inside same)
+
+-- where the next of the open nodes does, or where the old cursor does
+pub outermost_inside : {E : Type 0} (s : Search E) (c d : Cursor E) (k n m : ℕ) (words : List (Pending E)) → Inside s c words
+    → MatchOption (slice_get c.frames.items k) ((n ≡ length c.facts.items) × (m ≡ length c.bounds.items)) (λ (f : Frame). (n ≡ f.length) × (m ≡ f.bounds))
+    → StandsAt c d k n m → Inside s d (all_behind s c (reverse (take k c.frames.items)))
+outermost_inside {E} s c d k n m words inside lengths o = by_next (slice_get c.frames.items k) refl lengths
+  where
+    by_next : (next : Option Frame) → slice_get c.frames.items k ≡ next
+        → MatchOption next ((n ≡ length c.facts.items) × (m ≡ length c.bounds.items)) (λ (f : Frame). (n ≡ f.length) × (m ≡ f.bounds))
+        → Inside s d (all_behind s c (reverse (take k c.frames.items)))
+    by_next (Some f) at e =
+        stands_inside s c d k f words inside at (subst (λ (i : ℕ). StandsAt c d k i f.bounds) e.0 (subst (StandsAt c d k n) e.1 o))
+    by_next None at e =
+        let most : length c.frames.items ≤ k = omega (arith, length-drop k c.frames.items, ap length (none_dropped c.frames.items k at)) in
+        all_inside s c d k words inside (record {
+          start = o.start;
+          word = o.word ∙ take_all n c.facts.items (omega (arith, e.0));
+          bounds = o.bounds ∙ take_all m c.bounds.items (omega (arith, e.1));
+          frames = o.frames ∙ take_all k c.frames.items most;
+        }) most
 
 -- no open node leaves a word
 pub unshared : {E : Type 0} (s : Search E) (c d : Cursor E) (k : ℕ) → d ≡ c → all_behind s c (reverse (take k c.frames.items)) ≡ [] → length c.frames.items ≤ k

@@ -200,8 +200,7 @@ impl<'a> Draft<'a> {
         if contains(empty, location) {
             return Ok(());
         }
-        self.rows.push(row_of(counter))?;
-        Ok(())
+        self.push_row(row_of(counter))
     }
 
     /// The counters of the locations outside a set.

@@ -6,12 +6,13 @@
 //! of its answer.
 #![tactic(auto)]
 
-ghost use Rattle.std.specs.Prelude.{◌+◌, ◌++◌, ◌∷◌, ◌<◌, ◌≡◌, IfOk, List, [], MatchBool, MatchOption, Some, drop, length, reverse};
+ghost use Rattle.std.specs.Prelude.{◌+◌, ◌++◌, ◌∷◌, ◌<◌, ◌≡◌, ◌⊎◌, IfOk, List, [], MatchBool, MatchOption, Some, drop, length, reverse};
 ghost use Rattle.ta_cert.specs.Lines.{IsSplit};
 ghost use Rattle.ta_cert.specs.declared.line.Node.TheVariants.{Split};
 ghost use Rattle.ta_encode.specs.Search.{Pending, Search, parts};
 ghost use Rattle.ta_encode.specs.Asking.{ask_node, node_of};
 ghost use Rattle.ta_encode.specs.declared.ask.Inner.TheVariants.{Splits};
+ghost use Rattle.ta_encode.specs.declared.meaning.Side.TheVariants.{High, Low};
 ghost use Rattle.ta_encode.specs.Cursors.{GoesOn, Inside, IsInside, IsWithin, SplitFits, Within, WentOn, here};
 
 use crate::ask::{Ask, Inner};
@@ -19,6 +20,14 @@ use crate::cursor::{Cursor, Frame};
 use crate::tree::Tree;
 use crate::{Bound, Side};
 use std::alloc::AllocError;
+
+/// A side of a split by its number: 0 for the low one, 1 for the high one.
+fn side_of(number: u32) -> Side
+    requires { number < 2 }
+    ensures { ((number ≡ 0) × (result ≡ Low)) ⊎ ((number ≡ 1) × (result ≡ High)) }
+{
+    if number == 0 { Side::Low } else { Side::High }
+}
 
 impl<F: Copy + Drop> Cursor<F> {
     /// Goes on behind the node: to the next child of an open node. Says whether there is one; else
@@ -94,11 +103,10 @@ impl<F: Copy + Drop> Cursor<F> {
             bounds: self.bounds.len(),
             next: number,
         })?;
-        let side = if number == 0 { Side::Low } else { Side::High };
         self.bounds.push(Bound {
             unknown,
             floor,
-            side,
+            side: side_of(number),
         })?;
         Ok(())
     }

@@ -1,8 +1,9 @@
 //! Rows at a moment of a word, given by the unknowns so far.
 #![tactic(auto)]
 
-ghost use Rattle.std.specs.Prelude.{ℕ, ◌+◌, ◌*◌, ◌^◌, ◌≡◌, ◌≤◌, ◌<◌, ◌≤ℤ◌, ◌<ℤ◌, ◌∷◌, [], IfOk, OnOk, filter, length, map, negsuc, not, pos, unsigned_abs};
+ghost use Rattle.std.specs.Prelude.{ℕ, ◌+◌, ◌*◌, ◌^◌, ◌≡◌, ◌≤◌, ◌<◌, ◌≤ℤ◌, ◌<ℤ◌, ◌∷◌, [], IfOk, List, OnOk, filter, length, map, negsuc, not, pos, unsigned_abs};
 ghost use Rattle.ta_automaton.specs.Places.{location_place};
+ghost use Rattle.ta_automaton.specs.declared.automaton.Automaton.{Automaton};
 ghost use Rattle.ta_base.specs.Masks.{has_bit};
 ghost use Rattle.std.specs.List.{range_with_len};
 ghost use Rattle.ta_encode.specs.Code.{IsRowOf};
@@ -10,7 +11,8 @@ ghost use Rattle.ta_encode.specs.Inside.Draft.{Adds};
 ghost use Rattle.ta_encode.specs.Inside.Lines.{AddsRows, SmallCondition, SmallForm, SmallRows, block_row, bound_constant, bound_sense, constant_in_sense, in_sense, start_sense};
 ghost use Rattle.ta_encode.specs.Lines.{BoundWithin, BoundsWithin, SmallTerms, line_row};
 ghost use Rattle.ta_encode.specs.declared.line.Sense.TheVariants.{Opposite, Plain};
-ghost use Rattle.ta_encode.specs.System.{bound_row, condition_rows, counter_row, form_row, guard_rows, opposite, processes_row, start_guard_rows};
+ghost use Rattle.ta_encode.specs.declared.meaning.Meaning.{Meaning};
+ghost use Rattle.ta_encode.specs.System.{LinearRow, bound_row, condition_rows, counter_row, form_row, guard_rows, opposite, processes_row, start_guard_rows};
 ghost use Rattle.ta_linear.specs.Numbers.{InRange};
 ghost use Rattle.ta_linear.specs.Terms.{IsNormal};
 
@@ -50,6 +52,15 @@ fn sense_at_start(start_mask: u8, number: usize) -> Sense
 }
 
 impl<'a> Draft<'a> {
+    /// Adds a row over the unknowns so far.
+    pub(crate) fn push_row(&mut self, row: Row) -> Result<(), AllocError>
+        requires { IsNormal 0 (length self.old.meanings.items) row.form.terms }
+        ensures { OnOk result ((line : Automaton → List Meaning → LinearRow) → IsRowOf (line self.old.automaton.now self.old.meanings.items) row → Adds (λ a ms. line a ms ∷ []) self.old self.new) }
+    {
+        self.rows.push(row)?;
+        Ok(())
+    }
+
     /// The row of a constant and of terms over places.
     fn push_line(&mut self, line: &Line, constant: i128) -> Result<(), AllocError>
         requires terms { SmallTerms line.now.terms.now }
@@ -57,8 +68,7 @@ impl<'a> Draft<'a> {
         ensures { OnOk result (Adds (λ a ms. in_sense line.now.sense (line_row a ms line.now.terms.now line.now.less_starts Plain constant) ∷ []) self.old self.new) }
     {
         let row = self.row_of(line, constant_in(line.sense, constant))?;
-        self.rows.push(row)?;
-        Ok(())
+        self.push_row(row)
     }
 
     /// The row of a form, written in a sense.
@@ -217,8 +227,7 @@ impl<'a> Draft<'a> {
         ensures { OnOk result (Adds (λ a ms. block_row constant from (length ms) sense ∷ []) self.old self.new) }
     {
         let row = block(self.alloc, constant, from, self.meanings.len(), sense)?;
-        self.rows.push(row)?;
-        Ok(())
+        self.push_row(row)
     }
 }
 

@@ -6,7 +6,7 @@
 //! cursor keeps the inner frames. The list of nodes left is cut in two; its order stays.
 #![tactic(auto)]
 
-ghost use Rattle.std.specs.Prelude.{◌≡◌, ◌≤◌, [], IfOk, MatchOption, length, reverse, take};
+ghost use Rattle.std.specs.Prelude.{◌≡◌, ◌≤◌, [], IfOk, MatchOption, length, reverse, slice_get, take};
 ghost use Rattle.ta_encode.specs.Search.{Search};
 ghost use Rattle.ta_encode.specs.Cursors.{Inside, IsBeforeWords, IsWithin, Shares, all_behind};
 
@@ -65,12 +65,11 @@ impl<F: Copy + Drop> Cursor<F> {
         requires most { outer ≤ length self.now.frames.items }
         ensures { (s : Search F) → IsWithin s self.now → IfOk result (λ later. Inside s later (all_behind s self.now (reverse (take outer self.now.frames.items)))) }
     {
+        let (length, count) = self.lengths_at(outer);
         let mut facts = Vec::from_slice(alloc, self.facts.as_slice())?;
+        facts.truncate(length);
         let mut bounds = Vec::from_slice(alloc, self.bounds.as_slice())?;
-        if let Some(frame) = self.frames.get(outer) {
-            facts.truncate(frame.length);
-            bounds.truncate(frame.bounds);
-        }
+        bounds.truncate(count);
         let frames = Vec::from_slice(alloc, &self.frames[..outer])?;
         Ok(Cursor {
             start: self.start,
@@ -78,5 +77,17 @@ impl<F: Copy + Drop> Cursor<F> {
             bounds,
             frames,
         })
+    }
+    /// How many facts and bounds there are at an open node, counted from the outermost, or where this
+    /// cursor stands.
+    fn lengths_at(&self, outer: usize) -> (usize, usize)
+        ensures { MatchOption (slice_get self.now.frames.items outer)
+            ((result.0 ≡ length self.now.facts.items) × (result.1 ≡ length self.now.bounds.items))
+            (λ frame. (result.0 ≡ frame.length) × (result.1 ≡ frame.bounds)) }
+    {
+        match self.frames.get(outer) {
+            None => (self.facts.len(), self.bounds.len()),
+            Some(frame) => (frame.length, frame.bounds),
+        }
     }
 }

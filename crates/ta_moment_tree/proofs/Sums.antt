@@ -1,18 +1,14 @@
 -- sums of forms, term by term
-use Rattle.std.proofs.Common.{◌≡◌, ◌∙◌, ℕ, ℤ, pos, ◌+◌, ◌<◌, ◌≤◌, ◌+ℤ◌, List, drop, get_or, length, sym, ap, subst, arith}
+use Rattle.std.proofs.Common.{◌≡◌, ◌∙◌, ℕ, ℤ, pos, ◌+◌, ◌<◌, ◌≤◌, ◌+ℤ◌, List, drop, get_or, length, sym, ap, arith, unsigned_abs}
 use Rattle.std.proofs.lemmas.Int.{ints}
 use Rattle.std.proofs.lemmas.List.{drop_more}
 use Rattle.std.proofs.Math.ListN.{drop_of_length-le}
 use Rattle.std.proofs.Math.IntN.{*ℤ-zero, zero-*ℤ}
 use Rattle.ta_moments.specs.Forms.{UnknownForm, number_form, plus_form, times_form}
 unfoldable use Rattle.ta_moments.specs.Forms.{sum_form, terms_form}
-use Rattle.std.proofs.Common.{unsigned_abs, to_z, of_z}
-use Rattle.std.specs.Int.{w128}
 use Rattle.std.specs.List.{AllByRecursion}
 use Rattle.ta_base.proofs.Each.{each_get_or}
-use Rattle.ta_base.proofs.Integers.{to_z_abs}
-use Rattle.ta_moment_tree.specs.Forms.{SmallBy}
-use Rattle.ta_moment_tree.proofs.Forms.{form_same, small_times}
+use Rattle.ta_moment_tree.proofs.Forms.{form_same}
 
 sum_assoc : (x y z : ℤ) → (x +ℤ y) +ℤ z ≡ x +ℤ (y +ℤ z)
 sum_assoc x y z = omega (arith, ints)
@@ -64,16 +60,6 @@ terms_all point xs i total all b h = sym (plus_none total) ∙ ap (λ ys. plus_f
 pub factor_small : (ts : List (ℕ × ℤ)) (i : ℕ) → AllByRecursion (λ (t : ℕ × ℤ). unsigned_abs t.1 ≤ 1000000000) ts → i < length ts
     → unsigned_abs (get_or ts i (0, pos 0)).1 ≤ 1000000000
 factor_small ts i each b = each_get_or (λ (t : ℕ × ℤ). unsigned_abs t.1 ≤ 1000000000) ts i (0, pos 0) each b
-
-pub product_is : (ts : List (ℕ × ℤ)) (i : ℕ) (product value : UnknownForm) → AllByRecursion (λ (t : ℕ × ℤ). unsigned_abs t.1 ≤ 1000000000) ts → i < length ts
-    → product ≡ times_form (to_z w128 (of_z w128 (get_or ts i (0, pos 0)).1)) value → product ≡ times_form (get_or ts i (0, pos 0)).1 value
-product_is ts i product value each b e = e ∙ ap (λ (z : ℤ). times_form z value)
-    (to_z_abs (get_or ts i (0, pos 0)).1 1000000000 (factor_small ts i each b) (omega arith))
-
-pub product_small : (ts : List (ℕ × ℤ)) (i : ℕ) (product value : UnknownForm) → AllByRecursion (λ (t : ℕ × ℤ). unsigned_abs t.1 ≤ 1000000000) ts → i < length ts
-    → product ≡ times_form (to_z w128 (of_z w128 (get_or ts i (0, pos 0)).1)) value → SmallBy 6800000000000 value → SmallBy 6800000000000000000000 product
-product_small ts i product value each b e h = subst (λ (f : UnknownForm). SmallBy 6800000000000000000000 f) (sym (product_is ts i product value each b e))
-    (small_times 1000000000 6800000000000 (get_or ts i (0, pos 0)).1 value (factor_small ts i each b) h)
 
 none_sum : (x : ℤ) → pos 0 +ℤ x ≡ x
 none_sum x = omega (arith, ints)

@@ -73,6 +73,24 @@ pub(crate) fn place_form(plan: &Plan, vector: &[Form], place: u32) -> Result<For
     Ok(total)
 }
 
+/// The product of a coefficient and what stands at a place at a vector.
+fn product_at(
+    plan: &Plan,
+    vector: &[Form],
+    place: u32,
+    coefficient: i128,
+) -> Result<Form, AllocError>
+    requires plan { IsPlan plan.now }
+    requires vector { SmallVector 3 (vector_of vector.now) }
+    requires coefficient { unsigned_abs coefficient ≤ LARGEST_NUMBER }
+    ensures value { IfOk result (λ form. form_of form ≡ times_form coefficient (place_form plan.now.task.automaton.now plan.now.task.pattern.now (vector_of vector.now) place)) }
+    ensures small { IfOk result (λ form. SmallBy (17000000000 * 400 * LARGEST_NUMBER) (form_of form)) }
+{
+    let value = place_form(plan, vector, place)?;
+    let product = times(plan.alloc, coefficient, &value)?;
+    Ok(product)
+}
+
 /// A form over places, given by its constant and its terms, at a vector.
 pub(crate) fn form_at(
     plan: &Plan,
@@ -89,8 +107,7 @@ pub(crate) fn form_at(
 {
     let mut total = Form::constant_of(plan.alloc, constant);
     for (place, coefficient) in terms {
-        let value = place_form(plan, vector, *place)?;
-        let product = times(plan.alloc, *coefficient, &value)?;
+        let product = product_at(plan, vector, *place, *coefficient)?;
         total = plus(plan.alloc, &total, &product)?;
     }
     Ok(total)

@@ -220,6 +220,45 @@ fn unknown_count(plan: &Plan, moments: &[Moment]) -> usize
     starts + moments.len() * moving.len()
 }
 
+/// The rows after those at the start.
+fn push_after_start(
+    plan: &Plan,
+    candidate: Option<u32>,
+    end: &[Form],
+    rows: &mut Vec<Row>,
+) -> Result<(), AllocError>
+    requires plan { IsPlan plan.now }
+    requires candidate { In candidate (candidates plan.now.task.pattern.now) }
+    requires end { vector_of end.now ≡ end_vector plan.now.task.automaton.now plan.now.task.pattern.now candidate }
+    ensures { OnOk result (AddsForms (flat_map (rows_of_event plan.now.task.automaton.now plan.now.task.pattern.now) (range_with_len 0 (length plan.now.task.pattern.now.events))
+        ++ (flat_map (rows_of_after plan.now.task.automaton.now plan.now.task.pattern.now) (range_with_len 0 (length plan.now.task.pattern.now.events))
+        ++ rows_of_end plan.now.task.automaton.now plan.now.task.pattern.now candidate)) rows.old.items rows.new.items) }
+{
+    push_events(plan, rows)?;
+    push_afters(plan, rows)?;
+    push_ends(plan, candidate, end, rows)?;
+    Ok(())
+}
+
+/// The node without facts, from the rows at the start.
+fn first_draft(plan: &Plan, candidate: Option<u32>, mut rows: Vec<Row>) -> Result<Draft, AllocError>
+    requires plan { IsPlan plan.now }
+    requires candidate { In candidate (candidates plan.now.task.pattern.now) }
+    requires rows { forms_of rows.items ≡ rows_at_start plan.now.task.automaton.now plan.now.task.pattern.now }
+    ensures { IfOk result (λ draft. (silent : List ℕ) → IsDraft plan.now.task.automaton.now plan.now.task.pattern.now silent candidate [] draft) }
+{
+    let end = end_vector(plan, candidate)?;
+    let moments = event_moments(plan)?;
+    push_after_start(plan, candidate, end.as_slice(), &mut rows)?;
+    let unknowns = unknown_count(plan, moments.as_slice());
+    Ok(Draft {
+        unknowns,
+        end,
+        moments,
+        rows,
+    })
+}
+
 /// A pattern's plan, and the node without facts.
 pub(crate) fn first<'a>(
     alloc: Global,
@@ -231,7 +270,7 @@ pub(crate) fn first<'a>(
     ensures plan { IfOk result (λ r. IsPlan r.0) }
     ensures draft { IfOk result (λ r. (silent : List ℕ) → IsDraft task.entry.automaton.now task.entry.pattern.now silent candidate [] r.1) }
 {
-    let (starts, mut rows) = start(alloc, task)?;
+    let (starts, rows) = start(alloc, task)?;
     let moving = moving_rules(alloc, task.automaton, task.pattern)?;
     let plan = Plan {
         alloc,
@@ -239,18 +278,6 @@ pub(crate) fn first<'a>(
         moving,
         starts,
     };
-    let end = end_vector(&plan, candidate)?;
-    let moments = event_moments(&plan)?;
-    push_events(&plan, &mut rows)?;
-    push_afters(&plan, &mut rows)?;
-    push_ends(&plan, candidate, end.as_slice(), &mut rows)?;
-    let known = moments.as_slice();
-    let unknowns = unknown_count(&plan, known);
-    let draft = Draft {
-        unknowns,
-        end,
-        moments,
-        rows,
-    };
+    let draft = first_draft(&plan, candidate, rows)?;
     Ok((plan, draft))
 }

@@ -90,8 +90,20 @@ fn with_term(form: Form, unknown: u32, coefficient: i128) -> Result<Form, AllocE
     })
 }
 
-/// The sum of a small form and the product of a small number and a small form. Where the latter is
-/// one unknown behind those of the sum so far, its term is added in place.
+/// The sum of a small form and the product of a small number and a small form.
+fn plus_product(alloc: Global, form: &Form, factor: i128, x: &Form) -> Result<Form, AllocError>
+    requires form { SmallBy (2 ^ 100) (form_of form.now) }
+    requires factor { unsigned_abs factor ≤ 17000000000 }
+    requires x { SmallBy 3 (form_of x.now) }
+    ensures { IfOk result (λ sum. form_of sum ≡ plus_form (form_of form.now) (times_form factor (form_of x.now))) }
+{
+    let product = times(alloc, factor, x)?;
+    let sum = plus(alloc, form, &product)?;
+    Ok(sum)
+}
+
+/// The same. Where the second form is one unknown behind those of the first, its term is added in
+/// place.
 pub(crate) fn plus_times(
     alloc: Global,
     form: Form,
@@ -103,14 +115,14 @@ pub(crate) fn plus_times(
     requires x { SmallBy 3 (form_of x.now) }
     ensures { IfOk result (λ sum. form_of sum ≡ plus_form (form_of form) (times_form factor (form_of x.now))) }
 {
-    if let Some((unknown, coefficient)) = only_term(x) {
-        let product = product_of(factor, coefficient);
-        if product != 0 && is_behind(form.terms.as_slice(), unknown) {
-            return with_term(form, unknown, product);
-        }
+    let Some((unknown, coefficient)) = only_term(x) else {
+        return plus_product(alloc, &form, factor, x);
+    };
+    let product = product_of(factor, coefficient);
+    if product == 0 || !is_behind(form.terms.as_slice(), unknown) {
+        return plus_product(alloc, &form, factor, x);
     }
-    let product = times(alloc, factor, x)?;
-    plus(alloc, &form, &product)
+    with_term(form, unknown, product)
 }
 
 /// The difference of two small forms.

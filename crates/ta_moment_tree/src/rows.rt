@@ -13,9 +13,9 @@ ghost use Rattle.ta_moment_tree.specs.Plan.{IsPlan};
 ghost use Rattle.ta_moment_tree.specs.Rows.{AddsForms};
 
 use crate::at::{form_at, place_form};
-use crate::form::{copy, may_be_negative, negated, opposite};
+use crate::form::may_be_negative;
 use crate::plan::{Plan, guard_row};
-use crate::vector::{difference_at, of_rule};
+use crate::vector::{copy_at, difference_at, opposite_at};
 use std::alloc::AllocError;
 use ta_automaton::Condition;
 use ta_base::masks::contains;
@@ -175,9 +175,8 @@ pub(crate) fn push_opposites(
     requires vector { SmallVector 3 (vector_of vector.now) }
     ensures { OnOk result (AddsForms (map (λ r. opposite_form (vector_of vector.now r)) rules.now) rows.old.items rows.new.items) }
 {
-    let zero = Form::constant_of(plan.alloc, 0);
     for rule in rules {
-        let form = opposite(plan.alloc, of_rule(vector, &zero, *rule))?;
+        let form = opposite_at(plan.alloc, vector, *rule)?;
         push_form(form, rows)?;
     }
     Ok(())
@@ -192,9 +191,8 @@ pub(crate) fn push_each(
 ) -> Result<(), AllocError>
     ensures { OnOk result (AddsForms (map (vector_of vector.now) rules.now) rows.old.items rows.new.items) }
 {
-    let zero = Form::constant_of(plan.alloc, 0);
     for rule in rules {
-        let form = copy(plan.alloc, of_rule(vector, &zero, *rule))?;
+        let form = copy_at(plan.alloc, vector, *rule)?;
         push_form(form, rows)?;
     }
     Ok(())

@@ -20,12 +20,12 @@ ghost use Rattle.ta_moment_tree.specs.Moments.{moment_of};
 ghost use Rattle.ta_moment_tree.specs.Plan.{IsPlan};
 ghost use Rattle.ta_moment_tree.specs.Rows.{AddsForms, last_rows};
 
-use crate::form::{minus, opposite, plus};
+use crate::form::{minus, opposite};
 use crate::moment::Moment;
 use crate::plan::{Plan, needing, sparing};
 use crate::rows::{push_below, push_counters, push_each, push_form, push_guard};
 use crate::silence::push_failing;
-use crate::vector::{fresh, of_rule, sums};
+use crate::vector::{fresh, plus_at, sums};
 use std::alloc::AllocError;
 use ta_linear::{Form, Row};
 
@@ -100,11 +100,10 @@ fn less_one(plan: &Plan, step: &[Form], rules: &[u32]) -> Result<Form, AllocErro
     ensures value { IfOk result (λ form. form_of form ≡ minus_form (sum_form (vector_of step.now) rules.now) (number_form (pos 1))) }
     ensures small { IfOk result (λ form. SmallBy 129 (form_of form)) }
 {
-    let zero = Form::constant_of(plan.alloc, 0);
     let one = Form::constant_of(plan.alloc, 1);
     let mut total = Form::constant_of(plan.alloc, 0);
     for rule in rules {
-        total = plus(plan.alloc, &total, of_rule(step, &zero, *rule))?;
+        total = plus_at(plan.alloc, &total, step, *rule)?;
     }
     let less = minus(plan.alloc, &total, &one)?;
     Ok(less)

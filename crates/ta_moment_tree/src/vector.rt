@@ -3,11 +3,11 @@
 
 ghost use Rattle.std.specs.Prelude.{ℕ, pos, ◌+◌, ◌≡◌, ◌≤◌, ◌<◌, ◌^◌, IfOk, IfNone, IfSome, length};
 ghost use Rattle.std.specs.List.{AllByRecursion};
-ghost use Rattle.ta_moments.specs.Forms.{minus_form, number_form, plus_form, unknown_form};
+ghost use Rattle.ta_moments.specs.Forms.{minus_form, number_form, opposite_form, plus_form, unknown_form};
 ghost use Rattle.ta_moments.specs.Moments.{Vector, fresh};
-ghost use Rattle.ta_moment_tree.specs.Forms.{SmallVector, form_of, vector_of};
+ghost use Rattle.ta_moment_tree.specs.Forms.{SmallBy, SmallVector, form_of, vector_of};
 
-use crate::form::{minus, plus, unknown};
+use crate::form::{copy, minus, opposite, plus, unknown};
 use std::alloc::{AllocError, Global};
 use ta_linear::Form;
 
@@ -20,6 +20,52 @@ pub(crate) fn of_rule<'v>(vector: &'v [Form], zero: &'v Form, rule: u32) -> &'v 
         None => zero,
         Some(form) => form,
     }
+}
+
+/// The form of a rule in a vector, once more.
+pub(crate) fn copy_at(alloc: Global, vector: &[Form], rule: u32) -> Result<Form, AllocError>
+    ensures { IfOk result (λ form. form_of form ≡ vector_of vector.now rule) }
+{
+    let zero = Form::constant_of(alloc, 0);
+    let form = copy(alloc, of_rule(vector, &zero, rule))?;
+    Ok(form)
+}
+
+/// The negative of the form of a rule in a vector.
+pub(crate) fn opposite_at(alloc: Global, vector: &[Form], rule: u32) -> Result<Form, AllocError>
+    requires { SmallVector 3 (vector_of vector.now) }
+    ensures { IfOk result (λ form. form_of form ≡ opposite_form (vector_of vector.now rule)) }
+{
+    let zero = Form::constant_of(alloc, 0);
+    let form = opposite(alloc, of_rule(vector, &zero, rule))?;
+    Ok(form)
+}
+
+/// The sum of a small form and the form of a rule in a vector.
+pub(crate) fn plus_at(
+    alloc: Global,
+    x: &Form,
+    vector: &[Form],
+    rule: u32,
+) -> Result<Form, AllocError>
+    requires form { SmallBy (2 ^ 120) (form_of x.now) }
+    requires vector { SmallVector 3 (vector_of vector.now) }
+    ensures { IfOk result (λ sum. form_of sum ≡ plus_form (form_of x.now) (vector_of vector.now rule)) }
+{
+    let zero = Form::constant_of(alloc, 0);
+    let sum = plus(alloc, x, of_rule(vector, &zero, rule))?;
+    Ok(sum)
+}
+
+/// The sum of two vectors at a rule.
+fn sum_at(alloc: Global, left: &[Form], right: &[Form], rule: u32) -> Result<Form, AllocError>
+    requires left { SmallVector 3 (vector_of left.now) }
+    requires right { SmallVector 3 (vector_of right.now) }
+    ensures { IfOk result (λ form. form_of form ≡ plus_form (vector_of left.now rule) (vector_of right.now rule)) }
+{
+    let zero = Form::constant_of(alloc, 0);
+    let sum = plus_at(alloc, of_rule(left, &zero, rule), right, rule)?;
+    Ok(sum)
 }
 
 /// The difference of two vectors at a rule.
@@ -113,15 +159,9 @@ pub(crate) fn sums(alloc: Global, left: &[Form], right: &[Form]) -> Result<Vec<F
     ensures value { IfOk result (λ forms. vector_of forms.items ≡ (λ r. plus_form (vector_of left.now r) (vector_of right.now r))) }
     ensures count { IfOk result (λ forms. length forms.items ≡ length left.now) }
 {
-    let zero = Form::constant_of(alloc, 0);
     let mut forms = Vec::with_capacity(alloc, left.len())?;
     for rule in 0..left.len() {
-        let number = rule as u32;
-        let sum = plus(
-            alloc,
-            of_rule(left, &zero, number),
-            of_rule(right, &zero, number),
-        )?;
+        let sum = sum_at(alloc, left, right, rule as u32)?;
         forms.push(sum)?;
     }
     Ok(forms)

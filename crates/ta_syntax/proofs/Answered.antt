@@ -28,7 +28,8 @@ text_is : (ks : List Kind) → Spans true file ks [] → FileText ks
 text_is ks s = let t = t_file true in let x = t.from ks [] s in (x.0, x.1.0, sym (append-nil (file_kinds x.0)) ∙ sym x.2)
 
 spans_text : (ks : List Kind) → FileText ks → Spans true file ks []
-spans_text ks x = let t = t_file true in subst (λ (z : List Kind). Spans true file z []) (append-nil (file_kinds x.0) ∙ x.2) (t.to x.0 (x.1, λ e. absurd (false_true (sym e))) [])
+spans_text ks x = let t = t_file true in subst (λ (z : List Kind). Spans true file z []) (append-nil (file_kinds x.0) ∙ x.2)
+    (t.to x.0 (x.1, λ e. absurd (false_true (sym e))) [])
 
 -- kinds that go on as the tokens do, up to the first of `bad`
 agrees_there : (front bad : List Token) (other : List Kind) → SameStart (kinds bad) other → Agrees (length bad) (front ++ bad) (kinds front ++ other)
@@ -43,7 +44,8 @@ refused_there : (ts front bad : List Token) (r : Parsed) → ts ≡ front ++ bad
     → Refuses FileText (kinds front) (kinds bad)
 refused_there ts front bad r split e never le other same text =
     never other same (subst (GoesOn true (length bad) []) e (goes true file [] (length bad) ts (kinds front ++ other) [] ready_file
-    (subst (λ (z : List Token). Agrees (length bad) z (kinds front ++ other)) (sym split) (agrees_there front bad other same)) (spans_text (kinds front ++ other) text) tt) le)
+    (subst (λ (z : List Token). Agrees (length bad) z (kinds front ++ other)) (sym split) (agrees_there front bad other same))
+    (spans_text (kinds front ++ other) text) tt) le)
 
 pub wrong_there : (end : ℕ) (ts bad : List Token) → parse file ts ≡ Err (wrong, bad) → IsWrong FileText at_start end ts (offset_of end bad)
 wrong_there end ts bad e =
@@ -72,7 +74,8 @@ trailing_there end ts t bad e =
       within = x.within;
     }
 
-past_there : (over : Counts → Kind → Type 0) (ts front bad : List Token) (t : Token) (x more : List Kind) → ts ≡ front ++ t ∷ bad → StaysWithin at_start (kinds front)
+past_there : (over : Counts → Kind → Type 0) (ts front bad : List Token) (t : Token) (x more : List Kind) → ts ≡ front ++ t ∷ bad
+    → StaysWithin at_start (kinds front)
     → over (run at_start (kinds front)) t.kind → Spans true file (kinds front ++ x) [] → x ≡ t.kind ∷ more → IsPast over FileText at_start ts t.at
 past_there over ts front bad t x more split within past s e = record {
   front = front;
@@ -80,7 +83,11 @@ past_there over ts front bad t x more split within past s e = record {
   bad = bad;
   split = split;
   place = refl;
-  begins = (more, subst FileText (ap (λ (z : List Kind). kinds front ++ z) e ∙ sym (append_assoc (kinds front) (t.kind ∷ []) more)) (text_is (kinds front ++ x) s));
+  begins = (
+    more,
+    subst FileText (ap (λ (z : List Kind). kinds front ++ z) e ∙ sym (append_assoc (kinds front) (t.kind ∷ []) more))
+        (text_is (kinds front ++ x) s),
+  );
   within = within;
   past = past;
 }

@@ -29,7 +29,8 @@ module _ {A : Type 0} (g : Production) (spelled : A → List Kind) (stated : A �
   pub ended_absent : (tokens : List Token) (items : List A) → items ≡ [] → IsOther tokens m → Ended items tokens tokens
   ended_absent tokens items none other = subst (λ (z : List A). Ended z tokens tokens) (sym none) (record { few = omega arith; took = maybe_skipped m other })
 
-  pub took_ended : (items : List A) (tokens inner rest : List Token) → BeginsWithKind tokens (kind.Fixed m) inner → End items inner rest → Ended items tokens rest
+  pub took_ended : (items : List A) (tokens inner rest : List Token) → BeginsWithKind tokens (kind.Fixed m) inner → End items inner rest
+      → Ended items tokens rest
   took_ended [] tokens inner rest b t = let some : 1 ≤ 0 = t.some in absurd (omega arith)
   took_ended (x ∷ xs) tokens inner rest b t = record { few = t.few; took = then (maybe_taken m b) t.took }
 

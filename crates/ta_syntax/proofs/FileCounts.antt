@@ -12,7 +12,8 @@ use Rattle.ta_syntax.specs.declared.tokens.Relation.{Relation}
 use Rattle.ta_syntax.specs.declared.tokens.Relation.TheVariants as relation
 use Rattle.ta_syntax.specs.Productions.{Class, code, has, only, names, numbers, Production, nothing, one, both, repeat, first, deep, many}
 use Rattle.ta_syntax.specs.FileGrammar.{a_mark, a_name, signs, relations, maybe, term_with, sum_with, nested_with, free_factor, factor, a_sum, further}
-use Rattle.ta_syntax.specs.FileGrammar.{items, blocks, list_end, led, ended, declared_list, location, update, comparison, name_then, rule, event, pattern, head, file}
+use Rattle.ta_syntax.specs.FileGrammar.{items, blocks, list_end, led, ended, declared_list, location, update, comparison, name_then, rule, event, pattern, head}
+use Rattle.ta_syntax.specs.FileGrammar.{file}
 use Rattle.ta_syntax.proofs.Parsing.{inside, false_true}
 use Rattle.ta_syntax.proofs.Halting.{Alive, Passes, Says, says_as, says_each, says_nothing, says_one, says_both, says_choose, says_repeat, says_barred}
 use Rattle.ta_syntax.proofs.FileSpans.{only_is, sign_is, relation_is, no_mark}
@@ -299,7 +300,8 @@ says_pattern r p =
     (says_both (says_ended r p 0 mark.Start 16 comparison tt (λ c. refl) refl keeps_comparison)
     (says_both (says_ended r p 0 mark.Empty 32 a_name tt (λ c. refl) refl keeps_name)
     (says_both (says_as (λ c h. (0, refl, h)) (λ c h. h)
-    (says_blocks mark.Event event (Events r p) (After_events r p) alive_event (λ c h. omega (arith, h.1, h.2.events)) (says_event_block r p) (λ n c h. (h.0, h.2)) 8))
+    (says_blocks mark.Event event (Events r p) (After_events r p) alive_event (λ c h. omega (arith, h.1, h.2.events)) (says_event_block r p)
+    (λ n c h. (h.0, h.2)) 8))
     (says_quiet mark.CloseBrace tt (λ c h. h.1.room) (λ c h. h)))))
 
 -- with so many patterns to come
@@ -340,7 +342,8 @@ says_head =
     (says_both (says_between 0 0 0 mark.Processes tt (λ c. refl)) (says_both (keeps_between 0 0 0 a_sum keeps_sum) (says_semicolon 0 0 0)))))))
 
 pub says_file : Says file (λ c. c ≡ at_start) (λ c. Unit {0})
-says_file = says_as (λ c e. subst (Between 0 0 0) (sym e) (record { closed = refl; room = omega arith; rules = refl; patterns = refl; events = refl })) (λ c h. h)
+says_file = says_as (λ c e. subst (Between 0 0 0) (sym e) (record { closed = refl; room = omega arith; rules = refl; patterns = refl; events = refl }))
+    (λ c h. h)
     (says_both says_head (says_both (says_declared 0 0 0 mark.Resilience 16 comparison (omega arith) tt (λ c. refl) refl keeps_comparison)
     (says_both (says_as {Q = Patterns 16} (λ c h. (0, refl, h)) (λ c h. h) (says_blocks mark.Rule rule Rules (Patterns 16) alive_rule
     (λ c h. omega (arith, h.1, h.2.rules)) says_rule_block (λ n c h. (h.0, 0, 0, refl, h.2)) 128))

@@ -22,17 +22,44 @@ ready_nested F f r = (tt, (r, tt))
 
 ready_free : (n : ℕ) (f : Class) → Ready (free_factor n) f
 ready_free zero f = tt
-ready_free (suc zero) f = (ready_nested (free_factor zero) f (ready_sum (free_factor zero) (only mark.Close) (ready_free zero) refl refl refl refl refl refl), tt, refl, refl, refl)
-ready_free (suc (suc n)) f = (ready_nested (free_factor (suc n)) f (ready_sum (free_factor (suc n)) (only mark.Close) (ready_free (suc n)) refl refl refl refl refl refl), tt, refl, refl, refl)
+ready_free (suc zero) f = (
+  ready_nested (free_factor zero) f (ready_sum (free_factor zero) (only mark.Close) (ready_free zero) refl refl refl refl refl refl),
+  tt,
+  refl,
+  refl,
+  refl,
+)
+ready_free (suc (suc n)) f = (
+  ready_nested (free_factor (suc n)) f
+      (ready_sum (free_factor (suc n)) (only mark.Close) (ready_free (suc n)) refl refl refl refl refl refl),
+  tt,
+  refl,
+  refl,
+  refl,
+)
 
 ready_free_nested : (n : ℕ) (f : Class) → Ready (nested_with (free_factor n)) f
 ready_free_nested zero f = ready_nested (free_factor zero) f (ready_sum (free_factor zero) (only mark.Close) (ready_free zero) refl refl refl refl refl refl)
-ready_free_nested (suc n) f = ready_nested (free_factor (suc n)) f (ready_sum (free_factor (suc n)) (only mark.Close) (ready_free (suc n)) refl refl refl refl refl refl)
+ready_free_nested (suc n) f = ready_nested (free_factor (suc n)) f
+    (ready_sum (free_factor (suc n)) (only mark.Close) (ready_free (suc n)) refl refl refl refl refl refl)
 
 pub ready_factor : (n : ℕ) (f : Class) → Ready (factor n) f
 ready_factor zero f = ((refl, λ n. (ready_free_nested n f, refl, refl)), tt, refl, refl, refl)
-ready_factor (suc zero) f = (ready_nested (factor zero) f (ready_sum (factor zero) (only mark.Close) (ready_factor zero) refl refl refl refl refl refl), tt, refl, refl, refl)
-ready_factor (suc (suc n)) f = (ready_nested (factor (suc n)) f (ready_sum (factor (suc n)) (only mark.Close) (ready_factor (suc n)) refl refl refl refl refl refl), tt, refl, refl, refl)
+ready_factor (suc zero) f = (
+  ready_nested (factor zero) f (ready_sum (factor zero) (only mark.Close) (ready_factor zero) refl refl refl refl refl refl),
+  tt,
+  refl,
+  refl,
+  refl,
+)
+ready_factor (suc (suc n)) f = (
+  ready_nested (factor (suc n)) f
+      (ready_sum (factor (suc n)) (only mark.Close) (ready_factor (suc n)) refl refl refl refl refl refl),
+  tt,
+  refl,
+  refl,
+  refl,
+)
 
 ready_sums : (f : Class) → apart numbers (follow (factor 32) (joined signs f)) ≡ true → apart (only mark.Star) (joined signs f) ≡ true
     → apart (only mark.Minus) (follow (both (term_with (factor 32)) (tail_of (factor 32))) f) ≡ true → apart signs f ≡ true → Ready a_sum f
@@ -61,7 +88,8 @@ blocks_null : (n : ℕ) (m : Mark) (body : Production) → nullable (blocks n m 
 blocks_null zero m body = refl
 blocks_null (suc n) m body = refl
 
-module _ (m : Mark) (body : Production) (f : Class) (r : Ready body (joined (only m) f)) (within : inside (only m) (only m) ≡ true) (mark : apart (only m) f ≡ true)
+module _ (m : Mark) (body : Production) (f : Class) (r : Ready body (joined (only m) f)) (within : inside (only m) (only m) ≡ true)
+    (mark : apart (only m) f ≡ true)
   where
     pub ready_blocks : (n : ℕ) → Ready (blocks n m body) f
     ready_blocks zero = ((refl, λ n. (((tt, r), ((tt, r), refl, within, mark)), refl, within)), tt, refl, within, mark)
@@ -137,7 +165,8 @@ ready_file = (
     ),
   ),
   (
-    ready_declared mark.Resilience 16 comparison [] (ready_comparisons ended_class 16 (ready_comparison (joined (only mark.Comma) ended_class) refl refl refl refl) refl) refl,
+    ready_declared mark.Resilience 16 comparison []
+        (ready_comparisons ended_class 16 (ready_comparison (joined (only mark.Comma) ended_class) refl refl refl refl) refl) refl,
     (ready_blocks mark.Rule rule (only mark.Pattern) (ready_rule []) refl refl 128, ready_blocks mark.Pattern pattern [] (ready_pattern []) refl refl 16),
   ),
 )

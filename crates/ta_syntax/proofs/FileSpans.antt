@@ -1,5 +1,6 @@
 -- The texts of the productions are those of the grammar's trees.
-use Rattle.std.proofs.Common.{refl, ap, sym, subst, ◌≡◌, ◌∙◌, ◌++◌, ◌⊎◌, ◌≤◌, ◌==◌, inl, inr, ℕ, zero, suc, Bool, true, false, cond, List, [], ◌∷◌, append_assoc}
+use Rattle.std.proofs.Common.{refl, ap, sym, subst, ◌≡◌, ◌∙◌, ◌++◌, ◌⊎◌, ◌≤◌, ◌==◌, inl, inr, ℕ, zero, suc, Bool, true, false, cond, List, [], ◌∷◌}
+use Rattle.std.proofs.Common.{append_assoc}
 use Rattle.std.specs.Prelude.{max}
 use Rattle.std.proofs.lemmas.List.{append-nil}
 use Rattle.std.proofs.Common.{⊎_elim, arith, length, eqb-true, Option, Some, None}
@@ -158,7 +159,8 @@ joined_kinds ks mid w a b e f = e ∙ ap (λ (z : List Kind). a ++ z) f ∙ sym 
 to_two : (v : Bool) (a b : Production) (x y w : List Kind) → Spans v a (x ++ (y ++ w)) (y ++ w) → Spans v b (y ++ w) w → Spans v (both a b) ((x ++ y) ++ w) w
 to_two v a b x y w s t = (y ++ w, subst (λ (z : List Kind). Spans v a z (y ++ w)) (sym (append_assoc x y w)) s, t)
 
-pub t_both : {A B : Type 0} {v : Bool} {a b : Production} {P : A → Type 0} {Q : B → Type 0} {f : A → List Kind} {h : B → List Kind} → Tells v a P f → Tells v b Q h
+pub t_both : {A B : Type 0} {v : Bool} {a b : Production} {P : A → Type 0} {Q : B → Type 0} {f : A → List Kind} {h : B → List Kind} → Tells v a P f
+    → Tells v b Q h
     → Tells v (both a b) (Both P Q) (both_kinds f h)
 t_both {v} {a} {b} {f} {h} x y = record {
   to = λ p is w. to_two v a b (f p.0) (h p.1) w (x.to p.0 is.0 (h p.1 ++ w)) (y.to p.1 is.1 w);
@@ -168,8 +170,10 @@ t_both {v} {a} {b} {f} {h} x y = record {
       ((u.0, z.0), (u.1, z.1), joined_kinds ks s.0 w (f u.0) (h z.0) u.2 z.2);
 }
 
-pub t_as : {A B : Type 0} {v : Bool} {g : Production} {P : A → Type 0} {Q : B → Type 0} {f : A → List Kind} {h : B → List Kind} → (there : A → B) → (back : B → A)
-    → ((x : A) → P x → Q (there x)) → ((y : B) → Q y → P (back y)) → ((x : A) → f x ≡ h (there x)) → ((y : B) → h y ≡ f (back y)) → Tells v g P f → Tells v g Q h
+pub t_as : {A B : Type 0} {v : Bool} {g : Production} {P : A → Type 0} {Q : B → Type 0} {f : A → List Kind} {h : B → List Kind} → (there : A → B)
+    → (back : B → A)
+    → ((x : A) → P x → Q (there x)) → ((y : B) → Q y → P (back y)) → ((x : A) → f x ≡ h (there x)) → ((y : B) → h y ≡ f (back y)) → Tells v g P f
+    → Tells v g Q h
 t_as {v} {g} there back p q e f x = record {
   to = λ y is w. subst (λ (z : List Kind). Spans v g (z ++ w) w) (sym (f y)) (x.to (back y) (q y is) w);
   from = λ ks w s. let u = x.from ks w s in (there u.0, p u.0 u.1, u.2 ∙ ap (λ (z : List Kind). z ++ w) (e u.0));
@@ -200,7 +204,8 @@ module _ (v : Bool) (F : Production) (D : ℕ → Type 0) (down : (j k : ℕ) �
     (to : (f : Factor) → IsFactor f → D (factor_depth f) → (w : List Kind) → Spans v F (factor_kinds f ++ w) w) where
   term_to : (t : Term) → IsTerm t → D (term_depth t) → (w : List Kind) → Spans v (term_with F) (term_kinds t ++ w) w
   term_to (number x) is d w = inl (w, (is, refl, refl), inr refl)
-  term_to (times x f) is d w = inl (kind.Fixed mark.Star ∷ (factor_kinds f ++ w), (is.0, refl, refl), inl (factor_kinds f ++ w, (tt, refl, refl), to f is.1 d w))
+  term_to (times x f) is d w = inl
+      (kind.Fixed mark.Star ∷ (factor_kinds f ++ w), (is.0, refl, refl), inl (factor_kinds f ++ w, (tt, refl, refl), to f is.1 d w))
   term_to (alone f) is d w = inr (to f is d w)
   term_to blank is d w = absurd is
 
@@ -388,7 +393,12 @@ module _ {A : Type 0} (v : Bool) (item : Production) (Is : A → Type 0) (f : A 
         suc m.0,
         (
           rest ++ w,
-          ((f x ++ rest) ++ w, (tt, refl, refl), subst (λ (z : List Kind). Spans v item z (rest ++ w)) (sym (append_assoc (f x) rest w)) (t.to x all.0 (rest ++ w))),
+          (
+            (f x ++ rest) ++ w,
+            (tt, refl, refl),
+            subst (λ (z : List Kind). Spans v item z (rest ++ w)) (sym (append_assoc (f x) rest w))
+                (t.to x all.0 (rest ++ w)),
+          ),
           m.1,
         ),
       )
@@ -430,7 +440,8 @@ module _ {A : Type 0} (v : Bool) (item : Production) (Is : A → Type 0) (f : A 
   )
   items_to (suc n) (x ∷ []) is w = to_two v item (maybe mark.Comma (items n item)) (f x) [] w (t.to x is.1.0 w) (inr refl)
   items_to (suc n) (x ∷ y ∷ ys) is w = to_two v item (maybe mark.Comma (items n item)) (f x) (grammar.further kind.Fixed f (y ∷ ys)) w
-      (t.to x is.1.0 (grammar.further kind.Fixed f (y ∷ ys) ++ w)) (inl (listed kind.Fixed f (y ∷ ys) ++ w, (tt, refl, refl), items_to n (y ∷ ys) (tt, is.1.1, fewer n x (y ∷ ys) is.2) w))
+      (t.to x is.1.0 (grammar.further kind.Fixed f (y ∷ ys) ++ w))
+      (inl (listed kind.Fixed f (y ∷ ys) ++ w, (tt, refl, refl), items_to n (y ∷ ys) (tt, is.1.1, fewer n x (y ∷ ys) is.2) w))
 
   further_listed : (xs : List A) → IsSome xs → kind.Fixed mark.Comma ∷ listed kind.Fixed f xs ≡ grammar.further kind.Fixed f xs
   further_listed [] some = absurd some
@@ -459,14 +470,17 @@ module _ {A : Type 0} (v : Bool) (item : Production) (Is : A → Type 0) (f : A 
   list_end_kinds xs = listed kind.Fixed f xs ++ kind.Fixed mark.Semicolon ∷ []
 
   pub t_list_end : (n : ℕ) → Tells v (list_end n item) (Some_items n) list_end_kinds
-  t_list_end n = t_as (λ p. p.0) (λ xs. (xs, tt)) (λ p is. is.0) (λ xs is. (is, tt)) (λ p. refl) (λ xs. refl) (t_both (t_items n) (t_mark v mark.Semicolon refl))
+  t_list_end n = t_as (λ p. p.0) (λ xs. (xs, tt)) (λ p is. is.0) (λ xs is. (is, tt)) (λ p. refl) (λ xs. refl)
+      (t_both (t_items n) (t_mark v mark.Semicolon refl))
 
   -- what may be absent
-  module _ (m : Mark) (g : Production) (n : ℕ) (h : List A → List Kind) (u : Tells v g (Some_items n) h) (same : has (only m) (mark_code m) ≡ true) (all : List A → List Kind)
+  module _ (m : Mark) (g : Production) (n : ℕ) (h : List A → List Kind) (u : Tells v g (Some_items n) h) (same : has (only m) (mark_code m) ≡ true)
+      (all : List A → List Kind)
       (none : all [] ≡ []) (some : (x : A) (xs : List A) → all (x ∷ xs) ≡ kind.Fixed m ∷ h (x ∷ xs)) where
     maybe_to : (xs : List A) → Items n xs → (w : List Kind) → Spans v (maybe m g) (all xs ++ w) w
     maybe_to [] is w = inr (ap (λ (z : List Kind). z ++ w) none)
-    maybe_to (x ∷ xs) is w = subst (λ (z : List Kind). Spans v (maybe m g) (z ++ w) w) (sym (some x xs)) (inl (h (x ∷ xs) ++ w, (tt, same, refl), u.to (x ∷ xs) (tt, is.0, is.1) w))
+    maybe_to (x ∷ xs) is w = subst (λ (z : List Kind). Spans v (maybe m g) (z ++ w) w) (sym (some x xs))
+        (inl (h (x ∷ xs) ++ w, (tt, same, refl), u.to (x ∷ xs) (tt, is.0, is.1) w))
 
     all_some : (xs : List A) → IsSome xs → kind.Fixed m ∷ h xs ≡ all xs
     all_some [] is = absurd is
@@ -527,7 +541,8 @@ module _ {A : Type 0} (v : Bool) (item : Production) (Is : A → Type 0) (f : A 
       ),
     )
 
-    repeat_from : (n : ℕ) (ks w : List Kind) → Turns (Spans v (both (a_mark m) item)) n ks w → (xs : List A) × AllByRecursion Is xs × (ks ≡ each (marked m) xs ++ w)
+    repeat_from : (n : ℕ) (ks w : List Kind) → Turns (Spans v (both (a_mark m) item)) n ks w → (xs : List A) × AllByRecursion Is xs
+        × (ks ≡ each (marked m) xs ++ w)
     repeat_from zero ks w s = ([], tt, s)
     repeat_from (suc n) ks w (mid, s, u) =
         let x = marked_from ks mid s in
@@ -563,7 +578,8 @@ module _ {A : Type 0} (v : Bool) (item : Production) (Is : A → Type 0) (f : A 
 
 -- ---- the parts of a file
 
-all_split : {A : Type 0} (v : Bool) (P Q : A → Type 0) (xs : List A) → AllByRecursion (Limited v P Q) xs → AllByRecursion P xs × (v ≡ false → AllByRecursion Q xs)
+all_split : {A : Type 0} (v : Bool) (P Q : A → Type 0) (xs : List A) → AllByRecursion (Limited v P Q) xs → AllByRecursion P xs
+    × (v ≡ false → AllByRecursion Q xs)
 all_split v P Q [] all = (tt, λ e. tt)
 all_split v P Q (x ∷ xs) all = let r = all_split v P Q xs all.1 in ((all.0.0, r.0), λ e. (all.0.1 e, r.1 e))
 
@@ -592,7 +608,8 @@ behind_rule r = kind.Name r.name ∷ kind.Fixed mark.Colon ∷ kind.Name r.from 
 
 abbrev pub behind_event : PlainEvent → List Kind
 behind_event e = kind.Name e.name ∷
-    (grammar.led kind.Fixed mark.After name_kinds e.after ++ kind.Fixed mark.Colon ∷ (listed kind.Fixed comparison_kinds e.condition ++ kind.Fixed mark.Semicolon ∷ []))
+    (grammar.led kind.Fixed mark.After name_kinds e.after
+    ++ kind.Fixed mark.Colon ∷ (listed kind.Fixed comparison_kinds e.condition ++ kind.Fixed mark.Semicolon ∷ []))
 
 abbrev pub behind_pattern : PlainPattern → List Kind
 behind_pattern p = kind.Name p.name ∷ kind.Fixed mark.OpenBrace ∷

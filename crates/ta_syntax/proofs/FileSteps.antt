@@ -1,19 +1,24 @@
 -- The tokens of a whole file that was read, and the faults of reading one.
 use Rattle.ta_syntax.proofs.Common.{◌≡◌, ℕ, List, [], ◌∷◌, ◌++◌, map, sym, ap, subst, ◌∙◌, append_assoc, append-nil, listed, each, name_kinds, location_kinds}
-use Rattle.ta_syntax.proofs.Common.{comparison_kinds, update_kinds, rule_kinds, event_kinds, pattern_kinds, file_kinds, sum_kinds, FileText, at_start, IsStopped}
+use Rattle.ta_syntax.proofs.Common.{comparison_kinds, update_kinds, rule_kinds, event_kinds, pattern_kinds, file_kinds, sum_kinds, FileText, at_start}
+use Rattle.ta_syntax.proofs.Common.{IsStopped}
 use Rattle.ta_syntax.proofs.Common.{plain_name, plain_comparison, plain_location, plain_update, plain_rule, plain_event, plain_pattern, plain_sum}
-use Rattle.ta_syntax.proofs.Common.{Offsets, IsPlaced, at_first, unplaced, name_stated, location_stated, sum_stated, comparison_stated, rule_stated, pattern_stated, rule_body, rule_body_stated, event_body, pattern_body}
-use Rattle.ta_syntax.proofs.Common.{pattern_body_stated, spell_name, spell_location, spell_comparison, kinds, Kind, Token, FileFault, Spelled, TreeLocation}
+use Rattle.ta_syntax.proofs.Common.{Offsets, IsPlaced, at_first, unplaced, name_stated, location_stated, sum_stated, comparison_stated}
+use Rattle.ta_syntax.proofs.Common.{rule_stated, pattern_stated, rule_body, event_body, pattern_body}
+use Rattle.ta_syntax.proofs.Common.{spell_name, spell_location, spell_comparison, kinds, Kind, Token, FileFault, Spelled, TreeLocation}
 use Rattle.ta_syntax.proofs.Common.{TreeSum, TreeComparison, TreeRule, TreeEvent, TreePattern}
 use Rattle.ta_syntax.specs.declared.tokens.Kind.TheVariants as kind
 use Rattle.ta_syntax.specs.declared.tokens.Mark.TheVariants as mark
 use Rattle.ta_syntax.specs.declared.fault.FileFault.TheVariants as fault
+use Rattle.ta_syntax.specs.declared.file.Body.{Body}
 use Rattle.ta_syntax.specs.declared.file.Head.{Head}
-use Rattle.ta_syntax.specs.Productions.{nothing, parse, wrong, many, deep}
+use Rattle.ta_syntax.specs.Productions.{Production, wrong, many, deep}
 use Rattle.ta_syntax.specs.FileGrammar as grammar
-use Rattle.ta_syntax.specs.Reading.{Took, Halts, with_mark}
-use Rattle.ta_syntax.specs.FileReading.{head_kinds_of, head_stated}
+use Rattle.ta_syntax.specs.Reading.{Step, Took, Halts, with_mark}
+use Rattle.ta_syntax.specs.FileReading.{IsBodyFault, body, body_kinds, body_stated, names_kinds, names_stated, places_kinds, places_stated}
 use Rattle.ta_syntax.proofs.PrintSteps.{listed-map, led-map, ended-map, each-map}
+use Rattle.ta_syntax.proofs.Steps.{halts_by}
+use Rattle.ta_syntax.proofs.Common.{inl, inr}
 use Rattle.ta_syntax.proofs.Answered.{wrong_there, trailing_there, many_there, deep_there}
 
 -- ---- the tokens of blocks without offsets
@@ -39,11 +44,13 @@ pattern_spelled p =
 -- ---- a file
 
 -- what was parsed with no token left
-whole_took : (tokens rest : List Token) (text : List Kind) (x : List Offsets) → Took grammar.file text x tokens rest → rest ≡ []
-    → (kinds tokens ≡ text) × IsPlaced x tokens
-whole_took tokens rest text x a none =
-    let front : tokens ≡ a.front = a.split ∙ ap (λ (z : List Token). a.front ++ z) none ∙ append-nil a.front in
+whole_took : (tokens : List Token) (text : List Kind) (x : List Offsets) → Took grammar.file text x tokens [] → (kinds tokens ≡ text) × IsPlaced x tokens
+whole_took tokens text x a =
+    let front : tokens ≡ a.front = a.split ∙ append-nil a.front in
     (ap kinds front ∙ a.spelled, subst (IsPlaced x) (sym front) a.placed)
+
+pub to_end : {g : Production} {tokens rest : List Token} {text : List Kind} {x : List Offsets} → Took g text x tokens rest → rest ≡ [] → Took g text x tokens []
+to_end {g} {tokens} {rest} {text} {x} s none = subst (Took g text x tokens) none s
 
 -- a file behind its name
 abbrev tail_kinds : List Kind → List Kind → List Kind → List Kind → List Kind → List Kind → List Kind → List Kind
@@ -72,54 +79,49 @@ plain_lists parameters shared locations processes resilience rules patterns = sa
         → tail_kinds p s l n c r q ≡ tail_kinds p' s' l' n c' r' q'
     same p p' s s' l l' n c c' r r' q q' e1 e2 e3 e4 e5 e6 = cc
 
-module _ (h : Head) (resilience : List TreeComparison) (rules : List TreeRule) (patterns : List TreePattern) where
+module _ (h : Head) (b : Body) where
   abbrev all_kinds : List Kind
-  all_kinds = head_kinds_of h ++ ((kind.Fixed mark.Resilience ∷ (listed kind.Fixed spell_comparison resilience ++ kind.Fixed mark.Semicolon ∷ []))
-      ++ (each (with_mark (kind.Fixed mark.Rule) rule_body) rules ++ each (with_mark (kind.Fixed mark.Pattern) pattern_body) patterns))
+  all_kinds = (names_kinds h.names ++ places_kinds h.places) ++ body_kinds b
 
   abbrev all_stated : List Offsets
-  all_stated = head_stated h ++ (([] ∷ (listed unplaced comparison_stated resilience ++ [] ∷ []))
-      ++ (each (with_mark [] rule_body_stated) rules ++ each (with_mark [] pattern_body_stated) patterns))
+  all_stated = (names_stated h.names ++ places_stated h.places) ++ body_stated b
 
-  all_plain : all_kinds ≡ kind.Fixed mark.Automaton ∷ kind.Name h.name.name ∷ kind.Fixed mark.Semicolon ∷ tail_kinds
-      (listed kind.Fixed spell_name h.parameters) (listed kind.Fixed spell_name h.shared) (listed kind.Fixed spell_location h.locations)
-      (sum_kinds (plain_sum h.processes)) (listed kind.Fixed spell_comparison resilience)
-      (each (with_mark (kind.Fixed mark.Rule) rule_body) rules) (each (with_mark (kind.Fixed mark.Pattern) pattern_body) patterns)
+  all_plain : all_kinds ≡ kind.Fixed mark.Automaton ∷ kind.Name h.names.name.name ∷ kind.Fixed mark.Semicolon ∷ tail_kinds
+      (listed kind.Fixed spell_name h.names.parameters) (listed kind.Fixed spell_name h.names.shared) (listed kind.Fixed spell_location h.places.locations)
+      (sum_kinds (plain_sum h.places.processes)) (listed kind.Fixed spell_comparison b.resilience)
+      (each (with_mark (kind.Fixed mark.Rule) rule_body) b.rules) (each (with_mark (kind.Fixed mark.Pattern) pattern_body) b.patterns)
   all_plain = simp append_assoc
 
-  pub file_spelled : (tokens rest : List Token) → Took grammar.file all_kinds all_stated tokens rest → rest ≡ [] → kinds tokens ≡ file_kinds
+  pub file_spelled : (tokens : List Token) → Took grammar.file all_kinds all_stated tokens [] → kinds tokens ≡ file_kinds
       (record {
-        name = h.name.name;
-        parameters = map plain_name h.parameters;
-        shared = map plain_name h.shared;
-        locations = map plain_location h.locations;
-        processes = plain_sum h.processes;
-        resilience = map plain_comparison resilience;
-        rules = map plain_rule rules;
-        patterns = map plain_pattern patterns;
+        name = h.names.name.name;
+        parameters = map plain_name h.names.parameters;
+        shared = map plain_name h.names.shared;
+        locations = map plain_location h.places.locations;
+        processes = plain_sum h.places.processes;
+        resilience = map plain_comparison b.resilience;
+        rules = map plain_rule b.rules;
+        patterns = map plain_pattern b.patterns;
       })
-  file_spelled tokens rest took none = let w = whole_took tokens rest all_kinds all_stated took none in
-      w.0 ∙ all_plain ∙ ap (λ (z : List Kind). kind.Fixed mark.Automaton ∷ kind.Name h.name.name ∷ kind.Fixed mark.Semicolon ∷ z)
-      (plain_lists h.parameters h.shared h.locations h.processes resilience rules patterns)
+  file_spelled tokens took = let w = whole_took tokens all_kinds all_stated took in
+      w.0 ∙ all_plain ∙ ap (λ (z : List Kind). kind.Fixed mark.Automaton ∷ kind.Name h.names.name.name ∷ kind.Fixed mark.Semicolon ∷ z)
+      (plain_lists h.names.parameters h.names.shared h.places.locations h.places.processes b.resilience b.rules b.patterns)
 
-  -- what a tree of these parts states, but for its rules and patterns
-  abbrev places : List TreeRule → List TreePattern → List Offsets
-  places rs ps =
-      [] ∷ (h.name.at ∷ []) ∷ []
-      ∷ [] ∷ (listed unplaced name_stated h.parameters ++ []
-      ∷ [] ∷ (listed unplaced name_stated h.shared ++ []
-      ∷ (h.locations_at ∷ []) ∷ (listed unplaced location_stated h.locations ++ []
-      ∷ [] ∷ (at_first h.processes_at (sum_stated h.processes) ++ []
-      ∷ [] ∷ (listed unplaced comparison_stated resilience ++ [] ∷ (each rule_stated rs ++ each pattern_stated ps))))))
+  -- what a tree of these parts states
+  abbrev tree_places : List Offsets
+  tree_places =
+      [] ∷ (h.names.name.at ∷ []) ∷ []
+      ∷ [] ∷ (listed unplaced name_stated h.names.parameters ++ []
+      ∷ [] ∷ (listed unplaced name_stated h.names.shared ++ []
+      ∷ (h.places.locations_at ∷ []) ∷ (listed unplaced location_stated h.places.locations ++ []
+      ∷ [] ∷ (at_first h.places.processes_at (sum_stated h.places.processes) ++ []
+      ∷ [] ∷ (listed unplaced comparison_stated b.resilience ++ [] ∷ (each rule_stated b.rules ++ each pattern_stated b.patterns))))))
 
-  all_places : all_stated ≡ places rules patterns
+  all_places : all_stated ≡ tree_places
   all_places = simp append_assoc
 
-  pub file_placed : (rs : List TreeRule) (ps : List TreePattern) → rs ≡ rules → ps ≡ patterns → (tokens rest : List Token)
-      → Took grammar.file all_kinds all_stated tokens rest → rest ≡ [] → IsPlaced (places rs ps) tokens
-  file_placed rs ps er ep tokens rest took none = let w = whole_took tokens rest all_kinds all_stated took none in
-      subst (λ (z : List TreeRule). IsPlaced (places z ps) tokens) (sym er) (subst (λ (z : List TreePattern). IsPlaced (places rules z) tokens) (sym ep)
-      (subst (λ (z : List Offsets). IsPlaced z tokens) all_places w.1))
+  pub file_placed : (tokens : List Token) → Took grammar.file all_kinds all_stated tokens [] → IsPlaced tree_places tokens
+  file_placed tokens took = let w = whole_took tokens all_kinds all_stated took in subst (λ (z : List Offsets). IsPlaced z tokens) all_places w.1
 
 -- ---- faults
 
@@ -129,7 +131,8 @@ file_stops end tokens e ((wrong, bad), p, q) = subst (IsStopped FileText at_star
 file_stops end tokens e ((many, bad), p, q) = subst (IsStopped FileText at_start end tokens) (sym q) (many_there end tokens bad p)
 file_stops end tokens e ((deep, bad), p, q) = subst (IsStopped FileText at_start end tokens) (sym q) (deep_there end tokens bad p)
 
-pub file_trailing : (end at : ℕ) (tokens rest bad : List Token) (t : Token) (text : List Kind) (x : List Offsets) → Took grammar.file text x tokens rest
-    → rest ≡ t ∷ bad → at ≡ t.at → IsStopped FileText at_start end tokens (fault.Syntax at)
-file_trailing end at tokens rest bad t text x took e p = subst (λ (z : ℕ). IsStopped FileText at_start end tokens (fault.Syntax z)) (sym p)
-    (trailing_there end tokens t bad (took.goes ∙ ap (λ (z : List Token). parse nothing z) e))
+-- the head was read, and then the parser stopped or left a token
+pub body_stops : {text : List Kind} {x : List Offsets} (end : ℕ) (tokens after : List Token) (e : FileFault) → Step grammar.file tokens after body text x
+    → IsBodyFault end after e → IsStopped FileText at_start end tokens e
+body_stops end tokens after e s (inl h) = file_stops end tokens e (halts_by grammar.file body end e s h)
+body_stops end tokens after e s (inr (t, bad, p, q)) = subst (IsStopped FileText at_start end tokens) (sym q) (trailing_there end tokens t bad (s.goes ∙ p))

@@ -1,5 +1,6 @@
 -- Where the parser has come to, the tokens before begin a text, and they are within the limits.
-use Rattle.std.proofs.Common.{refl, ap, sym, subst, ◌≡◌, ◌∙◌, ◌++◌, ◌⊎◌, ◌==◌, inl, inr, ℕ, zero, suc, Bool, true, false, cond, List, [], ◌∷◌, append_assoc, Ok, Err}
+use Rattle.std.proofs.Common.{refl, ap, sym, subst, ◌≡◌, ◌∙◌, ◌++◌, ◌⊎◌, ◌==◌, inl, inr, ℕ, zero, suc, Bool, true, false, cond, List, [], ◌∷◌, append_assoc, Ok}
+use Rattle.std.proofs.Common.{Err}
 use Rattle.std.proofs.Common.{get_or}
 use Rattle.ta_syntax.specs.Kinds.{IsKind, IsNameText}
 use Rattle.ta_syntax.specs.Limits.{Counts, run, counted_after, StaysWithin, IsDeep, IsMany}
@@ -144,7 +145,8 @@ pub record Says (g : Production) (P Q : Counts → Type 0) : Type 0 where
   pub alive : Alive g
   pub says : (c : Counts) → P c → (ts : List Token) → Said g Q c ts (parse g ts)
 
-pub said_as : (g h : Production) (Q R : Counts → Type 0) (c : Counts) (ts : List Token) (r : Parsed) → ((ks w : List Kind) → Spans true g ks w → Spans true h ks w)
+pub said_as : (g h : Production) (Q R : Counts → Type 0) (c : Counts) (ts : List Token) (r : Parsed)
+    → ((ks w : List Kind) → Spans true g ks w → Spans true h ks w)
     → ((d : Counts) → Q d → R d) → Said g Q c ts r → Said h R c ts r
 said_as g h Q R c ts (Ok rest) f q x = record { front = x.front; split = x.split; within = x.within; counted = q _ x.counted; spans = λ w. f _ w (x.spans w) }
 said_as g h Q R c ts (Err (s, bad)) f q x = record {
@@ -211,7 +213,11 @@ said_second a b R Q c ts mid (Ok rest) x y = record {
   split = split_two ts x.front mid y.front rest x.split y.split;
   within = within_two c x.front y.front x.within y.within;
   counted = subst Q (run_two c x.front y.front) y.counted;
-  spans = λ w. (kinds y.front ++ w, subst (λ (z : List Kind). Spans true a z (kinds y.front ++ w)) (kinds_two x.front y.front w) (x.spans (kinds y.front ++ w)), y.spans w);
+  spans = λ w. (
+    kinds y.front ++ w,
+    subst (λ (z : List Kind). Spans true a z (kinds y.front ++ w)) (kinds_two x.front y.front w) (x.spans (kinds y.front ++ w)),
+    y.spans w,
+  );
 }
 said_second a b R Q c ts mid (Err (s, bad)) x y = record {
   front = x.front ++ y.front;
@@ -219,8 +225,16 @@ said_second a b R Q c ts mid (Err (s, bad)) x y = record {
   within = within_two c x.front y.front x.within y.within;
   over = subst (λ (z : Counts). OverAt s z bad) (run_two c x.front y.front) y.over;
   goes_on = λ w.
-      let z = y.goes_on w in
-      (z.0, (kinds y.front ++ z.0, subst (λ (u : List Kind). Spans true a u (kinds y.front ++ z.0)) (kinds_two x.front y.front z.0) (x.spans (kinds y.front ++ z.0)), z.1), z.2);
+      let z = y.goes_on w in (
+        z.0,
+        (
+          kinds y.front ++ z.0,
+          subst (λ (u : List Kind). Spans true a u (kinds y.front ++ z.0)) (kinds_two x.front y.front z.0)
+              (x.spans (kinds y.front ++ z.0)),
+          z.1,
+        ),
+        z.2,
+      );
 }
 
 said_both : (a b : Production) (R Q : Counts → Type 0) (c : Counts) (ts : List Token) (next : List Token → Parsed) (r : Parsed)

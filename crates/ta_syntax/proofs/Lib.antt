@@ -24,7 +24,6 @@ mod Parsing
 mod Halting
 mod FileReady
 mod FileSpans
-mod FileKinds
 mod FileCounts
 mod Answered
 mod FileSteps

@@ -1,6 +1,7 @@
 -- Reading lists with commas, and blocks behind their keywords.
 use Rattle.ta_syntax.proofs.Common.{◌≡◌, ℕ, zero, suc, ◌+◌, ◌<◌, Bool, true, false, cond, List, [], ◌∷◌, ◌++◌, length, refl, sym, ap, subst, ◌∙◌}
-use Rattle.ta_syntax.proofs.Common.{append_assoc, length-append, arith, append-nil, listed, further, each, Offsets, unplaced, offset_of, Kind, Mark, Token, FileFault}
+use Rattle.ta_syntax.proofs.Common.{append_assoc, length-append, arith, append-nil, listed, further, each, Offsets, unplaced, offset_of, Kind, Mark, Token}
+use Rattle.ta_syntax.proofs.Common.{FileFault}
 use Rattle.std.proofs.Common.{Err}
 use Rattle.ta_syntax.specs.declared.tokens.Kind.TheVariants as kind
 use Rattle.ta_syntax.specs.declared.tokens.Mark.TheVariants as mark
@@ -9,7 +10,8 @@ use Rattle.ta_syntax.specs.Productions.{Production, nothing, both, stands, first
 use Rattle.ta_syntax.specs.FileGrammar.{a_mark, maybe}
 use Rattle.ta_syntax.specs.FileGrammar as grammar
 use Rattle.ta_syntax.specs.Reading.{Step, Took, Halts, TookSome, TookUpTo, BeginsWithKind, IsOther, with_mark}
-use Rattle.ta_syntax.proofs.Steps.{then, stay, respell, first_of_both, past, chosen, not_chosen, take_mark, stands_mark, other_mark, stops, stops_in, maybe_taken}
+use Rattle.ta_syntax.proofs.Steps.{then, stay, respell, first_of_both, past, chosen, not_chosen, take_mark, stands_mark, other_mark, stops, stops_in}
+use Rattle.ta_syntax.proofs.Steps.{maybe_taken}
 use Rattle.ta_syntax.proofs.Steps.{maybe_skipped}
 
 -- ---- past the limit
@@ -79,7 +81,8 @@ module _ {A : Type 0} (g : Production) (spelled : A → List Kind) (stated : A �
   step_item : (items : List A) (rest : List Token) (left : ℕ) → length items + left ≡ limit → length items < limit
       → Step (grammar.items limit g) tokens rest (grammar.items left g) (separated kind.Fixed spelled items) (separated unplaced stated items)
       → (n : ℕ) × (length items + suc n ≡ limit)
-      × Step (grammar.items limit g) tokens rest (both g (maybe mark.Comma (grammar.items n g))) (separated kind.Fixed spelled items) (separated unplaced stated items)
+      × Step (grammar.items limit g) tokens rest (both g (maybe mark.Comma (grammar.items n g))) (separated kind.Fixed spelled items)
+      (separated unplaced stated items)
   step_item items rest zero few more s = absurd (omega arith)
   step_item items rest (suc n) few more s = (n, few, s)
 
@@ -95,12 +98,14 @@ module _ {A : Type 0} (g : Production) (spelled : A → List Kind) (stated : A �
       record {
         left = s.0;
         few = omega (arith, s.1, length-append items (x ∷ []));
-        step = respell (then (then s.2 (past took)) (maybe_taken mark.Comma b)) (separated-push kind.Fixed spelled items x) (separated-push unplaced stated items x);
+        step = respell (then (then s.2 (past took)) (maybe_taken mark.Comma b)) (separated-push kind.Fixed spelled items x)
+            (separated-push unplaced stated items x);
       }
 
   pub list_ends : (items : List A) (x : A) (rest after : List Token) → length items < limit → ListSoFar g spelled stated limit items tokens rest
       → Took g (spelled x) (stated x) rest after → IsOther after mark.Comma
-      → TookSome limit (items ++ x ∷ []) (grammar.items limit g) (listed kind.Fixed spelled (items ++ x ∷ [])) (listed unplaced stated (items ++ x ∷ [])) tokens after
+      → TookSome limit (items ++ x ∷ []) (grammar.items limit g) (listed kind.Fixed spelled (items ++ x ∷ [])) (listed unplaced stated (items ++ x ∷ [])) tokens
+      after
   list_ends items x rest after more so_far took other =
       let s = step_item items rest so_far.left so_far.few more so_far.step in
       record {
@@ -118,7 +123,8 @@ pub record BlocksSoFar {A : Type 0} (m : Mark) (g : Production) (body : A → Li
     (tokens rest : List Token) : Type 0 where
   pub left : ℕ
   pub few : length items + left ≡ limit
-  pub step : Step (grammar.blocks limit m g) tokens rest (grammar.blocks left m g) (each (with_mark (kind.Fixed m) body) items) (each (with_mark [] stated) items)
+  pub step : Step (grammar.blocks limit m g) tokens rest (grammar.blocks left m g) (each (with_mark (kind.Fixed m) body) items)
+      (each (with_mark [] stated) items)
 
 module _ {A : Type 0} (m : Mark) (g : Production) (body : A → List Kind) (stated : A → List Offsets) (limit : ℕ) (tokens : List Token) where
   pub blocks_begin : BlocksSoFar m g body stated limit [] tokens tokens

@@ -18,8 +18,10 @@ no_fault bytes t fault.Memory text within f = refl
 no_fault bytes t (fault.Byte at) text within f = absurd (refused_no_tokens bytes at text.tokens f text.are)
 no_fault bytes t (fault.Syntax at) text within f = absurd
     (text_goes_on at_start (length bytes) at f.tokens (t, text.legal, sym (spelled_as bytes t f.tokens text f.are)) f.stopped)
-no_fault bytes t (fault.TooDeep at) text within f = absurd (not_past IsDeep at_start f.tokens at (λ d k n. n.0) (scanned bytes t f.tokens text within f.are) f.stopped)
-no_fault bytes t (fault.TooMany at) text within f = absurd (not_past IsMany at_start f.tokens at (λ d k n. n.1) (scanned bytes t f.tokens text within f.are) f.stopped)
+no_fault bytes t (fault.TooDeep at) text within f = absurd
+    (not_past IsDeep at_start f.tokens at (λ d k n. n.0) (scanned bytes t f.tokens text within f.are) f.stopped)
+no_fault bytes t (fault.TooMany at) text within f = absurd
+    (not_past IsMany at_start f.tokens at (λ d k n. n.1) (scanned bytes t f.tokens text within f.are) f.stopped)
 no_fault bytes t _ text within f = absurd f
 
 -- the tree of a text is unique

@@ -1,5 +1,6 @@
 -- What the parser reads and where it stops, for every grammar in which one token of lookahead suffices.
-use Rattle.std.proofs.Common.{refl, ap, sym, subst, eqb-true, ◌==◌, ◌≡◌, ◌∙◌, ◌+◌, ◌≤◌, ◌⊎◌, inl, inr, ℕ, zero, suc, Bool, true, false, cond, List, [], ◌∷◌, length, arith, Ok, Err}
+use Rattle.std.proofs.Common.{refl, ap, sym, subst, eqb-true, ◌==◌, ◌≡◌, ◌∙◌, ◌+◌, ◌≤◌, ◌⊎◌, inl, inr, ℕ, zero, suc, Bool, true, false, cond, List, [], ◌∷◌}
+use Rattle.std.proofs.Common.{length, arith, Ok, Err}
 use Rattle.ta_syntax.specs.Kinds.{IsKind}
 use Rattle.ta_syntax.specs.Faults.{kinds}
 use Rattle.ta_syntax.specs.declared.tokens.Kind.{Kind}
@@ -116,7 +117,8 @@ starts_inside xs ys (k ∷ ks) i h = has_inside xs ys (code k) i h
 
 has_apart : (xs ys : Class) (n : ℕ) → apart xs ys ≡ true → has xs n ≡ true → has ys n ≡ true → ⊥
 has_apart [] ys n i h g = cc
-has_apart (x ∷ xs) ys n i h g = let j = and_not (has ys x) (apart xs ys) i in has_here x n (has xs n) (λ z. has ys z ≡ true → ⊥) (λ y. cc) (λ y z. has_apart xs ys n j.1 y z) h g
+has_apart (x ∷ xs) ys n i h g = let j = and_not (has ys x) (apart xs ys) i in has_here x n (has xs n) (λ z. has ys z ≡ true → ⊥) (λ y. cc)
+    (λ y z. has_apart xs ys n j.1 y z) h g
 
 -- what is of a class does not follow in another
 apart_follows : (xs f : Class) (ks : List Kind) → apart xs f ≡ true → starts xs ks ≡ true → Follows f ks → ⊥
@@ -163,7 +165,8 @@ begins v (choose c a b) f ks w r (inl s) = begins_first c a b ks w (begins v a f
 begins v (choose c a b) f ks w r (inr s) = begins_second c a b ks w r.2 (begins v b f ks w r.1 s)
 begins v (repeat c a) f ks w r (zero, s) = inr (s, refl)
 begins v (repeat c a) f ks w r (suc n, (mid, s, t)) = inl (begins_by a ks mid r.1 (begins v a (joined c f) ks mid r.0 s))
-begins v (barred s c g) f ks w r (e, n, t) = let q = r.1 n in inl (starts_inside (first (g n)) c ks q.2 (begins_by (g n) ks w q.1 (begins v (g n) f ks w q.0 t)))
+begins v (barred s c g) f ks w r (e, n, t) = let q = r.1 n in inl
+    (starts_inside (first (g n)) c ks q.2 (begins_by (g n) ks w q.1 (begins v (g n) f ks w q.0 t)))
 
 pub follows : (v : Bool) (b : Production) (f : Class) (ks w : List Kind) → Ready b f → Spans v b ks w → Follows f w → Follows (follow b f) ks
 follows v b f ks w r s h = follows_case (begins v b f ks w r s)
@@ -242,7 +245,8 @@ shorter_choose : (s : Bool) (c : Class) (a b : Production) (ts : List Token) →
 shorter_choose true c a b ts h g = shorter_first c a b ts (parse a ts) h
 shorter_choose false c a b ts h g = shorter_second c a b ts (parse b ts) g
 
-shorter_turn : (c : Class) (a : Production) (s : Bool) (next : List Token → Parsed) (ts : List Token) (r : Parsed) → ((rest : List Token) → length (left (next rest)) ≤ length rest)
+shorter_turn : (c : Class) (a : Production) (s : Bool) (next : List Token → Parsed) (ts : List Token) (r : Parsed)
+    → ((rest : List Token) → length (left (next rest)) ≤ length rest)
     → Shorter a ts r → length (left (cond s (followed_by next r) (Ok ts))) ≤ length ts
 shorter_turn c a false next ts r h g = omega arith
 shorter_turn c a true next ts (Ok rest) h g = omega (arith, h rest)
@@ -251,7 +255,8 @@ shorter_turn c a true next ts (Err e) h g = omega arith
 shorter_turns : (c : Class) (a : Production) → ((ts : List Token) → Shorter a ts (parse a ts)) → (ts fuel : List Token)
     → length (left (turns (parse a) c ts fuel)) ≤ length ts
 shorter_turns c a h ts [] = omega arith
-shorter_turns c a h ts (x ∷ fuel) = shorter_turn c a (stands c ts) (λ rest. turns (parse a) c rest fuel) ts (parse a ts) (λ rest. shorter_turns c a h rest fuel) (h ts)
+shorter_turns c a h ts (x ∷ fuel) = shorter_turn c a (stands c ts) (λ rest. turns (parse a) c rest fuel) ts (parse a ts) (λ rest. shorter_turns c a h rest fuel)
+    (h ts)
 
 shorter_repeat : (c : Class) (a : Production) (ts : List Token) (r : Parsed) → length (left r) ≤ length ts → Shorter (repeat c a) ts r
 shorter_repeat c a ts (Ok rest) h = omega arith
@@ -279,7 +284,8 @@ no_longer g ts (Err e) h = omega arith
 abbrev pub GoesOn : Bool → ℕ → List Kind → Parsed → Type 0
 GoesOn v n w r = n ≤ length (left r) → Goes v n w r
 
-goes_one : (v : Bool) (n : ℕ) (c : Class) (t : Token) (ts : List Token) (k : Kind) (ks : List Kind) (s : Bool) → has c (code t.kind) ≡ s → Agrees n (t ∷ ts) (k ∷ ks)
+goes_one : (v : Bool) (n : ℕ) (c : Class) (t : Token) (ts : List Token) (k : Kind) (ks : List Kind) (s : Bool) → has c (code t.kind) ≡ s
+    → Agrees n (t ∷ ts) (k ∷ ks)
     → has c (code k) ≡ true → GoesOn v n ks (cond s (Ok ts) (Err (wrong, t ∷ ts)))
 goes_one v n c t ts k ks true e a h = a.1
 goes_one v n c t ts k ks false e a h = absurd (false_true (sym e ∙ ap (λ (z : Kind). has c (code z)) a.0 ∙ h))
@@ -292,13 +298,15 @@ goes_then v n a next ts us w (Err (wrong, bad)) short less h more le = h le
 goes_then v n a next ts us w (Err (many, bad)) short less h more le = h le
 goes_then v n a next ts us w (Err (deep, bad)) short less h more le = h le
 
-goes_choose : (v : Bool) (n : ℕ) (c : Class) (a b : Production) (ts : List Token) (w : List Kind) (s : Bool) → stands c ts ≡ s → (stands c ts ≡ true → GoesOn v n w (parse a ts))
+goes_choose : (v : Bool) (n : ℕ) (c : Class) (a b : Production) (ts : List Token) (w : List Kind) (s : Bool) → stands c ts ≡ s
+    → (stands c ts ≡ true → GoesOn v n w (parse a ts))
     → (stands c ts ≡ false → GoesOn v n w (parse b ts)) → GoesOn v n w (cond s (parse a ts) (parse b ts))
 goes_choose v n c a b ts w true e f g = f e
 goes_choose v n c a b ts w false e f g = g e
 
 -- of a production without an empty text, all of whose texts begin with a token of the class
-starts_by : (v : Bool) (n : ℕ) (c : Class) (a : Production) (f : Class) (ts : List Token) (us w : List Kind) → Ready a f → nullable a ≡ false → inside (first a) c ≡ true
+starts_by : (v : Bool) (n : ℕ) (c : Class) (a : Production) (f : Class) (ts : List Token) (us w : List Kind) → Ready a f → nullable a ≡ false
+    → inside (first a) c ≡ true
     → Agrees n ts us → Spans v a us w → stands c ts ≡ true
 starts_by v n c a f ts us w r not i g s = agrees_stands n c ts us g ∙ starts_inside (first a) c us i (begins_by a us w not (begins v a f us w r s))
 
@@ -312,7 +320,8 @@ turns_follow v c a f zero us w r s h = subst (Follows (joined c f)) (sym s) (fol
 turns_follow v c a f (suc k) us w r (mid, s, t) h =
     starts_follows (joined c f) us (starts_left c f us (starts_inside (first a) c us r.2 (begins_by a us mid r.1 (begins v a (joined c f) us mid r.0 s))))
 
-goes_barred : (v : Bool) (n : ℕ) (s : Stop) (ts : List Token) (w : List Kind) (b : Bool) → v ≡ true → is_limit s ≡ true → b ≡ true → Goes v n w (Err (cond b s wrong, ts))
+goes_barred : (v : Bool) (n : ℕ) (s : Stop) (ts : List Token) (w : List Kind) (b : Bool) → v ≡ true → is_limit s ≡ true → b ≡ true
+    → Goes v n w (Err (cond b s wrong, ts))
 goes_barred v n s ts w false u l e = absurd (false_true e)
 goes_barred v n wrong ts w true u l e = absurd (false_true l)
 goes_barred v n many ts w true u l e = u
@@ -344,7 +353,8 @@ goes v nothing f n ts us w r g s h = λ le. subst (Agrees n ts) s g
 goes v (one c) f n [] [] w r g s h = absurd s
 goes v (one c) f n [] (k ∷ ks) w r g s h = cc
 goes v (one c) f n (t ∷ ts) [] w r g s h = absurd g
-goes v (one c) f n (t ∷ ts) (k ∷ ks) w r g s h = goes_one v n c t ts k w (has c (code t.kind)) refl (subst (λ (z : List Kind). Agrees n (t ∷ ts) (k ∷ z)) s.2 g) s.1
+goes v (one c) f n (t ∷ ts) (k ∷ ks) w r g s h = goes_one v n c t ts k w (has c (code t.kind)) refl (subst (λ (z : List Kind). Agrees n (t ∷ ts) (k ∷ z)) s.2 g)
+    s.1
 goes v (both a b) f n ts us w r g (mid, s, t) h = goes_then v n a (parse b) ts mid w (parse a ts) (λ m. no_longer b m (parse b m) (shorter b m)) (shorter a ts)
     (goes v a (follow b f) n ts us mid r.0 g s (follows v b f mid w r.1 t h)) (λ m less ag. goes v b f n m mid w r.1 ag t h)
 goes v (choose c a b) f n ts us w r g (inl s) h = goes_choose v n c a b ts w (stands c ts) refl (λ e. goes v a f n ts us w r.0 g s h)
@@ -374,7 +384,8 @@ turns_fuel c a not (t ∷ ts) (u ∷ x) [] l k = absurd (omega arith)
 turns_fuel c a not ts (u ∷ x) (v ∷ y) l k = fuel_turn c a ts (stands c ts) (λ rest. turns (parse a) c rest x) (λ rest. turns (parse a) c rest y) (parse a ts)
     (shorter a ts) (λ rest less. turns_fuel c a not rest x y (omega (arith, ap at_least_one not)) (omega (arith, ap at_least_one not)))
 
-pub repeat_again : (c : Class) (a : Production) (ts : List Token) → nullable a ≡ false → stands c ts ≡ true → parse (repeat c a) ts ≡ parse (both a (repeat c a)) ts
+pub repeat_again : (c : Class) (a : Production) (ts : List Token) → nullable a ≡ false → stands c ts ≡ true
+    → parse (repeat c a) ts ≡ parse (both a (repeat c a)) ts
 repeat_again c a [] not e = absurd (false_true e)
 repeat_again c a (t ∷ ts) not e =
     ap (λ (z : Bool). cond z (followed_by (λ rest. turns (parse a) c rest ts) (parse a (t ∷ ts))) (Ok (t ∷ ts))) e
@@ -391,7 +402,8 @@ abbrev pub IsRead : Production → List Token → Parsed → Type 0
 IsRead g ts (Ok rest) = Spans false g (kinds ts) (kinds rest)
 IsRead g ts (Err e) = Unit {0}
 
-read_then : (a b : Production) (ts : List Token) (r : Parsed) → IsRead a ts r → ((mid : List Token) → IsRead b mid (parse b mid)) → IsRead (both a b) ts (followed_by (parse b) r)
+read_then : (a b : Production) (ts : List Token) (r : Parsed) → IsRead a ts r → ((mid : List Token) → IsRead b mid (parse b mid))
+    → IsRead (both a b) ts (followed_by (parse b) r)
 read_then a b ts (Err e) h g = tt
 read_then a b ts (Ok mid) h g = read_second (parse b mid) (g mid)
   where

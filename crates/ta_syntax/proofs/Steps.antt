@@ -1,5 +1,6 @@
 -- Steps of reading, and how they go together.
-use Rattle.ta_syntax.proofs.Common.{◌≡◌, ℕ, ◌≤◌, ◌+◌, Bool, true, false, cond, List, [], ◌∷◌, ◌++◌, refl, sym, ap, subst, ◌∙◌, append_assoc, arith, length, length-append}
+use Rattle.ta_syntax.proofs.Common.{◌≡◌, ℕ, ◌≤◌, ◌+◌, Bool, true, false, cond, List, [], ◌∷◌, ◌++◌, refl, sym, ap, subst, ◌∙◌, append_assoc, arith, length}
+use Rattle.ta_syntax.proofs.Common.{length-append}
 use Rattle.ta_syntax.proofs.Common.{AllByRecursion, relation_kind, sign_kind, Offsets, IsPlaced, at_first, kinds}
 use Rattle.ta_syntax.proofs.Common.{offset_of, Kind, Mark, Relation, Sign, Token, FileFault}
 use Rattle.std.proofs.Common.{Ok, Err}
@@ -25,7 +26,8 @@ placed-append (o ∷ x) y (t ∷ a) b p q = (p.0, placed-append x y a b p.1 q)
 
 -- ---- steps go together
 
-pub then : {g h k : Production} {tokens mid rest : List Token} {text more : List Kind} {x y : List Offsets} → Step g tokens mid h text x → Step h mid rest k more y
+pub then : {g h k : Production} {tokens mid rest : List Token} {text more : List Kind} {x y : List Offsets} → Step g tokens mid h text x
+    → Step h mid rest k more y
     → Step g tokens rest k (text ++ more) (x ++ y)
 then {rest = rest} {text = text} {x = x} {y = y} a b = record {
   goes = a.goes ∙ b.goes;
@@ -46,7 +48,8 @@ pub respell : {g h : Production} {tokens rest : List Token} {text text' : List K
     → Step g tokens rest h text' x'
 respell a e f = record { goes = a.goes; front = a.front; split = a.split; spelled = a.spelled ∙ e; placed = subst (λ z. IsPlaced z a.front) f a.placed }
 
-placed_first : (end at : ℕ) (x : List Offsets) (front rest : List Token) → at ≡ offset_of end (front ++ rest) → IsPlaced x front → IsPlaced (at_first at x) front
+placed_first : (end at : ℕ) (x : List Offsets) (front rest : List Token) → at ≡ offset_of end (front ++ rest) → IsPlaced x front
+    → IsPlaced (at_first at x) front
 placed_first end at [] front rest e p = p
 placed_first end at (o ∷ x) [] rest e p = absurd p
 placed_first end at (o ∷ x) (t ∷ front) rest e p = ((e, p.0), p.1)
@@ -67,7 +70,8 @@ pub first_of_both : {a b h : Production} {tokens rest : List Token} {text : List
     → Step (both a b) tokens rest (both h b) text x
 first_of_both {b = b} s = record { goes = ap (followed_by (parse b)) s.goes; front = s.front; split = s.split; spelled = s.spelled; placed = s.placed }
 
-pub past : {a b : Production} {tokens rest : List Token} {text : List Kind} {x : List Offsets} → Took a text x tokens rest → Step (both a b) tokens rest b text x
+pub past : {a b : Production} {tokens rest : List Token} {text : List Kind} {x : List Offsets} → Took a text x tokens rest
+    → Step (both a b) tokens rest b text x
 past {b = b} s = record { goes = ap (followed_by (parse b)) s.goes; front = s.front; split = s.split; spelled = s.spelled; placed = s.placed }
 
 pub chosen : {c : Class} {a b : Production} {tokens : List Token} → stands c tokens ≡ true → Step (choose c a b) tokens tokens a [] []
@@ -76,7 +80,8 @@ chosen {a = a} {b = b} {tokens = tokens} e = goes_as (ap (λ (z : Bool). cond z 
 pub not_chosen : {c : Class} {a b : Production} {tokens : List Token} → stands c tokens ≡ false → Step (choose c a b) tokens tokens b [] []
 not_chosen {a = a} {b = b} {tokens = tokens} e = goes_as (ap (λ (z : Bool). cond z (parse a tokens) (parse b tokens)) e)
 
-pub step_shorter : {g h : Production} {tokens rest : List Token} {text : List Kind} {x : List Offsets} → Step g tokens rest h text x → length rest ≤ length tokens
+pub step_shorter : {g h : Production} {tokens rest : List Token} {text : List Kind} {x : List Offsets} → Step g tokens rest h text x
+    → length rest ≤ length tokens
 step_shorter {rest = rest} s = omega (arith, ap length s.split, length-append s.front rest)
 
 -- ---- single tokens
@@ -105,7 +110,8 @@ same_offset end at tokens rest k b e = e ∙ ap (λ (z : List Token). offset_of 
 
 pub take_mark_at : {tokens rest : List Token} (m : Mark) (end at : ℕ) → BeginsWithKind tokens (kind.Fixed m) rest → at ≡ offset_of end tokens
     → Took (a_mark m) (kind.Fixed m ∷ []) ((at ∷ []) ∷ []) tokens rest
-take_mark_at {tokens = tokens} {rest = rest} m end at b e = take (only m) (kind.Fixed m) (at ∷ []) b (same_mark m) (same_offset end at tokens rest (kind.Fixed m) b e, tt)
+take_mark_at {tokens = tokens} {rest = rest} m end at b e = take (only m) (kind.Fixed m) (at ∷ []) b (same_mark m)
+    (same_offset end at tokens rest (kind.Fixed m) b e, tt)
 
 pub take_name : {tokens rest : List Token} (n : List ℕ) (end at : ℕ) → BeginsWithKind tokens (kind.Name n) rest → at ≡ offset_of end tokens
     → Took a_name (kind.Name n ∷ []) ((at ∷ []) ∷ []) tokens rest
@@ -113,7 +119,8 @@ take_name {tokens = tokens} {rest = rest} n end at b e = take names (kind.Name n
 
 pub take_number : {tokens rest : List Token} (d : List ℕ) (end at : ℕ) → BeginsWithKind tokens (kind.Number d) rest → at ≡ offset_of end tokens
     → Took a_number (kind.Number d ∷ []) ((at ∷ []) ∷ []) tokens rest
-take_number {tokens = tokens} {rest = rest} d end at b e = take numbers (kind.Number d) (at ∷ []) b refl (same_offset end at tokens rest (kind.Number d) b e, tt)
+take_number {tokens = tokens} {rest = rest} d end at b e = take numbers (kind.Number d) (at ∷ []) b refl
+    (same_offset end at tokens rest (kind.Number d) b e, tt)
 
 relation_in : (r : Relation) → has relations (code (relation_kind r)) ≡ true
 relation_in relation.Less = refl
@@ -207,7 +214,8 @@ pub halts_in : (g a b : Production) {tokens mid : List Token} {text : List Kind}
     → Step g tokens mid (both a b) text x → Halts a end mid e → Halts g end tokens e
 halts_in g a b {mid = mid} end e s h = stops end e s (stops_first a b end mid e h)
 
-pub wrong_token : (c : Class) (end at : ℕ) (tokens : List Token) → stands c tokens ≡ false → at ≡ offset_of end tokens → Halts (one c) end tokens (fault.Syntax at)
+pub wrong_token : (c : Class) (end at : ℕ) (tokens : List Token) → stands c tokens ≡ false → at ≡ offset_of end tokens
+    → Halts (one c) end tokens (fault.Syntax at)
 wrong_token c end at [] e p = ((wrong, []), refl, ap (λ (z : ℕ). fault.Syntax z) p)
 wrong_token c end at (t ∷ ts) e p = ((wrong, t ∷ ts), ap (λ (z : Bool). cond z (Ok ts) (Err (wrong, t ∷ ts))) e, ap (λ (z : ℕ). fault.Syntax z) p)
 
@@ -223,7 +231,8 @@ name_stops end tokens _ h = absurd h
 pub number_stops : (end at : ℕ) (tokens : List Token) → NoNumber (kinds tokens) → at ≡ offset_of end tokens → Halts a_number end tokens (fault.Syntax at)
 number_stops end at tokens h e = wrong_token numbers end at tokens (other_number tokens h) e
 
-pub relation_stops : (end at : ℕ) (tokens : List Token) → NoRelation (kinds tokens) → at ≡ offset_of end tokens → Halts (one relations) end tokens (fault.Syntax at)
+pub relation_stops : (end at : ℕ) (tokens : List Token) → NoRelation (kinds tokens) → at ≡ offset_of end tokens
+    → Halts (one relations) end tokens (fault.Syntax at)
 relation_stops end at tokens h e = wrong_token relations end at tokens (other_relation tokens h) e
 
 -- a part behind its mark

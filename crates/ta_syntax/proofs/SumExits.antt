@@ -14,7 +14,8 @@ use Rattle.ta_syntax.specs.FileGrammar.{factor, nested_with, term_with, sum_with
 use Rattle.ta_syntax.specs.Reading.{Step, Halts, TookFactor, TookTerm, TookSum, BeginsWithKind, IsOther, IsUnexpected, IsUnnamed, NoNumber, LeadingSign}
 use Rattle.ta_syntax.proofs.Parsing.{repeat_again, repeat_ends}
 use Rattle.ta_syntax.proofs.Steps.{then, respell, also_at, first_of_both, past, chosen, not_chosen, goes_as, take_mark, take_name, take_number, take_sign}
-use Rattle.ta_syntax.proofs.Steps.{stands_mark, stands_sign, stands_kind, other_mark, other_number, stops, stops_in, mark_stops, name_stops, maybe_taken, maybe_skipped}
+use Rattle.ta_syntax.proofs.Steps.{stands_mark, stands_sign, stands_kind, other_mark, other_number, stops, stops_in, mark_stops, name_stops, maybe_taken}
+use Rattle.ta_syntax.proofs.Steps.{maybe_skipped}
 use Rattle.ta_syntax.proofs.SumSteps.{plain_sum_roll, plain_number, plain_times, plain_alone, plain_named, plain_nested, stated_number, stated_times}
 use Rattle.ta_syntax.proofs.SumSteps.{stated_alone, stated_named, stated_nested, stated_sum_roll, pairs, spell_term, sum_kinds_of, before_of, sum_of-push}
 use Rattle.ta_syntax.proofs.SumSteps.{before_of-push, pairs-push, are-push, is_sum-push, depth-push}

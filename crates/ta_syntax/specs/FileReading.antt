@@ -1,13 +1,14 @@
 -- What the readers of a file and of its head answer.
-use Rattle.std.specs.Prelude.{ℕ, ◌≡◌, ◌≤◌, List, [], ◌∷◌, ◌++◌, length}
-use Rattle.ta_syntax.specs.Grammar.{file_kinds, sum_kinds, listed, IsSum}
+use Rattle.std.specs.Prelude.{ℕ, ◌≡◌, ◌≤◌, ◌⊎◌, List, [], ◌∷◌, ◌++◌, Ok, length}
+use Rattle.ta_syntax.specs.Grammar.{file_kinds, sum_kinds, listed, each, IsSum}
 use Rattle.ta_syntax.specs.PlainSums.{plain_sum, sum_depth}
 use Rattle.ta_syntax.specs.PlainTrees.{plain_tree}
-use Rattle.ta_syntax.specs.Inside.RuleBodies.{spell_name, spell_location}
-use Rattle.ta_syntax.specs.Stated.{Offsets, IsPlaced, at_first, unplaced, sum_stated, name_stated, location_stated, tree_stated}
+use Rattle.ta_syntax.specs.Inside.RuleBodies.{spell_name, spell_location, spell_comparison, rule_body, rule_body_stated, pattern_body, pattern_body_stated}
+use Rattle.ta_syntax.specs.Stated.{Offsets, IsPlaced, at_first, unplaced, sum_stated, name_stated, location_stated, comparison_stated, tree_stated}
 use Rattle.ta_syntax.specs.Faults.{kinds}
 use Rattle.ta_syntax.specs.FileGrammar as grammar
-use Rattle.ta_syntax.specs.Reading.{Took}
+use Rattle.ta_syntax.specs.Productions.{Production, both, parse}
+use Rattle.ta_syntax.specs.Reading.{Halts, Step, Took, with_mark}
 use Rattle.ta_syntax.specs.declared.tokens.Kind.{Kind}
 use Rattle.ta_syntax.specs.declared.tokens.Kind.TheVariants as kind
 use Rattle.ta_syntax.specs.declared.tokens.Mark.TheVariants as mark
@@ -15,7 +16,12 @@ use Rattle.ta_syntax.specs.declared.placed.Token.{Token}
 use Rattle.ta_syntax.specs.declared.sums.TreeSum.{TreeSum}
 use Rattle.ta_syntax.specs.declared.tree.TreeLocation.{TreeLocation}
 use Rattle.ta_syntax.specs.declared.tree.Tree.{Tree}
+use Rattle.ta_syntax.specs.declared.file.Body.{Body}
 use Rattle.ta_syntax.specs.declared.file.Head.{Head}
+use Rattle.ta_syntax.specs.declared.file.Names.{Names}
+use Rattle.ta_syntax.specs.declared.file.Places.{Places}
+use Rattle.ta_syntax.specs.declared.fault.FileFault.{FileFault}
+use Rattle.ta_syntax.specs.declared.fault.FileFault.TheVariants as fault
 
 -- the tokens of the locations' clause, and their offsets
 abbrev pub locations_kinds : List TreeLocation → List Kind
@@ -37,30 +43,76 @@ pub record TookProcesses (at : ℕ) (s : TreeSum) (tokens rest : List Token) : T
   pub shallow : sum_depth (plain_sum s) ≤ 32
   pub took : Took grammar.processes (processes_kinds s) (processes_stated at s) tokens rest
 
--- the tokens of the head, and their offsets
-abbrev pub head_kinds_of : Head → List Kind
-head_kinds_of h =
-    kind.Fixed mark.Automaton ∷ kind.Name h.name.name ∷ kind.Fixed mark.Semicolon
-    ∷ ((kind.Fixed mark.Parameters ∷ (listed kind.Fixed spell_name h.parameters ++ kind.Fixed mark.Semicolon ∷ []))
-    ++ ((kind.Fixed mark.Shared ∷ (listed kind.Fixed spell_name h.shared ++ kind.Fixed mark.Semicolon ∷ []))
-    ++ (locations_kinds h.locations ++ processes_kinds h.processes)))
+-- the part of the head behind the names: the locations and the number of processes
+abbrev pub places : Production
+places = both grammar.locations grammar.processes
 
-abbrev pub head_stated : Head → List Offsets
-head_stated h =
-    [] ∷ (h.name.at ∷ []) ∷ []
-    ∷ (([] ∷ (listed unplaced name_stated h.parameters ++ [] ∷ []))
-    ++ (([] ∷ (listed unplaced name_stated h.shared ++ [] ∷ []))
-    ++ (locations_stated h.locations_at h.locations ++ processes_stated h.processes_at h.processes)))
+-- the tokens of the names with which a file begins, and their offsets
+abbrev pub names_kinds : Names → List Kind
+names_kinds n =
+    kind.Fixed mark.Automaton ∷ kind.Name n.name.name ∷ kind.Fixed mark.Semicolon
+    ∷ ((kind.Fixed mark.Parameters ∷ (listed kind.Fixed spell_name n.parameters ++ kind.Fixed mark.Semicolon ∷ []))
+    ++ (kind.Fixed mark.Shared ∷ (listed kind.Fixed spell_name n.shared ++ kind.Fixed mark.Semicolon ∷ [])))
+
+abbrev pub names_stated : Names → List Offsets
+names_stated n =
+    [] ∷ (n.name.at ∷ []) ∷ [] ∷ (([] ∷ (listed unplaced name_stated n.parameters ++ [] ∷ [])) ++ ([] ∷ (listed unplaced name_stated n.shared ++ [] ∷ [])))
+
+-- the names were read, and to parse the head is to parse the rest of it on what is left
+pub record TookNames (n : Names) (tokens rest : List Token) : Type 0 where
+  pub parameters : length n.parameters ≤ 16
+  pub shared : length n.shared ≤ 16
+  pub took : Step grammar.head tokens rest places (names_kinds n) (names_stated n)
+
+-- the tokens of the locations and of the number of processes, and their offsets
+abbrev pub places_kinds : Places → List Kind
+places_kinds p = locations_kinds p.locations ++ processes_kinds p.processes
+
+abbrev pub places_stated : Places → List Offsets
+places_stated p = locations_stated p.locations_at p.locations ++ processes_stated p.processes_at p.processes
+
+-- the locations and the number of processes were read
+pub record TookPlaces (p : Places) (tokens rest : List Token) : Type 0 where
+  pub some : 1 ≤ length p.locations
+  pub locations : length p.locations ≤ 32
+  pub is : IsSum (plain_sum p.processes)
+  pub shallow : sum_depth (plain_sum p.processes) ≤ 32
+  pub took : Took places (places_kinds p) (places_stated p) tokens rest
 
 -- the head of a file was read
 pub record TookHead (h : Head) (tokens rest : List Token) : Type 0 where
-  pub parameters : length h.parameters ≤ 16
-  pub shared : length h.shared ≤ 16
-  pub some : 1 ≤ length h.locations
-  pub locations : length h.locations ≤ 32
-  pub is : IsSum (plain_sum h.processes)
-  pub shallow : sum_depth (plain_sum h.processes) ≤ 32
-  pub took : Took grammar.head (head_kinds_of h) (head_stated h) tokens rest
+  pub parameters : length h.names.parameters ≤ 16
+  pub shared : length h.names.shared ≤ 16
+  pub some : 1 ≤ length h.places.locations
+  pub locations : length h.places.locations ≤ 32
+  pub is : IsSum (plain_sum h.places.processes)
+  pub shallow : sum_depth (plain_sum h.places.processes) ≤ 32
+  pub took : Took grammar.head (names_kinds h.names ++ places_kinds h.places) (names_stated h.names ++ places_stated h.places) tokens rest
+
+-- a file behind its head
+abbrev pub body : Production
+body = both (grammar.declared_list mark.Resilience 16 grammar.comparison)
+    (both (grammar.blocks 128 mark.Rule grammar.rule) (grammar.blocks 16 mark.Pattern grammar.pattern))
+
+-- its tokens, and their offsets
+abbrev pub body_kinds : Body → List Kind
+body_kinds b = (kind.Fixed mark.Resilience ∷ (listed kind.Fixed spell_comparison b.resilience ++ kind.Fixed mark.Semicolon ∷ []))
+    ++ (each (with_mark (kind.Fixed mark.Rule) rule_body) b.rules ++ each (with_mark (kind.Fixed mark.Pattern) pattern_body) b.patterns)
+
+abbrev pub body_stated : Body → List Offsets
+body_stated b = ([] ∷ (listed unplaced comparison_stated b.resilience ++ [] ∷ []))
+    ++ (each (with_mark [] rule_body_stated) b.rules ++ each (with_mark [] pattern_body_stated) b.patterns)
+
+-- a file was read behind its head, and no token is left
+pub record TookBody (b : Body) (tokens : List Token) : Type 0 where
+  pub resilience : length b.resilience ≤ 16
+  pub rules : length b.rules ≤ 128
+  pub patterns : length b.patterns ≤ 16
+  pub took : Took body (body_kinds b) (body_stated b) tokens []
+
+-- the parser stops behind the head with this fault, or a token is left, and the fault is at that token
+abbrev pub IsBodyFault : ℕ → List Token → FileFault → Type 0
+IsBodyFault end tokens e = Halts body end tokens e ⊎ ((t : Token) × (bad : List Token) × (parse body tokens ≡ Ok (t ∷ bad)) × (e ≡ fault.Syntax t.at))
 
 -- the tokens are those of the tree, at the offsets that it states
 pub record IsSpelled (t : Tree) (tokens : List Token) : Type 0 where

@@ -112,15 +112,17 @@ pub record TookSum (left : ℕ) (s : TreeSum) (tokens rest : List Token) : Type 
 -- ---- lists and blocks
 
 -- at most so many items were read
-pub record TookUpTo {A : Type 0} (limit : ℕ) (items : List A) (g : Production) (text : List Kind) (stated : List Offsets) (tokens rest : List Token) : Type 0 where
-  pub few : length items ≤ limit
-  pub took : Took g text stated tokens rest
+pub record TookUpTo {A : Type 0} (limit : ℕ) (items : List A) (g : Production) (text : List Kind) (stated : List Offsets) (tokens rest : List Token) : Type 0
+  where
+    pub few : length items ≤ limit
+    pub took : Took g text stated tokens rest
 
 -- and at least one
-pub record TookSome {A : Type 0} (limit : ℕ) (items : List A) (g : Production) (text : List Kind) (stated : List Offsets) (tokens rest : List Token) : Type 0 where
-  pub some : 1 ≤ length items
-  pub few : length items ≤ limit
-  pub took : Took g text stated tokens rest
+pub record TookSome {A : Type 0} (limit : ℕ) (items : List A) (g : Production) (text : List Kind) (stated : List Offsets) (tokens rest : List Token) : Type 0
+  where
+    pub some : 1 ≤ length items
+    pub few : length items ≤ limit
+    pub took : Took g text stated tokens rest
 
 -- the mark in front of what is made of an item
 abbrev pub with_mark : {A B : Type 0} → B → (A → List B) → A → List B

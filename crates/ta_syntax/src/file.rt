@@ -7,7 +7,7 @@ ghost use Rattle.ta_syntax.specs.PlainTrees.{plain_tree};
 ghost use Rattle.ta_syntax.specs.Limits.{at_start, IsTreeWithin};
 ghost use Rattle.ta_syntax.specs.Faults.{IsStopped, FirstGrammarFault};
 ghost use Rattle.ta_syntax.specs.FileGrammar as grammar;
-ghost use Rattle.ta_syntax.specs.FileReading.{TookProcesses, TookHead, IsSpelled, locations_kinds, locations_stated};
+ghost use Rattle.ta_syntax.specs.FileReading.{IsBodyFault, IsSpelled, TookBody, TookHead, TookNames, TookPlaces, TookProcesses, locations_kinds, locations_stated, places};
 ghost use Rattle.ta_syntax.specs.Reading.{Halts, TookSome};
 ghost use Rattle.ta_syntax.specs.TreeOf.{IsTextOf, IsTreeOf};
 
@@ -37,21 +37,41 @@ pub fn read_tree(alloc: Global, bytes: &[u8]) -> Result<Tree, FileFault>
     Ok(tree)
 }
 
-/// What a file says before its resilience condition, with the offsets of two clauses.
+/// The names with which a file begins.
 #[derive(Drop)]
-struct Head {
+struct Names {
     name: Spelled,
     parameters: List<Spelled>,
     shared: List<Spelled>,
+}
+
+/// The locations and the number of processes, with the offsets of their clauses.
+#[derive(Drop)]
+struct Places {
     locations_at: u32,
     locations: List<TreeLocation>,
     processes_at: u32,
     processes: TreeSum,
 }
 
-/// Reads the head of an automaton file.
-fn read_head(alloc: Global, tokens: &[Token], end: u32) -> Result<(Head, &[Token]), FileFault>
-    ensures { MatchResult result (λ x. TookHead x.0 tokens.now x.1.now) (λ e. Halts grammar.head end tokens.now e) }
+/// What a file says before its resilience condition.
+#[derive(Drop)]
+struct Head {
+    names: Names,
+    places: Places,
+}
+
+/// What a file says from its resilience condition on.
+#[derive(Drop)]
+struct Body {
+    resilience: List<TreeComparison>,
+    rules: List<TreeRule>,
+    patterns: List<TreePattern>,
+}
+
+/// Reads the names with which an automaton file begins.
+fn read_names(alloc: Global, tokens: &[Token], end: u32) -> Result<(Names, &[Token]), FileFault>
+    ensures { MatchResult result (λ x. TookNames x.0 tokens.now x.1.now) (λ e. Halts grammar.head end tokens.now e) }
 {
     let begun = expect(tokens, end, Mark::Automaton)?;
     let (name, after_name) = read_name_then(alloc, begun, end, Mark::Semicolon)?;
@@ -62,35 +82,46 @@ fn read_head(alloc: Global, tokens: &[Token], end: u32) -> Result<(Head, &[Token
         Mark::Parameters,
         16,
     )?;
-    let (shared, after_shared) = read_declared::<Spelled>(
-        alloc,
-        after_parameters,
-        end,
-        Mark::Shared,
-        16,
-    )?;
-    let (locations_at, locations, after_locations) = read_locations(alloc, after_shared, end)?;
-    let (processes_at, processes, rest) = read_processes(alloc, after_locations, end)?;
-    let head = Head {
+    let (shared, rest) = read_declared::<Spelled>(alloc, after_parameters, end, Mark::Shared, 16)?;
+    let names = Names {
         name,
         parameters,
         shared,
+    };
+    Ok((names, rest))
+}
+
+/// Reads the locations and the number of processes.
+fn read_places(alloc: Global, tokens: &[Token], end: u32) -> Result<(Places, &[Token]), FileFault>
+    ensures { MatchResult result (λ x. TookPlaces x.0 tokens.now x.1.now) (λ e. Halts places end tokens.now e) }
+{
+    let (locations_at, locations, after_locations) = read_locations(alloc, tokens, end)?;
+    let (processes_at, processes, rest) = read_processes(alloc, after_locations, end)?;
+    let places = Places {
         locations_at,
         locations,
         processes_at,
         processes,
     };
-    Ok((head, rest))
+    Ok((places, rest))
 }
 
-/// Reads the tokens of an automaton file.
-fn read_file(alloc: Global, tokens: &[Token], end: u32) -> Result<Tree, FileFault>
-    ensures { MatchResult result (λ t. IsSpelled t tokens.now) (λ e. IsStopped FileText at_start end tokens.now e) }
+/// Reads the head of an automaton file.
+fn read_head(alloc: Global, tokens: &[Token], end: u32) -> Result<(Head, &[Token]), FileFault>
+    ensures { MatchResult result (λ x. TookHead x.0 tokens.now x.1.now) (λ e. Halts grammar.head end tokens.now e) }
 {
-    let (head, after_processes) = read_head(alloc, tokens, end)?;
+    let (names, after_names) = read_names(alloc, tokens, end)?;
+    let (places, rest) = read_places(alloc, after_names, end)?;
+    Ok((Head { names, places }, rest))
+}
+
+/// Reads what stands behind the head, up to the end of the file.
+fn read_body(alloc: Global, tokens: &[Token], end: u32) -> Result<Body, FileFault>
+    ensures { MatchResult result (λ b. TookBody b tokens.now) (λ e. IsBodyFault end tokens.now e) }
+{
     let (resilience, after_resilience) = read_declared::<TreeComparison>(
         alloc,
-        after_processes,
+        tokens,
         end,
         Mark::Resilience,
         16,
@@ -106,17 +137,47 @@ fn read_file(alloc: Global, tokens: &[Token], end: u32) -> Result<Tree, FileFaul
     if let Some((first, _)) = rest.split_first() {
         return Err(FileFault::Syntax(first.at));
     }
-    Ok(Tree {
-        name: head.name,
-        parameters: head.parameters,
-        shared: head.shared,
-        locations_at: head.locations_at,
-        locations: head.locations,
-        processes_at: head.processes_at,
-        processes: head.processes,
+    Ok(Body {
         resilience,
         rules: List::from_vec(rules),
         patterns: List::from_vec(patterns),
+    })
+}
+
+/// Reads the tokens of an automaton file.
+fn read_file(alloc: Global, tokens: &[Token], end: u32) -> Result<Tree, FileFault>
+    ensures { MatchResult result (λ t. IsSpelled t tokens.now) (λ e. IsStopped FileText at_start end tokens.now e) }
+{
+    let (head, after_head) = read_head(alloc, tokens, end)?;
+    let body = read_body(alloc, after_head, end)?;
+    let Head { names, places } = head;
+    let Names {
+        name,
+        parameters,
+        shared,
+    } = names;
+    let Places {
+        locations_at,
+        locations,
+        processes_at,
+        processes,
+    } = places;
+    let Body {
+        resilience,
+        rules,
+        patterns,
+    } = body;
+    Ok(Tree {
+        name,
+        parameters,
+        shared,
+        locations_at,
+        locations,
+        processes_at,
+        processes,
+        resilience,
+        rules,
+        patterns,
     })
 }
 

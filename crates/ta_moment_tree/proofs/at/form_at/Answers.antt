@@ -3,7 +3,7 @@ use Rattle.ta_moments.specs.Forms.{UnknownForm, number_form, plus_form, times_fo
 use Rattle.ta_moments.specs.Moments.{place_form}
 use Rattle.ta_moment_tree.specs.Forms.{SmallBy, form_of, vector_of}
 use Rattle.ta_moment_tree.proofs.Forms.{number_is, small_more, small_number, small_plus}
-use Rattle.ta_moment_tree.proofs.Sums.{factor_small, product_is, product_small, terms_more, terms_all}
+use Rattle.ta_moment_tree.proofs.Sums.{factor_small, terms_more, terms_all}
 use Rattle.ta_moment_tree.proofs.at.form_at.Goals as goal
 
 pub loop-place-init : goal.loop-place-init
@@ -20,14 +20,11 @@ loop-place-init c =
           (small_more 1000000000 (1000000000 + 0 * 6800000000000000000000) _ (omega arith) (small_number 1000000000 z small));
     }
 
-pub times-requires-clause-factor : goal.times-requires-clause-factor
-times-requires-clause-factor c =
+pub product_at-requires-clause-coefficient : goal.product_at-requires-clause-coefficient
+product_at-requires-clause-coefficient c =
     let small = factor_small c.args.terms.now c.loop-place.place-index c.requires.terms.small c.loop-place-test.true in
-    let same = to_z_abs (get_or c.args.terms.now c.loop-place.place-index (0, pos 0)).1 1000000000 small (omega arith) in
-    subst (λ (y : ℤ). unsigned_abs y ≤ 2 ^ 40) (sym same) (omega arith)
-
-pub times-requires-clause-form : goal.times-requires-clause-form
-times-requires-clause-form c = small_more (17000000000 * 400) (2 ^ 80) _ (omega arith) c.in_ok-value.ensures.small
+    subst (λ (y : ℤ). unsigned_abs y ≤ 1000000000)
+    (sym (to_z_abs (get_or c.args.terms.now c.loop-place.place-index (0, pos 0)).1 1000000000 small (omega arith))) small
 
 pub plus-requires-clause-left : goal.plus-requires-clause-left
 plus-requires-clause-left c =
@@ -36,10 +33,7 @@ plus-requires-clause-left c =
     small_more (1000000000 + c.loop-place.place-index * 6800000000000000000000) (2 ^ 120) _ (omega arith) c.loop-place.invariant.small
 
 pub plus-requires-clause-right : goal.plus-requires-clause-right
-plus-requires-clause-right c =
-    small_more 6800000000000000000000 (2 ^ 120) _ (omega arith)
-    (product_small c.args.terms.now c.loop-place.place-index (form_of c.in_ok-product.product) (form_of c.in_ok-value.value) c.requires.terms.small
-    c.loop-place-test.true c.in_ok-product.ensures c.in_ok-value.ensures.small)
+plus-requires-clause-right c = small_more 6800000000000000000000 (2 ^ 120) _ (omega arith) c.in_ok-product.ensures.small
 
 pub loop-place-preserved : goal.loop-place-preserved
 loop-place-preserved c =
@@ -47,18 +41,15 @@ loop-place-preserved c =
     let ts = c.args.terms.now in
     let i = c.loop-place.place-index in
     let total = form_of c.loop-place.total in
-    let value = form_of c.in_ok-value.value in
-    let product = form_of c.in_ok-product.product in
-    let next = form_of c.in_ok-total.total in
-    let z = (get_or ts i (0, pos 0)).1 in
-    let is : product ≡ times_form z (point (get_or ts i (0, pos 0)).0) = product_is ts i product value c.requires.terms.small c.loop-place-test.true
-    c.in_ok-product.ensures ∙ ap (times_form z) c.in_ok-value.ensures.value in
+    let term = get_or ts i (0, pos 0) in
+    let clean = to_z_abs term.1 1000000000 (factor_small ts i c.requires.terms.small c.loop-place-test.true) (omega arith) in
+    let is : form_of c.in_ok-product.product ≡ times_form term.1 (point term.0) = c.in_ok-product.ensures.value
+    ∙ ap (λ (z : ℤ). times_form z (point term.0)) clean in
     record {
-      rest = terms_more point ts i (0, pos 0) total next _ c.loop-place-test.true (c.in_ok-total.ensures ∙ ap (plus_form total) is) c.loop-place.invariant.rest;
+      rest = terms_more point ts i (0, pos 0) total _ _ c.loop-place-test.true (c.in_ok-total.ensures ∙ ap (plus_form total) is) c.loop-place.invariant.rest;
       small = subst (λ (f : UnknownForm). SmallBy (1000000000 + (i + 1) * 6800000000000000000000) f) (sym c.in_ok-total.ensures)
           (small_more ((1000000000 + i * 6800000000000000000000) + 6800000000000000000000) (1000000000 + (i + 1) * 6800000000000000000000) _ (omega arith)
-          (small_plus (1000000000 + i * 6800000000000000000000) 6800000000000000000000 total product c.loop-place.invariant.small
-          (product_small ts i product value c.requires.terms.small c.loop-place-test.true c.in_ok-product.ensures c.in_ok-value.ensures.small)));
+          (small_plus (1000000000 + i * 6800000000000000000000) 6800000000000000000000 total _ c.loop-place.invariant.small c.in_ok-product.ensures.small));
     }
 
 pub returns-clause-value : goal.returns-clause-value

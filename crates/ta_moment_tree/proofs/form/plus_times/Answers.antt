@@ -32,8 +32,8 @@ product_of-product-requires-clause-number c =
     let small = term_small 3 c.args.x.now (c.in-Some.unknown, z) told.1 c.requires.x in
     subst (λ (y : ℤ). unsigned_abs y ≤ 3) (sym (to_z_abs z 3 small (omega arith))) small
 
-pub returns-then-is_behind : goal.returns-then-is_behind
-returns-then-is_behind c =
+pub returns : goal.returns
+returns c =
     let told = rw c.in-Some.is at c.only_term.ensures in
     let u = c.in-Some.unknown in
     let z = c.in-Some.coefficient in
@@ -46,11 +46,3 @@ returns-then-is_behind c =
     let kept = to_z_range y c.product_of-product.ensures.fits in
     both_ok c.with_term.result (λ sum e g. term_added sum c.args.form x c.args.factor y (u, z) e (g ∙ ap (λ k. c.args.form.terms ++ (u, k) ∷ []) kept) told.0
     told.1 product) c.with_term.ensures.constant c.with_term.ensures.terms
-
-pub plus-requires-clause-right : goal.plus-requires-clause-right
-plus-requires-clause-right c =
-    let same = to_z_abs c.args.factor 17000000000 c.requires.factor (omega arith) in
-    let x = form_of c.args.x.now in
-    let is : form_of c.in_ok-product.product ≡ times_form c.args.factor x = c.in_ok-product.ensures ∙ ap (λ (z : ℤ). times_form z x) same in
-    subst (λ (f : UnknownForm). SmallBy (2 ^ 120) f) (sym is)
-    (small_more (17000000000 * 3) (2 ^ 120) _ (omega arith) (small_times 17000000000 3 c.args.factor x c.requires.factor c.requires.x))

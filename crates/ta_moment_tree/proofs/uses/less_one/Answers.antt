@@ -3,6 +3,7 @@ use Rattle.ta_moments.specs.Forms.{UnknownForm, minus_form, number_form, plus_fo
 use Rattle.ta_moment_tree.specs.Forms.{SmallBy, form_of, vector_of}
 use Rattle.ta_moment_tree.proofs.Forms.{number_is, small_minus, small_more, small_number, small_plus}
 use Rattle.ta_moment_tree.proofs.Sums.{none_plus, sum_all, sum_more}
+use Rattle.ta_moment_tree.proofs.Beginning.{vector_more_small}
 use Rattle.ta_moment_tree.proofs.uses.less_one.Goals as goal
 
 pub loop-rule-init : goal.loop-rule-init
@@ -15,15 +16,14 @@ loop-rule-init c =
       small = subst (λ (f : UnknownForm). SmallBy 0 f) (sym is) (small_number 0 (pos 0) (omega arith));
     }
 
-pub plus-requires-clause-left : goal.plus-requires-clause-left
-plus-requires-clause-left c =
+pub plus_at-requires-clause-form : goal.plus_at-requires-clause-form
+plus_at-requires-clause-form c =
     let few = c.requires.few in
     let b = c.loop-rule-test.true in
     small_more c.loop-rule.rule-index (2 ^ 120) _ (omega arith) c.loop-rule.invariant.small
 
-pub plus-requires-clause-right : goal.plus-requires-clause-right
-plus-requires-clause-right c = subst (λ (f : UnknownForm). SmallBy (2 ^ 120) f) (sym c.of_rule.ensures)
-    (small_more 1 (2 ^ 120) _ (omega arith) (c.requires.step.each (get_or c.args.rules.now c.loop-rule.rule-index 0)))
+pub plus_at-requires-clause-vector : goal.plus_at-requires-clause-vector
+plus_at-requires-clause-vector c = vector_more_small 1 3 _ (omega arith) c.requires.step
 
 pub loop-rule-preserved : goal.loop-rule-preserved
 loop-rule-preserved c =
@@ -31,7 +31,7 @@ loop-rule-preserved c =
     let i = c.loop-rule.rule-index in
     let total = form_of c.loop-rule.total in
     let next = form_of c.in_ok-total.total in
-    let is : next ≡ plus_form total (g (get_or c.args.rules.now i 0)) = c.in_ok-total.ensures ∙ ap (plus_form total) c.of_rule.ensures in
+    let is : next ≡ plus_form total (g (get_or c.args.rules.now i 0)) = c.in_ok-total.ensures in
     record {
       rest = sum_more g c.args.rules.now i 0 total next _ c.loop-rule-test.true is c.loop-rule.invariant.rest;
       small = subst (λ (f : UnknownForm). SmallBy (i + 1) f) (sym is)

@@ -1,18 +1,9 @@
-use Rattle.ta_moment_tree.proofs.Common.{◌∙◌, inl, inr, ℕ, pos, ◌^◌, ap, sym, arith, subst, length, length-append, cases_lt, List, ◌∷◌, []}
+use Rattle.ta_moment_tree.proofs.Common.{◌∙◌, inl, inr, ℕ, pos, ap, sym, arith, length, length-append, cases_lt, List, ◌∷◌, []}
 use Rattle.ta_linear.specs.declared.form.Form.{Form}
 use Rattle.ta_moments.specs.Forms.{UnknownForm, plus_form, number_form}
-use Rattle.ta_moment_tree.specs.Forms.{SmallBy, form_of, vector_of}
-use Rattle.ta_moment_tree.proofs.Forms.{small_more}
+use Rattle.ta_moment_tree.specs.Forms.{vector_of}
 use Rattle.ta_moment_tree.proofs.Vectors.{nothing_more, vector_more, vector_past, vector_same}
 use Rattle.ta_moment_tree.proofs.vector.sums.Goals as goal
-
-pub plus-requires-clause-left : goal.plus-requires-clause-left
-plus-requires-clause-left c = subst (λ (f : UnknownForm). SmallBy (2 ^ 120) f) (sym c.of_rule.ensures)
-    (small_more 3 (2 ^ 120) _ (omega arith) (c.requires.left.each c.loop-rule.rule))
-
-pub plus-requires-clause-right : goal.plus-requires-clause-right
-plus-requires-clause-right c = subst (λ (f : UnknownForm). SmallBy (2 ^ 120) f) (sym c.of_rule-in-loop-rule.ensures)
-    (small_more 3 (2 ^ 120) _ (omega arith) (c.requires.right.each c.loop-rule.rule))
 
 pub loop-rule-preserved : goal.loop-rule-preserved
 loop-rule-preserved c =
@@ -24,9 +15,7 @@ loop-rule-preserved c =
       count = (let long = ap (λ (xs : List Form). length xs) items in let l = length-append forms (form ∷ []) in let count = c.loop-rule.invariant.count in
           omega arith);
       each = λ r b. ap (λ (xs : List Form). vector_of xs r) items
-          ∙ vector_more forms form v c.loop-rule.rule c.loop-rule.invariant.count c.loop-rule.invariant.each
-          (c.in_ok-sum.ensures ∙ ap (λ (f : UnknownForm). plus_form f (form_of c.of_rule-in-loop-rule.result.now)) c.of_rule.ensures
-          ∙ ap (plus_form (vector_of c.args.left.now c.loop-rule.rule)) c.of_rule-in-loop-rule.ensures) r b;
+          ∙ vector_more forms form v c.loop-rule.rule c.loop-rule.invariant.count c.loop-rule.invariant.each c.in_ok-sum.ensures r b;
     }
 
 pub returns-clause-value : goal.returns-clause-value

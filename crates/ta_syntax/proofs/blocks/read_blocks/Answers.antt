@@ -24,7 +24,8 @@ pub turns-preserved : goal.turns-preserved
 turns-preserved g c =
     let more : length c.turns.items.items < c.args.limit = omega (arith, c.turns.invariant.few) in
     rw c.in_ok-push.ensures.items (blocks_go_on c.args.mark g.T.Block.grammar g.T.Block.spelled g.T.Block.stated c.args.limit c.args.tokens.now
-    c.turns.items.items c.in_ok-block.block c.turns.rest.now c.in-Some.inner.now c.in_ok-block.after.now more c.turns.invariant c.in-Some.ensures c.in_ok-block.ensures)
+    c.turns.items.items c.in_ok-block.block c.turns.rest.now c.in-Some.inner.now c.in_ok-block.after.now more c.turns.invariant c.in-Some.ensures
+    c.in_ok-block.ensures)
 
 pub turns-smaller : goal.turns-smaller
 turns-smaller g c = omega (arith, step_shorter c.in_ok-block.ensures, ap length c.in-Some.ensures.split)

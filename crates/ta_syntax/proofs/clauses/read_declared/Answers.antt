@@ -20,8 +20,10 @@ returns-in-Some g c = declared_absent g.T.Item.grammar g.T.Item.spelled g.T.Item
 pub returns-in_err-items : goal.returns-in_err-items
 returns-in_err-items g c =
     rw (err_is c.from_residual-in_err-items.result _ c.from_residual-in_err-items.ensures.1)
-    (halts_by (declared_list c.args.mark c.args.limit g.T.Item.grammar) (list_end c.args.limit g.T.Item.grammar) c.args.end c.in_err-items.field-0.0 (then (past (take_mark c.args.mark c.in_ok-inner.ensures))
-    (not_chosen {c = only mark.Semicolon} {a = a_mark mark.Semicolon} {b = list_end c.args.limit g.T.Item.grammar} (other_mark mark.Semicolon c.in_ok-inner.inner.now c.in_default.ensures))) c.in_err-items.ensures)
+    (halts_by (declared_list c.args.mark c.args.limit g.T.Item.grammar) (list_end c.args.limit g.T.Item.grammar) c.args.end c.in_err-items.field-0.0
+    (then (past (take_mark c.args.mark c.in_ok-inner.ensures))
+    (not_chosen {c = only mark.Semicolon} {a = a_mark mark.Semicolon} {b = list_end c.args.limit g.T.Item.grammar}
+    (other_mark mark.Semicolon c.in_ok-inner.inner.now c.in_default.ensures))) c.in_err-items.ensures)
 
 pub returns : goal.returns
 returns g c = took_declared g.T.Item.grammar g.T.Item.spelled g.T.Item.stated c.args.limit c.args.mark c.in_ok-items.items c.args.tokens.now

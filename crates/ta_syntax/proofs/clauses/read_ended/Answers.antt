@@ -11,7 +11,8 @@ returns-in_default g c = ended_absent g.T.Item.grammar g.T.Item.spelled g.T.Item
 pub returns-in_err-items : goal.returns-in_err-items
 returns-in_err-items g c =
     rw (err_is c.from_residual.result _ c.from_residual.ensures.1)
-    (halts_by (ended c.args.mark c.args.limit g.T.Item.grammar) (list_end c.args.limit g.T.Item.grammar) c.args.end c.in_err-items.field-0.0 (maybe_taken c.args.mark c.in-Some.ensures) c.in_err-items.ensures)
+    (halts_by (ended c.args.mark c.args.limit g.T.Item.grammar) (list_end c.args.limit g.T.Item.grammar) c.args.end c.in_err-items.field-0.0
+    (maybe_taken c.args.mark c.in-Some.ensures) c.in_err-items.ensures)
 
 pub returns : goal.returns
 returns g c = took_ended g.T.Item.grammar g.T.Item.spelled g.T.Item.stated c.args.limit c.args.mark c.in_ok-items.items c.args.tokens.now

@@ -12,7 +12,8 @@ returns-in_err-name c = rw (err_is c.from_residual.result _ c.from_residual.ensu
 pub returns-in_err-rest : goal.returns-in_err-rest
 returns-in_err-rest c =
     rw (err_is c.from_residual-in_err-rest.result _ c.from_residual-in_err-rest.ensures.1)
-    (halts_by (both a_name (a_mark c.args.mark)) (a_mark c.args.mark) c.args.end c.in_err-rest.field-0.0 (past (take_name c.in_ok-name.name.name c.args.end c.in_ok-name.name.at c.in_ok-name.ensures.0 c.in_ok-name.ensures.1))
+    (halts_by (both a_name (a_mark c.args.mark)) (a_mark c.args.mark) c.args.end c.in_err-rest.field-0.0
+    (past (take_name c.in_ok-name.name.name c.args.end c.in_ok-name.name.at c.in_ok-name.ensures.0 c.in_ok-name.ensures.1))
     (mark_stops c.args.mark c.args.end c.in_ok-name.after_name.now c.in_err-rest.field-0.0 c.in_err-rest.ensures))
 
 pub returns : goal.returns

@@ -1,56 +1,23 @@
 use Rattle.ta_syntax.proofs.Common.{err_is}
 use Rattle.ta_syntax.specs.FileGrammar as grammar
-use Rattle.ta_syntax.specs.Productions.{Production, both}
-use Rattle.ta_syntax.specs.declared.tokens.Mark.TheVariants as mark
-use Rattle.ta_syntax.proofs.Steps.{then, past, take_mark, mark_stops, halts_by, halts_in, stops_first}
+use Rattle.ta_syntax.specs.FileReading.{places}
+use Rattle.ta_syntax.proofs.Steps.{then, halts_by}
 use Rattle.ta_syntax.proofs.file.read_head.Goals as goal
 
-abbrev rest_5 : Production
-rest_5 = grammar.processes
+pub returns-in_err-names : goal.returns-in_err-names
+returns-in_err-names c = rw (err_is c.from_residual.result _ c.from_residual.ensures.1) c.in_err-names.ensures
 
-abbrev rest_4 : Production
-rest_4 = both (grammar.locations) rest_5
-
-abbrev rest_3 : Production
-rest_3 = both (grammar.declared_list mark.Shared 16 grammar.a_name) rest_4
-
-abbrev rest_2 : Production
-rest_2 = both (grammar.declared_list mark.Parameters 16 grammar.a_name) rest_3
-
-abbrev rest_1 : Production
-rest_1 = both (both grammar.a_name (grammar.a_mark mark.Semicolon)) rest_2
-
-pub returns-in_err-begun : goal.returns-in_err-begun
-returns-in_err-begun c = rw (err_is c.from_residual.result _ c.from_residual.ensures.1)
-    (stops_first (grammar.a_mark mark.Automaton) rest_1 c.args.end c.args.tokens.now c.in_err-begun.field-0.0 (mark_stops mark.Automaton c.args.end c.args.tokens.now c.in_err-begun.field-0.0 c.in_err-begun.ensures))
-
-pub returns-in_err-name : goal.returns-in_err-name
-returns-in_err-name c = rw (err_is c.from_residual-in_err-name.result _ c.from_residual-in_err-name.ensures.1)
-    (halts_in grammar.head (both grammar.a_name (grammar.a_mark mark.Semicolon)) rest_2 c.args.end c.in_err-name.field-0.0 (past (take_mark mark.Automaton c.in_ok-begun.ensures)) c.in_err-name.ensures)
-
-pub returns-in_err-parameters : goal.returns-in_err-parameters
-returns-in_err-parameters c = rw (err_is c.from_residual-in_err-parameters.result _ c.from_residual-in_err-parameters.ensures.1)
-    (halts_in grammar.head (grammar.declared_list mark.Parameters 16 grammar.a_name) rest_3 c.args.end c.in_err-parameters.field-0.0 (then (past (take_mark mark.Automaton c.in_ok-begun.ensures)) (past c.in_ok-name.ensures)) c.in_err-parameters.ensures)
-
-pub returns-in_err-shared : goal.returns-in_err-shared
-returns-in_err-shared c = rw (err_is c.from_residual-in_err-shared.result _ c.from_residual-in_err-shared.ensures.1)
-    (halts_in grammar.head (grammar.declared_list mark.Shared 16 grammar.a_name) rest_4 c.args.end c.in_err-shared.field-0.0 (then (past (take_mark mark.Automaton c.in_ok-begun.ensures)) (then (past c.in_ok-name.ensures) (past c.in_ok-parameters.ensures.took))) c.in_err-shared.ensures)
-
-pub returns-in_err-locations_at : goal.returns-in_err-locations_at
-returns-in_err-locations_at c = rw (err_is c.from_residual-in_err-locations_at.result _ c.from_residual-in_err-locations_at.ensures.1)
-    (halts_in grammar.head (grammar.locations) rest_5 c.args.end c.in_err-locations_at.field-0.0 (then (past (take_mark mark.Automaton c.in_ok-begun.ensures)) (then (past c.in_ok-name.ensures) (then (past c.in_ok-parameters.ensures.took) (past c.in_ok-shared.ensures.took)))) c.in_err-locations_at.ensures)
-
-pub returns-in_err-processes_at : goal.returns-in_err-processes_at
-returns-in_err-processes_at c = rw (err_is c.from_residual-in_err-processes_at.result _ c.from_residual-in_err-processes_at.ensures.1)
-    (halts_by grammar.head (grammar.processes) c.args.end c.in_err-processes_at.field-0.0 (then (past (take_mark mark.Automaton c.in_ok-begun.ensures)) (then (past c.in_ok-name.ensures) (then (past c.in_ok-parameters.ensures.took) (then (past c.in_ok-shared.ensures.took) (past c.in_ok-locations_at.ensures.took))))) c.in_err-processes_at.ensures)
+pub returns-in_err-places : goal.returns-in_err-places
+returns-in_err-places c = rw (err_is c.from_residual-in_err-places.result _ c.from_residual-in_err-places.ensures.1)
+    (halts_by grammar.head places c.args.end c.in_err-places.field-0.0 c.in_ok-names.ensures.took c.in_err-places.ensures)
 
 pub returns : goal.returns
 returns c = record {
-  parameters = c.in_ok-parameters.ensures.few;
-  shared = c.in_ok-shared.ensures.few;
-  some = c.in_ok-locations_at.ensures.some;
-  locations = c.in_ok-locations_at.ensures.few;
-  is = c.in_ok-processes_at.ensures.is;
-  shallow = c.in_ok-processes_at.ensures.shallow;
-  took = then (past (take_mark mark.Automaton c.in_ok-begun.ensures)) (then (past c.in_ok-name.ensures) (then (past c.in_ok-parameters.ensures.took) (then (past c.in_ok-shared.ensures.took) (then (past c.in_ok-locations_at.ensures.took) (c.in_ok-processes_at.ensures.took)))));
+  parameters = c.in_ok-names.ensures.parameters;
+  shared = c.in_ok-names.ensures.shared;
+  some = c.in_ok-places.ensures.some;
+  locations = c.in_ok-places.ensures.locations;
+  is = c.in_ok-places.ensures.is;
+  shallow = c.in_ok-places.ensures.shallow;
+  took = then c.in_ok-names.ensures.took c.in_ok-places.ensures.took;
 }

@@ -10,11 +10,13 @@ rest_1 = grammar.list_end 32 grammar.location
 
 pub returns-in_err-begun : goal.returns-in_err-begun
 returns-in_err-begun c = rw (err_is c.from_residual.result _ c.from_residual.ensures.1)
-    (stops_first (grammar.a_mark mark.Locations) rest_1 c.args.end c.args.tokens.now c.in_err-begun.field-0.0 (mark_stops mark.Locations c.args.end c.args.tokens.now c.in_err-begun.field-0.0 c.in_err-begun.ensures))
+    (stops_first (grammar.a_mark mark.Locations) rest_1 c.args.end c.args.tokens.now c.in_err-begun.field-0.0
+    (mark_stops mark.Locations c.args.end c.args.tokens.now c.in_err-begun.field-0.0 c.in_err-begun.ensures))
 
 pub returns-in_err-locations : goal.returns-in_err-locations
 returns-in_err-locations c = rw (err_is c.from_residual-in_err-locations.result _ c.from_residual-in_err-locations.ensures.1)
-    (halts_by grammar.locations (grammar.list_end 32 grammar.location) c.args.end c.in_err-locations.field-0.0 (past (take_mark_at mark.Locations c.args.end c.first_offset-at.result c.in_ok-begun.ensures c.first_offset-at.ensures)) c.in_err-locations.ensures)
+    (halts_by grammar.locations (grammar.list_end 32 grammar.location) c.args.end c.in_err-locations.field-0.0
+    (past (take_mark_at mark.Locations c.args.end c.first_offset-at.result c.in_ok-begun.ensures c.first_offset-at.ensures)) c.in_err-locations.ensures)
 
 pub returns : goal.returns
 returns c = record {

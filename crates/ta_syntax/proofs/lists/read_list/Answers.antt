@@ -9,7 +9,8 @@ items-init g c = rw c.new-items.ensures.items (list_begins g.T.Item.grammar g.T.
 pub returns-then-len-limit : goal.returns-then-len-limit
 returns-then-len-limit g c =
     let full : length c.items.items.items ≡ c.args.limit = omega arith in
-    list_past g.T.Item.grammar g.T.Item.spelled g.T.Item.stated c.args.limit c.args.tokens.now c.args.end c.items.items.items c.items.rest.now c.past_limit.result
+    list_past g.T.Item.grammar g.T.Item.spelled g.T.Item.stated c.args.limit c.args.tokens.now c.args.end c.items.items.items c.items.rest.now
+    c.past_limit.result
     full c.items.invariant c.past_limit.ensures
 
 pub returns-in_err-item : goal.returns-in_err-item
@@ -22,7 +23,8 @@ returns-in_err-item g c =
 pub returns-in_default : goal.returns-in_default
 returns-in_default g c =
     let more : length c.items.items.items < c.args.limit = omega (arith, c.items.invariant.few) in
-    rw c.in_ok-push.ensures.items (list_ends g.T.Item.grammar g.T.Item.spelled g.T.Item.stated c.args.limit c.args.tokens.now c.items.items.items c.in_ok-item.item
+    rw c.in_ok-push.ensures.items (list_ends g.T.Item.grammar g.T.Item.spelled g.T.Item.stated c.args.limit c.args.tokens.now c.items.items.items
+    c.in_ok-item.item
     c.items.rest.now c.in_ok-item.after.now more c.items.invariant c.in_ok-item.ensures c.in_default.ensures)
 
 pub items-preserved : goal.items-preserved

@@ -1,6 +1,11 @@
-use Rattle.ta_encode.proofs.Common.{ℕ, ℤ, ◌≡◌, ◌∙◌, length, refl, subst, to_z_range, IsNormal, IsRowOf, block_row}
-use Rattle.ta_encode.proofs.Adding.{adds_one}
+use Rattle.ta_encode.proofs.Common.{ℕ, ℤ, ◌≡◌, ◌∙◌, length, subst, to_z_range, IsNormal, IsRowOf, block_row}
+use Rattle.std.proofs.lemmas.Result.{on_ok_weaker}
 use Rattle.ta_encode.proofs.draft.Draft.push_block.Goals as goal
+
+pub push_row-requires : goal.push_row-requires
+push_row-requires c =
+    let long : c.len.result ≡ length c.args.self.now.meanings.items = c.len.ensures ∙ c.args.self.now.meanings.ok.0 in
+    subst (λ (n : ℕ). IsNormal 0 n c.in_ok-row.row.form.terms) long c.in_ok-row.ensures.below
 
 pub returns : goal.returns
 returns c =
@@ -10,11 +15,5 @@ returns c =
     let row = c.in_ok-row.row in
     let long : c.len.result ≡ length draft.meanings.items = c.len.ensures ∙ draft.meanings.ok.0 in
     let is = subst (λ (z : ℤ). IsRowOf (block_row z from c.len.result sense) row) (to_z_range c.args.constant c.requires.constant) c.in_ok-row.ensures.row in
-    record {
-      automaton = refl;
-      unknowns = refl;
-      rows = adds_one (length draft.meanings.items) draft.rows.items c.push.new.self.items (block_row c.args.constant from (length draft.meanings.items) sense)
-          row
-          (subst (λ (n : ℕ). IsRowOf (block_row c.args.constant from n sense) row) long is)
-          (subst (λ (n : ℕ). IsNormal 0 n row.form.terms) long c.in_ok-row.ensures.below) c.in_ok-push.ensures.items;
-    }
+    on_ok_weaker c.push_row.result (λ adds. adds (λ a ms. block_row c.args.constant from (length ms) sense)
+    (subst (λ (n : ℕ). IsRowOf (block_row c.args.constant from n sense) row) long is)) c.push_row.ensures

@@ -16,7 +16,8 @@ returns-in_default c = halts_in comparison (one relations) a_sum c.args.end (fau
 pub returns-in_err-right : goal.returns-in_err-right
 returns-in_err-right c =
     rw (err_is c.from_residual-in_err-right.result _ c.from_residual-in_err-right.ensures.1)
-    (halts_by comparison a_sum c.args.end c.in_err-right.field-0.0 (then (past c.in_ok-left.ensures.took) (past (take_relation c.in-Some.relation c.in-Some.ensures)))
+    (halts_by comparison a_sum c.args.end c.in_err-right.field-0.0
+    (then (past c.in_ok-left.ensures.took) (past (take_relation c.in-Some.relation c.in-Some.ensures)))
     c.in_err-right.ensures)
 
 pub returns : goal.returns

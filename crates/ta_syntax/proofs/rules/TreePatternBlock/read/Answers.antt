@@ -23,20 +23,27 @@ returns-in_err-name c = rw (err_is c.from_residual.result _ c.from_residual.ensu
 
 pub returns-in_err-start : goal.returns-in_err-start
 returns-in_err-start c = rw (err_is c.from_residual-in_err-start.result _ c.from_residual-in_err-start.ensures.1)
-    (halts_in grammar.pattern (grammar.ended mark.Start 16 grammar.comparison) rest_2 c.args.end c.in_err-start.field-0.0 (past c.in_ok-name.ensures) c.in_err-start.ensures)
+    (halts_in grammar.pattern (grammar.ended mark.Start 16 grammar.comparison) rest_2 c.args.end c.in_err-start.field-0.0 (past c.in_ok-name.ensures)
+    c.in_err-start.ensures)
 
 pub returns-in_err-empty : goal.returns-in_err-empty
 returns-in_err-empty c = rw (err_is c.from_residual-in_err-empty.result _ c.from_residual-in_err-empty.ensures.1)
-    (halts_in grammar.pattern (grammar.ended mark.Empty 32 grammar.a_name) rest_3 c.args.end c.in_err-empty.field-0.0 (then (past c.in_ok-name.ensures) (past c.in_ok-start.ensures.took)) c.in_err-empty.ensures)
+    (halts_in grammar.pattern (grammar.ended mark.Empty 32 grammar.a_name) rest_3 c.args.end c.in_err-empty.field-0.0
+    (then (past c.in_ok-name.ensures) (past c.in_ok-start.ensures.took)) c.in_err-empty.ensures)
 
 pub returns-in_err-events : goal.returns-in_err-events
 returns-in_err-events c = rw (err_is c.from_residual-in_err-events.result _ c.from_residual-in_err-events.ensures.1)
-    (halts_in grammar.pattern (grammar.blocks 8 mark.Event grammar.event) rest_4 c.args.end c.in_err-events.field-0.0 (then (past c.in_ok-name.ensures) (then (past c.in_ok-start.ensures.took) (past c.in_ok-empty.ensures.took))) c.in_err-events.ensures)
+    (halts_in grammar.pattern (grammar.blocks 8 mark.Event grammar.event) rest_4 c.args.end c.in_err-events.field-0.0
+    (then (past c.in_ok-name.ensures) (then (past c.in_ok-start.ensures.took) (past c.in_ok-empty.ensures.took))) c.in_err-events.ensures)
 
 pub returns-in_err-rest : goal.returns-in_err-rest
 returns-in_err-rest c = rw (err_is c.from_residual-in_err-rest.result _ c.from_residual-in_err-rest.ensures.1)
-    (halts_by grammar.pattern (grammar.a_mark mark.CloseBrace) c.args.end c.in_err-rest.field-0.0 (then (past c.in_ok-name.ensures) (then (past c.in_ok-start.ensures.took) (then (past c.in_ok-empty.ensures.took) (past c.in_ok-events.ensures.took)))) (mark_stops mark.CloseBrace c.args.end c.in_ok-events.after_events.now c.in_err-rest.field-0.0 c.in_err-rest.ensures))
+    (halts_by grammar.pattern (grammar.a_mark mark.CloseBrace) c.args.end c.in_err-rest.field-0.0
+    (then (past c.in_ok-name.ensures) (then (past c.in_ok-start.ensures.took) (then (past c.in_ok-empty.ensures.took) (past c.in_ok-events.ensures.took))))
+    (mark_stops mark.CloseBrace c.args.end c.in_ok-events.after_events.now c.in_err-rest.field-0.0 c.in_err-rest.ensures))
 
 pub returns : goal.returns
 returns c = rw c.from_vec.ensures
-    (then (past c.in_ok-name.ensures) (then (past c.in_ok-start.ensures.took) (then (past c.in_ok-empty.ensures.took) (then (past c.in_ok-events.ensures.took) (take_mark mark.CloseBrace c.in_ok-rest.ensures)))))
+    (then (past c.in_ok-name.ensures)
+    (then (past c.in_ok-start.ensures.took)
+    (then (past c.in_ok-empty.ensures.took) (then (past c.in_ok-events.ensures.took) (take_mark mark.CloseBrace c.in_ok-rest.ensures)))))
