@@ -1,71 +1,110 @@
 //! What each kind of row gives.
 #![tactic(auto)]
 
-use crate::commands::{cut, grown, perform, put};
-use crate::files::{Files, unescaped};
+use crate::commands::{cuts, grown, perform, put};
+use crate::files::Files;
+use crate::given::Given;
 use crate::layers::of_file;
 use crate::lines::lines;
-use crate::table::Row;
-use crate::texts::{fault, meaning};
+use crate::table::{Row, cut};
+use crate::texts::fault;
 use crate::towers::pivots;
 use crate::trees;
-use std::alloc::{AllocError, Global};
+use std::alloc::AllocError;
 use std::thread::Threads;
 
-/// What a row gives; nothing, where it gives a file, which is kept.
+/// Writes what a row gives. Where that is a file, it is kept instead, and the answer is false.
 pub fn answer<R: Threads + Sync>(
     rt: &R,
-    alloc: Global,
+    given: &mut Given,
     files: &mut Files,
     row: &Row<'_>,
-) -> Result<Option<String>, AllocError> {
-    let (what, rest) = row.heading.split_once(" ").unwrap_or((row.heading, ""));
-    if keeps(alloc, files, what, rest, row.body)? {
-        return Ok(None);
-    }
-    let given = match what {
-        "run" => perform(rt, alloc, files, rest, false),
-        "calls" => perform(rt, alloc, files, rest, true),
-        "put" => put(rt, alloc, files, rest),
-        "cuts" => cut(rt, alloc, files, rest),
-        "grown" => grown(rt, alloc, files, rest),
-        "means" => meaning(alloc, files, rest),
-        "pivots" => pivots(alloc, rest),
-        "reads" | "lines" | "tree" | "tree-cuts" | "tree-limit" | "prints" => {
-            of_text(alloc, what, rest)
-        }
-        _ => of_file(rt, alloc, files, what, rest),
-    };
-    Ok(Some(given?))
-}
-
-/// Whether a row gives a file, which is then kept.
-fn keeps(
-    alloc: Global,
-    files: &mut Files,
-    what: &str,
-    rest: &str,
-    body: &str,
 ) -> Result<bool, AllocError> {
-    match what {
-        "file" => files.set(alloc, rest, unescaped(alloc, body, "")?)?,
-        "text" => files.set(alloc, rest, unescaped(alloc, body, "\n")?)?,
-        "spaces" => files.set_spaces(alloc, rest)?,
-        "padded" => files.set_padded(alloc, rest)?,
-        _ => return Ok(false),
+    let (what, rest) = cut(row.heading);
+    if is_file(given, files, what, rest, row.body) {
+        let (name, _) = cut(rest);
+        files.set(given.alloc, name, given.whole()?)?;
+        return Ok(false);
     }
+    of_row(rt, given, files, what, rest)?;
     Ok(true)
 }
 
-/// What a row of a text gives, in which `\\n` ends a line.
-fn of_text(alloc: Global, what: &str, rest: &str) -> Result<String, AllocError> {
-    let text = unescaped(alloc, rest, "")?;
+/// Whether a row gives a file, whose text is then written.
+fn is_file(given: &mut Given, files: &Files, what: &str, rest: &str, body: &str) -> bool {
+    let (_, rest) = cut(rest);
+    let (count, other) = cut(rest);
     match what {
-        "reads" => fault(alloc, text.as_str()),
-        "lines" => lines(alloc, text.as_str()),
-        "tree" => trees::fault(alloc, text.as_str()),
-        "tree-cuts" => trees::cuts(alloc, text.as_str()),
-        "tree-limit" => trees::limit(alloc, text.as_str()),
-        _ => trees::printed(alloc, text.as_str()),
+        "file" => unescape(given, body),
+        "text" => {
+            unescape(given, body);
+            given.say("\n");
+        }
+        "spaces" => {
+            say_spaces(given, count);
+            given.say(files.text(other));
+        }
+        "padded" => {
+            given.say(files.text(other));
+            say_spaces(given, count);
+        }
+        _ => return false,
+    }
+    true
+}
+
+fn of_row<R: Threads + Sync>(
+    rt: &R,
+    given: &mut Given,
+    files: &mut Files,
+    what: &str,
+    rest: &str,
+) -> Result<(), AllocError> {
+    match what {
+        "run" => perform(rt, given, files, rest, false),
+        "calls" => perform(rt, given, files, rest, true),
+        "put" => put(rt, given, files, rest),
+        "cuts" => cuts(rt, given, files, rest),
+        "grown" => grown(rt, given, files, rest),
+        "pivots" => pivots(given, rest),
+        _ => {
+            let text = rest.replace(given.alloc, "\\n", "\n")?;
+            of_text(rt, given, files, what, text.as_str())
+        }
+    }
+}
+
+/// Writes what a row gives in which `\\n` stood for the end of a line.
+fn of_text<R: Threads + Sync>(
+    rt: &R,
+    given: &mut Given,
+    files: &Files,
+    what: &str,
+    text: &str,
+) -> Result<(), AllocError> {
+    match what {
+        "reads" => fault(given, text),
+        "lines" => lines(given, text),
+        "tree" => trees::fault(given, text),
+        "tree-cuts" => trees::cuts(given, text),
+        "tree-limit" => trees::limit(given, text),
+        "prints" => trees::printed(given, text),
+        _ => return of_file(rt, given, files, what, text),
+    }
+    Ok(())
+}
+
+/// Writes so many spaces.
+fn say_spaces(given: &mut Given, count: &str) {
+    for _ in 0..count.parse::<u32>().unwrap_or(0) {
+        given.say(" ");
+    }
+}
+
+/// Writes a text in which `\\n` stands for the end of a line.
+fn unescape(given: &mut Given, text: &str) {
+    match text.replace(given.alloc, "\\n", "\n") {
+        Ok(text) => given.say(text.as_str()),
+        Err(fault) => given.note(Err(fault)),
     }
 }

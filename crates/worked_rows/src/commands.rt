@@ -2,14 +2,16 @@
 #![tactic(auto)]
 
 use crate::files::Files;
+use crate::given::Given;
 use crate::growing::Growing;
 use crate::noting::Noting;
+use crate::table::cut;
 use std::alloc::{AllocError, Global};
 use std::thread::Threads;
 use ta_base::limits::CERTIFICATE_BYTES;
 use ta_base::{List, Text};
 use ta_program::run;
-use ta_shelf::{MemoryShelf, MemorySink, are_distinct, read_whole};
+use ta_shelf::{MemoryShelf, MemorySink, Shelf, are_distinct, read_whole};
 
 /// What fails in a run: the calls of the shelf and of the output with these numbers, where 0 is
 /// none; how many bytes the output has room for, and how many it takes at once.
@@ -33,96 +35,111 @@ const CALM: Setting = Setting {
 /// `@`, where they are asked for, and the number behind `=> `.
 pub fn perform<R: Threads + Sync>(
     rt: &R,
-    alloc: Global,
+    given: &mut Given,
     files: &Files,
     rest: &str,
     noted: bool,
-) -> Result<String, AllocError> {
-    let mut setting = CALM;
-    let words = words_of(alloc, rest, &mut setting)?;
-    match shelf_of(alloc, files, setting.shelf)? {
-        Some(mut shelf) => {
-            let words = words.as_slice();
-            perform_over(rt, alloc, files, &mut shelf, setting, words, noted)
-        }
-        None => String::from_str(alloc, "files of one name"),
-    }
+) -> Result<(), AllocError> {
+    let mut shelf = shelf_of(given.alloc, files, setting_of(rest).shelf)?;
+    perform_over(rt, given, files, &mut shelf, rest, noted)
 }
 
 /// The same, and behind it the lines of the text that a file then has, each behind `> `; the text is kept.
 pub fn put<R: Threads + Sync>(
     rt: &R,
-    alloc: Global,
+    given: &mut Given,
     files: &mut Files,
     rest: &str,
-) -> Result<String, AllocError> {
-    let (name, rest) = rest.split_once(" ").unwrap_or((rest, ""));
-    let mut setting = CALM;
-    let words = words_of(alloc, rest, &mut setting)?;
-    let Some(mut shelf) = shelf_of(alloc, files, setting.shelf)? else {
-        return String::from_str(alloc, "files of one name");
-    };
-    let words = words.as_slice();
-    let mut given = perform_over(rt, alloc, files, &mut shelf, setting, words, false)?;
-    let Ok(bytes) = read_whole(alloc, &mut shelf, name, CERTIFICATE_BYTES) else {
-        return Ok(given);
-    };
-    given.push_str("\n")?;
-    write_lines(&mut given, "> ", bytes.as_slice())?;
-    let text = String::from_utf8(bytes.into_vec()).unwrap_or(String::new(alloc));
-    files.set(alloc, name, text)?;
-    Ok(given)
+) -> Result<(), AllocError> {
+    let (name, rest) = cut(rest);
+    let mut shelf = shelf_of(given.alloc, files, setting_of(rest).shelf)?;
+    let ended = perform_over(rt, given, files, &mut shelf, rest, false);
+    ended.and(keep(given, files, &mut shelf, name))
 }
 
-/// The words behind the settings, which are taken.
-fn words_of<'a>(
-    alloc: Global,
-    rest: &'a str,
-    setting: &mut Setting,
-) -> Result<Vec<&'a str>, AllocError> {
-    let mut words = Vec::new(alloc);
+/// Keeps the text that a file of a shelf has, and writes its lines.
+fn keep<S: Shelf>(
+    given: &mut Given,
+    files: &mut Files,
+    shelf: &mut S,
+    name: &str,
+) -> Result<(), AllocError> {
+    let Ok(bytes) = read_whole(given.alloc, shelf, name, CERTIFICATE_BYTES) else {
+        return Ok(());
+    };
+    given.say("\n");
+    say_lines(given, "> ", bytes.as_slice());
+    let text = std::str::from_utf8(bytes.as_slice()).unwrap_or("");
+    files.set(given.alloc, name, text)
+}
+
+/// The settings among words.
+fn setting_of(rest: &str) -> Setting {
+    let mut setting = CALM;
     for word in rest.split(" ") {
-        if !setting.takes(word) && !word.is_empty() {
-            words.push(if word == "''" { "" } else { word })?;
+        setting.takes(word);
+    }
+    setting
+}
+
+/// The words that are no settings. `''` is an empty one.
+fn words_of(alloc: Global, rest: &str) -> Result<Vec<&str>, AllocError> {
+    let mut words = Vec::new(alloc);
+    let mut setting = CALM;
+    for word in rest.split(" ") {
+        if !setting.takes(word) {
+            words.push(word.strip_prefix("''").unwrap_or(word))?;
         }
     }
     Ok(words)
 }
 
 /// What words give over a shelf of these files.
-fn perform_over<R: Threads + Sync>(
+fn perform_over<R: Threads + Sync, S: Shelf + Drop>(
     rt: &R,
-    alloc: Global,
+    given: &mut Given,
     files: &Files,
-    shelf: &mut Noting<MemoryShelf>,
-    setting: Setting,
-    words: &[&str],
+    shelf: &mut Noting<S>,
+    rest: &str,
     noted: bool,
-) -> Result<String, AllocError> {
-    let mut out = sink_of(alloc, setting.room, setting.piece, setting.out)?;
-    let mut err = sink_of(alloc, 4096, 4096, 0)?;
-    let number = run(rt, alloc, words, shelf, &mut out, &mut err);
-    let calls = noted.then_some(shelf.noted.as_str());
-    told(alloc, files, out.as_slice(), err.as_slice(), calls, number)
+) -> Result<(), AllocError> {
+    let alloc = given.alloc;
+    let words = words_of(alloc, rest)?;
+    let (mut out, mut err) = sinks_of(alloc, setting_of(rest))?;
+    let number = run(rt, alloc, words.as_slice(), shelf, &mut out, &mut err);
+    say_lines(given, "", out.as_slice());
+    say_error(given, files, err.as_slice());
+    if noted {
+        given.say("@");
+        given.add(&shelf.noted);
+        given.say("\n");
+    }
+    given.number("=> ", number);
+    Ok(())
 }
 
 /// What words give where a file goes on with spaces behind its text, up to so many bytes, which are
 /// made as they are asked for.
 pub fn grown<R: Threads + Sync>(
     rt: &R,
-    alloc: Global,
+    given: &mut Given,
     files: &Files,
     rest: &str,
-) -> Result<String, AllocError> {
-    let (name, rest) = rest.split_once(" ").unwrap_or((rest, ""));
-    let (length, words) = rest.split_once(" ").unwrap_or((rest, ""));
-    let mut setting = CALM;
-    let words = words_of(alloc, words, &mut setting)?;
-    let mut shelf = Growing::new(files, name, length.parse::<u64>().unwrap_or(0));
-    let mut out = sink_of(alloc, setting.room, setting.piece, setting.out)?;
-    let mut err = sink_of(alloc, 4096, 4096, 0)?;
-    let number = run(rt, alloc, words.as_slice(), &mut shelf, &mut out, &mut err);
-    told(alloc, files, out.as_slice(), err.as_slice(), None, number)
+) -> Result<(), AllocError> {
+    let (name, rest) = cut(rest);
+    let (length, words) = cut(rest);
+    let mut shelf = Noting {
+        shelf: Growing::new(files, name, length.parse::<u64>().unwrap_or(0)),
+        noted: Given::new(given.alloc),
+    };
+    perform_over(rt, given, files, &mut shelf, words, false)
+}
+
+/// The output, and standard error.
+fn sinks_of(alloc: Global, setting: Setting) -> Result<(MemorySink, MemorySink), AllocError> {
+    let out = sink_of(alloc, setting.room, setting.piece, setting.out)?;
+    let err = sink_of(alloc, 4096, 4096, 0)?;
+    Ok((out, err))
 }
 
 /// A sink, of which the call with a number fails.
@@ -131,93 +148,76 @@ fn sink_of(alloc: Global, room: usize, piece: usize, fails: u64) -> Result<Memor
     MemorySink::new(alloc, room, piece, fails)
 }
 
-/// The lines of an answer. `! usage` stands for the text of the row `usage` on standard error.
-fn told(
-    alloc: Global,
-    files: &Files,
-    out: &[u8],
-    err: &[u8],
-    calls: Option<&str>,
-    number: u8,
-) -> Result<String, AllocError> {
-    let mut given = String::new(alloc);
-    write_lines(&mut given, "", out)?;
+/// Writes what came on standard error. `! usage` stands for the text of the row `usage`.
+fn say_error(given: &mut Given, files: &Files, err: &[u8]) {
     if !err.is_empty() && err == files.text("usage").as_bytes() {
-        given.push_str("! usage\n")?;
+        given.say("! usage\n");
     } else {
-        write_lines(&mut given, "! ", err)?;
+        say_lines(given, "! ", err);
     }
-    if let Some(calls) = calls {
-        writeln!(given, "@{calls}")?;
-    }
-    write!(given, "=> {number}")?;
-    Ok(given)
 }
 
 /// What words give where a file ends after its first bytes, for each length below its own; an answer
 /// stands once, behind the first length that has it.
-pub fn cut<R: Threads + Sync>(
+pub fn cuts<R: Threads + Sync>(
     rt: &R,
-    alloc: Global,
+    given: &mut Given,
     files: &mut Files,
     rest: &str,
-) -> Result<String, AllocError> {
-    let (name, words) = rest.split_once(" ").unwrap_or((rest, ""));
-    let whole = String::from_str(alloc, files.text(name))?;
-    let given = cuts_of(rt, alloc, files, name, words, whole.as_str())?;
-    files.set(alloc, name, whole)?;
-    Ok(given)
+) -> Result<(), AllocError> {
+    let (name, words) = cut(rest);
+    let mut whole = Given::new(given.alloc);
+    whole.say(files.text(name));
+    let ended = cuts_of(rt, given, files, name, words, whole.as_str());
+    ended.and(files.set(given.alloc, name, whole.as_str()))
 }
 
 fn cuts_of<R: Threads + Sync>(
     rt: &R,
-    alloc: Global,
+    given: &mut Given,
     files: &mut Files,
     name: &str,
     words: &str,
     whole: &str,
-) -> Result<String, AllocError> {
-    let mut last = String::new(alloc);
-    let mut given = String::new(alloc);
+) -> Result<(), AllocError> {
+    let mut last = Given::new(given.alloc);
     for length in 0..whole.len() {
-        let part = whole.get(..length).unwrap_or("");
-        files.set(alloc, name, String::from_str(alloc, part)?)?;
-        let answer = perform(rt, alloc, files, words, false)?;
+        files.set(given.alloc, name, whole.get(..length).unwrap_or(""))?;
+        let mut answer = Given::new(given.alloc);
+        perform(rt, &mut answer, files, words, false)?;
         if answer.as_str() != last.as_str() {
-            writeln!(given, "from {length}\n{}", answer.as_str())?;
+            given.number("from ", length);
+            given.say("\n");
+            given.add(&answer);
+            given.say("\n");
             last = answer;
         }
     }
-    Ok(given)
+    Ok(())
 }
 
-/// The files, on a shelf.
-fn shelf_of(
-    alloc: Global,
-    files: &Files,
-    fails: u64,
-) -> Result<Option<Noting<MemoryShelf>>, AllocError> {
+/// The files, on a shelf. Where two have one name, which `Files` prevents, memory is said to have run out.
+fn shelf_of(alloc: Global, files: &Files, fails: u64) -> Result<Noting<MemoryShelf>, AllocError> {
     let mut list = Vec::new(alloc);
     for file in files.all() {
         let name = Text::from_string(file.0.clone()?);
         list.push((name, List::from_vec(file.1.as_bytes().to_vec(alloc)?)))?;
     }
-    let list = List::from_vec(list);
-    if !are_distinct(list.as_slice()) {
-        return Ok(None);
-    }
     let fails = List::from_vec(vec![in alloc; fails]?);
-    Ok(Some(Noting {
-        shelf: MemoryShelf::new(list, fails)?,
-        noted: String::new(alloc),
-    }))
+    if !are_distinct(list.as_slice()) {
+        return Err(AllocError);
+    }
+    Ok(Noting {
+        shelf: MemoryShelf::new(List::from_vec(list), fails)?,
+        noted: Given::new(alloc),
+    })
 }
 
 impl Setting {
-    /// Whether a word is a setting, which is then taken.
+    /// Whether a word is empty, or a setting, which is then taken.
     fn takes(&mut self, word: &str) -> bool {
         let Some((name, value)) = word.split_once(":") else {
-            return false;
+            return word.is_empty();
         };
         let value = value.parse::<u16>().unwrap_or(0);
         match name {
@@ -232,15 +232,16 @@ impl Setting {
 }
 
 /// Writes lines, each behind a mark; one that isn't ended has `..` at its end.
-fn write_lines(given: &mut String, mark: &str, bytes: &[u8]) -> Result<(), AllocError> {
+fn say_lines(given: &mut Given, mark: &str, bytes: &[u8]) {
     let Ok(text) = std::str::from_utf8(bytes) else {
-        return given.push_str("no text\n");
+        return given.say("no text\n");
     };
     for line in text.lines() {
-        writeln!(given, "{mark}{line}")?;
+        given.say(mark);
+        given.say(line);
+        given.say("\n");
     }
     if !text.is_empty() && !text.ends_with("\n") {
-        given.push_str("..\n")?;
+        given.say("..\n");
     }
-    Ok(())
 }

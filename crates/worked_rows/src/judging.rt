@@ -1,10 +1,11 @@
 //! Rows of certificates.
 #![tactic(auto)]
 
-ghost use Rattle.std.specs.Prelude.{◌<◌};
+ghost use Rattle.ta_check.specs.Checkers.{IsSoundChecker};
 
+use crate::given::Given;
 use crate::walks::end;
-use std::alloc::{AllocError, Global};
+use std::alloc::AllocError;
 use std::thread::Threads;
 use ta_cert::CertFault;
 use ta_check::{Accepted, Checker, check};
@@ -12,107 +13,93 @@ use ta_scope::ScopedFile;
 
 /// The patterns that a certificate proves, or its first error. It comes whole, in pieces of several
 /// sizes, and in two pieces, cut behind each of its bytes; the answers have to be the same.
-pub fn judgement(alloc: Global, scoped: &ScopedFile, text: &str) -> Result<String, AllocError> {
+pub fn judgement(given: &mut Given, scoped: &ScopedFile, text: &str) {
     let bytes = text.as_bytes();
-    let whole = judgement_by_sizes(alloc, scoped, bytes)?;
+    judge_by_sizes(given, scoped, bytes);
     for place in 0..bytes.len() {
-        let (front, behind) = bytes.split_at(place);
-        let other = answer_text(alloc, in_two(alloc, scoped, front, behind))?;
-        if other.as_str() != whole.as_str() {
-            return format!(in alloc;
-                "{}\nbut cut at {place}: {}",
-                whole.as_str(),
-                other.as_str()
-            );
+        if !is_judged_alike(given, scoped, bytes, place, bytes.len()) {
+            return;
         }
     }
-    Ok(whole)
 }
 
 /// The same of a certificate that comes whole and in pieces of several sizes.
-fn judgement_by_sizes(
-    alloc: Global,
-    scoped: &ScopedFile,
-    bytes: &[u8],
-) -> Result<String, AllocError> {
-    let whole = answer_text(alloc, check(alloc, scoped, bytes))?;
+fn judge_by_sizes(given: &mut Given, scoped: &ScopedFile, text: &[u8]) {
+    say_answer(given, check(given.alloc, scoped, text));
     for size in [1, 2, 3, 7] {
-        let other = answer_text(alloc, by_pieces(alloc, scoped, bytes, size))?;
-        if other.as_str() != whole.as_str() {
-            return format!(in alloc; "{}\nbut by {size}: {}", whole.as_str(), other.as_str());
+        if !is_judged_alike(given, scoped, text, size, size) {
+            return;
         }
     }
-    Ok(whole)
+}
+
+/// Whether the same is answered to a text that comes in pieces, the first of so many bytes.
+fn is_judged_alike(
+    given: &mut Given,
+    scoped: &ScopedFile,
+    text: &[u8],
+    first: usize,
+    size: usize,
+) -> bool {
+    let mut checker = Checker::new(given.alloc, scoped);
+    let fed = feed(&mut checker, text, first, size);
+    let mut other = Given::new(given.alloc);
+    say_answer(&mut other, fed.and(checker.finish()));
+    given.is_same(&other, "cut behind byte ", first)
 }
 
 /// How the walk of pattern 0 ends, and, where it is refuted, how many lines its certificate has, and
 /// what this proves, whole and in pieces of several sizes.
 pub fn round<R: Threads + Sync>(
     rt: &R,
-    alloc: Global,
+    given: &mut Given,
     scoped: &ScopedFile,
     nodes: u64,
-) -> Result<String, AllocError> {
-    let walked = end(rt, alloc, scoped, nodes, true)?;
-    let (first, certificate) = walked
-        .as_str()
-        .split_once("\n")
-        .unwrap_or((walked.as_str(), ""));
-    let judged = judgement_by_sizes(alloc, scoped, certificate.as_bytes())?;
-    let lines = certificate.lines().count();
-    format!(in alloc; "{first}, {lines} lines, {}", judged.as_str())
+) -> Result<(), AllocError> {
+    let mut walked = Given::new(given.alloc);
+    let ended = end(rt, &mut walked, scoped, nodes, true);
+    let text = walked.as_str();
+    let (first, certificate) = text.split_once("\n").unwrap_or((text, ""));
+    let mut judged = Given::new(given.alloc);
+    judge_by_sizes(&mut judged, scoped, certificate.as_bytes());
+    given.say(first);
+    given.number(", ", certificate.lines().count());
+    given.say(" lines, ");
+    given.add(&judged);
+    ended
 }
 
 /// The errors of a text, of nothing behind it, and of its end.
-pub fn refusals(alloc: Global, scoped: &ScopedFile, text: &str) -> Result<String, AllocError> {
-    let mut checker = Checker::new(alloc, scoped);
-    let first = checker.feed(text.as_bytes()).err();
-    let second = checker.feed(b"").err();
-    let end = checker.finish().err();
-    format!(in alloc; "{first:?} {second:?} {end:?}")
+pub fn refusals(given: &mut Given, scoped: &ScopedFile, text: &str) {
+    let mut checker = Checker::new(given.alloc, scoped);
+    given.value(&checker.feed(text.as_bytes()).err());
+    given.say(" ");
+    given.value(&checker.feed(b"").err());
+    given.say(" ");
+    given.value(&checker.finish().err());
 }
 
-/// What is answered to a text that comes in pieces of so many bytes.
-fn by_pieces(
-    alloc: Global,
-    scoped: &ScopedFile,
-    text: &[u8],
-    size: usize,
-) -> Result<Accepted, CertFault>
-    requires { 0 < size }
+/// Feeds a text in pieces, the first of so many bytes, the others of a size.
+fn feed(checker: &mut Checker<'_>, text: &[u8], first: usize, size: usize) -> Result<(), CertFault>
+    requires { IsSoundChecker checker.old }
+    ensures { IsSoundChecker checker.new }
 {
-    let mut checker = Checker::new(alloc, scoped);
-    let mut rest = text;
-    'pieces: while !rest.is_empty() {
-        let (piece, behind) = rest.split_at(size.min(rest.len()));
-        checker.feed(piece)?;
-        rest = behind;
-    }
-    checker.finish()
-}
-
-/// What is answered to a text that comes in two pieces.
-fn in_two(
-    alloc: Global,
-    scoped: &ScopedFile,
-    front: &[u8],
-    behind: &[u8],
-) -> Result<Accepted, CertFault> {
-    let mut checker = Checker::new(alloc, scoped);
+    let (front, behind) = text.split_at(first.min(text.len()));
     checker.feed(front)?;
-    checker.feed(behind)?;
-    checker.finish()
+    for piece in behind.chunks(size.max(1)) {
+        checker.feed(piece)?;
+    }
+    Ok(())
 }
 
-fn answer_text(alloc: Global, answer: Result<Accepted, CertFault>) -> Result<String, AllocError> {
+fn say_answer(given: &mut Given, answer: Result<Accepted, CertFault>) {
     match answer {
         Ok(accepted) => {
-            let mut text = String::from_str(alloc, "proved")?;
+            given.say("proved");
             for number in accepted.patterns.as_slice() {
-                write!(text, " {number}")?;
+                given.number(" ", *number);
             }
-            Ok(text)
         }
-        Err(fault) => format!(in alloc; "{fault:?}"),
+        Err(fault) => given.value(&fault),
     }
 }

@@ -1,59 +1,64 @@
 //! Rows of certificates' lines.
 #![tactic(auto)]
 
-use std::alloc::{AllocError, Global};
+use crate::given::Given;
 use ta_cert::{CertFault, Line, Node, Reader};
 
 /// The lines of a text, a word or two each, or its first error. It is read in pieces of several sizes,
 /// which have to agree.
-pub fn lines(alloc: Global, text: &str) -> Result<String, AllocError> {
-    let whole = lines_by(alloc, text, 1000)?;
+pub fn lines(given: &mut Given, text: &str) {
+    say_lines(given, text, 1000);
     for size in [1, 2, 3, 7] {
-        let other = lines_by(alloc, text, size)?;
-        if other.as_str() != whole.as_str() {
-            return format!(in alloc; "{}\nbut by {size}: {}", whole.as_str(), other.as_str());
+        let mut other = Given::new(given.alloc);
+        say_lines(&mut other, text, size);
+        if !given.is_same(&other, "by ", size) {
+            return;
         }
     }
-    Ok(whole)
 }
 
-fn lines_by(alloc: Global, text: &str, size: usize) -> Result<String, AllocError> {
-    let mut shown = String::new(alloc);
-    match read_by(alloc, &mut shown, text.as_bytes(), size) {
-        Ok(()) => Ok(shown),
-        Err(fault) => format!(in alloc; "{fault:?}"),
+fn say_lines(given: &mut Given, text: &str, size: usize) {
+    let mut shown = Given::new(given.alloc);
+    let mut reader = Reader::new(given.alloc);
+    let fed = feed(&mut reader, &mut shown, text.as_bytes(), size);
+    match fed.and(reader.finish()) {
+        Ok(()) => given.add(&shown),
+        Err(fault) => given.value(&fault),
     }
 }
 
 /// Reads a text in pieces of a size, and shows its lines.
-fn read_by(alloc: Global, shown: &mut String, text: &[u8], size: usize) -> Result<(), CertFault> {
-    let mut reader = Reader::new(alloc);
+fn feed(reader: &mut Reader, shown: &mut Given, text: &[u8], size: usize) -> Result<(), CertFault> {
     for piece in text.chunks(size.max(1)) {
         for (number, line) in reader.feed(piece)?.as_slice() {
-            show(shown, *number, line)?;
+            shown.number("", *number);
+            show(shown, line);
+            shown.say(", ");
         }
     }
-    reader.finish()
+    Ok(())
 }
 
 /// Writes a line in other words than a certificate's.
-fn show(text: &mut String, number: u64, line: &Line) -> Result<(), AllocError> {
-    write!(text, "{number} ")?;
+fn show(shown: &mut Given, line: &Line) {
     match line {
-        Line::Header(version) => write!(text, "header {version}")?,
-        Line::Pattern(pattern) => write!(text, "pattern {pattern}")?,
-        Line::Tree(Node::Extend) => write!(text, "extend")?,
-        Line::Tree(Node::Split { unknown, floor }) => write!(text, "split {unknown} at {floor}")?,
-        Line::Tree(Node::Leaf(pairs)) => {
-            write!(text, "leaf")?;
-            for (row, multiplier) in pairs.as_slice() {
-                write!(text, " {row}*{multiplier}")?;
-            }
+        Line::Header(version) => shown.number(" header ", *version),
+        Line::Pattern(pattern) => shown.number(" pattern ", *pattern),
+        Line::Tree(Node::Extend) => shown.say(" extend"),
+        Line::Tree(Node::Split { unknown, floor }) => {
+            shown.number(" split ", *unknown);
+            shown.number(" at ", *floor);
         }
-        Line::Tree(Node::Guard(guard)) => write!(text, "guard {guard}")?,
-        Line::Tree(Node::Order { before, after }) => write!(text, "order {before} {after}")?,
-        Line::Tree(Node::Stuck(rule)) => write!(text, "stuck {rule}")?,
-        Line::End => write!(text, "end")?,
+        Line::Tree(Node::Leaf(pairs)) => {
+            shown.say(" leaf");
+            shown.pairs("*", pairs.as_slice());
+        }
+        Line::Tree(Node::Guard(guard)) => shown.number(" guard ", *guard),
+        Line::Tree(Node::Order { before, after }) => {
+            shown.number(" order ", *before);
+            shown.number(" ", *after);
+        }
+        Line::Tree(Node::Stuck(rule)) => shown.number(" stuck ", *rule),
+        Line::End => shown.say(" end"),
     }
-    write!(text, ", ")
 }

@@ -8,7 +8,7 @@ mod beside;
 mod commands;
 mod describing;
 mod files;
-mod forms;
+mod given;
 mod growing;
 mod judging;
 mod layers;
@@ -24,6 +24,7 @@ mod walks;
 
 use crate::answers::answer;
 use crate::files::Files;
+use crate::given::Given;
 use crate::table::{Row, Tally, row_of};
 use std::thread::Threads;
 use std::{env, fs, io};
@@ -51,8 +52,9 @@ fn judge_table<R: Threads + Sync>(
     let mut files = Files::new(rt.alloc());
     for paragraph in text.split("\n\n") {
         if let Some(row) = row_of(paragraph) {
-            if let Some(given) = answer(threads, rt.alloc(), &mut files, &row)? {
-                judge_row(rt, &row, given.as_str(), tally)?;
+            let mut given = Given::new(rt.alloc());
+            if answer(threads, &mut given, &mut files, &row)? {
+                judge_row(rt, &row, given.whole()?, tally)?;
             }
         }
     }

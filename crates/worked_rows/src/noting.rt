@@ -1,13 +1,14 @@
 //! A shelf that notes the calls that read.
 #![tactic(auto)]
 
+use crate::given::Given;
 use ta_shelf::{PutFault, Shelf, ShelfFault};
 
 /// Notes the name and the offset of each call.
 #[derive(Drop)]
 pub struct Noting<S: Shelf + Drop> {
     pub shelf: S,
-    pub noted: String,
+    pub noted: Given,
 }
 
 impl<S: Shelf + Drop> Shelf for Noting<S> {
@@ -26,7 +27,9 @@ impl<S: Shelf + Drop> Shelf for Noting<S> {
     ghost stage_bytes = { S.stage_bytes };
 
     fn read_at(&mut self, name: &str, at: u64, buf: &mut [u8]) -> Result<usize, ShelfFault> {
-        let _ = write!(self.noted, " {name}:{at}");
+        self.noted.say(" ");
+        self.noted.say(name);
+        self.noted.number(":", at);
         self.shelf.read_at(name, at, buf)
     }
 

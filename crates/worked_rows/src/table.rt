@@ -30,3 +30,8 @@ pub fn row_of(paragraph: &str) -> Option<Row<'_>> {
         }),
     }
 }
+
+/// The first word of a text, and what stands behind the space behind it.
+pub fn cut(text: &str) -> (&str, &str) {
+    text.split_once(" ").unwrap_or((text, ""))
+}

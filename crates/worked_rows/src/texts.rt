@@ -1,9 +1,9 @@
-//! Rows of texts: what they mean, and their first errors.
+//! Rows of texts: their first errors.
 #![tactic(auto)]
 
-use crate::describing::description;
 use crate::files::Files;
-use std::alloc::{AllocError, Global};
+use crate::given::Given;
+use std::alloc::Global;
 use ta_base::limits::FILE_BYTES;
 use ta_meaning::read_file;
 use ta_scope::ScopedFile;
@@ -23,17 +23,9 @@ fn file_of(alloc: Global, text: &str) -> Result<ScopedFile, FileFault> {
 }
 
 /// The first error of a text, or `legal`.
-pub fn fault(alloc: Global, text: &str) -> Result<String, AllocError> {
-    match file_of(alloc, text) {
-        Ok(_) => String::from_str(alloc, "legal"),
-        Err(fault) => format!(in alloc; "{fault:?}"),
-    }
-}
-
-/// What the file of a name means.
-pub fn meaning(alloc: Global, files: &Files, name: &str) -> Result<String, AllocError> {
-    match scoped(alloc, files, name) {
-        Some(scoped) => description(alloc, scoped.file()),
-        None => String::from_str(alloc, "no such file"),
+pub fn fault(given: &mut Given, text: &str) {
+    match file_of(given.alloc, text).err() {
+        Some(fault) => given.value(&fault),
+        None => given.say("legal"),
     }
 }

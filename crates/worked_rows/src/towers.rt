@@ -7,6 +7,8 @@ ghost use Rattle.ta_linear.specs.Rows.{AllBelow};
 ghost use Rattle.ta_dense.specs.Slack.{variables};
 
 use crate::beside::{Beside, are_same};
+use crate::given::Given;
+use crate::table::cut;
 use std::alloc::{AllocError, Global};
 use ta_base::List;
 use ta_dense::{Dictionary, NarrowDictionary, PivotFault};
@@ -17,6 +19,7 @@ enum End {
     Vertex,
     Stuck,
     Overflow(u32),
+    Memory,
     Apart,
 }
 
@@ -83,38 +86,33 @@ fn tower(alloc: Global, levels: u32, up: i128, down: i128) -> Result<System, All
 }
 
 // One pivot of the least-index rule.
-fn next_step<D: Dictionary>(alloc: Global, dictionary: D) -> Result<Step<D>, AllocError> {
+fn next_step<D: Dictionary>(alloc: Global, dictionary: D) -> Step<D> {
     let Some(row) = dictionary.leaving() else {
-        return Ok(Step::Ended(End::Vertex));
+        return Step::Ended(End::Vertex);
     };
     let Some(column) = dictionary.entering(row) else {
-        return Ok(Step::Ended(End::Stuck));
+        return Step::Ended(End::Stuck);
     };
     match dictionary.pivot(alloc, row, column) {
-        Ok(next) => Ok(Step::Next(next)),
-        Err(PivotFault::Overflow { row }) => Ok(Step::Ended(End::Overflow(row))),
-        Err(PivotFault::Memory) => Err(AllocError),
+        Ok(next) => Step::Next(next),
+        Err(PivotFault::Overflow { row }) => Step::Ended(End::Overflow(row)),
+        Err(PivotFault::Memory) => Step::Ended(End::Memory),
     }
 }
 
 // One pivot over each kind of rows, where these are the same.
-fn next_steps(
-    alloc: Global,
-    wide: Beside,
-    narrow: NarrowDictionary,
-) -> Result<Step<(Beside, NarrowDictionary)>, AllocError> {
+fn next_steps<D: Dictionary, E: Dictionary>(alloc: Global, wide: D, narrow: E) -> Step<(D, E)> {
     if !are_same(&wide, &narrow) {
-        return Ok(Step::Ended(End::Apart));
+        return Step::Ended(End::Apart);
     }
-    let first = next_step(alloc, wide)?;
-    let second = next_step(alloc, narrow)?;
+    let first = next_step(alloc, wide);
+    let second = next_step(alloc, narrow);
     match (first, second) {
-        (Step::Next(next), Step::Next(other)) => Ok(Step::Next((next, other))),
+        (Step::Next(next), Step::Next(other)) => Step::Next((next, other)),
         (Step::Ended(end), Step::Ended(other)) => {
-            let end = if end == other { end } else { End::Apart };
-            Ok(Step::Ended(end))
+            Step::Ended(if end == other { end } else { End::Apart })
         }
-        _ => Ok(Step::Ended(End::Apart)),
+        _ => Step::Ended(End::Apart),
     }
 }
 
@@ -129,7 +127,7 @@ fn course_of(alloc: Global, system: &System) -> Result<Course, AllocError>
         if wide_at.is_none() && narrow.is_wide() {
             wide_at = Some(pivots);
         }
-        match next_steps(alloc, wide, narrow)? {
+        match next_steps(alloc, wide, narrow) {
             Step::Next(both) => {
                 wide = both.0;
                 narrow = both.1;
@@ -152,20 +150,29 @@ fn course_of(alloc: Global, system: &System) -> Result<Course, AllocError>
 
 /// The pivots of a tower: how many were made, how it ended, and whether the numbers got 128 bits. The
 /// words are the number of levels and the two coefficients of each.
-pub fn pivots(alloc: Global, rest: &str) -> Result<String, AllocError> {
-    let mut words = rest.split(" ");
-    let levels = words.next().unwrap_or("").parse::<u32>().unwrap_or(50);
-    let up = words.next().unwrap_or("").parse::<i128>().unwrap_or(0);
-    let down = words.next().unwrap_or("").parse::<i128>().unwrap_or(0);
+pub fn pivots(given: &mut Given, rest: &str) -> Result<(), AllocError> {
+    let (levels, rest) = cut(rest);
+    let (up, down) = cut(rest);
+    let levels = levels.parse::<u32>().unwrap_or(50);
+    let (up, down) = (coefficient_of(up), coefficient_of(down));
     if levels >= 50 || !is_coefficient(up) || !is_coefficient(down) {
-        return String::from_str(alloc, "no such tower");
+        return given.end("no such tower");
     }
-    let made = course_of(alloc, &tower(alloc, levels, up, down)?)?;
-    let mut text = format!(in alloc; "{} pivots, {:?}", made.pivots, made.end)?;
+    let system = tower(given.alloc, levels, up, down)?;
+    let made = course_of(given.alloc, &system);
+    drop(system);
+    let made = made?;
+    given.number("", made.pivots);
+    given.say(" pivots, ");
+    given.value(&made.end);
     if let Some(pivots) = made.wide_at {
-        write!(text, ", wide after {pivots}")?;
+        given.number(", wide after ", pivots);
     }
-    Ok(text)
+    Ok(())
+}
+
+fn coefficient_of(word: &str) -> i128 {
+    word.parse::<i128>().unwrap_or(0)
 }
 
 fn is_coefficient(number: i128) -> bool

@@ -1,6 +1,7 @@
 //! Rows of trees: the first errors of texts, their cuts, their lists, and what is printed of them.
 #![tactic(auto)]
 
+use crate::given::Given;
 use std::alloc::{AllocError, Global};
 use ta_base::limits::FILE_BYTES;
 use ta_syntax::{FileFault, Tree, print_then_read, print_tree, read_tree};
@@ -14,58 +15,64 @@ fn fault_of(alloc: Global, bytes: &[u8]) -> Option<FileFault> {
 }
 
 /// The first error of a text as a tree, or `a tree`.
-pub fn fault(alloc: Global, text: &str) -> Result<String, AllocError> {
-    match fault_of(alloc, text.as_bytes()) {
-        Some(fault) => format!(in alloc; "{fault:?}"),
-        None => String::from_str(alloc, "a tree"),
+pub fn fault(given: &mut Given, text: &str) {
+    match fault_of(given.alloc, text.as_bytes()) {
+        Some(fault) => given.value(&fault),
+        None => given.say("a tree"),
     }
 }
 
-/// What is printed of a text, and again of what is read of that.
-pub fn printed(alloc: Global, text: &str) -> Result<String, AllocError> {
+/// What is printed of a text, and again of what is read of that, which has to be the same.
+pub fn printed(given: &mut Given, text: &str) {
     let bytes = text.as_bytes();
     if bytes.len() > FILE_BYTES {
-        return String::from_str(alloc, "too long");
+        return given.say("too long");
     }
-    match read_tree(alloc, bytes) {
-        Ok(tree) => printed_twice(alloc, &tree),
-        Err(fault) => format!(in alloc; "{fault:?}"),
+    match read_tree(given.alloc, bytes) {
+        Ok(tree) => print_twice(given, &tree),
+        Err(fault) => given.value(&fault),
     }
 }
 
-fn printed_twice(alloc: Global, tree: &Tree) -> Result<String, AllocError> {
-    let text = print_tree(alloc, tree)?;
-    if text.as_str().len() > FILE_BYTES {
-        return String::from_str(alloc, "too long");
+fn print_twice(given: &mut Given, tree: &Tree) {
+    match print_tree(given.alloc, tree) {
+        Ok(text) if text.as_str().len() <= FILE_BYTES => {
+            given.say(text.as_str());
+            print_again(given, print_then_read(given.alloc, tree));
+        }
+        _ => given.say("not printed"),
     }
-    let Ok(same) = print_then_read(alloc, tree) else {
-        return String::from_str(alloc, "not read again");
+}
+
+fn print_again(given: &mut Given, read: Result<Tree, FileFault>) {
+    let printed = match read {
+        Ok(same) => print_tree(given.alloc, &same),
+        Err(_) => Err(AllocError),
     };
-    let again = print_tree(alloc, &same)?;
-    if again.as_str() == text.as_str() {
-        Ok(text.into_string())
-    } else {
-        String::from_str(alloc, "printed in another way")
+    match printed {
+        Ok(text) if text.as_str() == given.as_str() => {}
+        _ => given.say("\nand not the same again"),
     }
 }
 
 /// Where a text with so many items behind it, and with one more, has a list that is past its limit.
 /// Between ` | ` stand how many, the item, and the text.
-pub fn limit(alloc: Global, rest: &str) -> Result<String, AllocError> {
+pub fn limit(given: &mut Given, rest: &str) {
     let (count, rest) = rest.split_once(" | ").unwrap_or((rest, ""));
     let (item, front) = rest.split_once(" | ").unwrap_or((rest, ""));
-    let mut text = String::from_str(alloc, front)?;
+    let mut text = Given::new(given.alloc);
+    text.say(front);
     for _ in 0..count.parse::<u16>().unwrap_or(0) {
-        text.push_str(item)?;
+        text.say(item);
     }
-    let within = past_limit(alloc, text.as_str());
-    text.push_str(item)?;
-    let past = past_limit(alloc, text.as_str());
-    format!(in alloc; "{within:?} {past:?}")
+    given.value(&past_limit(&text));
+    text.say(item);
+    given.say(" ");
+    given.value(&past_limit(&text));
 }
 
-fn past_limit(alloc: Global, text: &str) -> Option<u32> {
-    match fault_of(alloc, text.as_bytes()) {
+fn past_limit(text: &Given) -> Option<u32> {
+    match fault_of(text.alloc, text.as_str().as_bytes()) {
         Some(FileFault::TooMany(at)) => Some(at),
         _ => None,
     }
@@ -74,16 +81,15 @@ fn past_limit(alloc: Global, text: &str) -> Option<u32> {
 /// The lengths at which a text can't be cut: behind `resilience ..;`, a rule or a pattern it is a
 /// tree, and anywhere else there is a syntax error; behind a space, at its end; and where it ends
 /// with ` =`, a wrong byte.
-pub fn cuts(alloc: Global, text: &str) -> Result<String, AllocError> {
-    let mut wrong = String::from_str(alloc, "as they should")?;
+pub fn cuts(given: &mut Given, text: &str) {
+    given.say("as they should");
     let bytes = text.as_bytes();
     for length in 0..bytes.len() + 1 {
         let cut = &bytes[..length];
-        if !is_right(cut, fault_of(alloc, cut)) {
-            write!(wrong, ", but at {length}")?;
+        if !is_right(cut, fault_of(given.alloc, cut)) {
+            given.number(", but at ", length);
         }
     }
-    Ok(wrong)
 }
 
 fn is_right(cut: &[u8], fault: Option<FileFault>) -> bool {

@@ -2,7 +2,8 @@
 #![tactic(auto)]
 
 use crate::beside::Beside;
-use std::alloc::{AllocError, Global};
+use crate::given::Given;
+use std::alloc::AllocError;
 use std::thread::Threads;
 use ta_base::limits::MOST_NODES;
 use ta_cert::{Order, Proof, write_cert};
@@ -14,58 +15,75 @@ use ta_walk::{PlaceKind, WalkEnd, find_orders, walk};
 /// How the walk of pattern 0 ends under the orders that are found, and the certificate of a refutation.
 pub fn end<R: Threads + Sync>(
     rt: &R,
-    alloc: Global,
+    given: &mut Given,
     scoped: &ScopedFile,
     nodes: u64,
     narrow: bool,
-) -> Result<String, AllocError> {
+) -> Result<(), AllocError> {
     if scoped.file().patterns.as_slice().is_empty() || nodes == 0 || nodes > MOST_NODES {
-        return String::from_str(alloc, "no such walk");
+        return given.end("no such walk");
     }
-    let found = find_orders::<NarrowDictionary>(alloc, scoped)?;
+    let found = find_orders::<NarrowDictionary>(given.alloc, scoped)?;
     let tree = ClaimTree::new(Claim::Safe, scoped.file(), 0, &found.orders);
     let end = if narrow {
-        walk::<NarrowDictionary, R>(rt, alloc, &tree, nodes)?
+        walk::<NarrowDictionary, R>(rt, given.alloc, &tree, nodes)
     } else {
-        walk::<Beside, R>(rt, alloc, &tree, nodes)?
+        walk::<Beside, R>(rt, given.alloc, &tree, nodes)
     };
-    describe(alloc, found.list.as_slice(), end)
+    describe(given, found.list.as_slice(), end)
 }
 
-fn describe(alloc: Global, orders: &[Order], end: WalkEnd) -> Result<String, AllocError> {
-    match end {
+fn describe(
+    given: &mut Given,
+    orders: &[Order],
+    end: Result<WalkEnd, AllocError>,
+) -> Result<(), AllocError> {
+    match end? {
         WalkEnd::Refuted { count, nodes } => {
+            given.number("refuted ", count);
             let proofs = [Proof { pattern: 0, nodes }];
-            let text = write_cert(alloc, orders, proofs.as_slice())?;
-            format!(in alloc; "refuted {count}\n{}", text.as_str())
+            let text = write_cert(given.alloc, orders, proofs.as_slice());
+            drop(proofs);
+            given.say("\n");
+            given.say(text?.as_str());
         }
-        WalkEnd::Found { count, .. } => format!(in alloc; "found {count}"),
-        WalkEnd::Spent { count } => format!(in alloc; "spent {count}"),
-        WalkEnd::Overflow { node, kind } => match kind {
-            PlaceKind::Pivot(pivot) => format!(in alloc; "overflow {node} pivot {pivot}"),
-            PlaceKind::Leaf => format!(in alloc; "overflow {node} leaf"),
-            PlaceKind::Run => format!(in alloc; "overflow {node} run"),
-        },
+        WalkEnd::Found { count, .. } => given.number("found ", count),
+        WalkEnd::Spent { count } => given.number("spent ", count),
+        WalkEnd::Overflow { node, kind } => {
+            given.number("overflow ", node);
+            match kind {
+                PlaceKind::Pivot(pivot) => given.number(" pivot ", pivot),
+                PlaceKind::Leaf => given.say(" leaf"),
+                PlaceKind::Run => given.say(" run"),
+            }
+        }
     }
+    Ok(())
 }
 
 /// The values of the solution that the walk of pattern 0 finds.
 pub fn solution<R: Threads + Sync>(
     rt: &R,
-    alloc: Global,
+    given: &mut Given,
     scoped: &ScopedFile,
-) -> Result<String, AllocError> {
-    let mut text = String::from_str(alloc, "values")?;
+) -> Result<(), AllocError> {
+    given.say("values");
     if scoped.file().patterns.as_slice().is_empty() {
-        return Ok(text);
+        return Ok(());
     }
-    let orders = find_orders::<NarrowDictionary>(alloc, scoped)?.orders;
+    let orders = find_orders::<NarrowDictionary>(given.alloc, scoped)?.orders;
     let tree = ClaimTree::new(Claim::Safe, scoped.file(), 0, &orders);
-    let end = walk::<NarrowDictionary, R>(rt, alloc, &tree, MOST_NODES)?;
+    say_solution(
+        given,
+        walk::<NarrowDictionary, R>(rt, given.alloc, &tree, MOST_NODES)?,
+    );
+    Ok(())
+}
+
+fn say_solution(given: &mut Given, end: WalkEnd) {
     if let WalkEnd::Found { solution, .. } = end {
         for value in solution.values.as_slice() {
-            write!(text, " {value}")?;
+            given.number(" ", *value);
         }
     }
-    Ok(text)
 }
