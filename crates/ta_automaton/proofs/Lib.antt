@@ -1,6 +1,7 @@
 -- lemmas for the crates above
 pub mod Thresholds
 pub mod Numbered
+pub mod Narrows
 pub mod Moves
 pub mod Fire
 pub mod Trails

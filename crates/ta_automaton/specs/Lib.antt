@@ -1,6 +1,7 @@
 pub mod Names
 pub mod Forms
 pub mod Shape
+pub mod Narrow
 pub mod Patterns
 pub mod Numbered
 pub mod Runs

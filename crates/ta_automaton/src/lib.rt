@@ -7,6 +7,7 @@ mod file;
 mod law;
 mod pattern;
 mod rule;
+mod task;
 
 pub use automaton::Automaton;
 pub use condition::{Comparison, Condition};
@@ -14,3 +15,4 @@ pub use file::File;
 pub use law::laws;
 pub use pattern::{Event, Pattern};
 pub use rule::Rule;
+pub use task::Task;

@@ -18,6 +18,6 @@ pub struct Event {
 pub struct Pattern {
     pub name: Text,
     pub start: Condition,
-    pub empty: u32,
+    pub empty: u128,
     pub events: List<Event>,
 }

@@ -10,7 +10,7 @@ pub struct Rule {
     pub name: Text,
     pub from: u32,
     pub to: u32,
-    pub rise: u16,
-    pub fall: u8,
+    pub rise: u64,
+    pub fall: u16,
     pub updates: List<(u32, i128)>,
 }

@@ -1,7 +1,7 @@
 -- sets of numbers as masks and as tests
 use Rattle.ta_base.proofs.Common.{ℕ, ◌<◌, eqb, max, ◌≡◌, ◌||◌, zero, refl, suc, arith, min, ◌&&◌, true≢false, bit_or, ap, ◌∙◌, bit_and, ◌^◌, ◌==◌, inl, sym}
 use Rattle.ta_base.proofs.Common.{inr, false, ◌≤◌, ◌-◌, true, Bool, not, eqb-true, eq-eqb, ◌*◌, ◌%◌, pow_pos, ◌+◌, ◌⊎◌, IsBitSet, ◌/◌, cond, ◌↔◌, List, filter}
-use Rattle.ta_base.proofs.Common.{[], ◌∷◌, get_or, ◌≢◌, w32, false≢true, cases_lt, and_cases, bit_at, bit_not, eqb_tells, one_shl, and_le_r, AllByRecursion}
+use Rattle.ta_base.proofs.Common.{[], ◌∷◌, get_or, ◌≢◌, w128, false≢true, cases_lt, and_cases, bit_at, bit_not, eqb_tells, one_shl, and_le_r, AllByRecursion}
 use Rattle.ta_base.proofs.Common.{has_bit, implies, all_below, nat_tests, cases_Bool, Decides-eqb, same_from_decides, ne_eqb, and_parts, subst, cases_eq}
 use Rattle.ta_base.proofs.Common.{not-false, not-true, not-not, and_comm, bit_set_by_shift, Decides-below_and, Decides, filter_agree, any_below, add-one}
 use Rattle.std.proofs.Math.Pow.{pow-lt}
@@ -126,8 +126,8 @@ all_below-same n f g h = both_ways _ _ (λ t. all_below-from n g (λ k b. sym (h
     (λ t. all_below-from n f (λ k b. h k b ∙ all_below-at n g t k b))
 
 -- the mask of the first n numbers
-pub first_numbers : (n : ℕ) (test : ℕ → Bool) → n < 32 → all_below n (λ i. implies (has_bit ((1 * 2 ^ n) % 4294967296 - 1) i) (test i)) ≡ all_below n test
-first_numbers n test h = all_below-same n _ _ (λ i b. ap (λ x. implies x (test i)) (ap (λ m. has_bit (m - 1) i) (one_shl n 32 h) ∙ has_ones n i b))
+pub first_numbers : (w n : ℕ) (test : ℕ → Bool) → n < w → all_below n (λ i. implies (has_bit ((1 * 2 ^ n) % 2 ^ w - 1) i) (test i)) ≡ all_below n test
+first_numbers w n test h = all_below-same n _ _ (λ i b. ap (λ x. implies x (test i)) (ap (λ m. has_bit (m - 1) i) (one_shl n w h) ∙ has_ones n i b))
 
 -- a mask that says of each number below n whether it passes
 pub record Told (test : ℕ → Bool) (mask n : ℕ) : Type 0 where
@@ -234,11 +234,11 @@ pub no_numbers : (xs : List ℕ) → filter (has_bit 0) xs ≡ []
 no_numbers [] = refl
 no_numbers (x ∷ xs) = ap (λ b. cond b (x ∷ filter (has_bit 0) xs) (filter (has_bit 0) xs)) (has_none x) ∙ no_numbers xs
 
--- a mask of numbers of guards alone has no other bits
-pub bit_in_masks_below : (masks : List ℕ) (d j : ℕ) → AllByRecursion (λ m. m < 2 ^ 16) masks → has_bit (get_or masks d 0) j ≡ true → j < 16
-bit_in_masks_below [] d j h has = absurd (false≢true (sym (has_none j) ∙ has))
-bit_in_masks_below (m ∷ ms) zero j h has = bit_below m 16 j h.0 (bit_set m j has)
-bit_in_masks_below (m ∷ ms) (suc d) j h has = bit_in_masks_below ms d j h.1 has
+-- a mask of numbers below a limit alone has no other bits
+pub bit_in_masks_below : (w : ℕ) (masks : List ℕ) (d j : ℕ) → AllByRecursion (λ m. m < 2 ^ w) masks → has_bit (get_or masks d 0) j ≡ true → j < w
+bit_in_masks_below w [] d j h has = absurd (false≢true (sym (has_none j) ∙ has))
+bit_in_masks_below w (m ∷ ms) zero j h has = bit_below m w j h.0 (bit_set m j has)
+bit_in_masks_below w (m ∷ ms) (suc d) j h has = bit_in_masks_below w ms d j h.1 has
 
 pub bit_on : (w mask k : ℕ) → k < w → bit_and mask ((1 * 2 ^ k) % 2 ^ w) ≢ 0 → has_bit mask k ≡ true
 bit_on w mask k b h = sym (set_test w mask k b) ∙ elim (eqb_tells (bit_and mask ((1 * 2 ^ k) % 2 ^ w)) 0) [ inl e ↦ absurd (h e.1) | inr ne ↦ ap not ne.0 ]
@@ -249,36 +249,36 @@ bit_off w mask k b h = sym (set_test w mask k b) ∙ ap not (eq-eqb (bit_and mas
 pub eqb_turned : (x y : ℕ) → (x == y) ≡ (y == x)
 eqb_turned x y = same_from_decides (x == y) (y == x) (Decides-eqb x y) (λ e. sym ((Decides-eqb y x).0 e), λ e. (Decides-eqb y x).1 (sym e))
 
-pub only_bit : (n k : ℕ) → n < 32 → has_bit ((1 * 2 ^ n) % 4294967296) k ≡ (k == n)
-only_bit n k b = ap (λ m. has_bit m k) (one_shl n 32 b) ∙ has_pow n k ∙ eqb_turned n k
+pub only_bit : (w n k : ℕ) → n < w → has_bit ((1 * 2 ^ n) % 2 ^ w) k ≡ (k == n)
+only_bit w n k b = ap (λ m. has_bit m k) (one_shl n w b) ∙ has_pow n k ∙ eqb_turned n k
 
-pub has_no_bit : (n k : ℕ) → 32 ≤ n → k < 32 → has_bit 0 k ≡ (k == n)
-has_no_bit n k b h = has_none k ∙ elim (eqb_tells k n) [ inl e ↦ absurd (let q = e.1 in omega arith) | inr ne ↦ sym ne.0 ]
+pub has_no_bit : (w n k : ℕ) → w ≤ n → k < w → has_bit 0 k ≡ (k == n)
+has_no_bit w n k b h = has_none k ∙ elim (eqb_tells k n) [ inl e ↦ absurd (let q = e.1 in omega arith) | inr ne ↦ sym ne.0 ]
 
 opposite_digit : (b : ℕ) → b < 2 → eqb (1 - b) 1 ≡ not (eqb b 1)
 opposite_digit b h = grind (arith, nat_tests)
 
-pub standing_bit : (mask j : ℕ) → mask < 2 ^ 32 → j < 32 → has_bit (bit_not w32 mask) j ≡ not (has_bit mask j)
+pub standing_bit : (mask j : ℕ) → mask < 2 ^ 128 → j < 128 → has_bit (bit_not w128 mask) j ≡ not (has_bit mask j)
 unfolding has_bit
-standing_bit mask j b h = ap (λ k. eqb k 1) (bit_at_not w32 mask j b h) ∙ opposite_digit (bit_at mask j) (bit_at-lt mask j)
+standing_bit mask j b h = ap (λ k. eqb k 1) (bit_at_not w128 mask j b h) ∙ opposite_digit (bit_at mask j) (bit_at-lt mask j)
 
 -- no location is kept empty
 pub none_kept_empty : (ls : List ℕ) → filter (λ l. not (has_bit 0 l)) ls ≡ ls
 none_kept_empty ls = filter_agree (λ l. not (has_bit 0 l)) (λ l. true) (λ l. ap not (has_none l)) ls ∙ filter_all ls
 
 -- the complement of the locations that are left and aren't kept empty
-pub left_bit : (empty left l : ℕ) → empty < 2 ^ 32 → left < 2 ^ 32 → l < 32
-    → not (has_bit (bit_not w32 (bit_and (bit_not w32 empty) left)) l) ≡ (not (has_bit empty l) && has_bit left l)
+pub left_bit : (empty left l : ℕ) → empty < 2 ^ 128 → left < 2 ^ 128 → l < 128
+    → not (has_bit (bit_not w128 (bit_and (bit_not w128 empty) left)) l) ≡ (not (has_bit empty l) && has_bit left l)
 left_bit empty left l e f h =
-    let b : bit_and (bit_not w32 empty) left < 2 ^ 32 = omega (arith, and_le_r (bit_not w32 empty) left) in
-    ap not (standing_bit (bit_and (bit_not w32 empty) left) l b h)
-    ∙ not-not (has_bit (bit_and (bit_not w32 empty) left) l)
-    ∙ has_and (bit_not w32 empty) left l
+    let b : bit_and (bit_not w128 empty) left < 2 ^ 128 = omega (arith, and_le_r (bit_not w128 empty) left) in
+    ap not (standing_bit (bit_and (bit_not w128 empty) left) l b h)
+    ∙ not-not (has_bit (bit_and (bit_not w128 empty) left) l)
+    ∙ has_and (bit_not w128 empty) left l
     ∙ ap (λ (c : Bool). c && has_bit left l) (standing_bit empty l e h)
 
 -- the mask of one number has no other number
-pub lone_bit : (k l : ℕ) → k < 32 → IsBitSet (1 * 2 ^ k % 4294967296) l → l ≡ k
-lone_bit k l within b = eqb-true l k (sym (only_bit k l within) ∙ bit_true _ l b)
+pub lone_bit : (w k l : ℕ) → k < w → IsBitSet (1 * 2 ^ k % 2 ^ w) l → l ≡ k
+lone_bit w k l within b = eqb-true l k (sym (only_bit w k l within) ∙ bit_true _ l b)
 
 -- a mask fits that many bits with one of them more
 pub with_bit_fits : (w mask k : ℕ) → mask < 2 ^ w → k < w → bit_or mask ((1 * 2 ^ k) % 2 ^ w) < 2 ^ w

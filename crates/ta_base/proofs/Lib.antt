@@ -12,6 +12,7 @@ pub mod Sums
 pub mod Totals
 pub mod Times
 pub mod Bits
+pub mod LongMasks
 pub mod ByteLists
 pub mod DecimalDigits
 pub mod Digits

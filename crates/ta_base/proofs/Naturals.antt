@@ -7,8 +7,8 @@ use Rattle.ta_base.proofs.Common.{lt_of_mul-lt-mul_left, cond_both, cond-true, c
 use Rattle.ta_base.proofs.Common.{get_or-map-range_with_len, length-map-range_with_len, mul-le-mul_right}
 use Rattle.std.proofs.lemmas.Map.Views.{Contains-from_any}
 
-pub first_bits_below : (n : ℕ) → n < 32 → (1 * 2 ^ n) % 4294967296 - 1 < 2 ^ n
-first_bits_below n h = let e = one_shl n 32 h in omega (arith, e, pow_pos n)
+pub first_bits_below : (w n : ℕ) → n < w → (1 * 2 ^ n) % 2 ^ w - 1 < 2 ^ n
+first_bits_below w n h = let e = one_shl n w h in omega (arith, e, pow_pos n)
 
 -- numbers below a limit are short enough for the laws on digits
 pub wide : (n limit : ℕ) → n < limit → limit ≤ 2 ^ 128 → n < 10 ^ 64

@@ -1,5 +1,6 @@
 -- Sets of natural numbers: as bit masks, as tests and as lists.
-use Rattle.std.specs.Prelude.{ℕ, zero, suc, ◌/◌, ◌%◌, ◌^◌, ◌≡◌, ◌==◌, ◌⊎◌, not, Bool, true, false, ◌&&◌, List, [], ◌∷◌}
+use Rattle.std.specs.Prelude.{ℕ, zero, suc, ◌+◌, ◌*◌, ◌/◌, ◌%◌, ◌^◌, ◌≡◌, ◌==◌, ◌<◌, ◌⊎◌, not, Bool, true, false, ◌&&◌, List, [], ◌∷◌}
+use Rattle.std.specs.List.{AllByRecursion}
 
 -- whether bit i of a mask is 1
 unfoldable pub has_bit : ℕ → ℕ → Bool
@@ -23,3 +24,12 @@ In x (y ∷ ys) = (x ≡ y) ⊎ In x ys
 -- whether some number below another passes
 abbrev pub any_below : ℕ → (ℕ → Bool) → Bool
 any_below n test = not (all_below n (λ k. not (test k)))
+
+-- the number that words of 128 bits are, the least one first
+unfoldable pub words_value : List ℕ → ℕ
+words_value [] = 0
+words_value (w ∷ ws) = words_value ws * 2 ^ 128 + w
+
+-- words of 128 bits
+abbrev pub AreWords : List ℕ → Type 0
+AreWords ws = AllByRecursion (λ w. w < 2 ^ 128) ws

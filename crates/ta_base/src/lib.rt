@@ -6,8 +6,10 @@ pub mod bytes;
 pub mod decimals;
 pub mod limits;
 mod list;
+mod long_mask;
 pub mod masks;
 mod text;
 
 pub use list::List;
+pub use long_mask::LongMask;
 pub use text::Text;

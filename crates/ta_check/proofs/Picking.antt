@@ -243,14 +243,14 @@ fault_absent search w s ts row is first =
     }
 
 -- the cursor's word has a system with its bounds
-pub whole_here : {E : Type 0} (search : Search E) (c : Cursor E) (z : System) → IsWord search (here c) → z.unknowns ≤ 1000000 → WithoutBounds search (here c) z
+pub whole_here : {E : Type 0} (search : Search E) (c : Cursor E) (z : System) → IsWord search (here c) → z.unknowns ≤ 40000000 → WithoutBounds search (here c) z
     → (s : System) × SystemAt search (here c) s
 whole_here search c z word small is = whole_system search c.start (reverse c.facts.items) c.bounds.items z (omega arith) is
     (subst (λ n. BoundsWithin n c.bounds.items) (sym is.unknowns) word.bounds)
 
 -- the rows that were named are those of the cursor's word
 pub named_here : {E : Type 0} (search : Search E) (c : Cursor E) (z rows : System) (bounds : List Bound) (ts : List (ℕ × ℤ)) → IsWord search (here c)
-    → z.unknowns ≤ 1000000 → WithoutBounds search (here c) z → bounds ≡ c.bounds.items
+    → z.unknowns ≤ 40000000 → WithoutBounds search (here c) z → bounds ≡ c.bounds.items
     → NamesRows (search.rows c.start (reverse c.facts.items) ++ map bound_row bounds) z.unknowns ts (Rows rows) → NamedRows search (here c) ts rows
 named_here search c z rows bounds ts word small is same names =
     let whole = whole_here search c z word small is in
@@ -258,7 +258,7 @@ named_here search c z rows bounds ts word small is same names =
     record { system = whole.0; is = whole.1; unknowns = told.0 ∙ is.unknowns ∙ sym whole.1.unknowns; named = told.1; there = told.2 }
 
 pub absent_here : {E : Type 0} (search : Search E) (c : Cursor E) (z : System) (bounds : List Bound) (ts : List (ℕ × ℤ)) (row : ℕ) → IsWord search (here c)
-    → z.unknowns ≤ 1000000 → WithoutBounds search (here c) z → bounds ≡ c.bounds.items
+    → z.unknowns ≤ 40000000 → WithoutBounds search (here c) z → bounds ≡ c.bounds.items
     → NamesRows (search.rows c.start (reverse c.facts.items) ++ map bound_row bounds) z.unknowns ts (Absent row)
     → FirstLeafFault search (here c) ts (RowNumber row)
 absent_here search c z bounds ts row word small is same names =

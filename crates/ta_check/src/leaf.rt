@@ -58,7 +58,7 @@ fn grow<T: Tree>(
     requires kept { T.is_kept tree.now kept.old }
     ensures kept { OnOk result (T.is_kept tree.now kept.new) }
     ensures system { OnOk result (WithoutBounds (T.search tree.now) (here cursor.now) (T.system_of kept.new)) }
-    ensures small { OnOk result ((T.system_of kept.new).unknowns ≤ 1000000) }
+    ensures small { OnOk result ((T.system_of kept.new).unknowns ≤ 40000000) }
 {
     let before = mem::replace(kept, tree.nothing(alloc));
     let start = cursor.start();

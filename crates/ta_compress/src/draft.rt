@@ -210,10 +210,10 @@ fn is_same(before: Guards, now: Guards) -> bool
 }
 
 /// Whether a number of the first mask isn't in the second.
-fn has_fallen(before: u32, now: u32) -> bool
+fn has_fallen(before: u128, now: u128) -> bool
     ensures { IsTrue result ↔ HasFallen before now }
 {
-    for number in 0..32 {
+    for number in 0..128 {
         if contains(before, number) && !contains(now, number) {
             return true;
         }

@@ -1,4 +1,4 @@
-//! Configurations: at most 64 numbers in an `ArrayVec`, so following a run takes no memory.
+//! Configurations: at most 224 numbers in an `ArrayVec`, so following a run takes no memory.
 #![tactic(auto)]
 
 ghost use Rattle.std.specs.List.{AllByRecursion, AllByRecursion-prop};
@@ -6,9 +6,9 @@ ghost use Rattle.ta_counter.specs.Values.{Value, Value-prop};
 
 use arrayvec::ArrayVec;
 
-/// A value for each place: an automaton has at most 16 parameters, 16 shared variables and 32
-/// locations.
-pub(crate) type Places = ArrayVec<i128, 64>;
+/// A value for each place: an automaton has at most 32 parameters, 64 shared variables and
+/// 128 locations.
+pub(crate) type Places = ArrayVec<i128, 224>;
 
 /// The values of the places: parameters, then shared variables, then counters of the locations.
 #[derive(Drop)]

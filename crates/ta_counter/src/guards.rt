@@ -31,15 +31,15 @@ pub(crate) fn check_guards(
 {
     let rise = automaton.rise.as_slice();
     let fall = automaton.fall.as_slice();
-    check_rows(rise, u32::from(rule.rise), 0, values)?;
-    check_rows(fall, u32::from(rule.fall), rise.len() as u32, before_last)
+    check_rows(rise, u128::from(rule.rise), 0, values)?;
+    check_rows(fall, u128::from(rule.fall), rise.len() as u32, before_last)
 }
 
 /// Checks the rows that a mask names; the guard number of the first row is given.
-fn check_rows(rows: &[Row], mask: u32, first: u32, values: &[i128]) -> Result<(), StepFault>
-    requires count { length rows.now ≤ 16 }
-    requires first { first ≤ 16 }
-    requires places { length values.now ≤ 64 }
+fn check_rows(rows: &[Row], mask: u128, first: u32, values: &[i128]) -> Result<(), StepFault>
+    requires count { length rows.now ≤ 64 }
+    requires first { first ≤ 64 }
+    requires places { length values.now ≤ 224 }
     requires over { RowsOver (length values.now) rows.now }
     ensures passes { OnOk result (MaskedPass (point_of values.now) mask rows.now) }
     ensures fails { IfErr result (λ fault. MaskedFault (point_of values.now) mask rows.now (length values.now) first fault) }
@@ -54,8 +54,8 @@ fn check_rows(rows: &[Row], mask: u32, first: u32, values: &[i128]) -> Result<()
 
 /// Checks the row of a guard.
 fn check_row(row: &Row, guard: u32, values: &[i128]) -> Result<(), StepFault>
-    requires guard { guard ≤ 32 }
-    requires places { length values.now ≤ 64 }
+    requires guard { guard ≤ 128 }
+    requires places { length values.now ≤ 224 }
     requires over { IsNormal 0 (length values.now) row.now.form.terms }
     ensures passes { OnOk result (RowPasses (point_of values.now) row.now) }
     ensures fails { IfErr result (λ fault. GuardRowFault (point_of values.now) row.now (length values.now) guard fault) }

@@ -15,8 +15,8 @@ use ta_linear::{OutOfRange, Row};
 /// Guards of an automaton: bit i of `rise` names rise guard i, bit j of `fall` fall guard j.
 #[derive(Clone, Copy, Debug, Drop, PartialEq, Eq)]
 pub struct Guards {
-    pub rise: u32,
-    pub fall: u32,
+    pub rise: u128,
+    pub fall: u128,
 }
 
 /// The guards that hold in a configuration. All guards of the automaton are evaluated.
@@ -31,14 +31,14 @@ pub fn guards_at(automaton: &Automaton, config: &Config) -> Result<Guards, OutOf
 }
 
 /// The rows that hold, as a mask.
-fn mask_at(rows: &[Row], values: &[i128]) -> Result<u32, OutOfRange>
-    requires count { length rows.now ≤ 16 }
+fn mask_at(rows: &[Row], values: &[i128]) -> Result<u128, OutOfRange>
+    requires count { length rows.now ≤ 64 }
     requires over { RowsOver (length values.now) rows.now }
     ensures mask { IfOk result (λ mask. MaskAt (point_of values.now) rows.now mask) }
     ensures stay { IfOk result (λ _. RowsStay (point_of values.now) rows.now) }
     ensures leaves { IsErr result → ¬ RowsStay (point_of values.now) rows.now }
 {
-    let mut mask = 0;
+    let mut mask = 0u128;
     for (number, row) in rows.iter().enumerate() {
         let holds = row_holds(row, values)?;
         mask = with_bit(mask, number as u32, holds);
@@ -47,8 +47,8 @@ fn mask_at(rows: &[Row], values: &[i128]) -> Result<u32, OutOfRange>
 }
 
 /// A mask, with one more number where it belongs to it.
-fn with_bit(mask: u32, number: u32, belongs: bool) -> u32
-    requires { number < 32 }
+fn with_bit(mask: u128, number: u32, belongs: bool) -> u128
+    requires { number < 128 }
     ensures { (i : ℕ) → IsBitSet result i ↔ (IsBitSet mask i ⊎ ((i ≡ number) × IsTrue belongs)) }
 {
     if belongs {

@@ -93,12 +93,12 @@ fn start_values(automaton: &Automaton, parameters: &[i128], counts: &[i128]) -> 
 
 /// Values, and so many zeros behind them.
 fn with_zeros(values: &[i128], more: usize) -> Places
-    requires more { more ≤ 48 }
-    requires few { length values.now ≤ 16 }
-    ensures { result.items ≡ values.now ++ take more (replicate 48 (pos 0)) }
+    requires more { more ≤ 192 }
+    requires few { length values.now ≤ 32 }
+    ensures { result.items ≡ values.now ++ take more (replicate 192 (pos 0)) }
 {
     let mut all = copy_of(values);
-    let zeros = [0; 48];
+    let zeros = [0; 192];
     let _extended = all.try_extend_from_slice(&zeros[..more]);
     all
 }

@@ -48,9 +48,9 @@ pub(crate) fn values_after(
     Ok(after)
 }
 
-/// A copy of at most 64 values.
+/// A copy of at most 224 values.
 pub(crate) fn copy_of(values: &[i128]) -> Places
-    requires { length values.now ≤ 64 }
+    requires { length values.now ≤ 224 }
     ensures { result.items ≡ values.now }
 {
     let mut copy = ArrayVec::new();

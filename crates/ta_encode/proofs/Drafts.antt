@@ -1,4 +1,6 @@
 -- the unknowns and rows of a word, element by element
+use Rattle.ta_encode.specs.System.{open_rows}
+use Rattle.ta_encode.specs.Inside.Draft.{IsOpen}
 use Rattle.ta_encode.proofs.Common.{Bool, ◌≡◌, ℕ, pos, negsuc, ◌+◌, ◌-◌, ◌*◌, ◌≤◌, ◌-ℤ◌, List, [], ◌∷◌, ◌++◌, length, map, reverse, not, ◌||◌, bit_or}
 use Rattle.ta_encode.proofs.Common.{slice_get, arith, sym, ap, ◌∙◌, refl, subst, append_assoc, length-append, filter, ◌==◌, map-append, length-map}
 use Rattle.ta_encode.proofs.Common.{length-reverse, has_or, each_from_at, filter_shorter, map_constant, rises_length, AllBelow, Row, IsNormal-higher, has_bit}
@@ -10,7 +12,7 @@ use Rattle.ta_encode.proofs.Common.{SmallEvents, block_row, counters_outside, fi
 use Rattle.ta_encode.proofs.Common.{map-map, filter_agree, length-range_with_len}
 use Rattle.std.proofs.lemmas.List.Prefix.{front_fits}
 use Rattle.ta_automaton.specs.Patterns.{EventWithin, PatternOver}
-use Rattle.ta_words.specs.declared.task.Task.{Task}
+use Rattle.ta_words.specs.declared.narrow_task.NarrowTask.{NarrowTask}
 use Rattle.ta_encode.proofs.Adding.{adds_at, adds_behind, adds_both, behind_join, guards_same, nothing_written}
 use Rattle.ta_encode.proofs.Smallness.{small_condition, places_most}
 
@@ -38,22 +40,21 @@ fired_after single o before allowed {draft = draft} {grown = grown} may e added 
     ∙ ap (λ n. map (firing single n) (allowed_rules a o.task.pattern.now o.start_mask (reverse before))) (sym (length-reverse before)) in
     subst (λ (ms : List Meaning). AddsUnknowns ms draft grown) same added
 
-allowed_few : (a : Automaton) (p : Pattern) (start : ℕ) (past : List Element) → length (allowed_rules a p start past) ≤ 128
+allowed_few : (a : Automaton) (p : Pattern) (start : ℕ) (past : List Element) → length (allowed_rules a p start past) ≤ length a.rules
 unfolding allowed_rules
 allowed_few a p start past = omega (
   arith,
   filter_shorter (λ r. may_fire a p start past (slice_get a.rules r)) (range_with_len 0 (length a.rules)),
   length-range_with_len 0 (length a.rules),
-  a.shape.limits.rules_limit,
 )
 
-pub counts_few : (a : Automaton) (p : Pattern) (start : ℕ) (past : List Element) → length (counts_after a p start past) ≤ 128
+pub counts_few : (a : Automaton) (p : Pattern) (start : ℕ) (past : List Element) → length (counts_after a p start past) ≤ length a.rules
 counts_few a p start past = omega (arith, length-map (allowed_rules a p start past) (λ r. Count (length past) r), allowed_few a p start past)
 
-pub singles_few : (a : Automaton) (p : Pattern) (start : ℕ) (past : List Element) → length (singles_after a p start past) ≤ 128
+pub singles_few : (a : Automaton) (p : Pattern) (start : ℕ) (past : List Element) → length (singles_after a p start past) ≤ length a.rules
 singles_few a p start past = omega (arith, length-map (allowed_rules a p start past) (λ r. Single (length past) r), allowed_few a p start past)
 
-pub start_few : (a : Automaton) (p : Pattern) → length (start_meanings a p) ≤ 48
+pub start_few : (a : Automaton) (p : Pattern) → length (start_meanings a p) ≤ length a.parameters + length a.locations
 unfolding start_meanings
 start_few a p =
     let least : 0 ≤ length a.locations = omega arith in
@@ -65,17 +66,27 @@ start_few a p =
       length-range_with_len 0 (length a.parameters),
       filter_shorter (λ l. not (has_bit p.empty l)) a.initial,
       rises_length 0 (length a.locations) a.initial least a.shape.initial_rises,
-      a.shape.limits.parameters_limit,
-      a.shape.limits.locations_limit,
     )
 
-pub meanings_few : (a : Automaton) (p : Pattern) (start : ℕ) (past : List Element) → length (meanings a p start past) ≤ 48 + 256 * length past
+pub meanings_few : (a : Automaton) (p : Pattern) (start : ℕ) (past : List Element) → length (meanings a p start past) ≤ 160 + 2048 * length past
 unfolding meanings
-meanings_few a p start [] = omega (arith, start_few a p)
-meanings_few a p start (Event e ∷ past) = omega
-    (arith, length-append (meanings a p start past) (counts_after a p start past), counts_few a p start past, meanings_few a p start past)
-meanings_few a p start (Rise i ∷ past) = omega
-    (arith, length-append (meanings a p start past) (counts_after a p start past), counts_few a p start past, meanings_few a p start past)
+meanings_few a p start [] = omega (arith, start_few a p, a.shape.limits.parameters_limit, a.shape.limits.locations_limit)
+meanings_few a p start (Event e ∷ past) = omega (
+  arith,
+  length-append (meanings a p start past) (counts_after a p start past),
+  counts_few a p start past,
+  a.shape.limits.rules_limit,
+  meanings_few a p start
+      past,
+)
+meanings_few a p start (Rise i ∷ past) = omega (
+  arith,
+  length-append (meanings a p start past) (counts_after a p start past),
+  counts_few a p start past,
+  a.shape.limits.rules_limit,
+  meanings_few a p start
+      past,
+)
 meanings_few a p start (Fall m ∷ past) =
     omega (
       arith,
@@ -84,16 +95,17 @@ meanings_few a p start (Fall m ∷ past) =
           (counts_after a p start past),
       counts_few a p start past,
       singles_few a p start past,
+      a.shape.limits.rules_limit,
       meanings_few a p start past,
     )
 
-pub draft_few : (o : Origin) (past : List Element) (draft : Draft) → IsDraft o past draft → length draft.meanings.items ≤ 48 + 256 * length past
+pub draft_few : (o : Origin) (past : List Element) (draft : Draft) → IsDraft o past draft → length draft.meanings.items ≤ 160 + 2048 * length past
 draft_few o past draft d = omega (arith, ap length d.is.unknowns_are, meanings_few o.task.automaton.now o.task.pattern.now o.start_mask past)
 
-pub word_few : (t : Task) (start : ℕ) (elements word : List Element) → LegalWord t.automaton.now t.pattern.now start (reverse word) → elements ≡ word
+pub word_few : (t : NarrowTask) (start : ℕ) (elements word : List Element) → LegalWord t.automaton.now t.pattern.now start (reverse word) → elements ≡ word
     → length elements ≤ 30
 word_few t start elements word legal same = omega
-    (arith, ap length same, length-reverse word, legal_length t.automaton.now t.pattern.now start (reverse word) t.over.events_limit legal)
+    (arith, ap length same, length-reverse word, legal_length t.automaton.now t.pattern.now start (reverse word) t.narrow t.over.events_limit legal)
 
 -- the conditions of a pattern have small numbers
 pub start_small : (a : Automaton) (p : Pattern) → PatternOver a p → SmallCondition p.start
@@ -110,8 +122,8 @@ events_small a p over =
 standing_is : (a : Automaton) (start : ℕ) (past : List Element) (ms : List Meaning) (fallen : ℕ) → ((j : ℕ) → has_bit fallen j ≡ has_fallen start past j)
     → guard_rows a ms (λ j. not (has_bit fallen j)) 0 a.fall ≡ standing_rows a start past ms
 standing_is a start past ms fallen h =
-    let few : 0 + length a.fall ≤ 6 = (let limit = a.shape.limits.fall_limit in omega arith) in
-    guards_same a ms (λ j. not (has_bit fallen j)) (λ j. not (has_fallen start past j)) 0 6 a.fall (λ j b. ap not (h j)) few
+    let few : 0 + length a.fall ≤ 16 = (let limit = a.shape.limits.fall_limit in omega arith) in
+    guards_same a ms (λ j. not (has_bit fallen j)) (λ j. not (has_fallen start past j)) 0 16 a.fall (λ j b. ap not (h j)) few
 
 -- rows that make a word's, behind some of them
 adds_drafted : (o : Origin) (past : List Element) (done : List LinearRow) {f : Automaton → List Meaning → List LinearRow} {before after : Draft}
@@ -263,22 +275,41 @@ fall_drafted o past falls fallen from {before = before} {grown = grown} {fell = 
           (subst (λ (rs : List Row). IsBehind rs after.rows.items) g.rows last.rows.behind);
     }
 
-pub start_drafted : (o : Origin) {zeroth first second third fourth : Draft} → zeroth.automaton.now ≡ o.task.automaton.now
-    → zeroth.meanings.items ≡ start_meanings o.task.automaton.now o.task.pattern.now → zeroth.rows.items ≡ []
-    → Adds (λ a ms. condition_rows a ms o.task.automaton.now.resilience.comparisons) zeroth first
-    → Adds (λ a ms. processes_row a ms ∷ opposite (processes_row a ms) ∷ []) first second
-    → Adds (λ a ms. condition_rows a ms o.task.pattern.now.start.comparisons) second third
+-- the rows at the start end with those of the fall guards
+start_parted : (a : Automaton) (p : Pattern) (start : ℕ) → open_rows a p ++ start_guard_rows a (start_meanings a p) start 0 a.fall ≡ start_rows a p start
+unfolding start_rows
+start_parted a p start =
+    let ms = start_meanings a p in
+    let first = condition_rows a ms a.resilience.comparisons in
+    let two = processes_row a ms ∷ opposite (processes_row a ms) ∷ [] in
+    let third = condition_rows a ms p.start.comparisons in
+    let guards = start_guard_rows a ms start 0 a.fall in
+    append_assoc first (two ++ third) guards ∙ ap (λ ls. first ++ ls) (append_assoc two third guards)
+
+pub opened : (a : Automaton) (p : Pattern) {zeroth first second third : Draft} → zeroth.automaton.now ≡ a → zeroth.meanings.items ≡ start_meanings a p
+    → zeroth.rows.items ≡ []
+    → Adds (λ b ms. condition_rows b ms a.resilience.comparisons) zeroth first
+    → Adds (λ b ms. processes_row b ms ∷ opposite (processes_row b ms) ∷ []) first second
+    → Adds (λ b ms. condition_rows b ms p.start.comparisons) second third
+    → IsOpen a p third
+opened a p {zeroth = zeroth} {third = third} e g none one two three =
+    let all = adds_both one (adds_both two three) in
+    let are = adds_behind a (start_meanings a p) [] e g (nothing_written (length zeroth.meanings.items) zeroth.rows.items none) all in
+    record { automaton_is = all.automaton ∙ e; unknowns_are = are.0; rows_are = are.1 }
+
+pub start_drafted : (o : Origin) {third fourth : Draft} → IsOpen o.task.automaton.now o.task.pattern.now third
     → Adds (λ a ms. start_guard_rows a ms o.start_mask 0 a.fall) third fourth
     → IsDraft o [] fourth
-unfolding meanings word_rows start_rows
-start_drafted o {zeroth = zeroth} e g none one two three four =
-    adds_drafted o [] [] e g (nothing_written (length zeroth.meanings.items) zeroth.rows.items none) refl (adds_both one (adds_both two (adds_both three four)))
+unfolding meanings word_rows
+start_drafted o begun guards =
+    adds_drafted o [] (open_rows o.task.automaton.now o.task.pattern.now) begun.automaton_is begun.unknowns_are begun.rows_are
+    (start_parted o.task.automaton.now o.task.pattern.now o.start_mask) guards
 
 pub fallen_more : (start : ℕ) (past : List Element) (fallen falls from : ℕ) → from ≡ falls → ((j : ℕ) → has_bit fallen j ≡ has_fallen start past j) → (j : ℕ)
     → has_bit (bit_or fallen from) j ≡ has_fallen start (Fall falls ∷ past) j
 unfolding has_fallen
 fallen_more start past fallen falls from e h j = has_or fallen from j ∙ ap (λ m. has_bit m j || has_bit fallen j) e ∙ ap (λ b. has_bit falls j || b) (h j)
 
-pub initial_few : (a : Automaton) → length a.initial ≤ 32
+pub initial_few : (a : Automaton) → length a.initial ≤ 128
 initial_few a = let least : 0 ≤ length a.locations = omega arith in omega
     (arith, rises_length 0 (length a.locations) a.initial least a.shape.initial_rises, a.shape.limits.locations_limit)

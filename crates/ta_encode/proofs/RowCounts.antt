@@ -6,6 +6,7 @@ use Rattle.ta_encode.proofs.CursorCommon.{has_fallen, is_ready, is_standing, in_
 use Rattle.ta_encode.proofs.CursorCommon.{Search, rows_count, IsSmall}
 use Rattle.ta_base.proofs.Naturals.{count, count_most}
 use Rattle.ta_linear.specs.declared.row.Row.{Row}
+use Rattle.ta_automaton.specs.Narrow.{IsNarrow}
 use Rattle.ta_automaton.specs.Patterns.{PatternOver}
 use Rattle.ta_automaton.specs.declared.condition.Comparison.{Comparison}
 use Rattle.ta_automaton.specs.declared.pattern.Event.{Event as PatternEvent}
@@ -40,28 +41,28 @@ event_few : (a : Automaton) (ms : List Meaning) (event : Option PatternEvent) �
 event_few a ms None = omega arith
 event_few a ms (Some event) = let limit = event.condition.limit in omega (arith, condition_few a ms event.condition.comparisons)
 
-counters_few : (a : Automaton) (p : Pattern) (ms : List Meaning) → length (counter_rows a p ms) ≤ 32
-counters_few a p ms =
-    let limit = a.shape.limits.locations_limit in
+counters_few : (a : Automaton) → IsNarrow a → (p : Pattern) (ms : List Meaning) → length (counter_rows a p ms) ≤ 32
+counters_few a narrow p ms =
+    let limit = narrow.locations in
     let test = λ (l : ℕ). not (has_bit p.empty l) in
     omega (arith, length-map (filter test (range_with_len 0 (length a.locations))) (counter_row a ms), count_few test (length a.locations))
 
-rise_guards_few : (a : Automaton) (ms : List Meaning) (test : ℕ → Bool) → length (guard_rows a ms test 0 a.rise) ≤ 16
-rise_guards_few a ms test = let limit = a.shape.limits.rise_limit in omega (arith, guards_few a ms test 0 a.rise)
+rise_guards_few : (a : Automaton) → IsNarrow a → (ms : List Meaning) (test : ℕ → Bool) → length (guard_rows a ms test 0 a.rise) ≤ 16
+rise_guards_few a narrow ms test = let limit = narrow.rise in omega (arith, guards_few a ms test 0 a.rise)
 
-fall_guards_few : (a : Automaton) (ms : List Meaning) (test : ℕ → Bool) → length (guard_rows a ms test 0 a.fall) ≤ 6
-fall_guards_few a ms test = let limit = a.shape.limits.fall_limit in omega (arith, guards_few a ms test 0 a.fall)
+fall_guards_few : (a : Automaton) → IsNarrow a → (ms : List Meaning) (test : ℕ → Bool) → length (guard_rows a ms test 0 a.fall) ≤ 6
+fall_guards_few a narrow ms test = let limit = narrow.fall in omega (arith, guards_few a ms test 0 a.fall)
 
-start_few : (a : Automaton) (p : Pattern) (start : ℕ) → length (start_rows a p start) ≤ 72
+start_few : (a : Automaton) → IsNarrow a → (p : Pattern) (start : ℕ) → length (start_rows a p start) ≤ 72
 unfolding start_rows
-start_few a p start =
+start_few a narrow p start =
     let ms = start_meanings a p in
     let processes = processes_row a ms ∷ opposite (processes_row a ms) ∷ [] in
     let condition = condition_rows a ms p.start.comparisons in
     let guards = start_guard_rows a ms start 0 a.fall in
     let resilience_limit = a.resilience.limit in
     let start_limit = p.start.limit in
-    let fall_limit = a.shape.limits.fall_limit in
+    let fall_limit = narrow.fall in
     omega (
       arith,
       length-append (condition_rows a ms a.resilience.comparisons) (processes ++ (condition ++ guards)),
@@ -71,40 +72,42 @@ start_few a p start =
       start_guards_few a ms start 0 a.fall,
     )
 
-rise_few : (a : Automaton) (p : Pattern) (start : ℕ) (past : List Element) (ms : List Meaning) (i : ℕ) → length (rise_rows a p start past ms i) ≤ 84
+rise_few : (a : Automaton) → IsNarrow a → (p : Pattern) (start : ℕ) (past : List Element) (ms : List Meaning) (i : ℕ)
+    → length (rise_rows a p start past ms i) ≤ 84
 unfolding rise_rows
-rise_few a p start past ms i =
+rise_few a narrow p start past ms i =
     let guards = guard_rows a ms (λ k. k == i) 0 a.rise in
     let standing = standing_rows a start past ms in
     omega (
       arith,
       length-append (counter_rows a p ms) (guards ++ standing),
       length-append guards standing,
-      counters_few a p ms,
-      rise_guards_few a ms
+      counters_few a narrow p ms,
+      rise_guards_few a narrow ms
           (λ k. k == i),
-      fall_guards_few a ms (λ j. not (has_fallen start past j)),
+      fall_guards_few a narrow ms (λ j. not (has_fallen start past j)),
     )
 
-happening_few : (a : Automaton) (p : Pattern) (start : ℕ) (past : List Element) (ms : List Meaning) (e : ℕ) → length (happening_rows a p start past ms e) ≤ 84
+happening_few : (a : Automaton) → IsNarrow a → (p : Pattern) (start : ℕ) (past : List Element) (ms : List Meaning) (e : ℕ)
+    → length (happening_rows a p start past ms e) ≤ 84
 unfolding happening_rows
-happening_few a p start past ms e =
+happening_few a narrow p start past ms e =
     let event = event_rows a ms (slice_get p.events e) in
     let standing = standing_rows a start past ms in
     omega (
       arith,
       length-append (counter_rows a p ms) (event ++ standing),
       length-append event standing,
-      counters_few a p ms,
+      counters_few a narrow p ms,
       event_few a ms
           (slice_get p.events e),
-      fall_guards_few a ms (λ j. not (has_fallen start past j)),
+      fall_guards_few a narrow ms (λ j. not (has_fallen start past j)),
     )
 
-fall_few : (a : Automaton) (p : Pattern) (start : ℕ) (past : List Element) (before ms : List Meaning) (mask : ℕ)
+fall_few : (a : Automaton) → IsNarrow a → (p : Pattern) (start : ℕ) (past : List Element) (before ms : List Meaning) (mask : ℕ)
     → length (fall_rows a p start past before ms mask) ≤ 84
 unfolding fall_rows
-fall_few a p start past before ms mask =
+fall_few a narrow p start past before ms mask =
     let falling = guard_rows a before (has_bit mask) 0 a.fall in
     let single = singles_row before (allowed_rules a p start past) in
     let fallen = guard_rows a ms (has_bit mask) 0 a.fall in
@@ -118,53 +121,61 @@ fall_few a p start past before ms mask =
       length-append (counter_rows a p ms) last,
       length-append (map negated fallen) standing,
       length-map fallen negated,
-      counters_few a p before,
-      counters_few a p ms,
-      fall_guards_few a before (has_bit mask),
-      fall_guards_few a ms (has_bit mask),
-      fall_guards_few a ms (λ j. not (has_fallen start (Fall mask ∷ past) j)),
+      counters_few a narrow p before,
+      counters_few a narrow p ms,
+      fall_guards_few a narrow before (has_bit mask),
+      fall_guards_few a narrow ms (has_bit mask),
+      fall_guards_few a narrow ms (λ j. not (has_fallen start (Fall mask ∷ past) j)),
     )
 
 -- each element adds at most 84 rows
-word_few : (a : Automaton) (p : Pattern) (start : ℕ) (past : List Element) → length (word_rows a p start past) ≤ 72 + 84 * length past
+word_few : (a : Automaton) → IsNarrow a → (p : Pattern) (start : ℕ) (past : List Element) → length (word_rows a p start past) ≤ 72 + 84 * length past
 unfolding word_rows
-word_few a p start [] = omega (arith, start_few a p start)
-word_few a p start (Event e ∷ past) =
+word_few a narrow p start [] = omega (arith, start_few a narrow p start)
+word_few a narrow p start (Event e ∷ past) =
     let ms = meanings a p start (Event e ∷ past) in
-    omega (arith, length-append (word_rows a p start past) (happening_rows a p start past ms e), happening_few a p start past ms e, word_few a p start past)
-word_few a p start (Rise i ∷ past) =
+    omega (
+      arith,
+      length-append (word_rows a p start past) (happening_rows a p start past ms e),
+      happening_few a narrow p start past ms e,
+      word_few a narrow p
+          start past,
+    )
+word_few a narrow p start (Rise i ∷ past) =
     let ms = meanings a p start (Rise i ∷ past) in
-    omega (arith, length-append (word_rows a p start past) (rise_rows a p start past ms i), rise_few a p start past ms i, word_few a p start past)
-word_few a p start (Fall mask ∷ past) =
+    omega (arith, length-append (word_rows a p start past) (rise_rows a p start past ms i), rise_few a narrow p start past ms i, word_few a narrow p start past)
+word_few a narrow p start (Fall mask ∷ past) =
     let before = meanings a p start past ++ counts_after a p start past in
     let ms = meanings a p start (Fall mask ∷ past) in
     omega (
       arith,
       length-append (word_rows a p start past) (fall_rows a p start past before ms mask),
-      fall_few a p start past before ms mask,
-      word_few a p start
+      fall_few a narrow p start past before ms mask,
+      word_few a narrow p start
           past,
     )
 
 -- at most 48 unknowns at the start; an event or a rise adds at most 128, a fall at most 256
-none_adds : (a : Automaton) (p : Pattern) (start : ℕ) → length (meanings a p start []) ≤ 48
+none_adds : (a : Automaton) → IsNarrow a → (p : Pattern) (start : ℕ) → length (meanings a p start []) ≤ 48
 unfolding meanings
-none_adds a p start = start_meanings_few a p
+none_adds a narrow p start = omega (arith, start_meanings_few a p, narrow.parameters, narrow.locations)
 
-event_adds : (a : Automaton) (p : Pattern) (start : ℕ) (past : List Element) (x : ℕ)
+event_adds : (a : Automaton) → IsNarrow a → (p : Pattern) (start : ℕ) (past : List Element) (x : ℕ)
     → length (meanings a p start (Event x ∷ past)) ≤ length (meanings a p start past) + 128
 unfolding meanings
-event_adds a p start past x = omega (arith, length-append (meanings a p start past) (counts_after a p start past), counts_few a p start past)
+event_adds a narrow p start past x = omega
+    (arith, length-append (meanings a p start past) (counts_after a p start past), counts_few a p start past, narrow.rules)
 
-rise_adds : (a : Automaton) (p : Pattern) (start : ℕ) (past : List Element) (x : ℕ)
+rise_adds : (a : Automaton) → IsNarrow a → (p : Pattern) (start : ℕ) (past : List Element) (x : ℕ)
     → length (meanings a p start (Rise x ∷ past)) ≤ length (meanings a p start past) + 128
 unfolding meanings
-rise_adds a p start past x = omega (arith, length-append (meanings a p start past) (counts_after a p start past), counts_few a p start past)
+rise_adds a narrow p start past x = omega
+    (arith, length-append (meanings a p start past) (counts_after a p start past), counts_few a p start past, narrow.rules)
 
-fall_adds : (a : Automaton) (p : Pattern) (start : ℕ) (past : List Element) (x : ℕ)
+fall_adds : (a : Automaton) → IsNarrow a → (p : Pattern) (start : ℕ) (past : List Element) (x : ℕ)
     → length (meanings a p start (Fall x ∷ past)) ≤ length (meanings a p start past) + 256
 unfolding meanings
-fall_adds a p start past x =
+fall_adds a narrow p start past x =
     omega (
       arith,
       length-append (meanings a p start past ++ counts_after a p start past) (singles_after a p start past),
@@ -172,6 +183,7 @@ fall_adds a p start past x =
           (counts_after a p start past),
       counts_few a p start past,
       singles_few a p start past,
+      narrow.rules,
     )
 
 -- a word's events and guards, where a fall guard counts twice
@@ -193,51 +205,51 @@ fall_heft : (a : Automaton) (p : Pattern) (start : ℕ) (past : List Element) (x
 unfolding has_event has_rise
 fall_heft a p start past x standing least most = omega (arith, fall_new a start past x standing least most)
 
-unknowns_few : (a : Automaton) (p : Pattern) (start : ℕ) (past : List Element) → LegalWord a p start past
+unknowns_few : (a : Automaton) → IsNarrow a → (p : Pattern) (start : ℕ) (past : List Element) → LegalWord a p start past
     → length (meanings a p start past) ≤ 48 + 128 * heft a p start past
-unknowns_few a p start [] legal = omega (arith, none_adds a p start)
-unknowns_few a p start (e ∷ past) legal =
-    let rest = unknowns_few a p start past legal.1 in
+unknowns_few a narrow p start [] legal = omega (arith, none_adds a narrow p start)
+unknowns_few a narrow p start (e ∷ past) legal =
+    let rest = unknowns_few a narrow p start past legal.1 in
     elim (in_children a p [] start past e legal.0) [
       | inl c ↦ (
           let below : c.0 < length p.events = (let q = c.4 in omega arith) in
           let same = ap (λ x. length (meanings a p start (x ∷ past))) c.1 in
           let weighs = ap (λ x. heft a p start (x ∷ past)) c.1 in
-          omega (arith, same, weighs, event_adds a p start past c.0, event_heft a p start past c.0 c.2 below)
+          omega (arith, same, weighs, event_adds a narrow p start past c.0, event_heft a p start past c.0 c.2 below)
           )
       | inr (inl c) ↦ (
           let below : c.0 < length a.rise = (let q = c.4 in omega arith) in
           let same = ap (λ x. length (meanings a p start (x ∷ past))) c.1 in
           let weighs = ap (λ x. heft a p start (x ∷ past)) c.1 in
-          omega (arith, same, weighs, rise_adds a p start past c.0, rise_heft a p start past c.0 c.2 below)
+          omega (arith, same, weighs, rise_adds a narrow p start past c.0, rise_heft a p start past c.0 c.2 below)
           )
       | inr (inr c) ↦ (
           let below : c.0 < 2 ^ length a.fall = (let q = c.4 in let low = c.3 in omega arith) in
           let same = ap (λ x. length (meanings a p start (x ∷ past))) c.1 in
           let weighs = ap (λ x. heft a p start (x ∷ past)) c.1 in
-          omega (arith, same, weighs, fall_adds a p start past c.0, fall_heft a p start past c.0 c.2 c.3 below)
+          omega (arith, same, weighs, fall_adds a narrow p start past c.0, fall_heft a p start past c.0 c.2 c.3 below)
           )
     ]
 
 -- at most 16 parameters and 32 start counts; 8 events and 16 rise guards, with 128 unknowns each; 6 fall guards, with 256 each
-pub few_unknowns : (a : Automaton) (p : Pattern) (start : ℕ) (past : List Element) → PatternOver a p → LegalWord a p start past
+pub few_unknowns : (a : Automaton) → IsNarrow a → (p : Pattern) (start : ℕ) (past : List Element) → PatternOver a p → LegalWord a p start past
     → length (meanings a p start past) ≤ 4656
-few_unknowns a p start past over legal =
+few_unknowns a narrow p start past over legal =
     omega (
       arith,
-      unknowns_few a p start past legal,
+      unknowns_few a narrow p start past legal,
       over.events_limit,
-      a.shape.limits.rise_limit,
-      a.shape.limits.fall_limit,
+      narrow.rise,
+      narrow.fall,
       count_most (has_event past) (length p.events),
       count_most (has_rise past) (length a.rise),
       count_most (has_fallen start past) (length a.fall),
     )
 
 -- the rows of a legal word, which has at most 30 elements, but for the bounds
-pub few_rows : (a : Automaton) (p : Pattern) (start : ℕ) (past : List Element) → PatternOver a p → LegalWord a p start past
+pub few_rows : (a : Automaton) → IsNarrow a → (p : Pattern) (start : ℕ) (past : List Element) → PatternOver a p → LegalWord a p start past
     → length (word_rows a p start past) ≤ 2592
-few_rows a p start past over legal = omega (arith, word_few a p start past, legal_length a p start past over.events_limit legal)
+few_rows a narrow p start past over legal = omega (arith, word_few a narrow p start past, legal_length a p start past narrow over.events_limit legal)
 
 -- the unknowns and the rows of a word's system
 pub small_of : {E : Type 0} (s : Search E) (w : Pending E) (system : System) → s.unknowns w.start w.past ≤ 4656 → length (s.rows w.start w.past) ≤ 2640

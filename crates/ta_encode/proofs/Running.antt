@@ -66,7 +66,7 @@ count_past ts i x sum next b h other e =
 pub counted_all : (ts : List (ℕ × ℤ)) (i x : ℕ) (sum : ℤ) → i ≡ length ts → Counted ts i x sum → sum ≡ coefficient ts x
 counted_all ts i x sum e h = h.value ∙ ap (λ n. coefficient (take n ts) x) e ∙ ap (λ us. coefficient us x) (take-length ts)
 
--- the value of at most 64 terms at points of at most 17,000,000,000 in absolute value
+-- the value of at most 224 terms at points of at most 17,000,000,000 in absolute value
 pub record Valued (f : ℕ → ℤ) (ts : List (ℕ × ℤ)) (i : ℕ) (sum : ℤ) : Type 0 where
   pub value : sum ≡ terms_value f (take i ts)
   pub small : unsigned_abs sum ≤ i * 17000000000000000000
@@ -88,7 +88,7 @@ product_fits ts i r each b h =
     let small : unsigned_abs item.1 ≤ 1000000000 = each_get_or Small ts i (0, pos 0) each b in
     subst (FitsSigned w128) (sym (product_is ts i r each b h)) (fits_signed_mul w128 item.1 r 1000000000 17000000000 small h (omega arith))
 
-pub value_fits : (f : ℕ → ℤ) (ts : List (ℕ × ℤ)) (i : ℕ) (sum r : ℤ) → AllByRecursion Small ts → length ts ≤ 64 → i < length ts → Valued f ts i sum
+pub value_fits : (f : ℕ → ℤ) (ts : List (ℕ × ℤ)) (i : ℕ) (sum r : ℤ) → AllByRecursion Small ts → length ts ≤ 224 → i < length ts → Valued f ts i sum
     → unsigned_abs r ≤ 17000000000 → FitsSigned w128 (sum +ℤ to_z w128 (of_z w128 (product ts i r)))
 value_fits f ts i sum r each few b h g =
     let item = get_or ts i (0, pos 0) in
@@ -97,7 +97,7 @@ value_fits f ts i sum r each few b h g =
     let is = ap (λ z. to_z w128 (of_z w128 z)) (product_is ts i r each b g) ∙ to_z_abs (item.1 *ℤ r) 17000000000000000000 most (omega arith) in
     subst (λ z. FitsSigned w128 (sum +ℤ z)) (sym is) (fits_sum sum (item.1 *ℤ r) (i * 17000000000000000000) 17000000000000000000 h.small most (omega arith))
 
-pub value_more : (f : ℕ → ℤ) (ts : List (ℕ × ℤ)) (i : ℕ) (sum r next : ℤ) → AllByRecursion Small ts → length ts ≤ 64 → i < length ts → Valued f ts i sum
+pub value_more : (f : ℕ → ℤ) (ts : List (ℕ × ℤ)) (i : ℕ) (sum r next : ℤ) → AllByRecursion Small ts → length ts ≤ 224 → i < length ts → Valued f ts i sum
     → r ≡ f (get_or ts i (0, pos 0)).0 → unsigned_abs r ≤ 17000000000 → next ≡ to_z w128 (of_z w128 (sum +ℤ to_z w128 (of_z w128 (product ts i r))))
     → Valued f ts (i + 1) next
 value_more f ts i sum r next each few b h same g e =

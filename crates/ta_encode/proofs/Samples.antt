@@ -27,8 +27,14 @@ plain_meanings : (a : Automaton) → start_meanings a plain ≡ sample_meanings 
 unfolding start_meanings sample_meanings
 plain_meanings a = ap (λ (ls : List ℕ). map Parameter (range_with_len 0 (length a.parameters)) ++ map Start ls) (plain_locations a)
 
-pub sample_few : (a : Automaton) → length (sample_meanings a) ≤ 48
-sample_few a = omega (arith, ap (λ (ms : List Meaning). length ms) (plain_meanings a), start_few a plain)
+pub sample_few : (a : Automaton) → length (sample_meanings a) ≤ 160
+sample_few a = omega (
+  arith,
+  ap (λ (ms : List Meaning). length ms) (plain_meanings a),
+  start_few a plain,
+  a.shape.limits.parameters_limit,
+  a.shape.limits.locations_limit,
+)
 
 -- the rows over some unknowns
 abbrev rows_over : Automaton → List Meaning → List LinearRow

@@ -9,9 +9,9 @@ use Rattle.ta_encode.specs.System.{LinearRow, Bound, start_coefficient}
 use Rattle.ta_encode.specs.declared.line.Sense.{Sense}
 use Rattle.ta_encode.specs.declared.line.Sense.TheVariants.{Plain, Opposite, Negated}
 
--- at most 64 terms, each coefficient at most 1,000,000,000 in absolute value
+-- at most 224 terms, each coefficient at most 1,000,000,000 in absolute value
 pub record SmallTerms (terms : List (ℕ × ℤ)) : Type 0 where
-  pub few : length terms ≤ 64
+  pub few : length terms ≤ 224
   pub small : AllByRecursion (λ (t : ℕ × ℤ). unsigned_abs t.1 ≤ LARGEST_NUMBER) terms
 
 -- a coefficient of a row that is written in a sense

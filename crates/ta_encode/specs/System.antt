@@ -83,6 +83,13 @@ abbrev pub event_rows : Automaton → List Meaning → Option PatternEvent → L
 event_rows a ms None = []
 event_rows a ms (Some event) = condition_rows a ms event.condition.comparisons
 
+-- the rows at the start but for those of the fall guards: resilience, the number of processes, the start condition
+abbrev pub open_rows : Automaton → Pattern → List LinearRow
+open_rows a p =
+    condition_rows a (start_meanings a p) a.resilience.comparisons
+    ++ ((processes_row a (start_meanings a p) ∷ opposite (processes_row a (start_meanings a p)) ∷ [])
+    ++ condition_rows a (start_meanings a p) p.start.comparisons)
+
 -- the rows at the start: resilience, the number of processes, the start condition, the fall guards
 unfoldable pub start_rows : Automaton → Pattern → ℕ → List LinearRow
 start_rows a p start =

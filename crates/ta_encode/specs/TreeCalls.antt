@@ -34,4 +34,4 @@ AnswerIs s start past n number (Some e) = IsAnswer s start past n number e
 
 -- a system of few unknowns and few rows, without those of its bounds
 abbrev pub IsSmall : List Bound → System → Type 0
-IsSmall bounds system = system.unknowns + length system.rows ≤ 1000000 + length bounds
+IsSmall bounds system = system.unknowns + length system.rows ≤ 40000000 + length bounds

@@ -8,10 +8,10 @@ ghost use Rattle.ta_words.specs.Words.{LegalWord};
 ghost use Rattle.ta_encode.specs.Unknowns.{meanings, start_meanings};
 
 use ta_automaton::{Automaton, Pattern};
-use ta_words::{Element, Task, allowed_after};
+use ta_words::{Element, NarrowTask, allowed_after};
 
 /// How many unknowns the system of the word of these elements has. It takes no memory.
-pub fn unknown_count(task: Task<'_>, start_mask: u8, elements: &[Element]) -> u32
+pub fn unknown_count(task: NarrowTask<'_>, start_mask: u8, elements: &[Element]) -> u32
     requires { LegalWord task.automaton.now task.pattern.now start_mask (reverse elements.now) }
     ensures { result ≡ length (meanings task.entry.automaton.now task.entry.pattern.now start_mask (reverse elements.now)) }
 {
@@ -23,9 +23,9 @@ pub fn unknown_count(task: Task<'_>, start_mask: u8, elements: &[Element]) -> u3
 }
 
 /// How many unknowns there are at the start.
-fn start_count(automaton: &Automaton, pattern: &Pattern) -> u32
+pub fn start_count(automaton: &Automaton, pattern: &Pattern) -> u32
     ensures value { result ≡ length (start_meanings automaton.now pattern.now) }
-    ensures few { result ≤ 48 }
+    ensures few { result ≤ 160 }
 {
     let mut count = automaton.parameters.as_slice().len() as u32;
     for location in automaton.initial.as_slice() {
@@ -37,7 +37,7 @@ fn start_count(automaton: &Automaton, pattern: &Pattern) -> u32
 }
 
 /// How many unknowns an element adds.
-fn element_count(task: Task<'_>, start_mask: u8, before: &[Element], element: Element) -> u32
+fn element_count(task: NarrowTask<'_>, start_mask: u8, before: &[Element], element: Element) -> u32
     ensures value { length (meanings task.entry.automaton.now task.entry.pattern.now start_mask (element ∷ reverse before.now)) ≡ length (meanings task.entry.automaton.now task.entry.pattern.now start_mask (reverse before.now)) + result }
     ensures few { result ≤ 256 }
 {

@@ -189,11 +189,11 @@ impl<'a> Draft<'a> {
     /// The row of a location's counter, unless the location is in a set.
     fn push_written(
         &mut self,
-        empty: u32,
+        empty: u128,
         location: u32,
         counter: Counter,
     ) -> Result<(), AllocError>
-        requires location { location < 32 }
+        requires location { location < 128 }
         requires written { Sparse (counter_coefficient self.old.automaton.now location) self.old.meanings.items (length self.old.meanings.items) counter.terms.items }
         ensures { OnOk result (Adds (λ a ms. cond (not (has_bit empty location)) (counter_row a ms location ∷ []) []) self.old self.new) }
     {
@@ -204,7 +204,7 @@ impl<'a> Draft<'a> {
     }
 
     /// The counters of the locations outside a set.
-    pub(crate) fn push_all_counters(&mut self, empty: u32) -> Result<(), AllocError>
+    pub(crate) fn push_all_counters(&mut self, empty: u128) -> Result<(), AllocError>
         ensures { OnOk result (Adds (λ a ms. map (counter_row a ms) (filter (λ l. not (has_bit empty l)) (range_with_len 0 (length a.locations)))) self.old self.new) }
     {
         let automaton = self.automaton;

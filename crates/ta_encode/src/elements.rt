@@ -16,16 +16,21 @@ use crate::line::Sense;
 use std::alloc::AllocError;
 use ta_automaton::Pattern;
 
-/// The set of one number below 32.
-fn only(number: u32) -> u32
-    ensures { (k : ℕ) → k < 32 → has_bit result k ≡ (k == number) }
+/// The set of one number below 128.
+fn only(number: u32) -> u128
+    ensures { (k : ℕ) → k < 128 → has_bit result k ≡ (k == number) }
 {
-    if number < 32 { 1 << number } else { 0 }
+    if number < 128 { 1 << number } else { 0 }
 }
 
 impl<'a> Draft<'a> {
     /// The rows of a rise guard at its end; `fallen` are the fall guards that have fallen.
-    pub(crate) fn push_rise(&mut self, empty: u32, fallen: u32, rise: u32) -> Result<(), AllocError>
+    pub(crate) fn push_rise(
+        &mut self,
+        empty: u128,
+        fallen: u128,
+        rise: u32,
+    ) -> Result<(), AllocError>
         ensures { OnOk result (Adds (λ a ms. counters_outside a ms empty
             ++ (guard_rows a ms (λ k. k == rise) 0 a.rise
             ++ guard_rows a ms (λ j. not (has_bit fallen j)) 0 a.fall)) self.old self.new) }
@@ -37,7 +42,7 @@ impl<'a> Draft<'a> {
     }
 
     /// The rows of the fall guards that have not fallen.
-    fn push_standing(&mut self, fallen: u32) -> Result<(), AllocError>
+    fn push_standing(&mut self, fallen: u128) -> Result<(), AllocError>
         ensures { OnOk result (Adds (λ a ms. guard_rows a ms (λ j. not (has_bit fallen j)) 0 a.fall) self.old self.new) }
     {
         self.push_falls(!fallen, Sense::Plain)?;
@@ -48,7 +53,7 @@ impl<'a> Draft<'a> {
     pub(crate) fn push_event(
         &mut self,
         pattern: &Pattern,
-        fallen: u32,
+        fallen: u128,
         event: u32,
     ) -> Result<(), AllocError>
         requires small { SmallEvents pattern.now }
@@ -75,27 +80,27 @@ impl<'a> Draft<'a> {
     }
 
     /// The rows of a Fall at the moment before its Singles.
-    pub(crate) fn push_falling(&mut self, empty: u32, falls: u8) -> Result<(), AllocError>
+    pub(crate) fn push_falling(&mut self, empty: u128, falls: u8) -> Result<(), AllocError>
         ensures { OnOk result (Adds (λ a ms. counters_outside a ms empty ++ guard_rows a ms (has_bit falls) 0 a.fall) self.old self.new) }
     {
         self.push_counters(empty, Sense::Plain)?;
-        self.push_falls(u32::from(falls), Sense::Plain)?;
+        self.push_falls(u128::from(falls), Sense::Plain)?;
         Ok(())
     }
 
     /// The rows of a Fall at its end; `fallen` are the fall guards that have fallen by then.
     pub(crate) fn push_fallen(
         &mut self,
-        empty: u32,
+        empty: u128,
         falls: u8,
-        fallen: u32,
+        fallen: u128,
     ) -> Result<(), AllocError>
         ensures { OnOk result (Adds (λ a ms. counters_outside a ms empty
             ++ (map negated (guard_rows a ms (has_bit falls) 0 a.fall)
             ++ guard_rows a ms (λ j. not (has_bit fallen j)) 0 a.fall)) self.old self.new) }
     {
         self.push_counters(empty, Sense::Plain)?;
-        self.push_falls(u32::from(falls), Sense::Negated)?;
+        self.push_falls(u128::from(falls), Sense::Negated)?;
         self.push_standing(fallen)?;
         Ok(())
     }

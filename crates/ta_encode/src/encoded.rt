@@ -15,7 +15,7 @@ use crate::rows::push_bounds;
 use std::alloc::{AllocError, Global};
 use ta_base::List;
 use ta_linear::System;
-use ta_words::{Task, Word};
+use ta_words::{NarrowTask, Word};
 
 /// The system of a word, and what its unknowns mean.
 #[derive(Drop)]
@@ -37,7 +37,7 @@ pub struct Solution {
 /// files no number leaves the range.
 pub fn encode(
     alloc: Global,
-    task: Task<'_>,
+    task: NarrowTask<'_>,
     start_mask: u8,
     word: &Word,
     bounds: &[Bound],

@@ -13,8 +13,8 @@ use std::alloc::AllocError;
 /// be. Bit i stands for number i.
 #[derive(Clone, Copy)]
 pub struct WordEnd {
-    pub failing: u32,
-    pub inhabited: u32,
+    pub failing: u128,
+    pub inhabited: u128,
 }
 
 impl<'a> Draft<'a> {

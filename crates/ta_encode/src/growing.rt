@@ -32,7 +32,7 @@ use std::alloc::{AllocError, Global};
 use ta_base::List;
 use ta_base::limits::LONGEST_WORD;
 use ta_linear::{Row, System};
-use ta_words::{Element, Task};
+use ta_words::{Element, NarrowTask};
 
 /// How many unknowns and rows there are after some of a word's elements.
 #[derive(Clone, Copy)]
@@ -260,7 +260,7 @@ impl Encoding {
     pub fn grown(
         self,
         alloc: Global,
-        task: Task<'_>,
+        task: NarrowTask<'_>,
         start_mask: u8,
         elements: &[Element],
         bounds: &[Bound],
@@ -280,7 +280,7 @@ impl Encoding {
     pub fn grown_to(
         self,
         alloc: Global,
-        task: Task<'_>,
+        task: NarrowTask<'_>,
         start_mask: u8,
         elements: &[Element],
         end: Option<WordEnd>,

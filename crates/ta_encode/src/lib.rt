@@ -40,6 +40,7 @@ mod laws;
 mod line;
 mod meaning;
 mod named;
+mod opening;
 mod origin;
 mod place;
 mod places;
@@ -51,7 +52,7 @@ mod unknowns;
 mod word;
 
 pub use ask::{Ask, Inner, ask_of};
-pub use count::unknown_count;
+pub use count::{start_count, unknown_count};
 pub use cursor::{Cursor, Frame};
 pub use cursor_laws::begins_within;
 pub use cursor_place::Place;
@@ -64,6 +65,7 @@ pub use laws::{
 };
 pub use meaning::{Bound, Meaning, Side};
 pub use named::{Named, named_rows};
+pub use opening::encode_start;
 pub use place::{change_of, first_location, place_coefficient};
 pub use sample::{encode_sample, samples_are_real};
 pub use tree::{Tree, Written};

@@ -150,7 +150,7 @@ fn starts_in(meaning: Meaning, wanted: bool) -> i128
 fn value_in(automaton: &Automaton, meaning: Meaning, terms: &[(u32, i128)]) -> i128
     requires { SmallTerms terms.now }
     ensures value { result ≡ terms_value (place_coefficient automaton.now meaning) terms.now }
-    ensures small { unsigned_abs result ≤ 64 * 17000000000000000000 }
+    ensures small { unsigned_abs result ≤ 224 * 17000000000000000000 }
 {
     let mut total = 0;
     for (place, coefficient) in terms {

@@ -108,9 +108,9 @@ impl<'a> Draft<'a> {
     }
 
     /// The rows of the guards in a set, written in a sense.
-    fn push_guards(&mut self, guards: &[Row], mask: u32, sense: Sense) -> Result<(), AllocError>
+    fn push_guards(&mut self, guards: &[Row], mask: u128, sense: Sense) -> Result<(), AllocError>
         requires small { SmallRows guards.now }
-        requires few { length guards.now ≤ 16 }
+        requires few { length guards.now ≤ 64 }
         ensures { OnOk result (Adds (λ a ms. map (in_sense sense) (guard_rows a ms (has_bit mask) 0 guards.now)) self.old self.new) }
     {
         for (number, guard) in guards.iter().enumerate() {
@@ -122,7 +122,7 @@ impl<'a> Draft<'a> {
     }
 
     /// The rows of the rise guards in a set, written in a sense.
-    pub(crate) fn push_rises(&mut self, mask: u32, sense: Sense) -> Result<(), AllocError>
+    pub(crate) fn push_rises(&mut self, mask: u128, sense: Sense) -> Result<(), AllocError>
         ensures { OnOk result (Adds (λ a ms. map (in_sense sense) (guard_rows a ms (has_bit mask) 0 a.rise)) self.old self.new) }
     {
         let automaton = self.automaton;
@@ -131,7 +131,7 @@ impl<'a> Draft<'a> {
     }
 
     /// The rows of the fall guards in a set, written in a sense.
-    pub(crate) fn push_falls(&mut self, mask: u32, sense: Sense) -> Result<(), AllocError>
+    pub(crate) fn push_falls(&mut self, mask: u128, sense: Sense) -> Result<(), AllocError>
         ensures { OnOk result (Adds (λ a ms. map (in_sense sense) (guard_rows a ms (has_bit mask) 0 a.fall)) self.old self.new) }
     {
         let automaton = self.automaton;
@@ -141,6 +141,7 @@ impl<'a> Draft<'a> {
 
     /// The rows of the fall guards at the start, negated for those in the start set.
     pub(crate) fn push_start_guards(&mut self, start_mask: u8) -> Result<(), AllocError>
+        requires narrow { length self.old.automaton.now.fall ≤ 6 }
         ensures { OnOk result (Adds (λ a ms. start_guard_rows a ms start_mask 0 a.fall) self.old self.new) }
     {
         let automaton = self.automaton;
@@ -151,7 +152,7 @@ impl<'a> Draft<'a> {
     }
 
     /// The counters of the locations outside a set, written in a sense.
-    pub(crate) fn push_counters(&mut self, empty: u32, sense: Sense) -> Result<(), AllocError>
+    pub(crate) fn push_counters(&mut self, empty: u128, sense: Sense) -> Result<(), AllocError>
         ensures { OnOk result (Adds (λ a ms. map (λ l. in_sense sense (counter_row a ms l)) (filter (λ l. not (has_bit empty l)) (range_with_len 0 (length a.locations)))) self.old self.new) }
     {
         match sense {
@@ -161,7 +162,7 @@ impl<'a> Draft<'a> {
     }
 
     /// The counters of the locations outside a set, row by row.
-    fn push_each_counter(&mut self, empty: u32, sense: Sense) -> Result<(), AllocError>
+    fn push_each_counter(&mut self, empty: u128, sense: Sense) -> Result<(), AllocError>
         ensures { OnOk result (Adds (λ a ms. map (λ l. in_sense sense (counter_row a ms l)) (filter (λ l. not (has_bit empty l)) (range_with_len 0 (length a.locations)))) self.old self.new) }
     {
         let automaton = self.automaton;

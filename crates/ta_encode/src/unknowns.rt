@@ -26,7 +26,7 @@ pub(crate) fn start_meanings(
 }
 
 pub(crate) fn push_parameters(count: usize, meanings: &mut Vec<Meaning>) -> Result<(), AllocError>
-    requires { count ≤ 16 }
+    requires { count ≤ 32 }
     ensures { OnOk result (meanings.new.items ≡ meanings.old.items ++ map Parameter (range_with_len 0 count)) }
 {
     for parameter in 0..count {
@@ -37,7 +37,7 @@ pub(crate) fn push_parameters(count: usize, meanings: &mut Vec<Meaning>) -> Resu
 
 pub(crate) fn push_starts(
     automaton: &Automaton,
-    empty: u32,
+    empty: u128,
     meanings: &mut Vec<Meaning>,
 ) -> Result<(), AllocError>
     ensures { OnOk result (meanings.new.items ≡ meanings.old.items ++ map Start (filter (λ l. not (has_bit empty l)) automaton.now.initial)) }

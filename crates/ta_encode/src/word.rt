@@ -9,29 +9,26 @@ ghost use Rattle.ta_encode.specs.Inside.Firings.{firing};
 
 use crate::draft::Draft;
 use crate::origin::Origin;
-use crate::unknowns::{push_firings, start_meanings};
+use crate::unknowns::push_firings;
 use std::alloc::{AllocError, Global};
+use ta_automaton::Task;
 use ta_base::limits::LONGEST_WORD;
-use ta_words::{Element, allowed_after, fallen_after};
+use ta_words::{Element, NarrowTask, allowed_after, fallen_after};
 
 impl<'a> Draft<'a> {
     /// The unknowns and rows at the start.
     pub(crate) fn start(alloc: Global, origin: &Origin<'a>) -> Result<Draft<'a>, AllocError>
         ensures { IfOk result (IsDraft origin.now []) }
     {
-        let automaton = origin.task.automaton;
-        let pattern = origin.task.pattern;
-        let meanings = start_meanings(alloc, automaton, pattern)?;
-        let mut draft = Draft::of(alloc, automaton, meanings);
-        draft.push_condition(&automaton.resilience)?;
-        draft.push_processes()?;
-        draft.push_condition(&pattern.start)?;
+        let NarrowTask { automaton, pattern } = origin.task;
+        let mut draft = Draft::begin(alloc, Task { automaton, pattern })?;
         draft.push_start_guards(origin.start_mask)?;
         Ok(draft)
     }
 
     /// A Count before an element for each rule in a set, or a Single.
     fn push_firings(&mut self, allowed: u128, element: u32, single: bool) -> Result<(), AllocError>
+        requires narrow { length self.old.automaton.now.rules ≤ 128 }
         requires room { length self.old.meanings.items + 128 < 2 ^ 32 }
         ensures { OnOk result (AddsUnknowns (map (firing single element) (filter (has_bit allowed) (range_with_len 0 (length self.old.automaton.now.rules)))) self.old self.new) }
     {
@@ -62,7 +59,7 @@ impl<'a> Draft<'a> {
             Element::Event(event) => self.push_event(pattern, fallen, event)?,
             Element::Fall(falls) => {
                 let from = self.meanings.len();
-                let after = fallen | u32::from(falls);
+                let after = fallen | u128::from(falls);
                 self.push_falling(empty, falls)?;
                 self.push_firings(allowed, number, true)?;
                 self.push_singles(from)?;

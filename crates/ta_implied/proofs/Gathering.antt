@@ -42,20 +42,20 @@ pub first_searched : (pairs : List (ℕ × ℕ)) (guard found : ℕ) → ((j : �
 first_searched pairs guard found is = record { direct = λ j i. (is j).1 i; lead = λ j t. (zero, (is j).0 t) }
 
 pub more_searched : (pairs : List (ℕ × ℕ)) (guard found more : ℕ) → Searched pairs guard found
-    → ((j : ℕ) → (has_bit more j ≡ true) ↔ ((has_bit found j ≡ true) ⊎ IsBeforeSome pairs found 16 j)) → Searched pairs guard more
+    → ((j : ℕ) → (has_bit more j ≡ true) ↔ ((has_bit found j ≡ true) ⊎ IsBeforeSome pairs found 64 j)) → Searched pairs guard more
 more_searched pairs guard found more so is = record {
   direct = λ j i. (is j).1 (inl (so.direct j i));
   lead = λ j t. elim ((is j).0 t) [ inl f ↦ so.lead j f | inr b ↦ one_more pairs j b.0 guard b.3 (inr (so.lead b.0 b.2)) ];
 }
 
 -- where no more are found, these are all
-pub all_searched : (pairs : List (ℕ × ℕ)) (guard found : ℕ) → found < 2 ^ 16 → Searched pairs guard found
-    → ((j : ℕ) → (has_bit found j ≡ true) ↔ ((has_bit found j ≡ true) ⊎ IsBeforeSome pairs found 16 j)) → (j : ℕ) → (has_bit found j ≡ true)
+pub all_searched : (pairs : List (ℕ × ℕ)) (guard found : ℕ) → found < 2 ^ 64 → Searched pairs guard found
+    → ((j : ℕ) → (has_bit found j ≡ true) ↔ ((has_bit found j ≡ true) ⊎ IsBeforeSome pairs found 64 j)) → (j : ℕ) → (has_bit found j ≡ true)
     ↔ LeadsSome pairs j guard
 all_searched pairs guard found fits so is j = (so.lead j, λ l. holds l.0 j l.1)
   where
-    below : (k : ℕ) → has_bit found k ≡ true → k < 16
-    below k t = elim (cases_lt k 16) [ inl b ↦ b | inr above ↦ absurd (false≢true (sym (has_above found 16 k fits above) ∙ t)) ]
+    below : (k : ℕ) → has_bit found k ≡ true → k < 64
+    below k t = elim (cases_lt k 64) [ inl b ↦ b | inr above ↦ absurd (false≢true (sym (has_above found 64 k fits above) ∙ t)) ]
 
     holds : (more first : ℕ) → ChainLeads pairs more first guard → has_bit found first ≡ true
     holds zero first l = so.direct first l

@@ -115,27 +115,27 @@ placed_here guard more mask j low (suc n) is none least most = elim (eqb_tells l
 in_from : (k : ℕ) (masks : List ℕ) (q : ℕ × ℕ) → In q (pairs_from k masks) → k ≤ q.1
 in_from k [] q h = absurd h
 in_from k (m ∷ ms) q h = elim (in_append q (pairs_at k m) (pairs_from (k + 1) ms) h) [
-  | inl here ↦ (let w = in_listed k m 0 16 q here in let e = w.0 in omega arith)
+  | inl here ↦ (let w = in_listed k m 0 64 q here in let e = w.0 in omega arith)
   | inr later ↦ (let w = in_from (k + 1) ms q later in omega arith)
 ]
 
 -- the pairs of masks, with one more
-placed_from : (j k d more : ℕ) (masks : List ℕ) → d < length masks → j < 16 → has_bit (get_or masks d 0) j ≡ false → IsWith more (get_or masks d 0) j
+placed_from : (j k d more : ℕ) (masks : List ℕ) → d < length masks → j < 64 → has_bit (get_or masks d 0) j ≡ false → IsWith more (get_or masks d 0) j
     → with_pair (j, k + d) (pairs_from k masks) ≡ pairs_from k (set masks d more)
 placed_from j k d more [] below fits none is = absurd (omega arith)
 placed_from j k zero more (m ∷ ms) below fits none is =
     let same : k + 0 ≡ k = omega arith in
     ap (λ g. with_pair (j, g) (pairs_at k m ++ pairs_from (k + 1) ms)) same
     ∙ placed_before (j, k) (pairs_at k m) (pairs_from (k + 1) ms) (λ q i. earlier_guard (j, k) q (let w = in_from (k + 1) ms q i in omega arith))
-    ∙ ap (λ xs. xs ++ pairs_from (k + 1) ms) (placed_here k more m j 0 16 is none (omega arith) (omega arith))
+    ∙ ap (λ xs. xs ++ pairs_from (k + 1) ms) (placed_here k more m j 0 64 is none (omega arith) (omega arith))
 placed_from j k (suc d) more (m ∷ ms) below fits none is =
     let same : k + suc d ≡ (k + 1) + d = omega arith in
     placed_behind (j, k + suc d) (pairs_at k m) (pairs_from (k + 1) ms)
-    (λ q i. later_guard (j, k + suc d) q (let w = in_listed k m 0 16 q i in let e = w.0 in omega arith))
+    (λ q i. later_guard (j, k + suc d) q (let w = in_listed k m 0 64 q i in let e = w.0 in omega arith))
     ∙ ap (λ g. pairs_at k m ++ with_pair (j, g) (pairs_from (k + 1) ms)) same
     ∙ ap (λ xs. pairs_at k m ++ xs) (placed_from j (k + 1) d more ms (omega arith) fits none is)
 
-pub placed_pair : (j i more : ℕ) (masks : List ℕ) → i < length masks → j < 16 → has_bit (get_or masks i 0) j ≡ false → IsWith more (get_or masks i 0) j
+pub placed_pair : (j i more : ℕ) (masks : List ℕ) → i < length masks → j < 64 → has_bit (get_or masks i 0) j ≡ false → IsWith more (get_or masks i 0) j
     → pairs_from 0 (set masks i more) ≡ with_pair (j, i) (pairs_from 0 masks)
 placed_pair j i more masks below fits none is =
     let same : i ≡ 0 + i = omega arith in

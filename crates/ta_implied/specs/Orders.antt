@@ -10,7 +10,7 @@ use Rattle.ta_implied.specs.Implied.{ImplySystem, IsPair, ChainLeads}
 
 -- the pairs of a guard with the guards of a mask before it, by rising number of the guard before
 abbrev pub pairs_at : ℕ → ℕ → List (ℕ × ℕ)
-pairs_at guard mask = map (λ j. (j, guard)) (filter (has_bit mask) (range_with_len 0 16))
+pairs_at guard mask = map (λ j. (j, guard)) (filter (has_bit mask) (range_with_len 0 64))
 
 -- the pairs of guards from a number on, by rising number of the guard after, where each has a mask of the guards before it
 abbrev pub pairs_from : ℕ → List ℕ → List (ℕ × ℕ)
@@ -40,7 +40,7 @@ HasNoCircle pairs = (more guard : ℕ) → ¬ ChainLeads pairs more guard guard
 
 -- masks of guards before others: they name existing guards only, and no chain of their pairs leads back
 pub record AreOrderMasks (masks : List ℕ) : Type 0 where
-  pub fit : AllByRecursion (λ m. m < 2 ^ 16) masks
+  pub fit : AllByRecursion (λ m. m < 2 ^ 64) masks
   pub no_circle : HasNoCircle (pairs_from 0 masks)
 
 -- a pair may join others: it has two different rise guards, is not among the others, and no chain of them leads from its guard after to its

@@ -27,7 +27,7 @@ use ta_farkas::check_leaf;
 #[derive(Drop)]
 pub struct Orders {
     // for each rise guard the guards before it
-    masks: [u16; 16],
+    masks: [u64; 64],
 }
 
 impl Model for Orders {
@@ -46,14 +46,14 @@ impl Orders {
     pub fn new() -> Orders
         ensures { result ≡ [] }
     {
-        Orders { masks: [0; 16] }
+        Orders { masks: [0; 64] }
     }
 
     /// The guards that come before a guard: bit j for rise guard j.
-    pub fn mask(&self, guard: u32) -> u16
+    pub fn mask(&self, guard: u32) -> u64
         ensures { (j : ℕ) → (has_bit result j ≡ true) ↔ In (j, guard) self.now }
     {
-        if guard < 16 {
+        if guard < 64 {
             self.masks[guard as usize]
         } else {
             0
@@ -64,7 +64,7 @@ impl Orders {
     pub fn is_empty(&self) -> bool
         ensures { IsTrue result ↔ (self.now ≡ []) }
     {
-        self.masks == [0; 16]
+        self.masks == [0; 64]
     }
 
     /// Whether a pair of guards may join the pairs.
@@ -119,22 +119,22 @@ impl Orders {
 
     // Whether a pair is among the pairs.
     fn has(&self, before: u32, after: u32) -> bool
-        requires { before < 16 }
+        requires { before < 64 }
         ensures { IsTrue result ↔ In (before, after) self.now }
     {
-        contains(u32::from(self.mask(after)), before)
+        contains(u128::from(self.mask(after)), before)
     }
 
     // Whether a chain of pairs leads from one guard to another.
     fn leads(&self, first: u32, last: u32) -> bool
-        requires { first < 16 }
+        requires { first < 64 }
         ensures { IsTrue result ↔ LeadsSome self.now first last }
     {
-        contains(u32::from(self.sources(last)), first)
+        contains(u128::from(self.sources(last)), first)
     }
 
     // The guards from which a chain of pairs leads to a guard.
-    fn sources(&self, guard: u32) -> u16
+    fn sources(&self, guard: u32) -> u64
         ensures { (j : ℕ) → (has_bit result j ≡ true) ↔ LeadsSome self.now j guard }
     {
         let mut found = self.mask(guard);
@@ -148,23 +148,23 @@ impl Orders {
     }
 
     // Some guards, with all that come before one of them.
-    fn with_sources(&self, found: u16) -> u16
+    fn with_sources(&self, found: u64) -> u64
         ensures grown { found ≤ result }
-        ensures members { (j : ℕ) → (has_bit result j ≡ true) ↔ ((has_bit found j ≡ true) ⊎ IsBeforeSome self.now found 16 j) }
+        ensures members { (j : ℕ) → (has_bit result j ≡ true) ↔ ((has_bit found j ≡ true) ⊎ IsBeforeSome self.now found 64 j) }
     {
         let mut all = found;
-        for guard in 0..16 {
+        for guard in 0..64 {
             all |= self.mask_if(found, guard);
         }
         all
     }
 
     // The guards that come before a guard, if it is in a set.
-    fn mask_if(&self, set: u16, guard: u32) -> u16
-        requires { guard < 16 }
+    fn mask_if(&self, set: u64, guard: u32) -> u64
+        requires { guard < 64 }
         ensures { (j : ℕ) → (has_bit result j ≡ true) ↔ ((has_bit set guard ≡ true) × In (j, guard) self.now) }
     {
-        if contains(u32::from(set), guard) {
+        if contains(u128::from(set), guard) {
             self.mask(guard)
         } else {
             0

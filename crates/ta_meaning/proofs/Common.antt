@@ -111,7 +111,7 @@ pub use Rattle.std.specs.String.{string_bytes, string_eq}
 pub use Rattle.std.specs.Str.{bytes_eq}
 pub use Rattle.std.specs.Prelude.{MatchResult, flat_map, slice_range}
 pub use Rattle.std.specs.List.{AllByRecursion, list_any, range_with_len}
-pub use Rattle.std.specs.Int.{w128}
+pub use Rattle.std.specs.Int.{w128, w64}
 pub use Rattle.std.specs.Global.{Vec}
 pub use Rattle.std.proofs.result.Match.{err_is}
 pub use Rattle.std.proofs.lemmas.Slice.Eq.{bytes_eq-Decides, slice_eq-Decides}

@@ -1,6 +1,6 @@
 -- Listing names one after another: the mask so far, and what is left.
 use Rattle.ta_meaning.proofs.Common.{◌≡◌, ℕ, ◌*◌, ◌%◌, ◌^◌, ◌<◌, ◌≤◌, inl, inr, false, ◌||◌, List, [], ◌∷◌, ◌++◌, length, map, Decides, Contains, slice_get}
-use Rattle.ta_meaning.proofs.Common.{Some, IsBitSet, bit_or, w32, refl, sym, ap, subst, ◌∙◌, arith, bytes_eq, mod-eq_of_lt, false≢true, false_from_ne_true}
+use Rattle.ta_meaning.proofs.Common.{Some, IsBitSet, bit_or, w128, refl, sym, ap, subst, ◌∙◌, arith, bytes_eq, mod-eq_of_lt, false≢true, false_from_ne_true}
 use Rattle.ta_meaning.proofs.Common.{eqb_tells, Decides-like, Decides-or, bit_at_set_same, bit_at_set_other, append-nil, Contains-append_left, Contains-push}
 use Rattle.ta_meaning.proofs.Common.{Contains-push_cases, slice_get_within, same_Some, bytes_eq-Decides, at_set, no_bit, set_at, distinct_at, each_append}
 use Rattle.ta_meaning.proofs.Common.{contains_at, plain_name, Spelled, FileFault, Distinct, has_name, ListedMask, where_, else_, First, used_faults}
@@ -31,25 +31,25 @@ no_mask names = record {
   below = pow_pos (length names);
 }
 
-module _ (names before : List (List ℕ)) (mask i : ℕ) (n : List ℕ) (distinct : Distinct names) (few : length names ≤ 32) (old : ListedMask names before mask)
+module _ (names before : List (List ℕ)) (mask i : ℕ) (n : List ℕ) (distinct : Distinct names) (few : length names ≤ 128) (old : ListedMask names before mask)
     (named : slice_get names i ≡ Some n) where
   within : i < length names
   within = slice_get_within names i n named
 
   set_here : IsBitSet (bit_or mask (bit_of i)) i
-  set_here = at_set _ i (bit_at_set_same w32 mask i (let b = within in omega arith))
+  set_here = at_set _ i (bit_at_set_same w128 mask i (let b = within in omega arith))
 
   still_set : (j : ℕ) → IsBitSet mask j → IsBitSet (bit_or mask (bit_of i)) j
   still_set j b = elim (eqb_tells j i) [
     | inl e ↦ subst (λ k. IsBitSet (bit_or mask (bit_of i)) k) (sym e.1) set_here
-    | inr ne ↦ at_set _ j (bit_at_set_other w32 mask i (let b = within in omega arith) j ne.1 ∙ set_at mask j b)
+    | inr ne ↦ at_set _ j (bit_at_set_other w128 mask i (let b = within in omega arith) j ne.1 ∙ set_at mask j b)
   ]
 
   names_bit : (j : ℕ) → IsBitSet (bit_or mask (bit_of i)) j → (m : List ℕ) × (slice_get names j ≡ Some m) × Contains (before ++ n ∷ []) m
   names_bit j b = elim (eqb_tells j i) [
     | inl e ↦ (n, ap (slice_get names) e.1 ∙ named, Contains-push before n)
     | inr ne ↦ (
-        let w = (old.bits.bits j).0 (at_set mask j (sym (bit_at_set_other w32 mask i (let b = within in omega arith) j ne.1) ∙ set_at _ j b)) in
+        let w = (old.bits.bits j).0 (at_set mask j (sym (bit_at_set_other w128 mask i (let b = within in omega arith) j ne.1) ∙ set_at _ j b)) in
         (w.0, w.1, Contains-append_left before (n ∷ []) w.0 w.2))
   ]
 
@@ -67,8 +67,8 @@ module _ (names before : List (List ℕ)) (mask i : ℕ) (n : List ℕ) (distinc
       bits = λ j. (names_bit j, λ w. bit_named j w.0 w.1 w.2);
     };
     below = or_lt (length names) mask (bit_of i) old.below
-        (let b = within in let small : 2 ^ i < 2 ^ length names = pow_below i (length names) b in let fits : 2 ^ i < 2 ^ 32 = pow_below i 32 (omega arith) in
-        let is : 2 ^ i % 4294967296 ≡ 2 ^ i = mod-eq_of_lt fits in omega arith);
+        (let b = within in let small : 2 ^ i < 2 ^ length names = pow_below i (length names) b in let fits : 2 ^ i < 2 ^ 128 = pow_below i 128 (omega arith) in
+        let is : 2 ^ i % 340282366920938463463374607431768211456 ≡ 2 ^ i = mod-eq_of_lt fits in omega arith);
   }
 
 -- ---- listing
@@ -109,8 +109,8 @@ module _ (declared allowed : List (List ℕ)) (all : List Spelled) (n : Spelled)
       rw to.faults (append-left-leads _ _ _
       (else-left-leads _ _ _ (where-leads (has_name to.before n.name) (fault.Duplicate n.at) ((has_name-Decides to.before n.name).1 again))))
 
-  pub listing_goes_on : (i : ℕ) → Distinct allowed → length allowed ≤ 32 → used_faults declared allowed n ≡ [] → slice_get allowed i ≡ Some n.name
-      → (IsBitSet mask i → ⊥) → ListedTo declared allowed all rest (bit_or mask (1 * 2 ^ i % 4294967296))
+  pub listing_goes_on : (i : ℕ) → Distinct allowed → length allowed ≤ 128 → used_faults declared allowed n ≡ [] → slice_get allowed i ≡ Some n.name
+      → (IsBitSet mask i → ⊥) → ListedTo declared allowed all rest (bit_or mask (1 * 2 ^ i % 340282366920938463463374607431768211456))
   listing_goes_on i distinct few none named new =
       let fresh : has_name to.before n.name ≡ false = false_from_ne_true (has_name to.before n.name)
       (λ t. new ((to.mask_is.bits.bits i).1 (n.name, named, (has_name-Decides to.before n.name).0 t))) in

@@ -24,7 +24,7 @@ pub record FineNames (ns : Names) : Type 0 where
   pub all : length (all_names ns) ≤ 64
 
 -- ---- masks of names
-mask_from : (declared allowed : List (List ℕ)) (all rest : List Spelled) (mask : ℕ) → Distinct allowed → length allowed ≤ 32
+mask_from : (declared allowed : List (List ℕ)) (all rest : List Spelled) (mask : ℕ) → Distinct allowed → length allowed ≤ 128
     → listed_faults declared allowed [] all ≡ [] → ListedTo declared allowed all rest mask → (m : ℕ) × ListedMask allowed (map plain_name all) m
 mask_from declared allowed all [] mask distinct few none to = (mask, (listing_ends declared allowed all mask to).1)
 mask_from declared allowed all (n ∷ rest) mask distinct few none to =
@@ -40,10 +40,10 @@ mask_from declared allowed all (n ∷ rest) mask distinct few none to =
     let again : Contains to.before n.name = subst (Contains to.before) (same_Some w.0 n.name (sym w.1 ∙ place.1)) w.2 in
     let told : has_name to.before n.name ≡ true = (has_name-Decides to.before n.name).1 again in
     cc in
-    mask_from declared allowed all rest (bit_or mask (1 * 2 ^ place.0 % 4294967296)) distinct few none
+    mask_from declared allowed all rest (bit_or mask (1 * 2 ^ place.0 % 340282366920938463463374607431768211456)) distinct few none
     (listing_goes_on declared allowed all n rest mask to place.0 distinct few rightly place.1 free)
 
-mask_exists : (declared allowed : List (List ℕ)) (listed : List Spelled) → Distinct allowed → length allowed ≤ 32
+mask_exists : (declared allowed : List (List ℕ)) (listed : List Spelled) → Distinct allowed → length allowed ≤ 128
     → listed_faults declared allowed [] listed ≡ [] → (m : ℕ) × ListedMask allowed (map plain_name listed) m
 mask_exists declared allowed listed distinct few none = mask_from declared allowed listed listed 0 distinct few none (listing_begins declared allowed listed)
 
@@ -83,7 +83,8 @@ module _ (ns : Names) (fine : FineNames ns) where
       let later = empty_right declared (holds ++ (listed ++ many)) none in
       let last = empty_right holds (listed ++ many) later in
       let start = condition_exists (in_conditions ns) p.start fine.all p.few_start (empty_left holds (listed ++ many) later) in
-      let empty = mask_exists (all_names ns) ns.locations p.empty fine.locations_distinct fine.locations (empty_left listed many last) in
+      let empty = mask_exists (all_names ns) ns.locations p.empty fine.locations_distinct (let few = fine.locations in omega arith)
+      (empty_left listed many last) in
       let events = events_from p.events p.events [] [] p.few_events (empty_right listed many last) (events_begin ns p.events [] [] refl refl) in
       let pattern : Pattern = record { name = p.name.name; start = start.0; empty = empty.0; events = events.0 } in (
         pattern,

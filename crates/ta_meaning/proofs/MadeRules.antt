@@ -1,7 +1,7 @@
 -- Rules without an error mean rules and guards.
 use Rattle.ta_base.proofs.Bits.{one_bit_more}
 use Rattle.ta_meaning.proofs.Common.{◌≡◌, ◌⊎◌, inl, inr, ⊎_elim, ℕ, ℤ, pos, ◌*◌, ◌%◌, ◌^◌, ◌<◌, ◌≤◌, Bool, true, false, not, ltb, ◌&&◌, cond, eqb, bit_or, List}
-use Rattle.ta_meaning.proofs.Common.{[], ◌∷◌, ◌++◌, map, length, Ok, Contains, refl, sym, ap, ◌∙◌, arith, w8, w16, cases_Bool, length-map, bit_at_set_same}
+use Rattle.ta_meaning.proofs.Common.{[], ◌∷◌, ◌++◌, map, length, Ok, Contains, refl, sym, ap, ◌∙◌, arith, w16, w64, cases_Bool, length-map, bit_at_set_same}
 use Rattle.ta_meaning.proofs.Common.{bit_at_set_other, IsNormal, Row, plain_comparison, plain_update, plain_rule, TreeComparison, TreeUpdate, TreeRule, Rule}
 use Rattle.ta_meaning.proofs.Common.{Names, all_names, guard_names, has_name, number_of, no_guards, is_negative, is_positive, falls, has_row, is_no_threshold}
 use Rattle.ta_meaning.proofs.Common.{is_one_more, is_past_limit, Linear, comparison_rows, where_, else_, in_guards, comparison_faults, guard_faults}
@@ -165,19 +165,19 @@ module _ (ns : Names) (fine : FineNames ns) where
   -- masks with one more guard
   number_exists : (masks : GuardMasks) (n : GuardNumber) → NumberFits n → (more : GuardMasks) × WithNumber masks n more
   number_exists masks (number.Rise n) fits = (
-    record { rise = bit_or masks.rise (1 * 2 ^ n % 65536); fall = masks.fall },
+    record { rise = bit_or masks.rise (1 * 2 ^ n % 18446744073709551616); fall = masks.fall },
     (
-      one_bit_more masks.rise n (bit_or masks.rise (1 * 2 ^ n % 65536)) (bit_at_set_same w16 masks.rise n fits)
-          (λ i ne. bit_at_set_other w16 masks.rise n fits i ne),
+      one_bit_more masks.rise n (bit_or masks.rise (1 * 2 ^ n % 18446744073709551616)) (bit_at_set_same w64 masks.rise n fits)
+          (λ i ne. bit_at_set_other w64 masks.rise n fits i ne),
       refl,
     ),
   )
   number_exists masks (number.Fall n) fits = (
-    record { rise = masks.rise; fall = bit_or masks.fall (1 * 2 ^ n % 256) },
+    record { rise = masks.rise; fall = bit_or masks.fall (1 * 2 ^ n % 65536) },
     (
       refl,
-      one_bit_more masks.fall n (bit_or masks.fall (1 * 2 ^ n % 256)) (bit_at_set_same w8 masks.fall n fits)
-          (λ i ne. bit_at_set_other w8 masks.fall n fits i ne),
+      one_bit_more masks.fall n (bit_or masks.fall (1 * 2 ^ n % 65536)) (bit_at_set_same w16 masks.fall n fits)
+          (λ i ne. bit_at_set_other w16 masks.fall n fits i ne),
     ),
   )
 

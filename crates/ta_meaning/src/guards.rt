@@ -31,8 +31,8 @@ pub enum GuardNumber {
 /// Guards of one rule: bit i of `rise` for rise guard i, bit j of `fall` for fall guard j.
 #[derive(Clone, Copy)]
 pub struct GuardMasks {
-    pub rise: u16,
-    pub fall: u8,
+    pub rise: u64,
+    pub fall: u16,
 }
 
 /// The masks of the guards that comparisons are, each numbered after the guards so far where it is

@@ -19,14 +19,14 @@ pub fn listed_mask(
     from: u32,
     to: u32,
     listed: &[Spelled],
-) -> Result<u32, FileFault>
+) -> Result<u128, FileFault>
     requires order { from ≤ to }
     requires within { to ≤ length names.now }
-    requires few { to - from ≤ 32 }
+    requires few { to - from ≤ 128 }
     requires distinct { Distinct names.now }
     ensures { Judges (listed_faults names.now (slice_range names.now from to) [] listed.now) (ListedMask (slice_range names.now from to) (map plain_name listed.now)) result }
 {
-    let mut mask: u32 = 0;
+    let mut mask: u128 = 0;
     for name in listed {
         let number = names.number_in(from, to, name)?;
         if contains(mask, number) {

@@ -62,7 +62,7 @@ fn resolve_pattern(
 #[derive(Drop)]
 pub struct PatternHead {
     pub start: Condition,
-    pub empty: u32,
+    pub empty: u128,
 }
 
 /// What a tree's pattern means before its events, its name being after those of others.
@@ -154,7 +154,7 @@ fn after_mask(earlier: &NameList, listed: &[Spelled]) -> Result<u8, FileFault>
 }
 
 /// The mask of the locations that a pattern keeps empty.
-fn empty_mask(places: &Places, listed: &[Spelled]) -> Result<u32, FileFault>
+fn empty_mask(places: &Places, listed: &[Spelled]) -> Result<u128, FileFault>
     ensures { Judges (listed_faults (all_names (kinds_of places.now)) (kinds_of places.now).locations [] listed.now) (ListedMask (kinds_of places.now).locations (map plain_name listed.now)) result }
 {
     let first = places.parameters + places.shared;

@@ -46,12 +46,12 @@ tells s start past n true es is = ap is_some is
 tells s start past n false es is = is
 
 pub answer_is : (s : Search Fact) (start : ℕ) (past : List Fact) (n : Node) (number : ℕ) (es : List Fact) (r : Option Fact) → asked s start past n ≡ Some es
-    → r ≡ slice_get es number → length es ≤ 65
+    → r ≡ slice_get es number → length es ≤ 81
     → ((e : Fact) → s.unknowns start past ≤ s.unknowns start (e ∷ past)) → AnswerIs s start past n number r
 answer_is s start past n number es None is here few more = ap (λ (o : Option (List Fact)). slice_get (all_or_none o) number) is ∙ sym here
 answer_is s start past n number es (Some e) is here few more =
     let below = slice_get_within es number e (sym here) in
-    let large : 65 < 2 ^ 31 = lit< tt in
+    let large : 81 < 2 ^ 31 = lit< tt in
     record {
       is = ap (λ (o : Option (List Fact)). slice_get (all_or_none o) number) is ∙ sym here;
       more = more e;
@@ -59,11 +59,11 @@ answer_is s start past n number es (Some e) is here few more =
     }
 
 -- a question has few answers
-cond_few : (b : Bool) (xs ys : List Fact) → length xs ≤ 65 → length ys ≤ 65 → length (cond b xs ys) ≤ 65
+cond_few : (b : Bool) (xs ys : List Fact) → length xs ≤ 81 → length ys ≤ 81 → length (cond b xs ys) ≤ 81
 cond_few true xs ys h k = h
 cond_few false xs ys h k = k
 
-pub few_answers : (a : Automaton) (k : Known) (q : Question) → length (answers a k q) ≤ 65
+pub few_answers : (a : Automaton) (k : Known) (q : Question) → length (answers a k q) ≤ 81
 few_answers a k (OfGuard g) = cond_few (nat_lt g (length a.rise)) (Never g ∷ First g ∷ []) (Never g ∷ Stands g ∷ Last g ∷ []) (omega arith) (omega arith)
 few_answers a k (OfOrder x y) = cond_few (are_pairs (slice_get k.moments x) (slice_get k.moments y)) (Same x y ∷ Before x y ∷ After x y ∷ [])
     (Before x y ∷ After x y ∷ []) (omega arith) (omega arith)

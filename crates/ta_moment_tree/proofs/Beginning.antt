@@ -1,9 +1,9 @@
 -- the node without facts: its first rows, and its vectors
-use Rattle.ta_moment_tree.proofs.Common.{◌≡◌, ◌∙◌, inl, inr, ℕ, ℤ, pos, suc, ◌+◌, ◌*◌, ◌-◌, ◌<◌, ◌≤◌, List, [], ◌∷◌, ◌++◌, map, filter, length, take, slice_get}
-use Rattle.ta_moment_tree.proofs.Common.{Some, None, Option, Bool, arith, ints, sym, ap, subst, refl, append_assoc, append-nil, length-append, range_with_len}
-use Rattle.ta_moment_tree.proofs.Common.{AllByRecursion, In, AreRowsOf, IsRowOf, Automaton, Pattern, Row, LinearRow, condition_rows, processes_row, opposite}
-use Rattle.ta_moment_tree.proofs.Common.{start_guard_rows, numbers_rise, rises_filter}
-unfoldable use Rattle.ta_encode.specs.System.{start_rows, word_rows}
+use Rattle.ta_moment_tree.proofs.Common.{◌≡◌, ◌∙◌, inl, inr, ℕ, ℤ, pos, ◌+◌, ◌*◌, ◌<◌, ◌≤◌, List, [], ◌∷◌, ◌++◌, map, filter, length, slice_get}
+use Rattle.ta_moment_tree.proofs.Common.{Some, None, Option, Bool, arith, ints, sym, ap, subst, refl, range_with_len}
+use Rattle.ta_moment_tree.proofs.Common.{AllByRecursion, In, AreRowsOf, IsRowOf, Automaton, Pattern, Row, LinearRow}
+use Rattle.ta_moment_tree.proofs.Common.{numbers_rise, rises_filter}
+use Rattle.ta_encode.specs.System.{open_rows}
 use Rattle.ta_encode.specs.Unknowns.{start_meanings}
 use Rattle.std.proofs.Common.{mul-le-mul}
 use Rattle.std.specs.Prelude.{flat_map}
@@ -16,7 +16,6 @@ use Rattle.ta_moment_tree.proofs.Common.{length-map, length-range_with_len}
 use Rattle.ta_moments.specs.Moments.{Point, rows_of_event, rows_of_after, rows_of_end}
 unfoldable use Rattle.ta_moments.specs.Moments.{known}
 unfoldable use Rattle.ta_encode.specs.Unknowns.{meanings}
-use Rattle.ta_encode.proofs.CodeRows.{rows_count}
 use Rattle.ta_encode.proofs.Drafts.{start_few}
 use Rattle.ta_moment_tree.proofs.Starts.{moving_few}
 use Rattle.ta_base.specs.Lists.{Rises}
@@ -38,48 +37,15 @@ use Rattle.ta_moment_tree.proofs.Lists.{mapped_more}
 row_form : (l : LinearRow) (r : Row) → IsRowOf l r → form_of r.form ≡ form_of_row l
 row_form l r h = form_same (form_of r.form) (form_of_row l) h.constant h.coefficients
 
-front_forms : (ls ks : List LinearRow) (rows : List Row) → AreRowsOf (ls ++ ks) rows → forms_of (take (length ls) rows) ≡ map form_of_row ls
-front_forms [] ks rows h = refl
-front_forms (l ∷ ls) ks [] h = absurd h
-front_forms (l ∷ ls) ks (r ∷ rows) h = ap (λ f. f ∷ forms_of (take (length ls) rows)) (row_form l r h.0)
-    ∙ ap (λ fs. form_of_row l ∷ fs) (front_forms ls ks rows h.1)
+written_forms : (ls : List LinearRow) (rows : List Row) → AreRowsOf ls rows → forms_of rows ≡ map form_of_row ls
+written_forms [] [] h = refl
+written_forms [] (r ∷ rows) h = absurd h
+written_forms (l ∷ ls) [] h = absurd h
+written_forms (l ∷ ls) (r ∷ rows) h = ap (λ f. f ∷ forms_of rows) (row_form l r h.0) ∙ ap (λ fs. form_of_row l ∷ fs) (written_forms ls rows h.1)
 
-guards_count : (a : Automaton) (p : Pattern) (start k : ℕ) (rs : List Row) → length (start_guard_rows a (start_meanings a p) start k rs) ≡ length rs
-guards_count a p start k [] = refl
-guards_count a p start k (r ∷ rs) = ap suc (guards_count a p start (k + 1) rs)
-
-abbrev first_lines : Automaton → Pattern → List LinearRow
-first_lines a p =
-    condition_rows a (start_meanings a p) a.resilience.comparisons
-    ++ ((processes_row a (start_meanings a p) ∷ opposite (processes_row a (start_meanings a p)) ∷ [])
-    ++ condition_rows a (start_meanings a p) p.start.comparisons)
-
-lines_are : (a : Automaton) (p : Pattern) → word_rows a p 0 [] ≡ first_lines a p ++ start_guard_rows a (start_meanings a p) 0 0 a.fall
-unfolding word_rows start_rows
-lines_are a p =
-    let first = condition_rows a (start_meanings a p) a.resilience.comparisons in
-    let two = processes_row a (start_meanings a p) ∷ opposite (processes_row a (start_meanings a p)) ∷ [] in
-    let third = condition_rows a (start_meanings a p) p.start.comparisons in
-    let guards = start_guard_rows a (start_meanings a p) 0 0 a.fall in
-    ap (λ ls. first ++ ls) (sym (append_assoc two third guards)) ∙ sym (append_assoc first (two ++ third) guards)
-
--- the rows of the empty word, without the guards at the start
-pub start_count : (a : Automaton) (p : Pattern) (rows : List Row) → AreRowsOf (word_rows a p 0 [] ++ []) rows
-    → length rows ≡ length (first_lines a p) + length a.fall
-start_count a p rows h =
-    let ls = first_lines a p in
-    let gs = start_guard_rows a (start_meanings a p) 0 0 a.fall in
-    let is : word_rows a p 0 [] ++ [] ≡ ls ++ gs = append-nil (word_rows a p 0 []) ∙ lines_are a p in
-    rows_count (word_rows a p 0 [] ++ []) rows h ∙ ap length is ∙ length-append ls gs ∙ ap (λ n. length ls + n) (guards_count a p 0 0 a.fall)
-
-pub start_forms : (a : Automaton) (p : Pattern) (rows : List Row) (count : ℕ) → AreRowsOf (word_rows a p 0 [] ++ []) rows → count ≡ length rows - length a.fall
-    → forms_of (take count rows) ≡ rows_at_start a p
-start_forms a p rows count h e =
-    let ls = first_lines a p in
-    let gs = start_guard_rows a (start_meanings a p) 0 0 a.fall in
-    let is : word_rows a p 0 [] ++ [] ≡ ls ++ gs = append-nil (word_rows a p 0 []) ∙ lines_are a p in
-    let size : count ≡ length ls = (let all = start_count a p rows h in omega arith) in
-    ap (λ n. forms_of (take n rows)) size ∙ front_forms ls gs rows (subst (λ ks. AreRowsOf ks rows) is h)
+-- the forms at the start
+pub start_forms : (a : Automaton) (p : Pattern) (rows : List Row) → AreRowsOf (open_rows a p) rows → forms_of rows ≡ rows_at_start a p
+start_forms a p rows h = written_forms (open_rows a p) rows h
 
 -- ---- lists of rules
 pub moving_within : (a : Automaton) (p : Pattern) → Rises 0 (length a.rules) (moving_rules a p)
@@ -128,13 +94,16 @@ end_speaks a p None i = λ r. speak_number (unknowns_at_first a p) (pos 0)
 end_speaks a p (Some e) i = event_speaks a p e (event_less p e i)
 
 -- what an event's unknowns need of room
-pub event_room : (a : Automaton) (p : Pattern) (e m starts : ℕ) → m ≡ length (moving_rules a p) → starts ≡ length (start_meanings a p) → e < 8 → (e * m ≤ 1024)
-    × (starts ≤ 48) × (m ≤ 128)
+pub event_room : (a : Automaton) (p : Pattern) (e m starts : ℕ) → m ≡ length (moving_rules a p) → starts ≡ length (start_meanings a p) → e < 8 → (e * m ≤ 8192)
+    × (starts ≤ 160) × (m ≤ 1024)
 event_room a p e m starts same begun less =
-    let few : m ≤ 128 = (let most = moving_few a p in omega arith) in
+    let few : m ≤ 1024 = (let most = moving_few a p in omega arith) in
     let events : e ≤ 8 = omega arith in
-    let most : e * m ≤ 8 * 128 = mul-le-mul events few in
-    (omega arith, (let s = start_few a p in omega arith), few)
+    let most : e * m ≤ 8 * 1024 = mul-le-mul events few in (
+      omega arith,
+      (let s = start_few a p in let parameters = a.shape.limits.parameters_limit in let locations = a.shape.limits.locations_limit in omega arith),
+      few,
+    )
 
 pub moving_below_of : (a : Automaton) (p : Pattern) (rules : List ℕ) (n : ℕ) → rules ≡ moving_rules a p → n ≡ length a.rules → AllByRecursion (λ r. r < n) rules
 moving_below_of a p rules n e same = subst (λ (m : ℕ). AllByRecursion (λ r. r < m) rules) (sym same)
@@ -151,16 +120,12 @@ pub moments_more : (moments : List Kept) (moment : Kept) (begun : List Moment) (
     → moments_of (moments ++ moment ∷ []) ≡ begun ++ is ∷ []
 moments_more moments moment begun is e h = mapped_more moment_of moments moment begun is e h
 
-pub count_room : (a : Automaton) (p : Pattern) (e m starts : ℕ) → m ≡ length (moving_rules a p) → starts ≡ length (start_meanings a p) → e ≤ 8 → (e * m ≤ 1024)
-    × (starts ≤ 48)
+pub count_room : (a : Automaton) (p : Pattern) (e m starts : ℕ) → m ≡ length (moving_rules a p) → starts ≡ length (start_meanings a p) → e ≤ 8 → (e * m ≤ 8192)
+    × (starts ≤ 160)
 count_room a p e m starts same begun events =
-    let few : m ≤ 128 = (let most = moving_few a p in omega arith) in
-    let most : e * m ≤ 8 * 128 = mul-le-mul events few in
-    (omega arith, (let s = start_few a p in omega arith))
-
-pub meanings_none : (a : Automaton) (p : Pattern) (start : ℕ) → meanings a p start [] ≡ start_meanings a p
-unfolding meanings
-meanings_none a p start = refl
+    let few : m ≤ 1024 = (let most = moving_few a p in omega arith) in
+    let most : e * m ≤ 8 * 1024 = mul-le-mul events few in
+    (omega arith, (let s = start_few a p in let parameters = a.shape.limits.parameters_limit in let locations = a.shape.limits.locations_limit in omega arith))
 
 pub moments_count : (moments : List Kept) (g : ℕ → Moment) (n : ℕ) → moments_of moments ≡ map g (range_with_len 0 n) → length moments ≡ n
 moments_count moments g n e = sym (length-map moments moment_of) ∙ ap length e ∙ length-map (range_with_len 0 n) g ∙ length-range_with_len 0 n
@@ -175,7 +140,7 @@ unfolding known
 first_known a p silent c u ms rows e g h = λ i. record { unknowns = e i; moments = g i; rows = h i }
 
 -- ---- rules that are chosen among the moving ones
-pub chosen_few : (a : Automaton) (p : Pattern) (test : ℕ → Bool) (rules : List ℕ) → rules ≡ filter test (moving_rules a p) → length rules ≤ 128
+pub chosen_few : (a : Automaton) (p : Pattern) (test : ℕ → Bool) (rules : List ℕ) → rules ≡ filter test (moving_rules a p) → length rules ≤ 1024
 chosen_few a p test rules e = let most = moving_few a p in omega (arith, ap length e, filter_shorter test (moving_rules a p))
 
 pub chosen_below : (a : Automaton) (p : Pattern) (test : ℕ → Bool) (rules : List ℕ) (n : ℕ) → rules ≡ filter test (moving_rules a p) → n ≡ length a.rules

@@ -46,7 +46,7 @@ module _ (a : Automaton) (p : Pattern) (asking : Asking) (maker : Maker) where
 
   -- and has few unknowns
   pub comes_few : PatternOver a p → (start : ℕ) (past : List Fact) → Comes (moment_search a p asking maker) start past
-      → (known a p asking.silent (candidate_of start) past).unknowns < 1000000
+      → (known a p asking.silent (candidate_of start) past).unknowns < 40000000
   comes_few over start past h =
       let w : Pending Fact = record { start = start; past = past; bounds = [] } in
       let small = search_small a p over asking maker w h in

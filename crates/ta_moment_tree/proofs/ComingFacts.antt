@@ -1,5 +1,5 @@
 -- the facts of what the search comes to are answers
-use Rattle.ta_moment_tree.proofs.Common.{◌≡◌, inl, inr, ℕ, ℤ, Bool, true, false, cond, ◌&&◌, nat_lt, List, [], ◌∷◌, map, length, slice_get, Option, Some, None}
+use Rattle.ta_moment_tree.proofs.Common.{◌≡◌, inl, inr, ℕ, Bool, true, false, cond, ◌&&◌, nat_lt, List, [], ◌∷◌, map, length, slice_get, Some, None}
 use Rattle.ta_moment_tree.proofs.Common.{arith, refl, sym, ap, subst, and_parts, nat_tests, length-append, length-map, AllByRecursion, In, each_in, in_map}
 use Rattle.ta_moment_tree.proofs.Common.{Automaton, Pattern, Pending, bound_row, ◌∙◌}
 use Rattle.ta_cert.specs.declared.line.Node.{Node as TreeNode}

@@ -21,7 +21,7 @@ use Rattle.ta_moment_tree.specs.Cuts.{IsMark}
 use Rattle.ta_moment_tree.specs.Forms.{form_of}
 use Rattle.ta_moment_tree.specs.Draft.{known_of}
 use Rattle.ta_moment_tree.specs.Nodes.{IsNode}
-use Rattle.ta_words.specs.declared.task.Task.{Task}
+use Rattle.ta_automaton.specs.declared.task.Task.{Task}
 use Rattle.ta_moment_tree.specs.declared.encoding.MomentEncoding.{MomentEncoding}
 use Rattle.ta_moment_tree.specs.declared.mark.NodeMark.{NodeMark}
 use Rattle.ta_moment_tree.proofs.Cutting.{rows_front}

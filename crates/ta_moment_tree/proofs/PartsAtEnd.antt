@@ -1,5 +1,5 @@
 -- what the question of a node may be of
-use Rattle.ta_moment_tree.proofs.Common.{◌≡◌, ◌≤◌, arith}
+use Rattle.ta_moment_tree.proofs.Common.{◌≡◌, arith}
 use Rattle.ta_moments.specs.Questions.{Parts}
 use Rattle.ta_moment_tree.specs.Forms.{SmallVector, vector_of}
 use Rattle.ta_moment_tree.specs.Nodes.{IsAnyNode}

@@ -38,7 +38,7 @@ flat_long c g (x ∷ xs) h =
     let one = h x (inl refl) in
     omega (arith, length-append (g x) (flat_map g xs), one, rest, step)
 
-below_long : (a : Automaton) (p : Pattern) (n : ℕ) (v w : Vector) → length (below a p n v w) ≤ 128
+below_long : (a : Automaton) (p : Pattern) (n : ℕ) (v w : Vector) → length (below a p n v w) ≤ 1024
 below_long a p n v w = omega (
   arith,
   filter_less (may_be_negative n) (map (λ r. minus_form (w r) (v r)) (moving_rules a p)),
@@ -47,7 +47,7 @@ below_long a p n v w = omega (
   moving_few a p,
 )
 
-counters_long : (a : Automaton) (p : Pattern) (v : Vector) → length (counters_at a p v) ≤ 32
+counters_long : (a : Automaton) (p : Pattern) (v : Vector) → length (counters_at a p v) ≤ 128
 counters_long a p v =
     let all = range_with_len 0 (length a.locations) in
     let some = filter (λ l. not (has_bit p.empty l)) all in
@@ -81,10 +81,10 @@ source_long : (a : Automaton) (p : Pattern) (v : Vector) (o : Option Rule) → l
 source_long a p v None = omega arith
 source_long a p v (Some rule) = omega arith
 
-needing_few : (a : Automaton) (p : Pattern) (g : ℕ) → length (needing a p g) ≤ 128
+needing_few : (a : Automaton) (p : Pattern) (g : ℕ) → length (needing a p g) ≤ 1024
 needing_few a p g = omega (arith, filter_less (λ r. has_guard a g (slice_get a.rules r)) (moving_rules a p), moving_few a p)
 
-sparing_few : (a : Automaton) (p : Pattern) (g : ℕ) → length (sparing a p g) ≤ 128
+sparing_few : (a : Automaton) (p : Pattern) (g : ℕ) → length (sparing a p g) ≤ 1024
 sparing_few a p g = omega (arith, filter_less (λ r. not (has_guard a g (slice_get a.rules r))) (moving_rules a p), moving_few a p)
 
 -- ---- the node without facts
@@ -105,37 +105,37 @@ start_long a p =
           p.start.comparisons p.start.limit,
     )
 
-events_long : (a : Automaton) (p : Pattern) → length p.events ≤ 8 → length (flat_map (rows_of_event a p) (range_with_len 0 (length p.events))) ≤ 512
+events_long : (a : Automaton) (p : Pattern) → length p.events ≤ 8 → length (flat_map (rows_of_event a p) (range_with_len 0 (length p.events))) ≤ 1280
 events_long a p few =
-    let all = flat_long 64 (rows_of_event a p) (range_with_len 0 (length p.events)) (λ e i.
+    let all = flat_long 160 (rows_of_event a p) (range_with_len 0 (length p.events)) (λ e i.
     let v = event_vector a p e in
     omega (arith, length-append (counters_at a p v) (event_at a p v (slice_get p.events e)), counters_long a p v, event_long a p v (slice_get p.events e))) in
     omega (arith, all, length-range_with_len 0 (length p.events), few)
 
-after_long : (a : Automaton) (p : Pattern) (e : ℕ) → e ≤ 8 → length (rows_of_after a p e) ≤ 1024
+after_long : (a : Automaton) (p : Pattern) (e : ℕ) → e ≤ 8 → length (rows_of_after a p e) ≤ 8192
 after_long a p e few =
     let test = comes_after (slice_get p.events e) in
-    let all = flat_long 128 (λ f. below a p (unknowns_at_first a p) (event_vector a p f) (event_vector a p e)) (filter test (range_with_len 0 e))
+    let all = flat_long 1024 (λ f. below a p (unknowns_at_first a p) (event_vector a p f) (event_vector a p e)) (filter test (range_with_len 0 e))
     (λ f i. below_long a p (unknowns_at_first a p) (event_vector a p f) (event_vector a p e)) in
     omega (arith, all, filter_less test (range_with_len 0 e), length-range_with_len 0 e, few)
 
-afters_long : (a : Automaton) (p : Pattern) → length p.events ≤ 8 → length (flat_map (rows_of_after a p) (range_with_len 0 (length p.events))) ≤ 8192
+afters_long : (a : Automaton) (p : Pattern) → length p.events ≤ 8 → length (flat_map (rows_of_after a p) (range_with_len 0 (length p.events))) ≤ 65536
 afters_long a p few =
-    let all = flat_long 1024 (rows_of_after a p) (range_with_len 0 (length p.events))
+    let all = flat_long 8192 (rows_of_after a p) (range_with_len 0 (length p.events))
     (λ e i. after_long a p e (let less = (in_numbers e 0 (length p.events) i).1 in omega arith)) in
     omega (arith, all, length-range_with_len 0 (length p.events), few)
 
-ends_long : (a : Automaton) (p : Pattern) (c : Option ℕ) → length p.events ≤ 8 → length (rows_of_end a p c) ≤ 1024
+ends_long : (a : Automaton) (p : Pattern) (c : Option ℕ) → length p.events ≤ 8 → length (rows_of_end a p c) ≤ 8192
 ends_long a p c few =
     let test = is_beside p c in
-    let all = flat_long 128 (λ e. below a p (unknowns_at_first a p) (event_vector a p e) (end_vector a p c)) (filter test (range_with_len 0 (length p.events)))
+    let all = flat_long 1024 (λ e. below a p (unknowns_at_first a p) (event_vector a p e) (end_vector a p c)) (filter test (range_with_len 0 (length p.events)))
     (λ e i. below_long a p (unknowns_at_first a p) (event_vector a p e) (end_vector a p c)) in
     omega (arith, all, filter_less test (range_with_len 0 (length p.events)), length-range_with_len 0 (length p.events), few)
 
 abbrev size : Known → ℕ
 size k = k.unknowns + length k.rows
 
-first_small : (a : Automaton) (p : Pattern) (c : Option ℕ) → length p.events ≤ 8 → size (at_first a p c) ≤ 11000
+first_small : (a : Automaton) (p : Pattern) (c : Option ℕ) → length p.events ≤ 8 → size (at_first a p c) ≤ 84000
 first_small a p c few =
     let one = rows_at_start a p in
     let two = flat_map (rows_of_event a p) (range_with_len 0 (length p.events)) in
@@ -158,7 +158,7 @@ first_small a p c few =
     )
 
 -- ---- what a fact adds
-order_long : (a : Automaton) (p : Pattern) (n : ℕ) (x y : Option Moment) → length (rows_of_order a p n x y) ≤ 128
+order_long : (a : Automaton) (p : Pattern) (n : ℕ) (x y : Option Moment) → length (rows_of_order a p n x y) ≤ 1024
 order_long a p n (Some x) (Some y) = below_long a p n (late x) (early y)
 order_long a p n (Some x) None = omega arith
 order_long a p n None y = omega arith
@@ -167,16 +167,17 @@ four_long : {X : Type 0} (n : ℕ) (ps qs rs ss : List X) → length ps ≤ n �
     → length (ps ++ (qs ++ (rs ++ ss))) ≤ n + n + n + n
 four_long n ps qs rs ss h i j k = omega (arith, length-append ps (qs ++ (rs ++ ss)), length-append qs (rs ++ ss), length-append rs ss, h, i, j, k)
 
-same_long : (a : Automaton) (p : Pattern) (n : ℕ) (x y : Option Moment) → length (rows_of_same a p n x y) ≤ 512
+same_long : (a : Automaton) (p : Pattern) (n : ℕ) (x y : Option Moment) → length (rows_of_same a p n x y) ≤ 4096
 same_long a p n (Some x) (Some y) =
-    let four = four_long 128 (below a p n (early x) (early y)) (below a p n (early y) (early x)) (below a p n (late x) (late y)) (below a p n (late y) (late x))
+    let four = four_long 1024 (below a p n (early x) (early y)) (below a p n (early y) (early x)) (below a p n (late x) (late y))
+    (below a p n (late y) (late x))
     (below_long a p n (early x) (early y)) (below_long a p n (early y) (early x)) (below_long a p n (late x) (late y)) (below_long a p n (late y) (late x))
     in
     omega (arith, four)
 same_long a p n (Some x) None = omega arith
 same_long a p n None y = omega arith
 
-first_use_long : (a : Automaton) (p : Pattern) (end : Vector) (n g : ℕ) → length (rows_of_first a p end n g) ≤ 161
+first_use_long : (a : Automaton) (p : Pattern) (end : Vector) (n g : ℕ) → length (rows_of_first a p end n g) ≤ 1153
 first_use_long a p end n g =
     let v = first_vector a p n g in
     let one = counters_at a p v in
@@ -192,7 +193,7 @@ first_use_long a p end n g =
           (n + length (sparing a p g)) v end,
     )
 
-last_use_long : (a : Automaton) (p : Pattern) (end : Vector) (n g : ℕ) → length (rows_of_last a p end n g) ≤ 324
+last_use_long : (a : Automaton) (p : Pattern) (end : Vector) (n g : ℕ) → length (rows_of_last a p end n g) ≤ 2308
 last_use_long a p end n g =
     let v = before_vector a p end n g in
     let w = after_vector a p end n g in
@@ -224,10 +225,10 @@ last_use_long a p end n g =
       guard_long a p end row,
     )
 
-more_small : (k : Known) (n : ℕ) (ms : List Moment) (rows : List UnknownForm) → n + length rows ≤ 640 → size (with_more k n ms rows) ≤ size k + 640
+more_small : (k : Known) (n : ℕ) (ms : List Moment) (rows : List UnknownForm) → n + length rows ≤ 4400 → size (with_more k n ms rows) ≤ size k + 4400
 more_small k n ms rows h = omega (arith, length-append k.rows rows, h)
 
-fact_small : (a : Automaton) (p : Pattern) (silent : List ℕ) (end : Vector) (k : Known) (fact : Fact) → size (with_fact a p silent end k fact) ≤ size k + 640
+fact_small : (a : Automaton) (p : Pattern) (silent : List ℕ) (end : Vector) (k : Known) (fact : Fact) → size (with_fact a p silent end k fact) ≤ size k + 4400
 fact_small a p silent end k (Never g) = more_small k 0 [] _ (omega (arith, length-map (needing a p g) (λ r. opposite_form (end r)), needing_few a p g))
 fact_small a p silent end k (First g) = more_small k (length (sparing a p g)) (Point (first_vector a p k.unknowns g) ∷ []) (rows_of_first a p end k.unknowns g)
     (omega (arith, sparing_few a p g, first_use_long a p end k.unknowns g))
@@ -244,7 +245,7 @@ fact_small a p silent end k (Fails r g) = more_small k 0 [] _
     (omega (arith, length-map (quiet_at a p silent end (slice_get (guards a) g)) negated_form, quiet_long a p silent end (slice_get (guards a) g)))
 
 known_small : (a : Automaton) (p : Pattern) (silent : List ℕ) (c : Option ℕ) → length p.events ≤ 8 → (past : List Fact)
-    → size (known a p silent c past) ≤ 11000 + length past * 640
+    → size (known a p silent c past) ≤ 84000 + length past * 4400
 unfolding known
 known_small a p silent c few [] = omega (arith, first_small a p c few)
 known_small a p silent c few (fact ∷ past) =
@@ -302,7 +303,7 @@ guard_new g (fact ∷ past) h =
 
 record FewGuards (past : List Fact) : Type 0 where
   pub distinct : Distinct (asked_guards past)
-  pub below : AllByRecursion (λ g. g < 22) (asked_guards past)
+  pub below : AllByRecursion (λ g. g < 80) (asked_guards past)
 
 guards_few : (a : Automaton) (p : Pattern) (asking : Asking) (c : Option ℕ) (past : List Fact) → AreAnswers a p asking c past → FewGuards past
 guards_few a p asking c [] h = record { distinct = tt; below = tt }
@@ -310,7 +311,7 @@ guards_few a p asking c (fact ∷ past) h =
     (let both = with_one (question_of fact) h.0 h.1 (guards_few a p asking c past h.2) in record { distinct = both.0; below = both.1 })
   where
     with_one : (q : Question) → is_open past q ≡ true → Exists a p asking (known a p asking.silent c past) q → FewGuards past
-        → Distinct (guard_in q ++ asked_guards past) × AllByRecursion (λ g. g < 22) (guard_in q ++ asked_guards past)
+        → Distinct (guard_in q ++ asked_guards past) × AllByRecursion (λ g. g < 80) (guard_in q ++ asked_guards past)
     with_one (OfGuard g) unasked exists rest =
         ((guard_new g past unasked, rest.distinct), (omega (arith, exists, a.shape.limits.rise_limit, a.shape.limits.fall_limit), rest.below))
     with_one (OfOrder x y) unasked exists rest = (rest.distinct, rest.below)
@@ -319,20 +320,20 @@ guards_few a p asking c (fact ∷ past) h =
 -- ---- questions, by number
 abbrev code : Question → ℕ
 code (OfGuard g) = g
-code (OfOrder x y) = 22 + (x * 30 + y)
-code (OfStuck r) = 922 + r
+code (OfOrder x y) = 80 + (x * 88 + y)
+code (OfStuck r) = 7824 + r
 
 abbrev Within : Question → Type 0
-Within (OfGuard g) = g < 22
-Within (OfOrder x y) = (x < 30) × (y < 30)
-Within (OfStuck r) = r < 128
+Within (OfGuard g) = g < 80
+Within (OfOrder x y) = (x < 88) × (y < 88)
+Within (OfStuck r) = r < 1024
 
-code_small : (q : Question) → Within q → code q < 1050
+code_small : (q : Question) → Within q → code q < 8848
 code_small (OfGuard g) h = omega (arith, h)
 code_small (OfOrder x y) h = (let one = h.0 in let two = h.1 in omega (arith, one, two))
 code_small (OfStuck r) h = omega (arith, h)
 
-same_order : (x y v w : ℕ) → y < 30 → w < 30 → v * 30 + w ≡ x * 30 + y → (v ≡ x) × (w ≡ y)
+same_order : (x y v w : ℕ) → y < 88 → w < 88 → v * 88 + w ≡ x * 88 + y → (v ≡ x) × (w ≡ y)
 same_order x y v w h k e = (omega (arith, h, k, e), omega (arith, h, k, e))
 
 code_apart : (q r : Question) → Within q → Within r → not (same_question q r) ≡ true → code r ≡ code q → ⊥
@@ -360,7 +361,7 @@ code_new q i (fact ∷ past) h unasked =
     let both = and_parts (not (same_question (question_of fact) q)) (is_open past q) unasked in
     (code_apart (question_of fact) q h.0 i both.0, code_new q i past h.1 both.1)
 
-rule_there : (a : Automaton) (p : Pattern) (r : ℕ) → may_be_stuck p (slice_get a.rules r) ≡ true → r < 128
+rule_there : (a : Automaton) (p : Pattern) (r : ℕ) → may_be_stuck p (slice_get a.rules r) ≡ true → r < 1024
 rule_there a p r h = elim (cases_lt r (length a.rules)) [
   | inl less ↦ omega (arith, less, a.shape.limits.rules_limit)
   | inr past ↦ absurd (false≢true (sym (ap (may_be_stuck p) (slice_get_past a.rules r past)) ∙ h))
@@ -371,7 +372,7 @@ question_within : (a : Automaton) (p : Pattern) (asking : Asking) (c : Option �
 question_within a p asking c past few h (OfGuard g) exists = omega (arith, exists, a.shape.limits.rise_limit, a.shape.limits.fall_limit)
 question_within a p asking c past few h (OfOrder x y) exists =
     let some = guards_few a p asking c past h in
-    let most = distinct_length 22 (asked_guards past) some.distinct some.below in
+    let most = distinct_length 80 (asked_guards past) some.distinct some.below in
     let moments = moments_few a p asking.silent c past in
     let one = exists.0 in
     let two = exists.1 in
@@ -391,7 +392,7 @@ codes_distinct a p asking c (fact ∷ past) few h = (
   codes_distinct a p asking c past few h.2,
 )
 
-codes_small : (past : List Fact) → AllWithin past → AllByRecursion (λ n. n < 1050) (map (λ fact. code (question_of fact)) past)
+codes_small : (past : List Fact) → AllWithin past → AllByRecursion (λ n. n < 8848) (map (λ fact. code (question_of fact)) past)
 codes_small [] h = tt
 codes_small (fact ∷ past) h = (code_small (question_of fact) h.0, codes_small past h.1)
 
@@ -399,7 +400,7 @@ pub stay_small : NodesStaySmall
 stay_small a p over asking node h =
     let few = over.events_limit in
     let codes = map (λ fact. code (question_of fact)) node.past in
-    let count = distinct_length 1050 codes (codes_distinct a p asking node.candidate node.past few h)
+    let count = distinct_length 8848 codes (codes_distinct a p asking node.candidate node.past few h)
     (codes_small node.past (answers_within a p asking node.candidate node.past few h)) in
     let whole = known_small a p asking.silent node.candidate few node.past in
     let rows = (known_at a p asking node).rows in

@@ -43,5 +43,5 @@ start_small a p place = record {
   ];
 }
 
-pub moving_few : (a : Automaton) (p : Pattern) → length (moving_rules a p) ≤ 128
+pub moving_few : (a : Automaton) (p : Pattern) → length (moving_rules a p) ≤ 1024
 moving_few a p = omega (arith, count_few (λ r. is_moving p (slice_get a.rules r)) (length a.rules), a.shape.limits.rules_limit)

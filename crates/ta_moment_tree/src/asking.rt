@@ -17,10 +17,9 @@ use crate::first::comes_after;
 use crate::moment::Moment;
 use crate::plan::is_in;
 use std::alloc::{AllocError, Global};
-use ta_automaton::{Automaton, Pattern};
+use ta_automaton::{Automaton, Pattern, Task};
 use ta_base::List;
 use ta_moments::Question;
-use ta_words::Task;
 
 /// Whether some event comes after one.
 pub fn has_later(pattern: &Pattern, event: usize) -> bool

@@ -64,7 +64,7 @@ pub(crate) fn place_form(plan: &Plan, vector: &[Form], place: u32) -> Result<For
     requires plan { IsPlan plan.now }
     requires vector { SmallVector 3 (vector_of vector.now) }
     ensures value { IfOk result (λ form. form_of form ≡ place_form plan.now.task.automaton.now plan.now.task.pattern.now (vector_of vector.now) place) }
-    ensures small { IfOk result (λ form. SmallBy (17000000000 * 400) (form_of form)) }
+    ensures small { IfOk result (λ form. SmallBy (17000000000 * 3100) (form_of form)) }
 {
     let mut total = start_form(plan, place)?;
     for rule in plan.moving.as_slice() {
@@ -84,7 +84,7 @@ fn product_at(
     requires vector { SmallVector 3 (vector_of vector.now) }
     requires coefficient { unsigned_abs coefficient ≤ LARGEST_NUMBER }
     ensures value { IfOk result (λ form. form_of form ≡ times_form coefficient (place_form plan.now.task.automaton.now plan.now.task.pattern.now (vector_of vector.now) place)) }
-    ensures small { IfOk result (λ form. SmallBy (17000000000 * 400 * LARGEST_NUMBER) (form_of form)) }
+    ensures small { IfOk result (λ form. SmallBy (17000000000 * 3100 * LARGEST_NUMBER) (form_of form)) }
 {
     let value = place_form(plan, vector, place)?;
     let product = times(plan.alloc, coefficient, &value)?;
@@ -103,7 +103,7 @@ pub(crate) fn form_at(
     requires constant { unsigned_abs constant ≤ LARGEST_NUMBER }
     requires terms { SmallTerms terms.now }
     ensures value { IfOk result (λ form. form_of form ≡ plus_form (number_form constant) (terms_form (place_form plan.now.task.automaton.now plan.now.task.pattern.now (vector_of vector.now)) terms.now)) }
-    ensures small { IfOk result (λ form. SmallBy (17000000000 * 400 * LARGEST_NUMBER * 65) (form_of form)) }
+    ensures small { IfOk result (λ form. SmallBy (17000000000 * 3100 * LARGEST_NUMBER * 225) (form_of form)) }
 {
     let mut total = Form::constant_of(plan.alloc, constant);
     for (place, coefficient) in terms {

@@ -10,15 +10,14 @@ ghost use Rattle.ta_automaton.specs.declared.automaton.Automaton.{Automaton};
 ghost use Rattle.ta_moment_tree.specs.Counts.{is_last, is_pair_in};
 
 use crate::{has_guard, is_moving};
-use ta_automaton::{Automaton, Pattern};
-use ta_encode::unknown_count as start_count;
+use ta_automaton::{Automaton, Pattern, Task};
+use ta_encode::start_count;
 use ta_moments::Fact;
-use ta_words::Task;
 
 /// How many rules are moving.
 fn moving_count(automaton: &Automaton, pattern: &Pattern) -> u32
     ensures value { result ≡ length (moving_rules automaton.now pattern.now) }
-    ensures few { result ≤ 128 }
+    ensures few { result ≤ 1024 }
 {
     let mut count = 0;
     for rule in 0..automaton.rules.as_slice().len() {
@@ -32,7 +31,7 @@ fn moving_count(automaton: &Automaton, pattern: &Pattern) -> u32
 /// How many moving rules don't need a guard.
 fn sparing_count(automaton: &Automaton, pattern: &Pattern, guard: u32) -> u32
     ensures value { result ≡ length (sparing automaton.now pattern.now guard) }
-    ensures few { result ≤ 128 }
+    ensures few { result ≤ 1024 }
 {
     let mut count = 0;
     for rule in 0..automaton.rules.as_slice().len() {
@@ -46,9 +45,9 @@ fn sparing_count(automaton: &Automaton, pattern: &Pattern, guard: u32) -> u32
 /// How many unknowns the node without facts has.
 fn first_count(task: Task<'_>) -> u32
     ensures value { result ≡ unknowns_at_first task.entry.automaton.now task.entry.pattern.now }
-    ensures few { result ≤ 1072 }
+    ensures few { result ≤ 8352 }
 {
-    let starts = start_count(task, 0, &[]);
+    let starts = start_count(task.automaton, task.pattern);
     let events = task.pattern.events.as_slice().len() as u32;
     starts + events * moving_count(task.automaton, task.pattern)
 }
@@ -56,7 +55,7 @@ fn first_count(task: Task<'_>) -> u32
 /// How many unknowns a fact adds.
 fn added_count(task: Task<'_>, fact: Fact) -> u32
     ensures value { (silent : List ℕ) (end : Vector) (k : Known) → (with_fact task.entry.automaton.now task.entry.pattern.now silent end k fact).unknowns ≡ k.unknowns + result }
-    ensures few { result ≤ 128 }
+    ensures few { result ≤ 1024 }
 {
     match fact {
         Fact::First(guard) => sparing_count(task.automaton, task.pattern, guard),

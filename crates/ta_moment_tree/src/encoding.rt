@@ -13,8 +13,8 @@ use crate::facts::with_fact;
 use crate::first::first;
 use crate::plan::Plan;
 use std::alloc::{AllocError, Global};
+use ta_automaton::Task;
 use ta_moments::Fact;
-use ta_words::Task;
 
 /// A node of a pattern's tree of questions, without bounds: how many unknowns it has, its moments and
 /// its rows.

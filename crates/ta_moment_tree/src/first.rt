@@ -1,6 +1,6 @@
 //! The node without facts: the start, and a moment for each event.
 //!
-//! The rows at the start are those of an empty schema without its fall guards. The candidate is the
+//! The rows at the start are those of a schema without its fall guards. The candidate is the
 //! event at the end: every event that it does not come after anyway is put below it.
 #![tactic(auto)]
 
@@ -23,25 +23,19 @@ use crate::plan::{Plan, is_in, moving_rules};
 use crate::rows::{push_below, push_counters, push_event};
 use crate::vector::fresh;
 use std::alloc::{AllocError, Global};
-use ta_automaton::Pattern;
+use ta_automaton::{Pattern, Task};
 use ta_base::List;
-use ta_encode::{Encoded, Meaning, encode};
+use ta_encode::{Encoded, Meaning, encode_start};
 use ta_linear::{Form, Row, System};
-use ta_words::{Task, Word};
 
 /// The unknowns and the rows at the start.
 fn start(alloc: Global, task: Task<'_>) -> Result<(List<Meaning>, Vec<Row>), AllocError>
     ensures meanings { IfOk result (λ r. r.0 ≡ start_meanings task.entry.automaton.now task.entry.pattern.now) }
     ensures rows { IfOk result (λ r. forms_of r.1.items ≡ rows_at_start task.entry.automaton.now task.entry.pattern.now) }
 {
-    let guards = task.automaton.fall.as_slice().len();
-    let Encoded { system, meanings } = encode(alloc, task, 0, &Word::new(), &[])?;
+    let Encoded { system, meanings } = encode_start(alloc, task)?;
     let System { unknowns: _, rows } = system;
-    let mut rows = rows.into_vec();
-    let total = rows.as_slice().len();
-    let count = total - guards;
-    rows.truncate(count);
-    Ok((meanings, rows))
+    Ok((meanings, rows.into_vec()))
 }
 
 /// The vector of an event.
@@ -132,7 +126,7 @@ pub(crate) fn comes_after(pattern: &Pattern, event: usize, other: usize) -> bool
 {
     match pattern.events.as_slice().get(event) {
         None => false,
-        Some(event) => is_in(u32::from(event.after), other),
+        Some(event) => is_in(u128::from(event.after), other),
     }
 }
 
@@ -213,7 +207,7 @@ fn unknown_count(plan: &Plan, moments: &[Moment]) -> usize
     requires plan { IsPlan plan.now }
     requires moments { length moments.now ≡ length plan.now.task.pattern.now.events }
     ensures value { result ≡ unknowns_at_first plan.now.task.automaton.now plan.now.task.pattern.now }
-    ensures few { result ≤ 1072 }
+    ensures few { result ≤ 8352 }
 {
     let moving = plan.moving.as_slice();
     let starts = plan.starts.as_slice().len();

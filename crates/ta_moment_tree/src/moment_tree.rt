@@ -10,8 +10,7 @@ ghost use Rattle.ta_moment_tree.specs.Makers.{moment_maker};
 ghost use Rattle.ta_moment_tree.specs.Trees.{IsAt, IsKeptFor, asking_of, search_of_moments};
 ghost use Rattle.ta_moment_tree.specs.declared.kept.MomentKept.{MomentKept};
 
-use ta_automaton::File;
-use ta_words::Task;
+use ta_automaton::{File, Task};
 
 /// The nodes of a pattern's trees of questions, and their systems: a tree for each candidate.
 #[derive(Clone, Copy)]

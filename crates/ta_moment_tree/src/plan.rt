@@ -7,12 +7,11 @@ ghost use Rattle.ta_moments.specs.Facts.{has_guard, is_moving, moving_rules};
 ghost use Rattle.ta_moments.specs.Moments.{guards};
 
 use std::alloc::{AllocError, Global};
-use ta_automaton::{Automaton, Pattern};
+use ta_automaton::{Automaton, Pattern, Task};
 use ta_base::List;
 use ta_base::masks::contains;
 use ta_encode::Meaning;
 use ta_linear::Row;
-use ta_words::Task;
 
 /// A pattern and its automaton, with the moving rules and the unknowns at the start.
 #[derive(Drop)]
@@ -24,10 +23,10 @@ pub(crate) struct Plan<'a> {
 }
 
 /// Whether a number is in a set.
-pub(crate) fn is_in(mask: u32, number: usize) -> bool
+pub(crate) fn is_in(mask: u128, number: usize) -> bool
     ensures { result ≡ has_bit mask number }
 {
-    if number < 32 {
+    if number < 128 {
         contains(mask, number as u32)
     } else {
         false
@@ -74,9 +73,9 @@ pub fn has_guard(automaton: &Automaton, guard: u32, rule: u32) -> bool
         None => false,
         Some(rule) => {
             if guard < rises {
-                is_in(u32::from(rule.rise), guard as usize)
+                is_in(u128::from(rule.rise), guard as usize)
             } else {
-                is_in(u32::from(rule.fall), (guard - rises) as usize)
+                is_in(u128::from(rule.fall), (guard - rises) as usize)
             }
         }
     }

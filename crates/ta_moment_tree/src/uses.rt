@@ -96,9 +96,9 @@ pub(crate) fn push_first_use(
 /// The sum of the forms of some rules, less 1.
 fn less_one(plan: &Plan, step: &[Form], rules: &[u32]) -> Result<Form, AllocError>
     requires step { SmallVector 1 (vector_of step.now) }
-    requires few { length rules.now ≤ 128 }
+    requires few { length rules.now ≤ 1024 }
     ensures value { IfOk result (λ form. form_of form ≡ minus_form (sum_form (vector_of step.now) rules.now) (number_form (pos 1))) }
-    ensures small { IfOk result (λ form. SmallBy 129 (form_of form)) }
+    ensures small { IfOk result (λ form. SmallBy 1025 (form_of form)) }
 {
     let one = Form::constant_of(plan.alloc, 1);
     let mut total = Form::constant_of(plan.alloc, 0);
@@ -117,7 +117,7 @@ fn push_one_step(
     rows: &mut Vec<Row>,
 ) -> Result<(), AllocError>
     requires step { SmallVector 1 (vector_of step.now) }
-    requires few { length rules.now ≤ 128 }
+    requires few { length rules.now ≤ 1024 }
     ensures { OnOk result (AddsForms (minus_form (sum_form (vector_of step.now) rules.now) (number_form (pos 1)) ∷ opposite_form (minus_form (sum_form (vector_of step.now) rules.now) (number_form (pos 1))) ∷ []) rows.old.items rows.new.items) }
 {
     let steps = less_one(plan, step, rules)?;
@@ -141,7 +141,7 @@ fn push_last_rows(
     requires before { SmallVector 2 (vector_of vectors.now.before.items) }
     requires step { SmallVector 1 (vector_of vectors.now.step.items) }
     requires after { SmallVector 3 (vector_of vectors.now.after.items) }
-    requires few { length rules.now ≤ 128 }
+    requires few { length rules.now ≤ 1024 }
     ensures { (n : ℕ) → ((r : ℕ) → Speaks n (vector_of vectors.now.after.items r)) → ((r : ℕ) → Speaks n (vector_of end.now r)) → OnOk result (AddsForms (
         last_rows plan.now.task.automaton.now plan.now.task.pattern.now n (vector_of end.now) (vector_of vectors.now.before.items) (vector_of vectors.now.step.items) (vector_of vectors.now.after.items) guard rules.now) rows.old.items rows.new.items) }
 {
@@ -170,7 +170,7 @@ fn step_vectors(
     requires few { unknowns < 2 ^ 31 }
     requires others { AllByRecursion (λ r. r < length plan.now.task.automaton.now.rules) others.now }
     requires chosen { AllByRecursion (λ r. r < length plan.now.task.automaton.now.rules) chosen.now }
-    requires counts { (length others.now ≤ 128) × (length chosen.now ≤ 128) }
+    requires counts { (length others.now ≤ 1024) × (length chosen.now ≤ 1024) }
     requires length { length end.now ≤ length plan.now.task.automaton.now.rules }
     requires end { SmallVector 1 (vector_of end.now) }
     ensures step { IfOk result (λ vectors. vector_of vectors.step.items ≡ fresh (unknowns + length others.now) chosen.now nothing_fired) }

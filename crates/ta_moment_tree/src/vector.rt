@@ -133,7 +133,7 @@ pub(crate) fn fresh(
     above: &[Form],
     beneath: &[Form],
 ) -> Result<Vec<Form>, AllocError>
-    requires count { count ≤ 128 }
+    requires count { count ≤ 1024 }
     requires numbers { first + length rules.now < 2 ^ 32 }
     requires rules { AllByRecursion (λ r. r < count) rules.now }
     requires above { SmallVector 3 (vector_of above.now) }
@@ -153,7 +153,7 @@ pub(crate) fn fresh(
 /// The sum of two vectors of the same rules.
 pub(crate) fn sums(alloc: Global, left: &[Form], right: &[Form]) -> Result<Vec<Form>, AllocError>
     requires lengths { length left.now ≡ length right.now }
-    requires few { length left.now ≤ 128 }
+    requires few { length left.now ≤ 1024 }
     requires left { SmallVector 3 (vector_of left.now) }
     requires right { SmallVector 3 (vector_of right.now) }
     ensures value { IfOk result (λ forms. vector_of forms.items ≡ (λ r. plus_form (vector_of left.now r) (vector_of right.now r))) }

@@ -235,7 +235,7 @@ fn is_in_order(pattern: &Pattern, marks: u8, event: u32) -> bool
     ensures { IsTrue result ↔ InOrder pattern.now (IsBitSet marks) event }
 {
     let after = pattern.events.as_slice()[event as usize].after;
-    !contains(u32::from(marks), event) && has_all(marks, after)
+    !contains(u128::from(marks), event) && has_all(marks, after)
 }
 
 /// The first event without a mark.
@@ -245,7 +245,7 @@ fn first_unmarked(pattern: &Pattern, marks: u8) -> Option<u32>
     ensures none { IfNone result ((e : ℕ) → e < length pattern.now.events → IsBitSet marks e) }
 {
     for event in 0..pattern.events.as_slice().len() as u32 {
-        if !contains(u32::from(marks), event) {
+        if !contains(u128::from(marks), event) {
             return Some(event);
         }
     }
@@ -278,7 +278,7 @@ fn has_all(mask: u8, part: u8) -> bool
     ensures { IsTrue result ↔ ((f : ℕ) → IsBitSet part f → IsBitSet mask f) }
 {
     for number in 0..8 {
-        if contains(u32::from(part), number) && !contains(u32::from(mask), number) {
+        if contains(u128::from(part), number) && !contains(u128::from(mask), number) {
             return false;
         }
     }

@@ -223,7 +223,7 @@ abbrev PatternOf : Automaton → Pattern → Type 0
 PatternOf a p = PatternWithin (places a) (length a.locations) p
 
 empty_fits : (a : Automaton) (p : Pattern) → PatternOf a p → MaskFits p.empty
-empty_fits a p is = (length a.locations, a.shape.limits.locations_limit, is.empty)
+empty_fits a p is = let few = a.shape.limits.locations_limit in (length a.locations, omega arith, is.empty)
 
 all_counted : (a : Automaton) → places a ≤ count a
 all_counted a = omega (arith, count_is a)

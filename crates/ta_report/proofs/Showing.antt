@@ -1,6 +1,6 @@
 -- Texts written piece by piece.
-use Rattle.std.proofs.Common.{ℕ, ℤ, suc, unsigned_abs, ◌==◌, [], decimal, ◌≡◌, ◌<◌, ◌+◌, ◌-◌, ◌∙◌, List, ◌∷◌, ◌++◌, Bool, true, false, cond, ap, sym, arith}
-use Rattle.std.proofs.Common.{append_assoc}
+use Rattle.std.proofs.Common.{ℕ, ℤ, suc, unsigned_abs, ◌==◌, [], decimal, ◌≡◌, ◌<◌, ◌≤◌, ◌+◌, ◌-◌, ◌∙◌, List, ◌∷◌, ◌++◌, Bool, true, false, cond, ap, sym}
+use Rattle.std.proofs.Common.{append-nil, append_assoc, arith}
 use Rattle.std.specs.Prelude.{filter}
 use Rattle.std.specs.List.{range_with_len}
 use Rattle.ta_base.specs.Masks.{has_bit}
@@ -11,24 +11,24 @@ use Rattle.ta_report.specs.Show.{amount_text, each, many, mask_number, place_nam
 
 -- the numbers of a mask from one on
 abbrev pub left_of : ℕ → ℕ → List ℕ
-left_of mask n = filter (has_bit mask) (range_with_len n (32 - n))
+left_of mask n = filter (has_bit mask) (range_with_len n (128 - n))
 
 range_next : (n k m : ℕ) → k ≡ suc m → range_with_len n k ≡ n ∷ range_with_len (n + 1) m
 range_next n k m e = ap (range_with_len n) e
 
-left_next : (mask n : ℕ) (b : Bool) → n < 32 → has_bit mask n ≡ b → left_of mask n ≡ cond b (n ∷ left_of mask (n + 1)) (left_of mask (n + 1))
+left_next : (mask n : ℕ) (b : Bool) → n < 128 → has_bit mask n ≡ b → left_of mask n ≡ cond b (n ∷ left_of mask (n + 1)) (left_of mask (n + 1))
 left_next mask n b within is =
-    ap (filter (has_bit mask)) (range_next n (32 - n) (32 - (n + 1)) (omega arith))
+    ap (filter (has_bit mask)) (range_next n (128 - n) (128 - (n + 1)) (omega arith))
     ∙ ap (λ t. cond t (n ∷ left_of mask (n + 1)) (left_of mask (n + 1))) is
 
 -- a number of a mask is written, or isn't in it
-pub set_next : (mask n : ℕ) (old new all : List ℕ) → n < 32 → has_bit mask n ≡ true → new ≡ old ++ mask_number n → old
+pub set_next : (mask n : ℕ) (old new all : List ℕ) → n < 128 → has_bit mask n ≡ true → new ≡ old ++ mask_number n → old
     ++ each mask_number (left_of mask n) ≡ all → new ++ each mask_number (left_of mask (n + 1)) ≡ all
 set_next mask n old new all within is written so_far =
     piece_written old new (mask_number n) (each mask_number (left_of mask n)) (each mask_number (left_of mask (n + 1))) all written
     (ap (each mask_number) (left_next mask n true within is)) so_far
 
-pub unset_next : (mask n : ℕ) (old new all : List ℕ) → n < 32 → has_bit mask n ≡ false → new ≡ old → old ++ each mask_number (left_of mask n) ≡ all → new
+pub unset_next : (mask n : ℕ) (old new all : List ℕ) → n < 128 → has_bit mask n ≡ false → new ≡ old → old ++ each mask_number (left_of mask n) ≡ all → new
     ++ each mask_number (left_of mask (n + 1)) ≡ all
 unset_next mask n old new all within is same so_far =
     ap (λ xs. xs ++ each mask_number (left_of mask (n + 1))) same ∙ ap (λ (ns : List ℕ). old ++ each mask_number ns) (sym (left_next mask n false within is))
@@ -50,3 +50,9 @@ amount_written a t size name old new named sized other written =
     ∙ ap (λ (p : List ℕ). old ++ (decimal n ++ (42 ∷ (p ++ (32 ∷ []))))) named
     ∙ ap (λ xs. old ++ xs) (sym (append_assoc (decimal n) (42 ∷ []) (place ++ (32 ∷ []))))
     ∙ ap (λ (b : Bool). old ++ (many b n ++ (place ++ (32 ∷ [])))) (sym more)
+
+-- past the last number nothing is left
+pub none_left : (mask n : ℕ) (written all : List ℕ) → 128 ≤ n → written ++ each mask_number (left_of mask n) ≡ all → written ≡ all
+none_left mask n written all past e =
+    let none : 128 - n ≡ 0 = omega arith in
+    sym (append-nil written) ∙ ap (λ (k : ℕ). written ++ each mask_number (filter (has_bit mask) (range_with_len n k))) (sym none) ∙ e

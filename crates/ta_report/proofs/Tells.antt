@@ -104,7 +104,7 @@ stop : (t : ℕ) (xs r : List ℕ) → is_ascii_digit t ≡ false → BeginsNoDi
 stop t [] r free = free
 stop t (x ∷ xs) r free = refl
 
-numbers_same : (t : ℕ) (xs ys r s : List ℕ) → is_ascii_digit t ≡ false → (t ≡ 32 → ⊥) → AllByRecursion (λ x. x < 32) xs → AllByRecursion (λ x. x < 32) ys
+numbers_same : (t : ℕ) (xs ys r s : List ℕ) → is_ascii_digit t ≡ false → (t ≡ 32 → ⊥) → AllByRecursion (λ x. x < 128) xs → AllByRecursion (λ x. x < 128) ys
     → each mask_number xs ++ (t ∷ r) ≡ each mask_number ys ++ (t ∷ s) → (xs ≡ ys) × (r ≡ s)
 numbers_same t [] [] r s free other p q e = (refl, tails t t r s e)
 numbers_same t [] (y ∷ ys) r s free other p q e = absurd (other (heads t 32 r ((decimal y ++ each mask_number ys) ++ (t ∷ s)) e))
@@ -112,43 +112,44 @@ numbers_same t (x ∷ xs) [] r s free other p q e = absurd (other (sym (heads 32
 numbers_same t (x ∷ xs) (y ∷ ys) r s free other p q e =
     let a : List ℕ = each mask_number xs ++ (t ∷ r) in
     let b : List ℕ = each mask_number ys ++ (t ∷ s) in
-    let low : x < 32 = p.0 in
-    let high : y < 32 = q.0 in
+    let low : x < 128 = p.0 in
+    let high : y < 128 = q.0 in
     let tail = tails 32 32 ((decimal x ++ each mask_number xs) ++ (t ∷ r)) ((decimal y ++ each mask_number ys) ++ (t ∷ s)) e in
     let parts = number_unique x y a b (omega arith) (omega arith) (stop t xs r free) (stop t ys s free)
     (sym (append_assoc (decimal x) (each mask_number xs) (t ∷ r)) ∙ tail ∙ append_assoc (decimal y) (each mask_number ys) (t ∷ s)) in
     let rest = numbers_same t xs ys r s free other p.1 q.1 parts.1 in
     ((λ i. parts.0 i ∷ rest.0 i), rest.1)
 
-kept_below : (b : Bool) (x : ℕ) (xs : List ℕ) → x < 32 → AllByRecursion (λ y. y < 32) xs → AllByRecursion (λ y. y < 32) (cond b (x ∷ xs) xs)
+kept_below : (b : Bool) (x : ℕ) (xs : List ℕ) → x < 128 → AllByRecursion (λ y. y < 128) xs → AllByRecursion (λ y. y < 128) (cond b (x ∷ xs) xs)
 kept_below true x xs low each = (low, each)
 kept_below false x xs low each = each
 
-below : (test : ℕ → Bool) (k n : ℕ) → k + n ≤ 32 → AllByRecursion (λ x. x < 32) (filter test (range_with_len k n))
+below : (test : ℕ → Bool) (k n : ℕ) → k + n ≤ 128 → AllByRecursion (λ x. x < 128) (filter test (range_with_len k n))
 below test k zero within = tt
 below test k (suc n) within = kept_below (test k) k (filter test (range_with_len (k + 1) n)) (omega arith) (below test (k + 1) n (omega arith))
 
-in_range : (i : ℕ) → i < 32 → In i (range_with_len 0 32)
+in_range : (i : ℕ) → i < 128 → In i (range_with_len 0 128)
 in_range i low =
-    let at : get_or (range_with_len 0 32) i 0 ≡ i = omega (arith, get_or-range_with_len 0 32 i 0 low) in
-    subst (λ x. In x (range_with_len 0 32)) at (in_get_or (range_with_len 0 32) i 0 (omega (arith, length-range_with_len 0 32)))
+    let at : get_or (range_with_len 0 128) i 0 ≡ i = omega (arith, get_or-range_with_len 0 128 i 0 low) in
+    subst (λ x. In x (range_with_len 0 128)) at (in_get_or (range_with_len 0 128) i 0 (omega (arith, length-range_with_len 0 128)))
 
 same_bools : (b c : Bool) → (b ≡ true → c ≡ true) → (c ≡ true → b ≡ true) → b ≡ c
 same_bools true c there back = sym (there refl)
 same_bools false true there back = back refl
 same_bools false false there back = refl
 
--- a mask of numbers below 32
+-- a mask of numbers below 128
 abbrev pub MaskFits : ℕ → Type 0
-MaskFits m = (k : ℕ) × (k ≤ 32) × (m < 2 ^ k)
+MaskFits m = (k : ℕ) × (k ≤ 128) × (m < 2 ^ k)
 
-bit_there : (m n i : ℕ) → filter (has_bit m) (range_with_len 0 32) ≡ filter (has_bit n) (range_with_len 0 32) → i < 32 → has_bit m i ≡ true → has_bit n i ≡ true
-bit_there m n i e low bit = (in_filter (has_bit n) i (range_with_len 0 32)
-    (subst (λ xs. In i xs) e (In-filter (has_bit m) i (range_with_len 0 32) bit (in_range i low)))).0
+bit_there : (m n i : ℕ) → filter (has_bit m) (range_with_len 0 128) ≡ filter (has_bit n) (range_with_len 0 128) → i < 128 → has_bit m i ≡ true
+    → has_bit n i ≡ true
+bit_there m n i e low bit = (in_filter (has_bit n) i (range_with_len 0 128)
+    (subst (λ xs. In i xs) e (In-filter (has_bit m) i (range_with_len 0 128) bit (in_range i low)))).0
 
-bits_same : (m n : ℕ) → MaskFits m → MaskFits n → filter (has_bit m) (range_with_len 0 32) ≡ filter (has_bit n) (range_with_len 0 32) → (i : ℕ)
+bits_same : (m n : ℕ) → MaskFits m → MaskFits n → filter (has_bit m) (range_with_len 0 128) ≡ filter (has_bit n) (range_with_len 0 128) → (i : ℕ)
     → has_bit m i ≡ has_bit n i
-bits_same m n p q e i = elim (cases_lt i 32) [
+bits_same m n p q e i = elim (cases_lt i 128) [
   | inl low ↦ same_bools (has_bit m i) (has_bit n i) (bit_there m n i e low) (bit_there n m i (sym e) low)
   | inr high ↦ has_above m p.0 i p.2 (omega (arith, p.1)) ∙ sym (has_above n q.0 i q.2 (omega (arith, q.1)))
 ]
@@ -156,6 +157,6 @@ bits_same m n p q e i = elim (cases_lt i 32) [
 pub mask_same : (t m n : ℕ) (r s : List ℕ) → is_ascii_digit t ≡ false → (t ≡ 32 → ⊥) → MaskFits m → MaskFits n → mask_text m ++ (t ∷ r) ≡ mask_text n ++ (t ∷ s)
     → (m ≡ n) × (r ≡ s)
 mask_same t m n r s free other p q e =
-    let parts = numbers_same t (filter (has_bit m) (range_with_len 0 32)) (filter (has_bit n) (range_with_len 0 32)) r s free other
-    (below (has_bit m) 0 32 (omega arith)) (below (has_bit n) 0 32 (omega arith)) e in
+    let parts = numbers_same t (filter (has_bit m) (range_with_len 0 128)) (filter (has_bit n) (range_with_len 0 128)) r s free other
+    (below (has_bit m) 0 128 (omega arith)) (below (has_bit n) 0 128 (omega arith)) e in
     (same_mask m n (bits_same m n p q parts.0), parts.1)

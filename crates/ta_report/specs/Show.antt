@@ -41,7 +41,7 @@ abbrev pub mask_number : ℕ → List ℕ
 mask_number k = 32 ∷ decimal k
 
 abbrev pub mask_text : ℕ → List ℕ
-mask_text mask = each mask_number (filter (has_bit mask) (range_with_len 0 32))
+mask_text mask = each mask_number (filter (has_bit mask) (range_with_len 0 128))
 
 -- a name on its line
 abbrev pub name_text : List ℕ → List ℕ

@@ -169,10 +169,10 @@ pub fn show_sum(form: &Form, automaton: &Automaton, text: &mut String) -> Result
 }
 
 /// Writes the numbers of a mask.
-pub fn show_mask(mask: u32, text: &mut String) -> Result<(), AllocError>
+pub fn show_mask(mask: u128, text: &mut String) -> Result<(), AllocError>
     ensures { OnOk result (string_bytes text.new ≡ string_bytes text.old ++ mask_text mask) }
 {
-    for number in 0..32_u32 {
+    for number in 0..128_u32 {
         if contains(mask, number) {
             write!(text, " {}", number)?;
         }

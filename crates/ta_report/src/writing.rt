@@ -112,9 +112,9 @@ impl Shown for Rule {
 
     fn show(&self, automaton: &Automaton, text: &mut String) -> Result<(), AllocError> {
         show_way(self, automaton, text)?;
-        show_mask(u32::from(self.rise), text)?;
+        show_mask(u128::from(self.rise), text)?;
         text.push_str(", fall")?;
-        show_mask(u32::from(self.fall), text)?;
+        show_mask(u128::from(self.fall), text)?;
         text.push_str("\n")?;
         show_listed("updates ", &self.updates, automaton, text)?;
         Ok(())
@@ -126,7 +126,7 @@ impl Shown for Event {
 
     fn show(&self, automaton: &Automaton, text: &mut String) -> Result<(), AllocError> {
         write!(text, "{} after", self.name.as_str())?;
-        show_mask(u32::from(self.after), text)?;
+        show_mask(u128::from(self.after), text)?;
         text.push_str("\n")?;
         show_condition("holds ", &self.condition, automaton, text)?;
         Ok(())

@@ -1,4 +1,5 @@
 -- the words of a claim, whichever claim it is
+use Rattle.ta_automaton.specs.Narrow.{IsNarrow}
 use Rattle.ta_rest.proofs.ClaimCommon.{◌≡◌, ℕ, ◌^◌, ◌≤◌, List, [], length, slice_get, Some, arith, refl, Automaton, File, Pattern, Element, LegalWord}
 use Rattle.ta_rest.proofs.ClaimCommon.{is_complete, Comes, Pending, IsSmall, System, PatternOver, SystemAt, all_starts, meanings, few_rows, few_unknowns}
 use Rattle.ta_rest.proofs.ClaimCommon.{small_of, search_for, Claim, Safe, RestSafe, ap, sym, Bool, true, false, pattern_search, rest_search, children, ◌∷◌}
@@ -47,17 +48,18 @@ pub claim_legal : (claim : Claim) (a : Automaton) (p : Pattern) (pairs : List (�
 claim_legal Safe a p pairs start past c = (comes_legal a p pairs start past c).legal
 claim_legal RestSafe a p pairs start past c = (comes_legal a p [] start past (rest_comes a p start past c)).legal
 
-rows_few : (claim : Claim) (a : Automaton) (p : Pattern) (pairs : List (ℕ × ℕ)) (start : ℕ) (past : List Element) → PatternOver a p → LegalWord a p start past
+rows_few : (claim : Claim) (a : Automaton) → IsNarrow a → (p : Pattern) (pairs : List (ℕ × ℕ)) (start : ℕ) (past : List Element) → PatternOver a p
+    → LegalWord a p start past
     → length ((search_for claim a p pairs).rows start past) ≤ 2640
-rows_few Safe a p pairs start past over legal = omega (arith, few_rows a p start past over legal)
-rows_few RestSafe a p pairs start past over legal = rest_few a p start past over legal
+rows_few Safe a narrow p pairs start past over legal = omega (arith, few_rows a narrow p start past over legal)
+rows_few RestSafe a narrow p pairs start past over legal = rest_few a narrow p start past over legal
 
 -- its system has few unknowns and rows
-pub claim_small : (claim : Claim) (a : Automaton) (p : Pattern) (pairs : List (ℕ × ℕ)) (w : Pending Element) (s : System) → PatternOver a p
+pub claim_small : (claim : Claim) (a : Automaton) → IsNarrow a → (p : Pattern) (pairs : List (ℕ × ℕ)) (w : Pending Element) (s : System) → PatternOver a p
     → LegalWord a p w.start w.past → SystemAt (search_for claim a p pairs) w s → IsSmall w.bounds s
-claim_small claim a p pairs w s over legal is =
-    small_of (search_for claim a p pairs) w s (omega (arith, claim_unknowns claim a p pairs w.start w.past, few_unknowns a p w.start w.past over legal))
-    (rows_few claim a p pairs w.start w.past over legal) is
+claim_small claim a narrow p pairs w s over legal is =
+    small_of (search_for claim a p pairs) w s (omega (arith, claim_unknowns claim a p pairs w.start w.past, few_unknowns a narrow p w.start w.past over legal))
+    (rows_few claim a narrow p pairs w.start w.past over legal) is
 
 -- each word of a pattern of a file, with few enough unknowns, has a system
 pub claim_system : (claim : Claim) (file : File) (number : ℕ) (p : Pattern) (pairs : List (ℕ × ℕ)) (w : Pending Element)

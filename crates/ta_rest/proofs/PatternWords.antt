@@ -1,4 +1,5 @@
 -- the words of a pattern
+use Rattle.ta_automaton.specs.Narrow.{IsNarrow}
 use Rattle.ta_rest.proofs.ClaimCommon.{◌≡◌, inl, inr, ℕ, zero, suc, ◌+◌, ◌-◌, ◌^◌, ◌<◌, ◌≤◌, List, [], ◌∷◌, ◌++◌, length, map, slice_get, Some, None, arith}
 use Rattle.ta_rest.proofs.ClaimCommon.{sym, ap, ◌∙◌, refl, subst, length-append, lit<, filter, slice_get-map, slice_get_within, In, range_with_len, numbers_end}
 use Rattle.ta_rest.proofs.ClaimCommon.{slice_numbers, Automaton, Pattern, Element, Event, Rise, Fall, LegalWord, LegalUnder, children, is_complete, is_ready}
@@ -10,27 +11,28 @@ use Rattle.ta_encode.proofs.Prefixes.{prefix_fewer}
 use Rattle.ta_base.proofs.Lists.{unless_most}
 
 -- a word has few children
-children_most : (a : Automaton) (p : Pattern) (pairs : List (ℕ × ℕ)) (start : ℕ) (past : List Element) → PatternOver a p
+children_most : (a : Automaton) → IsNarrow a → (p : Pattern) (pairs : List (ℕ × ℕ)) (start : ℕ) (past : List Element) → PatternOver a p
     → length (children a p pairs start past) ≤ 87
 unfolding children
-children_most a p pairs start past over =
+children_most a narrow p pairs start past over =
     let events = map Event (filter (is_ready p past) (range_with_len 0 (length p.events))) in
     let rises = map Rise (filter (may_rise pairs past) (range_with_len 0 (length a.rise))) in
     let falls = map Fall (filter (is_standing a start past) (range_with_len 1 (2 ^ length a.fall - 1))) in
     let two : 0 < 2 = omega arith in
-    let power : 2 ^ length a.fall ≤ 2 ^ 6 = pow-le-pow_right two a.shape.limits.fall_limit in
+    let power : 2 ^ length a.fall ≤ 2 ^ 6 = pow-le-pow_right two narrow.fall in
     let first = passed_length Event (is_ready p past) 0 (length p.events) in
     let second = passed_length Rise (may_rise pairs past) 0 (length a.rise) in
     let third = passed_length Fall (is_standing a start past) 1 (2 ^ length a.fall - 1) in
     let most : length events ≤ 8 = omega (arith, over.events_limit) in
-    let more : length rises ≤ 16 = omega (arith, a.shape.limits.rise_limit) in
+    let more : length rises ≤ 16 = omega (arith, narrow.rise) in
     let last : length falls ≤ 63 = omega arith in
     unless_most (is_complete p past) (events ++ (rises ++ falls)) 87 (omega (arith, length-append events (rises ++ falls), length-append rises falls))
 
 -- the number of a child is small
-child_below : (a : Automaton) (p : Pattern) (pairs : List (ℕ × ℕ)) (start : ℕ) (past : List Element) (k : ℕ) (e : Element) → PatternOver a p
+child_below : (a : Automaton) → IsNarrow a → (p : Pattern) (pairs : List (ℕ × ℕ)) (start : ℕ) (past : List Element) (k : ℕ) (e : Element) → PatternOver a p
     → slice_get (children a p pairs start past) k ≡ Some e → k < 87
-child_below a p pairs start past k e over at = omega (arith, children_most a p pairs start past over, slice_get_within (children a p pairs start past) k e at)
+child_below a narrow p pairs start past k e over at = omega
+    (arith, children_most a narrow p pairs start past over, slice_get_within (children a p pairs start past) k e at)
 
 -- the word of a start set, by its number
 pub start_at : (a : Automaton) (number : ℕ) → number < 2 ^ length a.fall → slice_get (all_starts a) number ≡ Some (empty_word number)
@@ -82,11 +84,12 @@ comes_legal a p pairs start (e ∷ past) (inr c) =
     record { start_is = before.start_is; under = (child, before.under); legal = (under_none a p pairs start past e child, before.legal) }
 
 -- the child of a number answers what a word asks
-pub child_answers : (a : Automaton) (p : Pattern) (pairs : List (ℕ × ℕ)) (start : ℕ) (past : List Element) (k : ℕ) (r : Option Element) → PatternOver a p
+pub child_answers : (a : Automaton) → IsNarrow a → (p : Pattern) (pairs : List (ℕ × ℕ)) (start : ℕ) (past : List Element) (k : ℕ) (r : Option Element)
+    → PatternOver a p
     → r ≡ slice_get (children a p pairs start past) k → AnswerIs (pattern_search a p pairs) start past Extend k r
-child_answers a p pairs start past k None over is = ap (λ (es : List Element). slice_get es k) (children_answer a p pairs start past) ∙ sym is
-child_answers a p pairs start past k (Some e) over is =
-    let few = child_below a p pairs start past k e over (sym is) in
+child_answers a narrow p pairs start past k None over is = ap (λ (es : List Element). slice_get es k) (children_answer a p pairs start past) ∙ sym is
+child_answers a narrow p pairs start past k (Some e) over is =
+    let few = child_below a narrow p pairs start past k e over (sym is) in
     let large : 87 < 2 ^ 31 = lit< tt in
     record {
       is = ap (λ (es : List Element). slice_get es k) (children_answer a p pairs start past) ∙ sym is;

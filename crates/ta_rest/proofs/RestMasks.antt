@@ -10,11 +10,11 @@ unlocked a start past rule =
     && all_below (length a.fall) (λ j. implies (has_bit rule.fall j) (not (has_fallen start past j)))
 
 -- a rule that leads out of its source
-pub out_of : (a : Automaton) (start : ℕ) (past : List Element) (rule : Rule) (mask l : ℕ) → rule.from < 32 → (rule.from == rule.to) ≡ false
+pub out_of : (a : Automaton) (start : ℕ) (past : List Element) (rule : Rule) (mask l : ℕ) → rule.from < 128 → (rule.from == rule.to) ≡ false
     → unlocked a start past rule ≡ true
-    → has_bit (bit_or mask ((1 * 2 ^ rule.from) % 2 ^ 32)) l ≡ (leads_out a start past l (Some rule) || has_bit mask l)
+    → has_bit (bit_or mask ((1 * 2 ^ rule.from) % 2 ^ 128)) l ≡ (leads_out a start past l (Some rule) || has_bit mask l)
 out_of a start past rule mask l small apart holds =
-    with_bit 32 mask rule.from l small
+    with_bit 128 mask rule.from l small
     ∙ ap (λ (b : Bool). b || has_bit mask l)
     (sym (and_right (rule.from == l) (not (rule.from == rule.to) && unlocked a start past rule)
     (ap (λ (b : Bool). not b && unlocked a start past rule) apart ∙ holds)))

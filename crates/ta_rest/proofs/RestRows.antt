@@ -1,4 +1,5 @@
 -- words of rest are words under no pairs, and the rows of their ends
+use Rattle.ta_automaton.specs.Narrow.{IsNarrow}
 use Rattle.ta_rest.proofs.ClaimCommon.{◌≡◌, inl, inr, ℕ, ◌≤◌, List, [], ◌∷◌, ◌++◌, length, map, cond, Bool, true, false, not, Option, Some, None, arith, sym}
 use Rattle.ta_rest.proofs.ClaimCommon.{ap, ◌∙◌, subst, length-append, filter, Automaton, Pattern, has_bit, range_with_len, Element, LegalWord, has_rise}
 use Rattle.ta_rest.proofs.ClaimCommon.{is_complete, pattern_search, Comes, Pending, Extend, AnswerIs, end_rows, must_be_left, rest_rows, rest_search, count_few}
@@ -49,15 +50,15 @@ rest_system a p w end s is ended = record {
       (ended_are a p w.start w.past end is) ended.rows;
 }
 
-end_few : (a : Automaton) (p : Pattern) (start : ℕ) (past : List Element) → length (end_rows a p start past) ≤ 48
+end_few : (a : Automaton) → IsNarrow a → (p : Pattern) (start : ℕ) (past : List Element) → length (end_rows a p start past) ≤ 48
 unfolding end_rows
-end_few a p start past =
+end_few a narrow p start past =
     let ms = meanings a p start past in
     let guards = guard_rows a ms (λ i. not (has_rise past i)) 0 a.rise in
     let places = filter (must_be_left a p start past) (range_with_len 0 (length a.locations)) in
     let row : ℕ → LinearRow = λ l. opposite (counter_row a ms l) in
-    let rises = a.shape.limits.rise_limit in
-    let locations = a.shape.limits.locations_limit in
+    let rises = narrow.rise in
+    let locations = narrow.locations in
     omega (
       arith,
       length-append (map negated guards) (map row places),
@@ -72,15 +73,15 @@ either_few true rows h = h
 either_few false rows h = omega arith
 
 -- its rows, but for the bounds
-pub rest_few : (a : Automaton) (p : Pattern) (start : ℕ) (past : List Element) → PatternOver a p → LegalWord a p start past
+pub rest_few : (a : Automaton) → IsNarrow a → (p : Pattern) (start : ℕ) (past : List Element) → PatternOver a p → LegalWord a p start past
     → length (rest_rows a p start past) ≤ 2640
 unfolding rest_rows
-rest_few a p start past over legal =
+rest_few a narrow p start past over legal =
     let ends = cond (is_complete p past) (end_rows a p start past) [] in
     omega (
       arith,
       length-append (word_rows a p start past) ends,
-      few_rows a p start past over legal,
+      few_rows a narrow p start past over legal,
       either_few (is_complete p past) (end_rows a p start past)
-          (end_few a p start past),
+          (end_few a narrow p start past),
     )

@@ -5,12 +5,12 @@ ghost use Rattle.std.specs.Prelude.{◌≡◌, reverse, slice_get};
 ghost use Rattle.ta_words.specs.Words.{children};
 
 use ta_implied::Orders;
-use ta_words::{Element, Task, children};
+use ta_words::{Element, NarrowTask, children};
 
 /// The element that may follow others under pairs of rise guards and has a number, from 0, among
 /// those that may.
 pub(crate) fn child(
-    task: Task<'_>,
+    task: NarrowTask<'_>,
     start_mask: u8,
     orders: &Orders,
     elements: &[Element],

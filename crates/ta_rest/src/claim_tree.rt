@@ -3,7 +3,7 @@
 
 use crate::claim::Claim;
 use ta_implied::Orders;
-use ta_words::Task;
+use ta_words::NarrowTask;
 
 /// The words that are refuted for a claim on a pattern, and their systems: the pattern's words under
 /// pairs of rise guards, or its words of rest, which are under none.
@@ -12,6 +12,6 @@ pub struct ClaimTree<'a> {
     pub(crate) claim: Claim,
     /// The pattern's number, from 0, in its file.
     pub number: u32,
-    pub(crate) task: Task<'a>,
+    pub(crate) task: NarrowTask<'a>,
     pub(crate) orders: &'a Orders,
 }

@@ -24,7 +24,7 @@ use ta_automaton::File;
 use ta_encode::{Ask, Bound, Encoding, Grown, Tree, Written, unknown_count};
 use ta_implied::Orders;
 use ta_linear::System;
-use ta_words::{Element, Task, is_complete};
+use ta_words::{Element, NarrowTask, is_complete};
 
 impl<'a> ClaimTree<'a> {
     /// The tree of a claim on the pattern of this number, from 0, under pairs of rise guards. Words of
@@ -35,7 +35,7 @@ impl<'a> ClaimTree<'a> {
         ensures search { OfPattern file.now number (λ p. search_of_claim result ≡ search_for claim file.now.automaton p orders.now) }
         ensures kept { OfPattern file.now number (λ p. (kept : Encoding) → IsKeptFor result kept ↔ IsEncoding file.now.automaton p kept) }
     {
-        let task = Task::of(file, number);
+        let task = NarrowTask::of(file, number);
         ClaimTree {
             claim,
             number,

@@ -83,11 +83,11 @@ fn rest_event(alloc: Global) -> Result<Event, AllocError>
 }
 
 /// The mask of the patterns that have no events: bit k for pattern k.
-pub fn without_events(patterns: &[Pattern]) -> u16
-    requires { length patterns.now ≤ 16 }
+pub fn without_events(patterns: &[Pattern]) -> u64
+    requires { length patterns.now ≤ 64 }
     ensures { (k : ℕ) → IsBitSet result k ↔ ((p : Pattern) × (slice_get patterns.now k ≡ Some p) × (p.events ≡ [])) }
 {
-    let mut mask: u16 = 0;
+    let mut mask: u64 = 0;
     for (number, pattern) in patterns.iter().enumerate() {
         mask = with_pattern(mask, number as u32, pattern);
     }
@@ -95,8 +95,8 @@ pub fn without_events(patterns: &[Pattern]) -> u16
 }
 
 /// The mask, with a pattern's number if the pattern has no events.
-fn with_pattern(mask: u16, number: u32, pattern: &Pattern) -> u16
-    requires { number < 16 }
+fn with_pattern(mask: u64, number: u32, pattern: &Pattern) -> u64
+    requires { number < 64 }
     ensures { (k : ℕ) → IsBitSet result k ↔ (IsBitSet mask k ⊎ ((k ≡ number) × (pattern.now.events ≡ []))) }
 {
     if pattern.events.as_slice().is_empty() {

@@ -9,11 +9,15 @@ ghost use Rattle.ta_rest.specs.RestEnds.{IsEndOf, IsRestEnd};
 
 use ta_automaton::{Automaton, Rule};
 use ta_encode::WordEnd;
-use ta_words::{Element, Task, is_complete, is_unlocked, risen_after};
+use ta_words::{Element, NarrowTask, is_complete, is_unlocked, risen_after};
 
 /// What is asked of a word's end where the word is complete: the rise guards that aren't in it fail,
 /// and nobody is in a location out of which a rule could lead.
-pub(crate) fn rest_end(task: Task<'_>, start_mask: u8, elements: &[Element]) -> Option<WordEnd>
+pub(crate) fn rest_end(
+    task: NarrowTask<'_>,
+    start_mask: u8,
+    elements: &[Element],
+) -> Option<WordEnd>
     ensures { IsRestEnd task.entry.automaton.now task.entry.pattern.now start_mask (reverse elements.now) result }
 {
     if !is_complete(task, elements) {
@@ -23,7 +27,7 @@ pub(crate) fn rest_end(task: Task<'_>, start_mask: u8, elements: &[Element]) -> 
 }
 
 /// What is asked at the end of a complete word of these elements.
-fn end_of(task: Task<'_>, start_mask: u8, elements: &[Element]) -> WordEnd
+fn end_of(task: NarrowTask<'_>, start_mask: u8, elements: &[Element]) -> WordEnd
     ensures { IsEndOf task.entry.automaton.now task.entry.pattern.now start_mask (reverse elements.now) result }
 {
     let left = left_after(task.automaton, start_mask, elements);
@@ -35,10 +39,10 @@ fn end_of(task: Task<'_>, start_mask: u8, elements: &[Element]) -> WordEnd
 
 /// The locations out of which a rule leads to another, with guards that hold after some elements:
 /// bit l for location l.
-fn left_after(automaton: &Automaton, start_mask: u8, elements: &[Element]) -> u32
+fn left_after(automaton: &Automaton, start_mask: u8, elements: &[Element]) -> u128
     ensures { (l : ℕ) → has_bit result l ≡ any_below (length automaton.now.rules) (λ r. leads_out automaton.now start_mask (reverse elements.now) l (slice_get automaton.now.rules r)) }
 {
-    let mut left = 0u32;
+    let mut left = 0u128;
     for rule in automaton.rules.as_slice() {
         left = with_left(automaton, start_mask, elements, rule, left);
     }
@@ -51,8 +55,8 @@ fn with_left(
     start_mask: u8,
     elements: &[Element],
     rule: &Rule,
-    left: u32,
-) -> u32
+    left: u128,
+) -> u128
     requires { RuleWithin (length automaton.now.shared) (length automaton.now.locations) (length automaton.now.rise) (length automaton.now.fall) rule.now }
     ensures { (l : ℕ) → has_bit result l ≡ (leads_out automaton.now start_mask (reverse elements.now) l (Some rule.now) || has_bit left l) }
 {

@@ -14,7 +14,7 @@ use ta_scope::ScopedFile;
 #[derive(Drop)]
 pub struct RestFile {
     pub ending: ScopedFile,
-    pub added: u16,
+    pub added: u64,
     pub ghost loops_alone: { LoopsAlone ending.file.automaton } by { LoopsAlone-prop ending.file.automaton },
     pub ghost come_last: { AllByRecursion ComesLast ending.file.patterns } by { EachComesLast-prop ending.file.patterns },
 }
@@ -28,7 +28,7 @@ impl RestFile {
     }
 
     /// The mask of the patterns that got an event.
-    pub fn added(&self) -> u16
+    pub fn added(&self) -> u64
         ensures { result ≡ self.now.added }
     {
         self.added

@@ -1,6 +1,6 @@
 -- what growing masks of locations say of walks
 use Rattle.ta_scope.proofs.Common.{◌≡◌, inl, inr, ℕ, ◌<◌, ◌^◌, List, [], ◌∷◌, ◌++◌, arith, sym, ap, ◌∙◌, refl, subst, slice_get, Some, IsBitSet, ◌%◌, ◌*◌, ◌↔◌}
-use Rattle.ta_scope.proofs.Common.{bit_or, w32, length, length-append, get_or, bit_at, le_or_l, bit_at_set_same, bit_at_set_other, bit_at-pow_same}
+use Rattle.ta_scope.proofs.Common.{bit_or, w128, length, length-append, get_or, bit_at, le_or_l, bit_at_set_same, bit_at_set_other, bit_at-pow_same}
 use Rattle.ta_scope.proofs.Common.{bit_at-pow_other, bit_at_ones, slice_get_within, eqb_tells, AllByRecursion, at_set, set_at, set_or, each_push, Rule}
 use Rattle.ta_scope.proofs.Common.{Automaton, Walk, every_rule, Reaches, to_within, LeadsOut, AddsLocation, IsClosed, get_or_append_left, get_or_push, one_shl}
 
@@ -41,38 +41,39 @@ walk_stays a rules mask closed x (r ∷ rs) y b walk each =
 
 -- the bit of a location, as the code computes it
 abbrev pub bit_of : ℕ → ℕ
-bit_of l = 1 * 2 ^ l % 4294967296
+bit_of l = 1 * 2 ^ l % 340282366920938463463374607431768211456
 
-pub grown_by : (a : Automaton) (rules mask r : ℕ) (rule : Rule) → slice_get a.rules r ≡ Some rule → LeadsOut rules mask r rule → rule.to < 32
-    → AddsLocation a rules mask (bit_or mask (1 * 2 ^ rule.to % 4294967296))
+pub grown_by : (a : Automaton) (rules mask r : ℕ) (rule : Rule) → slice_get a.rules r ≡ Some rule → LeadsOut rules mask r rule → rule.to < 128
+    → AddsLocation a rules mask (bit_or mask (1 * 2 ^ rule.to % 340282366920938463463374607431768211456))
 grown_by a rules mask r rule named out within = record {
   number = r;
   rule = rule;
   named = named;
   leads_out = out;
   kept = λ l b. elim (eqb_tells l rule.to) [
-    | inl e ↦ at_set _ l (ap (bit_at (bit_or mask (bit_of rule.to))) e.1 ∙ bit_at_set_same w32 mask rule.to within)
-    | inr ne ↦ at_set _ l (bit_at_set_other w32 mask rule.to within l ne.1 ∙ set_at mask l b)
+    | inl e ↦ at_set _ l (ap (bit_at (bit_or mask (bit_of rule.to))) e.1 ∙ bit_at_set_same w128 mask rule.to within)
+    | inr ne ↦ at_set _ l (bit_at_set_other w128 mask rule.to within l ne.1 ∙ set_at mask l b)
   ];
   added = λ l b. elim (eqb_tells l rule.to) [
     | inl e ↦ inr e.1
-    | inr ne ↦ inl (at_set mask l (sym (bit_at_set_other w32 mask rule.to within l ne.1) ∙ set_at _ l b))
+    | inr ne ↦ inl (at_set mask l (sym (bit_at_set_other w128 mask rule.to within l ne.1) ∙ set_at _ l b))
   ];
 }
 
-pub grown_greater : (rules mask r : ℕ) (rule : Rule) → LeadsOut rules mask r rule → rule.to < 32 → mask < bit_or mask (1 * 2 ^ rule.to % 4294967296)
+pub grown_greater : (rules mask r : ℕ) (rule : Rule) → LeadsOut rules mask r rule → rule.to < 128
+    → mask < bit_or mask (1 * 2 ^ rule.to % 340282366920938463463374607431768211456)
 grown_greater rules mask r rule out within = elim (eqb_tells mask (bit_or mask (bit_of rule.to))) [
-  | inl e ↦ absurd (out.to (at_set mask rule.to (ap (λ n. bit_at n rule.to) e.1 ∙ bit_at_set_same w32 mask rule.to within)))
+  | inl e ↦ absurd (out.to (at_set mask rule.to (ap (λ n. bit_at n rule.to) e.1 ∙ bit_at_set_same w128 mask rule.to within)))
   | inr ne ↦ (let differ = ne.1 in omega (arith, le_or_l mask (bit_of rule.to)))
 ]
 
--- a location's number fits a mask of 32 bits
-pub to_fits : (a : Automaton) (r : ℕ) (rule : Rule) → slice_get a.rules r ≡ Some rule → rule.to < 32
+-- a location's number fits a mask of 128 bits
+pub to_fits : (a : Automaton) (r : ℕ) (rule : Rule) → slice_get a.rules r ≡ Some rule → rule.to < 128
 to_fits a r rule named = let b = to_within a r rule named in let limit = a.shape.limits.locations_limit in omega arith
 
-pub reached_first : (a : Automaton) (rules first : ℕ) → first < 32 → Reached a rules first (1 * 2 ^ first % 4294967296)
+pub reached_first : (a : Automaton) (rules first : ℕ) → first < 128 → Reached a rules first (1 * 2 ^ first % 340282366920938463463374607431768211456)
 reached_first a rules first within =
-    let same : bit_of first ≡ 2 ^ first = one_shl first 32 within in
+    let same : bit_of first ≡ 2 ^ first = one_shl first 128 within in
     record {
       has_first = at_set _ first (ap (λ n. bit_at n first) same ∙ bit_at-pow_same first);
       walks = λ l b. elim (eqb_tells l first) [
@@ -100,8 +101,8 @@ leads_push a rules table mask before here x y b = elim (eqb_tells x (length tabl
 ]
 
 -- every rule is in the mask of all rules
-pub every_bit : (r : ℕ) → r < 128 → IsBitSet every_rule r
-every_bit r b = at_set every_rule r (bit_at_ones 128 r b)
+pub every_bit : (r : ℕ) → r < 1024 → IsBitSet every_rule r
+every_bit r b = at_set every_rule r (bit_at_ones 1024 r b)
 
 pub every_walk : (a : Automaton) (x : ℕ) (rs : List ℕ) (y : ℕ) → Walk a x rs y → AllByRecursion (IsBitSet every_rule) rs
 every_walk a x [] y walk = tt

@@ -79,16 +79,16 @@ no_path : (a : Automaton) (x : ℕ) (rs : List ℕ) (y : ℕ) → length rs ≤ 
 no_path a x [] y short w = w
 no_path a x (r ∷ rs) y short w = absurd (omega arith)
 
-pub layer_first : (a : Automaton) (rules from to : ℕ) → from < 32 → Layer a rules from to 0 (1 * 2 ^ from % 4294967296)
+pub layer_first : (a : Automaton) (rules from to : ℕ) → from < 128 → Layer a rules from to 0 (1 * 2 ^ from % 340282366920938463463374607431768211456)
 layer_first a rules from to fits =
     let first = reached_first a rules from fits in
     record {
       within = λ l. (
-        λ b. record { path = []; walk = sym (lone_bit from l fits b); members = tt; short = omega arith },
+        λ b. record { path = []; walk = sym (lone_bit 128 from l fits b); members = tt; short = omega arith },
         λ n. subst (IsBitSet (bit_of from)) (no_path a from n.path l n.short n.walk) first.has_first,
       );
       nearer = λ other w m. omega arith;
-      below = (let same = one_shl from 32 fits in let some = pow_pos from in omega arith);
+      below = (let same = one_shl from 128 fits in let some = pow_pos from in omega arith);
     }
 
 -- a walk with its last rule apart

@@ -7,7 +7,7 @@ use Rattle.ta_automaton.specs.Runs.{Walk}
 
 -- the mask of all rules
 abbrev pub every_rule : ℕ
-every_rule = 2 ^ 128 - 1
+every_rule = 2 ^ 1024 - 1
 
 -- rules of a mask lead from one location to another
 abbrev pub Reaches : Automaton → ℕ → ℕ → ℕ → Type 0

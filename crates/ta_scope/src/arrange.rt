@@ -37,7 +37,7 @@ impl ScopedFile {
     {
         let automaton = &self.file.automaton;
         let rest = without_circulations(alloc, automaton, counts)?;
-        let order = order_of(alloc, automaton, support_of(rest.as_slice()))?;
+        let order = order_of(alloc, automaton, &support_of(rest.as_slice()))?;
         let steps = steps_of(alloc, automaton, rest.as_slice(), order.as_slice())?;
         Ok(Arranged {
             steps: List::from_vec(steps),

@@ -15,9 +15,9 @@ ghost use Rattle.ta_scope.specs.Arranged.{AreRuleCounts, Support, LeastCount, Su
 ghost use Rattle.ta_scope.specs.Inside.Taking.{IsLeastCycle, IsCycleOf, FullyTakenOut};
 
 use crate::path::first_path;
-use crate::reach::has_rule;
 use std::alloc::{AllocError, Global};
 use ta_automaton::{Automaton, Rule};
+use ta_base::LongMask;
 
 /// The counts without their circulations.
 pub fn without_circulations(
@@ -30,33 +30,32 @@ pub fn without_circulations(
 {
     let mut rest = Vec::new(alloc);
     rest.extend_from_slice(counts)?;
-    while let Some(cycle) = first_cycle(alloc, automaton, support_of(rest.as_slice()))? {
+    while let Some(cycle) = first_cycle(alloc, automaton, &support_of(rest.as_slice()))? {
         take_out(rest.as_mut_slice(), cycle.as_slice());
     }
     Ok(rest)
 }
 
 /// The mask of the rules with a count above 0.
-pub fn support_of(counts: &[i128]) -> u128
-    requires { length counts.now ≤ 128 }
+pub fn support_of(counts: &[i128]) -> LongMask
+    requires { length counts.now ≤ 1024 }
     ensures { Support counts.now result }
 {
-    let mut rules = 0;
+    let mut rules = LongMask::empty();
     for (number, count) in counts.iter().enumerate() {
-        rules = with_rule(rules, number as u32, *count);
+        insert_counted(&mut rules, number as u32, *count);
     }
     rules
 }
 
-/// A mask of rules with a rule, where its count is above 0.
-fn with_rule(rules: u128, number: u32, count: i128) -> u128
-    requires { number < 128 }
-    ensures { (r : ℕ) → IsBitSet result r ↔ (IsBitSet rules r ⊎ ((r ≡ number) × (pos 1 ≤ℤ count))) }
+/// Puts a rule into a mask of rules, where its count is above 0.
+fn insert_counted(rules: &mut LongMask, number: u32, count: i128)
+    requires { number < 1024 }
+    ensures { (r : ℕ) → IsBitSet rules.new r ↔ (IsBitSet rules.old r ⊎ ((r ≡ number) × (pos 1 ≤ℤ count))) }
 {
     if count > 0 {
-        return rules | (1 << number);
+        rules.insert(number);
     }
-    rules
 }
 
 /// The least rule on a cycle of a mask's rules, and the first path from its target back to its
@@ -64,10 +63,10 @@ fn with_rule(rules: u128, number: u32, count: i128) -> u128
 fn first_cycle(
     alloc: Global,
     automaton: &Automaton,
-    rules: u128,
+    rules: &LongMask,
 ) -> Result<Option<Vec<u32>>, AllocError>
-    ensures some { IfOk result (λ found. IfSome found (λ cycle. IsLeastCycle automaton.now rules cycle.items)) }
-    ensures none { IfOk result (λ found. IfNone found (NoCycle automaton.now rules)) }
+    ensures some { IfOk result (λ found. IfSome found (λ cycle. IsLeastCycle automaton.now rules.now cycle.items)) }
+    ensures none { IfOk result (λ found. IfNone found (NoCycle automaton.now rules.now)) }
 {
     for (number, rule) in automaton.rules.as_slice().iter().enumerate() {
         if let Some(cycle) = cycle_of(alloc, automaton, rules, number as u32, rule)? {
@@ -81,15 +80,15 @@ fn first_cycle(
 fn cycle_of(
     alloc: Global,
     automaton: &Automaton,
-    rules: u128,
+    rules: &LongMask,
     number: u32,
     rule: &Rule,
 ) -> Result<Option<Vec<u32>>, AllocError>
     requires { slice_get automaton.now.rules number ≡ Some rule.now }
-    ensures some { IfOk result (λ found. IfSome found (λ cycle. IsCycleOf automaton.now rules number rule.now cycle.items)) }
-    ensures none { IfOk result (λ found. IfNone found (IsBitSet rules number → ¬ OnCycle automaton.now rules rule.now)) }
+    ensures some { IfOk result (λ found. IfSome found (λ cycle. IsCycleOf automaton.now rules.now number rule.now cycle.items)) }
+    ensures none { IfOk result (λ found. IfNone found (IsBitSet rules.now number → ¬ OnCycle automaton.now rules.now rule.now)) }
 {
-    if !has_rule(rules, number) {
+    if !rules.contains(number) {
         return Ok(None);
     }
     match first_path(alloc, automaton, rules, rule.to, rule.from)? {

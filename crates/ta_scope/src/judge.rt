@@ -11,6 +11,7 @@ use crate::fault::ScopeFault;
 use crate::reach::{is_on_cycle, leads};
 use std::alloc::Global;
 use ta_automaton::{Automaton, Rule};
+use ta_base::LongMask;
 
 /// Ok where an automaton is in scope, else the first rule that puts it out.
 pub fn judge(alloc: Global, automaton: &Automaton) -> Result<(), ScopeFault>
@@ -18,12 +19,12 @@ pub fn judge(alloc: Global, automaton: &Automaton) -> Result<(), ScopeFault>
     ensures fault { IfErr result (λ fault. ScopeFaultOf automaton.now fault) }
     ensures out_of_scope { IfErr result (λ fault. fault ≢ Memory → ¬ InScope automaton.now) }
 {
-    let table = leads(alloc, automaton, u128::MAX)?;
+    let table = leads(alloc, automaton, &LongMask::full())?;
     first_at_fault(automaton, table.as_slice())
 }
 
 /// Ok where no rule puts it out of scope by a table of all rules, else the first one that does.
-fn first_at_fault(automaton: &Automaton, table: &[u32]) -> Result<(), ScopeFault>
+fn first_at_fault(automaton: &Automaton, table: &[u128]) -> Result<(), ScopeFault>
     requires { IsReachTable automaton.now every_rule table.now }
     ensures ok { OnOk result (InScope automaton.now) }
     ensures fault { IfErr result (λ fault. ScopeFaultOf automaton.now fault) }
@@ -39,9 +40,9 @@ fn first_at_fault(automaton: &Automaton, table: &[u32]) -> Result<(), ScopeFault
 }
 
 /// Whether a rule has an update, and its target leads back to its source by a table.
-fn is_at_fault(table: &[u32], rule: &Rule) -> bool
+fn is_at_fault(table: &[u128], rule: &Rule) -> bool
     requires to { rule.now.to < length table.now }
-    requires from { rule.now.from < 32 }
+    requires from { rule.now.from < 128 }
     ensures { IsTrue result ↔ ((rule.now.updates ≢ []) × IsBitSet (slice_index table.now rule.now.to) rule.now.from) }
 {
     !rule.updates.as_slice().is_empty() && is_on_cycle(table, rule)

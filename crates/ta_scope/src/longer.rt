@@ -8,6 +8,7 @@ ghost use Rattle.ta_scope.specs.LongerCycles.{FirstLongerCycle, LoopsAlone};
 use crate::reach::{is_on_cycle, leads};
 use std::alloc::{AllocError, Global};
 use ta_automaton::{Automaton, Rule};
+use ta_base::LongMask;
 
 /// The number of the first rule in file order that lies on a cycle of two or more locations, counted
 /// from 0; `None` where every cycle of rules is a self-loop.
@@ -15,12 +16,12 @@ pub fn first_longer_cycle(alloc: Global, automaton: &Automaton) -> Result<Option
     ensures some { IfOk result (λ found. IfSome found (λ number. FirstLongerCycle automaton.now number)) }
     ensures none { IfOk result (λ found. IfNone found (LoopsAlone automaton.now)) }
 {
-    let table = leads(alloc, automaton, u128::MAX)?;
+    let table = leads(alloc, automaton, &LongMask::full())?;
     Ok(first_by_table(automaton, table.as_slice()))
 }
 
 /// The same by a table of all rules.
-fn first_by_table(automaton: &Automaton, table: &[u32]) -> Option<u32>
+fn first_by_table(automaton: &Automaton, table: &[u128]) -> Option<u32>
     requires { IsReachTable automaton.now every_rule table.now }
     ensures some { IfSome result (λ number. FirstLongerCycle automaton.now number) }
     ensures none { IfNone result (LoopsAlone automaton.now) }
@@ -34,9 +35,9 @@ fn first_by_table(automaton: &Automaton, table: &[u32]) -> Option<u32>
 }
 
 /// Whether a rule leads from one location to another whose target leads back by a table.
-fn is_on_longer_cycle(table: &[u32], rule: &Rule) -> bool
+fn is_on_longer_cycle(table: &[u128], rule: &Rule) -> bool
     requires to { rule.now.to < length table.now }
-    requires from { rule.now.from < 32 }
+    requires from { rule.now.from < 128 }
     ensures { IsTrue result ↔ ((rule.now.from ≢ rule.now.to) × IsBitSet (slice_index table.now rule.now.to) rule.now.from) }
 {
     rule.from != rule.to && is_on_cycle(table, rule)

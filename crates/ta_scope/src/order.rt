@@ -6,15 +6,19 @@ ghost use Rattle.std.specs.Prelude.{ℕ, ◌<◌, ◌↔◌, length, IsTrue, IsB
 ghost use Rattle.ta_scope.specs.Cycles.{NoCycle};
 ghost use Rattle.ta_scope.specs.Order.{Blocks, Ready, Next, IsLocationOrder};
 
-use crate::reach::has_rule;
 use std::alloc::{AllocError, Global};
 use ta_automaton::{Automaton, Rule};
+use ta_base::LongMask;
 
 /// The locations in an order in which every rule of a mask between two of them goes forward: again
 /// and again the least location to which no rule of the mask leads from another remaining one.
-pub fn order_of(alloc: Global, automaton: &Automaton, rules: u128) -> Result<Vec<u32>, AllocError>
-    requires { NoCycle automaton.now rules }
-    ensures { IfOk result (λ order. IsLocationOrder automaton.now rules order.items) }
+pub fn order_of(
+    alloc: Global,
+    automaton: &Automaton,
+    rules: &LongMask,
+) -> Result<Vec<u32>, AllocError>
+    requires { NoCycle automaton.now rules.now }
+    ensures { IfOk result (λ order. IsLocationOrder automaton.now rules.now order.items) }
 {
     let mut order = Vec::new(alloc);
     while let Some(location) = next_location(automaton, rules, order.as_slice()) {
@@ -24,9 +28,9 @@ pub fn order_of(alloc: Global, automaton: &Automaton, rules: u128) -> Result<Vec
 }
 
 /// The least remaining location to which no rule of a mask leads from another remaining one.
-fn next_location(automaton: &Automaton, rules: u128, placed: &[u32]) -> Option<u32>
-    ensures some { IfSome result (λ location. Next automaton.now rules placed.now location) }
-    ensures none { IfNone result ((l : ℕ) → l < length automaton.now.locations → ¬ Ready automaton.now rules placed.now l) }
+fn next_location(automaton: &Automaton, rules: &LongMask, placed: &[u32]) -> Option<u32>
+    ensures some { IfSome result (λ location. Next automaton.now rules.now placed.now location) }
+    ensures none { IfNone result ((l : ℕ) → l < length automaton.now.locations → ¬ Ready automaton.now rules.now placed.now l) }
 {
     let count = automaton.locations.as_slice().len() as u32;
     for location in 0..count {
@@ -38,8 +42,8 @@ fn next_location(automaton: &Automaton, rules: u128, placed: &[u32]) -> Option<u
 }
 
 /// Whether a location remains and no rule of a mask leads to it from another remaining one.
-fn is_ready(automaton: &Automaton, rules: u128, placed: &[u32], location: u32) -> bool
-    ensures { IsTrue result ↔ Ready automaton.now rules placed.now location }
+fn is_ready(automaton: &Automaton, rules: &LongMask, placed: &[u32], location: u32) -> bool
+    ensures { IsTrue result ↔ Ready automaton.now rules.now placed.now location }
 {
     if is_placed(placed, location) {
         return false;
@@ -53,11 +57,11 @@ fn is_ready(automaton: &Automaton, rules: u128, placed: &[u32], location: u32) -
 }
 
 /// Whether a rule of a mask leads to a location from another one that remains.
-fn blocks(rules: u128, placed: &[u32], location: u32, number: u32, rule: &Rule) -> bool
-    requires { number < 128 }
-    ensures { IsTrue result ↔ (IsBitSet rules number × Blocks placed.now location rule.now) }
+fn blocks(rules: &LongMask, placed: &[u32], location: u32, number: u32, rule: &Rule) -> bool
+    requires { number < 1024 }
+    ensures { IsTrue result ↔ (IsBitSet rules.now number × Blocks placed.now location rule.now) }
 {
-    has_rule(rules, number)
+    rules.contains(number)
         && rule.to == location
         && rule.from != location
         && !is_placed(placed, rule.from)

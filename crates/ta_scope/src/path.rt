@@ -12,9 +12,9 @@ ghost use Rattle.ta_scope.specs.Cycles.{Reaches};
 ghost use Rattle.ta_scope.specs.Arranged.{FirstPath};
 ghost use Rattle.ta_scope.specs.Inside.Distances.{Distance, LeadsTo, AddsNextLocations, IsStep, FirstStep};
 
-use crate::reach::has_rule;
 use std::alloc::{AllocError, Global};
 use ta_automaton::{Automaton, Rule};
+use ta_base::LongMask;
 use ta_base::masks::contains;
 
 /// The path of a mask's rules with the fewest rules, and among several such paths the least list of
@@ -22,14 +22,14 @@ use ta_base::masks::contains;
 pub fn first_path(
     alloc: Global,
     automaton: &Automaton,
-    rules: u128,
+    rules: &LongMask,
     from: u32,
     to: u32,
 ) -> Result<Option<Vec<u32>>, AllocError>
     requires from_exists { from < length automaton.now.locations }
     requires to_exists { to < length automaton.now.locations }
-    ensures some { IfOk result (λ found. IfSome found (λ path. FirstPath automaton.now rules from path.items to)) }
-    ensures none { IfOk result (λ found. IfNone found (¬ Reaches automaton.now rules from to)) }
+    ensures some { IfOk result (λ found. IfSome found (λ path. FirstPath automaton.now rules.now from path.items to)) }
+    ensures none { IfOk result (λ found. IfNone found (¬ Reaches automaton.now rules.now from to)) }
 {
     match distance(automaton, rules, from, to) {
         Some(count) => Ok(Some(path_of(alloc, automaton, rules, from, to, count)?)),
@@ -41,15 +41,15 @@ pub fn first_path(
 fn path_of(
     alloc: Global,
     automaton: &Automaton,
-    rules: u128,
+    rules: &LongMask,
     from: u32,
     to: u32,
-    count: u32,
+    count: u128,
 ) -> Result<Vec<u32>, AllocError>
     requires from_exists { from < length automaton.now.locations }
     requires to_exists { to < length automaton.now.locations }
-    requires distance { Distance automaton.now rules from to count }
-    ensures { IfOk result (λ path. FirstPath automaton.now rules from path.items to) }
+    requires distance { Distance automaton.now rules.now from to count }
+    ensures { IfOk result (λ path. FirstPath automaton.now rules.now from path.items to) }
 {
     let mut path = Vec::new(alloc);
     let mut location = from;
@@ -72,10 +72,10 @@ fn target(automaton: &Automaton, number: u32) -> u32
 }
 
 /// The least rule that leaves a location toward another one.
-fn first_step(automaton: &Automaton, rules: u128, from: u32, to: u32, left: u32) -> u32
+fn first_step(automaton: &Automaton, rules: &LongMask, from: u32, to: u32, left: u128) -> u32
     requires to_exists { to < length automaton.now.locations }
-    requires distance { Distance automaton.now rules from to (left + 1) }
-    ensures { FirstStep automaton.now rules from to left result }
+    requires distance { Distance automaton.now rules.now from to (left + 1) }
+    ensures { FirstStep automaton.now rules.now from to left result }
 {
     for (number, rule) in automaton.rules.as_slice().iter().enumerate() {
         if is_step(automaton, rules, from, to, left, number as u32, rule) {
@@ -88,26 +88,26 @@ fn first_step(automaton: &Automaton, rules: u128, from: u32, to: u32, left: u32)
 /// Whether a rule of a mask leaves a location and leads to one at a distance from another.
 fn is_step(
     automaton: &Automaton,
-    rules: u128,
+    rules: &LongMask,
     from: u32,
     to: u32,
-    left: u32,
+    left: u128,
     number: u32,
     rule: &Rule,
 ) -> bool
-    requires number_fits { number < 128 }
+    requires number_fits { number < 1024 }
     requires target_exists { rule.now.to < length automaton.now.locations }
     requires to_exists { to < length automaton.now.locations }
-    ensures { IsTrue result ↔ IsStep automaton.now rules from to left number rule.now }
+    ensures { IsTrue result ↔ IsStep automaton.now rules.now from to left number rule.now }
 {
-    has_rule(rules, number) && rule.from == from && is_distance(automaton, rules, rule.to, to, left)
+    rules.contains(number) && rule.from == from && is_distance(automaton, rules, rule.to, to, left)
 }
 
 /// Whether so many rules are the fewest that lead from one location to another.
-fn is_distance(automaton: &Automaton, rules: u128, from: u32, to: u32, count: u32) -> bool
+fn is_distance(automaton: &Automaton, rules: &LongMask, from: u32, to: u32, count: u128) -> bool
     requires from_exists { from < length automaton.now.locations }
     requires to_exists { to < length automaton.now.locations }
-    ensures { IsTrue result ↔ Distance automaton.now rules from to count }
+    ensures { IsTrue result ↔ Distance automaton.now rules.now from to count }
 {
     match distance(automaton, rules, from, to) {
         Some(fewest) => fewest == count,
@@ -115,15 +115,16 @@ fn is_distance(automaton: &Automaton, rules: u128, from: u32, to: u32, count: u3
     }
 }
 
-/// The fewest rules of a mask that lead from one location to another.
-fn distance(automaton: &Automaton, rules: u128, from: u32, to: u32) -> Option<u32>
+/// The fewest rules of a mask that lead from one location to another. Each round adds a location, so
+/// they are fewer than the mask as a number.
+fn distance(automaton: &Automaton, rules: &LongMask, from: u32, to: u32) -> Option<u128>
     requires from_exists { from < length automaton.now.locations }
     requires to_exists { to < length automaton.now.locations }
-    ensures some { IfSome result (λ count. Distance automaton.now rules from to count) }
-    ensures none { IfNone result (¬ Reaches automaton.now rules from to) }
+    ensures some { IfSome result (λ count. Distance automaton.now rules.now from to count) }
+    ensures none { IfNone result (¬ Reaches automaton.now rules.now from to) }
 {
-    let mut reached: u32 = 1 << from;
-    let mut count = 0;
+    let mut reached: u128 = 1 << from;
+    let mut count = 0u128;
     while !contains(reached, to) {
         let more = stepped(automaton, rules, reached);
         if more == reached {
@@ -136,8 +137,8 @@ fn distance(automaton: &Automaton, rules: u128, from: u32, to: u32) -> Option<u3
 }
 
 /// The locations of a mask, and those to which rules lead from one of them.
-fn stepped(automaton: &Automaton, rules: u128, mask: u32) -> u32
-    ensures stepped { AddsNextLocations automaton.now rules mask result }
+fn stepped(automaton: &Automaton, rules: &LongMask, mask: u128) -> u128
+    ensures stepped { AddsNextLocations automaton.now rules.now mask result }
     ensures grows { mask ≤ result }
 {
     let mut more = mask;
@@ -149,14 +150,14 @@ fn stepped(automaton: &Automaton, rules: u128, mask: u32) -> u32
 
 /// A mask of locations with a rule's target, where the rule is in a mask of rules and leads from a
 /// location of a mask of locations.
-fn with_target(rules: u128, mask: u32, more: u32, number: u32, rule: &Rule) -> u32
-    requires number_fits { number < 128 }
-    requires from_fits { rule.now.from < 32 }
-    requires to_fits { rule.now.to < 32 }
-    ensures grown { (l : ℕ) → IsBitSet result l ↔ (IsBitSet more l ⊎ LeadsTo rules mask l number rule.now) }
+fn with_target(rules: &LongMask, mask: u128, more: u128, number: u32, rule: &Rule) -> u128
+    requires number_fits { number < 1024 }
+    requires from_fits { rule.now.from < 128 }
+    requires to_fits { rule.now.to < 128 }
+    ensures grown { (l : ℕ) → IsBitSet result l ↔ (IsBitSet more l ⊎ LeadsTo rules.now mask l number rule.now) }
     ensures grows { more ≤ result }
 {
-    if has_rule(rules, number) && contains(mask, rule.from) {
+    if rules.contains(number) && contains(mask, rule.from) {
         return more | (1 << rule.to);
     }
     more

@@ -7,7 +7,7 @@ use Rattle.ta_smt.proofs.Common.{system_rows, word_rows, rows_count, solution_ba
 use Rattle.ta_smt.proofs.Common.{IsCompleteWord, IsIncomplete, SystemStays, SystemAsked, asked, IsValuesText, BadRow, CheckFault, IsChecked, PassesCheck}
 use Rattle.ta_smt.proofs.Common.{RowFault, RowStops, RunFault, IsRunOfValues, WordFault, LineFault, solution_of as solves_of, Automaton}
 use Rattle.ta_encode.specs.Search.{Pending}
-use Rattle.ta_words.specs.declared.task.Task.{Task}
+use Rattle.ta_words.specs.declared.narrow_task.NarrowTask.{NarrowTask}
 use Rattle.ta_encode.proofs.RowCounts.{few_rows}
 use Rattle.ta_replay.specs.declared.run.Run.{Run}
 use Rattle.ta_replay.specs.Replays.{ReplayStays}
@@ -193,17 +193,17 @@ rows_over n [] below = tt
 rows_over n (r ∷ rs) below = (below.0, rows_over n rs below.1)
 
 -- the system of a word has few rows
-pub few_in_word : (t : Task) (start : ℕ) (elements : List Element) (s : System) → LegalWord t.automaton.now t.pattern.now start (reverse elements)
+pub few_in_word : (t : NarrowTask) (start : ℕ) (elements : List Element) (s : System) → LegalWord t.automaton.now t.pattern.now start (reverse elements)
     → SystemOf t.automaton.now t.pattern.now start (reverse elements) [] s → length s.rows ≤ 2 ^ 32
 few_in_word t start elements s legal is =
     let a = t.automaton.now in
     let p = t.pattern.now in
     let rows = rows_count (system_rows a p start (reverse elements) []) s.rows is.rows in
     let words = length-append (word_rows a p start (reverse elements)) (map bound_row []) in
-    let few = few_rows a p start (reverse elements) t.over legal in
+    let few = few_rows a t.narrow p start (reverse elements) t.over legal in
     omega arith
 
-pub system_asked : (file : File) (number start : ℕ) (elements : List Element) (s : System) (t : Task) → t.automaton.now ≡ file.automaton
+pub system_asked : (file : File) (number start : ℕ) (elements : List Element) (s : System) (t : NarrowTask) → t.automaton.now ≡ file.automaton
     → slice_get file.patterns number ≡ Some t.pattern.now → SystemOf t.automaton.now t.pattern.now start (reverse elements) [] s
     → SystemAsked file (asked number start elements) s
 system_asked file number start elements s t same named is = record
@@ -218,10 +218,10 @@ word_stops file word values s (fault.Overflow k) is bad = record { system = s; i
 word_stops file word values s _ is bad = absurd bad
 
 -- whether a word is complete
-pub complete_is : (file : File) (word : AskedWord) (t : Task) (r : Bool) → slice_get file.patterns word.pattern ≡ Some t.pattern.now
+pub complete_is : (file : File) (word : AskedWord) (t : NarrowTask) (r : Bool) → slice_get file.patterns word.pattern ≡ Some t.pattern.now
     → r ≡ is_complete t.pattern.now (reverse word.elements) → r ≡ true → IsCompleteWord file word
 complete_is file word t r named told is = record { pattern = t.pattern.now; named = named; complete = sym told ∙ is }
 
-pub incomplete_is : (file : File) (word : AskedWord) (t : Task) (r : Bool) → slice_get file.patterns word.pattern ≡ Some t.pattern.now
+pub incomplete_is : (file : File) (word : AskedWord) (t : NarrowTask) (r : Bool) → slice_get file.patterns word.pattern ≡ Some t.pattern.now
     → r ≡ is_complete t.pattern.now (reverse word.elements) → r ≡ false → IsIncomplete file word
 incomplete_is file word t r named told is = record { pattern = t.pattern.now; named = named; incomplete = sym told ∙ is }

@@ -22,7 +22,7 @@ use ta_linear::{Row, System};
 use ta_replay::Run;
 use ta_scope::ScopedFile;
 use ta_witness::{WitnessFault, witness};
-use ta_words::{Task, Word, is_complete};
+use ta_words::{NarrowTask, Word, is_complete};
 
 /// The run that the values of a text stand for, one for each unknown of a complete word's system. The
 /// errors come in the order of their names.
@@ -39,7 +39,7 @@ pub fn admit(
     ensures run { IfOk result (λ run. Admits scoped.now.file (asked pattern start_mask word.now) bytes.now run) }
     ensures fault { IfErr result (AdmitFaultOf scoped.now.file (asked pattern start_mask word.now) bytes.now) }
 {
-    if !is_complete(Task::of(&scoped.file, pattern), word.elements()) {
+    if !is_complete(NarrowTask::of(&scoped.file, pattern), word.elements()) {
         return Err(AdmitFault::Incomplete);
     }
     let values = read_values(alloc, bytes)?;
@@ -69,7 +69,7 @@ fn check_word(
     ensures passes { OnOk result (PassesCheck file.now (asked pattern start_mask word.now) values.now) }
     ensures fault { IfErr result (WordFault file.now (asked pattern start_mask word.now) values.now) }
 {
-    let task = Task::of(file, pattern);
+    let task = NarrowTask::of(file, pattern);
     let encoded = encode(alloc, task, start_mask, word, &[])?;
     check_values(&encoded.system, values)?;
     Ok(())
@@ -128,7 +128,7 @@ fn run_of(
     ensures run { IfOk result (λ run. IsRunOfValues scoped.now.file (asked pattern start_mask word.now) values.items run) }
     ensures fault { IfErr result (RunFault scoped.now.file (asked pattern start_mask word.now) values.items) }
 {
-    let task = Task::of(&scoped.file, pattern);
+    let task = NarrowTask::of(&scoped.file, pattern);
     let Ok(word) = word_of(task, start_mask, word.elements()) else {
         unreachable!()
     };

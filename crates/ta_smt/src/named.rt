@@ -12,7 +12,7 @@ use std::alloc::{AllocError, Global};
 use ta_automaton::{File, Pattern};
 use ta_base::Text;
 use ta_encode::encode;
-use ta_words::{Element, Task, Word, is_complete};
+use ta_words::{Element, NarrowTask, Word, is_complete};
 
 /// A word of a pattern and a start set, in which bit j stands for fall guard j.
 #[derive(Drop)]
@@ -38,7 +38,7 @@ pub fn named_word(
     if !begins(file, start_mask) {
         return Err(WordFault::Start);
     }
-    match word_of(Task::of(file, pattern), start_mask, elements) {
+    match word_of(NarrowTask::of(file, pattern), start_mask, elements) {
         Ok(word) => Ok(NamedWord {
             pattern,
             start_mask,
@@ -59,7 +59,9 @@ pub fn whole_word(
     ensures fault { IfErr result (WholeFaultOf file.now (spelling name.now start_mask elements.now)) }
 {
     match named_word(file, name, start_mask, elements) {
-        Ok(named) if is_complete(Task::of(file, named.pattern), named.word.elements()) => Ok(named),
+        Ok(named) if is_complete(NarrowTask::of(file, named.pattern), named.word.elements()) => Ok(
+            named,
+        ),
         Ok(_) => Err(WordFault::Incomplete),
         Err(fault) => Err(fault),
     }
@@ -97,7 +99,7 @@ pub fn word_text(alloc: Global, file: &File, named: &NamedWord) -> Result<Text, 
     requires { IsLegalWord file.now (asked named.now.pattern named.now.start_mask named.now.word) }
     ensures { IfOk result (IsWordText file.now (asked named.now.pattern named.now.start_mask named.now.word)) }
 {
-    let task = Task::of(file, named.pattern);
+    let task = NarrowTask::of(file, named.pattern);
     let encoded = encode(alloc, task, named.start_mask, &named.word, &[])?;
     let text = smt_text(alloc, &encoded.system)?;
     Ok(text)

@@ -100,7 +100,7 @@ module _ (a : Automaton) (p : Pattern) (over : PatternOver a p) (asking : Asking
       let small = search_small a p over asking maker (here start past) h in
       let rows = moments_rows a p asking (candidate_of start) past (come_answers a p asking maker start past h) in
       let events = over.events_limit in
-      let large : 1000008 < 2 ^ 32 = lit< tt in
+      let large : 40000008 < 2 ^ 32 = lit< tt in
       omega (arith, small, rows, events, large, length-append (map (row_of_form k.unknowns) k.rows) [], length-map k.rows (row_of_form k.unknowns))
 
   pub few_values : (w : Pending Fact) (values : List Fraction)
@@ -110,5 +110,5 @@ module _ (a : Automaton) (p : Pattern) (over : PatternOver a p) (asking : Asking
       let count = at.holds.gives.count in
       let unknowns = at.is.unknowns in
       let k = known a p asking.silent (candidate_of w.start) w.past in
-      let large : 1000008 < 2 ^ 32 = lit< tt in
+      let large : 40000008 < 2 ^ 32 = lit< tt in
       omega (arith, small, count, unknowns, large)

@@ -14,7 +14,9 @@ use Rattle.ta_moments.specs.Searched.{Maker, candidate_of, moment_search}
 use Rattle.ta_moments.specs.Whole.{AreAnswers}
 use Rattle.ta_moments.specs.Nodes.{AskedOnce}
 use Rattle.ta_moments.proofs.Short.{few_moments}
-use Rattle.ta_moment_tree.proofs.Beginning.{count_room}
+use Rattle.std.proofs.Common.{mul-le-mul}
+use Rattle.ta_automaton.proofs.Narrows.{narrow_shape}
+use Rattle.ta_encode.proofs.Drafts.{start_few}
 use Rattle.ta_walk.proofs.Answered.{comes_answered, comes_once}
 
 -- items that fail a test, and items that pass it
@@ -68,11 +70,12 @@ pub node_few : (a : Automaton) (p : Pattern) (asking : Asking) (node : Node) →
 node_few a p asking node over answered once =
     let events = over.events_limit in
     let moments = few_moments a p asking node answered once in
-    let room = count_room a p (length p.events) (length (moving_rules a p)) (length (start_meanings a p)) refl refl events in
-    let rules = room.0 in
-    let starts = room.1 in
-    let rise = a.shape.limits.rise_limit in
-    let fall = a.shape.limits.fall_limit in
+    let narrow = narrow_shape a in
+    let fired : length (moving_rules a p) ≤ 128 = omega (arith, count_few (λ r. is_moving p (slice_get a.rules r)) (length a.rules), narrow.rules) in
+    let rules : length p.events * length (moving_rules a p) ≤ 8 * 128 = mul-le-mul events fired in
+    let starts : length (start_meanings a p) ≤ 48 = omega (arith, start_few a p, narrow.parameters, narrow.locations) in
+    let rise = narrow.rise in
+    let fall = narrow.fall in
     let most : length (known_at a p asking node).moments ≤ length p.events + 22 = omega (arith, moments, rise, fall) in
     record {
       unknowns = omega (arith, by_moments a p asking.silent node.candidate node.past, most, rules, starts);

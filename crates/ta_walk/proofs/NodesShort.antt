@@ -1,4 +1,5 @@
 -- the nodes of a walk are short
+use Rattle.ta_automaton.proofs.Narrows.{narrow_shape}
 use Rattle.ta_walk.proofs.Common.{ℕ, ◌+◌, ◌*◌, ◌<◌, ◌≤◌, ◌^◌, ℤ, List, [], ◌∷◌, ◌++◌, length, arith, length-append, codes, decimal, lit<, ints, AllByRecursion}
 use Rattle.ta_walk.proofs.Common.{row_short, number_short, Automaton, Pattern, LegalWord, Node, pair_text, pairs_text, split_text, IsMultiplierPair, ArePairs}
 use Rattle.ta_walk.proofs.Common.{IsSplit, IsNode, few_multipliers, NodeAt, Visits, HasFewPairs, IsShort, Pending, parts, few_unknowns, PatternOver}
@@ -46,7 +47,13 @@ node_few : (claim : Claim) (a : Automaton) (p : Pattern) (pairs : List (ℕ × �
 node_few claim a p pairs w (node.Leaf ts) over legal stands =
     let s = stands.refuted.system in
     let unknowns = stands.refuted.is.unknowns in
-    omega (arith, few_multipliers s ts stands.refuted.holds, few_unknowns a p w.start w.past over legal, claim_unknowns claim a p pairs w.start w.past)
+    omega (
+      arith,
+      few_multipliers s ts stands.refuted.holds,
+      few_unknowns a (narrow_shape a) p w.start w.past over legal,
+      claim_unknowns claim a p pairs w.start
+          w.past,
+    )
 node_few claim a p pairs w n over legal stands = tt
 
 -- each node that is visited has few pairs

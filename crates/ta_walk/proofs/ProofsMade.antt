@@ -9,6 +9,7 @@
 -- visited refute what has been left out. When no word is left, they refute all, in the order in which the judge reads.
 -- Words have at most as many bounds as nodes have been visited, so a budget below 2 ^ 32 keeps each number of a node in
 -- its range and each line short; and the walk ends, since each node takes one from the budget.
+use Rattle.ta_automaton.proofs.Narrows.{narrow_shape}
 use Rattle.ta_walk.proofs.Common.{ℕ, ◌+◌, ◌≤◌, List, [], ◌∷◌, ◌++◌, length, arith, sym, AllByRecursion, Node, IsNode, leaf_of, NodeAt, Visits, IsProof}
 use Rattle.ta_walk.proofs.Common.{RefutedClaimsHold, Automaton, TreeIs, Pattern, Pending, Search, parts, IsJudged, claim_legal, claim_small, search_for, Claim}
 use Rattle.ta_walk.proofs.Common.{pattern_within, PatternOver, subst}
@@ -47,7 +48,7 @@ nodes_written claim a p pairs over most (w ∷ ws) (n ∷ ns) rest budget all v 
     let waits = all.0 in
     let few : length w.bounds ≤ 1000000000 = (let k = waits.few in omega arith) in
     let legal = claim_legal claim a p pairs w.start w.past waits.comes in (
-      node_written s w n (λ z is. few_variables w z few (claim_small claim a p pairs w z over legal is))
+      node_written s w n (λ z is. few_variables w z few (claim_small claim a (narrow_shape a) p pairs w z over legal is))
           (λ m may. subst IsNode (sym (claim_asks claim a p pairs w.start w.past m may)) tt) v.0,
       nodes_written claim a p pairs over (most + 1) (parts s w n ++ ws) ns rest (omega arith) (next_wait s most w ws n all) v.1,
     )

@@ -28,7 +28,7 @@ sample_rows_few a =
     )
 
 pub sample_small : (a : Automaton) (bounds : List Bound) (system : System) → SystemAt (sample_search a) (sampled bounds) system
-    → system.unknowns + length system.rows ≤ 1000000 + length bounds
+    → system.unknowns + length system.rows ≤ 40000000 + length bounds
 sample_small a bounds system is =
     let unknowns = is.unknowns in
     let few = sample_few a in

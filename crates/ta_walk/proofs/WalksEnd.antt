@@ -1,4 +1,5 @@
 -- The walks of patterns for each claim, and the searches for samples, end.
+use Rattle.ta_automaton.proofs.Narrows.{narrow_shape}
 use Rattle.ta_walk.proofs.Common.{◌≡◌, ℕ, ◌^◌, ◌≤◌, ℤ, List, length, reverse, slice_get, take, Some, arith, refl, sym, ap, ◌∙◌, reverse-reverse, Automaton}
 use Rattle.ta_walk.proofs.Common.{File, Pattern, sample_search, Pending, Search, few_unknowns, claim_legal, search_for, Claim, SampleEnd, WalkEnd, HasSystems}
 use Rattle.ta_walk.proofs.Common.{WalksHaveEnds, WordsHaveSystems, Ending, IsWalkEnd, IsVisitEnding, Left, SolutionAt, Solved, Stopped, Whole, IsSampleEnd}
@@ -21,7 +22,7 @@ pattern_has claim file number p at pairs = record {
   systems = λ w comes bounds.
       let legal = claim_legal claim file.automaton p pairs w.start w.past comes in
       let few : length (meanings file.automaton p w.start w.past) ≤ 2 ^ 32 = omega
-      (arith, few_unknowns file.automaton p w.start w.past (pattern_within file number p at) legal) in
+      (arith, few_unknowns file.automaton (narrow_shape file.automaton) p w.start w.past (pattern_within file number p at) legal) in
       claim_system claim file number p pairs w at few bounds;
 }
 

@@ -1,6 +1,6 @@
 -- The tree of a search, node by node: the least-index rule solves each system, and an unknown is split (integer branching) where nothing is
 -- asked.
-use Rattle.std.specs.Prelude.{ℕ, ℤ, pos, ◌<◌, ◌+ℤ◌, ◌*ℤ◌, ◌<ℤ◌, ◌≡◌, ◌⊎◌, List, [], ◌∷◌, ◌++◌, map, slice_get, IsSomeAnd, Option, Some, None}
+use Rattle.std.specs.Prelude.{ℕ, ℤ, pos, ◌<◌, ◌+ℤ◌, ◌*ℤ◌, ◌<ℤ◌, ◌≡◌, ◌⊎◌, List, [], ◌∷◌, ◌++◌, slice_get, IsSomeAnd, Option, Some, None}
 use Rattle.ta_linear.specs.declared.row.System.{System}
 use Rattle.ta_cert.specs.declared.line.Node.{Node}
 use Rattle.ta_cert.specs.declared.line.Node.TheVariants as node

@@ -1,16 +1,14 @@
 -- at rest, the run of a whole node of a pattern with one event ends with the mark of this event
-use Rattle.ta_moments.proofs.Common.{◌≡◌, inl, inr, ℕ, ◌+◌, ◌-◌, ◌≤◌, ℤ, List, [], ◌∷◌, ◌++◌, map, drop, length, Some, Option, arith, ints, sym, ap, ◌∙◌, refl}
-use Rattle.ta_moments.proofs.Common.{subst, append_assoc, append-nil, slice_get, range_with_len, In, Automaton, Pattern, File, after_earlier, pattern_within}
-use Rattle.ta_moments.proofs.Common.{moving_rules, event_vector, end_vector, Node, known_at, of_rest}
+use Rattle.ta_moments.proofs.Common.{◌≡◌, inl, inr, ℕ, ◌+◌, ◌-◌, ℤ, List, [], ◌∷◌, ◌++◌, map, drop, length, Option, arith, ints, sym, ap, ◌∙◌, refl}
+use Rattle.ta_moments.proofs.Common.{subst, append_assoc, append-nil, range_with_len, In, Automaton, Pattern, after_earlier, pattern_within}
+use Rattle.ta_moments.proofs.Common.{moving_rules, end_vector, Node, known_at, of_rest}
 use Rattle.ta_automaton.specs.Runs.{InScope}
-use Rattle.ta_base.proofs.Members.{In-right}
 use Rattle.ta_moments.specs.Whole.{WholeNode}
 use Rattle.ta_moments.specs.Chains.{Counts, NoneFewer, Rising, firings_in}
 use Rattle.ta_moments.specs.Nodes.{counts_of}
 use Rattle.ta_moments.proofs.Resting.{only_last}
 use Rattle.ta_moments.proofs.Segments.{sorted_is_chain}
 use Rattle.ta_replay.specs.Pieces.{Piece, last_lines, piece_lines, pieces_lines, step_line}
-use Rattle.ta_replay.specs.declared.run.Run.{Run}
 use Rattle.ta_replay.specs.declared.run.RunLine.{RunLine}
 use Rattle.ta_replay.specs.declared.run.RunLine.TheVariants.{Mark}
 use Rattle.ta_rest.specs.Endings.{ComesLast}

@@ -1,4 +1,5 @@
 -- making the lists and lines of a run
+use Rattle.ta_automaton.proofs.Narrows.{narrow_shape}
 use Rattle.ta_witness.proofs.Common.{◌≡◌, inl, inr, ℕ, zero, suc, ◌+◌, ◌^◌, ◌<◌, ◌≤◌, ℤ, pos, ◌≤ℤ◌, ◌<ℤ◌, List, [], ◌∷◌, ◌++◌, map, length, take, drop, reverse}
 use Rattle.ta_witness.proofs.Common.{get_or, cond, true, false, Some, None, slice_get, arith, refl, sym, ap, ◌∙◌, subst, append_assoc, append-nil}
 use Rattle.ta_witness.proofs.Common.{length-append, drop-cons, ints, slice_index_or, drop_all, take_more, map-append, length-map, length-take, length-reverse}
@@ -179,7 +180,8 @@ few_elements file p ms solution h =
     let a = file.automaton in
     omega (
       arith,
-      legal_length a p solution.start_mask (reverse solution.word) (pattern_within file solution.pattern p h.named).events_limit h.solved.legal,
+      legal_length a p solution.start_mask (reverse solution.word) (narrow_shape a) (pattern_within file solution.pattern p h.named).events_limit
+          h.solved.legal,
       length-reverse solution.word,
     )
 

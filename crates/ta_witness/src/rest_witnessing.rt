@@ -46,8 +46,8 @@ pub fn own_run(rest: &RestFile, run: Run) -> Run
 }
 
 /// Whether a mask of patterns has a number.
-fn has_pattern(mask: u16, number: u32) -> bool
-    requires { number < 16 }
+fn has_pattern(mask: u64, number: u32) -> bool
+    requires { number < 64 }
     ensures { IsTrue result ↔ IsBitSet mask number }
 {
     mask & (1 << number) != 0

@@ -13,11 +13,11 @@ use crate::stops::stops_of;
 use crate::values::moving_counts;
 use crate::{WitnessFault, parameters_of, starts_of};
 use std::alloc::Global;
+use ta_automaton::Task;
 use ta_base::List;
 use ta_moment_tree::MomentEncoding;
 use ta_replay::{Run, RunFault, replay};
 use ta_scope::ScopedFile;
-use ta_words::Task;
 
 /// The run of a node of the pattern with this number, at natural values of its unknowns at which no
 /// question is left. It is replayed before it is given.

@@ -17,7 +17,7 @@ use ta_base::List;
 use ta_encode::{Meaning, Solution, encode};
 use ta_replay::{Run, RunFault, replay};
 use ta_scope::ScopedFile;
-use ta_words::Task;
+use ta_words::NarrowTask;
 
 /// The run of a solution, which is replayed before it is given: for each element of the word the
 /// arranged steps of its Counts, and then the single step of a Fall, or the mark of an Event.
@@ -47,7 +47,7 @@ fn run_of(alloc: Global, scoped: &ScopedFile, solution: &Solution) -> Result<Run
     ensures shows { IfOk result (λ run. Shows scoped.now.file run) }
     ensures short { IfOk result (λ run. IsShortRun scoped.now.file run) }
 {
-    let task = Task::of(&scoped.file, solution.pattern);
+    let task = NarrowTask::of(&scoped.file, solution.pattern);
     let encoded = encode(alloc, task, solution.start_mask, &solution.word, &[])?;
     let meanings = encoded.meanings.as_slice();
     run_for(alloc, scoped, task.pattern, meanings, solution)

@@ -25,4 +25,4 @@ unfoldable pub use Rattle.ta_words.specs.Words.{children, has_event, has_fallen,
 pub use Rattle.ta_words.specs.declared.element.Element.{Element}
 pub use Rattle.ta_words.specs.declared.element.Element.TheVariants.{Event, Fall, Rise}
 pub use Rattle.ta_words.specs.declared.seen.Seen.{Seen}
-pub use Rattle.ta_words.specs.declared.task.Task.{Task}
+pub use Rattle.ta_words.specs.declared.narrow_task.NarrowTask.{NarrowTask}

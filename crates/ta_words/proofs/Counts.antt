@@ -7,8 +7,9 @@ use Rattle.ta_words.proofs.Common.{◌≡◌, ◌⊎◌, inl, inr, ℕ, ◌+◌,
 use Rattle.ta_words.proofs.Common.{filter, ◌==◌, length-reverse, and_parts, eq-eqb, not-true, or_left, or_right, has_bit, implies, range_with_len, In}
 use Rattle.ta_words.proofs.Common.{all_below-at, some_bit, implies-at, In-left, In-right, cond_more, in_append, in_more, count, count_most, count_new}
 use Rattle.ta_words.proofs.Common.{Automaton, Pattern, has_event, has_rise, has_fallen, is_complete, is_due, is_ready, is_standing, may_rise, children}
-use Rattle.ta_words.proofs.Common.{LegalWord, LegalUnder, Element, Event, Rise, Fall, Task}
+use Rattle.ta_words.proofs.Common.{LegalWord, LegalUnder, Element, Event, Rise, Fall, NarrowTask}
 use Rattle.ta_base.proofs.Ranges.{in_passed, passed_more}
+use Rattle.ta_automaton.specs.Narrow.{IsNarrow}
 
 -- a child is an event that is ready, a rise guard that is not in the word, or a set of standing fall guards
 pub in_children : (a : Automaton) (p : Pattern) (pairs : List (ℕ × ℕ)) (start : ℕ) (past : List Element) (e : Element) → In e (children a p pairs start past)
@@ -111,25 +112,26 @@ legal_weight a p start (e ∷ past) h =
     ]
 
 -- at most 8 events, 16 rise guards and 6 fall guards: 30 elements
-pub legal_length : (a : Automaton) (p : Pattern) (start : ℕ) (past : List Element) → length p.events ≤ 8 → LegalWord a p start past → length past ≤ 30
-legal_length a p start past few h =
+pub legal_length : (a : Automaton) (p : Pattern) (start : ℕ) (past : List Element) → IsNarrow a → length p.events ≤ 8 → LegalWord a p start past
+    → length past ≤ 30
+legal_length a p start past narrow few h =
     omega (
       arith,
       legal_weight a p start past h,
       few,
-      a.shape.limits.rise_limit,
-      a.shape.limits.fall_limit,
+      narrow.rise,
+      narrow.fall,
       count_most (has_event past) (length p.events),
       count_most (has_rise past) (length a.rise),
       count_most (has_fallen start past) (length a.fall),
     )
 
 -- there is room for a child of a legal word
-pub room : (t : Task) (start : ℕ) (pairs : List (ℕ × ℕ)) (word listed : List Element) (e : Element)
+pub room : (t : NarrowTask) (start : ℕ) (pairs : List (ℕ × ℕ)) (word listed : List Element) (e : Element)
     → LegalWord t.automaton.now t.pattern.now start (reverse word) → listed ≡ children t.automaton.now t.pattern.now pairs start (reverse word) → In e listed
     → length word < 30
 room t start pairs word listed e legal is h =
     let a = t.automaton.now in
     let p = t.pattern.now in
     let child : In e (children a p [] start (reverse word)) = under_none a p pairs start (reverse word) e (subst (In e) is h) in
-    omega (arith, legal_length a p start (e ∷ reverse word) t.over.events_limit (child, legal), length-reverse word)
+    omega (arith, legal_length a p start (e ∷ reverse word) t.narrow t.over.events_limit (child, legal), length-reverse word)

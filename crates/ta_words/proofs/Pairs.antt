@@ -41,7 +41,8 @@ same_children a p xs ys start past same =
     (fun_ext (λ i. ap (λ b. b && not (has_rise past i)) (same_due xs ys past i same)))
 
 -- the mask of the guards before one tells whether it is due
-pub due_by_mask : (pairs : List (ℕ × ℕ)) (rise mask n : ℕ) (seen : Seen) (start : ℕ) (past : List Element) → mask < 2 ^ n → n ≤ 32 → NamesBefore pairs rise mask
+pub due_by_mask : (pairs : List (ℕ × ℕ)) (rise mask n : ℕ) (seen : Seen) (start : ℕ) (past : List Element) → mask < 2 ^ n → n ≤ 128
+    → NamesBefore pairs rise mask
     → IsSeen seen start past
     → all_below n (λ j. implies (has_bit mask j) (has_bit seen.rises j)) ≡ is_due pairs past rise
 due_by_mask pairs rise mask n seen start past within few names is =
@@ -57,8 +58,9 @@ due_by_mask pairs rise mask n seen start past within few names is =
     (λ j b. implies-from (has_bit mask j) (has_bit seen.rises j) (λ bit. is.rises j (omega arith) ∙ due_at pairs past rise j t ((names j).0 bit))))
 
 -- so it tells whether a guard may come that isn't in the word
-pub may_by_mask : (pairs : List (ℕ × ℕ)) (rise mask from n : ℕ) (seen : Seen) (start : ℕ) (past : List Element) (r : Bool) → from ≡ mask → mask < 2 ^ n → n ≤ 32
-    → rise < 32 → has_bit seen.rises rise ≡ false
+pub may_by_mask : (pairs : List (ℕ × ℕ)) (rise mask from n : ℕ) (seen : Seen) (start : ℕ) (past : List Element) (r : Bool) → from ≡ mask → mask < 2 ^ n
+    → n ≤ 128
+    → rise < 128 → has_bit seen.rises rise ≡ false
     → ((k : ℕ) → from < 2 ^ k → r ≡ all_below k (λ j. implies (has_bit from j) (has_bit seen.rises j)))
     → NamesBefore pairs rise mask → IsSeen seen start past → r ≡ may_rise pairs past rise
 may_by_mask pairs rise mask from n seen start past r same within few below new told names is =

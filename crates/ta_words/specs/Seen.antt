@@ -9,8 +9,8 @@ use Rattle.ta_words.specs.declared.seen.Seen.{Seen}
 
 -- the masks of the events, the rise guards and the fallen fall guards of a schema
 pub record IsSeen (seen : Seen) (start : ℕ) (past : List Element) : Type 0 where
-  pub events : (e : ℕ) → e < 32 → has_bit seen.events e ≡ has_event past e
-  pub rises : (i : ℕ) → i < 32 → has_bit seen.rises i ≡ has_rise past i
+  pub events : (e : ℕ) → e < 128 → has_bit seen.events e ≡ has_event past e
+  pub rises : (i : ℕ) → i < 128 → has_bit seen.rises i ≡ has_rise past i
   pub fallen : (j : ℕ) → has_bit seen.fallen j ≡ has_fallen start past j
 
 -- at most 8 events, which come after events of the pattern

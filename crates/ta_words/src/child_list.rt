@@ -3,6 +3,7 @@
 
 ghost use Rattle.std.specs.Prelude.{ℕ, ◌+◌, ◌-◌, ◌≡◌, ◌≤◌, ◌<◌, ◌^◌, ◌++◌, ◌∷◌, ◌↔◌, IsTrue, List, [], filter, length, map};
 ghost use Rattle.ta_words.specs.declared.element.Element.TheVariants.{Event, Fall, Rise};
+ghost use Rattle.ta_automaton.specs.Narrow.{IsNarrow};
 ghost use Rattle.ta_base.specs.Masks.{In};
 ghost use Rattle.std.specs.List.{range_with_len};
 ghost use Rattle.ta_words.specs.Seen.{EventsNamed, IsSeen};
@@ -80,7 +81,8 @@ impl Children {
     }
 
     pub(crate) fn push_rises(&mut self, automaton: &Automaton, orders: &Orders, seen: Seen)
-        requires { length self.old + MOST_RISES ≤ MOST_CHILDREN }
+        requires narrow { IsNarrow automaton.now }
+        requires room { length self.old + MOST_RISES ≤ MOST_CHILDREN }
         ensures { (start : ℕ) (past : List Element) → IsSeen seen start past
             → self.new ≡ self.old ++ map Rise (filter (may_rise orders.now past) (range_with_len 0 (length automaton.now.rise))) }
     {
@@ -92,7 +94,8 @@ impl Children {
     }
 
     pub(crate) fn push_falls(&mut self, automaton: &Automaton, seen: Seen)
-        requires { length self.old + MOST_FALL_SETS ≤ MOST_CHILDREN }
+        requires narrow { IsNarrow automaton.now }
+        requires room { length self.old + MOST_FALL_SETS ≤ MOST_CHILDREN }
         ensures { (start : ℕ) (past : List Element) → IsSeen seen start past
             → self.new ≡ self.old ++ map Fall (filter (is_standing automaton.now start past) (range_with_len 1 (2 ^ length automaton.now.fall - 1))) }
     {

@@ -16,15 +16,20 @@ ghost use Rattle.ta_words.specs.Words.{children, has_fallen, has_rise, is_comple
 
 use crate::child_list::Children;
 use crate::element::Element;
+use crate::narrow_task::NarrowTask;
 use crate::seen::Seen;
-use crate::task::Task;
 use crate::word::Word;
 use ta_automaton::{Automaton, Rule};
 use ta_implied::Orders;
 
 /// The elements that may follow others under pairs of rise guards, in order; a complete word has
 /// none.
-pub fn children(task: Task<'_>, start_mask: u8, orders: &Orders, elements: &[Element]) -> Children
+pub fn children(
+    task: NarrowTask<'_>,
+    start_mask: u8,
+    orders: &Orders,
+    elements: &[Element],
+) -> Children
     ensures { result ≡ children task.entry.automaton.now task.entry.pattern.now orders.now start_mask (reverse elements.now) }
 {
     let seen = Seen::of(start_mask, elements);
@@ -38,21 +43,21 @@ pub fn children(task: Task<'_>, start_mask: u8, orders: &Orders, elements: &[Ele
 }
 
 /// Whether each event of the pattern is among some elements.
-pub fn is_complete(task: Task<'_>, elements: &[Element]) -> bool
+pub fn is_complete(task: NarrowTask<'_>, elements: &[Element]) -> bool
     ensures { result ≡ is_complete task.entry.pattern.now (reverse elements.now) }
 {
     Seen::of(0, elements).is_complete(task.pattern)
 }
 
 /// The rules that are allowed after a word: bit r for rule r.
-pub fn allowed_rules(task: Task<'_>, start_mask: u8, word: &Word) -> u128
+pub fn allowed_rules(task: NarrowTask<'_>, start_mask: u8, word: &Word) -> u128
     ensures { (r : ℕ) → has_bit result r ≡ may_fire task.entry.automaton.now task.entry.pattern.now start_mask (reverse word.now) (slice_get task.entry.automaton.now.rules r) }
 {
     allowed_after(task, start_mask, word.elements())
 }
 
 /// The rules that are allowed after some elements: bit r for rule r.
-pub fn allowed_after(task: Task<'_>, start_mask: u8, elements: &[Element]) -> u128
+pub fn allowed_after(task: NarrowTask<'_>, start_mask: u8, elements: &[Element]) -> u128
     ensures { (r : ℕ) → has_bit result r ≡ may_fire task.entry.automaton.now task.entry.pattern.now start_mask (reverse elements.now) (slice_get task.entry.automaton.now.rules r) }
 {
     let seen = Seen::of(start_mask, elements);
@@ -66,15 +71,15 @@ pub fn allowed_after(task: Task<'_>, start_mask: u8, elements: &[Element]) -> u1
 }
 
 /// The fall guards that are in the start set or have fallen in some elements: bit j for fall guard j.
-pub fn fallen_after(start_mask: u8, elements: &[Element]) -> u32
+pub fn fallen_after(start_mask: u8, elements: &[Element]) -> u128
     ensures { (j : ℕ) → has_bit result j ≡ has_fallen start_mask (reverse elements.now) j }
 {
     Seen::of(start_mask, elements).fallen
 }
 
 /// The rise guards that are in some elements: bit i for rise guard i.
-pub fn risen_after(elements: &[Element]) -> u32
-    ensures { (i : ℕ) → i < 32 → has_bit result i ≡ has_rise (reverse elements.now) i }
+pub fn risen_after(elements: &[Element]) -> u128
+    ensures { (i : ℕ) → i < 128 → has_bit result i ≡ has_rise (reverse elements.now) i }
 {
     Seen::of(0, elements).rises
 }

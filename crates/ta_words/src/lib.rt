@@ -11,8 +11,8 @@
 mod child_list;
 mod element;
 mod following;
+mod narrow_task;
 mod seen;
-mod task;
 mod word;
 
 pub use child_list::Children;
@@ -20,5 +20,5 @@ pub use element::Element;
 pub use following::{
     allowed_after, allowed_rules, children, fallen_after, is_complete, is_unlocked, risen_after,
 };
-pub use task::Task;
+pub use narrow_task::NarrowTask;
 pub use word::Word;

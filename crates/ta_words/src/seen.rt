@@ -14,9 +14,9 @@ use ta_base::masks;
 /// The masks of a word's events and rise guards, and of the fall guards that are in the start set or have fallen.
 #[derive(Clone, Copy)]
 pub(crate) struct Seen {
-    pub(crate) events: u32,
-    pub(crate) rises: u32,
-    pub(crate) fallen: u32,
+    pub(crate) events: u128,
+    pub(crate) rises: u128,
+    pub(crate) fallen: u128,
 }
 
 impl Seen {
@@ -27,7 +27,7 @@ impl Seen {
         let mut seen = Seen {
             events: 0,
             rises: 0,
-            fallen: u32::from(start_mask),
+            fallen: u128::from(start_mask),
         };
         for element in word {
             seen = seen.with(*element);
@@ -48,7 +48,7 @@ impl Seen {
                 ..self
             },
             Element::Fall(fall) => Seen {
-                fallen: masks::union(self.fallen, u32::from(fall)),
+                fallen: masks::union(self.fallen, u128::from(fall)),
                 ..self
             },
         }
@@ -59,26 +59,26 @@ impl Seen {
         requires { length pattern.now.events ≤ 8 }
         ensures { (start : ℕ) (past : List Element) → IsSeen self start past → result ≡ is_complete pattern.now past }
     {
-        let all = (1u32 << pattern.events.as_slice().len()) - 1;
+        let all = (1u128 << pattern.events.as_slice().len()) - 1;
         masks::is_subset(all, self.events)
     }
 
     /// Whether an event is not in the word, and those that it comes after are.
     pub(crate) fn is_ready(self, event: u32, after: u8) -> bool
-        requires { event < 32 }
-        ensures { (start : ℕ) (past : List Element) (n : ℕ) → IsSeen self start past → after < 2 ^ n → n ≤ 32
+        requires { event < 128 }
+        ensures { (start : ℕ) (past : List Element) (n : ℕ) → IsSeen self start past → after < 2 ^ n → n ≤ 128
             → result ≡ (not (has_event past event) && all_below n (λ f. implies (has_bit after f) (has_event past f))) }
     {
-        !masks::contains(self.events, event) && masks::is_subset(u32::from(after), self.events)
+        !masks::contains(self.events, event) && masks::is_subset(u128::from(after), self.events)
     }
 
     /// Whether a rise guard is not in the word, and the set of those that come before it is.
-    pub(crate) fn may_rise(self, rise: u32, before: u16) -> bool
-        requires { rise < 32 }
+    pub(crate) fn may_rise(self, rise: u32, before: u64) -> bool
+        requires { rise < 128 }
         ensures { (start : ℕ) (past : List Element) (pairs : List (ℕ × ℕ)) → IsSeen self start past → NamesBefore pairs rise before
             → result ≡ may_rise pairs past rise }
     {
-        !masks::contains(self.rises, rise) && masks::is_subset(u32::from(before), self.rises)
+        !masks::contains(self.rises, rise) && masks::is_subset(u128::from(before), self.rises)
     }
 
     /// Whether no fall guard of a set is in the start set or has fallen.
@@ -86,7 +86,7 @@ impl Seen {
         requires { falls < 2 ^ length automaton.now.fall }
         ensures { (start : ℕ) (past : List Element) → IsSeen self start past → result ≡ is_standing automaton.now start past falls }
     {
-        masks::is_disjoint(u32::from(falls), self.fallen)
+        masks::is_disjoint(u128::from(falls), self.fallen)
     }
 
     /// Whether a rule is allowed after the word.
@@ -104,15 +104,15 @@ impl Seen {
             → result ≡ (all_below (length automaton.now.rise) (λ i. implies (has_bit rule.now.rise i) (has_rise past i))
             && all_below (length automaton.now.fall) (λ j. implies (has_bit rule.now.fall j) (not (has_fallen start past j)))) }
     {
-        masks::is_subset(u32::from(rule.rise), self.rises)
-            && masks::is_disjoint(u32::from(rule.fall), self.fallen)
+        masks::is_subset(u128::from(rule.rise), self.rises)
+            && masks::is_disjoint(u128::from(rule.fall), self.fallen)
     }
 }
 
 /// Whether a rule leads to another location, and neither is in a set.
-fn moves_outside(rule: &Rule, locations: u32) -> bool
-    requires from { rule.now.from < 32 }
-    requires to { rule.now.to < 32 }
+fn moves_outside(rule: &Rule, locations: u128) -> bool
+    requires from { rule.now.from < 128 }
+    requires to { rule.now.to < 128 }
     ensures { result ≡ (not (rule.now.from == rule.now.to) && (not (has_bit locations rule.now.from) && not (has_bit locations rule.now.to))) }
 {
     if rule.from == rule.to {

@@ -7,7 +7,7 @@ ghost use Rattle.ta_words.specs.Words.{LegalWord, children};
 
 use crate::element::Element;
 use crate::following::children;
-use crate::task::Task;
+use crate::narrow_task::NarrowTask;
 use arrayvec::ArrayVec;
 use std::marker::Model;
 use ta_base::limits::LONGEST_WORD;
@@ -85,7 +85,7 @@ impl Word {
     /// may.
     pub fn push(
         &mut self,
-        task: Task<'_>,
+        task: NarrowTask<'_>,
         start_mask: u8,
         orders: &Orders,
         element: Element,

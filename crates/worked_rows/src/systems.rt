@@ -16,7 +16,7 @@ use ta_encode::{Bound, Encoded, Meaning, Side, encode, unknown_count};
 use ta_implied::Orders;
 use ta_linear::System;
 use ta_simplex::{End, SolveFault, solve};
-use ta_words::{Element, Task, Word, allowed_rules, children, is_complete};
+use ta_words::{Element, NarrowTask, Word, allowed_rules, children, is_complete};
 
 /// Writes what a row of a word of pattern 0 gives.
 pub fn of_word(given: &mut Given, file: &File, what: &str, rest: &str) -> Result<(), AllocError> {
@@ -25,7 +25,7 @@ pub fn of_word(given: &mut Given, file: &File, what: &str, rest: &str) -> Result
     if file.patterns.as_slice().is_empty() {
         return given.end("no word of pattern 0");
     }
-    let task = Task::of(file, 0);
+    let task = NarrowTask::of(file, 0);
     match word_of(task, start_mask, rest) {
         Some(word) => of_task(given, task, start_mask, &word, what, rest),
         None => given.end("no word of pattern 0"),
@@ -33,7 +33,7 @@ pub fn of_word(given: &mut Given, file: &File, what: &str, rest: &str) -> Result
 }
 
 /// The word of the elements that words name, where each is a child of those before it.
-fn word_of(task: Task<'_>, start_mask: u8, rest: &str) -> Option<Word>
+fn word_of(task: NarrowTask<'_>, start_mask: u8, rest: &str) -> Option<Word>
     ensures { IfSome result (λ word. LegalWord task.entry.automaton.now task.entry.pattern.now start_mask (reverse word)) }
 {
     let orders = Orders::new();
@@ -64,7 +64,7 @@ fn element_of(name: &str) -> Option<Element> {
 
 fn of_task(
     given: &mut Given,
-    task: Task<'_>,
+    task: NarrowTask<'_>,
     start_mask: u8,
     word: &Word,
     what: &str,
@@ -101,7 +101,7 @@ fn of_system(given: &mut Given, encoded: &Encoded, what: &str, rest: &str) {
 /// floor.
 fn bounded(
     given: &mut Given,
-    task: Task<'_>,
+    task: NarrowTask<'_>,
     start_mask: u8,
     word: &Word,
     rest: &str,
@@ -191,7 +191,7 @@ fn say_unknown(given: &mut Given, meaning: Meaning) {
 }
 
 /// The children of a word, the mask of the rules that it allows, and whether it is complete.
-fn following(given: &mut Given, task: Task<'_>, start_mask: u8, word: &Word)
+fn following(given: &mut Given, task: NarrowTask<'_>, start_mask: u8, word: &Word)
     requires { LegalWord task.automaton.now task.pattern.now start_mask (reverse word.now) }
 {
     given.say("children");

@@ -5,8 +5,8 @@ use Rattle.ta_linear.specs.declared.row.System.{System}
 use Rattle.ta_automaton.specs.declared.automaton.Automaton.{Automaton}
 use Rattle.ta_automaton.specs.declared.pattern.Pattern.{Pattern}
 use Rattle.ta_words.specs.declared.element.Element.{Element}
-use Rattle.ta_encode.specs.Unknowns.{Meaning, meanings}
-use Rattle.ta_encode.specs.System.{Bound, LinearRow, bound_row, word_rows}
+use Rattle.ta_encode.specs.Unknowns.{Meaning, meanings, start_meanings}
+use Rattle.ta_encode.specs.System.{Bound, LinearRow, bound_row, open_rows, word_rows}
 use Rattle.ta_encode.specs.Code.{AreRowsOf}
 use Rattle.ta_encode.specs.Inside.Lines.{AddsRows, AreWritten, IsBehind}
 use Rattle.ta_encode.specs.declared.draft.Draft.{Draft}
@@ -16,6 +16,12 @@ use Rattle.ta_encode.specs.declared.origin.Origin.{Origin}
 pub record IsDraftOf (a : Automaton) (p : Pattern) (start : ℕ) (past : List Element) (unknowns : List Meaning) (rows : List Row) : Type 0 where
   pub unknowns_are : unknowns ≡ meanings a p start past
   pub rows_are : AreWritten (word_rows a p start past) (length unknowns) rows
+
+-- a draft of the start without its fall guards
+pub record IsOpen (a : Automaton) (p : Pattern) (draft : Draft) : Type 0 where
+  pub automaton_is : draft.automaton.now ≡ a
+  pub unknowns_are : draft.meanings.items ≡ start_meanings a p
+  pub rows_are : AreWritten (open_rows a p) (length draft.meanings.items) draft.rows.items
 
 -- a draft of a schema
 pub record IsDraft (o : Origin) (past : List Element) (draft : Draft) : Type 0 where

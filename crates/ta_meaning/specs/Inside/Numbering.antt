@@ -119,8 +119,8 @@ WithBit mask n more = (i : ℕ) → IsBitSet more i ↔ (IsBitSet mask i ⊎ (i 
 
 -- a number that has a bit in its mask
 abbrev pub NumberFits : GuardNumber → Type 0
-NumberFits (number.Rise n) = n < 16
-NumberFits (number.Fall n) = n < 8
+NumberFits (number.Rise n) = n < 64
+NumberFits (number.Fall n) = n < 16
 
 -- masks with one more guard
 abbrev pub WithNumber : GuardMasks → GuardNumber → GuardMasks → Type 0

@@ -24,7 +24,7 @@ returns-in-Absent-clause-taken g c =
     let d = c.args.cursor.now in
     let z = c.system-system.result.now in
     let is = subst (WithoutBounds search (here d)) (sym c.system-system.ensures) c.in_ok-grow.ensures.system in
-    let small : z.unknowns ≤ 1000000 = subst (λ (s : System). s.unknowns ≤ 1000000) (sym c.system-system.ensures) c.in_ok-grow.ensures.small in
+    let small : z.unknowns ≤ 40000000 = subst (λ (s : System). s.unknowns ≤ 40000000) (sym c.system-system.ensures) c.in_ok-grow.ensures.small in
     let told = rw c.in-Absent.is at
     (c.in_ok-row.ensures (search.rows d.start (reverse d.facts.items)) (unbounded_rows search d.start (reverse d.facts.items) z is)) in
     inr (record {
@@ -47,7 +47,7 @@ returns-in-Ok-clause-taken g c =
     let rows = c.in-Rows.rows in
     let ts = c.args.multipliers.now in
     let is = subst (WithoutBounds search (here d)) (sym c.system-system.ensures) c.in_ok-grow.ensures.system in
-    let small : z.unknowns ≤ 1000000 = subst (λ (s : System). s.unknowns ≤ 1000000) (sym c.system-system.ensures) c.in_ok-grow.ensures.small in
+    let small : z.unknowns ≤ 40000000 = subst (λ (s : System). s.unknowns ≤ 40000000) (sym c.system-system.ensures) c.in_ok-grow.ensures.small in
     let told = rw c.in-Rows.is at (c.in_ok-row.ensures (search.rows d.start (reverse d.facts.items))
     (unbounded_rows search d.start (reverse d.facts.items) z is)) in
     let named = named_here search d z rows c.bounds.result.now ts c.requires.word small is c.bounds.ensures told in
@@ -63,7 +63,7 @@ returns-clause-taken g c =
     let rows = c.in-Rows.rows in
     let ts = c.args.multipliers.now in
     let is = subst (WithoutBounds search (here d)) (sym c.system-system.ensures) c.in_ok-grow.ensures.system in
-    let small : z.unknowns ≤ 1000000 = subst (λ (s : System). s.unknowns ≤ 1000000) (sym c.system-system.ensures) c.in_ok-grow.ensures.small in
+    let small : z.unknowns ≤ 40000000 = subst (λ (s : System). s.unknowns ≤ 40000000) (sym c.system-system.ensures) c.in_ok-grow.ensures.small in
     let told = rw c.in-Rows.is at (c.in_ok-row.ensures (search.rows d.start (reverse d.facts.items))
     (unbounded_rows search d.start (reverse d.facts.items) z is)) in
     let named = named_here search d z rows c.bounds.result.now ts c.requires.word small is c.bounds.ensures told in

@@ -10,9 +10,9 @@ returns c =
     let shared = ap (λ (xs : List (List ℕ)). length xs) c.as_slice.ensures in
     let locations = ap (λ (xs : List (List ℕ)). length xs) c.as_slice-2.ensures in
     let limits = a.shape.limits in
-    let few : more ≤ 48 = omega arith in
+    let few : more ≤ 192 = omega arith in
     let items : c.as_mut_slice.result.now ≡ parameters ++ replicate more (pos 0) = c.as_mut_slice.ensures.value ∙ c.with_zeros-values.ensures
-    ∙ ap (λ (xs : List ℤ). parameters ++ xs) (take-replicate more 48 (pos 0) few) in
+    ∙ ap (λ (xs : List ℤ). parameters ++ xs) (take-replicate more 192 (pos 0) few) in
     let begun : Filling a parameters c.args.counts.now c.as_mut_slice.result.now 0 = subst (λ (xs : List ℤ). Filling a parameters c.args.counts.now xs 0)
     (sym items) (fill_start a parameters c.args.counts.now more c.requires.parameters c.requires.parameters_natural (omega arith)) in
     let count : length c.fill_counts.new.values ≡ length c.with_zeros-values.result.items = c.fill_counts.auto.values

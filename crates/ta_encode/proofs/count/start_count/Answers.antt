@@ -36,11 +36,12 @@ loop-location-preserved c =
     elim c.if-pattern-location-eq0.branch [
       | then-pattern-location-eq0 w ↦
           (let e = w.count-is in
-          let one = items_one test items i 0 c.loop-location-test.true (ap not (bit_off 32 c.args.pattern.now.empty l within w.if-pattern-location-eq0.true)) in
+          let one = items_one test items i 0 c.loop-location-test.true (ap not (bit_off 128 c.args.pattern.now.empty l within w.if-pattern-location-eq0.true))
+          in
           omega arith)
       | else-pattern-location-eq0 w ↦
           (let e = w.count-is in
-          let none = items_none test items i 0 c.loop-location-test.true (ap not (bit_on 32 c.args.pattern.now.empty l within w.if-pattern-location-eq0.false))
+          let none = items_none test items i 0 c.loop-location-test.true (ap not (bit_on 128 c.args.pattern.now.empty l within w.if-pattern-location-eq0.false))
           in omega arith)
     ]
 

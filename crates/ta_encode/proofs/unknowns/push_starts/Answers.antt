@@ -24,11 +24,11 @@ loop-location-preserved c =
           ap (λ v. v.items) w.meanings-is ∙ w.in_ok-push.ensures.items ∙ ap (λ ms. ms ++ Start l ∷ []) c.loop-location.invariant
           ∙ append_assoc before done (Start l ∷ [])
           ∙ ap (λ ms. before ++ ms) (item_one Start test items i 0 c.loop-location-test.true
-          (ap not (bit_off 32 c.args.empty l within w.if-empty-location-eq0.true)))
+          (ap not (bit_off 128 c.args.empty l within w.if-empty-location-eq0.true)))
       | else-empty-location-eq0 w ↦
           ap (λ v. v.items) w.meanings-is ∙ c.loop-location.invariant
           ∙ ap (λ ms. before ++ ms) (item_none Start test items i 0 c.loop-location-test.true
-          (ap not (bit_on 32 c.args.empty l within w.if-empty-location-eq0.false)))
+          (ap not (bit_on 128 c.args.empty l within w.if-empty-location-eq0.false)))
     ]
 
 pub loop-location-init : goal.loop-location-init

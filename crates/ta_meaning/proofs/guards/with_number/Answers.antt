@@ -1,5 +1,5 @@
 use Rattle.ta_base.proofs.Bits.{one_bit_more}
-use Rattle.ta_meaning.proofs.Common.{refl, w8, w16, bit_at_set_same, bit_at_set_other}
+use Rattle.ta_meaning.proofs.Common.{refl, w16, w64, bit_at_set_same, bit_at_set_other}
 use Rattle.ta_meaning.proofs.guards.with_number.Goals as goal
 
 pub returns-in-Rise : goal.returns-in-Rise
@@ -7,11 +7,11 @@ returns-in-Rise c =
     let mask = c.args.masks.rise in
     let n = c.in-Rise.number in
     let fits = rw c.in-Rise.is at c.requires in
-    rw c.in-Rise.is (one_bit_more mask n _ (bit_at_set_same w16 mask n fits) (λ i ne. bit_at_set_other w16 mask n fits i ne), refl)
+    rw c.in-Rise.is (one_bit_more mask n _ (bit_at_set_same w64 mask n fits) (λ i ne. bit_at_set_other w64 mask n fits i ne), refl)
 
 pub returns-in-Fall : goal.returns-in-Fall
 returns-in-Fall c =
     let mask = c.args.masks.fall in
     let n = c.in-Fall.number in
     let fits = rw c.in-Fall.is at c.requires in
-    rw c.in-Fall.is (refl, one_bit_more mask n _ (bit_at_set_same w8 mask n fits) (λ i ne. bit_at_set_other w8 mask n fits i ne))
+    rw c.in-Fall.is (refl, one_bit_more mask n _ (bit_at_set_same w16 mask n fits) (λ i ne. bit_at_set_other w16 mask n fits i ne))

@@ -16,8 +16,8 @@ loop-place-init c =
     (sym (to_z_abs c.args.constant 1000000000 c.requires.constant (omega arith))) c.requires.constant in
     record {
       rest = ap (λ (f : UnknownForm). plus_form f (terms_form point c.args.terms.now)) is;
-      small = subst (λ (f : UnknownForm). SmallBy (1000000000 + 0 * 6800000000000000000000) f) (sym is)
-          (small_more 1000000000 (1000000000 + 0 * 6800000000000000000000) _ (omega arith) (small_number 1000000000 z small));
+      small = subst (λ (f : UnknownForm). SmallBy (1000000000 + 0 * 52700000000000000000000) f) (sym is)
+          (small_more 1000000000 (1000000000 + 0 * 52700000000000000000000) _ (omega arith) (small_number 1000000000 z small));
     }
 
 pub product_at-requires-clause-coefficient : goal.product_at-requires-clause-coefficient
@@ -30,10 +30,10 @@ pub plus-requires-clause-left : goal.plus-requires-clause-left
 plus-requires-clause-left c =
     let b = c.loop-place-test.true in
     let few = c.requires.terms.few in
-    small_more (1000000000 + c.loop-place.place-index * 6800000000000000000000) (2 ^ 120) _ (omega arith) c.loop-place.invariant.small
+    small_more (1000000000 + c.loop-place.place-index * 52700000000000000000000) (2 ^ 120) _ (omega arith) c.loop-place.invariant.small
 
 pub plus-requires-clause-right : goal.plus-requires-clause-right
-plus-requires-clause-right c = small_more 6800000000000000000000 (2 ^ 120) _ (omega arith) c.in_ok-product.ensures.small
+plus-requires-clause-right c = small_more 52700000000000000000000 (2 ^ 120) _ (omega arith) c.in_ok-product.ensures.small
 
 pub loop-place-preserved : goal.loop-place-preserved
 loop-place-preserved c =
@@ -47,9 +47,9 @@ loop-place-preserved c =
     ∙ ap (λ (z : ℤ). times_form z (point term.0)) clean in
     record {
       rest = terms_more point ts i (0, pos 0) total _ _ c.loop-place-test.true (c.in_ok-total.ensures ∙ ap (plus_form total) is) c.loop-place.invariant.rest;
-      small = subst (λ (f : UnknownForm). SmallBy (1000000000 + (i + 1) * 6800000000000000000000) f) (sym c.in_ok-total.ensures)
-          (small_more ((1000000000 + i * 6800000000000000000000) + 6800000000000000000000) (1000000000 + (i + 1) * 6800000000000000000000) _ (omega arith)
-          (small_plus (1000000000 + i * 6800000000000000000000) 6800000000000000000000 total _ c.loop-place.invariant.small c.in_ok-product.ensures.small));
+      small = subst (λ (f : UnknownForm). SmallBy (1000000000 + (i + 1) * 52700000000000000000000) f) (sym c.in_ok-total.ensures)
+          (small_more ((1000000000 + i * 52700000000000000000000) + 52700000000000000000000) (1000000000 + (i + 1) * 52700000000000000000000) _ (omega arith)
+          (small_plus (1000000000 + i * 52700000000000000000000) 52700000000000000000000 total _ c.loop-place.invariant.small c.in_ok-product.ensures.small));
     }
 
 pub returns-clause-value : goal.returns-clause-value
@@ -62,5 +62,5 @@ pub returns-clause-small : goal.returns-clause-small
 returns-clause-small c =
     let few = c.requires.terms.few in
     let high = c.loop-place.auto.place-index-end in
-    small_more (1000000000 + c.loop-place.place-index * 6800000000000000000000) (17000000000 * 400 * 1000000000 * 65) _ (omega arith)
+    small_more (1000000000 + c.loop-place.place-index * 52700000000000000000000) (17000000000 * 3100 * 1000000000 * 225) _ (omega arith)
     c.loop-place.invariant.small

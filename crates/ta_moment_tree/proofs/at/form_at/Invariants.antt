@@ -9,5 +9,5 @@ invariant-loop-place l = record {
   rest : plus_form (form_of l.total)
       (terms_form (place_form l.plan.task.automaton.now l.plan.task.pattern.now (vector_of l.vector)) (drop l.place-index l.terms))
       ≡ plus_form (number_form l.constant) (terms_form (place_form l.plan.task.automaton.now l.plan.task.pattern.now (vector_of l.vector)) l.terms);
-  small : SmallBy (1000000000 + l.place-index * (17000000000 * 400 * 1000000000)) (form_of l.total);
+  small : SmallBy (1000000000 + l.place-index * (17000000000 * 3100 * 1000000000)) (form_of l.total);
 }

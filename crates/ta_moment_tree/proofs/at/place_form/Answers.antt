@@ -50,4 +50,4 @@ returns-clause-small c =
     let same = ap (λ (rs : List ℕ). length rs) (c.as_slice-rule-items.ensures.value ∙ c.requires.plan.moving) in
     let few = moving_few c.args.plan.now.task.automaton.now c.args.plan.now.task.pattern.now in
     let high = c.loop-rule.auto.rule-index-end in
-    small_more (17000000000 + c.loop-rule.rule-index * 51000000000) (17000000000 * 400) _ (omega arith) c.loop-rule.invariant.small
+    small_more (17000000000 + c.loop-rule.rule-index * 51000000000) (17000000000 * 3100) _ (omega arith) c.loop-rule.invariant.small

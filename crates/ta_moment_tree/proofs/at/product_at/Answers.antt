@@ -10,7 +10,7 @@ times-requires-clause-factor c =
     subst (λ (z : ℤ). unsigned_abs z ≤ 2 ^ 40) (sym (to_z_abs c.args.coefficient 1000000000 small (omega arith))) (omega arith)
 
 pub times-requires-clause-form : goal.times-requires-clause-form
-times-requires-clause-form c = small_more (17000000000 * 400) (2 ^ 80) _ (omega arith) c.in_ok-value.ensures.small
+times-requires-clause-form c = small_more (17000000000 * 3100) (2 ^ 80) _ (omega arith) c.in_ok-value.ensures.small
 
 pub returns : goal.returns
 returns c =
@@ -20,6 +20,6 @@ returns c =
     ∙ ap (λ (y : ℤ). times_form y value) (to_z_abs z 1000000000 c.requires.coefficient (omega arith)) in
     record {
       value = is ∙ ap (times_form z) c.in_ok-value.ensures.value;
-      small = subst (λ (f : UnknownForm). SmallBy 6800000000000000000000 f) (sym is)
-          (small_times 1000000000 6800000000000 z value c.requires.coefficient c.in_ok-value.ensures.small);
+      small = subst (λ (f : UnknownForm). SmallBy 52700000000000000000000 f) (sym is)
+          (small_times 1000000000 52700000000000 z value c.requires.coefficient c.in_ok-value.ensures.small);
     }

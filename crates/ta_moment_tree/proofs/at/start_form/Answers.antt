@@ -14,6 +14,8 @@ invariant_of-result c =
     let high = c.loop-unknown.auto.unknown-end in
     let same = ap (λ (ms : List Meaning). length ms) (c.as_slice-meaning-items.ensures ∙ c.requires.starts) in
     let most = start_few t.automaton.now t.pattern.now in
+    let parameters = t.automaton.now.shape.limits.parameters_limit in
+    let locations = t.automaton.now.shape.limits.locations_limit in
     omega arith
     ) in
     record {
@@ -56,4 +58,6 @@ overflow_cast-unknown c =
     let b = c.loop-unknown-test.true in
     let same = ap (λ (ms : List Meaning). length ms) (c.as_slice-meaning-items.ensures ∙ c.requires.starts) in
     let most = start_few t.automaton.now t.pattern.now in
+    let parameters = t.automaton.now.shape.limits.parameters_limit in
+    let locations = t.automaton.now.shape.limits.locations_limit in
     omega arith

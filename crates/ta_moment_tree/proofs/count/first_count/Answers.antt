@@ -1,21 +1,21 @@
 use Rattle.std.proofs.Common.{◌≡◌, ◌+◌, ◌*◌, ◌<◌, ◌≤◌, ◌^◌, length, arith, ap, refl, ◌∙◌}
 use Rattle.ta_encode.specs.Unknowns.{start_meanings}
 use Rattle.ta_moments.specs.Facts.{moving_rules}
-use Rattle.ta_moment_tree.proofs.Beginning.{count_room, meanings_none}
+use Rattle.ta_moment_tree.proofs.Beginning.{count_room}
 use Rattle.ta_moment_tree.proofs.count.first_count.Goals as goal
 use Rattle.ta_moment_tree.proofs.count.first_count.Goals.{After-moving_count}
 
-value : (c : After-moving_count) → c.unknown_count-starts.result + length c.as_slice.result.now * c.moving_count.result ≡ length
+value : (c : After-moving_count) → c.start_count-starts.result + length c.as_slice.result.now * c.moving_count.result ≡ length
     (start_meanings c.args.task.automaton.now c.args.task.pattern.now) + length c.args.task.pattern.now.events * length
     (moving_rules c.args.task.automaton.now c.args.task.pattern.now)
 value c =
     let a = c.args.task.automaton.now in
     let p = c.args.task.pattern.now in
-    ap (λ n. n + length c.as_slice.result.now * c.moving_count.result) (c.unknown_count-starts.ensures ∙ ap length (meanings_none a p 0))
+    ap (λ n. n + length c.as_slice.result.now * c.moving_count.result) c.start_count-starts.ensures.value
     ∙ ap (λ n. length (start_meanings a p) + n * c.moving_count.result) (ap length c.as_slice.ensures)
     ∙ ap (λ n. length (start_meanings a p) + length p.events * n) c.moving_count.ensures.value
 
-few : (c : After-moving_count) → c.unknown_count-starts.result + length c.as_slice.result.now * c.moving_count.result ≤ 1072
+few : (c : After-moving_count) → c.start_count-starts.result + length c.as_slice.result.now * c.moving_count.result ≤ 8352
 few c =
     let a = c.args.task.automaton.now in
     let p = c.args.task.pattern.now in
@@ -26,7 +26,7 @@ few c =
 
 pub overflow_add-result : goal.overflow_add-result
 overflow_add-result c = (let most = few c in
-    let small : c.unknown_count-starts.result + length c.as_slice.result.now * c.moving_count.result < 2 ^ 32 = omega arith in record { fits = small })
+    let small : c.start_count-starts.result + length c.as_slice.result.now * c.moving_count.result < 2 ^ 32 = omega arith in record { fits = small })
 
 pub returns-clause-value : goal.returns-clause-value
 returns-clause-value c = value c

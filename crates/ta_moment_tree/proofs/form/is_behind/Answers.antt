@@ -1,4 +1,4 @@
-use Rattle.ta_moment_tree.proofs.Common.{ℕ, ◌≡◌, ◌≢◌, ◌<◌, ◌-◌, ◌^◌, length, suc, pos, arith, get_or}
+use Rattle.ta_moment_tree.proofs.Common.{◌≡◌, ◌-◌, ◌^◌, length, suc, pos, arith, get_or}
 use Rattle.std.proofs.lemmas.Bool.{ltb-true}
 use Rattle.ta_moment_tree.proofs.Forms.{ends_before}
 use Rattle.ta_moment_tree.proofs.form.is_behind.Goals as goal

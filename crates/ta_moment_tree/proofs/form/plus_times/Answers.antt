@@ -1,28 +1,5 @@
-use Rattle.ta_moment_tree.proofs.Common.{
-  ◌≡◌,
-  ◌∙◌,
-  ◌*◌,
-  ◌*ℤ◌,
-  ◌++◌,
-  ◌∷◌,
-  [],
-  ◌^◌,
-  ◌≤◌,
-  ℤ,
-  w128,
-  to_z,
-  of_z,
-  arith,
-  sym,
-  ap,
-  subst,
-  unsigned_abs,
-  to_z_abs,
-  to_z_range,
-}
-use Rattle.ta_moments.specs.Forms.{UnknownForm, times_form}
-use Rattle.ta_moment_tree.specs.Forms.{SmallBy, form_of}
-use Rattle.ta_moment_tree.proofs.Forms.{both_ok, small_more, small_times, term_added, term_small}
+use Rattle.ta_moment_tree.proofs.Common.{◌≡◌, ◌∙◌, ◌*ℤ◌, ◌++◌, ◌∷◌, [], ◌≤◌, ℤ, w128, to_z, of_z, arith, sym, ap, subst, unsigned_abs, to_z_abs, to_z_range}
+use Rattle.ta_moment_tree.proofs.Forms.{both_ok, term_added, term_small}
 use Rattle.ta_moment_tree.proofs.form.plus_times.Goals as goal
 
 pub product_of-product-requires-clause-number : goal.product_of-product-requires-clause-number

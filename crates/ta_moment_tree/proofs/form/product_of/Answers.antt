@@ -1,4 +1,4 @@
-use Rattle.ta_moment_tree.proofs.Common.{ℤ, ◌≤◌, ◌^◌, ◌<◌, arith, sym, subst, unsigned_abs}
+use Rattle.ta_moment_tree.proofs.Common.{ℤ, ◌^◌, ◌<◌, arith, sym, subst, unsigned_abs}
 use Rattle.ta_moment_tree.proofs.Forms.{product_is, small_product}
 use Rattle.ta_moment_tree.proofs.form.product_of.Goals as goal
 

@@ -10,7 +10,7 @@ use Rattle.ta_moment_tree.proofs.Forms.{small_more}
 use Rattle.ta_moment_tree.proofs.silence.push_vacant.Goals as goal
 
 pub opposite-requires : goal.opposite-requires
-opposite-requires c = small_more (17000000000 * 400) (2 ^ 119) _ (omega arith) c.in_ok-counter-in-Some.ensures.small
+opposite-requires c = small_more (17000000000 * 3100) (2 ^ 119) _ (omega arith) c.in_ok-counter-in-Some.ensures.small
 
 pub returns-in-None : goal.returns-in-None
 returns-in-None c =

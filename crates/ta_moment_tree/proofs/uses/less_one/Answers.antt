@@ -65,7 +65,7 @@ returns-clause-small c =
     let high = c.loop-rule.auto.rule-index-end in
     let one : form_of c.constant_of-one.result ≡ number_form (pos 1) = number_is c.constant_of-one.result (pos 1) c.constant_of-one.ensures.constant
     c.constant_of-one.ensures.terms in
-    subst (λ (f : UnknownForm). SmallBy 129 f) (sym (c.in_ok-less.ensures ∙ ap (minus_form (form_of c.loop-rule.total)) one))
-    (small_more (c.loop-rule.rule-index + 1) 129 _ (omega arith)
+    subst (λ (f : UnknownForm). SmallBy 1025 f) (sym (c.in_ok-less.ensures ∙ ap (minus_form (form_of c.loop-rule.total)) one))
+    (small_more (c.loop-rule.rule-index + 1) 1025 _ (omega arith)
     (small_minus c.loop-rule.rule-index 1 (form_of c.loop-rule.total) (number_form (pos 1)) c.loop-rule.invariant.small
     (small_number 1 (pos 1) (omega arith))))

@@ -5,7 +5,7 @@ use Rattle.ta_moment_tree.proofs.Forms.{small_more}
 use Rattle.ta_moment_tree.proofs.uses.push_one_step.Goals as goal
 
 pub opposite-requires : goal.opposite-requires
-opposite-requires c = small_more 129 (2 ^ 119) _ (omega arith) c.in_ok-steps.ensures.small
+opposite-requires c = small_more 1025 (2 ^ 119) _ (omega arith) c.in_ok-steps.ensures.small
 
 pub returns : goal.returns
 returns c =

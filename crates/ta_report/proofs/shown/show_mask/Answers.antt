@@ -1,6 +1,6 @@
 use Rattle.std.proofs.Common.{◌++◌, ◌∙◌, sym, ap, arith, string_bytes}
 use Rattle.ta_report.specs.Show.{mask_text}
-use Rattle.ta_report.proofs.Showing.{set_next, unset_next}
+use Rattle.ta_report.proofs.Showing.{none_left, set_next, unset_next}
 use Rattle.ta_report.proofs.shown.show_mask.Goals.{then-contains+in_ok-write, else-contains}
 use Rattle.ta_report.proofs.shown.show_mask.Goals as goal
 
@@ -17,3 +17,6 @@ loop-number-preserved c =
       | else-contains w ↦ unset_next mask n old new all (omega (arith, c.loop-number-test.true)) (sym c.contains.ensures.bit ∙ w.if-contains.false)
           (ap string_bytes w.text-is) c.loop-number.invariant
     ]
+
+pub returns : goal.returns
+returns c = none_left c.args.mask c.loop-number.number-counter _ _ c.loop-number-test.false c.loop-number.invariant

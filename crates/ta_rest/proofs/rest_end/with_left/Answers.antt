@@ -9,6 +9,6 @@ returns-then-is_unlocked c = λ l.
     let rule = c.args.rule.now in
     let limit = a.shape.limits.locations_limit in
     let from = c.requires.from in
-    let small : rule.from < 32 = omega arith in
+    let small : rule.from < 128 = omega arith in
     let apart : eqb rule.from rule.to ≡ false = elim (eqb_tells rule.from rule.to) [ inl e ↦ absurd (c.if-rule.true e.1) | inr ne ↦ ne.0 ] in
     out_of a c.args.start_mask (reverse c.args.elements.now) rule c.args.left l small apart (sym c.is_unlocked.ensures ∙ c.if-is_unlocked.true)

@@ -27,7 +27,8 @@ loop-number-preserved c =
     let named = read_same a.rules c.as_slice-rule-items.result.now c.loop-number.number c.rule-item.result c.as_slice-rule-items.ensures c.loop-number-test.true
     c.rule-item.is in
     let none = rw c.in_default.is at c.in_ok-cycle.ensures.none in
-    one_passed (λ (r : ℕ) (rule : Rule). IsBitSet c.args.rules r → ¬ OnCycle a c.args.rules rule) a.rules c.loop-number.number c.rule-item.result named none
+    one_passed (λ (r : ℕ) (rule : Rule). IsBitSet c.args.rules.now r → ¬ OnCycle a c.args.rules.now rule) a.rules c.loop-number.number c.rule-item.result named
+    none
     c.loop-number.invariant
 
 pub returns-clause-none : goal.returns-clause-none

@@ -15,14 +15,14 @@ loop-number-preserved c =
     let a = c.args.automaton.now in
     let named = read_same a.rules c.as_slice-rule-items.result.now c.loop-number.number c.rule-item.result c.as_slice-rule-items.ensures c.loop-number-test.true
     c.rule-item.is in
-    one_passed (λ (r : ℕ) (rule : Rule). ¬ (IsBitSet c.args.rules r × Blocks c.args.placed.now c.args.location rule)) a.rules c.loop-number.number
+    one_passed (λ (r : ℕ) (rule : Rule). ¬ (IsBitSet c.args.rules.now r × Blocks c.args.placed.now c.args.location rule)) a.rules c.loop-number.number
     c.rule-item.result named
     (λ blocked. false≢true (c.if-blocks.ensures.1 blocked)) c.loop-number.invariant
 
 pub returns : goal.returns
 returns c =
     let a = c.args.automaton.now in
-    let ready : Ready a c.args.rules c.args.placed.now c.args.location = record {
+    let ready : Ready a c.args.rules.now c.args.placed.now c.args.location = record {
       remains = λ placed. false≢true (c.if-is_placed.ensures.1 placed);
       free = λ r rule named member blocks.
           let same = ap (λ (xs : List Rule). length xs) c.as_slice-rule-items.ensures in

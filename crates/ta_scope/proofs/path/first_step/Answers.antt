@@ -15,13 +15,14 @@ loop-number-preserved c =
     let a = c.args.automaton.now in
     let named = read_same a.rules c.as_slice-rule-items.result.now c.loop-number.number c.rule-item.result c.as_slice-rule-items.ensures c.loop-number-test.true
     c.rule-item.is in
-    one_passed (λ (r : ℕ) (rule : Rule). ¬ IsStep a c.args.rules c.args.from c.args.to c.args.left r rule) a.rules c.loop-number.number c.rule-item.result named
+    one_passed (λ (r : ℕ) (rule : Rule). ¬ IsStep a c.args.rules.now c.args.from c.args.to c.args.left r rule) a.rules c.loop-number.number c.rule-item.result
+    named
     (λ step. false≢true (c.if-is_step.ensures.1 step)) c.loop-number.invariant
 
 pub unreachable-requires : goal.unreachable-requires
 unreachable-requires c =
     let a = c.args.automaton.now in
-    no_step a c.args.rules c.args.from c.args.to c.args.left c.requires.distance (λ r rule named.
+    no_step a c.args.rules.now c.args.from c.args.to c.args.left c.requires.distance (λ r rule named.
     let same = ap (λ (xs : List Rule). length xs) c.as_slice-rule-items.ensures in
     let within = slice_get_within a.rules r rule named in
     c.loop-number.invariant r rule (omega arith) named)

@@ -8,7 +8,7 @@ returns-then-leads_out-clause-some c =
     let a = c.args.automaton.now in
     let named = read_same a.rules c.as_slice-rule-items.result.now c.loop-number.number c.rule-item.result c.as_slice-rule-items.ensures c.loop-number-test.true
     c.rule-item.is in
-    grown_by a c.args.rules c.args.mask c.loop-number.number c.rule-item.result named (c.if-leads_out.ensures.0 refl)
+    grown_by a c.args.rules.now c.args.mask c.loop-number.number c.rule-item.result named (c.if-leads_out.ensures.0 refl)
     (to_fits a c.loop-number.number c.rule-item.result named)
 
 pub returns-then-leads_out-clause-greater : goal.returns-then-leads_out-clause-greater
@@ -16,7 +16,7 @@ returns-then-leads_out-clause-greater c =
     let a = c.args.automaton.now in
     let named = read_same a.rules c.as_slice-rule-items.result.now c.loop-number.number c.rule-item.result c.as_slice-rule-items.ensures c.loop-number-test.true
     c.rule-item.is in
-    grown_greater c.args.rules c.args.mask c.loop-number.number c.rule-item.result (c.if-leads_out.ensures.0 refl)
+    grown_greater c.args.rules.now c.args.mask c.loop-number.number c.rule-item.result (c.if-leads_out.ensures.0 refl)
     (to_fits a c.loop-number.number c.rule-item.result named)
 
 pub loop-number-preserved : goal.loop-number-preserved
@@ -24,7 +24,7 @@ loop-number-preserved c =
     let a = c.args.automaton.now in
     let named = read_same a.rules c.as_slice-rule-items.result.now c.loop-number.number c.rule-item.result c.as_slice-rule-items.ensures c.loop-number-test.true
     c.rule-item.is in
-    one_passed (λ (r : ℕ) (rule : Rule). ¬ LeadsOut c.args.rules c.args.mask r rule) a.rules c.loop-number.number c.rule-item.result named
+    one_passed (λ (r : ℕ) (rule : Rule). ¬ LeadsOut c.args.rules.now c.args.mask r rule) a.rules c.loop-number.number c.rule-item.result named
     (λ out. false≢true (c.if-leads_out.ensures.1 out)) c.loop-number.invariant
 
 pub returns-clause-none : goal.returns-clause-none

@@ -6,12 +6,12 @@ pub loop-more-init : goal.loop-more-init
 loop-more-init c =
     let a = c.args.automaton.now in
     let limit = a.shape.limits.locations_limit in
-    reached_first a c.args.rules c.args.location (let b = c.requires in omega arith)
+    reached_first a c.args.rules.now c.args.location (let b = c.requires in omega arith)
 
 pub loop-more-preserved : goal.loop-more-preserved
 loop-more-preserved c =
-    reached_more c.args.automaton.now c.args.rules c.args.location c.loop-more.reached c.in-Some.more c.loop-more.invariant c.in-Some.ensures.some
+    reached_more c.args.automaton.now c.args.rules.now c.args.location c.loop-more.reached c.in-Some.more c.loop-more.invariant c.in-Some.ensures.some
 
 pub returns : goal.returns
 returns c =
-    reaches_exactly c.args.automaton.now c.args.rules c.args.location c.loop-more.reached c.loop-more.invariant c.in_default.ensures.none
+    reaches_exactly c.args.automaton.now c.args.rules.now c.args.location c.loop-more.reached c.loop-more.invariant c.in_default.ensures.none

@@ -6,4 +6,4 @@ abbrev pub invariant-loop-more : goal.invariant-loop-more
 invariant-loop-more l = Reached l.automaton l.rules l.fn.location l.reached
 
 abbrev pub decreases-loop-more : goal.decreases-loop-more
-decreases-loop-more l = 2 ^ 32 - l.reached
+decreases-loop-more l = 2 ^ 128 - l.reached

@@ -7,7 +7,7 @@ pub overflow_cast-number : goal.overflow_cast-number
 overflow_cast-number c =
     let t = c.args.task in
     let word = c.loop-element.word in
-    let few = legal_length t.automaton.now t.pattern.now c.args.start_mask (reverse word) t.over.events_limit c.loop-element.invariant.legal in
+    let few = legal_length t.automaton.now t.pattern.now c.args.start_mask (reverse word) t.narrow t.over.events_limit c.loop-element.invariant.legal in
     let turned = length-reverse word in
     let same = ap length c.elements.ensures in
     let below : length c.elements.result.now < 2 ^ 32 = omega arith in

@@ -1,4 +1,4 @@
-use Rattle.ta_witness.proofs.RestCommon.{sym, ◌∙◌, bit_true}
+use Rattle.ta_witness.proofs.RestCommon.{bit_true}
 use Rattle.ta_witness.proofs.Giving.{marked_own, plain_own}
 use Rattle.ta_witness.proofs.rest_witnessing.own_run.Goals as goal
 

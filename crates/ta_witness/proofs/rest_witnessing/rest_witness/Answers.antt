@@ -1,4 +1,4 @@
-use Rattle.ta_witness.proofs.RestCommon.{arith, sym, slice_get_within}
+use Rattle.ta_witness.proofs.RestCommon.{arith, slice_get_within}
 use Rattle.ta_witness.proofs.Giving.{own_given}
 use Rattle.ta_witness.proofs.Resting.{solutions_solve}
 use Rattle.ta_witness.proofs.rest_witnessing.rest_witness.Goals as goal

@@ -19,7 +19,7 @@ loop-number-preserved c =
     (slice_get_read c.as_slice-rule-items.result.now (length c.as_slice-rule-items.result.now) number rule refl c.loop-number-test.true c.rule-item.is) in
     let told : c.may_fire.result ≡ test number = c.may_fire.ensures start (reverse c.args.elements.now) c.of-seen.ensures
     ∙ ap (may_fire a p start (reverse c.args.elements.now)) (sym at) in
-    let within : number < 128 = (let limit = a.shape.limits.rules_limit in let below = c.loop-number-test.true in
+    let within : number < 128 = (let limit = c.args.task.narrow.rules in let below = c.loop-number-test.true in
     let same = ap length c.as_slice-rule-items.ensures in omega arith) in
     elim c.if-may_fire.branch [
       | then-may_fire w ↦ one_told test 128 c.loop-number.allowed c.if-may_fire.allowed number c.loop-number.invariant within (sym told ∙ w.if-may_fire.true)

@@ -6,8 +6,8 @@ use Rattle.ta_base.proofs.Ranges.{passed_most}
 pub push_events-requires-clause-named : goal.push_events-requires-clause-named
 push_events-requires-clause-named c = events_named c.args.task.automaton.now c.args.task.pattern.now c.args.task.over
 
-pub push_rises-requires : goal.push_rises-requires
-push_rises-requires c =
+pub push_rises-requires-clause-room : goal.push_rises-requires-clause-room
+push_rises-requires-clause-room c =
     let p = c.args.task.pattern.now in
     let past = reverse c.args.elements.now in
     omega (
@@ -18,8 +18,8 @@ push_rises-requires c =
           c.push_events.new.self 0 (length p.events) (c.push_events.ensures c.args.start_mask past c.of-seen.ensures),
     )
 
-pub push_falls-requires : goal.push_falls-requires
-push_falls-requires c =
+pub push_falls-requires-clause-room : goal.push_falls-requires-clause-room
+push_falls-requires-clause-room c =
     let a = c.args.task.automaton.now in
     let p = c.args.task.pattern.now in
     let past = reverse c.args.elements.now in
@@ -27,7 +27,7 @@ push_falls-requires c =
       arith,
       ap length c.new-children.ensures,
       c.args.task.over.events_limit,
-      a.shape.limits.rise_limit,
+      c.args.task.narrow.rise,
       passed_most Event (is_ready p past) c.new-children.result c.push_events.new.self 0 (length p.events)
           (c.push_events.ensures c.args.start_mask past c.of-seen.ensures),
       passed_most Rise (may_rise c.args.orders.now past) c.push_events.new.self c.push_rises.new.self 0 (length a.rise)

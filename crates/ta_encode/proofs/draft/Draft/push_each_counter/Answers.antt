@@ -12,16 +12,16 @@ loop-location-preserved c =
     let l = c.loop-location.location in
     let test : ℕ → Bool = λ k. not (has_bit c.args.empty k) in
     let line_of : ℕ → LinearRow = λ k. in_sense c.args.sense (counter_row a ms k) in
-    let within : l < 32 = (let few = a.shape.limits.locations_limit in let same = ap length c.as_slice-location-end.ensures in
+    let within : l < 128 = (let few = a.shape.limits.locations_limit in let same = ap length c.as_slice-location-end.ensures in
     let b = c.loop-location-test.true in omega arith) in
     elim c.if-empty-location-eq0.branch [
       | then-empty-location-eq0+in_ok-push_counter w ↦
           subst (Adds _ before) (sym w.self-is)
-          (adds_more (passed_one line_of test l (ap not (bit_off 32 c.args.empty l within w.if-empty-location-eq0.true))) c.loop-location.invariant
+          (adds_more (passed_one line_of test l (ap not (bit_off 128 c.args.empty l within w.if-empty-location-eq0.true))) c.loop-location.invariant
           (w.in_ok-push_counter.ensures l
           (subst (λ (b : Automaton). w.first_location.result + l ≡ location_place b l) (sym c.loop-location.invariant.automaton)
           (ap (λ n. n + l) w.first_location.ensures))))
       | else-empty-location-eq0 w ↦
           subst (Adds _ before) (sym w.self-is)
-          (adds_alike (passed_none line_of test l (ap not (bit_on 32 c.args.empty l within w.if-empty-location-eq0.false))) c.loop-location.invariant)
+          (adds_alike (passed_none line_of test l (ap not (bit_on 128 c.args.empty l within w.if-empty-location-eq0.false))) c.loop-location.invariant)
     ]

@@ -1,3 +1,4 @@
+use Rattle.ta_encode.proofs.Common.{Origin, Draft, Automaton, ◌≡◌}
 use Rattle.ta_encode.proofs.Common.{true, false, ◌<◌, ◌^◌, ◌+◌, ◌≤◌, ◌∷◌, length, reverse, arith, sym, ap, ◌∙◌, subst, length-reverse, Element, counts_after}
 use Rattle.ta_encode.proofs.Common.{AddsUnknowns, Continues, length-append}
 use Rattle.ta_encode.proofs.Drafts.{fired_after, counts_few, draft_few, event_drafted, events_small, fall_drafted, fallen_more, rise_drafted}
@@ -13,7 +14,7 @@ counts c =
     fired_after false o c.args.before.now c.allowed_after-allowed.result c.allowed_after-allowed.ensures c.requires.drafted.automaton_is
     c.in_ok-push_firings.ensures
 
-few : (c : In_ok-push_firings) → length c.push_firings.new.self.meanings.items ≤ 8000
+few : (c : In_ok-push_firings) → length c.push_firings.new.self.meanings.items ≤ 80000
 few c =
     let o = c.args.origin.now in
     let past = reverse c.args.before.now in
@@ -27,19 +28,28 @@ few c =
       ap length counted.unknowns,
       length-append c.args.self.now.meanings.items more,
       counts_few o.task.automaton.now o.task.pattern.now o.start_mask past,
+      o.task.narrow.rules,
     )
+
+few_rules : (o : Origin) (draft : Draft) → draft.automaton.now ≡ o.task.automaton.now → length draft.automaton.now.rules ≤ 128
+few_rules o draft same = subst (λ (a : Automaton). length a.rules ≤ 128) (sym same) o.task.narrow.rules
 
 pub push_firings-requires : goal.push_firings-requires
 push_firings-requires c =
     let most : length c.args.self.now.meanings.items + 128 < 2 ^ 32 = omega
     (arith, c.requires.few, length-reverse c.args.before.now, draft_few c.args.origin.now (reverse c.args.before.now) c.args.self.now c.requires.drafted) in
-    record { room = most }
+    record { narrow = few_rules c.args.origin.now c.args.self.now c.requires.drafted.automaton_is; room = most }
 
 pub push_firings-requires-in-Fall : goal.push_firings-requires-in-Fall
 push_firings-requires-in-Fall c =
     let most = few (goal.at.push_firings-requires-in-Fall c).In_ok-push_firings in
     let same = ap length c.in_ok-push_falling-in-Fall.ensures.unknowns in
-    record { room = omega arith }
+    record {
+      narrow = few_rules c.args.origin.now c.push_falling.new.self
+          (c.in_ok-push_falling-in-Fall.ensures.automaton ∙ (counts (goal.at.push_firings-requires-in-Fall c).In_ok-push_firings).automaton
+          ∙ c.requires.drafted.automaton_is);
+      room = omega arith;
+    }
 
 pub push_event-requires : goal.push_event-requires
 push_event-requires c = record { small = events_small c.args.origin.now.task.automaton.now c.args.origin.now.task.pattern.now c.args.origin.now.task.over }

@@ -1,20 +1,11 @@
-use Rattle.std.proofs.Common.{length, arith, ap, ◌∙◌}
-use Rattle.ta_encode.proofs.Smallness.{resilience_small}
-use Rattle.ta_encode.proofs.Drafts.{start_drafted, start_few, start_small}
+use Rattle.std.proofs.Common.{length, sym, subst, ◌≤◌}
+use Rattle.ta_automaton.specs.declared.automaton.Automaton.{Automaton}
+use Rattle.ta_encode.proofs.Drafts.{start_drafted}
 use Rattle.ta_encode.proofs.draft.Draft.start.Goals as goal
 
-pub of-draft-requires : goal.of-draft-requires
-of-draft-requires c =
-    let same = ap length c.in_ok-meanings.ensures in
-    let few = start_few c.args.origin.now.task.automaton.now c.args.origin.now.task.pattern.now in
-    record { few = omega arith }
-
-pub push_condition-requires : goal.push_condition-requires
-push_condition-requires c = record { small = resilience_small c.args.origin.now.task.automaton.now }
-
-pub push_condition-requires-2 : goal.push_condition-requires-2
-push_condition-requires-2 c = record { small = start_small c.args.origin.now.task.automaton.now c.args.origin.now.task.pattern.now c.args.origin.now.task.over }
+pub push_start_guards-requires : goal.push_start_guards-requires
+push_start_guards-requires c =
+    record { narrow = subst (λ (a : Automaton). length a.fall ≤ 6) (sym c.in_ok-draft.ensures.automaton_is) c.args.origin.now.task.narrow.fall }
 
 pub returns : goal.returns
-returns c = start_drafted c.args.origin.now c.of-draft.ensures.automaton (c.of-draft.ensures.meanings ∙ c.in_ok-meanings.ensures) c.of-draft.ensures.rows
-    c.in_ok-push_condition.ensures c.in_ok-push_processes.ensures c.in_ok-push_condition-2.ensures c.in_ok-push_start_guards.ensures
+returns c = start_drafted c.args.origin.now c.in_ok-draft.ensures c.in_ok-push_start_guards.ensures

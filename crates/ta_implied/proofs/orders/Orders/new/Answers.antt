@@ -6,9 +6,9 @@ use Rattle.ta_implied.proofs.orders.Orders.new.Goals as goal
 
 pub invariant_of-result : goal.invariant_of-result
 invariant_of-result c = record {
-  fit = each_copies (λ m. m < 2 ^ 16) 16 0 (lit< tt);
-  no_circle = subst HasNoCircle (sym (no_pairs 0 16)) (λ more guard. nothing_leads more guard guard);
+  fit = each_copies (λ m. m < 2 ^ 64) 64 0 (lit< tt);
+  no_circle = subst HasNoCircle (sym (no_pairs 0 64)) (λ more guard. nothing_leads more guard guard);
 }
 
 pub returns : goal.returns
-returns c = no_pairs 0 16
+returns c = no_pairs 0 64

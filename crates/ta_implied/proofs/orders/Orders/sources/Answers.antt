@@ -9,8 +9,8 @@ pub returns-then-more-found : goal.returns-then-more-found
 returns-then-more-found c =
     let found = c.loop-found.found in
     let same : c.with_sources-more.result ≡ found = c.if-more-found.true in
-    let fits : found < 2 ^ 16 = subst (λ n. n < 2 ^ 16) same c.with_sources-more.type_inv in
-    let members = subst (λ n. (j : ℕ) → (has_bit n j ≡ true) ↔ ((has_bit found j ≡ true) ⊎ IsBeforeSome c.args.self.now found 16 j)) same
+    let fits : found < 2 ^ 64 = subst (λ n. n < 2 ^ 64) same c.with_sources-more.type_inv in
+    let members = subst (λ n. (j : ℕ) → (has_bit n j ≡ true) ↔ ((has_bit found j ≡ true) ⊎ IsBeforeSome c.args.self.now found 64 j)) same
     c.with_sources-more.ensures.members in
     all_searched c.args.self.now c.args.guard found fits c.loop-found.invariant members
 

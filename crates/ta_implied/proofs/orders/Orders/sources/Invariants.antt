@@ -8,4 +8,4 @@ invariant-loop-found l = Searched l.self l.guard l.found
 
 -- sets that grow are greater numbers
 abbrev pub decreases-loop-found : goal.decreases-loop-found
-decreases-loop-found l = 65536 - l.found
+decreases-loop-found l = 18446744073709551616 - l.found

@@ -16,5 +16,5 @@ returns-clause-grown c = c.loop-guard.invariant.grown
 pub returns-clause-members : goal.returns-clause-members
 returns-clause-members c =
     let l = c.loop-guard in
-    let end : l.guard ≡ 16 = (let low = c.loop-guard-test.false in let high = l.auto.guard-end in omega arith) in
+    let end : l.guard ≡ 64 = (let low = c.loop-guard-test.false in let high = l.auto.guard-end in omega arith) in
     (subst (Gathered c.args.self.now c.args.found l.all) end l.invariant).members

@@ -1,5 +1,5 @@
 use Rattle.ta_moment_tree.proofs.Common.{[], sym, subst, In}
-use Rattle.ta_words.specs.declared.task.Task.{Task}
+use Rattle.ta_automaton.specs.declared.task.Task.{Task}
 use Rattle.ta_moments.specs.Facts.{candidates}
 use Rattle.ta_moment_tree.specs.Draft.{IsDraft}
 use Rattle.ta_moment_tree.proofs.encoding.MomentEncoding.first.Goals as goal

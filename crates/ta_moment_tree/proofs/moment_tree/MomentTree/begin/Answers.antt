@@ -1,6 +1,6 @@
 use Rattle.std.proofs.Common.{ℕ, List, [], ◌∷◌, ◌++◌, Option, arith, ap, sym, subst, ◌∙◌}
 use Rattle.ta_base.specs.Masks.{In}
-use Rattle.ta_words.specs.declared.task.Task.{Task}
+use Rattle.ta_automaton.specs.declared.task.Task.{Task}
 use Rattle.ta_moments.specs.Facts.{candidates}
 use Rattle.ta_moments.specs.Moments.{known}
 use Rattle.ta_moments.specs.Searched.{candidate_of}

@@ -9,7 +9,7 @@ returns-in-Safe c =
     let a = t.task.automaton.now in
     let p = t.task.pattern.now in
     let past = reverse c.args.elements.now in
-    let is = child_answers a p t.orders.now c.args.start_mask past c.args.number c.child.result t.task.over c.child.ensures in
+    let is = child_answers a t.task.narrow p t.orders.now c.args.start_mask past c.args.number c.child.result t.task.over c.child.ensures in
     subst (λ (k : Claim). AnswerIs (search_for k a p t.orders.now) c.args.start_mask past Extend c.args.number c.child.result) (sym c.in-Safe.is) is
 
 pub returns-in-RestSafe : goal.returns-in-RestSafe
@@ -21,5 +21,6 @@ returns-in-RestSafe c =
     let told = c.child-in-RestSafe.result in
     let child = subst (λ (pairs : List (ℕ × ℕ)). told ≡ slice_get (children a p pairs c.args.start_mask past) c.args.number) c.new.ensures
     c.child-in-RestSafe.ensures in
-    let is = rest_answers a p c.args.start_mask past c.args.number told (child_answers a p [] c.args.start_mask past c.args.number told t.task.over child) in
+    let is = rest_answers a p c.args.start_mask past c.args.number told
+    (child_answers a t.task.narrow p [] c.args.start_mask past c.args.number told t.task.over child) in
     subst (λ (k : Claim). AnswerIs (search_for k a p t.orders.now) c.args.start_mask past Extend c.args.number told) (sym c.in-RestSafe.is) is

@@ -19,6 +19,7 @@ returns-clause-small c =
     let t = c.args.self.now in
     let a = t.task.automaton.now in
     let p = t.task.pattern.now in
-    claim_small t.claim a p t.orders.now (node_at c.args.start c.args.facts.now c.args.bounds.now) c.in_ok-encoding.field-0.encoding.system t.task.over
+    claim_small t.claim a t.task.narrow p t.orders.now (node_at c.args.start c.args.facts.now c.args.bounds.now) c.in_ok-encoding.field-0.encoding.system
+    t.task.over
     (claim_legal t.claim a p t.orders.now c.args.start (reverse c.args.facts.now) c.requires.comes)
     c.in_ok-encoding.ensures.system

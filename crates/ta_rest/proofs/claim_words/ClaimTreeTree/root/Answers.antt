@@ -8,7 +8,7 @@ returns-then-number-as_slice c =
     let t = c.args.self.now in
     let a = t.task.automaton.now in
     let test = rw c.as_slice.ensures at c.if-number-as_slice.true in
-    let shift = shifted (length a.fall) a.shape.limits.fall_limit in
+    let shift = shifted (length a.fall) t.task.narrow.fall in
     let below : c.args.number < 2 ^ length a.fall = omega arith in
     let large : 64 < 2 ^ 31 = lit< tt in
     record {
@@ -22,6 +22,6 @@ returns-else-number-as_slice c =
     let t = c.args.self.now in
     let a = t.task.automaton.now in
     let test = rw c.as_slice.ensures at c.if-number-as_slice.false in
-    let shift = shifted (length a.fall) a.shape.limits.fall_limit in
+    let shift = shifted (length a.fall) t.task.narrow.fall in
     ap (λ (ws : List (Pending Element)). slice_get ws c.args.number) (claim_roots t.claim a t.task.pattern.now t.orders.now)
     ∙ start_none a c.args.number (omega arith)

@@ -22,15 +22,15 @@ loop-falls-preserved c =
 
 pub push-requires : goal.push-requires
 push-requires c =
-    let limit = c.args.automaton.now.shape.limits.fall_limit in
+    let limit = c.requires.narrow.fall in
     let same = ap length c.as_slice.ensures in
     let most = end_of_masks (length c.as_slice.result.now) (omega arith) in
-    omega (arith, c.loop-falls.invariant.room, c.loop-falls-test.true, c.requires, most.0, most.1)
+    omega (arith, c.loop-falls.invariant.room, c.loop-falls-test.true, c.requires.room, most.0, most.1)
 
 pub returns : goal.returns
 returns c = λ start past is.
     let same = ap length c.as_slice.ensures in
-    let limit = c.args.automaton.now.shape.limits.fall_limit in
+    let limit = c.requires.narrow.fall in
     let most = end_of_masks (length c.as_slice.result.now) (omega arith) in
     let end : c.loop-falls.falls - 1 ≡ 2 ^ length c.args.automaton.now.fall - 1 =
     (let low = c.loop-falls-test.false in let high = c.loop-falls.auto.falls-end (let p = most.2 in omega arith) in

@@ -21,9 +21,9 @@ loop-rise-preserved c =
 
 pub push-requires : goal.push-requires
 push-requires c =
-    let limit = c.args.automaton.now.shape.limits.rise_limit in
+    let limit = c.requires.narrow.rise in
     let same = ap length c.as_slice-rise-end.ensures in
-    omega (arith, c.loop-rise.invariant.room, c.loop-rise-test.true, c.requires)
+    omega (arith, c.loop-rise.invariant.room, c.loop-rise-test.true, c.requires.room)
 
 pub returns : goal.returns
 returns c = λ start past is.

@@ -1,6 +1,6 @@
 use Rattle.ta_automaton.proofs.Numbered.{pattern_at}
 use Rattle.ta_automaton.proofs.Thresholds.{pattern_within}
-use Rattle.ta_words.proofs.task.Task.of.Goals as goal
+use Rattle.ta_automaton.proofs.task.Task.of.Goals as goal
 
 pub invariant_of-result : goal.invariant_of-result
 invariant_of-result c =

@@ -4,7 +4,9 @@
 ghost use Rattle.std.specs.Prelude.{◌+◌, ◌≡◌, ◌<◌, Some, length, slice_get};
 ghost use Rattle.ta_automaton.specs.Patterns.{PatternOver, PatternWithin-prop};
 
-use ta_automaton::{Automaton, File, Pattern};
+use crate::automaton::Automaton;
+use crate::file::File;
+use crate::pattern::Pattern;
 
 /// A pattern, and the automaton that it is of.
 #[derive(Clone, Copy)]

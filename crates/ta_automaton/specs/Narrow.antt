@@ -1,0 +1,16 @@
+-- The limits within which the tree of schemas can be walked: it orders every guard.
+use Rattle.std.specs.Prelude.{◌≤◌, length}
+use Rattle.std.proofs.Props.{props}
+use Rattle.ta_automaton.specs.declared.automaton.Automaton.{Automaton}
+
+-- an automaton within the narrow limits
+pub record IsNarrow (a : Automaton) : Type 0 where
+  pub parameters : length a.parameters ≤ 16
+  pub shared : length a.shared ≤ 16
+  pub locations : length a.locations ≤ 32
+  pub rise : length a.rise ≤ 16
+  pub fall : length a.fall ≤ 6
+  pub rules : length a.rules ≤ 128
+
+pub IsNarrow-prop : (a : Automaton) → IsProp (IsNarrow a)
+IsNarrow-prop a = hlevel props
