@@ -78,6 +78,7 @@ impl<F: Copy + Drop> Cursor<F> {
             frames,
         })
     }
+
     /// How many facts and bounds there are at an open node, counted from the outermost, or where this
     /// cursor stands.
     fn lengths_at(&self, outer: usize) -> (usize, usize)

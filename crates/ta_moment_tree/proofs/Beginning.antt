@@ -1,10 +1,13 @@
 -- the node without facts: its first rows, and its vectors
 use Rattle.ta_moment_tree.proofs.Common.{◌≡◌, ◌∙◌, inl, inr, ℕ, ℤ, pos, ◌+◌, ◌*◌, ◌<◌, ◌≤◌, List, [], ◌∷◌, ◌++◌, map, filter, length, slice_get}
-use Rattle.ta_moment_tree.proofs.Common.{Some, None, Option, Bool, arith, ints, sym, ap, subst, refl, range_with_len}
+use Rattle.ta_moment_tree.proofs.Common.{Some, None, Option, Bool, not, arith, ints, sym, ap, subst, refl, range_with_len}
 use Rattle.ta_moment_tree.proofs.Common.{AllByRecursion, In, AreRowsOf, IsRowOf, Automaton, Pattern, Row, LinearRow}
 use Rattle.ta_moment_tree.proofs.Common.{numbers_rise, rises_filter}
 use Rattle.ta_encode.specs.System.{open_rows}
 use Rattle.ta_encode.specs.Unknowns.{start_meanings}
+use Rattle.ta_moment_tree.proofs.Common.{Meaning}
+use Rattle.ta_moment_tree.specs.Plan.{IsPlan}
+use Rattle.ta_moment_tree.specs.declared.plan.Plan.{Plan}
 use Rattle.std.proofs.Common.{mul-le-mul}
 use Rattle.std.specs.Prelude.{flat_map}
 use Rattle.ta_moment_tree.proofs.Common.{filter_shorter}
@@ -20,7 +23,7 @@ use Rattle.ta_encode.proofs.Drafts.{start_few}
 use Rattle.ta_moment_tree.proofs.Starts.{moving_few}
 use Rattle.ta_base.specs.Lists.{Rises}
 use Rattle.ta_base.proofs.Ranges.{each_below}
-use Rattle.ta_moments.specs.Facts.{is_moving, moving_rules, needing, sparing}
+use Rattle.ta_moments.specs.Facts.{has_guard, is_moving, moving_rules, needing, sparing}
 use Rattle.ta_moments.specs.Forms.{UnknownForm, form_of_row, number_form, unknown_form, minus_form}
 use Rattle.ta_moments.specs.Moments.{Vector, end_vector, event_vector, nothing_fired, rows_at_start, unknowns_at_first}
 unfoldable use Rattle.ta_moments.specs.Moments.{fresh}
@@ -93,17 +96,25 @@ pub end_speaks : (a : Automaton) (p : Pattern) (c : Option ℕ) → In c (candid
 end_speaks a p None i = λ r. speak_number (unknowns_at_first a p) (pos 0)
 end_speaks a p (Some e) i = event_speaks a p e (event_less p e i)
 
--- what an event's unknowns need of room
-pub event_room : (a : Automaton) (p : Pattern) (e m starts : ℕ) → m ≡ length (moving_rules a p) → starts ≡ length (start_meanings a p) → e < 8 → (e * m ≤ 8192)
-    × (starts ≤ 160) × (m ≤ 1024)
-event_room a p e m starts same begun less =
-    let few : m ≤ 1024 = (let most = moving_few a p in omega arith) in
-    let events : e ≤ 8 = omega arith in
-    let most : e * m ≤ 8 * 1024 = mul-le-mul events few in (
-      omega arith,
-      (let s = start_few a p in let parameters = a.shape.limits.parameters_limit in let locations = a.shape.limits.locations_limit in omega arith),
-      few,
-    )
+-- what an event's unknowns need of room, in a plan
+pub record EventRoom (e : ℕ) (moving : List ℕ) (starts : List Meaning) : Type 0 where
+  pub most : e * length moving ≤ 8192
+  pub few : length starts ≤ 160
+  pub rules : length moving ≤ 1024
+
+pub event_room : (plan : Plan) → IsPlan plan → (e : ℕ) (moving : List ℕ) (starts : List Meaning) → e < 8 → moving ≡ plan.moving.items
+    → starts ≡ plan.starts → EventRoom e moving starts
+event_room plan is e moving starts less same begun =
+    let a = plan.task.automaton.now in
+    let p = plan.task.pattern.now in
+    let few : length moving ≤ 1024 = omega (arith, moving_few a p, ap length (same ∙ is.moving)) in
+    let most : e * length moving ≤ 8 * 1024 = mul-le-mul (let within : e ≤ 8 = omega arith in within) few in
+    record {
+      most = omega arith;
+      few = omega
+          (arith, start_few a p, ap length (begun ∙ is.starts), a.shape.limits.parameters_limit, a.shape.limits.locations_limit);
+      rules = few;
+    }
 
 pub moving_below_of : (a : Automaton) (p : Pattern) (rules : List ℕ) (n : ℕ) → rules ≡ moving_rules a p → n ≡ length a.rules → AllByRecursion (λ r. r < n) rules
 moving_below_of a p rules n e same = subst (λ (m : ℕ). AllByRecursion (λ r. r < m) rules) (sym same)
@@ -140,15 +151,29 @@ unfolding known
 first_known a p silent c u ms rows e g h = λ i. record { unknowns = e i; moments = g i; rows = h i }
 
 -- ---- rules that are chosen among the moving ones
-pub chosen_few : (a : Automaton) (p : Pattern) (test : ℕ → Bool) (rules : List ℕ) → rules ≡ filter test (moving_rules a p) → length rules ≤ 1024
+chosen_few : (a : Automaton) (p : Pattern) (test : ℕ → Bool) (rules : List ℕ) → rules ≡ filter test (moving_rules a p) → length rules ≤ 1024
 chosen_few a p test rules e = let most = moving_few a p in omega (arith, ap length e, filter_shorter test (moving_rules a p))
 
-pub chosen_below : (a : Automaton) (p : Pattern) (test : ℕ → Bool) (rules : List ℕ) (n : ℕ) → rules ≡ filter test (moving_rules a p) → n ≡ length a.rules
+chosen_below : (a : Automaton) (p : Pattern) (test : ℕ → Bool) (rules : List ℕ) (n : ℕ) → rules ≡ filter test (moving_rules a p) → n ≡ length a.rules
     → AllByRecursion (λ r. r < n) rules
 chosen_below a p test rules n e same =
     subst (λ (m : ℕ). AllByRecursion (λ r. r < m) rules) (sym same)
     (subst (λ (rs : List ℕ). AllByRecursion (λ r. r < length a.rules) rs) (sym e)
     (each_below 0 (length a.rules) (filter test (moving_rules a p)) (rises_filter test 0 (length a.rules) (moving_rules a p) (moving_within a p))))
+
+pub sparing_few : (a : Automaton) (p : Pattern) (g : ℕ) (rules : List ℕ) → rules ≡ sparing a p g → length rules ≤ 1024
+sparing_few a p g rules e = chosen_few a p (λ r. not (has_guard a g (slice_get a.rules r))) rules e
+
+pub sparing_below : (a : Automaton) (p : Pattern) (g : ℕ) (rules : List ℕ) (n : ℕ) → rules ≡ sparing a p g → n ≡ length a.rules
+    → AllByRecursion (λ r. r < n) rules
+sparing_below a p g rules n e same = chosen_below a p (λ r. not (has_guard a g (slice_get a.rules r))) rules n e same
+
+pub needing_few : (a : Automaton) (p : Pattern) (g : ℕ) (rules : List ℕ) → rules ≡ needing a p g → length rules ≤ 1024
+needing_few a p g rules e = chosen_few a p (λ r. has_guard a g (slice_get a.rules r)) rules e
+
+pub needing_below : (a : Automaton) (p : Pattern) (g : ℕ) (rules : List ℕ) (n : ℕ) → rules ≡ needing a p g → n ≡ length a.rules
+    → AllByRecursion (λ r. r < n) rules
+needing_below a p g rules n e same = chosen_below a p (λ r. has_guard a g (slice_get a.rules r)) rules n e same
 
 -- the vector of a first use
 pub first_is : (a : Automaton) (p : Pattern) (unknowns g : ℕ) (rules : List ℕ) (v : Vector) → rules ≡ sparing a p g

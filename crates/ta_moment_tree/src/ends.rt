@@ -19,7 +19,7 @@ use crate::asking::may_be_stuck;
 use crate::at::{form_at, place_form};
 use crate::encoding::MomentEncoding;
 use crate::moment_parts::{GuardAtEnd, NodeParts, RuleAtEnd};
-use crate::plan::{Plan, guard_row, has_guard, needing};
+use crate::plan::{Plan, guard_row, has_guard};
 use crate::silence::quiet_form;
 use std::alloc::AllocError;
 use ta_automaton::Automaton;
@@ -59,8 +59,7 @@ fn guard_at_end(plan: &Plan, end: &[Form], guard: u32) -> Result<GuardAtEnd, All
     requires guard { guard < length (guards plan.now.task.automaton.now) }
     ensures { IfOk result (λ is. guard_of is ≡ guard_at_end plan.now.task.automaton.now plan.now.task.pattern.now (vector_of end.now) guard) }
 {
-    let automaton = plan.task.automaton;
-    let rules = needing(plan.alloc, automaton, plan.moving.as_slice(), guard)?;
+    let rules = plan.needing(guard)?;
     let row = row_at_end(plan, end, guard)?;
     Ok(GuardAtEnd {
         number: guard,

@@ -102,8 +102,8 @@ fn plus_product(alloc: Global, form: &Form, factor: i128, x: &Form) -> Result<Fo
     Ok(sum)
 }
 
-/// The same. Where the second form is one unknown behind those of the first, its term is added in
-/// place.
+/// The sum of a small form and the product of a small number and a small form. Where the second form
+/// is one unknown behind those of the first, its term is added in place.
 pub(crate) fn plus_times(
     alloc: Global,
     form: Form,

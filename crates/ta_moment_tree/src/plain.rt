@@ -12,7 +12,7 @@ ghost use Rattle.ta_moment_tree.specs.Rows.{AddsForms};
 
 use crate::moment::Moment;
 use crate::order::push_order;
-use crate::plan::{Plan, needing};
+use crate::plan::Plan;
 use crate::rows::{push_guard, push_opposites};
 use crate::same::push_same;
 use crate::silence::{push_failing, push_vacant};
@@ -26,9 +26,7 @@ fn push_never(plan: &Plan, end: &[Form], guard: u32, rows: &mut Vec<Row>) -> Res
     requires end { SmallVector 3 (vector_of end.now) }
     ensures { OnOk result (AddsForms (map (λ r. opposite_form (vector_of end.now r)) (needing plan.now.task.automaton.now plan.now.task.pattern.now guard)) rows.old.items rows.new.items) }
 {
-    let automaton = plan.task.automaton;
-    let moving = plan.moving.as_slice();
-    let needed = needing(plan.alloc, automaton, moving, guard)?;
+    let needed = plan.needing(guard)?;
     let rules = needed.as_slice();
     push_opposites(plan, end, rules, rows)?;
     Ok(())

@@ -3,8 +3,9 @@
 
 ghost use Rattle.std.specs.Prelude.{◌≡◌, filter, not, slice_get, IfOk, option_copied};
 ghost use Rattle.ta_base.specs.Masks.{has_bit};
-ghost use Rattle.ta_moments.specs.Facts.{has_guard, is_moving, moving_rules};
+ghost use Rattle.ta_moments.specs.Facts.{has_guard, is_moving, moving_rules, needing, sparing};
 ghost use Rattle.ta_moments.specs.Moments.{guards};
+ghost use Rattle.ta_moment_tree.specs.Plan.{IsPlan};
 
 use std::alloc::{AllocError, Global};
 use ta_automaton::{Automaton, Pattern, Task};
@@ -82,7 +83,7 @@ pub fn has_guard(automaton: &Automaton, guard: u32, rule: u32) -> bool
 }
 
 /// Of some rules those that need a guard, in order.
-pub(crate) fn needing(
+fn needing(
     alloc: Global,
     automaton: &Automaton,
     moving: &[u32],
@@ -100,7 +101,7 @@ pub(crate) fn needing(
 }
 
 /// Of some rules those that don't need a guard, in order.
-pub(crate) fn sparing(
+fn sparing(
     alloc: Global,
     automaton: &Automaton,
     moving: &[u32],
@@ -115,6 +116,26 @@ pub(crate) fn sparing(
         }
     }
     Ok(rules)
+}
+
+impl<'a> Plan<'a> {
+    /// The moving rules that need a guard, in order.
+    pub(crate) fn needing(&self, guard: u32) -> Result<Vec<u32>, AllocError>
+        requires { IsPlan self.now }
+        ensures { IfOk result (λ rules. rules.items ≡ needing self.now.task.automaton.now self.now.task.pattern.now guard) }
+    {
+        let rules = needing(self.alloc, self.task.automaton, self.moving.as_slice(), guard)?;
+        Ok(rules)
+    }
+
+    /// The moving rules that don't need a guard, in order.
+    pub(crate) fn sparing(&self, guard: u32) -> Result<Vec<u32>, AllocError>
+        requires { IsPlan self.now }
+        ensures { IfOk result (λ rules. rules.items ≡ sparing self.now.task.automaton.now self.now.task.pattern.now guard) }
+    {
+        let rules = sparing(self.alloc, self.task.automaton, self.moving.as_slice(), guard)?;
+        Ok(rules)
+    }
 }
 
 /// A guard's row: the rise guards come first.

@@ -10,11 +10,10 @@
 #![tactic(auto)]
 
 ghost use Rattle.std.specs.Prelude.{ℕ, pos, ◌+◌, ◌<◌, ◌≤◌, ◌^◌, ◌≡◌, ◌∷◌, ◌++◌, [], IfOk, OnOk, length, slice_get};
-ghost use Rattle.std.specs.List.{AllByRecursion};
 ghost use Rattle.ta_moments.specs.Facts.{needing, sparing};
-ghost use Rattle.ta_moments.specs.Forms.{minus_form, number_form, opposite_form, plus_form, sum_form};
+ghost use Rattle.ta_moments.specs.Forms.{minus_form, number_form, opposite_form, sum_form};
 ghost use Rattle.ta_moments.specs.Laws.{Speaks};
-ghost use Rattle.ta_moments.specs.Moments.{Pair as KnownPair, Point as KnownPoint, after_vector, before_vector, below, counters_at, first_vector, fresh, guard_at, guards, nothing_fired, rows_of_first, rows_of_last};
+ghost use Rattle.ta_moments.specs.Moments.{Pair as KnownPair, Point as KnownPoint, after_vector, before_vector, below, counters_at, first_vector, guard_at, guards, rows_of_first, rows_of_last, step_vector};
 ghost use Rattle.ta_moment_tree.specs.Forms.{SmallBy, SmallVector, form_of, vector_of};
 ghost use Rattle.ta_moment_tree.specs.Moments.{moment_of};
 ghost use Rattle.ta_moment_tree.specs.Plan.{IsPlan};
@@ -22,7 +21,7 @@ ghost use Rattle.ta_moment_tree.specs.Rows.{AddsForms, last_rows};
 
 use crate::form::{minus, opposite};
 use crate::moment::Moment;
-use crate::plan::{Plan, needing, sparing};
+use crate::plan::Plan;
 use crate::rows::{push_below, push_counters, push_each, push_form, push_guard};
 use crate::silence::push_failing;
 use crate::vector::{fresh, plus_at, sums};
@@ -81,9 +80,8 @@ pub(crate) fn push_first_use(
     ensures moment { IfOk result (λ used. moment_of used.moment ≡ KnownPoint (first_vector plan.now.task.automaton.now plan.now.task.pattern.now unknowns guard)) }
     ensures rows { OnOk result (AddsForms (rows_of_first plan.now.task.automaton.now plan.now.task.pattern.now (vector_of end.now) unknowns guard) rows.old.items rows.new.items) }
 {
-    let automaton = plan.task.automaton;
-    let count = automaton.rules.as_slice().len();
-    let others = sparing(plan.alloc, automaton, plan.moving.as_slice(), guard)?;
+    let count = plan.task.automaton.rules.as_slice().len();
+    let others = plan.sparing(guard)?;
     let rules = others.as_slice();
     let vector = fresh(plan.alloc, count, unknowns as u32, rules, &[], &[])?;
     push_first_rows(plan, end, vector.as_slice(), guard, rows)?;
@@ -158,24 +156,23 @@ fn push_last_rows(
     Ok(())
 }
 
-/// The vectors of the last step of the rules that are chosen; the other rules have unknowns of their
-/// own.
+/// The vectors of the last step of a rule that needs a guard, where the others spare it.
 fn step_vectors(
     plan: &Plan,
     end: &[Form],
     unknowns: usize,
+    guard: u32,
     others: &[u32],
     chosen: &[u32],
 ) -> Result<Step, AllocError>
     requires few { unknowns < 2 ^ 31 }
-    requires others { AllByRecursion (λ r. r < length plan.now.task.automaton.now.rules) others.now }
-    requires chosen { AllByRecursion (λ r. r < length plan.now.task.automaton.now.rules) chosen.now }
-    requires counts { (length others.now ≤ 1024) × (length chosen.now ≤ 1024) }
+    requires others { others.now ≡ sparing plan.now.task.automaton.now plan.now.task.pattern.now guard }
+    requires chosen { chosen.now ≡ needing plan.now.task.automaton.now plan.now.task.pattern.now guard }
     requires length { length end.now ≤ length plan.now.task.automaton.now.rules }
     requires end { SmallVector 1 (vector_of end.now) }
-    ensures step { IfOk result (λ vectors. vector_of vectors.step.items ≡ fresh (unknowns + length others.now) chosen.now nothing_fired) }
-    ensures before { IfOk result (λ vectors. vector_of vectors.before.items ≡ fresh unknowns others.now (λ r. minus_form (vector_of end.now r) (vector_of vectors.step.items r))) }
-    ensures after { IfOk result (λ vectors. vector_of vectors.after.items ≡ (λ r. plus_form (vector_of vectors.before.items r) (vector_of vectors.step.items r))) }
+    ensures step { IfOk result (λ vectors. vector_of vectors.step.items ≡ step_vector plan.now.task.automaton.now plan.now.task.pattern.now unknowns guard) }
+    ensures before { IfOk result (λ vectors. vector_of vectors.before.items ≡ before_vector plan.now.task.automaton.now plan.now.task.pattern.now (vector_of end.now) unknowns guard) }
+    ensures after { IfOk result (λ vectors. vector_of vectors.after.items ≡ after_vector plan.now.task.automaton.now plan.now.task.pattern.now (vector_of end.now) unknowns guard) }
 {
     let rules = plan.task.automaton.rules.as_slice().len();
     let first = unknowns as u32;
@@ -209,13 +206,11 @@ pub(crate) fn push_last_use(
     ensures moment { IfOk result (λ used. moment_of used.moment ≡ KnownPair (before_vector plan.now.task.automaton.now plan.now.task.pattern.now (vector_of end.now) unknowns guard) (after_vector plan.now.task.automaton.now plan.now.task.pattern.now (vector_of end.now) unknowns guard)) }
     ensures rows { OnOk result (AddsForms (rows_of_last plan.now.task.automaton.now plan.now.task.pattern.now (vector_of end.now) unknowns guard) rows.old.items rows.new.items) }
 {
-    let automaton = plan.task.automaton;
-    let moving = plan.moving.as_slice();
-    let spared = sparing(plan.alloc, automaton, moving, guard)?;
-    let needed = needing(plan.alloc, automaton, moving, guard)?;
+    let spared = plan.sparing(guard)?;
+    let needed = plan.needing(guard)?;
     let others = spared.as_slice();
     let chosen = needed.as_slice();
-    let vectors = step_vectors(plan, end, unknowns, others, chosen)?;
+    let vectors = step_vectors(plan, end, unknowns, guard, others, chosen)?;
     push_last_rows(plan, end, &vectors, guard, chosen, rows)?;
     let unknowns = others.len() + chosen.len();
     let Step {

@@ -29,6 +29,15 @@ pub fn read_run(alloc: Global, file: &File, bytes: &[u8]) -> Result<Run, RunFaul
     ensures malformed { (number : ℕ) → IsMalformedRun file.now bytes.now number → IsErrAnd result (λ fault. (fault ≡ RunFault.Line number) ⊎ (fault ≡ RunFault.Memory)) }
     ensures misnamed { (number : ℕ) → IsMisnamed file.now bytes.now number → IsErrAnd result (λ fault. (fault ≡ RunFault.Name number) ⊎ (fault ≡ RunFault.Memory)) }
 {
+    let run = run_of(alloc, file, bytes)?;
+    Ok(run)
+}
+
+/// The run that a text says, or the first fault of the text.
+fn run_of(alloc: Global, file: &File, bytes: &[u8]) -> Result<Run, RunFault>
+    ensures text { IfOk result (λ run. IsRunText file.now run bytes.now) }
+    ensures fault { IfErr result (λ fault. TextFault file.now bytes.now fault) }
+{
     let (number, rest) = read_head(file, bytes)?;
     let automaton = &file.automaton;
     let (parameters, rest) = read_parameters(alloc, automaton, rest)?;

@@ -1,11 +1,11 @@
-use Rattle.ta_moment_tree.proofs.Common.{◌+◌, length, slice_get, arith, ap, sym, subst, refl, not}
-use Rattle.ta_moments.specs.Facts.{has_guard, sparing}
+use Rattle.ta_moment_tree.proofs.Common.{◌+◌, length, arith, ap, sym, subst, refl}
+use Rattle.ta_moments.specs.Facts.{sparing}
 use Rattle.ta_moments.specs.declared.fact.Fact.TheVariants.{First}
 use Rattle.ta_moments.specs.Moments.{Point, Vector, first_vector, rows_of_first}
 use Rattle.ta_moments.proofs.Speaking.{VectorSpeaks}
 use Rattle.ta_moment_tree.specs.Forms.{SmallVector, vector_of}
 use Rattle.ta_moment_tree.specs.Rows.{AddsForms}
-use Rattle.ta_moment_tree.proofs.Beginning.{chosen_few}
+use Rattle.ta_moment_tree.proofs.Beginning.{sparing_few}
 use Rattle.ta_moment_tree.proofs.AddedFacts.{moment_known}
 use Rattle.ta_moment_tree.proofs.facts.with_first.Goals as goal
 
@@ -20,7 +20,7 @@ pub overflow_add-result : goal.overflow_add-result
 overflow_add-result c =
     let t = c.args.plan.now.task in
     let a = t.automaton.now in
-    let few = chosen_few a t.pattern.now (λ r. not (has_guard a c.args.guard (slice_get a.rules r))) (sparing a t.pattern.now c.args.guard) refl in
+    let few = sparing_few a t.pattern.now c.args.guard (sparing a t.pattern.now c.args.guard) refl in
     let same = c.in_ok-used.ensures.unknowns in
     let room = c.requires.room in
     omega arith

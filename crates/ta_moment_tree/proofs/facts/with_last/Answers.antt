@@ -1,11 +1,11 @@
-use Rattle.ta_moment_tree.proofs.Common.{◌∙◌, ◌+◌, length, slice_get, arith, ap, sym, subst, refl, not}
-use Rattle.ta_moments.specs.Facts.{has_guard, needing, sparing}
+use Rattle.ta_moment_tree.proofs.Common.{◌∙◌, ◌+◌, length, arith, ap, sym, subst, refl}
+use Rattle.ta_moments.specs.Facts.{needing, sparing}
 use Rattle.ta_moments.specs.declared.fact.Fact.TheVariants.{Last}
 use Rattle.ta_moments.specs.Moments.{Pair, Vector, after_vector, before_vector, rows_of_last}
 use Rattle.ta_moments.proofs.Speaking.{VectorSpeaks}
 use Rattle.ta_moment_tree.specs.Forms.{SmallVector, vector_of}
 use Rattle.ta_moment_tree.specs.Rows.{AddsForms}
-use Rattle.ta_moment_tree.proofs.Beginning.{chosen_few}
+use Rattle.ta_moment_tree.proofs.Beginning.{needing_few, sparing_few}
 use Rattle.ta_moment_tree.proofs.AddedFacts.{moment_known}
 use Rattle.ta_moment_tree.proofs.facts.with_last.Goals as goal
 
@@ -20,8 +20,8 @@ pub overflow_add-result : goal.overflow_add-result
 overflow_add-result c =
     let t = c.args.plan.now.task in
     let a = t.automaton.now in
-    let few = chosen_few a t.pattern.now (λ r. not (has_guard a c.args.guard (slice_get a.rules r))) (sparing a t.pattern.now c.args.guard) refl in
-    let more = chosen_few a t.pattern.now (λ r. has_guard a c.args.guard (slice_get a.rules r)) (needing a t.pattern.now c.args.guard) refl in
+    let few = sparing_few a t.pattern.now c.args.guard (sparing a t.pattern.now c.args.guard) refl in
+    let more = needing_few a t.pattern.now c.args.guard (needing a t.pattern.now c.args.guard) refl in
     let same = c.in_ok-used.ensures.unknowns in
     let room = c.requires.room in
     omega arith

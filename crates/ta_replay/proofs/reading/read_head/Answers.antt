@@ -1,5 +1,5 @@
 use Rattle.ta_replay.proofs.Common.{◌≡◌, ◌∙◌, ◌++◌, ◌∷◌, [], ℕ, List, ap, append_cancel_left, arith, codes, inl, inr, length-map, map, refl, subst, sym}
-use Rattle.ta_replay.proofs.Common.{slice_get_within, File, HeadRead, IsMalformedRun, IsMisnamed, IsNamedLine, IsNameOf, NoNameOf, SplitAt, head_line, name_at}
+use Rattle.ta_replay.proofs.Common.{slice_get_within, File, HeadRead, IsMisnamed, IsNamedLine, IsNameOf, NoNameOf, SplitAt, head_line, name_at}
 use Rattle.ta_replay.proofs.Common.{pattern_name}
 use Rattle.ta_replay.proofs.reading.read_head.Goals as goal
 

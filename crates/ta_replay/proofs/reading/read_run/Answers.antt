@@ -1,199 +1,30 @@
-use Rattle.ta_replay.proofs.Common.{◌≡◌, ◌+◌, ◌++◌, length, ◌∙◌, arith, length-append, length-map, err_is, rises_length_added, parameter_slot, start_slot}
-use Rattle.ta_replay.proofs.WholeTexts.{whole_read, parameters_fault, counts_fault, lines_fault}
+use Rattle.ta_replay.proofs.Common.{◌≡◌, err_is}
 use Rattle.ta_replay.specs.declared.fault.RunFault.TheVariants as fault
 use Rattle.ta_replay.proofs.OneRun.{one_run, no_fault}
 use Rattle.ta_replay.proofs.OneFault.{malformed_only, misnamed_only}
 use Rattle.ta_replay.proofs.reading.read_run.Goals as goal
-use Rattle.ta_base.proofs.Lists.{read_within}
 
-pub returns-in_err-number-clause-only : goal.returns-in_err-number-clause-only
-returns-in_err-number-clause-only c = λ run is. rw (err_is c.from_residual.result _ c.from_residual.ensures.1)
-    (no_fault c.args.file.now run c.args.bytes.now c.in_err-number.field-0.0 is c.in_err-number.ensures.fault)
+pub returns-in_err-run-clause-only : goal.returns-in_err-run-clause-only
+returns-in_err-run-clause-only c = λ run is. rw (err_is c.from_residual.result _ c.from_residual.ensures.1)
+    (no_fault c.args.file.now run c.args.bytes.now c.in_err-run.field-0.0 is c.in_err-run.ensures.fault)
 
-pub returns-in_err-number-clause-malformed : goal.returns-in_err-number-clause-malformed
-returns-in_err-number-clause-malformed c = λ number bad. rw (err_is c.from_residual.result _ c.from_residual.ensures.1)
-    (malformed_only c.args.file.now c.args.bytes.now c.in_err-number.field-0.0 number c.in_err-number.ensures.fault bad)
+pub returns-in_err-run-clause-malformed : goal.returns-in_err-run-clause-malformed
+returns-in_err-run-clause-malformed c = λ number bad. rw (err_is c.from_residual.result _ c.from_residual.ensures.1)
+    (malformed_only c.args.file.now c.args.bytes.now c.in_err-run.field-0.0 number c.in_err-run.ensures.fault bad)
 
-pub returns-in_err-number-clause-misnamed : goal.returns-in_err-number-clause-misnamed
-returns-in_err-number-clause-misnamed c = λ number bad. rw (err_is c.from_residual.result _ c.from_residual.ensures.1)
-    (misnamed_only c.args.file.now c.args.bytes.now c.in_err-number.field-0.0 number c.in_err-number.ensures.fault bad)
-
-pub returns-in_err-parameters-clause-fault : goal.returns-in_err-parameters-clause-fault
-returns-in_err-parameters-clause-fault c =
-    rw (err_is c.from_residual-in_err-parameters.result _ c.from_residual-in_err-parameters.ensures.1)
-    (parameters_fault c.args.file.now c.args.bytes.now c.in_ok-number.rest.now c.in_ok-number.number c.in_err-parameters.field-0.0
-    c.in_ok-number.ensures.read c.in_err-parameters.ensures.fault)
-
-pub returns-in_err-parameters-clause-only : goal.returns-in_err-parameters-clause-only
-returns-in_err-parameters-clause-only c =
-    λ run is.
-    rw (err_is c.from_residual-in_err-parameters.result _ c.from_residual-in_err-parameters.ensures.1)
-    (no_fault c.args.file.now run c.args.bytes.now c.in_err-parameters.field-0.0 is
-    (parameters_fault c.args.file.now c.args.bytes.now c.in_ok-number.rest.now c.in_ok-number.number c.in_err-parameters.field-0.0
-    c.in_ok-number.ensures.read c.in_err-parameters.ensures.fault))
-
-pub returns-in_err-parameters-clause-malformed : goal.returns-in_err-parameters-clause-malformed
-returns-in_err-parameters-clause-malformed c =
-    λ number bad.
-    rw (err_is c.from_residual-in_err-parameters.result _ c.from_residual-in_err-parameters.ensures.1)
-    (malformed_only c.args.file.now c.args.bytes.now c.in_err-parameters.field-0.0 number
-    (parameters_fault c.args.file.now c.args.bytes.now c.in_ok-number.rest.now c.in_ok-number.number c.in_err-parameters.field-0.0
-    c.in_ok-number.ensures.read c.in_err-parameters.ensures.fault) bad)
-
-pub returns-in_err-parameters-clause-misnamed : goal.returns-in_err-parameters-clause-misnamed
-returns-in_err-parameters-clause-misnamed c =
-    λ number bad.
-    rw (err_is c.from_residual-in_err-parameters.result _ c.from_residual-in_err-parameters.ensures.1)
-    (misnamed_only c.args.file.now c.args.bytes.now c.in_err-parameters.field-0.0 number
-    (parameters_fault c.args.file.now c.args.bytes.now c.in_ok-number.rest.now c.in_ok-number.number c.in_err-parameters.field-0.0
-    c.in_ok-number.ensures.read c.in_err-parameters.ensures.fault) bad)
-
-pub returns-in_err-counts-clause-fault : goal.returns-in_err-counts-clause-fault
-returns-in_err-counts-clause-fault c =
-    let place : 2 + c.len.result ≡ 2 + length c.in_ok-parameters.parameters.items = omega (arith, c.len.ensures, c.in_ok-parameters.parameters.ok.0) in
-    rw (err_is c.from_residual-in_err-counts.result _ c.from_residual-in_err-counts.ensures.1)
-    (counts_fault c.args.file.now c.args.bytes.now c.in_ok-number.rest.now c.in_ok-parameters.rest.now c.in_ok-number.number (2 + c.len.result)
-    c.in_ok-parameters.parameters.items c.in_err-counts.field-0.0 c.in_ok-number.ensures.read c.in_ok-parameters.ensures.read place
-    c.in_err-counts.ensures.fault)
-
-pub returns-in_err-counts-clause-only : goal.returns-in_err-counts-clause-only
-returns-in_err-counts-clause-only c =
-    let place : 2 + c.len.result ≡ 2 + length c.in_ok-parameters.parameters.items = omega (arith, c.len.ensures, c.in_ok-parameters.parameters.ok.0) in
-    λ run is.
-    rw (err_is c.from_residual-in_err-counts.result _ c.from_residual-in_err-counts.ensures.1)
-    (no_fault c.args.file.now run c.args.bytes.now c.in_err-counts.field-0.0 is
-    (counts_fault c.args.file.now c.args.bytes.now c.in_ok-number.rest.now c.in_ok-parameters.rest.now c.in_ok-number.number (2 + c.len.result)
-    c.in_ok-parameters.parameters.items c.in_err-counts.field-0.0 c.in_ok-number.ensures.read c.in_ok-parameters.ensures.read place
-    c.in_err-counts.ensures.fault))
-
-pub returns-in_err-counts-clause-malformed : goal.returns-in_err-counts-clause-malformed
-returns-in_err-counts-clause-malformed c =
-    let place : 2 + c.len.result ≡ 2 + length c.in_ok-parameters.parameters.items = omega (arith, c.len.ensures, c.in_ok-parameters.parameters.ok.0) in
-    λ number bad.
-    rw (err_is c.from_residual-in_err-counts.result _ c.from_residual-in_err-counts.ensures.1)
-    (malformed_only c.args.file.now c.args.bytes.now c.in_err-counts.field-0.0 number
-    (counts_fault c.args.file.now c.args.bytes.now c.in_ok-number.rest.now c.in_ok-parameters.rest.now c.in_ok-number.number (2 + c.len.result)
-    c.in_ok-parameters.parameters.items c.in_err-counts.field-0.0 c.in_ok-number.ensures.read c.in_ok-parameters.ensures.read place
-    c.in_err-counts.ensures.fault) bad)
-
-pub returns-in_err-counts-clause-misnamed : goal.returns-in_err-counts-clause-misnamed
-returns-in_err-counts-clause-misnamed c =
-    let place : 2 + c.len.result ≡ 2 + length c.in_ok-parameters.parameters.items = omega (arith, c.len.ensures, c.in_ok-parameters.parameters.ok.0) in
-    λ number bad.
-    rw (err_is c.from_residual-in_err-counts.result _ c.from_residual-in_err-counts.ensures.1)
-    (misnamed_only c.args.file.now c.args.bytes.now c.in_err-counts.field-0.0 number
-    (counts_fault c.args.file.now c.args.bytes.now c.in_ok-number.rest.now c.in_ok-parameters.rest.now c.in_ok-number.number (2 + c.len.result)
-    c.in_ok-parameters.parameters.items c.in_err-counts.field-0.0 c.in_ok-number.ensures.read c.in_ok-parameters.ensures.read place
-    c.in_err-counts.ensures.fault) bad)
-
-pub read_steps-requires-clause-room : goal.read_steps-requires-clause-room
-read_steps-requires-clause-room c =
-    let a = c.args.file.now.automaton in
-    let initial = rises_length_added 0 (length a.locations) a.initial (omega arith) a.shape.initial_rises in
-    let locations = a.shape.limits.locations_limit in
-    let parameters = a.shape.limits.parameters_limit in
-    let first = c.in_ok-parameters.ensures.read.all ∙ length-map a.parameters parameter_slot in
-    let second = c.in_ok-counts.ensures.read.all ∙ length-map a.initial (start_slot a) in
-    omega (arith, c.len.ensures, c.in_ok-parameters.parameters.ok.0, c.len-2.ensures, c.in_ok-counts.counts.ok.0)
-
-pub returns-in_err-lines-clause-fault : goal.returns-in_err-lines-clause-fault
-returns-in_err-lines-clause-fault c =
-    let named = read_within c.args.file.now.patterns c.as_slice.result.now c.in_ok-number.number c.index-as_slice-place.result c.as_slice.ensures
-    c.in_ok-number.ensures.read.exists c.index-as_slice-place.is in
-    let place : 2 + c.len.result + c.len-2.result ≡ 2 + length (c.in_ok-parameters.parameters.items ++ c.in_ok-counts.counts.items) = omega (
-      arith,
-      c.len.ensures,
-      c.in_ok-parameters.parameters.ok.0,
-      c.len-2.ensures,
-      c.in_ok-counts.counts.ok.0,
-      length-append
-          c.in_ok-parameters.parameters.items c.in_ok-counts.counts.items,
-    ) in
-    rw (err_is c.from_residual-in_err-lines.result _ c.from_residual-in_err-lines.ensures.1)
-    (lines_fault c.args.file.now c.args.bytes.now c.in_ok-number.rest.now c.in_ok-parameters.rest.now c.in_ok-counts.rest.now c.in_ok-number.number
-    (2 + c.len.result + c.len-2.result) c.index-as_slice-place.result c.in_ok-parameters.parameters.items c.in_ok-counts.counts.items
-    c.in_err-lines.field-0.0 c.in_ok-number.ensures.read named c.in_ok-parameters.ensures.read c.in_ok-counts.ensures.read place
-    c.in_err-lines.ensures.fault)
-
-pub returns-in_err-lines-clause-only : goal.returns-in_err-lines-clause-only
-returns-in_err-lines-clause-only c =
-    let named = read_within c.args.file.now.patterns c.as_slice.result.now c.in_ok-number.number c.index-as_slice-place.result c.as_slice.ensures
-    c.in_ok-number.ensures.read.exists c.index-as_slice-place.is in
-    let place : 2 + c.len.result + c.len-2.result ≡ 2 + length (c.in_ok-parameters.parameters.items ++ c.in_ok-counts.counts.items) = omega (
-      arith,
-      c.len.ensures,
-      c.in_ok-parameters.parameters.ok.0,
-      c.len-2.ensures,
-      c.in_ok-counts.counts.ok.0,
-      length-append
-          c.in_ok-parameters.parameters.items c.in_ok-counts.counts.items,
-    ) in
-    λ run is.
-    rw (err_is c.from_residual-in_err-lines.result _ c.from_residual-in_err-lines.ensures.1)
-    (no_fault c.args.file.now run c.args.bytes.now c.in_err-lines.field-0.0 is
-    (lines_fault c.args.file.now c.args.bytes.now c.in_ok-number.rest.now c.in_ok-parameters.rest.now c.in_ok-counts.rest.now c.in_ok-number.number
-    (2 + c.len.result + c.len-2.result) c.index-as_slice-place.result c.in_ok-parameters.parameters.items c.in_ok-counts.counts.items
-    c.in_err-lines.field-0.0 c.in_ok-number.ensures.read named c.in_ok-parameters.ensures.read c.in_ok-counts.ensures.read place
-    c.in_err-lines.ensures.fault))
-
-pub returns-in_err-lines-clause-malformed : goal.returns-in_err-lines-clause-malformed
-returns-in_err-lines-clause-malformed c =
-    let named = read_within c.args.file.now.patterns c.as_slice.result.now c.in_ok-number.number c.index-as_slice-place.result c.as_slice.ensures
-    c.in_ok-number.ensures.read.exists c.index-as_slice-place.is in
-    let place : 2 + c.len.result + c.len-2.result ≡ 2 + length (c.in_ok-parameters.parameters.items ++ c.in_ok-counts.counts.items) = omega (
-      arith,
-      c.len.ensures,
-      c.in_ok-parameters.parameters.ok.0,
-      c.len-2.ensures,
-      c.in_ok-counts.counts.ok.0,
-      length-append
-          c.in_ok-parameters.parameters.items c.in_ok-counts.counts.items,
-    ) in
-    λ number bad.
-    rw (err_is c.from_residual-in_err-lines.result _ c.from_residual-in_err-lines.ensures.1)
-    (malformed_only c.args.file.now c.args.bytes.now c.in_err-lines.field-0.0 number
-    (lines_fault c.args.file.now c.args.bytes.now c.in_ok-number.rest.now c.in_ok-parameters.rest.now c.in_ok-counts.rest.now c.in_ok-number.number
-    (2 + c.len.result + c.len-2.result) c.index-as_slice-place.result c.in_ok-parameters.parameters.items c.in_ok-counts.counts.items
-    c.in_err-lines.field-0.0 c.in_ok-number.ensures.read named c.in_ok-parameters.ensures.read c.in_ok-counts.ensures.read place
-    c.in_err-lines.ensures.fault) bad)
-
-pub returns-in_err-lines-clause-misnamed : goal.returns-in_err-lines-clause-misnamed
-returns-in_err-lines-clause-misnamed c =
-    let named = read_within c.args.file.now.patterns c.as_slice.result.now c.in_ok-number.number c.index-as_slice-place.result c.as_slice.ensures
-    c.in_ok-number.ensures.read.exists c.index-as_slice-place.is in
-    let place : 2 + c.len.result + c.len-2.result ≡ 2 + length (c.in_ok-parameters.parameters.items ++ c.in_ok-counts.counts.items) = omega (
-      arith,
-      c.len.ensures,
-      c.in_ok-parameters.parameters.ok.0,
-      c.len-2.ensures,
-      c.in_ok-counts.counts.ok.0,
-      length-append
-          c.in_ok-parameters.parameters.items c.in_ok-counts.counts.items,
-    ) in
-    λ number bad.
-    rw (err_is c.from_residual-in_err-lines.result _ c.from_residual-in_err-lines.ensures.1)
-    (misnamed_only c.args.file.now c.args.bytes.now c.in_err-lines.field-0.0 number
-    (lines_fault c.args.file.now c.args.bytes.now c.in_ok-number.rest.now c.in_ok-parameters.rest.now c.in_ok-counts.rest.now c.in_ok-number.number
-    (2 + c.len.result + c.len-2.result) c.index-as_slice-place.result c.in_ok-parameters.parameters.items c.in_ok-counts.counts.items
-    c.in_err-lines.field-0.0 c.in_ok-number.ensures.read named c.in_ok-parameters.ensures.read c.in_ok-counts.ensures.read place
-    c.in_err-lines.ensures.fault) bad)
-
-pub returns-clause-text : goal.returns-clause-text
-returns-clause-text c =
-    let named = read_within c.args.file.now.patterns c.as_slice.result.now c.in_ok-number.number c.index-as_slice-place.result c.as_slice.ensures
-    c.in_ok-number.ensures.read.exists c.index-as_slice-place.is in
-    rw (c.from_vec.ensures, c.from_vec-2.ensures, c.from_vec-3.ensures)
-    (whole_read c.args.file.now c.args.bytes.now c.in_ok-number.rest.now c.in_ok-parameters.rest.now c.in_ok-counts.rest.now c.in_ok-number.number
-    c.index-as_slice-place.result c.in_ok-parameters.parameters.items c.in_ok-counts.counts.items c.in_ok-lines.lines.items c.in_ok-number.ensures.read
-    named c.in_ok-parameters.ensures.read c.in_ok-counts.ensures.read c.in_ok-lines.ensures.read)
+pub returns-in_err-run-clause-misnamed : goal.returns-in_err-run-clause-misnamed
+returns-in_err-run-clause-misnamed c = λ number bad. rw (err_is c.from_residual.result _ c.from_residual.ensures.1)
+    (misnamed_only c.args.file.now c.args.bytes.now c.in_err-run.field-0.0 number c.in_err-run.ensures.fault bad)
 
 pub returns-clause-one : goal.returns-clause-one
-returns-clause-one c = λ other is. one_run c.args.file.now c.args.bytes.now _ other (returns-clause-text c) is
+returns-clause-one c = λ other is. one_run c.args.file.now c.args.bytes.now c.in_ok-run.run' other c.in_ok-run.ensures.text is
 
 pub returns-clause-malformed : goal.returns-clause-malformed
-returns-clause-malformed c = λ number bad. let none = no_fault c.args.file.now _ c.args.bytes.now (fault.Line number) (returns-clause-text c) bad in absurd
+returns-clause-malformed c = λ number bad.
+    let none = no_fault c.args.file.now c.in_ok-run.run' c.args.bytes.now (fault.Line number) c.in_ok-run.ensures.text bad in absurd
     (let apart : fault.Line number ≡ fault.Memory = none in cc)
 
 pub returns-clause-misnamed : goal.returns-clause-misnamed
-returns-clause-misnamed c = λ number bad. let none = no_fault c.args.file.now _ c.args.bytes.now (fault.Name number) (returns-clause-text c) bad in absurd
+returns-clause-misnamed c = λ number bad.
+    let none = no_fault c.args.file.now c.in_ok-run.run' c.args.bytes.now (fault.Name number) c.in_ok-run.ensures.text bad in absurd
     (let apart : fault.Name number ≡ fault.Memory = none in cc)

@@ -1,0 +1,8 @@
+use Rattle.ta_moment_tree.proofs.Common.{ℕ, ◌∙◌, filter, not, slice_get, ap}
+use Rattle.ta_moments.specs.Facts.{has_guard}
+use Rattle.ta_moment_tree.proofs.plan.Plan.sparing.Goals as goal
+
+pub returns : goal.returns
+returns c =
+    let a = c.args.self.now.task.automaton.now in
+    c.in_ok-rules.ensures ∙ ap (filter (λ (r : ℕ). not (has_guard a c.args.guard (slice_get a.rules r)))) (c.as_slice.ensures.value ∙ c.requires.moving)
