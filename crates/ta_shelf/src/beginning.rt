@@ -20,9 +20,10 @@ pub(crate) fn try_outputs<'a, S: Shelf>(
     ensures cause { BeginCause result (S.faults shelf.old) (S.faults shelf.new) }
     ensures kept { S.files shelf.new ≡ S.files shelf.old }
 {
-    match try_given(shelf, outputs.first) {
+    let first = try_given(shelf, outputs.first);
+    match first {
         Ok(()) => try_given(shelf, outputs.second),
-        Err(refusal) => Err(refusal),
+        Err(_) => first,
     }
 }
 

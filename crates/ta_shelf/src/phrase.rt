@@ -2,7 +2,7 @@
 #![tactic(auto)]
 
 /// What is said of a file, with up to two numbers in it.
-#[derive(Clone, Copy, Debug, Drop)]
+#[derive(Clone, Copy, Drop)]
 pub enum Phrase {
     /// Words alone.
     Plain(&'static str),

@@ -25,9 +25,10 @@ pub fn spare_read<'a, S: Shelf>(
     ensures cause { ReadCause result (S.faults shelf.old) (S.faults shelf.new) }
     ensures kept { S.files shelf.new ≡ S.files shelf.old }
 {
-    match spare_each(shelf, outputs, read) {
+    let spared = spare_each(shelf, outputs, read);
+    match spared {
         Ok(()) => part_outputs(shelf, outputs),
-        Err(refusal) => Err(refusal),
+        Err(_) => spared,
     }
 }
 
@@ -73,9 +74,10 @@ fn spare_each<'a, S: Shelf>(
     ensures cause { ReadCause result (S.faults shelf.old) (S.faults shelf.new) }
     ensures kept { S.files shelf.new ≡ S.files shelf.old }
 {
-    match spare_given(shelf, outputs.first, read) {
+    let first = spare_given(shelf, outputs.first, read);
+    match first {
         Ok(()) => spare_given(shelf, outputs.second, read),
-        Err(refusal) => Err(refusal),
+        Err(_) => first,
     }
 }
 

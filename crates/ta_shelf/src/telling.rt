@@ -1,7 +1,7 @@
 //! The one line on standard error. It takes no memory.
 #![tactic(auto)]
 
-ghost use Rattle.std.specs.Prelude.{◌≡◌};
+ghost use Rattle.std.specs.Prelude.{◌≡◌, ◌++◌, decimal};
 ghost use Rattle.ta_shelf.specs.WriteWhole.{AddsWhole, HasCause};
 ghost use Rattle.ta_shelf.specs.Ends.{SinkState, Tells};
 ghost use Rattle.ta_shelf.specs.Lines.{file_line, halt_line, halt_number, refusal_line, refusal_number, phrase_text, piece_text, pieces_text};
@@ -73,29 +73,10 @@ fn tell_of_file<E: Sink>(err: &mut E, name: &str, why: &Phrase)
     ensures { Tells (file_line name.now (phrase_text why.now)) (record { written = E.written err.old; faults = E.faults err.old; stalls = E.stalls err.old })
         (record { written = E.written err.new; faults = E.faults err.new; stalls = E.stalls err.new }) }
 {
-    tell_pieces(err, &file_pieces(name, why));
-}
-
-/// The pieces of the line about a file. Those after its end are empty.
-fn file_pieces<'a>(name: &'a str, why: &Phrase) -> [Piece<'a>; 9]
-    ensures { pieces_text result ≡ file_line name.now (phrase_text why.now) }
-{
-    let [begin, between, end, none] = [
-        Piece::Words("tav: "),
-        Piece::Words(": "),
-        Piece::Words("\n"),
-        Piece::Words(""),
-    ];
-    let name = Piece::Words(name);
     match *why {
-        Phrase::Plain(words) => {
-            let words = Piece::Words(words);
-            [begin, name, between, words, end, none, none, none, none]
-        }
+        Phrase::Plain(words) => tell_pieces(err, &plain_pieces(name, words)),
         Phrase::One { head, number, tail } => {
-            let (head, tail) = (Piece::Words(head), Piece::Words(tail));
-            let number = Piece::Number(number);
-            [begin, name, between, head, number, tail, end, none, none]
+            tell_pieces(err, &pieces_of_one(name, head, number, tail));
         }
         Phrase::Two {
             head,
@@ -103,19 +84,60 @@ fn file_pieces<'a>(name: &'a str, why: &Phrase) -> [Piece<'a>; 9]
             middle,
             second,
             tail,
-        } => {
-            let (head, middle, tail) = (
-                Piece::Words(head),
-                Piece::Words(middle),
-                Piece::Words(tail),
-            );
-            let (first, second) = (
-                Piece::Number(u128::from(first)),
-                Piece::Number(u128::from(second)),
-            );
-            [begin, name, between, head, first, middle, second, tail, end]
-        }
+        } => tell_pieces(err, &pieces_of_two(name, head, first, middle, second, tail)),
     }
+}
+
+/// The pieces of the line about a file that says these words.
+fn plain_pieces<'a>(name: &'a str, words: &'a str) -> [Piece<'a>; 5]
+    ensures { pieces_text result ≡ file_line name.now words.now }
+{
+    [
+        Piece::Words("tav: "),
+        Piece::Words(name),
+        Piece::Words(": "),
+        Piece::Words(words),
+        Piece::Words("\n"),
+    ]
+}
+
+/// The pieces of the line about a file that says a number.
+fn pieces_of_one<'a>(name: &'a str, head: &'a str, number: u128, tail: &'a str) -> [Piece<'a>; 7]
+    ensures { pieces_text result ≡ file_line name.now (head.now ++ (decimal number ++ tail.now)) }
+{
+    [
+        Piece::Words("tav: "),
+        Piece::Words(name),
+        Piece::Words(": "),
+        Piece::Words(head),
+        Piece::Number(number),
+        Piece::Words(tail),
+        Piece::Words("\n"),
+    ]
+}
+
+/// The pieces of the line about a file that says two numbers.
+fn pieces_of_two<'a>(
+    name: &'a str,
+    head: &'a str,
+    first: u64,
+    middle: &'a str,
+    second: u64,
+    tail: &'a str,
+) -> [Piece<'a>; 9]
+    ensures { pieces_text result ≡ file_line name.now (head.now ++ (decimal first ++ (middle.now ++ (decimal second ++ tail.now)))) }
+{
+    [
+        Piece::Words("tav: "),
+        Piece::Words(name),
+        Piece::Words(": "),
+        Piece::Words(head),
+        Piece::Number(u128::from(first)),
+        Piece::Words(middle),
+        Piece::Number(u128::from(second)),
+        Piece::Words(tail),
+        Piece::Words("\n"),
+    ]
 }
 
 /// Writes pieces one after the other, or as much of them as the sink takes.

@@ -9,4 +9,5 @@ returns-in-Ok-clause-spares g c =
 
 pub returns-in-Err-clause-spares : goal.returns-in-Err-clause-spares
 returns-in-Err-clause-spares g c =
-    protects_first (g.S.Shelf.files c.args.shelf.now) (output_names c.args.outputs.now) c.args.read.now c.in-Err.refusal _ _ c.in-Err.ensures.spares
+    rw c.in-Err.is (protects_first (g.S.Shelf.files c.args.shelf.now) (output_names c.args.outputs.now) c.args.read.now c.in-Err.field-0 _ _
+    c.in-Err.ensures.spares)
