@@ -106,6 +106,16 @@ proper_rest rows before after chosen row c p =
     proper_after rows before after chosen row (length chosen.cells) c
     (subst (λ (r : TableauRow). (i : ℕ) → i < length rows → IsProper (length r.cells) (get_or rows i no_row)) (at_row rows before after chosen row c) p)
 
+pub proper_first : (rows before after : List TableauRow) (chosen : TableauRow) (row : ℕ) → Cut rows row before chosen after
+    → ((i : ℕ) → i < length rows → IsProper (length (get_or rows row no_row).cells) (get_or rows i no_row)) →
+    (i : ℕ) → i < length before → IsProper (length chosen.cells) (get_or before i no_row)
+proper_first rows before after chosen row c p i h =
+    let k = length_cut rows before after chosen row c in
+    let l = c.long in
+    let all = subst (λ (r : TableauRow). (j : ℕ) → j < length rows → IsProper (length r.cells) (get_or rows j no_row)) (at_row rows before after chosen row c) p
+    in
+    subst (IsProper (length chosen.cells)) (at_before rows before after chosen row i c (omega arith)) (all i (omega arith))
+
 pub merge_below_views : (column : ℕ) (chosen : TableauRow) (rows : List DenseRow) → RowsMergeBelow column chosen (views rows) (length rows)
     → RowsMergeBelow column chosen (views rows) (length (views rows))
 merge_below_views column chosen rows h = subst (RowsMergeBelow column chosen (views rows)) (sym (length-map rows row_view)) h

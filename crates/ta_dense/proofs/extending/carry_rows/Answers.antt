@@ -1,6 +1,6 @@
 use Rattle.ta_dense.proofs.Common.{◌≡◌, ℕ, List, arith, sym, ◌∙◌, ap, subst, length, map, below_more, get_or_default, length-map, TableauRow, merged, row_view}
 use Rattle.ta_dense.proofs.Common.{views, AreProper, RowsMergeBelow, KeptPivot, kept_at, no_pivot, chosen_row, carried}
-use Rattle.ta_dense.proofs.Common.{FirstRefused, IsProper}
+use Rattle.ta_dense.proofs.Common.{◌-◌, ◌<ℤ◌, pos, ℤ, replicate, cell_of, get_or_append_left, FirstRefused, IsProper}
 use Rattle.ta_dense.proofs.ExtendFacts.{carried_more}
 use Rattle.ta_dense.proofs.extending.carry_rows.Goals as goal
 
@@ -63,3 +63,37 @@ returns-in-Some-clause-refused c =
     subst (λ (xs : List TableauRow). FirstRefused k.column (chosen_row n k) xs c.in-Some.row) c.loop-pivot.invariant.value
     (subst (λ (r : TableauRow). FirstRefused k.column r rows c.in-Some.row) chosen
     (subst (λ (m : ℕ). FirstRefused m (row_view c.in_ok-chosen.chosen) rows c.in-Some.row) column c.in-Some.ensures.refused))
+
+pub merge_all-requires-clause-column : goal.merge_all-requires-clause-column
+merge_all-requires-clause-column c =
+    let ks = c.args.kept.now in
+    let j = c.loop-pivot.pivot in
+    let inside = c.loop-pivot-test.true in
+    let at_column : c.index-kept-pivot-in-loop-pivot.result ≡ kept_at c.args.kept.now c.loop-pivot.pivot = c.index-kept-pivot-in-loop-pivot.is
+    ∙ get_or_default ks j c.index-kept-pivot-in-loop-pivot.result no_pivot inside in
+    let column = c.column.ensures ∙ ap (λ (p : KeptPivot). p.column) at_column in
+    let own = c.requires.kept c.loop-pivot.pivot c.loop-pivot-test.true in
+    let low = own.column in
+    let high = own.long in
+    let long = c.in_ok-chosen.ensures.proper.long in
+    omega arith
+
+pub merge_all-requires-clause-positive : goal.merge_all-requires-clause-positive
+merge_all-requires-clause-positive c =
+    let ks = c.args.kept.now in
+    let j = c.loop-pivot.pivot in
+    let inside = c.loop-pivot-test.true in
+    let at_column : c.index-kept-pivot-in-loop-pivot.result ≡ kept_at c.args.kept.now c.loop-pivot.pivot = c.index-kept-pivot-in-loop-pivot.is
+    ∙ get_or_default ks j c.index-kept-pivot-in-loop-pivot.result no_pivot inside in
+    let column = c.column.ensures ∙ ap (λ (p : KeptPivot). p.column) at_column in
+    let own = c.requires.kept c.loop-pivot.pivot c.loop-pivot-test.true in
+    let low = own.column in
+    let n = c.args.columns in
+    let at : c.index-kept-pivot.result ≡ kept_at c.args.kept.now c.loop-pivot.pivot = c.index-kept-pivot.is
+    ∙ get_or_default ks j c.index-kept-pivot.result no_pivot inside in
+    let k = kept_at ks j in
+    let chosen = c.in_ok-chosen.ensures.value ∙ ap (chosen_row n) at in
+    let left = get_or_append_left k.cells (replicate (n - length k.cells) (pos 0)) (pos 0) k.column low in
+    let there = subst (λ (z : ℤ). pos 0 <ℤ z) (sym left) own.positive in
+    subst (λ (r : TableauRow). pos 0 <ℤ cell_of r c.column.result) (sym chosen)
+    (subst (λ (m : ℕ). pos 0 <ℤ cell_of (chosen_row n k) m) (sym column) there)

@@ -1,4 +1,5 @@
-use Rattle.ta_dense.proofs.Common.{arith, refl, sym, ◌∙◌, ap, subst, ℕ, pos, ◌<ℤ◌, List, ◌++◌, ◌∷◌, length, map-append, length-map, TableauRow, cell_of}
+use Rattle.ta_dense.proofs.Common.{◌≡◌, arith, ◌<◌, refl, sym, ◌∙◌, ap, subst, ℕ, pos, ◌<ℤ◌, List, ◌++◌, ◌∷◌, length, map-append, length-map, TableauRow}
+use Rattle.ta_dense.proofs.Common.{cell_of}
 use Rattle.ta_dense.proofs.Common.{narrow_at, narrow_view, narrow_views, AreNarrow, NarrowRow}
 use Rattle.ta_dense.proofs.PivotParts.{at_row, pivoted_cut, all_others}
 use Rattle.ta_dense.proofs.NarrowFacts.{NarrowCut, narrow_cut, narrow_cut_same, narrow_joined, narrow_turned, all_in_range}
@@ -30,6 +31,24 @@ kept c whole =
     subst (λ (m : ℕ). P m (c.all_merge-first.new.rows ++ c.tighten.new.row ∷ c.all_merge-second.new.rows)) (sym whole.wide)
     (narrow_joined (length c.tighten.new.row.cells.items) c.all_merge-first.new.rows c.all_merge-second.new.rows c.tighten.new.row whole.first whole.itself
     whole.last)
+
+-- the column is one of the chosen row's, and its cell there is positive
+inside : (c : After-all_merge-second) → NarrowCut c.args.rows.now c.all_merge-first.new.rows c.tighten.new.row c.all_merge-second.new.rows c.args.row
+    → c.args.column < length c.tighten.new.row.cells.items
+inside c whole = subst (λ (m : ℕ). c.args.column < m) whole.wide c.requires.column
+
+above : (c : After-all_merge-second) → NarrowCut c.args.rows.now c.all_merge-first.new.rows c.tighten.new.row c.all_merge-second.new.rows c.args.row
+    → pos 0 <ℤ cell_of (narrow_view c.tighten.new.row) c.args.column
+above c whole =
+    subst (λ (r : TableauRow). pos 0 <ℤ cell_of r c.args.column)
+    (at_row (narrow_views c.args.rows.now) (narrow_views c.all_merge-first.new.rows) (narrow_views c.all_merge-second.new.rows)
+    (narrow_view c.tighten.new.row) c.args.row whole.cut)
+    c.requires.positive
+
+-- the numbers are those of before
+unchanged : (c : After-all_merge-second) → NarrowCut c.args.rows.now c.all_merge-first.new.rows c.tighten.new.row c.all_merge-second.new.rows c.args.row
+    → narrow_views (c.all_merge-first.new.rows ++ c.tighten.new.row ∷ c.all_merge-second.new.rows) ≡ narrow_views c.args.rows.now
+unchanged c whole = map-append narrow_view c.all_merge-first.new.rows (c.tighten.new.row ∷ c.all_merge-second.new.rows) ∙ sym whole.cut.whole
 
 pub tighten-requires : goal.tighten-requires
 tighten-requires c = (cut (goal.at.tighten-requires c).In-Some).itself
@@ -82,3 +101,105 @@ returns-clause-kept c =
     subst (λ (m : ℕ). P m (c.merge_all_narrow.new.rows ++ c.turn_narrow.new.row ∷ c.merge_all_narrow-2.new.rows)) (sym whole.wide)
     (narrow_joined n c.merge_all_narrow.new.rows c.merge_all_narrow-2.new.rows c.turn_narrow.new.row c.merge_all_narrow.ensures.narrow turned
     c.merge_all_narrow-2.ensures.narrow)
+
+pub merge_all_narrow-requires-clause-chosen : goal.merge_all_narrow-requires-clause-chosen
+merge_all_narrow-requires-clause-chosen c =
+    let at = goal.at.merge_all_narrow-requires-clause-chosen c in
+    let whole = merged at.After-all_merge-second (tight at.After-tighten (cut at.In-Some)) in
+    whole.itself
+
+pub merge_all_narrow-requires-clause-rows : goal.merge_all_narrow-requires-clause-rows
+merge_all_narrow-requires-clause-rows c =
+    let at = goal.at.merge_all_narrow-requires-clause-rows c in
+    let whole = merged at.After-all_merge-second (tight at.After-tighten (cut at.In-Some)) in
+    whole.first
+
+pub merge_all_narrow-requires-clause-column : goal.merge_all_narrow-requires-clause-column
+merge_all_narrow-requires-clause-column c =
+    let at = goal.at.merge_all_narrow-requires-clause-column c in
+    let whole = merged at.After-all_merge-second (tight at.After-tighten (cut at.In-Some)) in
+    inside at.After-all_merge-second whole
+
+pub merge_all_narrow-requires-clause-positive : goal.merge_all_narrow-requires-clause-positive
+merge_all_narrow-requires-clause-positive c =
+    let at = goal.at.merge_all_narrow-requires-clause-positive c in
+    let whole = merged at.After-all_merge-second (tight at.After-tighten (cut at.In-Some)) in
+    above at.After-all_merge-second whole
+
+pub merge_all_narrow-requires-clause-within : goal.merge_all_narrow-requires-clause-within
+merge_all_narrow-requires-clause-within c =
+    c.if-not-first.ensures.within
+
+pub merge_all_narrow-requires-2-clause-chosen : goal.merge_all_narrow-requires-2-clause-chosen
+merge_all_narrow-requires-2-clause-chosen c =
+    let at = goal.at.merge_all_narrow-requires-2-clause-chosen c in
+    let whole = merged at.After-all_merge-second (tight at.After-tighten (cut at.In-Some)) in
+    whole.itself
+
+pub merge_all_narrow-requires-2-clause-rows : goal.merge_all_narrow-requires-2-clause-rows
+merge_all_narrow-requires-2-clause-rows c =
+    let at = goal.at.merge_all_narrow-requires-2-clause-rows c in
+    let whole = merged at.After-all_merge-second (tight at.After-tighten (cut at.In-Some)) in
+    whole.last
+
+pub merge_all_narrow-requires-2-clause-column : goal.merge_all_narrow-requires-2-clause-column
+merge_all_narrow-requires-2-clause-column c =
+    let at = goal.at.merge_all_narrow-requires-2-clause-column c in
+    let whole = merged at.After-all_merge-second (tight at.After-tighten (cut at.In-Some)) in
+    inside at.After-all_merge-second whole
+
+pub merge_all_narrow-requires-2-clause-positive : goal.merge_all_narrow-requires-2-clause-positive
+merge_all_narrow-requires-2-clause-positive c =
+    let at = goal.at.merge_all_narrow-requires-2-clause-positive c in
+    let whole = merged at.After-all_merge-second (tight at.After-tighten (cut at.In-Some)) in
+    above at.After-all_merge-second whole
+
+pub merge_all_narrow-requires-2-clause-within : goal.merge_all_narrow-requires-2-clause-within
+merge_all_narrow-requires-2-clause-within c =
+    c.if-not-second.ensures.within
+
+pub turn_narrow-requires-clause-row : goal.turn_narrow-requires-clause-row
+turn_narrow-requires-clause-row c =
+    let at = goal.at.turn_narrow-requires-clause-row c in
+    let whole = merged at.After-all_merge-second (tight at.After-tighten (cut at.In-Some)) in
+    whole.itself
+
+pub turn_narrow-requires-clause-column : goal.turn_narrow-requires-clause-column
+turn_narrow-requires-clause-column c =
+    let at = goal.at.turn_narrow-requires-clause-column c in
+    let whole = merged at.After-all_merge-second (tight at.After-tighten (cut at.In-Some)) in
+    inside at.After-all_merge-second whole
+
+pub turn_narrow-requires-clause-positive : goal.turn_narrow-requires-clause-positive
+turn_narrow-requires-clause-positive c =
+    let at = goal.at.turn_narrow-requires-clause-positive c in
+    let whole = merged at.After-all_merge-second (tight at.After-tighten (cut at.In-Some)) in
+    above at.After-all_merge-second whole
+
+pub returns-then-not-first-clause-same : goal.returns-then-not-first-clause-same
+returns-then-not-first-clause-same c =
+    let at = goal.at.returns-then-not-first-clause-same c in
+    let whole = merged at.After-all_merge-second (tight at.After-tighten (cut at.In-Some)) in
+    unchanged at.After-all_merge-second whole
+
+pub returns-then-not-second-clause-same : goal.returns-then-not-second-clause-same
+returns-then-not-second-clause-same c =
+    let at = goal.at.returns-then-not-second-clause-same c in
+    let whole = merged at.After-all_merge-second (tight at.After-tighten (cut at.In-Some)) in
+    unchanged at.After-all_merge-second whole
+
+pub all_merge-first-requires-clause-chosen : goal.all_merge-first-requires-clause-chosen
+all_merge-first-requires-clause-chosen c = let at = goal.at.all_merge-first-requires-clause-chosen c in (tight at.After-tighten (cut at.In-Some)).itself
+
+pub all_merge-first-requires-clause-column : goal.all_merge-first-requires-clause-column
+all_merge-first-requires-clause-column c =
+    let at = goal.at.all_merge-first-requires-clause-column c in
+    subst (λ (m : ℕ). c.args.column < m) (tight at.After-tighten (cut at.In-Some)).wide c.requires.column
+
+pub all_merge-second-requires-clause-chosen : goal.all_merge-second-requires-clause-chosen
+all_merge-second-requires-clause-chosen c = let at = goal.at.all_merge-second-requires-clause-chosen c in (tight at.After-tighten (cut at.In-Some)).itself
+
+pub all_merge-second-requires-clause-column : goal.all_merge-second-requires-clause-column
+all_merge-second-requires-clause-column c =
+    let at = goal.at.all_merge-second-requires-clause-column c in
+    subst (λ (m : ℕ). c.args.column < m) (tight at.After-tighten (cut at.In-Some)).wide c.requires.column

@@ -1,4 +1,5 @@
 use Rattle.ta_dense.proofs.Common.{◌≡◌, ◌<◌, arith, ap, ◌∙◌, sym, refl, get_or, length, subst, below_more, set, length-map, map-set, get_or-map, done_more}
+use Rattle.ta_dense.proofs.Common.{IsProper}
 use Rattle.ta_dense.proofs.Common.{rest_more, row_view, views, merged, no_row, MergesInRange}
 use Rattle.ta_dense.proofs.RowSteps.{rows_proper_more, rows_all}
 use Rattle.ta_dense.proofs.rows.merge_all.Goals as goal
@@ -35,3 +36,21 @@ returns-clause-value c =
     let l2 = length-map c.args.rows.now row_view in
     rows_all (merged c.args.column (row_view c.args.chosen.now)) (views c.args.rows.now) (views c.loop-at.rows) (length c.args.rows.now) l2 (omega arith)
     (λ k h. c.loop-at.invariant.done k (omega arith))
+
+pub merge-requires-clause-row : goal.merge-requires-clause-row
+merge-requires-clause-row c =
+    let l = length-map c.loop-at.rows row_view in
+    subst (IsProper (length c.args.chosen.now.cells.items)) (get_or-map row_view c.loop-at.rows c.loop-at.at c.index-rows-at.result no_row (omega arith))
+    (c.loop-at.invariant.proper c.loop-at.at (omega arith))
+
+pub returns-then-not-merge-clause-refused : goal.returns-then-not-merge-clause-refused
+returns-then-not-merge-clause-refused c =
+    let l1 = length-map c.loop-at.rows row_view in
+    let l2 = length-map c.args.rows.now row_view in
+    let read : row_view (get_or c.loop-at.rows c.loop-at.at c.index-rows-at.result) ≡ get_or (views c.args.rows.now) c.loop-at.at no_row =
+    sym (get_or-map row_view c.loop-at.rows c.loop-at.at c.index-rows-at.result no_row (omega arith)) ∙ c.loop-at.invariant.rest c.loop-at.at (omega arith) in
+    record {
+      below = omega arith;
+      refused = λ m. let t = c.if-not-merge.ensures.within.1 (subst (MergesInRange c.args.column (row_view c.args.chosen.now)) (sym read) m) in cc;
+      first = c.loop-at.invariant.in_range;
+    }

@@ -1,6 +1,6 @@
 use Rattle.ta_dense.proofs.Common.{arith, sym, ◌∙◌, ap, List, ◌++◌, ◌∷◌, length, map-append, length-map, row_view, views}
 use Rattle.ta_dense.proofs.Common.{◌<◌, ◌<ℤ◌, pos, subst, cell_of, IsProper, TableauRow}
-use Rattle.ta_dense.proofs.PivotParts.{at_row, cut_of, pivoted_cut, refused_before, refused_after, all_others, proper_rest, merge_below_views}
+use Rattle.ta_dense.proofs.PivotParts.{at_row, cut_of, pivoted_cut, refused_before, refused_after, all_others, proper_first, proper_rest, merge_below_views}
 use Rattle.ta_dense.proofs.rows.pivot_rows.Goals as goal
 
 pub returns-clause-value : goal.returns-clause-value
@@ -122,3 +122,13 @@ turn-requires-clause-positive c =
     (c.split_at_mut-before.ensures.value ∙ ap (λ (xs : List _). before ++ xs) c.in-Some.ensures.cases.0) c.split_at_mut-before.ensures.front_len in
     let is = at_row (views c.args.rows.now) (views before) (views c.in-Some.after.now) (row_view c.in-Some.chosen.now) c.args.row cut in
     subst (λ (r : TableauRow). pos 0 <ℤ cell_of r c.args.column) is c.requires.positive
+
+pub merge_all-requires-clause-rows : goal.merge_all-requires-clause-rows
+merge_all-requires-clause-rows c =
+    let before = c.split_at_mut-before.result.0.now in
+    let cut = cut_of c.args.rows.now before c.in-Some.after.now c.in-Some.chosen.now c.args.row
+    (c.split_at_mut-before.ensures.value ∙ ap (λ (xs : List _). before ++ xs) c.in-Some.ensures.cases.0) c.split_at_mut-before.ensures.front_len in
+    let l1 = length-map c.args.rows.now row_view in
+    let l2 = length-map c.split_at_mut-before.result.0.now row_view in
+    λ i h. proper_first (views c.args.rows.now) (views before) (views c.in-Some.after.now) (row_view c.in-Some.chosen.now) c.args.row cut
+    (λ k below. c.requires.proper k (omega arith)) i (omega arith)
