@@ -26,7 +26,7 @@ pub struct Put {
 }
 
 /// The names of the files that a command may put on the shelf.
-#[derive(Clone, Copy, Drop)]
+#[derive(Clone, Copy, Debug, Drop)]
 pub struct Outputs<'a> {
     pub first: Option<&'a str>,
     pub second: Option<&'a str>,

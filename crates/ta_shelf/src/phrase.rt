@@ -2,7 +2,7 @@
 #![tactic(auto)]
 
 /// What is said of a file, with up to two numbers in it.
-#[derive(Clone, Copy, Drop)]
+#[derive(Clone, Copy, Debug, Drop)]
 pub enum Phrase {
     /// Words alone.
     Plain(&'static str),
