@@ -23,6 +23,7 @@ mod Primitive
 mod Bounded
 mod NarrowFacts
 mod SharedFacts
+mod Mapped
 mod Halves
 mod EqualRows
 mod Common

@@ -1,4 +1,5 @@
-use Rattle.ta_dense.proofs.Common.{set, ℕ, arith, pos, get_or, rules, below_more, to_z-of_z, SFits, w128, done_more, rest_more, combine}
+use Rattle.ta_dense.proofs.Common.{set, refl, sym, subst, ℤ, InRange, ℕ, arith, pos, get_or, rules, below_more, to_z-of_z, SFits, w128, done_more, rest_more}
+use Rattle.ta_dense.proofs.Common.{combine}
 use Rattle.ta_dense.proofs.CellSteps.{target_at_column, target_elsewhere, target_done}
 use Rattle.ta_dense.proofs.cells.combine_cells.Goals as goal
 use Rattle.ta_dense.proofs.cells.combine_cells.Goals.{then-j-column, else-j-column+in-Some}
@@ -58,3 +59,21 @@ returns-clause-value c =
     let inv = simp to_z-of_z at c.loop-j.invariant in
     target_done c.args.p c.args.q c.args.cells.now c.args.chosen.now c.loop-j.cells c.args.column c.loop-j.j c.args.turned c.requires.long (omega arith)
     (omega arith) inv.done
+
+pub loop-j-init : goal.loop-j-init
+loop-j-init c = record { done = λ k h. absurd (omega arith); rest = λ k h. refl; fits = λ k h apart. absurd (omega arith) }
+
+pub combined-requires : goal.combined-requires
+combined-requires c =
+    let fx : SFits w128 (get_or c.loop-j.cells c.loop-j.j (pos 0)) = search rules in
+    let P : ℤ → Type 0 = InRange in
+    let e = c.loop-j.invariant.rest c.loop-j.j (omega arith) in
+    simp to_z-of_z (subst P (sym e) (c.requires.cells c.loop-j.j (pos 0) c.loop-j-test.true))
+
+pub returns-clause-within : goal.returns-clause-within
+returns-clause-within c =
+    let fp = c.ranges.p in
+    let fq = c.ranges.q in
+    let ft = c.ranges.turned in
+    let inv = simp to_z-of_z at c.loop-j.invariant in
+    (λ t k h apart. inv.fits k (omega arith) apart, λ all. refl)
