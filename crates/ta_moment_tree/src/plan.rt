@@ -124,7 +124,12 @@ impl<'a> Plan<'a> {
         requires { IsPlan self.now }
         ensures { IfOk result (λ rules. rules.items ≡ needing self.now.task.automaton.now self.now.task.pattern.now guard) }
     {
-        let rules = needing(self.alloc, self.task.automaton, self.moving.as_slice(), guard)?;
+        let rules = needing(
+            self.alloc,
+            self.task.automaton,
+            self.moving.as_slice(),
+            guard,
+        )?;
         Ok(rules)
     }
 
@@ -133,7 +138,12 @@ impl<'a> Plan<'a> {
         requires { IsPlan self.now }
         ensures { IfOk result (λ rules. rules.items ≡ sparing self.now.task.automaton.now self.now.task.pattern.now guard) }
     {
-        let rules = sparing(self.alloc, self.task.automaton, self.moving.as_slice(), guard)?;
+        let rules = sparing(
+            self.alloc,
+            self.task.automaton,
+            self.moving.as_slice(),
+            guard,
+        )?;
         Ok(rules)
     }
 }

@@ -32,7 +32,8 @@ push_first_rows-requires-clause-vector c =
     let t = c.args.plan.now.task in
     subst (λ (v : Vector). SmallVector 1 v)
     (sym (ap vector_of c.as_slice.ensures.value ∙ first_is t.automaton.now t.pattern.now c.args.unknowns c.args.guard c.as_slice-rules.result.now _
-    (c.as_slice-rules.ensures.value ∙ c.in_ok-others.ensures) c.in_ok-vector.ensures.value)) (first_small t.automaton.now t.pattern.now c.args.unknowns c.args.guard)
+    (c.as_slice-rules.ensures.value ∙ c.in_ok-others.ensures) c.in_ok-vector.ensures.value))
+    (first_small t.automaton.now t.pattern.now c.args.unknowns c.args.guard)
 
 pub returns-clause-unknowns : goal.returns-clause-unknowns
 returns-clause-unknowns c = ap (λ (rs : List ℕ). length rs) (c.as_slice-rules.ensures.value ∙ c.in_ok-others.ensures)

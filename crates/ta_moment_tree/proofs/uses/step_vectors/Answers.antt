@@ -89,7 +89,8 @@ returns-clause-before c =
     let end = vector_of c.args.end.now in
     let step = step_is a p u g c.args.others.now c.args.chosen.now _ c.requires.others c.requires.chosen c.in_ok-step.ensures.value in
     before_is a p end u g c.args.others.now (vector_of c.in_ok-step.step.items) _ c.requires.others step
-    (c.in_ok-before.ensures.value ∙ ap (λ (w : Vector). fresh u c.args.others.now (λ r. minus_form (end r) (w r))) (ap vector_of c.as_slice-stepped.ensures.value))
+    (c.in_ok-before.ensures.value
+    ∙ ap (λ (w : Vector). fresh u c.args.others.now (λ r. minus_form (end r) (w r))) (ap vector_of c.as_slice-stepped.ensures.value))
 
 pub returns-clause-after : goal.returns-clause-after
 returns-clause-after c =
