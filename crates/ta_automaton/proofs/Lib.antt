@@ -1,7 +1,6 @@
 -- lemmas for the crates above
 pub mod Thresholds
 pub mod Numbered
-pub mod Narrows
 pub mod Moves
 pub mod Fire
 pub mod Trails
@@ -10,5 +9,6 @@ pub mod ShortNames
 pub mod Onward
 pub mod Circuits
 pub mod Rearranged
+pub mod Narrows
 mod Examples
 mod Common

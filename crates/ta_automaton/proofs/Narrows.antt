@@ -1,13 +1,24 @@
--- each automaton is within the narrow limits, which its type keeps
-use Rattle.ta_automaton.specs.Narrow.{IsNarrow}
+-- the narrow limits are one of the rows of limits
+use Rattle.ta_automaton.specs.Narrow.{IsNarrow, IsWithin}
 use Rattle.ta_automaton.specs.declared.automaton.Automaton.{Automaton}
+use Rattle.ta_base.specs.LimitRows.{narrow}
 
-pub narrow_shape : (a : Automaton) → IsNarrow a
-narrow_shape a = record {
-  parameters = a.shape.limits.parameters_limit;
-  shared = a.shape.limits.shared_limit;
-  locations = a.shape.limits.locations_limit;
-  rise = a.shape.limits.rise_limit;
-  fall = a.shape.limits.fall_limit;
-  rules = a.shape.limits.rules_limit;
+pub narrow_within : (a : Automaton) → IsWithin narrow a → IsNarrow a
+narrow_within a within = record {
+  parameters = within.parameters;
+  shared = within.shared;
+  locations = within.locations;
+  rise = within.rise;
+  fall = within.fall;
+  rules = within.rules;
+}
+
+pub within_narrow : (a : Automaton) → IsNarrow a → IsWithin narrow a
+within_narrow a few = record {
+  parameters = few.parameters;
+  shared = few.shared;
+  locations = few.locations;
+  rise = few.rise;
+  fall = few.fall;
+  rules = few.rules;
 }

@@ -52,7 +52,7 @@ pattern_name pattern = pattern.name
 
 -- the patterns of a file
 pub record PatternsShape (places locations : ℕ) (patterns : List Pattern) : Type 0 where
-  pub limit : length patterns ≤ 16
+  pub limit : length patterns ≤ 64
   pub within : AllByRecursion (PatternWithin places locations) patterns
   pub distinct : Distinct (map pattern_name patterns)
 

@@ -45,12 +45,12 @@ name_of rule = rule.name
 
 -- the limits of the lists
 pub record WithinLimits (parameters shared locations : List (List ℕ)) (rise fall : List Row) (rules : List Rule) : Type 0 where
-  pub parameters_limit : length parameters ≤ 16
-  pub shared_limit : length shared ≤ 16
-  pub locations_limit : length locations ≤ 32
-  pub rise_limit : length rise ≤ 16
-  pub fall_limit : length fall ≤ 6
-  pub rules_limit : length rules ≤ 128
+  pub parameters_limit : length parameters ≤ 32
+  pub shared_limit : length shared ≤ 64
+  pub locations_limit : length locations ≤ 128
+  pub rise_limit : length rise ≤ 64
+  pub fall_limit : length fall ≤ 16
+  pub rules_limit : length rules ≤ 1024
 
 -- an automaton of an automaton file
 pub record AutomatonShape (name : List ℕ) (parameters shared locations : List (List ℕ)) (initial : List ℕ) (processes : Form) (resilience : Condition)

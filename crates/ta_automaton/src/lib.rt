@@ -5,6 +5,7 @@ mod automaton;
 mod condition;
 mod file;
 mod law;
+mod narrow;
 mod pattern;
 mod rule;
 mod task;

@@ -1,4 +1,5 @@
 pub mod Lists
+pub mod LimitRows
 pub mod Masks
 pub mod Sums
 pub mod Lending

@@ -1,13 +1,95 @@
 //! The limits of files, words and searches, each named once.
+#![tactic(auto)]
+
+ghost use Rattle.std.specs.Prelude.{◌+◌, ◌*◌, ◌≤◌};
+
+/// How large an automaton file may be and how many things of each kind it may have, and how long a
+/// line of a certificate for it is at most. Files are read within one of two rows of such limits,
+/// `narrow` and `wide`. The ghost fields say that no row is wider than `wide`, that each allows a
+/// parameter and a shared variable, and that a leaf's line has room for a multiplier, of at most 51
+/// bytes, of each bound of an unknown: there are `parameters` and `locations` of them at the start,
+/// and `rules` for each event and each guard.
+#[derive(Clone, Copy)]
+pub struct Limits {
+    /// How many bytes an automaton file has at most.
+    pub bytes: usize,
+    /// How many bytes a line of a certificate has at most, its line feed aside.
+    pub line_bytes: usize,
+    /// How many parameters an automaton has at most.
+    pub parameters: usize,
+    /// How many shared variables it has at most.
+    pub shared: usize,
+    /// How many locations it has at most, and how many names the list `empty` of a pattern.
+    pub locations: usize,
+    /// How many rules it has at most.
+    pub rules: usize,
+    /// How many patterns a file has at most.
+    pub patterns: usize,
+    /// How many rise guards an automaton has at most.
+    pub rises: usize,
+    /// How many fall guards it has at most.
+    pub falls: usize,
+    pub ghost few_bytes: { bytes ≤ 4194304 },
+    pub ghost long_lines: { 1048576 ≤ line_bytes },
+    pub ghost leaf_lines: { 51 * (parameters + locations + (8 + rises + falls) * rules) + 64 ≤ line_bytes },
+    pub ghost some_parameters: { 1 ≤ parameters },
+    pub ghost some_shared: { 1 ≤ shared },
+    pub ghost few_parameters: { parameters ≤ 32 },
+    pub ghost few_shared: { shared ≤ 64 },
+    pub ghost few_locations: { locations ≤ 128 },
+    pub ghost few_rules: { rules ≤ 1024 },
+    pub ghost few_patterns: { patterns ≤ 64 },
+    pub ghost few_rises: { rises ≤ 64 },
+    pub ghost few_falls: { falls ≤ 16 },
+}
+
+impl Limits {
+    ghost use Rattle.std.specs.Prelude.{◌≡◌};
+    ghost use Rattle.ta_base.specs.LimitRows.{narrow, wide};
+
+    /// The limits of a file unless wider ones are asked for.
+    pub fn narrow() -> Limits
+        ensures { result ≡ narrow }
+    {
+        Limits {
+            bytes: 1_048_576,
+            line_bytes: 1_048_576,
+            parameters: 16,
+            shared: 16,
+            locations: 32,
+            rules: 128,
+            patterns: 16,
+            rises: 16,
+            falls: 6,
+        }
+    }
+
+    /// The wider limits.
+    pub fn wide() -> Limits
+        ensures { result ≡ wide }
+    {
+        Limits {
+            bytes: 4_194_304,
+            line_bytes: 8_388_608,
+            parameters: 32,
+            shared: 64,
+            locations: 128,
+            rules: 1024,
+            patterns: 64,
+            rises: 64,
+            falls: 16,
+        }
+    }
+}
 
 /// How large a number of an automaton file is at most.
 pub const LARGEST_NUMBER: u64 = 1_000_000_000;
 
-/// How many bytes an automaton file, a template or a file of values has at most.
-pub const FILE_BYTES: usize = 1_048_576;
+/// How many bytes an automaton file or a template has at most, within any limits.
+pub const FILE_BYTES: usize = 4_194_304;
 
-/// How many bytes a line of a certificate has at most, its line feed aside.
-pub const LINE_BYTES: usize = 1_048_576;
+/// How many bytes a file of values has at most.
+pub const VALUES_BYTES: u64 = 1_048_576;
 
 /// How many bytes a certificate has at most.
 pub const CERTIFICATE_BYTES: u64 = 1_073_741_824;

@@ -23,7 +23,7 @@ pub use Rattle.ta_cert.specs.Lines.{header, is_end, is_header, leaf, line_text, 
 pub use Rattle.ta_cert.specs.Lines.{split_text, two_numbers}
 pub use Rattle.ta_cert.specs.Parsers.{Found, Parser, and_then, at_end, behind, ended, found_word, keep, pure, word}
 pub use Rattle.ta_cert.specs.Streams.{Fails, IsFault, Outcome, State, add_lines, behind_line, end_of, ended_by, failed, finish, finished}
-pub use Rattle.ta_cert.specs.Streams.{first_line, line_feed, line_limit, next, on, other_byte, start, state, step, steps, text_lines}
+pub use Rattle.ta_cert.specs.Streams.{first_line, line_feed, next, on, other_byte, start, state, step, steps, text_lines}
 pub use Rattle.ta_cert.specs.declared.fault.CertFault.{CertFault}
 pub use Rattle.ta_cert.specs.declared.line.Line.{Line}
 pub use Rattle.ta_cert.specs.declared.line.Node.{Node}

@@ -3,12 +3,11 @@ use Rattle.ta_cert.proofs.Common.{ℕ, ℤ, pos, negsuc, ints, ◌+◌, ◌<◌,
 use Rattle.ta_cert.proofs.Common.{signed_decimal, Option, None, Some, Ok, Err, refl, sym, ap, subst, ◌∙◌, append_assoc, length-append, arith, lit<, lit≤}
 use Rattle.ta_cert.proofs.Common.{false≢true, beq, AllByRecursion, Avoids, avoids-append, avoids_known, decimal_avoids, multiplier_number, first_byte, ArePairs}
 use Rattle.ta_cert.proofs.Common.{IsLine, cert_lines_text, has_end, is_end, is_header, line_text, order_of, pair_text, pairs_text, split_text, AreLater}
-use Rattle.ta_cert.proofs.Common.{AreLines, by_pieces, has_line, line_number, numbered_lines, Outcome, State, add_lines, line_feed, line_limit, next, on, start}
+use Rattle.ta_cert.proofs.Common.{AreLines, by_pieces, has_line, line_number, numbered_lines, Outcome, State, add_lines, line_feed, next, on, start}
 use Rattle.ta_cert.proofs.Common.{steps, text_lines, finished, Line}
 use Rattle.ta_cert.specs.declared.line.Node.TheVariants as node
 use Rattle.ta_cert.specs.declared.line.Line.TheVariants as line
 use Rattle.ta_cert.specs.Lines.{line_of}
-use Rattle.ta_base.proofs.DecimalDigits.{row_short}
 use Rattle.ta_cert.proofs.LinesRead.{line_complete}
 use Rattle.ta_cert.proofs.Streaming.{kept, fed, steps-append}
 
@@ -69,22 +68,22 @@ lines_unique (l ∷ ls) (m ∷ ms) x y e =
 -- ---- lines are read one after another
 
 -- where a text stands behind n lines
-abbrev pub at_line : ℕ → Bool → Bool → State
-at_line n begun ended = record { line = []; number = line_number n; begun = begun; ended = ended }
+abbrev pub at_line : ℕ → ℕ → Bool → Bool → State
+at_line limit n begun ended = record { line_bytes = limit; line = []; number = line_number n; begun = begun; ended = ended }
 
 next_line : (n : ℕ) → next (line_number n) ≡ line_number (n + 1)
 next_line n = omega arith
 
 -- one line
-pub line_read : (l : Line) (n : ℕ) (begun : Bool) → IsLine l → length (line_text l) ≤ line_limit → beq (is_header l) begun ≡ false
-    → steps (line_text l ++ 10 ∷ []) (at_line n begun false) ≡ ((line_number n, l) ∷ [], Ok (at_line (n + 1) true (is_end l)))
-line_read l n begun form short place =
-    let s : State = record { line = line_text l; number = line_number n; begun = begun; ended = false } in
-    let held : steps (line_text l) (at_line n begun false) ≡ ([], Ok s) = kept (line_text l) (at_line n begun false) (line_unbroken l form) refl
-    (omega (arith, short)) in
-    fed (line_text l) (at_line n begun false) s held refl
+pub line_read : (limit : ℕ) (l : Line) (n : ℕ) (begun : Bool) → IsLine l → length (line_text l) ≤ limit → beq (is_header l) begun ≡ false
+    → steps (line_text l ++ 10 ∷ []) (at_line limit n begun false) ≡ ((line_number n, l) ∷ [], Ok (at_line limit (n + 1) true (is_end l)))
+line_read limit l n begun form short place =
+    let s : State = record { line_bytes = limit; line = line_text l; number = line_number n; begun = begun; ended = false } in
+    let before = at_line limit n begun false in
+    let held : steps (line_text l) before ≡ ([], Ok s) = kept (line_text l) before (line_unbroken l form) refl (omega (arith, short)) in
+    fed (line_text l) before s held refl
     ∙ ap (line_feed s) (line_complete l form)
-    ∙ rw place (ap (λ k. ((line_number n, l) ∷ [], Ok (record { line = []; number = k; begun = true; ended = is_end l }))) (next_line n))
+    ∙ rw place (ap (λ k. ((line_number n, l) ∷ [], Ok (record { line_bytes = limit; line = []; number = k; begun = true; ended = is_end l }))) (next_line n))
 
 on_line : (l : Line) (ls : List Line) (s t : State) (found : List (ℕ × Line)) → steps (line_text l ++ 10 ∷ []) s ≡ (found, Ok t)
     → steps (cert_lines_text (l ∷ ls)) s ≡ add_lines found (steps (cert_lines_text ls) t)
@@ -97,18 +96,18 @@ header_other : (l : Line) → is_header l ≡ false → beq (is_header l) true �
 header_other l e = rw e refl
 
 -- lines behind the first
-pub later_read : (ls : List Line) (n : ℕ) → AreLater ls
-    → steps (cert_lines_text ls) (at_line n true false) ≡ (numbered_lines n ls, Ok (at_line (n + length ls) true (has_end ls)))
-later_read [] n later = let e : n ≡ n + 0 = omega arith in ap (λ k. ([], Ok (at_line k true false))) e
-later_read (l ∷ ls) n later =
-    on_line l ls (at_line n true false) (at_line (n + 1) true (is_end l)) ((line_number n, l) ∷ [])
-    (line_read l n true later.0 later.1 (header_other l later.2))
-    ∙ by_end (is_end l) refl ls n later.3 (λ m. later_read ls m later.4)
+pub later_read : (limit : ℕ) (ls : List Line) (n : ℕ) → AreLater limit ls
+    → steps (cert_lines_text ls) (at_line limit n true false) ≡ (numbered_lines n ls, Ok (at_line limit (n + length ls) true (has_end ls)))
+later_read limit [] n later = let e : n ≡ n + 0 = omega arith in ap (λ k. ([], Ok (at_line limit k true false))) e
+later_read limit (l ∷ ls) n later =
+    on_line l ls (at_line limit n true false) (at_line limit (n + 1) true (is_end l)) ((line_number n, l) ∷ [])
+    (line_read limit l n true later.0 later.1 (header_other l later.2))
+    ∙ by_end (is_end l) refl ls n later.3 (λ m. later_read limit ls m later.4)
   where
     by_end : (ends : Bool) → is_end l ≡ ends → (ks : List Line) (n : ℕ) → (is_end l ≡ true → ks ≡ [])
-        → ((m : ℕ) → steps (cert_lines_text ks) (at_line m true false) ≡ (numbered_lines m ks, Ok (at_line (m + length ks) true (has_end ks))))
-        → add_lines ((line_number n, l) ∷ []) (steps (cert_lines_text ks) (at_line (n + 1) true ends)) ≡
-        (numbered_lines n (l ∷ ks), Ok (at_line (n + length (l ∷ ks)) true (has_end (l ∷ ks))))
+        → ((m : ℕ) → steps (cert_lines_text ks) (at_line limit m true false) ≡ (numbered_lines m ks, Ok (at_line limit (m + length ks) true (has_end ks))))
+        → add_lines ((line_number n, l) ∷ []) (steps (cert_lines_text ks) (at_line limit (n + 1) true ends)) ≡
+        (numbered_lines n (l ∷ ks), Ok (at_line limit (n + length (l ∷ ks)) true (has_end (l ∷ ks))))
     by_end false is ks n none more = let e : n + 1 + length ks ≡ n + length (l ∷ ks) = omega arith in ap (add_lines ((line_number n, l) ∷ [])) (more (n + 1))
         ∙ rw (is, e) refl
     by_end true is [] n none more = rw is refl
@@ -118,26 +117,24 @@ pub header_end : (l : Line) → is_header l ≡ true → is_end l ≡ false
 header_end line.End e = absurd (false≢true e)
 header_end _ e = refl
 
-pub header_short : (l : Line) → IsLine l → is_header l ≡ true → length (line_text l) ≤ line_limit
-header_short (line.Header v) form e = omega (arith, length-append (codes "threshold-certificate ") (decimal v), row_short v (omega (arith, form.1)))
-header_short _ form e = absurd (false≢true e)
-
 -- the first line and those behind it
-pub lines_read : (ls : List Line) → AreLines ls → steps (cert_lines_text ls) start ≡ (numbered_lines 0 ls, Ok (at_line (length ls) (has_line ls) (has_end ls)))
-lines_read [] are = refl
-lines_read (l ∷ ls) are =
+pub lines_read : (limit : ℕ) (ls : List Line) → AreLines limit ls
+    → steps (cert_lines_text ls) (start limit) ≡ (numbered_lines 0 ls, Ok (at_line limit (length ls) (has_line ls) (has_end ls)))
+lines_read limit [] are = refl
+lines_read limit (l ∷ ls) are =
     let first = are.0 in
-    let ends = header_end l first.1 in
+    let ends = header_end l first.2 in
     let e : 1 + length ls ≡ length (l ∷ ls) = omega arith in
     let same : has_end ls ≡ has_end (l ∷ ls) = rw ends refl in
-    on_line l ls start (at_line 1 true (is_end l)) ((1, l) ∷ []) (line_read l 0 false first.0 (header_short l first.0 first.1) (rw first.1 refl))
-    ∙ ap (λ b. add_lines ((1, l) ∷ []) (steps (cert_lines_text ls) (at_line 1 true b))) ends
-    ∙ ap (add_lines ((1, l) ∷ [])) (later_read ls 1 are.1)
-    ∙ ap (λ k. ((1, l) ∷ numbered_lines 1 ls, Ok (at_line k true (has_end ls)))) e
-    ∙ ap (λ b. ((1, l) ∷ numbered_lines 1 ls, Ok (at_line (length (l ∷ ls)) true b))) same
+    on_line l ls (start limit) (at_line limit 1 true (is_end l)) ((1, l) ∷ []) (line_read limit l 0 false first.0 first.1 (rw first.2 refl))
+    ∙ ap (λ b. add_lines ((1, l) ∷ []) (steps (cert_lines_text ls) (at_line limit 1 true b))) ends
+    ∙ ap (add_lines ((1, l) ∷ [])) (later_read limit ls 1 are.1)
+    ∙ ap (λ k. ((1, l) ∷ numbered_lines 1 ls, Ok (at_line limit k true (has_end ls)))) e
+    ∙ ap (λ b. ((1, l) ∷ numbered_lines 1 ls, Ok (at_line limit (length (l ∷ ls)) true b))) same
 
-pub written_is_read : (ls : List Line) → AreLines ls → has_end ls ≡ true → text_lines (cert_lines_text ls) ≡ Ok (numbered_lines 0 ls)
-written_is_read ls are ends = ap finished (lines_read ls are) ∙ rw ends refl
+pub written_is_read : (limit : ℕ) (ls : List Line) → AreLines limit ls → has_end ls ≡ true
+    → text_lines limit (cert_lines_text ls) ≡ Ok (numbered_lines 0 ls)
+written_is_read limit ls are ends = ap finished (lines_read limit ls are) ∙ rw ends refl
 
 -- ---- pieces
 

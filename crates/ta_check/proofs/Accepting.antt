@@ -12,14 +12,15 @@
 -- out no run, so no run meets what is refuted (`moments_hold`).
 -- The other way, the lines of a certificate follow each other, whoever wrote it (`lines_of`): the standing is computed
 -- from the lines alone, and only a number that leaves the range, or memory, can stop the checker before its end.
+use Rattle.ta_automaton.specs.Narrow.{IsNarrow}
 use Rattle.ta_check.proofs.Common.{◌≡◌, inl, inr, ℕ, zero, suc, ◌≤◌, List, [], ◌∷◌, ◌++◌, map, length, reverse, Some, Ok, slice_get, arith, sym, ap, ◌∙◌, refl}
 use Rattle.ta_check.proofs.Common.{subst, append-nil, lit≤, false≢true, reverse-reverse, AllByRecursion, Automaton, File, Pattern, Distinct, Line, Node, Order}
 use Rattle.ta_check.proofs.Common.{Tree, all_preorder, IsVersion, line_text, cert_lines_text, IsWhole, text_lines, numbered_lines, unnumbered, lines_numbered}
-use Rattle.ta_check.proofs.Common.{AreLater, AreWritable, line_limit, AreOrders, order_lines, pair_of, proof_lines, proofs_of}
+use Rattle.ta_check.proofs.Common.{AreLater, AreWritable, AreOrders, order_lines, pair_of, proof_lines, proofs_of}
 use Rattle.ta_check.proofs.Common.{version_of, AreShort, Good, Search, in_order, weaker_proof, IsJudged, MayClaim, search_for, Claim, Safe, RestSafe, ComesLast}
 use Rattle.ta_check.proofs.Common.{HasVersion, Kind, Words, Moments, Subject, asking_for, claimed_with, claiming, claiming_with, fact_of, kind_of, moments_of}
-use Rattle.ta_check.proofs.Common.{search_of, version_for, AllClaimsHold, AllSafe, AllUnsolved, Certificate, CertificateFor, CertificatesNameOneList}
-use Rattle.ta_check.proofs.Common.{CertificatesShow, ClaimsHold, MayClaimAll, MayHave, PatternUnsolved, ProvesClaim, ProvesPattern, ShowsPair, lines_of_kind}
+use Rattle.ta_check.proofs.Common.{◌≢◌, search_of, version_for, AllClaimsHold, AllSafe, AllUnsolved, Certificate, CertificateFor, CertificatesNameOneList}
+use Rattle.ta_check.proofs.Common.{CertificatesShow, ClaimsHold, MayClaimAll, MayHave, PatternUnsolved, ProvesClaim, ShowsPair, lines_of_kind}
 use Rattle.ta_check.proofs.Common.{may_have, proof_number, Standing, OpensCertificate, first_standing, LeadThrough, In, each_all}
 use Rattle.ta_cert.specs.declared.line.Proof.{Proof}
 use Rattle.ta_automaton.proofs.Thresholds.{after_earlier, pattern_within}
@@ -33,9 +34,9 @@ use Rattle.ta_moment_tree.specs.Makers.{moment_maker}
 use Rattle.ta_rest.proofs.Resting.{no_pairs_good}
 use Rattle.std.proofs.lemmas.Bool.{cases_order}
 use Rattle.ta_automaton.specs.Runs.{InScope, LoopsPure}
+use Rattle.ta_check.specs.Subjects.{ClaimHolds}
 use Rattle.ta_cert.specs.declared.line.Line.TheVariants as line
 use Rattle.ta_cert.proofs.CertLines.{cert_read, questions_read}
-use Rattle.ta_cert.proofs.Written.{header_short}
 use Rattle.ta_encode.specs.Refutes.{IsLeaf, ProofBy}
 use Rattle.ta_encode.proofs.Theorems.{no_solution, runs}
 use Rattle.ta_rest.proofs.ClaimsShown.{proofs_show}
@@ -128,38 +129,39 @@ claims_hold subject text numbers may loops c = subst (AllClaimsHold subject) (sy
     (each_holds c.kind subject c.orders (map pair_of c.orders) c.proofs c.ordered may loops c.good c.prove)
 
 -- that patterns are safe may be claimed of all
-pub may_be_safe : (file : File) (silent : List ℕ) → MayClaimAll (claiming_with Safe file silent)
-may_be_safe file silent = each file.patterns
+pub may_be_safe : (file : File) (silent : List ℕ) (limit : ℕ) → MayClaimAll (claiming_with Safe file silent limit)
+may_be_safe file silent limit = each file.patterns
   where
     each : (ps : List Pattern) → AllByRecursion (MayClaim Safe) ps
     each [] = tt
     each (p ∷ ps) = (tt, each ps)
 
 -- that they are safe at rest, of those that have events
-pub may_rest : (file : File) (silent : List ℕ) → AllByRecursion ComesLast file.patterns → MayClaimAll (claiming_with RestSafe file silent)
-may_rest file silent last = each file.patterns last
+pub may_rest : (file : File) (silent : List ℕ) (limit : ℕ) → AllByRecursion ComesLast file.patterns
+    → MayClaimAll (claiming_with RestSafe file silent limit)
+may_rest file silent limit last = each file.patterns last
   where
     each : (ps : List Pattern) → AllByRecursion ComesLast ps → AllByRecursion (MayClaim RestSafe) ps
     each [] last = tt
     each (p ∷ ps) last = (last.0.some, each ps last.1)
 
 -- the patterns of a certificate that they are safe are so
-certificate_safe : (file : File) (text numbers : List ℕ) → LoopsPure file.automaton → Certificate file text numbers → AllSafe file numbers
-certificate_safe file text numbers loops c = claims_hold (claiming Safe file) text numbers (may_be_safe file []) loops c
+certificate_safe : (file : File) (limit : ℕ) (text numbers : List ℕ) → LoopsPure file.automaton → Certificate file limit text numbers → AllSafe file numbers
+certificate_safe file limit text numbers loops c = claims_hold (claiming Safe file limit) text numbers (may_be_safe file [] limit) loops c
 
 -- no word of what is proved that is legal under the pairs has a solution
-each_unsolved : (file : File) (pairs : List (ℕ × ℕ)) (proofs : List (ℕ × List Tree)) → AllByRecursion (ProvesPattern file pairs) proofs
-    → AllByRecursion (PatternUnsolved file pairs) (map proof_number proofs)
-each_unsolved file pairs [] prove = tt
-each_unsolved file pairs (q ∷ qs) prove =
-    let one = proven Words (claiming Safe file) pairs q prove.0 in (
+each_unsolved : (file : File) (limit : ℕ) (pairs : List (ℕ × ℕ)) (proofs : List (ℕ × List Tree))
+    → AllByRecursion (ProvesClaim Words (claiming Safe file limit) pairs) proofs → AllByRecursion (PatternUnsolved file pairs) (map proof_number proofs)
+each_unsolved file limit pairs [] prove = tt
+each_unsolved file limit pairs (q ∷ qs) prove =
+    let one = proven Words (claiming Safe file limit) pairs q prove.0 in (
       record {
         pattern = one.pattern;
         named = one.named;
         none = λ start below word values. no_solution file.automaton one.pattern pairs q.1 one.proof start below
             word values;
       },
-      each_unsolved file pairs qs prove.1,
+      each_unsolved file limit pairs qs prove.1,
     )
 
 -- where a solution gives a run, no legal word of a safe pattern has one
@@ -178,31 +180,32 @@ safe_unsolved file (n ∷ ns) scope safe =
 
 -- a certificate shows these
 pub certificates_show : CertificatesShow
-certificates_show file text numbers loops c =
+certificates_show file limit text numbers loops c =
     let pairs = map pair_of c.orders in
-    let safe = certificate_safe file text numbers loops c in
+    let subject = claiming Safe file limit in
+    let safe = certificate_safe file limit text numbers loops c in
     record {
       safe = safe;
       unsolved = λ words. subst (λ (ks : List ℕ). AllByRecursion (PatternUnsolved file pairs) ks) (sym c.named)
-          (each_unsolved file pairs c.proofs (subst (λ (kind : Kind). AllByRecursion (ProvesClaim kind (claiming Safe file) pairs) c.proofs) words c.prove));
+          (each_unsolved file limit pairs c.proofs (subst (λ (kind : Kind). AllByRecursion (ProvesClaim kind subject pairs) c.proofs) words c.prove));
       none_solved = λ scope. safe_unsolved file numbers scope safe;
     }
 
 -- silent places say nothing where patterns are claimed to be safe
-all_safe : (file : File) (silent numbers : List ℕ) → AllClaimsHold (claiming_with Safe file silent) numbers → AllSafe file numbers
+all_safe : (file : File) (silent numbers : List ℕ) → AllByRecursion (ClaimHolds Safe file silent) numbers → AllSafe file numbers
 all_safe file silent [] hold = tt
 all_safe file silent (n ∷ ns) hold = (record { pattern = hold.0.pattern; named = hold.0.named; safe = hold.0.safe }, all_safe file silent ns hold.1)
 
 -- no legal word of a certificate's patterns has a solution
-pub certificate_unsolved : (file : File) (silent text numbers : List ℕ) → LoopsPure file.automaton → InScope file.automaton
-    → CertificateFor (claiming_with Safe file silent) text numbers → AllUnsolved file numbers
-certificate_unsolved file silent text numbers loops scope c = safe_unsolved file numbers scope
-    (all_safe file silent numbers (claims_hold (claiming_with Safe file silent) text numbers (may_be_safe file silent) loops c))
+pub certificate_unsolved : (file : File) (silent : List ℕ) (limit : ℕ) (text numbers : List ℕ) → LoopsPure file.automaton → InScope file.automaton
+    → CertificateFor (claiming_with Safe file silent limit) text numbers → AllUnsolved file numbers
+certificate_unsolved file silent limit text numbers loops scope c = safe_unsolved file numbers scope
+    (all_safe file silent numbers (claims_hold (claiming_with Safe file silent limit) text numbers (may_be_safe file silent limit) loops c))
 
 -- later lines are short
-short_later : (ls : List Line) → AreLater ls → AreShort ls
-short_later [] later = tt
-short_later (l ∷ ls) later = (later.1, short_later ls later.4)
+short_later : (limit : ℕ) (ls : List Line) → AreLater limit ls → AreShort limit ls
+short_later limit [] later = tt
+short_later limit (l ∷ ls) later = (later.1, short_later limit ls later.4)
 
 -- the version is that of the pairs
 version_same : (version : ℕ) (orders : List Order) → IsVersion version → version ≤ 2 → (version ≡ 2 → map pair_of orders ≡ [] → ⊥)
@@ -260,9 +263,13 @@ have_pairs : (claim : Claim) (silent : List ℕ) (version : ℕ) (orders : List 
 have_pairs Safe silent version orders is has second ordered = have_safe version silent orders is second ordered
 have_pairs RestSafe silent version orders is has second ordered = have_rest version silent orders is has second
 
+pub words_not_third : (version : ℕ) → kind_of version ≡ Words → version ≢ 3
+words_not_third version words three = let same : Moments ≡ Words = subst (λ v. kind_of v ≡ Words) three words in cc
+
 -- the certificate that the lines behind the header are
 certificate_behind : (subject : Subject) (text : List ℕ) (version : ℕ) (ls : List Line) (s : Standing) → HasVersion subject version → IsVersion version
-    → length (line_text (line.Header version)) ≤ line_limit → AreLater ls → text ≡ cert_lines_text (line.Header version ∷ ls)
+    → length (line_text (line.Header version)) ≤ subject.line_bytes → AreLater subject.line_bytes ls
+    → text ≡ cert_lines_text (line.Header version ∷ ls)
     → OrdersBehind subject version [] ls s → CertificateFor subject text (reverse s.begun)
 certificate_behind subject text version ls s has is fits later written h =
     let b = h.behind in
@@ -278,9 +285,10 @@ certificate_behind subject text version ls s has is fits later written h =
       orders = h.orders;
       proofs = b.proofs;
       written = written ∙ ap cert_lines_text all;
-      ordered = have_pairs subject.claim subject.silent version h.orders is has h.second h.ordered;
+      ordered = have_pairs subject.claim subject.silent version h.orders is has.0 h.second h.ordered;
+      narrow = λ words. has.1 (words_not_third version words);
       legal = b.writable;
-      short = subst AreShort all (fits, short_later ls later);
+      short = subst (AreShort subject.line_bytes) all (fits, short_later subject.line_bytes ls later);
       shown = h.shown;
       good = h.good (no_pairs_good subject.file.automaton);
       prove = b.prove;
@@ -289,17 +297,18 @@ certificate_behind subject text version ls s has is fits later written h =
     }
 
 -- a complete text whose lines may follow each other is a certificate of the patterns that began
-pub certificate_of : (subject : Subject) (text : List ℕ) (ls : List Line) (s : Standing) → IsWhole text ls → LeadThrough subject first_standing ls s
+pub certificate_of : (subject : Subject) (text : List ℕ) (ls : List Line) (s : Standing) → IsWhole subject.line_bytes text ls
+    → LeadThrough subject first_standing ls s
     → CertificateFor subject text (reverse s.begun)
 certificate_of subject text [] s whole lead = absurd (false≢true whole.ended)
-certificate_of subject text (line.Pattern k ∷ ls) s whole lead = absurd (false≢true whole.legal.0.1)
-certificate_of subject text (line.Tree n ∷ ls) s whole lead = absurd (false≢true whole.legal.0.1)
-certificate_of subject text (line.End ∷ ls) s whole lead = absurd (false≢true whole.legal.0.1)
+certificate_of subject text (line.Pattern k ∷ ls) s whole lead = absurd (false≢true whole.legal.0.2)
+certificate_of subject text (line.Tree n ∷ ls) s whole lead = absurd (false≢true whole.legal.0.2)
+certificate_of subject text (line.End ∷ ls) s whole lead = absurd (false≢true whole.legal.0.2)
 certificate_of subject text (line.Header version ∷ ls) s whole lead =
     let form : IsVersion version = whole.legal.0.0 in
     let later = whole.legal.1 in
     let through : LeadThrough subject (standing version [] [] []) ls s = subst (λ (t : Standing). LeadThrough subject t ls s) lead.1.leads lead.2 in
-    certificate_behind subject text version ls s lead.1.has form (header_short (line.Header version) form refl) later whole.whole
+    certificate_behind subject text version ls s lead.1.has form whole.legal.0.1 later whole.whole
     (heads subject version [] ls s later whole.ended through)
 
 -- the version of a certificate of a kind
@@ -345,45 +354,49 @@ have_version Moments RestSafe (place ∷ silent) orders have = refl
 
 -- lines of a certificate, read from its text, and where they lead
 record Followed (subject : Subject) (kind : Kind) (orders : List Order) (proofs : List (ℕ × List Tree)) : Type 0 where
-  pub read : text_lines (cert_lines_text (lines_of_kind kind orders (proofs_of proofs))) ≡ Ok (numbered_lines 0 (lines_of_kind kind orders (proofs_of proofs)))
+  pub read : text_lines subject.line_bytes (cert_lines_text (lines_of_kind kind orders (proofs_of proofs)))
+      ≡ Ok (numbered_lines 0 (lines_of_kind kind orders (proofs_of proofs)))
   pub after : Standing
   pub lead : LeadThrough subject first_standing (lines_of_kind kind orders (proofs_of proofs)) after
 
 followed : (kind : Kind) (subject : Subject) (orders : List Order) (proofs : List (ℕ × List Tree)) → MayHave kind subject orders
-    → AreWritable (proofs_of proofs) → AreShort (lines_of_kind kind orders (proofs_of proofs)) → Good subject.file.automaton (map pair_of orders)
+    → (kind ≡ Words → IsNarrow subject.file.automaton)
+    → AreWritable (proofs_of proofs) → AreShort subject.line_bytes (lines_of_kind kind orders (proofs_of proofs))
+    → Good subject.file.automaton (map pair_of orders)
     → AllByRecursion (ShowsPair subject.file.automaton) orders → AllByRecursion (ProvesClaim kind subject (map pair_of orders)) proofs
     → Distinct (map proof_number proofs) → Followed subject kind orders proofs
-followed Words subject orders proofs have legal short good shown prove distinct =
+followed Words subject orders proofs have narrow legal short good shown prove distinct =
     let lead = lead_words subject orders proofs good shown prove distinct in
     let opens : OpensCertificate subject first_standing (version_of orders) (standing (version_of orders) [] [] []) = record
-    { has = have_version Words subject.claim subject.silent orders have; leads = refl } in
+    { has = (have_version Words subject.claim subject.silent orders have, λ other. narrow refl); leads = refl } in
     record {
-      read = cert_read orders (proofs_of proofs) (have_orders subject.claim subject.silent orders have) legal short;
+      read = cert_read subject.line_bytes orders (proofs_of proofs) (have_orders subject.claim subject.silent orders have) legal short;
       after = lead.0;
       lead = (standing (version_of orders) [] [] [], opens, lead.1);
     }
-followed Moments subject orders proofs have legal short good shown prove distinct =
+followed Moments subject orders proofs have narrow legal short good shown prove distinct =
     let lead = lead_moments subject orders proofs have prove distinct in
     let opens : OpensCertificate subject first_standing 3 (standing 3 [] [] []) = record
-    { has = have_version Moments subject.claim subject.silent orders have; leads = refl } in
+    { has = (have_version Moments subject.claim subject.silent orders have, λ other. absurd (other refl)); leads = refl } in
     record {
-      read = questions_read (proofs_of proofs) legal short;
+      read = questions_read subject.line_bytes (proofs_of proofs) legal short;
       after = lead.0;
       lead = (standing 3 [] [] [], opens, lead.1);
     }
 
 followed_text : (subject : Subject) (text numbers : List ℕ) (c : CertificateFor subject text numbers) → Followed subject c.kind c.orders c.proofs
 followed_text subject text numbers c =
-    followed c.kind subject c.orders c.proofs c.ordered c.legal c.short c.good c.shown c.prove (subst (λ (ks : List ℕ). Distinct ks) c.named c.distinct)
+    followed c.kind subject c.orders c.proofs c.ordered c.narrow c.legal c.short c.good c.shown c.prove (subst (λ
+    (ks : List ℕ). Distinct ks) c.named c.distinct)
 
 -- a certificate is read as its lines
 read_text : (subject : Subject) (text numbers : List ℕ) (c : CertificateFor subject text numbers)
-    → text_lines text ≡ Ok (numbered_lines 0 (lines_of_kind c.kind c.orders (proofs_of c.proofs)))
-read_text subject text numbers c = ap text_lines c.written ∙ (followed_text subject text numbers c).read
+    → text_lines subject.line_bytes text ≡ Ok (numbered_lines 0 (lines_of_kind c.kind c.orders (proofs_of c.proofs)))
+read_text subject text numbers c = ap (text_lines subject.line_bytes) c.written ∙ (followed_text subject text numbers c).read
 
 -- and these may follow each other
 pub lines_of : (subject : Subject) (text numbers : List ℕ) → CertificateFor subject text numbers
-    → (ls : List Line) × (text_lines text ≡ Ok (numbered_lines 0 ls)) × (after : Standing) × LeadThrough subject first_standing ls after
+    → (ls : List Line) × (text_lines subject.line_bytes text ≡ Ok (numbered_lines 0 ls)) × (after : Standing) × LeadThrough subject first_standing ls after
 lines_of subject text numbers c =
     let f = followed_text subject text numbers c in
     (lines_of_kind c.kind c.orders (proofs_of c.proofs), read_text subject text numbers c, f.after, f.lead)

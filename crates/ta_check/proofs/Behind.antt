@@ -100,7 +100,8 @@ behind_pattern subject s number between ls after form begins b =
     }
 
 -- the end behind a standing
-pub behind_last : (subject : Subject) (s next : Standing) (ls : List Line) (after : Standing) → AreLater (line.End ∷ ls) → EndsCertificate s next
+pub behind_last : (subject : Subject) (s next : Standing) (ls : List Line) (after : Standing) → AreLater subject.line_bytes (line.End ∷ ls)
+    → EndsCertificate s next
     → LeadThrough subject next ls after → Behind subject s (line.End ∷ ls) after
 behind_last subject s next ls after later ends lead =
     let last = later.3 refl in
@@ -108,8 +109,8 @@ behind_last subject s next ls after later ends lead =
     subst (λ (xs : List Line). Behind subject s (line.End ∷ xs) after) (sym last) (behind_end subject s after ends.free.done (rest ∙ ends.leads))
 
 -- lines behind the line of a proof
-pub behind : (subject : Subject) (s : Standing) (ls : List Line) (after : Standing) → s.waiting ≡ None → (s.begun ≡ [] → ⊥) → AreLater ls → has_end ls ≡ true
-    → LeadThrough subject s ls after → Behind subject s ls after
+pub behind : (subject : Subject) (s : Standing) (ls : List Line) (after : Standing) → s.waiting ≡ None → (s.begun ≡ [] → ⊥) → AreLater subject.line_bytes ls
+    → has_end ls ≡ true → LeadThrough subject s ls after → Behind subject s ls after
 behind subject s [] after none some later ended lead = absurd (false≢true ended)
 behind subject s (line.Header version ∷ ls) after none some later ended lead = absurd (false≢true (sym later.2))
 behind subject s (line.Pattern number ∷ ls) after none some later ended (next, begins, lead) =

@@ -24,7 +24,7 @@ pub use Rattle.ta_cert.proofs.Standing.{lines_numbered}
 pub use Rattle.ta_cert.specs.Certificates.{AreOrders, AreWritable, order_lines, pair_of, proof_lines, proofs_of, version_of}
 pub use Rattle.ta_cert.specs.Laws.{AreLater, AreShort, IsWhole, numbered_lines, unnumbered}
 pub use Rattle.ta_cert.specs.Lines.{ArePairs, IsLine, IsNode, IsVersion, cert_lines_text, has_end, line_text}
-pub use Rattle.ta_cert.specs.Streams.{Fails, GivesLine, IsErrOrMemory, Outcome, State, add_lines, end_of, failed, finish, first_line, line_limit, on, start}
+pub use Rattle.ta_cert.specs.Streams.{Fails, GivesLine, IsErrOrMemory, Outcome, State, add_lines, end_of, failed, finish, first_line, on, start}
 pub use Rattle.ta_cert.specs.Streams.{state, steps, text_lines}
 pub use Rattle.ta_cert.specs.Tree.{Tree, all_preorder}
 pub use Rattle.ta_cert.specs.declared.fault.CertFault.{CertFault}
@@ -34,7 +34,7 @@ pub use Rattle.ta_cert.specs.declared.line.Order.{Order}
 pub use Rattle.ta_cert.specs.declared.reader.Reader.{Reader}
 pub use Rattle.ta_check.specs.Certificate.{AllClaimsHold, AllQuietRestSafe, AllRestSafe, AllSafe, AllUnsolved, Certificate, CertificateFor}
 pub use Rattle.ta_check.specs.Certificate.{CertificatesNameOneList, CertificatesShow, ClaimsHold, MayClaimAll, MayHave, PatternUnsolved, ProvesClaim}
-pub use Rattle.ta_check.specs.Certificate.{ProvesPattern, ShowsPair, lines_of_kind, may_have, proof_number}
+pub use Rattle.ta_check.specs.Certificate.{ShowsPair, lines_of_kind, may_have, proof_number}
 pub use Rattle.ta_check.specs.Checkers.{CheckerFeedAnswers, CheckerFinishAnswers, CheckerStandsFor, IsExactCheck, IsExactFeed, IsSoundChecker, StandBehind}
 pub use Rattle.ta_check.specs.Checkers.{subject_of}
 pub use Rattle.ta_check.specs.Faults.{AsksInVain, AtSomeWord, FirstFaultAlong, FirstLeafFault, HasNoForm, IsAtFault, IsFirstFaultFor, IsIdle, IsLastingFor}
@@ -44,7 +44,7 @@ pub use Rattle.ta_check.specs.Inside.Leaves.{WithoutBounds, renumbered}
 pub use Rattle.ta_check.specs.Inside.Pieces.{IsToldOf, NextTaken, StandSomewhere, TakenTo}
 pub use Rattle.ta_check.specs.Lines.{AtWord, BeginsProof, EndsCertificate, FactAt, LeadThrough, Leads, NothingIsLeft, OpensCertificate, ShowsWaiting, Standing}
 pub use Rattle.ta_check.specs.Lines.{Stands, TakesOrder, Waits, first_standing, opened, search_there}
-pub use Rattle.ta_check.specs.Positions.{Between, InNewest, IsKeptIn, IsPositionAt, IsSomewhere, LeafRefused, LeafTaken, LeafTold, LineAnswers, NodeStood}
+pub use Rattle.ta_check.specs.Positions.{Between, InNewest, IsKeptIn, IsPositionAt, LeafRefused, LeafTaken, LeafTold, LineAnswers, NodeStood}
 pub use Rattle.ta_check.specs.Positions.{NodeTaken, NodeTold, SplitsNone, fault_at, place_of, unasked_in}
 pub use Rattle.ta_check.specs.Subjects.{HasVersion, Kind, Moments, Subject, Words, asking_for, claimed_with, claiming, claiming_with, fact_of, kind_of}
 pub use Rattle.ta_check.specs.Subjects.{moments_of, search_at, search_in, search_of, version_for}

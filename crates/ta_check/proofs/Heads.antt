@@ -73,7 +73,7 @@ shown_at subject version pairs pair n next last is shows =
     )
 
 -- lines behind the first line
-pub heads : (subject : Subject) (version : ℕ) (pairs : List (ℕ × ℕ)) (ls : List Line) (after : Standing) → AreLater ls → has_end ls ≡ true
+pub heads : (subject : Subject) (version : ℕ) (pairs : List (ℕ × ℕ)) (ls : List Line) (after : Standing) → AreLater subject.line_bytes ls → has_end ls ≡ true
     → LeadThrough subject (standing version pairs [] []) ls after → OrdersBehind subject version pairs ls after
 heads subject version pairs [] after later ended lead = absurd (false≢true ended)
 heads subject version pairs (line.Header v ∷ ls) after later ended lead = absurd (false≢true (sym later.2))

@@ -1,4 +1,5 @@
 -- a position before the proofs: the first line, the pairs and their leaves
+use Rattle.ta_automaton.specs.Narrow.{IsNarrow}
 use Rattle.ta_check.proofs.Common.{◌≡◌, ◌≢◌, inl, inr, ℕ, ℤ, List, [], ◌∷◌, ◌++◌, None, Some, Ok, Err, sym, ◌∙◌, subst, refl, In-left, In-right, in_append}
 use Rattle.ta_check.proofs.Common.{Automaton, In, JoinsPair, MayJoin, with_pair, leads_along, here_is, HasVersion, Subject, kind_of, search_of, place_of}
 use Rattle.ta_check.proofs.Common.{opened, Position, Standing, NothingIsLeft, ShowsWaiting, TakesOrder, Waits, Between, IsIdle, IsPositionAt, SameMembers}
@@ -17,6 +18,7 @@ header_taken subject s at number version has is = (
   record { has = has; leads = refl },
   record {
     version = refl;
+    narrow = has.1;
     pairs = is.pairs;
     waiting = is.waiting;
     may = λ pair some. let may = is.may pair some in record { join = may.join; early = may.early };
@@ -92,6 +94,7 @@ order_taken subject s at number before later is takes may =
       inr (inr waits),
       record {
         version = is.version;
+        narrow = is.narrow;
         pairs = is.pairs;
         waiting = refl;
         may = λ pair some. (let same : (before, later) ≡ pair = cc in record
@@ -148,6 +151,7 @@ shown_taken subject s at number before later ts new waits is joined =
       inr (inl shows),
       record {
         version = is.version;
+        narrow = is.narrow;
         pairs = same_placed at.pairs s.orders new pair is.pairs joined.whole;
         waiting = refl;
         may = λ q some. absurd (let none : None ≡ Some q = some in cc);

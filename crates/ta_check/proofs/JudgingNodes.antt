@@ -1,9 +1,11 @@
 -- a position that takes a node
-use Rattle.ta_check.proofs.Common.{◌≡◌, ◌⊎◌, ◌<◌, ◌≤◌, length, slice_get, inl, inr, ℕ, Bool, true, false, List, [], ◌∷◌, ◌++◌, reverse, Option, None, Some, Ok}
+use Rattle.ta_automaton.specs.Narrow.{IsNarrow}
+use Rattle.ta_check.proofs.Common.{◌≢◌, ◌≡◌, ◌⊎◌, ◌<◌, ◌≤◌, length, slice_get, inl, inr, ℕ, Bool, true, false, List, [], ◌∷◌, ◌++◌, reverse, Option, None}
+use Rattle.ta_check.proofs.Common.{Some, Ok}
 use Rattle.ta_check.proofs.Common.{Err, sym, ap, ◌∙◌, subst, refl, slice_get_within, Pattern, Line, Node, CertFault, Pending, Search, asked, parts, AllGoOn}
 use Rattle.ta_check.proofs.Common.{AllWithin, IsAllWithin, here_at, here_first, here_is, later_words, LeafFault, Kind, HasForm, Subject, fact_of, kind_of}
 use Rattle.ta_check.proofs.Common.{search_of, Place, Position, Standing, FactAt, AtWord, Stands, AtSomeWord, FirstLeafFault, IsNoPair, LeafFails, Between}
-use Rattle.ta_check.proofs.Common.{InNewest, IsKeptIn, IsPositionAt, IsSomewhere, LeafRefused, NodeStood, NodeTold, SameMembers, LineAnswers, fault_at}
+use Rattle.ta_check.proofs.Common.{InNewest, IsKeptIn, IsPositionAt, LeafRefused, NodeStood, NodeTold, SameMembers, LineAnswers, fault_at}
 use Rattle.ta_check.proofs.Common.{place_of, none-some}
 use Rattle.ta_cert.specs.declared.line.Line.TheVariants as line
 use Rattle.ta_cert.specs.declared.line.Node.TheVariants as node
@@ -65,10 +67,10 @@ some_newest subject s at number none current is = elim is.place [
   | inr inside ↦ (inside.pattern, same_number subject s at number (head_of subject s at none is) current inside)
 ]
 
-pub pattern_there : (subject : Subject) (s : Position) (number : ℕ) → s.waiting ≡ None → s.current ≡ Some number → IsSomewhere subject s
+pub pattern_there : (subject : Subject) (s : Position) (at : Standing) (number : ℕ) → s.waiting ≡ None → s.current ≡ Some number → IsPositionAt subject s at
     → number < length subject.file.patterns
-pattern_there subject s number none current somewhere =
-    let n = some_newest subject s somewhere.0 number none current somewhere.1 in
+pattern_there subject s at number none current is =
+    let n = some_newest subject s at number none current is in
     slice_get_within subject.file.patterns number n.0 n.1.named
 
 -- the kind of a standing is that of its position
@@ -80,9 +82,10 @@ abbrev pub IsTree : (kind : Kind) → Subject → Position → ℕ → Search (f
 IsTree kind subject s number tree = (p : Pattern) → slice_get subject.file.patterns number ≡ Some p → tree ≡ search_of kind subject s.orders p
 
 -- the place is within it
-pub tree_within : (kind : Kind) (subject : Subject) (s : Position) (number : ℕ) (tree : Search (fact_of kind)) → s.waiting ≡ None → s.current ≡ Some number
-    → kind_of s.version ≡ kind → IsTree kind subject s number tree → IsSomewhere subject s → IsAllWithin tree (place_of kind s)
-tree_within kind subject s number tree none current of same (at, is) =
+pub tree_within : (kind : Kind) (subject : Subject) (s : Position) (at : Standing) (number : ℕ) (tree : Search (fact_of kind)) → s.waiting ≡ None
+    → s.current ≡ Some number → kind_of s.version ≡ kind → IsTree kind subject s number tree → IsPositionAt subject s at
+    → IsAllWithin tree (place_of kind s)
+tree_within kind subject s at number tree none current of same is =
     let n = some_newest subject s at number none current is in
     let here : IsAllWithin (search_of (kind_of at.version) subject s.orders n.0) (place_of (kind_of at.version) s) = (at.pending, n.1.within) in
     let there : IsAllWithin (search_of kind subject s.orders n.0) (place_of kind s) = subst
@@ -134,12 +137,14 @@ CurrentWhere false number current = current ≡ None
 
 -- a position whose place went on is at what is left
 went_at : (subject : Subject) (s : Position) (at : Standing) (number : ℕ) (p : Pattern) (words : List (Pending (FactAt at))) (older : List ℕ) (more : Bool)
-    → Head s at → slice_get subject.file.patterns number ≡ Some p → at.begun ≡ number ∷ older → at.begun ≡ reverse s.proved.items
+    → Head s at → (at.version ≢ 3 → IsNarrow subject.file.automaton) → slice_get subject.file.patterns number ≡ Some p → at.begun ≡ number ∷ older
+    → at.begun ≡ reverse s.proved.items
     → CurrentWhere more number s.current → IsKeptIn (kind_of at.version) subject p s
     → AllGoOn (search_of (kind_of at.version) subject s.orders p) (place_of (kind_of at.version) s) words (Ok more)
     → IsPositionAt subject s (record at { pending = words })
-went_at subject s at number p words older more head named newest proved current kept went = record {
+went_at subject s at number p words older more head narrow named newest proved current kept went = record {
   version = head.version;
+  narrow = narrow;
   pairs = head.pairs;
   waiting = head.waiting;
   may = λ pair some. absurd (none-some pair (sym head.none ∙ some));
@@ -198,7 +203,7 @@ node_taken kind subject old new at k number p n more first of is same proved cur
     (sym same.orders) went in (
       record at { pending = words },
       inl stands,
-      went_at subject new at k p words first.older more (head_kept old new at same first.head) first.named first.begun
+      went_at subject new at k p words first.older more (head_kept old new at same first.head) is.narrow first.named first.begun
           (is.begun ∙ ap reverse (sym proved)) current left.0 gone,
     )
 

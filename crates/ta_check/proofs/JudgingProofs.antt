@@ -1,5 +1,6 @@
 -- a position that begins a proof
-use Rattle.ta_check.proofs.Common.{◌≡◌, inl, inr, ℕ, ◌<◌, List, [], ◌∷◌, ◌++◌, length, reverse, Some, slice_get, sym, ap, ◌∙◌, subst, refl, arith}
+use Rattle.ta_automaton.specs.Narrow.{IsNarrow}
+use Rattle.ta_check.proofs.Common.{◌≢◌, ◌≡◌, inl, inr, ℕ, ◌<◌, List, [], ◌∷◌, ◌++◌, length, reverse, Some, slice_get, sym, ap, ◌∙◌, subst, refl, arith}
 use Rattle.ta_check.proofs.Common.{reverse-append, slice_get_cases, In, Pattern, Search, AllWithin, Kind, Subject, fact_of, kind_of, search_of, Position}
 use Rattle.ta_check.proofs.Common.{Standing, BeginsProof, NothingIsLeft, IsKeptIn, IsPositionAt, none-some, place_of}
 use Rattle.ta_check.proofs.JudgingHeads.{free_back}
@@ -25,12 +26,13 @@ pattern_exists subject k within = elim ((slice_get_cases subject.file.patterns k
     [ inl found ↦ (found.0, found.2) | inr past ↦ absurd (let beyond = past.0 in omega arith) ]
 
 began_at : (subject : Subject) (old new : Position) (at : Standing) (k : ℕ) (p : Pattern) → slice_get subject.file.patterns k ≡ Some p
-    → at.begun ≡ reverse old.proved.items → Head old at → Began subject old k new p (kind_of at.version)
+    → (at.version ≢ 3 → IsNarrow subject.file.automaton) → at.begun ≡ reverse old.proved.items → Head old at → Began subject old k new p (kind_of at.version)
     → IsPositionAt subject new (record at { begun = k ∷ at.begun; pending = (search_of (kind_of at.version) subject old.orders p).roots })
-began_at subject old new at k p named begun first began =
+began_at subject old new at k p named narrow begun first began =
     let head = head_kept old new at began.same first in
     record {
       version = head.version;
+      narrow = narrow;
       pairs = head.pairs;
       waiting = head.waiting;
       may = λ pair some. absurd (none-some pair (sym head.none ∙ some));
@@ -69,7 +71,7 @@ begins kind subject old new at k p of named fresh is free began =
       record at { begun = k ∷ at.begun; pending = (search_of (kind_of at.version) subject old.orders p).roots },
       begins_with subject old at k p named fresh is
           free,
-      began_at subject old new at k p named is.begun head (subst (Began subject old k new p) (sym (kind_at old at kind head of)) began),
+      began_at subject old new at k p named is.narrow is.begun head (subst (Began subject old k new p) (sym (kind_at old at kind head of)) began),
     )
 
 -- a search that begins with nothing
@@ -93,6 +95,7 @@ begins_none kind subject old new at k p of named fresh is free same current prov
       begins_with subject old at k p named fresh is free,
       record {
         version = head.version;
+        narrow = is.narrow;
         pairs = head.pairs;
         waiting = head.waiting;
         may = λ pair some. absurd (none-some pair (sym head.none ∙ some));

@@ -26,13 +26,16 @@ on_lasts subject s (xs, Err e) g f is = is
 
 -- a longer text keeps it
 pub lasting_more : (subject : Subject) (text more : List ℕ) (f : CertFault) → IsLastingFor subject text f → IsLastingFor subject (text ++ more) f
-lasting_more subject text more f h = subst (λ (o : Outcome). FirstFaultAlong subject first_standing o.0 o.1 f) (sym (steps-append text more start))
-    (on_lasts subject first_standing (steps text start) (steps more) f h)
+lasting_more subject text more f h =
+    let before = start subject.line_bytes in
+    subst (λ (o : Outcome). FirstFaultAlong subject first_standing o.0 o.1 f) (sym (steps-append text more before))
+    (on_lasts subject first_standing (steps text before) (steps more) f h)
 
 -- it is a first one
 pub first_of_lasting : (subject : Subject) (text : List ℕ) (f : CertFault) → IsLastingFor subject text f → IsFirstFaultFor subject text f
-first_of_lasting subject text f h = other_end subject first_standing (steps text start).0 (steps text start).1 (end_of (steps text start).1) f
-    (λ is. ap end_of is) h
+first_of_lasting subject text f h =
+    let all = steps text (start subject.line_bytes) in
+    other_end subject first_standing all.0 all.1 (end_of all.1) f (λ is. ap end_of is) h
 
 pub lasting_faults_last : LastingFaultsLast
 lasting_faults_last subject text more f h = first_of_lasting subject (text ++ more) f (lasting_more subject text more f h)

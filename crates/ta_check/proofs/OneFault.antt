@@ -17,8 +17,12 @@ fault_once subject s (x ∷ xs) end f g known (inr (m, a, d)) (inr (n, b, e)) =
 
 -- two first errors are one
 pub one_fault : (subject : Subject) (text : List ℕ) (f g : CertFault) → IsFirstFaultFor subject text f → IsFirstFaultFor subject text g → f ≡ g
-one_fault subject text f g d e = fault_once subject first_standing (steps text start).0 (end_of (steps text start).1) f g (λ k none. absurd none) d e
+one_fault subject text f g d e =
+    let all = steps text (start subject.line_bytes) in
+    fault_once subject first_standing all.0 (end_of all.1) f g (λ k none. absurd none) d e
 
 -- so are two lasting ones
 pub one_lasting : (subject : Subject) (text : List ℕ) (f g : CertFault) → IsLastingFor subject text f → IsLastingFor subject text g → f ≡ g
-one_lasting subject text f g d e = fault_once subject first_standing (steps text start).0 (steps text start).1 f g (λ k none. absurd none) d e
+one_lasting subject text f g d e =
+    let all = steps text (start subject.line_bytes) in
+    fault_once subject first_standing all.0 all.1 f g (λ k none. absurd none) d e

@@ -12,7 +12,7 @@ use Rattle.ta_cert.proofs.Streaming.{faults_stay, first_parts, steps-append}
 use Rattle.ta_check.proofs.Accepting.{certificate_of}
 
 -- before the first piece
-pub stands_first : (subject : Subject) (reader : Reader) (position : Position) → state reader ≡ start → reader.failed ≡ false
+pub stands_first : (subject : Subject) (reader : Reader) (position : Position) → state reader ≡ start subject.line_bytes → reader.failed ≡ false
     → IsPositionAt subject position first_standing → StandBehind subject reader position []
 stands_first subject reader position is going_on place = record {
   lines = [];
@@ -42,8 +42,8 @@ memory_or_not _ = inr (λ e. absurd cc)
 
 -- what a text says with more bytes
 more_read : (subject : Subject) (reader : Reader) (position : Position) (text bytes : List ℕ) → (h : StandBehind subject reader position text)
-    → steps (text ++ bytes) start ≡ add_lines h.lines (steps bytes (state reader))
-more_read subject reader position text bytes h = steps-append text bytes start ∙ ap (λ (o : Outcome). on o (steps bytes)) h.read
+    → steps (text ++ bytes) (start subject.line_bytes) ≡ add_lines h.lines (steps bytes (state reader))
+more_read subject reader position text bytes h = steps-append text bytes (start subject.line_bytes) ∙ ap (λ (o : Outcome). on o (steps bytes)) h.read
 
 -- an error of the bytes behind a text
 lasts_behind : (subject : Subject) (reader : Reader) (position : Position) (text bytes : List ℕ) (o : Outcome) (f : CertFault)
@@ -109,14 +109,16 @@ line_read reader new bytes found gives =
 -- with the text
 line_behind : (subject : Subject) (reader new : Reader) (position : Position) (text bytes : List ℕ) (found : Ended)
     → (h : StandBehind subject reader position text) → LineRead reader new bytes found
-    → steps (text ++ take found.taken bytes) start ≡ (h.lines ++ (found.number, found.line) ∷ [], Ok (state new))
+    → steps (text ++ take found.taken bytes) (start subject.line_bytes) ≡ (h.lines ++ (found.number, found.line) ∷ [], Ok (state new))
 line_behind subject reader new position text bytes found h read = more_read subject reader position text (take found.taken bytes) h
     ∙ ap (add_lines h.lines) read.read
 
 -- the line has its form
-pub line_is : (subject : Subject) (reader new : Reader) (position : Position) (bytes : List ℕ) (found : Ended) → StandSomewhere subject reader position
-    → (reader.failed ≡ false → GivesLine bytes (steps (first_line bytes) (state reader)) new (Ok (Some found))) → IsLine found.line
-line_is subject reader new position bytes found (text, h) gives = last_line (text ++ take found.taken bytes) h.lines (found.number, found.line) (state new)
+pub line_is : (subject : Subject) (reader new : Reader) (position : Position) (bytes : List ℕ) (found : Ended) (text : List ℕ)
+    → StandBehind subject reader position text → (reader.failed ≡ false → GivesLine bytes (steps (first_line bytes) (state reader)) new (Ok (Some found)))
+    → IsLine found.line
+line_is subject reader new position bytes found text h gives =
+    last_line subject.line_bytes (text ++ take found.taken bytes) h.lines (found.number, found.line) (state new)
     (line_behind subject reader new position text bytes found h (line_read reader new bytes found (gives h.going_on)))
 
 -- a line that may follow
@@ -165,54 +167,58 @@ next_fails subject reader new position after bytes found e gives takes text h =
       ];
     }
 
--- the front of a piece was taken, and wherever one stood before, one stands behind it
-pub record FrontTaken (subject : Subject) (reader : Reader) (position : Position) (piece rest : List ℕ) (new : Reader) (moved : Position) : Type 0 where
+-- the front of a piece was taken, and wherever one stood before, one stands behind it, however many bytes a line may have
+pub record FrontTaken (subject : ℕ → Subject) (reader : Reader) (position : Position) (piece rest : List ℕ) (new : Reader) (moved : Position) : Type 0 where
   pub front : List ℕ
   pub split : piece ≡ front ++ rest
-  pub stands : (text : List ℕ) → StandBehind subject reader position text → StandBehind subject new moved (text ++ front)
+  pub stands : (limit : ℕ) (text : List ℕ) → StandBehind (subject limit) reader position text → StandBehind (subject limit) new moved (text ++ front)
 
 -- the text with the piece
-whole_is : (subject : Subject) (reader : Reader) (position : Position) (piece rest : List ℕ) (new : Reader) (moved : Position)
+whole_is : (subject : ℕ → Subject) (reader : Reader) (position : Position) (piece rest : List ℕ) (new : Reader) (moved : Position)
     (so : FrontTaken subject reader position piece rest new moved) (text : List ℕ) → (text ++ so.front) ++ rest ≡ text ++ piece
 whole_is subject reader position piece rest new moved so text = append_assoc text so.front rest ∙ ap (λ xs. text ++ xs) (sym so.split)
 
-pub somewhere : (subject : Subject) (reader new : Reader) (position moved : Position) (piece rest : List ℕ)
+pub somewhere : (subject : ℕ → Subject) (reader new : Reader) (position moved : Position) (piece rest : List ℕ)
     → FrontTaken subject reader position piece rest new moved → StandSomewhere subject reader position → StandSomewhere subject new moved
-somewhere subject reader new position moved piece rest so (text, h) = (text ++ so.front, so.stands text h)
+somewhere subject reader new position moved piece rest so (limit, text, h) = (limit, text ++ so.front, so.stands limit text h)
 
 -- what is answered to the bytes that are left, wherever one stands
-abbrev pub Goes : Subject → Reader → Position → List ℕ → Reader → Position → Result (Option ℕ) CertFault → Type 0
-Goes subject reader position bytes new moved answer = (text : List ℕ) → StandBehind subject reader position text → NextTaken subject text bytes new moved answer
+abbrev pub Goes : (ℕ → Subject) → Reader → Position → List ℕ → Reader → Position → Result (Option ℕ) CertFault → Type 0
+Goes subject reader position bytes new moved answer =
+    (limit : ℕ) (text : List ℕ) → StandBehind (subject limit) reader position text → NextTaken (subject limit) text bytes new moved answer
 
-pub goes_on : (subject : Subject) (reader new last : Reader) (position moved after : Position) (piece rest behind : List ℕ) (taken : ℕ)
+pub goes_on : (subject : ℕ → Subject) (reader new last : Reader) (position moved after : Position) (piece rest behind : List ℕ) (taken : ℕ)
     → FrontTaken subject reader position piece rest new moved → Goes subject new moved rest last after (Ok (Some taken)) → behind ≡ drop taken rest
     → FrontTaken subject reader position piece behind last after
 goes_on subject reader new last position moved after piece rest behind taken so goes same = record {
   front = so.front ++ take taken rest;
   split = so.split ∙ ap (λ xs. so.front ++ xs) (sym (take-append-drop taken rest) ∙ ap (λ xs. take taken rest ++ xs) (sym same))
       ∙ sym (append_assoc so.front (take taken rest) behind);
-  stands = λ text h. subst (StandBehind subject last after) (append_assoc text so.front (take taken rest)) (goes (text ++ so.front) (so.stands text h)).2;
+  stands = λ limit text h. subst (StandBehind (subject limit) last after) (append_assoc text so.front (take taken rest))
+      (goes limit (text ++ so.front) (so.stands limit text h)).2;
 }
 
-pub goes_within : (subject : Subject) (reader new last : Reader) (position moved after : Position) (piece rest : List ℕ) (taken : ℕ)
+pub goes_within : (subject : ℕ → Subject) (reader new last : Reader) (position moved after : Position) (piece rest : List ℕ) (taken : ℕ)
     → FrontTaken subject reader position piece rest new moved → StandSomewhere subject reader position
     → Goes subject new moved rest last after (Ok (Some taken)) → (0 < taken) × (taken ≤ length rest)
-goes_within subject reader new last position moved after piece rest taken so (text, h) goes =
-    let gone = goes (text ++ so.front) (so.stands text h) in
+goes_within subject reader new last position moved after piece rest taken so (limit, text, h) goes =
+    let gone = goes limit (text ++ so.front) (so.stands limit text h) in
     (gone.0, gone.1)
 
 -- an error of the bytes that are left
-pub goes_wrong : (subject : Subject) (reader new last : Reader) (position moved after : Position) (piece rest : List ℕ) (e : CertFault)
-    → FrontTaken subject reader position piece rest new moved → Goes subject new moved rest last after (Err e) → (text : List ℕ)
-    → StandBehind subject reader position text → TakenTo subject (text ++ piece) last after (Err e)
-goes_wrong subject reader new last position moved after piece rest e so goes text h =
-    subst (λ t. IsToldOf subject t e) (whole_is subject reader position piece rest new moved so text) (goes (text ++ so.front) (so.stands text h))
+pub goes_wrong : (subject : ℕ → Subject) (reader new last : Reader) (position moved after : Position) (piece rest : List ℕ) (e : CertFault)
+    → FrontTaken subject reader position piece rest new moved → Goes subject new moved rest last after (Err e) → (limit : ℕ) (text : List ℕ)
+    → StandBehind (subject limit) reader position text → TakenTo (subject limit) (text ++ piece) last after (Err e)
+goes_wrong subject reader new last position moved after piece rest e so goes limit text h =
+    subst (λ t. IsToldOf (subject limit) t e) (whole_is subject reader position piece rest new moved so text)
+    (goes limit (text ++ so.front) (so.stands limit text h))
 
 -- an early end
 finish_fault : (s : State) (e : CertFault) → Err e ≡ finish s → fault.Truncated s.number ≡ e
 finish_fault s e is = by_end s.ended is
   where
-    by_end : (t : Bool) → Err e ≡ finish (record { line = s.line; number = s.number; begun = s.begun; ended = t }) → fault.Truncated s.number ≡ e
+    by_end : (t : Bool) → Err e ≡ finish (record { line_bytes = s.line_bytes; line = s.line; number = s.number; begun = s.begun; ended = t })
+        → fault.Truncated s.number ≡ e
     by_end true is = absurd cc
     by_end false is = cc
 
@@ -232,9 +238,9 @@ end_refused subject reader position text e h ends =
 pub end_accepts : (subject : Subject) (reader : Reader) (position : Position) (text : List ℕ) → StandBehind subject reader position text
     → (reader.failed ≡ false → Ok tt ≡ finish (state reader)) → CertificateFor subject text position.proved.items
 end_accepts subject reader position text h ends =
-    let found = stands text h.lines (state reader) h.read in
+    let found = stands subject.line_bytes text h.lines (state reader) h.read in
     let same : unnumbered h.lines ≡ found.0 = ap unnumbered found.2 ∙ lines_numbered 0 found.0 in
     let numbers : reverse h.at.begun ≡ position.proved.items = ap reverse h.place.begun ∙ reverse-reverse position.proved.items in
     subst (CertificateFor subject text) numbers
-    (certificate_of subject text found.0 h.at (whole_at (state reader) text found.0 found.1 (sym (ends h.going_on)))
+    (certificate_of subject text found.0 h.at (whole_at subject.line_bytes (state reader) text found.0 found.1 (sym (ends h.going_on)))
     (subst (λ (ls : List Line). LeadThrough subject first_standing ls h.at) same h.leads))

@@ -20,8 +20,9 @@ pub no_certificate : (subject : Subject) (text : List ℕ) (f : CertFault) → I
     → ¬ CertificateFor subject text numbers
 no_certificate subject text f first numbers certificate =
     let lines = lines_of subject text numbers certificate in
-    let read = finished_parts (steps text start) (numbered_lines 0 lines.0) lines.1 in
-    let end = end_of (steps text start).1 in
+    let all = steps text (start subject.line_bytes) in
+    let read = finished_parts all (numbered_lines 0 lines.0) lines.1 in
+    let end = end_of all.1 in
     none_along subject first_standing lines.2 (numbered_lines 0 lines.0) end tt f
     (subst (λ (ls : List Line). LeadThrough subject first_standing ls lines.2) (sym (lines_numbered 0 lines.0)) lines.3)
     read.1

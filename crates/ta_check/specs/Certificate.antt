@@ -2,6 +2,7 @@
 -- certificates and integer branchings (Schrijver, Theory of Linear and Integer Programming, 1986).
 use Rattle.std.specs.Prelude.{ℕ, ◌≡◌, ◌<◌, ◌^◌, List, [], ◌∷◌, length, map, slice_get, Some}
 use Rattle.std.specs.List.{AllByRecursion}
+use Rattle.ta_automaton.specs.Narrow.{IsNarrow}
 use Rattle.ta_automaton.specs.declared.automaton.Automaton.{Automaton}
 use Rattle.ta_automaton.specs.declared.file.File.{File}
 use Rattle.ta_automaton.specs.declared.pattern.Pattern.{Pattern}
@@ -56,15 +57,16 @@ lines_of_kind Words orders proofs = cert_lines orders proofs
 lines_of_kind Moments orders proofs = question_lines proofs
 
 -- the text of a good list of pairs, each with multipliers that show it, and of proofs of a kind: under these pairs they prove what is
--- claimed of distinct patterns of the file, whose numbers are in its order; no line is longer than a reader takes
+-- claimed of distinct patterns of the file, whose numbers are in its order; no line has more than `line_bytes` bytes
 pub record CertificateFor (subject : Subject) (text : List ℕ) (numbers : List ℕ) : Type 0 where
   pub kind : Kind
   pub orders : List Order
   pub proofs : List (ℕ × List Tree)
   pub written : text ≡ cert_lines_text (lines_of_kind kind orders (proofs_of proofs))
   pub ordered : MayHave kind subject orders
+  pub narrow : kind ≡ Words → IsNarrow subject.file.automaton
   pub legal : AreWritable (proofs_of proofs)
-  pub short : AreShort (lines_of_kind kind orders (proofs_of proofs))
+  pub short : AreShort subject.line_bytes (lines_of_kind kind orders (proofs_of proofs))
   pub shown : AllByRecursion (ShowsPair subject.file.automaton) orders
   pub good : Good subject.file.automaton (map pair_of orders)
   pub prove : AllByRecursion (ProvesClaim kind subject (map pair_of orders)) proofs
@@ -73,40 +75,36 @@ pub record CertificateFor (subject : Subject) (text : List ℕ) (numbers : List 
 
 -- what is claimed holds of all these patterns
 abbrev pub AllClaimsHold : Subject → List ℕ → Type 0
-AllClaimsHold subject numbers = AllByRecursion (ClaimHolds subject) numbers
+AllClaimsHold subject numbers = AllByRecursion (ClaimHolds subject.claim subject.file subject.silent) numbers
 
--- trees over schemas that prove that the file's pattern with this number is safe
-abbrev pub ProvesPattern : File → List (ℕ × ℕ) → (ℕ × List Tree) → Type 0
-ProvesPattern file pairs numbered = ProvesClaim Words (claiming Safe file) pairs numbered
-
--- a certificate that patterns of the file are safe
-abbrev pub Certificate : File → List ℕ → List ℕ → Type 0
-Certificate file text numbers = CertificateFor (claiming Safe file) text numbers
+-- a certificate that patterns of the file are safe, whose lines have at most this many bytes
+abbrev pub Certificate : File → ℕ → List ℕ → List ℕ → Type 0
+Certificate file limit text numbers = CertificateFor (claiming Safe file limit) text numbers
 
 -- the file's pattern with this number occurs in no run, for any admissible parameters
 abbrev pub PatternSafe : File → ℕ → Type 0
-PatternSafe file number = ClaimHolds (claiming Safe file) number
+PatternSafe file number = ClaimHolds Safe file [] number
 
 -- each of these patterns occurs in no run
 abbrev pub AllSafe : File → List ℕ → Type 0
-AllSafe file numbers = AllClaimsHold (claiming Safe file) numbers
+AllSafe file numbers = AllByRecursion (PatternSafe file) numbers
 
 -- a certificate, without pairs, that no run is at rest where the last event of one of these patterns happens
-abbrev pub RestCertificate : File → List ℕ → List ℕ → Type 0
-RestCertificate file text numbers = CertificateFor (claiming RestSafe file) text numbers
+abbrev pub RestCertificate : File → ℕ → List ℕ → List ℕ → Type 0
+RestCertificate file limit text numbers = CertificateFor (claiming RestSafe file limit) text numbers
 
 -- no run comes to rest where the last event of one of these patterns happens, for any admissible parameters
 abbrev pub AllRestSafe : File → List ℕ → Type 0
-AllRestSafe file numbers = AllClaimsHold (claiming RestSafe file) numbers
+AllRestSafe file numbers = AllByRecursion (ClaimHolds RestSafe file []) numbers
 
 -- such a certificate where these places are silent
-abbrev pub QuietRestCertificate : File → List ℕ → List ℕ → List ℕ → Type 0
-QuietRestCertificate file silent text numbers = CertificateFor (claiming_with RestSafe file silent) text numbers
+abbrev pub QuietRestCertificate : File → List ℕ → ℕ → List ℕ → List ℕ → Type 0
+QuietRestCertificate file silent limit text numbers = CertificateFor (claiming_with RestSafe file silent limit) text numbers
 
 -- no run comes to quiet rest where the last event of one of these patterns happens, with these silent places; without any, none comes to
 -- rest
 abbrev pub AllQuietRestSafe : File → List ℕ → List ℕ → Type 0
-AllQuietRestSafe file silent numbers = AllClaimsHold (claiming_with RestSafe file silent) numbers
+AllQuietRestSafe file silent numbers = AllByRecursion (ClaimHolds RestSafe file silent) numbers
 
 -- for the pattern with this number in the file: under no set of fall guards that are false at the start does a complete schema that is
 -- legal under pairs have a natural solution of its system
@@ -128,7 +126,7 @@ pub record CertificateShows (file : File) (kind : Kind) (pairs : List (ℕ × �
   pub none_solved : InScope file.automaton → AllUnsolved file numbers
 
 abbrev pub CertificatesShow : Type 0
-CertificatesShow = (file : File) (text numbers : List ℕ) → LoopsPure file.automaton → (c : Certificate file text numbers)
+CertificatesShow = (file : File) (limit : ℕ) (text numbers : List ℕ) → LoopsPure file.automaton → (c : Certificate file limit text numbers)
     → CertificateShows file c.kind (map pair_of c.orders) numbers
 
 -- a text is a certificate of at most one list of patterns

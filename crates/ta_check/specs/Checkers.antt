@@ -21,13 +21,13 @@ pub record StandBehind (subject : Subject) (reader : Reader) (position : Positio
   pub lines : List (ℕ × Line)
   pub at : Standing
   pub going_on : reader.failed ≡ false
-  pub read : steps text start ≡ (lines, Ok (state reader))
+  pub read : steps text (start subject.line_bytes) ≡ (lines, Ok (state reader))
   pub leads : LeadThrough subject first_standing (unnumbered lines) at
   pub place : IsPositionAt subject position at
 
 -- what a checker judges
 abbrev pub subject_of : Checker → Subject
-subject_of s = claiming_with s.claim s.scoped.now.file s.silent.now
+subject_of s = claiming_with s.claim s.scoped.now.file s.silent.now s.line_bytes
 
 -- the checker stands for the text: the claim may be made, no piece was refused, and its fields are those of the text
 pub record CheckerStandsFor (s : Checker) (text : List ℕ) : Type 0 where

@@ -137,15 +137,17 @@ FirstFaultAlong subject s (x ∷ xs) end f = IsAtFault subject s x.0 x.1 f
 -- the first error of a text: of a line, or of the text itself, which is a line of no form or too long, a byte after the end, or an end that
 -- comes too early
 abbrev pub IsFirstFaultFor : Subject → List ℕ → CertFault → Type 0
-IsFirstFaultFor subject text f = FirstFaultAlong subject first_standing (steps text start).0 (end_of (steps text start).1) f
+IsFirstFaultFor subject text f =
+    FirstFaultAlong subject first_standing (steps text (start subject.line_bytes)).0 (end_of (steps text (start subject.line_bytes)).1) f
 
 -- a first error that each longer text keeps: any but an end that comes too early
 abbrev pub IsLastingFor : Subject → List ℕ → CertFault → Type 0
-IsLastingFor subject text f = FirstFaultAlong subject first_standing (steps text start).0 (steps text start).1 f
+IsLastingFor subject text f =
+    FirstFaultAlong subject first_standing (steps text (start subject.line_bytes)).0 (steps text (start subject.line_bytes)).1 f
 
--- the first error, where the claim is that patterns of a file are safe
-abbrev pub IsFirstFault : File → List ℕ → CertFault → Type 0
-IsFirstFault file text f = IsFirstFaultFor (claiming Safe file) text f
+-- the first error, where the claim is that patterns of a file are safe, and a line has at most this many bytes
+abbrev pub IsFirstFault : File → ℕ → List ℕ → CertFault → Type 0
+IsFirstFault file limit text f = IsFirstFaultFor (claiming Safe file limit) text f
 
 -- it is the first error of each longer text
 abbrev pub LastingFaultsLast : Type 0

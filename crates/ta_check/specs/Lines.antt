@@ -28,9 +28,9 @@ FactAt s = fact_of (kind_of s.version)
 abbrev pub search_there : Subject → (s : Standing) → ℕ → Option (Search (FactAt s))
 search_there subject s number = search_at (kind_of s.version) subject s.pairs number
 
--- before the first line
+-- before the first line, which says the version
 abbrev pub first_standing : Standing
-first_standing = record { version = 0; pairs = []; waiting = None; begun = []; pending = [] }
+first_standing = record { version = 3; pairs = []; waiting = None; begun = []; pending = [] }
 
 -- the first schema, or node of moments, that is to be refuted, in the search of the newest pattern
 pub record AtWord (subject : Subject) (s : Standing) (search : Search (FactAt s)) (word : Pending (FactAt s)) (words : List (Pending (FactAt s))) : Type 0 where

@@ -1,6 +1,7 @@
 -- What the fields of a position stand for, and what it answers to the next line.
-use Rattle.std.specs.Prelude.{ℕ, ◌≡◌, ◌≤◌, ◌⊎◌, Bool, List, [], ◌∷◌, ◌++◌, reverse, slice_get, ℤ, Some, None, Result, Ok, Err}
+use Rattle.std.specs.Prelude.{ℕ, ◌≡◌, ◌≢◌, ◌≤◌, ◌⊎◌, Bool, List, [], ◌∷◌, ◌++◌, reverse, slice_get, ℤ, Some, None, Result, Ok, Err}
 use Rattle.ta_base.specs.Lists.{SameMembers}
+use Rattle.ta_automaton.specs.Narrow.{IsNarrow}
 use Rattle.ta_automaton.specs.declared.pattern.Pattern.{Pattern}
 use Rattle.ta_cert.specs.declared.line.Line.{Line}
 use Rattle.ta_cert.specs.declared.line.Node.{Node}
@@ -56,18 +57,19 @@ pub record MayWait (subject : Subject) (at : Standing) (pair : ℕ × ℕ) : Typ
   pub join : MayJoin subject.file.automaton at.pairs pair
   pub early : at.begun ≡ []
 
--- the position's fields are those of a standing
+-- the position's fields are those of a standing, and what isn't version 3 is of a narrow file
 pub record IsPositionAt (subject : Subject) (s : Position) (at : Standing) : Type 0 where
   pub version : at.version ≡ s.version
+  pub narrow : at.version ≢ 3 → IsNarrow subject.file.automaton
   pub pairs : SameMembers at.pairs s.orders
   pub waiting : at.waiting ≡ s.waiting
   pub may : (pair : ℕ × ℕ) → at.waiting ≡ Some pair → MayWait subject at pair
   pub begun : at.begun ≡ reverse s.proved.items
   pub place : Between s at.pending ⊎ InNewest subject s at
 
--- the position's fields are those of some standing
-abbrev pub IsSomewhere : Subject → Position → Type 0
-IsSomewhere subject s = (at : Standing) × IsPositionAt subject s at
+-- the position's fields are those of some standing, for some number of bytes that a line may have
+abbrev pub IsSomewhere : (ℕ → Subject) → Position → Type 0
+IsSomewhere subject s = (limit : ℕ) × (at : Standing) × IsPositionAt (subject limit) s at
 
 -- a position at a standing: its answer to the line with this number, and where it is then; "out of memory" is always allowed
 abbrev pub LineAnswers : Subject → Standing → ℕ → Line → Position → Result (Unit {0}) CertFault → Type 0

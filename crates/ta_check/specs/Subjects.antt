@@ -1,6 +1,7 @@
--- What a certificate is checked for: a file, a claim and silent places.
-use Rattle.std.specs.Prelude.{ℕ, ◌==◌, ◌≡◌, ◌⊎◌, cond, List, [], ◌∷◌, slice_get, Option, Some, None, ◌≤◌}
+-- What a certificate is checked for: a file, a claim and silent places; and how many bytes a line of it may have.
+use Rattle.std.specs.Prelude.{ℕ, ◌==◌, ◌≡◌, ◌≢◌, ◌⊎◌, cond, List, [], ◌∷◌, slice_get, Option, Some, None, ◌≤◌}
 use Rattle.ta_words.specs.declared.element.Element.{Element}
+use Rattle.ta_automaton.specs.Narrow.{IsNarrow}
 use Rattle.ta_automaton.specs.declared.automaton.Automaton.{Automaton}
 use Rattle.ta_automaton.specs.declared.file.File.{File}
 use Rattle.ta_automaton.specs.declared.pattern.Pattern.{Pattern}
@@ -13,18 +14,20 @@ use Rattle.ta_rest.specs.Claims.{claimed, search_for}
 use Rattle.ta_rest.specs.declared.claim.Claim.{Claim}
 use Rattle.ta_rest.specs.declared.claim.Claim.TheVariants.{Safe, RestSafe}
 
--- a file, what is claimed of its patterns, and the silent places, which do not count for rest
+-- a file, what is claimed of its patterns, and the silent places, which do not count for rest; and how many bytes a line of a certificate has
+-- at most, its line feed aside
 pub record Subject : Type 0 where
   pub claim : Claim
   pub file : File
   pub silent : List ℕ
+  pub line_bytes : ℕ
 
-abbrev pub claiming_with : Claim → File → List ℕ → Subject
-claiming_with claim file silent = record { claim = claim; file = file; silent = silent }
+abbrev pub claiming_with : Claim → File → List ℕ → ℕ → Subject
+claiming_with claim file silent limit = record { claim = claim; file = file; silent = silent; line_bytes = limit }
 
 -- with no silent places
-abbrev pub claiming : Claim → File → Subject
-claiming claim file = claiming_with claim file []
+abbrev pub claiming : Claim → File → ℕ → Subject
+claiming claim file limit = claiming_with claim file [] limit
 
 -- what the proofs of a certificate refute: schemas in versions 1 and 2, nodes of moments in version 3
 pub data Kind : Type 0 where
@@ -63,8 +66,9 @@ version_for Safe silent version = version ≤ 3
 version_for RestSafe [] version = (version ≡ 1) ⊎ (version ≡ 3)
 version_for RestSafe (place ∷ silent) version = version ≡ 3
 
+-- so has the one of a file beyond the narrow limits, whose schemas are too many
 abbrev pub HasVersion : Subject → ℕ → Type 0
-HasVersion subject version = version_for subject.claim subject.silent version
+HasVersion subject version = version_for subject.claim subject.silent version × (version ≢ 3 → IsNarrow subject.file.automaton)
 
 -- what is claimed of a pattern, where these places are silent; without silent places it is what the claim says
 abbrev pub claimed_with : Claim → List ℕ → Automaton → Pattern → Type 0
@@ -72,8 +76,8 @@ claimed_with Safe silent a p = claimed Safe a p
 claimed_with RestSafe [] a p = claimed RestSafe a p
 claimed_with RestSafe (place ∷ silent) a p = QuietRestSafe a (place ∷ silent) p
 
--- what is claimed holds of the file's pattern with this number
-pub record ClaimHolds (subject : Subject) (number : ℕ) : Type 0 where
+-- what is claimed, where these places are silent, holds of the file's pattern with this number
+pub record ClaimHolds (claim : Claim) (file : File) (silent : List ℕ) (number : ℕ) : Type 0 where
   pub pattern : Pattern
-  pub named : slice_get subject.file.patterns number ≡ Some pattern
-  pub safe : claimed_with subject.claim subject.silent subject.file.automaton pattern
+  pub named : slice_get file.patterns number ≡ Some pattern
+  pub safe : claimed_with claim silent file.automaton pattern

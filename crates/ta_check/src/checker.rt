@@ -33,6 +33,8 @@ pub struct Checker<'a> {
     scoped: &'a ScopedFile,
     /// The places on which rest does not count.
     silent: &'a [u32],
+    /// How many bytes a line has at most, its line feed aside.
+    line_bytes: usize,
     reader: Reader,
     failed: bool,
     position: Position<'a>,
@@ -50,7 +52,7 @@ fn take_next<'a>(
     bytes: &[u8],
 ) -> Result<Option<usize>, CertFault>
     requires { StandSomewhere (claiming_with claim file.now silent.now) reader.old position.old }
-    ensures { (text : Bytes ℕ) → StandBehind (claiming_with claim file.now silent.now) reader.old position.old text → NextTaken (claiming_with claim file.now silent.now) text bytes.now reader.new position.new result }
+    ensures { (limit : ℕ) (text : Bytes ℕ) → StandBehind (claiming_with claim file.now silent.now limit) reader.old position.old text → NextTaken (claiming_with claim file.now silent.now limit) text bytes.now reader.new position.new result }
 {
     match reader.feed_line(bytes)? {
         None => Ok(None),
@@ -78,7 +80,7 @@ fn take_lines<'a>(
     piece: &[u8],
 ) -> Result<(), CertFault>
     requires { StandSomewhere (claiming_with claim file.now silent.now) reader.old position.old }
-    ensures { (text : Bytes ℕ) → StandBehind (claiming_with claim file.now silent.now) reader.old position.old text → TakenTo (claiming_with claim file.now silent.now) (text ++ piece.now) reader.new position.new result }
+    ensures { (limit : ℕ) (text : Bytes ℕ) → StandBehind (claiming_with claim file.now silent.now limit) reader.old position.old text → TakenTo (claiming_with claim file.now silent.now limit) (text ++ piece.now) reader.new position.new result }
 {
     let mut rest = piece;
     'lines: while let Some(taken) = take_next(alloc, claim, file, silent, reader, position, rest)? {
@@ -89,18 +91,19 @@ fn take_lines<'a>(
 }
 
 impl<'a> Checker<'a> {
-    /// A judge of a certificate that patterns of a file are safe, before the first piece. It takes no
-    /// memory.
-    pub fn new(alloc: Global, scoped: &'a ScopedFile) -> Checker<'a>
+    /// A judge of a certificate that patterns of a file are safe, before the first piece. A line of the
+    /// certificate has at most `line_bytes` bytes, its line feed aside. It takes no memory.
+    pub fn new(alloc: Global, scoped: &'a ScopedFile, line_bytes: usize) -> Checker<'a>
         ensures stands { CheckerStandsFor result [] }
-        ensures subject { subject_of result ≡ claiming Claim.Safe scoped.now.file }
+        ensures subject { subject_of result ≡ claiming Claim.Safe scoped.now.file line_bytes }
     {
         Checker {
             alloc,
             claim: Claim::Safe,
             scoped,
             silent: &[],
-            reader: Reader::new(alloc),
+            line_bytes,
+            reader: Reader::new(alloc, line_bytes),
             failed: false,
             position: Position::new(alloc),
         }
@@ -108,24 +111,30 @@ impl<'a> Checker<'a> {
 
     /// A judge of a certificate that no run comes to rest where the last event of a pattern happens.
     /// It takes no memory.
-    pub fn resting(alloc: Global, rest: &'a RestFile) -> Checker<'a>
+    pub fn resting(alloc: Global, rest: &'a RestFile, line_bytes: usize) -> Checker<'a>
         ensures stands { CheckerStandsFor result [] }
-        ensures subject { subject_of result ≡ claiming Claim.RestSafe rest.now.ending.file }
+        ensures subject { subject_of result ≡ claiming Claim.RestSafe rest.now.ending.file line_bytes }
     {
-        Checker::resting_silently(alloc, rest, &[])
+        Checker::resting_silently(alloc, rest, &[], line_bytes)
     }
 
     /// The same where these places are silent: no run comes to quiet rest there. It takes no memory.
-    pub fn resting_silently(alloc: Global, rest: &'a RestFile, silent: &'a [u32]) -> Checker<'a>
+    pub fn resting_silently(
+        alloc: Global,
+        rest: &'a RestFile,
+        silent: &'a [u32],
+        line_bytes: usize,
+    ) -> Checker<'a>
         ensures stands { CheckerStandsFor result [] }
-        ensures subject { subject_of result ≡ claiming_with Claim.RestSafe rest.now.ending.file silent.now }
+        ensures subject { subject_of result ≡ claiming_with Claim.RestSafe rest.now.ending.file silent.now line_bytes }
     {
         Checker {
             alloc,
             claim: Claim::RestSafe,
             scoped: &rest.ending,
             silent,
-            reader: Reader::new(alloc),
+            line_bytes,
+            reader: Reader::new(alloc, line_bytes),
             failed: false,
             position: Position::new(alloc),
         }

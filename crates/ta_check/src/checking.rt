@@ -22,31 +22,42 @@ use ta_scope::ScopedFile;
 
 /// Judges a certificate of a file, whose proofs are of words or, in version 3, of moments. What is
 /// accepted is proved: the patterns that it names happen in no run, of any length and any number of
-/// processes. An error is that of the first refused line.
-pub fn check(alloc: Global, scoped: &ScopedFile, text: &[u8]) -> Result<Accepted, CertFault>
-    ensures accepted { IfOk result (λ accepted. Certificate scoped.now.file text.now accepted.patterns) }
-    ensures refused { IfErr result (λ fault. fault ≢ Memory → (numbers : List ℕ) → ¬ Certificate scoped.now.file text.now numbers) }
-    ensures fault { IfErr result (λ fault. fault ≢ Memory → IsFirstFault scoped.now.file text.now fault) }
-    ensures exact { (fault : AnyFault) → IsFirstFault scoped.now.file text.now fault → IsErrOrMemory result fault }
+/// processes. An error is that of the first refused line. A line has at most `line_bytes` bytes, its line
+/// feed aside.
+pub fn check(
+    alloc: Global,
+    scoped: &ScopedFile,
+    text: &[u8],
+    line_bytes: usize,
+) -> Result<Accepted, CertFault>
+    ensures accepted { IfOk result (λ accepted. Certificate scoped.now.file line_bytes text.now accepted.patterns) }
+    ensures refused { IfErr result (λ fault. fault ≢ Memory → (numbers : List ℕ) → ¬ Certificate scoped.now.file line_bytes text.now numbers) }
+    ensures fault { IfErr result (λ fault. fault ≢ Memory → IsFirstFault scoped.now.file line_bytes text.now fault) }
+    ensures exact { (fault : AnyFault) → IsFirstFault scoped.now.file line_bytes text.now fault → IsErrOrMemory result fault }
     ensures safe { IfOk result (λ accepted. AllSafe scoped.now.file accepted.patterns) }
     ensures unsolved { IfOk result (λ accepted. AllUnsolved scoped.now.file accepted.patterns) }
 {
-    judge_whole(Checker::new(alloc, scoped), text)
+    judge_whole(Checker::new(alloc, scoped, line_bytes), text)
 }
 
 /// Judges a certificate that patterns are safe at rest: no run, of any length and any number of
 /// processes, comes to rest where the last event of a pattern that it names happens. It has no pairs.
 /// Its proofs are of words or, in version 3, of moments. An error is that of the first refused line,
 /// over the systems of rest of the endings.
-pub fn rest_check(alloc: Global, rest: &RestFile, text: &[u8]) -> Result<Accepted, CertFault>
-    ensures accepted { IfOk result (λ accepted. RestCertificate rest.now.ending.file text.now accepted.patterns) }
-    ensures refused { IfErr result (λ fault. fault ≢ Memory → (numbers : List ℕ) → ¬ RestCertificate rest.now.ending.file text.now numbers) }
-    ensures fault { IfErr result (λ fault. fault ≢ Memory → IsFirstFaultFor (claiming RestSafe rest.now.ending.file) text.now fault) }
-    ensures exact { (fault : AnyFault) → IsFirstFaultFor (claiming RestSafe rest.now.ending.file) text.now fault → IsErrOrMemory result fault }
+pub fn rest_check(
+    alloc: Global,
+    rest: &RestFile,
+    text: &[u8],
+    line_bytes: usize,
+) -> Result<Accepted, CertFault>
+    ensures accepted { IfOk result (λ accepted. RestCertificate rest.now.ending.file line_bytes text.now accepted.patterns) }
+    ensures refused { IfErr result (λ fault. fault ≢ Memory → (numbers : List ℕ) → ¬ RestCertificate rest.now.ending.file line_bytes text.now numbers) }
+    ensures fault { IfErr result (λ fault. fault ≢ Memory → IsFirstFaultFor (claiming RestSafe rest.now.ending.file line_bytes) text.now fault) }
+    ensures exact { (fault : AnyFault) → IsFirstFaultFor (claiming RestSafe rest.now.ending.file line_bytes) text.now fault → IsErrOrMemory result fault }
     ensures safe { IfOk result (λ accepted. AllRestSafe rest.now.ending.file accepted.patterns) }
     ensures own { IfOk result (λ accepted. (file : FileValue) → EndingsOf file rest.now.ending.file rest.now.added → AllRestSafe file accepted.patterns) }
 {
-    judge_whole(Checker::resting(alloc, rest), text)
+    judge_whole(Checker::resting(alloc, rest, line_bytes), text)
 }
 
 /// The same where these places are silent: no run comes to quiet rest where the last event of a
@@ -56,15 +67,19 @@ pub fn rest_check_silently(
     rest: &RestFile,
     silent: &[u32],
     text: &[u8],
+    line_bytes: usize,
 ) -> Result<Accepted, CertFault>
-    ensures accepted { IfOk result (λ accepted. QuietRestCertificate rest.now.ending.file silent.now text.now accepted.patterns) }
-    ensures refused { IfErr result (λ fault. fault ≢ Memory → (numbers : List ℕ) → ¬ QuietRestCertificate rest.now.ending.file silent.now text.now numbers) }
-    ensures fault { IfErr result (λ fault. fault ≢ Memory → IsFirstFaultFor (claiming_with RestSafe rest.now.ending.file silent.now) text.now fault) }
-    ensures exact { (fault : AnyFault) → IsFirstFaultFor (claiming_with RestSafe rest.now.ending.file silent.now) text.now fault → IsErrOrMemory result fault }
+    ensures accepted { IfOk result (λ accepted. QuietRestCertificate rest.now.ending.file silent.now line_bytes text.now accepted.patterns) }
+    ensures refused { IfErr result (λ fault. fault ≢ Memory → (numbers : List ℕ) → ¬ QuietRestCertificate rest.now.ending.file silent.now line_bytes text.now numbers) }
+    ensures fault { IfErr result (λ fault. fault ≢ Memory → IsFirstFaultFor (claiming_with RestSafe rest.now.ending.file silent.now line_bytes) text.now fault) }
+    ensures exact { (fault : AnyFault) → IsFirstFaultFor (claiming_with RestSafe rest.now.ending.file silent.now line_bytes) text.now fault → IsErrOrMemory result fault }
     ensures safe { IfOk result (λ accepted. AllQuietRestSafe rest.now.ending.file silent.now accepted.patterns) }
     ensures own { IfOk result (λ accepted. (file : FileValue) → EndingsOf file rest.now.ending.file rest.now.added → AllQuietRestSafe file silent.now accepted.patterns) }
 {
-    judge_whole(Checker::resting_silently(alloc, rest, silent), text)
+    judge_whole(
+        Checker::resting_silently(alloc, rest, silent, line_bytes),
+        text,
+    )
 }
 
 /// Judges a whole certificate.

@@ -6,6 +6,7 @@
 #![tactic(auto)]
 
 ghost use Rattle.std.specs.Prelude.{ℕ, ◌≡◌, ◌↔◌, IsTrue, None, Some, reverse, ◌≢◌, IfErr};
+ghost use Rattle.ta_automaton.specs.Narrow.{IsNarrow};
 ghost use Rattle.ta_base.specs.Masks.{In};
 ghost use Rattle.ta_cert.specs.Lines.{ArePairs, IsLine, IsNode};
 ghost use Rattle.ta_cert.specs.declared.line.Line.TheVariants.{End, Header, Tree};
@@ -17,7 +18,7 @@ ghost use Rattle.ta_check.specs.Positions.{IsPositionAt, IsSomewhere, LineAnswer
 use crate::leaf::fault_in;
 use crate::position::Position;
 use std::alloc::Global;
-use ta_automaton::File;
+use ta_automaton::{Automaton, File};
 use ta_cert::{CertFault, Line, Node};
 use ta_implied::OrderFault;
 use ta_rest::Claim;
@@ -35,7 +36,7 @@ impl<'a> Position<'a> {
     ) -> Result<(), CertFault>
         requires somewhere { IsSomewhere (claiming_with claim file.now silent.now) self.old }
         requires form { IsLine line.now }
-        ensures { (at : Standing) → IsPositionAt (claiming_with claim file.now silent.now) self.old at → LineAnswers (claiming_with claim file.now silent.now) at number line.now self.new result }
+        ensures { (limit : ℕ) (at : Standing) → IsPositionAt (claiming_with claim file.now silent.now limit) self.old at → LineAnswers (claiming_with claim file.now silent.now limit) at number line.now self.new result }
     {
         match line {
             Line::Header(version) => self.take_header(claim, file, silent, number, *version),
@@ -54,11 +55,10 @@ impl<'a> Position<'a> {
         number: u64,
         version: u8,
     ) -> Result<(), CertFault>
-        ensures taken { (at : Standing) → IsPositionAt (claiming_with claim file.now silent.now) self.old at → LineAnswers (claiming_with claim file.now silent.now) at number (Header version) self.new result }
+        ensures taken { (limit : ℕ) (at : Standing) → IsPositionAt (claiming_with claim file.now silent.now limit) self.old at → LineAnswers (claiming_with claim file.now silent.now limit) at number (Header version) self.new result }
         ensures no_memory { IfErr result (λ fault. fault ≢ CertFault.Memory) }
     {
-        let _file = file;
-        if !has_version(claim, silent, version) {
+        if !may_open(claim, &file.automaton, silent, version) {
             return Err(CertFault::Line(number));
         }
         self.version = version;
@@ -96,7 +96,7 @@ impl<'a> Position<'a> {
     ) -> Result<(), CertFault>
         requires none { self.old.waiting ≡ None }
         requires nowhere { self.old.current ≡ None }
-        ensures taken { (at : Standing) → IsPositionAt (claiming_with claim file.now silent.now) self.old at → LineAnswers (claiming_with claim file.now silent.now) at number (Tree (Order before after)) self.new result }
+        ensures taken { (limit : ℕ) (at : Standing) → IsPositionAt (claiming_with claim file.now silent.now limit) self.old at → LineAnswers (claiming_with claim file.now silent.now limit) at number (Tree (Order before after)) self.new result }
         ensures no_memory { IfErr result (λ fault. fault ≢ CertFault.Memory) }
     {
         let _silent = silent;
@@ -123,7 +123,7 @@ impl<'a> Position<'a> {
     ) -> Result<(), CertFault>
         requires somewhere { IsSomewhere (claiming_with claim file.now silent.now) self.old }
         requires form { IsNode node.now }
-        ensures { (at : Standing) → IsPositionAt (claiming_with claim file.now silent.now) self.old at → LineAnswers (claiming_with claim file.now silent.now) at number (Tree node.now) self.new result }
+        ensures { (limit : ℕ) (at : Standing) → IsPositionAt (claiming_with claim file.now silent.now limit) self.old at → LineAnswers (claiming_with claim file.now silent.now limit) at number (Tree node.now) self.new result }
     {
         let Some(pair) = self.waiting else {
             return match self.current {
@@ -162,7 +162,7 @@ impl<'a> Position<'a> {
     ) -> Result<(), CertFault>
         requires none { self.old.waiting ≡ None }
         requires nowhere { self.old.current ≡ None }
-        ensures { (at : Standing) → IsPositionAt (claiming_with claim file.now silent.now) self.old at → LineAnswers (claiming_with claim file.now silent.now) at number (Tree node.now) self.new result }
+        ensures { (limit : ℕ) (at : Standing) → IsPositionAt (claiming_with claim file.now silent.now limit) self.old at → LineAnswers (claiming_with claim file.now silent.now limit) at number (Tree node.now) self.new result }
     {
         match node {
             Node::Order { before, after } => self.take_order(
@@ -187,8 +187,8 @@ impl<'a> Position<'a> {
         requires somewhere { IsSomewhere (claiming_with claim file.now silent.now) self.old }
         requires waits { self.old.waiting ≡ Some pair }
         requires form { ArePairs 0 multipliers.now }
-        ensures { (at : Standing) → IsPositionAt (claiming_with claim file.now silent.now) self.old at
-            → LineAnswers (claiming_with claim file.now silent.now) at number (Tree (Leaf multipliers.now)) self.new result }
+        ensures { (limit : ℕ) (at : Standing) → IsPositionAt (claiming_with claim file.now silent.now limit) self.old at
+            → LineAnswers (claiming_with claim file.now silent.now limit) at number (Tree (Leaf multipliers.now)) self.new result }
     {
         let _silent = silent;
         let (before, after) = pair;
@@ -225,6 +225,16 @@ impl<'a> Position<'a> {
             Err(CertFault::Line(number))
         }
     }
+}
+
+/// Whether a certificate of a claim on an automaton may have a version.
+fn may_open(claim: Claim, automaton: &Automaton, silent: &[u32], version: u8) -> bool
+    ensures { IsTrue result ↔ (version_for claim silent.now version × (version ≢ 3 → IsNarrow automaton.now)) }
+{
+    if version != 3 && !automaton.is_narrow() {
+        return false;
+    }
+    has_version(claim, silent, version)
 }
 
 /// Whether a certificate of a claim may have a version.

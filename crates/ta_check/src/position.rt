@@ -20,7 +20,7 @@ use ta_words::Element;
 /// Where a certificate is being read.
 #[derive(Drop)]
 pub(crate) struct Position<'a> {
-    /// The version in the first line, or 0 before it.
+    /// The version in the first line, or 3 before it.
     pub version: u8,
     /// The pairs of rise guards that were shown.
     pub orders: Orders,
@@ -47,7 +47,7 @@ impl<'a> Position<'a> {
         ensures { (subject : Subject) → IsPositionAt subject result first_standing }
     {
         Position {
-            version: 0,
+            version: 3,
             orders: Orders::new(),
             waiting: None,
             proved: Vec::new(alloc),

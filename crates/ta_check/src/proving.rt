@@ -9,6 +9,7 @@ ghost use Rattle.std.specs.Prelude.{ℕ, ◌≡◌, ◌<◌, ◌↔◌, IsTrue, 
 ghost use Rattle.ta_base.specs.Masks.{In};
 ghost use Rattle.ta_cert.specs.Lines.{IsNode};
 ghost use Rattle.ta_cert.specs.declared.line.Line.TheVariants.{Pattern, Tree};
+ghost use Rattle.ta_automaton.specs.Narrow.{IsNarrow};
 ghost use Rattle.ta_automaton.specs.Numbered.{OfPattern};
 ghost use Rattle.ta_moment_tree.specs.Kept.{IsKept};
 ghost use Rattle.ta_moment_tree.specs.Trees.{IsKeptFor, search_of_moments};
@@ -39,7 +40,7 @@ impl<'a> Position<'a> {
         pattern: u32,
     ) -> Result<(), CertFault>
         requires { IsSomewhere (claiming_with claim file.now silent.now) self.old }
-        ensures { (at : Standing) → IsPositionAt (claiming_with claim file.now silent.now) self.old at → LineAnswers (claiming_with claim file.now silent.now) at number (Pattern pattern) self.new result }
+        ensures { (limit : ℕ) (at : Standing) → IsPositionAt (claiming_with claim file.now silent.now limit) self.old at → LineAnswers (claiming_with claim file.now silent.now limit) at number (Pattern pattern) self.new result }
     {
         if !self.is_free() {
             return Err(CertFault::Line(number));
@@ -68,9 +69,10 @@ impl<'a> Position<'a> {
         pattern: u32,
     ) -> Result<(), CertFault>
         requires exists { pattern < length file.now.patterns }
+        requires narrow { IsNarrow file.now.automaton }
         requires kind { kind_of self.old.version ≡ Words }
         requires fresh { In pattern (reverse self.old.proved.items) → ⊥ }
-        ensures { (at : Standing) → IsPositionAt (claiming_with claim file.now silent.now) self.old at → NothingIsLeft at → LineAnswers (claiming_with claim file.now silent.now) at number (Pattern pattern) self.new result }
+        ensures { (limit : ℕ) (at : Standing) → IsPositionAt (claiming_with claim file.now silent.now limit) self.old at → NothingIsLeft at → LineAnswers (claiming_with claim file.now silent.now limit) at number (Pattern pattern) self.new result }
     {
         let _silent = silent;
         let _number = number;
@@ -100,7 +102,7 @@ impl<'a> Position<'a> {
         requires exists { pattern < length file.now.patterns }
         requires kind { kind_of self.old.version ≡ Moments }
         requires fresh { In pattern (reverse self.old.proved.items) → ⊥ }
-        ensures { (at : Standing) → IsPositionAt (claiming_with claim file.now silent.now) self.old at → NothingIsLeft at → LineAnswers (claiming_with claim file.now silent.now) at number (Pattern pattern) self.new result }
+        ensures { (limit : ℕ) (at : Standing) → IsPositionAt (claiming_with claim file.now silent.now limit) self.old at → NothingIsLeft at → LineAnswers (claiming_with claim file.now silent.now limit) at number (Pattern pattern) self.new result }
     {
         let _number = number;
         self.proved.push(pattern)?;
@@ -131,7 +133,7 @@ impl<'a> Position<'a> {
         requires none { self.old.waiting ≡ None }
         requires current { self.old.current ≡ Some pattern }
         requires form { IsNode node.now }
-        ensures { (at : Standing) → IsPositionAt (claiming_with claim file.now silent.now) self.old at → LineAnswers (claiming_with claim file.now silent.now) at number (Tree node.now) self.new result }
+        ensures { (limit : ℕ) (at : Standing) → IsPositionAt (claiming_with claim file.now silent.now limit) self.old at → LineAnswers (claiming_with claim file.now silent.now limit) at number (Tree node.now) self.new result }
     {
         if !has_form(self.version, claim, node) {
             return Err(CertFault::Line(number));
@@ -160,7 +162,7 @@ impl<'a> Position<'a> {
         requires form { IsNode node.now }
         requires kind { kind_of self.old.version ≡ Words }
         requires has { HasForm Words claim node.now }
-        ensures { (at : Standing) → IsPositionAt (claiming_with claim file.now silent.now) self.old at → LineAnswers (claiming_with claim file.now silent.now) at number (Tree node.now) self.new result }
+        ensures { (limit : ℕ) (at : Standing) → IsPositionAt (claiming_with claim file.now silent.now limit) self.old at → LineAnswers (claiming_with claim file.now silent.now limit) at number (Tree node.now) self.new result }
     {
         let _silent = silent;
         let tree = ClaimTree::new(claim, file, pattern, &self.orders);
@@ -194,7 +196,7 @@ impl<'a> Position<'a> {
         requires form { IsNode node.now }
         requires kind { kind_of self.old.version ≡ Moments }
         requires has { HasForm Moments claim node.now }
-        ensures { (at : Standing) → IsPositionAt (claiming_with claim file.now silent.now) self.old at → LineAnswers (claiming_with claim file.now silent.now) at number (Tree node.now) self.new result }
+        ensures { (limit : ℕ) (at : Standing) → IsPositionAt (claiming_with claim file.now silent.now limit) self.old at → LineAnswers (claiming_with claim file.now silent.now limit) at number (Tree node.now) self.new result }
     {
         let moments = moment_tree(claim, file, silent, pattern);
         if !read_node(

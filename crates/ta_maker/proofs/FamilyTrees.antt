@@ -7,6 +7,7 @@ use Rattle.ta_maker.proofs.Naming.{name_A, name_B, name_family, name_g, name_los
 use Rattle.ta_maker.specs.Family.{family}
 use Rattle.ta_syntax.specs.Grammar.{IsRule, IsTree}
 use Rattle.ta_syntax.specs.Kinds.{IsNameText}
+use Rattle.ta_base.specs.LimitRows.{narrow}
 use Rattle.ta_syntax.specs.Limits.{IsRuleWithin, IsTreeWithin}
 
 digits_one : IsDigits (codes "1")
@@ -79,7 +80,7 @@ few_shared k small = let e = length-map (range_with_len 1 k) (numbered (codes "x
 few_lines : (k : ℕ) → k ≤ 7 → length (rules_of (range_with_len 1 k)) ≤ 128
 few_lines k small = let e = twice (range_with_len 1 k) in let f = length-range_with_len 1 k in omega (arith, e, f, small)
 
-pub family_within : (k : ℕ) → IsFamilyNumber k → IsTreeWithin (family k)
+pub family_within : (k : ℕ) → IsFamilyNumber k → IsTreeWithin narrow (family k)
 family_within k is = record {
   parameters = omega arith;
   shared = few_shared k is.high;

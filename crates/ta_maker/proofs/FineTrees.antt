@@ -2,6 +2,7 @@
 use Rattle.ta_maker.proofs.Common.{◌≡◌, ◌∙◌, ℕ, Bool, true, false, ◌&&◌, ◌||◌, if◌then◌else◌, List, [], ◌∷◌, ◌++◌, length, map, refl, sym, ap, subst}
 use Rattle.ta_maker.proofs.Common.{Option, Some, None, ltb, not, Term, Terms}
 use Rattle.std.proofs.lemmas.Bool.{and_parts}
+use Rattle.ta_base.specs.LimitRows.{narrow}
 use Rattle.ta_base.specs.declared.limits.TheConstants.{LARGEST_NUMBER}
 use Rattle.ta_meaning.specs.Faults.{Scope, WithFaults, any_initial, comparison_faults, condition_faults, counted, declarations_faults}
 use Rattle.ta_meaning.specs.Faults.{declared_faults, digits_faults, else_, event_faults, events_faults, factor_judged, guard_faults, guards_faults}
@@ -73,7 +74,8 @@ fine_condition s [] = true
 fine_condition s (c ∷ cs) = fine_comparison s c && fine_condition s cs
 
 abbrev fine_guard : ℕ → Scope → Guards → PlainComparison → Bool
-fine_guard p s g c = fine_comparison s c && (not (is_no_threshold p (comparison_rows s.allowed c)) && not (is_one_more p g (comparison_rows s.allowed c)))
+fine_guard p s g c = fine_comparison s c && (not (is_no_threshold p (comparison_rows s.allowed c)) && not (is_one_more narrow p g
+    (comparison_rows s.allowed c)))
 
 abbrev fine_guards : ℕ → Scope → Guards → List PlainComparison → Bool
 fine_guards p s g [] = true
@@ -266,33 +268,35 @@ condition_none s (c ∷ cs) fine =
     let two = and_parts (fine_comparison s (plain_comparison c)) (fine_condition s (map plain_comparison cs)) fine in
     λ i. comparison_none s c two.0 i ++ condition_none s cs two.1 i
 
-guard_none : (p : ℕ) (s : Scope) (g : Guards) (c : TreeComparison) → fine_guard p s g (plain_comparison c) ≡ true → guard_faults p s g c ≡ []
+guard_none : (p : ℕ) (s : Scope) (g : Guards) (c : TreeComparison) → fine_guard p s g (plain_comparison c) ≡ true → guard_faults narrow p s g c ≡ []
 guard_none p s g c fine =
     let rows = comparison_rows s.allowed (plain_comparison c) in
-    let two = and_parts (fine_comparison s (plain_comparison c)) (not (is_no_threshold p rows) && not (is_one_more p g rows)) fine in
-    λ i. else_ (comparison_none s c two.0 i) (two_none (is_no_threshold p rows) (is_one_more p g rows) (fault.NotThreshold c.at) (fault.TooMany c.at) two.1 i)
+    let two = and_parts (fine_comparison s (plain_comparison c)) (not (is_no_threshold p rows) && not (is_one_more narrow p g rows)) fine in
+    λ i. else_ (comparison_none s c two.0 i) (two_none (is_no_threshold p rows) (is_one_more narrow p g rows) (fault.NotThreshold c.at)
+    (fault.TooMany c.at) two.1 i)
 
 then_fine : (p : ℕ) (s : Scope) (g : Guards) (c : TreeComparison) → fine_guard p s g (plain_comparison c) ≡ true
-    → guards_then p s g c ≡ with_guards p g (comparison_rows s.allowed (plain_comparison c))
+    → guards_then narrow p s g c ≡ with_guards p g (comparison_rows s.allowed (plain_comparison c))
 then_fine p s g c fine = ap (λ (faults : List FileFault). counted faults g (with_guards p g (comparison_rows s.allowed (plain_comparison c))))
     (guard_none p s g c fine)
 
-guards_none : (p : ℕ) (s : Scope) (g : Guards) (cs : List TreeComparison) → fine_guards p s g (map plain_comparison cs) ≡ true → guards_faults p s g cs ≡ []
+guards_none : (p : ℕ) (s : Scope) (g : Guards) (cs : List TreeComparison) → fine_guards p s g (map plain_comparison cs) ≡ true
+    → guards_faults narrow p s g cs ≡ []
 guards_none p s g [] fine = refl
 guards_none p s g (c ∷ cs) fine =
     let next = with_guards p g (comparison_rows s.allowed (plain_comparison c)) in
     let two = and_parts (fine_guard p s g (plain_comparison c)) (fine_guards p s next (map plain_comparison cs)) fine in
-    let later : guards_faults p s (guards_then p s g c) cs ≡ [] = ap (λ (h : Guards). guards_faults p s h cs) (then_fine p s g c two.0)
+    let later : guards_faults narrow p s (guards_then narrow p s g c) cs ≡ [] = ap (λ (h : Guards). guards_faults narrow p s h cs) (then_fine p s g c two.0)
     ∙ guards_none p s next cs two.1 in
     λ i. guard_none p s g c two.0 i ++ later i
 
 with_fine : (p : ℕ) (s : Scope) (g : Guards) (cs : List TreeComparison) → fine_guards p s g (map plain_comparison cs) ≡ true
-    → guards_with p s g cs ≡ guards_past p s g (map plain_comparison cs)
+    → guards_with narrow p s g cs ≡ guards_past p s g (map plain_comparison cs)
 with_fine p s g [] fine = refl
 with_fine p s g (c ∷ cs) fine =
     let next = with_guards p g (comparison_rows s.allowed (plain_comparison c)) in
     let two = and_parts (fine_guard p s g (plain_comparison c)) (fine_guards p s next (map plain_comparison cs)) fine in
-    ap (λ (h : Guards). guards_with p s h cs) (then_fine p s g c two.0) ∙ with_fine p s next cs two.1
+    ap (λ (h : Guards). guards_with narrow p s h cs) (then_fine p s g c two.0) ∙ with_fine p s next cs two.1
 
 -- ---- rules
 updates_none : (ns : Names) (before : List (List ℕ)) (us : List TreeUpdate) → fine_updates ns before (map plain_update us) ≡ true
@@ -312,8 +316,9 @@ guards_fine ns g r = fine_guards (length ns.parameters) (in_guards ns) g (map pl
 
 -- the errors of a rule, and the guards past it
 record FineRule (ns : Names) (before : List (List ℕ)) (g : Guards) (r : TreeRule) : Type 0 where
-  none : rule_faults ns before g r ≡ []
-  past : guards_with (length ns.parameters) (in_guards ns) g r.guards ≡ guards_past (length ns.parameters) (in_guards ns) g (map plain_comparison r.guards)
+  none : rule_faults narrow ns before g r ≡ []
+  past : guards_with narrow (length ns.parameters) (in_guards ns) g r.guards ≡ guards_past (length ns.parameters) (in_guards ns) g
+      (map plain_comparison r.guards)
 
 rule_none : (ns : Names) (before : List (List ℕ)) (g : Guards) (r : TreeRule) → fine_rule ns before g (plain_rule r) ≡ true → FineRule ns before g r
 rule_none ns before g r fine =
@@ -333,14 +338,14 @@ rule_none ns before g r fine =
     }
 
 rules_none : (ns : Names) (before : List (List ℕ)) (g : Guards) (rs : List TreeRule) → fine_rules ns before g (map plain_rule rs) ≡ true
-    → rules_faults ns before g rs ≡ []
+    → rules_faults narrow ns before g rs ≡ []
 rules_none ns before g [] fine = refl
 rules_none ns before g (r ∷ rs) fine =
     let past = guards_past (length ns.parameters) (in_guards ns) g (map plain_comparison r.guards) in
     let two = and_parts (fine_rule ns before g (plain_rule r)) (fine_rules ns (before ++ r.name.name ∷ []) past (map plain_rule rs)) fine in
     let h = rule_none ns before g r two.0 in
-    let later : rules_faults ns (before ++ r.name.name ∷ []) (guards_with (length ns.parameters) (in_guards ns) g r.guards) rs ≡ []
-    = ap (λ (gs : Guards). rules_faults ns (before ++ r.name.name ∷ []) gs rs) h.past ∙ rules_none ns (before ++ r.name.name ∷ []) past rs two.1 in
+    let later : rules_faults narrow ns (before ++ r.name.name ∷ []) (guards_with narrow (length ns.parameters) (in_guards ns) g r.guards) rs ≡ []
+    = ap (λ (gs : Guards). rules_faults narrow ns (before ++ r.name.name ∷ []) gs rs) h.past ∙ rules_none ns (before ++ r.name.name ∷ []) past rs two.1 in
     λ i. h.none i ++ later i
 
 -- ---- patterns
@@ -424,7 +429,7 @@ processes_none t fine =
     λ i. else_ (sum_none (in_parameters ns) t.processes two.0 i) (one_none large (fault.TooLarge t.processes_at) two.1 i)
 
 -- a tree that passes the test has no error of meaning
-pub no_faults : (t : Tree) → fine_tree (plain_tree t) ≡ true → meaning_faults t ≡ []
+pub no_faults : (t : Tree) → fine_tree (plain_tree t) ≡ true → meaning_faults narrow t ≡ []
 no_faults t fine =
     let ns = names_of t in
     let resilience = fine_condition (in_parameters ns) (map plain_comparison t.resilience) in

@@ -4,7 +4,7 @@ use Rattle.ta_maker.proofs.Common.{IsFamilyNumber}
 use Rattle.std.specs.Fmt.{digits}
 use Rattle.std.proofs.Common.{leb, leb-true}
 use Rattle.ta_automaton.specs.declared.file.File.{File}
-use Rattle.ta_base.specs.declared.limits.TheConstants.{FILE_BYTES}
+use Rattle.ta_base.specs.LimitRows.{narrow}
 use Rattle.ta_maker.proofs.FamilySafe.{family_safe, no_cycle, one_pattern}
 use Rattle.ta_maker.proofs.FamilyTrees.{family_legal, family_within}
 use Rattle.ta_maker.proofs.FineTrees.{fine_tree, no_faults}
@@ -43,7 +43,7 @@ text_of tokens trees k is =
     let p = tokens (file_kinds (family k)) (trees (family k) legal) in
     record { tokens = p.0; are = p.1; spelled = p.2; legal = legal }
 
-none_of_text : (bytes : List ℕ) (e : FileFault) → (syntax.FirstGrammarFault bytes e → e ≡ fault.Memory) → OfText bytes e → ⊥
+none_of_text : (bytes : List ℕ) (e : FileFault) → (syntax.FirstGrammarFault narrow bytes e → e ≡ fault.Memory) → OfText narrow bytes e → ⊥
 none_of_text bytes fault.Memory only h = h
 none_of_text bytes (fault.Byte at) only h = let e = only h in absurd (cc)
 none_of_text bytes (fault.Syntax at) only h = let e = only h in absurd (cc)
@@ -52,28 +52,30 @@ none_of_text bytes (fault.TooMany at) only h = let e = only h in absurd (cc)
 none_of_text bytes _ only h = h
 
 none_of_meaning : (k : ℕ) → IsFamilyNumber k → IsTextOf (printed (file_kinds (family k))) (family k) → (e : FileFault)
-    → OfMeaning (printed (file_kinds (family k))) e → ⊥
+    → OfMeaning narrow (printed (file_kinds (family k))) e → ⊥
 none_of_meaning k is text e h =
-    let same = tree_alone (printed (file_kinds (family k))) h.tree (family k) h.is_tree text in
+    let same = tree_alone narrow (printed (file_kinds (family k))) h.tree (family k) h.is_tree text in
     let none = no_faults h.tree (subst (λ (t : PlainTree). fine_tree t ≡ true) same (family_fine k is)) in
     let first = h.first in
     absurd (cc)
 
-meant : (k : ℕ) → IsTextOf (printed (file_kinds (family k))) (family k) → (tree : Tree) → IsTreeOf (printed (file_kinds (family k))) tree → (file : File)
+meant : (k : ℕ) → IsTextOf (printed (file_kinds (family k))) (family k) → (tree : Tree) → IsTreeOf narrow (printed (file_kinds (family k))) tree → (file : File)
     → MeansTree (plain_tree tree) file → MeansTree (family k) file
-meant k text tree is file means = subst (λ (t : PlainTree). MeansTree t file) (sym (tree_alone (printed (file_kinds (family k))) tree (family k) is text)) means
+meant k text tree is file means = subst (λ (t : PlainTree). MeansTree t file) (sym (tree_alone narrow (printed (file_kinds (family k))) tree
+    (family k) is text)) means
 
 no_scope_fault : (k : ℕ) (file : File) (e : FileFault) → MeansTree (family k) file → ScopeFault file.automaton e → ⊥
 no_scope_fault k file (fault.CycleUpdates r) means h = no_cycle k file.automaton means.automaton r h
 no_scope_fault k file _ means h = h
 
-none_of_scope : (k : ℕ) → IsTextOf (printed (file_kinds (family k))) (family k) → (e : FileFault) → OfScope (printed (file_kinds (family k))) e → ⊥
+none_of_scope : (k : ℕ) → IsTextOf (printed (file_kinds (family k))) (family k) → (e : FileFault) → OfScope narrow (printed (file_kinds (family k))) e → ⊥
 none_of_scope k text e h = no_scope_fault k h.file e (meant k text h.tree h.is_tree h.file h.means) h.fault
 
-no_first : (k : ℕ) → IsFamilyNumber k → IsTextOf (printed (file_kinds (family k))) (family k) → (e : FileFault) → FirstFault (printed (file_kinds (family k))) e
+no_first : (k : ℕ) → IsFamilyNumber k → IsTextOf (printed (file_kinds (family k))) (family k) → (e : FileFault)
+    → FirstFault narrow (printed (file_kinds (family k))) e
     → ⊥
 no_first k is text e (inl h) = none_of_text (printed (file_kinds (family k))) e
-    (no_fault (printed (file_kinds (family k))) (family k) e text (family_within k is)) h
+    (no_fault narrow (printed (file_kinds (family k))) (family k) e text (family_within k is)) h
 no_first k is text e (inr (inl h)) = none_of_meaning k is text e h
 no_first k is text e (inr (inr h)) = none_of_scope k text e h
 
@@ -81,7 +83,7 @@ pub flawless : PrintedHasTokens → TreesAreLegal → FamilyIsFlawless
 flawless tokens trees k is =
     let text = text_of tokens trees k is in
     record {
-      short = leb-true (length (printed (file_kinds (family k)))) FILE_BYTES (family_short k is);
+      short = leb-true (length (printed (file_kinds (family k)))) 1048576 (family_short k is);
       no_fault = no_first k is text;
       one = λ file means. one_pattern k file.patterns (meant k text means.tree means.is_tree file means.means).patterns;
       safe = λ file means. family_safe k is file (meant k text means.tree means.is_tree file means.means);

@@ -1,4 +1,6 @@
--- In an automaton file no comma stands inside parentheses. So no token is both too deep and one too many.
+-- In an automaton file neither commas nor the keywords of lists of locations stand inside parentheses. So no token is both too deep and one
+-- too many.
+use Rattle.ta_meaning.proofs.Common.{Limits}
 use Rattle.ta_meaning.proofs.Common.{◌≡◌, ℕ, suc, ◌-◌, ◌<◌, ◌≤◌, Bool, true, false, List, [], ◌∷◌, ◌++◌, refl, sym, subst, arith, inl, inr, Terms, Term, Factor}
 use Rattle.ta_meaning.proofs.Common.{done, term, number, times, alone, blank, named, nested, sum_kinds, more_kinds, term_kinds, factor_kinds, relation_kind}
 use Rattle.ta_meaning.proofs.Common.{PlainRule, PlainEvent, PlainPattern, PlainTree, listed, further, led, ended, each, name_kinds, initial_kinds}
@@ -17,9 +19,11 @@ deeper n _ = n
 
 abbrev NotInside : ℕ → Kind → Type 0
 NotInside n (kind.Fixed mark.Comma) = n ≡ 0
+NotInside n (kind.Fixed mark.Locations) = n ≡ 0
+NotInside n (kind.Fixed mark.Empty) = n ≡ 0
 NotInside n _ = Unit {0}
 
--- each comma stands where no parenthesis is open, and as many are open at the end as at the start
+-- each comma and each such keyword stands where no parenthesis is open, and as many are open at the end as at the start
 abbrev pub Outside : ℕ → ℕ → List Kind → Type 0
 Outside n end [] = n ≡ end
 Outside n end (k ∷ ks) = NotInside n k × Outside (deeper n k) end ks
@@ -108,6 +112,8 @@ mark-flat : (m : Mark) (ks : List Kind) → IsOrdinary m → Flat 0 ks → Flat 
 mark-flat mark.Open ks o h = absurd o
 mark-flat mark.Close ks o h = absurd o
 mark-flat mark.Comma ks o h = absurd o
+mark-flat mark.Locations ks o h = (refl, h)
+mark-flat mark.Empty ks o h = (refl, h)
 mark-flat m ks o h = (tt, h)
 
 led-flat : {A : Type 0} (m : Mark) (f : A → List Kind) → IsOrdinary m → FlatItem f → (xs : List A) → Flat 0 (led kind.Fixed m f xs)
@@ -179,38 +185,41 @@ file-flat t =
 
 -- ---- so where a list is full no parenthesis is open
 
-after-deeper : (c : Counts) (k : Kind) → (counted_after c k).open_now ≡ deeper c.open_now k
-after-deeper c (kind.Name n) = refl
-after-deeper c (kind.Number n) = refl
-after-deeper c (kind.Fixed mark.Open) = refl
-after-deeper c (kind.Fixed mark.Close) = refl
-after-deeper c (kind.Fixed m) = refl
+after-deeper : (l : Limits) (c : Counts) (k : Kind) → (counted_after l c k).open_now ≡ deeper c.open_now k
+after-deeper l c (kind.Name n) = refl
+after-deeper l c (kind.Number n) = refl
+after-deeper l c (kind.Fixed mark.Open) = refl
+after-deeper l c (kind.Fixed mark.Close) = refl
+after-deeper l c (kind.Fixed m) = refl
 
--- only a comma fills a list
-filled : (c : Counts) (k : Kind) → c.commas < c.limit → (counted_after c k).limit ≤ (counted_after c k).commas → NotInside c.open_now k
-    → (counted_after c k).open_now ≡ 0
-filled c (kind.Name n) room full out = absurd (omega arith)
-filled c (kind.Number n) room full out = absurd (omega arith)
-filled c (kind.Fixed mark.Comma) room full out = out
-filled c (kind.Fixed m) room full out = absurd (omega arith)
+-- only a comma fills a list, or the keyword of a list of locations where there may be none
+filled : (l : Limits) (c : Counts) (k : Kind) → c.commas < c.limit → (counted_after l c k).limit ≤ (counted_after l c k).commas → NotInside c.open_now k
+    → (counted_after l c k).open_now ≡ 0
+filled l c (kind.Name n) room full out = absurd (omega arith)
+filled l c (kind.Number n) room full out = absurd (omega arith)
+filled l c (kind.Fixed mark.Comma) room full out = out
+filled l c (kind.Fixed mark.Locations) room full out = out
+filled l c (kind.Fixed mark.Empty) room full out = out
+filled l c (kind.Fixed m) room full out = absurd (omega arith)
 
-room_from : (c : Counts) (k : Kind) → (IsMany c k → ⊥) → c.commas < c.limit
-room_from c k not = let h : (c.limit ≤ c.commas) → ⊥ = λ h. not (inl h) in omega arith
+room_from : (l : Limits) (c : Counts) (k : Kind) → (IsMany l c k → ⊥) → c.commas < c.limit
+room_from l c k not = let h : (c.limit ≤ c.commas) → ⊥ = λ h. not (inl h) in omega arith
 
-full-closed : (c : Counts) (front : List Kind) (k : Kind) (rest : List Kind) (end : ℕ) → c.commas < c.limit → StaysWithin c front
-    → Outside c.open_now end (front ++ k ∷ rest) → (run c front).limit ≤ (run c front).commas → (run c front).open_now ≡ 0
-full-closed c [] k rest end room within out full = absurd (omega arith)
-full-closed c (x ∷ []) k rest end room within out full = filled c x room full out.0
-full-closed c (x ∷ y ∷ front) k rest end room within out full =
-    full-closed (counted_after c x) (y ∷ front) k rest end (room_from (counted_after c x) y within.2.1) within.2
-    (subst (λ (n : ℕ). Outside n end ((y ∷ front) ++ k ∷ rest)) (sym (after-deeper c x)) out.1) full
+full-closed : (l : Limits) (c : Counts) (front : List Kind) (k : Kind) (rest : List Kind) (end : ℕ) → c.commas < c.limit → StaysWithin l c front
+    → Outside c.open_now end (front ++ k ∷ rest) → (run l c front).limit ≤ (run l c front).commas → (run l c front).open_now ≡ 0
+full-closed l c [] k rest end room within out full = absurd (omega arith)
+full-closed l c (x ∷ []) k rest end room within out full = filled l c x room full out.0
+full-closed l c (x ∷ y ∷ front) k rest end room within out full =
+    full-closed l (counted_after l c x) (y ∷ front) k rest end (room_from l (counted_after l c x) y within.2.1) within.2
+    (subst (λ (n : ℕ). Outside n end ((y ∷ front) ++ k ∷ rest)) (sym (after-deeper l c x)) out.1) full
 
 -- no token of a file is both too deep and one too many
-pub not-both : (front : List Kind) (k : Kind) (rest : List Kind) (t : PlainTree) → file_kinds t ≡ front ++ k ∷ rest → StaysWithin at_start front
-    → IsDeep (run at_start front) k → IsMany (run at_start front) k → ⊥
-not-both front (kind.Fixed mark.Open) rest t e within deep (inl full) =
-    let closed = full-closed at_start front (kind.Fixed mark.Open) rest 0 (omega arith) within (subst (λ (ks : List Kind). Outside 0 0 ks) e (file-flat t)) full
+pub not-both : (l : Limits) (front : List Kind) (k : Kind) (rest : List Kind) (t : PlainTree) → file_kinds t ≡ front ++ k ∷ rest → StaysWithin l at_start front
+    → IsDeep (run l at_start front) k → IsMany l (run l at_start front) k → ⊥
+not-both l front (kind.Fixed mark.Open) rest t e within deep (inl full) =
+    let closed = full-closed l at_start front (kind.Fixed mark.Open) rest 0 (omega arith) within (subst (λ (ks : List Kind). Outside 0 0 ks) e (file-flat t))
+    full
     in
     omega arith
-not-both front (kind.Fixed mark.Open) rest t e within deep (inr many) = many
-not-both front k rest t e within deep many = deep
+not-both l front (kind.Fixed mark.Open) rest t e within deep (inr many) = many
+not-both l front k rest t e within deep many = deep

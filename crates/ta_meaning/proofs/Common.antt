@@ -1,4 +1,5 @@
 -- The names that the proofs of this crate cite, passed on from one place. Declares nothing.
+pub use Rattle.ta_base.specs.declared.limits.Limits.{Limits}
 pub use Rattle.ta_syntax.specs.declared.tree.TreeUpdate.{TreeUpdate}
 pub use Rattle.ta_syntax.specs.declared.tree.TreeRule.{TreeRule}
 pub use Rattle.ta_syntax.specs.declared.tree.TreePattern.{TreePattern}

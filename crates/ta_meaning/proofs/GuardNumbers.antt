@@ -1,4 +1,5 @@
 -- what numbering a comparison's row does to the guards so far
+use Rattle.ta_meaning.proofs.Common.{Limits}
 use Rattle.ta_meaning.proofs.Common.{drop, ◌≡◌, ◌⊎◌, inl, inr, ℕ, ◌+◌, ◌≤◌, List, [], ◌∷◌, ◌++◌, map, length, Bool, true, false, not, ltb, ◌&&◌, slice_get}
 use Rattle.ta_meaning.proofs.Common.{Some, Ok, Err, arith, sym, ap, ◌∙◌, refl, subst, list_any, AllByRecursion, map_push, length-map, cond-true, cond-false}
 use Rattle.ta_meaning.proofs.Common.{false_from_ne_true, true≢false, lt-ltb, le-ltb, and_left, and_right, and_from, not_from_true, not_from_false}
@@ -43,30 +44,32 @@ pub row_placed : (places limit at : ℕ) (rows after : List Row) (row : Row) (n 
     → length rows ≤ limit → Distinct (map (linear_of places) rows) → RowAnswers rows row limit at after (Ok n) → RowPlaced places rows row limit after n
 row_placed places limit at rows after row n normal is few distinct (inl h) =
     let ls = map (linear_of places) rows in
-    let l = linear_of places row in
-    let has : has_row ls l ≡ true = has_linear places rows row (n, h.1) in
+    let linear = linear_of places row in
+    let has : has_row ls linear ≡ true = has_linear places rows row (n, h.1) in
     let same : map (linear_of places) after ≡ ls = ap (map (linear_of places)) h.0 in
     record {
-      linears = same ∙ sym (cond-true (has_row ls l) ls (ls ++ l ∷ []) has);
+      linears = same ∙ sym (cond-true (has_row ls linear) ls (ls ++ linear ∷ []) has);
       named = ap (λ (zs : List Linear). slice_get zs n) same ∙ get_map (linear_of places) rows n h.1.other h.1.named
           ∙ ap Some (same_linear h.1.other row places h.1.same);
       fits = subst (λ (zs : List Row). length zs ≤ limit) (sym h.0) few;
       distinct = subst (λ (zs : List Linear). Distinct zs) (sym same) distinct;
-      no_more = and_left (not (has_row ls l)) (not (ltb (length ls) limit)) (not_from_true (has_row ls l) has);
+      no_more = and_left (not (has_row ls linear)) (not (ltb (length ls) limit)) (not_from_true (has_row ls linear) has);
     }
 row_placed places limit at rows after row n normal is few distinct (inr h) =
     let ls = map (linear_of places) rows in
-    let l = linear_of places row in
-    let none : has_row ls l ≡ false = false_from_ne_true (has_row ls l) (λ t. h.3 (linear_has places rows row normal is t)) in
-    let more : map (linear_of places) after ≡ ls ++ l ∷ [] = ap (map (linear_of places)) h.0 ∙ map_push (linear_of places) rows row in
+    let linear = linear_of places row in
+    let none : has_row ls linear ≡ false = false_from_ne_true (has_row ls linear) (λ t. h.3 (linear_has places rows row normal is t)) in
+    let more : map (linear_of places) after ≡ ls ++ linear ∷ [] = ap (map (linear_of places)) h.0 ∙ map_push (linear_of places) rows row in
     let count : length ls ≡ length rows = length-map rows (linear_of places) in
     let room = h.2 in
     record {
-      linears = more ∙ sym (cond-false (has_row ls l) ls (ls ++ l ∷ []) none);
-      named = ap (λ (zs : List Linear). slice_get zs n) more ∙ ap (slice_get (ls ++ l ∷ [])) (h.1 ∙ sym count) ∙ get_end ls l (length ls) refl;
+      linears = more ∙ sym (cond-false (has_row ls linear) ls (ls ++ linear ∷ []) none);
+      named = ap (λ (zs : List Linear). slice_get zs n) more ∙ ap (slice_get (ls ++ linear ∷ [])) (h.1 ∙ sym count) ∙ get_end ls linear (length ls) refl;
       fits = subst (λ (zs : List Row). length zs ≤ limit) (sym h.0) (let e = length-append rows (row ∷ []) in omega arith);
-      distinct = subst (λ (zs : List Linear). Distinct zs) (sym more) (distinct_push ls l distinct (λ i e. true≢false (sym (has_at ls i l e) ∙ none)));
-      no_more = and_right (not (has_row ls l)) (not (ltb (length ls) limit)) (not_from_true (ltb (length ls) limit) (lt-ltb (length ls) limit (omega arith)));
+      distinct = subst (λ (zs : List Linear). Distinct zs) (sym more)
+          (distinct_push ls linear distinct (λ i e. true≢false (sym (has_at ls i linear e) ∙ none)));
+      no_more = and_right (not (has_row ls linear)) (not (ltb (length ls) limit))
+          (not_from_true (ltb (length ls) limit) (lt-ltb (length ls) limit (omega arith)));
     }
 
 pub each_placed : (P : Row → Type 0) (rows after : List Row) (row : Row) (limit at n : ℕ) → AllByRecursion P rows → P row
@@ -82,13 +85,13 @@ pub row_more : (places limit at : ℕ) (rows after : List Row) (row : Row) (e : 
 row_more places limit at rows after row e normal is (inl m) = inl m
 row_more places limit at rows after row e normal is (inr h) =
     let ls = map (linear_of places) rows in
-    let l = linear_of places row in
+    let linear = linear_of places row in
     let full = h.1 in
     let count : length ls ≡ length rows = length-map rows (linear_of places) in
     inr (
       h.0,
-      and_from (not (has_row ls l)) (not (ltb (length ls) limit))
-          (not_from_false (has_row ls l) (false_from_ne_true (has_row ls l) (λ t. h.2 (linear_has places rows row normal is t))))
+      and_from (not (has_row ls linear)) (not (ltb (length ls) limit))
+          (not_from_false (has_row ls linear) (false_from_ne_true (has_row ls linear) (λ t. h.2 (linear_has places rows row normal is t))))
           (not_from_false (ltb (length ls) limit) (le-ltb (length ls) limit (omega arith))),
     )
 
@@ -126,56 +129,58 @@ over_kinds ns row h = subst (λ n. RowOver n row) (length-append ns.parameters n
 kinds_over : (ns : Names) (row : Row) → RowOver (length ns.parameters + length ns.shared) row → RowOver (size ns) row
 kinds_over ns row h = subst (λ n. RowOver n row) (sym (length-append ns.parameters ns.shared)) h
 
-pub rise_normal : (ns : Names) (guards : GuardList) → GuardsKept ns guards → AllByRecursion (Normal (size ns)) guards.rise.items
-rise_normal ns guards kept = each_weaker (RiseRow (length ns.parameters) (length ns.shared)) (Normal (size ns)) guards.rise.items
+pub rise_normal : (l : Limits) (ns : Names) (guards : GuardList) → GuardsKept l ns guards → AllByRecursion (Normal (size ns)) guards.rise.items
+rise_normal l ns guards kept = each_weaker (RiseRow (length ns.parameters) (length ns.shared)) (Normal (size ns)) guards.rise.items
     (λ r h. (kinds_over ns r h.over).below) kept.rise_rows
 
-pub fall_normal : (ns : Names) (guards : GuardList) → GuardsKept ns guards → AllByRecursion (Normal (size ns)) guards.fall.items
-fall_normal ns guards kept = each_weaker (FallRow (length ns.parameters) (length ns.shared)) (Normal (size ns)) guards.fall.items
+pub fall_normal : (l : Limits) (ns : Names) (guards : GuardList) → GuardsKept l ns guards → AllByRecursion (Normal (size ns)) guards.fall.items
+fall_normal l ns guards kept = each_weaker (FallRow (length ns.parameters) (length ns.shared)) (Normal (size ns)) guards.fall.items
     (λ r h. (kinds_over ns r h.over).below) kept.fall_rows
 
 -- the errors behind those of the comparison, at its only row
-abbrev later_faults : (parameters : ℕ) (g : Guards) (at : ℕ) (rows : List Linear) → List FileFault
-later_faults parameters g at rows =
-    else_ (where_ (is_no_threshold parameters rows) (fault.NotThreshold at)) (where_ (is_one_more parameters g rows) (fault.TooMany at))
+abbrev later_faults : (l : Limits) (parameters : ℕ) (g : Guards) (at : ℕ) (rows : List Linear) → List FileFault
+later_faults l parameters g at rows =
+    else_ (where_ (is_no_threshold parameters rows) (fault.NotThreshold at)) (where_ (is_one_more l parameters g rows) (fault.TooMany at))
 
 -- two rows, or shared variables with coefficients of both signs
-pub not_threshold : (ns : Names) (before : GuardList) (c : TreeComparison) (rows : Comparison) → comparison_faults (in_guards ns) c ≡ []
+pub not_threshold : (l : Limits) (ns : Names) (before : GuardList) (c : TreeComparison) (rows : Comparison) → comparison_faults (in_guards ns) c ≡ []
     → ResolvedComparison (guard_names ns) (plain_comparison c) rows → is_no_guard (length ns.parameters) rows.rows ≡ true
-    → FirstOrMemory (guard_faults (length ns.parameters) (in_guards ns) (guards_so_far ns before) c) (fault.NotThreshold c.at)
-not_threshold ns before c rows none resolved is =
+    → FirstOrMemory (guard_faults l (length ns.parameters) (in_guards ns) (guards_so_far ns before) c) (fault.NotThreshold c.at)
+not_threshold l ns before c rows none resolved is =
     let parameters = length ns.parameters in
     let linears = comparison_rows (guard_names ns) (plain_comparison c) in
     let test : is_no_threshold parameters linears ≡ true =
     ap (is_no_threshold parameters) (comparison_rows_are ns c rows resolved) ∙ sym (no_threshold_same parameters (size ns) rows.rows resolved.over) ∙ is in
-    else-right-first (comparison_faults (in_guards ns) c) (later_faults parameters (guards_so_far ns before) c.at linears) (fault.NotThreshold c.at) none
+    else-right-first (comparison_faults (in_guards ns) c) (later_faults l parameters (guards_so_far ns before) c.at linears) (fault.NotThreshold c.at) none
     (else-left-first (where_ (is_no_threshold parameters linears) (fault.NotThreshold c.at))
-    (where_ (is_one_more parameters (guards_so_far ns before) linears) (fault.TooMany c.at)) (fault.NotThreshold c.at)
+    (where_ (is_one_more l parameters (guards_so_far ns before) linears) (fault.TooMany c.at)) (fault.NotThreshold c.at)
     (where-first (is_no_threshold parameters linears) (fault.NotThreshold c.at) test))
 
 -- a threshold guard is one more where its row is past the limit
-threshold_alone : (parameters : ℕ) (g : Guards) (r : Linear) → is_no_threshold parameters (r ∷ []) ≡ false
-    → is_one_more parameters g (r ∷ []) ≡ is_past_limit parameters g r
-threshold_alone parameters g r threshold = ap (λ (b : Bool). not b && is_past_limit parameters g r) threshold
+threshold_alone : (l : Limits) (parameters : ℕ) (g : Guards) (r : Linear) → is_no_threshold parameters (r ∷ []) ≡ false
+    → is_one_more l parameters g (r ∷ []) ≡ is_past_limit l parameters g r
+threshold_alone l parameters g r threshold = ap (λ (b : Bool). not b && is_past_limit l parameters g r) threshold
 
-pub not_past : (parameters : ℕ) (g : Guards) (r : Linear) → is_no_threshold parameters (r ∷ []) ≡ false → is_one_more parameters g (r ∷ []) ≡ false
-    → is_past_limit parameters g r ≡ false
-not_past parameters g r threshold no_more = sym (threshold_alone parameters g r threshold) ∙ no_more
+pub not_past : (l : Limits) (parameters : ℕ) (g : Guards) (r : Linear) → is_no_threshold parameters (r ∷ []) ≡ false
+    → is_one_more l parameters g (r ∷ []) ≡ false
+    → is_past_limit l parameters g r ≡ false
+not_past l parameters g r threshold no_more = sym (threshold_alone l parameters g r threshold) ∙ no_more
 
 -- the errors of a threshold guard are that it is one more
-one_more_alone : (ns : Names) (before : GuardList) (c : TreeComparison) (row : Row) (more : Bool) → OneRow ns c row
+one_more_alone : (l : Limits) (ns : Names) (before : GuardList) (c : TreeComparison) (row : Row) (more : Bool) → OneRow ns c row
     → is_no_threshold (length ns.parameters) (linear_of (size ns) row ∷ []) ≡ false
-    → is_past_limit (length ns.parameters) (guards_so_far ns before) (linear_of (size ns) row) ≡ more
-    → guard_faults (length ns.parameters) (in_guards ns) (guards_so_far ns before) c ≡ where_ more (fault.TooMany c.at)
-one_more_alone ns before c row more one threshold is =
+    → is_past_limit l (length ns.parameters) (guards_so_far ns before) (linear_of (size ns) row) ≡ more
+    → guard_faults l (length ns.parameters) (in_guards ns) (guards_so_far ns before) c ≡ where_ more (fault.TooMany c.at)
+one_more_alone l ns before c row more one threshold is =
     let parameters = length ns.parameters in
     let g = guards_so_far ns before in
-    let l = linear_of (size ns) row in
-    else-left-none (comparison_faults (in_guards ns) c) (later_faults parameters g c.at (comparison_rows (guard_names ns) (plain_comparison c))) one.none
-    ∙ ap (later_faults parameters g c.at) (one_row_is ns c row one)
-    ∙ else-left-none (where_ (is_no_threshold parameters (l ∷ [])) (fault.NotThreshold c.at)) (where_ (is_one_more parameters g (l ∷ [])) (fault.TooMany c.at))
-    (where-false (is_no_threshold parameters (l ∷ [])) (fault.NotThreshold c.at) threshold)
-    ∙ ap (λ b. where_ b (fault.TooMany c.at)) (threshold_alone parameters g l threshold ∙ is)
+    let linear = linear_of (size ns) row in
+    else-left-none (comparison_faults (in_guards ns) c) (later_faults l parameters g c.at (comparison_rows (guard_names ns) (plain_comparison c))) one.none
+    ∙ ap (later_faults l parameters g c.at) (one_row_is ns c row one)
+    ∙ else-left-none (where_ (is_no_threshold parameters (linear ∷ [])) (fault.NotThreshold c.at))
+    (where_ (is_one_more l parameters g (linear ∷ [])) (fault.TooMany c.at))
+    (where-false (is_no_threshold parameters (linear ∷ [])) (fault.NotThreshold c.at) threshold)
+    ∙ ap (λ b. where_ b (fault.TooMany c.at)) (threshold_alone l parameters g linear threshold ∙ is)
 
 first_along : (faults : List FileFault) (test : Bool) (at : ℕ) (e : FileFault) → faults ≡ where_ test (fault.TooMany at) → (e ≡ fault.Memory)
     ⊎ ((e ≡ fault.TooMany at) × (test ≡ true)) → FirstOrMemory faults e
@@ -189,63 +194,67 @@ rise_falls : (ns : Names) (c : TreeComparison) (row : Row) → OneRow ns c row �
     → falls (length ns.parameters) (linear_of (size ns) row) ≡ false
 rise_falls ns c row one rises = sym (falls_same (length ns.parameters) (size ns) row (one_row_over ns c row one).below) ∙ rises
 
-rise_faults : (ns : Names) (before : GuardList) (c : TreeComparison) (row : Row) → OneRow ns c row
+rise_faults : (l : Limits) (ns : Names) (before : GuardList) (c : TreeComparison) (row : Row) → OneRow ns c row
     → any_shared is_negative (length ns.parameters) row.form.terms ≡ false
-    → guard_faults (length ns.parameters) (in_guards ns) (guards_so_far ns before) c ≡ where_
-    (not (has_row (guards_so_far ns before).rise (linear_of (size ns) row)) && not (ltb (length (guards_so_far ns before).rise) 16)) (fault.TooMany c.at)
-rise_faults ns before c row one rises =
+    → guard_faults l (length ns.parameters) (in_guards ns) (guards_so_far ns before) c ≡ where_
+    (not (has_row (guards_so_far ns before).rise (linear_of (size ns) row)) && not (ltb (length (guards_so_far ns before).rise) l.rises)) (fault.TooMany c.at)
+rise_faults l ns before c row one rises =
     let parameters = length ns.parameters in
     let g = guards_so_far ns before in
-    let l = linear_of (size ns) row in
+    let linear = linear_of (size ns) row in
     let negative = rise_falls ns c row one rises in
-    one_more_alone ns before c row (not (has_row g.rise l) && not (ltb (length g.rise) 16)) one
-    (and_left (falls parameters l) (list_any is_positive (drop parameters l.coefficients)) negative)
-    (cond-false (falls parameters l) (not (has_row g.fall l) && not (ltb (length g.fall) 6)) (not (has_row g.rise l) && not (ltb (length g.rise) 16)) negative)
+    one_more_alone l ns before c row (not (has_row g.rise linear) && not (ltb (length g.rise) l.rises)) one
+    (and_left (falls parameters linear) (list_any is_positive (drop parameters linear.coefficients)) negative)
+    (cond-false (falls parameters linear) (not (has_row g.fall linear) && not (ltb (length g.fall) l.falls))
+    (not (has_row g.rise linear) && not (ltb (length g.rise) l.rises)) negative)
 
-pub rise_refused : (ns : Names) (before : GuardList) (c : TreeComparison) (row : Row) (e : FileFault) → GuardsKept ns before → OneRow ns c row
-    → any_shared is_negative (length ns.parameters) row.form.terms ≡ false → RowAnswers before.rise.items row 16 c.at [] (Err e)
-    → FirstOrMemory (guard_faults (length ns.parameters) (in_guards ns) (guards_so_far ns before) c) e
-rise_refused ns before c row e kept one rises answers =
+pub rise_refused : (l : Limits) (ns : Names) (before : GuardList) (c : TreeComparison) (row : Row) (e : FileFault) → GuardsKept l ns before → OneRow ns c row
+    → any_shared is_negative (length ns.parameters) row.form.terms ≡ false → RowAnswers before.rise.items row l.rises c.at [] (Err e)
+    → FirstOrMemory (guard_faults l (length ns.parameters) (in_guards ns) (guards_so_far ns before) c) e
+rise_refused l ns before c row e kept one rises answers =
     let g = guards_so_far ns before in
-    let l = linear_of (size ns) row in
-    first_along (guard_faults (length ns.parameters) (in_guards ns) g c) (not (has_row g.rise l) && not (ltb (length g.rise) 16)) c.at e
-    (rise_faults ns before c row one rises)
-    (row_more (size ns) 16 c.at before.rise.items [] row e (rise_normal ns before kept) (one_row_over ns c row one).below answers)
+    let linear = linear_of (size ns) row in
+    first_along (guard_faults l (length ns.parameters) (in_guards ns) g c) (not (has_row g.rise linear) && not (ltb (length g.rise) l.rises)) c.at e
+    (rise_faults l ns before c row one rises)
+    (row_more (size ns) l.rises c.at before.rise.items [] row e (rise_normal l ns before kept) (one_row_over ns c row one).below answers)
 
-pub rise_numbered : (ns : Names) (before after : GuardList) (c : TreeComparison) (row : Row) (n : ℕ) → GuardsKept ns before → OneRow ns c row
-    → any_shared is_negative (length ns.parameters) row.form.terms ≡ false → RowAnswers before.rise.items row 16 c.at after.rise.items (Ok n)
+pub rise_numbered : (l : Limits) (ns : Names) (before after : GuardList) (c : TreeComparison) (row : Row) (n : ℕ) → GuardsKept l ns before → OneRow ns c row
+    → any_shared is_negative (length ns.parameters) row.form.terms ≡ false → RowAnswers before.rise.items row l.rises c.at after.rise.items (Ok n)
     → after.fall.items ≡ before.fall.items
-    → (guard_faults (length ns.parameters) (in_guards ns) (guards_so_far ns before) c ≡ []) × GuardNumbered ns before (plain_comparison c) after (number.Rise n)
-rise_numbered ns before after c row n kept one rises answers same =
+    → (guard_faults l (length ns.parameters) (in_guards ns) (guards_so_far ns before) c ≡ [])
+    × GuardNumbered l ns before (plain_comparison c) after (number.Rise n)
+rise_numbered l ns before after c row n kept one rises answers same =
     let parameters = length ns.parameters in
     let shared = length ns.shared in
     let g = guards_so_far ns before in
-    let l = linear_of (size ns) row in
+    let linear = linear_of (size ns) row in
     let over = one_row_over ns c row one in
     let negative = rise_falls ns c row one rises in
-    let placed = row_placed (size ns) 16 c.at before.rise.items after.rise.items row n (rise_normal ns before kept) over.below kept.rise_limit
+    let placed = row_placed (size ns) l.rises c.at before.rise.items after.rise.items row n (rise_normal l ns before kept) over.below kept.rise_limit
     kept.rise_distinct answers in (
-      rise_faults ns before c row one rises ∙ where-false _ (fault.TooMany c.at) placed.no_more,
+      rise_faults l ns before c row one rises ∙ where-false _ (fault.TooMany c.at) placed.no_more,
       record {
-        row = l;
+        row = linear;
         one_row = one_row_is ns c row one;
         known = one.resolved.means.known;
         kept = record {
           rise_limit = placed.fits;
-          fall_limit = subst (λ (zs : List Row). length zs ≤ 6) (sym same) kept.fall_limit;
-          rise_rows = each_placed (RiseRow parameters shared) before.rise.items after.rise.items row 16 c.at n kept.rise_rows
+          fall_limit = subst (λ (zs : List Row). length zs ≤ l.falls) (sym same) kept.fall_limit;
+          rise_rows = each_placed (RiseRow parameters shared) before.rise.items after.rise.items row l.rises c.at n kept.rise_rows
               (record { over = over_kinds ns row over; rises = rises_each parameters row.form.terms rises }) answers;
           fall_rows = subst (λ (zs : List Row). AllByRecursion (FallRow parameters shared) zs) (sym same) kept.fall_rows;
           rise_distinct = placed.distinct;
           fall_distinct = subst (λ (zs : List Row). Distinct (map (linear_of (size ns)) zs)) (sym same) kept.fall_distinct;
           rise_kind = each_map_of (linear_of (size ns)) (λ (r : Linear). falls parameters r ≡ false) after.rise.items
-              (each_placed (λ (r : Row). falls parameters (linear_of (size ns) r) ≡ false) before.rise.items after.rise.items row 16 c.at n
+              (each_placed (λ (r : Row). falls parameters (linear_of (size ns) r) ≡ false) before.rise.items after.rise.items row l.rises c.at n
               (map_each (linear_of (size ns)) (λ (r : Linear). falls parameters r ≡ false) before.rise.items kept.rise_kind) negative answers);
           fall_kind = subst (λ (zs : List Row). AllByRecursion (λ (r : Linear). falls parameters r ≡ true) (map (linear_of (size ns)) zs)) (sym same)
               kept.fall_kind;
         };
-        guards = guards_same (guards_so_far ns after) (record { rise = with_row g.rise l; fall = g.fall }) placed.linears (ap (map (linear_of (size ns))) same)
-            ∙ sym (cond-false (falls parameters l) (record { rise = g.rise; fall = with_row g.fall l }) (record { rise = with_row g.rise l; fall = g.fall })
+        guards = guards_same (guards_so_far ns after) (record { rise = with_row g.rise linear; fall = g.fall }) placed.linears
+            (ap (map (linear_of (size ns))) same)
+            ∙ sym (cond-false (falls parameters linear) (record { rise = g.rise; fall = with_row g.fall linear })
+            (record { rise = with_row g.rise linear; fall = g.fall })
             negative);
         numbered = (negative, placed.named);
       },
@@ -256,55 +265,58 @@ fall_falls : (ns : Names) (c : TreeComparison) (row : Row) → OneRow ns c row �
     → falls (length ns.parameters) (linear_of (size ns) row) ≡ true
 fall_falls ns c row one drops = sym (falls_same (length ns.parameters) (size ns) row (one_row_over ns c row one).below) ∙ drops
 
-fall_faults : (ns : Names) (before : GuardList) (c : TreeComparison) (row : Row) → OneRow ns c row
+fall_faults : (l : Limits) (ns : Names) (before : GuardList) (c : TreeComparison) (row : Row) → OneRow ns c row
     → any_shared is_negative (length ns.parameters) row.form.terms ≡ true → any_shared is_positive (length ns.parameters) row.form.terms ≡ false
-    → guard_faults (length ns.parameters) (in_guards ns) (guards_so_far ns before) c ≡ where_
-    (not (has_row (guards_so_far ns before).fall (linear_of (size ns) row)) && not (ltb (length (guards_so_far ns before).fall) 6)) (fault.TooMany c.at)
-fall_faults ns before c row one drops never =
+    → guard_faults l (length ns.parameters) (in_guards ns) (guards_so_far ns before) c ≡ where_
+    (not (has_row (guards_so_far ns before).fall (linear_of (size ns) row)) && not (ltb (length (guards_so_far ns before).fall) l.falls)) (fault.TooMany c.at)
+fall_faults l ns before c row one drops never =
     let parameters = length ns.parameters in
     let g = guards_so_far ns before in
-    let l = linear_of (size ns) row in
+    let linear = linear_of (size ns) row in
     let negative = fall_falls ns c row one drops in
-    let no_positive : list_any is_positive (drop parameters l.coefficients) ≡ false = sym
+    let no_positive : list_any is_positive (drop parameters linear.coefficients) ≡ false = sym
     (any_same is_positive parameters (size ns) row refl (one_row_over ns c row one).below) ∙ never in
-    one_more_alone ns before c row (not (has_row g.fall l) && not (ltb (length g.fall) 6)) one
-    (and_right (falls parameters l) (list_any is_positive (drop parameters l.coefficients)) no_positive)
-    (cond-true (falls parameters l) (not (has_row g.fall l) && not (ltb (length g.fall) 6)) (not (has_row g.rise l) && not (ltb (length g.rise) 16)) negative)
+    one_more_alone l ns before c row (not (has_row g.fall linear) && not (ltb (length g.fall) l.falls)) one
+    (and_right (falls parameters linear) (list_any is_positive (drop parameters linear.coefficients)) no_positive)
+    (cond-true (falls parameters linear) (not (has_row g.fall linear) && not (ltb (length g.fall) l.falls))
+    (not (has_row g.rise linear) && not (ltb (length g.rise) l.rises)) negative)
 
-pub fall_refused : (ns : Names) (before : GuardList) (c : TreeComparison) (row : Row) (e : FileFault) → GuardsKept ns before → OneRow ns c row
+pub fall_refused : (l : Limits) (ns : Names) (before : GuardList) (c : TreeComparison) (row : Row) (e : FileFault) → GuardsKept l ns before → OneRow ns c row
     → any_shared is_negative (length ns.parameters) row.form.terms ≡ true → any_shared is_positive (length ns.parameters) row.form.terms ≡ false
-    → RowAnswers before.fall.items row 6 c.at [] (Err e)
-    → FirstOrMemory (guard_faults (length ns.parameters) (in_guards ns) (guards_so_far ns before) c) e
-fall_refused ns before c row e kept one drops never answers =
+    → RowAnswers before.fall.items row l.falls c.at [] (Err e)
+    → FirstOrMemory (guard_faults l (length ns.parameters) (in_guards ns) (guards_so_far ns before) c) e
+fall_refused l ns before c row e kept one drops never answers =
     let g = guards_so_far ns before in
-    let l = linear_of (size ns) row in
-    first_along (guard_faults (length ns.parameters) (in_guards ns) g c) (not (has_row g.fall l) && not (ltb (length g.fall) 6)) c.at e
-    (fall_faults ns before c row one drops never)
-    (row_more (size ns) 6 c.at before.fall.items [] row e (fall_normal ns before kept) (one_row_over ns c row one).below answers)
+    let linear = linear_of (size ns) row in
+    first_along (guard_faults l (length ns.parameters) (in_guards ns) g c) (not (has_row g.fall linear) && not (ltb (length g.fall) l.falls)) c.at e
+    (fall_faults l ns before c row one drops never)
+    (row_more (size ns) l.falls c.at before.fall.items [] row e (fall_normal l ns before kept) (one_row_over ns c row one).below answers)
 
-pub fall_numbered : (ns : Names) (before after : GuardList) (c : TreeComparison) (row : Row) (n : ℕ) → GuardsKept ns before → OneRow ns c row
+pub fall_numbered : (l : Limits) (ns : Names) (before after : GuardList) (c : TreeComparison) (row : Row) (n : ℕ) → GuardsKept l ns before → OneRow ns c row
     → any_shared is_negative (length ns.parameters) row.form.terms ≡ true → any_shared is_positive (length ns.parameters) row.form.terms ≡ false
-    → RowAnswers before.fall.items row 6 c.at after.fall.items (Ok n) → after.rise.items ≡ before.rise.items
-    → (guard_faults (length ns.parameters) (in_guards ns) (guards_so_far ns before) c ≡ []) × GuardNumbered ns before (plain_comparison c) after (number.Fall n)
-fall_numbered ns before after c row n kept one drops never answers same =
+    → RowAnswers before.fall.items row l.falls c.at after.fall.items (Ok n) → after.rise.items ≡ before.rise.items
+    → (guard_faults l (length ns.parameters) (in_guards ns) (guards_so_far ns before) c ≡ [])
+    × GuardNumbered l ns before (plain_comparison c) after (number.Fall n)
+fall_numbered l ns before after c row n kept one drops never answers same =
     let parameters = length ns.parameters in
     let shared = length ns.shared in
     let g = guards_so_far ns before in
-    let l = linear_of (size ns) row in
+    let linear = linear_of (size ns) row in
     let over = one_row_over ns c row one in
     let negative = fall_falls ns c row one drops in
-    let placed = row_placed (size ns) 6 c.at before.fall.items after.fall.items row n (fall_normal ns before kept) over.below kept.fall_limit kept.fall_distinct
+    let placed = row_placed (size ns) l.falls c.at before.fall.items after.fall.items row n (fall_normal l ns before kept) over.below kept.fall_limit
+    kept.fall_distinct
     answers in (
-      fall_faults ns before c row one drops never ∙ where-false _ (fault.TooMany c.at) placed.no_more,
+      fall_faults l ns before c row one drops never ∙ where-false _ (fault.TooMany c.at) placed.no_more,
       record {
-        row = l;
+        row = linear;
         one_row = one_row_is ns c row one;
         known = one.resolved.means.known;
         kept = record {
-          rise_limit = subst (λ (zs : List Row). length zs ≤ 16) (sym same) kept.rise_limit;
+          rise_limit = subst (λ (zs : List Row). length zs ≤ l.rises) (sym same) kept.rise_limit;
           fall_limit = placed.fits;
           rise_rows = subst (λ (zs : List Row). AllByRecursion (RiseRow parameters shared) zs) (sym same) kept.rise_rows;
-          fall_rows = each_placed (FallRow parameters shared) before.fall.items after.fall.items row 6 c.at n kept.fall_rows
+          fall_rows = each_placed (FallRow parameters shared) before.fall.items after.fall.items row l.falls c.at n kept.fall_rows
               (record {
                 over = over_kinds ns row over;
                 falls = falls_each parameters row.form.terms never;
@@ -316,11 +328,13 @@ fall_numbered ns before after c row n kept one drops never answers same =
           rise_kind = subst (λ (zs : List Row). AllByRecursion (λ (r : Linear). falls parameters r ≡ false) (map (linear_of (size ns)) zs)) (sym same)
               kept.rise_kind;
           fall_kind = each_map_of (linear_of (size ns)) (λ (r : Linear). falls parameters r ≡ true) after.fall.items
-              (each_placed (λ (r : Row). falls parameters (linear_of (size ns) r) ≡ true) before.fall.items after.fall.items row 6 c.at n
+              (each_placed (λ (r : Row). falls parameters (linear_of (size ns) r) ≡ true) before.fall.items after.fall.items row l.falls c.at n
               (map_each (linear_of (size ns)) (λ (r : Linear). falls parameters r ≡ true) before.fall.items kept.fall_kind) negative answers);
         };
-        guards = guards_same (guards_so_far ns after) (record { rise = g.rise; fall = with_row g.fall l }) (ap (map (linear_of (size ns))) same) placed.linears
-            ∙ sym (cond-true (falls parameters l) (record { rise = g.rise; fall = with_row g.fall l }) (record { rise = with_row g.rise l; fall = g.fall })
+        guards = guards_same (guards_so_far ns after) (record { rise = g.rise; fall = with_row g.fall linear }) (ap (map (linear_of (size ns))) same)
+            placed.linears
+            ∙ sym (cond-true (falls parameters linear) (record { rise = g.rise; fall = with_row g.fall linear })
+            (record { rise = with_row g.rise linear; fall = g.fall })
             negative);
         numbered = (negative, placed.named);
       },

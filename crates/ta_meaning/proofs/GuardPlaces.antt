@@ -1,4 +1,5 @@
 -- what resolving a comparison over the first places says of a guard
+use Rattle.ta_meaning.proofs.Common.{Limits}
 use Rattle.ta_meaning.proofs.Common.{◌≡◌, ℕ, ◌+◌, List, [], ◌∷◌, take, sym, subst, Row, plain_comparison, TreeComparison, FileFault, Comparison, guard_names}
 use Rattle.ta_meaning.proofs.Common.{Guards, Scope, FirstOrMemory, in_guards, comparison_faults, guard_faults, kinds_of, first_places, ResolvedComparison}
 use Rattle.ta_meaning.proofs.Common.{Places}
@@ -15,10 +16,10 @@ pub guard_resolved : (places : Places) (c : TreeComparison) (rows : Comparison)
     → ResolvedComparison (guard_names (kinds_of places)) (plain_comparison c) rows
 guard_resolved places c rows h = subst (λ (ns : List (List ℕ)). ResolvedComparison ns (plain_comparison c) rows) (sym (guard_names_are places)) h
 
-pub guard_first : (places : Places) (parameters : ℕ) (g : Guards) (c : TreeComparison) (e : FileFault)
+pub guard_first : (l : Limits) (places : Places) (parameters : ℕ) (g : Guards) (c : TreeComparison) (e : FileFault)
     → FirstOrMemory (comparison_faults (first_places places.names (places.parameters + places.shared)) c) e
-    → FirstOrMemory (guard_faults parameters (in_guards (kinds_of places)) g c) e
-guard_first places parameters g c e h =
+    → FirstOrMemory (guard_faults l parameters (in_guards (kinds_of places)) g c) e
+guard_first l places parameters g c e h =
     else-left-first (comparison_faults (in_guards (kinds_of places)) c) _ e
     (subst (λ (s : Scope). FirstOrMemory (comparison_faults s c) e) (sym (in_guards_are places)) h)
 

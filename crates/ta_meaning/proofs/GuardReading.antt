@@ -1,4 +1,5 @@
 -- the guards of one rule, numbered one after another
+use Rattle.ta_meaning.proofs.Common.{Limits}
 use Rattle.ta_meaning.proofs.Common.{◌≡◌, ◌⊎◌, inl, inr, ℕ, List, [], ◌∷◌, ◌++◌, map, length, true, false, arith, sym, ap, ◌∙◌, refl, subst, append-nil}
 use Rattle.ta_meaning.proofs.Common.{length-map, slice_get_within, true≢false, AllByRecursion, each_at, each_push, each_weaker, PlainComparison}
 use Rattle.ta_meaning.proofs.Common.{plain_comparison, TreeComparison, FileFault, Names, guard_names, Linear, UsesNames, Guards, falls, with_row, with_guard}
@@ -12,24 +13,27 @@ use Rattle.ta_meaning.proofs.GuardSteps.{among_number, mask_kind, mask_other, no
 use Rattle.ta_base.proofs.Lists.{empty_before}
 
 -- a guard's number fits its mask
-pub number_fits : (ns : Names) (before after : GuardList) (c : PlainComparison) (n : GuardNumber) → GuardNumbered ns before c after n → NumberFits n
-number_fits ns before after c (number.Rise n) h =
+pub number_fits : (l : Limits) (ns : Names) (before after : GuardList) (c : PlainComparison) (n : GuardNumber) → GuardNumbered l ns before c after n
+    → NumberFits n
+number_fits l ns before after c (number.Rise n) h =
     let within = slice_get_within (guards_so_far ns after).rise n h.row h.numbered.1 in
     let count = length-map after.rise.items (linear_of (length (guard_names ns))) in
     let limit = h.kept.rise_limit in
+    let few = l.few_rises in
     omega arith
-number_fits ns before after c (number.Fall n) h =
+number_fits l ns before after c (number.Fall n) h =
     let within = slice_get_within (guards_so_far ns after).fall n h.row h.numbered.1 in
     let count = length-map after.fall.items (linear_of (length (guard_names ns))) in
     let limit = h.kept.fall_limit in
+    let few = l.few_falls in
     omega arith
 
 -- the masks of one more row
-masks_more : (ns : Names) (before after : GuardList) (c : PlainComparison) (rows : List Linear) (masks more : GuardMasks) (n : GuardNumber)
-    (h : GuardNumbered ns before c after n) → WithNumber masks n more
+masks_more : (l : Limits) (ns : Names) (before after : GuardList) (c : PlainComparison) (rows : List Linear) (masks more : GuardMasks) (n : GuardNumber)
+    (h : GuardNumbered l ns before c after n) → WithNumber masks n more
     → NamesGuards (guards_so_far ns before).rise rows masks.rise → NamesGuards (guards_so_far ns before).fall rows masks.fall
     → NamesGuards (guards_so_far ns after).rise (rows ++ h.row ∷ []) more.rise × NamesGuards (guards_so_far ns after).fall (rows ++ h.row ∷ []) more.fall
-masks_more ns before after c rows masks more (number.Rise n) h bits rise fall =
+masks_more l ns before after c rows masks more (number.Rise n) h bits rise fall =
     let parameters = length ns.parameters in
     let g = guards_so_far ns before in
     let k = guards_so_far ns after in
@@ -45,7 +49,7 @@ masks_more ns before after c rows masks more (number.Rise n) h bits rise fall =
           (λ i e. true≢false (sym (each_at (λ (r : Linear). falls parameters r ≡ true) k.fall i h.row h.kept.fall_kind e) ∙ h.numbered.0))
           (subst (λ (zs : List Linear). NamesGuards zs rows masks.fall) (sym fall_same) fall)),
     )
-masks_more ns before after c rows masks more (number.Fall n) h bits rise fall =
+masks_more l ns before after c rows masks more (number.Fall n) h bits rise fall =
     let parameters = length ns.parameters in
     let g = guards_so_far ns before in
     let k = guards_so_far ns after in
@@ -62,8 +66,9 @@ masks_more ns before after c rows masks more (number.Fall n) h bits rise fall =
       mask_kind g.fall k.fall rows h.row masks.fall n more.fall fall_grown h.kept.fall_distinct h.numbered.1 fall bits.1,
     )
 
-pub numbered_none : (ns : Names) (guards : GuardList) → GuardsKept ns guards → GuardsNumbered ns guards [] guards (record { rise = 0; fall = 0 })
-numbered_none ns guards kept = record {
+pub numbered_none : (l : Limits) (ns : Names) (guards : GuardList) → GuardsKept l ns guards
+    → GuardsNumbered l ns guards [] guards (record { rise = 0; fall = 0 })
+numbered_none l ns guards kept = record {
   kept = kept;
   guards = refl;
   known = tt;
@@ -72,16 +77,18 @@ numbered_none ns guards kept = record {
   among = tt;
 }
 
-numbered_more : (ns : Names) (first before after : GuardList) (cs : List PlainComparison) (c : PlainComparison) (masks more : GuardMasks) (n : GuardNumber)
-    → GuardsNumbered ns first cs before masks → GuardNumbered ns before c after n → WithNumber masks n more → GuardsNumbered ns first (cs ++ c ∷ []) after more
-numbered_more ns first before after cs c masks more n all h bits =
+numbered_more : (l : Limits) (ns : Names) (first before after : GuardList) (cs : List PlainComparison) (c : PlainComparison) (masks more : GuardMasks)
+    (n : GuardNumber)
+    → GuardsNumbered l ns first cs before masks → GuardNumbered l ns before c after n → WithNumber masks n more
+    → GuardsNumbered l ns first (cs ++ c ∷ []) after more
+numbered_more l ns first before after cs c masks more n all h bits =
     let parameters = length ns.parameters in
     let names = guard_names ns in
     let rows : rows_of names (cs ++ c ∷ []) ≡ rows_of names cs ++ h.row ∷ [] =
     rows_append names cs (c ∷ []) ∙ ap (λ (zs : List Linear). rows_of names cs ++ zs) (rows_one names c ∙ h.one_row) in
     let g = guards_so_far ns before in
     let k = guards_so_far ns after in
-    let masks_now = masks_more ns before after c (rows_of names cs) masks more n h bits all.rise all.fall in
+    let masks_now = masks_more l ns before after c (rows_of names cs) masks more n h bits all.rise all.fall in
     let old = each_weaker (AmongGuards parameters g) (AmongGuards parameters k) (rows_of names cs)
     (λ r a. among_extends parameters g k r (subst (λ (z : Guards). Extends g z) (sym h.guards) (extends_guard parameters g h.row)) a) all.among in
     record {
@@ -96,49 +103,51 @@ numbered_more ns first before after cs c masks more n all h bits =
     }
 
 -- the comparisons so far are numbered, and the errors of all are those of the comparisons left
-pub record GuardsReading (ns : Names) (first now : GuardList) (all left : List TreeComparison) (masks : GuardMasks) : Type 0 where
+pub record GuardsReading (l : Limits) (ns : Names) (first now : GuardList) (all left : List TreeComparison) (masks : GuardMasks) : Type 0 where
   pub done : List PlainComparison
   pub split : map plain_comparison all ≡ done ++ map plain_comparison left
-  pub numbered : GuardsNumbered ns first done now masks
-  pub faults : guards_faults (length ns.parameters) (in_guards ns) (guards_so_far ns first) all ≡ guards_faults (length ns.parameters) (in_guards ns)
+  pub numbered : GuardsNumbered l ns first done now masks
+  pub faults : guards_faults l (length ns.parameters) (in_guards ns) (guards_so_far ns first) all ≡ guards_faults l (length ns.parameters) (in_guards ns)
       (guards_so_far ns now) left
 
-pub reading_begins : (ns : Names) (guards : GuardList) (all : List TreeComparison) → GuardsKept ns guards
-    → GuardsReading ns guards guards all all (record { rise = 0; fall = 0 })
-reading_begins ns guards all kept = record { done = []; split = refl; numbered = numbered_none ns guards kept; faults = refl }
+pub reading_begins : (l : Limits) (ns : Names) (guards : GuardList) (all : List TreeComparison) → GuardsKept l ns guards
+    → GuardsReading l ns guards guards all all (record { rise = 0; fall = 0 })
+reading_begins l ns guards all kept = record { done = []; split = refl; numbered = numbered_none l ns guards kept; faults = refl }
 
-pub reading_more : (ns : Names) (first before after : GuardList) (all left : List TreeComparison) (c : TreeComparison) (masks more : GuardMasks)
-    (n : GuardNumber) → GuardsReading ns first before all (c ∷ left) masks
-    → guard_faults (length ns.parameters) (in_guards ns) (guards_so_far ns before) c ≡ [] → GuardNumbered ns before (plain_comparison c) after n
-    → WithNumber masks n more → GuardsReading ns first after all left more
-reading_more ns first before after all left c masks more n reading none h bits =
+pub reading_more : (l : Limits) (ns : Names) (first before after : GuardList) (all left : List TreeComparison) (c : TreeComparison) (masks more : GuardMasks)
+    (n : GuardNumber) → GuardsReading l ns first before all (c ∷ left) masks
+    → guard_faults l (length ns.parameters) (in_guards ns) (guards_so_far ns before) c ≡ [] → GuardNumbered l ns before (plain_comparison c) after n
+    → WithNumber masks n more → GuardsReading l ns first after all left more
+reading_more l ns first before after all left c masks more n reading none h bits =
     let parameters = length ns.parameters in
     let g = guards_so_far ns before in
     record {
       done = reading.done ++ plain_comparison c ∷ [];
       split = reading.split ∙ sym (append_assoc reading.done (plain_comparison c ∷ []) (map plain_comparison left));
-      numbered = numbered_more ns first before after reading.done (plain_comparison c) masks more n reading.numbered h bits;
+      numbered = numbered_more l ns first before after reading.done (plain_comparison c) masks more n reading.numbered h bits;
       faults = reading.faults
-          ∙ empty_before (guard_faults parameters (in_guards ns) g c) (guards_faults parameters (in_guards ns) (guards_then parameters (in_guards ns) g c) left)
+          ∙ empty_before (guard_faults l parameters (in_guards ns) g c)
+          (guards_faults l parameters (in_guards ns) (guards_then l parameters (in_guards ns) g c) left)
           none
-          ∙ ap (λ (z : Guards). guards_faults parameters (in_guards ns) z left) (guards_counted parameters (in_guards ns) g c none)
-          ∙ ap (λ (rows : List Linear). guards_faults parameters (in_guards ns) (with_guards parameters g rows) left) h.one_row
-          ∙ ap (λ (z : Guards). guards_faults parameters (in_guards ns) z left) (sym h.guards);
+          ∙ ap (λ (z : Guards). guards_faults l parameters (in_guards ns) z left) (guards_counted l parameters (in_guards ns) g c none)
+          ∙ ap (λ (rows : List Linear). guards_faults l parameters (in_guards ns) (with_guards parameters g rows) left) h.one_row
+          ∙ ap (λ (z : Guards). guards_faults l parameters (in_guards ns) z left) (sym h.guards);
     }
 
-pub reading_stops : (ns : Names) (first before : GuardList) (all left : List TreeComparison) (c : TreeComparison) (masks : GuardMasks) (e : FileFault)
-    → GuardsReading ns first before all (c ∷ left) masks
-    → FirstOrMemory (guard_faults (length ns.parameters) (in_guards ns) (guards_so_far ns before) c) e
-    → FirstOrMemory (guards_faults (length ns.parameters) (in_guards ns) (guards_so_far ns first) all) e
-reading_stops ns first before all left c masks e reading h =
+pub reading_stops : (l : Limits) (ns : Names) (first before : GuardList) (all left : List TreeComparison) (c : TreeComparison) (masks : GuardMasks)
+    (e : FileFault)
+    → GuardsReading l ns first before all (c ∷ left) masks
+    → FirstOrMemory (guard_faults l (length ns.parameters) (in_guards ns) (guards_so_far ns before) c) e
+    → FirstOrMemory (guards_faults l (length ns.parameters) (in_guards ns) (guards_so_far ns first) all) e
+reading_stops l ns first before all left c masks e reading h =
     subst (λ (fs : List FileFault). FirstOrMemory fs e) (sym reading.faults)
-    (append-left-first (guard_faults (length ns.parameters) (in_guards ns) (guards_so_far ns before) c) _ e h)
+    (append-left-first (guard_faults l (length ns.parameters) (in_guards ns) (guards_so_far ns before) c) _ e h)
 
-pub reading_ends : (ns : Names) (first now : GuardList) (all left : List TreeComparison) (masks : GuardMasks) → left ≡ []
-    → GuardsReading ns first now all left masks
-    → (guards_faults (length ns.parameters) (in_guards ns) (guards_so_far ns first) all ≡ []) × GuardsNumbered ns first (map plain_comparison all) now masks
-reading_ends ns first now all left masks none reading =
-    let r = subst (λ (cs : List TreeComparison). GuardsReading ns first now all cs masks) none reading in (
+pub reading_ends : (l : Limits) (ns : Names) (first now : GuardList) (all left : List TreeComparison) (masks : GuardMasks) → left ≡ []
+    → GuardsReading l ns first now all left masks
+    → (guards_faults l (length ns.parameters) (in_guards ns) (guards_so_far ns first) all ≡ []) × GuardsNumbered l ns first (map plain_comparison all) now masks
+reading_ends l ns first now all left masks none reading =
+    let r = subst (λ (cs : List TreeComparison). GuardsReading l ns first now all cs masks) none reading in (
       r.faults,
-      subst (λ (cs : List PlainComparison). GuardsNumbered ns first cs now masks) (sym (r.split ∙ append-nil r.done)) r.numbered,
+      subst (λ (cs : List PlainComparison). GuardsNumbered l ns first cs now masks) (sym (r.split ∙ append-nil r.done)) r.numbered,
     )

@@ -1,4 +1,5 @@
 -- guards one after another: what stays true of masks and of rows among the guards
+use Rattle.ta_meaning.proofs.Common.{Limits}
 use Rattle.ta_meaning.proofs.Common.{◌≡◌, ◌⊎◌, inl, inr, ℕ, ◌<◌, ◌^◌, List, [], ◌∷◌, ◌++◌, map, length, true, false, slice_get, Some, sym, ap, ◌∙◌, refl, subst}
 use Rattle.ta_meaning.proofs.Common.{append-nil, slice_get_within, false≢true, cond-true, cond-false, cases_Bool, mask_below, no_bit, distinct_at, get_push}
 use Rattle.ta_meaning.proofs.Common.{slice_get_left, PlainComparison, plain_comparison, TreeComparison, Distinct, Linear, comparison_rows, Guards, falls}
@@ -96,20 +97,20 @@ counted-fine [] before after e = refl
 counted-fine (f ∷ fs) before after e = cc
 
 -- a guard without an error counts
-pub guards_counted : (parameters : ℕ) (s : Scope) (g : Guards) (c : TreeComparison) → guard_faults parameters s g c ≡ []
-    → guards_then parameters s g c ≡ with_guards parameters g (comparison_rows s.allowed (plain_comparison c))
-guards_counted parameters s g c none = counted-fine (guard_faults parameters s g c) g
+pub guards_counted : (l : Limits) (parameters : ℕ) (s : Scope) (g : Guards) (c : TreeComparison) → guard_faults l parameters s g c ≡ []
+    → guards_then l parameters s g c ≡ with_guards parameters g (comparison_rows s.allowed (plain_comparison c))
+guards_counted l parameters s g c none = counted-fine (guard_faults l parameters s g c) g
     (with_guards parameters g (comparison_rows s.allowed (plain_comparison c))) none
 
 -- the guards of comparisons without errors are those of their rows
-pub guards_with_rows : (parameters : ℕ) (s : Scope) (g : Guards) (cs : List TreeComparison) → guards_faults parameters s g cs ≡ []
-    → guards_with parameters s g cs ≡ with_guards parameters g (rows_of s.allowed (map plain_comparison cs))
-guards_with_rows parameters s g [] none = refl
-guards_with_rows parameters s g (c ∷ cs) none =
-    let here = empty_left (guard_faults parameters s g c) (guards_faults parameters s (guards_then parameters s g c) cs) none in
-    let later = empty_right (guard_faults parameters s g c) (guards_faults parameters s (guards_then parameters s g c) cs) none in
-    guards_with_rows parameters s (guards_then parameters s g c) cs later
-    ∙ ap (λ (z : Guards). with_guards parameters z (rows_of s.allowed (map plain_comparison cs))) (guards_counted parameters s g c here)
+pub guards_with_rows : (l : Limits) (parameters : ℕ) (s : Scope) (g : Guards) (cs : List TreeComparison) → guards_faults l parameters s g cs ≡ []
+    → guards_with l parameters s g cs ≡ with_guards parameters g (rows_of s.allowed (map plain_comparison cs))
+guards_with_rows l parameters s g [] none = refl
+guards_with_rows l parameters s g (c ∷ cs) none =
+    let here = empty_left (guard_faults l parameters s g c) (guards_faults l parameters s (guards_then l parameters s g c) cs) none in
+    let later = empty_right (guard_faults l parameters s g c) (guards_faults l parameters s (guards_then l parameters s g c) cs) none in
+    guards_with_rows l parameters s (guards_then l parameters s g c) cs later
+    ∙ ap (λ (z : Guards). with_guards parameters z (rows_of s.allowed (map plain_comparison cs))) (guards_counted l parameters s g c here)
     ∙ sym (guards_append parameters g (comparison_rows s.allowed (plain_comparison c)) (rows_of s.allowed (map plain_comparison cs)))
 
 -- ---- rows among the guards

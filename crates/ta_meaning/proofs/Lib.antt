@@ -52,3 +52,4 @@ mod MadeRules
 mod MadeFiles
 mod TextAnswers
 mod Common
+pub mod FileLimits

@@ -73,7 +73,7 @@ terms_are high k (negsuc n ∷ zs) (suc i) x small fits e =
     coefficient-other (k, negsuc n) (terms_from (k + 1) zs) x (λ q. absurd (omega arith)) ∙ terms_are high (k + 1) zs i x s.1 (omega arith) (omega arith)
 
 -- ---- forms and rows
-pub form_exists : (l : Linear) → is_large_linear l ≡ false → length l.coefficients ≤ 64 → (form : Form) × FormOf l form
+pub form_exists : (l : Linear) → is_large_linear l ≡ false → length l.coefficients ≤ 224 → (form : Form) × FormOf l form
 form_exists l small few =
     let s = or_parts (is_large l.constant) (list_any is_large l.coefficients) small in
     let constant : unsigned_abs l.constant ≤ 1000000000 = small_tells l.constant s.0 in (
@@ -86,7 +86,7 @@ form_exists l small few =
       record { constant = refl; coefficients = λ i. terms_are (2 ^ 32) 0 l.coefficients i i s.1 (omega arith) (omega arith) },
     )
 
-pub rows_exist : (ls : List Linear) → any_large ls ≡ false → AllByRecursion (λ l. length l.coefficients ≤ 64) ls → (rows : List Row) × Pairwise RowOf ls rows
+pub rows_exist : (ls : List Linear) → any_large ls ≡ false → AllByRecursion (λ l. length l.coefficients ≤ 224) ls → (rows : List Row) × Pairwise RowOf ls rows
 rows_exist [] small few = ([], tt)
 rows_exist (l ∷ ls) small few =
     let s = or_parts (is_large_linear l) (any_large ls) small in
@@ -125,12 +125,12 @@ sum_known s t none =
     (terms_known s (seen_sum t) (sym (ap (λ (j : WithFaults Terms). j.faults) (seen.judged s)) ∙ none))
 
 -- ---- sums, comparisons and conditions
-pub sum_exists : (s : Scope) (t : TreeSum) → length s.allowed ≤ 64 → sum_faults s t ≡ [] → is_large_linear (linear_sum s.allowed (plain_sum t)) ≡ false
+pub sum_exists : (s : Scope) (t : TreeSum) → length s.allowed ≤ 224 → sum_faults s t ≡ [] → is_large_linear (linear_sum s.allowed (plain_sum t)) ≡ false
     → (form : Form) × ResolvedForm s.allowed (plain_sum t) form
 sum_exists s t few none small =
     let l = linear_sum s.allowed (plain_sum t) in
     let count : length l.coefficients ≡ length s.allowed = length-map s.allowed _ in
-    let f = form_exists l small (subst (λ n. n ≤ 64) (sym count) few) in (
+    let f = form_exists l small (subst (λ n. n ≤ 224) (sym count) few) in (
       f.0,
       record {
         means = record { known = sum_known s t none; numbers = f.1 };
@@ -143,11 +143,11 @@ one_or_two : (rel : Relation) (l r : Terms) → (1 ≤ length (differences_by re
 one_or_two relation.Less l r = (omega arith, omega arith)
 one_or_two _ l r = (omega arith, omega arith)
 
-all_few : (n : ℕ) (ls : List Linear) → n ≤ 64 → AllByRecursion (λ l. length l.coefficients ≡ n) ls → AllByRecursion (λ l. length l.coefficients ≤ 64) ls
+all_few : (n : ℕ) (ls : List Linear) → n ≤ 224 → AllByRecursion (λ l. length l.coefficients ≡ n) ls → AllByRecursion (λ l. length l.coefficients ≤ 224) ls
 all_few n [] few h = tt
-all_few n (l ∷ ls) few h = (subst (λ m. m ≤ 64) (sym h.0) few, all_few n ls few h.1)
+all_few n (l ∷ ls) few h = (subst (λ m. m ≤ 224) (sym h.0) few, all_few n ls few h.1)
 
-pub comparison_exists : (s : Scope) (c : TreeComparison) → length s.allowed ≤ 64 → comparison_faults s c ≡ [] → (k : Comparison)
+pub comparison_exists : (s : Scope) (c : TreeComparison) → length s.allowed ≤ 224 → comparison_faults s c ≡ [] → (k : Comparison)
     × ResolvedComparison s.allowed (plain_comparison c) k
 comparison_exists s c few none =
     let ls = comparison_rows s.allowed (plain_comparison c) in
@@ -178,14 +178,14 @@ record MadeComparisons (s : Scope) (cs : List TreeComparison) : Type 0 where
   means : Pairwise (MeansComparison s.allowed) (map plain_comparison cs) items
   over : AllByRecursion (λ (k : Comparison). AllByRecursion (RowOver (length s.allowed)) k.rows) items
 
-comparisons_exist : (s : Scope) (cs : List TreeComparison) → length s.allowed ≤ 64 → condition_faults s cs ≡ [] → MadeComparisons s cs
+comparisons_exist : (s : Scope) (cs : List TreeComparison) → length s.allowed ≤ 224 → condition_faults s cs ≡ [] → MadeComparisons s cs
 comparisons_exist s [] few none = record { items = []; count = refl; means = tt; over = tt }
 comparisons_exist s (c ∷ cs) few none =
     let k = comparison_exists s c few (empty_left (comparison_faults s c) (condition_faults s cs) none) in
     let more = comparisons_exist s cs few (empty_right (comparison_faults s c) (condition_faults s cs) none) in
     record { items = k.0 ∷ more.items; count = ap suc more.count; means = (k.1.means, more.means); over = (k.1.over, more.over) }
 
-pub condition_exists : (s : Scope) (cs : List TreeComparison) → length s.allowed ≤ 64 → length cs ≤ 16 → condition_faults s cs ≡ [] → (k : Condition)
+pub condition_exists : (s : Scope) (cs : List TreeComparison) → length s.allowed ≤ 224 → length cs ≤ 16 → condition_faults s cs ≡ [] → (k : Condition)
     × ResolvedCondition s.allowed (map plain_comparison cs) k
 condition_exists s cs few short none =
     let m = comparisons_exist s cs few none in

@@ -18,10 +18,10 @@ use Rattle.ta_base.proofs.Lists.{empty_left, empty_right}
 pub record FineNames (ns : Names) : Type 0 where
   pub distinct : Distinct (all_names ns)
   pub locations_distinct : Distinct ns.locations
-  pub parameters : length ns.parameters ≤ 16
-  pub shared : length ns.shared ≤ 16
-  pub locations : length ns.locations ≤ 32
-  pub all : length (all_names ns) ≤ 64
+  pub parameters : length ns.parameters ≤ 32
+  pub shared : length ns.shared ≤ 64
+  pub locations : length ns.locations ≤ 128
+  pub all : length (all_names ns) ≤ 224
 
 -- ---- masks of names
 mask_from : (declared allowed : List (List ℕ)) (all rest : List Spelled) (mask : ℕ) → Distinct allowed → length allowed ≤ 128
@@ -91,7 +91,7 @@ module _ (ns : Names) (fine : FineNames ns) where
         pattern_resolved ns before p (before ++ p.name.name ∷ []) pattern distinct name refl refl start.1 empty.1 events.1,
       )
 
-  patterns_from : (all rest : List TreePattern) (names : List (List ℕ)) (resolved : List Pattern) → length all ≤ 16 → patterns_faults ns [] all ≡ []
+  patterns_from : (all rest : List TreePattern) (names : List (List ℕ)) (resolved : List Pattern) → length all ≤ 64 → patterns_faults ns [] all ≡ []
       → PatternsTo ns all rest names resolved → (patterns : List Pattern) × ResolvedPatterns ns (map plain_pattern all) patterns
   patterns_from all [] names resolved few none to = (resolved, (patterns_end ns all names resolved few to).1)
   patterns_from all (p ∷ rest) names resolved few none to =
@@ -101,6 +101,6 @@ module _ (ns : Names) (fine : FineNames ns) where
       patterns_from all rest (names ++ p.name.name ∷ []) (resolved ++ pattern.0 ∷ []) few none
       (patterns_go_on ns all p rest names resolved to (names ++ p.name.name ∷ []) pattern.0 here pattern.1)
 
-  pub patterns_exist : (patterns : List TreePattern) → length patterns ≤ 16 → patterns_faults ns [] patterns ≡ [] → (resolved : List Pattern)
+  pub patterns_exist : (patterns : List TreePattern) → length patterns ≤ 64 → patterns_faults ns [] patterns ≡ [] → (resolved : List Pattern)
       × ResolvedPatterns ns (map plain_pattern patterns) resolved
   patterns_exist patterns few none = patterns_from patterns patterns [] [] few none (patterns_begin ns patterns [] [] refl refl)

@@ -1,4 +1,5 @@
 -- Rules without an error mean rules and guards.
+use Rattle.ta_meaning.proofs.Common.{Limits}
 use Rattle.ta_base.proofs.Bits.{one_bit_more}
 use Rattle.ta_meaning.proofs.Common.{◌≡◌, ◌⊎◌, inl, inr, ⊎_elim, ℕ, ℤ, pos, ◌*◌, ◌%◌, ◌^◌, ◌<◌, ◌≤◌, Bool, true, false, not, ltb, ◌&&◌, cond, eqb, bit_or, List}
 use Rattle.ta_meaning.proofs.Common.{[], ◌∷◌, ◌++◌, map, length, Ok, Contains, refl, sym, ap, ◌∙◌, arith, w16, w64, cases_Bool, length-map, bit_at_set_same}
@@ -90,10 +91,10 @@ only_row parameters [] h = absurd (let e : true ≡ false = h in cc)
 only_row parameters (r ∷ []) h = (r, refl, h)
 only_row parameters (r ∷ q ∷ rows) h = absurd (let e : true ≡ false = h in cc)
 
-abbrev MadeGuard : Names → GuardList → TreeComparison → Type 0
-MadeGuard ns before c = (after : GuardList) × (n : GuardNumber) × GuardNumbered ns before (plain_comparison c) after n
+abbrev MadeGuard : Limits → Names → GuardList → TreeComparison → Type 0
+MadeGuard l ns before c = (after : GuardList) × (n : GuardNumber) × GuardNumbered l ns before (plain_comparison c) after n
 
-module _ (ns : Names) (before : GuardList) (kept : GuardsKept ns before) (c : TreeComparison) (row : Row) (one : OneRow ns c row) where
+module _ (l : Limits) (ns : Names) (before : GuardList) (kept : GuardsKept l ns before) (c : TreeComparison) (row : Row) (one : OneRow ns c row) where
   abbrev parameters : ℕ
   parameters = length ns.parameters
 
@@ -103,26 +104,26 @@ module _ (ns : Names) (before : GuardList) (kept : GuardsKept ns before) (c : Tr
   abbrev normal : IsNormal 0 (size ns) row.form.terms
   normal = (one_row_over ns c row one).below
 
-  made_rise : any_shared is_negative parameters row.form.terms ≡ false → IsMore 16 (guards_so_far ns before).rise linear ≡ false → MadeGuard ns before c
+  made_rise : any_shared is_negative parameters row.form.terms ≡ false → IsMore l.rises (guards_so_far ns before).rise linear ≡ false → MadeGuard l ns before c
   made_rise rises no_more =
       let rows = before.rise.items in
-      let p = place_row rows row 16 c.at kept.rise_limit
-      (there_or_room (size ns) 16 rows row (linear_has (size ns) rows row (rise_normal ns before kept) normal) no_more) in
-      let after : GuardList = record { rise = vec_of p.after (omega (arith, p.few)); fall = before.fall } in
-      (after, number.Rise p.n, (rise_numbered ns before after c row p.n kept one rises p.answers refl).1)
+      let p = place_row rows row l.rises c.at kept.rise_limit
+      (there_or_room (size ns) l.rises rows row (linear_has (size ns) rows row (rise_normal l ns before kept) normal) no_more) in
+      let after : GuardList = record { rise = vec_of p.after (omega (arith, p.few, l.few_rises)); fall = before.fall } in
+      (after, number.Rise p.n, (rise_numbered l ns before after c row p.n kept one rises p.answers refl).1)
 
   made_fall : any_shared is_negative parameters row.form.terms ≡ true → any_shared is_positive parameters row.form.terms ≡ false
-      → IsMore 6 (guards_so_far ns before).fall linear ≡ false → MadeGuard ns before c
+      → IsMore l.falls (guards_so_far ns before).fall linear ≡ false → MadeGuard l ns before c
   made_fall drops never no_more =
       let rows = before.fall.items in
-      let p = place_row rows row 6 c.at kept.fall_limit
-      (there_or_room (size ns) 6 rows row (linear_has (size ns) rows row (fall_normal ns before kept) normal) no_more) in
-      let after : GuardList = record { rise = before.rise; fall = vec_of p.after (omega (arith, p.few)) } in
-      (after, number.Fall p.n, (fall_numbered ns before after c row p.n kept one drops never p.answers refl).1)
+      let p = place_row rows row l.falls c.at kept.fall_limit
+      (there_or_room (size ns) l.falls rows row (linear_has (size ns) rows row (fall_normal l ns before kept) normal) no_more) in
+      let after : GuardList = record { rise = before.rise; fall = vec_of p.after (omega (arith, p.few, l.few_falls)) } in
+      (after, number.Fall p.n, (fall_numbered l ns before after c row p.n kept one drops never p.answers refl).1)
 
   -- by the sign of a shared variable
   made_guard : (any_shared is_negative parameters row.form.terms && any_shared is_positive parameters row.form.terms) ≡ false
-      → is_past_limit parameters (guards_so_far ns before) linear ≡ false → MadeGuard ns before c
+      → is_past_limit l parameters (guards_so_far ns before) linear ≡ false → MadeGuard l ns before c
   made_guard threshold no_more =
       let same = falls_same parameters (size ns) row normal in
       ⊎_elim
@@ -135,22 +136,22 @@ module _ (ns : Names) (before : GuardList) (kept : GuardsKept ns before) (c : Tr
       made_rise h (rw rising at no_more))
       (cases_Bool (any_shared is_negative parameters row.form.terms))
 
-few_guard_names : (ns : Names) → FineNames ns → length (guard_names ns) ≤ 64
+few_guard_names : (ns : Names) → FineNames ns → length (guard_names ns) ≤ 224
 few_guard_names ns fine = omega (arith, length-append ns.parameters ns.shared, fine.parameters, fine.shared)
 
-module _ (ns : Names) (fine : FineNames ns) where
-  guard_exists : (before : GuardList) (c : TreeComparison) → GuardsKept ns before
-      → guard_faults (length ns.parameters) (in_guards ns) (guards_so_far ns before) c ≡ [] → MadeGuard ns before c
+module _ (l : Limits) (ns : Names) (fine : FineNames ns) where
+  guard_exists : (before : GuardList) (c : TreeComparison) → GuardsKept l ns before
+      → guard_faults l (length ns.parameters) (in_guards ns) (guards_so_far ns before) c ≡ [] → MadeGuard l ns before c
   guard_exists before c kept none =
       let parameters = length ns.parameters in
       let g = guards_so_far ns before in
       let ls = comparison_rows (guard_names ns) (plain_comparison c) in
       let threshold = where_ (is_no_threshold parameters ls) (fault.NotThreshold c.at) in
-      let more = where_ (is_one_more parameters g ls) (fault.TooMany c.at) in
+      let more = where_ (is_one_more l parameters g ls) (fault.TooMany c.at) in
       let later = none-else-right (comparison_faults (in_guards ns) c) (else_ threshold more) none in
       let clean = none-else-left (comparison_faults (in_guards ns) c) (else_ threshold more) none in
       let is_threshold = not-where (is_no_threshold parameters ls) (fault.NotThreshold c.at) (none-else-left threshold more later) in
-      let is_no_more = not-where (is_one_more parameters g ls) (fault.TooMany c.at) (none-else-right threshold more later) in
+      let is_no_more = not-where (is_one_more l parameters g ls) (fault.TooMany c.at) (none-else-right threshold more later) in
       let k = comparison_exists (in_guards ns) c (few_guard_names ns fine) clean in
       let rows_are = comparison_rows_are ns c k.0 k.1 in
       let no_guard : is_no_guard parameters k.0.rows ≡ false = no_threshold_same parameters (size ns) k.0.rows k.1.over
@@ -158,9 +159,9 @@ module _ (ns : Names) (fine : FineNames ns) where
       let r = only_row parameters k.0.rows no_guard in
       let one : OneRow ns c r.0 = record { none = clean; rows = k.0; resolved = k.1; only = r.1 } in
       let linears : ls ≡ linear_of (size ns) r.0 ∷ [] = rows_are ∙ ap (map (linear_of (size ns))) r.1 in
-      made_guard ns before kept c r.0 one r.2
-      (not_past parameters g (linear_of (size ns) r.0) (ap (is_no_threshold parameters) (sym linears) ∙ is_threshold)
-      (ap (is_one_more parameters g) (sym linears) ∙ is_no_more))
+      made_guard l ns before kept c r.0 one r.2
+      (not_past l parameters g (linear_of (size ns) r.0) (ap (is_no_threshold parameters) (sym linears) ∙ is_threshold)
+      (ap (is_one_more l parameters g) (sym linears) ∙ is_no_more))
 
   -- masks with one more guard
   number_exists : (masks : GuardMasks) (n : GuardNumber) → NumberFits n → (more : GuardMasks) × WithNumber masks n more
@@ -182,31 +183,32 @@ module _ (ns : Names) (fine : FineNames ns) where
   )
 
   guards_from : (first now : GuardList) (all left : List TreeComparison) (masks : GuardMasks)
-      → guards_faults (length ns.parameters) (in_guards ns) (guards_so_far ns first) all ≡ [] → GuardsReading ns first now all left masks → (after : GuardList)
-      × (bits : GuardMasks) × GuardsNumbered ns first (map plain_comparison all) after bits
-  guards_from first now all [] masks none r = (now, masks, (reading_ends ns first now all [] masks refl r).1)
+      → guards_faults l (length ns.parameters) (in_guards ns) (guards_so_far ns first) all ≡ [] → GuardsReading l ns first now all left masks
+      → (after : GuardList)
+      × (bits : GuardMasks) × GuardsNumbered l ns first (map plain_comparison all) after bits
+  guards_from first now all [] masks none r = (now, masks, (reading_ends l ns first now all [] masks refl r).1)
   guards_from first now all (c ∷ left) masks none r =
       let parameters = length ns.parameters in
       let g = guards_so_far ns now in
-      let here = empty_left (guard_faults parameters (in_guards ns) g c)
-      (guards_faults parameters (in_guards ns) (guards_then parameters (in_guards ns) g c) left) (sym r.faults ∙ none) in
+      let here = empty_left (guard_faults l parameters (in_guards ns) g c)
+      (guards_faults l parameters (in_guards ns) (guards_then l parameters (in_guards ns) g c) left) (sym r.faults ∙ none) in
       let made = guard_exists now c r.numbered.kept here in
-      let masked = number_exists masks made.1 (number_fits ns now made.0 (plain_comparison c) made.1 made.2) in
-      guards_from first made.0 all left masked.0 none (reading_more ns first now made.0 all left c masks masked.0 made.1 r here made.2 masked.1)
+      let masked = number_exists masks made.1 (number_fits l ns now made.0 (plain_comparison c) made.1 made.2) in
+      guards_from first made.0 all left masked.0 none (reading_more l ns first now made.0 all left c masks masked.0 made.1 r here made.2 masked.1)
 
   -- ---- rules
 
   abbrev MadeRule : List (List ℕ) → GuardList → TreeRule → Type 0
-  MadeRule names before r = (after : GuardList) × (rule : Rule) × RuleRead ns names before r (names ++ r.name.name ∷ []) after rule
+  MadeRule names before r = (after : GuardList) × (rule : Rule) × RuleRead l ns names before r (names ++ r.name.name ∷ []) after rule
 
-  rule_exists : (names : List (List ℕ)) (before : GuardList) (r : TreeRule) → GuardsKept ns before → rule_faults ns names (guards_so_far ns before) r ≡ []
+  rule_exists : (names : List (List ℕ)) (before : GuardList) (r : TreeRule) → GuardsKept l ns before → rule_faults l ns names (guards_so_far ns before) r ≡ []
       → MadeRule names before r
   rule_exists names before r kept none =
       let g = guards_so_far ns before in
       let name = declared_faults names r.name in
       let from = used_faults (all_names ns) ns.locations r.from in
       let to = used_faults (all_names ns) ns.locations r.to in
-      let when = guards_faults (length ns.parameters) (in_guards ns) g r.guards in
+      let when = guards_faults l (length ns.parameters) (in_guards ns) g r.guards in
       let do_ = updates_faults ns [] r.updates in
       let after_name = empty_right name (from ++ (to ++ (when ++ do_))) none in
       let after_from = empty_right from (to ++ (when ++ do_)) after_name in
@@ -215,30 +217,30 @@ module _ (ns : Names) (fine : FineNames ns) where
       (used_is_allowed (all_names ns) ns.locations r.from (empty_left from (to ++ (when ++ do_)) after_name)) in
       let target = has_name-where ns.locations r.to.name (used_is_allowed (all_names ns) ns.locations r.to (empty_left to (when ++ do_) after_from)) in
       let guards = guards_from before before r.guards r.guards (record { rise = 0; fall = 0 }) (empty_left when do_ after_to)
-      (reading_begins ns before r.guards kept) in
+      (reading_begins l ns before r.guards kept) in
       let updates = updates_exist ns r.updates (empty_right when do_ after_to) in
       let rule : Rule = record { name = r.name.name; from = source.0; to = target.0; rise = guards.1.rise; fall = guards.1.fall; updates = updates.0 } in (
         guards.0,
         rule,
-        rule_read ns names (names ++ r.name.name ∷ []) before guards.0 r guards.1 updates.0 rule
+        rule_read l ns names (names ++ r.name.name ∷ []) before guards.0 r guards.1 updates.0 rule
             (empty_left name (from ++ (to ++ (when ++ do_))) none) refl source.1 target.1 guards.2 updates.1 refl refl refl refl,
       )
 
   abbrev MadeRules : List TreeRule → Type 0
-  MadeRules rules = (rise fall : List Row) × (resolved : List Rule) × ResolvedRules ns (map plain_rule rules) rise fall resolved
+  MadeRules rules = (rise fall : List Row) × (resolved : List Rule) × ResolvedRules l ns (map plain_rule rules) rise fall resolved
 
-  rules_from : (all left : List TreeRule) (names : List (List ℕ)) (guards : GuardList) (rules : List Rule) → rules_faults ns [] no_guards all ≡ []
-      → RulesReading ns all left names guards rules → MadeRules all
-  rules_from all [] names guards rules none r = (guards.rise.items, guards.fall.items, rules, (rules_end ns all [] names guards rules refl r).1)
+  rules_from : (all left : List TreeRule) (names : List (List ℕ)) (guards : GuardList) (rules : List Rule) → rules_faults l ns [] no_guards all ≡ []
+      → RulesReading l ns all left names guards rules → MadeRules all
+  rules_from all [] names guards rules none r = (guards.rise.items, guards.fall.items, rules, (rules_end l ns all [] names guards rules refl r).1)
   rules_from all (t ∷ left) names guards rules none r =
       let g = guards_so_far ns guards in
-      let here = empty_left (rule_faults ns names g t)
-      (rules_faults ns (names ++ t.name.name ∷ []) (guards_with (length ns.parameters) (in_guards ns) g t.guards) left) (sym r.faults ∙ none) in
+      let here = empty_left (rule_faults l ns names g t)
+      (rules_faults l ns (names ++ t.name.name ∷ []) (guards_with l (length ns.parameters) (in_guards ns) g t.guards) left) (sym r.faults ∙ none) in
       let made = rule_exists names guards t r.kept here in
       rules_from all left (names ++ t.name.name ∷ []) made.0 (rules ++ made.1 ∷ []) none
-      (rules_more ns all left t names (names ++ t.name.name ∷ []) guards made.0 rules made.1 r here made.2)
+      (rules_more l ns all left t names (names ++ t.name.name ∷ []) guards made.0 rules made.1 r here made.2)
 
-  pub rules_exist : (rules : List TreeRule) → rules_faults ns [] no_guards rules ≡ [] → MadeRules rules
+  pub rules_exist : (rules : List TreeRule) → rules_faults l ns [] no_guards rules ≡ [] → MadeRules rules
   rules_exist rules none =
       let start : GuardList = record { rise = vec_of [] (omega arith); fall = vec_of [] (omega arith) } in
-      rules_from rules rules [] start [] none (rules_begin ns rules rules [] start [] refl refl refl refl refl)
+      rules_from rules rules [] start [] none (rules_begin l ns rules rules [] start [] refl refl refl refl refl)

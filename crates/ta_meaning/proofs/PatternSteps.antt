@@ -173,7 +173,7 @@ module _ (ns : Names) (all : List TreePattern) (p : TreePattern) (rest : List Tr
     count = let count = to.count in omega (arith, length_push resolved pattern);
   }
 
-pub patterns_end : (ns : Names) (all : List TreePattern) (names : List (List ℕ)) (resolved : List Pattern) → length all ≤ 16
+pub patterns_end : (ns : Names) (all : List TreePattern) (names : List (List ℕ)) (resolved : List Pattern) → length all ≤ 64
     → PatternsTo ns all [] names resolved → (patterns_faults ns [] all ≡ []) × ResolvedPatterns ns (map plain_pattern all) resolved
 patterns_end ns all names resolved few to = (
   to.faults,

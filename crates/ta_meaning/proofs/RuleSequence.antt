@@ -1,4 +1,5 @@
 -- rules read one after another, and the guards of all of them
+use Rattle.ta_meaning.proofs.Common.{Limits}
 use Rattle.ta_base.proofs.Pairwise.{pairwise_with, pairwise_push, pairwise_each}
 use Rattle.ta_meaning.proofs.Common.{◌≡◌, ℕ, ◌≤◌, List, [], ◌∷◌, ◌++◌, map, length, Bool, true, false, arith, sym, ap, ◌∙◌, refl, subst, append-nil, map_push}
 use Rattle.ta_meaning.proofs.Common.{true≢false, cond-true, cond-false, AllByRecursion, distinct_push, distinct_unmap, each_at, each_weaker, Row, PlainRule}
@@ -38,9 +39,9 @@ among_row : (parameters : ℕ) (g : Guards) (rows : List Linear) (r : Linear) �
 among_row parameters g rows r among has = let w = at_has rows r has in each_at (AmongGuards parameters g) rows w.0 r among w.1
 
 -- a rule keeps its meaning when guards come after its own
-rule_later : (ns : Names) (before after : GuardList) (r : PlainRule) (rule : Rule) → Extends (guards_so_far ns before) (guards_so_far ns after)
-    → GuardsKept ns after → RuleSoFar ns before r rule → RuleSoFar ns after r rule
-rule_later ns before after r rule x kept h =
+rule_later : (l : Limits) (ns : Names) (before after : GuardList) (r : PlainRule) (rule : Rule) → Extends (guards_so_far ns before) (guards_so_far ns after)
+    → GuardsKept l ns after → RuleSoFar ns before r rule → RuleSoFar ns after r rule
+rule_later l ns before after r rule x kept h =
     let parameters = length ns.parameters in
     let places = length (guard_names ns) in
     let g = guards_so_far ns before in
@@ -81,9 +82,9 @@ guards_after_push parameters names g (q ∷ rules) r = guards_after_push paramet
 -- ---- rules one after another
 
 -- the rules so far are read, and the errors of all are those of the rules left
-pub record RulesReading (ns : Names) (all left : List TreeRule) (names : List (List ℕ)) (guards : GuardList) (rules : List Rule) : Type 0 where
-  pub faults : rules_faults ns [] no_guards all ≡ rules_faults ns names (guards_so_far ns guards) left
-  pub kept : GuardsKept ns guards
+pub record RulesReading (l : Limits) (ns : Names) (all left : List TreeRule) (names : List (List ℕ)) (guards : GuardList) (rules : List Rule) : Type 0 where
+  pub faults : rules_faults l ns [] no_guards all ≡ rules_faults l ns names (guards_so_far ns guards) left
+  pub kept : GuardsKept l ns guards
   pub done : List PlainRule
   pub split : map plain_rule all ≡ done ++ map plain_rule left
   pub guards_are : guards_so_far ns guards ≡ guards_of ns done
@@ -91,14 +92,14 @@ pub record RulesReading (ns : Names) (all left : List TreeRule) (names : List (L
   pub names_are : names ≡ map name_of rules
   pub distinct : Distinct names
 
-pub no_guards_kept : (ns : Names) (guards : GuardList) → guards.rise.items ≡ [] → guards.fall.items ≡ [] → GuardsKept ns guards
-no_guards_kept ns guards r f =
+pub no_guards_kept : (l : Limits) (ns : Names) (guards : GuardList) → guards.rise.items ≡ [] → guards.fall.items ≡ [] → GuardsKept l ns guards
+no_guards_kept l ns guards r f =
     let places = length (guard_names ns) in
     let parameters = length ns.parameters in
     let shared = length ns.shared in
     record {
-      rise_limit = subst (λ (zs : List Row). length zs ≤ 16) (sym r) (omega arith);
-      fall_limit = subst (λ (zs : List Row). length zs ≤ 6) (sym f) (omega arith);
+      rise_limit = subst (λ (zs : List Row). length zs ≤ l.rises) (sym r) (omega arith);
+      fall_limit = subst (λ (zs : List Row). length zs ≤ l.falls) (sym f) (omega arith);
       rise_rows = subst (λ (zs : List Row). AllByRecursion (RiseRow parameters shared) zs) (sym r) tt;
       fall_rows = subst (λ (zs : List Row). AllByRecursion (FallRow parameters shared) zs) (sym f) tt;
       rise_distinct = subst (λ (zs : List Row). Distinct (map (linear_of places) zs)) (sym r) tt;
@@ -107,18 +108,19 @@ no_guards_kept ns guards r f =
       fall_kind = subst (λ (zs : List Row). AllByRecursion (λ (q : Linear). falls parameters q ≡ true) (map (linear_of places) zs)) (sym f) tt;
     }
 
-pub rules_begin : (ns : Names) (all left : List TreeRule) (names : List (List ℕ)) (guards : GuardList) (rules : List Rule) → left ≡ all → names ≡ []
-    → guards.rise.items ≡ [] → guards.fall.items ≡ [] → rules ≡ [] → RulesReading ns all left names guards rules
-rules_begin ns all left names guards rules l n r f e =
+pub rules_begin : (l : Limits) (ns : Names) (all left : List TreeRule) (names : List (List ℕ)) (guards : GuardList) (rules : List Rule) → left ≡ all
+    → names ≡ []
+    → guards.rise.items ≡ [] → guards.fall.items ≡ [] → rules ≡ [] → RulesReading l ns all left names guards rules
+rules_begin l ns all left names guards rules left_is n r f e =
     let places = length (guard_names ns) in
     let none : guards_so_far ns guards ≡ no_guards = guards_same (guards_so_far ns guards) no_guards (ap (map (linear_of places)) r)
     (ap (map (linear_of places)) f) in
     record {
-      faults = ap (λ (ms : List (List ℕ)). rules_faults ns ms no_guards all) (sym n) ∙ ap (λ (g : Guards). rules_faults ns names g all) (sym none)
-          ∙ ap (rules_faults ns names (guards_so_far ns guards)) (sym l);
-      kept = no_guards_kept ns guards r f;
+      faults = ap (λ (ms : List (List ℕ)). rules_faults l ns ms no_guards all) (sym n) ∙ ap (λ (g : Guards). rules_faults l ns names g all) (sym none)
+          ∙ ap (rules_faults l ns names (guards_so_far ns guards)) (sym left_is);
+      kept = no_guards_kept l ns guards r f;
       done = [];
-      split = ap (map plain_rule) (sym l);
+      split = ap (map plain_rule) (sym left_is);
       guards_are = none;
       so_far = subst (λ (zs : List Rule). Pairwise (RuleSoFar ns guards) [] zs) (sym e) tt;
       names_are = n ∙ sym (ap (map name_of) e);
@@ -126,35 +128,38 @@ rules_begin ns all left names guards rules l n r f e =
     }
 
 -- the guards of a rule without errors have none
-guards_fine : (ns : Names) (names : List (List ℕ)) (g : Guards) (r : TreeRule) → rule_faults ns names g r ≡ []
-    → guards_faults (length ns.parameters) (in_guards ns) g r.guards ≡ []
-guards_fine ns names g r none =
+guards_fine : (l : Limits) (ns : Names) (names : List (List ℕ)) (g : Guards) (r : TreeRule) → rule_faults l ns names g r ≡ []
+    → guards_faults l (length ns.parameters) (in_guards ns) g r.guards ≡ []
+guards_fine l ns names g r none =
     let name = declared_faults names r.name in
     let from = used_faults (all_names ns) ns.locations r.from in
     let to = used_faults (all_names ns) ns.locations r.to in
-    let when = guards_faults (length ns.parameters) (in_guards ns) g r.guards in
+    let when = guards_faults l (length ns.parameters) (in_guards ns) g r.guards in
     let do_ = updates_faults ns [] r.updates in
     empty_left when do_ (empty_right to (when ++ do_) (empty_right from (to ++ (when ++ do_)) (empty_right name (from ++ (to ++ (when ++ do_))) none)))
 
-pub rules_more : (ns : Names) (all left : List TreeRule) (r : TreeRule) (names names_after : List (List ℕ)) (before after : GuardList) (rules : List Rule)
-    (rule : Rule) → RulesReading ns all (r ∷ left) names before rules
-    → rule_faults ns names (guards_so_far ns before) r ≡ [] → RuleRead ns names before r names_after after rule
-    → RulesReading ns all left names_after after (rules ++ rule ∷ [])
-rules_more ns all left r names names_after before after rules rule reading none read =
+pub rules_more : (l : Limits) (ns : Names) (all left : List TreeRule) (r : TreeRule) (names names_after : List (List ℕ)) (before after : GuardList)
+    (rules : List Rule)
+    (rule : Rule) → RulesReading l ns all (r ∷ left) names before rules
+    → rule_faults l ns names (guards_so_far ns before) r ≡ [] → RuleRead l ns names before r names_after after rule
+    → RulesReading l ns all left names_after after (rules ++ rule ∷ [])
+rules_more l ns all left r names names_after before after rules rule reading none read =
     let parameters = length ns.parameters in
     let g = guards_so_far ns before in
     let k = guards_so_far ns after in
     let x : Extends g k = subst (λ (z : Guards). Extends g z) (sym read.guards) (extends_guards parameters g (rows_of (guard_names ns) (plain_rule r).guards))
     in
-    let old = pairwise_with (RuleSoFar ns before) (RuleSoFar ns after) reading.done rules (λ q z h. rule_later ns before after q z x read.kept h) reading.so_far
+    let old = pairwise_with (RuleSoFar ns before) (RuleSoFar ns after) reading.done rules (λ q z h. rule_later l ns before after q z x read.kept h)
+    reading.so_far
     in
     let declared = empty_left (declared_faults names r.name) _ none in
     record {
       faults = reading.faults
-          ∙ empty_before (rule_faults ns names g r) (rules_faults ns (names ++ r.name.name ∷ []) (guards_with parameters (in_guards ns) g r.guards) left) none
-          ∙ ap (λ (z : Guards). rules_faults ns (names ++ r.name.name ∷ []) z left)
-          (guards_with_rows parameters (in_guards ns) g r.guards (guards_fine ns names g r none) ∙ sym read.guards)
-          ∙ ap (λ (ms : List (List ℕ)). rules_faults ns ms k left) (sym read.declared);
+          ∙ empty_before (rule_faults l ns names g r) (rules_faults l ns (names ++ r.name.name ∷ []) (guards_with l parameters (in_guards ns) g r.guards) left)
+          none
+          ∙ ap (λ (z : Guards). rules_faults l ns (names ++ r.name.name ∷ []) z left)
+          (guards_with_rows l parameters (in_guards ns) g r.guards (guards_fine l ns names g r none) ∙ sym read.guards)
+          ∙ ap (λ (ms : List (List ℕ)). rules_faults l ns ms k left) (sym read.declared);
       kept = read.kept;
       done = reading.done ++ plain_rule r ∷ [];
       split = reading.split ∙ sym (append_assoc reading.done (plain_rule r ∷ []) (map plain_rule left));
@@ -167,25 +172,26 @@ rules_more ns all left r names names_after before after rules rule reading none 
           (distinct_push names r.name.name reading.distinct (λ i e. true≢false (sym (has_name-at names r.name.name i e) ∙ declared-new names r.name declared)));
     }
 
-pub rules_stop : (ns : Names) (all left : List TreeRule) (r : TreeRule) (names : List (List ℕ)) (guards : GuardList) (rules : List Rule) (e : FileFault)
-    → RulesReading ns all (r ∷ left) names guards rules
-    → FirstOrMemory (rule_faults ns names (guards_so_far ns guards) r) e → FirstOrMemory (rules_faults ns [] no_guards all) e
-rules_stop ns all left r names guards rules e reading h =
-    subst (λ (fs : List FileFault). FirstOrMemory fs e) (sym reading.faults) (append-left-first (rule_faults ns names (guards_so_far ns guards) r) _ e h)
+pub rules_stop : (l : Limits) (ns : Names) (all left : List TreeRule) (r : TreeRule) (names : List (List ℕ)) (guards : GuardList) (rules : List Rule)
+    (e : FileFault)
+    → RulesReading l ns all (r ∷ left) names guards rules
+    → FirstOrMemory (rule_faults l ns names (guards_so_far ns guards) r) e → FirstOrMemory (rules_faults l ns [] no_guards all) e
+rules_stop l ns all left r names guards rules e reading h =
+    subst (λ (fs : List FileFault). FirstOrMemory fs e) (sym reading.faults) (append-left-first (rule_faults l ns names (guards_so_far ns guards) r) _ e h)
 
-pub rules_end : (ns : Names) (all left : List TreeRule) (names : List (List ℕ)) (guards : GuardList) (rules : List Rule) → left ≡ []
-    → RulesReading ns all left names guards rules
-    → (rules_faults ns [] no_guards all ≡ []) × ResolvedRules ns (map plain_rule all) guards.rise.items guards.fall.items rules
-rules_end ns all left names guards rules none reading =
-    let r = subst (λ (rs : List TreeRule). RulesReading ns all rs names guards rules) none reading in
+pub rules_end : (l : Limits) (ns : Names) (all left : List TreeRule) (names : List (List ℕ)) (guards : GuardList) (rules : List Rule) → left ≡ []
+    → RulesReading l ns all left names guards rules
+    → (rules_faults l ns [] no_guards all ≡ []) × ResolvedRules l ns (map plain_rule all) guards.rise.items guards.fall.items rules
+rules_end l ns all left names guards rules none reading =
+    let r = subst (λ (rs : List TreeRule). RulesReading l ns all rs names guards rules) none reading in
     let places = length (guard_names ns) in
     let plain : map plain_rule all ≡ r.done = r.split ∙ append-nil r.done in
     let same : guards_of ns (map plain_rule all) ≡ guards_so_far ns guards = ap (guards_of ns) plain ∙ sym r.guards_are in (
       r.faults,
       record {
-        guards = subst (λ (z : Guards). ResolvedGuards ns z guards.rise.items guards.fall.items) (sym same) (record {
-          rise_of = pairwise_rows places guards.rise.items (rise_normal ns guards r.kept);
-          fall_of = pairwise_rows places guards.fall.items (fall_normal ns guards r.kept);
+        guards = subst (λ (z : Guards). ResolvedGuards l ns z guards.rise.items guards.fall.items) (sym same) (record {
+          rise_of = pairwise_rows places guards.rise.items (rise_normal l ns guards r.kept);
+          fall_of = pairwise_rows places guards.fall.items (fall_normal l ns guards r.kept);
           rise_limit = r.kept.rise_limit;
           fall_limit = r.kept.fall_limit;
           rise_rows = r.kept.rise_rows;

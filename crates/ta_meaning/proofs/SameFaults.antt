@@ -1,4 +1,5 @@
 -- Trees that are the same but for where their sums' lists lie in memory have the same errors.
+use Rattle.ta_meaning.proofs.Common.{Limits}
 use Rattle.ta_meaning.proofs.Common.{◌≡◌, ℕ, List, [], ◌∷◌, ◌++◌, length, map, refl, ap, ◌∙◌, Terms, plain_tree, TreeSum, TreeComparison, TreeRule, TreeEvent}
 use Rattle.ta_meaning.proofs.Common.{TreePattern, Tree, FileFault, Names, guard_names, all_names, names_of, plain_names, Pairwise, comparison_rows, any_large}
 use Rattle.ta_meaning.proofs.Common.{is_large_linear, linear_sum, Guards, no_guards, with_guards, is_no_threshold, is_one_more, Scope, WithFaults, where_}
@@ -27,45 +28,47 @@ condition-faults sc (c ∷ cs) (d ∷ ds) h = λ i. comparison-faults sc c d h.0
 
 -- ---- guards
 
-guard-faults : (p : ℕ) (sc : Scope) (g : Guards) (a b : TreeComparison) → SameComparison a b → guard_faults p sc g a ≡ guard_faults p sc g b
-guard-faults p sc g a b h =
+guard-faults : (l : Limits) (p : ℕ) (sc : Scope) (g : Guards) (a b : TreeComparison) → SameComparison a b → guard_faults l p sc g a ≡ guard_faults l p sc g b
+guard-faults l p sc g a b h =
     λ i. else_ (comparison-faults sc a b h i)
     (else_ (where_ (is_no_threshold p (comparison_rows sc.allowed (same_comparison-plain a b h i))) (fault.NotThreshold (h.at i)))
-    (where_ (is_one_more p g (comparison_rows sc.allowed (same_comparison-plain a b h i))) (fault.TooMany (h.at i))))
+    (where_ (is_one_more l p g (comparison_rows sc.allowed (same_comparison-plain a b h i))) (fault.TooMany (h.at i))))
 
-guards-then : (p : ℕ) (sc : Scope) (g : Guards) (a b : TreeComparison) → SameComparison a b → guards_then p sc g a ≡ guards_then p sc g b
-guards-then p sc g a b h = λ i. counted (guard-faults p sc g a b h i) g (with_guards p g (comparison_rows sc.allowed (same_comparison-plain a b h i)))
+guards-then : (l : Limits) (p : ℕ) (sc : Scope) (g : Guards) (a b : TreeComparison) → SameComparison a b → guards_then l p sc g a ≡ guards_then l p sc g b
+guards-then l p sc g a b h = λ i. counted (guard-faults l p sc g a b h i) g (with_guards p g (comparison_rows sc.allowed (same_comparison-plain a b h i)))
 
-guards-faults : (p : ℕ) (sc : Scope) (g : Guards) (cs ds : List TreeComparison) → Pairwise SameComparison cs ds
-    → guards_faults p sc g cs ≡ guards_faults p sc g ds
-guards-faults p sc g [] [] h = refl
-guards-faults p sc g [] (d ∷ ds) h = absurd h
-guards-faults p sc g (c ∷ cs) [] h = absurd h
-guards-faults p sc g (c ∷ cs) (d ∷ ds) h = λ i. guard-faults p sc g c d h.0 i ++ guards-faults p sc (guards-then p sc g c d h.0 i) cs ds h.1 i
+guards-faults : (l : Limits) (p : ℕ) (sc : Scope) (g : Guards) (cs ds : List TreeComparison) → Pairwise SameComparison cs ds
+    → guards_faults l p sc g cs ≡ guards_faults l p sc g ds
+guards-faults l p sc g [] [] h = refl
+guards-faults l p sc g [] (d ∷ ds) h = absurd h
+guards-faults l p sc g (c ∷ cs) [] h = absurd h
+guards-faults l p sc g (c ∷ cs) (d ∷ ds) h = λ i. guard-faults l p sc g c d h.0 i ++ guards-faults l p sc (guards-then l p sc g c d h.0 i) cs ds h.1 i
 
-guards-with : (p : ℕ) (sc : Scope) (g : Guards) (cs ds : List TreeComparison) → Pairwise SameComparison cs ds → guards_with p sc g cs ≡ guards_with p sc g ds
-guards-with p sc g [] [] h = refl
-guards-with p sc g [] (d ∷ ds) h = absurd h
-guards-with p sc g (c ∷ cs) [] h = absurd h
-guards-with p sc g (c ∷ cs) (d ∷ ds) h = λ i. guards-with p sc (guards-then p sc g c d h.0 i) cs ds h.1 i
+guards-with : (l : Limits) (p : ℕ) (sc : Scope) (g : Guards) (cs ds : List TreeComparison) → Pairwise SameComparison cs ds
+    → guards_with l p sc g cs ≡ guards_with l p sc g ds
+guards-with l p sc g [] [] h = refl
+guards-with l p sc g [] (d ∷ ds) h = absurd h
+guards-with l p sc g (c ∷ cs) [] h = absurd h
+guards-with l p sc g (c ∷ cs) (d ∷ ds) h = λ i. guards-with l p sc (guards-then l p sc g c d h.0 i) cs ds h.1 i
 
 -- ---- rules
 
-rule-faults : (ns : Names) (before : List (List ℕ)) (g : Guards) (a b : TreeRule) → SameRule a b → rule_faults ns before g a ≡ rule_faults ns before g b
-rule-faults ns before g a b h =
+rule-faults : (l : Limits) (ns : Names) (before : List (List ℕ)) (g : Guards) (a b : TreeRule) → SameRule a b
+    → rule_faults l ns before g a ≡ rule_faults l ns before g b
+rule-faults l ns before g a b h =
     λ i. declared_faults before (h.name i)
     ++ (used_faults (all_names ns) ns.locations (h.from i)
     ++ (used_faults (all_names ns) ns.locations (h.to i)
-    ++ (guards-faults (length ns.parameters) (in_guards ns) g a.guards b.guards h.guards i ++ updates_faults ns [] (h.updates i))))
+    ++ (guards-faults l (length ns.parameters) (in_guards ns) g a.guards b.guards h.guards i ++ updates_faults ns [] (h.updates i))))
 
-rules-faults : (ns : Names) (before : List (List ℕ)) (g : Guards) (rs qs : List TreeRule) → Pairwise SameRule rs qs
-    → rules_faults ns before g rs ≡ rules_faults ns before g qs
-rules-faults ns before g [] [] h = refl
-rules-faults ns before g [] (q ∷ qs) h = absurd h
-rules-faults ns before g (r ∷ rs) [] h = absurd h
-rules-faults ns before g (r ∷ rs) (q ∷ qs) h =
-    λ i. rule-faults ns before g r q h.0 i
-    ++ rules-faults ns (before ++ (h.0.name i).name ∷ []) (guards-with (length ns.parameters) (in_guards ns) g r.guards q.guards h.0.guards i) rs qs h.1 i
+rules-faults : (l : Limits) (ns : Names) (before : List (List ℕ)) (g : Guards) (rs qs : List TreeRule) → Pairwise SameRule rs qs
+    → rules_faults l ns before g rs ≡ rules_faults l ns before g qs
+rules-faults l ns before g [] [] h = refl
+rules-faults l ns before g [] (q ∷ qs) h = absurd h
+rules-faults l ns before g (r ∷ rs) [] h = absurd h
+rules-faults l ns before g (r ∷ rs) (q ∷ qs) h =
+    λ i. rule-faults l ns before g r q h.0 i
+    ++ rules-faults l ns (before ++ (h.0.name i).name ∷ []) (guards-with l (length ns.parameters) (in_guards ns) g r.guards q.guards h.0.guards i) rs qs h.1 i
 
 -- ---- patterns
 
@@ -108,16 +111,17 @@ processes-faults ns t u h =
     λ i. else_ (sum-faults (in_parameters ns) t.processes u.processes h.processes i)
     (where_ (is_large_linear (linear_sum ns.parameters (same_sum-plain t.processes u.processes h.processes i))) (fault.TooLarge (h.processes_at i)))
 
-abbrev meaning-by : Names → Tree → List FileFault
-meaning-by ns t = names_faults ns t ++
-    (processes_faults ns t ++ (condition_faults (in_parameters ns) t.resilience ++ (rules_faults ns [] no_guards t.rules ++ patterns_faults ns [] t.patterns)))
+abbrev meaning-by : Limits → Names → Tree → List FileFault
+meaning-by l ns t = names_faults ns t ++
+    (processes_faults ns t ++ (condition_faults (in_parameters ns) t.resilience
+    ++ (rules_faults l ns [] no_guards t.rules ++ patterns_faults ns [] t.patterns)))
 
-meaning-same : (ns : Names) (t u : Tree) → SameParts t u → meaning-by ns t ≡ meaning-by ns u
-meaning-same ns t u h =
+meaning-same : (l : Limits) (ns : Names) (t u : Tree) → SameParts t u → meaning-by l ns t ≡ meaning-by l ns u
+meaning-same l ns t u h =
     λ i. names-faults ns t u h i
     ++ (processes-faults ns t u h i
     ++ (condition-faults (in_parameters ns) t.resilience u.resilience h.resilience i
-    ++ (rules-faults ns [] no_guards t.rules u.rules h.rules i ++ patterns-faults ns [] t.patterns u.patterns h.patterns i)))
+    ++ (rules-faults l ns [] no_guards t.rules u.rules h.rules i ++ patterns-faults ns [] t.patterns u.patterns h.patterns i)))
 
-pub meaning-faults : (t u : Tree) → plain_tree t ≡ plain_tree u → SameParts t u → meaning_faults t ≡ meaning_faults u
-meaning-faults t u e h = meaning-same (names_of t) t u h ∙ ap (λ (ns : Names). meaning-by ns u) (ap plain_names e)
+pub meaning-faults : (l : Limits) (t u : Tree) → plain_tree t ≡ plain_tree u → SameParts t u → meaning_faults l t ≡ meaning_faults l u
+meaning-faults l t u e h = meaning-same l (names_of t) t u h ∙ ap (λ (ns : Names). meaning-by l ns u) (ap plain_names e)

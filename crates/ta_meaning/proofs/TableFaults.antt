@@ -1,4 +1,5 @@
 -- Each error in the list of a tree's errors is an error of the table.
+use Rattle.ta_meaning.proofs.Common.{Limits}
 use Rattle.ta_meaning.proofs.Common.{◌≡◌, inl, inr, ℕ, Bool, true, false, not, ltb, ◌&&◌, List, [], ◌∷◌, ◌++◌, length, map, refl, sym, ap, subst, ◌∙◌}
 use Rattle.ta_meaning.proofs.Common.{append_assoc, flat_map, bytes_eq, false≢true, true≢false, or_cases, not-false, cases_Bool, cond-true, cond-false, not-true}
 use Rattle.ta_meaning.proofs.Common.{Decides-ltb, append-nil, map-append, map_push, bytes_eq-Decides, AllByRecursion, distinct_push_apart, each_append}
@@ -47,15 +48,15 @@ repeats-behind (m ∷ earlier) later n h = elim (or_cases (bytes_eq m.name n.nam
   | inr e ↦ inr (repeats-behind earlier later n e)
 ]
 
-module _ (t : Tree) where
+module _ (l : Limits) (t : Tree) where
   abbrev P : FileFault → Type 0
-  P = IsFaultOf t
+  P = IsFaultOf l t
 
   abbrev AllOf : List FileFault → Type 0
-  AllOf fs = AllByRecursion (IsFaultOf t) fs
+  AllOf fs = AllByRecursion (IsFaultOf l t) fs
 
   together : (a b : List FileFault) → AllOf a → AllOf b → AllOf (a ++ b)
-  together a b ha hb = each_append (IsFaultOf t) a b ha hb
+  together a b ha hb = each_append (IsFaultOf l t) a b ha hb
 
   used-name : (s : Scope) (n : Spelled) → IsUsed t s n → AllOf (used_faults s.places s.allowed n)
   used-name s n h =
@@ -117,7 +118,7 @@ module _ (t : Tree) where
   record PartOf (s : Scope) (names : List Spelled) (numbers : List Digits) (terms : List PlacedTerm) : Type 0 where
     used : (n : Spelled) → In n names → IsUsed t s n
     number : (d : Digits) → In d numbers → IsNumberOf t d
-    large : (x : PlacedTerm) → In x terms → is_large_linear (linear_term s.allowed x.term) ≡ true → IsFaultOf t (fault.TooLarge x.at)
+    large : (x : PlacedTerm) → In x terms → is_large_linear (linear_term s.allowed x.term) ≡ true → IsFaultOf l t (fault.TooLarge x.at)
 
   left-part : (s : Scope) (n m : List Spelled) (d e : List Digits) (x y : List PlacedTerm) → PartOf s (n ++ m) (d ++ e) (x ++ y) → PartOf s n d x
   left-part s n m d e x y h = record {
@@ -134,7 +135,7 @@ module _ (t : Tree) where
   }
 
   whole-term : (s : Scope) (at : ℕ) (x z : Term) (parts : List FileFault) → z ≡ x → AllOf parts
-      → (is_large_linear (linear_term s.allowed x) ≡ true → IsFaultOf t (fault.TooLarge at))
+      → (is_large_linear (linear_term s.allowed x) ≡ true → IsFaultOf l t (fault.TooLarge at))
       → AllOf (else_ parts (where_ (is_large_linear (linear_term s.allowed z)) (fault.TooLarge at)))
   whole-term s at x z parts same h large =
       each-else P parts (where_ (is_large_linear (linear_term s.allowed z)) (fault.TooLarge at)) h
@@ -280,26 +281,27 @@ module _ (t : Tree) where
   counted-either cs (f ∷ fs) before after h k = k
 
   -- what is no error of a guard
-  is-threshold : (g : Guards) (c : TreeComparison) → guard_faults count scope g c ≡ [] → is_no_threshold count (tree_guard_rows t c) ≡ false
+  is-threshold : (g : Guards) (c : TreeComparison) → guard_faults l count scope g c ≡ [] → is_no_threshold count (tree_guard_rows t c) ≡ false
   is-threshold g c none =
       let threshold = where_ (is_no_threshold count (tree_guard_rows t c)) (fault.NotThreshold c.at) in
-      let more = where_ (is_one_more count g (tree_guard_rows t c)) (fault.TooMany c.at) in
+      let more = where_ (is_one_more l count g (tree_guard_rows t c)) (fault.TooMany c.at) in
       not-where (is_no_threshold count (tree_guard_rows t c)) (fault.NotThreshold c.at)
       (none-else-left threshold more (none-else-right (comparison_faults scope c) (else_ threshold more) none))
 
-  counted-then : (cs : List TreeComparison) (g : Guards) (c : TreeComparison) → Counted cs g → Counted (cs ++ c ∷ []) (guards_then count scope g c)
+  counted-then : (cs : List TreeComparison) (g : Guards) (c : TreeComparison) → Counted cs g → Counted (cs ++ c ∷ []) (guards_then l count scope g c)
   counted-then cs g c h =
       let more = counted-more cs (c ∷ []) g h in
-      counted-either (cs ++ c ∷ []) (guard_faults count scope g c) g (with_guards count g (tree_guard_rows t c))
+      counted-either (cs ++ c ∷ []) (guard_faults l count scope g c) g (with_guards count g (tree_guard_rows t c))
       (λ none. counted-row (cs ++ c ∷ []) g c (tree_guard_rows t c) refl (is-threshold g c none) (in-here cs [] c) more) more
 
   -- a row past the limit
   past-limit : (cs later : List TreeComparison) (g : Guards) (c : TreeComparison) (r : Linear) → tree_guards t ≡ cs ++ c ∷ later → tree_guard_rows t c ≡ r ∷ []
-      → is_no_threshold count (r ∷ []) ≡ false → is_past_limit count g r ≡ true → Counted cs g → IsOneMore t c
+      → is_no_threshold count (r ∷ []) ≡ false → is_past_limit l count g r ≡ true → Counted cs g → IsOneMore l t c
   past-limit cs later g c r place is threshold past h = elim (cases_Bool (falls count r)) [
     | inl f ↦ (
-        let e : (not (has_row g.fall r) && not (ltb (length g.fall) 6)) ≡ true = sym
-        (cond-true (falls count r) (not (has_row g.fall r) && not (ltb (length g.fall) 6)) (not (has_row g.rise r) && not (ltb (length g.rise) 16)) f)
+        let e : (not (has_row g.fall r) && not (ltb (length g.fall) l.falls)) ≡ true = sym
+        (cond-true (falls count r) (not (has_row g.fall r) && not (ltb (length g.fall) l.falls)) (not (has_row g.rise r) && not (ltb (length g.rise) l.rises))
+        f)
         ∙ past in
         record {
           earlier = cs;
@@ -311,12 +313,14 @@ module _ (t : Tree) where
           others = g.fall;
           distinct = h.fall_distinct;
           before = h.fall;
-          full = ltb-false (length g.fall) 6 (not-true (ltb (length g.fall) 6) (and_parts (not (has_row g.fall r)) (not (ltb (length g.fall) 6)) e).1);
-          new = apart-rows g.fall r (not-true (has_row g.fall r) ((and_parts (not (has_row g.fall r)) (not (ltb (length g.fall) 6)) e).0));
+          full = ltb-false (length g.fall) l.falls
+              (not-true (ltb (length g.fall) l.falls) (and_parts (not (has_row g.fall r)) (not (ltb (length g.fall) l.falls)) e).1);
+          new = apart-rows g.fall r (not-true (has_row g.fall r) ((and_parts (not (has_row g.fall r)) (not (ltb (length g.fall) l.falls)) e).0));
         })
     | inr f ↦ (
-        let e : (not (has_row g.rise r) && not (ltb (length g.rise) 16)) ≡ true = sym
-        (cond-false (falls count r) (not (has_row g.fall r) && not (ltb (length g.fall) 6)) (not (has_row g.rise r) && not (ltb (length g.rise) 16)) f)
+        let e : (not (has_row g.rise r) && not (ltb (length g.rise) l.rises)) ≡ true = sym
+        (cond-false (falls count r) (not (has_row g.fall r) && not (ltb (length g.fall) l.falls)) (not (has_row g.rise r) && not (ltb (length g.rise) l.rises))
+        f)
         ∙ past in
         record {
           earlier = cs;
@@ -328,46 +332,47 @@ module _ (t : Tree) where
           others = g.rise;
           distinct = h.rise_distinct;
           before = h.rise;
-          full = ltb-false (length g.rise) 16 (not-true (ltb (length g.rise) 16) (and_parts (not (has_row g.rise r)) (not (ltb (length g.rise) 16)) e).1);
-          new = apart-rows g.rise r (not-true (has_row g.rise r) ((and_parts (not (has_row g.rise r)) (not (ltb (length g.rise) 16)) e).0));
+          full = ltb-false (length g.rise) l.rises
+              (not-true (ltb (length g.rise) l.rises) (and_parts (not (has_row g.rise r)) (not (ltb (length g.rise) l.rises)) e).1);
+          new = apart-rows g.rise r (not-true (has_row g.rise r) ((and_parts (not (has_row g.rise r)) (not (ltb (length g.rise) l.rises)) e).0));
         })
   ]
 
   more-than-allowed : (cs later : List TreeComparison) (g : Guards) (c : TreeComparison) (rows : List Linear) → tree_guards t ≡ cs ++ c ∷ later
-      → tree_guard_rows t c ≡ rows → is_one_more count g rows ≡ true → Counted cs g → IsOneMore t c
+      → tree_guard_rows t c ≡ rows → is_one_more l count g rows ≡ true → Counted cs g → IsOneMore l t c
   more-than-allowed cs later g c [] place is e h = absurd (false≢true e)
   more-than-allowed cs later g c (r ∷ q ∷ rows) place is e h = absurd (false≢true e)
   more-than-allowed cs later g c (r ∷ []) place is e h =
       past-limit cs later g c r place is
-      (not-true (is_no_threshold count (r ∷ [])) ((and_parts (not (is_no_threshold count (r ∷ []))) (is_past_limit count g r) e).0))
-      ((and_parts (not (is_no_threshold count (r ∷ []))) (is_past_limit count g r) e).1) h
+      (not-true (is_no_threshold count (r ∷ [])) ((and_parts (not (is_no_threshold count (r ∷ []))) (is_past_limit l count g r) e).0))
+      ((and_parts (not (is_no_threshold count (r ∷ []))) (is_past_limit l count g r) e).1) h
 
   guard-fault : (cs later : List TreeComparison) (g : Guards) (c : TreeComparison) → tree_guards t ≡ cs ++ c ∷ later → HasComparison t scope c → Counted cs g
-      → AllOf (guard_faults count scope g c)
+      → AllOf (guard_faults l count scope g c)
   guard-fault cs later g c place has h =
       let rows = tree_guard_rows t c in
       let threshold = where_ (is_no_threshold count rows) (fault.NotThreshold c.at) in
-      let more = where_ (is_one_more count g rows) (fault.TooMany c.at) in
+      let more = where_ (is_one_more l count g rows) (fault.TooMany c.at) in
       let here : In c (tree_guards t) = subst (λ (z : List TreeComparison). In c z) (sym place) (in-here cs later c) in
       each-else P (comparison_faults scope c) (else_ threshold more) (comparison-fault scope c has)
       (λ none. each-else P threshold more
       (each-where P (is_no_threshold count rows) (fault.NotThreshold c.at) (λ e. no_threshold c here e refl))
-      (λ fine. each-where P (is_one_more count g rows) (fault.TooMany c.at) (λ e. one_more c (more-than-allowed cs later g c rows place refl e h) refl)))
+      (λ fine. each-where P (is_one_more l count g rows) (fault.TooMany c.at) (λ e. one_more c (more-than-allowed cs later g c rows place refl e h) refl)))
 
   guards-fault : (cs rest later : List TreeComparison) (g : Guards) → tree_guards t ≡ cs ++ (rest ++ later)
-      → ((c : TreeComparison) → In c rest → HasComparison t scope c) → Counted cs g → AllOf (guards_faults count scope g rest)
+      → ((c : TreeComparison) → In c rest → HasComparison t scope c) → Counted cs g → AllOf (guards_faults l count scope g rest)
   guards-fault cs [] later g place has h = tt
   guards-fault cs (c ∷ rest) later g place has h =
-      together (guard_faults count scope g c) (guards_faults count scope (guards_then count scope g c) rest)
+      together (guard_faults l count scope g c) (guards_faults l count scope (guards_then l count scope g c) rest)
       (guard-fault cs (rest ++ later) g c place (has c (inl refl)) h)
-      (guards-fault (cs ++ c ∷ []) rest later (guards_then count scope g c) (push-split (tree_guards t) cs (rest ++ later) c place) (λ d i. has d (inr i))
+      (guards-fault (cs ++ c ∷ []) rest later (guards_then l count scope g c) (push-split (tree_guards t) cs (rest ++ later) c place) (λ d i. has d (inr i))
       (counted-then cs g c h))
 
-  counted-with : (cs rest : List TreeComparison) (g : Guards) → Counted cs g → Counted (cs ++ rest) (guards_with count scope g rest)
+  counted-with : (cs rest : List TreeComparison) (g : Guards) → Counted cs g → Counted (cs ++ rest) (guards_with l count scope g rest)
   counted-with cs [] g h = subst (λ (z : List TreeComparison). Counted z g) (sym (append-nil cs)) h
   counted-with cs (c ∷ rest) g h =
-      subst (λ (z : List TreeComparison). Counted z (guards_with count scope (guards_then count scope g c) rest)) (append_assoc cs (c ∷ []) rest)
-      (counted-with (cs ++ c ∷ []) rest (guards_then count scope g c) (counted-then cs g c h))
+      subst (λ (z : List TreeComparison). Counted z (guards_with l count scope (guards_then l count scope g c) rest)) (append_assoc cs (c ∷ []) rest)
+      (counted-with (cs ++ c ∷ []) rest (guards_then l count scope g c) (counted-then cs g c h))
 
   -- ---- rules
 
@@ -390,7 +395,7 @@ module _ (t : Tree) where
       (updates-fault r (earlier ++ u ∷ []) rest i (push-split r.updates earlier rest u place))))
 
   rule-fault : (earlier later : List TreeRule) (g : Guards) (r : TreeRule) → t.rules ≡ earlier ++ r ∷ later → Counted (flat_map guards_of_rule earlier) g
-      → AllOf (rule_faults (names_of t) (map plain_name (map rule_name earlier)) g r)
+      → AllOf (rule_faults l (names_of t) (map plain_name (map rule_name earlier)) g r)
   rule-fault earlier later g r place h =
       let ns = names_of t in
       let before = map plain_name (map rule_name earlier) in
@@ -401,7 +406,7 @@ module _ (t : Tree) where
       ∙ flat_map-append guards_of_rule earlier (r ∷ later) in
       let from = used_faults (all_names ns) ns.locations r.from in
       let to = used_faults (all_names ns) ns.locations r.to in
-      let when = guards_faults count scope g r.guards in
+      let when = guards_faults l count scope g r.guards in
       let do_ = updates_faults ns [] r.updates in
       together (declared_faults before r.name) (from ++ (to ++ (when ++ do_)))
       (declared-name (map rule_name t.rules) (map rule_name earlier) (map rule_name later) r.name (apart_rules refl) names
@@ -413,17 +418,17 @@ module _ (t : Tree) where
       (updates-fault r [] r.updates here refl))))
 
   rules-fault : (earlier rest : List TreeRule) (g : Guards) → t.rules ≡ earlier ++ rest → Counted (flat_map guards_of_rule earlier) g
-      → AllOf (rules_faults (names_of t) (map plain_name (map rule_name earlier)) g rest)
+      → AllOf (rules_faults l (names_of t) (map plain_name (map rule_name earlier)) g rest)
   rules-fault earlier [] g place h = tt
   rules-fault earlier (r ∷ rest) g place h =
       let before = map plain_name (map rule_name earlier) in
-      let after = guards_with count scope g r.guards in
+      let after = guards_with l count scope g r.guards in
       let guards : flat_map guards_of_rule earlier ++ r.guards ≡ flat_map guards_of_rule (earlier ++ r ∷ []) = ap
       (λ (z : List TreeComparison). flat_map guards_of_rule earlier ++ z) (sym (append-nil r.guards))
       ∙ sym (flat_map-append guards_of_rule earlier (r ∷ [])) in
-      together (rule_faults (names_of t) before g r) (rules_faults (names_of t) (before ++ r.name.name ∷ []) after rest)
+      together (rule_faults l (names_of t) before g r) (rules_faults l (names_of t) (before ++ r.name.name ∷ []) after rest)
       (rule-fault earlier rest g r place h)
-      (subst (λ (z : List (List ℕ)). AllOf (rules_faults (names_of t) z after rest))
+      (subst (λ (z : List (List ℕ)). AllOf (rules_faults l (names_of t) z after rest))
       (ap (map plain_name) (map_push rule_name earlier r) ∙ map_push plain_name (map rule_name earlier) r.name)
       (rules-fault (earlier ++ r ∷ []) rest after (push-split t.rules earlier rest r place)
       (subst (λ (z : List TreeComparison). Counted z after) guards (counted-with (flat_map guards_of_rule earlier) r.guards g h))))
@@ -519,12 +524,12 @@ module _ (t : Tree) where
       (sum-fault (in_parameters ns) t.processes (sum_of_processes refl refl))
       (λ none. each-where P (is_large_linear (linear_sum ns.parameters (plain_sum t.processes))) (fault.TooLarge t.processes_at) (λ e. large_sum e refl))
 
-  tree-fault : AllOf (meaning_faults t)
+  tree-fault : AllOf (meaning_faults l t)
   tree-fault =
       let ns = names_of t in
       let processes = processes_faults ns t in
       let resilience = condition_faults (in_parameters ns) t.resilience in
-      let rules = rules_faults ns [] no_guards t.rules in
+      let rules = rules_faults l ns [] no_guards t.rules in
       let patterns = patterns_faults ns [] t.patterns in
       together (names_faults ns t) (processes ++ (resilience ++ (rules ++ patterns))) names-fault
       (together processes (resilience ++ (rules ++ patterns)) processes-fault
@@ -534,4 +539,4 @@ module _ (t : Tree) where
       (patterns-fault [] t.patterns refl))))
 
 pub faults_are_of_the_table : FaultsAreOfTheTable
-faults_are_of_the_table t = tree-fault t
+faults_are_of_the_table l t = tree-fault l t

@@ -1,4 +1,5 @@
 -- The tokens of a text lie one after another in it, and so the errors of what it means rise.
+use Rattle.ta_meaning.proofs.Common.{Limits}
 use Rattle.ta_meaning.proofs.Common.{ℕ, ◌+◌, ◌≤◌, ◌<◌, ◌≡◌, List, [], ◌∷◌, ◌++◌, length, length-append, map, inl, inr, sym, ap, subst, ◌∙◌, arith}
 use Rattle.ta_meaning.proofs.Common.{AllByRecursion, each_weaker, kind_bytes, ScansTo, IsLastGap, Offsets, IsPlaced, tree_stated, IsTreeOf, Token, Tree}
 use Rattle.ta_meaning.proofs.Common.{FileFault, Rises, meaning_faults, fault_offset, IsOfMeaning, IsTokenAt}
@@ -27,9 +28,9 @@ text-lies end at bytes (x ∷ s) (t ∷ ts) scans placed =
           (text-lies end behind rest s ts scans.7 placed.1),
     )
 
-pub faults-rise : (bytes : List ℕ) (t : Tree) → IsTreeOf bytes t → Rises 0 (length bytes) (map fault_offset (meaning_faults t))
-faults-rise bytes t is =
-    let h = tree-in_order t in
+pub faults-rise : (l : Limits) (bytes : List ℕ) (t : Tree) → IsTreeOf l bytes t → Rises 0 (length bytes) (map fault_offset (meaning_faults l t))
+faults-rise l bytes t is =
+    let h = tree-in_order l t in
     h.rise 0 (length bytes)
     (lies-wider 0 (0 + length bytes) 0 (length bytes) (tree_stated t) (omega arith) (omega arith)
     (text-lies (λ at rest. IsLastGap rest) 0 bytes (tree_stated t) is.tokens is.are is.placed))
@@ -47,15 +48,16 @@ stated-token at (x ∷ s) [] placed h = absurd placed
 stated-token at (x ∷ s) (t ∷ ts) placed (inl h) = inl (among-same at t.at x placed.0 h)
 stated-token at (x ∷ s) (t ∷ ts) placed (inr h) = inr (stated-token at s ts placed.1 h)
 
-pub faults-tokens : (bytes : List ℕ) (t : Tree) (is : IsTreeOf bytes t) → AllByRecursion (λ f. IsTokenAt (fault_offset f) is.tokens) (meaning_faults t)
-faults-tokens bytes t is =
-    let h = tree-in_order t in
-    each_weaker (λ f. IsStated (fault_offset f) (tree_stated t)) (λ f. IsTokenAt (fault_offset f) is.tokens) (meaning_faults t)
+pub faults-tokens : (l : Limits) (bytes : List ℕ) (t : Tree) (is : IsTreeOf l bytes t)
+    → AllByRecursion (λ f. IsTokenAt (fault_offset f) is.tokens) (meaning_faults l t)
+faults-tokens l bytes t is =
+    let h = tree-in_order l t in
+    each_weaker (λ f. IsStated (fault_offset f) (tree_stated t)) (λ f. IsTokenAt (fault_offset f) is.tokens) (meaning_faults l t)
     (λ f k. stated-token (fault_offset f) (tree_stated t) is.tokens is.placed k) h.tokens
 
 -- ---- kinds
-pub faults-kinds : (t : Tree) → AllByRecursion IsOfMeaning (meaning_faults t)
-faults-kinds t = let h = tree-in_order t in h.kinds
+pub faults-kinds : (l : Limits) (t : Tree) → AllByRecursion IsOfMeaning (meaning_faults l t)
+faults-kinds l t = let h = tree-in_order l t in h.kinds
 
 -- ---- the first
 
@@ -64,8 +66,9 @@ later-above : (low n high : ℕ) (fs : List FileFault) → n < low → Within lo
 later-above low n high [] below h = tt
 later-above low n high (f ∷ fs) below h = let here : low ≤ fault_offset f = h.0 in (omega arith, later-above (fault_offset f + 1) n high fs (omega arith) h.2)
 
-pub first-least : (bytes : List ℕ) (t : Tree) (first : FileFault) (later : List FileFault) → IsTreeOf bytes t → meaning_faults t ≡ first ∷ later
+pub first-least : (l : Limits) (bytes : List ℕ) (t : Tree) (first : FileFault) (later : List FileFault) → IsTreeOf l bytes t
+    → meaning_faults l t ≡ first ∷ later
     → AllByRecursion (λ f. fault_offset first < fault_offset f) later
-first-least bytes t first later is e =
-    let rise : Within 0 (length bytes) (first ∷ later) = subst (λ (fs : List FileFault). Within 0 (length bytes) fs) e (faults-rise bytes t is) in
+first-least l bytes t first later is e =
+    let rise : Within 0 (length bytes) (first ∷ later) = subst (λ (fs : List FileFault). Within 0 (length bytes) fs) e (faults-rise l bytes t is) in
     later-above (fault_offset first + 1) (fault_offset first) (length bytes) later (omega arith) rise.2

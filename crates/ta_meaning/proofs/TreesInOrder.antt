@@ -1,4 +1,5 @@
 -- The errors of rules, events, patterns and of a whole tree rise within their tokens.
+use Rattle.ta_meaning.proofs.Common.{Limits}
 use Rattle.ta_meaning.proofs.Common.{ℕ, List, [], ◌∷◌, ◌++◌, length, map, refl, sym, append_assoc, listed, led, ended, each, plain_comparison, Offsets}
 use Rattle.ta_meaning.proofs.Common.{unplaced, at_first, sum_stated, name_stated, initial_stated, location_stated, comparison_stated, update_stated}
 use Rattle.ta_meaning.proofs.Common.{rule_stated, event_stated, pattern_stated, tree_stated, Spelled, TreeComparison, TreeLocation, TreeUpdate, TreeRule}
@@ -42,21 +43,22 @@ used_names-items declared allowed before (n ∷ ns) = (
 )
 
 -- ---- guards and updates
-guard-in_order : (parameters : ℕ) (s : Scope) (g : Guards) (c : TreeComparison) → InOrder (comparison_stated c) (guard_faults parameters s g c)
-guard-in_order parameters s g c =
+guard-in_order : (l : Limits) (parameters : ℕ) (s : Scope) (g : Guards) (c : TreeComparison) → InOrder (comparison_stated c) (guard_faults l parameters s g c)
+guard-in_order l parameters s g c =
     let rows : List Linear = comparison_rows s.allowed (plain_comparison c) in
     let threshold : List FileFault = where_ (is_no_threshold parameters rows) (fault.NotThreshold c.at) in
-    let many : List FileFault = where_ (is_one_more parameters g rows) (fault.TooMany c.at) in
+    let many : List FileFault = where_ (is_one_more l parameters g rows) (fault.TooMany c.at) in
     either (comparison_stated c) (comparison_faults s c) (else_ threshold many) (comparison-in_order s c)
     (either (comparison_stated c) threshold many
     (one (comparison_stated c) (is_no_threshold parameters rows) (fault.NotThreshold c.at) tt (inside-comparison c))
-    (one (comparison_stated c) (is_one_more parameters g rows) (fault.TooMany c.at) tt (inside-comparison c)))
+    (one (comparison_stated c) (is_one_more l parameters g rows) (fault.TooMany c.at) tt (inside-comparison c)))
 
-guards-items : (parameters : ℕ) (s : Scope) (g : Guards) (cs : List TreeComparison) → Items comparison_stated cs (guards_faults parameters s g cs)
-guards-items parameters s g [] = refl
-guards-items parameters s g (c ∷ cs) =
-    let after : Guards = guards_then parameters s g c in
-    (guard_faults parameters s g c, guards_faults parameters s after cs, refl, guard-in_order parameters s g c, guards-items parameters s after cs)
+guards-items : (l : Limits) (parameters : ℕ) (s : Scope) (g : Guards) (cs : List TreeComparison)
+    → Items comparison_stated cs (guards_faults l parameters s g cs)
+guards-items l parameters s g [] = refl
+guards-items l parameters s g (c ∷ cs) =
+    let after : Guards = guards_then l parameters s g c in
+    (guard_faults l parameters s g c, guards_faults l parameters s after cs, refl, guard-in_order l parameters s g c, guards-items l parameters s after cs)
 
 abbrev updated_faults : Names → List (List ℕ) → TreeUpdate → List FileFault
 updated_faults ns before u = else_ (where_ (has_name before u.name.name) (fault.Duplicate u.name.at)) (used_faults (all_names ns) ns.shared u.name)
@@ -78,18 +80,18 @@ updates-items ns before (u ∷ us) = (
 )
 
 -- ---- rules
-rule-in_order : (ns : Names) (before : List (List ℕ)) (g : Guards) (r : TreeRule) → InOrder (rule_stated r) (rule_faults ns before g r)
-rule-in_order ns before g r =
+rule-in_order : (l : Limits) (ns : Names) (before : List (List ℕ)) (g : Guards) (r : TreeRule) → InOrder (rule_stated r) (rule_faults l ns before g r)
+rule-in_order l ns before g r =
     let when : List Offsets = led unplaced mark.When comparison_stated r.guards in
     let do_ : List Offsets = led unplaced mark.Do update_stated r.updates in
     let name : List FileFault = declared_faults before r.name in
     let from : List FileFault = used_faults (all_names ns) ns.locations r.from in
     let to : List FileFault = used_faults (all_names ns) ns.locations r.to in
-    let guards : List FileFault = guards_faults (length ns.parameters) (in_guards ns) g r.guards in
+    let guards : List FileFault = guards_faults l (length ns.parameters) (in_guards ns) g r.guards in
     let updates : List FileFault = updates_faults ns [] r.updates in
     let clauses : InOrder (when ++ (do_ ++ [] ∷ [])) (guards ++ updates) =
     together when (do_ ++ [] ∷ []) guards updates
-    (led-in_order mark.When comparison_stated r.guards guards (guards-items (length ns.parameters) (in_guards ns) g r.guards))
+    (led-in_order mark.When comparison_stated r.guards guards (guards-items l (length ns.parameters) (in_guards ns) g r.guards))
     (before_tokens do_ ([] ∷ []) updates (led-in_order mark.Do update_stated r.updates updates (updates-items ns [] r.updates))) in
     let from_to : InOrder ((r.from.at ∷ []) ∷ [] ∷ (r.to.at ∷ []) ∷ (when ++ (do_ ++ [] ∷ []))) (from ++ (to ++ (guards ++ updates))) =
     together (token r.from.at) ([] ∷ (r.to.at ∷ []) ∷ (when ++ (do_ ++ [] ∷ []))) from (to ++ (guards ++ updates))
@@ -101,15 +103,15 @@ rule-in_order ns before g r =
     after_token [] ((r.name.at ∷ []) ∷ [] ∷ steps) (name ++ moves)
     (together (token r.name.at) ([] ∷ steps) name moves (declared-in_order before r.name) (after_token [] steps moves from_to))
 
-rules-items : (ns : Names) (before : List (List ℕ)) (g : Guards) (rs : List TreeRule) → Items rule_stated rs (rules_faults ns before g rs)
-rules-items ns before g [] = refl
-rules-items ns before g (r ∷ rs) =
-    let after : Guards = guards_with (length ns.parameters) (in_guards ns) g r.guards in (
-      rule_faults ns before g r,
-      rules_faults ns (before ++ r.name.name ∷ []) after rs,
+rules-items : (l : Limits) (ns : Names) (before : List (List ℕ)) (g : Guards) (rs : List TreeRule) → Items rule_stated rs (rules_faults l ns before g rs)
+rules-items l ns before g [] = refl
+rules-items l ns before g (r ∷ rs) =
+    let after : Guards = guards_with l (length ns.parameters) (in_guards ns) g r.guards in (
+      rule_faults l ns before g r,
+      rules_faults l ns (before ++ r.name.name ∷ []) after rs,
       refl,
-      rule-in_order ns before g r,
-      rules-items ns
+      rule-in_order l ns before g r,
+      rules-items l ns
           (before ++ r.name.name ∷ []) after rs,
     )
 
@@ -176,27 +178,27 @@ abbrev stated_from_processes : Tree → List Offsets
 stated_from_processes t = [] ∷ (at_first t.processes_at (sum_stated t.processes)
     ++ [] ∷ [] ∷ (listed unplaced comparison_stated t.resilience ++ [] ∷ (each rule_stated t.rules ++ each pattern_stated t.patterns)))
 
-abbrev faults_from_processes : Names → Tree → List FileFault
-faults_from_processes ns t = processes_faults ns t ++
-    (condition_faults (in_parameters ns) t.resilience ++ (rules_faults ns [] no_guards t.rules ++ patterns_faults ns [] t.patterns))
+abbrev faults_from_processes : Limits → Names → Tree → List FileFault
+faults_from_processes l ns t = processes_faults ns t ++
+    (condition_faults (in_parameters ns) t.resilience ++ (rules_faults l ns [] no_guards t.rules ++ patterns_faults ns [] t.patterns))
 
-from_processes : (ns : Names) (t : Tree) → InOrder (stated_from_processes t) (faults_from_processes ns t)
-from_processes ns t =
-    let rules : List FileFault = rules_faults ns [] no_guards t.rules in
+from_processes : (l : Limits) (ns : Names) (t : Tree) → InOrder (stated_from_processes t) (faults_from_processes l ns t)
+from_processes l ns t =
+    let rules : List FileFault = rules_faults l ns [] no_guards t.rules in
     let patterns : List FileFault = patterns_faults ns [] t.patterns in
     let resilience : List FileFault = condition_faults (in_parameters ns) t.resilience in
     let blocks : List Offsets = each rule_stated t.rules ++ each pattern_stated t.patterns in
     let conditions : List Offsets = listed unplaced comparison_stated t.resilience in
     let in_blocks : InOrder blocks (rules ++ patterns) =
     together (each rule_stated t.rules) (each pattern_stated t.patterns) rules patterns
-    (each-in_order rule_stated t.rules rules (rules-items ns [] no_guards t.rules))
+    (each-in_order rule_stated t.rules rules (rules-items l ns [] no_guards t.rules))
     (each-in_order pattern_stated t.patterns patterns (patterns-items ns [] t.patterns)) in
     let in_conditions : InOrder (conditions ++ [] ∷ blocks) (resilience ++ (rules ++ patterns)) =
     together conditions ([] ∷ blocks) resilience (rules ++ patterns)
     (listed-in_order comparison_stated t.resilience resilience (condition-items (in_parameters ns) t.resilience))
     (after_token [] blocks (rules ++ patterns) in_blocks) in
     let sum : List Offsets = at_first t.processes_at (sum_stated t.processes) in
-    after_token [] (sum ++ [] ∷ [] ∷ (conditions ++ [] ∷ blocks)) (faults_from_processes ns t)
+    after_token [] (sum ++ [] ∷ [] ∷ (conditions ++ [] ∷ blocks)) (faults_from_processes l ns t)
     (together sum ([] ∷ [] ∷ (conditions ++ [] ∷ blocks)) (processes_faults ns t) (resilience ++ (rules ++ patterns))
     (whole_sum-in_order (in_parameters ns) t.processes_at t.processes t.is_processes)
     (after_token [] ([] ∷ (conditions ++ [] ∷ blocks)) (resilience ++ (rules ++ patterns))
@@ -206,21 +208,21 @@ from_processes ns t =
 abbrev stated_from_locations : Tree → List Offsets
 stated_from_locations t = (t.locations_at ∷ []) ∷ (listed unplaced location_stated t.locations ++ [] ∷ stated_from_processes t)
 
-abbrev faults_from_locations : Names → Tree → List FileFault
-faults_from_locations ns t =
+abbrev faults_from_locations : Limits → Names → Tree → List FileFault
+faults_from_locations l ns t =
     where_ (not (any_initial t.locations)) (fault.NoInitial t.locations_at)
-    ++ (declarations_faults (guard_names ns) (map location_spelled t.locations) ++ faults_from_processes ns t)
+    ++ (declarations_faults (guard_names ns) (map location_spelled t.locations) ++ faults_from_processes l ns t)
 
-from_locations : (ns : Names) (t : Tree) → InOrder (stated_from_locations t) (faults_from_locations ns t)
-from_locations ns t =
+from_locations : (l : Limits) (ns : Names) (t : Tree) → InOrder (stated_from_locations t) (faults_from_locations l ns t)
+from_locations l ns t =
     let names : List FileFault = declarations_faults (guard_names ns) (map location_spelled t.locations) in
     let stated : List Offsets = listed unplaced location_stated t.locations in
-    let in_names : InOrder (stated ++ [] ∷ stated_from_processes t) (names ++ faults_from_processes ns t) =
-    together stated ([] ∷ stated_from_processes t) names (faults_from_processes ns t)
+    let in_names : InOrder (stated ++ [] ∷ stated_from_processes t) (names ++ faults_from_processes l ns t) =
+    together stated ([] ∷ stated_from_processes t) names (faults_from_processes l ns t)
     (listed-in_order location_stated t.locations names (locations-items (guard_names ns) t.locations))
-    (after_token [] (stated_from_processes t) (faults_from_processes ns t) (from_processes ns t)) in
+    (after_token [] (stated_from_processes t) (faults_from_processes l ns t) (from_processes l ns t)) in
     together (token t.locations_at) (stated ++ [] ∷ stated_from_processes t) (where_ (not (any_initial t.locations)) (fault.NoInitial t.locations_at))
-    (names ++ faults_from_processes ns t)
+    (names ++ faults_from_processes l ns t)
     (one (token t.locations_at) (not (any_initial t.locations)) (fault.NoInitial t.locations_at) tt (inside-name t.locations_at)) in_names
 
 -- a list of declared names, and what comes behind its semicolon and a keyword
@@ -233,33 +235,33 @@ declared-then before ns s fs h =
 abbrev stated_from_shared : Tree → List Offsets
 stated_from_shared t = [] ∷ (listed unplaced name_stated t.shared ++ [] ∷ stated_from_locations t)
 
-abbrev faults_from_shared : Names → Tree → List FileFault
-faults_from_shared ns t = declarations_faults ns.parameters t.shared ++ faults_from_locations ns t
+abbrev faults_from_shared : Limits → Names → Tree → List FileFault
+faults_from_shared l ns t = declarations_faults ns.parameters t.shared ++ faults_from_locations l ns t
 
-from_shared : (ns : Names) (t : Tree) → InOrder (stated_from_shared t) (faults_from_shared ns t)
-from_shared ns t =
-    after_token [] (listed unplaced name_stated t.shared ++ [] ∷ stated_from_locations t) (faults_from_shared ns t)
-    (declared-then ns.parameters t.shared (stated_from_locations t) (faults_from_locations ns t) (from_locations ns t))
+from_shared : (l : Limits) (ns : Names) (t : Tree) → InOrder (stated_from_shared t) (faults_from_shared l ns t)
+from_shared l ns t =
+    after_token [] (listed unplaced name_stated t.shared ++ [] ∷ stated_from_locations t) (faults_from_shared l ns t)
+    (declared-then ns.parameters t.shared (stated_from_locations t) (faults_from_locations l ns t) (from_locations l ns t))
 
-abbrev faults_from_name : Names → Tree → List FileFault
-faults_from_name ns t = where_ (is_long t.name) (fault.TooLarge t.name.at) ++ (declarations_faults [] t.parameters ++ faults_from_shared ns t)
+abbrev faults_from_name : Limits → Names → Tree → List FileFault
+faults_from_name l ns t = where_ (is_long t.name) (fault.TooLarge t.name.at) ++ (declarations_faults [] t.parameters ++ faults_from_shared l ns t)
 
-from_name : (ns : Names) (t : Tree) → InOrder (tree_stated t) (faults_from_name ns t)
-from_name ns t =
+from_name : (l : Limits) (ns : Names) (t : Tree) → InOrder (tree_stated t) (faults_from_name l ns t)
+from_name l ns t =
     let long : List FileFault = where_ (is_long t.name) (fault.TooLarge t.name.at) in
-    let later : List FileFault = declarations_faults [] t.parameters ++ faults_from_shared ns t in
+    let later : List FileFault = declarations_faults [] t.parameters ++ faults_from_shared l ns t in
     let stated : List Offsets = listed unplaced name_stated t.parameters ++ [] ∷ stated_from_shared t in
     after_token [] ((t.name.at ∷ []) ∷ [] ∷ [] ∷ stated) (long ++ later)
     (together (token t.name.at) ([] ∷ [] ∷ stated) long later (one (token t.name.at) (is_long t.name) (fault.TooLarge t.name.at) tt (inside-name t.name.at))
     (after_token [] ([] ∷ stated) later
-    (after_token [] stated later (declared-then [] t.parameters (stated_from_shared t) (faults_from_shared ns t) (from_shared ns t)))))
+    (after_token [] stated later (declared-then [] t.parameters (stated_from_shared t) (faults_from_shared l ns t) (from_shared l ns t)))))
 
 -- the errors of a tree rise within its tokens
-pub tree-in_order : (t : Tree) → InOrder (tree_stated t) (meaning_faults t)
-tree-in_order t =
+pub tree-in_order : (l : Limits) (t : Tree) → InOrder (tree_stated t) (meaning_faults l t)
+tree-in_order l t =
     let ns : Names = names_of t in
-    along (tree_stated t) (tree_stated t) (faults_from_name ns t) (meaning_faults t) refl
+    along (tree_stated t) (tree_stated t) (faults_from_name l ns t) (meaning_faults l t) refl
     (five_parts (where_ (is_long t.name) (fault.TooLarge t.name.at)) (declarations_faults [] t.parameters) (declarations_faults ns.parameters t.shared)
     (where_ (not (any_initial t.locations)) (fault.NoInitial t.locations_at)) (declarations_faults (guard_names ns) (map location_spelled t.locations))
-    (faults_from_processes ns t))
-    (from_name ns t)
+    (faults_from_processes l ns t))
+    (from_name l ns t)

@@ -1,4 +1,5 @@
 -- The errors of a tree from those of its parts
+use Rattle.ta_meaning.proofs.Common.{Limits}
 use Rattle.ta_meaning.proofs.Common.{ℕ, ◌+◌, ◌≡◌, List, [], ◌++◌, append_assoc, take, map, length, length-append, Result, refl, sym, ap, subst, ◌∙◌, Vec, Form}
 use Rattle.ta_meaning.proofs.Common.{Row, plain_sum}
 use Rattle.ta_meaning.proofs.Common.{plain_comparison, plain_location, plain_rule, plain_pattern, plain_tree, Tree, FileFault, Condition, Pattern, Rule, Places}
@@ -37,14 +38,14 @@ resilience-answer places t r k h =
     subst (λ (ns : Names). Answers (condition_faults (in_parameters ns) t.resilience) (ResolvedCondition ns.parameters (map plain_comparison t.resilience)) r) k
     here
 
-pub rules-answer : (places : Places) (t : Tree) (r : Result Rules FileFault) → kinds_of places ≡ names_of t
-    → Answers (rules_faults (kinds_of places) [] no_guards t.rules)
-    (λ (r : Rules). ResolvedRules (kinds_of places) (map plain_rule t.rules) r.rise.items r.fall.items r.rules.items) r
-    → Answers (rules_faults (names_of t) [] no_guards t.rules)
-    (λ (r : Rules). ResolvedRules (names_of t) (map plain_rule t.rules) r.rise.items r.fall.items r.rules.items) r
-rules-answer places t r k h = subst
-    (λ (ns : Names). Answers (rules_faults ns [] no_guards t.rules)
-    (λ (r : Rules). ResolvedRules ns (map plain_rule t.rules) r.rise.items r.fall.items r.rules.items) r) k h
+pub rules-answer : (l : Limits) (places : Places) (t : Tree) (r : Result Rules FileFault) → kinds_of places ≡ names_of t
+    → Answers (rules_faults l (kinds_of places) [] no_guards t.rules)
+    (λ (r : Rules). ResolvedRules l (kinds_of places) (map plain_rule t.rules) r.rise.items r.fall.items r.rules.items) r
+    → Answers (rules_faults l (names_of t) [] no_guards t.rules)
+    (λ (r : Rules). ResolvedRules l (names_of t) (map plain_rule t.rules) r.rise.items r.fall.items r.rules.items) r
+rules-answer l places t r k h = subst
+    (λ (ns : Names). Answers (rules_faults l ns [] no_guards t.rules)
+    (λ (r : Rules). ResolvedRules l ns (map plain_rule t.rules) r.rise.items r.fall.items r.rules.items) r) k h
 
 pub patterns-answer : (places : Places) (t : Tree) (r : Result (Vec Pattern) FileFault) → kinds_of places ≡ names_of t
     → Answers (patterns_faults (kinds_of places) [] t.patterns)
@@ -55,32 +56,34 @@ patterns-answer places t r k h = subst
 
 -- ---- the first error of a part is the first of the tree, where the parts before it have none
 
-pub at-names : (t : Tree) (e : FileFault) → FirstOrMemory (names_faults (names_of t) t) e → FirstOrMemory (meaning_faults t) e
-at-names t e h = append-left-first _ _ e h
+pub at-names : (l : Limits) (t : Tree) (e : FileFault) → FirstOrMemory (names_faults (names_of t) t) e → FirstOrMemory (meaning_faults l t) e
+at-names l t e h = append-left-first _ _ e h
 
 -- the errors of the head stand together
-in_parts : (t : Tree) → meaning_faults t
-    ≡ names_faults (names_of t) t ++ (head_faults t ++ (rules_faults (names_of t) [] no_guards t.rules ++ patterns_faults (names_of t) [] t.patterns))
-in_parts t = ap (λ (fs : List FileFault). names_faults (names_of t) t ++ fs) (sym (append_assoc (processes_faults (names_of t) t) _ _))
+in_parts : (l : Limits) (t : Tree) → meaning_faults l t
+    ≡ names_faults (names_of t) t ++ (head_faults t ++ (rules_faults l (names_of t) [] no_guards t.rules ++ patterns_faults (names_of t) [] t.patterns))
+in_parts l t = ap (λ (fs : List FileFault). names_faults (names_of t) t ++ fs) (sym (append_assoc (processes_faults (names_of t) t) _ _))
 
-pub at-head : (t : Tree) (e : FileFault) → names_faults (names_of t) t ≡ [] → FirstOrMemory (head_faults t) e → FirstOrMemory (meaning_faults t) e
-at-head t e names h = rw (in_parts t) (append-right-first (names_faults (names_of t) t) _ e names (append-left-first _ _ e h))
+pub at-head : (l : Limits) (t : Tree) (e : FileFault) → names_faults (names_of t) t ≡ [] → FirstOrMemory (head_faults t) e
+    → FirstOrMemory (meaning_faults l t) e
+at-head l t e names h = rw (in_parts l t) (append-right-first (names_faults (names_of t) t) _ e names (append-left-first _ _ e h))
 
-pub at-rules : (t : Tree) (e : FileFault) → HeadClean t → FirstOrMemory (rules_faults (names_of t) [] no_guards t.rules) e → FirstOrMemory (meaning_faults t) e
-at-rules t e clean h = rw (in_parts t)
+pub at-rules : (l : Limits) (t : Tree) (e : FileFault) → HeadClean t → FirstOrMemory (rules_faults l (names_of t) [] no_guards t.rules) e
+    → FirstOrMemory (meaning_faults l t) e
+at-rules l t e clean h = rw (in_parts l t)
     (append-right-first (names_faults (names_of t) t) _ e clean.names (append-right-first (head_faults t) _ e clean.head (append-left-first _ _ e h)))
 
-pub at-patterns : (t : Tree) (e : FileFault) → HeadClean t → rules_faults (names_of t) [] no_guards t.rules ≡ []
-    → FirstOrMemory (patterns_faults (names_of t) [] t.patterns) e → FirstOrMemory (meaning_faults t) e
-at-patterns t e clean rules h = rw (in_parts t)
+pub at-patterns : (l : Limits) (t : Tree) (e : FileFault) → HeadClean t → rules_faults l (names_of t) [] no_guards t.rules ≡ []
+    → FirstOrMemory (patterns_faults (names_of t) [] t.patterns) e → FirstOrMemory (meaning_faults l t) e
+at-patterns l t e clean rules h = rw (in_parts l t)
     (append-right-first (names_faults (names_of t) t) _ e clean.names
-    (append-right-first (head_faults t) _ e clean.head (append-right-first (rules_faults (names_of t) [] no_guards t.rules) _ e rules h)))
+    (append-right-first (head_faults t) _ e clean.head (append-right-first (rules_faults l (names_of t) [] no_guards t.rules) _ e rules h)))
 
-pub all-clean : (t : Tree) → HeadClean t → rules_faults (names_of t) [] no_guards t.rules ≡ [] → patterns_faults (names_of t) [] t.patterns ≡ []
-    → meaning_faults t ≡ []
-all-clean t clean rules patterns = in_parts t
+pub all-clean : (l : Limits) (t : Tree) → HeadClean t → rules_faults l (names_of t) [] no_guards t.rules ≡ [] → patterns_faults (names_of t) [] t.patterns ≡ []
+    → meaning_faults l t ≡ []
+all-clean l t clean rules patterns = in_parts l t
     ∙ empty_both (names_faults (names_of t) t) _ clean.names
-    (empty_both (head_faults t) _ clean.head (empty_both (rules_faults (names_of t) [] no_guards t.rules) _ rules patterns))
+    (empty_both (head_faults t) _ clean.head (empty_both (rules_faults l (names_of t) [] no_guards t.rules) _ rules patterns))
 
 -- ---- the tree's file
 
@@ -90,28 +93,28 @@ pub patterns_shape-of :
     → parameters ≡ (names_of t).parameters → shared ≡ (names_of t).shared → locations ≡ (names_of t).locations
     → ResolvedPatterns (names_of t) (map plain_pattern t.patterns) patterns → patterns' ≡ patterns
     → PatternsShape (length parameters + length shared + length locations) (length locations) patterns'
-patterns_shape-of t parameters shared locations patterns patterns' p s l resolved same =
+patterns_shape-of t parameters shared locations patterns patterns' p s places_are resolved same =
     let ns = names_of t in
     let count : length (all_names ns) ≡ length parameters + length shared + length locations =
     length-append (guard_names ns) ns.locations
     ∙ (ap (λ (n : ℕ). n + length ns.locations) (length-append ns.parameters ns.shared)
-    ∙ rw (p, s, l) refl) in
-    rw (same, sym count, l) resolved.shape
+    ∙ rw (p, s, places_are) refl) in
+    rw (same, sym count, places_are) resolved.shape
 
 -- an automaton of the parts that a tree resolves to
 pub means_automaton :
-    (t : Tree) (a : Automaton) (rise fall : List Row) (rules : List Rule)
+    (l : Limits) (t : Tree) (a : Automaton) (rise fall : List Row) (rules : List Rule)
     → a.name ≡ t.name.name → a.parameters ≡ (names_of t).parameters → a.shared ≡ (names_of t).shared → a.locations ≡ (names_of t).locations
     → a.initial ≡ initial_from 0 (map plain_location t.locations) → a.rise ≡ rise → a.fall ≡ fall → a.rules ≡ rules
     → ResolvedForm (names_of t).parameters (plain_sum t.processes) a.processes
     → ResolvedCondition (names_of t).parameters (map plain_comparison t.resilience) a.resilience
-    → ResolvedRules (names_of t) (map plain_rule t.rules) rise fall rules
+    → ResolvedRules l (names_of t) (map plain_rule t.rules) rise fall rules
     → MeansAutomaton (plain_tree t) a
-means_automaton t a rise fall rules n p s l i r f u form condition all = record {
+means_automaton l t a rise fall rules n p s places_are i r f u form condition all = record {
   name = n;
   parameters = p;
   shared = s;
-  locations = l;
+  locations = places_are;
   initial = i;
   processes = form.means;
   resilience = condition.means;

@@ -1,6 +1,8 @@
 -- The errors of an automaton file's meaning, in the order in which a reader comes to them. Each list has the errors of a part of the tree.
 -- An error of a whole term, sum or comparison counts only if its tokens and inner terms have none; of two errors of one token only the one
--- with the lower code counts. So the offsets of a list increase, and its first error is the first error of the file.
+-- with the lower code counts. So the offsets of a list increase, and its first error is the first error of the file. `l` is the row of limits,
+-- by which guards are too many.
+use Rattle.ta_base.specs.declared.limits.Limits.{Limits}
 use Rattle.std.specs.Prelude.{ℕ, ◌≡◌, ◌⊎◌, Bool, false, ◌||◌, not, ltb, List, [], ◌∷◌, ◌++◌, length, map, Option, Some, None, Result, Ok, Err, if◌then◌else◌}
 use Rattle.ta_base.specs.declared.limits.TheConstants.{LARGEST_NUMBER}
 use Rattle.ta_syntax.specs.Grammar.{Terms, Term, Factor, done, term, named, nested}
@@ -149,11 +151,11 @@ condition_faults s (c ∷ cs) = comparison_faults s c ++ condition_faults s cs
 -- ---- guards
 
 -- a guard after others: F6, otherwise F9, otherwise F7
-abbrev pub guard_faults : ℕ → Scope → Guards → TreeComparison → List FileFault
-guard_faults parameters s g c =
+abbrev pub guard_faults : Limits → ℕ → Scope → Guards → TreeComparison → List FileFault
+guard_faults l parameters s g c =
     else_ (comparison_faults s c)
     (else_ (where_ (is_no_threshold parameters (comparison_rows s.allowed (plain_comparison c))) (fault.NotThreshold c.at))
-    (where_ (is_one_more parameters g (comparison_rows s.allowed (plain_comparison c))) (fault.TooMany c.at)))
+    (where_ (is_one_more l parameters g (comparison_rows s.allowed (plain_comparison c))) (fault.TooMany c.at)))
 
 -- a guard with an error does not count for later ones
 abbrev pub counted : List FileFault → Guards → Guards → Guards
@@ -161,19 +163,19 @@ counted [] before after = after
 counted (f ∷ fs) before after = before
 
 -- the guards with one more
-abbrev pub guards_then : ℕ → Scope → Guards → TreeComparison → Guards
-guards_then parameters s g c =
-    counted (guard_faults parameters s g c) g (with_guards parameters g (comparison_rows s.allowed (plain_comparison c)))
+abbrev pub guards_then : Limits → ℕ → Scope → Guards → TreeComparison → Guards
+guards_then l parameters s g c =
+    counted (guard_faults l parameters s g c) g (with_guards parameters g (comparison_rows s.allowed (plain_comparison c)))
 
 -- guards one after another
-abbrev pub guards_faults : ℕ → Scope → Guards → List TreeComparison → List FileFault
-guards_faults parameters s g [] = []
-guards_faults parameters s g (c ∷ cs) = guard_faults parameters s g c ++ guards_faults parameters s (guards_then parameters s g c) cs
+abbrev pub guards_faults : Limits → ℕ → Scope → Guards → List TreeComparison → List FileFault
+guards_faults l parameters s g [] = []
+guards_faults l parameters s g (c ∷ cs) = guard_faults l parameters s g c ++ guards_faults l parameters s (guards_then l parameters s g c) cs
 
 -- the guards with those of a rule
-abbrev pub guards_with : ℕ → Scope → Guards → List TreeComparison → Guards
-guards_with parameters s g [] = g
-guards_with parameters s g (c ∷ cs) = guards_with parameters s (guards_then parameters s g c) cs
+abbrev pub guards_with : Limits → ℕ → Scope → Guards → List TreeComparison → Guards
+guards_with l parameters s g [] = g
+guards_with l parameters s g (c ∷ cs) = guards_with l parameters s (guards_then l parameters s g c) cs
 
 -- ---- the file
 
@@ -193,19 +195,19 @@ updates_faults ns before (u ∷ us) =
     else_ (where_ (has_name before u.name.name) (fault.Duplicate u.name.at)) (used_faults (all_names ns) ns.shared u.name)
     ++ (digits_faults u.amount ++ updates_faults ns (before ++ u.name.name ∷ []) us)
 
-abbrev pub rule_faults : Names → List (List ℕ) → Guards → TreeRule → List FileFault
-rule_faults ns before g r =
+abbrev pub rule_faults : Limits → Names → List (List ℕ) → Guards → TreeRule → List FileFault
+rule_faults l ns before g r =
     declared_faults before r.name
     ++ (used_faults (all_names ns) ns.locations r.from
     ++ (used_faults (all_names ns) ns.locations r.to
-    ++ (guards_faults (length ns.parameters) (in_guards ns) g r.guards
+    ++ (guards_faults l (length ns.parameters) (in_guards ns) g r.guards
     ++ updates_faults ns [] r.updates)))
 
 -- rules one after another
-abbrev pub rules_faults : Names → List (List ℕ) → Guards → List TreeRule → List FileFault
-rules_faults ns before g [] = []
-rules_faults ns before g (r ∷ rs) =
-    rule_faults ns before g r ++ rules_faults ns (before ++ r.name.name ∷ []) (guards_with (length ns.parameters) (in_guards ns) g r.guards) rs
+abbrev pub rules_faults : Limits → Names → List (List ℕ) → Guards → List TreeRule → List FileFault
+rules_faults l ns before g [] = []
+rules_faults l ns before g (r ∷ rs) =
+    rule_faults l ns before g r ++ rules_faults l ns (before ++ r.name.name ∷ []) (guards_with l (length ns.parameters) (in_guards ns) g r.guards) rs
 
 -- an event comes after events declared before it
 abbrev pub event_faults : Names → List (List ℕ) → TreeEvent → List FileFault
@@ -250,10 +252,10 @@ names_faults ns t =
     ++ declarations_faults (guard_names ns) (map location_spelled t.locations))))
 
 -- the errors of a tree's meaning, in the order of the text
-abbrev pub meaning_faults : Tree → List FileFault
-meaning_faults t =
+abbrev pub meaning_faults : Limits → Tree → List FileFault
+meaning_faults l t =
     names_faults (names_of t) t
     ++ (processes_faults (names_of t) t
     ++ (condition_faults (in_parameters (names_of t)) t.resilience
-    ++ (rules_faults (names_of t) [] no_guards t.rules
+    ++ (rules_faults l (names_of t) [] no_guards t.rules
     ++ patterns_faults (names_of t) [] t.patterns)))

@@ -1,5 +1,6 @@
 -- Which comparisons are threshold guards, and how guards are numbered. Source: Konnov, Lazić, Veith, Widder, POPL 2017 (threshold guards,
--- here also with sums of shared variables).
+-- here also with sums of shared variables). `l` is the row of limits.
+use Rattle.ta_base.specs.declared.limits.Limits.{Limits}
 use Rattle.std.specs.Prelude.{ℕ, ℤ, pos, negsuc, ◌≡◌, ◌↔◌, Bool, true, false, ◌&&◌, not, ltb, List, [], ◌∷◌, ◌++◌, length, drop, flat_map, slice_get, Some}
 use Rattle.std.specs.Prelude.{IsBitSet, IsTrue, if◌then◌else◌}
 use Rattle.std.specs.Ordering.{int_eq}
@@ -63,17 +64,17 @@ is_no_threshold parameters [] = true
 is_no_threshold parameters (r ∷ []) = falls parameters r && list_any is_positive (drop parameters r.coefficients)
 is_no_threshold parameters (r ∷ q ∷ rows) = true
 
--- a row that is none of the guards of its kind, of which there are 16 rise guards or 6 fall guards already
-abbrev pub is_past_limit : ℕ → Guards → Linear → Bool
-is_past_limit parameters g r =
+-- a row that is none of the guards of its kind, of which there are as many already as the limits allow
+abbrev pub is_past_limit : Limits → ℕ → Guards → Linear → Bool
+is_past_limit l parameters g r =
     if falls parameters r
-    then not (has_row g.fall r) && not (ltb (length g.fall) 6)
-    else not (has_row g.rise r) && not (ltb (length g.rise) 16)
+    then not (has_row g.fall r) && not (ltb (length g.fall) l.falls)
+    else not (has_row g.rise r) && not (ltb (length g.rise) l.rises)
 
--- a threshold guard in excess of 16 rise guards or 6 fall guards
-abbrev pub is_one_more : ℕ → Guards → List Linear → Bool
-is_one_more parameters g [] = false
-is_one_more parameters g (r ∷ rows) = not (is_no_threshold parameters (r ∷ rows)) && is_past_limit parameters g r
+-- a threshold guard in excess of as many rise guards or fall guards as the limits allow
+abbrev pub is_one_more : Limits → ℕ → Guards → List Linear → Bool
+is_one_more l parameters g [] = false
+is_one_more l parameters g (r ∷ rows) = not (is_no_threshold parameters (r ∷ rows)) && is_past_limit l parameters g r
 
 -- the mask names the guards that are among rows
 abbrev pub NamesGuards : List Linear → List Linear → ℕ → Type 0

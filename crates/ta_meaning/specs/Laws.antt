@@ -1,4 +1,5 @@
--- A text has at most one tree, one meaning and one first error.
+-- For every row of limits a text has at most one tree, one meaning and one first error.
+use Rattle.ta_base.specs.declared.limits.Limits.{Limits}
 use Rattle.std.specs.Prelude.{ℕ, ◌≡◌, List}
 use Rattle.ta_syntax.specs.PlainTrees.{plain_tree}
 use Rattle.ta_syntax.specs.Stated.{tree_stated}
@@ -18,16 +19,16 @@ pub record SameTree (t u : Tree) : Type 0 where
 
 -- a text has at most one tree
 abbrev pub TreesAreUnique : Type 0
-TreesAreUnique = (bytes : List ℕ) (t u : Tree) → IsTreeOf bytes t → IsTreeOf bytes u → SameTree t u
+TreesAreUnique = (l : Limits) (bytes : List ℕ) (t u : Tree) → IsTreeOf l bytes t → IsTreeOf l bytes u → SameTree t u
 
 -- a text that has a tree has one list of errors of its meaning
 abbrev pub FaultsAreUnique : Type 0
-FaultsAreUnique = (bytes : List ℕ) (t u : Tree) → IsTreeOf bytes t → IsTreeOf bytes u → meaning_faults t ≡ meaning_faults u
+FaultsAreUnique = (l : Limits) (bytes : List ℕ) (t u : Tree) → IsTreeOf l bytes t → IsTreeOf l bytes u → meaning_faults l t ≡ meaning_faults l u
 
 -- a text means at most one file
 abbrev pub FilesAreUnique : Type 0
-FilesAreUnique = (bytes : List ℕ) (f g : File) → Means bytes f → Means bytes g → f ≡ g
+FilesAreUnique = (l : Limits) (bytes : List ℕ) (f g : File) → Means l bytes f → Means l bytes g → f ≡ g
 
 -- a text has at most one first error
 abbrev pub FirstFaultsAreUnique : Type 0
-FirstFaultsAreUnique = (bytes : List ℕ) (e d : FileFault) → FirstFault bytes e → FirstFault bytes d → e ≡ d
+FirstFaultsAreUnique = (l : Limits) (bytes : List ℕ) (e d : FileFault) → FirstFault l bytes e → FirstFault l bytes d → e ≡ d

@@ -1,4 +1,5 @@
 -- What an automaton file means: place numbers instead of names, normal rows instead of comparisons.
+use Rattle.ta_base.specs.declared.limits.Limits.{Limits}
 use Rattle.ta_base.specs.Lists.{Pairwise}
 use Rattle.std.specs.Prelude.{ℕ, ℤ, pos, ◌+◌, ◌≡◌, ◌≢◌, ◌↔◌, ◌⊎◌, List, [], ◌∷◌, ◌++◌, length, map, slice_get, Contains, Some, IsBitSet, if◌then◌else◌}
 use Rattle.std.specs.List.{AllByRecursion}
@@ -86,8 +87,8 @@ pub record MeansTree (t : PlainTree) (file : File) : Type 0 where
   pub automaton : MeansAutomaton t file.automaton
   pub patterns : Pairwise (MeansPattern (plain_names t)) t.patterns file.patterns
 
--- the file that a text means: its tokens are those of a tree of the grammar within the limits, which means the file
-pub record Means (bytes : List ℕ) (file : File) : Type 0 where
+-- the file that a text means: its tokens are those of a tree of the grammar within the limits `l`, which means the file
+pub record Means (l : Limits) (bytes : List ℕ) (file : File) : Type 0 where
   pub tree : Tree
-  pub is_tree : IsTreeOf bytes tree
+  pub is_tree : IsTreeOf l bytes tree
   pub means : MeansTree (plain_tree tree) file

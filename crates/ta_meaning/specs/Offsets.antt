@@ -1,4 +1,5 @@
--- Where in the text the errors of a file's meaning are.
+-- Where in the text the errors of a file's meaning are, for every row of limits.
+use Rattle.ta_base.specs.declared.limits.Limits.{Limits}
 use Rattle.std.specs.Prelude.{ℕ, ◌≡◌, ◌<◌, ◌⊎◌, List, [], ◌∷◌, length, map}
 use Rattle.std.specs.List.{AllByRecursion}
 use Rattle.ta_syntax.specs.TreeOf.{IsTreeOf}
@@ -26,7 +27,7 @@ fault_offset fault.Memory = 0
 
 -- the offsets of the errors of a text's tree increase strictly, and each is that of a byte of the text
 abbrev pub FaultsRise : Type 0
-FaultsRise = (bytes : List ℕ) (t : Tree) → IsTreeOf bytes t → Rises 0 (length bytes) (map fault_offset (meaning_faults t))
+FaultsRise = (l : Limits) (bytes : List ℕ) (t : Tree) → IsTreeOf l bytes t → Rises 0 (length bytes) (map fault_offset (meaning_faults l t))
 
 -- some token has this offset
 abbrev pub IsTokenAt : ℕ → List Token → Type 0
@@ -35,7 +36,8 @@ IsTokenAt at (t ∷ ts) = (t.at ≡ at) ⊎ IsTokenAt at ts
 
 -- each error of a text's tree is at a token
 abbrev pub FaultsStandAtTokens : Type 0
-FaultsStandAtTokens = (bytes : List ℕ) (t : Tree) (is : IsTreeOf bytes t) → AllByRecursion (λ f. IsTokenAt (fault_offset f) is.tokens) (meaning_faults t)
+FaultsStandAtTokens = (l : Limits) (bytes : List ℕ) (t : Tree) (is : IsTreeOf l bytes t)
+    → AllByRecursion (λ f. IsTokenAt (fault_offset f) is.tokens) (meaning_faults l t)
 
 -- an error that meaning may have: F3 to F7, F9 or F12; all of these carry an offset
 abbrev pub IsOfMeaning : FileFault → Type 0
@@ -54,10 +56,10 @@ IsOfMeaning fault.Memory = ⊥
 
 -- each error of a tree is one that meaning may have
 abbrev pub FaultsAreOfMeaning : Type 0
-FaultsAreOfMeaning = (t : Tree) → AllByRecursion IsOfMeaning (meaning_faults t)
+FaultsAreOfMeaning = (l : Limits) (t : Tree) → AllByRecursion IsOfMeaning (meaning_faults l t)
 
 -- each error after the first has a larger offset
 abbrev pub FirstIsLeast : Type 0
 FirstIsLeast =
-    (bytes : List ℕ) (t : Tree) (first : FileFault) (later : List FileFault)
-    → IsTreeOf bytes t → meaning_faults t ≡ first ∷ later → AllByRecursion (λ f. fault_offset first < fault_offset f) later
+    (l : Limits) (bytes : List ℕ) (t : Tree) (first : FileFault) (later : List FileFault)
+    → IsTreeOf l bytes t → meaning_faults l t ≡ first ∷ later → AllByRecursion (λ f. fault_offset first < fault_offset f) later

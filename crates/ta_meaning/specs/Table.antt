@@ -1,4 +1,5 @@
--- The table of the errors of meaning: what each code says is wrong, and at which token, independent of other errors.
+-- The table of the errors of meaning: what each code says is wrong, and at which token, independent of other errors. `l` is the row of limits.
+use Rattle.ta_base.specs.declared.limits.Limits.{Limits}
 use Rattle.std.specs.Prelude.{◌<◌, ◌≤◌, ◌≡◌, ◌⊎◌, Bool, true, false, if◌then◌else◌, List, [], ◌∷◌, ◌++◌, length, map, flat_map}
 use Rattle.std.specs.List.{AllByRecursion}
 use Rattle.ta_base.specs.declared.limits.TheConstants.{LARGEST_NUMBER}
@@ -132,8 +133,8 @@ pub record IsThreshold (t : Tree) (fall : Bool) (row : Linear) (c : TreeComparis
 abbrev pub IsRowAmong : Tree → List TreeComparison → Bool → Linear → Type 0
 IsRowAmong t cs fall row = (c : TreeComparison) × In c cs × IsThreshold t fall row c
 
--- a threshold guard in excess: its row is none of the 16 distinct rows of rise guards, or of the 6 of fall guards, before it
-pub record IsOneMore (t : Tree) (c : TreeComparison) : Type 0 where
+-- a threshold guard in excess: its row is none of the distinct rows of guards of its kind before it, which are as many as the limits allow
+pub record IsOneMore (l : Limits) (t : Tree) (c : TreeComparison) : Type 0 where
   pub earlier : List TreeComparison
   pub later : List TreeComparison
   pub place : tree_guards t ≡ earlier ++ c ∷ later
@@ -143,38 +144,38 @@ pub record IsOneMore (t : Tree) (c : TreeComparison) : Type 0 where
   pub others : List Linear
   pub distinct : Distinct others
   pub before : AllByRecursion (IsRowAmong t earlier fall) others
-  pub full : (if fall then 6 else 16) ≤ length others
+  pub full : (if fall then l.falls else l.rises) ≤ length others
   pub new : AllByRecursion (λ other. other ≡ row → ⊥) others
 
 -- ---- the table
-pub data IsFaultOf (t : Tree) (e : FileFault) : Type 0 where
+pub data IsFaultOf (l : Limits) (t : Tree) (e : FileFault) : Type 0 where
   -- F3: a name that occurs twice where names must be distinct
-  repeated : (ns : List Spelled) (n : Spelled) → AreApart t ns → Repeats ns n → e ≡ fault.Duplicate n.at → IsFaultOf t e
+  repeated : (ns : List Spelled) (n : Spelled) → AreApart t ns → Repeats ns n → e ≡ fault.Duplicate n.at → IsFaultOf l t e
   -- F4: a name that is used and not declared
-  unknown : (s : Scope) (n : Spelled) → IsUsed t s n → has_name s.places n.name ≡ false → e ≡ fault.Unknown n.at → IsFaultOf t e
+  unknown : (s : Scope) (n : Spelled) → IsUsed t s n → has_name s.places n.name ≡ false → e ≡ fault.Unknown n.at → IsFaultOf l t e
   -- F5: a name of a kind that may not occur there
   wrong_kind : (s : Scope) (n : Spelled) → IsUsed t s n → has_name s.places n.name ≡ true → has_name s.allowed n.name ≡ false → e ≡ fault.WrongKind n.at
-      → IsFaultOf t e
+      → IsFaultOf l t e
   -- F6: a declared name longer than 64 bytes
-  long : (n : Spelled) → IsDeclared t n → 64 < length n.name → e ≡ fault.TooLarge n.at → IsFaultOf t e
+  long : (n : Spelled) → IsDeclared t n → 64 < length n.name → e ≡ fault.TooLarge n.at → IsFaultOf l t e
   -- F6: a number above 1,000,000,000
-  large_number : (d : Digits) → IsNumberOf t d → LARGEST_NUMBER < number_of d.text → e ≡ fault.TooLarge d.at → IsFaultOf t e
+  large_number : (d : Digits) → IsNumberOf t d → LARGEST_NUMBER < number_of d.text → e ≡ fault.TooLarge d.at → IsFaultOf l t e
   -- F6: a term whose form has such a number
   large_term : (s : Scope) (sum : TreeSum) (x : PlacedTerm) → HasSum t s sum → In x (terms_of_terms (seen_sum sum))
-      → is_large_linear (linear_term s.allowed x.term) ≡ true → e ≡ fault.TooLarge x.at → IsFaultOf t e
+      → is_large_linear (linear_term s.allowed x.term) ≡ true → e ≡ fault.TooLarge x.at → IsFaultOf l t e
   -- F6: a comparison with a normal row that has one
   large_row : (s : Scope) (c : TreeComparison) → HasComparison t s c → any_large (comparison_rows s.allowed (plain_comparison c)) ≡ true
-      → e ≡ fault.TooLarge c.at → IsFaultOf t e
+      → e ≡ fault.TooLarge c.at → IsFaultOf l t e
   -- F6: the sum of `processes` whose form has one
-  large_sum : is_large_linear (linear_sum (names_of t).parameters (plain_sum t.processes)) ≡ true → e ≡ fault.TooLarge t.processes_at → IsFaultOf t e
-  -- F7: a guard in excess of 16 distinct rise guards or 6 distinct fall guards
-  one_more : (c : TreeComparison) → IsOneMore t c → e ≡ fault.TooMany c.at → IsFaultOf t e
+  large_sum : is_large_linear (linear_sum (names_of t).parameters (plain_sum t.processes)) ≡ true → e ≡ fault.TooLarge t.processes_at → IsFaultOf l t e
+  -- F7: a guard in excess of as many distinct rise guards or distinct fall guards as the limits allow
+  one_more : (c : TreeComparison) → IsOneMore l t c → e ≡ fault.TooMany c.at → IsFaultOf l t e
   -- F9: a guard that is not a threshold guard
   no_threshold : (c : TreeComparison) → In c (tree_guards t) → is_no_threshold (length (names_of t).parameters) (tree_guard_rows t c) ≡ true
-      → e ≡ fault.NotThreshold c.at → IsFaultOf t e
+      → e ≡ fault.NotThreshold c.at → IsFaultOf l t e
   -- F12: no location is initial
-  no_initial : any_initial t.locations ≡ false → e ≡ fault.NoInitial t.locations_at → IsFaultOf t e
+  no_initial : any_initial t.locations ≡ false → e ≡ fault.NoInitial t.locations_at → IsFaultOf l t e
 
 -- each item of the list of errors of meaning is an error of the table
 abbrev pub FaultsAreOfTheTable : Type 0
-FaultsAreOfTheTable = (t : Tree) → AllByRecursion (IsFaultOf t) (meaning_faults t)
+FaultsAreOfTheTable = (l : Limits) (t : Tree) → AllByRecursion (IsFaultOf l t) (meaning_faults l t)

@@ -16,17 +16,19 @@ use crate::places::Places;
 use crate::rules::resolve_rules;
 use std::alloc::{AllocError, Global};
 use ta_automaton::{Automaton, Condition, File};
+use ta_base::limits::Limits;
 use ta_base::{List, Text};
 use ta_linear::Form;
 use ta_syntax::{FileFault, Spelled, Tree, TreeLocation};
 
-/// The file that a tree means: Ok exactly where no error of meaning is there, else the first one.
-pub fn resolve(alloc: Global, tree: Tree) -> Result<File, FileFault>
-    ensures { Answers (meaning_faults tree) (MeansTree (plain_tree tree)) result }
+/// The file that a tree means: Ok exactly where no error of meaning is there, else the first one,
+/// guards being counted against the limits.
+pub fn resolve(alloc: Global, limits: &Limits, tree: Tree) -> Result<File, FileFault>
+    ensures { Answers (meaning_faults limits.now tree) (MeansTree (plain_tree tree)) result }
 {
     let places = declare_places(alloc, &tree)?;
     let head = resolve_head(alloc, &places, &tree)?;
-    resolve_rest(alloc, &places, head, tree)
+    resolve_rest(alloc, limits, &places, head, tree)
 }
 
 /// The number of processes and the resilience condition of a tree.
@@ -54,6 +56,7 @@ fn resolve_head(alloc: Global, places: &Places, tree: &Tree) -> Result<TreeHead,
 /// The file that a tree means, given what stands before its rules, where that has no error.
 fn resolve_rest(
     alloc: Global,
+    limits: &Limits,
     places: &Places,
     head: TreeHead,
     tree: Tree,
@@ -61,9 +64,9 @@ fn resolve_rest(
     requires places { kinds_of places.now ≡ names_of tree }
     requires clean { HeadClean tree }
     requires head { HeadOf tree head }
-    ensures { Answers (meaning_faults tree) (MeansTree (plain_tree tree)) result }
+    ensures { Answers (meaning_faults limits.now tree) (MeansTree (plain_tree tree)) result }
 {
-    let rules = resolve_rules(alloc, places, tree.rules.into_vec())?;
+    let rules = resolve_rules(alloc, limits, places, tree.rules.into_vec())?;
     let patterns = resolve_patterns(alloc, places, tree.patterns.into_vec())?;
     let names = declared_names(alloc, tree.parameters, tree.shared, tree.locations)?;
     let automaton = Automaton {
@@ -100,7 +103,7 @@ fn declared_names(
     shared: List<Spelled>,
     locations: List<TreeLocation>,
 ) -> Result<DeclaredNames, AllocError>
-    requires { length locations ≤ 32 }
+    requires { length locations ≤ 128 }
     ensures parameters { IfOk result (λ names. names.parameters ≡ map plain_name parameters) }
     ensures shared { IfOk result (λ names. names.shared ≡ map plain_name shared) }
     ensures locations { IfOk result (λ names. names.locations ≡ map location_name (map plain_location locations)) }
@@ -134,7 +137,7 @@ fn location_names(alloc: Global, locations: Vec<TreeLocation>) -> Result<Vec<Tex
 
 /// The numbers of the locations that are marked as initial.
 fn initial_locations(alloc: Global, locations: &[TreeLocation]) -> Result<Vec<u32>, AllocError>
-    requires { length locations.now ≤ 32 }
+    requires { length locations.now ≤ 128 }
     ensures { IfOk result (λ numbers. numbers.items ≡ initial_from 0 (map plain_location locations.now)) }
 {
     let mut numbers = Vec::new(alloc);

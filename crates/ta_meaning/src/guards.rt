@@ -11,6 +11,7 @@ use crate::conditions::resolve_comparison;
 use crate::places::Places;
 use crate::thresholds::{Guard, guard_of};
 use std::alloc::Global;
+use ta_base::limits::Limits;
 use ta_linear::Row;
 use ta_syntax::{FileFault, TreeComparison};
 
@@ -39,67 +40,69 @@ pub struct GuardMasks {
 /// none of them.
 pub(crate) fn number_guards(
     alloc: Global,
+    limits: &Limits,
     places: &Places,
     guards: &mut GuardList,
     comparisons: &[TreeComparison],
 ) -> Result<GuardMasks, FileFault>
-    requires { GuardsKept (kinds_of places.now) guards.old }
-    ensures { Answers (guards_faults (length (kinds_of places.now).parameters) (in_guards (kinds_of places.now)) (guards_so_far (kinds_of places.now) guards.old) comparisons.now) (λ masks. GuardsNumbered (kinds_of places.now) guards.old (map plain_comparison comparisons.now) guards.new masks) result }
+    requires { GuardsKept limits.now (kinds_of places.now) guards.old }
+    ensures { Answers (guards_faults limits.now (length (kinds_of places.now).parameters) (in_guards (kinds_of places.now)) (guards_so_far (kinds_of places.now) guards.old) comparisons.now) (λ masks. GuardsNumbered limits.now (kinds_of places.now) guards.old (map plain_comparison comparisons.now) guards.new masks) result }
 {
     let mut masks = GuardMasks { rise: 0, fall: 0 };
     for comparison in comparisons {
-        let number = number_guard(alloc, places, guards, comparison)?;
+        let number = number_guard(alloc, limits, places, guards, comparison)?;
         masks = with_number(masks, number);
     }
     Ok(masks)
 }
 
 /// The number of the guard that a comparison is, after the guards so far where it is none of them:
-/// F9 for no threshold guard, F7 for one more than 16 rise guards or 6 fall guards.
+/// F9 for no threshold guard, F7 for one more than the limits allow.
 fn number_guard(
     alloc: Global,
+    limits: &Limits,
     places: &Places,
     guards: &mut GuardList,
     comparison: &TreeComparison,
 ) -> Result<GuardNumber, FileFault>
-    requires { GuardsKept (kinds_of places.now) guards.old }
-    ensures { Answers (guard_faults (length (kinds_of places.now).parameters) (in_guards (kinds_of places.now)) (guards_so_far (kinds_of places.now) guards.old) comparison.now) (λ number. GuardNumbered (kinds_of places.now) guards.old (plain_comparison comparison.now) guards.new number) result }
+    requires { GuardsKept limits.now (kinds_of places.now) guards.old }
+    ensures { Answers (guard_faults limits.now (length (kinds_of places.now).parameters) (in_guards (kinds_of places.now)) (guards_so_far (kinds_of places.now) guards.old) comparison.now) (λ number. GuardNumbered limits.now (kinds_of places.now) guards.old (plain_comparison comparison.now) guards.new number) result }
 {
     let allowed = places.parameters + places.shared;
     let rows = resolve_comparison(alloc, places, allowed, comparison)?;
     match guard_of(places.parameters, rows) {
         None => Err(FileFault::NotThreshold(comparison.at)),
         Some(Guard::Rise(row)) => {
-            let number = number_row(&mut guards.rise, row, 16, comparison.at)?;
+            let number = number_row(&mut guards.rise, row, limits.rises, comparison.at)?;
             Ok(GuardNumber::Rise(number))
         }
         Some(Guard::Fall(row)) => {
-            let number = number_row(&mut guards.fall, row, 6, comparison.at)?;
+            let number = number_row(&mut guards.fall, row, limits.falls, comparison.at)?;
             Ok(GuardNumber::Fall(number))
         }
     }
 }
 
 /// The number of a row among rows, as one more where it is none of them: F7 past the limit.
-fn number_row(rows: &mut Vec<Row>, row: Row, limit: u32, at: u32) -> Result<u32, FileFault>
+fn number_row(rows: &mut Vec<Row>, row: Row, limit: usize, at: u32) -> Result<u32, FileFault>
     requires few { length rows.old.items ≤ limit }
-    requires limit { limit ≤ 16 }
+    requires limit { limit ≤ 64 }
     ensures { RowAnswers rows.old.items row limit at rows.new.items result }
 {
     if let Some(number) = find_row(rows.as_slice(), &row) {
         return Ok(number);
     }
-    let number = rows.len() as u32;
-    if number >= limit {
+    if rows.len() >= limit {
         return Err(FileFault::TooMany(at));
     }
+    let number = rows.len() as u32;
     rows.push(row)?;
     Ok(number)
 }
 
 /// The number of the first of some rows that is the same as another.
 fn find_row(rows: &[Row], row: &Row) -> Option<u32>
-    requires { length rows.now ≤ 16 }
+    requires { length rows.now ≤ 64 }
     ensures none { IfNone result (¬ Has rows.now row.now) }
     ensures some { IfSome result (λ number. SameAt rows.now row.now number) }
 {

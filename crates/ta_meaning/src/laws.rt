@@ -3,7 +3,7 @@
 
 ghost use Rattle.ta_meaning.specs.Laws.{TreesAreUnique, FaultsAreUnique, FilesAreUnique, FirstFaultsAreUnique};
 
-/// A text has at most one tree, one list of errors of what it means, one file that it means, and one first error.
+/// For every row of limits a text has at most one tree, one list of errors of what it means, one file that it means, and one first error.
 pub fn meanings_are_unique()
     ensures trees { TreesAreUnique }
     ensures faults { FaultsAreUnique }

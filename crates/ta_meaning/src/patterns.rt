@@ -27,7 +27,7 @@ pub fn resolve_patterns(
     places: &Places,
     patterns: Vec<TreePattern>,
 ) -> Result<Vec<Pattern>, FileFault>
-    requires { length patterns.items ≤ 16 }
+    requires { length patterns.items ≤ 64 }
     ensures { Answers (patterns_faults (kinds_of places.now) [] patterns.items) (λ ps. ResolvedPatterns (kinds_of places.now) (map plain_pattern patterns.items) ps.items) result }
 {
     let mut resolved = Vec::new(alloc);

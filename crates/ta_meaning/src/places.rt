@@ -14,9 +14,9 @@ pub struct Places {
     pub parameters: u32,
     pub shared: u32,
     pub ghost within: { parameters + shared ≤ length names },
-    pub ghost few: { length names ≤ 64 },
-    pub ghost few_locations: { length names ≤ parameters + shared + 32 },
-    pub ghost few_parameters: { parameters ≤ 16 },
-    pub ghost few_shared: { shared ≤ 16 },
+    pub ghost few: { length names ≤ 224 },
+    pub ghost few_locations: { length names ≤ parameters + shared + 128 },
+    pub ghost few_parameters: { parameters ≤ 32 },
+    pub ghost few_shared: { shared ≤ 64 },
     pub ghost distinct: { Distinct names } by { Distinct-prop names },
 }

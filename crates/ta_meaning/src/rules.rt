@@ -18,6 +18,7 @@ use crate::updates::read_updates;
 use std::alloc::Global;
 use ta_automaton::Rule;
 use ta_base::List;
+use ta_base::limits::Limits;
 use ta_linear::Row;
 use ta_syntax::{FileFault, Spelled, TreeRule};
 
@@ -32,11 +33,12 @@ pub struct Rules {
 /// The rules that a tree's rules mean.
 pub fn resolve_rules(
     alloc: Global,
+    limits: &Limits,
     places: &Places,
     rules: Vec<TreeRule>,
 ) -> Result<Rules, FileFault>
-    requires { length rules.items ≤ 128 }
-    ensures { Answers (rules_faults (kinds_of places.now) [] no_guards rules.items) (λ r. ResolvedRules (kinds_of places.now) (map plain_rule rules.items) r.rise.items r.fall.items r.rules.items) result }
+    requires { length rules.items ≤ 1024 }
+    ensures { Answers (rules_faults limits.now (kinds_of places.now) [] no_guards rules.items) (λ r. ResolvedRules limits.now (kinds_of places.now) (map plain_rule rules.items) r.rise.items r.fall.items r.rules.items) result }
 {
     let mut guards = GuardList {
         rise: Vec::new(alloc),
@@ -44,7 +46,14 @@ pub fn resolve_rules(
     };
     let mut resolved = Vec::new(alloc);
     for rule in rules {
-        let one = resolve_rule(alloc, places, resolved.as_slice(), &mut guards, rule)?;
+        let one = resolve_rule(
+            alloc,
+            limits,
+            places,
+            resolved.as_slice(),
+            &mut guards,
+            rule,
+        )?;
         resolved.push(one)?;
     }
     Ok(Rules {
@@ -57,15 +66,16 @@ pub fn resolve_rules(
 /// The rule that a tree's rule means, after the names of rules and the guards so far.
 fn resolve_rule(
     alloc: Global,
+    limits: &Limits,
     places: &Places,
     before: &[Rule],
     guards: &mut GuardList,
     rule: TreeRule,
 ) -> Result<Rule, FileFault>
-    requires { GuardsKept (kinds_of places.now) guards.old }
-    ensures { Answers (rule_faults (kinds_of places.now) (map name_of before.now) (guards_so_far (kinds_of places.now) guards.old) rule) (λ r. RuleRead (kinds_of places.now) (map name_of before.now) guards.old rule (map name_of before.now ++ rule.name.name ∷ []) guards.new r) result }
+    requires { GuardsKept limits.now (kinds_of places.now) guards.old }
+    ensures { Answers (rule_faults limits.now (kinds_of places.now) (map name_of before.now) (guards_so_far (kinds_of places.now) guards.old) rule) (λ r. RuleRead limits.now (kinds_of places.now) (map name_of before.now) guards.old rule (map name_of before.now ++ rule.name.name ∷ []) guards.new r) result }
 {
-    let parts = rule_parts(alloc, places, before, guards, &rule)?;
+    let parts = rule_parts(alloc, limits, places, before, guards, &rule)?;
     Ok(Rule {
         name: rule.name.name,
         from: parts.from,
@@ -88,18 +98,19 @@ pub struct RuleParts {
 /// The parts of the rule that a tree's rule means, after the names of rules and the guards so far.
 fn rule_parts(
     alloc: Global,
+    limits: &Limits,
     places: &Places,
     before: &[Rule],
     guards: &mut GuardList,
     rule: &TreeRule,
 ) -> Result<RuleParts, FileFault>
-    requires { GuardsKept (kinds_of places.now) guards.old }
-    ensures { Answers (rule_faults (kinds_of places.now) (map name_of before.now) (guards_so_far (kinds_of places.now) guards.old) rule.now) (λ parts. RuleRead (kinds_of places.now) (map name_of before.now) guards.old rule.now (map name_of before.now ++ rule.now.name.name ∷ []) guards.new (rule_of rule.now parts)) result }
+    requires { GuardsKept limits.now (kinds_of places.now) guards.old }
+    ensures { Answers (rule_faults limits.now (kinds_of places.now) (map name_of before.now) (guards_so_far (kinds_of places.now) guards.old) rule.now) (λ parts. RuleRead limits.now (kinds_of places.now) (map name_of before.now) guards.old rule.now (map name_of before.now ++ rule.now.name.name ∷ []) guards.new (rule_of rule.now parts)) result }
 {
     check_declared(before, &rule.name)?;
     let from = location_in(places, &rule.from)?;
     let to = location_in(places, &rule.to)?;
-    let masks = number_guards(alloc, places, guards, rule.guards.as_slice())?;
+    let masks = number_guards(alloc, limits, places, guards, rule.guards.as_slice())?;
     let updates = read_updates(alloc, places, rule.updates.as_slice())?;
     Ok(RuleParts {
         from,

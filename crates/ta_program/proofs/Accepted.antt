@@ -1,4 +1,5 @@
 -- what `verify` puts `check` accepts
+use Rattle.ta_base.specs.LimitRows.{narrow}
 use Rattle.ta_program.proofs.Common.{tree_safe, ◌≡◌, ◌∙◌, ◌≤◌, ℕ, List, [], length, Option, None, Some, refl, sym, ap, subst, inl, File, AllSafe, Certificate}
 use Rattle.ta_program.proofs.Common.{Told, WhereTold, is_more, sub_told, IsSo, Performs, State, HoldsText, in_files, seen, Answer, FileMeans, claiming}
 use Rattle.ta_program.proofs.Common.{CERTIFICATE, check_meaning, IsFile, certificate_kind, file_kind, SaysOrFails, WrittenIsAccepted, VerdictHolds, safe_among}
@@ -17,8 +18,8 @@ use Rattle.ta_verdict.proofs.VerdictsMade.{held_at}
 
 -- `check` of such files
 module _ (name out : List ℕ) (told : Told) (file : File) (numbers text : List ℕ) (is_file : IsFile (in_files told) name file) (held : told out ≡ Some text)
-    (within : length text ≤ CERTIFICATE.bytes) (accepted : Certificate file text numbers) (safe : AllSafe file numbers) where
-  is_certificate : FileMeans (certificate_kind (claiming claim.Safe file)) (in_files told) out numbers
+    (within : length text ≤ CERTIFICATE.bytes) (accepted : Certificate file narrow.line_bytes text numbers) (safe : AllSafe file numbers) where
+  is_certificate : FileMeans (certificate_kind (claiming claim.Safe file narrow.line_bytes)) (in_files told) out numbers
   is_certificate = record { bytes = text; had = record { seen = held; within = within }; means = record { accepted = accepted; safe = safe } }
 
   is_so : IsSo (check_meaning name out no_options) (in_files told) 0
@@ -33,10 +34,10 @@ module _ (name out : List ℕ) (told : Told) (file : File) (numbers text : List 
   says_just_these answer (other, is, (found, proved, says)) =
       let same : other ≡ file = same_file told name file other is is_file in
       let texts : proved.bytes ≡ text = (let e : Some proved.bytes ≡ Some text = sym proved.had.seen ∙ held in cc) in
-      let moved : Certificate file text found = subst (λ (f : File). Certificate f text found) same
-      (subst (λ (t : List ℕ). Certificate other t found) texts proved.means.accepted) in
+      let moved : Certificate file narrow.line_bytes text found = subst (λ (f : File). Certificate f narrow.line_bytes text found) same
+      (subst (λ (t : List ℕ). Certificate other narrow.line_bytes t found) texts proved.means.accepted) in
       says.tells.told ∙ ap (λ (f : File). check_text f found) same
-      ∙ ap (check_text file) (one_list (claiming claim.Safe file) text found numbers moved accepted)
+      ∙ ap (check_text file) (one_list (claiming claim.Safe file narrow.line_bytes) text found numbers moved accepted)
 
   pub checks : (second : ℕ) (begun ended : State) → begun.shelf.files ≡ Some told → Performs (check_meaning name out no_options) second begun ended
       → SaysOrFails (check_text file numbers) second begun ended
@@ -62,7 +63,8 @@ written_is_accepted words first before after h asked out is given low told after
     let is_first : IsFile (in_files files.0) name r.file = is_more file_kind (seen (Some files.0) read) (in_files files.0) (sub_told files.0 read) name r.file
     (subst (λ (o : Option Told). IsFile (seen o read) name r.file) files.1 r.is_file) in
     let is_now = is_kept file_kind files.0 told name r.file (files.2.others name (out_differs words asked out is given)) is_first in
-    let safe = ones_hold (claiming claim.Safe r.file) (first_picked r.pick) (picked r.pick r.file.patterns) r.verdicts (λ k p v nodes named given size.
+    let safe = ones_hold (claiming claim.Safe r.file narrow.line_bytes) (first_picked r.pick) (picked r.pick r.file.patterns) r.verdicts
+    (λ k p v nodes named given size.
     tree_safe r.file budget (first_picked r.pick + k) p v nodes size
     (held_at (VerdictHolds r.file budget) (first_picked r.pick) (picked r.pick r.file.patterns) r.verdicts r.are.hold k p v named given))
     (picked_there r.pick r.file.patterns) in

@@ -1,4 +1,5 @@
 -- what `rest` puts `rest-check` accepts
+use Rattle.ta_base.specs.LimitRows.{narrow}
 use Rattle.ta_program.proofs.Common.{true, None, ◌≡◌, ◌∙◌, ◌≤◌, ◌+◌, ℕ, List, [], ◌∷◌, length, map, Option, Some, slice_get, refl, sym, ap, subst, inl}
 use Rattle.ta_program.proofs.Common.{Automaton, File, Pattern, Verdict, Endings, IsEnding, RestSafe, EachHolds, EndingVerdictHolds, some_at, slice_get_within}
 use Rattle.ta_program.proofs.Common.{arith, Told, WhereTold, is_more, sub_told, IsSo, Performs, State, HoldsText, in_files, seen, FileMeans, Answer, SafeOne}
@@ -71,9 +72,9 @@ alike_ones number (p ∷ ps) (q ∷ qs) (v ∷ vs) e f = alike_one number p q (t
 -- `rest-check` of such files, with these names
 module _ (name out : List ℕ) (names : Option (List ℕ)) (told : Told) (file : File) (ends : FileEndings) (silent numbers text : List ℕ)
     (is_file : IsFile (in_files told) name file) (are_ends : IsEnds file ends) (are_silent : AreSilent file.automaton names silent)
-    (held : told out ≡ Some text) (within : length text ≤ CERTIFICATE.bytes) (accepted : QuietRestCertificate ends.ending silent text numbers)
+    (held : told out ≡ Some text) (within : length text ≤ CERTIFICATE.bytes) (accepted : QuietRestCertificate ends.ending silent narrow.line_bytes text numbers)
     (safe : AllQuietRestSafe ends.ending silent numbers) where
-  is_certificate : FileMeans (certificate_kind (claiming_with claim.RestSafe ends.ending silent)) (in_files told) out numbers
+  is_certificate : FileMeans (certificate_kind (claiming_with claim.RestSafe ends.ending silent narrow.line_bytes)) (in_files told) out numbers
   is_certificate = record { bytes = text; had = record { seen = held; within = within }; means = record { accepted = accepted; safe = safe } }
 
   is_so : IsSo (rest_check_meaning name out names no_options) (in_files told) 0
@@ -92,11 +93,11 @@ module _ (name out : List ℕ) (names : Option (List ℕ)) (told : Told) (file :
       let there : places ≡ silent = silent_once file.automaton names places silent (subst (λ (f : File). AreSilent f.automaton names places) same quiet)
       are_silent in
       let texts : proved.bytes ≡ text = (let e : Some proved.bytes ≡ Some text = sym proved.had.seen ∙ held in cc) in
-      let first = subst (λ (ps : List ℕ). QuietRestCertificate found_ends.ending ps proved.bytes found) there proved.means.accepted in
-      let second = subst (λ (t : List ℕ). QuietRestCertificate found_ends.ending silent t found) texts first in
-      let moved = subst (λ (e : FileEndings). QuietRestCertificate e.ending silent text found) one second in
+      let first = subst (λ (ps : List ℕ). QuietRestCertificate found_ends.ending ps narrow.line_bytes proved.bytes found) there proved.means.accepted in
+      let second = subst (λ (t : List ℕ). QuietRestCertificate found_ends.ending silent narrow.line_bytes t found) texts first in
+      let moved = subst (λ (e : FileEndings). QuietRestCertificate e.ending silent narrow.line_bytes text found) one second in
       says.tells.told ∙ ap (λ (f : File). rest_check_text f found) same
-      ∙ ap (rest_check_text file) (one_list (claiming_with claim.RestSafe ends.ending silent) text found numbers moved accepted)
+      ∙ ap (rest_check_text file) (one_list (claiming_with claim.RestSafe ends.ending silent narrow.line_bytes) text found numbers moved accepted)
 
   rest_checks : (second : ℕ) (begun ended : State) → begun.shelf.files ≡ Some told → Performs (rest_check_meaning name out names no_options) second begun ended
       → SaysOrFails (rest_check_text file numbers) second begun ended
@@ -122,7 +123,7 @@ written_at_rest_is_accepted words first before after h asked out is given low to
     let loud = loud_by_words words first before after h asked is r.file r.silent r.are_silent in
     let pick = r.pick in
     let at = safe_at r.file ending r.ends.added (resting asked.verify.budget r.silent) loud endings.automaton pick r.verdicts endings.patterns r.are.hold in
-    let safe = ones_hold (claiming_with claim.RestSafe ending r.silent) (first_picked pick) (picked pick ending.patterns) r.verdicts at
+    let safe = ones_hold (claiming_with claim.RestSafe ending r.silent narrow.line_bytes) (first_picked pick) (picked pick ending.patterns) r.verdicts at
     (picked_there pick ending.patterns) in
     let many = as_many (EndingVerdictHolds r.file ending r.ends.added (resting asked.verify.budget r.silent)) (first_picked pick) (picked pick ending.patterns)
     r.verdicts r.are.hold in

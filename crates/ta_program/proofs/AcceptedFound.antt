@@ -1,4 +1,5 @@
 -- what `search` puts `check` accepts
+use Rattle.ta_base.specs.LimitRows.{narrow}
 use Rattle.ta_program.proofs.Common.{Budget, ◌≡◌, ◌≤◌, ℕ, List, [], ◌∷◌, ◌++◌, length, Bool, Option, Some, refl, sym, subst, inl, inr, arith, IsSome}
 use Rattle.ta_program.proofs.Common.{range_with_len, claiming, SearchEnd, Tried, Template, filled_text, AreTried, IsSearchEnd, LastIsFound, vectors, Told}
 use Rattle.ta_program.proofs.Common.{WhereTold, is_more, sub_told, in_files, seen, FILE, IsFile, FoundIsAccepted, HoldFound, IsTemplate, template_kind}
@@ -53,7 +54,7 @@ found_is_accepted words before after h asked out filled is out_is filled_is told
     let held : told filled ≡ Some text = holds.first filled filled_is in
     let is_file : IsFile (in_files told) filled file = record
     { bytes = text; had = record { seen = held; within = found_within t asked.budget s.end s.is_end last }; means = last.found.legal } in
-    let safe = each_holds (claiming claim.Safe file) 0 file.patterns last.found.safe (get_from_none file.patterns) in
+    let safe = each_holds (claiming claim.Safe file narrow.line_bytes) 0 file.patterns last.found.safe (get_from_none file.patterns) in
     let short = found.within (subst (λ (o : Option (List ℕ)). IsSome o) (sym out_is) refl) in
     record {
       template = t;

@@ -15,6 +15,7 @@ use Rattle.ta_maker.specs.Made.{IsFamilyNumber, Makes}
 use Rattle.ta_maker.specs.declared.fault.MakerFault.{MakerFault}
 use Rattle.ta_maker.specs.declared.fault.MakerFault.TheVariants as maker_fault
 use Rattle.ta_meaning.specs.FirstFault.{FirstFault}
+use Rattle.ta_base.specs.LimitRows.{narrow}
 use Rattle.ta_meaning.specs.Reading.{Legal}
 use Rattle.ta_program.proofs.UnsafePrinted.{unsafe_occurs}
 use Rattle.ta_syntax.specs.declared.fault.FileFault.{FileFault}
@@ -29,22 +30,23 @@ made_memory k maker_fault.Range is (inr more) = let high = is.high in absurd (om
 
 pub family_fits : (k : ℕ) (bytes : List ℕ) → IsFlawless k → bytes ≡ family_text k → length bytes ≤ FILE_BYTES
 unfolding family_text
-family_fits k bytes fine are = subst (λ (bs : List ℕ). length bs ≤ FILE_BYTES) (sym are) fine.short
+family_fits k bytes fine are = subst (λ (bs : List ℕ). length bs ≤ FILE_BYTES) (sym are) (omega (arith, fine.short))
 
 pub read_memory : (k : ℕ) (bytes : List ℕ) (e : FileFault) → IsFlawless k → bytes ≡ family_text k
-    → (e ≡ file_fault.Memory) ⊎ FirstFault bytes e → e ≡ file_fault.Memory
+    → (e ≡ file_fault.Memory) ⊎ FirstFault narrow bytes e → e ≡ file_fault.Memory
 unfolding family_text
 read_memory k bytes e fine are (inl memory) = memory
-read_memory k bytes e fine are (inr first) = absurd (fine.no_fault e (subst (λ (bs : List ℕ). FirstFault bs e) are first))
+read_memory k bytes e fine are (inr first) = absurd (fine.no_fault e (subst (λ (bs : List ℕ). FirstFault narrow bs e) are first))
 
-pub feed_memory : (file : File) (text piece rest : List ℕ) (new : Checker) (f : CertFault) → subject_of new ≡ claiming claim.Safe file
+pub feed_memory : (file : File) (text piece rest : List ℕ) (new : Checker) (f : CertFault) → subject_of new ≡ claiming claim.Safe file narrow.line_bytes
     → CheckerFeedAnswers text piece new (Err f) → IsCertified file ((text ++ piece) ++ rest) → f ≡ cert_fault.Memory
 feed_memory file text piece rest new cert_fault.Memory same h c = refl
 feed_memory file text piece rest new f same h c =
     absurd (no_longer_certificate (subject_of new) (text ++ piece) f h rest c.0
     (subst (λ (s : Subject). CertificateFor s ((text ++ piece) ++ rest) c.0) (sym same) c.1))
 
-pub finish_memory : (file : File) (text : List ℕ) (f : CertFault) → IsExactCheck (claiming claim.Safe file) text (Err f) → IsCertified file text
+pub finish_memory : (file : File) (text : List ℕ) (f : CertFault) → IsExactCheck (claiming claim.Safe file narrow.line_bytes) text (Err f)
+    → IsCertified file text
     → f ≡ cert_fault.Memory
 finish_memory file text f exact c = let h : false ≡ true = exact.certificate c.0 c.1 in absurd (cc)
 
@@ -61,9 +63,9 @@ not_unsafe file p (Spent nodes) named safe h = refl
 not_unsafe file p (Overflow node kind) named safe h = refl
 
 -- verdicts with the text of their certificate, of which the first is said
-pub says_bench : (k : ℕ) (file : File) → Legal (family_text k) file → AllByRecursion (runs.Safe file.automaton) file.patterns → (vs : List Verdict)
+pub says_bench : (k : ℕ) (file : File) → Legal narrow (family_text k) file → AllByRecursion (runs.Safe file.automaton) file.patterns → (vs : List Verdict)
     → AreVerdicts file BUDGET vs
-    → (text : List ℕ) → CertificateOf file BUDGET vs text → Certificate file text (safe_numbers file vs) → (p : Pattern) (v : Verdict)
+    → (text : List ℕ) → CertificateOf file BUDGET vs text → Certificate file narrow.line_bytes text (safe_numbers file vs) → (p : Pattern) (v : Verdict)
     → slice_get file.patterns 0 ≡ Some p → slice_get vs 0 ≡ Some v
     → (answer : Answer) → Writes (bench_status v) (bench_text k p v) answer → SaysBench k answer
 says_bench k file legal each vs are text certificate accepted p v named given answer writes =
@@ -88,9 +90,9 @@ says_bench k file legal each vs are text certificate accepted p v named given an
     }
 
 -- and an answer that says so, if it is one
-pub says_ok : (k : ℕ) (file : File) → Legal (family_text k) file → AllByRecursion (runs.Safe file.automaton) file.patterns → (vs : List Verdict)
+pub says_ok : (k : ℕ) (file : File) → Legal narrow (family_text k) file → AllByRecursion (runs.Safe file.automaton) file.patterns → (vs : List Verdict)
     → AreVerdicts file BUDGET vs
-    → (text : List ℕ) → CertificateOf file BUDGET vs text → Certificate file text (safe_numbers file vs) → (p : Pattern) (v : Verdict)
+    → (text : List ℕ) → CertificateOf file BUDGET vs text → Certificate file narrow.line_bytes text (safe_numbers file vs) → (p : Pattern) (v : Verdict)
     → slice_get file.patterns 0 ≡ Some p → slice_get vs 0 ≡ Some v
     → (result : Result Answer AllocError) → IfOk result (Writes (bench_status v) (bench_text k p v)) → IfOk result (SaysBench k)
 says_ok k file legal each vs are text certificate accepted p v named given (Ok answer) writes = says_bench k file legal each vs are text certificate accepted p

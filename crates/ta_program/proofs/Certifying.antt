@@ -1,5 +1,7 @@
 -- what an answer with a certificate says
 use Rattle.std.specs.Prelude.{IfErr, IfOk, OnOk}
+use Rattle.ta_automaton.specs.Narrow.{IsWithin}
+use Rattle.ta_base.specs.declared.limits.Limits.{Limits}
 use Rattle.ta_program.specs.Certified.{PutsCertificate}
 use Rattle.ta_program.specs.Inside.Certifying.{CertifiesReport, IsPlain, SaysStaged}
 use Rattle.ta_program.specs.Inside.Reported.{ReportedTo}
@@ -78,7 +80,7 @@ module _ (asked : VerifyWords) (file : File) (pick : Pick) (vs : List Verdict) (
   }
 
   module _ (out : List ℕ) (given : asked.out ≡ Some out) (text : List ℕ) (certificate : CertificateOn file pick asked.budget vs text)
-      (accepted : Certificate file text (safe_among file pick vs)) where
+      (accepted : (l : Limits) → IsWithin l file.automaton → Certificate file l.line_bytes text (safe_among file pick vs)) where
     reports : (answer : Answer) → ReportsAndPuts number report out text answer → Reports asked file pick answer
     reports answer c = record {
       sample = reported.sample;
@@ -93,7 +95,7 @@ module _ (asked : VerifyWords) (file : File) (pick : Pick) (vs : List Verdict) (
         named = c.named;
         certificate = subst (CertificateOn file pick asked.budget vs) (sym c.holds) certificate;
         within = (let few = c.within in let same = c.holds in omega (arith, ap length same));
-        accepted = subst (λ (t : List ℕ). Certificate file t (safe_among file pick vs)) (sym c.holds) accepted;
+        accepted = λ l few. subst (λ (t : List ℕ). Certificate file l.line_bytes t (safe_among file pick vs)) (sym c.holds) (accepted l few);
       });
     }
 

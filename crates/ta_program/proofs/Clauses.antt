@@ -1,4 +1,7 @@
 -- from how a run ends to its clauses
+use Rattle.ta_base.specs.LimitRows.{narrow}
+use Rattle.ta_meaning.proofs.FileLimits.{legal_within}
+use Rattle.ta_automaton.specs.Narrow.{IsWithin}
 use Rattle.ta_program.proofs.Common.{verdict_safe, Budget, ◌≡◌, ◌≢◌, ◌≤◌, ◌+◌, ℕ, Bool, true, false, List, [], ◌∷◌, Option, None, Some, refl, sym, ap, subst}
 use Rattle.ta_program.proofs.Common.{◌∙◌, inl, arith, rules, codes, if◌then◌else◌, list_any, AllByRecursion, bytes_eq, or_parts, File, Pattern, PatternSafe}
 use Rattle.ta_program.proofs.Common.{one_legal, told_safe, report_of, Verdict, Safe, Unsafe, Spent, Overflow, filled_text, Grew, OthersStay, Told, WhereTold}
@@ -244,7 +247,7 @@ module _ (words : List (List ℕ)) (number : ℕ) (before after : State) (h : Ru
         stands = holds_text puts.put out puts.named before.shelf.files after.shelf.files
             (subst (λ (o : Option Told). WhereTold (HoldsPut puts.put) o after.shelf.files) stand.1 stand.2);
         told = tells_put puts.put out puts.named made (subst (λ (ps : List Put). PutWhole (map put_text ps) made) puts.only a.whole);
-        accepted = puts.accepted;
+        accepted = puts.accepted narrow (legal_within narrow report.is_file.bytes report.file report.is_file.means);
       }
 
   pub certificate_written : CertificateWritten ended
@@ -431,7 +434,7 @@ module _ (words : List (List ℕ)) (number : ℕ) (before after : State) (h : Ru
         is_file = a.holds.holds.1;
         wrote = a.written
             ∙ ap (with_text before.out.written) (says.writes.written ∙ says.is);
-        within = counts_within a.holds.holds.0;
+        within = let is = a.holds.holds.1 in counts_within is.bytes a.holds.holds.0 is.means;
       }
 
   pub counts_file : CountsFile ended
@@ -530,7 +533,10 @@ module _ (words : List (List ℕ)) (number : ℕ) (before after : State) (h : Ru
         stands = holds_text puts.put out puts.named before.shelf.files after.shelf.files
             (subst (λ (o : Option Told). WhereTold (HoldsPut puts.put) o after.shelf.files) stand.1 stand.2);
         told = tells_put puts.put out puts.named made (subst (λ (ps : List Put). PutWhole (map put_text ps) made) puts.only a.whole);
-        accepted = puts.accepted;
+        accepted =
+            let report = at_rest asked view made a in
+            puts.accepted narrow
+            (subst (IsWithin narrow) (sym report.are_ends.endings.automaton) (legal_within narrow report.is_file.bytes report.file report.is_file.means));
       }
 
   -- what an answer of `rest` says
@@ -762,7 +768,7 @@ module _ (words : List (List ℕ)) (number : ℕ) (before after : State) (h : Ru
       (r : RestCheckHolds number view name certificate names options before.out.written after.out.written) (k : ℕ) (p : Pattern)
       → slice_get r.file.patterns k ≡ Some p → IsTrue (is_proved r.numbers k) → RestSafeBut names r.file.automaton p
   rest_proved_safe name certificate names options view r k p named is_there =
-      let found : ClaimHolds (claiming_with claim.RestSafe r.file r.silent) k = listed (ClaimHolds (claiming_with claim.RestSafe r.file r.silent)) k r.numbers
+      let found : ClaimHolds claim.RestSafe r.file r.silent k = listed (ClaimHolds claim.RestSafe r.file r.silent) k r.numbers
       r.safe is_there in
       let same : Some found.pattern ≡ Some p = sym found.named ∙ named in
       let is : found.pattern ≡ p = cc in
@@ -967,7 +973,7 @@ module _ (words : List (List ℕ)) (number : ℕ) (before after : State) (h : Ru
         bytes = r.is_file.bytes;
         held = r.is_file.had.seen;
         safe = λ text printed file orders e.
-            let same : r.file ≡ file = one_legal r.is_file.bytes r.file printed.file r.is_file.means printed.legal
+            let same : r.file ≡ file = one_legal narrow r.is_file.bytes r.file printed.file r.is_file.means printed.legal
             ∙ file_same printed.file file (map pair_of printed.is.orders) orders (sym printed.is.shown ∙ sym e) in
             subst (EachPicked runs.Safe asked.pattern) same safe;
       })
@@ -1106,5 +1112,5 @@ passes_legal (Command legal m) number before after h = λ told is legal. (
 
 -- told files hold one file
 pub same_file : (told : Told) (name : List ℕ) (file other : File) → IsFile (in_files told) name other → IsFile (in_files told) name file → other ≡ file
-same_file told name file other h is = one_legal is.bytes other file
+same_file told name file other h is = one_legal narrow is.bytes other file
     (subst (λ (bytes : List ℕ). file_kind.means bytes other) (whole_one told name file_kind.limit.bytes h.bytes is.bytes h.had is.had) h.means) is.means

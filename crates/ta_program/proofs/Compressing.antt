@@ -1,4 +1,5 @@
 -- Where `compress` answers, and where a guard leaves the range.
+use Rattle.ta_base.specs.LimitRows.{narrow}
 use Rattle.ta_program.proofs.Common.{◌≡◌, ◌∙◌, ◌⊎◌, ℕ, List, [], Option, Some, subst, refl, inl, inr, File, Run, Told, TwoNames, FileMeans, IsFile, State}
 use Rattle.ta_program.proofs.Common.{Performs, compress_meaning, file_kind, in_files, no_hindrance, one_legal, replies, replies_monotone, seen, whole_one}
 use Rattle.ta_program.proofs.Common.{CanCompress, Compresses, LeavesRange, SaysShort, long_kind, out_of_range_line, short_meaning}
@@ -12,7 +13,7 @@ use Rattle.ta_program.proofs.Meanings.{compress_decides, short_monotone}
 
 -- known files hold one file
 one_file : (told : Told) (name : List ℕ) (file other : File) → IsFile (in_files told) name file → IsFile (in_files told) name other → file ≡ other
-one_file told name file other h is = one_legal is.bytes file other
+one_file told name file other h is = one_legal narrow is.bytes file other
     (subst (λ (bytes : List ℕ). file_kind.means bytes file) (whole_one told name file_kind.limit.bytes h.bytes is.bytes h.had is.had) h.means) is.means
 
 -- what can be compressed is not refused

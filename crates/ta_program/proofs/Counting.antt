@@ -1,9 +1,17 @@
 -- lines of counts, one behind the other
 use Rattle.ta_program.proofs.Common.{ℕ, List, [], ◌∷◌, ◌++◌, ◌+◌, ◌<◌, ◌≤◌, ◌≡◌, AllByRecursion, File, Pattern, ap, arith, count_line, counts_of, drop}
 use Rattle.ta_program.proofs.Common.{get_or, inl, inr, length, max, most_events, next_item, piece_written, refl}
+use Rattle.std.proofs.lemmas.List.{length-map}
 use Rattle.std.proofs.lemmas.Bool.Decides.{nat_tests}
 use Rattle.std.specs.Ordering.{nat_cmp, ord_max}
 use Rattle.ta_automaton.specs.Patterns.{PatternWithin}
+use Rattle.ta_base.proofs.Pairwise.{paired_length}
+use Rattle.ta_base.specs.LimitRows.{narrow}
+use Rattle.ta_meaning.proofs.FileLimits.{legal_within}
+use Rattle.ta_meaning.specs.Meaning.{MeansPattern}
+use Rattle.ta_meaning.specs.Names.{plain_names}
+use Rattle.ta_syntax.specs.PlainTrees.{plain_pattern, plain_tree}
+use Rattle.ta_meaning.specs.Reading.{Legal}
 use Rattle.ta_base.proofs.Naturals.{max_is}
 use Rattle.ta_report.specs.Show.{each}
 
@@ -34,28 +42,20 @@ few_events places locations (p ∷ ps) within =
     let others = few_events places locations ps within.1 in
     elim (max_is (length p.events) (most_events ps)) [ inl is ↦ omega (arith, is, few) | inr is ↦ omega (arith, is, others) ]
 
--- each count of a file is within its limit
-pub counts_within : (file : File) → AllByRecursion (λ c. c.1 ≤ c.2) (counts_of file)
-counts_within file =
-    let few = file.automaton.shape.limits in (
-      few.parameters_limit,
+-- each count of a file within the narrow limits is within its limit
+pub counts_within : (bytes : List ℕ) (file : File) → Legal narrow bytes file → AllByRecursion (λ c. c.1 ≤ c.2) (counts_of file)
+counts_within bytes file legal =
+    let few = legal_within narrow bytes file legal in
+    let t = legal.means.tree in
+    let patterns = paired_length (MeansPattern (plain_names (plain_tree t))) (plain_tree t).patterns file.patterns legal.means.means.patterns in
+    let same : length (plain_tree t).patterns ≡ length t.patterns = length-map t.patterns plain_pattern in
+    let few_patterns : length file.patterns ≤ 16 = omega (arith, patterns, same, legal.means.is_tree.within.patterns) in (
+      few.parameters,
       (
-        few.shared_limit,
+        few.shared,
         (
-          few.locations_limit,
-          (
-            few.rules_limit,
-            (
-              few.rise_limit,
-              (
-                few.fall_limit,
-                (
-                  file.shape.limit,
-                  (few_events _ _ file.patterns file.shape.within, tt),
-                ),
-              ),
-            ),
-          ),
+          few.locations,
+          (few.rules, (few.rise, (few.fall, (few_patterns, (few_events _ _ file.patterns file.shape.within, tt))))),
         ),
       ),
     )

@@ -1,4 +1,5 @@
 -- What is printed names the error.
+use Rattle.ta_base.specs.LimitRows.{narrow}
 use Rattle.ta_program.proofs.Common.{Budget, ◌≡◌, ◌∙◌, ◌≤◌, ℕ, Bool, true, false, List, [], ◌∷◌, Option, None, Some, refl, sym, ap, subst, inl, inr, arith}
 use Rattle.ta_program.proofs.Common.{codes, bytes_eq, File, one_legal, run_text, Template, one_fault, Told, replies_monotone, Monotone, Decides, Meaning}
 use Rattle.ta_program.proofs.Common.{Performs, State, Tells, file_line, in_files, seen, Writes, after, finds, replies, whole_faults_once, word_faults_once}
@@ -65,8 +66,8 @@ module _ (unique : FirstFaultsAreUnique) (told : Told) where
   file_first : (name : List ℕ) (puts : List (List ℕ)) (rest : File → Meaning) → ((file : File) → Monotone (rest file))
       → ((file : File) → HinderOnce (rest file) told) → HinderOnce (after file_kind name puts rest) told
   file_first name puts rest rests later =
-      after_once file_kind (settled file_kind (λ bytes f none. none) unique) name puts rest rests told 3 refl (omega arith) (omega arith)
-      (λ bytes file fault legal found. legal.no_fault fault found) later one_legal
+      after_once file_kind (settled file_kind (λ bytes f none. none) (unique narrow)) name puts rest rests told 3 refl (omega arith) (omega arith)
+      (λ bytes file fault legal found. legal.no_fault fault found) later (one_legal narrow)
 
   report_once : (asked : VerifyWords) (file : File) (pick : Pick) → HinderOnce (report_meaning asked file pick) told
   report_once asked file pick =
@@ -87,7 +88,8 @@ module _ (unique : FirstFaultsAreUnique) (told : Told) where
   check_once : (name certificate : List ℕ) (options : ProofOptions) → HinderOnce (check_meaning name certificate options) told
   check_once name certificate options =
       file_first name [] (λ file. proved_meaning file options certificate) (λ file. proved_monotone file options certificate) (λ file.
-      after_last (certificate_kind (claiming claim.Safe file)) (certificate_settled (claiming claim.Safe file)) certificate []
+      after_last (certificate_kind (claiming claim.Safe file narrow.line_bytes)) (certificate_settled
+      (claiming claim.Safe file narrow.line_bytes)) certificate []
       (λ numbers. replies [] (SaysProofs false file options numbers)) (λ numbers. replies_monotone [] (SaysProofs false file options numbers)) told 4 refl
       (omega arith) (omega arith)
       (λ bytes numbers fault proves found. found.no_certificate numbers proves.accepted) (λ numbers number line none. none))
@@ -215,7 +217,8 @@ module _ (unique : FirstFaultsAreUnique) (told : Told) where
   proved_once : (certificate : List ℕ) (options : ProofOptions) (file : File) (ends : FileEndings) (silent : List ℕ)
       → HinderOnce (rest_proved_meaning certificate options file ends silent) told
   proved_once certificate options file ends silent =
-      after_last (certificate_kind (claiming_with claim.RestSafe ends.ending silent)) (certificate_settled (claiming_with claim.RestSafe ends.ending silent))
+      after_last (certificate_kind (claiming_with claim.RestSafe ends.ending silent narrow.line_bytes)) (certificate_settled
+      (claiming_with claim.RestSafe ends.ending silent narrow.line_bytes))
       certificate [] (λ numbers. replies [] (SaysProofs true file options numbers)) (λ numbers. replies_monotone [] (SaysProofs true file options numbers))
       told 4 refl (omega arith) (omega arith)
       (λ bytes numbers fault proves found. found.no_certificate numbers proves.accepted) (λ numbers number line none. none)

@@ -1,4 +1,5 @@
 -- what each command says grows with what is seen, and known files leave one number
+use Rattle.ta_base.specs.LimitRows.{narrow}
 use Rattle.ta_program.proofs.Common.{Budget, ◌≡◌, ◌∙◌, ℕ, List, [], length, slice_get, Option, None, Some, refl, sym, ap, subst, inl, inr, arith, Bool, IsSome}
 use Rattle.ta_program.proofs.Common.{File, Pattern, one_legal, Verdict, Told, Decides, IsSo, Meaning, put_bytes, View, in_files, Answer, Kind, Writes, after}
 use Rattle.ta_program.proofs.Common.{replies, after_monotone, decides, no_hindrance, one_number, replies_monotone, replies_one, settles_monotone, Monotone}
@@ -20,7 +21,7 @@ use Rattle.ta_verdict.proofs.CertificatesOnce.{certificates_once}
 use Rattle.ta_verdict.proofs.VerdictsOnce.{verdicts_once}
 
 pub proved_monotone : (file : File) (options : ProofOptions) (name : List ℕ) → Monotone (proved_meaning file options name)
-proved_monotone file options name = after_monotone (certificate_kind (claiming claim.Safe file)) name []
+proved_monotone file options name = after_monotone (certificate_kind (claiming claim.Safe file narrow.line_bytes)) name []
     (λ numbers. replies [] (SaysProofs false file options numbers)) (λ numbers. replies_monotone [] (SaysProofs false file options numbers))
 
 pub shown_monotone : (file : File) (json : Bool) (name : List ℕ) → Monotone (shown_meaning file json name)
@@ -37,7 +38,7 @@ pub file_decides : (name : List ℕ) (puts : List (List ℕ)) (rest : File → M
 file_decides name puts rest rests ones =
     decides (after file_kind name puts rest) (after_monotone file_kind name puts rest rests) (λ told.
     one_number file_kind name puts rest rests told (λ bytes file fault legal found. legal.no_fault fault found) (λ bytes v w m n number other so so'.
-    ones w told number other (subst (λ (file : File). IsSo (rest file) (in_files told) number) (one_legal bytes v w m n) so) so'))
+    ones w told number other (subst (λ (file : File). IsSo (rest file) (in_files told) number) (one_legal narrow bytes v w m n) so) so'))
 
 pub report_monotone : (asked : VerifyWords) (file : File) (pick : Pick) → Monotone (report_meaning asked file pick)
 report_monotone asked file pick = settles_monotone (may_put asked.out) (Reports asked file pick) (HindersCertificate file pick asked.budget asked.out)
@@ -122,16 +123,17 @@ asked_for seen file says = asked_where seen (λ w told. LegalFile told (file w))
 pub check_decides : (name certificate : List ℕ) (options : ProofOptions) → Decides (check_meaning name certificate options)
 check_decides name certificate options =
     file_decides name [] (λ file. proved_meaning file options certificate) (λ file. proved_monotone file options certificate) (λ file told.
-    one_number (certificate_kind (claiming claim.Safe file)) certificate [] (λ numbers. replies [] (SaysProofs false file options numbers))
+    one_number (certificate_kind (claiming claim.Safe file narrow.line_bytes)) certificate [] (λ numbers. replies [] (SaysProofs false file options numbers))
     (λ numbers. replies_monotone [] (SaysProofs false file options numbers)) told
     (λ bytes numbers fault proves found. found.no_certificate numbers proves.accepted)
     (λ bytes v w m n. replies_one [] (SaysProofs false file options v) (SaysProofs false file options w) (in_files told)
-    (λ a b x y. says_number false file options v w (one_list (claiming claim.Safe file) bytes v w m.accepted n.accepted) a b x y)))
+    (λ a b x y. says_number false file options v w (one_list (claiming claim.Safe file narrow.line_bytes) bytes v w m.accepted n.accepted) a b x y)))
 
 pub check_passes : (name certificate : List ℕ) (options : ProofOptions) → Passes (Some name) (check_meaning name certificate options)
 check_passes name certificate options =
     file_passes name [] (λ file. proved_meaning file options certificate) (λ file. proved_monotone file options certificate)
-    (λ file told. second_passes (certificate_kind (claiming claim.Safe file)) certificate (λ numbers. replies [] (SaysProofs false file options numbers)) refl
+    (λ file told. second_passes (certificate_kind (claiming claim.Safe file narrow.line_bytes)) certificate (λ numbers. replies []
+    (SaysProofs false file options numbers)) refl
     (λ numbers view line none. none) (in_files told))
 
 pub compress_decides : (name run : List ℕ) → Decides (compress_meaning name run)
@@ -173,7 +175,7 @@ verify_passes asked told line legal =
           (λ bytes f fault means found. means.no_fault fault found) legal.file 3 line legal.is_file own
       | inr r ↦
           let is = legal.is_file in
-          let same : r.0 ≡ legal.file = one_legal is.bytes r.0 legal.file
+          let same : r.0 ≡ legal.file = one_legal narrow is.bytes r.0 legal.file
           (subst (λ (bytes : List ℕ). file_kind.means bytes r.0) (whole_one told asked.file file_kind.limit.bytes r.1.bytes is.bytes r.1.had is.had)
           r.1.means) is.means in
           pick_passes asked.file asked.pattern (may_put asked.out) legal.file (report_meaning asked legal.file) told legal.pick legal.is_pick line
@@ -184,7 +186,7 @@ verify_passes asked told line legal =
 -- two files of one number have one verdict on their pattern
 bench_one : (k : ℕ) (p q : Pattern) (v w : Verdict) → IsBench k p v → IsBench k q w → v ≡ w
 bench_one k p q v w a b =
-    let files : a.file ≡ b.file = one_legal (family_text k) a.file b.file a.legal b.legal in
+    let files : a.file ≡ b.file = one_legal narrow (family_text k) a.file b.file a.legal b.legal in
     let are : AreVerdicts b.file BUDGET a.verdicts = subst (λ (f : File). AreVerdicts f BUDGET a.verdicts) files a.are in
     let lists : a.verdicts ≡ b.verdicts = verdicts_once b.file All BUDGET a.verdicts b.verdicts are b.are in
     let e : Some v ≡ Some w = sym a.given ∙ ap (λ vs. slice_get vs 0) lists ∙ b.given in

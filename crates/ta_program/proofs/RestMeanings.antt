@@ -1,4 +1,5 @@
 -- what `rest` and `rest-check` say grows with what is seen, and known files leave one number
+use Rattle.ta_base.specs.LimitRows.{narrow}
 use Rattle.ta_program.proofs.Common.{true, ◌≡◌, ◌∙◌, ℕ, List, [], length, Option, None, Some, refl, sym, ap, subst, inl, inr, arith, IsSome, cases_order}
 use Rattle.ta_program.proofs.Common.{Automaton, File, FirstLongerCycle, claiming_with, one_legal, Verdict, RestCertificateOf, Told, Decides, IsSo, Meaning}
 use Rattle.ta_program.proofs.Common.{put_bytes, in_files, Answer, finds, replies, after_monotone, finds_monotone, finds_one, no_hindrance, one_number}
@@ -63,7 +64,7 @@ module _ (name : List ℕ) (puts : List (List ℕ)) (rest : File → FileEndings
               (λ bytes f fault legal found. legal.no_fault fault found) legal.file 3 line legal.is_file own
           | inr r ↦
               let is = legal.is_file in
-              let same : r.0 ≡ legal.file = one_legal is.bytes r.0 legal.file
+              let same : r.0 ≡ legal.file = one_legal narrow is.bytes r.0 legal.file
               (subst (λ (bytes : List ℕ). file_kind.means bytes r.0) (whole_one told name file_kind.limit.bytes r.1.bytes is.bytes r.1.had is.had) r.1.means)
               is.means in
               elim r.2 [
@@ -195,7 +196,8 @@ rest_passes asked told line legal =
 pub rest_proved_monotone : (name : List ℕ) (options : ProofOptions) (file : File) (ends : FileEndings) (silent : List ℕ)
     → Monotone (rest_proved_meaning name options file ends silent)
 rest_proved_monotone name options file ends silent =
-    after_monotone (certificate_kind (claiming_with RestSafe ends.ending silent)) name [] (λ numbers. replies [] (SaysProofs true file options numbers))
+    after_monotone (certificate_kind (claiming_with RestSafe ends.ending silent narrow.line_bytes)) name [] (λ numbers. replies []
+    (SaysProofs true file options numbers))
     (λ numbers. replies_monotone [] (SaysProofs true file options numbers))
 
 pub quietly_monotone : (name certificate : List ℕ) (names : Option (List ℕ)) (options : ProofOptions) (file : File) (ends : FileEndings)
@@ -207,11 +209,13 @@ proved_one : (certificate : List ℕ) (options : ProofOptions) (file : File) (en
     → IsSo (rest_proved_meaning certificate options file ends silent) (in_files told) number
     → IsSo (rest_proved_meaning certificate options file ends silent) (in_files told) other → number ≡ other
 proved_one certificate options file ends silent told =
-    one_number (certificate_kind (claiming_with RestSafe ends.ending silent)) certificate [] (λ numbers. replies [] (SaysProofs true file options numbers))
+    one_number (certificate_kind (claiming_with RestSafe ends.ending silent narrow.line_bytes)) certificate [] (λ numbers. replies []
+    (SaysProofs true file options numbers))
     (λ numbers. replies_monotone [] (SaysProofs true file options numbers)) told
     (λ bytes numbers fault proves found. found.no_certificate numbers proves.accepted)
     (λ bytes v w m n. replies_one [] (SaysProofs true file options v) (SaysProofs true file options w) (in_files told)
-    (λ a b x y. says_number true file options v w (one_list (claiming_with RestSafe ends.ending silent) bytes v w m.accepted n.accepted) a b x y))
+    (λ a b x y. says_number true file options v w (one_list
+    (claiming_with RestSafe ends.ending silent narrow.line_bytes) bytes v w m.accepted n.accepted) a b x y))
 
 pub rest_check_decides : (name certificate : List ℕ) (names : Option (List ℕ)) (options : ProofOptions)
     → Decides (rest_check_meaning name certificate names options)
@@ -228,6 +232,6 @@ rest_check_passes name certificate names options =
       record { file = legal.file; is_file = legal.is_file; loops = legal.loops },
       λ ends line. names_pass name names [] legal.file (rest_proved_meaning certificate options legal.file ends) told legal.places legal.are_silent line
           (λ places.
-          second_passes (certificate_kind (claiming_with RestSafe ends.ending places)) certificate
+          second_passes (certificate_kind (claiming_with RestSafe ends.ending places narrow.line_bytes)) certificate
           (λ numbers. replies [] (SaysProofs true legal.file options numbers)) refl (λ numbers view line none. none) (in_files told) line),
     ))

@@ -1,5 +1,7 @@
 -- what the commands on runs that come to rest make of FILE's endings
 use Rattle.std.specs.Prelude.{IfOk, OnOk}
+use Rattle.ta_automaton.specs.Narrow.{IsWithin}
+use Rattle.ta_base.specs.declared.limits.Limits.{Limits}
 use Rattle.ta_program.specs.Inside.Certifying.{CertifiesReport, IsPlain, SaysStaged}
 use Rattle.ta_program.specs.Inside.Found.{PickRefused}
 use Rattle.ta_program.specs.Inside.Reported.{RestReportedTo}
@@ -110,7 +112,8 @@ module _ (asked : RestWords) (rest : RestFile) (file : File) (ends : EndingsOf f
   }
 
   module _ (out : List ℕ) (given : asked.verify.out ≡ Some out) (text : List ℕ) (certificate : RestCertificateOf rest.ending.file pick budget vs text)
-      (accepted : QuietRestCertificate rest.ending.file budget.silent text (safe_among rest.ending.file pick vs)) where
+      (accepted : (l : Limits) → IsWithin l rest.ending.file.automaton
+      → QuietRestCertificate rest.ending.file budget.silent l.line_bytes text (safe_among rest.ending.file pick vs)) where
     reports : (answer : Answer) → ReportsAndPuts number report out text answer → RestReports asked file (ends_of rest) budget pick answer
     reports answer c = record {
       sample = reported.sample;
@@ -125,7 +128,9 @@ module _ (asked : RestWords) (rest : RestFile) (file : File) (ends : EndingsOf f
         named = c.named;
         certificate = subst (RestCertificateOf rest.ending.file pick budget vs) (sym c.holds) certificate;
         within = (let few = c.within in let same = c.holds in omega (arith, ap length same));
-        accepted = subst (λ (t : List ℕ). QuietRestCertificate rest.ending.file budget.silent t (safe_among rest.ending.file pick vs)) (sym c.holds) accepted;
+        accepted = λ l few.
+            subst (λ (t : List ℕ). QuietRestCertificate rest.ending.file budget.silent l.line_bytes t (safe_among rest.ending.file pick vs)) (sym c.holds)
+            (accepted l few);
       });
     }
 

@@ -45,7 +45,7 @@ unsafe_there (Spent nodes ∷ vs) some = let later = unsafe_there vs some in (su
 unsafe_there (Overflow node kind ∷ vs) some = let later = unsafe_there vs some in (suc later.0, later.1, later.2, later.3)
 
 -- the text of a short run is within the limit of RUN
-pub few_lines : (file : File) (run : Run) (fits : Fits file run) → Shows file run → IsShortRun file run → length run.lines ≤ 8000
+pub few_lines : (file : File) (run : Run) (fits : Fits file run) → Shows file run → IsShortRun file run → length run.lines ≤ 100000
 few_lines file run fits shows short =
     let a = file.automaton in
     let p = fits.pattern in
@@ -57,7 +57,7 @@ few_lines file run fits shows short =
     let falls = limits.fall_limit in
     let rules = limits.rules_limit in
     let events = (pattern_within file run.pattern p fits.named).events_limit in
-    let turns : length a.rise + length a.fall + length p.events ≤ 30 = omega arith in
+    let turns : length a.rise + length a.fall + length p.events ≤ 88 = omega arith in
     let most = mul-le-mul_right (length a.rules + 1) turns in
     omega (arith, lines_counted run.lines, short p fits.named, most, marks)
 

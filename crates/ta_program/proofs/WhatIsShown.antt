@@ -1,4 +1,5 @@
 -- what a run says of the file that `show` prints
+use Rattle.ta_base.specs.LimitRows.{narrow}
 use Rattle.ta_program.proofs.Common.{arith, ◌≡◌, ◌≤◌, ◌∙◌, ◌++◌, ◌∷◌, ℕ, Bool, true, false, List, [], Option, None, Some, refl, sym, ap, subst, map, codes}
 use Rattle.ta_program.proofs.Common.{append_assoc, option_map, option_and_then_some, AllByRecursion, nat_lt, length}
 use Rattle.ta_program.proofs.Common.{Call, LegalFile, LegalSilently, CheckHolds, Event, IsFile, Meaning, PutCall, ReplayHolds, ReportHolds}
@@ -158,7 +159,7 @@ says r Such name view sees file is_file text gained such = record {
   text = text;
   gained = gained;
   such = λ shown other orders printed e.
-      let same : file ≡ other = one_legal is_file.bytes file printed.file is_file.means printed.legal
+      let same : file ≡ other = one_legal narrow is_file.bytes file printed.file is_file.means printed.legal
       ∙ file_same printed.file other (map pair_of printed.is.orders) orders (sym printed.is.shown ∙ sym e) in
       subst (Such text) same such;
 }

@@ -8,6 +8,7 @@ use Rattle.ta_automaton.specs.Runs as runs
 use Rattle.ta_automaton.specs.declared.pattern.Pattern.{Pattern}
 use Rattle.ta_check.specs.Certificate.{Certificate}
 use Rattle.ta_maker.specs.Family.{family}
+use Rattle.ta_base.specs.LimitRows.{narrow}
 use Rattle.ta_meaning.specs.Reading.{Legal}
 use Rattle.ta_report.specs.Report.{verdict_line}
 use Rattle.ta_report.specs.declared.verdict.Verdict.{Verdict}
@@ -56,13 +57,13 @@ bench_text k p v = codes "bench " ++
 
 -- the text is a certificate of some patterns of the file
 abbrev pub IsCertified : File → List ℕ → Type 0
-IsCertified file text = (numbers : List ℕ) × Certificate file text numbers
+IsCertified file text = (numbers : List ℕ) × Certificate file narrow.line_bytes text numbers
 
 -- the automaton with this number means a file, whose patterns occur in no run; its verdicts hold, and the one on its pattern is not unsafe; the
 -- text is a certificate of the patterns that are safe by these verdicts, so `check` accepts it
 pub record IsBench (k : ℕ) (p : Pattern) (v : Verdict) : Type 0 where
   pub file : File
-  pub legal : Legal (family_text k) file
+  pub legal : Legal narrow (family_text k) file
   pub named : slice_get file.patterns 0 ≡ Some p
   pub safe : AllByRecursion (runs.Safe file.automaton) file.patterns
   pub verdicts : List Verdict
@@ -71,7 +72,7 @@ pub record IsBench (k : ℕ) (p : Pattern) (v : Verdict) : Type 0 where
   pub not_unsafe : is_unsafe v ≡ false
   pub text : List ℕ
   pub certificate : CertificateOf file BUDGET verdicts text
-  pub accepted : Certificate file text (safe_numbers file verdicts)
+  pub accepted : Certificate file narrow.line_bytes text (safe_numbers file verdicts)
 
 -- 2 if the verdict is unknown, otherwise 0
 abbrev pub bench_status : Verdict → ℕ
@@ -102,5 +103,5 @@ pub record BenchHolds (number k : ℕ) (written written' : Option (List ℕ)) : 
 -- the text of the automaton with this number means a file, each of whose patterns occurs in no run
 pub record FamilySafe (k : ℕ) : Type 0 where
   pub file : File
-  pub legal : Legal (family_text k) file
+  pub legal : Legal narrow (family_text k) file
   pub safe : AllByRecursion (runs.Safe file.automaton) file.patterns

@@ -1,5 +1,7 @@
 -- The certificate that `verify` writes.
 use Rattle.std.specs.Prelude.{ℕ, ◌<◌, ◌≤◌, ◌≡◌, List, [], ◌∷◌, ◌++◌, codes, decimal, length, Option, None, Some}
+use Rattle.ta_automaton.specs.Narrow.{IsWithin}
+use Rattle.ta_base.specs.declared.limits.Limits.{Limits}
 use Rattle.ta_automaton.specs.declared.file.File.{File}
 use Rattle.ta_check.specs.Certificate.{Certificate}
 use Rattle.ta_report.specs.declared.pick.Pick.{Pick}
@@ -35,14 +37,15 @@ abbrev pub HindersCertificate : File → Pick → Budget → Option (List ℕ) �
 HindersCertificate file pick budget None number line = ⊥
 HindersCertificate file pick budget (Some out) number line = IsLong file pick budget out number line
 
--- the certificate is put in the file with this name; the checker accepts it as one of exactly the patterns that are safe by the verdicts
+-- the certificate is put in the file with this name; the checker accepts it as one of exactly the patterns that are safe by the verdicts, with
+-- lines as long as any limits allow within which the file is
 pub record PutsOne (file : File) (pick : Pick) (budget : Budget) (verdicts : List Verdict) (out : List ℕ) (puts : List Put) : Type 0 where
   pub put : Put
   pub only : puts ≡ put ∷ []
   pub named : put.name ≡ out
   pub certificate : CertificateOn file pick budget verdicts (put_bytes put)
   pub within : length (put_bytes put) ≤ CERTIFICATE.bytes
-  pub accepted : Certificate file (put_bytes put) (safe_among file pick verdicts)
+  pub accepted : (l : Limits) → IsWithin l file.automaton → Certificate file l.line_bytes (put_bytes put) (safe_among file pick verdicts)
 
 -- what is put: nothing, or the certificate that is asked for
 abbrev pub PutsCertificate : File → Pick → Budget → List Verdict → Option (List ℕ) → List Put → Type 0

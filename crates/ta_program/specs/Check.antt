@@ -1,5 +1,6 @@
 -- The command `check`: which patterns a certificate proves safe.
 use Rattle.std.specs.Prelude.{ℕ, ◌≡◌, List, [], Option, Some, false}
+use Rattle.ta_base.specs.LimitRows.{narrow}
 use Rattle.ta_automaton.specs.declared.file.File.{File}
 use Rattle.ta_shelf.specs.Sink.{with_text}
 use Rattle.ta_shelf.specs.Commands.{Meaning}
@@ -15,7 +16,8 @@ use Rattle.ta_program.specs.declared.proof_options.ProofOptions.{ProofOptions}
 
 -- CERT of a file is read, and the text says which patterns are proved
 abbrev pub proved_meaning : File → ProofOptions → List ℕ → Meaning
-proved_meaning file options name = after (certificate_kind (claiming claim.Safe file)) name [] (λ numbers. replies [] (SaysProofs false file options numbers))
+proved_meaning file options name = after (certificate_kind (claiming claim.Safe file narrow.line_bytes)) name [] (λ numbers. replies []
+    (SaysProofs false file options numbers))
 
 -- FILE is read, and then CERT
 abbrev pub check_meaning : List ℕ → List ℕ → ProofOptions → Meaning
@@ -31,7 +33,7 @@ pub record CheckHolds (number : ℕ) (view : View) (file_name certificate_name :
     pub file : File
     pub is_file : IsFile view file_name file
     pub numbers : List ℕ
-    pub certificate : FileMeans (certificate_kind (claiming claim.Safe file)) view certificate_name numbers
+    pub certificate : FileMeans (certificate_kind (claiming claim.Safe file narrow.line_bytes)) view certificate_name numbers
     pub text : List ℕ
     pub tells : TellsProofs false file options numbers number text
     pub wrote : written' ≡ with_text written text

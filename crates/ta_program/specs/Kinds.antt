@@ -7,6 +7,7 @@ use Rattle.ta_check.specs.Faults.{IsFirstFaultFor, IsLastingFor}
 use Rattle.ta_check.specs.Subjects.{Subject}
 use Rattle.ta_syntax.specs.declared.fault.FileFault.{FileFault}
 use Rattle.ta_meaning.specs.FirstFault.{FirstFault}
+use Rattle.ta_base.specs.LimitRows.{narrow}
 use Rattle.ta_meaning.specs.Reading.{Legal}
 use Rattle.ta_replay.specs.declared.fault.RunFault.{RunFault}
 use Rattle.ta_replay.specs.declared.fault.RunFault.TheVariants as fault
@@ -23,7 +24,7 @@ use Rattle.ta_program.specs.declared.limits.TheConstants.{CERTIFICATE, FILE, RUN
 
 -- FILE: bytes that mean an automaton and its patterns, if any, or have a first error
 abbrev pub file_kind : Kind File FileFault
-file_kind = record { limit = FILE; means = Legal; at_fault = FirstFault; broken = λ bytes fault. ⊥; words = file_fault_text }
+file_kind = record { limit = FILE; means = Legal narrow; at_fault = FirstFault narrow; broken = λ bytes fault. ⊥; words = file_fault_text }
 
 -- the bytes under this name mean this file
 abbrev pub IsFile : View → List ℕ → File → Type 0

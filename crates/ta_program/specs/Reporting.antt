@@ -1,5 +1,6 @@
 -- The report that `verify` writes.
 use Rattle.std.specs.Prelude.{ℕ, ◌≤◌, ◌≡◌, true, false, List, length, Option}
+use Rattle.ta_base.specs.LimitRows.{narrow}
 use Rattle.ta_automaton.specs.declared.file.File.{File}
 use Rattle.ta_check.specs.Certificate.{Certificate}
 use Rattle.ta_report.specs.declared.pick.Pick.{Pick}
@@ -76,7 +77,7 @@ pub record CertificateStands (number : ℕ) (view : View) (asked : VerifyWords) 
   pub within : length text ≤ CERTIFICATE.bytes
   pub stands : WhereTold (HoldsText out text) files files'
   pub told : TellsFile out text made
-  pub accepted : Certificate report.file text (safe_among report.file report.pick report.verdicts)
+  pub accepted : Certificate report.file narrow.line_bytes text (safe_among report.file report.pick report.verdicts)
 
 -- no verdict holds that leaves a picked pattern unknown; with `--all`, what holds of the parameters and of these patterns tells something
 pub record IsDecided (asked : VerifyWords) (file : File) (pick : Pick) : Type 0 where

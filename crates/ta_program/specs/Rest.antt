@@ -1,5 +1,8 @@
 -- The command `rest`: verdicts on runs that come to rest (deadlocks).
 use Rattle.std.specs.Prelude.{ℕ, ◌+◌, ◌<◌, ◌≤◌, ◌≡◌, true, false, List, [], ◌∷◌, length, slice_get, Option, None, Some}
+use Rattle.ta_base.specs.declared.limits.Limits.{Limits}
+use Rattle.ta_automaton.specs.Narrow.{IsWithin}
+use Rattle.ta_base.specs.LimitRows.{narrow}
 use Rattle.ta_automaton.specs.declared.file.File.{File}
 use Rattle.ta_automaton.specs.declared.pattern.Pattern.{Pattern}
 use Rattle.ta_check.specs.Certificate.{QuietRestCertificate}
@@ -34,14 +37,16 @@ use Rattle.ta_program.specs.RestWords.{RestWords, rest_words}
 use Rattle.ta_program.specs.SilentNames.{AreSilent, LegalSilently, with_silent}
 use Rattle.ta_program.specs.Statuses.{report_number, tells_nothing}
 
--- the certificate is put in the file with this name; the checker accepts it as one of exactly the patterns that are safe by the verdicts
+-- the certificate is put in the file with this name; the checker accepts it as one of exactly the patterns that are safe by the verdicts, with
+-- lines as long as any limits allow within which the file is
 pub record PutsRestOne (ending : File) (pick : Pick) (budget : RestBudget) (verdicts : List Verdict) (out : List ℕ) (puts : List Put) : Type 0 where
   pub put : Put
   pub only : puts ≡ put ∷ []
   pub named : put.name ≡ out
   pub certificate : RestCertificateOf ending pick budget verdicts (put_bytes put)
   pub within : length (put_bytes put) ≤ CERTIFICATE.bytes
-  pub accepted : QuietRestCertificate ending budget.silent (put_bytes put) (safe_among ending pick verdicts)
+  pub accepted : (l : Limits) → IsWithin l ending.automaton
+      → QuietRestCertificate ending budget.silent l.line_bytes (put_bytes put) (safe_among ending pick verdicts)
 
 -- what is put: nothing, or the certificate that is asked for
 abbrev pub PutsRest : File → Pick → RestBudget → List Verdict → Option (List ℕ) → List Put → Type 0
@@ -155,4 +160,4 @@ pub record RestCertificateStands (number : ℕ) (view : View) (asked : RestWords
   pub within : length text ≤ CERTIFICATE.bytes
   pub stands : WhereTold (HoldsText out text) files files'
   pub told : TellsFile out text made
-  pub accepted : QuietRestCertificate report.ends.ending report.silent text (safe_among report.ends.ending report.pick report.verdicts)
+  pub accepted : QuietRestCertificate report.ends.ending report.silent narrow.line_bytes text (safe_among report.ends.ending report.pick report.verdicts)

@@ -1,5 +1,6 @@
 -- The command `rest-check`: which patterns a certificate proves safe at rest.
 use Rattle.std.specs.Prelude.{ℕ, ◌≡◌, List, [], Option, true}
+use Rattle.ta_base.specs.LimitRows.{narrow}
 use Rattle.ta_automaton.specs.declared.file.File.{File}
 use Rattle.ta_check.specs.Certificate.{AllQuietRestSafe}
 use Rattle.ta_check.specs.Subjects.{claiming_with}
@@ -19,7 +20,7 @@ use Rattle.ta_program.specs.SilentNames.{AreSilent, LegalSilently, with_silent}
 -- CERT is read for the endings of a file with these silent places, and the text says for which of its patterns it proves that no run comes
 -- to rest so
 abbrev pub rest_proved_meaning : List ℕ → ProofOptions → File → FileEndings → List ℕ → Meaning
-rest_proved_meaning name options file ends silent = after (certificate_kind (claiming_with RestSafe ends.ending silent)) name []
+rest_proved_meaning name options file ends silent = after (certificate_kind (claiming_with RestSafe ends.ending silent narrow.line_bytes)) name []
     (λ numbers. replies [] (SaysProofs true file options numbers))
 
 -- the places of the names are found, and then CERT is read
@@ -47,7 +48,7 @@ pub record RestCheckHolds (number : ℕ) (view : View) (file_name certificate_na
   pub silent : List ℕ
   pub are_silent : AreSilent file.automaton names silent
   pub numbers : List ℕ
-  pub certificate : FileMeans (certificate_kind (claiming_with RestSafe ends.ending silent)) view certificate_name numbers
+  pub certificate : FileMeans (certificate_kind (claiming_with RestSafe ends.ending silent narrow.line_bytes)) view certificate_name numbers
   pub safe : AllQuietRestSafe file silent numbers
   pub text : List ℕ
   pub tells : TellsProofs true file options numbers number text

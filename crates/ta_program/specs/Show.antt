@@ -4,6 +4,7 @@ use Rattle.ta_automaton.specs.declared.file.File.{File}
 use Rattle.ta_automaton.specs.Runs.{Safe}
 use Rattle.ta_cert.specs.Certificates.{pair_of}
 use Rattle.ta_cert.specs.declared.line.Order.{Order}
+use Rattle.ta_base.specs.LimitRows.{narrow}
 use Rattle.ta_meaning.specs.Reading.{Legal}
 use Rattle.ta_shelf.specs.Sink.{with_text}
 use Rattle.ta_shelf.specs.Sights.{View, Whole}
@@ -34,7 +35,7 @@ show_of = behind_name (codes "show") one_name
 -- text means, since no other file has it
 pub record ShowPrints (bytes text : List ℕ) : Type 0 where
   pub file : File
-  pub legal : Legal bytes file
+  pub legal : Legal narrow bytes file
   pub is : IsFileText file text
 
 -- FILE has bytes that mean a file, and the output gained the text that is printed of them, and behind it the unknowns of the file's

@@ -5,6 +5,7 @@ use Rattle.ta_automaton.specs.declared.file.File.{File}
 use Rattle.ta_automaton.specs.declared.pattern.Pattern.{Pattern}
 use Rattle.ta_automaton.specs.Runs as runs
 use Rattle.ta_encode.specs.Sample.{HasStart}
+use Rattle.ta_base.specs.LimitRows.{narrow}
 use Rattle.ta_meaning.specs.Reading.{Legal}
 use Rattle.ta_search.specs.declared.outcome.Outcome.{Outcome}
 use Rattle.ta_search.specs.declared.outcome.Outcome.TheVariants as outcome
@@ -19,7 +20,7 @@ use Rattle.ta_program.specs.Search.{IsTemplate}
 -- the text means a file, each of whose patterns occurs in no run, and some parameters of it have an initial configuration
 pub record MeansSafe (bytes : List ℕ) : Type 0 where
   pub file : File
-  pub legal : Legal bytes file
+  pub legal : Legal narrow bytes file
   pub safe : AllByRecursion (runs.Safe file.automaton) file.patterns
   pub parameters : List ℕ
   pub start : HasStart file.automaton parameters
@@ -27,7 +28,7 @@ pub record MeansSafe (bytes : List ℕ) : Type 0 where
 -- the text means a file, whose pattern with this name occurs in a run
 pub record MeansOccurring (bytes name : List ℕ) : Type 0 where
   pub file : File
-  pub legal : Legal bytes file
+  pub legal : Legal narrow bytes file
   pub number : ℕ
   pub pattern : Pattern
   pub among : slice_get file.patterns number ≡ Some pattern
@@ -39,7 +40,7 @@ pub record MeansOccurring (bytes name : List ℕ) : Type 0 where
 -- the text means a file, no parameters of which have an initial configuration
 pub record MeansEmpty (bytes : List ℕ) : Type 0 where
   pub file : File
-  pub legal : Legal bytes file
+  pub legal : Legal narrow bytes file
   pub none : (parameters : List ℕ) → ¬ HasStart file.automaton parameters
 
 -- what is said of a filled text as safe, unsafe or without parameters is so; of the other outcomes nothing is said here

@@ -2,6 +2,7 @@
 #![tactic(auto)]
 
 ghost use Rattle.std.specs.Prelude.{◌≡◌, ◌≢◌, ◌++◌, [], decimal, IfOk, IfErr, Option, map, option_map};
+ghost use Rattle.ta_automaton.specs.Narrow.{IsNarrow};
 ghost use Rattle.ta_replay.specs.Fits.{Fits};
 ghost use Rattle.ta_replay.specs.RunText.{run_text};
 ghost use Rattle.ta_shelf.specs.Calls.{Grew};
@@ -110,6 +111,7 @@ fn judge_word<'a, S: Shelf>(
     asked: &WordAsked<'a>,
     values: &'a str,
 ) -> Result<Answer, Refusal<'a>>
+    requires narrow { IsNarrow scoped.now.file.automaton }
     ensures says { Grew (Says (run_meaning asked.now.file.now (asked_seen asked.now).word values.now scoped.now.file) (S.files shelf.old) result) (S.calls shelf.old) (S.calls shelf.new) }
     ensures cause { ReadCause result (S.faults shelf.old) (S.faults shelf.new) }
     ensures kept { S.files shelf.new ≡ S.files shelf.old }
@@ -128,7 +130,8 @@ fn judge_values<'a, S: Shelf>(
     word: &NamedWord,
     name: &'a str,
 ) -> Result<Answer, Refusal<'a>>
-    requires { IsLegalWord scoped.now.file (word_seen word.now) }
+    requires word { IsLegalWord scoped.now.file (word_seen word.now) }
+    requires narrow { IsNarrow scoped.now.file.automaton }
     ensures says { Grew (Says (values_meaning name.now scoped.now.file (word_seen word.now)) (S.files shelf.old) result) (S.calls shelf.old) (S.calls shelf.new) }
     ensures cause { ReadCause result (S.faults shelf.old) (S.faults shelf.new) }
     ensures kept { S.files shelf.new ≡ S.files shelf.old }
@@ -147,7 +150,8 @@ fn read_admitted<'a, S: Shelf>(
     word: &NamedWord,
     name: &'a str,
 ) -> Result<Run, Refusal<'a>>
-    requires { IsLegalWord scoped.now.file (word_seen word.now) }
+    requires word { IsLegalWord scoped.now.file (word_seen word.now) }
+    requires narrow { IsNarrow scoped.now.file.automaton }
     ensures stage { Grew (Stage (values_kind scoped.now.file (word_seen word.now)) (λ run. run) (S.files shelf.old) name.now result) (S.calls shelf.old) (S.calls shelf.new) }
     ensures fits { IfOk result (λ run. Fits scoped.now.file run) }
     ensures cause { ReadCause result (S.faults shelf.old) (S.faults shelf.new) }
@@ -174,7 +178,8 @@ fn admit_bytes(
     word: &NamedWord,
     bytes: &[u8],
 ) -> Result<Run, AdmitFault>
-    requires { IsLegalWord scoped.now.file (word_seen word.now) }
+    requires word { IsLegalWord scoped.now.file (word_seen word.now) }
+    requires narrow { IsNarrow scoped.now.file.automaton }
     ensures run { IfOk result (λ run. Admits scoped.now.file (word_seen word.now) bytes.now run) }
     ensures fault { IfErr result (λ found. found ≢ fault.Memory → AdmitRefuses scoped.now.file (word_seen word.now) bytes.now found) }
 {

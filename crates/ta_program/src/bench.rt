@@ -7,6 +7,8 @@ ghost use Rattle.ta_automaton.specs.Runs as runs;
 ghost use Rattle.ta_check.specs.Certificate.{Certificate};
 ghost use Rattle.ta_maker.specs.Family.{family};
 ghost use Rattle.ta_maker.specs.Made.{IsFamilyNumber};
+ghost use Rattle.ta_automaton.specs.Narrow.{IsNarrow};
+ghost use Rattle.ta_base.specs.LimitRows.{narrow};
 ghost use Rattle.ta_meaning.specs.Reading.{Legal};
 ghost use Rattle.ta_shelf.specs.Put.{Told};
 ghost use Rattle.ta_shelf.specs.Commands.{Says};
@@ -23,7 +25,7 @@ use std::alloc::{AllocError, Global};
 use std::thread::Threads;
 use ta_automaton::Pattern;
 use ta_base::Text;
-use ta_base::limits::DEFAULT_NODES;
+use ta_base::limits::{DEFAULT_NODES, Limits};
 use ta_cert::CertFault;
 use ta_check::{Accepted, Checker};
 use ta_maker::{MakerFault, family_is_flawless, make_family};
@@ -125,9 +127,10 @@ fn judge_family<R: Threads + Sync>(
     scoped: &ScopedFile,
 ) -> Result<Answer, AllocError>
     requires number { IsFamilyNumber k }
-    requires legal { Legal (family_text k) scoped.now.file }
+    requires legal { Legal narrow (family_text k) scoped.now.file }
     requires one { length scoped.now.file.patterns ≡ 1 }
     requires safe { AllByRecursion (runs.Safe scoped.now.file.automaton) scoped.now.file.patterns }
+    requires narrow { IsNarrow scoped.now.file.automaton }
     ensures { IfOk result (SaysBench k) }
 {
     let budget = Budget {
@@ -149,12 +152,12 @@ fn answer_judged(
     judged: &Judged,
 ) -> Result<Answer, AllocError>
     requires number { IsFamilyNumber k }
-    requires legal { Legal (family_text k) scoped.now.file }
+    requires legal { Legal narrow (family_text k) scoped.now.file }
     requires one { length scoped.now.file.patterns ≡ 1 }
     requires safe { AllByRecursion (runs.Safe scoped.now.file.automaton) scoped.now.file.patterns }
     requires verdicts { AreVerdicts scoped.now.file BUDGET judged.now.verdicts }
     requires certificate { CertificateOf scoped.now.file BUDGET judged.now.verdicts (concat judged.now.certificate) }
-    requires accepted { Certificate scoped.now.file (concat judged.now.certificate) (safe_numbers scoped.now.file judged.now.verdicts) }
+    requires accepted { Certificate scoped.now.file narrow.line_bytes (concat judged.now.certificate) (safe_numbers scoped.now.file judged.now.verdicts) }
     ensures { IfOk result (SaysBench k) }
 {
     let _ = accept(alloc, scoped, judged.certificate.as_slice())?;
@@ -170,14 +173,15 @@ fn answer_judged(
 /// The file of the automaton of a number.
 fn read_family(alloc: Global, k: u32) -> Result<ScopedFile, AllocError>
     requires { IsFamilyNumber k }
-    ensures legal { IfOk result (λ scoped. Legal (family_text k) scoped.file) }
+    ensures legal { IfOk result (λ scoped. Legal narrow (family_text k) scoped.file) }
+    ensures narrow { IfOk result (λ scoped. IsNarrow scoped.file.automaton) }
     ensures one { IfOk result (λ scoped. length scoped.file.patterns ≡ 1) }
     ensures safe { IfOk result (λ scoped. AllByRecursion (runs.Safe scoped.file.automaton) scoped.file.patterns) }
 {
     // the law of the family; the call does nothing
     family_is_flawless();
     let text = print_family(alloc, k)?;
-    match read_file(alloc, text.as_str().as_bytes()) {
+    match read_file(alloc, text.as_str().as_bytes(), &Limits::narrow()) {
         Ok(scoped) => Ok(scoped),
         Err(fault) => Err(file_memory(&fault)),
     }
@@ -232,9 +236,9 @@ fn certificate_memory(fault: &CertFault) -> AllocError
 /// Judges a certificate that comes in pieces, and is one.
 fn accept(alloc: Global, scoped: &ScopedFile, pieces: &[Text]) -> Result<Accepted, AllocError>
     requires { IsCertified scoped.now.file (concat pieces.now) }
-    ensures { IfOk result (λ accepted. Certificate scoped.now.file (concat pieces.now) accepted.patterns) }
+    ensures { IfOk result (λ accepted. Certificate scoped.now.file narrow.line_bytes (concat pieces.now) accepted.patterns) }
 {
-    let mut checker = Checker::new(alloc, scoped);
+    let mut checker = Checker::new(alloc, scoped, Limits::narrow().line_bytes);
     for piece in pieces {
         match checker.feed(piece.as_str().as_bytes()) {
             Ok(()) => {}

@@ -23,6 +23,7 @@ use crate::values::file_name_of;
 use crate::words::{ALL_OPTION, JSON_OPTION, PARAMETERS_OPTION, Taken, take_words};
 use std::alloc::Global;
 use std::thread::Threads;
+use ta_base::limits::Limits;
 use ta_cert::CertFault;
 use ta_check::{Accepted, Checker};
 use ta_report::cert_fault_phrase;
@@ -129,7 +130,8 @@ fn judge_certificate<'a, S: Shelf>(
     ensures cause { ReadCause result (S.faults shelf.old) (S.faults shelf.new) }
     ensures kept { S.files shelf.new ≡ S.files shelf.old }
 {
-    match read_certificate(shelf, Checker::new(alloc, scoped), name) {
+    let checker = Checker::new(alloc, scoped, Limits::narrow().line_bytes);
+    match read_certificate(shelf, checker, name) {
         Ok(accepted) => {
             let numbers = accepted.patterns.as_slice();
             answer_proofs(alloc, false, scoped.file(), options, numbers)

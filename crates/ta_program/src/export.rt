@@ -2,6 +2,7 @@
 #![tactic(auto)]
 
 ghost use Rattle.std.specs.Prelude.{◌≡◌, [], IfOk, Option, map, option_map};
+ghost use Rattle.ta_automaton.specs.Narrow.{IsNarrow};
 ghost use Rattle.ta_shelf.specs.Calls.{Grew};
 ghost use Rattle.ta_shelf.specs.Put.{Told};
 ghost use Rattle.ta_shelf.specs.Commands.{Says};
@@ -95,6 +96,7 @@ fn answer_export<'a>(
     file: &File,
     asked: &WordAsked<'a>,
 ) -> Result<Answer, Refusal<'a>>
+    requires narrow { IsNarrow file.now.automaton }
     ensures says { (files : Option Told) → Says (system_meaning asked.now.file.now (asked_seen asked.now).word file.now) files result [] }
     ensures cause { ReadCause result 0 0 }
 {
@@ -106,7 +108,8 @@ fn answer_export<'a>(
 
 /// The answer with the text of the system of a word.
 fn answer_system<'a>(alloc: Global, file: &File, word: &NamedWord) -> Result<Answer, Refusal<'a>>
-    requires { IsLegalWord file.now (word_seen word.now) }
+    requires word { IsLegalWord file.now (word_seen word.now) }
+    requires narrow { IsNarrow file.now.automaton }
     ensures says { (files : Option Told) → Says (replies [] (SaysSystem file.now (word_seen word.now))) files result [] }
     ensures cause { ReadCause result 0 0 }
 {

@@ -1,12 +1,12 @@
 //! How long the files of the commands may be, and the numbers where they are no use; and the limits
 //! of lists that `ta_base` has no name for.
 
-use ta_base::limits::{CERTIFICATE_BYTES, FILE_BYTES, RUN_BYTES};
+use ta_base::limits::{CERTIFICATE_BYTES, RUN_BYTES, VALUES_BYTES};
 use ta_shelf::Limit;
 
-/// An automaton file.
+/// An automaton file within the narrow limits, or a template.
 pub const FILE: Limit = Limit {
-    bytes: FILE_BYTES as u64,
+    bytes: 1_048_576,
     number: 3,
 };
 
@@ -24,7 +24,7 @@ pub const RUN: Limit = Limit {
 
 /// Values for the unknowns of a word.
 pub const VALUES: Limit = Limit {
-    bytes: FILE_BYTES as u64,
+    bytes: VALUES_BYTES,
     number: 4,
 };
 

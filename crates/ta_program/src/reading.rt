@@ -1,7 +1,8 @@
 //! Reading the automaton file of a command, and comparing its outputs with it.
 #![tactic(auto)]
 
-ghost use Rattle.std.specs.Prelude.{◌≡◌, ◌≤◌, length};
+ghost use Rattle.std.specs.Prelude.{◌≡◌, ◌≤◌, IfOk, length};
+ghost use Rattle.ta_automaton.specs.Narrow.{IsNarrow};
 ghost use Rattle.ta_shelf.specs.Calls.{Grew};
 ghost use Rattle.ta_shelf.specs.Reading.{ReadCause};
 ghost use Rattle.ta_shelf.specs.Puts.{output_names};
@@ -11,7 +12,7 @@ ghost use Rattle.ta_program.specs.Kinds.{file_kind};
 
 use crate::limits::FILE;
 use std::alloc::Global;
-use ta_base::limits::FILE_BYTES;
+use ta_base::limits::{FILE_BYTES, Limits};
 use ta_meaning::read_file;
 use ta_report::file_fault_phrase;
 use ta_scope::ScopedFile;
@@ -27,6 +28,7 @@ pub(crate) fn read_legal<'a, S: Shelf>(
     ensures stage { Grew (Stage file_kind (λ scoped. scoped.file) (S.files shelf.old) name.now result) (S.calls shelf.old) (S.calls shelf.new) }
     ensures cause { ReadCause result (S.faults shelf.old) (S.faults shelf.new) }
     ensures kept { S.files shelf.new ≡ S.files shelf.old }
+    ensures narrow { IfOk result (λ scoped. IsNarrow scoped.file.automaton) }
 {
     match read_text(alloc, shelf, name, FILE) {
         Ok(bytes) => legal_of(alloc, name, bytes.as_slice()),
@@ -44,6 +46,7 @@ pub(crate) fn read_spared<'a, S: Shelf>(
     ensures stage { Grew (SparedStage file_kind (λ scoped. scoped.file) (S.files shelf.old) name.now (output_names outputs.now) result) (S.calls shelf.old) (S.calls shelf.new) }
     ensures cause { ReadCause result (S.faults shelf.old) (S.faults shelf.new) }
     ensures kept { S.files shelf.new ≡ S.files shelf.old }
+    ensures narrow { IfOk result (λ scoped. IsNarrow scoped.file.automaton) }
 {
     match read_text(alloc, shelf, name, FILE) {
         Ok(bytes) => match legal_of(alloc, name, bytes.as_slice()) {
@@ -65,8 +68,9 @@ fn legal_of<'a>(alloc: Global, name: &'a str, bytes: &[u8]) -> Result<ScopedFile
     requires { length bytes.now ≤ FILE_BYTES }
     ensures meant { MeantBy file_kind (λ scoped. scoped.file) name.now bytes.now result }
     ensures cause { ReadCause result 0 0 }
+    ensures narrow { IfOk result (λ scoped. IsNarrow scoped.file.automaton) }
 {
-    match read_file(alloc, bytes) {
+    match read_file(alloc, bytes, &Limits::narrow()) {
         Ok(scoped) => Ok(scoped),
         Err(FileFault::Memory) => Err(Refusal::Memory),
         Err(fault) => Err(Refusal::Refused {

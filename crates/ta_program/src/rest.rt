@@ -2,6 +2,7 @@
 #![tactic(auto)]
 
 ghost use Rattle.std.specs.Prelude.{◌≡◌, [], false, IfErr, IfOk, IfSome, map, None, Option, option_map, true};
+ghost use Rattle.ta_automaton.specs.Narrow.{IsNarrow};
 ghost use Rattle.ta_automaton.specs.declared.file.File.{File};
 ghost use Rattle.ta_rest.specs.Faults.{EndingsOf};
 ghost use Rattle.ta_verdict.specs.Rest.Budgets.{resting};
@@ -163,6 +164,7 @@ fn answer_scoped<'a, R: Threads + Sync, S: Shelf>(
     scoped: ScopedFile,
     asked: &Rest<'a>,
 ) -> Result<StagedAnswer<'a, S::Stage>, Refusal<'a>>
+    requires narrow { asked.now.silent.budget.given.lazy ≡ false → IsNarrow scoped.file.automaton }
     ensures says { (files : Option Told) → SaysStaged (finds (IsEnds scoped.file) (CycleHinders asked.now.file.now scoped.file) (may_put (option_map (λ w. w.now) asked.now.out)) (rest_quietly (rest_seen asked.now) scoped.file)) S.stage_bytes files result }
     ensures staged { Changed (StagedBy (may_put (option_map (λ w. w.now) asked.now.out)) S.stage_name S.stage_bytes result (S.faults shelf.old) (S.faults shelf.new)) (S.calls shelf.old) (S.calls shelf.new) }
     ensures kept { S.files shelf.new ≡ S.files shelf.old }
@@ -185,6 +187,7 @@ fn answer_quietly<'a, R: Threads + Sync, S: Shelf>(
     rest: &RestFile,
     asked: &Rest<'a>,
 ) -> Result<StagedAnswer<'a, S::Stage>, Refusal<'a>>
+    requires narrow { asked.now.silent.budget.given.lazy ≡ false → IsNarrow rest.now.ending.file.automaton }
     ensures says { (files : Option Told) (file : File) → EndingsOf file rest.now.ending.file rest.now.added → SaysStaged (rest_quietly (rest_seen asked.now) file (ends_of rest.now)) S.stage_bytes files result }
     ensures staged { Changed (StagedBy (may_put (option_map (λ w. w.now) asked.now.out)) S.stage_name S.stage_bytes result (S.faults shelf.old) (S.faults shelf.new)) (S.calls shelf.old) (S.calls shelf.new) }
     ensures kept { S.files shelf.new ≡ S.files shelf.old }
@@ -206,6 +209,7 @@ fn answer_picked<'a, R: Threads + Sync, S: Shelf>(
     asked: &Rest<'a>,
 ) -> Result<StagedAnswer<'a, S::Stage>, Refusal<'a>>
     requires words { asked.now.silent.budget.given.lazy ≡ false → silent.now ≡ [] }
+    requires narrow { asked.now.silent.budget.given.lazy ≡ false → IsNarrow rest.now.ending.file.automaton }
     ensures says { (files : Option Told) (file : File) → EndingsOf file rest.now.ending.file rest.now.added → SaysStaged (rest_picked (rest_seen asked.now) file (ends_of rest.now) (resting asked.now.silent.budget.given silent.now)) S.stage_bytes files result }
     ensures staged { Changed (StagedBy (may_put (option_map (λ w. w.now) asked.now.out)) S.stage_name S.stage_bytes result (S.faults shelf.old) (S.faults shelf.new)) (S.calls shelf.old) (S.calls shelf.new) }
     ensures kept { S.files shelf.new ≡ S.files shelf.old }
@@ -228,6 +232,7 @@ fn answer_rest<'a, R: Threads + Sync, S: Shelf>(
     asked: &Rest<'a>,
 ) -> Result<StagedAnswer<'a, S::Stage>, Refusal<'a>>
     requires words { asked.now.silent.budget.given.lazy ≡ false → silent.now ≡ [] }
+    requires narrow { asked.now.silent.budget.given.lazy ≡ false → IsNarrow rest.now.ending.file.automaton }
     ensures says { (files : Option Told) (file : File) → EndingsOf file rest.now.ending.file rest.now.added → SaysStaged (rest_report_meaning (rest_seen asked.now) file (ends_of rest.now) (resting asked.now.silent.budget.given silent.now) pick) S.stage_bytes files result }
     ensures staged { Changed (StagedBy (may_put (option_map (λ w. w.now) asked.now.out)) S.stage_name S.stage_bytes result (S.faults shelf.old) (S.faults shelf.new)) (S.calls shelf.old) (S.calls shelf.new) }
     ensures kept { S.files shelf.new ≡ S.files shelf.old }
@@ -260,6 +265,7 @@ fn report_to<R: Threads + Sync, P, T: Target<P>>(
     target: &mut T,
 ) -> Result<Report, AllocError>
     requires words { asked.now.silent.budget.given.lazy ≡ false → silent.now ≡ [] }
+    requires narrow { asked.now.silent.budget.given.lazy ≡ false → IsNarrow rest.now.ending.file.automaton }
     ensures reports { (begun : Begun) → T.has begun target.old place.old [] → IfOk result (λ report. RestReportedTo (record { rest = true; json = asked.now.json; all = asked.now.all }) rest.now pick (resting asked.now.silent.budget.given silent.now) report.number report.text (T.has begun target.new place.new)) }
     ensures stops { (begun : Begun) → T.has begun target.old place.old [] → IfErr result (λ _. T.stopped begun target.new place.new) }
 {

@@ -25,6 +25,7 @@ use crate::values::file_name_of;
 use crate::words::{ALL_OPTION, JSON_OPTION, SILENT_OPTION, Taken, take_words};
 use std::alloc::Global;
 use std::thread::Threads;
+use ta_base::limits::Limits;
 use ta_check::Checker;
 use ta_rest::RestFile;
 use ta_scope::ScopedFile;
@@ -181,7 +182,9 @@ fn judge_rest<'a, S: Shelf>(
     ensures cause { ReadCause result (S.faults shelf.old) (S.faults shelf.new) }
     ensures kept { S.files shelf.new ≡ S.files shelf.old }
 {
-    match read_certificate(shelf, Checker::resting_silently(alloc, rest, silent), name) {
+    let limits = Limits::narrow();
+    let checker = Checker::resting_silently(alloc, rest, silent, limits.line_bytes);
+    match read_certificate(shelf, checker, name) {
         Ok(accepted) => {
             let numbers = accepted.patterns.as_slice();
             answer_proofs(alloc, true, &rest.ending.file, options, numbers)

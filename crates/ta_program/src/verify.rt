@@ -2,6 +2,7 @@
 #![tactic(auto)]
 
 ghost use Rattle.std.specs.Prelude.{◌≡◌, [], false, IfErr, IfOk, map, Option, option_map};
+ghost use Rattle.ta_automaton.specs.Narrow.{IsNarrow};
 ghost use Rattle.ta_shelf.specs.Put.{Told};
 ghost use Rattle.ta_shelf.specs.Ends.{ShelfState};
 ghost use Rattle.ta_shelf.specs.OutputCalls.{Changed};
@@ -142,6 +143,7 @@ fn answer_picked<'a, R: Threads + Sync, S: Shelf>(
     scoped: &ScopedFile,
     asked: &Verify<'a>,
 ) -> Result<StagedAnswer<'a, S::Stage>, Refusal<'a>>
+    requires narrow { asked.now.budget.given.lazy ≡ false → IsNarrow scoped.now.file.automaton }
     ensures says { (files : Option Told) → SaysStaged (picked_meaning (verify_seen asked.now) scoped.now.file) S.stage_bytes files result }
     ensures staged { Changed (StagedBy (may_put (option_map (λ w. w.now) asked.now.out)) S.stage_name S.stage_bytes result (S.faults shelf.old) (S.faults shelf.new)) (S.calls shelf.old) (S.calls shelf.new) }
     ensures kept { S.files shelf.new ≡ S.files shelf.old }
@@ -162,6 +164,7 @@ fn answer_report<'a, R: Threads + Sync, S: Shelf>(
     pick: Pick,
     asked: &Verify<'a>,
 ) -> Result<StagedAnswer<'a, S::Stage>, Refusal<'a>>
+    requires narrow { asked.now.budget.given.lazy ≡ false → IsNarrow scoped.now.file.automaton }
     ensures says { (files : Option Told) → SaysStaged (report_meaning (verify_seen asked.now) scoped.now.file pick) S.stage_bytes files result }
     ensures staged { Changed (StagedBy (may_put (option_map (λ w. w.now) asked.now.out)) S.stage_name S.stage_bytes result (S.faults shelf.old) (S.faults shelf.new)) (S.calls shelf.old) (S.calls shelf.new) }
     ensures kept { S.files shelf.new ≡ S.files shelf.old }
@@ -192,6 +195,7 @@ fn report_to<R: Threads + Sync, P, T: Target<P>>(
     place: &mut P,
     target: &mut T,
 ) -> Result<Report, AllocError>
+    requires narrow { asked.now.budget.given.lazy ≡ false → IsNarrow scoped.now.file.automaton }
     ensures reports { (begun : Begun) → T.has begun target.old place.old [] → IfOk result (λ report. ReportedTo (record { rest = false; json = asked.now.json; all = asked.now.all }) scoped.now.file pick asked.now.budget.given report.number report.text (T.has begun target.new place.new)) }
     ensures stops { (begun : Begun) → T.has begun target.old place.old [] → IfErr result (λ _. T.stopped begun target.new place.new) }
 {

@@ -2,6 +2,7 @@
 #![tactic(auto)]
 
 ghost use Rattle.std.specs.Prelude.{◌≡◌, IfErr, IfOk, option_map};
+ghost use Rattle.ta_automaton.specs.Narrow.{IsNarrow};
 ghost use Rattle.ta_shelf.specs.Lines.{phrase_text};
 ghost use Rattle.ta_smt.specs.declared.fault.WordFault.{WordFault};
 ghost use Rattle.ta_smt.specs.Named.{IsWholeWordOf, IsWordOf, WholeFaultOf, WordFaultOf};
@@ -54,6 +55,7 @@ pub(crate) fn find_word<'a>(
     file: &File,
     asked: &WordAsked<'a>,
 ) -> Result<NamedWord, Refusal<'a>>
+    requires narrow { IsNarrow file.now.automaton }
     ensures word { IfOk result (λ w. IsWordOf file.now (asked_seen asked.now).word (word_seen w)) }
     ensures refusal { IfErr result (WordRefused (WordFaultOf file.now (asked_seen asked.now).word) asked.now.file.now) }
 {
@@ -74,6 +76,7 @@ pub(crate) fn find_whole<'a>(
     file: &File,
     asked: &WordAsked<'a>,
 ) -> Result<NamedWord, Refusal<'a>>
+    requires narrow { IsNarrow file.now.automaton }
     ensures word { IfOk result (λ w. IsWholeWordOf file.now (asked_seen asked.now).word (word_seen w)) }
     ensures refusal { IfErr result (WordRefused (WholeFaultOf file.now (asked_seen asked.now).word) asked.now.file.now) }
 {

@@ -75,7 +75,7 @@ after_same a run lines v w s t =
     (λ i b. omega (arith, ints, s.changed i, t.changed i, first_same a run.parameters run.counts s.first t.first s.starts t.starts i))
 
 -- places among the initial locations are small
-pub filled_below : (a : Automaton) (p : Pattern) (run : Run) (j : ℕ) → FirstFilled a p run j → length a.parameters + j < 48
+pub filled_below : (a : Automaton) (p : Pattern) (run : Run) (j : ℕ) → FirstFilled a p run j → length a.parameters + j < 160
 filled_below a p run j filled =
     let within = slice_get_within a.initial j filled.location filled.at in
     let count = rises_length 0 (length a.locations) a.initial (omega arith) a.shape.initial_rises in

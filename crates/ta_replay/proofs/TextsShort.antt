@@ -100,8 +100,8 @@ text_short : (ls : List (List ℕ)) → AllByRecursion IsShortLine ls → length
 text_short [] each = lit≤ tt
 text_short (l ∷ ls) each = let here = each.0 in omega (arith, length-append l (10 ∷ lines_text ls), text_short ls each.1)
 
--- the text of a run of few lines has at most 1 MiB
-pub run_text_short : (file : File) (run : Run) → Fits file run → length run.lines ≤ 8000 → length (run_text file run) ≤ 1048576
+-- the text of a run of few lines has at most 16 MiB
+pub run_text_short : (file : File) (run : Run) → Fits file run → length run.lines ≤ 100000 → length (run_text file run) ≤ 16777216
 run_text_short file run fits few =
     let a = file.automaton in
     let p = fits.pattern in

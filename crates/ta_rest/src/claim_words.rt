@@ -2,6 +2,7 @@
 #![tactic(auto)]
 
 ghost use Rattle.std.specs.Prelude.{◌≡◌, ◌<◌, ◌↔◌, IfOk, length, reverse};
+ghost use Rattle.ta_automaton.specs.Narrow.{IsNarrow};
 ghost use Rattle.ta_automaton.specs.Numbered.{OfPattern};
 ghost use Rattle.ta_rest.specs.Claims.{search_for};
 ghost use Rattle.ta_rest.specs.Trees.{IsKeptFor, search_of_claim};
@@ -27,10 +28,11 @@ use ta_linear::System;
 use ta_words::{Element, NarrowTask, is_complete};
 
 impl<'a> ClaimTree<'a> {
-    /// The tree of a claim on the pattern of this number, from 0, under pairs of rise guards. Words of
-    /// rest are under no pairs.
+    /// The tree of a claim on the pattern of this number, from 0, of a file within the narrow limits,
+    /// under pairs of rise guards. Words of rest are under no pairs.
     pub fn new(claim: Claim, file: &'a File, number: u32, orders: &'a Orders) -> ClaimTree<'a>
-        requires { number < length file.now.patterns }
+        requires number { number < length file.now.patterns }
+        requires narrow { IsNarrow file.now.automaton }
         ensures number { result.number ≡ number }
         ensures search { OfPattern file.now number (λ p. search_of_claim result ≡ search_for claim file.now.automaton p orders.now) }
         ensures kept { OfPattern file.now number (λ p. (kept : Encoding) → IsKeptFor result kept ↔ IsEncoding file.now.automaton p kept) }

@@ -1,4 +1,5 @@
 -- what is found is safe
+use Rattle.ta_base.specs.LimitRows.{narrow}
 use Rattle.ta_search.proofs.Common.{◌≡◌, ◌∙◌, inl, inr, ℕ, ◌+◌, true, List, [], ◌∷◌, ◌++◌, length, map, refl, sym, ap, subst, append_assoc, false≢true}
 use Rattle.ta_search.proofs.Common.{AllByRecursion, File, Pattern, range_with_len, Certificate, Verdict, Safe, Unsafe, Spent, Overflow, SafeOne, safe_ones}
 use Rattle.ta_search.proofs.Common.{VerdictsHold, Outcome, Tried, Template, filled_text, IsSafe, OutcomeHolds, is_safe, AreTried, IsFound, IsSearchEnd, IsTried}
@@ -46,7 +47,7 @@ is_found_by bytes budget certificate h =
       safe = all_safe file budget 0 file.patterns h.verdicts verdicts.hold h.all;
       parameters = real.parameters;
       start = real.start;
-      accepted = subst (Certificate file certificate) numbers h.accepted;
+      accepted = subst (Certificate file narrow.line_bytes certificate) numbers h.accepted;
     }
 
 -- a found outcome has a certificate

@@ -4,6 +4,7 @@ use Rattle.ta_search.proofs.Common.{AllByRecursion, each_at, not_long, File, Pat
 use Rattle.ta_search.proofs.Common.{CertificatesAreDetermined, AreVerdicts, SamplesAreDetermined, VerdictsAreDetermined, is_unknown, Outcome, Tried, Template}
 use Rattle.ta_search.proofs.Common.{filled_text, HasVerdicts, IsOfPattern, IsRefusedFilling, IsSampled, IsUnknown, IsUnsafe, OutcomeHolds, is_safe}
 use Rattle.ta_search.proofs.Common.{is_unsampled, safe_before, AreTried, IsTried, SearchesAreDetermined, is_found, vectors, Budget}
+use Rattle.ta_base.specs.LimitRows.{narrow}
 use Rattle.ta_meaning.specs.Laws.{FilesAreUnique, FirstFaultsAreUnique}
 use Rattle.ta_report.specs.declared.verdict.ReportSample.{ReportSample}
 use Rattle.ta_report.specs.declared.verdict.ReportSample.TheVariants as sample
@@ -159,7 +160,7 @@ text_gives laws bytes budget a b h k =
     let yours = k.sampled in
     let legal = mine.legal in
     let other = yours.legal in
-    let files = laws.files bytes h.file k.file legal.means other.means in
+    let files = laws.files narrow bytes h.file k.file legal.means other.means in
     let moved = subst (λ (file : File). IsSampled bytes budget file h.s) files mine in
     let samples = laws.samples k.file budget.nodes h.s k.s moved.sample yours.sample in
     let gives = subst (λ (file : File). BySample file budget h.s a) files h.gives in
@@ -169,7 +170,7 @@ refused_once : Laws → (bytes : List ℕ) (a b : Outcome) → ByFault bytes a �
 refused_once laws bytes a b h k =
     let mine = h.refused in
     let yours = k.refused in
-    h.is ∙ ap (λ (e : FileFault). outcome.Refused e) (laws.faults bytes h.e k.e mine.first yours.first) ∙ sym k.is
+    h.is ∙ ap (λ (e : FileFault). outcome.Refused e) (laws.faults narrow bytes h.e k.e mine.first yours.first) ∙ sym k.is
 
 not_legal : (bytes : List ℕ) (budget : Budget) (a b : Outcome) → ByFault bytes a → ByText bytes budget b → ⊥
 not_legal bytes budget a b h k = let refused = h.refused in let sampled = k.sampled in let legal = sampled.legal in legal.no_fault h.e refused.first

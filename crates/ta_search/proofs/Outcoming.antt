@@ -6,6 +6,7 @@ use Rattle.ta_search.proofs.Common.{IsOfPattern, IsFirstNotSafe, HasVerdicts, Is
 use Rattle.ta_search.proofs.Common.{VerdictHolds, Budget}
 use Rattle.std.proofs.lemmas.List.Sums.{prefix_len_stops}
 use Rattle.std.proofs.lemmas.Result.{IfOk-weaker}
+use Rattle.ta_base.specs.LimitRows.{narrow}
 use Rattle.ta_meaning.specs.FirstFault.{FirstFault}
 use Rattle.ta_report.specs.declared.verdict.ReportSample.TheVariants as sample
 use Rattle.ta_syntax.specs.declared.fault.FileFault.TheVariants as fault
@@ -13,7 +14,7 @@ use Rattle.ta_verdict.proofs.VerdictsMade.{as_many}
 use Rattle.ta_automaton.specs.Numbered.{OfPattern}
 
 -- an error that isn't want of memory refuses a text
-pub refused_by : (bytes : List ℕ) (e : FileFault) → length bytes ≤ 1048576 → (e ≡ fault.Memory) ⊎ FirstFault bytes e → e ≢ fault.Memory
+pub refused_by : (bytes : List ℕ) (e : FileFault) → length bytes ≤ 1048576 → (e ≡ fault.Memory) ⊎ FirstFault narrow bytes e → e ≢ fault.Memory
     → IsRefusedFilling bytes e
 refused_by bytes e within (inl same) other = absurd (other same)
 refused_by bytes e within (inr first) other = record { within = within; first = first; told = other }
@@ -76,7 +77,7 @@ pattern_holds bytes budget file vs v place values result sampled are same at of 
 pub safe_holds :
     (bytes : List ℕ) (budget : Budget) (file : File) (vs : List Verdict) (place : ℕ) (values : List ℤ) (text : List ℕ)
     → IsSampled bytes budget file (sample.Sample values) → AreVerdicts file budget vs → place ≡ safe_before vs → slice_get vs place ≡ None
-    → CertificateOf file budget vs text → Certificate file text (safe_numbers file vs) → IsSafe bytes budget text
+    → CertificateOf file budget vs text → Certificate file narrow.line_bytes text (safe_numbers file vs) → IsSafe bytes budget text
 safe_holds bytes budget file vs place values text sampled are same none certificate accepted =
     record {
       file = file;

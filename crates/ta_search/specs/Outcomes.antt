@@ -1,7 +1,7 @@
 -- The outcome of a template with values in its holes, within a budget.
 use Rattle.std.specs.Prelude.{ℕ, ℤ, ◌<◌, ◌≤◌, ◌≡◌, ◌≢◌, Bool, true, false, List, length, slice_get, Some}
 use Rattle.std.specs.List.{prefix_len, AllByRecursion}
-use Rattle.ta_base.specs.declared.limits.TheConstants.{FILE_BYTES}
+use Rattle.ta_base.specs.LimitRows.{narrow}
 use Rattle.ta_automaton.specs.declared.file.File.{File}
 use Rattle.ta_automaton.specs.declared.pattern.Pattern.{Pattern}
 use Rattle.ta_check.specs.Certificate.{Certificate}
@@ -37,14 +37,14 @@ is_unsampled (sample.Overflow node kind) = true
 
 -- the filled text is refused for this error
 pub record IsRefusedFilling (bytes : List ℕ) (e : FileFault) : Type 0 where
-  pub within : length bytes ≤ FILE_BYTES
-  pub first : FirstFault bytes e
+  pub within : length bytes ≤ narrow.bytes
+  pub first : FirstFault narrow bytes e
   pub told : e ≢ fault.Memory
 
 -- the filled text means this file, and this is the sample of its parameters
 pub record IsSampled (bytes : List ℕ) (budget : Budget) (file : File) (s : ReportSample) : Type 0 where
-  pub within : length bytes ≤ FILE_BYTES
-  pub legal : Legal bytes file
+  pub within : length bytes ≤ narrow.bytes
+  pub legal : Legal narrow bytes file
   pub sample : IsSample file budget.nodes s
 
 -- its sample is this one
@@ -96,11 +96,11 @@ pub record IsSafe (bytes : List ℕ) (budget : Budget) (text : List ℕ) : Type 
   pub judged : HasVerdicts bytes budget file verdicts
   pub all : AllByRecursion (λ v. is_safe v ≡ true) verdicts
   pub certificate : CertificateOf file budget verdicts text
-  pub accepted : Certificate file text (safe_numbers file verdicts)
+  pub accepted : Certificate file narrow.line_bytes text (safe_numbers file verdicts)
 
 -- the outcome of a filled text holds, for a budget
 abbrev pub OutcomeHolds : List ℕ → Budget → Outcome → Type 0
-OutcomeHolds bytes budget outcome.Long = FILE_BYTES < length bytes
+OutcomeHolds bytes budget outcome.Long = narrow.bytes < length bytes
 OutcomeHolds bytes budget (outcome.Refused e) = IsRefusedFilling bytes e
 OutcomeHolds bytes budget outcome.Empty = HasSample bytes budget sample.Empty
 OutcomeHolds bytes budget (outcome.SampleUnknown s) = HasSample bytes budget s × (is_unsampled s ≡ true)

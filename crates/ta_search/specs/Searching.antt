@@ -5,6 +5,7 @@ use Rattle.ta_automaton.specs.declared.file.File.{File}
 use Rattle.ta_automaton.specs.Runs as runs
 use Rattle.ta_check.specs.Certificate.{Certificate}
 use Rattle.ta_encode.specs.Sample.{HasStart}
+use Rattle.ta_base.specs.LimitRows.{narrow}
 use Rattle.ta_meaning.specs.Reading.{Legal}
 use Rattle.ta_search.specs.declared.outcome.Outcome.{Outcome}
 use Rattle.ta_search.specs.declared.outcome.Outcome.TheVariants as outcome
@@ -52,11 +53,11 @@ IsSearchEnd t budget end = AreTried t budget (vectors t.holes) end.tried end.fou
 -- that the checker accepts as one of all its patterns
 pub record IsFound (bytes certificate : List ℕ) : Type 0 where
   pub file : File
-  pub legal : Legal bytes file
+  pub legal : Legal narrow bytes file
   pub safe : AllByRecursion (runs.Safe file.automaton) file.patterns
   pub parameters : List ℕ
   pub start : HasStart file.automaton parameters
-  pub accepted : Certificate file certificate (range_with_len 0 (length file.patterns))
+  pub accepted : Certificate file narrow.line_bytes certificate (range_with_len 0 (length file.patterns))
 
 -- the last vector that was tried is found: it is listed with a certificate
 pub record LastIsFound (t : Template) (end : SearchEnd) : Type 0 where

@@ -3,6 +3,8 @@
 
 ghost use Rattle.std.specs.Prelude.{◌≡◌, ◌≤◌, ◌<◌, ◌++◌, IfOk, OnOk, List, ℕ, ℤ, false, length};
 ghost use Rattle.std.specs.List.{AllByRecursion};
+ghost use Rattle.ta_automaton.specs.Narrow.{IsNarrow};
+ghost use Rattle.ta_base.specs.LimitRows.{narrow};
 ghost use Rattle.ta_meaning.specs.Reading.{Legal};
 ghost use Rattle.ta_report.specs.Report.{VerdictFits};
 ghost use Rattle.ta_report.specs.declared.verdict.ReportSample.TheVariants.{Sample};
@@ -20,7 +22,7 @@ use crate::template::{Hole, Template};
 use std::alloc::{AllocError, Global};
 use std::thread::Threads;
 use ta_automaton::File;
-use ta_base::limits::{FILE_BYTES, MOST_NODES, MOST_VECTORS};
+use ta_base::limits::{Limits, MOST_NODES, MOST_VECTORS};
 use ta_base::{List, Text};
 use ta_meaning::read_file;
 use ta_replay::print_run;
@@ -85,10 +87,11 @@ fn text_outcome<R: Threads + Sync>(
     requires limit { budget.nodes ≤ MOST_NODES }
     ensures { IfOk result (OutcomeHolds bytes.now budget) }
 {
-    if bytes.len() > FILE_BYTES {
+    let limits = Limits::narrow();
+    if bytes.len() > limits.bytes {
         return Ok(Outcome::Long);
     }
-    match read_file(alloc, bytes) {
+    match read_file(alloc, bytes, &limits) {
         Ok(scoped) => file_outcome(rt, alloc, &scoped, budget),
         Err(FileFault::Memory) => Err(AllocError),
         Err(fault) => Ok(Outcome::Refused(fault)),
@@ -104,7 +107,8 @@ fn file_outcome<R: Threads + Sync>(
 ) -> Result<Outcome, AllocError>
     requires some { 0 < budget.nodes }
     requires limit { budget.nodes ≤ MOST_NODES }
-    ensures { (bytes : List ℕ) → length bytes ≤ FILE_BYTES → Legal bytes scoped.now.file → IfOk result (OutcomeHolds bytes budget) }
+    requires narrow { IsNarrow scoped.now.file.automaton }
+    ensures { (bytes : List ℕ) → length bytes ≤ narrow.bytes → Legal narrow bytes scoped.now.file → IfOk result (OutcomeHolds bytes budget) }
 {
     match sample_of(alloc, &scoped.file, budget.nodes)? {
         ReportSample::Sample(_) => patterns_outcome(rt, alloc, scoped, budget),
@@ -127,6 +131,7 @@ fn patterns_outcome<R: Threads + Sync>(
 ) -> Result<Outcome, AllocError>
     requires some { 0 < budget.nodes }
     requires limit { budget.nodes ≤ MOST_NODES }
+    requires narrow { IsNarrow scoped.now.file.automaton }
     ensures { (bytes : List ℕ) (values : List ℤ) → IsSampled bytes budget scoped.now.file (Sample values) → IfOk result (OutcomeHolds bytes budget) }
 {
     let judged = judge_file(rt, alloc, scoped, budget, true)?;

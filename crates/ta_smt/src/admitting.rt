@@ -5,6 +5,7 @@ ghost use Rattle.std.specs.Prelude.{◌≡◌, ◌≤◌, ◌<◌, ◌^◌, leng
 ghost use Rattle.ta_linear.specs.Terms.{IsNormal};
 ghost use Rattle.ta_linear.specs.Values.{point_of};
 ghost use Rattle.ta_counter.specs.Checks.{RowPasses, RowsOver, RowsPass};
+ghost use Rattle.ta_automaton.specs.Narrow.{IsNarrow};
 ghost use Rattle.ta_automaton.specs.Numbered.{OfPattern};
 ghost use Rattle.ta_words.specs.Words.{LegalWord};
 ghost use Rattle.ta_witness.specs.Witness.{IsSolution};
@@ -36,6 +37,7 @@ pub fn admit(
 ) -> Result<Run, AdmitFault>
     requires exists { pattern < length scoped.now.file.patterns }
     requires legal { OfPattern scoped.now.file pattern (λ p. LegalWord scoped.now.file.automaton p start_mask (reverse word.now)) }
+    requires narrow { IsNarrow scoped.now.file.automaton }
     ensures run { IfOk result (λ run. Admits scoped.now.file (asked pattern start_mask word.now) bytes.now run) }
     ensures fault { IfErr result (AdmitFaultOf scoped.now.file (asked pattern start_mask word.now) bytes.now) }
 {
@@ -66,6 +68,7 @@ fn check_word(
 ) -> Result<(), AdmitFault>
     requires exists { pattern < length file.now.patterns }
     requires legal { OfPattern file.now pattern (λ p. LegalWord file.now.automaton p start_mask (reverse word.now)) }
+    requires narrow { IsNarrow file.now.automaton }
     ensures passes { OnOk result (PassesCheck file.now (asked pattern start_mask word.now) values.now) }
     ensures fault { IfErr result (WordFault file.now (asked pattern start_mask word.now) values.now) }
 {
@@ -125,6 +128,7 @@ fn run_of(
 ) -> Result<Run, AdmitFault>
     requires exists { pattern < length scoped.now.file.patterns }
     requires solves { IsSolution scoped.now.file (solution_of (asked pattern start_mask word.now) values.items) }
+    requires narrow { IsNarrow scoped.now.file.automaton }
     ensures run { IfOk result (λ run. IsRunOfValues scoped.now.file (asked pattern start_mask word.now) values.items run) }
     ensures fault { IfErr result (RunFault scoped.now.file (asked pattern start_mask word.now) values.items) }
 {

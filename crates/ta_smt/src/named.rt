@@ -2,6 +2,7 @@
 #![tactic(auto)]
 
 ghost use Rattle.std.specs.Prelude.{ℕ, ◌≡◌, ◌≤◌, ◌^◌, ◌↔◌, length, IfOk, IfErr, IsTrue, MatchOption, nat_lt};
+ghost use Rattle.ta_automaton.specs.Narrow.{IsNarrow};
 ghost use Rattle.ta_smt.specs.Admit.{asked};
 ghost use Rattle.ta_smt.specs.Named.{IsLegalWord, IsNamed, IsWholeWordOf, IsWordOf, IsWordText, WholeFaultOf, WordFaultOf, spelling};
 
@@ -22,13 +23,14 @@ pub struct NamedWord {
     pub word: Word,
 }
 
-/// The word of a pattern's name, a start set and elements. It takes no memory.
+/// The word of a narrow file by a pattern's name, a start set and elements. It takes no memory.
 pub fn named_word(
     file: &File,
     name: &str,
     start_mask: u8,
     elements: &[Element],
 ) -> Result<NamedWord, WordFault>
+    requires { IsNarrow file.now.automaton }
     ensures word { IfOk result (λ w. IsWordOf file.now (spelling name.now start_mask elements.now) (asked w.pattern w.start_mask w.word)) }
     ensures fault { IfErr result (WordFaultOf file.now (spelling name.now start_mask elements.now)) }
 {
@@ -55,6 +57,7 @@ pub fn whole_word(
     start_mask: u8,
     elements: &[Element],
 ) -> Result<NamedWord, WordFault>
+    requires { IsNarrow file.now.automaton }
     ensures word { IfOk result (λ w. IsWholeWordOf file.now (spelling name.now start_mask elements.now) (asked w.pattern w.start_mask w.word)) }
     ensures fault { IfErr result (WholeFaultOf file.now (spelling name.now start_mask elements.now)) }
 {
@@ -67,8 +70,9 @@ pub fn whole_word(
     }
 }
 
-/// Whether a start set names fall guards of a file alone.
+/// Whether a start set names fall guards of a narrow file alone.
 fn begins(file: &File, start_mask: u8) -> bool
+    requires { IsNarrow file.now.automaton }
     ensures { result ≡ nat_lt start_mask (2 ^ length file.now.automaton.fall) }
 {
     (start_mask as usize) < 1 << file.automaton.fall.as_slice().len()
@@ -96,7 +100,8 @@ fn is_named(pattern: &Pattern, name: &str) -> bool
 
 /// The text of a word's system, without bounds, as a script for other solvers.
 pub fn word_text(alloc: Global, file: &File, named: &NamedWord) -> Result<Text, AllocError>
-    requires { IsLegalWord file.now (asked named.now.pattern named.now.start_mask named.now.word) }
+    requires legal { IsLegalWord file.now (asked named.now.pattern named.now.start_mask named.now.word) }
+    requires narrow { IsNarrow file.now.automaton }
     ensures { IfOk result (IsWordText file.now (asked named.now.pattern named.now.start_mask named.now.word)) }
 {
     let task = NarrowTask::of(file, named.pattern);

@@ -8,6 +8,7 @@ use Rattle.ta_syntax.proofs.Common.{plain_rule, plain_event, plain_pattern, plai
 use Rattle.ta_syntax.proofs.Common.{initial_stated, location_stated, comparison_stated, update_stated, rule_stated, event_stated, pattern_stated, tree_stated}
 use Rattle.ta_syntax.proofs.Common.{IsShallow, IsRuleWithin, IsEventWithin, IsPatternWithin, IsTreeWithin, kinds, offset_of, ScansTo, IsLastGap, IsTextOf}
 use Rattle.ta_syntax.proofs.Common.{IsDigits, IsTreeOf, Kind, Mark, Relation, Token, Tree, Digits}
+use Rattle.ta_base.specs.declared.limits.Limits.{Limits}
 use Rattle.ta_syntax.specs.declared.tokens.Kind.TheVariants as kind
 use Rattle.ta_syntax.specs.declared.tokens.Mark.TheVariants as mark
 use Rattle.ta_syntax.proofs.BuiltSums.{tail, before, behind, Small, small_tail, small_before, small_behind, kinds_tail, kinds_before, kinds_behind, placed_mark}
@@ -161,6 +162,10 @@ module _ {A P : Type 0} {plain : A → P} {stated : A → List Offsets} {spell :
 few_as : {A P : Type 0} (plain : A → P) (n : ℕ) (xs : List A) (ps : List P) → map plain xs ≡ ps → length ps ≤ n → length xs ≤ n
 few_as plain n xs ps e few = subst (λ (k : ℕ). k ≤ n) (sym (length_of_map plain xs ps e)) few
 
+-- the same with a wider limit
+few_up_to : {A P : Type 0} (plain : A → P) (n most : ℕ) (xs : List A) (ps : List P) → map plain xs ≡ ps → length ps ≤ n → n ≤ most → length xs ≤ most
+few_up_to plain n most xs ps e few up = let f : length xs ≤ n = few_as plain n xs ps e few in omega arith
+
 some_as : {A P : Type 0} (plain : A → P) (xs : List A) (ps : List P) → map plain xs ≡ ps → IsSome ps → 1 ≤ length xs
 some_as plain [] [] e some = absurd some
 some_as plain [] (p ∷ ps) e some = absurd cc
@@ -280,8 +285,8 @@ b_event = b_as (λ v. (v.name, (v.after, v.condition))) (λ p. record { name = p
     }) (λ p good v e. refl) (λ p good v e. refl)
     (b_after (b_both b_name (b_both (b_led b_name mark.After) (b_after (b_list_end b_comparison) mark.Colon))) mark.Event)
 
-b_pattern : Builds plain_pattern pattern_stated pattern_kinds (Good IsPattern IsPatternWithin)
-b_pattern = b_as (λ p. (p.name, (p.start, (p.empty, p.events)))) (λ p. record { name = p.0; start = p.1.0; empty = p.1.1.0; events = p.1.1.1 }) (λ p. refl)
+b_pattern : (l : Limits) → Builds plain_pattern pattern_stated pattern_kinds (Good IsPattern (IsPatternWithin l))
+b_pattern l = b_as (λ p. (p.name, (p.start, (p.empty, p.events)))) (λ p. record { name = p.0; start = p.1.0; empty = p.1.1.0; events = p.1.1.1 }) (λ p. refl)
     (λ p good. (
       good.legal.name,
       (
@@ -295,15 +300,15 @@ b_pattern = b_as (λ p. (p.name, (p.start, (p.empty, p.events)))) (λ p. record 
       empty = v.1.1.0;
       events = v.1.1.1;
       few_start = few_as plain_comparison 16 v.1.0 p.start (ap (λ q. q.1.0) e) good.within.start;
-      few_empty = few_as plain_name 32 v.1.1.0 p.empty (ap (λ q. q.1.1.0) e) good.within.empty;
+      few_empty = few_up_to plain_name l.locations 128 v.1.1.0 p.empty (ap (λ q. q.1.1.0) e) good.within.empty l.few_locations;
       few_events = few_as plain_event 8 v.1.1.1 p.events (ap (λ q. q.1.1.1) e) good.within.events;
     }) (λ p good v e. refl) (λ p good v e. refl)
     (b_after (b_both b_name (b_after (b_both (b_ended b_comparison mark.Start) (b_both (b_ended b_name mark.Empty) (b_before (b_each b_event) mark.CloseBrace)))
     mark.OpenBrace)) mark.Pattern)
 
 -- ---- files
-b_tree : Builds plain_tree tree_stated file_kinds (Good IsTree IsTreeWithin)
-b_tree = b_as
+b_tree : (l : Limits) → Builds plain_tree tree_stated file_kinds (Good IsTree (IsTreeWithin l))
+b_tree l = b_as
     (λ t. (t.name, (t.parameters, (t.shared, (tt, (t.locations, (t.processes, (t.resilience, (t.rules, t.patterns)))))))))
     (λ p. record {
       name = p.0;
@@ -331,7 +336,7 @@ b_tree = b_as
                   all_good IsComparison IsShallow t.resilience good.legal.resilience good.within.shallow,
                   (
                     all_good IsRule IsRuleWithin t.rules good.legal.rules good.within.each_rule,
-                    all_good IsPattern IsPatternWithin t.patterns good.legal.patterns good.within.each_pattern,
+                    all_good IsPattern (IsPatternWithin l) t.patterns good.legal.patterns good.within.each_pattern,
                   ),
                 ),
               ),
@@ -351,19 +356,20 @@ b_tree = b_as
       resilience = v.1.1.1.1.1.1.0;
       rules = v.1.1.1.1.1.1.1.0;
       patterns = v.1.1.1.1.1.1.1.1;
-      few_parameters = few_as plain_name 16 v.1.0 t.parameters (ap (λ p. p.1.0) e) good.within.parameters;
-      few_shared = few_as plain_name 16 v.1.1.0 t.shared (ap (λ p. p.1.1.0) e) good.within.shared;
+      few_parameters = few_up_to plain_name l.parameters 32 v.1.0 t.parameters (ap (λ p. p.1.0) e) good.within.parameters l.few_parameters;
+      few_shared = few_up_to plain_name l.shared 64 v.1.1.0 t.shared (ap (λ p. p.1.1.0) e) good.within.shared l.few_shared;
       some_locations = some_as plain_location v.1.1.1.1.0 t.locations (ap (λ p. p.1.1.1.1.0) e) good.legal.some;
-      few_locations = few_as plain_location 32 v.1.1.1.1.0 t.locations (ap (λ p. p.1.1.1.1.0) e) good.within.locations;
+      few_locations = few_up_to plain_location l.locations 128 v.1.1.1.1.0 t.locations (ap (λ p. p.1.1.1.1.0) e) good.within.locations l.few_locations;
       is_processes = subst IsSum (sym (ap (λ p. p.1.1.1.1.1.0) e)) good.legal.processes;
       shallow_processes = subst (λ x. sum_depth x ≤ 32) (sym (ap (λ p. p.1.1.1.1.1.0) e)) good.within.processes;
       few_resilience = few_as plain_comparison 16 v.1.1.1.1.1.1.0 t.resilience (ap (λ p. p.1.1.1.1.1.1.0) e) good.within.resilience;
-      few_rules = few_as plain_rule 128 v.1.1.1.1.1.1.1.0 t.rules (ap (λ p. p.1.1.1.1.1.1.1.0) e) good.within.rules;
-      few_patterns = few_as plain_pattern 16 v.1.1.1.1.1.1.1.1 t.patterns (ap (λ p. p.1.1.1.1.1.1.1.1) e) good.within.patterns;
+      few_rules = few_up_to plain_rule l.rules 1024 v.1.1.1.1.1.1.1.0 t.rules (ap (λ p. p.1.1.1.1.1.1.1.0) e) good.within.rules l.few_rules;
+      few_patterns = few_up_to plain_pattern l.patterns 64 v.1.1.1.1.1.1.1.1 t.patterns (ap (λ p. p.1.1.1.1.1.1.1.1) e) good.within.patterns
+          l.few_patterns;
     }) (λ t good v e. refl) (λ t good v e. refl)
     (b_after (b_both b_name (b_after (b_after (b_both (b_listed b_name) (b_after (b_after (b_both (b_listed b_name) (b_after (b_both (b_placed mark.Locations)
     (b_both (b_listed b_location) (b_after (b_after (b_both (b_first b_sum) (b_after (b_after (b_both (b_listed b_comparison)
-    (b_after (b_both (b_each b_rule) (b_each b_pattern)) mark.Semicolon)) mark.Resilience) mark.Semicolon)) mark.Processes) mark.Semicolon)))
+    (b_after (b_both (b_each b_rule) (b_each (b_pattern l))) mark.Semicolon)) mark.Resilience) mark.Semicolon)) mark.Processes) mark.Semicolon)))
     mark.Semicolon)) mark.Shared) mark.Semicolon)) mark.Parameters) mark.Semicolon)) mark.Automaton)
 
 -- a text has no more tokens than bytes
@@ -380,11 +386,12 @@ few_tokens P at bytes (t ∷ ts) h =
       kind_some t.kind h.5,
     )
 
-pub trees_exist : (bytes : List ℕ) (t : PlainTree) → length bytes ≤ 1048576 → IsTextOf bytes t → IsTreeWithin t → (tree : Tree) × IsTreeOf bytes tree
-    × (plain_tree tree ≡ t)
-trees_exist bytes t small text within =
+pub trees_exist : (l : Limits) (bytes : List ℕ) (t : PlainTree) → length bytes ≤ 4194304 → IsTextOf bytes t → IsTreeWithin l t → (tree : Tree)
+    × IsTreeOf l bytes tree × (plain_tree tree ≡ t)
+trees_exist l bytes t small text within =
     let few : length text.tokens ≤ length bytes = few_tokens (λ at rest. IsLastGap rest) 0 bytes text.tokens text.are in
-    let b = b_tree.build t (record { legal = text.legal; within = within }) text.tokens text.spelled (omega arith) in (
+    let builds = b_tree l in
+    let b = builds.build t (record { legal = text.legal; within = within }) text.tokens text.spelled (omega arith) in (
       b.value,
       record {
         tokens = text.tokens;
@@ -393,7 +400,7 @@ trees_exist bytes t small text within =
             ∙ ap file_kinds (sym b.same);
         placed = b.placed;
         legal = subst IsTree (sym b.same) text.legal;
-        within = subst IsTreeWithin (sym b.same) within;
+        within = subst (IsTreeWithin l) (sym b.same) within;
       },
       b.same,
     )

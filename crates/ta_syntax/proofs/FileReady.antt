@@ -1,5 +1,6 @@
 -- One token of lookahead suffices for automaton files.
-use Rattle.std.proofs.Common.{refl, ◌≡◌, ℕ, zero, suc, true, false, []}
+use Rattle.std.proofs.Common.{refl, sym, subst, ◌≡◌, ℕ, zero, suc, true, false, []}
+use Rattle.ta_base.specs.declared.limits.Limits.{Limits}
 use Rattle.ta_syntax.specs.declared.tokens.Mark.{Mark}
 use Rattle.ta_syntax.specs.declared.tokens.Mark.TheVariants as mark
 use Rattle.ta_syntax.specs.Productions.{Class, joined, Production, one, both, repeat, nullable, first, only, numbers}
@@ -88,6 +89,11 @@ blocks_null : (n : ℕ) (m : Mark) (body : Production) → nullable (blocks n m 
 blocks_null zero m body = refl
 blocks_null (suc n) m body = refl
 
+-- what follows a part that stands before the last blocks
+blocks_follow : (n : ℕ) (m : Mark) (body : Production) → follow (blocks n m body) [] ≡ only m
+blocks_follow zero m body = refl
+blocks_follow (suc n) m body = refl
+
 module _ (m : Mark) (body : Production) (f : Class) (r : Ready body (joined (only m) f)) (within : inside (only m) (only m) ≡ true)
     (mark : apart (only m) f ≡ true)
   where
@@ -130,13 +136,13 @@ ready_rule f = (
 ready_event : (f : Class) → Ready event f
 ready_event f = (tt, (((tt, ready_names (only mark.Colon) 8 refl), tt, refl, refl, refl), (tt, ready_condition f 16)))
 
-ready_pattern : (f : Class) → Ready pattern f
-ready_pattern f = (
+ready_pattern : (l : Limits) (f : Class) → Ready (pattern l) f
+ready_pattern l f = (
   (tt, tt),
   (
     ((tt, ready_condition [] 16), tt, refl, refl, refl),
     (
-      ((tt, (ready_names ended_class 32 refl, tt)), tt, refl, refl, refl),
+      ((tt, (ready_names ended_class l.locations refl, tt)), tt, refl, refl, refl),
       (ready_blocks mark.Event event (only mark.CloseBrace) (ready_event []) refl refl 8, tt),
     ),
   ),
@@ -146,18 +152,35 @@ ready_declared : (m : Mark) (n : ℕ) (item : Production) (f : Class) → Ready 
     → Ready (declared_list m n item) f
 ready_declared m n item f r other = (tt, (tt, (r, tt), refl, refl, other))
 
-pub ready_file : Ready file []
-ready_file = (
+-- a semicolon does not begin a list of names
+names_apart : (n : ℕ) (f : Class) → apart ended_class (follow (list_end n a_name) f) ≡ true
+names_apart zero f = refl
+names_apart (suc n) f = refl
+
+ready_declared_names : (m : Mark) (n : ℕ) (f : Class) → Ready (declared_list m n a_name) f
+ready_declared_names m n f = ready_declared m n a_name f (ready_names ended_class n refl) (names_apart n f)
+
+ready_resilience : (f : Class) → Ready (declared_list mark.Resilience 16 comparison) f
+ready_resilience f = ready_declared mark.Resilience 16 comparison f
+    (ready_comparisons ended_class 16 (ready_comparison (joined (only mark.Comma) ended_class) refl refl refl refl) refl) refl
+
+-- the rules, before the patterns
+ready_rules : (l : Limits) → Ready (blocks l.rules mark.Rule rule) (follow (blocks l.patterns mark.Pattern (pattern l)) [])
+ready_rules l = subst (λ (c : Class). Ready (blocks l.rules mark.Rule rule) c) (sym (blocks_follow l.patterns mark.Pattern (pattern l)))
+    (ready_blocks mark.Rule rule (only mark.Pattern) (ready_rule []) refl refl l.rules)
+
+pub ready_file : (l : Limits) → Ready (file l) []
+ready_file l = (
   (
     tt,
     (
       (tt, tt),
       (
-        ready_declared mark.Parameters 16 a_name [] (ready_names ended_class 16 refl) refl,
+        ready_declared_names mark.Parameters l.parameters (only mark.Shared),
         (
-          ready_declared mark.Shared 16 a_name [] (ready_names ended_class 16 refl) refl,
+          ready_declared_names mark.Shared l.shared (only mark.Locations),
           (
-            (tt, (ready_items location ended_class (ready_location (joined (only mark.Comma) ended_class) refl) refl refl refl 32, tt)),
+            (tt, (ready_items location ended_class (ready_location (joined (only mark.Comma) ended_class) refl) refl refl refl l.locations, tt)),
             (tt, (ready_sums ended_class refl refl refl refl, tt)),
           ),
         ),
@@ -165,8 +188,7 @@ ready_file = (
     ),
   ),
   (
-    ready_declared mark.Resilience 16 comparison []
-        (ready_comparisons ended_class 16 (ready_comparison (joined (only mark.Comma) ended_class) refl refl refl refl) refl) refl,
-    (ready_blocks mark.Rule rule (only mark.Pattern) (ready_rule []) refl refl 128, ready_blocks mark.Pattern pattern [] (ready_pattern []) refl refl 16),
+    ready_resilience (follow (both (blocks l.rules mark.Rule rule) (blocks l.patterns mark.Pattern (pattern l))) []),
+    (ready_rules l, ready_blocks mark.Pattern (pattern l) [] (ready_pattern l []) refl refl l.patterns),
   ),
 )

@@ -5,6 +5,8 @@ use Rattle.std.specs.Prelude.{max}
 use Rattle.std.proofs.lemmas.List.{append-nil}
 use Rattle.std.proofs.Common.{⊎_elim, arith, length, eqb-true, Option, Some, None}
 use Rattle.std.specs.List.{AllByRecursion}
+use Rattle.ta_base.specs.declared.limits.Limits.{Limits}
+use Rattle.ta_base.specs.LimitRows.{narrow}
 use Rattle.ta_syntax.specs.Kinds.{IsKind, IsNameText, IsDigits}
 use Rattle.ta_syntax.specs.Grammar.{AreTerms, Factor, IsComparison, IsEvent, IsFactor, IsPattern, IsRule, IsSome, IsSum, IsTerm, IsTree, IsUpdate}
 use Rattle.ta_syntax.specs.Grammar.{PlainComparison, PlainEvent, PlainLocation, PlainPattern, PlainRule, PlainTree, Term, Terms, alone, blank}
@@ -25,7 +27,7 @@ use Rattle.ta_syntax.specs.declared.tokens.Relation.TheVariants as relation
 use Rattle.ta_syntax.specs.Productions.{Class, code, mark_code, has, only, names, numbers, Production, nothing, one, both, choose, repeat, barred}
 use Rattle.ta_syntax.specs.FileGrammar.{a_mark, a_name, a_number, signs, relations, maybe, term_with, sum_with, nested_with, free_factor, factor}
 use Rattle.ta_syntax.specs.FileGrammar.{further, items, blocks, list_end, led, ended, declared_list, location, update, comparison, rule, event}
-use Rattle.ta_syntax.specs.FileGrammar.{pattern, locations, processes, file}
+use Rattle.ta_syntax.specs.FileGrammar.{pattern, file}
 use Rattle.ta_syntax.proofs.Parsing.{Spans, One, Turns, false_true}
 use Rattle.ta_syntax.proofs.Halting.{marks}
 
@@ -684,8 +686,8 @@ module _ (v : Bool) where
       (t_both (t_name v) (t_both (t_led v a_name IsNameText name_kinds (t_name v) mark.After 8 refl) (t_both (t_mark v mark.Colon refl)
       (t_list_end v comparison Comparison comparison_kinds t_comparison 16))))
 
-  t_pattern : Tells v pattern (Limited v IsPattern IsPatternWithin) behind_pattern
-  t_pattern = t_as (λ p. record { name = p.0.0; start = p.1.0; empty = p.1.1.0; events = p.1.1.1.0 })
+  t_pattern : (l : Limits) → Tells v (pattern l) (Limited v IsPattern (IsPatternWithin l)) behind_pattern
+  t_pattern l = t_as (λ p. record { name = p.0.0; start = p.1.0; empty = p.1.1.0; events = p.1.1.1.0 })
       (λ p. ((p.name, tt), (p.start, (p.empty, (p.events, tt)))))
       (λ p is. let g = all_split v IsComparison IsShallow p.1.0 is.1.0.0 in let h = all_split v IsEvent IsEventWithin p.1.1.1.0 is.1.1.1.0.0 in (
         record { name = is.0.0; start = g.0; empty = is.1.1.0.0; events = h.0 },
@@ -703,11 +705,11 @@ module _ (v : Bool) where
       ))
       (λ p. refl) (λ p. refl)
       (t_both (t_both (t_name v) (t_mark v mark.OpenBrace refl)) (t_both (t_ended v comparison Comparison comparison_kinds t_comparison mark.Start 16 refl)
-      (t_both (t_ended v a_name IsNameText name_kinds (t_name v) mark.Empty 32 refl)
+      (t_both (t_ended v a_name IsNameText name_kinds (t_name v) mark.Empty l.locations refl)
       (t_both (t_blocks v event (Limited v IsEvent IsEventWithin) behind_event t_event mark.Event refl 8) (t_mark v mark.CloseBrace refl)))))
 
-  pub t_file : Tells v file (Limited v IsTree IsTreeWithin) file_kinds
-  t_file = t_as (λ p. record {
+  pub t_file : (l : Limits) → Tells v (file l) (Limited v IsTree (IsTreeWithin l)) file_kinds
+  t_file l = t_as (λ p. record {
     name = p.0.1.0.0;
     parameters = p.0.1.1.0;
     shared = p.0.1.1.1.0;
@@ -721,7 +723,7 @@ module _ (v : Bool) where
       (λ p is.
       let g = all_split v IsComparison IsShallow p.1.0 is.1.0.0 in
       let r = all_split v IsRule IsRuleWithin p.1.1.0 is.1.1.0.0 in
-      let q = all_split v IsPattern IsPatternWithin p.1.1.1 is.1.1.1.0 in (
+      let q = all_split v IsPattern (IsPatternWithin l) p.1.1.1 is.1.1.1.0 in (
         record {
           name = is.0.1.0.0;
           parameters = is.0.1.1.0.0;
@@ -764,19 +766,19 @@ module _ (v : Bool) where
           (zip t.resilience is.0.resilience (λ e. let h = is.1 e in h.shallow), λ e. let h = is.1 e in h.resilience),
           (
             (all_zip v IsRule IsRuleWithin t.rules is.0.rules (λ e. let h = is.1 e in h.each_rule), λ e. let h = is.1 e in h.rules),
-            (all_zip v IsPattern IsPatternWithin t.patterns is.0.patterns (λ e. let h = is.1 e in h.each_pattern), λ e. let h = is.1 e in h.patterns),
+            (all_zip v IsPattern (IsPatternWithin l) t.patterns is.0.patterns (λ e. let h = is.1 e in h.each_pattern), λ e. let h = is.1 e in h.patterns),
           ),
         ),
       ))
       (λ p. simp append_assoc) (λ t. simp append_assoc)
       (t_both (t_both (t_mark v mark.Automaton refl) (t_both (t_both (t_name v) (t_mark v mark.Semicolon refl))
-      (t_both (t_declared v a_name IsNameText name_kinds (t_name v) mark.Parameters 16 refl)
-      (t_both (t_declared v a_name IsNameText name_kinds (t_name v) mark.Shared 16 refl)
-      (t_both (t_both (t_mark v mark.Locations refl) (t_list_end v location IsLocation location_kinds t_location 32))
+      (t_both (t_declared v a_name IsNameText name_kinds (t_name v) mark.Parameters l.parameters refl)
+      (t_both (t_declared v a_name IsNameText name_kinds (t_name v) mark.Shared l.shared refl)
+      (t_both (t_both (t_mark v mark.Locations refl) (t_list_end v location IsLocation location_kinds t_location l.locations))
       (t_both (t_mark v mark.Processes refl) (t_both (t_sum v 32) (t_mark v mark.Semicolon refl))))))))
       (t_both (t_declared v comparison Comparison comparison_kinds t_comparison mark.Resilience 16 refl)
-      (t_both (t_blocks v rule (Limited v IsRule IsRuleWithin) behind_rule t_rule mark.Rule refl 128)
-      (t_blocks v pattern (Limited v IsPattern IsPatternWithin) behind_pattern t_pattern mark.Pattern refl 16))))
+      (t_both (t_blocks v rule (Limited v IsRule IsRuleWithin) behind_rule t_rule mark.Rule refl l.rules)
+      (t_blocks v (pattern l) (Limited v IsPattern (IsPatternWithin l)) behind_pattern (t_pattern l) mark.Pattern refl l.patterns))))
 
 -- ---- the tokens of a tree are legal
 
@@ -798,6 +800,9 @@ spans_legal (choose c a b) ks w (inr s) h = spans_legal b ks w s h
 spans_legal (repeat c a) ks w (n, s) h = turns_legal (Spans true a) (spans_legal a) n ks w s h
 spans_legal (barred s c g) ks w (e, n, t) h = spans_legal (g n) ks w t h
 
+within_legal : (l : Limits) (t : PlainTree) → IsTree t → Legal (file_kinds t)
+within_legal l t is = let tells = t_file true l in
+    subst Legal (append-nil (file_kinds t)) (spans_legal (file l) (file_kinds t ++ []) [] (tells.to t (is, λ e. absurd (false_true (sym e))) []) tt)
+
 pub file_legal : (t : PlainTree) → IsTree t → AllByRecursion IsKind (file_kinds t)
-file_legal t is = let tells = t_file true in
-    subst Legal (append-nil (file_kinds t)) (spans_legal file (file_kinds t ++ []) [] (tells.to t (is, λ e. absurd (false_true (sym e))) []) tt)
+file_legal t is = within_legal narrow t is

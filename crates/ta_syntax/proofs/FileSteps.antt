@@ -1,12 +1,13 @@
 -- The tokens of a whole file that was read, and the faults of reading one.
 use Rattle.ta_syntax.proofs.Common.{◌≡◌, ℕ, List, [], ◌∷◌, ◌++◌, map, sym, ap, subst, ◌∙◌, append_assoc, append-nil, listed, each, name_kinds, location_kinds}
 use Rattle.ta_syntax.proofs.Common.{comparison_kinds, update_kinds, rule_kinds, event_kinds, pattern_kinds, file_kinds, sum_kinds, FileText, at_start}
-use Rattle.ta_syntax.proofs.Common.{IsStopped}
+use Rattle.ta_syntax.proofs.Common.{IsStopped, StaysWithin}
 use Rattle.ta_syntax.proofs.Common.{plain_name, plain_comparison, plain_location, plain_update, plain_rule, plain_event, plain_pattern, plain_sum}
 use Rattle.ta_syntax.proofs.Common.{Offsets, IsPlaced, at_first, unplaced, name_stated, location_stated, sum_stated, comparison_stated}
 use Rattle.ta_syntax.proofs.Common.{rule_stated, pattern_stated, rule_body, event_body, pattern_body}
 use Rattle.ta_syntax.proofs.Common.{spell_name, spell_location, spell_comparison, kinds, Kind, Token, FileFault, Spelled, TreeLocation}
 use Rattle.ta_syntax.proofs.Common.{TreeSum, TreeComparison, TreeRule, TreeEvent, TreePattern}
+use Rattle.ta_base.specs.declared.limits.Limits.{Limits}
 use Rattle.ta_syntax.specs.declared.tokens.Kind.TheVariants as kind
 use Rattle.ta_syntax.specs.declared.tokens.Mark.TheVariants as mark
 use Rattle.ta_syntax.specs.declared.fault.FileFault.TheVariants as fault
@@ -19,7 +20,7 @@ use Rattle.ta_syntax.specs.FileReading.{IsBodyFault, body, body_kinds, body_stat
 use Rattle.ta_syntax.proofs.PrintSteps.{listed-map, led-map, ended-map, each-map}
 use Rattle.ta_syntax.proofs.Steps.{halts_by}
 use Rattle.ta_syntax.proofs.Common.{inl, inr}
-use Rattle.ta_syntax.proofs.Answered.{wrong_there, trailing_there, many_there, deep_there}
+use Rattle.ta_syntax.proofs.Answered.{wrong_there, trailing_there, many_there, deep_there, whole_there}
 
 -- ---- the tokens of blocks without offsets
 pub rule_spelled : (r : TreeRule) → with_mark (kind.Fixed mark.Rule) rule_body r ≡ rule_kinds (plain_rule r)
@@ -44,7 +45,7 @@ pattern_spelled p =
 -- ---- a file
 
 -- what was parsed with no token left
-whole_took : (tokens : List Token) (text : List Kind) (x : List Offsets) → Took grammar.file text x tokens [] → (kinds tokens ≡ text) × IsPlaced x tokens
+whole_took : {g : Production} (tokens : List Token) (text : List Kind) (x : List Offsets) → Took g text x tokens [] → (kinds tokens ≡ text) × IsPlaced x tokens
 whole_took tokens text x a =
     let front : tokens ≡ a.front = a.split ∙ append-nil a.front in
     (ap kinds front ∙ a.spelled, subst (IsPlaced x) (sym front) a.placed)
@@ -92,7 +93,7 @@ module _ (h : Head) (b : Body) where
       (each (with_mark (kind.Fixed mark.Rule) rule_body) b.rules) (each (with_mark (kind.Fixed mark.Pattern) pattern_body) b.patterns)
   all_plain = simp append_assoc
 
-  pub file_spelled : (tokens : List Token) → Took grammar.file all_kinds all_stated tokens [] → kinds tokens ≡ file_kinds
+  pub file_spelled : {g : Production} (tokens : List Token) → Took g all_kinds all_stated tokens [] → kinds tokens ≡ file_kinds
       (record {
         name = h.names.name.name;
         parameters = map plain_name h.names.parameters;
@@ -120,19 +121,28 @@ module _ (h : Head) (b : Body) where
   all_places : all_stated ≡ tree_places
   all_places = simp append_assoc
 
-  pub file_placed : (tokens : List Token) → Took grammar.file all_kinds all_stated tokens [] → IsPlaced tree_places tokens
+  pub file_placed : {g : Production} (tokens : List Token) → Took g all_kinds all_stated tokens [] → IsPlaced tree_places tokens
   file_placed tokens took = let w = whole_took tokens all_kinds all_stated took in subst (λ (z : List Offsets). IsPlaced z tokens) all_places w.1
 
 -- ---- faults
 
-pub file_stops : (end : ℕ) (tokens : List Token) (e : FileFault) → Halts grammar.file end tokens e → IsStopped FileText at_start end tokens e
-file_stops end tokens fault.Memory h = tt
-file_stops end tokens e ((wrong, bad), p, q) = subst (IsStopped FileText at_start end tokens) (sym q) (wrong_there end tokens bad p)
-file_stops end tokens e ((many, bad), p, q) = subst (IsStopped FileText at_start end tokens) (sym q) (many_there end tokens bad p)
-file_stops end tokens e ((deep, bad), p, q) = subst (IsStopped FileText at_start end tokens) (sym q) (deep_there end tokens bad p)
+pub file_stops : (l : Limits) (end : ℕ) (tokens : List Token) (e : FileFault) → Halts (grammar.file l) end tokens e
+    → IsStopped l FileText at_start end tokens e
+file_stops l end tokens fault.Memory h = tt
+file_stops l end tokens e ((wrong, bad), p, q) = subst (IsStopped l FileText at_start end tokens) (sym q) (wrong_there l end tokens bad p)
+file_stops l end tokens e ((many, bad), p, q) = subst (IsStopped l FileText at_start end tokens) (sym q) (many_there l end tokens bad p)
+file_stops l end tokens e ((deep, bad), p, q) = subst (IsStopped l FileText at_start end tokens) (sym q) (deep_there l end tokens bad p)
 
 -- the head was read, and then the parser stopped or left a token
-pub body_stops : {text : List Kind} {x : List Offsets} (end : ℕ) (tokens after : List Token) (e : FileFault) → Step grammar.file tokens after body text x
-    → IsBodyFault end after e → IsStopped FileText at_start end tokens e
-body_stops end tokens after e s (inl h) = file_stops end tokens e (halts_by grammar.file body end e s h)
-body_stops end tokens after e s (inr (t, bad, p, q)) = subst (IsStopped FileText at_start end tokens) (sym q) (trailing_there end tokens t bad (s.goes ∙ p))
+pub body_stops : {text : List Kind} {x : List Offsets} (l : Limits) (end : ℕ) (tokens after : List Token) (e : FileFault)
+    → Step (grammar.file l) tokens after (body l) text x → IsBodyFault l end after e → IsStopped l FileText at_start end tokens e
+body_stops l end tokens after e s (inl h) = file_stops l end tokens e (halts_by (grammar.file l) (body l) end e s h)
+body_stops l end tokens after e s (inr (t, bad, p, q)) = subst (IsStopped l FileText at_start end tokens) (sym q)
+    (trailing_there l end tokens t bad (s.goes ∙ p))
+
+-- ---- the limits
+
+-- a file that was read to its end stays within them
+pub file_within : {text : List Kind} {x : List Offsets} (l : Limits) (tokens : List Token) → Took (grammar.file l) text x tokens []
+    → StaysWithin l at_start (kinds tokens)
+file_within l tokens took = let w = whole_there l tokens took.goes in w.1

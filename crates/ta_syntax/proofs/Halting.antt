@@ -2,6 +2,7 @@
 use Rattle.std.proofs.Common.{refl, ap, sym, subst, ◌≡◌, ◌∙◌, ◌++◌, ◌⊎◌, ◌==◌, inl, inr, ℕ, zero, suc, Bool, true, false, cond, List, [], ◌∷◌, append_assoc, Ok}
 use Rattle.std.proofs.Common.{Err}
 use Rattle.std.proofs.Common.{get_or}
+use Rattle.ta_base.specs.declared.limits.Limits.{Limits}
 use Rattle.ta_syntax.specs.Kinds.{IsKind, IsNameText}
 use Rattle.ta_syntax.specs.Limits.{Counts, run, counted_after, StaysWithin, IsDeep, IsMany}
 use Rattle.ta_syntax.specs.Faults.{kinds}
@@ -102,11 +103,11 @@ text_from (barred s c g) k v l h w = let x = text_from (g 0) k v.0 l (has_inside
 
 -- ---- what was read, and where it stopped
 
-pub record Read (g : Production) (Q : Counts → Type 0) (c : Counts) (ts rest : List Token) : Type 0 where
+pub record Read (l : Limits) (g : Production) (Q : Counts → Type 0) (c : Counts) (ts rest : List Token) : Type 0 where
   pub front : List Token
   pub split : ts ≡ front ++ rest
-  pub within : StaysWithin c (kinds front)
-  pub counted : Q (run c (kinds front))
+  pub within : StaysWithin l c (kinds front)
+  pub counted : Q (run l c (kinds front))
   pub spans : (w : List Kind) → Spans true g (kinds front ++ w) w
 
 -- with the token past a limit a text goes on
@@ -117,39 +118,39 @@ Resumes many (t ∷ bad) x = (more : List Kind) × (x ≡ t.kind ∷ more)
 Resumes deep [] x = ⊥
 Resumes deep (t ∷ bad) x = (more : List Kind) × (x ≡ t.kind ∷ more)
 
-abbrev pub IsOver : Stop → Counts → Kind → Type 0
-IsOver wrong c k = Unit {0}
-IsOver many c k = IsMany c k
-IsOver deep c k = IsDeep c k
+abbrev pub IsOver : Limits → Stop → Counts → Kind → Type 0
+IsOver l wrong c k = Unit {0}
+IsOver l many c k = IsMany l c k
+IsOver l deep c k = IsDeep c k
 
-abbrev pub OverAt : Stop → Counts → List Token → Type 0
-OverAt wrong c bad = Unit {0}
-OverAt many c [] = ⊥
-OverAt many c (t ∷ bad) = IsMany c t.kind
-OverAt deep c [] = ⊥
-OverAt deep c (t ∷ bad) = IsDeep c t.kind
+abbrev pub OverAt : Limits → Stop → Counts → List Token → Type 0
+OverAt l wrong c bad = Unit {0}
+OverAt l many c [] = ⊥
+OverAt l many c (t ∷ bad) = IsMany l c t.kind
+OverAt l deep c [] = ⊥
+OverAt l deep c (t ∷ bad) = IsDeep c t.kind
 
-pub record Halted (g : Production) (s : Stop) (c : Counts) (ts bad : List Token) : Type 0 where
+pub record Halted (l : Limits) (g : Production) (s : Stop) (c : Counts) (ts bad : List Token) : Type 0 where
   pub front : List Token
   pub split : ts ≡ front ++ bad
-  pub within : StaysWithin c (kinds front)
-  pub over : OverAt s (run c (kinds front)) bad
+  pub within : StaysWithin l c (kinds front)
+  pub over : OverAt l s (run l c (kinds front)) bad
   pub goes_on : (w : List Kind) → (x : List Kind) × Spans true g (kinds front ++ x) w × Resumes s bad x
 
-abbrev pub Said : Production → (Counts → Type 0) → Counts → List Token → Parsed → Type 0
-Said g Q c ts (Ok rest) = Read g Q c ts rest
-Said g Q c ts (Err e) = Halted g e.0 c ts e.1
+abbrev pub Said : Limits → Production → (Counts → Type 0) → Counts → List Token → Parsed → Type 0
+Said l g Q c ts (Ok rest) = Read l g Q c ts rest
+Said l g Q c ts (Err e) = Halted l g e.0 c ts e.1
 
 -- from counts with P the parser comes to counts with Q
-pub record Says (g : Production) (P Q : Counts → Type 0) : Type 0 where
+pub record Says (l : Limits) (g : Production) (P Q : Counts → Type 0) : Type 0 where
   pub alive : Alive g
-  pub says : (c : Counts) → P c → (ts : List Token) → Said g Q c ts (parse g ts)
+  pub says : (c : Counts) → P c → (ts : List Token) → Said l g Q c ts (parse g ts)
 
-pub said_as : (g h : Production) (Q R : Counts → Type 0) (c : Counts) (ts : List Token) (r : Parsed)
+pub said_as : (l : Limits) (g h : Production) (Q R : Counts → Type 0) (c : Counts) (ts : List Token) (r : Parsed)
     → ((ks w : List Kind) → Spans true g ks w → Spans true h ks w)
-    → ((d : Counts) → Q d → R d) → Said g Q c ts r → Said h R c ts r
-said_as g h Q R c ts (Ok rest) f q x = record { front = x.front; split = x.split; within = x.within; counted = q _ x.counted; spans = λ w. f _ w (x.spans w) }
-said_as g h Q R c ts (Err (s, bad)) f q x = record {
+    → ((d : Counts) → Q d → R d) → Said l g Q c ts r → Said l h R c ts r
+said_as l g h Q R c ts (Ok rest) f q x = record { front = x.front; split = x.split; within = x.within; counted = q _ x.counted; spans = λ w. f _ w (x.spans w) }
+said_as l g h Q R c ts (Err (s, bad)) f q x = record {
   front = x.front;
   split = x.split;
   within = x.within;
@@ -157,30 +158,31 @@ said_as g h Q R c ts (Err (s, bad)) f q x = record {
   goes_on = λ w. let y = x.goes_on w in (y.0, f _ w y.1, y.2);
 }
 
-pub says_as : {g : Production} {P P' Q Q' : Counts → Type 0} → ((c : Counts) → P' c → P c) → ((c : Counts) → Q c → Q' c) → Says g P Q → Says g P' Q'
-says_as {g = g} {Q = Q} {Q' = Q'} p q h = record {
+pub says_as : {l : Limits} {g : Production} {P P' Q Q' : Counts → Type 0} → ((c : Counts) → P' c → P c) → ((c : Counts) → Q c → Q' c) → Says l g P Q
+    → Says l g P' Q'
+says_as {l = l} {g = g} {Q = Q} {Q' = Q'} p q h = record {
   alive = h.alive;
-  says = λ c x ts. said_as g g Q Q' c ts (parse g ts) (λ ks w s. s) q (h.says c (p c x) ts);
+  says = λ c x ts. said_as l g g Q Q' c ts (parse g ts) (λ ks w s. s) q (h.says c (p c x) ts);
 }
 
 -- given that P holds of the counts, from what holds of them
-pub says_each : {g : Production} {P Q : Counts → Type 0} (R : (c : Counts) → P c → Counts → Type 0) → Alive g → ((c : Counts) (p : P c) → Says g (R c p) Q)
-    → ((c : Counts) (p : P c) → R c p c) → Says g P Q
+pub says_each : {l : Limits} {g : Production} {P Q : Counts → Type 0} (R : (c : Counts) → P c → Counts → Type 0) → Alive g
+    → ((c : Counts) (p : P c) → Says l g (R c p) Q) → ((c : Counts) (p : P c) → R c p c) → Says l g P Q
 says_each R v f h = record { alive = v; says = λ c p ts. let s = f c p in s.says c (h c p) ts }
 
-pub says_nothing : {P Q : Counts → Type 0} → ((c : Counts) → P c → Q c) → Says nothing P Q
+pub says_nothing : {l : Limits} {P Q : Counts → Type 0} → ((c : Counts) → P c → Q c) → Says l nothing P Q
 says_nothing f = record { alive = tt; says = λ c p ts. record { front = []; split = refl; within = tt; counted = f c p; spans = λ w. refl } }
 
 -- a token goes past no limit
-abbrev pub Passes : Counts → Kind → Type 0
-Passes c k = (IsDeep c k → ⊥) × (IsMany c k → ⊥)
+abbrev pub Passes : Limits → Counts → Kind → Type 0
+Passes l c k = (IsDeep c k → ⊥) × (IsMany l c k → ⊥)
 
-pub says_one : {P Q : Counts → Type 0} (cl : Class) → Alive (one cl)
-    → ((c : Counts) (k : Kind) → P c → has cl (code k) ≡ true → Passes c k × Q (counted_after c k)) → Says (one cl) P Q
-says_one {P = P} {Q = Q} cl v f = record { alive = v; says = at_each }
+pub says_one : {l : Limits} {P Q : Counts → Type 0} (cl : Class) → Alive (one cl)
+    → ((c : Counts) (k : Kind) → P c → has cl (code k) ≡ true → Passes l c k × Q (counted_after l c k)) → Says l (one cl) P Q
+says_one {l = l} {P = P} {Q = Q} cl v f = record { alive = v; says = at_each }
   where
     by_test : (c : Counts) → P c → (t : Token) (ts : List Token) (s : Bool) → has cl (code t.kind) ≡ s
-        → Said (one cl) Q c (t ∷ ts) (cond s (Ok ts) (Err (wrong, t ∷ ts)))
+        → Said l (one cl) Q c (t ∷ ts) (cond s (Ok ts) (Err (wrong, t ∷ ts)))
     by_test c p t ts true e = let x = f c t.kind p e in record {
       front = t ∷ [];
       split = refl;
@@ -190,40 +192,41 @@ says_one {P = P} {Q = Q} cl v f = record { alive = v; says = at_each }
     }
     by_test c p t ts false e = record { front = []; split = refl; within = tt; over = tt; goes_on = λ w. let x = some_text (one cl) v w in (x.0, x.1, tt) }
 
-    at_each : (c : Counts) → P c → (ts : List Token) → Said (one cl) Q c ts (parse (one cl) ts)
+    at_each : (c : Counts) → P c → (ts : List Token) → Said l (one cl) Q c ts (parse (one cl) ts)
     at_each c p [] = record { front = []; split = refl; within = tt; over = tt; goes_on = λ w. let x = some_text (one cl) v w in (x.0, x.1, tt) }
     at_each c p (t ∷ ts) = by_test c p t ts (has cl (code t.kind)) refl
 
 kinds_two : (a b : List Token) (w : List Kind) → kinds a ++ (kinds b ++ w) ≡ kinds (a ++ b) ++ w
 kinds_two a b w = sym (append_assoc (kinds a) (kinds b) w) ∙ ap (λ (z : List Kind). z ++ w) (sym (kinds-append a b))
 
-within_two : (c : Counts) (a b : List Token) → StaysWithin c (kinds a) → StaysWithin (run c (kinds a)) (kinds b) → StaysWithin c (kinds (a ++ b))
-within_two c a b h g = subst (StaysWithin c) (sym (kinds-append a b)) (within-append c (kinds a) (kinds b) h g)
+within_two : (l : Limits) (c : Counts) (a b : List Token) → StaysWithin l c (kinds a) → StaysWithin l (run l c (kinds a)) (kinds b)
+    → StaysWithin l c (kinds (a ++ b))
+within_two l c a b h g = subst (StaysWithin l c) (sym (kinds-append a b)) (within-append l c (kinds a) (kinds b) h g)
 
-run_two : (c : Counts) (a b : List Token) → run (run c (kinds a)) (kinds b) ≡ run c (kinds (a ++ b))
-run_two c a b = sym (run-append c (kinds a) (kinds b)) ∙ ap (run c) (sym (kinds-append a b))
+run_two : (l : Limits) (c : Counts) (a b : List Token) → run l (run l c (kinds a)) (kinds b) ≡ run l c (kinds (a ++ b))
+run_two l c a b = sym (run-append l c (kinds a) (kinds b)) ∙ ap (run l c) (sym (kinds-append a b))
 
 split_two : (ts a mid b rest : List Token) → ts ≡ a ++ mid → mid ≡ b ++ rest → ts ≡ (a ++ b) ++ rest
 split_two ts a mid b rest e f = e ∙ ap (λ (z : List Token). a ++ z) f ∙ sym (append_assoc a b rest)
 
-said_second : (a b : Production) (R Q : Counts → Type 0) (c : Counts) (ts mid : List Token) (r : Parsed) → (x : Read a R c ts mid)
-    → Said b Q (run c (kinds x.front)) mid r → Said (both a b) Q c ts r
-said_second a b R Q c ts mid (Ok rest) x y = record {
+said_second : (l : Limits) (a b : Production) (R Q : Counts → Type 0) (c : Counts) (ts mid : List Token) (r : Parsed) → (x : Read l a R c ts mid)
+    → Said l b Q (run l c (kinds x.front)) mid r → Said l (both a b) Q c ts r
+said_second l a b R Q c ts mid (Ok rest) x y = record {
   front = x.front ++ y.front;
   split = split_two ts x.front mid y.front rest x.split y.split;
-  within = within_two c x.front y.front x.within y.within;
-  counted = subst Q (run_two c x.front y.front) y.counted;
+  within = within_two l c x.front y.front x.within y.within;
+  counted = subst Q (run_two l c x.front y.front) y.counted;
   spans = λ w. (
     kinds y.front ++ w,
     subst (λ (z : List Kind). Spans true a z (kinds y.front ++ w)) (kinds_two x.front y.front w) (x.spans (kinds y.front ++ w)),
     y.spans w,
   );
 }
-said_second a b R Q c ts mid (Err (s, bad)) x y = record {
+said_second l a b R Q c ts mid (Err (s, bad)) x y = record {
   front = x.front ++ y.front;
   split = split_two ts x.front mid y.front bad x.split y.split;
-  within = within_two c x.front y.front x.within y.within;
-  over = subst (λ (z : Counts). OverAt s z bad) (run_two c x.front y.front) y.over;
+  within = within_two l c x.front y.front x.within y.within;
+  over = subst (λ (z : Counts). OverAt l s z bad) (run_two l c x.front y.front) y.over;
   goes_on = λ w.
       let z = y.goes_on w in (
         z.0,
@@ -237,11 +240,11 @@ said_second a b R Q c ts mid (Err (s, bad)) x y = record {
       );
 }
 
-said_both : (a b : Production) (R Q : Counts → Type 0) (c : Counts) (ts : List Token) (next : List Token → Parsed) (r : Parsed)
+said_both : (l : Limits) (a b : Production) (R Q : Counts → Type 0) (c : Counts) (ts : List Token) (next : List Token → Parsed) (r : Parsed)
     → ((w : List Kind) → (us : List Kind) × Spans true b us w)
-    → ((d : Counts) → R d → (mid : List Token) → Said b Q d mid (next mid)) → Said a R c ts r → Said (both a b) Q c ts (followed_by next r)
-said_both a b R Q c ts next (Ok mid) v h x = said_second a b R Q c ts mid (next mid) x (h (run c (kinds x.front)) x.counted mid)
-said_both a b R Q c ts next (Err (s, bad)) v h x = record {
+    → ((d : Counts) → R d → (mid : List Token) → Said l b Q d mid (next mid)) → Said l a R c ts r → Said l (both a b) Q c ts (followed_by next r)
+said_both l a b R Q c ts next (Ok mid) v h x = said_second l a b R Q c ts mid (next mid) x (h (run l c (kinds x.front)) x.counted mid)
+said_both l a b R Q c ts next (Err (s, bad)) v h x = record {
   front = x.front;
   split = x.split;
   within = x.within;
@@ -249,38 +252,38 @@ said_both a b R Q c ts next (Err (s, bad)) v h x = record {
   goes_on = λ w. let y = v w in let z = x.goes_on y.0 in (z.0, (y.0, z.1, y.1), z.2);
 }
 
-pub says_both : {a b : Production} {P R Q : Counts → Type 0} → Says a P R → Says b R Q → Says (both a b) P Q
-says_both {a = a} {b = b} {R = R} {Q = Q} x y = record {
+pub says_both : {l : Limits} {a b : Production} {P R Q : Counts → Type 0} → Says l a P R → Says l b R Q → Says l (both a b) P Q
+says_both {l = l} {a = a} {b = b} {R = R} {Q = Q} x y = record {
   alive = (x.alive, y.alive);
-  says = λ c p ts. said_both a b R Q c ts (parse b) (parse a ts) (some_text b y.alive) y.says (x.says c p ts);
+  says = λ c p ts. said_both l a b R Q c ts (parse b) (parse a ts) (some_text b y.alive) y.says (x.says c p ts);
 }
 
-pub says_choose : {a b : Production} {P Q : Counts → Type 0} (cl : Class) → Says a P Q → Says b P Q → Says (choose cl a b) P Q
-says_choose {a = a} {b = b} {P = P} {Q = Q} cl x y = record { alive = (x.alive, y.alive); says = λ c p ts. by_test c p ts (stands cl ts) }
+pub says_choose : {l : Limits} {a b : Production} {P Q : Counts → Type 0} (cl : Class) → Says l a P Q → Says l b P Q → Says l (choose cl a b) P Q
+says_choose {l = l} {a = a} {b = b} {P = P} {Q = Q} cl x y = record { alive = (x.alive, y.alive); says = λ c p ts. by_test c p ts (stands cl ts) }
   where
-    by_test : (c : Counts) → P c → (ts : List Token) (s : Bool) → Said (choose cl a b) Q c ts (cond s (parse a ts) (parse b ts))
-    by_test c p ts true = said_as a (choose cl a b) Q Q c ts (parse a ts) (λ ks w s. inl s) (λ d q. q) (x.says c p ts)
-    by_test c p ts false = said_as b (choose cl a b) Q Q c ts (parse b ts) (λ ks w s. inr s) (λ d q. q) (y.says c p ts)
+    by_test : (c : Counts) → P c → (ts : List Token) (s : Bool) → Said l (choose cl a b) Q c ts (cond s (parse a ts) (parse b ts))
+    by_test c p ts true = said_as l a (choose cl a b) Q Q c ts (parse a ts) (λ ks w s. inl s) (λ d q. q) (x.says c p ts)
+    by_test c p ts false = said_as l b (choose cl a b) Q Q c ts (parse b ts) (λ ks w s. inr s) (λ d q. q) (y.says c p ts)
 
-says_turns : (cl : Class) (a : Production) (P : Counts → Type 0) → Says a P P → (fuel : List Token) (c : Counts) → P c → (ts : List Token)
-    → Said (repeat cl a) P c ts (turns (parse a) cl ts fuel)
-says_turns cl a P x [] c p ts = record { front = []; split = refl; within = tt; counted = p; spans = λ w. (0, refl) }
-says_turns cl a P x (t ∷ fuel) c p ts = by_test (stands cl ts) (said_both a (repeat cl a) P P c ts (λ rest. turns (parse a) cl rest fuel) (parse a ts)
-    (λ w. (w, (0, refl))) (says_turns cl a P x fuel) (x.says c p ts))
+says_turns : (l : Limits) (cl : Class) (a : Production) (P : Counts → Type 0) → Says l a P P → (fuel : List Token) (c : Counts) → P c → (ts : List Token)
+    → Said l (repeat cl a) P c ts (turns (parse a) cl ts fuel)
+says_turns l cl a P x [] c p ts = record { front = []; split = refl; within = tt; counted = p; spans = λ w. (0, refl) }
+says_turns l cl a P x (t ∷ fuel) c p ts = by_test (stands cl ts) (said_both l a (repeat cl a) P P c ts (λ rest. turns (parse a) cl rest fuel) (parse a ts)
+    (λ w. (w, (0, refl))) (says_turns l cl a P x fuel) (x.says c p ts))
   where
-    by_test : (s : Bool) → Said (both a (repeat cl a)) P c ts (followed_by (λ rest. turns (parse a) cl rest fuel) (parse a ts))
-        → Said (repeat cl a) P c ts (cond s (followed_by (λ rest. turns (parse a) cl rest fuel) (parse a ts)) (Ok ts))
-    by_test true h = said_as (both a (repeat cl a)) (repeat cl a) P P c ts _ (λ ks w s. (suc s.2.0, (s.0, s.1, s.2.1))) (λ d q. q) h
+    by_test : (s : Bool) → Said l (both a (repeat cl a)) P c ts (followed_by (λ rest. turns (parse a) cl rest fuel) (parse a ts))
+        → Said l (repeat cl a) P c ts (cond s (followed_by (λ rest. turns (parse a) cl rest fuel) (parse a ts)) (Ok ts))
+    by_test true h = said_as l (both a (repeat cl a)) (repeat cl a) P P c ts _ (λ ks w s. (suc s.2.0, (s.0, s.1, s.2.1))) (λ d q. q) h
     by_test false h = record { front = []; split = refl; within = tt; counted = p; spans = λ w. (0, refl) }
 
-pub says_repeat : {a : Production} {P : Counts → Type 0} (cl : Class) → Says a P P → Says (repeat cl a) P P
-says_repeat {a = a} {P = P} cl x = record { alive = x.alive; says = λ c p ts. says_turns cl a P x ts c p ts }
+pub says_repeat : {l : Limits} {a : Production} {P : Counts → Type 0} (cl : Class) → Says l a P P → Says l (repeat cl a) P P
+says_repeat {l = l} {a = a} {P = P} cl x = record { alive = x.alive; says = λ c p ts. says_turns l cl a P x ts c p ts }
 
-pub says_barred : {P Q : Counts → Type 0} (s : Stop) (cl : Class) (g : ℕ → Production) → Alive (barred s cl g)
-    → ((c : Counts) (k : Kind) → P c → has cl (code k) ≡ true → IsOver s c k) → Says (barred s cl g) P Q
-says_barred {P = P} {Q = Q} s cl g v f = record { alive = v; says = at_each }
+pub says_barred : {l : Limits} {P Q : Counts → Type 0} (s : Stop) (cl : Class) (g : ℕ → Production) → Alive (barred s cl g)
+    → ((c : Counts) (k : Kind) → P c → has cl (code k) ≡ true → IsOver l s c k) → Says l (barred s cl g) P Q
+says_barred {l = l} {P = P} {Q = Q} s cl g v f = record { alive = v; says = at_each }
   where
-    over_at : (c : Counts) (t : Token) (ts : List Token) (s : Stop) → IsOver s c t.kind → OverAt s c (t ∷ ts)
+    over_at : (c : Counts) (t : Token) (ts : List Token) (s : Stop) → IsOver l s c t.kind → OverAt l s c (t ∷ ts)
     over_at c t ts wrong h = tt
     over_at c t ts many h = h
     over_at c t ts deep h = h
@@ -291,7 +294,7 @@ says_barred {P = P} {Q = Q} s cl g v f = record { alive = v; says = at_each }
     resumes t ts deep us = (us, refl)
 
     by_test : (c : Counts) → P c → (t : Token) (ts : List Token) (b : Bool) → has cl (code t.kind) ≡ b
-        → Halted (barred s cl g) (cond b s wrong) c (t ∷ ts) (t ∷ ts)
+        → Halted l (barred s cl g) (cond b s wrong) c (t ∷ ts) (t ∷ ts)
     by_test c p t ts true e = record {
       front = [];
       split = refl;
@@ -307,6 +310,6 @@ says_barred {P = P} {Q = Q} s cl g v f = record { alive = v; says = at_each }
       goes_on = λ w. let x = some_text (barred s cl g) v w in (x.0, x.1, tt);
     }
 
-    at_each : (c : Counts) → P c → (ts : List Token) → Said (barred s cl g) Q c ts (parse (barred s cl g) ts)
+    at_each : (c : Counts) → P c → (ts : List Token) → Said l (barred s cl g) Q c ts (parse (barred s cl g) ts)
     at_each c p [] = record { front = []; split = refl; within = tt; over = tt; goes_on = λ w. let x = some_text (barred s cl g) v w in (x.0, x.1, tt) }
     at_each c p (t ∷ ts) = by_test c p t ts (has cl (code t.kind)) refl

@@ -3,8 +3,11 @@ use Rattle.ta_syntax.proofs.Common.{ℕ, ◌≤◌, List, [], ◌∷◌, length,
 use Rattle.ta_syntax.proofs.Common.{IsPattern, IsTree, plain_name, plain_comparison, plain_location, plain_update, plain_rule, plain_event, plain_pattern}
 use Rattle.ta_syntax.proofs.Common.{plain_tree, at_start, IsShallow, IsRuleWithin, IsEventWithin, IsPatternWithin, IsTreeWithin, AreTokens, ScanStops, FileText}
 use Rattle.ta_syntax.proofs.Common.{IsStopped, FirstGrammarFault, IsSpelled, IsTreeOf, Spelled, TreeComparison, TreeUpdate, TreeRule, TreeEvent, TreePattern}
-use Rattle.ta_syntax.proofs.Common.{Tree, Token, FileFault, each_map_all}
+use Rattle.ta_syntax.proofs.Common.{Tree, Token, FileFault, each_map_all, subst, StaysWithin}
+use Rattle.ta_base.specs.declared.limits.Limits.{Limits}
+use Rattle.ta_base.specs.LimitRows.{wide}
 use Rattle.ta_syntax.specs.declared.fault.FileFault.TheVariants as fault
+use Rattle.ta_syntax.proofs.Answered.{tree_limits}
 
 some_map : {A B : Type 0} (g : A → B) (xs : List A) → 1 ≤ length xs → IsSome (map g xs)
 some_map g [] h = absurd (omega arith)
@@ -66,12 +69,12 @@ pattern_legal p = record {
   events = each_map_all IsEvent plain_event p.events event_legal;
 }
 
-pattern_within : (p : TreePattern) → IsPatternWithin (plain_pattern p)
+pattern_within : (p : TreePattern) → IsPatternWithin wide (plain_pattern p)
 pattern_within p = record {
   start = short_map plain_comparison p.start 16 p.few_start;
   shallow = each_map_all IsShallow plain_comparison p.start
       comparison_shallow;
-  empty = short_map plain_name p.empty 32 p.few_empty;
+  empty = short_map plain_name p.empty 128 p.few_empty;
   events = short_map plain_event p.events 8 p.few_events;
   each_event = each_map_all
       IsEventWithin plain_event p.events event_within;
@@ -90,33 +93,40 @@ tree_legal t = record {
   patterns = each_map_all IsPattern plain_pattern t.patterns pattern_legal;
 }
 
-pub tree_within : (t : Tree) → IsTreeWithin (plain_tree t)
+pub tree_within : (t : Tree) → IsTreeWithin wide (plain_tree t)
 tree_within t = record {
-  parameters = short_map plain_name t.parameters 16 t.few_parameters;
-  shared = short_map plain_name t.shared 16 t.few_shared;
-  locations = short_map plain_location t.locations 32 t.few_locations;
+  parameters = short_map plain_name t.parameters 32 t.few_parameters;
+  shared = short_map plain_name t.shared 64 t.few_shared;
+  locations = short_map plain_location t.locations 128 t.few_locations;
   processes = t.shallow_processes;
   resilience = short_map plain_comparison t.resilience 16 t.few_resilience;
   shallow = each_map_all IsShallow plain_comparison t.resilience comparison_shallow;
-  rules = short_map plain_rule t.rules 128 t.few_rules;
+  rules = short_map plain_rule t.rules 1024 t.few_rules;
   each_rule = each_map_all IsRuleWithin plain_rule t.rules rule_within;
-  patterns = short_map plain_pattern t.patterns 16 t.few_patterns;
-  each_pattern = each_map_all IsPatternWithin plain_pattern t.patterns pattern_within;
+  patterns = short_map plain_pattern t.patterns 64 t.few_patterns;
+  each_pattern = each_map_all (IsPatternWithin wide) plain_pattern t.patterns pattern_within;
 }
 
 -- ---- reading bytes
-pub tree_read : (bytes : List ℕ) (tokens : List Token) (t : Tree) → AreTokens bytes tokens → IsSpelled t tokens → IsTreeOf bytes t
-tree_read bytes tokens t are s = record { tokens = tokens; are = are; spelled = s.spelled; placed = s.placed; legal = tree_legal t; within = tree_within t }
+pub tree_read : (l : Limits) (bytes : List ℕ) (tokens : List Token) (t : Tree) → AreTokens bytes tokens → IsSpelled l t tokens → IsTreeOf l bytes t
+tree_read l bytes tokens t are s = record {
+  tokens = tokens;
+  are = are;
+  spelled = s.spelled;
+  placed = s.placed;
+  legal = tree_legal t;
+  within = tree_limits l (plain_tree t) (tree_legal t) (subst (StaysWithin l at_start) s.spelled s.within);
+}
 
-pub scan_fault : (bytes : List ℕ) (e : FileFault) → ScanStops bytes e → FirstGrammarFault bytes e
-scan_fault bytes fault.Memory h = tt
-scan_fault bytes (fault.Byte at) h = h
-scan_fault bytes _ h = absurd h
+pub scan_fault : (l : Limits) (bytes : List ℕ) (e : FileFault) → ScanStops bytes e → FirstGrammarFault l bytes e
+scan_fault l bytes fault.Memory h = tt
+scan_fault l bytes (fault.Byte at) h = h
+scan_fault l bytes _ h = absurd h
 
-pub file_fault : (bytes : List ℕ) (tokens : List Token) (e : FileFault) → AreTokens bytes tokens → IsStopped FileText at_start (length bytes) tokens e
-    → FirstGrammarFault bytes e
-file_fault bytes tokens fault.Memory are h = tt
-file_fault bytes tokens (fault.Syntax at) are h = record { tokens = tokens; are = are; stopped = h }
-file_fault bytes tokens (fault.TooDeep at) are h = record { tokens = tokens; are = are; stopped = h }
-file_fault bytes tokens (fault.TooMany at) are h = record { tokens = tokens; are = are; stopped = h }
-file_fault bytes tokens _ are h = absurd h
+pub file_fault : (l : Limits) (bytes : List ℕ) (tokens : List Token) (e : FileFault) → AreTokens bytes tokens
+    → IsStopped l FileText at_start (length bytes) tokens e → FirstGrammarFault l bytes e
+file_fault l bytes tokens fault.Memory are h = tt
+file_fault l bytes tokens (fault.Syntax at) are h = record { tokens = tokens; are = are; stopped = h }
+file_fault l bytes tokens (fault.TooDeep at) are h = record { tokens = tokens; are = are; stopped = h }
+file_fault l bytes tokens (fault.TooMany at) are h = record { tokens = tokens; are = are; stopped = h }
+file_fault l bytes tokens _ are h = absurd h

@@ -2,6 +2,7 @@
 use Rattle.ta_syntax.proofs.Common.{◌≡◌, ℕ, List, length, refl, sym, ap, subst, ◌∙◌, PlainTree, file_kinds, at_start}
 use Rattle.ta_syntax.proofs.Common.{StaysWithin, IsDeep, IsMany, IsTreeWithin, AreTokens, kinds, FirstGrammarFault}
 use Rattle.ta_syntax.proofs.Common.{plain_tree, IsTextOf, IsTreeOf, Tree, Token, FileFault}
+use Rattle.ta_base.specs.declared.limits.Limits.{Limits}
 use Rattle.ta_syntax.specs.declared.fault.FileFault.TheVariants as fault
 use Rattle.ta_syntax.proofs.UniqueTokens.{tokens_unique, refused_no_tokens}
 use Rattle.ta_syntax.proofs.UniqueTrees.{file_unique}
@@ -10,20 +11,22 @@ use Rattle.ta_syntax.proofs.Answered.{text_goes_on, not_past, tree_scan}
 spelled_as : (bytes : List ℕ) (t : PlainTree) (ts : List Token) → IsTextOf bytes t → AreTokens bytes ts → kinds ts ≡ file_kinds t
 spelled_as bytes t ts text are = ap kinds (tokens_unique bytes ts text.tokens are text.are) ∙ text.spelled
 
-scanned : (bytes : List ℕ) (t : PlainTree) (ts : List Token) → IsTextOf bytes t → IsTreeWithin t → AreTokens bytes ts → StaysWithin at_start (kinds ts)
-scanned bytes t ts text within are = subst (StaysWithin at_start) (sym (spelled_as bytes t ts text are)) (tree_scan t text.legal within)
+scanned : (l : Limits) (bytes : List ℕ) (t : PlainTree) (ts : List Token) → IsTextOf bytes t → IsTreeWithin l t → AreTokens bytes ts
+    → StaysWithin l at_start (kinds ts)
+scanned l bytes t ts text within are = subst (StaysWithin l at_start) (sym (spelled_as bytes t ts text are)) (tree_scan l t text.legal within)
 
-pub no_fault : (bytes : List ℕ) (t : PlainTree) (e : FileFault) → IsTextOf bytes t → IsTreeWithin t → FirstGrammarFault bytes e → e ≡ fault.Memory
-no_fault bytes t fault.Memory text within f = refl
-no_fault bytes t (fault.Byte at) text within f = absurd (refused_no_tokens bytes at text.tokens f text.are)
-no_fault bytes t (fault.Syntax at) text within f = absurd
-    (text_goes_on at_start (length bytes) at f.tokens (t, text.legal, sym (spelled_as bytes t f.tokens text f.are)) f.stopped)
-no_fault bytes t (fault.TooDeep at) text within f = absurd
-    (not_past IsDeep at_start f.tokens at (λ d k n. n.0) (scanned bytes t f.tokens text within f.are) f.stopped)
-no_fault bytes t (fault.TooMany at) text within f = absurd
-    (not_past IsMany at_start f.tokens at (λ d k n. n.1) (scanned bytes t f.tokens text within f.are) f.stopped)
-no_fault bytes t _ text within f = absurd f
+pub no_fault : (l : Limits) (bytes : List ℕ) (t : PlainTree) (e : FileFault) → IsTextOf bytes t → IsTreeWithin l t → FirstGrammarFault l bytes e
+    → e ≡ fault.Memory
+no_fault l bytes t fault.Memory text within f = refl
+no_fault l bytes t (fault.Byte at) text within f = absurd (refused_no_tokens bytes at text.tokens f text.are)
+no_fault l bytes t (fault.Syntax at) text within f = absurd
+    (text_goes_on l at_start (length bytes) at f.tokens (t, text.legal, sym (spelled_as bytes t f.tokens text f.are)) f.stopped)
+no_fault l bytes t (fault.TooDeep at) text within f = absurd
+    (not_past l IsDeep at_start f.tokens at (λ d k n. n.0) (scanned l bytes t f.tokens text within f.are) f.stopped)
+no_fault l bytes t (fault.TooMany at) text within f = absurd
+    (not_past l (IsMany l) at_start f.tokens at (λ d k n. n.1) (scanned l bytes t f.tokens text within f.are) f.stopped)
+no_fault l bytes t _ text within f = absurd f
 
 -- the tree of a text is unique
-pub tree_alone : (bytes : List ℕ) (t : Tree) (u : PlainTree) → IsTreeOf bytes t → IsTextOf bytes u → u ≡ plain_tree t
-tree_alone bytes t u read text = file_unique u (plain_tree t) text.legal read.legal (sym (spelled_as bytes u read.tokens text read.are) ∙ read.spelled)
+pub tree_alone : (l : Limits) (bytes : List ℕ) (t : Tree) (u : PlainTree) → IsTreeOf l bytes t → IsTextOf bytes u → u ≡ plain_tree t
+tree_alone l bytes t u read text = file_unique u (plain_tree t) text.legal read.legal (sym (spelled_as bytes u read.tokens text read.are) ∙ read.spelled)

@@ -1,5 +1,6 @@
 -- The grammar of automaton files and its limits as data, one definition for each production of Grammar.
 use Rattle.std.specs.Prelude.{ℕ, zero, suc, [], ◌∷◌}
+use Rattle.ta_base.specs.declared.limits.Limits.{Limits}
 use Rattle.ta_syntax.specs.declared.tokens.Mark.{Mark}
 use Rattle.ta_syntax.specs.declared.tokens.Mark.TheVariants as mark
 use Rattle.ta_syntax.specs.Productions.{Class, Production, nothing, one, both, choose, repeat, barred, many, deep, names, numbers, only, mark_code, first}
@@ -120,23 +121,24 @@ abbrev pub event : Production
 event = both a_name (both (led mark.After 8 a_name) (both (a_mark mark.Colon) (list_end 16 comparison)))
 
 -- a pattern after its keyword
-abbrev pub pattern : Production
-pattern = name_then mark.OpenBrace (both (ended mark.Start 16 comparison) (both (ended mark.Empty 32 a_name)
+abbrev pub pattern : Limits → Production
+pattern l = name_then mark.OpenBrace (both (ended mark.Start 16 comparison) (both (ended mark.Empty l.locations a_name)
     (both (blocks 8 mark.Event event) (a_mark mark.CloseBrace))))
 
 -- "locations" Location { "," Location } ";"
-abbrev pub locations : Production
-locations = both (a_mark mark.Locations) (list_end 32 location)
+abbrev pub locations : Limits → Production
+locations l = both (a_mark mark.Locations) (list_end l.locations location)
 
 -- "processes" Sum ";"
 abbrev pub processes : Production
 processes = both (a_mark mark.Processes) (both a_sum (a_mark mark.Semicolon))
 
 -- a file up to its number of processes
-abbrev pub head : Production
-head = both (a_mark mark.Automaton) (name_then mark.Semicolon (both (declared_list mark.Parameters 16 a_name) (both (declared_list mark.Shared 16 a_name)
-    (both locations processes))))
+abbrev pub head : Limits → Production
+head l = both (a_mark mark.Automaton) (name_then mark.Semicolon (both (declared_list mark.Parameters l.parameters a_name)
+    (both (declared_list mark.Shared l.shared a_name) (both (locations l) processes))))
 
 -- a whole file
-abbrev pub file : Production
-file = both head (both (declared_list mark.Resilience 16 comparison) (both (blocks 128 mark.Rule rule) (blocks 16 mark.Pattern pattern)))
+abbrev pub file : Limits → Production
+file l = both (head l)
+    (both (declared_list mark.Resilience 16 comparison) (both (blocks l.rules mark.Rule rule) (blocks l.patterns mark.Pattern (pattern l))))

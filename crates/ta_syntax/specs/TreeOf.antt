@@ -1,5 +1,6 @@
 -- The tree of a text.
 use Rattle.std.specs.Prelude.{ℕ, ◌≡◌, List}
+use Rattle.ta_base.specs.declared.limits.Limits.{Limits}
 use Rattle.ta_syntax.specs.Grammar.{PlainTree, IsTree, file_kinds}
 use Rattle.ta_syntax.specs.Limits.{IsTreeWithin}
 use Rattle.ta_syntax.specs.PlainTrees.{plain_tree}
@@ -17,10 +18,10 @@ pub record IsTextOf (bytes : List ℕ) (t : PlainTree) : Type 0 where
   pub legal : IsTree t
 
 -- The tokens of the text are those of the tree, at the offsets that it states, and it is a tree of the grammar within the limits.
-pub record IsTreeOf (bytes : List ℕ) (t : Tree) : Type 0 where
+pub record IsTreeOf (l : Limits) (bytes : List ℕ) (t : Tree) : Type 0 where
   pub tokens : List Token
   pub are : AreTokens bytes tokens
   pub spelled : kinds tokens ≡ file_kinds (plain_tree t)
   pub placed : IsPlaced (tree_stated t) tokens
   pub legal : IsTree (plain_tree t)
-  pub within : IsTreeWithin (plain_tree t)
+  pub within : IsTreeWithin l (plain_tree t)

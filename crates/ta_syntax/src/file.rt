@@ -23,17 +23,17 @@ use crate::tokens::Mark;
 use crate::tree::{Tree, TreeComparison, TreeLocation, TreePattern, TreeRule};
 use std::alloc::Global;
 use ta_base::List;
-use ta_base::limits::FILE_BYTES;
+use ta_base::limits::{FILE_BYTES, Limits};
 
-/// Reads an automaton file.
-pub fn read_tree(alloc: Global, bytes: &[u8]) -> Result<Tree, FileFault>
+/// Reads an automaton file within the limits.
+pub fn read_tree(alloc: Global, bytes: &[u8], limits: &Limits) -> Result<Tree, FileFault>
     requires { length bytes.now ≤ FILE_BYTES }
-    ensures exact { MatchResult result (λ t. IsTreeOf bytes.now t) (λ e. FirstGrammarFault bytes.now e) }
+    ensures exact { MatchResult result (λ t. IsTreeOf limits.now bytes.now t) (λ e. FirstGrammarFault limits.now bytes.now e) }
     ensures alone { IfOk result (λ t. (u : PlainTree) → IsTextOf bytes.now u → u ≡ plain_tree t) }
-    ensures only { (t : PlainTree) → IsTextOf bytes.now t → IsTreeWithin t → IfErr result (λ e. e ≡ FileFault.Memory) }
+    ensures only { (t : PlainTree) → IsTextOf bytes.now t → IsTreeWithin limits.now t → IfErr result (λ e. e ≡ FileFault.Memory) }
 {
     let tokens = scan(alloc, bytes)?;
-    let tree = read_file(alloc, tokens.as_slice(), bytes.len() as u32)?;
+    let tree = read_file(alloc, tokens.as_slice(), bytes.len() as u32, limits)?;
     Ok(tree)
 }
 
@@ -70,8 +70,13 @@ struct Body {
 }
 
 /// Reads the names with which an automaton file begins.
-fn read_names(alloc: Global, tokens: &[Token], end: u32) -> Result<(Names, &[Token]), FileFault>
-    ensures { MatchResult result (λ x. TookNames x.0 tokens.now x.1.now) (λ e. Halts grammar.head end tokens.now e) }
+fn read_names<'t>(
+    alloc: Global,
+    tokens: &'t [Token],
+    end: u32,
+    limits: &Limits,
+) -> Result<(Names, &'t [Token]), FileFault>
+    ensures { MatchResult result (λ x. TookNames limits.now x.0 tokens.now x.1.now) (λ e. Halts (grammar.head limits.now) end tokens.now e) }
 {
     let begun = expect(tokens, end, Mark::Automaton)?;
     let (name, after_name) = read_name_then(alloc, begun, end, Mark::Semicolon)?;
@@ -80,9 +85,15 @@ fn read_names(alloc: Global, tokens: &[Token], end: u32) -> Result<(Names, &[Tok
         after_name,
         end,
         Mark::Parameters,
-        16,
+        limits.parameters,
     )?;
-    let (shared, rest) = read_declared::<Spelled>(alloc, after_parameters, end, Mark::Shared, 16)?;
+    let (shared, rest) = read_declared::<Spelled>(
+        alloc,
+        after_parameters,
+        end,
+        Mark::Shared,
+        limits.shared,
+    )?;
     let names = Names {
         name,
         parameters,
@@ -92,10 +103,15 @@ fn read_names(alloc: Global, tokens: &[Token], end: u32) -> Result<(Names, &[Tok
 }
 
 /// Reads the locations and the number of processes.
-fn read_places(alloc: Global, tokens: &[Token], end: u32) -> Result<(Places, &[Token]), FileFault>
-    ensures { MatchResult result (λ x. TookPlaces x.0 tokens.now x.1.now) (λ e. Halts places end tokens.now e) }
+fn read_places<'t>(
+    alloc: Global,
+    tokens: &'t [Token],
+    end: u32,
+    limits: &Limits,
+) -> Result<(Places, &'t [Token]), FileFault>
+    ensures { MatchResult result (λ x. TookPlaces limits.now x.0 tokens.now x.1.now) (λ e. Halts (places limits.now) end tokens.now e) }
 {
-    let (locations_at, locations, after_locations) = read_locations(alloc, tokens, end)?;
+    let (locations_at, locations, after_locations) = read_locations(alloc, tokens, end, limits)?;
     let (processes_at, processes, rest) = read_processes(alloc, after_locations, end)?;
     let places = Places {
         locations_at,
@@ -107,17 +123,22 @@ fn read_places(alloc: Global, tokens: &[Token], end: u32) -> Result<(Places, &[T
 }
 
 /// Reads the head of an automaton file.
-fn read_head(alloc: Global, tokens: &[Token], end: u32) -> Result<(Head, &[Token]), FileFault>
-    ensures { MatchResult result (λ x. TookHead x.0 tokens.now x.1.now) (λ e. Halts grammar.head end tokens.now e) }
+fn read_head<'t>(
+    alloc: Global,
+    tokens: &'t [Token],
+    end: u32,
+    limits: &Limits,
+) -> Result<(Head, &'t [Token]), FileFault>
+    ensures { MatchResult result (λ x. TookHead limits.now x.0 tokens.now x.1.now) (λ e. Halts (grammar.head limits.now) end tokens.now e) }
 {
-    let (names, after_names) = read_names(alloc, tokens, end)?;
-    let (places, rest) = read_places(alloc, after_names, end)?;
+    let (names, after_names) = read_names(alloc, tokens, end, limits)?;
+    let (places, rest) = read_places(alloc, after_names, end, limits)?;
     Ok((Head { names, places }, rest))
 }
 
 /// Reads what stands behind the head, up to the end of the file.
-fn read_body(alloc: Global, tokens: &[Token], end: u32) -> Result<Body, FileFault>
-    ensures { MatchResult result (λ b. TookBody b tokens.now) (λ e. IsBodyFault end tokens.now e) }
+fn read_body(alloc: Global, tokens: &[Token], end: u32, limits: &Limits) -> Result<Body, FileFault>
+    ensures { MatchResult result (λ b. TookBody limits.now b tokens.now) (λ e. IsBodyFault limits.now end tokens.now e) }
 {
     let (resilience, after_resilience) = read_declared::<TreeComparison>(
         alloc,
@@ -131,9 +152,17 @@ fn read_body(alloc: Global, tokens: &[Token], end: u32) -> Result<Body, FileFaul
         after_resilience,
         end,
         Mark::Rule,
-        128,
+        limits.rules,
+        limits,
     )?;
-    let (patterns, rest) = read_blocks::<TreePattern>(alloc, after_rules, end, Mark::Pattern, 16)?;
+    let (patterns, rest) = read_blocks::<TreePattern>(
+        alloc,
+        after_rules,
+        end,
+        Mark::Pattern,
+        limits.patterns,
+        limits,
+    )?;
     if let Some((first, _)) = rest.split_first() {
         return Err(FileFault::Syntax(first.at));
     }
@@ -145,11 +174,11 @@ fn read_body(alloc: Global, tokens: &[Token], end: u32) -> Result<Body, FileFaul
 }
 
 /// Reads the tokens of an automaton file.
-fn read_file(alloc: Global, tokens: &[Token], end: u32) -> Result<Tree, FileFault>
-    ensures { MatchResult result (λ t. IsSpelled t tokens.now) (λ e. IsStopped FileText at_start end tokens.now e) }
+fn read_file(alloc: Global, tokens: &[Token], end: u32, limits: &Limits) -> Result<Tree, FileFault>
+    ensures { MatchResult result (λ t. IsSpelled limits.now t tokens.now) (λ e. IsStopped limits.now FileText at_start end tokens.now e) }
 {
-    let (head, after_head) = read_head(alloc, tokens, end)?;
-    let body = read_body(alloc, after_head, end)?;
+    let (head, after_head) = read_head(alloc, tokens, end, limits)?;
+    let body = read_body(alloc, after_head, end, limits)?;
     let Head { names, places } = head;
     let Names {
         name,
@@ -182,16 +211,17 @@ fn read_file(alloc: Global, tokens: &[Token], end: u32) -> Result<Tree, FileFaul
 }
 
 /// Reads the locations, with the offset of their keyword.
-fn read_locations(
+fn read_locations<'t>(
     alloc: Global,
-    tokens: &[Token],
+    tokens: &'t [Token],
     end: u32,
-) -> Result<(u32, List<TreeLocation>, &[Token]), FileFault>
-    ensures { MatchResult result (λ x. TookSome 32 x.1 grammar.locations (locations_kinds x.1) (locations_stated x.0 x.1) tokens.now x.2.now) (λ e. Halts grammar.locations end tokens.now e) }
+    limits: &Limits,
+) -> Result<(u32, List<TreeLocation>, &'t [Token]), FileFault>
+    ensures { MatchResult result (λ x. TookSome limits.now.locations x.1 (grammar.locations limits.now) (locations_kinds x.1) (locations_stated x.0 x.1) tokens.now x.2.now) (λ e. Halts (grammar.locations limits.now) end tokens.now e) }
 {
     let at = first_offset(tokens, end);
     let begun = expect(tokens, end, Mark::Locations)?;
-    let (locations, rest) = read_list_end::<TreeLocation>(alloc, begun, end, 32)?;
+    let (locations, rest) = read_list_end::<TreeLocation>(alloc, begun, end, limits.locations)?;
     Ok((at, locations, rest))
 }
 

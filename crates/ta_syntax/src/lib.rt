@@ -4,9 +4,11 @@
 //! grammar is an equation (`file_kinds`). The same grammar stands as data in `FileGrammar`, and
 //! `parse` is one parser for all such grammars, with one token of lookahead: each reader answers
 //! what `parse` does. A limit is a part that is barred: its texts are texts of the grammar, but the
-//! parser stops before them. How the first parse error is proved: which tokens may begin and follow
-//! a part is computed, and no two choices begin alike, so a token at which `parse` stops is wrong
-//! in every text; every part has some text, so the tokens before it always begin a file.
+//! parser stops before them. The limits of a file's lists are an argument of `read_tree`, and what
+//! is proved holds for every row of them. How the first parse error is proved: which tokens may
+//! begin and follow a part is computed, and no two choices begin alike, so a token at which `parse`
+//! stops is wrong in every text; every part has some text, so the tokens before it always begin a
+//! file.
 #![tactic(auto)]
 
 mod answers;

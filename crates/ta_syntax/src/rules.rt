@@ -14,15 +14,21 @@ use crate::tokens::Mark;
 use crate::tree::{TreeComparison, TreeEvent, TreePattern, TreeRule, TreeUpdate};
 use std::alloc::Global;
 use ta_base::List;
+use ta_base::limits::Limits;
 
 impl Block for TreeRule {
-    ghost grammar = { rule };
+    ghost grammar = { λ l. rule };
 
     ghost spelled = { λ r. rule_body r };
 
     ghost stated = { λ r. rule_body_stated r };
 
-    fn read(alloc: Global, tokens: &[Token], end: u32) -> Result<(TreeRule, &[Token]), FileFault> {
+    fn read<'t>(
+        alloc: Global,
+        tokens: &'t [Token],
+        end: u32,
+        _limits: &Limits,
+    ) -> Result<(TreeRule, &'t [Token]), FileFault> {
         let (name, after_name) = read_name_then(alloc, tokens, end, Mark::Colon)?;
         let (from, after_from) = read_name_then(alloc, after_name, end, Mark::Arrow)?;
         let (to, after_to) = read_name(alloc, after_from, end)?;
@@ -55,13 +61,18 @@ impl Block for TreeRule {
 }
 
 impl Block for TreeEvent {
-    ghost grammar = { event };
+    ghost grammar = { λ l. event };
 
     ghost spelled = { λ e. event_body e };
 
     ghost stated = { λ e. event_body_stated e };
 
-    fn read(alloc: Global, tokens: &[Token], end: u32) -> Result<(TreeEvent, &[Token]), FileFault> {
+    fn read<'t>(
+        alloc: Global,
+        tokens: &'t [Token],
+        end: u32,
+        _limits: &Limits,
+    ) -> Result<(TreeEvent, &'t [Token]), FileFault> {
         let (name, after_name) = read_name(alloc, tokens, end)?;
         let (after, after_names) = read_led::<Spelled>(alloc, after_name, end, Mark::After, 8)?;
         let after_colon = expect(after_names, end, Mark::Colon)?;
@@ -78,17 +89,18 @@ impl Block for TreeEvent {
 }
 
 impl Block for TreePattern {
-    ghost grammar = { pattern };
+    ghost grammar = { λ l. pattern l };
 
     ghost spelled = { λ p. pattern_body p };
 
     ghost stated = { λ p. pattern_body_stated p };
 
-    fn read(
+    fn read<'t>(
         alloc: Global,
-        tokens: &[Token],
+        tokens: &'t [Token],
         end: u32,
-    ) -> Result<(TreePattern, &[Token]), FileFault> {
+        limits: &Limits,
+    ) -> Result<(TreePattern, &'t [Token]), FileFault> {
         let (name, after_name) = read_name_then(alloc, tokens, end, Mark::OpenBrace)?;
         let (start, after_start) = read_ended::<TreeComparison>(
             alloc,
@@ -97,23 +109,28 @@ impl Block for TreePattern {
             Mark::Start,
             16,
         )?;
-        let (empty, after_empty) = read_ended::<Spelled>(alloc, after_start, end, Mark::Empty, 32)?;
+        let (empty, after_empty) = read_ended::<Spelled>(
+            alloc,
+            after_start,
+            end,
+            Mark::Empty,
+            limits.locations,
+        )?;
         let (events, after_events) = read_blocks::<TreeEvent>(
             alloc,
             after_empty,
             end,
             Mark::Event,
             8,
+            limits,
         )?;
         let rest = expect(after_events, end, Mark::CloseBrace)?;
-        Ok((
-            TreePattern {
-                name,
-                start,
-                empty,
-                events: List::from_vec(events),
-            },
-            rest,
-        ))
+        let pattern = TreePattern {
+            name,
+            start,
+            empty,
+            events: List::from_vec(events),
+        };
+        Ok((pattern, rest))
     }
 }

@@ -1,4 +1,4 @@
-//! Automaton files as trees.
+//! Automaton files as trees. The types keep the widest limits of their lists.
 #![tactic(auto)]
 
 ghost use Rattle.std.specs.Prelude.{◌≤◌, length};
@@ -68,7 +68,7 @@ pub struct TreePattern {
     pub empty: List<Spelled>,
     pub events: List<TreeEvent>,
     pub ghost few_start: { length start ≤ 16 },
-    pub ghost few_empty: { length empty ≤ 32 },
+    pub ghost few_empty: { length empty ≤ 128 },
     pub ghost few_events: { length events ≤ 8 },
 }
 
@@ -85,13 +85,13 @@ pub struct Tree {
     pub resilience: List<TreeComparison>,
     pub rules: List<TreeRule>,
     pub patterns: List<TreePattern>,
-    pub ghost few_parameters: { length parameters ≤ 16 },
-    pub ghost few_shared: { length shared ≤ 16 },
+    pub ghost few_parameters: { length parameters ≤ 32 },
+    pub ghost few_shared: { length shared ≤ 64 },
     pub ghost some_locations: { 1 ≤ length locations },
-    pub ghost few_locations: { length locations ≤ 32 },
+    pub ghost few_locations: { length locations ≤ 128 },
     pub ghost is_processes: { IsSum (plain_sum processes) } by { IsSum-prop (plain_sum processes) },
     pub ghost shallow_processes: { sum_depth (plain_sum processes) ≤ 32 },
     pub ghost few_resilience: { length resilience ≤ 16 },
-    pub ghost few_rules: { length rules ≤ 128 },
-    pub ghost few_patterns: { length patterns ≤ 16 },
+    pub ghost few_rules: { length rules ≤ 1024 },
+    pub ghost few_patterns: { length patterns ≤ 64 },
 }

@@ -1,17 +1,21 @@
 -- the text of the trees of safe patterns is a certificate that a judge accepts
-use Rattle.ta_verdict.proofs.Common.{◌≡◌, ◌∙◌, ℕ, ◌+◌, ◌<◌, ◌≤◌, ◌^◌, suc, Bool, true, false, List, [], ◌∷◌, ◌++◌, length, map, Option, Some, None, slice_get}
+use Rattle.ta_verdict.proofs.Common.{◌≡◌, ◌∙◌, ℕ, ◌+◌, ◌<◌, ◌≤◌, ◌^◌, suc, Bool, true, false, List, [], ◌∷◌, ◌++◌, length, map, Option, Some, None}
+use Rattle.ta_verdict.proofs.Common.{slice_get}
 use Rattle.ta_verdict.proofs.Common.{refl, sym, ap, subst, append_assoc, arith, codes, decimal, lit≤, lit<, AllByRecursion, slice_get_within, File, Pattern}
 use Rattle.ta_verdict.proofs.Common.{LoopsPure, AreWritable, cert_lines, cert_text, head_text, order_lines, pair_of, proof_lines, proof_of, proofs_of}
 use Rattle.ta_verdict.proofs.Common.{proofs_text, question_text, version_of, line_text, Node, Order, Proof, Verdict, refuted_hold, orders_once, orders_sound}
 use Rattle.ta_verdict.proofs.Common.{IsShort, TreeIs, FoundOrders, pattern_search, AreTrees, AreTreesOf, CertificateOn, SafeOne, safe_among, safe_ones}
 use Rattle.ta_verdict.proofs.Common.{safe_picked, Pick, first_picked, picked, picked_there, text_by, tree_by, tree_size, with_safe, Budget, AreTreesOfFile}
 use Rattle.ta_verdict.proofs.Common.{head_of, is_lazy, ended_line, Safe, above_apart, each_append, each_map, weaker, IsProof}
+use Rattle.std.proofs.Common.{◌*◌, mul-le-mul}
+use Rattle.ta_automaton.specs.Narrow.{IsNarrow, IsWithin}
+use Rattle.ta_automaton.specs.declared.automaton.Automaton.{Automaton}
 use Rattle.ta_base.proofs.DecimalDigits.{row_short}
+use Rattle.ta_base.specs.declared.limits.Limits.{Limits}
 use Rattle.ta_base.specs.Lists.{Distinct}
 use Rattle.ta_cert.proofs.Writing.{cert_parts, lines_text-proofs}
 use Rattle.ta_cert.specs.Laws.{AreShort}
 use Rattle.ta_cert.specs.Lines.{cert_lines_text}
-use Rattle.ta_cert.specs.Streams.{line_limit}
 use Rattle.ta_cert.specs.Tree.{Tree, all_preorder}
 use Rattle.ta_cert.specs.declared.line.Line.{Line}
 use Rattle.ta_cert.specs.declared.line.Line.TheVariants as line
@@ -23,6 +27,7 @@ use Rattle.ta_encode.proofs.Preorders.{in_order}
 use Rattle.ta_implied.specs.Implied.{Good}
 use Rattle.ta_rest.proofs.Resting.{no_pairs_good}
 use Rattle.ta_walk.proofs.NodesMade.{refuted_hold as moments_refuted}
+use Rattle.ta_walk.specs.Ends.{most_unknowns}
 use Rattle.ta_verdict.specs.declared.trees.Trees.{Trees}
 use Rattle.ta_verdict.specs.declared.trees.Trees.TheVariants as which
 
@@ -70,17 +75,17 @@ ones_distinct number (p ∷ ps) (v ∷ vs) = one_distinct number p (tree_size v)
     (ones_distinct (number + 1) ps vs)
 
 -- the line of a pattern is short, and so are those of nodes
-pattern_short : (k : ℕ) → k < 2 ^ 32 → length (codes "pattern " ++ decimal k) ≤ line_limit
+pattern_short : (k : ℕ) → k < 2 ^ 32 → length (codes "pattern " ++ decimal k) ≤ 64
 pattern_short k below = let digits = row_short k below in omega arith
 
-lines_short : (ns : List Node) (ls : List Line) → AllByRecursion IsShort ns → AreShort ls → AreShort (map line.Tree ns ++ ls)
-lines_short ns ls short rest = each_append _ (map line.Tree ns) ls (each_map line.Tree IsShort _ ns (λ n is. is) short) rest
+lines_short : (limit : ℕ) (ns : List Node) (ls : List Line) → AllByRecursion (IsShort limit) ns → AreShort limit ls → AreShort limit (map line.Tree ns ++ ls)
+lines_short limit ns ls short rest = each_append _ (map line.Tree ns) ls (each_map line.Tree (IsShort limit) _ ns (λ n is. is) short) rest
 
 -- so is the first line
-pub version_short : (k : ℕ) → k < 2 ^ 32 → length (codes "threshold-certificate " ++ decimal k) ≤ line_limit
+pub version_short : (k : ℕ) → k < 2 ^ 32 → length (codes "threshold-certificate " ++ decimal k) ≤ 64
 version_short k below = let digits = row_short k below in omega arith
 
-head_short : (os : List Order) → length (line_text (line.Header (version_of os))) ≤ line_limit
+head_short : (os : List Order) → length (line_text (line.Header (version_of os))) ≤ 64
 head_short [] = version_short 1 (lit< tt)
 head_short (o ∷ os) = version_short 2 (lit< tt)
 
@@ -91,31 +96,39 @@ pub record Made (kind : Kind) (subject : Subject) (pairs : List (ℕ × ℕ)) (o
   pub prove : AllByRecursion (ProvesClaim kind subject pairs) proofs
   pub named : map proof_number proofs ≡ numbers ones
   pub writable : AreWritable trees
-  pub short : AreShort (proof_lines trees)
+  pub short : AreShort subject.line_bytes (proof_lines trees)
 
 pub made :
-    (kind : Kind) (subject : Subject) (pairs : List (ℕ × ℕ)) (Of : Pattern → List Node → ℕ → Type 0)
+    (kind : Kind) (subject : Subject) (pairs : List (ℕ × ℕ)) (unknowns : ℕ) → 51 * unknowns + 64 ≤ subject.line_bytes
+    → (Of : Pattern → List Node → ℕ → Type 0)
     → ((number : ℕ) (p : Pattern) → slice_get subject.file.patterns number ≡ Some p
-    → (nodes : List Node) (count : ℕ) → Of p nodes count → IsProof (search_of kind subject pairs p) nodes)
+    → (nodes : List Node) (count : ℕ) → Of p nodes count → IsProof unknowns (search_of kind subject pairs p) nodes)
     → (ones : List SafeOne) (trees : List Proof)
     → AllByRecursion (λ one. slice_get subject.file.patterns one.number ≡ Some one.pattern) ones → AreTreesOf Of ones trees
     → Made kind subject pairs ones trees
-made kind subject pairs Of judgeable [] [] named are = record { proofs = []; are = refl; prove = tt; named = refl; writable = tt; short = (lit≤ tt, tt) }
-made kind subject pairs Of judgeable [] (t ∷ ts) named are = absurd are
-made kind subject pairs Of judgeable (one ∷ ones) [] named are = absurd are
-made kind subject pairs Of judgeable (one ∷ ones) (t ∷ ts) named are =
+made kind subject pairs unknowns room Of judgeable [] [] named are = record {
+  proofs = [];
+  are = refl;
+  prove = tt;
+  named = refl;
+  writable = tt;
+  short = (omega (arith, room), tt);
+}
+made kind subject pairs unknowns room Of judgeable [] (t ∷ ts) named are = absurd are
+made kind subject pairs unknowns room Of judgeable (one ∷ ones) [] named are = absurd are
+made kind subject pairs unknowns room Of judgeable (one ∷ ones) (t ∷ ts) named are =
     let is = are.0 in
     let file = subject.file in
     let search = search_of kind subject pairs one.pattern in
     let proof = judgeable one.number one.pattern named.0 t.nodes one.nodes is.is in
     let trees = (in_order IsJudged search t.nodes).0 proof.refutes in
-    let rest = made kind subject pairs Of judgeable ones ts named.1 are.1 in
+    let rest = made kind subject pairs unknowns room Of judgeable ones ts named.1 are.1 in
     let number : one.number ≡ t.pattern = sym is.numbered in
     let nodes : all_preorder trees.0 ≡ t.nodes = trees.2 in
     let same : proof_of one.number trees.0 ≡ t = (λ i. record { pattern = number i; nodes = nodes i }) in
     let inside : one.number < length file.patterns = slice_get_within file.patterns one.number one.pattern named.0 in
     let few = file.shape.limit in
-    let room : 16 < 2 ^ 32 = lit< tt in
+    let some : 64 < 2 ^ 32 = lit< tt in
     let below : t.pattern < 2 ^ 32 = omega arith in
     record {
       proofs = (one.number, trees.0) ∷ rest.proofs;
@@ -123,19 +136,23 @@ made kind subject pairs Of judgeable (one ∷ ones) (t ∷ ts) named are =
       prove = (record { search = search; searched = search_named kind subject pairs one.number one.pattern named.0; proves = trees.1 }, rest.prove);
       named = ap (λ (ks : List ℕ). one.number ∷ ks) rest.named;
       writable = (record { pattern = below; nodes = proof.writable }, rest.writable);
-      short = (pattern_short t.pattern below, lines_short t.nodes (proof_lines ts) proof.short rest.short);
+      short = (
+        omega (arith, room, pattern_short t.pattern below),
+        lines_short subject.line_bytes t.nodes (proof_lines ts) (proof.short subject.line_bytes room) rest.short,
+      );
     }
 
 -- the nodes of trees of words under the orders that are found
 judgeable_words :
-    (file : File) (orders : List Order) → FoundOrders file.automaton orders → (budget : ℕ) → LoopsPure file.automaton → budget ≤ 1000000000
+    (file : File) (orders : List Order) → FoundOrders file.automaton orders → (budget : ℕ) → IsNarrow file.automaton → LoopsPure file.automaton
+    → budget ≤ 1000000000
     → (number : ℕ) (p : Pattern) → slice_get file.patterns number ≡ Some p → (nodes : List Node) (count : ℕ) → tree_by false file budget p nodes count
-    → IsProof (pattern_search file.automaton p (map pair_of orders)) nodes
-judgeable_words file orders found budget loops within number p at nodes count is =
+    → IsProof 4656 (pattern_search file.automaton p (map pair_of orders)) nodes
+judgeable_words file orders found budget narrow loops within number p at nodes count is =
     let pairs = map pair_of orders in
     let same_orders = orders_once file.automaton is.orders orders is.found found in
     let tree = subst (λ (os : List Order). TreeIs (pattern_search file.automaton p (map pair_of os)) budget nodes count) same_orders is.holds in
-    (refuted_hold Safe file number p at tt loops pairs (orders_sound file.automaton orders found).good budget within nodes count tree).0
+    (refuted_hold Safe file number p at narrow tt loops pairs (orders_sound file.automaton orders found).good budget within nodes count tree).0
 
 -- the numbers of those of a file that are safe are distinct and name their patterns
 pub safe_named :
@@ -146,8 +163,22 @@ pub safe_distinct : (file : File) (pick : Pick) (vs : List Verdict) → Distinct
 safe_distinct file pick vs = ones_distinct (first_picked pick) (picked pick file.patterns) vs
 
 -- the lines of a certificate with such proofs are short
-pub all_short : (orders : List Order) (trees : List Proof) → AreShort (order_lines orders) → AreShort (proof_lines trees) → AreShort (cert_lines orders trees)
-all_short orders trees before behind = (head_short orders, each_append _ (order_lines orders) (proof_lines trees) before behind)
+pub all_short : (limit : ℕ) (orders : List Order) (trees : List Proof) → 64 ≤ limit → AreShort limit (order_lines orders) → AreShort limit (proof_lines trees)
+    → AreShort limit (cert_lines orders trees)
+all_short limit orders trees room before behind = (
+  omega (arith, room, head_short orders),
+  each_append _ (order_lines orders) (proof_lines trees) before behind,
+)
+
+-- a leaf's line has room within limits
+pub words_room : (l : Limits) → 51 * 4656 + 64 ≤ l.line_bytes
+words_room l = omega (arith, l.long_lines)
+
+pub moments_room : (l : Limits) (a : Automaton) → IsWithin l a → 51 * most_unknowns a + 64 ≤ l.line_bytes
+moments_room l a within =
+    let guards : 8 + length a.rise + length a.fall ≤ 8 + l.rises + l.falls = omega (arith, within.rise, within.fall) in
+    let fired : (8 + length a.rise + length a.fall) * length a.rules ≤ (8 + l.rises + l.falls) * l.rules = mul-le-mul guards within.rules in
+    omega (arith, fired, within.parameters, within.locations, l.leaf_lines)
 
 -- orders that a certificate with proofs of a kind may have
 pub record HasOrders (kind : Kind) (subject : Subject) (orders : List Order) : Type 0 where
@@ -157,18 +188,20 @@ pub record HasOrders (kind : Kind) (subject : Subject) (orders : List Order) : T
 
 -- such proofs behind such orders are a certificate
 pub accepted :
-    (kind : Kind) (subject : Subject) (orders : List Order) → HasOrders kind subject orders → (ones : List SafeOne) → Distinct (numbers ones)
-    → (trees : List Proof) → Made kind subject (map pair_of orders) ones trees → AreShort (lines_of_kind kind orders trees) → (text : List ℕ)
+    (kind : Kind) (subject : Subject) (orders : List Order) → HasOrders kind subject orders → (kind ≡ Words → IsNarrow subject.file.automaton)
+    → (ones : List SafeOne) → Distinct (numbers ones)
+    → (trees : List Proof) → Made kind subject (map pair_of orders) ones trees → AreShort subject.line_bytes (lines_of_kind kind orders trees) → (text : List ℕ)
     → text ≡ cert_lines_text (lines_of_kind kind orders trees) → CertificateFor subject text (numbers ones)
-accepted kind subject orders has ones distinct trees m short text written =
+accepted kind subject orders has narrow ones distinct trees m short text written =
     record {
       kind = kind;
       orders = orders;
       proofs = m.proofs;
       written = written ∙ ap (λ (ps : List Proof). cert_lines_text (lines_of_kind kind orders ps)) (sym m.are);
       ordered = has.may;
+      narrow = narrow;
       legal = subst AreWritable (sym m.are) m.writable;
-      short = subst (λ (ts : List Proof). AreShort (lines_of_kind kind orders ts)) (sym m.are) short;
+      short = subst (λ (ts : List Proof). AreShort subject.line_bytes (lines_of_kind kind orders ts)) (sym m.are) short;
       shown = has.shown;
       good = has.good;
       prove = m.prove;
@@ -176,30 +209,37 @@ accepted kind subject orders has ones distinct trees m short text written =
       distinct = distinct;
     }
 
+-- proofs of moments are no proofs of schemas
+pub no_words : {A : Type 0} → Moments ≡ Words → A
+no_words same = absurd (cc)
+
 accepted_by :
-    (lazy : Bool) (file : File) (pick : Pick) (budget : ℕ) → LoopsPure file.automaton → budget ≤ 1000000000
+    (lazy : Bool) (file : File) (pick : Pick) (budget : ℕ) → (lazy ≡ false → IsNarrow file.automaton) → LoopsPure file.automaton → budget ≤ 1000000000
     → (vs : List Verdict) (trees : List Proof) → AreTreesOf (tree_by lazy file budget) (safe_picked file pick vs) trees → (text : List ℕ)
-    → text_by lazy file trees text → Certificate file text (safe_among file pick vs)
-accepted_by false file pick budget loops within vs trees are text is =
+    → text_by lazy file trees text → (l : Limits) → IsWithin l file.automaton → Certificate file l.line_bytes text (safe_among file pick vs)
+accepted_by false file pick budget narrow loops within vs trees are text is l inside =
     let ones = safe_picked file pick vs in
     let sound = orders_sound file.automaton is.orders is.found in
-    let subject = claiming Safe file in
-    let m = made Words subject (map pair_of is.orders) (tree_by false file budget) (judgeable_words file is.orders is.found budget loops within) ones trees
-    (safe_named file pick vs) are in
-    accepted Words subject is.orders (record { may = sound.writable; shown = sound.shown; good = sound.good }) ones (safe_distinct file pick vs) trees
-    m (all_short is.orders trees sound.short m.short) text is.written
-accepted_by true file pick budget loops within vs trees are text is =
+    let subject = claiming Safe file l.line_bytes in
+    let m = made Words subject (map pair_of is.orders) 4656 (words_room l) (tree_by false file budget)
+    (judgeable_words file is.orders is.found budget (narrow refl) loops within) ones trees (safe_named file pick vs) are in
+    let lines = all_short l.line_bytes is.orders trees (omega (arith, l.long_lines)) (sound.short l.line_bytes (omega (arith, l.long_lines))) m.short in
+    accepted Words subject is.orders (record { may = sound.writable; shown = sound.shown; good = sound.good }) (λ words. narrow refl) ones
+    (safe_distinct file pick vs) trees m lines text is.written
+accepted_by true file pick budget narrow loops within vs trees are text is l inside =
     let ones = safe_picked file pick vs in
-    let subject = claiming Safe file in
-    let m = made Moments subject [] (tree_by true file budget)
+    let subject = claiming Safe file l.line_bytes in
+    let m = made Moments subject [] (most_unknowns file.automaton) (moments_room l file.automaton inside) (tree_by true file budget)
     (λ number p at nodes count tree. (moments_refuted file number p at loops budget within nodes count tree).0) ones trees (safe_named file pick vs) are in
-    accepted Moments subject [] (record { may = refl; shown = tt; good = no_pairs_good file.automaton }) ones (safe_distinct file pick vs) trees m
-    (version_short 3 (lit< tt), m.short) text is
+    accepted Moments subject [] (record { may = refl; shown = tt; good = no_pairs_good file.automaton }) no_words ones (safe_distinct file pick vs) trees m
+    (omega (arith, version_short 3 (lit< tt), l.long_lines), m.short) text is
 
 pub certificate_accepted :
-    (file : File) (pick : Pick) (budget : Budget) → LoopsPure file.automaton → budget.nodes ≤ 1000000000
-    → (vs : List Verdict) (text : List ℕ) → CertificateOn file pick budget vs text → Certificate file text (safe_among file pick vs)
-certificate_accepted file pick budget loops within vs text c = accepted_by budget.lazy file pick budget.nodes loops within vs c.trees c.are text c.text_is
+    (file : File) (pick : Pick) (budget : Budget) → (budget.lazy ≡ false → IsNarrow file.automaton) → LoopsPure file.automaton
+    → budget.nodes ≤ 1000000000 → (vs : List Verdict) (text : List ℕ) → CertificateOn file pick budget vs text
+    → (l : Limits) → IsWithin l file.automaton → Certificate file l.line_bytes text (safe_among file pick vs)
+certificate_accepted file pick budget narrow loops within vs text c =
+    accepted_by budget.lazy file pick budget.nodes narrow loops within vs c.trees c.are text c.text_is
 
 -- what stands in front of the proofs, the proofs and the end are the text of a certificate
 pub cert_written : (orders : List Order) (proofs : List Proof) → (head_text orders ++ proofs_text proofs) ++ ended_line line.End ≡ cert_text orders proofs

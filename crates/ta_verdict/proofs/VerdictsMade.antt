@@ -5,6 +5,7 @@ use Rattle.ta_verdict.proofs.Common.{entry_picked, entry_place, first_picked, pi
 use Rattle.ta_verdict.proofs.Common.{Solution, PlaceKind, IsSpent, NodeOf, SolutionAt, TreeIs, leaf_count, FoundOrders, orders_sound, refuted_hold, ReportKind}
 use Rattle.ta_verdict.proofs.Common.{Verdict, IsSolution, pattern_search, EachHolds, IsOutOfRangeIn, Question, SafeHolds, SpentHolds, UnderOrders}
 use Rattle.ta_verdict.proofs.Common.{VerdictAnswers, safety_question, node_with, place_of, Err, IfOk, Ok, Result, AllocError, Safe as ClaimSafe, Overflow}
+use Rattle.ta_automaton.specs.Narrow.{IsNarrow}
 use Rattle.ta_implied.specs.Implied.{Good}
 use Rattle.ta_words.proofs.Counts.{legal_under}
 use Rattle.ta_walk.specs.Visit.{IsOutOfRangeAt}
@@ -18,13 +19,14 @@ pub under : (file : File) (fact : List (ℕ × ℕ) → Type 0) (orders : List O
 under file fact orders pairs found same holds = record { orders = orders; found = found; holds = subst fact same holds }
 
 -- a refuted pattern is safe
-pub safe_holds : (file : File) (number : ℕ) (p : Pattern) → slice_get file.patterns number ≡ Some p → LoopsPure file.automaton
-    → (orders : List Order) (pairs : List (ℕ × ℕ)) → FoundOrders file.automaton orders → pairs ≡ map pair_of orders → (budget : ℕ) → budget ≤ 1000000000
+pub safe_holds : (file : File) (number : ℕ) (p : Pattern) → slice_get file.patterns number ≡ Some p → IsNarrow file.automaton
+    → LoopsPure file.automaton → (orders : List Order) (pairs : List (ℕ × ℕ)) → FoundOrders file.automaton orders → pairs ≡ map pair_of orders
+    → (budget : ℕ) → budget ≤ 1000000000
     → (tree : List Node) (nodes leaves : ℕ) → TreeIs (pattern_search file.automaton p pairs) budget tree nodes → leaves ≡ leaf_count tree
     → UnderOrders file (λ ps. SafeHolds (safety_question file ps p) budget nodes leaves)
-safe_holds file number p at loops orders pairs found same budget within tree nodes leaves is counted =
+safe_holds file number p at narrow loops orders pairs found same budget within tree nodes leaves is counted =
     let good = subst (Good file.automaton) (sym same) (orders_sound file.automaton orders found).good in
-    let holds = refuted_hold ClaimSafe file number p at tt loops pairs good budget within tree nodes is in
+    let holds = refuted_hold ClaimSafe file number p at narrow tt loops pairs good budget within tree nodes is in
     under file (λ ps. SafeHolds (safety_question file ps p) budget nodes leaves) orders pairs found same
     (record { safe = holds.1; tree = tree; is = is; counted = counted; proof = λ _. holds.0 })
 

@@ -1,5 +1,7 @@
 -- The certificate of the patterns that are safe.
 use Rattle.std.specs.Prelude.{ℕ, ◌+◌, ◌≡◌, Bool, true, false, List, [], ◌∷◌, map, Option, None, Some}
+use Rattle.ta_automaton.specs.Narrow.{IsWithin}
+use Rattle.ta_base.specs.declared.limits.Limits.{Limits}
 use Rattle.ta_automaton.specs.declared.file.File.{File}
 use Rattle.ta_automaton.specs.declared.pattern.Pattern.{Pattern}
 use Rattle.ta_cert.specs.Certificates.{cert_text, question_text}
@@ -100,12 +102,13 @@ pub record CertificateOn (file : File) (pick : Pick) (budget : Budget) (verdicts
 abbrev pub CertificateOf : File → Budget → List Verdict → List ℕ → Type 0
 CertificateOf file budget verdicts text = CertificateOn file All budget verdicts text
 
--- what has a text has the certificate of the picked patterns that verdicts call safe, which the checker accepts as one of exactly these
+-- what has a text has the certificate of the picked patterns that verdicts call safe, which the checker accepts as one of exactly these, with
+-- lines as long as any limits allow within which the file is
 pub record Certified (file : File) (pick : Pick) (budget : Budget) (verdicts : List Verdict) (Has : List ℕ → Type 0) : Type 0 where
   pub text : List ℕ
   pub has : Has text
   pub certificate : CertificateOn file pick budget verdicts text
-  pub accepted : Certificate file text (safe_among file pick verdicts)
+  pub accepted : (l : Limits) → IsWithin l file.automaton → Certificate file l.line_bytes text (safe_among file pick verdicts)
 
 -- a file has one certificate of its picked patterns for a budget
 abbrev pub CertificatesAreDetermined : Type 0

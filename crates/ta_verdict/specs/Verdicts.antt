@@ -2,7 +2,7 @@
 use Rattle.std.specs.Prelude.{ℕ, ◌+◌, ◌≤◌, ◌≡◌, Bool, true, false, List, [], ◌∷◌, slice_get, Some, ℤ, pos, map}
 use Rattle.ta_words.specs.declared.element.Element.{Element}
 use Rattle.std.specs.List.{AllByRecursion}
-use Rattle.ta_base.specs.declared.limits.TheConstants.{MOST_NODES}
+use Rattle.ta_base.specs.declared.limits.TheConstants.{MOST_NODES, MOST_UNKNOWNS}
 use Rattle.ta_automaton.specs.declared.automaton.Automaton.{Automaton}
 use Rattle.ta_automaton.specs.declared.file.File.{File}
 use Rattle.ta_automaton.specs.declared.pattern.Pattern.{Pattern}
@@ -21,7 +21,7 @@ use Rattle.ta_walk.specs.declared.end.SampleEnd.TheVariants as samples
 use Rattle.ta_walk.specs.declared.end.PlaceKind.{PlaceKind}
 use Rattle.ta_walk.specs.declared.end.PlaceKind.TheVariants as place
 use Rattle.ta_walk.specs.Visit.{IsOutOfRangeAt}
-use Rattle.ta_walk.specs.Ends.{IsProof, IsSpent, NodeOf, SolutionAt, TreeIs, leaf_count}
+use Rattle.ta_walk.specs.Ends.{IsProof, IsSpent, NodeOf, SolutionAt, TreeIs, leaf_count, most_unknowns}
 use Rattle.ta_walk.specs.FoundOrders.{FoundOrders}
 use Rattle.ta_walk.specs.Splits.{HasAtMost, WasSplit}
 use Rattle.ta_report.specs.Picked.{first_picked, picked}
@@ -129,7 +129,7 @@ safety_question file pairs p = record {
   search = pattern_search file.automaton p pairs;
   at = SolutionAt (pattern_search file.automaton p pairs);
   claim = runs.Safe file.automaton p;
-  proved = λ budget tree. budget ≤ MOST_NODES → IsProof (pattern_search file.automaton p pairs) tree;
+  proved = λ budget tree. budget ≤ MOST_NODES → IsProof MOST_UNKNOWNS (pattern_search file.automaton p pairs) tree;
   shown = ShownWitness file;
   leaves = WitnessOutOfRange file;
   few = HasAtMost file.automaton p pairs;
@@ -141,7 +141,7 @@ moment_question file number p = record {
   search = moments_of file.automaton p of_events;
   at = λ number found. FoundAt (moments_of file.automaton p of_events) found;
   claim = runs.Safe file.automaton p;
-  proved = λ budget tree. budget ≤ MOST_NODES → IsProof (moments_of file.automaton p of_events) tree;
+  proved = λ budget tree. budget ≤ MOST_NODES → IsProof (most_unknowns file.automaton) (moments_of file.automaton p of_events) tree;
   shown = ShownRun file number of_events;
   leaves = RunLeaves file number of_events;
   few = λ budget. ⊥;

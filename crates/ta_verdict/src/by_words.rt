@@ -2,6 +2,7 @@
 #![tactic(auto)]
 
 ghost use Rattle.std.specs.Prelude.{ℕ, ◌≡◌, ◌<◌, ◌≤◌, false, IfOk, length, List, map, None};
+ghost use Rattle.ta_automaton.specs.Narrow.{IsNarrow};
 ghost use Rattle.ta_automaton.specs.Numbered.{OfPattern};
 ghost use Rattle.ta_automaton.specs.declared.pattern.Pattern.{Pattern};
 ghost use Rattle.ta_cert.specs.Certificates.{pair_of};
@@ -45,6 +46,7 @@ pub fn words_verdict<R: Threads + Sync>(
     requires limit { nodes ≤ MOST_NODES }
     requires exists { pattern < length scoped.now.file.patterns }
     requires found { AreOrdersOf scoped.now.file found.now }
+    requires narrow { IsNarrow scoped.now.file.automaton }
     ensures holds { IfOk result (λ verdict. OfPattern scoped.now.file pattern (λ p. holds_by false scoped.now.file nodes pattern p verdict)) }
     ensures fits { IfOk result (VerdictFits scoped.now.file) }
     ensures drafted { IfOk result (λ verdict. OfPattern scoped.now.file pattern (λ p. DraftHasTree (tree_by false scoped.now.file nodes) p verdict draft.old draft.new)) }
@@ -81,7 +83,8 @@ fn verdict_of(
     node: u64,
     solution: &Solution,
 ) -> Result<Verdict, AllocError>
-    requires { IsSolution scoped.now.file solution.now }
+    requires solution { IsSolution scoped.now.file solution.now }
+    requires narrow { IsNarrow scoped.now.file.automaton }
     ensures holds { (orders : List Order) (budget number : ℕ) (p : Pattern) → FoundOrders scoped.now.file.automaton orders → NodeOf (pattern_search scoped.now.file.automaton p (map pair_of orders)) budget node (SolutionAt (pattern_search scoped.now.file.automaton p (map pair_of orders)) number solution.now) → IfOk result (λ verdict. holds_by false scoped.now.file budget number p verdict) }
     ensures no_tree { IfOk result (λ verdict. tree_size verdict ≡ None) }
     ensures fits { IfOk result (VerdictFits scoped.now.file) }

@@ -3,7 +3,9 @@
 
 ghost use Rattle.std.specs.List.{concat};
 ghost use Rattle.std.specs.Prelude.{ℕ, ◌≡◌, ◌<◌, ◌≤◌, [], IfErr, IfOk, false, length, List, true};
+ghost use Rattle.ta_automaton.specs.Narrow.{IsNarrow, IsWithin};
 ghost use Rattle.ta_automaton.specs.Numbered.{OfPattern};
+ghost use Rattle.ta_base.specs.declared.limits.Limits.{Limits};
 ghost use Rattle.ta_check.specs.Certificate.{Certificate};
 ghost use Rattle.ta_report.specs.Report.{VerdictFits};
 ghost use Rattle.ta_shelf.specs.Staging.{Begun};
@@ -49,9 +51,10 @@ pub fn judge_file<R: Threads + Sync>(
 ) -> Result<Judged, AllocError>
     requires some { 0 < budget.nodes }
     requires limit { budget.nodes ≤ MOST_NODES }
+    requires narrow { budget.lazy ≡ false → IsNarrow scoped.now.file.automaton }
     ensures verdicts { IfOk result (λ judged. AreVerdicts scoped.now.file budget judged.verdicts) }
     ensures certificate { wanted ≡ true → IfOk result (λ judged. CertificateOf scoped.now.file budget judged.verdicts (concat judged.certificate)) }
-    ensures accepted { wanted ≡ true → IfOk result (λ judged. Certificate scoped.now.file (concat judged.certificate) (safe_numbers scoped.now.file judged.verdicts)) }
+    ensures accepted { (l : Limits) → IsWithin l scoped.now.file.automaton → wanted ≡ true → IfOk result (λ judged. Certificate scoped.now.file l.line_bytes (concat judged.certificate) (safe_numbers scoped.now.file judged.verdicts)) }
     ensures unwanted { wanted ≡ false → IfOk result (λ judged. judged.certificate ≡ []) }
 {
     let mut draft = Draft::new(alloc, wanted);
@@ -77,6 +80,7 @@ pub fn judge_picked_to<R: Threads + Sync, P, T: Target<P>>(
 ) -> Result<List<Verdict>, AllocError>
     requires some { 0 < budget.nodes }
     requires limit { budget.nodes ≤ MOST_NODES }
+    requires narrow { budget.lazy ≡ false → IsNarrow scoped.now.file.automaton }
     ensures verdicts { IfOk result (AreVerdictsOn scoped.now.file pick budget) }
     ensures certificate { (begun : Begun) → T.has begun target.old place.old [] → IfOk result (λ verdicts. Certified scoped.now.file pick budget verdicts (T.has begun target.new place.new)) }
     ensures stops { (begun : Begun) → T.has begun target.old place.old [] → IfErr result (λ _. T.stopped begun target.new place.new) }
@@ -105,6 +109,7 @@ fn verdicts_picked<R: Threads + Sync, P, T: Target<P>>(
 ) -> Result<Vec<Verdict>, AllocError>
     requires some { 0 < budget.nodes }
     requires limit { budget.nodes ≤ MOST_NODES }
+    requires narrow { budget.lazy ≡ false → IsNarrow scoped.now.file.automaton }
     requires known { AreTreesOfFile scoped.now.file trees.now }
     requires lazy { is_lazy trees.now ≡ budget.lazy }
     ensures verdicts { IfOk result (λ verdicts. AreVerdictsOn scoped.now.file pick budget verdicts.items) }
@@ -133,6 +138,7 @@ fn next_verdict<R: Threads + Sync, P, T: Target<P>>(
 ) -> Result<Verdict, AllocError>
     requires some { 0 < budget.nodes }
     requires limit { budget.nodes ≤ MOST_NODES }
+    requires narrow { budget.lazy ≡ false → IsNarrow scoped.now.file.automaton }
     requires exists { pattern < length scoped.now.file.patterns }
     requires known { AreTreesOfFile scoped.now.file trees.now }
     requires lazy { is_lazy trees.now ≡ budget.lazy }

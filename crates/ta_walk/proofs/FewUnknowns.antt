@@ -1,5 +1,6 @@
 -- a node to which the search of moments comes has few moments and few unknowns
-use Rattle.ta_moments.proofs.Common.{◌≡◌, ℕ, suc, ◌+◌, ◌*◌, ◌≤◌, Bool, true, false, not, cond, List, [], ◌∷◌, filter, length, Option, arith, refl}
+use Rattle.ta_moments.proofs.Common.{◌≡◌, ℕ, suc, ◌+◌, ◌++◌, ◌*◌, ◌≤◌, Bool, true, false, not, cond, List, [], ◌∷◌, filter, length, Option, arith, ap, refl}
+use Rattle.ta_moments.proofs.Common.{◌∙◌}
 use Rattle.ta_moments.proofs.Common.{length-append, length-map, range_with_len, length-range_with_len, Automaton, Pattern, Vector, Point, Pair, Known, Asking}
 use Rattle.ta_moments.proofs.Common.{Node, known_at, is_moving, moving_rules, needing, sparing, has_guard, slice_get, event_vector, end_vector}
 use Rattle.ta_moments.proofs.Common.{unknowns_at_first, first_vector, before_vector, after_vector, with_fact}
@@ -15,7 +16,9 @@ use Rattle.ta_moments.specs.Whole.{AreAnswers}
 use Rattle.ta_moments.specs.Nodes.{AskedOnce}
 use Rattle.ta_moments.proofs.Short.{few_moments}
 use Rattle.std.proofs.Common.{mul-le-mul}
-use Rattle.ta_automaton.proofs.Narrows.{narrow_shape}
+use Rattle.std.proofs.Math.Nat.{mul-le-mul_right, suc-mul}
+use Rattle.ta_moments.specs.Moments.{Moment}
+use Rattle.ta_walk.specs.Ends.{most_unknowns}
 use Rattle.ta_encode.proofs.Drafts.{start_few}
 use Rattle.ta_walk.proofs.Answered.{comes_answered, comes_once}
 
@@ -28,58 +31,75 @@ parted : (test : ℕ → Bool) (xs : List ℕ) → length (filter (λ x. not (te
 parted test [] = refl
 parted test (x ∷ xs) = omega (arith, one_part (test x) x (filter (λ y. not (test y)) xs) (filter test xs), parted test xs)
 
-few_moving : (a : Automaton) (p : Pattern) (g : ℕ) → length (sparing a p g) + length (needing a p g) ≤ 128
-few_moving a p g =
-    let rules = a.shape.limits.rules_limit in
-    omega (
-      arith,
-      parted (λ r. has_guard a g (slice_get a.rules r)) (moving_rules a p),
-      count_few (λ r. is_moving p (slice_get a.rules r)) (length a.rules),
-      rules,
-    )
+few_moving : (a : Automaton) (p : Pattern) (g : ℕ) → length (sparing a p g) + length (needing a p g) ≤ length a.rules
+few_moving a p g = omega (
+  arith,
+  parted (λ r. has_guard a g (slice_get a.rules r)) (moving_rules a p),
+  count_few (λ r. is_moving p (slice_get a.rules r)) (length a.rules),
+)
 
--- a fact with a moment has at most 128 unknowns; the others have none
+one_more : (r : ℕ) (moments : List Moment) (moment : Moment) → length (moments ++ moment ∷ []) * r ≡ r + length moments * r
+one_more r moments moment = ap (λ n. n * r) (length-append moments (moment ∷ []) ∙ more) ∙ suc-mul (length moments) r ∙ turned
+  where
+    more : length moments + 1 ≡ suc (length moments)
+    more = omega arith
+    turned : length moments * r + r ≡ r + length moments * r
+    turned = omega arith
+
+none_more : (r : ℕ) (moments : List Moment) → length (moments ++ []) * r ≡ length moments * r
+none_more r moments = ap (λ n. n * r) (length-append moments [] ∙ same)
+  where
+    same : length moments + 0 ≡ length moments
+    same = omega arith
+
+-- a fact with a moment has at most an unknown for each rule; the others have none
 fact_adds : (a : Automaton) (p : Pattern) (silent : List ℕ) (end : Vector) (k : Known) (fact : Fact)
-    → (with_fact a p silent end k fact).unknowns + 128 * length k.moments ≤ k.unknowns + 128 * length (with_fact a p silent end k fact).moments
-fact_adds a p silent end k (First g) = omega (arith, few_moving a p g, length-append k.moments (Point (first_vector a p k.unknowns g) ∷ []))
-fact_adds a p silent end k (Last g) =
-    omega (arith, few_moving a p g, length-append k.moments (Pair (before_vector a p end k.unknowns g) (after_vector a p end k.unknowns g) ∷ []))
-fact_adds a p silent end k (Never g) = omega (arith, length-append k.moments [])
-fact_adds a p silent end k (Stands g) = omega (arith, length-append k.moments [])
-fact_adds a p silent end k (Before x y) = omega (arith, length-append k.moments [])
-fact_adds a p silent end k (After x y) = omega (arith, length-append k.moments [])
-fact_adds a p silent end k (Same x y) = omega (arith, length-append k.moments [])
-fact_adds a p silent end k (Vacant r) = omega (arith, length-append k.moments [])
-fact_adds a p silent end k (Fails r g) = omega (arith, length-append k.moments [])
+    → (with_fact a p silent end k fact).unknowns + length k.moments * length a.rules
+    ≤ k.unknowns + length (with_fact a p silent end k fact).moments * length a.rules
+fact_adds a p silent end k (First g) =
+    omega (arith, few_moving a p g, one_more (length a.rules) k.moments (Point (first_vector a p k.unknowns g)))
+fact_adds a p silent end k (Last g) = omega (
+  arith,
+  few_moving a p g,
+  one_more (length a.rules) k.moments (Pair (before_vector a p end k.unknowns g) (after_vector a p end k.unknowns g)),
+)
+fact_adds a p silent end k (Never g) = omega (arith, none_more (length a.rules) k.moments)
+fact_adds a p silent end k (Stands g) = omega (arith, none_more (length a.rules) k.moments)
+fact_adds a p silent end k (Before x y) = omega (arith, none_more (length a.rules) k.moments)
+fact_adds a p silent end k (After x y) = omega (arith, none_more (length a.rules) k.moments)
+fact_adds a p silent end k (Same x y) = omega (arith, none_more (length a.rules) k.moments)
+fact_adds a p silent end k (Vacant r) = omega (arith, none_more (length a.rules) k.moments)
+fact_adds a p silent end k (Fails r g) = omega (arith, none_more (length a.rules) k.moments)
 
 by_moments : (a : Automaton) (p : Pattern) (silent : List ℕ) (candidate : Option ℕ) (past : List Fact)
-    → (known a p silent candidate past).unknowns + 128 * length p.events ≤ unknowns_at_first a p + 128 * length (known a p silent candidate past).moments
+    → (known a p silent candidate past).unknowns + length p.events * length a.rules
+    ≤ unknowns_at_first a p + length (known a p silent candidate past).moments * length a.rules
 unfolding known
-by_moments a p silent candidate [] =
-    omega (arith, length-map (range_with_len 0 (length p.events)) (λ e. Point (event_vector a p e)), length-range_with_len 0 (length p.events))
+by_moments a p silent candidate [] = omega (
+  arith,
+  ap (λ n. n * length a.rules) (length-map (range_with_len 0 (length p.events)) (λ e. Point (event_vector a p e)) ∙ length-range_with_len 0 (length p.events)),
+)
 by_moments a p silent candidate (fact ∷ past) =
     omega (arith, by_moments a p silent candidate past, fact_adds a p silent (end_vector a p candidate) (known a p silent candidate past) fact)
 
 pub record IsFew (a : Automaton) (p : Pattern) (asking : Asking) (node : Node) : Type 0 where
-  pub unknowns : (known_at a p asking node).unknowns ≤ 3888
-  pub moments : length (known_at a p asking node).moments ≤ 30
+  pub unknowns : (known_at a p asking node).unknowns ≤ most_unknowns a
+  pub moments : length (known_at a p asking node).moments ≤ 8 + length a.rise + length a.fall
 
 -- each guard is asked at most once
 pub node_few : (a : Automaton) (p : Pattern) (asking : Asking) (node : Node) → PatternOver a p → AreAnswers a p asking node.candidate node.past
     → AskedOnce node.past → IsFew a p asking node
 node_few a p asking node over answered once =
-    let events = over.events_limit in
-    let moments = few_moments a p asking node answered once in
-    let narrow = narrow_shape a in
-    let fired : length (moving_rules a p) ≤ 128 = omega (arith, count_few (λ r. is_moving p (slice_get a.rules r)) (length a.rules), narrow.rules) in
-    let rules : length p.events * length (moving_rules a p) ≤ 8 * 128 = mul-le-mul events fired in
-    let starts : length (start_meanings a p) ≤ 48 = omega (arith, start_few a p, narrow.parameters, narrow.locations) in
-    let rise = narrow.rise in
-    let fall = narrow.fall in
-    let most : length (known_at a p asking node).moments ≤ length p.events + 22 = omega (arith, moments, rise, fall) in
+    let rules = length a.rules in
+    let most : length (known_at a p asking node).moments ≤ 8 + length a.rise + length a.fall = omega
+    (arith, few_moments a p asking node answered once, over.events_limit) in
+    let fired : length (moving_rules a p) ≤ rules = omega (arith, count_few (λ r. is_moving p (slice_get a.rules r)) (length a.rules)) in
+    let events : length p.events ≤ length p.events = omega arith in
+    let fewer : length p.events * length (moving_rules a p) ≤ length p.events * rules = mul-le-mul events fired in
+    let moments : length (known_at a p asking node).moments * rules ≤ (8 + length a.rise + length a.fall) * rules = mul-le-mul_right rules most in
     record {
-      unknowns = omega (arith, by_moments a p asking.silent node.candidate node.past, most, rules, starts);
-      moments = omega (arith, most, events);
+      unknowns = omega (arith, by_moments a p asking.silent node.candidate node.past, fewer, moments, start_few a p);
+      moments = most;
     }
 
 pub comes_few : (a : Automaton) (p : Pattern) (asking : Asking) (maker : Maker) → PatternOver a p → (start : ℕ) (past : List Fact)

@@ -24,7 +24,7 @@ use Rattle.ta_encode.proofs.CodeRows.{rows_count}
 use Rattle.ta_encode.proofs.Preorders.{in_order, weaker_proof}
 use Rattle.ta_linear.specs.declared.row.System.{System}
 use Rattle.ta_simplex.proofs.FewMultipliers.{few_multipliers}
-use Rattle.ta_walk.specs.Ends.{HasFewPairs, IsProof, IsUnbounded, TreeIs}
+use Rattle.ta_walk.specs.Ends.{HasFewPairs, IsProof, IsUnbounded, TreeIs, most_unknowns}
 use Rattle.ta_walk.specs.Visit.{NodeAt, Visits}
 use Rattle.ta_moments.specs.declared.fact.Fact.{Fact}
 use Rattle.ta_moments.specs.declared.fact.Question.{Question}
@@ -47,7 +47,7 @@ asked_so : (b : Bool) (es : List Fact) → is_some (cond b (Some es) None) ≡ t
 asked_so true es h = refl
 asked_so false es h = absurd (false≢true h)
 
-rule_there : (a : Automaton) (p : Pattern) (r : ℕ) → may_be_stuck p (slice_get a.rules r) ≡ true → r < 128
+rule_there : (a : Automaton) (p : Pattern) (r : ℕ) → may_be_stuck p (slice_get a.rules r) ≡ true → r < 1024
 rule_there a p r h = elim (cases_lt r (length a.rules)) [
   | inl less ↦ omega (arith, less, a.shape.limits.rules_limit)
   | inr past ↦ absurd (false≢true (sym (ap (may_be_stuck p) (slice_get_past a.rules r past)) ∙ h))
@@ -77,20 +77,21 @@ module _ (a : Automaton) (p : Pattern) (asking : Asking) (maker : Maker) (over :
   -- and can be written
   asks_node : (most : ℕ) (w : Pending Fact) → Waits search most w → (n : Node) → MayAsk search w.start w.past n → IsNode n
   asks_node most w waits (node.Guard g) h =
-      let large : 128 < 2 ^ 32 = lit< tt in
+      let large : 1024 < 2 ^ 32 = lit< tt in
       let there : g < length a.rise + length a.fall = exists w.start w.past (OfGuard g) h in
       let rise = a.shape.limits.rise_limit in
       let fall = a.shape.limits.fall_limit in
       omega (arith, there, rise, fall, large)
   asks_node most w waits (node.Order x y) h =
-      let large : 128 < 2 ^ 32 = lit< tt in
+      let large : 1024 < 2 ^ 32 = lit< tt in
       let there = exists w.start w.past (OfOrder x y) h in
       let one = there.0 in
       let two = there.1 in
       let few = (comes_few a p asking maker over w.start w.past waits.comes).moments in
-      (omega (arith, one, two, few, large), omega (arith, two, few, large))
+      let limits = a.shape.limits in
+      (omega (arith, one, two, few, limits.rise_limit, limits.fall_limit, large), omega (arith, two, few, limits.rise_limit, limits.fall_limit, large))
   asks_node most w waits (node.Stuck r) h =
-      let large : 128 < 2 ^ 32 = lit< tt in
+      let large : 1024 < 2 ^ 32 = lit< tt in
       let there = exists w.start w.past (OfStuck r) h in
       omega (arith, rule_there a p r there.1, large)
   asks_node most w waits node.Extend h = tt
@@ -105,7 +106,7 @@ module _ (a : Automaton) (p : Pattern) (asking : Asking) (maker : Maker) (over :
       let unknowns = at.unknowns in
       omega (arith, small, bounds, unknowns, rows_count (bounded_rows search w) s.rows at.rows)
 
-  node_few : (most : ℕ) (w : Pending Fact) (n : Node) → Waits search most w → NodeAt search w n → HasFewPairs n
+  node_few : (most : ℕ) (w : Pending Fact) (n : Node) → Waits search most w → NodeAt search w n → HasFewPairs (most_unknowns a) n
   node_few most w (node.Leaf ts) waits stands =
       let s = stands.refuted.system in
       let unknowns = stands.refuted.is.unknowns in
@@ -127,21 +128,27 @@ module _ (a : Automaton) (p : Pattern) (asking : Asking) (maker : Maker) (over :
   )
 
   nodes_few : (most : ℕ) (ws : List (Pending Fact)) (ns : List Node) (rest : List (Pending Fact)) → AllByRecursion (Waits search most) ws
-      → Visits search ws ns rest → AllByRecursion HasFewPairs ns
+      → Visits search ws ns rest → AllByRecursion (HasFewPairs (most_unknowns a)) ns
   nodes_few most ws [] rest all v = tt
   nodes_few most [] (n ∷ ns) rest all v = absurd v
   nodes_few most (w ∷ ws) (n ∷ ns) rest all v =
       (node_few most w n all.0 v.0, nodes_few (most + 1) (parts search w n ++ ws) ns rest (next_wait search most w ws n all) v.1)
 
   -- the nodes of a whole tree are a proof that a judge accepts
-  pub proof_made : (budget : ℕ) → budget ≤ 1000000000 → (nodes : List Node) (count : ℕ) → TreeIs search budget nodes count → IsProof search nodes
+  pub proof_made : (budget : ℕ) → budget ≤ 1000000000 → (nodes : List Node) (count : ℕ) → TreeIs search budget nodes count
+      → IsProof (most_unknowns a) search nodes
   proof_made budget within nodes count tree =
       let starts = roots_wait search (roots_unbounded a p asking maker) in
       let counted = tree.counted in
       let budgeted = tree.within in
       let writable = nodes_written 0 search.roots nodes [] (omega arith) starts tree.visits in
       let few = nodes_few 0 search.roots nodes [] starts tree.visits in
-      record { refutes = refuted_in_order search search.roots nodes tree.visits; writable = writable; few = few; short = nodes_short nodes writable few }
+      record {
+        refutes = refuted_in_order search search.roots nodes tree.visits;
+        writable = writable;
+        few = few;
+        short = nodes_short (most_unknowns a) nodes writable few;
+      }
 
 -- a judge's leaves are leaves
 leaves_refute : (s : Search Fact) (nodes : List Node) → RefutedInOrder s (IsJudged s) s.roots nodes → RefutedInOrder s (IsLeaf s) s.roots nodes

@@ -4,7 +4,6 @@ use Rattle.ta_walk.proofs.Common.{map-append, row_short, each_push, Automaton, I
 use Rattle.ta_walk.proofs.Common.{IsPair, ChainLeads, IsShown, few_multipliers, AreSoundOrders, FoundAfter, FoundBefore, FoundOrdersAreSound, IsTaken}
 use Rattle.ta_walk.proofs.Common.{RefutedPair, TryAnswers}
 use Rattle.ta_cert.specs.Laws.{AreShort}
-use Rattle.ta_cert.specs.Streams.{line_limit}
 use Rattle.ta_cert.specs.declared.line.Line.TheVariants as line
 use Rattle.ta_cert.specs.declared.line.Node.TheVariants as node
 use Rattle.ta_implied.proofs.Joining.{good_behind}
@@ -37,18 +36,19 @@ order_of a o is r = record {
 }
 
 -- the lines of an order are short
-guards_short : (o : Order) → IsOrder o → length (line_text (line.Tree (node.Order o.before o.after))) ≤ line_limit
+guards_short : (o : Order) → IsOrder o → length (line_text (line.Tree (node.Order o.before o.after))) ≤ 8192
 guards_short o is = omega (arith, length-append (decimal o.before) (codes " " ++ decimal o.after), row_short o.before is.before, row_short o.after is.after)
 
-leaf_short : (a : Automaton) (o : Order) → RefutedPair a o.before o.after o.multipliers → length (line_text (line.Tree (node.Leaf o.multipliers))) ≤ line_limit
+leaf_short : (a : Automaton) (o : Order) → RefutedPair a o.before o.after o.multipliers → length (line_text (line.Tree (node.Leaf o.multipliers))) ≤ 8192
 leaf_short a o r =
     let few = few_of_pair a o.before o.after r.system r.is in
-    omega (arith, pairs_short 0 o.multipliers (leaf_pairs a o r), few_multipliers r.system o.multipliers r.refuted)
+    omega (arith, few.unknowns, pairs_short 0 o.multipliers (leaf_pairs a o r), few_multipliers r.system o.multipliers r.refuted)
 
-short_push : (os : List Order) (o : Order) → AreShort (order_lines os) → length (line_text (line.Tree (node.Order o.before o.after))) ≤ line_limit
-    → length (line_text (line.Tree (node.Leaf o.multipliers))) ≤ line_limit → AreShort (order_lines (os ++ o ∷ []))
-short_push [] o short guards leaf = (guards, (leaf, tt))
-short_push (p ∷ ps) o short guards leaf = (short.0, (short.1.0, short_push ps o short.1.1 guards leaf))
+short_push : (limit : ℕ) (os : List Order) (o : Order) → 8192 ≤ limit → AreShort limit (order_lines os)
+    → length (line_text (line.Tree (node.Order o.before o.after))) ≤ 8192 → length (line_text (line.Tree (node.Leaf o.multipliers))) ≤ 8192
+    → AreShort limit (order_lines (os ++ o ∷ []))
+short_push limit [] o room short guards leaf = (omega (arith, room, guards), (omega (arith, room, leaf), tt))
+short_push limit (p ∷ ps) o room short guards leaf = (short.0, (short.1.0, short_push limit ps o room short.1.1 guards leaf))
 
 -- one more order
 sound_push : (a : Automaton) (os : List Order) (o : Order) → AreSoundOrders a os → IsTaken a os o.before o.after o.multipliers → AreSoundOrders a (os ++ o ∷ [])
@@ -59,7 +59,7 @@ sound_push a os o sound taken =
       good = subst (Good a) (sym (map-append pair_of os (o ∷ []))) (good_behind a (map pair_of os) (pair_of o) sound.good taken.may (implied_of a o r));
       shown = each_push (λ (p : Order). IsShown a (pair_of p) p.multipliers) os o sound.shown (shown_of a o r);
       writable = each_push IsOrder os o sound.writable is;
-      short = short_push os o sound.short (guards_short o is) (leaf_short a o r);
+      short = λ limit room. short_push limit os o room (sound.short limit room) (guards_short o is) (leaf_short a o r);
     }
 
 tried_sound : (a : Automaton) (os : List Order) (before after : ℕ) (found : List Order) → AreSoundOrders a os → TryAnswers a os before after found
@@ -78,7 +78,7 @@ none_sound a = record {
   good = record { pairs_are = tt; implied = tt; distinct = tt; acyclic = λ more guard leads. nothing more guard guard leads };
   shown = tt;
   writable = tt;
-  short = tt;
+  short = λ limit room. tt;
 }
   where
     nothing : (more first last : ℕ) → ChainLeads [] more first last → ⊥

@@ -18,7 +18,7 @@ rows_count (k ∷ ks) = let most = k.most in omega (arith, length-append k.rows 
 
 -- the system of a pair has few unknowns and few rows
 pub record IsFew (s : System) : Type 0 where
-  pub unknowns : s.unknowns ≤ 32
+  pub unknowns : s.unknowns ≤ 96
   pub rows : length s.rows ≤ 34
 
 pub few_of_pair : (a : Automaton) (before after : ℕ) (s : System) → ImplySystem a before after s → IsFew s

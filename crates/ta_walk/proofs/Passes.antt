@@ -65,7 +65,7 @@ pub few_facts : (t : ClaimTree) (budget : ℕ) (Keeps : List Node → Type 0) (e
     → HasFewFacts end
 few_facts t budget Keeps (tree.Refuted count leaves) is = tt
 few_facts t budget Keeps (tree.Found count start facts values) is =
-    facts_few t.claim t.task.automaton.now t.task.pattern.now t.orders.now start facts values budget count t.task.over is
+    facts_few t.claim t.task.automaton.now t.task.pattern.now t.orders.now start facts values budget count t.task.over t.task.narrow is
 few_facts t budget Keeps (tree.Spent count) is = tt
 few_facts t budget Keeps (tree.Overflow node kind) is = tt
 

@@ -9,7 +9,7 @@
 -- visited refute what has been left out. When no word is left, they refute all, in the order in which the judge reads.
 -- Words have at most as many bounds as nodes have been visited, so a budget below 2 ^ 32 keeps each number of a node in
 -- its range and each line short; and the walk ends, since each node takes one from the budget.
-use Rattle.ta_automaton.proofs.Narrows.{narrow_shape}
+use Rattle.ta_automaton.specs.Narrow.{IsNarrow}
 use Rattle.ta_walk.proofs.Common.{ℕ, ◌+◌, ◌≤◌, List, [], ◌∷◌, ◌++◌, length, arith, sym, AllByRecursion, Node, IsNode, leaf_of, NodeAt, Visits, IsProof}
 use Rattle.ta_walk.proofs.Common.{RefutedClaimsHold, Automaton, TreeIs, Pattern, Pending, Search, parts, IsJudged, claim_legal, claim_small, search_for, Claim}
 use Rattle.ta_walk.proofs.Common.{pattern_within, PatternOver, subst}
@@ -38,35 +38,35 @@ refuted_in_order s [] (n ∷ ns) v = absurd v
 refuted_in_order s (w ∷ ws) (n ∷ ns) v = (may_stand s w n v.0, refuted_in_order s (parts s w n ++ ws) ns v.1)
 
 -- each node that is visited within the budget can be written
-nodes_written : (claim : Claim) (a : Automaton) (p : Pattern) (pairs : List (ℕ × ℕ)) → PatternOver a p
+nodes_written : (claim : Claim) (a : Automaton) (p : Pattern) (pairs : List (ℕ × ℕ)) → PatternOver a p → IsNarrow a
     → (most : ℕ) (ws : List (Pending Element)) (ns : List Node) (rest : List (Pending Element)) → most + length ns ≤ 1000000000
     → AllByRecursion (Waits (search_for claim a p pairs) most) ws → Visits (search_for claim a p pairs) ws ns rest → AllByRecursion IsNode ns
-nodes_written claim a p pairs over most ws [] rest budget all v = tt
-nodes_written claim a p pairs over most [] (n ∷ ns) rest budget all v = absurd v
-nodes_written claim a p pairs over most (w ∷ ws) (n ∷ ns) rest budget all v =
+nodes_written claim a p pairs over narrow most ws [] rest budget all v = tt
+nodes_written claim a p pairs over narrow most [] (n ∷ ns) rest budget all v = absurd v
+nodes_written claim a p pairs over narrow most (w ∷ ws) (n ∷ ns) rest budget all v =
     let s = search_for claim a p pairs in
     let waits = all.0 in
     let few : length w.bounds ≤ 1000000000 = (let k = waits.few in omega arith) in
     let legal = claim_legal claim a p pairs w.start w.past waits.comes in (
-      node_written s w n (λ z is. few_variables w z few (claim_small claim a (narrow_shape a) p pairs w z over legal is))
+      node_written s w n (λ z is. few_variables w z few (claim_small claim a narrow p pairs w z over legal is))
           (λ m may. subst IsNode (sym (claim_asks claim a p pairs w.start w.past m may)) tt) v.0,
-      nodes_written claim a p pairs over (most + 1) (parts s w n ++ ws) ns rest (omega arith) (next_wait s most w ws n all) v.1,
+      nodes_written claim a p pairs over narrow (most + 1) (parts s w n ++ ws) ns rest (omega arith) (next_wait s most w ws n all) v.1,
     )
 
 -- the nodes of a whole tree are a proof that a judge accepts
-pub proof_made : (claim : Claim) (a : Automaton) (p : Pattern) (pairs : List (ℕ × ℕ)) → PatternOver a p → (budget : ℕ) → budget ≤ 1000000000
-    → (nodes : List Node) (count : ℕ) → TreeIs (search_for claim a p pairs) budget nodes count → IsProof (search_for claim a p pairs) nodes
-proof_made claim a p pairs over budget within nodes count tree =
+pub proof_made : (claim : Claim) (a : Automaton) (p : Pattern) (pairs : List (ℕ × ℕ)) → PatternOver a p → IsNarrow a → (budget : ℕ) → budget ≤ 1000000000
+    → (nodes : List Node) (count : ℕ) → TreeIs (search_for claim a p pairs) budget nodes count → IsProof 4656 (search_for claim a p pairs) nodes
+proof_made claim a p pairs over narrow budget within nodes count tree =
     let s = search_for claim a p pairs in
     let starts = starts_wait claim a p pairs in
-    let writable = nodes_written claim a p pairs over 0 s.roots nodes [] (omega arith) starts tree.visits in
-    let few = nodes_few claim a p pairs over 0 s.roots nodes [] starts tree.visits in
-    record { refutes = refuted_in_order s s.roots nodes tree.visits; writable = writable; few = few; short = nodes_short nodes writable few }
+    let writable = nodes_written claim a p pairs over narrow 0 s.roots nodes [] (omega arith) starts tree.visits in
+    let few = nodes_few claim a p pairs over narrow 0 s.roots nodes [] starts tree.visits in
+    record { refutes = refuted_in_order s s.roots nodes tree.visits; writable = writable; few = few; short = nodes_short 4656 nodes writable few }
 
 pub refuted_hold : RefutedClaimsHold
-refuted_hold claim file number p at may loops pairs good budget within nodes count tree =
+refuted_hold claim file number p at narrow may loops pairs good budget within nodes count tree =
     let s = search_for claim file.automaton p pairs in
-    let proof = proof_made claim file.automaton p pairs (pattern_within file number p at) budget within nodes count tree in
+    let proof = proof_made claim file.automaton p pairs (pattern_within file number p at) narrow budget within nodes count tree in
     let trees = (in_order IsJudged s nodes).0 proof.refutes in (
       proof,
       proofs_show claim file number p at may loops pairs good trees.0

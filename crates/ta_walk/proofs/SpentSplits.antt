@@ -3,7 +3,7 @@
 -- Without splits a visit meets no word twice: the children of a word are distinct, and what goes on from one child goes on from no
 -- other (`SubtreesApart`). A legal word has at most 30 elements, so there are finitely many, and a visit without splits ends within
 -- their number.
-use Rattle.ta_automaton.proofs.Narrows.{narrow_shape}
+use Rattle.ta_automaton.specs.Narrow.{IsNarrow}
 use Rattle.ta_walk.proofs.Common.{◌≡◌, inl, inr, ℕ, zero, suc, ◌+◌, ◌<◌, ◌≤◌, ◌^◌, List, [], ◌∷◌, ◌++◌, length, map, slice_get, Some, arith, refl, sym, ap, ◌∙◌}
 use Rattle.ta_walk.proofs.Common.{subst, length-map, AllByRecursion, each_from_in, each_in, no_more, In-left, In-map, In-right, in_map, In-numbers, in_numbers}
 use Rattle.ta_walk.proofs.Common.{Automaton, File, Pattern, Distinct, In, range_with_len, Node, Element, LegalUnder, children, all_starts, empty_word}
@@ -230,9 +230,9 @@ in_within a p pairs (suc size) start (e ∷ past) below short legal =
     In-right (start, e ∷ past) (words_within a p pairs size) (longer_words a p pairs (words_within a p pairs size))
     (in_longer a p pairs start past e (words_within a p pairs size) (in_within a p pairs size start past below (omega arith) legal.1) legal.0)
 
-words_number : (file : File) (number : ℕ) (p : Pattern) → slice_get file.patterns number ≡ Some p → (pairs : List (ℕ × ℕ)) → (most : ℕ)
-    × HasAtMost file.automaton p pairs most
-words_number file number p at pairs =
+words_number : (file : File) (number : ℕ) (p : Pattern) → slice_get file.patterns number ≡ Some p → IsNarrow file.automaton
+    → (pairs : List (ℕ × ℕ)) → (most : ℕ) × HasAtMost file.automaton p pairs most
+words_number file number p at narrow pairs =
     let a = file.automaton in (
       length (words_within a p pairs 30),
       record {
@@ -240,7 +240,7 @@ words_number file number p at pairs =
         short = omega arith;
         each = λ start past below legal.
             in_within a p pairs 30 start past below
-            (legal_length a p start past (narrow_shape a) (pattern_within file number p at).events_limit (legal_under a p pairs start past legal)) legal;
+            (legal_length a p start past narrow (pattern_within file number p at).events_limit (legal_under a p pairs start past legal)) legal;
       },
     )
 

@@ -1,5 +1,5 @@
 -- The walks of patterns for each claim, and the searches for samples, end.
-use Rattle.ta_automaton.proofs.Narrows.{narrow_shape}
+use Rattle.ta_automaton.specs.Narrow.{IsNarrow}
 use Rattle.ta_walk.proofs.Common.{◌≡◌, ℕ, ◌^◌, ◌≤◌, ℤ, List, length, reverse, slice_get, take, Some, arith, refl, sym, ap, ◌∙◌, reverse-reverse, Automaton}
 use Rattle.ta_walk.proofs.Common.{File, Pattern, sample_search, Pending, Search, few_unknowns, claim_legal, search_for, Claim, SampleEnd, WalkEnd, HasSystems}
 use Rattle.ta_walk.proofs.Common.{WalksHaveEnds, WordsHaveSystems, Ending, IsWalkEnd, IsVisitEnding, Left, SolutionAt, Solved, Stopped, Whole, IsSampleEnd}
@@ -14,15 +14,15 @@ use Rattle.ta_walk.proofs.SearchesEnd.{searches_end}
 use Rattle.ta_walk.proofs.WordsVisited.{claim_unbounded}
 use Rattle.ta_walk.proofs.DeterminedEnds.{node_with}
 
-pattern_has : (claim : Claim) (file : File) (number : ℕ) (p : Pattern) → slice_get file.patterns number ≡ Some p → (pairs : List (ℕ × ℕ))
-    → HasSystems (search_for claim file.automaton p pairs)
-pattern_has claim file number p at pairs = record {
+pattern_has : (claim : Claim) (file : File) (number : ℕ) (p : Pattern) → slice_get file.patterns number ≡ Some p → IsNarrow file.automaton
+    → (pairs : List (ℕ × ℕ)) → HasSystems (search_for claim file.automaton p pairs)
+pattern_has claim file number p at narrow pairs = record {
   unbounded = claim_unbounded claim file.automaton p pairs;
   grow = λ start past e answers. claim_grows claim file.automaton p pairs start past e;
   systems = λ w comes bounds.
       let legal = claim_legal claim file.automaton p pairs w.start w.past comes in
       let few : length (meanings file.automaton p w.start w.past) ≤ 2 ^ 32 = omega
-      (arith, few_unknowns file.automaton (narrow_shape file.automaton) p w.start w.past (pattern_within file number p at) legal) in
+      (arith, few_unknowns file.automaton narrow p w.start w.past (pattern_within file number p at) legal) in
       claim_system claim file number p pairs w at few bounds;
 }
 
@@ -67,7 +67,8 @@ sample_end a budget (Left k kind) h = (sampled.Overflow k kind, h)
 
 pub walks_end : WalksHaveEnds
 walks_end = record {
-  walks = λ claim file number p at pairs budget none. searches_end (search_for claim file.automaton p pairs) (pattern_has claim file number p at pairs) budget
+  walks = λ claim file number p at narrow pairs budget none.
+      searches_end (search_for claim file.automaton p pairs) (pattern_has claim file number p at narrow pairs) budget
       (λ e. none (walk_end (search_for claim file.automaton p pairs) number budget e.0 e.1));
   samples = λ a budget none. searches_end (sample_search a) (sample_has a) budget (λ e. none (sample_end a budget e.0 e.1));
 }

@@ -2,6 +2,7 @@
 use Rattle.std.specs.Prelude.{ℕ, ◌≡◌, List, slice_get, Some, ◌≤◌, ◌∷◌}
 use Rattle.std.specs.List.{AllByRecursion}
 use Rattle.ta_linear.specs.declared.row.System.{System}
+use Rattle.ta_automaton.specs.Narrow.{IsNarrow}
 use Rattle.ta_automaton.specs.declared.automaton.Automaton.{Automaton}
 use Rattle.ta_automaton.specs.declared.file.File.{File}
 use Rattle.ta_automaton.specs.declared.pattern.Pattern.{Pattern}
@@ -32,15 +33,15 @@ HasEnding {E} s budget = (e : Ending E) × IsVisitEnding s budget e
 abbrev pub SearchesHaveEnds : Type 0 → Type 0
 SearchesHaveEnds E = (s : Search E) → HasSystems s → (budget : ℕ) → ¬ HasEnding s budget → ⊥
 
--- for each claim, under any pairs of rise guards, the schemas of each pattern of a file have systems, and so does the search for a sample
+-- for each claim, under any pairs of rise guards, the schemas of each pattern of a narrow file have systems, and so does the search for a sample
 pub record WordsHaveSystems : Type 0 where
-  pub patterns : (claim : Claim) (file : File) (number : ℕ) (p : Pattern) → slice_get file.patterns number ≡ Some p → (pairs : List (ℕ × ℕ))
-      → HasSystems (search_for claim file.automaton p pairs)
+  pub patterns : (claim : Claim) (file : File) (number : ℕ) (p : Pattern) → slice_get file.patterns number ≡ Some p → IsNarrow file.automaton
+      → (pairs : List (ℕ × ℕ)) → HasSystems (search_for claim file.automaton p pairs)
   pub samples : (a : Automaton) → HasSystems (sample_search a)
 
 -- so for each claim, under any pairs of rise guards, the walk of each pattern terminates for every budget, and so does the search for a
 -- sample
 pub record WalksHaveEnds : Type 0 where
-  pub walks : (claim : Claim) (file : File) (number : ℕ) (p : Pattern) → slice_get file.patterns number ≡ Some p → (pairs : List (ℕ × ℕ)) (budget : ℕ)
-      → ¬ ((e : WalkEnd) × IsWalkEnd (search_for claim file.automaton p pairs) number budget e) → ⊥
+  pub walks : (claim : Claim) (file : File) (number : ℕ) (p : Pattern) → slice_get file.patterns number ≡ Some p → IsNarrow file.automaton
+      → (pairs : List (ℕ × ℕ)) (budget : ℕ) → ¬ ((e : WalkEnd) × IsWalkEnd (search_for claim file.automaton p pairs) number budget e) → ⊥
   pub samples : (a : Automaton) (budget : ℕ) → ¬ ((e : SampleEnd) × IsSampleEnd a budget e) → ⊥

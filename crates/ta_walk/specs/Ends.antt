@@ -1,16 +1,16 @@
 -- How a search, a visit and the walk of a pattern end.
-use Rattle.std.specs.Prelude.{ℕ, ℤ, pos, ◌+◌, ◌≤◌, ◌<◌, ◌^◌, ◌≡◌, List, [], ◌∷◌, length, map, reverse, slice_get, Some}
+use Rattle.std.specs.Prelude.{ℕ, ℤ, pos, ◌+◌, ◌*◌, ◌≤◌, ◌<◌, ◌^◌, ◌≡◌, List, [], ◌∷◌, length, map, reverse, slice_get, Some}
 use Rattle.std.specs.List.{AllByRecursion}
-use Rattle.ta_base.specs.declared.limits.TheConstants.{MOST_NODES, MOST_UNKNOWNS}
+use Rattle.ta_base.specs.declared.limits.TheConstants.{MOST_EVENTS, MOST_NODES, MOST_UNKNOWNS}
 use Rattle.ta_automaton.specs.declared.automaton.Automaton.{Automaton}
 use Rattle.ta_automaton.specs.declared.pattern.Pattern.{Pattern}
 use Rattle.ta_automaton.specs.declared.file.File.{File}
+use Rattle.ta_automaton.specs.Narrow.{IsNarrow}
 use Rattle.ta_automaton.specs.Runs.{LoopsPure}
 use Rattle.ta_cert.specs.declared.line.Node.{Node}
 use Rattle.ta_implied.specs.Implied.{Good}
 use Rattle.ta_cert.specs.declared.line.Node.TheVariants.{Leaf}
 use Rattle.ta_cert.specs.Lines.{IsNode, node_text}
-use Rattle.ta_cert.specs.Streams.{line_limit}
 use Rattle.ta_words.specs.declared.element.Element.{Element}
 use Rattle.ta_encode.specs.declared.encoded.Solution.{Solution}
 use Rattle.ta_encode.specs.InPreorder.{Pending, RefutedInOrder}
@@ -159,31 +159,37 @@ visit_count (visit.Overflow node kind) = node
 abbrev pub WalksAreDetermined : Type 0
 WalksAreDetermined = (s : Search Element) (number budget : ℕ) (e f : WalkEnd) → IsWalkEnd s number budget e → IsWalkEnd s number budget f → e ≡ f
 
--- a leaf has at most 4,657 multipliers
-abbrev pub HasFewPairs : Node → Type 0
-HasFewPairs (Leaf ts) = length ts ≤ MOST_UNKNOWNS + 1
-HasFewPairs n = Unit {0}
+-- how many unknowns a node of moments has at most: the parameters and the counters at the start, and for each event and each guard how often
+-- each rule fired
+abbrev pub most_unknowns : Automaton → ℕ
+most_unknowns a = length a.parameters + length a.locations + (MOST_EVENTS + length a.rise + length a.fall) * length a.rules
 
--- the text of a node is no longer than a line may be
-abbrev pub IsShort : Node → Type 0
-IsShort n = length (node_text n) ≤ line_limit
+-- where a system has at most so many unknowns, a leaf has one multiplier more at most
+abbrev pub HasFewPairs : ℕ → Node → Type 0
+HasFewPairs unknowns (Leaf ts) = length ts ≤ unknowns + 1
+HasFewPairs unknowns n = Unit {0}
 
--- nodes that are a proof which the checker accepts; each node can be written in a line
-pub record IsProof {E : Type 0} (s : Search E) (nodes : List Node) : Type 0 where
+-- the text of a node has at most so many bytes
+abbrev pub IsShort : ℕ → Node → Type 0
+IsShort limit n = length (node_text n) ≤ limit
+
+-- nodes that are a proof which the checker accepts, over systems of at most so many unknowns; each node can be written in a line, if that may
+-- have 51 bytes for each unknown
+pub record IsProof {E : Type 0} (unknowns : ℕ) (s : Search E) (nodes : List Node) : Type 0 where
   pub refutes : RefutedInOrder s (IsJudged s) s.roots nodes
   pub writable : AllByRecursion IsNode nodes
-  pub few : AllByRecursion HasFewPairs nodes
-  pub short : AllByRecursion IsShort nodes
+  pub few : AllByRecursion (HasFewPairs unknowns) nodes
+  pub short : (limit : ℕ) → 51 * unknowns + 64 ≤ limit → AllByRecursion (IsShort limit) nodes
 
--- the nodes of a whole tree of a claim are such a proof, and the claim holds of the pattern, whichever good pairs of guards ordered its
--- schemas
+-- the nodes of a whole tree of a claim on a narrow automaton are such a proof, and the claim holds of the pattern, whichever good pairs of
+-- guards ordered its schemas
 abbrev pub RefutedClaimsHold : Type 0
 RefutedClaimsHold =
-    (claim : Claim) (file : File) (number : ℕ) (p : Pattern) → slice_get file.patterns number ≡ Some p → MayClaim claim p → LoopsPure file.automaton
-    → (pairs : List (ℕ × ℕ)) → Good file.automaton pairs
+    (claim : Claim) (file : File) (number : ℕ) (p : Pattern) → slice_get file.patterns number ≡ Some p → IsNarrow file.automaton → MayClaim claim p
+    → LoopsPure file.automaton → (pairs : List (ℕ × ℕ)) → Good file.automaton pairs
     → (budget : ℕ) → budget ≤ MOST_NODES
     → (nodes : List Node) (count : ℕ) → TreeIs (search_for claim file.automaton p pairs) budget nodes count
-    → IsProof (search_for claim file.automaton p pairs) nodes × claimed claim file.automaton p
+    → IsProof MOST_UNKNOWNS (search_for claim file.automaton p pairs) nodes × claimed claim file.automaton p
 
 -- what a walk finds is a complete schema that is legal under the pairs, with natural values that solve its system
 abbrev pub FoundWordsAreSolved : Type 0

@@ -1,5 +1,5 @@
 -- The orders of guards that the maker finds, pair by pair, by solving the pairs' systems with the least-index rule.
-use Rattle.std.specs.Prelude.{ℕ, zero, suc, ℤ, ◌≡◌, ◌⊎◌, List, [], ◌∷◌, ◌++◌, length, map}
+use Rattle.std.specs.Prelude.{ℕ, zero, suc, ℤ, ◌≡◌, ◌⊎◌, List, [], ◌∷◌, ◌++◌, length, map, ◌≤◌}
 use Rattle.std.specs.List.{AllByRecursion}
 use Rattle.ta_linear.specs.declared.row.System.{System}
 use Rattle.ta_automaton.specs.declared.automaton.Automaton.{Automaton}
@@ -56,12 +56,13 @@ FoundOrders a found = FoundAfter a (length a.rise) found
 abbrev pub FoundOrdersAreDetermined : Type 0
 FoundOrdersAreDetermined = (a : Automaton) (os rs : List Order) → FoundOrders a os → FoundOrders a rs → os ≡ rs
 
--- orders that the checker accepts: each has a leaf whose check stays in range, no chain of them leads back, and their lines can be written
+-- orders that the checker accepts: each has a leaf whose check stays in range, no chain of them leads back, and their lines can be written, if they
+-- may have 8192 bytes
 pub record AreSoundOrders (a : Automaton) (os : List Order) : Type 0 where
   pub good : Good a (map pair_of os)
   pub shown : AllByRecursion (λ (o : Order). IsShown a (pair_of o) o.multipliers) os
   pub writable : AreOrders os
-  pub short : AreShort (order_lines os)
+  pub short : (limit : ℕ) → 8192 ≤ limit → AreShort limit (order_lines os)
 
 abbrev pub FoundOrdersAreSound : Type 0
 FoundOrdersAreSound = (a : Automaton) (os : List Order) → FoundOrders a os → AreSoundOrders a os

@@ -11,7 +11,7 @@ use Rattle.ta_rest.specs.Faults.{EndingsOf}
 use Rattle.ta_rest.specs.Quiet.{QuietRestSafe}
 use Rattle.ta_replay.specs.declared.run.Run.{Run}
 use Rattle.ta_moments.specs.Refutes.{Asking}
-use Rattle.ta_walk.specs.Ends.{IsProof, TreeIs}
+use Rattle.ta_walk.specs.Ends.{IsProof, TreeIs, most_unknowns}
 use Rattle.ta_walk.specs.Found.{Found, RunAt}
 
 -- the nodes of a whole tree of a pattern's moments are a proof that the checker accepts, and the pattern is safe
@@ -20,7 +20,7 @@ RefutedMomentsHold =
     (file : File) (number : ℕ) (p : Pattern) → slice_get file.patterns number ≡ Some p → LoopsPure file.automaton
     → (budget : ℕ) → budget ≤ MOST_NODES
     → (nodes : List Node) (count : ℕ) → TreeIs (moments_of file.automaton p of_events) budget nodes count
-    → IsProof (moments_of file.automaton p of_events) nodes × Safe file.automaton p
+    → IsProof (most_unknowns file.automaton) (moments_of file.automaton p of_events) nodes × Safe file.automaton p
 
 -- at rest: the nodes of a whole tree of the ending of a file's own pattern are a proof, and no run in which that pattern occurs comes to
 -- quiet rest where its last event happens
@@ -30,7 +30,7 @@ RefutedRestMomentsHold =
     → (number : ℕ) (own p : Pattern) → slice_get file.patterns number ≡ Some own → slice_get ending.patterns number ≡ Some p
     → (silent : List ℕ) (budget : ℕ) → budget ≤ MOST_NODES
     → (nodes : List Node) (count : ℕ) → TreeIs (moments_of ending.automaton p (of_rest silent)) budget nodes count
-    → IsProof (moments_of ending.automaton p (of_rest silent)) nodes × QuietRestSafe file.automaton silent own
+    → IsProof (most_unknowns ending.automaton) (moments_of ending.automaton p (of_rest silent)) nodes × QuietRestSafe file.automaton silent own
 
 -- a whole node has one run
 abbrev pub FoundNodesHaveOneRun : Type 0

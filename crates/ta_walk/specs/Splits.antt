@@ -1,5 +1,6 @@
 -- A budget that is large enough for the schemas of a pattern is exhausted only if some node was split (integer branching).
 use Rattle.std.specs.Prelude.{ℕ, ℤ, ◌<◌, ◌≤◌, ◌^◌, ◌≡◌, List, length, slice_get, Some}
+use Rattle.ta_automaton.specs.Narrow.{IsNarrow}
 use Rattle.ta_automaton.specs.declared.automaton.Automaton.{Automaton}
 use Rattle.ta_automaton.specs.declared.file.File.{File}
 use Rattle.ta_automaton.specs.declared.pattern.Pattern.{Pattern}
@@ -34,11 +35,11 @@ pub record WasSplit {E : Type 0} (s : Search E) (count : ℕ) : Type 0 where
   pub counted : length nodes ≡ count
   pub split : HasSplit nodes
 
--- a pattern of a file has at most some number of such pairs; if there are no more than the budget, it is exhausted only if one of the
+-- a pattern of a narrow file has at most some number of such pairs; if there are no more than the budget, it is exhausted only if one of the
 -- visited nodes was split; for without splits any two visited nodes differ in the start set or the schema
 pub record SpentNeedsSplits : Type 0 where
-  pub number : (file : File) (number : ℕ) (p : Pattern) → slice_get file.patterns number ≡ Some p → (pairs : List (ℕ × ℕ)) → (most : ℕ)
-      × HasAtMost file.automaton p pairs most
+  pub number : (file : File) (number : ℕ) (p : Pattern) → slice_get file.patterns number ≡ Some p → IsNarrow file.automaton → (pairs : List (ℕ × ℕ))
+      → (most : ℕ) × HasAtMost file.automaton p pairs most
   pub split : (a : Automaton) (p : Pattern) (pairs : List (ℕ × ℕ)) (budget count : ℕ) → HasAtMost a p pairs budget
       → IsSpent (pattern_search a p pairs) budget count → WasSplit (pattern_search a p pairs) budget
   pub apart :

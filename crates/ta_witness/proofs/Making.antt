@@ -1,5 +1,5 @@
 -- making the lists and lines of a run
-use Rattle.ta_automaton.proofs.Narrows.{narrow_shape}
+use Rattle.ta_automaton.specs.Narrow.{IsNarrow}
 use Rattle.ta_witness.proofs.Common.{◌≡◌, inl, inr, ℕ, zero, suc, ◌+◌, ◌^◌, ◌<◌, ◌≤◌, ℤ, pos, ◌≤ℤ◌, ◌<ℤ◌, List, [], ◌∷◌, ◌++◌, map, length, take, drop, reverse}
 use Rattle.ta_witness.proofs.Common.{get_or, cond, true, false, Some, None, slice_get, arith, refl, sym, ap, ◌∙◌, subst, append_assoc, append-nil}
 use Rattle.ta_witness.proofs.Common.{length-append, drop-cons, ints, slice_index_or, drop_all, take_more, map-append, length-map, length-take, length-reverse}
@@ -175,12 +175,13 @@ ends_from file p ms solution h =
     subst (λ (ns : List Meaning). EachMayEnd a p (unknown_value ns solution.values) solution.word) (sym h.unknowns)
     (subst (λ (vs : List ℤ). EachMayEnd a p (unknown_value (meanings a p start past) vs) solution.word) (sym h.are) ends)
 
-pub few_elements : (file : File) (p : Pattern) (ms : List Meaning) (solution : Solution) → IsMadeFrom file p ms solution → length solution.word ≤ 30
-few_elements file p ms solution h =
+pub few_elements : (file : File) (p : Pattern) (ms : List Meaning) (solution : Solution) → IsNarrow file.automaton → IsMadeFrom file p ms solution
+    → length solution.word ≤ 30
+few_elements file p ms solution narrow h =
     let a = file.automaton in
     omega (
       arith,
-      legal_length a p solution.start_mask (reverse solution.word) (narrow_shape a) (pattern_within file solution.pattern p h.named).events_limit
+      legal_length a p solution.start_mask (reverse solution.word) narrow (pattern_within file solution.pattern p h.named).events_limit
           h.solved.legal,
       length-reverse solution.word,
     )

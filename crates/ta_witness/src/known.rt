@@ -39,7 +39,7 @@ pub fn parameters_of(
     meanings: &[Meaning],
     values: &[i128],
 ) -> Result<Vec<i128>, AllocError>
-    requires few { count ≤ 16 }
+    requires few { count ≤ 32 }
     requires known { AreNaturals meanings.now values.now }
     ensures { IfOk result (λ numbers. AreValues (map (λ i. unknown_value meanings.now values.now (Parameter i)) (range_with_len 0 count)) numbers.items) }
 {
@@ -77,7 +77,7 @@ pub(crate) fn counts_of(
     values: &[i128],
     element: u32,
 ) -> Result<Vec<i128>, AllocError>
-    requires few { rules ≤ 128 }
+    requires few { rules ≤ 1024 }
     requires known { AreNaturals meanings.now values.now }
     ensures { IfOk result (λ numbers. AreValues (map (λ r. unknown_value meanings.now values.now (Count element r)) (range_with_len 0 rules)) numbers.items) }
 {
@@ -94,7 +94,7 @@ pub(crate) fn counts_of(
 
 /// The first rule whose Single is 1.
 pub(crate) fn single_of(rules: usize, meanings: &[Meaning], values: &[i128], element: u32) -> u32
-    requires few { rules ≤ 128 }
+    requires few { rules ≤ 1024 }
     requires known { AreNaturals meanings.now values.now }
     requires some { (r : ℕ) × (r < rules) × (unknown_value meanings.now values.now (Single element r) ≡ pos 1) }
     ensures exists { result < rules }

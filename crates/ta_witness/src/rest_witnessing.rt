@@ -2,6 +2,7 @@
 #![tactic(auto)]
 
 ghost use Rattle.std.specs.Prelude.{◌<◌, ◌≡◌, ◌++◌, ◌∷◌, [], List, IfErr, IfOk, IsBitSet, IsTrue, ◌↔◌};
+ghost use Rattle.ta_automaton.specs.Narrow.{IsNarrow};
 ghost use Rattle.ta_automaton.specs.declared.file.File.{File};
 ghost use Rattle.ta_replay.specs.declared.run.RunLine.{RunLine};
 ghost use Rattle.ta_replay.specs.declared.run.RunLine.TheVariants.{Mark};
@@ -23,7 +24,8 @@ pub fn rest_witness(
     rest: &RestFile,
     solution: &Solution,
 ) -> Result<Run, WitnessFault>
-    requires { IsRestSolution rest.now.ending.file solution.now }
+    requires solution { IsRestSolution rest.now.ending.file solution.now }
+    requires narrow { IsNarrow rest.now.ending.file.automaton }
     ensures run { IfOk result (OwnWitness rest.now solution.now) }
     ensures fits { IfOk result (Fits rest.now.ending.file) }
     ensures fault { IfErr result (WitnessFaultOf rest.now.ending.file solution.now) }
@@ -35,7 +37,7 @@ pub fn rest_witness(
 /// The run of the file's own pattern that a run of its ending stands for: less its last line, the mark
 /// of the event, where one was added to the pattern, else the run as it is.
 pub fn own_run(rest: &RestFile, run: Run) -> Run
-    requires named { run.pattern < 16 }
+    requires named { run.pattern < 64 }
     ensures is { EndsAsAdded rest.now.added run → run ≡ ending_run rest.now.added result }
     ensures fits { (file : File) → Fits file run → Fits file result }
 {

@@ -2,6 +2,7 @@
 #![tactic(auto)]
 
 ghost use Rattle.std.specs.Prelude.{IfErr, IfOk, OnOk};
+ghost use Rattle.ta_automaton.specs.Narrow.{IsNarrow};
 ghost use Rattle.ta_replay.specs.Fits.{Fits};
 ghost use Rattle.ta_replay.specs.Replays.{ReplayStays};
 ghost use Rattle.ta_replay.specs.Shows.{Shows};
@@ -22,7 +23,8 @@ use ta_words::NarrowTask;
 /// The run of a solution, which is replayed before it is given: for each element of the word the
 /// arranged steps of its Counts, and then the single step of a Fall, or the mark of an Event.
 pub fn witness(alloc: Global, scoped: &ScopedFile, solution: &Solution) -> Result<Run, WitnessFault>
-    requires { IsSolution scoped.now.file solution.now }
+    requires solution { IsSolution scoped.now.file solution.now }
+    requires narrow { IsNarrow scoped.now.file.automaton }
     ensures witness { IfOk result (λ run. WitnessOf scoped.now.file solution.now run) }
     ensures fits { IfOk result (λ run. Fits scoped.now.file run) }
     ensures shows { IfOk result (λ run. Shows scoped.now.file run) }
@@ -41,7 +43,8 @@ pub fn witness(alloc: Global, scoped: &ScopedFile, solution: &Solution) -> Resul
 
 /// The run of a solution, before it is replayed.
 fn run_of(alloc: Global, scoped: &ScopedFile, solution: &Solution) -> Result<Run, AllocError>
-    requires { IsSolution scoped.now.file solution.now }
+    requires solution { IsSolution scoped.now.file solution.now }
+    requires narrow { IsNarrow scoped.now.file.automaton }
     ensures witness { IfOk result (λ run. WitnessOf scoped.now.file solution.now run) }
     ensures fits { IfOk result (λ run. Fits scoped.now.file run) }
     ensures shows { IfOk result (λ run. Shows scoped.now.file run) }
@@ -61,7 +64,8 @@ fn run_for(
     meanings: &[Meaning],
     solution: &Solution,
 ) -> Result<Run, AllocError>
-    requires { IsMadeFrom scoped.now.file pattern.now meanings.now solution.now }
+    requires made { IsMadeFrom scoped.now.file pattern.now meanings.now solution.now }
+    requires narrow { IsNarrow scoped.now.file.automaton }
     ensures { IfOk result (λ run. RunOf scoped.now.file pattern.now meanings.now solution.now run) }
 {
     let automaton = &scoped.file.automaton;

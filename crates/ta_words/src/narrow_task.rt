@@ -19,7 +19,8 @@ pub struct NarrowTask<'a> {
 impl<'a> NarrowTask<'a> {
     /// The pattern of this number, from 0, in a file.
     pub fn of(file: &'a File, number: u32) -> NarrowTask<'a>
-        requires { number < length file.now.patterns }
+        requires number { number < length file.now.patterns }
+        requires narrow { IsNarrow file.now.automaton }
         ensures automaton { result.automaton.now ≡ file.now.automaton }
         ensures pattern { slice_get file.now.patterns number ≡ Some result.pattern.now }
     {

@@ -93,7 +93,7 @@ fn writes_a_certificate(rt: HostRuntime) {
     let text = write_cert(rt.alloc(), &[], proofs.as_slice()).expect(&rt, "memory");
     expect(&rt, text.as_str() == CERTIFICATE, CERTIFICATE);
     for size in [1, 2, 3, 7, 1000] {
-        let again = read_again(rt.alloc(), &[], proofs.as_slice(), size);
+        let again = read_again(rt.alloc(), &[], proofs.as_slice(), size, 1_048_576);
         expect_answer(&rt, rt.alloc(), again, LINES);
     }
 }
@@ -112,13 +112,13 @@ fn writes_an_order(rt: HostRuntime) {
     let orders = [order(&rt, rt.alloc())];
     let text = write_cert(rt.alloc(), orders.as_slice(), &[]).expect(&rt, "memory");
     expect(&rt, text.as_str() == ORDER, ORDER);
-    let again = read_again(rt.alloc(), orders.as_slice(), &[], 5);
+    let again = read_again(rt.alloc(), orders.as_slice(), &[], 5, 1_048_576);
     expect_answer(&rt, rt.alloc(), again, ORDER_LINES);
 }
 
 #[test]
 fn stays_refused(rt: HostRuntime) {
-    let mut reader = Reader::new(rt.alloc());
+    let mut reader = Reader::new(rt.alloc(), 1_048_576);
     expect_answer(&rt, rt.alloc(), reader.feed(b"x\n"), "Line(1)");
     expect_answer(&rt, rt.alloc(), reader.feed(b""), "Failed");
     let end = reader.finish();
@@ -128,7 +128,7 @@ fn stays_refused(rt: HostRuntime) {
 #[test]
 fn takes_a_long_line(rt: HostRuntime) {
     let long = vec![in rt.alloc(); b'e'; 1_048_576].expect(&rt, "memory");
-    let mut reader = Reader::new(rt.alloc());
+    let mut reader = Reader::new(rt.alloc(), 1_048_576);
     let header = reader.feed(b"threshold-certificate 1\n");
     expect_answer(&rt, rt.alloc(), header, "1 header 1, ");
     expect_answer(&rt, rt.alloc(), reader.feed(long.as_slice()), "");

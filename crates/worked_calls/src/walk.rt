@@ -3,6 +3,7 @@
 use std::alloc::{AllocError, Global};
 use std::process::Abort;
 use std::sync::atomic::{AtomicU64, Ordering};
+use ta_base::limits::Limits;
 use ta_dense::{
     DenseDictionary, DensePivot, Dictionary, ExtendFault, NarrowDictionary, PivotFault,
 };
@@ -105,7 +106,7 @@ impl Dictionary for NoRoom {
 
 #[test]
 fn walks_without_room(rt: HostRuntime) {
-    let scoped = read_file(rt.alloc(), FILE).expect(&rt, "a file");
+    let scoped = read_file(rt.alloc(), FILE, &Limits::narrow()).expect(&rt, "a file");
     assert!(rt; !scoped.file().patterns.as_slice().is_empty());
     let orders = Orders::new();
     let tree = ClaimTree::new(Claim::Safe, scoped.file(), 0, &orders);
@@ -140,7 +141,7 @@ fn family<R: Abort>(rt: &R, alloc: Global) -> ScopedFile {
     let text = print_tree(alloc, &tree).expect(rt, "memory");
     let bytes = text.as_str().as_bytes();
     assert!(rt; bytes.len() <= 1_048_576);
-    read_file(alloc, bytes).expect(rt, "a file")
+    read_file(alloc, bytes, &Limits::narrow()).expect(rt, "a file")
 }
 
 // Halves that are visited one after the other never meet.
@@ -167,7 +168,7 @@ fn halves_meet(rt: HostRuntime) {
 
 /// The scope of rest of a file, without a contract for the same reason.
 fn left<R: Abort>(rt: &R, alloc: Global) -> RestFile {
-    let scoped = read_file(alloc, LEFT).expect(rt, "a file");
+    let scoped = read_file(alloc, LEFT, &Limits::narrow()).expect(rt, "a file");
     rest_scope(alloc, scoped).expect(rt, "the scope of rest")
 }
 

@@ -11,6 +11,9 @@ use ta_cert::CertFault;
 use ta_check::{Accepted, Checker, check};
 use ta_scope::ScopedFile;
 
+/// How many bytes a line of a certificate has at most here.
+const LINE_BYTES: usize = 1_048_576;
+
 /// The patterns that a certificate proves, or its first error. It comes whole, in pieces of several
 /// sizes, and in two pieces, cut behind each of its bytes; the answers have to be the same.
 pub fn judgement(given: &mut Given, scoped: &ScopedFile, text: &str) {
@@ -25,7 +28,7 @@ pub fn judgement(given: &mut Given, scoped: &ScopedFile, text: &str) {
 
 /// The same of a certificate that comes whole and in pieces of several sizes.
 fn judge_by_sizes(given: &mut Given, scoped: &ScopedFile, text: &[u8]) {
-    say_answer(given, check(given.alloc, scoped, text));
+    say_answer(given, check(given.alloc, scoped, text, LINE_BYTES));
     for size in [1, 2, 3, 7] {
         if !is_judged_alike(given, scoped, text, size, size) {
             return;
@@ -41,7 +44,7 @@ fn is_judged_alike(
     first: usize,
     size: usize,
 ) -> bool {
-    let mut checker = Checker::new(given.alloc, scoped);
+    let mut checker = Checker::new(given.alloc, scoped, LINE_BYTES);
     let fed = feed(&mut checker, text, first, size);
     let mut other = Given::new(given.alloc);
     say_answer(&mut other, fed.and(checker.finish()));
@@ -71,7 +74,7 @@ pub fn round<R: Threads + Sync>(
 
 /// The errors of a text, of nothing behind it, and of its end.
 pub fn refusals(given: &mut Given, scoped: &ScopedFile, text: &str) {
-    let mut checker = Checker::new(given.alloc, scoped);
+    let mut checker = Checker::new(given.alloc, scoped, LINE_BYTES);
     given.value(&checker.feed(text.as_bytes()).err());
     given.say(" ");
     given.value(&checker.feed(b"").err());

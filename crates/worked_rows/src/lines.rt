@@ -19,7 +19,7 @@ pub fn lines(given: &mut Given, text: &str) {
 
 fn say_lines(given: &mut Given, text: &str, size: usize) {
     let mut shown = Given::new(given.alloc);
-    let mut reader = Reader::new(given.alloc);
+    let mut reader = Reader::new(given.alloc, 1_048_576);
     let fed = feed(&mut reader, &mut shown, text.as_bytes(), size);
     match fed.and(reader.finish()) {
         Ok(()) => given.add(&shown),

@@ -4,7 +4,7 @@
 use crate::files::Files;
 use crate::given::Given;
 use std::alloc::Global;
-use ta_base::limits::FILE_BYTES;
+use ta_base::limits::{FILE_BYTES, Limits};
 use ta_meaning::read_file;
 use ta_scope::ScopedFile;
 use ta_syntax::FileFault;
@@ -19,7 +19,7 @@ fn file_of(alloc: Global, text: &str) -> Result<ScopedFile, FileFault> {
     if bytes.len() > FILE_BYTES {
         return Err(FileFault::Memory);
     }
-    read_file(alloc, bytes)
+    read_file(alloc, bytes, &Limits::narrow())
 }
 
 /// The first error of a text, or `legal`.

@@ -8,9 +8,9 @@ use Rattle.ta_check.specs.Subjects.{Subject}
 use Rattle.ta_check.specs.Checkers.{StandBehind}
 use Rattle.ta_check.specs.Faults.{IsLastingFor}
 
--- a reader and a position stand after some text
-abbrev pub StandSomewhere : Subject → Reader → Position → Type 0
-StandSomewhere subject reader position = (text : List ℕ) × StandBehind subject reader position text
+-- a reader and a position stand after some text, for some number of bytes that its lines may have
+abbrev pub StandSomewhere : (ℕ → Subject) → Reader → Position → Type 0
+StandSomewhere subject reader position = (limit : ℕ) × (text : List ℕ) × StandBehind (subject limit) reader position text
 
 -- an error that the text keeps, or memory ran out; it is not that of a reader that was refused before
 pub record IsToldOf (subject : Subject) (text : List ℕ) (f : CertFault) : Type 0 where

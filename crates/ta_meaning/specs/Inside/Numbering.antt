@@ -1,4 +1,5 @@
 -- Rules and guards while they are read: the guards so far, and what a comparison and a rule add to them.
+use Rattle.ta_base.specs.declared.limits.Limits.{Limits}
 use Rattle.std.specs.Prelude.{ℕ, ℤ, ◌<◌, ◌≤◌, ◌≡◌, ◌⊎◌, ◌↔◌, ◌&&◌, ◌||◌, Bool, true, false, nat_le, List, [], ◌∷◌, ◌++◌, length, map, slice_get, Some, Result}
 use Rattle.std.specs.Prelude.{Ok, Err, IsBitSet, IsTrue, if◌then◌else◌}
 use Rattle.std.specs.List.{AllByRecursion, range_with_len}
@@ -74,9 +75,9 @@ guards_so_far ns guards = record {
 }
 
 -- threshold guards within the limits, no two of them with the same numbers
-pub record GuardsKept (ns : Names) (guards : GuardList) : Type 0 where
-  pub rise_limit : length guards.rise.items ≤ 16
-  pub fall_limit : length guards.fall.items ≤ 6
+pub record GuardsKept (l : Limits) (ns : Names) (guards : GuardList) : Type 0 where
+  pub rise_limit : length guards.rise.items ≤ l.rises
+  pub fall_limit : length guards.fall.items ≤ l.falls
   pub rise_rows : AllByRecursion (RiseRow (length ns.parameters) (length ns.shared)) guards.rise.items
   pub fall_rows : AllByRecursion (FallRow (length ns.parameters) (length ns.shared)) guards.fall.items
   pub rise_distinct : Distinct (guards_so_far ns guards).rise
@@ -90,11 +91,11 @@ IsGuardNumber parameters g row (number.Rise n) = (falls parameters row ≡ false
 IsGuardNumber parameters g row (number.Fall n) = (falls parameters row ≡ true) × (slice_get g.fall n ≡ Some row)
 
 -- a comparison of one row, which is among the guards afterwards
-pub record GuardNumbered (ns : Names) (before : GuardList) (c : PlainComparison) (after : GuardList) (n : GuardNumber) : Type 0 where
+pub record GuardNumbered (l : Limits) (ns : Names) (before : GuardList) (c : PlainComparison) (after : GuardList) (n : GuardNumber) : Type 0 where
   pub row : Linear
   pub one_row : comparison_rows (guard_names ns) c ≡ row ∷ []
   pub known : UsesNames (guard_names ns) c
-  pub kept : GuardsKept ns after
+  pub kept : GuardsKept l ns after
   pub guards : guards_so_far ns after ≡ with_guard (length ns.parameters) (guards_so_far ns before) row
   pub numbered : IsGuardNumber (length ns.parameters) (guards_so_far ns after) row n
 
@@ -103,8 +104,8 @@ abbrev pub AmongGuards : ℕ → Guards → Linear → Type 0
 AmongGuards parameters g row = IsTrue (if falls parameters row then has_row g.fall row else has_row g.rise row)
 
 -- comparisons, whose rows are among the guards afterwards, and their masks
-pub record GuardsNumbered (ns : Names) (before : GuardList) (cs : List PlainComparison) (after : GuardList) (masks : GuardMasks) : Type 0 where
-  pub kept : GuardsKept ns after
+pub record GuardsNumbered (l : Limits) (ns : Names) (before : GuardList) (cs : List PlainComparison) (after : GuardList) (masks : GuardMasks) : Type 0 where
+  pub kept : GuardsKept l ns after
   pub guards : guards_so_far ns after ≡ with_guards (length ns.parameters) (guards_so_far ns before) (rows_of (guard_names ns) cs)
   pub known : AllByRecursion (UsesNames (guard_names ns)) cs
   pub rise : NamesGuards (guards_so_far ns after).rise (rows_of (guard_names ns) cs) masks.rise

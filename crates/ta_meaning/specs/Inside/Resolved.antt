@@ -1,4 +1,5 @@
 -- What the parts of the resolver answer: values that mean their part of the tree and keep the limits of a file.
+use Rattle.ta_base.specs.declared.limits.Limits.{Limits}
 use Rattle.std.specs.Prelude.{ℕ, ◌+◌, ◌≤◌, List, length, take, drop, map}
 use Rattle.std.specs.List.{AllByRecursion}
 use Rattle.ta_linear.specs.declared.form.Form.{Form}
@@ -47,19 +48,19 @@ pub record ResolvedCondition (names : List (List ℕ)) (cs : List PlainCompariso
   pub over : ConditionOver (length names) condition
 
 -- the rows of guards, which are threshold guards and distinct
-pub record ResolvedGuards (ns : Names) (guards : Guards) (rise fall : List Row) : Type 0 where
+pub record ResolvedGuards (l : Limits) (ns : Names) (guards : Guards) (rise fall : List Row) : Type 0 where
   pub rise_of : Pairwise RowOf guards.rise rise
   pub fall_of : Pairwise RowOf guards.fall fall
-  pub rise_limit : length rise ≤ 16
-  pub fall_limit : length fall ≤ 6
+  pub rise_limit : length rise ≤ l.rises
+  pub fall_limit : length fall ≤ l.falls
   pub rise_rows : AllByRecursion (RiseRow (length ns.parameters) (length ns.shared)) rise
   pub fall_rows : AllByRecursion (FallRow (length ns.parameters) (length ns.shared)) fall
   pub rise_distinct : Distinct rise
   pub fall_distinct : Distinct fall
 
 -- rules with their guards
-pub record ResolvedRules (ns : Names) (plain : List PlainRule) (rise fall : List Row) (rules : List Rule) : Type 0 where
-  pub guards : ResolvedGuards ns (guards_of ns plain) rise fall
+pub record ResolvedRules (l : Limits) (ns : Names) (plain : List PlainRule) (rise fall : List Row) (rules : List Rule) : Type 0 where
+  pub guards : ResolvedGuards l ns (guards_of ns plain) rise fall
   pub means : Pairwise (MeansRule ns (guards_of ns plain)) plain rules
   pub within : AllByRecursion (RuleWithin (length ns.shared) (length ns.locations) (length rise) (length fall)) rules
   pub distinct : Distinct (map name_of rules)

@@ -1,4 +1,5 @@
 -- Rules while they are read, one after another.
+use Rattle.ta_base.specs.declared.limits.Limits.{Limits}
 use Rattle.std.specs.Prelude.{ℕ, ◌≡◌, List, ◌∷◌, [], ◌++◌, length}
 use Rattle.std.specs.List.{AllByRecursion}
 use Rattle.ta_syntax.specs.Grammar.{PlainRule}
@@ -20,10 +21,11 @@ pub record RuleSoFar (ns : Names) (guards : GuardList) (r : PlainRule) (rule : R
   pub within : RuleWithin (length ns.shared) (length ns.locations) (length guards.rise.items) (length guards.fall.items) rule
 
 -- one more rule: its name is declared, and its guards are among those afterwards
-pub record RuleRead (ns : Names) (names : List (List ℕ)) (before : GuardList) (r : TreeRule) (names_after : List (List ℕ)) (after : GuardList) (rule : Rule) :
+pub record RuleRead (l : Limits) (ns : Names) (names : List (List ℕ)) (before : GuardList) (r : TreeRule) (names_after : List (List ℕ)) (after : GuardList)
+    (rule : Rule) :
     Type 0 where
   pub declared : names_after ≡ names ++ r.name.name ∷ []
-  pub kept : GuardsKept ns after
+  pub kept : GuardsKept l ns after
   pub guards : guards_so_far ns after ≡ with_guards (length ns.parameters) (guards_so_far ns before) (rows_of (guard_names ns) (plain_rule r).guards)
   pub so_far : RuleSoFar ns after (plain_rule r) rule
 

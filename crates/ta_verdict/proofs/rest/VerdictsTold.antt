@@ -5,6 +5,7 @@ use Rattle.ta_verdict.proofs.rest.Common.{IsEnding, rest_search, refuted_show, I
 use Rattle.ta_verdict.proofs.rest.Common.{NodeOf, TreeKept, SolutionAt, IsNotSafe, KeepsSafe, OwnVerdict, some_at, OfPattern, RestFile, pattern_within}
 use Rattle.ta_verdict.proofs.rest.Common.{RestSafe as ClaimRestSafe, proof_made, words_within}
 use Rattle.std.specs.declared.alloc.AllocError.{AllocError}
+use Rattle.ta_automaton.specs.Narrow.{IsNarrow}
 use Rattle.ta_rest.specs.Rest.{RestSafe}
 use Rattle.ta_scope.proofs.Judging.{loops_pure}
 use Rattle.ta_walk.proofs.SpentSplits.{split_of_words}
@@ -29,12 +30,13 @@ ending_of_own ps qs h k own q at there = let ending = ending_there ps qs h k own
 
 -- a tree that refutes the words of rest of a pattern's ending
 pub safe_verdict : (rest : RestFile) (budget number : ℕ) (p : Pattern) (Keeps : List Node → Type 0) (nodes leaves : ℕ)
-    → slice_get rest.ending.file.patterns number ≡ Some p → budget ≤ 1000000000 → TreeKept (rest_search rest.ending.file.automaton p) budget Keeps nodes leaves
+    → slice_get rest.ending.file.patterns number ≡ Some p → IsNarrow rest.ending.file.automaton → budget ≤ 1000000000
+    → TreeKept (rest_search rest.ending.file.automaton p) budget Keeps nodes leaves
     → OwnVerdict rest (words_within budget) number p (Safe nodes leaves)
-safe_verdict rest budget number p Keeps nodes leaves named within kept file ends own at =
+safe_verdict rest budget number p Keeps nodes leaves named narrow within kept file ends own at =
     let f = rest.ending.file in
     let s = rest_search f.automaton p in
-    let proof = proof_made ClaimRestSafe f.automaton p [] (pattern_within f number p named) budget within kept.nodes nodes kept.is in
+    let proof = proof_made ClaimRestSafe f.automaton p [] (pattern_within f number p named) narrow budget within kept.nodes nodes kept.is in
     let trees = (in_order IsJudged s kept.nodes).0 proof.refutes in
     let leaf = weaker_proof (IsJudged s) (IsLeaf s) (λ w ts judged. judged.leaf) s trees.0 trees.1 in
     let is = ending_of_own file.patterns f.patterns ends.patterns number own p at named in

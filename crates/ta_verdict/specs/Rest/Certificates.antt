@@ -1,5 +1,7 @@
 -- The certificate of the patterns that are safe at rest.
 use Rattle.std.specs.Prelude.{ℕ, ◌≡◌, Bool, true, false, List, []}
+use Rattle.ta_automaton.specs.Narrow.{IsWithin}
+use Rattle.ta_base.specs.declared.limits.Limits.{Limits}
 use Rattle.ta_automaton.specs.declared.file.File.{File}
 use Rattle.ta_automaton.specs.declared.pattern.Pattern.{Pattern}
 use Rattle.ta_cert.specs.Certificates.{cert_text, head_text, question_text}
@@ -46,7 +48,7 @@ pub record RestCertified (ending : File) (pick : Pick) (budget : RestBudget) (ve
   pub text : List ℕ
   pub has : Has text
   pub certificate : RestCertificateOf ending pick budget verdicts text
-  pub accepted : QuietRestCertificate ending budget.silent text (safe_among ending pick verdicts)
+  pub accepted : (l : Limits) → IsWithin l ending.automaton → QuietRestCertificate ending budget.silent l.line_bytes text (safe_among ending pick verdicts)
 
 -- a file of endings has one certificate for verdicts within a budget
 abbrev pub RestCertificatesAreDetermined : Type 0

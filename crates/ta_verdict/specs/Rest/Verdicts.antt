@@ -1,5 +1,6 @@
 -- Verdicts on patterns whose runs are to come to rest, and when they hold.
 use Rattle.std.specs.Prelude.{ℕ, ◌≡◌, Bool, true, false, List, [], length, slice_get, Some}
+use Rattle.ta_base.specs.declared.limits.TheConstants.{MOST_UNKNOWNS}
 use Rattle.ta_words.specs.declared.element.Element.{Element}
 use Rattle.std.specs.List.{AllByRecursion}
 use Rattle.ta_automaton.specs.declared.file.File.{File}
@@ -17,7 +18,7 @@ use Rattle.ta_report.specs.declared.verdict.Verdict.{Verdict}
 use Rattle.ta_report.specs.declared.verdict.Verdict.TheVariants.{Safe, Unsafe, Spent, Overflow}
 use Rattle.ta_report.specs.Report.{VerdictFits}
 use Rattle.ta_verdict.specs.Verdicts.{EachHolds, Question, VerdictAnswers}
-use Rattle.ta_walk.specs.Ends.{IsProof, SolutionAt, TreeKept}
+use Rattle.ta_walk.specs.Ends.{IsProof, SolutionAt, TreeKept, most_unknowns}
 use Rattle.ta_check.specs.Subjects.{claimed_with}
 use Rattle.ta_rest.specs.declared.claim.Claim.TheVariants as claim
 use Rattle.ta_encode.specs.declared.encoded.Solution.{Solution}
@@ -37,7 +38,7 @@ rest_question file ending added own p = record {
   search = rest_search ending.automaton p;
   at = SolutionAt (rest_search ending.automaton p);
   claim = RestSafe file.automaton own;
-  proved = λ budget tree. IsProof (rest_search ending.automaton p) tree;
+  proved = λ budget tree. IsProof MOST_UNKNOWNS (rest_search ending.automaton p) tree;
   shown = RestWitnessOf file ending added;
   leaves = WitnessOutOfRange ending;
   few = HasAtMost ending.automaton p [];
@@ -50,7 +51,7 @@ quiet_question file ending added number silent own p = record {
   search = moments_of ending.automaton p (of_rest silent);
   at = λ k found. FoundAt (moments_of ending.automaton p (of_rest silent)) found;
   claim = claimed_with claim.RestSafe silent file.automaton own;
-  proved = λ budget tree. IsProof (moments_of ending.automaton p (of_rest silent)) tree;
+  proved = λ budget tree. IsProof (most_unknowns ending.automaton) (moments_of ending.automaton p (of_rest silent)) tree;
   shown = QuietRunOf file ending added number silent;
   leaves = RunLeaves ending number (of_rest silent);
   few = λ budget. ⊥;

@@ -3,10 +3,12 @@
 
 ghost use Rattle.std.specs.Prelude.{ℕ, ◌≡◌, ◌<◌, ◌≤◌, [], IfErr, IfOk, false, length, List, true};
 ghost use Rattle.std.specs.List.{AllByRecursion, concat};
+ghost use Rattle.ta_base.specs.declared.limits.Limits.{Limits};
 ghost use Rattle.ta_check.specs.Certificate.{QuietRestCertificate};
 ghost use Rattle.ta_report.specs.Picked.{picked};
 ghost use Rattle.ta_report.specs.Report.{VerdictFits};
 ghost use Rattle.ta_shelf.specs.Staging.{Begun};
+ghost use Rattle.ta_automaton.specs.Narrow.{IsNarrow, IsWithin};
 ghost use Rattle.ta_automaton.specs.Numbered.{OfPattern};
 ghost use Rattle.ta_verdict.specs.Certificates.{safe_among, safe_picked};
 ghost use Rattle.ta_verdict.specs.Drafts.{AddsTree, HasProofs, HasText, HasTrees};
@@ -41,12 +43,13 @@ pub fn judge_rest<R: Threads + Sync>(
 ) -> Result<Judged, AllocError>
     requires some { 0 < budget.nodes }
     requires limit { budget.nodes ≤ MOST_NODES }
+    requires narrow { budget.lazy ≡ false → IsNarrow rest.now.ending.file.automaton }
     requires words { budget.lazy ≡ false → silent.now ≡ [] }
     ensures verdicts { IfOk result (λ judged. OwnVerdicts rest.now pick (resting budget silent.now) judged.verdicts) }
     ensures all { IfOk result (λ judged. length judged.verdicts ≡ length (picked pick rest.now.ending.file.patterns)) }
     ensures fit { IfOk result (λ judged. AllByRecursion (VerdictFits rest.now.ending.file) judged.verdicts) }
     ensures certificate { wanted ≡ true → IfOk result (λ judged. RestCertificateOf rest.now.ending.file pick (resting budget silent.now) judged.verdicts (concat judged.certificate)) }
-    ensures accepted { wanted ≡ true → IfOk result (λ judged. QuietRestCertificate rest.now.ending.file silent.now (concat judged.certificate) (safe_among rest.now.ending.file pick judged.verdicts)) }
+    ensures accepted { (l : Limits) → IsWithin l rest.now.ending.file.automaton → wanted ≡ true → IfOk result (λ judged. QuietRestCertificate rest.now.ending.file silent.now l.line_bytes (concat judged.certificate) (safe_among rest.now.ending.file pick judged.verdicts)) }
     ensures unwanted { wanted ≡ false → IfOk result (λ judged. judged.certificate ≡ []) }
 {
     let mut draft = Draft::new(alloc, wanted);
@@ -72,6 +75,7 @@ pub fn judge_rest_to<R: Threads + Sync, P, T: Target<P>>(
 ) -> Result<List<Verdict>, AllocError>
     requires some { 0 < budget.nodes }
     requires limit { budget.nodes ≤ MOST_NODES }
+    requires narrow { budget.lazy ≡ false → IsNarrow rest.now.ending.file.automaton }
     requires words { budget.lazy ≡ false → silent.now ≡ [] }
     ensures verdicts { IfOk result (OwnVerdicts rest.now pick (resting budget silent.now)) }
     ensures all { IfOk result (λ verdicts. length verdicts ≡ length (picked pick rest.now.ending.file.patterns)) }
@@ -112,6 +116,7 @@ fn verdicts_picked<R: Threads + Sync, P, T: Target<P>>(
     target: &mut T,
 ) -> Result<Vec<Verdict>, AllocError>
     requires limit { budget.nodes ≤ MOST_NODES }
+    requires narrow { budget.lazy ≡ false → IsNarrow rest.now.ending.file.automaton }
     ensures verdicts { IfOk result (λ verdicts. OwnVerdicts rest.now pick (resting budget silent.now) verdicts.items) }
     ensures all { IfOk result (λ verdicts. length verdicts.items ≡ length (picked pick rest.now.ending.file.patterns)) }
     ensures fit { IfOk result (λ verdicts. AllByRecursion (VerdictFits rest.now.ending.file) verdicts.items) }
@@ -139,6 +144,7 @@ fn next_verdict<R: Threads + Sync, P, T: Target<P>>(
     target: &mut T,
 ) -> Result<Verdict, AllocError>
     requires limit { budget.nodes ≤ MOST_NODES }
+    requires narrow { budget.lazy ≡ false → IsNarrow rest.now.ending.file.automaton }
     requires exists { pattern < length rest.now.ending.file.patterns }
     ensures holds { IfOk result (λ verdict. OfPattern rest.now.ending.file pattern (λ p. OwnVerdict rest.now (resting budget silent.now) pattern p verdict)) }
     ensures fits { IfOk result (VerdictFits rest.now.ending.file) }

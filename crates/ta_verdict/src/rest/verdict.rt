@@ -9,6 +9,7 @@ ghost use Rattle.ta_verdict.specs.Rest.Budgets.{words_within};
 ghost use Rattle.ta_verdict.specs.Rest.Verdicts.{IsNotSafe, KeepsSafe, OwnVerdict};
 ghost use Rattle.ta_rest.specs.RestSearch.{rest_search};
 ghost use Rattle.ta_walk.specs.Ends.{NodeOf, SolutionAt};
+ghost use Rattle.ta_automaton.specs.Narrow.{IsNarrow};
 ghost use Rattle.ta_automaton.specs.Numbered.{OfPattern};
 
 use crate::{report_kind, unwitnessed};
@@ -36,6 +37,7 @@ pub fn rest_verdict<D: Dictionary, K: PartKeeper, R: Threads + Sync>(
 ) -> Result<Verdict, AllocError>
     requires exists { pattern < length rest.now.ending.file.patterns }
     requires limit { nodes ≤ MOST_NODES }
+    requires narrow { IsNarrow rest.now.ending.file.automaton }
     requires keeps { K.keeps keeper.old keeper.old [] }
     ensures holds { IfOk result (λ verdict. OfPattern rest.now.ending.file pattern (λ p. OwnVerdict rest.now (words_within nodes) pattern p verdict)) }
     ensures fits { IfOk result (VerdictFits rest.now.ending.file) }
@@ -66,7 +68,8 @@ fn verdict_of(
     node: u64,
     solution: &Solution,
 ) -> Result<Verdict, AllocError>
-    requires { IsRestSolution rest.now.ending.file solution.now }
+    requires solution { IsRestSolution rest.now.ending.file solution.now }
+    requires narrow { IsNarrow rest.now.ending.file.automaton }
     ensures holds { (budget number : ℕ) (p : Pattern) → NodeOf (rest_search rest.now.ending.file.automaton p) budget node (SolutionAt (rest_search rest.now.ending.file.automaton p) number solution.now) → IfOk result (λ verdict. OwnVerdict rest.now (words_within budget) number p verdict) }
     ensures fits { IfOk result (VerdictFits rest.now.ending.file) }
     ensures other { IfOk result IsNotSafe }

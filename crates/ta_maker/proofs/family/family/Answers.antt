@@ -20,13 +20,13 @@ invariant_of-result c =
     let named = c.in_ok-spelled.field-0 in
     record {
       few_parameters = omega (arith, parameters);
-      few_shared = few_counted plain_name (numbered (codes "x")) head.shared c.args.k 16 (let b = c.requires.high in omega arith) is.shared;
+      few_shared = few_counted plain_name (numbered (codes "x")) head.shared c.args.k 64 (let b = c.requires.high in omega arith) is.shared;
       some_locations = omega (arith, locations);
       few_locations = omega (arith, locations);
       is_processes = is_lone _ _ named.name c.in_ok-processes.ensures c.name_term.ensures named.legal;
       shallow_processes = shallow_lone _ _ named.name c.in_ok-processes.ensures c.name_term.ensures;
       few_resilience = omega (arith, resilience);
-      few_rules = few_rules plain_rule c.in_ok-rules.rules c.args.k c.requires.high c.in_ok-rules.ensures;
+      few_rules = omega (arith, few_rules plain_rule c.in_ok-rules.rules c.args.k c.requires.high c.in_ok-rules.ensures);
       few_patterns = omega (arith, patterns);
     }
 

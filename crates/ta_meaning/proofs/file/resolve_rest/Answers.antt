@@ -5,23 +5,26 @@ use Rattle.ta_meaning.proofs.file.resolve_rest.Goals as goal
 
 pub returns-in_err-rules : goal.returns-in_err-rules
 returns-in_err-rules c =
-    let all = rules-answer c.args.places.now c.args.tree (Err c.in_err-rules.field-0.0) c.requires.places (rw c.into_vec.ensures at c.in_err-rules.ensures) in
-    rw (err_is c.from_residual.result _ c.from_residual.ensures.1) (at-rules c.args.tree c.in_err-rules.field-0.0 c.requires.clean all)
+    let all = rules-answer c.args.limits.now c.args.places.now c.args.tree (Err c.in_err-rules.field-0.0) c.requires.places
+    (rw c.into_vec.ensures at c.in_err-rules.ensures) in
+    rw (err_is c.from_residual.result _ c.from_residual.ensures.1) (at-rules c.args.limits.now c.args.tree c.in_err-rules.field-0.0 c.requires.clean all)
 
 pub returns-in_err-patterns : goal.returns-in_err-patterns
 returns-in_err-patterns c =
-    let all = rules-answer c.args.places.now c.args.tree (Ok c.in_ok-rules.rules) c.requires.places (rw c.into_vec.ensures at c.in_ok-rules.ensures) in
+    let all = rules-answer c.args.limits.now c.args.places.now c.args.tree (Ok c.in_ok-rules.rules) c.requires.places
+    (rw c.into_vec.ensures at c.in_ok-rules.ensures) in
     let patterns = patterns-answer c.args.places.now c.args.tree (Err c.in_err-patterns.field-0.0) c.requires.places
     (rw c.into_vec-2.ensures at c.in_err-patterns.ensures) in
     rw (err_is c.from_residual-in_err-patterns.result _ c.from_residual-in_err-patterns.ensures.1)
-    (at-patterns c.args.tree c.in_err-patterns.field-0.0 c.requires.clean all.0 patterns)
+    (at-patterns c.args.limits.now c.args.tree c.in_err-patterns.field-0.0 c.requires.clean all.0 patterns)
 
 pub invariant_of-automaton : goal.invariant_of-automaton
 invariant_of-automaton c =
-    let all = rules-answer c.args.places.now c.args.tree (Ok c.in_ok-rules.rules) c.requires.places (rw c.into_vec.ensures at c.in_ok-rules.ensures) in
+    let all = rules-answer c.args.limits.now c.args.places.now c.args.tree (Ok c.in_ok-rules.rules) c.requires.places
+    (rw c.into_vec.ensures at c.in_ok-rules.ensures) in
     let declared = c.in_ok-names.ensures in
     record {
-      shape = automaton_shape-along c.args.tree _ _ _ _ _ c.args.head.processes c.args.head.resilience c.in_ok-rules.rules.rise.items
+      shape = automaton_shape-along c.args.limits.now c.args.tree _ _ _ _ _ c.args.head.processes c.args.head.resilience c.in_ok-rules.rules.rise.items
           c.in_ok-rules.rules.fall.items _ _ c.in_ok-rules.rules.rules.items _
           refl declared.parameters declared.shared declared.locations declared.initial c.from_vec.ensures c.from_vec-2.ensures c.from_vec-3.ensures
           c.requires.clean.names c.requires.head.processes c.requires.head.resilience all.1;
@@ -39,11 +42,16 @@ invariant_of-result c =
 
 pub returns : goal.returns
 returns c =
-    let all = rules-answer c.args.places.now c.args.tree (Ok c.in_ok-rules.rules) c.requires.places (rw c.into_vec.ensures at c.in_ok-rules.ensures) in
+    let all = rules-answer c.args.limits.now c.args.places.now c.args.tree (Ok c.in_ok-rules.rules) c.requires.places
+    (rw c.into_vec.ensures at c.in_ok-rules.ensures) in
     let patterns = patterns-answer c.args.places.now c.args.tree (Ok c.in_ok-patterns.patterns) c.requires.places
     (rw c.into_vec-2.ensures at c.in_ok-patterns.ensures) in
     let declared = c.in_ok-names.ensures in
-    let automaton = means_automaton c.args.tree _ c.in_ok-rules.rules.rise.items c.in_ok-rules.rules.fall.items c.in_ok-rules.rules.rules.items
+    let automaton = means_automaton c.args.limits.now c.args.tree _ c.in_ok-rules.rules.rise.items c.in_ok-rules.rules.fall.items
+    c.in_ok-rules.rules.rules.items
     refl declared.parameters declared.shared declared.locations declared.initial c.from_vec.ensures c.from_vec-2.ensures c.from_vec-3.ensures
-    c.requires.head.processes c.requires.head.resilience all.1 in
-    (all-clean c.args.tree c.requires.clean all.0 patterns.0, record { automaton = automaton; patterns = rw c.from_vec-4.ensures patterns.1.means })
+    c.requires.head.processes c.requires.head.resilience all.1 in (
+      all-clean c.args.limits.now c.args.tree c.requires.clean all.0 patterns.0,
+      record
+          { automaton = automaton; patterns = rw c.from_vec-4.ensures patterns.1.means },
+    )

@@ -3,8 +3,8 @@ use Rattle.ta_program.proofs.Common.{word_seen}
 use Rattle.ta_program.proofs.WordMeanings.{word_cause, word_refused}
 use Rattle.ta_program.proofs.admit.judge_word.Goals as goal
 
-pub judge_values-requires : goal.judge_values-requires
-judge_values-requires g c = legal_word c.args.scoped.now.file (asked_seen c.args.asked.now).word (word_seen c.in-Ok.word) c.in-Ok.ensures.word.is
+pub judge_values-requires-clause-word : goal.judge_values-requires-clause-word
+judge_values-requires-clause-word g c = legal_word c.args.scoped.now.file (asked_seen c.args.asked.now).word (word_seen c.in-Ok.word) c.in-Ok.ensures.word.is
 
 pub returns-in-Ok-clause-says : goal.returns-in-Ok-clause-says
 returns-in-Ok-clause-says g c =

@@ -1,3 +1,4 @@
+use Rattle.ta_base.specs.LimitRows.{narrow}
 use Rattle.ta_program.proofs.Common.{◌≡◌, take, CheckerStandsFor, subject_of, claiming, concat}
 use Rattle.ta_rest.specs.declared.claim.Claim.TheVariants.{Safe}
 use Rattle.ta_program.proofs.bench.accept.Given as goal
@@ -6,5 +7,5 @@ use Rattle.ta_program.proofs.bench.accept.Given as goal
 abbrev pub invariant-loop-piece : goal.invariant-loop-piece
 invariant-loop-piece l = record {
   stands : CheckerStandsFor l.checker (concat (take l.piece-index l.pieces));
-  subject : subject_of l.checker ≡ claiming Safe l.scoped.file;
+  subject : subject_of l.checker ≡ claiming Safe l.scoped.file narrow.line_bytes;
 }

@@ -1,3 +1,4 @@
+use Rattle.ta_base.specs.LimitRows.{narrow}
 use Rattle.ta_program.proofs.Common.{false, [], refl, subst, Ok, Subject, claiming, Grew, Accepted, Stage, replies, grew_none, grew_then, replies_monotone}
 use Rattle.ta_program.proofs.Common.{certificate_kind}
 use Rattle.ta_program.specs.Proofs.{SaysProofs}
@@ -9,10 +10,10 @@ returns-in-Ok-clause-says g c =
     let file = c.args.scoped.now.file in
     let stage = subst (λ (s : Subject). Grew
     (Stage (certificate_kind s) (λ (a : Accepted). a.patterns) (g.S.Shelf.files c.args.shelf.now) c.args.name.now (Ok c.in-Ok.accepted))
-    (g.S.Shelf.calls c.args.shelf.now) (g.S.Shelf.calls c.read_certificate.new.shelf)) c.new.ensures.subject c.in-Ok.ensures.stage in
+    (g.S.Shelf.calls c.args.shelf.now) (g.S.Shelf.calls c.read_certificate.new.shelf)) (rw c.narrow.ensures at c.new-checker.ensures.subject) c.in-Ok.ensures.stage in
     let options = c.args.options in
     let says = c.answer_proofs.ensures.says (g.S.Shelf.files c.args.shelf.now) in
-    grew_then (certificate_kind (claiming claim.Safe file)) c.args.name.now [] (λ numbers. replies [] (SaysProofs false file options numbers))
+    grew_then (certificate_kind (claiming claim.Safe file narrow.line_bytes)) c.args.name.now [] (λ numbers. replies [] (SaysProofs false file options numbers))
     (λ numbers. replies_monotone [] (SaysProofs false file options numbers)) (λ (a : Accepted). a.patterns) _ c.in-Ok.accepted c.answer_proofs.result _ _ _
     (λ v. refl)
     stage (grew_none _ _ c.answer_proofs.result _ (rw (c.file.ensures, c.as_slice-numbers.ensures) at says))

@@ -2,8 +2,8 @@ use Rattle.ta_program.proofs.Common.{[], refl, replies, Answer, finds_then, IsWo
 use Rattle.ta_program.proofs.WordMeanings.{word_cause, word_refused}
 use Rattle.ta_program.proofs.export.answer_export.Goals as goal
 
-pub answer_system-requires : goal.answer_system-requires
-answer_system-requires c = legal_word c.args.file.now (asked_seen c.args.asked.now).word (word_seen c.in-Ok.word) c.in-Ok.ensures.word
+pub answer_system-requires-clause-word : goal.answer_system-requires-clause-word
+answer_system-requires-clause-word c = legal_word c.args.file.now (asked_seen c.args.asked.now).word (word_seen c.in-Ok.word) c.in-Ok.ensures.word
 
 pub returns-in-Ok-clause-says : goal.returns-in-Ok-clause-says
 returns-in-Ok-clause-says c files =

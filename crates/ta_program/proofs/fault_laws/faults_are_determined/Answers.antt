@@ -1,9 +1,10 @@
+use Rattle.ta_base.specs.LimitRows.{narrow}
 use Rattle.ta_search.proofs.OneFault.{one_fault}
 use Rattle.ta_program.proofs.FaultsOnce.{certificate_once, long_once, run_once, values_once}
 use Rattle.ta_program.proofs.fault_laws.faults_are_determined.Goals as goal
 
 pub returns-clause-file : goal.returns-clause-file
-returns-clause-file c = c.meanings_are_unique.ensures.first_faults
+returns-clause-file c = c.meanings_are_unique.ensures.first_faults narrow
 
 pub returns-clause-certificate : goal.returns-clause-certificate
 returns-clause-certificate c = certificate_once

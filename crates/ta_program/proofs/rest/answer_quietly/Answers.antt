@@ -9,10 +9,13 @@ use Rattle.ta_program.proofs.rest.answer_quietly.Goals as goal
 pub answer_picked-requires : goal.answer_picked-requires
 answer_picked-requires g c = (
   search rules,
-  λ words.
-      let names = option_map (λ w. w.now) c.args.asked.now.silent.names in
-      let none : names ≡ None = ap (option_map (λ w. w.now)) (c.args.asked.now.silent.quiet words) in
-      c.as_slice.ensures ∙ none_silent c.args.rest.now.ending.file.automaton names c.in-Ok.places none c.in-Ok.ensures.silent,
+  (
+    λ words.
+        let names = option_map (λ w. w.now) c.args.asked.now.silent.names in
+        let none : names ≡ None = ap (option_map (λ w. w.now)) (c.args.asked.now.silent.quiet words) in
+        c.as_slice.ensures ∙ none_silent c.args.rest.now.ending.file.automaton names c.in-Ok.places none c.in-Ok.ensures.silent,
+    c.requires.narrow,
+  ),
 )
 
 pub returns-in-Ok-clause-says : goal.returns-in-Ok-clause-says

@@ -1,3 +1,5 @@
+use Rattle.ta_automaton.proofs.Narrows.{within_narrow}
+use Rattle.ta_base.specs.LimitRows.{narrow}
 use Rattle.std.specs.List.{concat}
 use Rattle.ta_search.proofs.Common.{◌≤◌, List, length, refl, subst, sym, slice_get_past, slice_get_read, Verdict, Certificate, CertificateOf, safe_numbers}
 use Rattle.ta_search.proofs.Common.{AreVerdicts, IsSafe}
@@ -41,6 +43,7 @@ returns-in-None g c = λ bytes values sampled.
     let text = concat c.in_ok-judged.judged.certificate in
     let are = subst (AreVerdicts file budget) (sym c.as_slice-verdicts.ensures) ensures.verdicts in
     let certificate = subst (λ (ws : List Verdict). CertificateOf file budget ws text) (sym c.as_slice-verdicts.ensures) (ensures.certificate refl) in
-    let accepted = subst (λ (ws : List Verdict). Certificate file text (safe_numbers file ws)) (sym c.as_slice-verdicts.ensures) (ensures.accepted refl) in
+    let accepted = subst (λ (ws : List Verdict). Certificate file narrow.line_bytes text (safe_numbers file ws)) (sym c.as_slice-verdicts.ensures)
+    (ensures.accepted narrow (within_narrow file.automaton c.requires.narrow) refl) in
     subst (IsSafe bytes budget) (sym c.from_pieces.ensures)
     (safe_holds bytes budget file vs place values text sampled are c.safe_before-place.ensures (slice_get_past vs place past) certificate accepted)

@@ -9,8 +9,8 @@ returns-then-not-begins-clause-fault c =
     no_start file c.args.name.now c.args.start_mask c.args.elements.now c.in-Some.pattern named
     (beyond_by c.args.start_mask (2 ^ length file.automaton.fall) c.begins.result c.begins.ensures c.if-not-begins.true)
 
-pub of-requires : goal.of-requires
-of-requires c =
+pub of-requires-clause-number : goal.of-requires-clause-number
+of-requires-clause-number c =
     let named = rw c.as_slice.ensures at c.in-Some.ensures in
     slice_get_within c.args.file.now.patterns c.in-Some.pattern named.0 named.1.at
 

@@ -2,4 +2,4 @@ use Rattle.ta_syntax.proofs.Answered.{tokens_have_answers, tree_limits, tree_sca
 use Rattle.ta_syntax.proofs.answers.tokens_have_answers.Goals as goal
 
 pub returns : goal.returns
-returns c = record { answers = tokens_have_answers; limits = λ t is. (tree_limits t is, tree_scan t is) }
+returns c = record { answers = tokens_have_answers; limits = λ l t is. (tree_limits l t is, tree_scan l t is) }

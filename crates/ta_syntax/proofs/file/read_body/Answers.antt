@@ -1,4 +1,5 @@
 use Rattle.ta_syntax.proofs.Common.{refl, ap, inl, inr, ◌≡◌, ◌∙◌, [], List, Token, err_is, nil_from_length}
+use Rattle.ta_base.specs.declared.limits.Limits.{Limits}
 use Rattle.ta_syntax.specs.FileGrammar as grammar
 use Rattle.ta_syntax.specs.FileReading.{body}
 use Rattle.ta_syntax.specs.Productions.{Production, both, nothing, parse}
@@ -7,25 +8,29 @@ use Rattle.ta_syntax.proofs.FileSteps.{to_end}
 use Rattle.ta_syntax.proofs.Steps.{then, past, halts_by, halts_in, stops_first}
 use Rattle.ta_syntax.proofs.file.read_body.Goals as goal
 
-abbrev all_patterns : Production
-all_patterns = grammar.blocks 16 mark.Pattern grammar.pattern
+abbrev all_rules : Limits → Production
+all_rules l = grammar.blocks l.rules mark.Rule grammar.rule
 
-abbrev all_blocks : Production
-all_blocks = both (grammar.blocks 128 mark.Rule grammar.rule) all_patterns
+abbrev all_patterns : Limits → Production
+all_patterns l = grammar.blocks l.patterns mark.Pattern (grammar.pattern l)
+
+abbrev all_blocks : Limits → Production
+all_blocks l = both (all_rules l) (all_patterns l)
 
 pub returns-in_err-resilience : goal.returns-in_err-resilience
 returns-in_err-resilience c = rw (err_is c.from_residual.result _ c.from_residual.ensures.1)
-    (inl (stops_first (grammar.declared_list mark.Resilience 16 grammar.comparison) all_blocks c.args.end c.args.tokens.now c.in_err-resilience.field-0.0
+    (inl (stops_first (grammar.declared_list mark.Resilience 16 grammar.comparison) (all_blocks c.args.limits.now) c.args.end c.args.tokens.now
+    c.in_err-resilience.field-0.0
     c.in_err-resilience.ensures))
 
 pub returns-in_err-rules : goal.returns-in_err-rules
 returns-in_err-rules c = rw (err_is c.from_residual-in_err-rules.result _ c.from_residual-in_err-rules.ensures.1)
-    (inl (halts_in body (grammar.blocks 128 mark.Rule grammar.rule) all_patterns c.args.end c.in_err-rules.field-0.0 (past c.in_ok-resilience.ensures.took)
-    c.in_err-rules.ensures))
+    (inl (halts_in (body c.args.limits.now) (all_rules c.args.limits.now) (all_patterns c.args.limits.now) c.args.end c.in_err-rules.field-0.0
+    (past c.in_ok-resilience.ensures.took) c.in_err-rules.ensures))
 
 pub returns-in_err-patterns : goal.returns-in_err-patterns
 returns-in_err-patterns c = rw (err_is c.from_residual-in_err-patterns.result _ c.from_residual-in_err-patterns.ensures.1)
-    (inl (halts_by body all_patterns c.args.end c.in_err-patterns.field-0.0
+    (inl (halts_by (body c.args.limits.now) (all_patterns c.args.limits.now) c.args.end c.in_err-patterns.field-0.0
     (then (past c.in_ok-resilience.ensures.took) (past c.in_ok-rules.ensures.took)) c.in_err-patterns.ensures))
 
 pub returns-in-Some : goal.returns-in-Some

@@ -9,7 +9,8 @@ returns-in_err-names c = rw (err_is c.from_residual.result _ c.from_residual.ens
 
 pub returns-in_err-places : goal.returns-in_err-places
 returns-in_err-places c = rw (err_is c.from_residual-in_err-places.result _ c.from_residual-in_err-places.ensures.1)
-    (halts_by grammar.head places c.args.end c.in_err-places.field-0.0 c.in_ok-names.ensures.took c.in_err-places.ensures)
+    (halts_by (grammar.head c.args.limits.now) (places c.args.limits.now) c.args.end c.in_err-places.field-0.0 c.in_ok-names.ensures.took
+    c.in_err-places.ensures)
 
 pub returns : goal.returns
 returns c = record {

@@ -6,11 +6,13 @@ use Rattle.ta_syntax.proofs.file.read_places.Goals as goal
 
 pub returns-in_err-locations_at : goal.returns-in_err-locations_at
 returns-in_err-locations_at c = rw (err_is c.from_residual.result _ c.from_residual.ensures.1)
-    (stops_first grammar.locations grammar.processes c.args.end c.args.tokens.now c.in_err-locations_at.field-0.0 c.in_err-locations_at.ensures)
+    (stops_first (grammar.locations c.args.limits.now) grammar.processes c.args.end c.args.tokens.now c.in_err-locations_at.field-0.0
+    c.in_err-locations_at.ensures)
 
 pub returns-in_err-processes_at : goal.returns-in_err-processes_at
 returns-in_err-processes_at c = rw (err_is c.from_residual-in_err-processes_at.result _ c.from_residual-in_err-processes_at.ensures.1)
-    (halts_by places grammar.processes c.args.end c.in_err-processes_at.field-0.0 (past c.in_ok-locations_at.ensures.took) c.in_err-processes_at.ensures)
+    (halts_by (places c.args.limits.now) grammar.processes c.args.end c.in_err-processes_at.field-0.0 (past c.in_ok-locations_at.ensures.took)
+    c.in_err-processes_at.ensures)
 
 pub returns : goal.returns
 returns c = record {

@@ -6,8 +6,8 @@ use Rattle.ta_walk.specs.declared.end.VisitEnd.TheVariants as visit
 use Rattle.ta_verdict.proofs.VerdictsMade.{overflow_holds, safe_holds, said_of, solution_found, spent_holds, under}
 use Rattle.ta_verdict.proofs.by_words.words_verdict.Goals as goal
 
-pub verdict_of-requires : goal.verdict_of-requires
-verdict_of-requires g c =
+pub verdict_of-requires-clause-solution : goal.verdict_of-requires-clause-solution
+verdict_of-requires-clause-solution g c =
     let s = c.args.scoped.now in
     solution_found s.file c.args.pattern c.requires.exists c.args.found.now.orders c.args.nodes c.in-Found.count c.in-Found.solution
     (λ p at. visit_of (search_of_claim c.new-tree.result) (pattern_search s.file.automaton p c.args.found.now.orders) c.new-tree.result.number c.args.pattern
@@ -20,7 +20,8 @@ returns-in-Refuted-clause-holds g c = λ p at.
     let tree = visit_of (search_of_claim c.new-tree.result) (pattern_search s.file.automaton p c.args.found.now.orders) c.new-tree.result.number c.args.pattern
     c.args.nodes _ (visit.Refuted c.in-Refuted.count c.in-Refuted.leaves) (c.new-tree.ensures.search p at) c.new-tree.ensures.number
     (rw c.in-Refuted.is at c.in_ok-count.ensures.ends) in
-    safe_holds s.file c.args.pattern p at (loops_pure s.file.automaton s.in_scope) c.args.found.now.list c.args.found.now.orders c.requires.found.orders
+    safe_holds s.file c.args.pattern p at c.requires.narrow
+    (loops_pure s.file.automaton s.in_scope) c.args.found.now.list c.args.found.now.orders c.requires.found.orders
     c.requires.found.pairs c.args.nodes c.requires.limit tree.nodes c.in-Refuted.count c.in-Refuted.leaves tree.is tree.counted
 
 pub returns-in-Refuted-clause-drafted : goal.returns-in-Refuted-clause-drafted

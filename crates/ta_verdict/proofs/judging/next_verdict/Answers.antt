@@ -40,3 +40,6 @@ returns-then-not-is_safe-clause-holds g c = (said g (goal.at.returns-then-not-is
 
 pub returns-clause-holds : goal.returns-clause-holds
 returns-clause-holds g c = (said g (goal.at.returns-clause-holds g c).After-is_safe).holds
+
+pub words_verdict-requires-clause-narrow : goal.words_verdict-requires-clause-narrow
+words_verdict-requires-clause-narrow g c = λ given lives. c.requires.narrow (sym c.requires.lazy ∙ ap is_lazy c.in-Words.is)

@@ -3,8 +3,8 @@ use Rattle.ta_witness.proofs.Giving.{own_given}
 use Rattle.ta_witness.proofs.Resting.{solutions_solve}
 use Rattle.ta_witness.proofs.rest_witnessing.rest_witness.Goals as goal
 
-pub witness-requires : goal.witness-requires
-witness-requires c = solutions_solve c.args.rest.now.ending.file c.args.solution.now c.requires
+pub witness-requires-clause-solution : goal.witness-requires-clause-solution
+witness-requires-clause-solution c = solutions_solve c.args.rest.now.ending.file c.args.solution.now c.requires.solution
 
 pub own_run-requires : goal.own_run-requires
 own_run-requires c =
@@ -21,7 +21,7 @@ returns-clause-run c = λ file ends.
     (record {
       scope = rest.ending.in_scope;
       last = rest.come_last;
-      solved = c.requires;
+      solved = c.requires.solution;
       witness = e.witness;
       fits = e.fits;
       shows = e.shows;

@@ -39,6 +39,7 @@ returns-clause-unsolved c = λ safe.
     let s = c.args.self in
     let file = s.scoped.now.file in
     let some = stands_somewhere s c.if-failed.false c.requires in
-    let certificate = subst (λ (claim : Claim). CertificateFor (claiming_with claim file s.silent.now) some.0 c.from_vec.result) safe
+    let certificate = subst (λ (claim : Claim). CertificateFor (claiming_with claim file s.silent.now s.line_bytes) some.0 c.from_vec.result) safe
     (returns-clause-answer c some.0 some.1) in
-    certificate_unsolved file s.silent.now some.0 c.from_vec.result (loops_pure file.automaton s.scoped.now.in_scope) s.scoped.now.in_scope certificate
+    certificate_unsolved file s.silent.now s.line_bytes some.0 c.from_vec.result (loops_pure file.automaton s.scoped.now.in_scope) s.scoped.now.in_scope
+    certificate

@@ -3,9 +3,9 @@ use Rattle.ta_check.proofs.JudgingProofs.{begins, begins_none, empty_of, first_o
 use Rattle.ta_check.proofs.position.Position.begin_moments.Goals as goal
 
 pub returns-in-Some : goal.returns-in-Some
-returns-in-Some c = λ at is free.
+returns-in-Some c = λ limit at is free.
     let s = c.args.self.now in
-    let subject = claiming_with c.args.claim c.args.file.now c.args.silent.now in
+    let subject = claiming_with c.args.claim c.args.file.now c.args.silent.now limit in
     let found = pattern_exists subject c.args.pattern c.requires.exists in
     let new = record s { proved = c.push.new.self; current = Some c.args.pattern; moments = c.in-Some.place; kept = c.nothing.result } in
     begins Moments subject s new at c.args.pattern found.0 c.requires.kind found.1 c.requires.fresh is free (record {
@@ -17,9 +17,9 @@ returns-in-Some c = λ at is free.
     })
 
 pub returns-in-None : goal.returns-in-None
-returns-in-None c = λ at is free.
+returns-in-None c = λ limit at is free.
     let s = c.args.self.now in
-    let subject = claiming_with c.args.claim c.args.file.now c.args.silent.now in
+    let subject = claiming_with c.args.claim c.args.file.now c.args.silent.now limit in
     let found = pattern_exists subject c.args.pattern c.requires.exists in
     let new = record s { proved = c.push.new.self } in
     begins_none Moments subject s new at c.args.pattern found.0 c.requires.kind found.1 c.requires.fresh is free

@@ -3,8 +3,8 @@ use Rattle.ta_check.proofs.JudgingNodes.{some_newest, inside_no_pair}
 use Rattle.ta_check.proofs.position.Position.take_node.Goals as goal
 
 pub returns-then-not-has_form : goal.returns-then-not-has_form
-returns-then-not-has_form c = λ at is.
-    let subject = claiming_with c.args.claim c.args.file.now c.args.silent.now in
+returns-then-not-has_form c = λ limit at is.
+    let subject = claiming_with c.args.claim c.args.file.now c.args.silent.now limit in
     let n = some_newest subject c.args.self.now at c.args.pattern c.requires.none c.requires.current is in (
       refl,
       record {

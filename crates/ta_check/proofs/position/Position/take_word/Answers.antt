@@ -1,26 +1,36 @@
-use Rattle.ta_check.proofs.Common.{None, true, false, refl, err_is, Words, search_of, claiming_with}
+use Rattle.ta_check.proofs.Common.{sym, ◌∙◌, None, true, false, refl, err_is, Words, search_of, claiming_with}
+use Rattle.ta_check.proofs.Accepting.{words_not_third}
 use Rattle.ta_check.proofs.JudgingNodes.{some_newest, pattern_there, tree_within, tree_kept, node_taken, node_refused, told_in, stood_in}
 use Rattle.ta_check.proofs.position.Position.take_word.Goals as goal
 
-pub new-tree-requires : goal.new-tree-requires
-new-tree-requires c = pattern_there (claiming_with c.args.claim c.args.file.now c.args.silent.now) c.args.self.now c.args.pattern c.requires.none
-    c.requires.current c.requires.somewhere
+pub new-tree-requires-clause-narrow : goal.new-tree-requires-clause-narrow
+new-tree-requires-clause-narrow c =
+    let at = c.requires.somewhere in
+    at.2.narrow (λ three. words_not_third c.args.self.now.version c.requires.kind (sym at.2.version ∙ three))
+
+pub new-tree-requires-clause-number : goal.new-tree-requires-clause-number
+new-tree-requires-clause-number c =
+    let at = c.requires.somewhere in
+    pattern_there (claiming_with c.args.claim c.args.file.now c.args.silent.now at.0) c.args.self.now at.1 c.args.pattern c.requires.none c.requires.current
+    at.2
 
 pub read_node-requires-clause-within : goal.read_node-requires-clause-within
-read_node-requires-clause-within c = tree_within Words (claiming_with c.args.claim c.args.file.now c.args.silent.now) c.args.self.now c.args.pattern _
-    c.requires.none c.requires.current c.requires.kind c.new-tree.ensures.search c.requires.somewhere
+read_node-requires-clause-within c =
+    let at = c.requires.somewhere in
+    tree_within Words (claiming_with c.args.claim c.args.file.now c.args.silent.now at.0) c.args.self.now at.1 c.args.pattern _ c.requires.none
+    c.requires.current c.requires.kind c.new-tree.ensures.search at.2
 
 pub read_node-requires-clause-kept : goal.read_node-requires-clause-kept
 read_node-requires-clause-kept c =
-    let subject = claiming_with c.args.claim c.args.file.now c.args.silent.now in
     let at = c.requires.somewhere in
-    let n = some_newest subject c.args.self.now at.0 c.args.pattern c.requires.none c.requires.current at.1 in
-    (c.new-tree.ensures.kept n.0 n.1.named c.args.self.now.encoding).1 (tree_kept Words subject c.args.self.now at.0 c.args.pattern n.0 c.requires.kind n.1)
+    let subject = claiming_with c.args.claim c.args.file.now c.args.silent.now at.0 in
+    let n = some_newest subject c.args.self.now at.1 c.args.pattern c.requires.none c.requires.current at.2 in
+    (c.new-tree.ensures.kept n.0 n.1.named c.args.self.now.encoding).1 (tree_kept Words subject c.args.self.now at.1 c.args.pattern n.0 c.requires.kind n.1)
 
 pub returns-in_err-read_node : goal.returns-in_err-read_node
-returns-in_err-read_node c = λ at is.
+returns-in_err-read_node c = λ limit at is.
     let s = c.args.self.now in
-    let subject = claiming_with c.args.claim c.args.file.now c.args.silent.now in
+    let subject = claiming_with c.args.claim c.args.file.now c.args.silent.now limit in
     let n = some_newest subject s at c.args.pattern c.requires.none c.requires.current is in
     let f = c.in_err-read_node.field-0.0 in
     let new = record s { words = c.read_node.new.place; encoding = c.read_node.new.kept } in
@@ -30,9 +40,9 @@ returns-in_err-read_node c = λ at is.
     (node_refused Words subject s new at c.args.pattern c.args.number n.0 c.args.node.now f n.1 c.requires.kind c.requires.has told)
 
 pub returns-then-not-branch : goal.returns-then-not-branch
-returns-then-not-branch c = λ at is.
+returns-then-not-branch c = λ limit at is.
     let s = c.args.self.now in
-    let subject = claiming_with c.args.claim c.args.file.now c.args.silent.now in
+    let subject = claiming_with c.args.claim c.args.file.now c.args.silent.now limit in
     let n = some_newest subject s at c.args.pattern c.requires.none c.requires.current is in
     let new = record s { words = c.read_node.new.place; encoding = c.read_node.new.kept; current = None } in
     let taken = rw c.if-not-branch.true at c.in_ok-read_node.ensures.taken in
@@ -43,9 +53,9 @@ returns-then-not-branch c = λ at is.
     ((c.new-tree.ensures.kept n.0 n.1.named c.read_node.new.kept).0 c.in_ok-read_node.ensures.kept) stood
 
 pub returns-else-not-branch : goal.returns-else-not-branch
-returns-else-not-branch c = λ at is.
+returns-else-not-branch c = λ limit at is.
     let s = c.args.self.now in
-    let subject = claiming_with c.args.claim c.args.file.now c.args.silent.now in
+    let subject = claiming_with c.args.claim c.args.file.now c.args.silent.now limit in
     let n = some_newest subject s at c.args.pattern c.requires.none c.requires.current is in
     let new = record s { words = c.read_node.new.place; encoding = c.read_node.new.kept } in
     let taken = rw c.if-not-branch.false at c.in_ok-read_node.ensures.taken in

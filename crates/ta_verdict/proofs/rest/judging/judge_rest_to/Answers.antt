@@ -19,7 +19,7 @@ returns-clause-certificate g c = λ begun has.
       text = text;
       has = c.in_ok-add-2.ensures.added begun (head ++ proofs_text made.0) (ended_line line.End) made.2 c.in_ok-end.ensures.text;
       certificate = certificate;
-      accepted = rest_accepted file c.args.pick budget c.requires.words c.requires.limit c.from_vec.result text certificate;
+      accepted = rest_accepted file c.args.pick budget c.requires.words c.requires.narrow c.requires.limit c.from_vec.result text certificate;
     }
 
 pub returns-in_err-verdicts-clause-stops : goal.returns-in_err-verdicts-clause-stops

@@ -42,3 +42,6 @@ returns-then-not-is_safe-clause-holds g c = (said g (goal.at.returns-then-not-is
 
 pub returns-clause-holds : goal.returns-clause-holds
 returns-clause-holds g c = (said g (goal.at.returns-clause-holds g c).After-is_safe).holds
+
+pub rest_verdict-requires-clause-narrow : goal.rest_verdict-requires-clause-narrow
+rest_verdict-requires-clause-narrow g c = λ given lives. c.requires.narrow c.if-budget.false

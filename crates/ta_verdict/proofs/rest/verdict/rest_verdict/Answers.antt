@@ -5,8 +5,8 @@ use Rattle.ta_walk.specs.declared.end.VisitEnd.TheVariants as visit
 use Rattle.ta_verdict.proofs.rest.VerdictsTold.{nothing_kept, safe_verdict, solution_found, spent_verdict}
 use Rattle.ta_verdict.proofs.rest.verdict.rest_verdict.Goals as goal
 
-pub verdict_of-requires : goal.verdict_of-requires
-verdict_of-requires g c =
+pub verdict_of-requires-clause-solution : goal.verdict_of-requires-clause-solution
+verdict_of-requires-clause-solution g c =
     solution_found c.args.rest.now.ending.file c.args.pattern c.requires.exists c.args.nodes c.in-Found.count c.in-Found.solution
     (λ p at. visit_of (search_of_claim c.new-tree.result) (rest_search c.args.rest.now.ending.file.automaton p) c.new-tree.result.number c.args.pattern
     c.args.nodes (λ ns. Unit {0}) (visit.Found c.in-Found.count c.in-Found.solution) (c.new-tree.ensures.search p at) c.new-tree.ensures.number
@@ -14,7 +14,7 @@ verdict_of-requires g c =
 
 pub returns-in-Refuted-clause-holds : goal.returns-in-Refuted-clause-holds
 returns-in-Refuted-clause-holds g c = λ p at.
-    safe_verdict c.args.rest.now c.args.nodes c.args.pattern p _ c.in-Refuted.count c.in-Refuted.leaves at c.requires.limit
+    safe_verdict c.args.rest.now c.args.nodes c.args.pattern p _ c.in-Refuted.count c.in-Refuted.leaves at c.requires.narrow c.requires.limit
     (visit_of (search_of_claim c.new-tree.result) (rest_search c.args.rest.now.ending.file.automaton p) c.new-tree.result.number c.args.pattern c.args.nodes _
     (visit.Refuted c.in-Refuted.count c.in-Refuted.leaves) (c.new-tree.ensures.search p at) c.new-tree.ensures.number
     (rw c.in-Refuted.is at c.in_ok-count.ensures.ends))
