@@ -1,13 +1,13 @@
 #!/usr/bin/env python3
 """Judges a certificate without `tav`: for people who trust nobody's proofs.
 
-    tools/check_certificate.py [--rest [--silent NAMES]] [--parameters] [--all] FILE CERT
+    tools/check_certificate.py [--rest [--silent NAMES]] [--parameters] [--all] [--wide] FILE CERT
 
 Written from docs/FORMATS.md alone, it shares nothing with `tav`, and is plain before it is fast. It prints what
 `tav check FILE CERT` prints, or with --rest what `tav rest-check FILE CERT` does, with its status: 0 where CERT is accepted,
 3 where FILE is missing or at fault, 4 where CERT is, 5 for other words, 6 where reading or writing fails, 7 for want of
-memory. --parameters adds the line `parameters: ..` of `tav verify`; with --all the status is 2 in place of 0 where some
-pattern isn't proved, or parameters are none or unknown. NAMES, with commas between, have no terms in quiet rest.
+memory. --parameters adds the line `parameters: ..` of `tav verify`; with --all the status is 2 in place of 0 where some pattern
+isn't proved, or parameters are none or unknown. NAMES, with commas between, have no terms in quiet rest. --wide: wide limits.
 
 A certificate is a tree of cases. A leaf multiplies some rows (each says `row >= 0`) and adds them; where the sum has no
 positive coefficient and a negative constant, no natural numbers meet the rows, and the case can't come about. So read
@@ -27,8 +27,7 @@ from array import array
 from collections import namedtuple
 
 ONE = ""  # the key of a form's constant
-RANGE, LONGEST_FILE, LONGEST_CERTIFICATE, LONGEST_LINE = 2**127, 2**20, 2**30, 2**20
-LARGEST, LONGEST_NAME, NESTED = 10**9, 64, 32
+RANGE, LONGEST_CERTIFICATE, LARGEST, LONGEST_NAME, NESTED = 2**127, 2**30, 10**9, 64, 32
 
 
 class Fault(Exception):
@@ -58,14 +57,14 @@ def negated(row):
 
 
 # ---- the automaton file
+Limits = namedtuple("Limits", "bytes line patterns parameters shared locations rules rise fall")
+NARROW, WIDE = Limits(2**20, 2**20, 16, 16, 16, 32, 128, 16, 6), Limits(2**22, 2**23, 64, 32, 64, 128, 1024, 64, 16)
 Rule = namedtuple("Rule", "name source target rise fall updates")
-Event = namedtuple("Event", "name after rows")
-Pattern = namedtuple("Pattern", "name start empty events")
+Event, Pattern = namedtuple("Event", "name after rows"), namedtuple("Pattern", "name start empty events")
 Moment = namedtuple("Moment", "early late is_pair")  # two vectors, of a point the same one
 PairSystem = namedtuple("PairSystem", "unknowns rows")
 KINDS, FIRSTS = ("parameter", "shared", "location"), ("name", "number", "(", "-")
-KEYWORDS = """automaton parameters shared locations initial processes resilience rule when do pattern start empty event
-after""".split()
+KEYWORDS = "automaton parameters shared locations initial processes resilience rule when do pattern start empty event after".split()
 NAME = "[A-Za-z_][A-Za-z0-9_]*"
 TOKEN = re.compile(
     rb"(?P<space>[ \t\r\n]+|#[^\n]*)|(?P<name>%s)|(?P<number>[0-9]+)"
@@ -78,8 +77,8 @@ class Automaton:
     The first token that can't stand there, or passes a limit of lists, ends the reading; of the faults of what the tokens
     mean the first one is kept until all are read."""
 
-    def __init__(self, text):
-        self.tokens, self.at, self.nested, self.faults, self.first = [], 0, 0, 0, None
+    def __init__(self, text, limits=NARROW):
+        self.limits, self.tokens, self.at, self.nested, self.faults, self.first = limits, [], 0, 0, 0, None
         for token in TOKEN.finditer(text):
             kind, word, at = token.lastgroup, token[0].decode(errors="replace"), token.start()
             need(kind != "other", f"F1 byte at offset {at}")
@@ -88,14 +87,14 @@ class Automaton:
         self.tokens.append(("end", "", len(text)))
         self.kind_of, self.initial, self.rise, self.fall = {}, [], [], []
         self.name = self.clause("automaton", self.fresh)
-        self.parameters = self.clause("parameters", lambda: self.listed(16, lambda: self.place("parameter"), True))
-        self.shared = self.clause("shared", lambda: self.listed(16, lambda: self.place("shared"), True))
-        at, self.locations = self.at, self.clause("locations", lambda: self.listed(32, lambda: self.place("location")))
+        self.parameters = self.clause("parameters", lambda: self.listed(limits.parameters, lambda: self.place("parameter"), True))
+        self.shared = self.clause("shared", lambda: self.listed(limits.shared, lambda: self.place("shared"), True))
+        at, self.locations = self.at, self.clause("locations", lambda: self.listed(limits.locations, lambda: self.place("location")))
         self.note(self.initial, 12, "no initial location", at)
         self.processes = self.clause("processes", lambda: self.small(lambda: [self.sum(KINDS[:1])]))[0]
         self.resilience = self.clause("resilience", lambda: self.condition(KINDS[:1], True))
-        self.rules = self.each("rule", 128, self.rule)
-        self.patterns = self.each("pattern", 16, self.pattern)
+        self.rules = self.each("rule", limits.rules, self.rule)
+        self.patterns = self.each("pattern", limits.patterns, self.pattern)
         self.take("end")
         need(self.first is None, self.first and self.first[2])
         self.need_no_cycle("F11 cycle with updates", lambda rule: rule.updates)
@@ -212,7 +211,8 @@ class Automaton:
         signs = {it > 0 for name, it in rows[0].items() if name in self.shared}
         self.note(self.faults > faults or len(rows) == 1 and len(signs) < 2, 9, "not a threshold guard", at)
         if self.faults == faults:
-            guards, mine, most = (self.fall, rule.fall, 6) if False in signs else (self.rise, rule.rise, 16)
+            kind = "fall" if False in signs else "rise"
+            guards, mine, most = (getattr(it, kind) for it in (self, rule, self.limits))
             if rows[0] not in guards:
                 guards.append(rows[0])
             self.note(len(guards) <= most, 7, "too many", at)
@@ -264,7 +264,7 @@ class Automaton:
         if self.next() == "start":
             start = self.clause("start", self.condition)
         if self.next() == "empty":
-            self.clause("empty", lambda: self.listed(32, lambda: empty.add(self.used(["location"], empty))))
+            self.clause("empty", lambda: self.listed(self.limits.locations, lambda: empty.add(self.used(["location"], empty))))
         events = self.each("event", 8, self.event)
         self.take("}")
         return Pattern(name, start, empty, events)
@@ -530,8 +530,7 @@ def judge_leaf(system, bounds, pairs):
         need(key != ONE or total < 0, "C6 constant not negative")
 
 
-FORMS = {"pattern": b"pattern N", "e": b"e", "s": b"s N N", "f": b"f(?: N:N)+", "end": b"end"}
-FORMS.update({"o": b"o N N", "g": b"g N", "r": b"r N"})
+FORMS = {"pattern": b"pattern N", "e": b"e", "s": b"s N N", "f": b"f(?: N:N)+", "end": b"end", "o": b"o N N", "g": b"g N", "r": b"r N"}
 FORMS = {kind: re.compile(form.replace(b"N", b"(?:0|[1-9][0-9]{0,38})")) for kind, form in FORMS.items()}
 
 
@@ -545,15 +544,15 @@ def fits(kind, numbers):
 class Lines:
     """The lines of a certificate, read one after another."""
 
-    def __init__(self, file):
-        self.file, self.number, self.left = file, 0, LONGEST_CERTIFICATE
+    def __init__(self, file, longest):
+        self.file, self.longest, self.number, self.left = file, longest, 0, LONGEST_CERTIFICATE
 
     def line(self):
         self.number += 1
-        line = self.file.readline(LONGEST_LINE + 1)
+        line = self.file.readline(self.longest + 1)
         self.left -= len(line)
         need(self.left >= 0, f"longer than {LONGEST_CERTIFICATE} bytes")
-        need(line.endswith(b"\n"), "C1 malformed" if len(line) > LONGEST_LINE else "C2 truncated")
+        need(line.endswith(b"\n"), "C1 malformed" if len(line) > self.longest else "C2 truncated")
         return line[:-1]
 
     def take(self, *kinds):
@@ -614,7 +613,8 @@ def lasts(pattern):
 def judge(automaton, lines, rest=False, silent=()):
     """The numbers of the patterns that a certificate proves. One of rest has no orders, and with silent names version 3."""
     proved, before = set(), [set() for _ in automaton.rise]
-    first, allowed = lines.line(), (3,) if silent else (1, 3) if rest else (1, 2, 3)
+    is_wide = any(len(getattr(automaton, kind)) > getattr(NARROW, kind) for kind in NARROW._fields[3:])
+    first, allowed = lines.line(), (3,) if silent or is_wide else (1, 3) if rest else (1, 2, 3)
     version = next((it for it in allowed if first == b"threshold-certificate %d" % it), None)
     need(version, "C1 malformed")
     kinds = ("s", "f", "g", "o", *("r" if rest else "")) if version == 3 else ("s", "f", "e")
@@ -642,7 +642,7 @@ def judge(automaton, lines, rest=False, silent=()):
 def told_of(words):
     """The options and the names of the two files, or None for other words."""
     try:
-        pairs, names = getopt.gnu_getopt(words, "", ["rest", "silent=", "parameters", "all"])
+        pairs, names = getopt.gnu_getopt(words, "", ["rest", "silent=", "parameters", "all", "wide"])
     except getopt.GetoptError:
         return None
     options = dict(pairs)
@@ -653,18 +653,18 @@ def told_of(words):
 
 def judged(options, silent, name, cert):
     """The lines of standard output, the line of standard error, and the status."""
-    status, lines, rest = 3, None, "--rest" in options
+    status, lines, rest, limits = 3, None, "--rest" in options, WIDE if "--wide" in options else NARROW
     try:
         with open(name, "rb") as it:
-            text = it.read(LONGEST_FILE + 1)
-        need(len(text) <= LONGEST_FILE, f"longer than {LONGEST_FILE} bytes")
-        automaton = Automaton(text)
+            text = it.read(limits.bytes + 1)
+        need(len(text) <= limits.bytes, f"longer than {limits.bytes} bytes")
+        automaton = Automaton(text, limits)
         if rest:
             automaton.endings()
             automaton.quiet(silent)
         name, status = cert, 4
         with open(name, "rb") as it:
-            lines = Lines(it)
+            lines = Lines(it, limits.line)
             proved = judge(automaton, lines, rest, silent)
         sys.path.insert(0, os.path.dirname(os.path.abspath(__file__)))
         is_asked = {"--parameters", "--all"} & options.keys()

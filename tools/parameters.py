@@ -14,7 +14,7 @@ import os
 import sys
 
 sys.path.insert(0, os.path.dirname(os.path.abspath(__file__)))
-from check_certificate import LONGEST_FILE, ONE, RANGE, Automaton, Fault, PairSystem, Pattern, Start, judge_leaf, need
+from check_certificate import NARROW, ONE, RANGE, Automaton, Fault, PairSystem, Pattern, Start, judge_leaf, need
 
 NODES = 10**6
 
@@ -90,8 +90,8 @@ def main(words):
         return 5
     try:
         with open(words[0], "rb") as it:
-            text = it.read(LONGEST_FILE + 1)
-        need(len(text) <= LONGEST_FILE, f"longer than {LONGEST_FILE} bytes")
+            text = it.read(NARROW.bytes + 1)
+        need(len(text) <= NARROW.bytes, f"longer than {NARROW.bytes} bytes")
         line = line_of(Automaton(text))
     except Fault as fault:
         print(f"tools/parameters.py: {words[0]}: {fault}", file=sys.stderr)

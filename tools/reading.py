@@ -101,19 +101,19 @@ def bytes_of(name, status, limit):
     return text
 
 
-def automaton_of(text, name):
+def automaton_of(text, name, limits=judge.NARROW):
     try:
-        return judge.Automaton(text)
+        return judge.Automaton(text, limits)
     except Fault as fault:
         raise Stop(3, f"{name}: {fault}") from None
     except RecursionError:
         raise Stop(3, f"{name}: F8 too deep") from None
 
 
-def read_automaton(name):
+def read_automaton(name, limits=judge.NARROW):
     """The bytes of a FILE, and its automaton."""
-    text = bytes_of(name, 3, 2**20)
-    return text, automaton_of(text, name)
+    text = bytes_of(name, 3, limits.bytes)
+    return text, automaton_of(text, name, limits)
 
 
 def pattern_of(automaton, name):

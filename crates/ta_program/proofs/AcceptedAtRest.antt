@@ -1,5 +1,5 @@
 -- what `rest` puts `rest-check` accepts
-use Rattle.ta_base.specs.LimitRows.{narrow}
+use Rattle.ta_base.specs.declared.limits.Limits.{Limits}
 use Rattle.ta_program.proofs.Common.{true, None, ◌≡◌, ◌∙◌, ◌≤◌, ◌+◌, ℕ, List, [], ◌∷◌, length, map, Option, Some, slice_get, refl, sym, ap, subst, inl}
 use Rattle.ta_program.proofs.Common.{Automaton, File, Pattern, Verdict, Endings, IsEnding, RestSafe, EachHolds, EndingVerdictHolds, some_at, slice_get_within}
 use Rattle.ta_program.proofs.Common.{arith, Told, WhereTold, is_more, sub_told, IsSo, Performs, State, HoldsText, in_files, seen, FileMeans, Answer, SafeOne}
@@ -16,6 +16,7 @@ use Rattle.ta_program.proofs.Accepted.{told_before}
 use Rattle.ta_check.proofs.Accepting.{one_list}
 use Rattle.ta_program.proofs.ProofsSaid.{says_plain}
 use Rattle.ta_program.specs.CheckWords.{no_options}
+use Rattle.ta_program.specs.RestWords.{RestCheckWords}
 use Rattle.ta_program.specs.Proofs.{rest_check_text}
 use Rattle.ta_verdict.proofs.rest.RestSaid.{tree_claims}
 use Rattle.ta_verdict.specs.Rest.Said.{IsLoudByWords}
@@ -70,14 +71,17 @@ alike_ones number (p ∷ ps) (q ∷ qs) (v ∷ vs) e f = alike_one number p q (t
     (alike_ones (number + 1) ps qs vs (omega (arith, e)) (omega (arith, f)))
 
 -- `rest-check` of such files, with these names
-module _ (name out : List ℕ) (names : Option (List ℕ)) (told : Told) (file : File) (ends : FileEndings) (silent numbers text : List ℕ)
-    (is_file : IsFile (in_files told) name file) (are_ends : IsEnds file ends) (are_silent : AreSilent file.automaton names silent)
-    (held : told out ≡ Some text) (within : length text ≤ CERTIFICATE.bytes) (accepted : QuietRestCertificate ends.ending silent narrow.line_bytes text numbers)
+module _ (l : Limits) (name out : List ℕ) (names : Option (List ℕ)) (told : Told) (file : File) (ends : FileEndings) (silent numbers text : List ℕ)
+    (is_file : IsFile l (in_files told) name file) (are_ends : IsEnds file ends) (are_silent : AreSilent file.automaton names silent)
+    (held : told out ≡ Some text) (within : length text ≤ CERTIFICATE.bytes) (accepted : QuietRestCertificate ends.ending silent l.line_bytes text numbers)
     (safe : AllQuietRestSafe ends.ending silent numbers) where
-  is_certificate : FileMeans (certificate_kind (claiming_with claim.RestSafe ends.ending silent narrow.line_bytes)) (in_files told) out numbers
+  abbrev checked_so : RestCheckWords
+  checked_so = record { file = name; other = out; limits = l; silent = names; options = no_options }
+
+  is_certificate : FileMeans (certificate_kind (claiming_with claim.RestSafe ends.ending silent l.line_bytes)) (in_files told) out numbers
   is_certificate = record { bytes = text; had = record { seen = held; within = within }; means = record { accepted = accepted; safe = safe } }
 
-  is_so : IsSo (rest_check_meaning name out names no_options) (in_files told) 0
+  is_so : IsSo (rest_check_meaning checked_so) (in_files told) 0
   is_so = inl (
     record { number = 0; text = rest_check_text file numbers; puts = [] },
     refl,
@@ -85,28 +89,29 @@ module _ (name out : List ℕ) (names : Option (List ℕ)) (told : Told) (file :
   )
 
   -- what it says, where it answers
-  says_just_these : (answer : Answer) → (rest_check_meaning name out names no_options).answers (in_files told) answer
+  says_just_these : (answer : Answer) → (rest_check_meaning checked_so).answers (in_files told) answer
       → answer.text ≡ rest_check_text file numbers
   says_just_these answer (other, is, (found_ends, are, (places, quiet, (found, proved, says)))) =
-      let same : other ≡ file = same_file told name file other is is_file in
+      let same : other ≡ file = same_file l told name file other is is_file in
       let one : found_ends ≡ ends = ends_once file found_ends ends (subst (λ (f : File). IsEnds f found_ends) same are) are_ends in
       let there : places ≡ silent = silent_once file.automaton names places silent (subst (λ (f : File). AreSilent f.automaton names places) same quiet)
       are_silent in
       let texts : proved.bytes ≡ text = (let e : Some proved.bytes ≡ Some text = sym proved.had.seen ∙ held in cc) in
-      let first = subst (λ (ps : List ℕ). QuietRestCertificate found_ends.ending ps narrow.line_bytes proved.bytes found) there proved.means.accepted in
-      let second = subst (λ (t : List ℕ). QuietRestCertificate found_ends.ending silent narrow.line_bytes t found) texts first in
-      let moved = subst (λ (e : FileEndings). QuietRestCertificate e.ending silent narrow.line_bytes text found) one second in
+      let first = subst (λ (ps : List ℕ). QuietRestCertificate found_ends.ending ps l.line_bytes proved.bytes found) there proved.means.accepted in
+      let second = subst (λ (t : List ℕ). QuietRestCertificate found_ends.ending silent l.line_bytes t found) texts first in
+      let moved = subst (λ (e : FileEndings). QuietRestCertificate e.ending silent l.line_bytes text found) one second in
       says.tells.told ∙ ap (λ (f : File). rest_check_text f found) same
-      ∙ ap (rest_check_text file) (one_list (claiming_with claim.RestSafe ends.ending silent narrow.line_bytes) text found numbers moved accepted)
+      ∙ ap (rest_check_text file) (one_list (claiming_with claim.RestSafe ends.ending silent l.line_bytes) text found numbers moved accepted)
 
-  rest_checks : (second : ℕ) (begun ended : State) → begun.shelf.files ≡ Some told → Performs (rest_check_meaning name out names no_options) second begun ended
+  rest_checks : (second : ℕ) (begun ended : State) → begun.shelf.files ≡ Some told → Performs (rest_check_meaning checked_so) second begun ended
       → SaysOrFails (rest_check_text file numbers) second begun ended
-  rest_checks second begun ended is h = says_or_fails (rest_check_meaning name out names no_options) (rest_check_decides name out names no_options) told
+  rest_checks second begun ended is h = says_or_fails (rest_check_meaning checked_so) (rest_check_decides checked_so) told
       (rest_check_text file numbers) is_so says_just_these second begun ended is h
 
 pub written_at_rest_is_accepted : WrittenAtRestIsAccepted
 written_at_rest_is_accepted words first before after h asked out is given low told after_told again checked second begun ended begun_told done =
     let name = asked.verify.file in
+    let l = asked.verify.limits in
     let names = asked.silent in
     let written = (rests_report words first before after h).certificate asked out is given low in
     let c = written.such in
@@ -117,18 +122,21 @@ written_at_rest_is_accepted words first before after h asked out is given low to
     let files = told_before (HoldsText out c.text) before.shelf.files told
     (subst (λ (o : Option Told). WhereTold (HoldsText out c.text) before.shelf.files o) after_told c.stands) in
     let read = written.read in
-    let is_first : IsFile (in_files files.0) name r.file = is_more file_kind (seen (Some files.0) read) (in_files files.0) (sub_told files.0 read) name r.file
-    (subst (λ (o : Option Told). IsFile (seen o read) name r.file) files.1 r.is_file) in
-    let is_now = is_kept file_kind files.0 told name r.file (files.2.others name (said.differs name out refl given)) is_first in
+    let is_first : IsFile l (in_files files.0) name r.file = is_more (file_kind l) (seen (Some files.0) read) (in_files files.0) (sub_told files.0 read) name
+    r.file
+    (subst (λ (o : Option Told). IsFile l (seen o read) name r.file) files.1 r.is_file) in
+    let is_now = is_kept (file_kind l) files.0 told name r.file (files.2.others name (said.differs name out refl given)) is_first in
     let loud = loud_by_words words first before after h asked is r.file r.silent r.are_silent in
     let pick = r.pick in
     let at = safe_at r.file ending r.ends.added (resting asked.verify.budget r.silent) loud endings.automaton pick r.verdicts endings.patterns r.are.hold in
-    let safe = ones_hold (claiming_with claim.RestSafe ending r.silent narrow.line_bytes) (first_picked pick) (picked pick ending.patterns) r.verdicts at
+    let safe = ones_hold (claiming_with claim.RestSafe ending r.silent l.line_bytes) (first_picked pick) (picked pick ending.patterns) r.verdicts at
     (picked_there pick ending.patterns) in
     let many = as_many (EndingVerdictHolds r.file ending r.ends.added (resting asked.verify.budget r.silent)) (first_picked pick) (picked pick ending.patterns)
     r.verdicts r.are.hold in
-    let performs = as_rest_check again second begun ended done (record { file = name; other = out; silent = names; options = no_options }) checked in
-    let accepted = rest_checks name out names told r.file r.ends r.silent (safe_among ending pick r.verdicts) c.text is_now r.are_ends r.are_silent files.2.held
+    let performs = as_rest_check again second begun ended done (record { file = name; other = out; limits = l; silent = names; options = no_options }) checked
+    in
+    let accepted = rest_checks l name out names told r.file r.ends r.silent (safe_among ending pick r.verdicts) c.text is_now r.are_ends r.are_silent
+    files.2.held
     c.within c.accepted safe second begun ended begun_told performs in
     record {
       file = r.file;

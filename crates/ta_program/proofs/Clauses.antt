@@ -1,5 +1,6 @@
 -- from how a run ends to its clauses
 use Rattle.ta_base.specs.LimitRows.{narrow}
+use Rattle.ta_base.specs.declared.limits.Limits.{Limits}
 use Rattle.ta_meaning.proofs.FileLimits.{legal_within}
 use Rattle.ta_automaton.specs.Narrow.{IsWithin}
 use Rattle.ta_program.proofs.Common.{verdict_safe, Budget, ◌≡◌, ◌≢◌, ◌≤◌, ◌+◌, ℕ, Bool, true, false, List, [], ◌∷◌, Option, None, Some, refl, sym, ap, subst}
@@ -20,7 +21,7 @@ use Rattle.ta_program.proofs.Common.{search_of, search_words, TwoNames, two_name
 use Rattle.ta_program.proofs.Common.{held_by, false_from_ne_true, PutCall, PutText, PutWhole, Acts, TellsFile, acts, grew_alone, may_put, put_text, tells_file}
 use Rattle.ta_program.proofs.Common.{Spares, ◌⊎◌, AreOfStages, made_of_stages, Opens, AreStaging, ComparesFirst, Differ, Kind, SparesRead, at_ends}
 use Rattle.ta_program.proofs.Common.{found_meaning, found_names, held_or_staged, rest_quietly, spared, template_kind, inr}
-use Rattle.ta_program.proofs.Common.{CountHolds, IsCount, IsShown, ShowHolds, count_of, one_file_meaning, one_name, show_of, slice_get}
+use Rattle.ta_program.proofs.Common.{CountHolds, IsCount, IsShown, ShowHolds, count_of, one_file_meaning, one_file_words, show_of, slice_get}
 use Rattle.ta_program.specs.Program.{CountsFile, SafeAsShown, ShowsFile, Tellings, UsageExactly}
 use Rattle.ta_program.specs.Show.{SafeAsPrinted}
 use Rattle.ta_program.specs.Version.{VersionPrints, version_meaning, version_of, version_text, version_words}
@@ -35,7 +36,6 @@ use Rattle.ta_program.proofs.ProofsSaid.{all_proved, every_one, starts, told_in}
 use Rattle.ta_program.specs.CheckWords.{CheckWords, ReplayWords, check_of, check_words, replay_of, replay_words}
 use Rattle.ta_program.specs.Printed.{EachToldProved}
 use Rattle.ta_program.specs.Proofs.{TellsProofs, printed_sample, wants_sample}
-use Rattle.ta_program.specs.declared.proof_options.ProofOptions.{ProofOptions}
 use Rattle.ta_program.specs.Proofs.{EveryPattern}
 use Rattle.ta_program.specs.Ended.{Did, Ended, Saw, World}
 use Rattle.ta_program.specs.Headline.{EachPatternSafe, EachPrinted, HoldsFile, ShownOccurs, SomePatternOccurs, StatusTells}
@@ -43,7 +43,7 @@ use Rattle.ta_replay.proofs.Occurring.{shown_occurs}
 use Rattle.ta_check.proofs.OwnPatterns.{all_own}
 use Rattle.ta_rest.specs.declared.claim.Claim.TheVariants as claim
 use Rattle.ta_program.proofs.AtRest.{rest_safe_at, rest_unsafe_printed}
-use Rattle.ta_program.proofs.Common.{AreSilent, FairlySafeBut, LegalSilently, RestCheckWords, RestOccursBut, RestSafeBut, RestWords, claiming_with}
+use Rattle.ta_program.proofs.Common.{AreSilent, FairlySafeBut, LegalSilently, RestCheckWords, RestOccursBut, RestSafeBut, RestWords}
 use Rattle.ta_program.proofs.Common.{rest_check_words, resting}
 use Rattle.ta_program.proofs.FairAtRest.{fair_but}
 use Rattle.ta_program.specs.Rest.{PutsRest}
@@ -63,6 +63,8 @@ use Rattle.ta_base.proofs.Members.{listed}
 use Rattle.ta_base.proofs.Booleans.{first_passed}
 use Rattle.ta_program.proofs.Common.{EachPicked, LegalPicked, first_picked, held_entry, picked, picked_meaning, telling_of}
 use Rattle.ta_program.proofs.Counting.{counts_within}
+use Rattle.ta_program.proofs.OneFileOfAny.{one_legal_file}
+use Rattle.ta_program.specs.OneFile.{OneFileWords}
 use Rattle.ta_program.proofs.PatternPicks.{each_picked_of, picked_name}
 use Rattle.ta_program.proofs.StrictNumbers.{number_other}
 use Rattle.ta_program.specs.Certified.{PutsCertificate}
@@ -118,13 +120,14 @@ performed_where name read legal says number before after row [] asked is h = abs
 performed_where name read legal says number before after row (word ∷ rest) asked is h = by_name name read legal says number before after row
     (bytes_eq word name) word rest (λ named. search rules) asked is h
 
-performed : {W : Type 0} (name : List ℕ) (read : List (List ℕ) → Option W) (file : W → Option (List ℕ)) (says : W → Meaning) (number : ℕ) (before after : State)
+performed : {W : Type 0} (name : List ℕ) (read : List (List ℕ) → Option W) (file : W → Option (List ℕ × Limits)) (says : W → Meaning) (number : ℕ)
+    (before after : State)
     → ((rest : List (List ℕ)) → Runs (request_of (name ∷ rest)) number before after → Runs (ask file says (read rest)) number before after)
     → (words : List (List ℕ)) (asked : W) → behind_name name read words ≡ Some asked → Runs (request_of words) number before after
     → Performs (says asked) number before after
 performed name read file says = performed_where name read (λ asked told. LegalFile told (file asked)) says
 
-pub holds_file : (view : View) (name : List ℕ) (file : File) → IsFile view name file → HoldsFile view name file
+pub holds_file : {l : Limits} (view : View) (name : List ℕ) (file : File) → IsFile l view name file → HoldsFile view name file
 holds_file view name file h =
     let tree = h.means.means.is_tree in
     record {
@@ -162,19 +165,20 @@ module _ (words : List (List ℕ)) (number : ℕ) (before after : State) (h : Ru
   ended = run_of words number before after
 
   pub as_verify : (asked : VerifyWords) → verify_of words ≡ Some asked → Performs (verify_meaning asked) number before after
-  as_verify asked is = performed_where (codes "verify") verify_words (λ a. LegalPicked a.file a.pattern) verify_meaning number before after (λ rest r. r) words
+  as_verify asked is = performed_where (codes "verify") verify_words (λ a. LegalPicked a.limits a.file a.pattern) verify_meaning number before after
+      (λ rest r. r) words
       asked is h
 
-  pub as_check : (asked : CheckWords) → check_of words ≡ Some asked → Performs (check_meaning asked.file asked.other asked.options) number before after
-  as_check asked is = performed (codes "check") check_words (λ a. Some a.file) (λ a. check_meaning a.file a.other a.options) number before after (λ rest r. r)
+  pub as_check : (asked : CheckWords) → check_of words ≡ Some asked → Performs (check_meaning asked) number before after
+  as_check asked is = performed (codes "check") check_words (λ a. Some (a.file, a.limits)) check_meaning number before after (λ rest r. r)
       words asked is h
 
-  pub as_compress : (asked : TwoNames) → compress_of words ≡ Some asked → Performs (compress_meaning asked.file asked.other) number before after
-  as_compress asked is = performed (codes "compress") two_names (λ a. Some a.file) (λ a. compress_meaning a.file a.other) number before after (λ rest r. r)
+  pub as_compress : (asked : TwoNames) → compress_of words ≡ Some asked → Performs (compress_meaning asked) number before after
+  as_compress asked is = performed (codes "compress") two_names (λ a. Some (a.file, a.limits)) compress_meaning number before after (λ rest r. r)
       words asked is h
 
-  pub as_replay : (asked : ReplayWords) → replay_of words ≡ Some asked → Performs (replay_meaning asked.file asked.other asked.json) number before after
-  as_replay asked is = performed (codes "replay") replay_words (λ a. Some a.file) (λ a. replay_meaning a.file a.other a.json) number before after (λ rest r. r)
+  pub as_replay : (asked : ReplayWords) → replay_of words ≡ Some asked → Performs (replay_meaning asked) number before after
+  as_replay asked is = performed (codes "replay") replay_words (λ a. Some (a.file, a.limits)) replay_meaning number before after (λ rest r. r)
       words asked is h
 
   as_bench : (k : ℕ) → bench_of words ≡ Some k → Performs (bench_meaning k) number before after
@@ -247,7 +251,7 @@ module _ (words : List (List ℕ)) (number : ℕ) (before after : State) (h : Ru
         stands = holds_text puts.put out puts.named before.shelf.files after.shelf.files
             (subst (λ (o : Option Told). WhereTold (HoldsPut puts.put) o after.shelf.files) stand.1 stand.2);
         told = tells_put puts.put out puts.named made (subst (λ (ps : List Put). PutWhole (map put_text ps) made) puts.only a.whole);
-        accepted = puts.accepted narrow (legal_within narrow report.is_file.bytes report.file report.is_file.means);
+        accepted = puts.accepted asked.limits (legal_within asked.limits report.is_file.bytes report.file report.is_file.means);
       }
 
   pub certificate_written : CertificateWritten ended
@@ -256,10 +260,10 @@ module _ (words : List (List ℕ)) (number : ℕ) (before after : State) (h : Ru
       (λ view made. CertificateStands number view asked out before.shelf.files after.shelf.files before.out.written after.out.written made)
       (λ view made a. certified asked out given view made a)
 
-  pub proved : (name certificate : List ℕ) (options : ProofOptions) (view : View) (made : List PutCall)
-      → IsAnswered (check_meaning name certificate options) view number before after made
-      → CheckHolds number view name certificate options before.out.written after.out.written
-  proved name certificate options view made a =
+  pub proved : (asked : CheckWords) (view : View) (made : List PutCall)
+      → IsAnswered (check_meaning asked) view number before after made
+      → CheckHolds number view asked before.out.written after.out.written
+  proved asked view made a =
       let file = a.holds.holds.0 in
       let rest = a.holds.holds.2 in
       record {
@@ -268,13 +272,13 @@ module _ (words : List (List ℕ)) (number : ℕ) (before after : State) (h : Ru
         numbers = rest.0;
         certificate = rest.1;
         text = a.answer.text;
-        tells = subst (λ (n : ℕ). TellsProofs false file options rest.0 n a.answer.text) (sym a.numbered) rest.2.tells;
+        tells = subst (λ (n : ℕ). TellsProofs false file asked.options rest.0 n a.answer.text) (sym a.numbered) rest.2.tells;
         wrote = a.written;
       }
 
-  pub shortened : (name run : List ℕ) (view : View) (made : List PutCall) → IsAnswered (compress_meaning name run) view number before after made
-      → CompressHolds view name run before.out.written after.out.written
-  shortened name run view made a =
+  pub shortened : (asked : TwoNames) (view : View) (made : List PutCall) → IsAnswered (compress_meaning asked) view number before after made
+      → CompressHolds view asked before.out.written after.out.written
+  shortened asked view made a =
       let rest = a.holds.holds.2 in
       record {
         file = a.holds.holds.0;
@@ -289,15 +293,15 @@ module _ (words : List (List ℕ)) (number : ℕ) (before after : State) (h : Ru
 
   pub run_shortens : RunShortens ended
   run_shortens = record {
-    holds = λ asked is none. gives (compress_meaning asked.file asked.other) refl (as_compress asked is) (omega (arith, none))
-        (λ view. CompressHolds view asked.file asked.other before.out.written after.out.written) (shortened asked.file asked.other);
+    holds = λ asked is none. gives (compress_meaning asked) refl (as_compress asked is) (omega (arith, none))
+        (λ view. CompressHolds view asked before.out.written after.out.written) (shortened asked);
     exact = λ asked told is files can. answers_so number before after asked (as_compress asked is) told files can;
     outside = λ asked told line is files leaves. refused_so number before after asked (as_compress asked is) told files line leaves;
   }
 
-  pub shown : (name run : List ℕ) (json : Bool) (view : View) (made : List PutCall) → IsAnswered (replay_meaning name run json) view number before after made
-      → ReplayHolds view name run json before.out.written after.out.written
-  shown name run json view made a =
+  pub shown : (asked : ReplayWords) (view : View) (made : List PutCall) → IsAnswered (replay_meaning asked) view number before after made
+      → ReplayHolds view asked before.out.written after.out.written
+  shown asked view made a =
       let rest = a.holds.holds.2 in
       record {
         file = a.holds.holds.0;
@@ -311,8 +315,8 @@ module _ (words : List (List ℕ)) (number : ℕ) (before after : State) (h : Ru
       }
 
   pub replay_shows : ReplayShows ended
-  replay_shows asked is none = gives (replay_meaning asked.file asked.other asked.json) refl (as_replay asked is) (omega (arith, none))
-      (λ view. ReplayHolds view asked.file asked.other asked.json before.out.written after.out.written) (shown asked.file asked.other asked.json)
+  replay_shows asked is none = gives (replay_meaning asked) refl (as_replay asked is) (omega (arith, none))
+      (λ view. ReplayHolds view asked before.out.written after.out.written) (shown asked)
 
   benched : (k : ℕ) → Performs (bench_meaning k) number before after → number ≤ 2 → BenchHolds number k before.out.written after.out.written
   benched k performs low =
@@ -375,10 +379,10 @@ module _ (words : List (List ℕ)) (number : ℕ) (before after : State) (h : Ru
       ]
 
   as_export : (asked : WordAsked) → export_of words ≡ Some asked → Performs (export_meaning asked) number before after
-  as_export asked is = performed (codes "export") export_words (λ a. Some a.file) export_meaning number before after (λ rest r. r) words asked is h
+  as_export asked is = performed (codes "export") export_words (λ a. Some (a.file, narrow)) export_meaning number before after (λ rest r. r) words asked is h
 
   as_admit : (all : AdmitAsked) → admit_of words ≡ Some all → Performs (admit_meaning all) number before after
-  as_admit all is = performed (codes "admit") admit_words (λ a. Some a.asked.file) admit_meaning number before after (λ rest r. r) words all is h
+  as_admit all is = performed (codes "admit") admit_words (λ a. Some (a.asked.file, narrow)) admit_meaning number before after (λ rest r. r) words all is h
 
   exported : (asked : WordAsked) (view : View) (made : List PutCall) → IsAnswered (export_meaning asked) view number before after made
       → ExportHolds view asked before.out.written after.out.written
@@ -401,45 +405,50 @@ module _ (words : List (List ℕ)) (number : ℕ) (before after : State) (h : Ru
   exports asked is none = gives (export_meaning asked) refl (as_export asked is) (omega (arith, none))
       (λ view. ExportHolds view asked before.out.written after.out.written) (exported asked)
 
-  pub as_show : (name : List ℕ) → show_of words ≡ Some name → Performs (one_file_meaning IsShown name) number before after
-  as_show name is = performed (codes "show") one_name (λ n. Some n) (one_file_meaning IsShown) number before after (λ rest r. r) words name is h
+  abbrev pub show_meaning : OneFileWords → Meaning
+  show_meaning = one_file_meaning (λ l. IsShown)
 
-  pub shown_file : (name : List ℕ) (view : View) (made : List PutCall) → IsAnswered (one_file_meaning IsShown name) view number before after made
-      → ShowHolds view name before.out.written after.out.written
-  shown_file name view made a =
+  pub as_show : (asked : OneFileWords) → show_of words ≡ Some asked → Performs (show_meaning asked) number before after
+  as_show asked is = performed (codes "show") one_file_words (λ a. Some (a.file, a.limits)) show_meaning number before after (λ rest r. r) words asked is h
+
+  pub shown_file : (asked : OneFileWords) (view : View) (made : List PutCall) → IsAnswered (show_meaning asked) view number before after made
+      → ShowHolds view asked before.out.written after.out.written
+  shown_file asked view made a =
       let is = a.holds.holds.1 in
       let says = a.holds.holds.2 in
       record {
         bytes = is.bytes;
         held = is.had.seen;
         text = says.is.text;
-        printed = record { file = a.holds.holds.0; legal = is.means; is = says.is.is };
+        printed = record { limits = asked.limits; file = a.holds.holds.0; legal = is.means; is = says.is.is };
+        within = refl;
         wrote
             = a.written ∙ ap (with_text before.out.written) (says.writes.written ∙ says.is.whole);
       }
 
   pub shows_file : ShowsFile ended
-  shows_file name is none = gives (one_file_meaning IsShown name) refl (as_show name is) (omega (arith, none))
-      (λ view. ShowHolds view name before.out.written after.out.written) (shown_file name)
+  shows_file asked is none = gives (show_meaning asked) refl (as_show asked is) (omega (arith, none))
+      (λ view. ShowHolds view asked before.out.written after.out.written) (shown_file asked)
 
-  as_count : (name : List ℕ) → count_of words ≡ Some name → Performs (one_file_meaning IsCount name) number before after
-  as_count name is = performed (codes "count") one_name (λ n. Some n) (one_file_meaning IsCount) number before after (λ rest r. r) words name is h
+  as_count : (asked : OneFileWords) → count_of words ≡ Some asked → Performs (one_file_meaning IsCount asked) number before after
+  as_count asked is = performed (codes "count") one_file_words (λ a. Some (a.file, a.limits)) (one_file_meaning IsCount) number before after (λ rest r. r) words
+      asked is h
 
-  counted : (name : List ℕ) (view : View) (made : List PutCall) → IsAnswered (one_file_meaning IsCount name) view number before after made
-      → CountHolds view name before.out.written after.out.written
-  counted name view made a =
+  counted : (asked : OneFileWords) (view : View) (made : List PutCall) → IsAnswered (one_file_meaning IsCount asked) view number before after made
+      → CountHolds view asked before.out.written after.out.written
+  counted asked view made a =
       let says = a.holds.holds.2 in
       record {
         file = a.holds.holds.0;
         is_file = a.holds.holds.1;
         wrote = a.written
             ∙ ap (with_text before.out.written) (says.writes.written ∙ says.is);
-        within = let is = a.holds.holds.1 in counts_within is.bytes a.holds.holds.0 is.means;
+        within = let is = a.holds.holds.1 in counts_within asked.limits is.bytes a.holds.holds.0 is.means;
       }
 
   pub counts_file : CountsFile ended
-  counts_file name is none = gives (one_file_meaning IsCount name) refl (as_count name is) (omega (arith, none))
-      (λ view. CountHolds view name before.out.written after.out.written) (counted name)
+  counts_file asked is none = gives (one_file_meaning IsCount asked) refl (as_count asked is) (omega (arith, none))
+      (λ view. CountHolds view asked before.out.written after.out.written) (counted asked)
 
   pub admitted : (all : AdmitAsked) (view : View) (made : List PutCall) → IsAnswered (admit_meaning all) view number before after made
       → AdmitHolds view all before.out.written after.out.written
@@ -483,9 +492,9 @@ module _ (words : List (List ℕ)) (number : ℕ) (before after : State) (h : Ru
   as_rest asked is = performed_where (codes "rest") rest_words LegalRest rest_meaning number before after (λ rest r. r) words asked is h
 
   pub as_rest_check : (asked : RestCheckWords) → rest_check_of words ≡ Some asked
-      → Performs (rest_check_meaning asked.file asked.other asked.silent asked.options) number before after
-  as_rest_check asked is = performed_where (codes "rest-check") rest_check_words (λ a. LegalSilently a.file a.silent)
-      (λ a. rest_check_meaning a.file a.other a.silent a.options) number before after (λ rest r. r) words asked is h
+      → Performs (rest_check_meaning asked) number before after
+  as_rest_check asked is = performed_where (codes "rest-check") rest_check_words (λ a. LegalSilently a.limits a.file a.silent)
+      rest_check_meaning number before after (λ rest r. r) words asked is h
 
   pub at_rest : (asked : RestWords) (view : View) (made : List PutCall) → IsAnswered (rest_meaning asked) view number before after made
       → RestReportHolds number view asked before.out.written after.out.written
@@ -535,8 +544,9 @@ module _ (words : List (List ℕ)) (number : ℕ) (before after : State) (h : Ru
         told = tells_put puts.put out puts.named made (subst (λ (ps : List Put). PutWhole (map put_text ps) made) puts.only a.whole);
         accepted =
             let report = at_rest asked view made a in
-            puts.accepted narrow
-            (subst (IsWithin narrow) (sym report.are_ends.endings.automaton) (legal_within narrow report.is_file.bytes report.file report.is_file.means));
+            puts.accepted asked.verify.limits
+            (subst (IsWithin asked.verify.limits) (sym report.are_ends.endings.automaton)
+            (legal_within asked.verify.limits report.is_file.bytes report.file report.is_file.means));
       }
 
   -- what an answer of `rest` says
@@ -554,10 +564,10 @@ module _ (words : List (List ℕ)) (number : ℕ) (before after : State) (h : Ru
         (λ view made a. rest_certified asked out given view made a);
   }
 
-  pub rest_checked : (name certificate : List ℕ) (names : Option (List ℕ)) (options : ProofOptions) (view : View) (made : List PutCall)
-      → IsAnswered (rest_check_meaning name certificate names options) view number before after made
-      → RestCheckHolds number view name certificate names options before.out.written after.out.written
-  rest_checked name certificate names options view made a =
+  pub rest_checked : (asked : RestCheckWords) (view : View) (made : List PutCall)
+      → IsAnswered (rest_check_meaning asked) view number before after made
+      → RestCheckHolds number view asked before.out.written after.out.written
+  rest_checked asked view made a =
       let found = a.holds.holds.2 in
       let silent = found.2 in
       let rest = silent.2 in
@@ -573,22 +583,21 @@ module _ (words : List (List ℕ)) (number : ℕ) (before after : State) (h : Ru
         certificate = rest.1;
         safe = all_own silent.0 a.holds.holds.0 found.0.ending found.0.added rest.0 ends.endings rest.1.means.safe;
         text = a.answer.text;
-        tells = subst (λ (n : ℕ). TellsProofs true a.holds.holds.0 options rest.0 n a.answer.text) (sym a.numbered) rest.2.tells;
+        tells = subst (λ (n : ℕ). TellsProofs true a.holds.holds.0 asked.options rest.0 n a.answer.text) (sym a.numbered) rest.2.tells;
         wrote = a.written;
       }
 
   -- what an answer of `check`, and one of `rest-check`, says
   gives_check : (asked : CheckWords) → check_of words ≡ Some asked → number ≤ 2 → (Of : View → Type 0)
-      → ((view : View) → CheckHolds number view asked.file asked.other asked.options before.out.written after.out.written → Of view)
+      → ((view : View) → CheckHolds number view asked before.out.written after.out.written → Of view)
       → Grew (λ read. Of (seen before.shelf.files read)) before.shelf.calls after.shelf.calls
-  gives_check asked is low Of from = gives (check_meaning asked.file asked.other asked.options) refl (as_check asked is) low Of
-      (λ view made a. from view (proved asked.file asked.other asked.options view made a))
+  gives_check asked is low Of from = gives (check_meaning asked) refl (as_check asked is) low Of (λ view made a. from view (proved asked view made a))
 
   gives_rest_check : (asked : RestCheckWords) → rest_check_of words ≡ Some asked → number ≤ 2 → (Of : View → Type 0)
-      → ((view : View) → RestCheckHolds number view asked.file asked.other asked.silent asked.options before.out.written after.out.written → Of view)
+      → ((view : View) → RestCheckHolds number view asked before.out.written after.out.written → Of view)
       → Grew (λ read. Of (seen before.shelf.files read)) before.shelf.calls after.shelf.calls
-  gives_rest_check asked is low Of from = gives (rest_check_meaning asked.file asked.other asked.silent asked.options) refl (as_rest_check asked is) low Of
-      (λ view made a. from view (rest_checked asked.file asked.other asked.silent asked.options view made a))
+  gives_rest_check asked is low Of from = gives (rest_check_meaning asked) refl (as_rest_check asked is) low Of
+      (λ view made a. from view (rest_checked asked view made a))
 
   pub as_search : (asked : SearchWords) → search_of words ≡ Some asked → Performs (search_meaning asked) number before after
   as_search asked is = performed_where (codes "search") search_words LegalTemplate search_meaning number before after (λ rest r. r) words asked is h
@@ -655,60 +664,60 @@ module _ (words : List (List ℕ)) (number : ℕ) (before after : State) (h : Ru
 
   -- so is one of which the text of `check` tells that it is proved
   -- a pattern that `check` calls proved is safe
-  proved_safe : (name certificate : List ℕ) (options : ProofOptions) (view : View)
-      (r : CheckHolds number view name certificate options before.out.written after.out.written) (k : ℕ) (p : Pattern) → slice_get r.file.patterns k ≡ Some p
+  proved_safe : (asked : CheckWords) (view : View)
+      (r : CheckHolds number view asked before.out.written after.out.written) (k : ℕ) (p : Pattern) → slice_get r.file.patterns k ≡ Some p
       → IsTrue (is_proved r.numbers k) → runs.Safe r.file.automaton p
-  proved_safe name certificate options view r k p named is_there =
+  proved_safe asked view r k p named is_there =
       let found : PatternSafe r.file k = listed (PatternSafe r.file) k r.numbers r.certificate.means.safe is_there in
       let same : Some found.pattern ≡ Some p = sym found.named ∙ named in
       let is : found.pattern ≡ p = cc in
       subst (runs.Safe r.file.automaton) is found.safe
 
-  tells_proved : (name certificate : List ℕ) (options : ProofOptions) (view : View)
-      (r : CheckHolds number view name certificate options before.out.written after.out.written) (k : ℕ) (p : Pattern) → slice_get r.file.patterns k ≡ Some p
-      → TellsProved options.json false p.name r.text → runs.Safe r.file.automaton p
-  tells_proved name certificate options view r k p named told = proved_safe name certificate options view r k p named
-      (told_in false r.file options r.numbers number r.text r.tells k p named told)
+  tells_proved : (asked : CheckWords) (view : View)
+      (r : CheckHolds number view asked before.out.written after.out.written) (k : ℕ) (p : Pattern) → slice_get r.file.patterns k ≡ Some p
+      → TellsProved asked.options.json false p.name r.text → runs.Safe r.file.automaton p
+  tells_proved asked view r k p named told = proved_safe asked view r k p named
+      (told_in false r.file asked.options r.numbers number r.text r.tells k p named told)
 
-  pub line_proved : (name certificate : List ℕ) (options : ProofOptions) (view : View)
-      (r : CheckHolds number view name certificate options before.out.written after.out.written) (k : ℕ) (p : Pattern) → slice_get r.file.patterns k ≡ Some p
+  pub line_proved : (asked : CheckWords) (view : View)
+      (r : CheckHolds number view asked before.out.written after.out.written) (k : ℕ) (p : Pattern) → slice_get r.file.patterns k ≡ Some p
       → HasLine (told_of p.name (codes "proved")) r.text → runs.Safe r.file.automaton p
-  line_proved name certificate options view r k p named line =
-      tells_proved name certificate options view r k p named
-      (proved_by_line options.json false r.file (printed_sample options.parameters r.tells.sample) r.numbers r.text p.name r.tells.told line)
+  line_proved asked view r k p named line =
+      tells_proved asked view r k p named
+      (proved_by_line asked.options.json false r.file (printed_sample asked.options.parameters r.tells.sample) r.numbers r.text p.name r.tells.told line)
 
-  printed_check : (name certificate : List ℕ) (options : ProofOptions) (view : View)
-      → CheckHolds number view name certificate options before.out.written after.out.written
-      → EachToldProved runs.Safe options.json false view name before.out.written after.out.written
-  printed_check name certificate options view r = record {
+  printed_check : (asked : CheckWords) (view : View)
+      → CheckHolds number view asked before.out.written after.out.written
+      → EachToldProved runs.Safe asked.options.json false view asked.file before.out.written after.out.written
+  printed_check asked view r = record {
     file = r.file;
-    holds = holds_file view name r.file r.is_file;
+    holds = holds_file view asked.file r.file r.is_file;
     text = r.text;
     gained = r.wrote;
-    holds_of = tells_proved name certificate options view r;
+    holds_of = tells_proved asked view r;
   }
 
-  lines_of_check : (name certificate : List ℕ) (options : ProofOptions) (view : View)
-      → CheckHolds number view name certificate options before.out.written after.out.written
-      → EachPrinted runs.Safe (codes "proved") ended name view
-  lines_of_check name certificate options view r = record {
+  lines_of_check : (asked : CheckWords) (view : View)
+      → CheckHolds number view asked before.out.written after.out.written
+      → EachPrinted runs.Safe (codes "proved") ended asked.file view
+  lines_of_check asked view r = record {
     file = r.file;
-    holds = holds_file view name r.file r.is_file;
+    holds = holds_file view asked.file r.file r.is_file;
     text = r.text;
     gained = r.wrote;
-    holds_of = line_proved name certificate options view r;
+    holds_of = line_proved asked view r;
   }
 
   -- with `--all` and status 0 every pattern is
-  every_check : (name certificate : List ℕ) (options : ProofOptions) (view : View) → options.all ≡ true → number ≡ 0
-      → CheckHolds number view name certificate options before.out.written after.out.written → EveryPattern runs.Safe view name
-  every_check name certificate options view all none r =
-      let both = all_proved false r.file options r.numbers number r.text r.tells all none in
-      let start = starts (wants_sample options) r.file r.tells.sample r.tells.is_sample both.0 in
-      let each = every_one (runs.Safe r.file.automaton) r.file r.numbers both.1 (proved_safe name certificate options view r) in
+  every_check : (asked : CheckWords) (view : View) → asked.options.all ≡ true → number ≡ 0
+      → CheckHolds number view asked before.out.written after.out.written → EveryPattern runs.Safe view asked.file
+  every_check asked view all none r =
+      let both = all_proved false r.file asked.options r.numbers number r.text r.tells all none in
+      let start = starts (wants_sample asked.options) r.file r.tells.sample r.tells.is_sample both.0 in
+      let each = every_one (runs.Safe r.file.automaton) r.file r.numbers both.1 (proved_safe asked view r) in
       record {
         file = r.file;
-        holds = holds_file view name r.file r.is_file;
+        holds = holds_file view asked.file r.file r.is_file;
         first = each.first;
         is_first = each.is_first;
         each = each.each;
@@ -764,60 +773,60 @@ module _ (words : List (List ℕ)) (number : ℕ) (before after : State) (h : Ru
 
   -- and of `rest-check`
   -- a pattern that `rest-check` calls proved is safe at quiet rest
-  rest_proved_safe : (name certificate : List ℕ) (names : Option (List ℕ)) (options : ProofOptions) (view : View)
-      (r : RestCheckHolds number view name certificate names options before.out.written after.out.written) (k : ℕ) (p : Pattern)
-      → slice_get r.file.patterns k ≡ Some p → IsTrue (is_proved r.numbers k) → RestSafeBut names r.file.automaton p
-  rest_proved_safe name certificate names options view r k p named is_there =
+  rest_proved_safe : (asked : RestCheckWords) (view : View)
+      (r : RestCheckHolds number view asked before.out.written after.out.written) (k : ℕ) (p : Pattern)
+      → slice_get r.file.patterns k ≡ Some p → IsTrue (is_proved r.numbers k) → RestSafeBut asked.silent r.file.automaton p
+  rest_proved_safe asked view r k p named is_there =
       let found : ClaimHolds claim.RestSafe r.file r.silent k = listed (ClaimHolds claim.RestSafe r.file r.silent) k r.numbers
       r.safe is_there in
       let same : Some found.pattern ≡ Some p = sym found.named ∙ named in
       let is : found.pattern ≡ p = cc in
-      subst (RestSafeBut names r.file.automaton) is (safe_but names r.file.automaton found.pattern r.silent r.are_silent found.safe)
+      subst (RestSafeBut asked.silent r.file.automaton) is (safe_but asked.silent r.file.automaton found.pattern r.silent r.are_silent found.safe)
 
-  tells_rest_proved : (name certificate : List ℕ) (names : Option (List ℕ)) (options : ProofOptions) (view : View)
-      (r : RestCheckHolds number view name certificate names options before.out.written after.out.written) (k : ℕ) (p : Pattern)
-      → slice_get r.file.patterns k ≡ Some p → TellsProved options.json true p.name r.text → RestSafeBut names r.file.automaton p
-  tells_rest_proved name certificate names options view r k p named told = rest_proved_safe name certificate names options view r k p named
-      (told_in true r.file options r.numbers number r.text r.tells k p named told)
+  tells_rest_proved : (asked : RestCheckWords) (view : View)
+      (r : RestCheckHolds number view asked before.out.written after.out.written) (k : ℕ) (p : Pattern)
+      → slice_get r.file.patterns k ≡ Some p → TellsProved asked.options.json true p.name r.text → RestSafeBut asked.silent r.file.automaton p
+  tells_rest_proved asked view r k p named told = rest_proved_safe asked view r k p named
+      (told_in true r.file asked.options r.numbers number r.text r.tells k p named told)
 
-  pub line_rest_proved : (name certificate : List ℕ) (names : Option (List ℕ)) (options : ProofOptions) (view : View)
-      (r : RestCheckHolds number view name certificate names options before.out.written after.out.written) (k : ℕ) (p : Pattern)
-      → slice_get r.file.patterns k ≡ Some p → HasLine (told_of p.name (codes "rest proved")) r.text → RestSafeBut names r.file.automaton p
-  line_rest_proved name certificate names options view r k p named line =
-      tells_rest_proved name certificate names options view r k p named
-      (proved_by_line options.json true r.file (printed_sample options.parameters r.tells.sample) r.numbers r.text p.name r.tells.told line)
+  pub line_rest_proved : (asked : RestCheckWords) (view : View)
+      (r : RestCheckHolds number view asked before.out.written after.out.written) (k : ℕ) (p : Pattern)
+      → slice_get r.file.patterns k ≡ Some p → HasLine (told_of p.name (codes "rest proved")) r.text → RestSafeBut asked.silent r.file.automaton p
+  line_rest_proved asked view r k p named line =
+      tells_rest_proved asked view r k p named
+      (proved_by_line asked.options.json true r.file (printed_sample asked.options.parameters r.tells.sample) r.numbers r.text p.name r.tells.told line)
 
-  printed_rest_check : (name certificate : List ℕ) (names : Option (List ℕ)) (options : ProofOptions) (view : View)
-      → RestCheckHolds number view name certificate names options before.out.written after.out.written
-      → EachToldProved (RestSafeBut names) options.json true view name before.out.written after.out.written
-  printed_rest_check name certificate names options view r = record {
+  printed_rest_check : (asked : RestCheckWords) (view : View)
+      → RestCheckHolds number view asked before.out.written after.out.written
+      → EachToldProved (RestSafeBut asked.silent) asked.options.json true view asked.file before.out.written after.out.written
+  printed_rest_check asked view r = record {
     file = r.file;
-    holds = holds_file view name r.file r.is_file;
+    holds = holds_file view asked.file r.file r.is_file;
     text = r.text;
     gained = r.wrote;
-    holds_of = tells_rest_proved name certificate names options view r;
+    holds_of = tells_rest_proved asked view r;
   }
 
-  lines_of_rest_check : (name certificate : List ℕ) (names : Option (List ℕ)) (options : ProofOptions) (view : View)
-      → RestCheckHolds number view name certificate names options before.out.written after.out.written
-      → EachPrinted (RestSafeBut names) (codes "rest proved") ended name view
-  lines_of_rest_check name certificate names options view r = record {
+  lines_of_rest_check : (asked : RestCheckWords) (view : View)
+      → RestCheckHolds number view asked before.out.written after.out.written
+      → EachPrinted (RestSafeBut asked.silent) (codes "rest proved") ended asked.file view
+  lines_of_rest_check asked view r = record {
     file = r.file;
-    holds = holds_file view name r.file r.is_file;
+    holds = holds_file view asked.file r.file r.is_file;
     text = r.text;
     gained = r.wrote;
-    holds_of = line_rest_proved name certificate names options view r;
+    holds_of = line_rest_proved asked view r;
   }
 
-  every_rest_check : (name certificate : List ℕ) (names : Option (List ℕ)) (options : ProofOptions) (view : View) → options.all ≡ true → number ≡ 0
-      → RestCheckHolds number view name certificate names options before.out.written after.out.written → EveryPattern (RestSafeBut names) view name
-  every_rest_check name certificate names options view all none r =
-      let both = all_proved true r.file options r.numbers number r.text r.tells all none in
-      let start = starts (wants_sample options) r.file r.tells.sample r.tells.is_sample both.0 in
-      let each = every_one (RestSafeBut names r.file.automaton) r.file r.numbers both.1 (rest_proved_safe name certificate names options view r) in
+  every_rest_check : (asked : RestCheckWords) (view : View) → asked.options.all ≡ true → number ≡ 0
+      → RestCheckHolds number view asked before.out.written after.out.written → EveryPattern (RestSafeBut asked.silent) view asked.file
+  every_rest_check asked view all none r =
+      let both = all_proved true r.file asked.options r.numbers number r.text r.tells all none in
+      let start = starts (wants_sample asked.options) r.file r.tells.sample r.tells.is_sample both.0 in
+      let each = every_one (RestSafeBut asked.silent r.file.automaton) r.file r.numbers both.1 (rest_proved_safe asked view r) in
       record {
         file = r.file;
-        holds = holds_file view name r.file r.is_file;
+        holds = holds_file view asked.file r.file r.is_file;
         first = each.first;
         is_first = each.is_first;
         each = each.each;
@@ -827,18 +836,18 @@ module _ (words : List (List ℕ)) (number : ℕ) (before after : State) (h : Ru
 
   pub check_proves : CheckProves ended
   check_proves = record {
-    holds = λ asked is low. gives_check asked is low (λ view. CheckHolds number view asked.file asked.other asked.options before.out.written after.out.written)
+    holds = λ asked is low. gives_check asked is low (λ view. CheckHolds number view asked before.out.written after.out.written)
         (λ view r. r);
     every = λ asked is all none. gives_check asked is (omega (arith, none)) (λ view. EveryPattern runs.Safe view asked.file)
-        (λ view r. every_check asked.file asked.other asked.options view all none r);
+        (λ view r. every_check asked view all none r);
   }
 
   pub rest_proves : RestProves ended
   rest_proves = record {
     holds = λ asked is low. gives_rest_check asked is low
-        (λ view. RestCheckHolds number view asked.file asked.other asked.silent asked.options before.out.written after.out.written) (λ view r. r);
+        (λ view. RestCheckHolds number view asked before.out.written after.out.written) (λ view r. r);
     every = λ asked is all none. gives_rest_check asked is (omega (arith, none)) (λ view. EveryPattern (RestSafeBut asked.silent) view asked.file)
-        (λ view r. every_rest_check asked.file asked.other asked.silent asked.options view all none r);
+        (λ view r. every_rest_check asked view all none r);
   }
 
   printed_rest_fair : (asked : RestWords) → rest_of words ≡ Some asked → (view : View) → RestReportHolds number view asked before.out.written after.out.written
@@ -849,21 +858,21 @@ module _ (words : List (List ℕ)) (number : ℕ) (before after : State) (h : Ru
         holds = holds_file view asked.verify.file r.file r.is_file;
         text = report_of true asked.verify.json r.file r.pick r.sample r.verdicts;
         gained = r.wrote;
-        safe = λ k p named line. fair_but r.is_file.bytes r.file r.is_file.means r.are_ends.loops k p named asked.silent
+        safe = λ k p named line. fair_but asked.verify.limits r.is_file.bytes r.file r.is_file.means r.are_ends.loops k p named asked.silent
             (tells_rest_safe asked is view r k p named line);
       }
 
-  printed_rest_check_fair : (name certificate : List ℕ) (names : Option (List ℕ)) (options : ProofOptions) (view : View)
-      → RestCheckHolds number view name certificate names options before.out.written after.out.written
-      → EachToldProved (FairlySafeBut names) options.json true view name before.out.written after.out.written
-  printed_rest_check_fair name certificate names options view r =
+  printed_rest_check_fair : (asked : RestCheckWords) (view : View)
+      → RestCheckHolds number view asked before.out.written after.out.written
+      → EachToldProved (FairlySafeBut asked.silent) asked.options.json true view asked.file before.out.written after.out.written
+  printed_rest_check_fair asked view r =
       record {
         file = r.file;
-        holds = holds_file view name r.file r.is_file;
+        holds = holds_file view asked.file r.file r.is_file;
         text = r.text;
         gained = r.wrote;
-        holds_of = λ k p named told. fair_but r.is_file.bytes r.file r.is_file.means r.are_ends.loops k p named names
-            (tells_rest_proved name certificate names options view r k p named told);
+        holds_of = λ k p named told. fair_but asked.limits r.is_file.bytes r.file r.is_file.means r.are_ends.loops k p named asked.silent
+            (tells_rest_proved asked view r k p named told);
       }
 
   printed_rest_unsafes : (asked : RestWords) → rest_of words ≡ Some asked → (view : View)
@@ -882,10 +891,10 @@ module _ (words : List (List ℕ)) (number : ℕ) (before after : State) (h : Ru
   bench_safe k b = record { file = b.is.file; legal = b.is.legal; safe = b.is.safe }
 
   tried : (asked : SearchWords) → search_of words ≡ Some asked → number ≤ 2
-      → Acts (found_names asked) (λ read made. EachTried number (seen before.shelf.files read) asked.json asked.file before.out.written after.out.written)
+      → Acts (found_names asked) (λ read made. EachTried number (seen before.shelf.files read) asked before.out.written after.out.written)
       before.shelf.calls after.shelf.calls
   tried asked is low =
-      gives_some (search_meaning asked) (as_search asked is) low (λ view. EachTried number view asked.json asked.file before.out.written after.out.written)
+      gives_some (search_meaning asked) (as_search asked is) low (λ view. EachTried number view asked before.out.written after.out.written)
       (λ view made a. tries_printed number view asked before.shelf.files after.shelf.files before.out.written after.out.written made
       (searched asked (names_apart words asked is).puts view made a))
 
@@ -906,16 +915,16 @@ module _ (words : List (List ℕ)) (number : ℕ) (before after : State) (h : Ru
         (printed_rest_unsafes asked is);
     rest_proved = λ asked is low. gives_rest_check asked is low
         (λ view. EachToldProved (RestSafeBut asked.silent) asked.options.json true view asked.file before.out.written after.out.written)
-        (printed_rest_check asked.file asked.other asked.silent asked.options);
+        (printed_rest_check asked);
     rest_fair = λ asked is low. gives_rest asked is low
         (λ view. EachToldSafe (FairlySafeBut asked.silent) true asked.verify.json view asked.verify.file before.out.written after.out.written)
         (printed_rest_fair asked is);
     rest_proved_fair = λ asked is low. gives_rest_check asked is low
         (λ view. EachToldProved (FairlySafeBut asked.silent) asked.options.json true view asked.file before.out.written after.out.written)
-        (printed_rest_check_fair asked.file asked.other asked.silent asked.options);
+        (printed_rest_check_fair asked);
     proved = λ asked is low. gives_check asked is low
         (λ view. EachToldProved runs.Safe asked.options.json false view asked.file before.out.written after.out.written)
-        (printed_check asked.file asked.other asked.options);
+        (printed_check asked);
   }
 
   -- some picked pattern of a file whose report has the number 1 occurs in a run
@@ -938,13 +947,12 @@ module _ (words : List (List ℕ)) (number : ℕ) (before after : State) (h : Ru
         occurs = occurrence.occurs;
       }
 
-  occurs_shown : (name run : List ℕ) (json : Bool) (view : View) → ReplayHolds view name run json before.out.written after.out.written
-      → ShownOccurs name run view
-  occurs_shown name run json view r =
+  occurs_shown : (asked : ReplayWords) (view : View) → ReplayHolds view asked before.out.written after.out.written → ShownOccurs asked.file asked.other view
+  occurs_shown asked view r =
       let s = r.is_run.means in
       record {
         file = r.file;
-        holds = holds_file view name r.file r.is_file;
+        holds = holds_file view asked.file r.file r.is_file;
         run = r.run;
         bytes = r.is_run.bytes;
         held = r.is_run.had.seen;
@@ -973,7 +981,7 @@ module _ (words : List (List ℕ)) (number : ℕ) (before after : State) (h : Ru
         bytes = r.is_file.bytes;
         held = r.is_file.had.seen;
         safe = λ text printed file orders e.
-            let same : r.file ≡ file = one_legal narrow r.is_file.bytes r.file printed.file r.is_file.means printed.legal
+            let same : r.file ≡ file = one_legal_file asked.limits printed.limits r.is_file.bytes r.file printed.file r.is_file.means printed.legal
             ∙ file_same printed.file file (map pair_of printed.is.orders) orders (sym printed.is.shown ∙ sym e) in
             subst (EachPicked runs.Safe asked.pattern) same safe;
       })
@@ -996,17 +1004,17 @@ module _ (words : List (List ℕ)) (number : ℕ) (before after : State) (h : Ru
               (subst (λ (json : Bool). TellsSafe false json p.name e.text) (sym plain) line);
         });
     proved = λ asked is low. gives_check asked is low (EachPrinted runs.Safe (codes "proved") ended asked.file)
-        (lines_of_check asked.file asked.other asked.options);
-    shown = λ asked is none. gives (replay_meaning asked.file asked.other asked.json) refl (as_replay asked is) (omega (arith, none))
+        (lines_of_check asked);
+    shown = λ asked is none. gives (replay_meaning asked) refl (as_replay asked is) (omega (arith, none))
         (ShownOccurs asked.file asked.other)
-        (λ view made a. occurs_shown asked.file asked.other asked.json view (shown asked.file asked.other asked.json view made a));
+        (λ view made a. occurs_shown asked view (shown asked view made a));
     rest_safe = λ asked is alone low. subst
         (λ (names : Option (List ℕ)). Did ended (may_put asked.verify.out) (EachPrinted (RestSafeBut names) (codes "rest safe, ") ended asked.verify.file))
         alone (gives_rest asked is low (EachPrinted (RestSafeBut asked.silent) (codes "rest safe, ") ended asked.verify.file) (lines_of_rest asked is));
     rest_proved = λ asked is alone low. subst
         (λ (names : Option (List ℕ)). Saw ended (EachPrinted (RestSafeBut names) (codes "rest proved") ended asked.file)) alone
         (gives_rest_check asked is low (EachPrinted (RestSafeBut asked.silent) (codes "rest proved") ended asked.file)
-        (lines_of_rest_check asked.file asked.other asked.silent asked.options));
+        (lines_of_rest_check asked));
   }
 
 pub quiet : (asked : Asked) (number : ℕ) (before after : State) → Runs asked number before after → Quiet number before after
@@ -1047,11 +1055,11 @@ differs kind name outs rest number before after performs words =
 pub spares_read : (words : List (List ℕ)) (number : ℕ) (before after : State) → Runs (request_of words) number before after
     → SparesRead (run_of words number before after)
 spares_read words number before after h = record {
-  verify = λ asked is. differs file_kind asked.file (may_put asked.out) (picked_meaning asked) number before after
+  verify = λ asked is. differs (file_kind asked.limits) asked.file (may_put asked.out) (picked_meaning asked) number before after
       (as_verify words number before after h asked is) words;
-  rest = λ asked is. differs file_kind asked.verify.file (may_put asked.verify.out)
+  rest = λ asked is. differs (file_kind asked.verify.limits) asked.verify.file (may_put asked.verify.out)
       (at_ends asked.verify.file (may_put asked.verify.out) (rest_quietly asked)) number before after (as_rest words number before after h asked is) words;
-  search = λ asked is. differs template_kind asked.file (found_names asked) (found_meaning asked) number before after
+  search = λ asked is. differs (template_kind asked.terms.limits) asked.file (found_names asked) (found_meaning asked) number before after
       (as_search words number before after h asked is) words;
 }
 
@@ -1111,6 +1119,7 @@ passes_legal (Command legal m) number before after h = λ told is legal. (
 )
 
 -- told files hold one file
-pub same_file : (told : Told) (name : List ℕ) (file other : File) → IsFile (in_files told) name other → IsFile (in_files told) name file → other ≡ file
-same_file told name file other h is = one_legal narrow is.bytes other file
-    (subst (λ (bytes : List ℕ). file_kind.means bytes other) (whole_one told name file_kind.limit.bytes h.bytes is.bytes h.had is.had) h.means) is.means
+pub same_file : (l : Limits) (told : Told) (name : List ℕ) (file other : File) → IsFile l (in_files told) name other → IsFile l (in_files told) name file
+    → other ≡ file
+same_file l told name file other h is = one_legal l is.bytes other file
+    (subst (λ (bytes : List ℕ). (file_kind l).means bytes other) (whole_one told name l.bytes h.bytes is.bytes h.had is.had) h.means) is.means

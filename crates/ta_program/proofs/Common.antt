@@ -50,7 +50,7 @@ pub use Rattle.ta_program.specs.Printed.{EachPrintedUnsafe, EachToldSafe, Unsafe
 pub use Rattle.ta_program.specs.Program.{Admitting, Benches, CertificateWritten, CheckProves, ComparesFirst, Completes, EndsSo, ExactlySo, Exports, HoldsSame}
 pub use Rattle.ta_program.specs.Program.{KeepsFiles, Opens, PassesLegal, PrintedHolds, ReplayShows, RestProves, RestsReport, RunShortens, Searches, SparesRead}
 pub use Rattle.ta_program.specs.Program.{VerifyReports, put_by}
-pub use Rattle.ta_program.specs.OneFile.{SaysText, one_file_asked, one_file_meaning, one_name, printing}
+pub use Rattle.ta_program.specs.OneFile.{SaysText, one_file_asked, one_file_meaning, one_file_words, printing}
 pub use Rattle.ta_program.specs.Replay.{ReplayHolds, SaysShown, replay_meaning, shown_meaning}
 pub use Rattle.ta_program.specs.Reporting.{CertificateStands, ReportHolds, Reports, report_meaning, verify_meaning, IsDecided, picked_meaning}
 pub use Rattle.ta_program.specs.PatternOption.{EachPicked, HasName, IsPick, LegalPicked, PickHinders, with_pick}
@@ -73,7 +73,7 @@ pub use Rattle.ta_program.specs.VerifyWords.{VerifyWords, verify_form, verify_of
 pub use Rattle.ta_program.specs.WordAsked.{WordAsked}
 pub use Rattle.ta_program.specs.WordSeen.{asked_seen, word_seen}
 pub use Rattle.ta_program.specs.Words.{Taken, behind, behind_name, option_value, plain_of, taken_by}
-pub use Rattle.ta_program.specs.declared.limits.TheConstants.{CERTIFICATE, FILE, RUN}
+pub use Rattle.ta_program.specs.declared.limits.TheConstants.{CERTIFICATE, RUN}
 pub use Rattle.ta_replay.proofs.TextsShort.{lines_counted, run_text_short}
 pub use Rattle.ta_replay.specs.RunText.{IsRunText, run_text}
 pub use Rattle.ta_replay.specs.Shows.{IsFirstConfig, Shows, ShowsPattern, shown_of, unit_steps}
@@ -93,6 +93,7 @@ pub use Rattle.ta_report.specs.declared.verdict.Verdict.TheVariants.{Overflow, S
 pub use Rattle.ta_rest.proofs.EndingShapes.{endings_count}
 pub use Rattle.ta_rest.specs.Endings.{Endings, IsEnding, LastMoved, RestAdded, events_below}
 pub use Rattle.ta_rest.specs.Rest.{RestOccurs, RestSafe}
+pub use Rattle.ta_search.specs.declared.terms.Terms.{Terms}
 pub use Rattle.ta_verdict.specs.Rest.Budgets.{RestBudget, resting}
 pub use Rattle.ta_verdict.specs.Rest.Certificates.{RestCertificateOf}
 pub use Rattle.ta_verdict.specs.Rest.Verdicts.{AreRestVerdicts, EndingVerdictHolds, RestVerdictHolds}

@@ -69,7 +69,8 @@ rest_hinders_where file ends budget pick (Some out) some long = (long_line out, 
 
 -- of `verify`
 module _ (told : Told) (asked : VerifyWords) (file : File) (pick : Pick) (number : ℕ) (before after : State) (is : before.shelf.files ≡ Some told)
-    (is_file : IsFile (in_files told) asked.file file) (is_pick : IsPick file asked.pattern pick) (h : Performs (verify_meaning asked) number before after)
+    (is_file : IsFile asked.limits (in_files told) asked.file file) (is_pick : IsPick file asked.pattern pick)
+    (h : Performs (verify_meaning asked) number before after)
   where
     decided_then : (f : File) (k : Pick) (answer : Answer) → f ≡ file → k ≡ pick → Reports asked f k answer → IsDecided asked file pick → number ≡ answer.number
         → number ≢ 2
@@ -87,7 +88,7 @@ module _ (told : Told) (asked : VerifyWords) (file : File) (pick : Pick) (number
         let a = answered_told (verify_meaning asked) told number before after is h (verify_decides asked) (omega (arith, two)) in
         let answers = a.holds in
         let found = answers.2.1 in
-        let same : answers.0 ≡ file = same_file told asked.file file answers.0 answers.1 is_file in
+        let same : answers.0 ≡ file = same_file asked.limits told asked.file file answers.0 answers.1 is_file in
         let there : IsPick file asked.pattern found.0 = subst (λ (x : File). IsPick x asked.pattern found.0) same found.1 in
         decided_then answers.0 found.0 a.answer same (pick_once file asked.pattern found.0 pick there is_pick) found.2 decides a.numbered two
 
@@ -112,7 +113,7 @@ module _ (told : Told) (asked : VerifyWords) (file : File) (pick : Pick) (number
           | inl own ↦ let three : number ≡ 3 = own.numbered in absurd (omega (arith, three, four))
           | inr rest ↦ elim rest.2 [
             | inl holds ↦ let same = same_told told asked.file asked.out number hinders.0 holds in (same.0, inr same.1)
-            | inr later ↦ picked_long rest.0 (same_file told asked.file file rest.0 rest.1 is_file) four hinders.0 later.1
+            | inr later ↦ picked_long rest.0 (same_file asked.limits told asked.file file rest.0 rest.1 is_file) four hinders.0 later.1
           ]
         ]
 
@@ -123,13 +124,15 @@ module _ (told : Told) (asked : VerifyWords) (file : File) (pick : Pick) (number
       long = λ some long.
           let hinders = hinders_where file pick asked.budget asked.out some long in
           h.exact (verify_decides asked) told is 4
-          (hinders_so file_kind told asked.file (picked_meaning asked) file is_file asked.out hinders.0 (inr (pick, is_pick, hinders.1)));
-      same = λ same. h.exact (verify_decides asked) told is 4 (same_so file_kind told asked.file (picked_meaning asked) file is_file asked.out same);
+          (hinders_so (file_kind asked.limits) told asked.file (picked_meaning asked) file is_file asked.out hinders.0 (inr (pick, is_pick, hinders.1)));
+      same = λ same. h.exact (verify_decides asked) told is 4
+          (same_so (file_kind asked.limits) told asked.file (picked_meaning asked) file is_file asked.out same);
     }
 
 -- of `rest`
 module _ (told : Told) (asked : RestWords) (file : File) (places : List ℕ) (pick : Pick) (number : ℕ) (before after : State)
-    (is : before.shelf.files ≡ Some told) (is_file : IsFile (in_files told) asked.verify.file file) (silent : AreSilent file.automaton asked.silent places)
+    (is : before.shelf.files ≡ Some told) (is_file : IsFile asked.verify.limits (in_files told) asked.verify.file file)
+    (silent : AreSilent file.automaton asked.silent places)
     (is_pick : IsPick file asked.verify.pattern pick) (h : Performs (rest_meaning asked) number before after) where
   abbrev budget : RestBudget
   budget = resting asked.verify.budget places
@@ -164,7 +167,8 @@ module _ (told : Told) (asked : RestWords) (file : File) (places : List ℕ) (pi
       let found = answers.2.1 in
       let quiet = found.2 in
       let one = quiet.2 in
-      known_then answers.0 found.0 quiet.0 one.0 a.answer (same_file told asked.verify.file file answers.0 answers.1 is_file) found.1 quiet.1 one.1 one.2
+      known_then answers.0 found.0 quiet.0 one.0 a.answer (same_file asked.verify.limits told asked.verify.file file answers.0 answers.1 is_file) found.1
+      quiet.1 one.1 one.2
       decided a.numbered two
 
   abbrev LongOrSame : Type 0
@@ -204,7 +208,8 @@ module _ (told : Told) (asked : RestWords) (file : File) (places : List ℕ) (pi
           | inl holds ↦ let same = same_told told asked.verify.file asked.verify.out number hinders.0 holds in (same.0, inr same.1)
           | inr ended ↦ elim ended.1 [
             | inl cycle ↦ let three : number ≡ 3 = cycle.numbered in absurd (omega (arith, three, four))
-            | inr later ↦ long_then rest.0 later.0 (same_file told asked.verify.file file rest.0 rest.1 is_file) later.1 four hinders.0 later.2
+            | inr later ↦ long_then rest.0 later.0 (same_file asked.verify.limits told asked.verify.file file rest.0 rest.1 is_file) later.1 four hinders.0
+                later.2
           ]
         ]
       ]
@@ -217,10 +222,11 @@ module _ (told : Told) (asked : RestWords) (file : File) (places : List ℕ) (pi
     long = λ some long.
         let hinders = rest_hinders_where file long.ends budget pick asked.verify.out some long.long in
         h.exact (rest_decides asked) told is 4
-        (hinders_so file_kind told asked.verify.file (at_ends asked.verify.file (may_put asked.verify.out) (rest_quietly asked)) file is_file
+        (hinders_so (file_kind asked.verify.limits) told asked.verify.file (at_ends asked.verify.file (may_put asked.verify.out) (rest_quietly asked)) file
+        is_file
         asked.verify.out hinders.0 (inr (long.ends, long.are_ends, inr (places, silent, inr (pick, is_pick, hinders.1)))));
     same = λ same. h.exact (rest_decides asked) told is 4
-        (same_so file_kind told asked.verify.file (at_ends asked.verify.file (may_put asked.verify.out) (rest_quietly asked)) file is_file
+        (same_so (file_kind asked.verify.limits) told asked.verify.file (at_ends asked.verify.file (may_put asked.verify.out) (rest_quietly asked)) file is_file
         asked.verify.out same);
   }
 

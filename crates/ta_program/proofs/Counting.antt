@@ -6,7 +6,7 @@ use Rattle.std.proofs.lemmas.Bool.Decides.{nat_tests}
 use Rattle.std.specs.Ordering.{nat_cmp, ord_max}
 use Rattle.ta_automaton.specs.Patterns.{PatternWithin}
 use Rattle.ta_base.proofs.Pairwise.{paired_length}
-use Rattle.ta_base.specs.LimitRows.{narrow}
+use Rattle.ta_base.specs.declared.limits.Limits.{Limits}
 use Rattle.ta_meaning.proofs.FileLimits.{legal_within}
 use Rattle.ta_meaning.specs.Meaning.{MeansPattern}
 use Rattle.ta_meaning.specs.Names.{plain_names}
@@ -42,14 +42,14 @@ few_events places locations (p ∷ ps) within =
     let others = few_events places locations ps within.1 in
     elim (max_is (length p.events) (most_events ps)) [ inl is ↦ omega (arith, is, few) | inr is ↦ omega (arith, is, others) ]
 
--- each count of a file within the narrow limits is within its limit
-pub counts_within : (bytes : List ℕ) (file : File) → Legal narrow bytes file → AllByRecursion (λ c. c.1 ≤ c.2) (counts_of file)
-counts_within bytes file legal =
-    let few = legal_within narrow bytes file legal in
+-- each count of a legal file is within its limit
+pub counts_within : (l : Limits) (bytes : List ℕ) (file : File) → Legal l bytes file → AllByRecursion (λ c. c.1 ≤ c.2) (counts_of l file)
+counts_within l bytes file legal =
+    let few = legal_within l bytes file legal in
     let t = legal.means.tree in
     let patterns = paired_length (MeansPattern (plain_names (plain_tree t))) (plain_tree t).patterns file.patterns legal.means.means.patterns in
     let same : length (plain_tree t).patterns ≡ length t.patterns = length-map t.patterns plain_pattern in
-    let few_patterns : length file.patterns ≤ 16 = omega (arith, patterns, same, legal.means.is_tree.within.patterns) in (
+    let few_patterns : length file.patterns ≤ l.patterns = omega (arith, patterns, same, legal.means.is_tree.within.patterns) in (
       few.parameters,
       (
         few.shared,

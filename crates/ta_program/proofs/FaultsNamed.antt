@@ -1,5 +1,5 @@
 -- What is printed names the error.
-use Rattle.ta_base.specs.LimitRows.{narrow}
+use Rattle.ta_base.specs.declared.limits.Limits.{Limits}
 use Rattle.ta_program.proofs.Common.{Budget, ◌≡◌, ◌∙◌, ◌≤◌, ℕ, Bool, true, false, List, [], ◌∷◌, Option, None, Some, refl, sym, ap, subst, inl, inr, arith}
 use Rattle.ta_program.proofs.Common.{codes, bytes_eq, File, one_legal, run_text, Template, one_fault, Told, replies_monotone, Monotone, Decides, Meaning}
 use Rattle.ta_program.proofs.Common.{Performs, State, Tells, file_line, in_files, seen, Writes, after, finds, replies, whole_faults_once, word_faults_once}
@@ -13,7 +13,9 @@ use Rattle.ta_program.proofs.Common.{rest_meaning, rest_report_meaning, rest_che
 use Rattle.ta_program.proofs.Common.{with_ends, rest_words, Finds, HindersFound, LegalTemplate, found_meaning, found_names, search_meaning, template_kind}
 use Rattle.ta_program.proofs.Common.{SearchWords, search_words, two_names, verify_words, WordAsked, ◌⊎◌, AskedWord as Word, RestBudget, resting, rest_quietly}
 use Rattle.ta_program.proofs.Common.{with_silent, at_ends}
-use Rattle.ta_program.proofs.Common.{IsCount, IsShown, SaysText, one_file_asked, one_file_meaning, one_name, printing}
+use Rattle.ta_program.proofs.Common.{IsCount, IsShown, SaysText, one_file_asked, one_file_meaning, one_file_words, printing}
+use Rattle.ta_base.specs.LimitRows.{narrow}
+use Rattle.ta_search.specs.declared.terms.Terms.{Terms}
 use Rattle.ta_meaning.specs.Laws.{FirstFaultsAreUnique}
 use Rattle.ta_rest.specs.declared.claim.Claim.TheVariants as claim
 use Rattle.ta_program.proofs.EndsOnce.{ends_once}
@@ -21,9 +23,11 @@ use Rattle.ta_program.proofs.Common.{LegalRest, RestWords, rest_picked}
 use Rattle.ta_program.proofs.RestMeanings.{cycle_rule, ends_monotone, hinders_rest, no_cycle, quietly_monotone, rest_quietly_monotone}
 use Rattle.ta_program.proofs.SilentPlaces.{silent_fits, silent_line, silent_number, silent_once}
 use Rattle.ta_program.proofs.Common.{AreSilent, LegalSilently, NamesHinder, claiming_with, quietly_meaning, rest_check_words}
-use Rattle.ta_program.specs.CheckWords.{check_words, replay_words}
+use Rattle.ta_program.specs.CheckWords.{CheckWords, ReplayWords, check_words, replay_words}
 use Rattle.ta_program.specs.Proofs.{SaysProofs}
-use Rattle.ta_program.specs.declared.proof_options.ProofOptions.{ProofOptions}
+use Rattle.ta_program.specs.OneFile.{OneFileWords}
+use Rattle.ta_program.specs.RestWords.{RestCheckWords}
+use Rattle.ta_program.specs.Values.{TwoNames}
 use Rattle.ta_program.specs.Version.{version_meaning, version_text, version_words}
 use Rattle.ta_program.proofs.FaultsOnce.{certificate_settled, long_once, run_once, settled, values_once}
 use Rattle.ta_program.proofs.Meanings.{hinders_long, picked_monotone, proved_monotone, short_monotone, shown_monotone}
@@ -51,10 +55,10 @@ long_certificate : (file : File) (pick : Pick) (budget : Budget) (out : Option (
 long_certificate file pick budget None line words number other h k = absurd h
 long_certificate file pick budget (Some out) line words number other h k = h.said ∙ sym k.said
 
-long_found : (t : Template) (budget : Budget) (out : Option (List ℕ)) (line words : List ℕ) (number other : ℕ) → HindersFound t budget out number line
-    → HindersFound t budget out other words → line ≡ words
-long_found t budget None line words number other h k = absurd h
-long_found t budget (Some out) line words number other h k = h.said ∙ sym k.said
+long_found : (t : Template) (terms : Terms) (out : Option (List ℕ)) (line words : List ℕ) (number other : ℕ) → HindersFound t terms out number line
+    → HindersFound t terms out other words → line ≡ words
+long_found t terms None line words number other h k = absurd h
+long_found t terms (Some out) line words number other h k = h.said ∙ sym k.said
 
 long_rest : (file : File) (ends : FileEndings) (budget : RestBudget) (pick : Pick) (out : Option (List ℕ)) (line words : List ℕ) (number other : ℕ)
     → HindersRest file ends budget pick out number line → HindersRest file ends budget pick out other words → line ≡ words
@@ -63,11 +67,11 @@ long_rest file ends budget pick (Some out) line words number other h k = h.said 
 
 module _ (unique : FirstFaultsAreUnique) (told : Told) where
   -- of a command that reads FILE first
-  file_first : (name : List ℕ) (puts : List (List ℕ)) (rest : File → Meaning) → ((file : File) → Monotone (rest file))
-      → ((file : File) → HinderOnce (rest file) told) → HinderOnce (after file_kind name puts rest) told
-  file_first name puts rest rests later =
-      after_once file_kind (settled file_kind (λ bytes f none. none) (unique narrow)) name puts rest rests told 3 refl (omega arith) (omega arith)
-      (λ bytes file fault legal found. legal.no_fault fault found) later (one_legal narrow)
+  file_first : (l : Limits) (name : List ℕ) (puts : List (List ℕ)) (rest : File → Meaning) → ((file : File) → Monotone (rest file))
+      → ((file : File) → HinderOnce (rest file) told) → HinderOnce (after (file_kind l) name puts rest) told
+  file_first l name puts rest rests later =
+      after_once (file_kind l) (settled (file_kind l) (λ bytes f none. none) (unique l)) name puts rest rests told 3 refl (omega arith) (omega arith)
+      (λ bytes file fault legal found. legal.no_fault fault found) later (one_legal l)
 
   report_once : (asked : VerifyWords) (file : File) (pick : Pick) → HinderOnce (report_meaning asked file pick) told
   report_once asked file pick =
@@ -80,30 +84,34 @@ module _ (unique : FirstFaultsAreUnique) (told : Told) where
 
   verify_once : (asked : VerifyWords) → HinderOnce (verify_meaning asked) told
   verify_once asked =
-      spared_once file_kind asked.file (may_put asked.out) (picked_meaning asked) (picked_monotone asked) told
+      spared_once (file_kind asked.limits) asked.file (may_put asked.out) (picked_meaning asked) (picked_monotone asked) told
       (λ bytes file fault legal found. legal.no_fault fault found)
-      (file_first asked.file (may_put asked.out) (picked_meaning asked) (picked_monotone asked) (λ file.
+      (file_first asked.limits asked.file (may_put asked.out) (picked_meaning asked) (picked_monotone asked) (λ file.
       picks_once asked.file asked.pattern (may_put asked.out) file (report_meaning asked file) told (report_once asked file)))
 
-  check_once : (name certificate : List ℕ) (options : ProofOptions) → HinderOnce (check_meaning name certificate options) told
-  check_once name certificate options =
-      file_first name [] (λ file. proved_meaning file options certificate) (λ file. proved_monotone file options certificate) (λ file.
-      after_last (certificate_kind (claiming claim.Safe file narrow.line_bytes)) (certificate_settled
-      (claiming claim.Safe file narrow.line_bytes)) certificate []
+  check_once : (asked : CheckWords) → HinderOnce (check_meaning asked) told
+  check_once asked =
+      let options = asked.options in
+      file_first asked.limits asked.file [] (proved_meaning asked) (proved_monotone asked) (λ file.
+      after_last (certificate_kind (claiming claim.Safe file asked.limits.line_bytes)) (certificate_settled
+      (claiming claim.Safe file asked.limits.line_bytes)) asked.other []
       (λ numbers. replies [] (SaysProofs false file options numbers)) (λ numbers. replies_monotone [] (SaysProofs false file options numbers)) told 4 refl
       (omega arith) (omega arith)
       (λ bytes numbers fault proves found. found.no_certificate numbers proves.accepted) (λ numbers number line none. none))
 
-  replay_once : (name run : List ℕ) (json : Bool) → HinderOnce (replay_meaning name run json) told
-  replay_once name run json =
-      file_first name [] (λ file. shown_meaning file json run) (λ file. shown_monotone file json run) (λ file.
+  replay_once : (asked : ReplayWords) → HinderOnce (replay_meaning asked) told
+  replay_once asked =
+      let run = asked.other in
+      let json = asked.json in
+      file_first asked.limits asked.file [] (λ file. shown_meaning file json run) (λ file. shown_monotone file json run) (λ file.
       after_last (run_kind file) (settled (run_kind file) (λ bytes f none. none) (run_once file)) run [] (λ shown. replies [] (SaysShown file json shown))
       (λ shown. replies_monotone [] (SaysShown file json shown)) told 4 refl (omega arith) (omega arith)
       (λ bytes shown fault shows found. found.shows_nothing shown shows) (λ shown number line none. none))
 
-  pub compress_once : (name run : List ℕ) → HinderOnce (compress_meaning name run) told
-  compress_once name run =
-      file_first name [] (λ file. short_meaning file run) (λ file. short_monotone file run) (λ file.
+  pub compress_once : (asked : TwoNames) → HinderOnce (compress_meaning asked) told
+  compress_once asked =
+      let run = asked.other in
+      file_first asked.limits asked.file [] (λ file. short_meaning file run) (λ file. short_monotone file run) (λ file.
       after_last (long_kind file) (settled (long_kind file) (λ bytes f none. none) (long_once file)) run [] (λ long. replies [] (SaysShort file long))
       (λ long. replies_monotone [] (SaysShort file long)) told 4 refl (omega arith) (omega arith)
       (λ bytes long fault able found. found.compresses_nothing long able) (λ long number line none. none))
@@ -117,7 +125,7 @@ module _ (unique : FirstFaultsAreUnique) (told : Told) where
       (λ word. replies_hinder [] (SaysSystem file word) told)
 
   export_once : (asked : WordAsked) → HinderOnce (export_meaning asked) told
-  export_once asked = file_first asked.file [] (system_meaning asked.file asked.word) (system_monotone asked.file asked.word)
+  export_once asked = file_first narrow asked.file [] (system_meaning asked.file asked.word) (system_monotone asked.file asked.word)
       (system_once asked.file asked.word)
 
   values_line : (values : List ℕ) (file : File) (word : Word) → HinderOnce (values_meaning values file word) told
@@ -135,36 +143,40 @@ module _ (unique : FirstFaultsAreUnique) (told : Told) where
       (values_line values file)
 
   admit_once : (all : AdmitAsked) → HinderOnce (admit_meaning all) told
-  admit_once all = file_first all.asked.file [] (run_meaning all.asked.file all.asked.word all.values) (run_monotone all.asked.file all.asked.word all.values)
+  admit_once all = file_first narrow all.asked.file [] (run_meaning all.asked.file all.asked.word all.values)
+      (run_monotone all.asked.file all.asked.word all.values)
       (run_line all.asked.file all.asked.word all.values)
 
   -- of a command of one file
-  one_file_once : (text : File → List ℕ → Type 0) (name : List ℕ) → HinderOnce (one_file_meaning text name) told
-  one_file_once text name =
-      file_first name [] (λ file. printing (text file)) (λ file. replies_monotone [] (SaysText (text file)))
-      (λ file. replies_hinder [] (SaysText (text file)) told)
+  one_file_once : (text : Limits → File → List ℕ → Type 0) (asked : OneFileWords) → HinderOnce (one_file_meaning text asked) told
+  one_file_once text asked =
+      let such = text asked.limits in
+      file_first asked.limits asked.file [] (λ file. printing (such file)) (λ file. replies_monotone [] (SaysText (such file)))
+      (λ file. replies_hinder [] (SaysText (such file)) told)
 
   found_once : (asked : SearchWords) (t : Template) → HinderOnce (found_meaning asked t) told
   found_once asked t =
-      settles_once (found_names asked) (Finds t asked) (HindersFound t asked.budget asked.out) told
-      (λ number line h. let is = hinders_four t asked.budget asked.out number line h in (omega (arith, is), omega (arith, is)))
+      settles_once (found_names asked) (Finds t asked) (HindersFound t asked.terms asked.out) told
+      (λ number line h. let is = hinders_four t asked.terms asked.out number line h in (omega (arith, is), omega (arith, is)))
       (λ number other line words h k. (
-        hinders_four t asked.budget asked.out number line h
-            ∙ sym (hinders_four t asked.budget asked.out other words k),
-        long_found t asked.budget asked.out line words number other h k,
+        hinders_four t asked.terms asked.out number line h
+            ∙ sym (hinders_four t asked.terms asked.out other words k),
+        long_found t asked.terms asked.out line words number other h k,
       ))
 
   search_once : (asked : SearchWords) → HinderOnce (search_meaning asked) told
   search_once asked =
-      spared_once template_kind asked.file (found_names asked) (found_meaning asked) (found_monotone asked) told template_fits
-      (after_once template_kind (settled template_kind (λ bytes f none. none) one_fault) asked.file (found_names asked) (found_meaning asked)
+      spared_once (template_kind asked.terms.limits) asked.file (found_names asked) (found_meaning asked) (found_monotone asked) told template_fits
+      (after_once (template_kind asked.terms.limits) (settled (template_kind asked.terms.limits) (λ bytes f none. none) one_fault) asked.file
+      (found_names asked) (found_meaning asked)
       (found_monotone asked) told 3 refl (omega arith) (omega arith) template_fits (found_once asked) one_text)
 
   -- of a command that looks for the endings of FILE
-  ends_line : (name : List ℕ) (puts : List (List ℕ)) (rest : File → FileEndings → Meaning) → ((file : File) (ends : FileEndings) → Monotone (rest file ends))
-      → ((file : File) (ends : FileEndings) → HinderOnce (rest file ends) told) → HinderOnce (with_ends name puts rest) told
-  ends_line name puts rest rests later =
-      file_first name puts (λ file. finds (IsEnds file) (CycleHinders name file) puts (rest file)) (ends_monotone name puts rest rests) (λ file.
+  ends_line : (l : Limits) (name : List ℕ) (puts : List (List ℕ)) (rest : File → FileEndings → Meaning)
+      → ((file : File) (ends : FileEndings) → Monotone (rest file ends))
+      → ((file : File) (ends : FileEndings) → HinderOnce (rest file ends) told) → HinderOnce (with_ends l name puts rest) told
+  ends_line l name puts rest rests later =
+      file_first l name puts (λ file. finds (IsEnds file) (CycleHinders name file) puts (rest file)) (ends_monotone l name puts rest rests) (λ file.
       finds_once (IsEnds file) (CycleHinders name file) puts (rest file) told
       (λ number line h. let three : number ≡ 3 = h.numbered in (omega (arith, three), omega (arith, three)))
       (λ number other line words h k. (
@@ -203,31 +215,31 @@ module _ (unique : FirstFaultsAreUnique) (told : Told) where
 
   rest_once : (asked : RestWords) → HinderOnce (rest_meaning asked) told
   rest_once asked =
+      let l = asked.verify.limits in
       let name = asked.verify.file in
       let puts = may_put asked.verify.out in
       let quietly = rest_quietly asked in
       let monotone = rest_quietly_monotone asked in
-      spared_once file_kind name puts (at_ends name puts quietly) (ends_monotone name puts quietly monotone) told
+      spared_once (file_kind l) name puts (at_ends name puts quietly) (ends_monotone l name puts quietly monotone) told
       (λ bytes file fault legal found. legal.no_fault fault found)
-      (ends_line name puts quietly monotone (λ file ends.
+      (ends_line l name puts quietly monotone (λ file ends.
       names_once name asked.silent puts file (λ places. rest_picked asked file ends (resting asked.verify.budget places)) (λ places.
       picks_once name asked.verify.pattern puts file (rest_report_meaning asked file ends (resting asked.verify.budget places)) told
       (rest_report_once asked file ends (resting asked.verify.budget places)))))
 
-  proved_once : (certificate : List ℕ) (options : ProofOptions) (file : File) (ends : FileEndings) (silent : List ℕ)
-      → HinderOnce (rest_proved_meaning certificate options file ends silent) told
-  proved_once certificate options file ends silent =
-      after_last (certificate_kind (claiming_with claim.RestSafe ends.ending silent narrow.line_bytes)) (certificate_settled
-      (claiming_with claim.RestSafe ends.ending silent narrow.line_bytes))
-      certificate [] (λ numbers. replies [] (SaysProofs true file options numbers)) (λ numbers. replies_monotone [] (SaysProofs true file options numbers))
+  proved_once : (asked : RestCheckWords) (file : File) (ends : FileEndings) (silent : List ℕ) → HinderOnce (rest_proved_meaning asked file ends silent) told
+  proved_once asked file ends silent =
+      let options = asked.options in
+      after_last (certificate_kind (claiming_with claim.RestSafe ends.ending silent asked.limits.line_bytes)) (certificate_settled
+      (claiming_with claim.RestSafe ends.ending silent asked.limits.line_bytes))
+      asked.other [] (λ numbers. replies [] (SaysProofs true file options numbers)) (λ numbers. replies_monotone [] (SaysProofs true file options numbers))
       told 4 refl (omega arith) (omega arith)
       (λ bytes numbers fault proves found. found.no_certificate numbers proves.accepted) (λ numbers number line none. none)
 
-  rest_check_once : (name certificate : List ℕ) (names : Option (List ℕ)) (options : ProofOptions)
-      → HinderOnce (rest_check_meaning name certificate names options) told
-  rest_check_once name certificate names options =
-      ends_line name [] (quietly_meaning name certificate names options) (quietly_monotone name certificate names options) (λ file ends.
-      names_once name names [] file (rest_proved_meaning certificate options file ends) (proved_once certificate options file ends))
+  rest_check_once : (asked : RestCheckWords) → HinderOnce (rest_check_meaning asked) told
+  rest_check_once asked =
+      ends_line asked.limits asked.file [] (quietly_meaning asked) (quietly_monotone asked) (λ file ends.
+      names_once asked.file asked.silent [] file (rest_proved_meaning asked file ends) (proved_once asked file ends))
 
   -- what words ask for, row by row
   asked_where_once : {W : Type 0} (legal : W → Told → Type 0) (says : W → Meaning) (words : Option W) → ((w : W) → HinderOnce (says w) told)
@@ -235,12 +247,12 @@ module _ (unique : FirstFaultsAreUnique) (told : Told) where
   asked_where_once legal says None once = tt
   asked_where_once legal says (Some w) once = once w
 
-  asked_once : {W : Type 0} (file : W → Option (List ℕ)) (says : W → Meaning) (words : Option W) → ((w : W) → HinderOnce (says w) told)
+  asked_once : {W : Type 0} (file : W → Option (List ℕ × Limits)) (says : W → Meaning) (words : Option W) → ((w : W) → HinderOnce (says w) told)
       → OfCommand (λ m. HinderOnce m told) (ask file says words)
   asked_once file says = asked_where_once (λ w told. LegalFile told (file w)) says
 
-  one_file_asked_once : (text : File → List ℕ → Type 0) (words : List (List ℕ)) → OfCommand (λ m. HinderOnce m told) (one_file_asked text words)
-  one_file_asked_once text words = asked_once (λ name. Some name) (one_file_meaning text) (one_name words) (one_file_once text)
+  one_file_asked_once : (text : Limits → File → List ℕ → Type 0) (words : List (List ℕ)) → OfCommand (λ m. HinderOnce m told) (one_file_asked text words)
+  one_file_asked_once text words = asked_once (λ asked. Some (asked.file, asked.limits)) (one_file_meaning text) (one_file_words words) (one_file_once text)
 
   row_once : (named : Bool) (asked others : Asked) → OfCommand (λ m. HinderOnce m told) asked → OfCommand (λ m. HinderOnce m told) others
       → OfCommand (λ m. HinderOnce m told) (choose named asked others)
@@ -250,24 +262,23 @@ module _ (unique : FirstFaultsAreUnique) (told : Told) where
   request_once : (words : List (List ℕ)) → OfCommand (λ m. HinderOnce m told) (request_of words)
   request_once [] = tt
   request_once (word ∷ words) =
-      row_once (bytes_eq word (codes "admit")) _ _ (asked_once (λ all. Some all.asked.file) admit_meaning (admit_words words) admit_once)
+      row_once (bytes_eq word (codes "admit")) _ _ (asked_once (λ all. Some (all.asked.file, narrow)) admit_meaning (admit_words words) admit_once)
       (row_once (bytes_eq word (codes "bench")) _ _ (asked_once (λ k. None) bench_meaning (bench_words words) (λ k. replies_hinder [] (SaysBench k) told))
       (row_once (bytes_eq word (codes "check")) _ _
-      (asked_once (λ a. Some a.file) (λ a. check_meaning a.file a.other a.options) (check_words words) (λ a. check_once a.file a.other a.options))
+      (asked_once (λ a. Some (a.file, a.limits)) check_meaning (check_words words) check_once)
       (row_once (bytes_eq word (codes "compress")) _ _
-      (asked_once (λ names. Some names.file) (λ names. compress_meaning names.file names.other) (two_names words)
-      (λ names. compress_once names.file names.other))
+      (asked_once (λ names. Some (names.file, names.limits)) compress_meaning (two_names words) compress_once)
       (row_once (bytes_eq word (codes "count")) _ _ (one_file_asked_once IsCount words)
-      (row_once (bytes_eq word (codes "export")) _ _ (asked_once (λ asked. Some asked.file) export_meaning (export_words words) export_once)
+      (row_once (bytes_eq word (codes "export")) _ _ (asked_once (λ asked. Some (asked.file, narrow)) export_meaning (export_words words) export_once)
       (row_once (bytes_eq word (codes "replay")) _ _
-      (asked_once (λ a. Some a.file) (λ a. replay_meaning a.file a.other a.json) (replay_words words) (λ a. replay_once a.file a.other a.json))
+      (asked_once (λ a. Some (a.file, a.limits)) replay_meaning (replay_words words) replay_once)
       (row_once (bytes_eq word (codes "rest")) _ _ (asked_where_once LegalRest rest_meaning (rest_words words) rest_once)
       (row_once (bytes_eq word (codes "rest-check")) _ _
-      (asked_where_once (λ a. LegalSilently a.file a.silent) (λ a. rest_check_meaning a.file a.other a.silent a.options) (rest_check_words words)
-      (λ a. rest_check_once a.file a.other a.silent a.options))
+      (asked_where_once (λ a. LegalSilently a.limits a.file a.silent) rest_check_meaning (rest_check_words words) rest_check_once)
       (row_once (bytes_eq word (codes "search")) _ _ (asked_where_once LegalTemplate search_meaning (search_words words) search_once)
-      (row_once (bytes_eq word (codes "show")) _ _ (one_file_asked_once IsShown words)
-      (row_once (bytes_eq word (codes "verify")) _ _ (asked_where_once (λ a. LegalPicked a.file a.pattern) verify_meaning (verify_words words) verify_once)
+      (row_once (bytes_eq word (codes "show")) _ _ (one_file_asked_once (λ l. IsShown) words)
+      (row_once (bytes_eq word (codes "verify")) _ _
+      (asked_where_once (λ a. LegalPicked a.limits a.file a.pattern) verify_meaning (verify_words words) verify_once)
       (row_once (bytes_eq word (codes "version")) _ NoCommand
       (asked_once (λ asked. None) (λ asked. version_meaning) (version_words words) (λ asked. replies_hinder [] (Writes 0 version_text) told)) tt))))))))))))
 

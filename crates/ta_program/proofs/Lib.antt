@@ -24,6 +24,7 @@ mod AtRest
 mod FairAtRest
 mod Compressing
 mod Counting
+mod OneFileOfAny
 mod Clauses
 mod FirstWord
 mod NeverResting

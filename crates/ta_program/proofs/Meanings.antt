@@ -1,5 +1,6 @@
 -- what each command says grows with what is seen, and known files leave one number
 use Rattle.ta_base.specs.LimitRows.{narrow}
+use Rattle.ta_base.specs.declared.limits.Limits.{Limits}
 use Rattle.ta_program.proofs.Common.{Budget, ◌≡◌, ◌∙◌, ℕ, List, [], length, slice_get, Option, None, Some, refl, sym, ap, subst, inl, inr, arith, Bool, IsSome}
 use Rattle.ta_program.proofs.Common.{File, Pattern, one_legal, Verdict, Told, Decides, IsSo, Meaning, put_bytes, View, in_files, Answer, Kind, Writes, after}
 use Rattle.ta_program.proofs.Common.{replies, after_monotone, decides, no_hindrance, one_number, replies_monotone, replies_one, settles_monotone, Monotone}
@@ -11,7 +12,8 @@ use Rattle.ta_program.proofs.Common.{AreVerdictsOn, LegalPicked, Pick, Put, Repo
 use Rattle.ta_check.proofs.Accepting.{one_list}
 use Rattle.ta_program.proofs.ProofsSaid.{says_number}
 use Rattle.ta_program.specs.Proofs.{SaysProofs}
-use Rattle.ta_program.specs.declared.proof_options.ProofOptions.{ProofOptions}
+use Rattle.ta_program.specs.CheckWords.{CheckWords, ReplayWords}
+use Rattle.ta_program.specs.Values.{TwoNames}
 use Rattle.ta_program.specs.Version.{version_meaning, version_text}
 use Rattle.ta_program.proofs.PatternPicks.{pick_monotone, pick_one, pick_passes}
 use Rattle.ta_program.specs.Certified.{PutsCertificate}
@@ -20,9 +22,9 @@ use Rattle.ta_rest.specs.declared.claim.Claim.TheVariants as claim
 use Rattle.ta_verdict.proofs.CertificatesOnce.{certificates_once}
 use Rattle.ta_verdict.proofs.VerdictsOnce.{verdicts_once}
 
-pub proved_monotone : (file : File) (options : ProofOptions) (name : List ℕ) → Monotone (proved_meaning file options name)
-proved_monotone file options name = after_monotone (certificate_kind (claiming claim.Safe file narrow.line_bytes)) name []
-    (λ numbers. replies [] (SaysProofs false file options numbers)) (λ numbers. replies_monotone [] (SaysProofs false file options numbers))
+pub proved_monotone : (asked : CheckWords) (file : File) → Monotone (proved_meaning asked file)
+proved_monotone asked file = after_monotone (certificate_kind (claiming claim.Safe file asked.limits.line_bytes)) asked.other []
+    (λ numbers. replies [] (SaysProofs false file asked.options numbers)) (λ numbers. replies_monotone [] (SaysProofs false file asked.options numbers))
 
 pub shown_monotone : (file : File) (json : Bool) (name : List ℕ) → Monotone (shown_meaning file json name)
 shown_monotone file json name = after_monotone (run_kind file) name [] (λ run. replies [] (SaysShown file json run))
@@ -32,13 +34,13 @@ pub short_monotone : (file : File) (name : List ℕ) → Monotone (short_meaning
 short_monotone file name = after_monotone (long_kind file) name [] (λ run. replies [] (SaysShort file run)) (λ run. replies_monotone [] (SaysShort file run))
 
 -- of a command that reads FILE first
-pub file_decides : (name : List ℕ) (puts : List (List ℕ)) (rest : File → Meaning) → ((file : File) → Monotone (rest file))
+pub file_decides : (l : Limits) (name : List ℕ) (puts : List (List ℕ)) (rest : File → Meaning) → ((file : File) → Monotone (rest file))
     → ((file : File) (told : Told) (number other : ℕ) → IsSo (rest file) (in_files told) number → IsSo (rest file) (in_files told) other → number ≡ other)
-    → Decides (after file_kind name puts rest)
-file_decides name puts rest rests ones =
-    decides (after file_kind name puts rest) (after_monotone file_kind name puts rest rests) (λ told.
-    one_number file_kind name puts rest rests told (λ bytes file fault legal found. legal.no_fault fault found) (λ bytes v w m n number other so so'.
-    ones w told number other (subst (λ (file : File). IsSo (rest file) (in_files told) number) (one_legal narrow bytes v w m n) so) so'))
+    → Decides (after (file_kind l) name puts rest)
+file_decides l name puts rest rests ones =
+    decides (after (file_kind l) name puts rest) (after_monotone (file_kind l) name puts rest rests) (λ told.
+    one_number (file_kind l) name puts rest rests told (λ bytes file fault legal found. legal.no_fault fault found) (λ bytes v w m n number other so so'.
+    ones w told number other (subst (λ (file : File). IsSo (rest file) (in_files told) number) (one_legal l bytes v w m n) so) so'))
 
 pub report_monotone : (asked : VerifyWords) (file : File) (pick : Pick) → Monotone (report_meaning asked file pick)
 report_monotone asked file pick = settles_monotone (may_put asked.out) (Reports asked file pick) (HindersCertificate file pick asked.budget asked.out)
@@ -88,11 +90,12 @@ reports_one asked file pick told number other so so' = elim so [
 ]
 
 -- a legal FILE is never refused with 3 by a command that reads FILE first, if what it does then is never refused with 3
-pub file_passes : (name : List ℕ) (puts : List (List ℕ)) (rest : File → Meaning) → ((file : File) → Monotone (rest file))
-    → ((file : File) (told : Told) (line : List ℕ) → ¬ (rest file).refuses (in_files told) 3 line) → Passes (Some name) (after file_kind name puts rest)
-file_passes name puts rest rests never told line (file, is) refuses =
+pub file_passes : (l : Limits) (name : List ℕ) (puts : List (List ℕ)) (rest : File → Meaning) → ((file : File) → Monotone (rest file))
+    → ((file : File) (told : Told) (line : List ℕ) → ¬ (rest file).refuses (in_files told) 3 line)
+    → Passes (Some (name, l)) (after (file_kind l) name puts rest)
+file_passes l name puts rest rests never told line (file, is) refuses =
     elim refuses [
-      | inl own ↦ no_hindrance file_kind name puts rest rests told (λ bytes f fault legal found. legal.no_fault fault found) file 3 line is own
+      | inl own ↦ no_hindrance (file_kind l) name puts rest rests told (λ bytes f fault legal found. legal.no_fault fault found) file 3 line is own
       | inr r ↦ never r.0 told line r.2
     ]
 
@@ -115,68 +118,76 @@ asked_where seen legal says decides passes None words is = subst (λ (o : Option
 asked_where seen legal says decides passes (Some c) words is = subst (λ (o : Option _). IsAskedFor (λ c. says (seen c)) (ask_where legal says o) (Some c)) is
     (λ number before after performs. record { performs = performs; decides = decides (seen c); passes = passes (seen c) })
 
-pub asked_for : {C W : Type 0} (seen : C → W) (file : W → Option (List ℕ)) (says : W → Meaning) → ((w : W) → Decides (says w))
+pub asked_for : {C W : Type 0} (seen : C → W) (file : W → Option (List ℕ × Limits)) (says : W → Meaning) → ((w : W) → Decides (says w))
     → ((w : W) → Passes (file w) (says w)) → (result : Option C) (words : Option W) → option_map seen result ≡ words
     → IsAskedFor (λ c. says (seen c)) (ask file says words) result
 asked_for seen file says = asked_where seen (λ w told. LegalFile told (file w)) says
 
-pub check_decides : (name certificate : List ℕ) (options : ProofOptions) → Decides (check_meaning name certificate options)
-check_decides name certificate options =
-    file_decides name [] (λ file. proved_meaning file options certificate) (λ file. proved_monotone file options certificate) (λ file told.
-    one_number (certificate_kind (claiming claim.Safe file narrow.line_bytes)) certificate [] (λ numbers. replies [] (SaysProofs false file options numbers))
+pub check_decides : (asked : CheckWords) → Decides (check_meaning asked)
+check_decides asked =
+    let options = asked.options in
+    file_decides asked.limits asked.file [] (proved_meaning asked) (proved_monotone asked) (λ file told.
+    one_number (certificate_kind (claiming claim.Safe file asked.limits.line_bytes)) asked.other []
+    (λ numbers. replies [] (SaysProofs false file options numbers))
     (λ numbers. replies_monotone [] (SaysProofs false file options numbers)) told
     (λ bytes numbers fault proves found. found.no_certificate numbers proves.accepted)
     (λ bytes v w m n. replies_one [] (SaysProofs false file options v) (SaysProofs false file options w) (in_files told)
-    (λ a b x y. says_number false file options v w (one_list (claiming claim.Safe file narrow.line_bytes) bytes v w m.accepted n.accepted) a b x y)))
+    (λ a b x y. says_number false file options v w (one_list (claiming claim.Safe file asked.limits.line_bytes) bytes v w m.accepted n.accepted) a b x y)))
 
-pub check_passes : (name certificate : List ℕ) (options : ProofOptions) → Passes (Some name) (check_meaning name certificate options)
-check_passes name certificate options =
-    file_passes name [] (λ file. proved_meaning file options certificate) (λ file. proved_monotone file options certificate)
-    (λ file told. second_passes (certificate_kind (claiming claim.Safe file narrow.line_bytes)) certificate (λ numbers. replies []
-    (SaysProofs false file options numbers)) refl
+pub check_passes : (asked : CheckWords) → Passes (Some (asked.file, asked.limits)) (check_meaning asked)
+check_passes asked =
+    file_passes asked.limits asked.file [] (proved_meaning asked) (proved_monotone asked)
+    (λ file told. second_passes (certificate_kind (claiming claim.Safe file asked.limits.line_bytes)) asked.other (λ numbers. replies []
+    (SaysProofs false file asked.options numbers)) refl
     (λ numbers view line none. none) (in_files told))
 
-pub compress_decides : (name run : List ℕ) → Decides (compress_meaning name run)
-compress_decides name run =
-    file_decides name [] (λ file. short_meaning file run) (λ file. short_monotone file run) (λ file told.
+pub compress_decides : (asked : TwoNames) → Decides (compress_meaning asked)
+compress_decides asked =
+    let run = asked.other in
+    file_decides asked.limits asked.file [] (λ file. short_meaning file run) (λ file. short_monotone file run) (λ file told.
     one_number (long_kind file) run [] (λ long. replies [] (SaysShort file long)) (λ long. replies_monotone [] (SaysShort file long)) told
     (λ bytes long fault able found. found.compresses_nothing long able)
     (λ bytes v w m n. replies_one [] (SaysShort file v) (SaysShort file w) (in_files told) (λ a b x y. x.writes.numbered ∙ sym y.writes.numbered)))
 
-pub compress_passes : (name run : List ℕ) → Passes (Some name) (compress_meaning name run)
-compress_passes name run =
-    file_passes name [] (λ file. short_meaning file run) (λ file. short_monotone file run)
+pub compress_passes : (asked : TwoNames) → Passes (Some (asked.file, asked.limits)) (compress_meaning asked)
+compress_passes asked =
+    let run = asked.other in
+    file_passes asked.limits asked.file [] (λ file. short_meaning file run) (λ file. short_monotone file run)
     (λ file told. second_passes (long_kind file) run (λ long. replies [] (SaysShort file long)) refl (λ long view line none. none) (in_files told))
 
-pub replay_decides : (name run : List ℕ) (json : Bool) → Decides (replay_meaning name run json)
-replay_decides name run json =
-    file_decides name [] (λ file. shown_meaning file json run) (λ file. shown_monotone file json run) (λ file told.
+pub replay_decides : (asked : ReplayWords) → Decides (replay_meaning asked)
+replay_decides asked =
+    let run = asked.other in
+    let json = asked.json in
+    file_decides asked.limits asked.file [] (λ file. shown_meaning file json run) (λ file. shown_monotone file json run) (λ file told.
     one_number (run_kind file) run [] (λ shown. replies [] (SaysShown file json shown)) (λ shown. replies_monotone [] (SaysShown file json shown)) told
     (λ bytes shown fault shows found. found.shows_nothing shown shows)
     (λ bytes v w m n. replies_one [] (SaysShown file json v) (SaysShown file json w) (in_files told) (λ a b x y. x.writes.numbered ∙ sym y.writes.numbered)))
 
-pub replay_passes : (name run : List ℕ) (json : Bool) → Passes (Some name) (replay_meaning name run json)
-replay_passes name run json =
-    file_passes name [] (λ file. shown_meaning file json run) (λ file. shown_monotone file json run)
+pub replay_passes : (asked : ReplayWords) → Passes (Some (asked.file, asked.limits)) (replay_meaning asked)
+replay_passes asked =
+    let run = asked.other in
+    let json = asked.json in
+    file_passes asked.limits asked.file [] (λ file. shown_meaning file json run) (λ file. shown_monotone file json run)
     (λ file told. second_passes (run_kind file) run (λ shown. replies [] (SaysShown file json shown)) refl (λ shown view line none. none) (in_files told))
 
 pub verify_decides : (asked : VerifyWords) → Decides (verify_meaning asked)
 verify_decides asked =
-    spared_decides file_kind asked.file (may_put asked.out) (picked_meaning asked) (picked_monotone asked)
+    spared_decides (file_kind asked.limits) asked.file (may_put asked.out) (picked_meaning asked) (picked_monotone asked)
     (λ bytes file fault legal found. legal.no_fault fault found)
-    (file_decides asked.file (may_put asked.out) (picked_meaning asked) (picked_monotone asked) (λ file told.
+    (file_decides asked.limits asked.file (may_put asked.out) (picked_meaning asked) (picked_monotone asked) (λ file told.
     pick_one asked.file asked.pattern (may_put asked.out) file (report_meaning asked file) told (λ pick. reports_one asked file pick told)))
 
-pub verify_passes : (asked : VerifyWords) → PassesWhere (LegalPicked asked.file asked.pattern) (verify_meaning asked)
+pub verify_passes : (asked : VerifyWords) → PassesWhere (LegalPicked asked.limits asked.file asked.pattern) (verify_meaning asked)
 verify_passes asked told line legal =
-    spared_passes file_kind asked.file (may_put asked.out) (picked_meaning asked) (in_files told) line (λ refuses.
+    spared_passes (file_kind asked.limits) asked.file (may_put asked.out) (picked_meaning asked) (in_files told) line (λ refuses.
     elim refuses [
-      | inl own ↦ no_hindrance file_kind asked.file (may_put asked.out) (picked_meaning asked) (picked_monotone asked) told
+      | inl own ↦ no_hindrance (file_kind asked.limits) asked.file (may_put asked.out) (picked_meaning asked) (picked_monotone asked) told
           (λ bytes f fault means found. means.no_fault fault found) legal.file 3 line legal.is_file own
       | inr r ↦
           let is = legal.is_file in
-          let same : r.0 ≡ legal.file = one_legal narrow is.bytes r.0 legal.file
-          (subst (λ (bytes : List ℕ). file_kind.means bytes r.0) (whole_one told asked.file file_kind.limit.bytes r.1.bytes is.bytes r.1.had is.had)
+          let same : r.0 ≡ legal.file = one_legal asked.limits is.bytes r.0 legal.file
+          (subst (λ (bytes : List ℕ). (file_kind asked.limits).means bytes r.0) (whole_one told asked.file asked.limits.bytes r.1.bytes is.bytes r.1.had is.had)
           r.1.means) is.means in
           pick_passes asked.file asked.pattern (may_put asked.out) legal.file (report_meaning asked legal.file) told legal.pick legal.is_pick line
           (λ found hinders. let four = (hinders_long legal.file found asked.budget asked.out 3 line hinders).0 in absurd (omega (arith, four)))

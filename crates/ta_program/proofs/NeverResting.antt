@@ -3,7 +3,7 @@ use Rattle.ta_program.proofs.Common.{◌≡◌, ℕ, List, Option, None, Some, O
 use Rattle.std.proofs.Common.{◌+◌, length, refl, subst}
 use Rattle.std.specs.List.{position}
 use Rattle.std.specs.Option.{option_map, option_or}
-use Rattle.ta_base.specs.LimitRows.{narrow}
+use Rattle.ta_base.specs.declared.limits.Limits.{Limits}
 use Rattle.ta_meaning.specs.Reading.{Legal}
 use Rattle.ta_rest.proofs.QuietResting.{stronger}
 use Rattle.ta_moments.proofs.NoneNegative.{none_subtracted}
@@ -34,9 +34,9 @@ rest_safe_of (Some names) a p safe =
     let both = both_none (position (subtracts safe.0) a.rise) (position (subtracts safe.0) a.fall) (length a.rise) none in
     stronger a safe.0 p (none_subtracted safe.0 a.rise both.0) (none_subtracted safe.0 a.fall both.1) safe.2
 
-pub never_rests : (bytes : List ℕ) (file : File) → Legal narrow bytes file → LoopsAlone file.automaton → (k : ℕ) (p : Pattern)
+pub never_rests : (l : Limits) (bytes : List ℕ) (file : File) → Legal l bytes file → LoopsAlone file.automaton → (k : ℕ) (p : Pattern)
     → slice_get file.patterns k ≡ Some p
     → (names : Option (List ℕ)) → RestSafeBut names file.automaton p → NeverRests file.automaton p
-never_rests bytes file legal loops k p named names safe =
+never_rests l bytes file legal loops k p named names safe =
     let rests = rest_safe_of names file.automaton p safe in
-    (rests, fair_at_rest bytes file legal loops k p named rests)
+    (rests, fair_at_rest l bytes file legal loops k p named rests)

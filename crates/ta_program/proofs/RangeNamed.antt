@@ -10,7 +10,7 @@ use Rattle.ta_program.proofs.Meanings.{compress_decides}
 
 pub range_named : FirstFaultsAreUnique → CompressNamesTheRange
 range_named unique words number before after h asked asks told is line leaves =
-    let m = compress_meaning asked.file asked.other in
-    let named = names_fault m told number before after is (as_compress words number before after h asked asks) (compress_decides asked.file asked.other)
-    (compress_once unique told asked.file asked.other) in
+    let m = compress_meaning asked in
+    let named = names_fault m told number before after is (as_compress words number before after h asked asks) (compress_decides asked)
+    (compress_once unique told asked) in
     named.just 4 (out_of_range_line asked.other line) (refused_outside told asked line leaves)

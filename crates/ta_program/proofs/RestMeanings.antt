@@ -1,5 +1,5 @@
 -- what `rest` and `rest-check` say grows with what is seen, and known files leave one number
-use Rattle.ta_base.specs.LimitRows.{narrow}
+use Rattle.ta_base.specs.declared.limits.Limits.{Limits}
 use Rattle.ta_program.proofs.Common.{true, ◌≡◌, ◌∙◌, ℕ, List, [], length, Option, None, Some, refl, sym, ap, subst, inl, inr, arith, IsSome, cases_order}
 use Rattle.ta_program.proofs.Common.{Automaton, File, FirstLongerCycle, claiming_with, one_legal, Verdict, RestCertificateOf, Told, Decides, IsSo, Meaning}
 use Rattle.ta_program.proofs.Common.{put_bytes, in_files, Answer, finds, replies, after_monotone, finds_monotone, finds_one, no_hindrance, one_number}
@@ -17,7 +17,7 @@ use Rattle.ta_verdict.proofs.rest.CertificatesOnce.{rest_certificates_once}
 use Rattle.ta_check.proofs.Accepting.{one_list}
 use Rattle.ta_program.proofs.ProofsSaid.{says_number}
 use Rattle.ta_program.specs.Proofs.{SaysProofs}
-use Rattle.ta_program.specs.declared.proof_options.ProofOptions.{ProofOptions}
+use Rattle.ta_program.specs.RestWords.{RestCheckWords}
 use Rattle.ta_program.proofs.EndsOnce.{ends_once}
 use Rattle.ta_program.proofs.SilentPlaces.{silent_fits, silent_number, silent_once}
 use Rattle.ta_program.proofs.Meanings.{file_decides, second_passes}
@@ -39,33 +39,34 @@ cycle_rule a r q x y = elim (cases_order r q) [
 ]
 
 -- of commands that look for the endings of FILE
-module _ (name : List ℕ) (puts : List (List ℕ)) (rest : File → FileEndings → Meaning) (rests : (file : File) (ends : FileEndings) → Monotone (rest file ends))
+module _ (l : Limits) (name : List ℕ) (puts : List (List ℕ)) (rest : File → FileEndings → Meaning)
+    (rests : (file : File) (ends : FileEndings) → Monotone (rest file ends))
   where
     pub ends_monotone : (file : File) → Monotone (finds (IsEnds file) (CycleHinders name file) puts (rest file))
     ends_monotone file = finds_monotone (IsEnds file) (CycleHinders name file) puts (rest file) (rests file)
 
     pub ends_decides : ((file : File) (ends : FileEndings) → IsEnds file ends → (told : Told) (number other : ℕ) → IsSo (rest file ends) (in_files told) number
-        → IsSo (rest file ends) (in_files told) other → number ≡ other) → Decides (with_ends name puts rest)
+        → IsSo (rest file ends) (in_files told) other → number ≡ other) → Decides (with_ends l name puts rest)
     ends_decides ones =
-        file_decides name puts (λ file. finds (IsEnds file) (CycleHinders name file) puts (rest file)) ends_monotone (λ file told.
+        file_decides l name puts (λ file. finds (IsEnds file) (CycleHinders name file) puts (rest file)) ends_monotone (λ file told.
         finds_one (IsEnds file) (CycleHinders name file) puts (rest file) (in_files told) (cycle_number name file)
         (λ ends number line is. no_cycle name file ends number line is) (λ d e is are number other so so'.
         ones file d is told number other so (subst (λ (x : FileEndings). IsSo (rest file x) (in_files told) other) (sym (ends_once file d e is are)) so')))
 
     -- a legal FILE without longer cycles is never refused with 3, if what comes then never is
     pub ends_passes_where : (L : Told → Type 0) →
-        ((told : Told) → L told → (legal : LegalAtRest name told)
-        × ((ends : FileEndings) (line : List ℕ) → ¬ (rest legal.file ends).refuses (in_files told) 3 line)) → PassesWhere L (with_ends name puts rest)
-    ends_passes_where L at_rest told line l refuses =
-        let legal = (at_rest told l).0 in
-        let never = (at_rest told l).1 in
+        ((told : Told) → L told → (legal : LegalAtRest l name told)
+        × ((ends : FileEndings) (line : List ℕ) → ¬ (rest legal.file ends).refuses (in_files told) 3 line)) → PassesWhere L (with_ends l name puts rest)
+    ends_passes_where L at_rest told line given refuses =
+        let legal = (at_rest told given).0 in
+        let never = (at_rest told given).1 in
         elim refuses [
-          | inl own ↦ no_hindrance file_kind name puts (λ file. finds (IsEnds file) (CycleHinders name file) puts (rest file)) ends_monotone told
+          | inl own ↦ no_hindrance (file_kind l) name puts (λ file. finds (IsEnds file) (CycleHinders name file) puts (rest file)) ends_monotone told
               (λ bytes f fault legal found. legal.no_fault fault found) legal.file 3 line legal.is_file own
           | inr r ↦
               let is = legal.is_file in
-              let same : r.0 ≡ legal.file = one_legal narrow is.bytes r.0 legal.file
-              (subst (λ (bytes : List ℕ). file_kind.means bytes r.0) (whole_one told name file_kind.limit.bytes r.1.bytes is.bytes r.1.had is.had) r.1.means)
+              let same : r.0 ≡ legal.file = one_legal l is.bytes r.0 legal.file
+              (subst (λ (bytes : List ℕ). (file_kind l).means bytes r.0) (whole_one told name l.bytes r.1.bytes is.bytes r.1.had is.had) r.1.means)
               is.means in
               elim r.2 [
                 | inl cycle ↦
@@ -170,9 +171,10 @@ rest_decides asked =
     let puts = may_put asked.verify.out in
     let quietly = rest_quietly asked in
     let monotone = rest_quietly_monotone asked in
-    spared_decides file_kind asked.verify.file puts (at_ends asked.verify.file puts quietly) (ends_monotone asked.verify.file puts quietly monotone)
+    spared_decides (file_kind asked.verify.limits) asked.verify.file puts (at_ends asked.verify.file puts quietly)
+    (ends_monotone asked.verify.limits asked.verify.file puts quietly monotone)
     (λ bytes file fault legal found. legal.no_fault fault found)
-    (ends_decides asked.verify.file puts quietly monotone (λ file ends is told.
+    (ends_decides asked.verify.limits asked.verify.file puts quietly monotone (λ file ends is told.
     names_one asked.verify.file asked.silent puts file (λ places. rest_picked asked file ends (resting asked.verify.budget places)) told (λ places.
     pick_one asked.verify.file asked.verify.pattern puts file (rest_report_meaning asked file ends (resting asked.verify.budget places)) told (λ pick.
     rest_one asked file ends is (resting asked.verify.budget places) pick told))))
@@ -181,8 +183,8 @@ rest_decides asked =
 pub rest_passes : (asked : RestWords) → PassesWhere (LegalRest asked) (rest_meaning asked)
 rest_passes asked told line legal =
     let puts = may_put asked.verify.out in
-    spared_passes file_kind asked.verify.file puts (at_ends asked.verify.file puts (rest_quietly asked)) (in_files told) line
-    (ends_passes_where asked.verify.file puts (rest_quietly asked) (rest_quietly_monotone asked) (LegalRest asked) (λ told legal.
+    spared_passes (file_kind asked.verify.limits) asked.verify.file puts (at_ends asked.verify.file puts (rest_quietly asked)) (in_files told) line
+    (ends_passes_where asked.verify.limits asked.verify.file puts (rest_quietly asked) (rest_quietly_monotone asked) (LegalRest asked) (λ told legal.
     let quiet = legal.silently in (
       record { file = quiet.file; is_file = quiet.is_file; loops = quiet.loops },
       λ ends line. names_pass asked.verify.file asked.silent puts quiet.file (λ places. rest_picked asked quiet.file ends (resting asked.verify.budget places))
@@ -193,45 +195,43 @@ rest_passes asked told line legal =
           absurd (omega (arith, four)))),
     )) told line legal)
 
-pub rest_proved_monotone : (name : List ℕ) (options : ProofOptions) (file : File) (ends : FileEndings) (silent : List ℕ)
-    → Monotone (rest_proved_meaning name options file ends silent)
-rest_proved_monotone name options file ends silent =
-    after_monotone (certificate_kind (claiming_with RestSafe ends.ending silent narrow.line_bytes)) name [] (λ numbers. replies []
-    (SaysProofs true file options numbers))
-    (λ numbers. replies_monotone [] (SaysProofs true file options numbers))
+-- of what `rest-check` is asked for
+module _ (asked : RestCheckWords) where
+  pub rest_proved_monotone : (file : File) (ends : FileEndings) (silent : List ℕ) → Monotone (rest_proved_meaning asked file ends silent)
+  rest_proved_monotone file ends silent =
+      after_monotone (certificate_kind (claiming_with RestSafe ends.ending silent asked.limits.line_bytes)) asked.other [] (λ numbers. replies []
+      (SaysProofs true file asked.options numbers))
+      (λ numbers. replies_monotone [] (SaysProofs true file asked.options numbers))
 
-pub quietly_monotone : (name certificate : List ℕ) (names : Option (List ℕ)) (options : ProofOptions) (file : File) (ends : FileEndings)
-    → Monotone (quietly_meaning name certificate names options file ends)
-quietly_monotone name certificate names options file ends = names_monotone name names [] file (rest_proved_meaning certificate options file ends)
-    (rest_proved_monotone certificate options file ends)
+  pub quietly_monotone : (file : File) (ends : FileEndings) → Monotone (quietly_meaning asked file ends)
+  quietly_monotone file ends = names_monotone asked.file asked.silent [] file (rest_proved_meaning asked file ends) (rest_proved_monotone file ends)
 
-proved_one : (certificate : List ℕ) (options : ProofOptions) (file : File) (ends : FileEndings) (silent : List ℕ) (told : Told) (number other : ℕ)
-    → IsSo (rest_proved_meaning certificate options file ends silent) (in_files told) number
-    → IsSo (rest_proved_meaning certificate options file ends silent) (in_files told) other → number ≡ other
-proved_one certificate options file ends silent told =
-    one_number (certificate_kind (claiming_with RestSafe ends.ending silent narrow.line_bytes)) certificate [] (λ numbers. replies []
-    (SaysProofs true file options numbers))
-    (λ numbers. replies_monotone [] (SaysProofs true file options numbers)) told
-    (λ bytes numbers fault proves found. found.no_certificate numbers proves.accepted)
-    (λ bytes v w m n. replies_one [] (SaysProofs true file options v) (SaysProofs true file options w) (in_files told)
-    (λ a b x y. says_number true file options v w (one_list
-    (claiming_with RestSafe ends.ending silent narrow.line_bytes) bytes v w m.accepted n.accepted) a b x y))
+  proved_one : (file : File) (ends : FileEndings) (silent : List ℕ) (told : Told) (number other : ℕ)
+      → IsSo (rest_proved_meaning asked file ends silent) (in_files told) number
+      → IsSo (rest_proved_meaning asked file ends silent) (in_files told) other → number ≡ other
+  proved_one file ends silent told =
+      let options = asked.options in
+      one_number (certificate_kind (claiming_with RestSafe ends.ending silent asked.limits.line_bytes)) asked.other [] (λ numbers. replies []
+      (SaysProofs true file options numbers))
+      (λ numbers. replies_monotone [] (SaysProofs true file options numbers)) told
+      (λ bytes numbers fault proves found. found.no_certificate numbers proves.accepted)
+      (λ bytes v w m n. replies_one [] (SaysProofs true file options v) (SaysProofs true file options w) (in_files told)
+      (λ a b x y. says_number true file options v w (one_list
+      (claiming_with RestSafe ends.ending silent asked.limits.line_bytes) bytes v w m.accepted n.accepted) a b x y))
 
-pub rest_check_decides : (name certificate : List ℕ) (names : Option (List ℕ)) (options : ProofOptions)
-    → Decides (rest_check_meaning name certificate names options)
-rest_check_decides name certificate names options =
-    ends_decides name [] (quietly_meaning name certificate names options) (quietly_monotone name certificate names options) (λ file ends is told.
-    names_one name names [] file (rest_proved_meaning certificate options file ends) told (λ places. proved_one certificate options file ends places told))
+  pub rest_check_decides : Decides (rest_check_meaning asked)
+  rest_check_decides =
+      ends_decides asked.limits asked.file [] (quietly_meaning asked) quietly_monotone (λ file ends is told.
+      names_one asked.file asked.silent [] file (rest_proved_meaning asked file ends) told (λ places. proved_one file ends places told))
 
--- where the names may be silent neither they nor CERT hinder with 3
-pub rest_check_passes : (name certificate : List ℕ) (names : Option (List ℕ)) (options : ProofOptions)
-    → PassesWhere (LegalSilently name names) (rest_check_meaning name certificate names options)
-rest_check_passes name certificate names options =
-    ends_passes_where name [] (quietly_meaning name certificate names options) (quietly_monotone name certificate names options) (LegalSilently name names)
-    (λ told legal. (
-      record { file = legal.file; is_file = legal.is_file; loops = legal.loops },
-      λ ends line. names_pass name names [] legal.file (rest_proved_meaning certificate options legal.file ends) told legal.places legal.are_silent line
-          (λ places.
-          second_passes (certificate_kind (claiming_with RestSafe ends.ending places narrow.line_bytes)) certificate
-          (λ numbers. replies [] (SaysProofs true legal.file options numbers)) refl (λ numbers view line none. none) (in_files told) line),
-    ))
+  -- where the names may be silent neither they nor CERT hinder with 3
+  pub rest_check_passes : PassesWhere (LegalSilently asked.limits asked.file asked.silent) (rest_check_meaning asked)
+  rest_check_passes =
+      ends_passes_where asked.limits asked.file [] (quietly_meaning asked) quietly_monotone (LegalSilently asked.limits asked.file asked.silent)
+      (λ told legal. (
+        record { file = legal.file; is_file = legal.is_file; loops = legal.loops },
+        λ ends line. names_pass asked.file asked.silent [] legal.file (rest_proved_meaning asked legal.file ends) told legal.places legal.are_silent line
+            (λ places.
+            second_passes (certificate_kind (claiming_with RestSafe ends.ending places asked.limits.line_bytes)) asked.other
+            (λ numbers. replies [] (SaysProofs true legal.file asked.options numbers)) refl (λ numbers view line none. none) (in_files told) line),
+      ))

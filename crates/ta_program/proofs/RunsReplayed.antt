@@ -8,6 +8,9 @@ use Rattle.ta_program.proofs.Meanings.{replay_decides}
 use Rattle.ta_program.proofs.UnsafePrinted.{run_within, unsafe_printed}
 use Rattle.ta_program.proofs.Common.{AdmitHolds, Call, CompressHolds, run_text}
 use Rattle.ta_program.specs.Laws.{AdmittedRunsAreReplayed, CompressedRunsAreReplayed, IsReplayed, PrintedRestRunsAreReplayed}
+use Rattle.ta_base.specs.LimitRows.{narrow}
+use Rattle.ta_base.specs.declared.limits.Limits.{Limits}
+use Rattle.ta_program.specs.CheckWords.{ReplayWords}
 use Rattle.ta_program.specs.Rest.{RestReportHolds}
 use Rattle.ta_report.specs.CheckJson.{shown_text}
 
@@ -20,33 +23,35 @@ shown_answer json file run bytes shows =
     (answer, refl, record { pattern = p; named = shows.shows.named; writes = record { numbered = refl; written = refl; no_put = refl } })
 
 -- a run that shows its pattern is shown, 6 and 7 aside
-shown_number : (json : Bool) (told : Told) (name run_name : List ℕ) (file : File) (run : Run) → IsFile (in_files told) name file
-    → FileMeans (run_kind file) (in_files told) run_name run → (number : ℕ) (before after : State) → before.shelf.files ≡ Some told
-    → Performs (replay_meaning name run_name json) number before after → (number ≡ 0) ⊎ ((number ≡ 6) ⊎ (number ≡ 7))
-shown_number json told name run_name file run is_file is_run number before after is p =
-    let answer = shown_answer json file run is_run.bytes is_run.means in
-    p.exact (replay_decides name run_name json) told is 0 (inl (answer.0, answer.1, (file, is_file, (run, is_run, answer.2))))
+shown_number : (told : Told) (asked : ReplayWords) (file : File) (run : Run) → IsFile asked.limits (in_files told) asked.file file
+    → FileMeans (run_kind file) (in_files told) asked.other run → (number : ℕ) (before after : State) → before.shelf.files ≡ Some told
+    → Performs (replay_meaning asked) number before after → (number ≡ 0) ⊎ ((number ≡ 6) ⊎ (number ≡ 7))
+shown_number told asked file run is_file is_run number before after is p =
+    let answer = shown_answer asked.json file run is_run.bytes is_run.means in
+    p.exact (replay_decides asked) told is 0 (inl (answer.0, answer.1, (file, is_file, (run, is_run, answer.2))))
 
 -- what is seen of a file is what the known files hold
-told_file : (told : Told) (calls : List Call) (name : List ℕ) (file : File) → IsFile (seen (Some told) calls) name file → IsFile (in_files told) name file
-told_file told calls name file h = record { bytes = h.bytes; had = record { seen = h.had.seen.1; within = h.had.within }; means = h.means }
+told_file : (l : Limits) (told : Told) (calls : List Call) (name : List ℕ) (file : File) → IsFile l (seen (Some told) calls) name file
+    → IsFile l (in_files told) name file
+told_file l told calls name file h = record { bytes = h.bytes; had = record { seen = h.had.seen.1; within = h.had.within }; means = h.means }
 
 -- the text of a run that shows its pattern is replayed
-replays : (told : Told) (name : List ℕ) (file : File) (run : Run) (bytes : List ℕ) → IsFile (in_files told) name file → ShowsRun file bytes run
-    → length bytes ≤ RUN.bytes → IsReplayed told name bytes
-replays told name file run bytes h shows within again names asks named_so later same has second begun ended begun_is done =
-    let run_name = names.other in
-    let performs = subst (λ (n : List ℕ). Performs (replay_meaning n run_name names.json) second begun ended) named_so
-    (as_replay again second begun ended done names asks) in
-    let is_file : IsFile (in_files later) name file = record
+replays : (told : Told) (l : Limits) (name : List ℕ) (file : File) (run : Run) (bytes : List ℕ) → IsFile l (in_files told) name file → ShowsRun file bytes run
+    → length bytes ≤ RUN.bytes → IsReplayed told l name bytes
+replays told l name file run bytes h shows within again names asks named_so limits_so later same has second begun ended begun_is done =
+    let there : IsFile l (in_files later) name file = record
     { bytes = h.bytes; had = record { seen = same ∙ h.had.seen; within = h.had.within }; means = h.means } in
-    let is_run : FileMeans (run_kind file) (in_files later) run_name run = record { bytes = bytes; had = record { seen = has; within = within }; means = shows }
+    let is_file : IsFile names.limits (in_files later) names.file file = subst (λ (k : Limits). IsFile k (in_files later) names.file file) (sym limits_so)
+    (subst (λ (n : List ℕ). IsFile l (in_files later) n file) (sym named_so) there) in
+    let is_run : FileMeans (run_kind file) (in_files later) names.other run = record
+    { bytes = bytes; had = record { seen = has; within = within }; means = shows }
     in
-    shown_number names.json later name run_name file run is_file is_run second begun ended begun_is performs
+    shown_number later names file run is_file is_run second begun ended begun_is (as_replay again second begun ended done names asks)
 
 pub runs_replayed : PrintedRunsAreReplayed
 runs_replayed words number before after h asked asks low told is =
     let name = asked.file in
+    let l = asked.limits in
     let reports = verify_reports words number before after h asked asks low in
     let r = subst (λ (files : Option Told). ReportHolds number (seen files reports.read) asked before.out.written after.out.written) is reports.such in
     record {
@@ -56,13 +61,14 @@ runs_replayed words number before after h asked asks low told is =
       replayed = λ k p named line bytes part.
           let printed = unsafe_printed asked.json r.file r.pick asked.budget r.sample r.is_sample r.verdicts r.are k p named line in
           let same = sym (printed.only bytes part) in
-          replays told name r.file printed.run bytes (told_file told reports.read name r.file r.is_file)
+          replays told l name r.file printed.run bytes (told_file l told reports.read name r.file r.is_file)
           (subst (λ (bs : List ℕ). ShowsRun r.file bs printed.run) same printed.shows) (subst (λ (bs : List ℕ). length bs ≤ RUN.bytes) same printed.within);
     }
 
 pub rest_runs_replayed : PrintedRestRunsAreReplayed
 rest_runs_replayed words number before after h asked asks low told is =
     let name = asked.verify.file in
+    let l = asked.verify.limits in
     let reports = (rests_report words number before after h).report asked asks low in
     let r = subst (λ (files : Option Told). RestReportHolds number (seen files reports.read) asked before.out.written after.out.written) is reports.such in
     record {
@@ -74,7 +80,7 @@ rest_runs_replayed words number before after h asked asks low told is =
           (resting asked.verify.budget r.silent) r.are_silent (loud_by_words words number before after h asked asks r.file r.silent r.are_silent) r.sample
           r.is_sample r.verdicts r.are k p named line in
           let same = sym (printed.only bytes part) in
-          replays told name r.file printed.run bytes (told_file told reports.read name r.file r.is_file)
+          replays told l name r.file printed.run bytes (told_file l told reports.read name r.file r.is_file)
           (subst (λ (bs : List ℕ). ShowsRun r.file bs printed.run) same printed.shows) (subst (λ (bs : List ℕ). length bs ≤ RUN.bytes) same printed.within);
     }
 
@@ -86,15 +92,15 @@ admitted_replayed words before after h all asks told is =
     record {
       text = run_text r.file r.run;
       gained = r.wrote;
-      replayed = replays told name r.file r.run (run_text r.file r.run) (told_file told holds.added name r.file r.is_file) r.shows r.within;
+      replayed = replays told narrow name r.file r.run (run_text r.file r.run) (told_file narrow told holds.added name r.file r.is_file) r.shows r.within;
     }
 
 pub compressed_replayed : CompressedRunsAreReplayed
 compressed_replayed words before after h asked asks told is =
     let name = asked.file in
     let holds = (run_shortens words 0 before after h).holds asked asks refl in
-    let r = subst (λ (files : Option Told). CompressHolds (seen files holds.added) name asked.other before.out.written after.out.written) is holds.such in
-    let is_file = told_file told holds.added name r.file r.is_file in
+    let r = subst (λ (files : Option Told). CompressHolds (seen files holds.added) asked before.out.written after.out.written) is holds.such in
+    let is_file = told_file asked.limits told holds.added name r.file r.is_file in
     let short = r.is_short in
     record {
       file = r.file;
@@ -104,5 +110,6 @@ compressed_replayed words before after h asked asks told is =
       replayed = λ stays.
           let shows : ShowsRun r.file (run_text r.file r.short) r.short = record
           { text = record { fits = short.fits; text = refl }; shows = short.shows; stays = stays } in
-          replays told name r.file r.short (run_text r.file r.short) is_file shows (run_within r.file r.short short.fits short.shows short.is_short);
+          replays told asked.limits name r.file r.short (run_text r.file r.short) is_file shows
+          (run_within r.file r.short short.fits short.shows short.is_short);
     }

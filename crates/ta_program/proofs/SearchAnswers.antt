@@ -1,5 +1,5 @@
 -- what the answers of `search` say
-use Rattle.ta_program.proofs.Common.{Budget, ◌≡◌, ◌∙◌, ◌<◌, ◌≤◌, ℕ, suc, Bool, true, false, List, [], ◌∷◌, ◌++◌, length, map, Option, None, Some, Ok, Err, refl}
+use Rattle.ta_program.proofs.Common.{Terms, ◌≡◌, ◌∙◌, ◌<◌, ◌≤◌, ℕ, suc, Bool, true, false, List, [], ◌∷◌, ◌++◌, length, map, Option, None, Some, Ok, Err, refl}
 use Rattle.ta_program.proofs.Common.{sym, ap, subst, inl, inr, rules, arith, Contains, IsSome, AllByRecursion, each_append, Tried, Template, filled_text}
 use Rattle.ta_program.proofs.Common.{AreTried, LastIsFound, each_before, hole_values, vectors, Told, Says, file_line, phrase_text, PutsWithin, Answer, Put}
 use Rattle.ta_program.proofs.Common.{Refusal, Refused, ReadFailed, PutFailed, Memory, long_line, may_put, CERTIFICATE, SaysLong, HindersFound, PutText}
@@ -45,23 +45,23 @@ vectors_sized : (hs : List Hole) → Sized (length hs) (vectors hs)
 vectors_sized [] = (refl, tt)
 vectors_sized (h ∷ hs) = before_sized (length hs) (hole_values h) (vectors hs) (vectors_sized hs)
 
-tried_sized : (t : Template) (budget : Budget) (n : ℕ) (vs : List (List ℕ)) (xs : List Tried) (found : Bool) → Sized n vs → AreTried t budget vs xs found
+tried_sized : (t : Template) (terms : Terms) (n : ℕ) (vs : List (List ℕ)) (xs : List Tried) (found : Bool) → Sized n vs → AreTried t terms vs xs found
     → AllByRecursion (λ (x : Tried). length x.values ≡ n) xs
-tried_sized t budget n [] [] found sized are = tt
-tried_sized t budget n [] (x ∷ xs) found sized are = absurd are
-tried_sized t budget n (v ∷ vs) [] found sized are = absurd are
-tried_sized t budget n (v ∷ vs) (x ∷ xs) found sized are = (
+tried_sized t terms n [] [] found sized are = tt
+tried_sized t terms n [] (x ∷ xs) found sized are = absurd are
+tried_sized t terms n (v ∷ vs) [] found sized are = absurd are
+tried_sized t terms n (v ∷ vs) (x ∷ xs) found sized are = (
   ap length are.0.values ∙ sized.0,
   elim are.1 [
     | inl ends ↦ subst (AllByRecursion (λ (x : Tried). length x.values ≡ n)) (sym ends.last) tt
-    | inr more ↦ tried_sized t budget n vs xs found sized.1
+    | inr more ↦ tried_sized t terms n vs xs found sized.1
         more.1
   ],
 )
 
 -- what was tried last has the values and the certificate that are known
-module _ (asked : SearchWords) (t : Template) (values certificate text : List ℕ) (h : FoundBy t asked.budget asked.json values certificate text) where
-  last : LastIsFound t h.end
+module _ (asked : SearchWords) (t : Template) (values certificate text : List ℕ) (h : FoundBy t asked.terms asked.json values certificate text) where
+  last : LastIsFound t asked.terms.limits h.end
   last = h.ends.last
 
   same : last.last ≡ record { values = values; outcome = Safe certificate }
@@ -104,7 +104,7 @@ module _ (asked : SearchWords) (t : Template) (values certificate text : List �
       }
 
   hinders : (out : Option (List ℕ)) (name : List ℕ) → out ≡ Some name → (number : ℕ) (line : List ℕ) → number ≡ CERTIFICATE.number → line ≡ long_line name
-      → CERTIFICATE.bytes < length certificate → HindersFound t asked.budget out number line
+      → CERTIFICATE.bytes < length certificate → HindersFound t asked.terms out number line
   hinders None name is number line numbered said longer = absurd (cc)
   hinders (Some out) name is number line numbered said longer =
       let one : name ≡ out = cc in
@@ -140,4 +140,4 @@ module _ (asked : SearchWords) (t : Template) (values certificate text : List �
   values_sized =
       ap length (sym same_values) ∙ (each_back (λ (x : Tried). length x.values ≡ length t.holes) last.before (last.last ∷ [])
       (subst (AllByRecursion (λ (x : Tried). length x.values ≡ length t.holes)) last.whole
-      (tried_sized t asked.budget (length t.holes) (vectors t.holes) h.end.tried h.end.found (vectors_sized t.holes) h.ends.is_end))).0
+      (tried_sized t asked.terms (length t.holes) (vectors t.holes) h.end.tried h.end.found (vectors_sized t.holes) h.ends.is_end))).0

@@ -1,7 +1,9 @@
 -- silent places, and the names of them that are given
+use Rattle.ta_base.specs.LimitRows.{narrow}
+use Rattle.ta_program.specs.Kinds.{file_limit}
 use Rattle.ta_program.proofs.Common.{◌≡◌, ◌∙◌, ℕ, List, [], ◌∷◌, Option, None, Some, Result, Ok, Err, refl, sym, ap, subst, arith, Automaton, Pattern, Refusal}
 use Rattle.ta_program.proofs.Common.{Refused, ReadFailed, PutFailed, Memory, Meaning, Says, SaysOfFile, ReadCause, file_line, finds, finds_memory, finds_wrong}
-use Rattle.ta_program.proofs.Common.{phrase_text, Told, FILE, Run, IsFirstConfig, unit_steps, length}
+use Rattle.ta_program.proofs.Common.{phrase_text, Told, Run, IsFirstConfig, unit_steps, length}
 use Rattle.ta_check.specs.Subjects.{claimed_with}
 use Rattle.ta_rest.specs.declared.claim.Claim.TheVariants as claim
 use Rattle.ta_automaton.specs.Runs.{Config}
@@ -95,7 +97,7 @@ none_silent a (Some names) places none is = absurd (cc)
 
 -- a refusal of names
 hinders_by : (name : List ℕ) (a : Automaton) (names : List ℕ) (f : SilentFault) (refusal : Refusal) → silent_in a names ≡ Err f
-    → SaysOfFile FILE name (silent_fault_text f) refusal → SilentRefused name a (Some names) refusal
+    → SaysOfFile (file_limit narrow) name (silent_fault_text f) refusal → SilentRefused name a (Some names) refusal
 hinders_by name a names f (Refused number who why) is says = record {
   numbered = says.0;
   fault = f;

@@ -2,6 +2,8 @@
 use Rattle.ta_program.proofs.Common.{verdict_safe, Budget, ◌≡◌, ◌+◌, ℕ, Bool, true, false, List, [], ◌∷◌, Option, refl, sym, subst, inl}
 use Rattle.ta_program.proofs.Common.{inr, arith, if◌then◌else◌, list_any, AllByRecursion, File, Pattern, unit_steps, Told, Verdict, Safe, Unsafe}
 use Rattle.ta_program.proofs.Common.{Spent, Overflow, VerdictHolds, View, filled_text, held}
+use Rattle.ta_base.specs.declared.limits.Limits.{Limits}
+use Rattle.ta_search.specs.declared.terms.Terms.{Terms}
 use Rattle.ta_program.proofs.UnsafePrinted.{unsafe_occurs}
 use Rattle.ta_program.specs.Search.{SearchHolds, leaves_unknown}
 use Rattle.ta_program.specs.SearchWords.{SearchWords}
@@ -29,16 +31,17 @@ all_safe file budget number (p ∷ ps) (Unsafe nodes run ∷ vs) h all = let e =
 all_safe file budget number (p ∷ ps) (Spent nodes ∷ vs) h all = let e = all.0 in absurd (cc)
 all_safe file budget number (p ∷ ps) (Overflow node kind ∷ vs) h all = let e = all.0 in absurd (cc)
 
-outcome_means : (bytes : List ℕ) (budget : Budget) (o : Outcome) → OutcomeHolds bytes budget o → OutcomeMeans bytes o
-outcome_means bytes budget outcome.Long h = tt
-outcome_means bytes budget (outcome.Refused e) h = tt
-outcome_means bytes budget outcome.Empty h = record { file = h.file; legal = h.sampled.legal; none = h.sampled.sample.holds.none }
-outcome_means bytes budget (outcome.SampleUnknown s) h = tt
-outcome_means bytes budget (outcome.Unsafe name run) h =
+outcome_means : (bytes : List ℕ) (terms : Terms) (o : Outcome) → OutcomeHolds bytes terms o → OutcomeMeans terms.limits bytes o
+outcome_means bytes terms outcome.Long h = tt
+outcome_means bytes terms (outcome.Refused e) h = tt
+outcome_means bytes terms outcome.Empty h = record { file = h.file; legal = h.sampled.legal; none = h.sampled.sample.holds.none }
+outcome_means bytes terms (outcome.SampleUnknown s) h = tt
+outcome_means bytes terms (outcome.Unsafe name run) h =
     let place = safe_before h.verdicts in
     let here = h.decides.pattern in
-    let holds = held (VerdictHolds h.file budget) h.file.patterns h.verdicts h.judged.verdicts.hold place h.p (Unsafe h.nodes h.run) here h.decides.verdict in
-    let known = unsafe_occurs h.file budget place h.p h.nodes h.run here holds in
+    let holds = held (VerdictHolds h.file terms.budget) h.file.patterns h.verdicts h.judged.verdicts.hold place h.p (Unsafe h.nodes h.run) here
+    h.decides.verdict in
+    let known = unsafe_occurs h.file terms.budget place h.p h.nodes h.run here holds in
     record {
       file = h.file;
       legal = h.judged.sampled.legal;
@@ -50,32 +53,32 @@ outcome_means bytes budget (outcome.Unsafe name run) h =
       rules = unit_steps h.run.lines;
       occurs = known.occurs;
     }
-outcome_means bytes budget (outcome.Unknown name v) h = tt
-outcome_means bytes budget (outcome.Safe certificate) h = record {
+outcome_means bytes terms (outcome.Unknown name v) h = tt
+outcome_means bytes terms (outcome.Safe certificate) h = record {
   file = h.file;
   legal = h.judged.sampled.legal;
-  safe = all_safe h.file budget 0 h.file.patterns h.verdicts h.judged.verdicts.hold h.all;
+  safe = all_safe h.file terms.budget 0 h.file.patterns h.verdicts h.judged.verdicts.hold h.all;
   parameters = h.judged.sampled.sample.holds.parameters;
   start = h.judged.sampled.sample.holds.start;
 }
 
-abbrev MeansSo : Template → Tried → Type 0
-MeansSo t x = OutcomeMeans (filled_text t x.values) x.outcome
+abbrev MeansSo : Limits → Template → Tried → Type 0
+MeansSo l t x = OutcomeMeans l (filled_text t x.values) x.outcome
 
-one_means : (t : Template) (budget : Budget) (v : List ℕ) (x : Tried) → IsTried t budget v x → MeansSo t x
-one_means t budget v x is = outcome_means (filled_text t x.values) budget x.outcome
-    (subst (λ (w : List ℕ). OutcomeHolds (filled_text t w) budget x.outcome) (sym is.values) is.holds)
+one_means : (t : Template) (terms : Terms) (v : List ℕ) (x : Tried) → IsTried t terms v x → MeansSo terms.limits t x
+one_means t terms v x is = outcome_means (filled_text t x.values) terms x.outcome
+    (subst (λ (w : List ℕ). OutcomeHolds (filled_text t w) terms x.outcome) (sym is.values) is.holds)
 
-tries_mean : (t : Template) (budget : Budget) (vs : List (List ℕ)) (xs : List Tried) (found : Bool) → AreTried t budget vs xs found
-    → AllByRecursion (MeansSo t) xs
-tries_mean t budget [] [] found h = tt
-tries_mean t budget [] (x ∷ xs) found h = absurd h
-tries_mean t budget (v ∷ vs) [] found h = absurd h
-tries_mean t budget (v ∷ vs) (x ∷ xs) found h = (
-  one_means t budget v x h.0,
+tries_mean : (t : Template) (terms : Terms) (vs : List (List ℕ)) (xs : List Tried) (found : Bool) → AreTried t terms vs xs found
+    → AllByRecursion (MeansSo terms.limits t) xs
+tries_mean t terms [] [] found h = tt
+tries_mean t terms [] (x ∷ xs) found h = absurd h
+tries_mean t terms (v ∷ vs) [] found h = absurd h
+tries_mean t terms (v ∷ vs) (x ∷ xs) found h = (
+  one_means t terms v x h.0,
   elim h.1 [
-    | inl ends ↦ subst (λ (ys : List Tried). AllByRecursion (MeansSo t) ys) (sym ends.last) tt
-    | inr more ↦ tries_mean t budget vs xs found more.1
+    | inl ends ↦ subst (λ (ys : List Tried). AllByRecursion (MeansSo terms.limits t) ys) (sym ends.last) tt
+    | inr more ↦ tries_mean t terms vs xs found more.1
   ],
 )
 
@@ -85,12 +88,12 @@ found_exactly false true n e = (λ is. absurd (cc), λ none. absurd (omega (arit
 found_exactly false false n e = (λ is. absurd (cc), λ none. absurd (omega (arith, e, none)))
 
 pub tries_printed : (number : ℕ) (view : View) (asked : SearchWords) (files files' : Option Told) (written written' : Option (List ℕ)) (made : List Put)
-    → SearchHolds number view asked files files' written written' made → EachTried number view asked.json asked.file written written'
+    → SearchHolds number view asked files files' written written' made → EachTried number view asked written written'
 tries_printed number view asked files files' written written' made h = record {
   template = h.template;
   is_template = h.is_template;
   end = h.end;
   gained = h.wrote;
-  means = tries_mean h.template asked.budget (vectors h.template.holes) h.end.tried h.end.found h.is_end;
+  means = tries_mean h.template asked.terms (vectors h.template.holes) h.end.tried h.end.found h.is_end;
   found = found_exactly h.end.found (list_any (λ (x : Tried). leaves_unknown x.outcome) h.end.tried) number h.numbered;
 }

@@ -1,13 +1,13 @@
 -- what a run says of the file that `show` prints
-use Rattle.ta_base.specs.LimitRows.{narrow}
-use Rattle.ta_program.proofs.Common.{arith, ◌≡◌, ◌≤◌, ◌∙◌, ◌++◌, ◌∷◌, ℕ, Bool, true, false, List, [], Option, None, Some, refl, sym, ap, subst, map, codes}
+use Rattle.ta_base.specs.declared.limits.Limits.{Limits}
+use Rattle.ta_program.proofs.Common.{arith, ◌≡◌, ◌≤◌, ◌∙◌, ◌++◌, ◌∷◌, ℕ, true, false, List, [], Option, None, Some, refl, sym, ap, subst, map, codes}
 use Rattle.ta_program.proofs.Common.{append_assoc, option_map, option_and_then_some, AllByRecursion, nat_lt, length}
 use Rattle.ta_program.proofs.Common.{Call, LegalFile, LegalSilently, CheckHolds, Event, IsFile, Meaning, PutCall, ReplayHolds, ReportHolds}
 use Rattle.ta_program.proofs.Common.{RestCheckHolds, RestReportHolds, Runs, ShowHolds, State, Told, View, ask_where, pair_of, reads, reads-append, report_of}
 use Rattle.ta_program.proofs.Common.{request_of, seen, where_told, with_text}
-use Rattle.ta_program.proofs.Common.{File, RestCheckWords, RestWords, VerifyWords, budget_of, check_meaning, file_name_of, one_legal, option_value, out_of}
+use Rattle.ta_program.proofs.Common.{File, RestCheckWords, RestWords, VerifyWords, budget_of, check_meaning, file_name_of, option_value, out_of}
 use Rattle.ta_program.proofs.Common.{plain_of, quiet_names, replay_meaning, rest_check_meaning, rest_check_of, rest_check_words, rest_meaning, rest_of}
-use Rattle.ta_program.proofs.Common.{rest_taken, rest_words, IsShown, one_file_meaning, one_name, show_of, shown_of, taken_by, unit_steps, verify_meaning}
+use Rattle.ta_program.proofs.Common.{rest_taken, rest_words, IsShown, one_file_meaning, one_file_words, show_of, shown_of, taken_by, unit_steps, verify_meaning}
 use Rattle.ta_program.proofs.Common.{verify_of, verify_taken, verify_words, rest_form, verify_form}
 use Rattle.std.proofs.lemmas.Option.{cond_some, none-some}
 use Rattle.ta_automaton.specs.Runs as runs
@@ -31,7 +31,10 @@ use Rattle.ta_program.specs.Ended.{Did, Ended}
 use Rattle.ta_program.specs.RestWords.{rest_check_form, rest_check_taken}
 use Rattle.ta_program.specs.SilentNames.{names_of}
 use Rattle.ta_program.specs.Understood.{Asks, EachLine, IsOfAll, NeverRests, OccursSomewhere, Prints, ReadsWhole, RunOccurs, Says, Understood}
-use Rattle.ta_program.specs.Words.{OptionForm, is_dashed, valued}
+use Rattle.ta_program.proofs.OneFileOfAny.{one_legal_file}
+use Rattle.ta_program.specs.OneFile.{OneFileWords, one_file_form, one_file_taken}
+use Rattle.ta_program.specs.Values.{limits_for}
+use Rattle.ta_program.specs.Words.{OptionForm, is_dashed, is_given, valued}
 use Rattle.ta_program.proofs.Common.{Taken, EachPicked, LegalPicked, LegalRest, slice_get}
 use Rattle.ta_program.proofs.OptionUnset.{option_unset_of}
 
@@ -48,8 +51,9 @@ file_taken : (name : List ℕ) (taken : Taken) (asked : VerifyWords) → plain_o
 file_taken name taken asked first is =
     option_and_then_some _ (file_name_of (plain_of taken 0)) asked is (λ file named file_is.
     option_and_then_some _ (budget_of (option_value taken 0)) asked file_is (λ nodes counted nodes_is.
-    let made = made_of _ (out_of file (option_value taken 1)) asked nodes_is in
-    sym (ap (λ (w : VerifyWords). w.file) made.2) ∙ named_so (plain_of taken 0) name file first named))
+    option_and_then_some _ (out_of file (option_value taken 1)) asked nodes_is (λ out took out_is.
+    let made = made_of _ (limits_for (is_given taken 6) (is_given taken 3)) asked out_is in
+    sym (ap (λ (w : VerifyWords). w.file) made.2) ∙ named_so (plain_of taken 0) name file first named)))
 
 file_of_verify : (name : List ℕ) (more : List (List ℕ)) (asked : VerifyWords) → is_dashed name ≡ false → verify_words (name ∷ more) ≡ Some asked
     → asked.file ≡ name
@@ -64,17 +68,18 @@ of_all : (words : List (List ℕ)) (asked : VerifyWords) → AllByRecursion IsOf
 of_all words asked none is = option_and_then_some verify_taken (taken_by verify_form words) asked is (λ taken by taken_is.
     option_and_then_some _ (file_name_of (plain_of taken 0)) asked taken_is (λ file named file_is.
     option_and_then_some _ (budget_of (option_value taken 0)) asked file_is (λ nodes counted nodes_is.
-    let made = made_of _ (out_of file (option_value taken 1)) asked nodes_is in
+    option_and_then_some _ (out_of file (option_value taken 1)) asked nodes_is (λ out took out_is.
+    let made = made_of _ (limits_for (is_given taken 6) (is_given taken 3)) asked out_is in
     let unset = option_unset_of (codes "--pattern") 4 verify_form words taken
     (λ i o there e. let four : i ≡ 4 = omega (arith, e) in fifth_option o (subst (λ (n : ℕ). slice_get verify_form.options n ≡ Some o) four there))
     none refl by in
-    sym (ap (λ (w : VerifyWords). w.pattern) made.2) ∙ unset)))
+    sym (ap (λ (w : VerifyWords). w.pattern) made.2) ∙ unset))))
 
 file_of_rest : (name : List ℕ) (more : List (List ℕ)) (asked : RestWords) → is_dashed name ≡ false → rest_words (name ∷ more) ≡ Some asked
     → asked.verify.file ≡ name
 file_of_rest name more asked plain is = option_and_then_some rest_taken (taken_by rest_form (name ∷ more)) asked is (λ taken by taken_is.
     option_and_then_some _ (verify_taken taken) asked taken_is (λ v v_is silent_is.
-    let made = made_of _ (quiet_names v.budget.lazy (option_value taken 6)) asked silent_is in
+    let made = made_of _ (quiet_names v.budget.lazy (option_value taken 7)) asked silent_is in
     sym (ap (λ (w : RestWords). w.verify.file) made.2) ∙ file_taken name taken v (first_plain rest_form refl name more taken plain by) v_is))
 
 file_of_rest_check : (name : List ℕ) (more : List (List ℕ)) (asked : RestCheckWords) → is_dashed name ≡ false → rest_check_words (name ∷ more) ≡ Some asked
@@ -109,9 +114,12 @@ run_of_replay name other asked plain is = option_and_then_some replay_taken (tak
     sym (ap (λ (w : ReplayWords). w.other) made.2)
     ∙ named_so (plain_of taken 1) other made.0 (second_plain replay_form refl refl name other taken plain by) made.1))
 
-file_of_show : (name : List ℕ) (more : List (List ℕ)) (asked : List ℕ) → is_dashed name ≡ false → one_name (name ∷ more) ≡ Some asked → asked ≡ name
-file_of_show name more asked plain is = option_and_then_some _ (taken_by (record { plain = 1; options = [] }) (name ∷ more)) asked is (λ taken by taken_is.
-    named_so (plain_of taken 0) name asked (first_plain (record { plain = 1; options = [] }) refl name more taken plain by) taken_is)
+file_of_show : (name : List ℕ) (more : List (List ℕ)) (asked : OneFileWords) → is_dashed name ≡ false → one_file_words (name ∷ more) ≡ Some asked
+    → asked.file ≡ name
+file_of_show name more asked plain is = option_and_then_some one_file_taken (taken_by one_file_form (name ∷ more)) asked is (λ taken by taken_is.
+    let made = made_of _ (file_name_of (plain_of taken 0)) asked taken_is in
+    sym (ap (λ (w : OneFileWords). w.file) made.2)
+    ∙ named_so (plain_of taken 0) name made.0 (first_plain one_file_form refl name more taken plain by) made.1)
 
 -- words with which a command ends so are its words
 were_asked : {W : Type 0} (legal : W → Told → Type 0) (says : W → Meaning) (o : Option W) (number : ℕ) (before after : State)
@@ -151,15 +159,16 @@ of_calls : {names : List (List ℕ)} {Goal : Type 0} (r : Ended) (Of : View → 
 of_calls r Of goal a = goal (seen r.before.files a.read) (λ name bytes sees. read_so r a.tried a.made a.read a.grown name bytes sees) a.such
 
 -- what is so of the file that FILE means, is so of each file that `show` prints of FILE's bytes
-says : (r : Ended) (Such : List ℕ → File → Type 0) (name : List ℕ) (view : View) → Sees r view → (file : File) → IsFile view name file → (text : List ℕ)
+says : {l : Limits} (r : Ended) (Such : List ℕ → File → Type 0) (name : List ℕ) (view : View) → Sees r view → (file : File) → IsFile l view name file
+    → (text : List ℕ)
     → r.after.written ≡ with_text r.before.written text → Such text file → Says Such r name
-says r Such name view sees file is_file text gained such = record {
+says {l} r Such name view sees file is_file text gained such = record {
   bytes = is_file.bytes;
   read = sees name is_file.bytes is_file.had.seen;
   text = text;
   gained = gained;
   such = λ shown other orders printed e.
-      let same : file ≡ other = one_legal narrow is_file.bytes file printed.file is_file.means printed.legal
+      let same : file ≡ other = one_legal_file l printed.limits is_file.bytes file printed.file is_file.means printed.legal
       ∙ file_same printed.file other (map pair_of printed.is.orders) orders (sym printed.is.shown ∙ sym e) in
       subst (Such text) same such;
 }
@@ -179,7 +188,7 @@ module _ (words : List (List ℕ)) (number : ℕ) (before after : State) (h : Ru
       → Says Such ended name
   of_verify Such name more asks low such =
       let so : runs_so (codes "verify" ∷ name ∷ more) = subst runs_so asks.are h in
-      let found = were_asked (λ a. LegalPicked a.file a.pattern) verify_meaning (verify_words (name ∷ more)) number before after so low in
+      let found = were_asked (λ a. LegalPicked a.limits a.file a.pattern) verify_meaning (verify_words (name ∷ more)) number before after so low in
       let asked = found.0 in
       let is : verify_of words ≡ Some asked = ap verify_of asks.are ∙ found.1 in
       let Of : View → Type 0 = λ view. ReportHolds number view asked before.out.written after.out.written in
@@ -191,20 +200,20 @@ module _ (words : List (List ℕ)) (number : ℕ) (before after : State) (h : Ru
       (λ view made a. reported words number before after h asked view made a)))
 
   of_check : (Such : List ℕ → File → Type 0) (name : List ℕ) (more : List (List ℕ)) → Asks ended (codes "check") name more → number ≤ 2
-      → ((asked : CheckWords) (view : View) (r : CheckHolds number view asked.file asked.other asked.options before.out.written after.out.written)
+      → ((asked : CheckWords) (view : View) (r : CheckHolds number view asked before.out.written after.out.written)
       → Such r.text r.file)
       → Says Such ended name
   of_check Such name more asks low such =
       let so : runs_so (codes "check" ∷ name ∷ more) = subst runs_so asks.are h in
-      let found = were_asked (λ a told. LegalFile told (Some a.file)) (λ a. check_meaning a.file a.other a.options)
+      let found = were_asked (λ a told. LegalFile told (Some (a.file, a.limits))) check_meaning
       (check_words (name ∷ more)) number before after so low in
       let asked = found.0 in
       let is : check_of words ≡ Some asked = ap check_of asks.are ∙ found.1 in
-      let Of : View → Type 0 = λ view. CheckHolds number view asked.file asked.other asked.options before.out.written after.out.written in
+      let Of : View → Type 0 = λ view. CheckHolds number view asked before.out.written after.out.written in
       subst (Says Such ended) (file_of_check name more asked asks.plain found.1)
       (of_calls ended Of (λ view sees r. says ended Such asked.file view sees r.file r.is_file r.text r.wrote (such asked view r))
-      (gives_some words number before after h (check_meaning asked.file asked.other asked.options) (as_check words number before after h asked is) low Of
-      (λ view made a. proved words number before after h asked.file asked.other asked.options view made a)))
+      (gives_some words number before after h (check_meaning asked) (as_check words number before after h asked is) low Of
+      (λ view made a. proved words number before after h asked view made a)))
 
   of_rest : (Such : List ℕ → File → Type 0) (name : List ℕ) (more : List (List ℕ)) → Asks ended (codes "rest") name more → number ≤ 2
       → ((asked : RestWords) → rest_of words ≡ Some asked → (view : View) (r : RestReportHolds number view asked before.out.written after.out.written)
@@ -224,32 +233,31 @@ module _ (words : List (List ℕ)) (number : ℕ) (before after : State) (h : Ru
 
   of_rest_check : (Such : List ℕ → File → Type 0) (name : List ℕ) (more : List (List ℕ)) → Asks ended (codes "rest-check") name more → number ≤ 2
       → ((asked : RestCheckWords) (view : View)
-      (r : RestCheckHolds number view asked.file asked.other asked.silent asked.options before.out.written after.out.written)
+      (r : RestCheckHolds number view asked before.out.written after.out.written)
       → Such r.text r.file)
       → Says Such ended name
   of_rest_check Such name more asks low such =
       let so : runs_so (codes "rest-check" ∷ name ∷ more) = subst runs_so asks.are h in
-      let found = were_asked (λ a. LegalSilently a.file a.silent) (λ a. rest_check_meaning a.file a.other a.silent a.options)
+      let found = were_asked (λ a. LegalSilently a.limits a.file a.silent) rest_check_meaning
       (rest_check_words (name ∷ more)) number before after so low in
       let asked = found.0 in
       let is : rest_check_of words ≡ Some asked = ap rest_check_of asks.are ∙ found.1 in
       let Of : View → Type 0 = λ view.
-      RestCheckHolds number view asked.file asked.other asked.silent asked.options before.out.written after.out.written in
+      RestCheckHolds number view asked before.out.written after.out.written in
       subst (Says Such ended) (file_of_rest_check name more asked asks.plain found.1)
       (of_calls ended Of (λ view sees r. says ended Such asked.file view sees r.file r.is_file r.text r.wrote (such asked view r))
-      (gives_some words number before after h (rest_check_meaning asked.file asked.other asked.silent asked.options)
+      (gives_some words number before after h (rest_check_meaning asked)
       (as_rest_check words number before after h asked is) low Of
-      (λ view made a. rest_checked words number before after h asked.file asked.other asked.silent asked.options view made a)))
+      (λ view made a. rest_checked words number before after h asked view made a)))
 
   -- RUN is seen, too
-  run_occurs : (view : View) → Sees ended view → (name run_name : List ℕ) (json : Bool)
-      (r : ReplayHolds view name run_name json before.out.written after.out.written)
-      → RunOccurs ended run_name r.file
-  run_occurs view sees name run_name json r =
+  run_occurs : (view : View) → Sees ended view → (asked : ReplayWords) (r : ReplayHolds view asked before.out.written after.out.written)
+      → RunOccurs ended asked.other r.file
+  run_occurs view sees asked r =
       let s = r.is_run.means in
       record {
         bytes = r.is_run.bytes;
-        read = sees run_name r.is_run.bytes r.is_run.had.seen;
+        read = sees asked.other r.is_run.bytes r.is_run.had.seen;
         run = r.run;
         is = s.text;
         pattern = s.shows.pattern;
@@ -264,23 +272,23 @@ module _ (words : List (List ℕ)) (number : ℕ) (before after : State) (h : Ru
   of_replay name run_name asks none =
       let so : runs_so (codes "replay" ∷ name ∷ run_name ∷ []) = subst runs_so asks.are h in
       let low : number ≤ 2 = omega (arith, none) in
-      let found = were_asked (λ a told. LegalFile told (Some a.file)) (λ a. replay_meaning a.file a.other a.json)
+      let found = were_asked (λ a told. LegalFile told (Some (a.file, a.limits))) replay_meaning
       (replay_words (name ∷ run_name ∷ [])) number before after so low in
       let asked = found.0 in
       let is : replay_of words ≡ Some asked = ap replay_of asks.are ∙ found.1 in
-      let Of : View → Type 0 = λ view. ReplayHolds view asked.file asked.other asked.json before.out.written after.out.written in
+      let Of : View → Type 0 = λ view. ReplayHolds view asked before.out.written after.out.written in
       let run_is = run_of_replay name run_name asked asks.plain found.1 in
       subst (Says (λ text file. RunOccurs ended run_name file) ended) (file_of_replay name (run_name ∷ []) asked asks.plain found.1)
       (of_calls ended Of (λ view sees r. says ended (λ text file. RunOccurs ended run_name file) asked.file view sees r.file r.is_file
       (shown_text asked.json r.file.automaton.name r.pattern.name (shown_of r.run)) r.wrote
-      (subst (λ (n : List ℕ). RunOccurs ended n r.file) run_is (run_occurs view sees asked.file asked.other asked.json r)))
-      (gives_some words number before after h (replay_meaning asked.file asked.other asked.json) (as_replay words number before after h asked is) low Of
-      (λ view made a. shown words number before after h asked.file asked.other asked.json view made a)))
+      (subst (λ (n : List ℕ). RunOccurs ended n r.file) run_is (run_occurs view sees asked r)))
+      (gives_some words number before after h (replay_meaning asked) (as_replay words number before after h asked is) low Of
+      (λ view made a. shown words number before after h asked view made a)))
 
-  prints_so : (name : List ℕ) (view : View) → Sees ended view → ShowHolds view name before.out.written after.out.written → Prints ended name
-  prints_so name view sees r = record {
+  prints_so : (asked : OneFileWords) (view : View) → Sees ended view → ShowHolds view asked before.out.written after.out.written → Prints ended asked.file
+  prints_so asked view sees r = record {
     bytes = r.bytes;
-    read = sees name r.bytes r.held;
+    read = sees asked.file r.bytes r.held;
     text = r.text;
     more = unknowns_text r.printed.file;
     gained = r.wrote;
@@ -294,13 +302,14 @@ module _ (words : List (List ℕ)) (number : ℕ) (before after : State) (h : Ru
   of_show name more asks none =
       let so : runs_so (codes "show" ∷ name ∷ more) = subst runs_so asks.are h in
       let low : number ≤ 2 = omega (arith, none) in
-      let found = were_asked (λ n told. LegalFile told (Some n)) (one_file_meaning IsShown) (one_name (name ∷ more)) number before after so low in
+      let found = were_asked (λ a told. LegalFile told (Some (a.file, a.limits))) (one_file_meaning (λ l. IsShown)) (one_file_words (name ∷ more)) number before
+      after so low in
       let asked = found.0 in
       let is : show_of words ≡ Some asked = ap show_of asks.are ∙ found.1 in
       let Of : View → Type 0 = λ view. ShowHolds view asked before.out.written after.out.written in
       subst (Prints ended) (file_of_show name more asked asks.plain found.1)
       (of_calls ended Of (λ view sees r. prints_so asked view sees r)
-      (gives_some words number before after h (one_file_meaning IsShown asked) (as_show words number before after h asked is) low Of
+      (gives_some words number before after h (one_file_meaning (λ l. IsShown) asked) (as_show words number before after h asked is) low Of
       (λ view made a. shown_file words number before after h asked view made a)))
 
   pub understood : ZeroSays → Understood ended
@@ -318,13 +327,13 @@ module _ (words : List (List ℕ)) (number : ℕ) (before after : State) (h : Ru
         (tells_unsafe_by_line false asked.json r.file r.pick r.sample r.verdicts p.name line) in
         (u.first, unit_steps u.run.lines, u.happens));
     proved = λ name more asks low. of_check (EachLine runs.Safe (codes "proved")) name more asks low
-        (λ asked view r. line_proved words number before after h asked.file asked.other asked.options view r);
+        (λ asked view r. line_proved words number before after h asked view r);
     rest_safe = λ name more asks low. of_rest (EachLine NeverRests (codes "rest safe, ")) name more asks low (λ asked is view r k p named line.
-        never_rests r.is_file.bytes r.file r.is_file.means r.are_ends.loops k p named asked.silent
+        never_rests asked.verify.limits r.is_file.bytes r.file r.is_file.means r.are_ends.loops k p named asked.silent
         (tells_rest_safe words number before after h asked is view r k p named
         (tells_by_line true asked.verify.json r.file r.pick r.sample r.verdicts p.name line)));
     rest_proved = λ name more asks low. of_rest_check (EachLine NeverRests (codes "rest proved")) name more asks low (λ asked view r k p named line.
-        never_rests r.is_file.bytes r.file r.is_file.means r.are_ends.loops k p named asked.silent
-        (line_rest_proved words number before after h asked.file asked.other asked.silent asked.options view r k p named line));
+        never_rests asked.limits r.is_file.bytes r.file r.is_file.means r.are_ends.loops k p named asked.silent
+        (line_rest_proved words number before after h asked view r k p named line));
     shown = of_replay;
   }

@@ -1,4 +1,5 @@
 -- what `export` and `admit` say grows with what is seen, and known files leave one number
+use Rattle.ta_base.specs.LimitRows.{narrow}
 use Rattle.ta_program.proofs.Common.{◌≡◌, ◌∙◌, ℕ, List, [], Option, Some, Err, refl, sym, subst, inl, inr, arith, File, run_text, Told, Decides, IsSo, Meaning}
 use Rattle.ta_program.proofs.Common.{Says, ReadCause, View, in_files, Writes, finds, replies, Refusal, Refused, ReadFailed, PutFailed, Memory, after_monotone}
 use Rattle.ta_program.proofs.Common.{finds_memory, finds_monotone, finds_one, finds_wrong, one_number, replies_monotone, replies_one, Monotone, WordFault}
@@ -30,12 +31,12 @@ system_one name spelled file told =
     (λ v w is are. replies_one [] (SaysSystem file v) (SaysSystem file w) (in_files told) (λ a b x y. x.writes.numbered ∙ sym y.writes.numbered))
 
 pub export_decides : (asked : WordAsked) → Decides (export_meaning asked)
-export_decides asked = file_decides asked.file [] (system_meaning asked.file asked.word) (system_monotone asked.file asked.word)
+export_decides asked = file_decides narrow asked.file [] (system_meaning asked.file asked.word) (system_monotone asked.file asked.word)
     (system_one asked.file asked.word)
 
-pub export_passes : (asked : WordAsked) → Passes (Some asked.file) (export_meaning asked)
+pub export_passes : (asked : WordAsked) → Passes (Some (asked.file, narrow)) (export_meaning asked)
 export_passes asked =
-    file_passes asked.file [] (system_meaning asked.file asked.word) (system_monotone asked.file asked.word)
+    file_passes narrow asked.file [] (system_meaning asked.file asked.word) (system_monotone asked.file asked.word)
     (λ file told. finds_passes (IsWordOf file asked.word) (WordHinders (WordFaultOf file asked.word) asked.file) (λ word. replies [] (SaysSystem file word))
     (λ number line h. h.numbered) (λ word view line none. none) (in_files told))
 
@@ -68,12 +69,12 @@ run_one name spelled values file told =
 
 pub admit_decides : (all : AdmitAsked) → Decides (admit_meaning all)
 admit_decides all =
-    file_decides all.asked.file [] (run_meaning all.asked.file all.asked.word all.values) (run_monotone all.asked.file all.asked.word all.values)
+    file_decides narrow all.asked.file [] (run_meaning all.asked.file all.asked.word all.values) (run_monotone all.asked.file all.asked.word all.values)
     (run_one all.asked.file all.asked.word all.values)
 
-pub admit_passes : (all : AdmitAsked) → Passes (Some all.asked.file) (admit_meaning all)
+pub admit_passes : (all : AdmitAsked) → Passes (Some (all.asked.file, narrow)) (admit_meaning all)
 admit_passes all =
-    file_passes all.asked.file [] (run_meaning all.asked.file all.asked.word all.values) (run_monotone all.asked.file all.asked.word all.values)
+    file_passes narrow all.asked.file [] (run_meaning all.asked.file all.asked.word all.values) (run_monotone all.asked.file all.asked.word all.values)
     (λ file told. finds_passes (IsWholeWordOf file all.asked.word) (WordHinders (WholeFaultOf file all.asked.word) all.asked.file)
     (values_meaning all.values file) (λ number line h. h.numbered)
     (λ word. second_passes (values_kind file word) all.values (λ run. replies [] (Writes 0 (run_text file run))) refl (λ run view line none. none))

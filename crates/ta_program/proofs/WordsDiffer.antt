@@ -1,10 +1,12 @@
 -- the files that a command puts are not its FILE, and not each other
-use Rattle.ta_program.proofs.Common.{Budget, ◌≡◌, ◌≢◌, ◌∙◌, ℕ, Bool, true, false, ◌&&◌, not, List, [], ◌∷◌, length, Option, None, Some, refl, sym, subst, rules}
+use Rattle.ta_program.proofs.Common.{◌≡◌, ◌≢◌, ◌∙◌, ℕ, Bool, true, false, ◌&&◌, not, List, [], ◌∷◌, length, Option, None, Some, refl, sym, subst, rules}
 use Rattle.ta_program.proofs.Common.{option_and_then_some, if◌then◌else◌, bytes_eq, rest_form, rest_of, rest_taken, rest_words, SearchWords, search_form}
 use Rattle.ta_program.proofs.Common.{search_of, search_taken, search_words, are_same, budget_of, filled_of, file_name_of, out_of, VerifyWords, verify_form}
-use Rattle.ta_program.proofs.Common.{verify_of, verify_taken, verify_words, Taken, behind_name, plain_of, taken_by, option_value, codes, is_some, nat_lt}
+use Rattle.ta_program.proofs.Common.{verify_of, verify_taken, verify_words, Taken, behind_name, plain_of, taken_by, option_value, codes, nat_lt}
 use Rattle.ta_program.proofs.Common.{option_map, RestWords, quiet_names}
 use Rattle.std.proofs.lemmas.Option.{cond_some, none-some}
+use Rattle.ta_program.specs.Values.{limits_for}
+use Rattle.ta_program.specs.Words.{is_given}
 use Rattle.ta_base.proofs.Booleans.{not_chosen}
 use Rattle.ta_base.proofs.Options.{some_where}
 
@@ -33,31 +35,22 @@ behind : {W : Type 0} (Such : W → Type 0) (name : List ℕ) (read : List (List
 behind Such name read such [] asked is = absurd (cc)
 behind Such name read such (word ∷ words) asked is = such words asked (some_where (bytes_eq word name) (read words) asked is).1
 
+-- what is so of each that may be made of something is so of what is made
+made_so : {X W : Type 0} (Such : W → Type 0) (make : X → W) → ((x : X) → Such (make x)) → (o : Option X) (asked : W) → option_map make o ≡ Some asked
+    → Such asked
+made_so Such make each None asked is = absurd (none-some asked is)
+made_so Such make each (Some x) asked is = let same : make x ≡ asked = cc in subst Such same (each x)
+
 -- ---- OUT of `verify`
 abbrev Differs : VerifyWords → Type 0
 Differs asked = Apart (Some asked.file) asked.out
-
--- what is asked for of a pattern changes neither name
-abbrev budget_with : ℕ → Taken → Budget
-budget_with nodes taken = record { nodes = nodes; lazy = is_some (option_value taken 3) }
-
-made_differs :
-    (file : List ℕ) (given : Option (List ℕ)) (budget : Budget) (json all : Bool) (pattern : Option (List ℕ)) (out : Option (Option (List ℕ)))
-    → out_of file given ≡ out
-    → (asked : VerifyWords) → option_map (λ o. record { file = file; budget = budget; out = o; json = json; pattern = pattern; all = all }) out ≡ Some asked
-    → Differs asked
-made_differs file given budget json all pattern None took asked is = absurd (none-some asked is)
-made_differs file given budget json all pattern (Some out) took asked is =
-    let words : VerifyWords = record { file = file; budget = budget; out = out; json = json; pattern = pattern; all = all } in
-    let same : words ≡ asked = cc in
-    subst Differs same (file_apart file given out took)
 
 taken_differs : (taken : Taken) (asked : VerifyWords) → verify_taken taken ≡ Some asked → Differs asked
 taken_differs taken asked is =
     option_and_then_some _ (file_name_of (plain_of taken 0)) asked is (λ file named file_is.
     option_and_then_some _ (budget_of (option_value taken 0)) asked file_is (λ nodes counted nodes_is.
-    made_differs file (option_value taken 1) (budget_with nodes taken) (is_some (option_value taken 2)) (is_some (option_value taken 5)) (option_value taken 4)
-    (out_of file (option_value taken 1)) refl asked nodes_is))
+    option_and_then_some _ (out_of file (option_value taken 1)) asked nodes_is (λ out took out_is.
+    made_so Differs _ (λ limits. file_apart file (option_value taken 1) out took) (limits_for (is_given taken 6) (is_given taken 3)) asked out_is)))
 
 verify_differs : (words : List (List ℕ)) (asked : VerifyWords) → verify_words words ≡ Some asked → Differs asked
 verify_differs words asked is = option_and_then_some verify_taken (taken_by verify_form words) asked is
@@ -87,7 +80,7 @@ by_names v given apart (Some silent) from asked is =
 
 rest_taken_says : (taken : Taken) (asked : RestWords) → rest_taken taken ≡ Some asked → RestSaid asked
 rest_taken_says taken asked is = option_and_then_some _ (verify_taken taken) asked is (λ v v_is silent_is.
-    by_names v (option_value taken 6) (taken_differs taken v v_is) (quiet_names v.budget.lazy (option_value taken 6)) refl asked silent_is)
+    by_names v (option_value taken 7) (taken_differs taken v v_is) (quiet_names v.budget.lazy (option_value taken 7)) refl asked silent_is)
 
 rest_says : (words : List (List ℕ)) (asked : RestWords) → rest_words words ≡ Some asked → RestSaid asked
 rest_says words asked is = option_and_then_some rest_taken (taken_by rest_form words) asked is (λ taken by taken_is. rest_taken_says taken asked taken_is)
@@ -114,27 +107,20 @@ pub record AllApart (asked : SearchWords) : Type 0 where
   pub out : Apart (Some asked.file) asked.out
   pub filled : Apart (Some asked.file) asked.filled
 
-by_filled :
-    (file : List ℕ) (budget : Budget) (json : Bool) (first out given : Option (List ℕ)) → out_of file first ≡ Some out → (filled : Option (Option (List ℕ)))
-    → filled_of file out given ≡ filled → (asked : SearchWords)
-    → option_map (λ f. record { file = file; budget = budget; out = out; filled = f; json = json }) filled ≡ Some asked → AllApart asked
-by_filled file budget json first out given took None from asked is = absurd (cc)
-by_filled file budget json first out given took (Some filled) from asked is =
-    let words : SearchWords = record { file = file; budget = budget; out = out; filled = filled; json = json } in
-    let same : words ≡ asked = cc in
-    let by = not_chosen (are_same out given) None (out_of file given) (Some filled) from (none-some filled) in
-    subst AllApart same (record {
-      puts = subst (λ (o : Option (List ℕ)). Apart o out) (sym (out_given file given filled by.1)) (differ out given by.0);
-      out = file_apart file first out took;
-      filled = file_apart file given filled by.1;
-    })
-
 taken_apart : (taken : Taken) (asked : SearchWords) → search_taken taken ≡ Some asked → AllApart asked
 taken_apart taken asked is = option_and_then_some _ (file_name_of (plain_of taken 0)) asked is (λ file named file_is.
     option_and_then_some _ (budget_of (option_value taken 0)) asked file_is (λ nodes counted nodes_is.
     option_and_then_some _ (out_of file (option_value taken 1)) asked nodes_is (λ out took out_is.
-    by_filled file (record { nodes = nodes; lazy = is_some (option_value taken 3) }) (is_some (option_value taken 4)) (option_value taken 1) out
-    (option_value taken 2) took (filled_of file out (option_value taken 2)) refl asked out_is)))
+    option_and_then_some _ (filled_of file out (option_value taken 2)) asked out_is (λ filled from filled_is.
+    let given = option_value taken 2 in
+    let by = not_chosen (are_same out given) None (out_of file given) (Some filled) from (none-some filled) in
+    made_so AllApart _
+    (λ limits. record {
+      puts = subst (λ (o : Option (List ℕ)). Apart o out) (sym (out_given file given filled by.1)) (differ out given by.0);
+      out = file_apart file (option_value taken 1) out took;
+      filled = file_apart file given filled by.1;
+    })
+    (limits_for (is_given taken 5) (is_given taken 3)) asked filled_is))))
 
 search_apart : (words : List (List ℕ)) (asked : SearchWords) → search_words words ≡ Some asked → AllApart asked
 search_apart words asked is = option_and_then_some search_taken (taken_by search_form words) asked is (λ taken by taken_is. taken_apart taken asked taken_is)

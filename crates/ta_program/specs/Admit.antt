@@ -1,5 +1,6 @@
 -- The command `admit`: given values for the unknowns of a schema, it writes their run.
 use Rattle.std.specs.Prelude.{ℕ, ◌≡◌, ◌≢◌, ◌≤◌, ◌++◌, List, [], codes, decimal, length, Option, Some, option_and_then, option_map}
+use Rattle.ta_base.specs.LimitRows.{narrow}
 use Rattle.ta_automaton.specs.declared.file.File.{File}
 use Rattle.ta_replay.specs.declared.run.Run.{Run}
 use Rattle.ta_replay.specs.RunText.{run_text}
@@ -63,7 +64,7 @@ pub record AdmitAsked : Type 0 where
 
 -- FILE is read, then the schema is looked up, then VALUES is read
 abbrev pub admit_meaning : AdmitAsked → Meaning
-admit_meaning all = after file_kind all.asked.file [] (run_meaning all.asked.file all.asked.word all.values)
+admit_meaning all = after (file_kind narrow) all.asked.file [] (run_meaning all.asked.file all.asked.word all.values)
 
 -- FILE PATTERN START WORD VALUES
 abbrev pub all_of : Taken → Option AdmitAsked
@@ -77,14 +78,14 @@ abbrev pub admit_of : List (List ℕ) → Option AdmitAsked
 admit_of = behind_name (codes "admit") admit_words
 
 abbrev pub admit_asked : List (List ℕ) → Asked
-admit_asked words = ask (λ all. Some all.asked.file) admit_meaning (admit_words words)
+admit_asked words = ask (λ all. Some (all.asked.file, narrow)) admit_meaning (admit_words words)
 
 -- FILE is legal and has the complete schema, VALUES are values that solve its system without bounds, and the output gained the text of
 -- their run: its parameters and start counts are those of the values, it shows the pattern in a replay that stays in range, and it is
 -- within the limit of RUN
 pub record AdmitHolds (view : View) (all : AdmitAsked) (written written' : Option (List ℕ)) : Type 0 where
   pub file : File
-  pub is_file : IsFile view all.asked.file file
+  pub is_file : IsFile narrow view all.asked.file file
   pub word : Word
   pub is_word : IsWholeWordOf file all.asked.word word
   pub run : Run
@@ -96,7 +97,7 @@ pub record AdmitHolds (view : View) (all : AdmitAsked) (written written' : Optio
 -- known files that have a legal FILE, a complete schema of it and values that give a run
 pub record IsAdmitted (told : Told) (all : AdmitAsked) : Type 0 where
   pub file : File
-  pub is_file : IsFile (in_files told) all.asked.file file
+  pub is_file : IsFile narrow (in_files told) all.asked.file file
   pub word : Word
   pub is_word : IsWholeWordOf file all.asked.word word
   pub run : Run

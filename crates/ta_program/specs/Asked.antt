@@ -1,6 +1,7 @@
 -- What a command line asks for, and when a run of the program does it.
 use Rattle.std.specs.Prelude.{◌++◌, ℕ, ◌≡◌, Bool, true, false, List, codes, Option, None, Some}
 use Rattle.std.specs.Str.{bytes_eq}
+use Rattle.ta_base.specs.declared.limits.Limits.{Limits}
 use Rattle.ta_automaton.specs.declared.file.File.{File}
 use Rattle.ta_shelf.specs.Put.{Told}
 use Rattle.ta_shelf.specs.Commands.{Decides, Meaning}
@@ -18,13 +19,13 @@ abbrev pub ask_where : {W : Type 0} → (W → Told → Type 0) → (W → Meani
 ask_where legal says None = NoCommand
 ask_where legal says (Some words) = Command (legal words) (says words)
 
--- FILE, if one is read, means an automaton
-abbrev pub LegalFile : Told → Option (List ℕ) → Type 0
+-- FILE, if one is read, means an automaton within the limits that belong to its name
+abbrev pub LegalFile : Told → Option (List ℕ × Limits) → Type 0
 LegalFile told None = Unit {0}
-LegalFile told (Some name) = (file : File) × IsFile (in_files told) name file
+LegalFile told (Some named) = (file : File) × IsFile named.1 (in_files told) named.0 file
 
 -- the request of a command that reads an automaton file, or none
-abbrev pub ask : {W : Type 0} → (W → Option (List ℕ)) → (W → Meaning) → Option W → Asked
+abbrev pub ask : {W : Type 0} → (W → Option (List ℕ × Limits)) → (W → Meaning) → Option W → Asked
 ask file says words = ask_where (λ asked told. LegalFile told (file asked)) says words
 
 -- the first if a test passes, otherwise the second
@@ -45,7 +46,7 @@ abbrev pub PassesWhere : (Told → Type 0) → Meaning → Type 0
 PassesWhere legal m = (told : Told) (line : List ℕ) → legal told → ¬ m.refuses (in_files told) 3 line
 
 -- the same for a command that reads an automaton file, or none
-abbrev pub Passes : Option (List ℕ) → Meaning → Type 0
+abbrev pub Passes : Option (List ℕ × Limits) → Meaning → Type 0
 Passes file m = PassesWhere (λ told. LegalFile told file) m
 
 abbrev pub usage_line : List ℕ
@@ -54,7 +55,8 @@ usage_line =
     ++ codes "bench K, rest FILE [--nodes N] [--certificate OUT], rest-check FILE CERT, search FILE [--nodes N] [--certificate OUT] [--filled OUT2], "
     ++ codes "show FILE, export FILE PATTERN START WORD, admit FILE PATTERN START WORD VALUES, version, --lazy with verify, rest or search, "
     ++ codes "--silent NAMES with rest or rest-check, --json with rest, search, check, rest-check or replay, --pattern NAME with verify or rest, "
-    ++ codes "--all with verify, rest, check or rest-check, --parameters with check\n"
+    ++ codes "--all with verify, rest, check or rest-check, --parameters with check, "
+    ++ codes "--wide with check, rest-check, replay, compress, count, show or --lazy\n"
 
 -- the words are no command's: nothing is read or written, and the line says so
 pub record OfNoCommand (number : ℕ) (before after : State) : Type 0 where

@@ -85,22 +85,22 @@ abbrev pub short_meaning : File → List ℕ → Meaning
 short_meaning file name = after (long_kind file) name [] (λ run. replies [] (SaysShort file run))
 
 -- FILE is read, and then RUN
-abbrev pub compress_meaning : List ℕ → List ℕ → Meaning
-compress_meaning file_name run_name = after file_kind file_name [] (λ file. short_meaning file run_name)
+abbrev pub compress_meaning : TwoNames → Meaning
+compress_meaning asked = after (file_kind asked.limits) asked.file [] (λ file. short_meaning file asked.other)
 
--- `compress FILE RUN`
+-- `compress FILE RUN [--wide]`
 abbrev pub compress_of : List (List ℕ) → Option TwoNames
 compress_of = behind_name (codes "compress") two_names
 
 abbrev pub compress_asked : List (List ℕ) → Asked
-compress_asked words = ask (λ names. Some names.file) (λ names. compress_meaning names.file names.other) (two_names words)
+compress_asked words = ask (λ asked. Some (asked.file, asked.limits)) compress_meaning (two_names words)
 
 -- FILE is legal, RUN is the text of a run that can be compressed, and the output gained the text of the compressed run
-pub record CompressHolds (view : View) (file_name run_name : List ℕ) (written written' : Option (List ℕ)) : Type 0 where
+pub record CompressHolds (view : View) (asked : TwoNames) (written written' : Option (List ℕ)) : Type 0 where
   pub file : File
-  pub is_file : IsFile view file_name file
+  pub is_file : IsFile asked.limits view asked.file file
   pub run : Run
-  pub is_run : FileMeans (long_kind file) view run_name run
+  pub is_run : FileMeans (long_kind file) view asked.other run
   pub short : Run
   pub is_short : ShortOf file run short
   pub wrote : written' ≡ with_text written (run_text file short)
@@ -108,7 +108,7 @@ pub record CompressHolds (view : View) (file_name run_name : List ℕ) (written 
 -- known files that have a legal FILE and the text of a run of it that can be compressed
 pub record CanCompress (told : Told) (asked : TwoNames) : Type 0 where
   pub file : File
-  pub is_file : IsFile (in_files told) asked.file file
+  pub is_file : IsFile asked.limits (in_files told) asked.file file
   pub run : Run
   pub is_run : FileMeans (long_kind file) (in_files told) asked.other run
 
@@ -116,7 +116,7 @@ pub record CanCompress (told : Told) (asked : TwoNames) : Type 0 where
 -- of FILE leaves the range first
 pub record LeavesRange (told : Told) (asked : TwoNames) (line : ℕ) : Type 0 where
   pub file : File
-  pub is_file : IsFile (in_files told) asked.file file
+  pub is_file : IsFile asked.limits (in_files told) asked.file file
   pub bytes : List ℕ
   pub had : HasBytes (in_files told) asked.other RUN.bytes bytes
   pub run : Run

@@ -1,5 +1,6 @@
 -- The command `export`: the constraint system of a schema as an SMT-LIB script.
 use Rattle.std.specs.Prelude.{ℕ, ℤ, ◌≡◌, ◌↔◌, ◌++◌, List, [], codes, decimal, Option, Some, option_and_then}
+use Rattle.ta_base.specs.LimitRows.{narrow}
 use Rattle.ta_automaton.specs.declared.file.File.{File}
 use Rattle.ta_shelf.specs.Sink.{with_text}
 use Rattle.ta_shelf.specs.declared.answer.Answer.{Answer}
@@ -45,7 +46,7 @@ system_meaning file_name spelled file = finds (IsWordOf file spelled) (WordHinde
 
 -- FILE is read, then the schema is looked up
 abbrev pub export_meaning : WordAsked → Meaning
-export_meaning asked = after file_kind asked.file [] (system_meaning asked.file asked.word)
+export_meaning asked = after (file_kind narrow) asked.file [] (system_meaning asked.file asked.word)
 
 abbrev pub export_words : List (List ℕ) → Option WordAsked
 export_words words = option_and_then asked_of (taken_by (record { plain = 4; options = [] }) words)
@@ -55,13 +56,13 @@ abbrev pub export_of : List (List ℕ) → Option WordAsked
 export_of = behind_name (codes "export") export_words
 
 abbrev pub export_asked : List (List ℕ) → Asked
-export_asked words = ask (λ asked. Some asked.file) export_meaning (export_words words)
+export_asked words = ask (λ asked. Some (asked.file, narrow)) export_meaning (export_words words)
 
 -- FILE is legal and has the schema, and the output gained the text of the schema's system without bounds: it denotes exactly those lists of
 -- integers that are natural and solve the system
 pub record ExportHolds (view : View) (asked : WordAsked) (written written' : Option (List ℕ)) : Type 0 where
   pub file : File
-  pub is_file : IsFile view asked.file file
+  pub is_file : IsFile narrow view asked.file file
   pub word : Word
   pub is_word : IsWordOf file asked.word word
   pub text : List ℕ

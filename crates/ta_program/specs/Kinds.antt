@@ -7,7 +7,7 @@ use Rattle.ta_check.specs.Faults.{IsFirstFaultFor, IsLastingFor}
 use Rattle.ta_check.specs.Subjects.{Subject}
 use Rattle.ta_syntax.specs.declared.fault.FileFault.{FileFault}
 use Rattle.ta_meaning.specs.FirstFault.{FirstFault}
-use Rattle.ta_base.specs.LimitRows.{narrow}
+use Rattle.ta_base.specs.declared.limits.Limits.{Limits}
 use Rattle.ta_meaning.specs.Reading.{Legal}
 use Rattle.ta_replay.specs.declared.fault.RunFault.{RunFault}
 use Rattle.ta_replay.specs.declared.fault.RunFault.TheVariants as fault
@@ -19,16 +19,21 @@ use Rattle.ta_replay.specs.Replays.{ReplayStays}
 use Rattle.ta_replay.specs.ReplayFaults.{ReplayFault}
 use Rattle.ta_report.specs.Faults.{cert_fault_text, file_fault_text, run_fault_text}
 use Rattle.ta_shelf.specs.Sights.{View}
+use Rattle.ta_shelf.specs.declared.file_reading.Limit.{Limit}
 use Rattle.ta_shelf.specs.Stages.{FileMeans, Kind}
-use Rattle.ta_program.specs.declared.limits.TheConstants.{CERTIFICATE, FILE, RUN}
+use Rattle.ta_program.specs.declared.limits.TheConstants.{CERTIFICATE, FILE_NUMBER, RUN}
 
--- FILE: bytes that mean an automaton and its patterns, if any, or have a first error
-abbrev pub file_kind : Kind File FileFault
-file_kind = record { limit = FILE; means = Legal narrow; at_fault = FirstFault narrow; broken = λ bytes fault. ⊥; words = file_fault_text }
+-- how long FILE may be within a row of limits, and the status if it is longer
+abbrev pub file_limit : Limits → Limit
+file_limit l = record { bytes = l.bytes; number = FILE_NUMBER }
 
--- the bytes under this name mean this file
-abbrev pub IsFile : View → List ℕ → File → Type 0
-IsFile view name file = FileMeans file_kind view name file
+-- FILE within a row of limits: bytes that mean an automaton and its patterns, if any, or have a first error
+abbrev pub file_kind : Limits → Kind File FileFault
+file_kind l = record { limit = file_limit l; means = Legal l; at_fault = FirstFault l; broken = λ bytes fault. ⊥; words = file_fault_text }
+
+-- within these limits the bytes under this name mean this file
+abbrev pub IsFile : Limits → View → List ℕ → File → Type 0
+IsFile l view name file = FileMeans (file_kind l) view name file
 
 -- the bytes are a certificate of what is claimed of the file's patterns of these numbers, and it holds of each
 pub record Proves (subject : Subject) (bytes numbers : List ℕ) : Type 0 where

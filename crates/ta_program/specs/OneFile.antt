@@ -1,13 +1,14 @@
 -- Commands that read FILE alone, and print a text of the file that it means.
-use Rattle.std.specs.Prelude.{ℕ, List, [], Option, Some, option_and_then}
+use Rattle.std.specs.Prelude.{ℕ, List, [], ◌∷◌, codes, Option, Some, option_map}
+use Rattle.ta_base.specs.declared.limits.Limits.{Limits}
 use Rattle.ta_automaton.specs.declared.file.File.{File}
 use Rattle.ta_shelf.specs.declared.answer.Answer.{Answer}
 use Rattle.ta_shelf.specs.Commands.{Meaning}
 use Rattle.ta_shelf.specs.Stages.{Writes, after, replies}
 use Rattle.ta_program.specs.Asked.{Asked, ask}
 use Rattle.ta_program.specs.Kinds.{file_kind}
-use Rattle.ta_program.specs.Values.{file_name_of}
-use Rattle.ta_program.specs.Words.{plain_of, taken_by}
+use Rattle.ta_program.specs.Values.{file_name_of, limits_of}
+use Rattle.ta_program.specs.Words.{Form, Taken, asked_by, flag, is_given, plain_of}
 
 -- one of these texts is written, with status 0
 pub record SaysText (Such : List ℕ → Type 0) (answer : Answer) : Type 0 where
@@ -19,14 +20,25 @@ pub record SaysText (Such : List ℕ → Type 0) (answer : Answer) : Type 0 wher
 abbrev pub printing : (List ℕ → Type 0) → Meaning
 printing Such = replies [] (SaysText Such)
 
--- FILE is read, and one of the texts of the file that it means is written
-abbrev pub one_file_meaning : (File → List ℕ → Type 0) → List ℕ → Meaning
-one_file_meaning text name = after file_kind name [] (λ file. printing (text file))
+-- what they ask for: the name of FILE, and the limits within which it is read
+pub record OneFileWords : Type 0 where
+  pub file : List ℕ
+  pub limits : Limits
 
--- one plain word that is the name of a file, and no option
-abbrev pub one_name : List (List ℕ) → Option (List ℕ)
-one_name words = option_and_then (λ taken. file_name_of (plain_of taken 0)) (taken_by (record { plain = 1; options = [] }) words)
+-- FILE is read, and one of the texts is written that belong to its limits and to the file that it means
+abbrev pub one_file_meaning : (Limits → File → List ℕ → Type 0) → OneFileWords → Meaning
+one_file_meaning text asked = after (file_kind asked.limits) asked.file [] (λ file. printing (text asked.limits file))
+
+abbrev pub one_file_form : Form
+one_file_form = record { plain = 1; options = flag (codes "--wide") ∷ [] }
+
+abbrev pub one_file_taken : Taken → Option OneFileWords
+one_file_taken taken = option_map (λ file. record { file = file; limits = limits_of (is_given taken 0) }) (file_name_of (plain_of taken 0))
+
+-- one plain word that is the name of a file, and `--wide` or no option
+abbrev pub one_file_words : List (List ℕ) → Option OneFileWords
+one_file_words = asked_by one_file_form one_file_taken
 
 -- what the words after the command's name ask for
-abbrev pub one_file_asked : (File → List ℕ → Type 0) → List (List ℕ) → Asked
-one_file_asked text words = ask (λ name. Some name) (one_file_meaning text) (one_name words)
+abbrev pub one_file_asked : (Limits → File → List ℕ → Type 0) → List (List ℕ) → Asked
+one_file_asked text words = ask (λ asked. Some (asked.file, asked.limits)) (one_file_meaning text) (one_file_words words)

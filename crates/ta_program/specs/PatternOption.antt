@@ -1,6 +1,7 @@
 -- The option `--pattern`: which patterns of FILE a report is about.
 use Rattle.std.specs.Prelude.{ℕ, ◌≡◌, List, codes, slice_get, Option, None, Some}
 use Rattle.std.specs.List.{AllByRecursion}
+use Rattle.ta_base.specs.declared.limits.Limits.{Limits}
 use Rattle.ta_automaton.specs.declared.automaton.Automaton.{Automaton}
 use Rattle.ta_automaton.specs.declared.file.File.{File}
 use Rattle.ta_automaton.specs.declared.pattern.Pattern.{Pattern}
@@ -12,7 +13,7 @@ use Rattle.ta_shelf.specs.Lines.{file_line}
 use Rattle.ta_shelf.specs.Sights.{in_files}
 use Rattle.ta_shelf.specs.Stages.{finds}
 use Rattle.ta_smt.specs.Named.{IsNamed}
-use Rattle.ta_program.specs.declared.limits.TheConstants.{FILE}
+use Rattle.ta_program.specs.declared.limits.TheConstants.{FILE_NUMBER}
 use Rattle.ta_program.specs.Kinds.{IsFile}
 
 -- the pattern that is picked has this number and this name
@@ -29,7 +30,7 @@ IsPick file (Some name) pick = PicksNamed file name pick
 
 -- no pattern of the file has the name; the line says so, with the status for FILE
 pub record HasNoNamed (file_name : List ℕ) (file : File) (name : List ℕ) (number : ℕ) (line : List ℕ) : Type 0 where
-  pub numbered : number ≡ FILE.number
+  pub numbered : number ≡ FILE_NUMBER
   pub none : (k : ℕ) (pattern : Pattern) → ¬ IsNamed file.patterns name k pattern
   pub said : line ≡ file_line file_name (codes "F4 unknown name at offset 0")
 
@@ -42,9 +43,9 @@ abbrev pub with_pick : List ℕ → Option (List ℕ) → List (List ℕ) → Fi
 with_pick file_name pattern puts file rest = finds (IsPick file pattern) (PickHinders file_name file pattern) puts rest
 
 -- FILE means an automaton, which has a pattern with the name that is given, if one is
-pub record LegalPicked (name : List ℕ) (pattern : Option (List ℕ)) (told : Told) : Type 0 where
+pub record LegalPicked (l : Limits) (name : List ℕ) (pattern : Option (List ℕ)) (told : Told) : Type 0 where
   pub file : File
-  pub is_file : IsFile (in_files told) name file
+  pub is_file : IsFile l (in_files told) name file
   pub pick : Pick
   pub is_pick : IsPick file pattern pick
 

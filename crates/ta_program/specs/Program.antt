@@ -26,6 +26,7 @@ use Rattle.ta_program.specs.Kinds.{IsFile}
 use Rattle.ta_program.specs.Printed.{EachPrintedUnsafe, EachToldProved, EachToldSafe, telling_of}
 use Rattle.ta_program.specs.Proofs.{EveryPattern}
 use Rattle.ta_program.specs.Replay.{ReplayHolds}
+use Rattle.ta_program.specs.OneFile.{OneFileWords}
 use Rattle.ta_program.specs.PatternOption.{IsPick}
 use Rattle.ta_program.specs.Requests.{request_of}
 use Rattle.ta_program.specs.Rest.{IsDecidedAtRest, LongAtRest, RestCertificateStands, RestReportHolds}
@@ -69,7 +70,7 @@ CertificateWritten r = (asked : VerifyWords) (out : List ℕ) → verify_of r.wo
 -- exists
 pub record CheckProves (r : Ended) : Type 0 where
   pub holds : (asked : CheckWords) → check_of r.words ≡ Some asked → r.status ≤ 2
-      → Saw r (λ view. CheckHolds r.status view asked.file asked.other asked.options r.before.written r.after.written)
+      → Saw r (λ view. CheckHolds r.status view asked r.before.written r.after.written)
   pub every : (asked : CheckWords) → check_of r.words ≡ Some asked → asked.options.all ≡ true → r.status ≡ 0
       → Saw r (λ view. EveryPattern runs.Safe view asked.file)
 
@@ -78,7 +79,7 @@ pub record CheckProves (r : Ended) : Type 0 where
 -- that, the status is 0; if the run is replayed and has few steps, but a guard leaves the range on its way, it is 4; 6 and 7 aside
 pub record RunShortens (r : Ended) : Type 0 where
   pub holds : (asked : TwoNames) → compress_of r.words ≡ Some asked → r.status ≡ 0
-      → Saw r (λ view. CompressHolds view asked.file asked.other r.before.written r.after.written)
+      → Saw r (λ view. CompressHolds view asked r.before.written r.after.written)
   pub exact : (asked : TwoNames) (told : Told) → compress_of r.words ≡ Some asked → r.before.files ≡ Some told
       → CanCompress told asked → Exits r.status 0
   pub outside : (asked : TwoNames) (told : Told) (line : ℕ) → compress_of r.words ≡ Some asked → r.before.files ≡ Some told
@@ -88,7 +89,7 @@ pub record RunShortens (r : Ended) : Type 0 where
 -- that says so
 abbrev pub ReplayShows : Ended → Type 0
 ReplayShows r = (asked : ReplayWords) → replay_of r.words ≡ Some asked → r.status ≡ 0
-    → Saw r (λ view. ReplayHolds view asked.file asked.other asked.json r.before.written r.after.written)
+    → Saw r (λ view. ReplayHolds view asked r.before.written r.after.written)
 
 -- `bench K` with status 0 or 2: the automaton with this number was verified, and the output gained the lines that say so; 0 if its pattern
 -- is safe, and 2 if it is unknown. It never ends with 1, 3 or 4
@@ -129,7 +130,7 @@ pub record RestsReport (r : Ended) : Type 0 where
 -- at rest, and some initial configuration exists
 pub record RestProves (r : Ended) : Type 0 where
   pub holds : (asked : RestCheckWords) → rest_check_of r.words ≡ Some asked → r.status ≤ 2
-      → Saw r (λ view. RestCheckHolds r.status view asked.file asked.other asked.silent asked.options r.before.written r.after.written)
+      → Saw r (λ view. RestCheckHolds r.status view asked r.before.written r.after.written)
   pub every : (asked : RestCheckWords) → rest_check_of r.words ≡ Some asked → asked.options.all ≡ true → r.status ≡ 0
       → Saw r (λ view. EveryPattern (RestSafeBut asked.silent) view asked.file)
 
@@ -147,12 +148,12 @@ Searches r = (asked : SearchWords) → search_of r.words ≡ Some asked → r.st
 -- that are found; and behind it the unknowns of its patterns' nodes without facts, by name. No two files have the same text, and none
 -- begins with that of another (`shows_differ` of ta_report); the names are those of the unknowns (`unknowns_are_named`)
 abbrev pub ShowsFile : Ended → Type 0
-ShowsFile r = (name : List ℕ) → show_of r.words ≡ Some name → r.status ≡ 0 → Saw r (λ view. ShowHolds view name r.before.written r.after.written)
+ShowsFile r = (asked : OneFileWords) → show_of r.words ≡ Some asked → r.status ≡ 0 → Saw r (λ view. ShowHolds view asked r.before.written r.after.written)
 
 -- `count FILE` with status 0: FILE is legal, and the output gained a line for each limit of its lists, which says how much of it the file
 -- that FILE's bytes mean uses, and nothing else; none says more than its limit
 abbrev pub CountsFile : Ended → Type 0
-CountsFile r = (name : List ℕ) → count_of r.words ≡ Some name → r.status ≡ 0 → Saw r (λ view. CountHolds view name r.before.written r.after.written)
+CountsFile r = (asked : OneFileWords) → count_of r.words ≡ Some asked → r.status ≡ 0 → Saw r (λ view. CountHolds view asked r.before.written r.after.written)
 
 -- `verify FILE` with status 0, its words in any order: if `show FILE` prints a text for FILE's bytes, the patterns of each file with this
 -- text, or the one that is asked for, occur in no run
@@ -190,7 +191,7 @@ pub record PrintedHolds (r : Ended) : Type 0 where
   pub rest_proved_fair : (asked : RestCheckWords) → rest_check_of r.words ≡ Some asked → r.status ≤ 2
       → Saw r (λ view. EachToldProved (FairlySafeBut asked.silent) asked.options.json true view asked.file r.before.written r.after.written)
   pub tried : (asked : SearchWords) → search_of r.words ≡ Some asked → r.status ≤ 2
-      → Did r (found_names asked) (λ view. EachTried r.status view asked.json asked.file r.before.written r.after.written)
+      → Did r (found_names asked) (λ view. EachTried r.status view asked r.before.written r.after.written)
   pub benched : (k : ℕ) → bench_of r.words ≡ Some k → r.status ≤ 2 → FamilySafe k
 
 -- 5 exactly if the words are no command's
@@ -259,7 +260,7 @@ pub record EndsSo (exit : ℕ) (out : Option (List ℕ)) (Known Long Same : Type
 abbrev pub ReportEnds : ℕ → Option Told → Option VerifyWords → Type 0
 ReportEnds exit files words =
     (told : Told) (asked : VerifyWords) (file : File) (pick : Pick) → files ≡ Some told → words ≡ Some asked
-    → IsFile (in_files told) asked.file file
+    → IsFile asked.limits (in_files told) asked.file file
     → IsPick file asked.pattern pick
     → EndsSo exit asked.out (IsDecided asked file pick) (LongCertificate file pick asked.budget) (HoldsSame told asked.file asked.out)
 
@@ -267,7 +268,7 @@ ReportEnds exit files words =
 abbrev pub RestReportEnds : ℕ → Option Told → Option RestWords → Type 0
 RestReportEnds exit files words =
     (told : Told) (asked : RestWords) (file : File) (places : List ℕ) (pick : Pick) → files ≡ Some told → words ≡ Some asked
-    → IsFile (in_files told) asked.verify.file file → AreSilent file.automaton asked.silent places → IsPick file asked.verify.pattern pick
+    → IsFile asked.verify.limits (in_files told) asked.verify.file file → AreSilent file.automaton asked.silent places → IsPick file asked.verify.pattern pick
     → EndsSo exit asked.verify.out (IsDecidedAtRest asked file (resting asked.verify.budget places) pick)
     (LongAtRest file (resting asked.verify.budget places) pick) (HoldsSame told asked.verify.file asked.verify.out)
 

@@ -12,7 +12,7 @@ use Rattle.ta_shelf.specs.Sights.{View}
 use Rattle.ta_shelf.specs.Stages.{FileMeans, Writes, after, replies}
 use Rattle.ta_program.specs.Asked.{Asked, ask}
 use Rattle.ta_program.specs.Kinds.{IsFile, file_kind, run_kind}
-use Rattle.ta_program.specs.CheckWords.{replay_words}
+use Rattle.ta_program.specs.CheckWords.{ReplayWords, replay_words}
 
 -- the text says that a run shows its pattern, in JSON or as a line
 pub record SaysShown (file : File) (json : Bool) (run : Run) (answer : Answer) : Type 0 where
@@ -25,18 +25,18 @@ abbrev pub shown_meaning : File → Bool → List ℕ → Meaning
 shown_meaning file json name = after (run_kind file) name [] (λ run. replies [] (SaysShown file json run))
 
 -- FILE is read, and then RUN
-abbrev pub replay_meaning : List ℕ → List ℕ → Bool → Meaning
-replay_meaning file_name run_name json = after file_kind file_name [] (λ file. shown_meaning file json run_name)
+abbrev pub replay_meaning : ReplayWords → Meaning
+replay_meaning asked = after (file_kind asked.limits) asked.file [] (λ file. shown_meaning file asked.json asked.other)
 
 abbrev pub replay_asked : List (List ℕ) → Asked
-replay_asked words = ask (λ asked. Some asked.file) (λ asked. replay_meaning asked.file asked.other asked.json) (replay_words words)
+replay_asked words = ask (λ asked. Some (asked.file, asked.limits)) replay_meaning (replay_words words)
 
 -- FILE is legal, RUN is the text of a run that shows its pattern, and the output gained the text that says so
-pub record ReplayHolds (view : View) (file_name run_name : List ℕ) (json : Bool) (written written' : Option (List ℕ)) : Type 0 where
+pub record ReplayHolds (view : View) (asked : ReplayWords) (written written' : Option (List ℕ)) : Type 0 where
   pub file : File
-  pub is_file : IsFile view file_name file
+  pub is_file : IsFile asked.limits view asked.file file
   pub run : Run
-  pub is_run : FileMeans (run_kind file) view run_name run
+  pub is_run : FileMeans (run_kind file) view asked.other run
   pub pattern : Pattern
   pub named : slice_get file.patterns run.pattern ≡ Some pattern
-  pub wrote : written' ≡ with_text written (shown_text json file.automaton.name pattern.name (shown_of run))
+  pub wrote : written' ≡ with_text written (shown_text asked.json file.automaton.name pattern.name (shown_of run))

@@ -1,6 +1,5 @@
 -- The report that `verify` writes.
 use Rattle.std.specs.Prelude.{ℕ, ◌≤◌, ◌≡◌, true, false, List, length, Option}
-use Rattle.ta_base.specs.LimitRows.{narrow}
 use Rattle.ta_automaton.specs.declared.file.File.{File}
 use Rattle.ta_check.specs.Certificate.{Certificate}
 use Rattle.ta_report.specs.declared.pick.Pick.{Pick}
@@ -48,16 +47,16 @@ picked_meaning asked file = with_pick asked.file asked.pattern (may_put asked.ou
 
 -- FILE is read, OUT is compared with it, and the patterns and the report follow
 abbrev pub verify_meaning : VerifyWords → Meaning
-verify_meaning asked = spared file_kind asked.file (may_put asked.out) (picked_meaning asked)
+verify_meaning asked = spared (file_kind asked.limits) asked.file (may_put asked.out) (picked_meaning asked)
 
 abbrev pub verify_asked : List (List ℕ) → Asked
-verify_asked words = ask_where (λ asked. LegalPicked asked.file asked.pattern) verify_meaning (verify_words words)
+verify_asked words = ask_where (λ asked. LegalPicked asked.limits asked.file asked.pattern) verify_meaning (verify_words words)
 
 -- FILE is legal and has the pattern that is asked for, what is said of the parameters holds, each verdict holds, these give the status, and
 -- the output gained the report
 pub record ReportHolds (number : ℕ) (view : View) (asked : VerifyWords) (written written' : Option (List ℕ)) : Type 0 where
   pub file : File
-  pub is_file : IsFile view asked.file file
+  pub is_file : IsFile asked.limits view asked.file file
   pub pick : Pick
   pub is_pick : IsPick file asked.pattern pick
   pub sample : ReportSample
@@ -77,7 +76,7 @@ pub record CertificateStands (number : ℕ) (view : View) (asked : VerifyWords) 
   pub within : length text ≤ CERTIFICATE.bytes
   pub stands : WhereTold (HoldsText out text) files files'
   pub told : TellsFile out text made
-  pub accepted : Certificate report.file narrow.line_bytes text (safe_among report.file report.pick report.verdicts)
+  pub accepted : Certificate report.file asked.limits.line_bytes text (safe_among report.file report.pick report.verdicts)
 
 -- no verdict holds that leaves a picked pattern unknown; with `--all`, what holds of the parameters and of these patterns tells something
 pub record IsDecided (asked : VerifyWords) (file : File) (pick : Pick) : Type 0 where

@@ -31,7 +31,7 @@ request_of (word ∷ words) =
     (row (codes "rest") word (rest_asked words)
     (row (codes "rest-check") word (rest_check_asked words)
     (row (codes "search") word (search_asked words)
-    (row (codes "show") word (one_file_asked IsShown words)
+    (row (codes "show") word (one_file_asked (λ l. IsShown) words)
     (row (codes "verify") word (verify_asked words)
     (row (codes "version") word (version_asked words)
     NoCommand))))))))))))

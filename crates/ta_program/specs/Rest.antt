@@ -2,7 +2,6 @@
 use Rattle.std.specs.Prelude.{ℕ, ◌+◌, ◌<◌, ◌≤◌, ◌≡◌, true, false, List, [], ◌∷◌, length, slice_get, Option, None, Some}
 use Rattle.ta_base.specs.declared.limits.Limits.{Limits}
 use Rattle.ta_automaton.specs.Narrow.{IsWithin}
-use Rattle.ta_base.specs.LimitRows.{narrow}
 use Rattle.ta_automaton.specs.declared.file.File.{File}
 use Rattle.ta_automaton.specs.declared.pattern.Pattern.{Pattern}
 use Rattle.ta_check.specs.Certificate.{QuietRestCertificate}
@@ -101,11 +100,12 @@ rest_quietly asked file ends = with_silent asked.verify.file asked.silent (may_p
 
 -- FILE is read, OUT is compared with it, its endings are computed, and then the silent places, the patterns and the report follow
 abbrev pub rest_meaning : RestWords → Meaning
-rest_meaning asked = spared file_kind asked.verify.file (may_put asked.verify.out) (at_ends asked.verify.file (may_put asked.verify.out) (rest_quietly asked))
+rest_meaning asked = spared (file_kind asked.verify.limits) asked.verify.file (may_put asked.verify.out)
+    (at_ends asked.verify.file (may_put asked.verify.out) (rest_quietly asked))
 
 -- FILE means an automaton whose cycles of rules are self-loops, the names may be silent in it, and it has the pattern that is asked for
 pub record LegalRest (asked : RestWords) (told : Told) : Type 0 where
-  pub silently : LegalSilently asked.verify.file asked.silent told
+  pub silently : LegalSilently asked.verify.limits asked.verify.file asked.silent told
   pub pick : Pick
   pub is_pick : IsPick silently.file asked.verify.pattern pick
 
@@ -136,7 +136,7 @@ pub record LongAtRest (file : File) (budget : RestBudget) (pick : Pick) : Type 0
 -- parameters holds, each verdict holds, these give the status, and the output gained the report
 pub record RestReportHolds (number : ℕ) (view : View) (asked : RestWords) (written written' : Option (List ℕ)) : Type 0 where
   pub file : File
-  pub is_file : IsFile view asked.verify.file file
+  pub is_file : IsFile asked.verify.limits view asked.verify.file file
   pub ends : FileEndings
   pub are_ends : IsEnds file ends
   pub silent : List ℕ
@@ -160,4 +160,5 @@ pub record RestCertificateStands (number : ℕ) (view : View) (asked : RestWords
   pub within : length text ≤ CERTIFICATE.bytes
   pub stands : WhereTold (HoldsText out text) files files'
   pub told : TellsFile out text made
-  pub accepted : QuietRestCertificate report.ends.ending report.silent narrow.line_bytes text (safe_among report.ends.ending report.pick report.verdicts)
+  pub accepted : QuietRestCertificate report.ends.ending report.silent asked.verify.limits.line_bytes text
+      (safe_among report.ends.ending report.pick report.verdicts)

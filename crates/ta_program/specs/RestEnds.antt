@@ -1,5 +1,6 @@
 -- FILE of `rest` and `rest-check`: its cycles are self-loops, and each pattern is replaced by its ending.
 use Rattle.std.specs.Prelude.{ℕ, ◌≡◌, ◌++◌, List, codes, decimal}
+use Rattle.ta_base.specs.declared.limits.Limits.{Limits}
 use Rattle.ta_automaton.specs.declared.file.File.{File}
 use Rattle.ta_rest.specs.Faults.{EndingsOf}
 use Rattle.ta_rest.specs.Moves.{FewMoves}
@@ -10,7 +11,7 @@ use Rattle.ta_shelf.specs.Commands.{Meaning}
 use Rattle.ta_shelf.specs.Lines.{file_line}
 use Rattle.ta_shelf.specs.Sights.{in_files}
 use Rattle.ta_shelf.specs.Stages.{after, finds}
-use Rattle.ta_program.specs.declared.limits.TheConstants.{FILE}
+use Rattle.ta_program.specs.declared.limits.TheConstants.{FILE_NUMBER}
 use Rattle.ta_program.specs.Kinds.{IsFile, file_kind}
 
 -- the endings of a file's patterns, and the mask of the patterns that got an event
@@ -34,7 +35,7 @@ cycle_text rule = codes "F14 longer cycle at rule " ++ decimal rule
 
 -- a rule lies on a cycle of two or more locations, and this is the first such rule; the line says it, with the status for FILE
 pub record CycleHinders (name : List ℕ) (file : File) (number : ℕ) (line : List ℕ) : Type 0 where
-  pub numbered : number ≡ FILE.number
+  pub numbered : number ≡ FILE_NUMBER
   pub rule : ℕ
   pub first : FirstLongerCycle file.automaton rule
   pub said : line ≡ file_line name (cycle_text rule)
@@ -44,11 +45,11 @@ abbrev pub at_ends : List ℕ → List (List ℕ) → (File → FileEndings → 
 at_ends name puts rest file = finds (IsEnds file) (CycleHinders name file) puts (rest file)
 
 -- FILE is read, and then its endings are computed
-abbrev pub with_ends : List ℕ → List (List ℕ) → (File → FileEndings → Meaning) → Meaning
-with_ends name puts rest = after file_kind name puts (at_ends name puts rest)
+abbrev pub with_ends : Limits → List ℕ → List (List ℕ) → (File → FileEndings → Meaning) → Meaning
+with_ends l name puts rest = after (file_kind l) name puts (at_ends name puts rest)
 
 -- FILE means an automaton whose cycles of rules are self-loops
-pub record LegalAtRest (name : List ℕ) (told : Told) : Type 0 where
+pub record LegalAtRest (l : Limits) (name : List ℕ) (told : Told) : Type 0 where
   pub file : File
-  pub is_file : IsFile (in_files told) name file
+  pub is_file : IsFile l (in_files told) name file
   pub loops : LoopsAlone file.automaton

@@ -2,6 +2,7 @@
 use Rattle.std.specs.Prelude.{ℕ, ◌<◌, ◌≤◌, ◌≡◌, ◌≢◌, ◌++◌, Bool, true, false, List, [], ◌∷◌, codes, decimal, length, map, Option, None, Some, IsSome}
 use Rattle.std.specs.Prelude.{if◌then◌else◌}
 use Rattle.std.specs.List.{list_any}
+use Rattle.ta_base.specs.declared.limits.Limits.{Limits}
 use Rattle.ta_search.specs.declared.fault.TemplateFault.{TemplateFault}
 use Rattle.ta_search.specs.declared.fault.TemplateFault.TheVariants as fault
 use Rattle.ta_search.specs.declared.outcome.Outcome.{Outcome}
@@ -24,10 +25,11 @@ use Rattle.ta_shelf.specs.Puts.{PutText, may_put, put_text}
 use Rattle.ta_shelf.specs.Sights.{View, in_files}
 use Rattle.ta_shelf.specs.Sparing.{spared}
 use Rattle.ta_shelf.specs.Stages.{FileMeans, Kind, settles}
-use Rattle.ta_verdict.specs.declared.budget.Budget.{Budget}
-use Rattle.ta_program.specs.declared.limits.TheConstants.{CERTIFICATE, FILE}
+use Rattle.ta_search.specs.declared.terms.Terms.{Terms}
+use Rattle.ta_program.specs.declared.limits.TheConstants.{CERTIFICATE}
 use Rattle.ta_program.specs.Asked.{Asked, ask_where}
 use Rattle.ta_program.specs.Certified.{long_line}
+use Rattle.ta_program.specs.Kinds.{file_limit}
 use Rattle.ta_program.specs.SearchWords.{SearchWords, search_words}
 
 -- why a text is not a template, in words; out of memory is never printed so
@@ -43,13 +45,13 @@ template_fault_text fault.Memory = codes "out of memory"
 abbrev pub IsTemplateText : List ℕ → Template → Type 0
 IsTemplateText bytes template = template_text template ≡ bytes
 
--- FILE of `search`: the text of a template, or one with a first error
-abbrev pub template_kind : Kind Template TemplateFault
-template_kind = record { limit = FILE; means = IsTemplateText; at_fault = FirstTemplateFault; broken = λ bytes fault. ⊥; words = template_fault_text }
+-- FILE of `search` within a row of limits: the text of a template, or one with a first error
+abbrev pub template_kind : Limits → Kind Template TemplateFault
+template_kind l = record { limit = file_limit l; means = IsTemplateText; at_fault = FirstTemplateFault; broken = λ bytes fault. ⊥; words = template_fault_text }
 
--- the bytes under this name are the text of this template
-abbrev pub IsTemplate : View → List ℕ → Template → Type 0
-IsTemplate view name template = FileMeans template_kind view name template
+-- within these limits the bytes under this name are the text of this template
+abbrev pub IsTemplate : Limits → View → List ℕ → Template → Type 0
+IsTemplate l view name template = FileMeans (template_kind l) view name template
 
 -- whether an outcome says that something is unknown: the parameters or a pattern
 abbrev pub leaves_unknown : Outcome → Bool
@@ -77,37 +79,37 @@ found_files filled out text certificate = with_given out certificate (with_given
 
 -- values were found, and these files are put; the certificate that is asked for is within its limit
 pub record PutsFound (template : Template) (end : SearchEnd) (asked : SearchWords) (puts : List answer.Put) : Type 0 where
-  pub last : LastIsFound template end
+  pub last : LastIsFound template asked.terms.limits end
   pub are : map put_text puts ≡ found_files asked.filled asked.out (filled_text template last.last.values) last.certificate
   pub within : IsSome asked.out → length last.certificate ≤ CERTIFICATE.bytes
 
 -- the text of the search's end with the status that it gives, and the files of the values; if no values were found, no file
 pub record Finds (template : Template) (asked : SearchWords) (answer : Answer) : Type 0 where
   pub end : SearchEnd
-  pub is_end : IsSearchEnd template asked.budget end
+  pub is_end : IsSearchEnd template asked.terms end
   pub numbered : answer.number ≡ end_number end
   pub written : answer.text ≡ search_told asked.json template end
   pub found : end.found ≡ true → PutsFound template end asked answer.puts
   pub nothing : end.found ≡ false → answer.puts ≡ []
 
 -- values were found, and their certificate is longer than a certificate may be
-pub record LongFound (template : Template) (budget : Budget) : Type 0 where
+pub record LongFound (template : Template) (terms : Terms) : Type 0 where
   pub end : SearchEnd
-  pub is_end : IsSearchEnd template budget end
+  pub is_end : IsSearchEnd template terms end
   pub found : end.found ≡ true
-  pub last : LastIsFound template end
+  pub last : LastIsFound template terms.limits end
   pub longer : CERTIFICATE.bytes < length last.certificate
 
 -- a certificate that is too long is refused
-pub record IsLongFound (template : Template) (budget : Budget) (out : List ℕ) (number : ℕ) (line : List ℕ) : Type 0 where
+pub record IsLongFound (template : Template) (terms : Terms) (out : List ℕ) (number : ℕ) (line : List ℕ) : Type 0 where
   pub numbered : number ≡ CERTIFICATE.number
   pub said : line ≡ long_line out
-  pub long : LongFound template budget
+  pub long : LongFound template terms
 
 -- why the certificate that is asked for is refused
-abbrev pub HindersFound : Template → Budget → Option (List ℕ) → ℕ → List ℕ → Type 0
-HindersFound template budget None number line = ⊥
-HindersFound template budget (Some out) number line = IsLongFound template budget out number line
+abbrev pub HindersFound : Template → Terms → Option (List ℕ) → ℕ → List ℕ → Type 0
+HindersFound template terms None number line = ⊥
+HindersFound template terms (Some out) number line = IsLongFound template terms out number line
 
 -- the names of the files that may be put
 abbrev pub found_names : SearchWords → List (List ℕ)
@@ -115,15 +117,15 @@ found_names asked = may_put asked.filled ++ may_put asked.out
 
 -- the search of a template ends so, unless the certificate that is asked for is too long
 abbrev pub found_meaning : SearchWords → Template → Meaning
-found_meaning asked template = settles (found_names asked) (Finds template asked) (HindersFound template asked.budget asked.out)
+found_meaning asked template = settles (found_names asked) (Finds template asked) (HindersFound template asked.terms asked.out)
 
 -- FILE is read, OUT2 and OUT are compared with it, and its holes are searched
 abbrev pub search_meaning : SearchWords → Meaning
-search_meaning asked = spared template_kind asked.file (found_names asked) (found_meaning asked)
+search_meaning asked = spared (template_kind asked.terms.limits) asked.file (found_names asked) (found_meaning asked)
 
 -- FILE is a template
 abbrev pub LegalTemplate : SearchWords → Told → Type 0
-LegalTemplate asked told = (template : Template) × IsTemplate (in_files told) asked.file template
+LegalTemplate asked told = (template : Template) × IsTemplate asked.terms.limits (in_files told) asked.file template
 
 abbrev pub search_asked : List (List ℕ) → Asked
 search_asked words = ask_where LegalTemplate search_meaning (search_words words)
@@ -137,7 +139,7 @@ pub record HoldFound (filled out : Option (List ℕ)) (text certificate : List �
 -- values were found: every pattern of the filled text is safe and some parameters have an initial configuration, OUT2 holds that text, and
 -- OUT a certificate of it that proves all its patterns, so `check` accepts it; and the calls put exactly these in their places, whole
 pub record FoundStands (template : Template) (end : SearchEnd) (asked : SearchWords) (files files' : Option Told) (made : List Put) : Type 0 where
-  pub last : LastIsFound template end
+  pub last : LastIsFound template asked.terms.limits end
   pub stands : WhereTold (HoldFound asked.filled asked.out (filled_text template last.last.values) last.certificate) files files'
   pub told : PutWhole (found_files asked.filled asked.out (filled_text template last.last.values) last.certificate) made
   pub within : IsSome asked.out → length last.certificate ≤ CERTIFICATE.bytes
@@ -149,9 +151,9 @@ pub record FoundStands (template : Template) (end : SearchEnd) (asked : SearchWo
 pub record SearchHolds (number : ℕ) (view : View) (asked : SearchWords) (files files' : Option Told) (written written' : Option (List ℕ)) (made : List Put) :
     Type 0 where
   pub template : Template
-  pub is_template : IsTemplate view asked.file template
+  pub is_template : IsTemplate asked.terms.limits view asked.file template
   pub end : SearchEnd
-  pub is_end : IsSearchEnd template asked.budget end
+  pub is_end : IsSearchEnd template asked.terms end
   pub numbered : end_number end ≡ number
   pub wrote : written' ≡ with_text written (search_told asked.json template end)
   pub found : number ≡ 0 → FoundStands template end asked files files' made

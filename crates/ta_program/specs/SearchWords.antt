@@ -1,14 +1,14 @@
 -- The command-line words of `search`.
 use Rattle.std.specs.Prelude.{ℕ, Bool, List, [], ◌∷◌, codes, option_and_then, option_map, Option}
-use Rattle.ta_verdict.specs.declared.budget.Budget.{Budget}
-use Rattle.ta_program.specs.Values.{budget_of, filled_of, file_name_of, out_of}
+use Rattle.ta_search.specs.declared.terms.Terms.{Terms}
+use Rattle.ta_program.specs.Values.{budget_of, filled_of, file_name_of, limits_for, out_of}
 use Rattle.ta_program.specs.Words.{Form, Taken, asked_by, behind_name, flag, is_given, plain_of, option_value, valued}
 
--- what they ask for: the names of FILE, of OUT and of OUT2, as far as these are given, the budget for each pattern, and whether JSON is to be
--- printed
+-- what they ask for: the names of FILE, of OUT and of OUT2, as far as these are given, the budget for each pattern and the limits of FILE and
+-- of filled texts, and whether JSON is to be printed
 pub record SearchWords : Type 0 where
   pub file : List ℕ
-  pub budget : Budget
+  pub terms : Terms
   pub out : Option (List ℕ)
   pub filled : Option (List ℕ)
   pub json : Bool
@@ -17,7 +17,7 @@ abbrev pub search_form : Form
 search_form = record {
   plain = 1;
   options = valued (codes "--nodes") ∷ valued (codes "--certificate") ∷ valued (codes "--filled") ∷ flag (codes "--lazy") ∷ flag
-      (codes "--json") ∷ [];
+      (codes "--json") ∷ flag (codes "--wide") ∷ [];
 }
 
 abbrev pub search_taken : Taken → Option SearchWords
@@ -25,19 +25,21 @@ search_taken taken =
     option_and_then (λ file.
     option_and_then (λ nodes.
     option_and_then (λ out.
-    option_map (λ filled. record {
+    option_and_then (λ filled.
+    option_map (λ limits. record {
       file = file;
-      budget = record { nodes = nodes; lazy = is_given taken 3 };
+      terms = record { budget = record { nodes = nodes; lazy = is_given taken 3 }; limits = limits };
       out = out;
       filled = filled;
       json = is_given taken 4;
     })
-    (filled_of file out (option_value taken 2))) (out_of file (option_value taken 1))) (budget_of (option_value taken 0))) (file_name_of (plain_of taken 0))
+    (limits_for (is_given taken 5) (is_given taken 3))) (filled_of file out (option_value taken 2))) (out_of file (option_value taken 1)))
+    (budget_of (option_value taken 0))) (file_name_of (plain_of taken 0))
 
 -- the request of the words after the command's name
 abbrev pub search_words : List (List ℕ) → Option SearchWords
 search_words = asked_by search_form search_taken
 
--- `search FILE [--nodes N] [--certificate OUT] [--filled OUT2] [--lazy] [--json]`
+-- `search FILE [--nodes N] [--certificate OUT] [--filled OUT2] [--lazy [--wide]] [--json]`
 abbrev pub search_of : List (List ℕ) → Option SearchWords
 search_of = behind_name (codes "search") (asked_by search_form search_taken)

@@ -4,14 +4,14 @@ use Rattle.ta_automaton.specs.declared.file.File.{File}
 use Rattle.ta_automaton.specs.Runs.{Safe}
 use Rattle.ta_cert.specs.Certificates.{pair_of}
 use Rattle.ta_cert.specs.declared.line.Order.{Order}
-use Rattle.ta_base.specs.LimitRows.{narrow}
+use Rattle.ta_base.specs.declared.limits.Limits.{Limits}
 use Rattle.ta_meaning.specs.Reading.{Legal}
 use Rattle.ta_shelf.specs.Sink.{with_text}
 use Rattle.ta_shelf.specs.Sights.{View, Whole}
 use Rattle.ta_report.specs.Show.{show_text}
 use Rattle.ta_report.specs.Unknowns.{unknowns_text}
 use Rattle.ta_walk.specs.FoundOrders.{FoundOrders}
-use Rattle.ta_program.specs.OneFile.{one_name}
+use Rattle.ta_program.specs.OneFile.{OneFileWords, one_file_words}
 use Rattle.ta_program.specs.PatternOption.{EachPicked}
 use Rattle.ta_program.specs.Words.{behind_name}
 
@@ -27,24 +27,27 @@ pub record IsShown (file : File) (written : List ℕ) : Type 0 where
   pub is : IsFileText file text
   pub whole : written ≡ text ++ unknowns_text file
 
--- `show FILE`
-abbrev pub show_of : List (List ℕ) → Option (List ℕ)
-show_of = behind_name (codes "show") one_name
+-- `show FILE [--wide]`
+abbrev pub show_of : List (List ℕ) → Option OneFileWords
+show_of = behind_name (codes "show") one_file_words
 
--- what `show FILE` prints first if these are FILE's bytes: the text of the file that they mean. Who has that text need not read what a
--- text means, since no other file has it
+-- what `show FILE`, with or without `--wide`, prints first if these are FILE's bytes: the text of the file that they mean within some limits.
+-- Who has that text need not read what a text means, since no other file has it
 pub record ShowPrints (bytes text : List ℕ) : Type 0 where
+  pub limits : Limits
   pub file : File
-  pub legal : Legal narrow bytes file
+  pub legal : Legal limits bytes file
   pub is : IsFileText file text
 
--- FILE has bytes that mean a file, and the output gained the text that is printed of them, and behind it the unknowns of the file's
+-- FILE has bytes that mean a file within the limits that are asked for, and the output gained the text that is printed of them, and behind
+-- it the unknowns of the file's
 -- patterns by name
-pub record ShowHolds (view : View) (name : List ℕ) (written written' : Option (List ℕ)) : Type 0 where
+pub record ShowHolds (view : View) (asked : OneFileWords) (written written' : Option (List ℕ)) : Type 0 where
   pub bytes : List ℕ
-  pub held : view name (Whole bytes)
+  pub held : view asked.file (Whole bytes)
   pub text : List ℕ
   pub printed : ShowPrints bytes text
+  pub within : printed.limits ≡ asked.limits
   pub wrote : written' ≡ with_text written (text ++ unknowns_text printed.file)
 
 -- the patterns of each file with this text, or the one with the name that is given, occur in no run

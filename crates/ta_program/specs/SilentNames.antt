@@ -1,5 +1,6 @@
 -- The option `--silent` of `rest` and of `rest-check`.
 use Rattle.std.specs.Prelude.{ℕ, ◌≡◌, ◌++◌, List, [], codes, decimal, Option, None, Some, Ok, Err, if◌then◌else◌}
+use Rattle.ta_base.specs.declared.limits.Limits.{Limits}
 use Rattle.ta_automaton.specs.declared.automaton.Automaton.{Automaton}
 use Rattle.ta_automaton.specs.declared.file.File.{File}
 use Rattle.ta_automaton.specs.declared.pattern.Pattern.{Pattern}
@@ -17,7 +18,7 @@ use Rattle.ta_moments.specs.Silent.{silent_in}
 use Rattle.ta_moments.specs.declared.fault.SilentFault.{SilentFault}
 use Rattle.ta_moments.specs.declared.fault.SilentFault.TheVariants as fault
 use Rattle.ta_smt.specs.WordText.{are_names}
-use Rattle.ta_program.specs.declared.limits.TheConstants.{FILE}
+use Rattle.ta_program.specs.declared.limits.TheConstants.{FILE_NUMBER}
 use Rattle.ta_program.specs.Kinds.{IsFile}
 
 -- the names that are to be silent, if they are given: names with a comma between
@@ -39,7 +40,7 @@ silent_fault_text fault.Memory = codes "out of memory"
 
 -- names may not be silent in an automaton; the line says why, with the status for FILE
 pub record SilentHinders (name : List ℕ) (a : Automaton) (names : List ℕ) (number : ℕ) (line : List ℕ) : Type 0 where
-  pub numbered : number ≡ FILE.number
+  pub numbered : number ≡ FILE_NUMBER
   pub fault : SilentFault
   pub found : silent_in a names ≡ Err fault
   pub said : line ≡ file_line name (silent_fault_text fault)
@@ -53,9 +54,9 @@ abbrev pub with_silent : List ℕ → Option (List ℕ) → List (List ℕ) → 
 with_silent name names puts file rest = finds (AreSilent file.automaton names) (NamesHinder name file.automaton names) puts rest
 
 -- FILE means an automaton whose cycles of rules are self-loops, and the names may be silent in it
-pub record LegalSilently (name : List ℕ) (names : Option (List ℕ)) (told : Told) : Type 0 where
+pub record LegalSilently (l : Limits) (name : List ℕ) (names : Option (List ℕ)) (told : Told) : Type 0 where
   pub file : File
-  pub is_file : IsFile (in_files told) name file
+  pub is_file : IsFile l (in_files told) name file
   pub loops : LoopsAlone file.automaton
   pub places : List ℕ
   pub are_silent : AreSilent file.automaton names places

@@ -1,8 +1,10 @@
 -- What was taken of the command line, by its texts.
 use Rattle.std.specs.Prelude.{ℕ, List, map, option_map, take}
+use Rattle.ta_program.specs.declared.one_file.AskedFile.{AskedFile}
 use Rattle.ta_program.specs.declared.values.TwoNames.{TwoNames as Names}
 use Rattle.ta_program.specs.declared.words.OptionWord.{OptionWord}
 use Rattle.ta_program.specs.declared.words.Taken.{Taken as TakenWords}
+use Rattle.ta_program.specs.OneFile.{OneFileWords}
 use Rattle.ta_program.specs.Values.{TwoNames}
 use Rattle.ta_program.specs.Words.{Form, OptionForm, Taken}
 
@@ -21,4 +23,7 @@ abbrev pub form_of : ℕ → List OptionWord → Form
 form_of plain options = record { plain = plain; options = options_of options }
 
 abbrev pub names_seen : Names → TwoNames
-names_seen names = record { file = names.file.now; other = names.other.now }
+names_seen names = record { file = names.file.now; other = names.other.now; limits = names.limits }
+
+abbrev pub file_seen : AskedFile → OneFileWords
+file_seen asked = record { file = asked.name.now; limits = asked.limits }

@@ -1,11 +1,14 @@
 -- Which names of files and which budgets a command line may have.
-use Rattle.std.specs.Prelude.{ℕ, ◌&&◌, nat_lt, nat_le, Bool, false, List, [], length, not, Option, None, Some, if◌then◌else◌, option_and_then, option_map}
+use Rattle.std.specs.Prelude.{ℕ, ◌&&◌, nat_lt, nat_le, Bool, false, List, [], ◌∷◌, codes, length, not, Option, None, Some, if◌then◌else◌, option_and_then}
+use Rattle.std.specs.Prelude.{option_map}
 use Rattle.std.specs.Char.{is_ascii_digit}
 use Rattle.std.specs.List.{list_all}
 use Rattle.std.specs.Str.{bytes_eq}
 use Rattle.std.specs.Str.Parse.{digits_value}
+use Rattle.ta_base.specs.LimitRows.{narrow, wide}
+use Rattle.ta_base.specs.declared.limits.Limits.{Limits}
 use Rattle.ta_base.specs.declared.limits.TheConstants.{DEFAULT_NODES, MOST_NODES}
-use Rattle.ta_program.specs.Words.{plain_of, taken_by}
+use Rattle.ta_program.specs.Words.{Form, Taken, asked_by, flag, is_given, plain_of}
 
 -- the name of a file, which is not empty
 abbrev pub file_name_of : List ℕ → Option (List ℕ)
@@ -35,13 +38,27 @@ are_same _ _ = false
 abbrev pub filled_of : List ℕ → Option (List ℕ) → Option (List ℕ) → Option (Option (List ℕ))
 filled_of file out filled = if are_same out filled then None else out_of file filled
 
--- the names of two files: FILE, and one that belongs to it
+-- the limits within which FILE is read: the wide ones with `--wide`
+abbrev pub limits_of : Bool → Limits
+limits_of is_wide = if is_wide then wide else narrow
+
+-- the same where trees are searched: wide ones only with moments on demand, since the tree of words orders every guard
+abbrev pub limits_for : Bool → Bool → Option Limits
+limits_for is_wide lazy = if is_wide && not lazy then None else Some (limits_of is_wide)
+
+-- the names of two files, FILE and one that belongs to it, and the limits within which FILE is read
 pub record TwoNames : Type 0 where
   pub file : List ℕ
   pub other : List ℕ
+  pub limits : Limits
 
--- two plain words that are names of files, and no option
+abbrev pub two_form : Form
+two_form = record { plain = 2; options = flag (codes "--wide") ∷ [] }
+
+abbrev pub two_taken : Taken → Option TwoNames
+two_taken taken = option_and_then (λ file. option_map (λ other. record { file = file; other = other; limits = limits_of (is_given taken 0) })
+    (file_name_of (plain_of taken 1))) (file_name_of (plain_of taken 0))
+
+-- two plain words that are names of files, and `--wide` or no option
 abbrev pub two_names : List (List ℕ) → Option TwoNames
-two_names words = option_and_then
-    (λ taken. option_and_then (λ file. option_map (λ other. record { file = file; other = other }) (file_name_of (plain_of taken 1)))
-    (file_name_of (plain_of taken 0))) (taken_by (record { plain = 2; options = [] }) words)
+two_names = asked_by two_form two_taken

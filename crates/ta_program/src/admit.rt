@@ -19,7 +19,7 @@ ghost use Rattle.ta_program.specs.AdmitSeen.{admit_seen};
 ghost use Rattle.ta_program.specs.WordSeen.{asked_seen, word_seen};
 
 use crate::limits::VALUES;
-use crate::reading::read_legal;
+use crate::reading::read_narrow;
 use crate::request::Request;
 use crate::spelled::WordAsked;
 use crate::values::file_name_of;
@@ -93,7 +93,7 @@ fn judge_admit<'a, S: Shelf>(
     ensures cause { ReadCause result (S.faults shelf.old) (S.faults shelf.new) }
     ensures kept { S.files shelf.new ≡ S.files shelf.old }
 {
-    match read_legal(alloc, shelf, asked.file) {
+    match read_narrow(alloc, shelf, asked.file) {
         Ok(scoped) => {
             let answer = judge_word(alloc, shelf, &scoped, asked, values);
             drop(scoped);

@@ -19,8 +19,8 @@ use crate::proof_options::ProofOptions;
 use crate::proofs_said::answer_proofs;
 use crate::reading::read_legal;
 use crate::request::Request;
-use crate::values::file_name_of;
-use crate::words::{ALL_OPTION, JSON_OPTION, PARAMETERS_OPTION, Taken, take_words};
+use crate::values::{file_name_of, limits_of};
+use crate::words::{ALL_OPTION, JSON_OPTION, PARAMETERS_OPTION, Taken, WIDE_OPTION, take_words};
 use std::alloc::Global;
 use std::thread::Threads;
 use ta_base::limits::Limits;
@@ -38,6 +38,7 @@ const PIECE: usize = 65_536;
 pub(crate) struct Check<'a> {
     file: &'a str,
     certificate: &'a str,
+    limits: Limits,
     options: ProofOptions,
 }
 
@@ -53,8 +54,9 @@ impl<'a> Request<'a> for Check<'a> {
 
 impl<'a> Command for Check<'a> {
     ghost use Rattle.ta_program.specs.Check.{check_meaning};
+    ghost use Rattle.ta_program.specs.CheckSeen.{check_seen};
 
-    ghost meaning = { λ command. check_meaning command.file.now command.certificate.now command.options };
+    ghost meaning = { λ command. check_meaning (check_seen command) };
 
     fn outputs(&self) -> Outputs<'_> {
         Outputs::none()
@@ -67,7 +69,7 @@ impl<'a> Command for Check<'a> {
         shelf: &mut S,
     ) -> Result<Answer, Refusal<'_>> {
         let _ = rt;
-        judge_files(alloc, shelf, self.file, self.certificate, self.options)
+        judge_files(alloc, shelf, self)
     }
 }
 
@@ -75,7 +77,7 @@ impl<'a> Command for Check<'a> {
 fn read_check<'a>(words: &[&'a str]) -> Option<Check<'a>>
     ensures { option_map check_seen result ≡ check_words (map (λ w. w.now) words.now) }
 {
-    let options = [ALL_OPTION, PARAMETERS_OPTION, JSON_OPTION];
+    let options = [ALL_OPTION, PARAMETERS_OPTION, JSON_OPTION, WIDE_OPTION];
     check_taken(take_words(2, &options, words)?)
 }
 
@@ -88,6 +90,7 @@ fn check_taken(taken: Taken<'_>) -> Option<Check<'_>>
     Some(Check {
         file,
         certificate,
+        limits: limits_of(taken.value(3).is_some()),
         options: ProofOptions {
             all: taken.value(0).is_some(),
             parameters: taken.value(1).is_some(),
@@ -100,17 +103,15 @@ fn check_taken(taken: Taken<'_>) -> Option<Check<'_>>
 fn judge_files<'a, S: Shelf>(
     alloc: Global,
     shelf: &mut S,
-    file: &'a str,
-    certificate: &'a str,
-    options: ProofOptions,
+    asked: &Check<'a>,
 ) -> Result<Answer, Refusal<'a>>
-    ensures says { Grew (Says (check_meaning file.now certificate.now options) (S.files shelf.old) result) (S.calls shelf.old) (S.calls shelf.new) }
+    ensures says { Grew (Says (check_meaning (check_seen asked.now)) (S.files shelf.old) result) (S.calls shelf.old) (S.calls shelf.new) }
     ensures cause { ReadCause result (S.faults shelf.old) (S.faults shelf.new) }
     ensures kept { S.files shelf.new ≡ S.files shelf.old }
 {
-    match read_legal(alloc, shelf, file) {
+    match read_legal(alloc, shelf, asked.file, &asked.limits) {
         Ok(scoped) => {
-            let answer = judge_certificate(alloc, shelf, &scoped, certificate, options);
+            let answer = judge_certificate(alloc, shelf, &scoped, asked);
             drop(scoped);
             answer
         }
@@ -123,18 +124,17 @@ fn judge_certificate<'a, S: Shelf>(
     alloc: Global,
     shelf: &mut S,
     scoped: &ScopedFile,
-    name: &'a str,
-    options: ProofOptions,
+    asked: &Check<'a>,
 ) -> Result<Answer, Refusal<'a>>
-    ensures says { Grew (Says (proved_meaning scoped.now.file options name.now) (S.files shelf.old) result) (S.calls shelf.old) (S.calls shelf.new) }
+    ensures says { Grew (Says (proved_meaning (check_seen asked.now) scoped.now.file) (S.files shelf.old) result) (S.calls shelf.old) (S.calls shelf.new) }
     ensures cause { ReadCause result (S.faults shelf.old) (S.faults shelf.new) }
     ensures kept { S.files shelf.new ≡ S.files shelf.old }
 {
-    let checker = Checker::new(alloc, scoped, Limits::narrow().line_bytes);
-    match read_certificate(shelf, checker, name) {
+    let checker = Checker::new(alloc, scoped, asked.limits.line_bytes);
+    match read_certificate(shelf, checker, asked.certificate) {
         Ok(accepted) => {
             let numbers = accepted.patterns.as_slice();
-            answer_proofs(alloc, false, scoped.file(), options, numbers)
+            answer_proofs(alloc, false, scoped.file(), asked.options, numbers)
         }
         Err(refusal) => Err(refusal),
     }

@@ -17,6 +17,7 @@ ghost use Rattle.ta_program.specs.Compress.{CompressFaultIn, Compresses, SaysSho
 use crate::limits::RUN;
 use crate::reading::read_legal;
 use crate::two_files::OfTwoFiles;
+use crate::values::TwoNames;
 use std::alloc::{AllocError, Global};
 use ta_automaton::File;
 use ta_base::Text;
@@ -35,19 +36,18 @@ impl OfTwoFiles for Compress {
     ghost use Rattle.ta_program.specs.Asked.{LegalFile};
     ghost use Rattle.ta_program.specs.Compress.{compress_meaning};
 
-    ghost legal = { λ name told. LegalFile told (Some name) };
+    ghost legal = { λ names told. LegalFile told (Some (names.file, names.limits)) };
 
     ghost stated = { compress_meaning };
 
     fn judge_files<'a, S: Shelf>(
         alloc: Global,
         shelf: &mut S,
-        file: &'a str,
-        other: &'a str,
+        names: TwoNames<'a>,
     ) -> Result<Answer, Refusal<'a>> {
-        match read_legal(alloc, shelf, file) {
+        match read_legal(alloc, shelf, names.file, &names.limits) {
             Ok(scoped) => {
-                let answer = judge_long(alloc, shelf, &scoped, other);
+                let answer = judge_long(alloc, shelf, &scoped, names.other);
                 drop(scoped);
                 answer
             }

@@ -4,13 +4,10 @@
 ghost use Rattle.std.specs.Prelude.{◌≡◌, ◌++◌, OnOk, length, string_bytes};
 ghost use Rattle.ta_program.specs.Count.{count_line, count_text, most_events};
 
-use crate::limits::{MOST_PATTERNS, MOST_SHARED};
 use crate::one_file::OfOneFile;
 use std::alloc::{AllocError, Global};
 use ta_automaton::{File, Pattern};
-use ta_base::limits::{
-    MOST_EVENTS, MOST_FALLS, MOST_LOCATIONS, MOST_PARAMETERS, MOST_RISES, MOST_RULES,
-};
+use ta_base::limits::{Limits, MOST_EVENTS};
 use ta_base::{List, Text};
 use ta_scope::ScopedFile;
 
@@ -23,25 +20,25 @@ impl OfOneFile for Count {
 
     ghost text = { IsCount };
 
-    fn write_text(alloc: Global, scoped: &ScopedFile) -> Result<Text, AllocError> {
+    fn write_text(alloc: Global, scoped: &ScopedFile, limits: &Limits) -> Result<Text, AllocError> {
         let mut text = String::new(alloc);
-        push_counts(&scoped.file, &mut text)?;
+        push_counts(&scoped.file, limits, &mut text)?;
         Ok(Text::from_string(text))
     }
 }
 
-/// Appends the lines of a file.
-fn push_counts(file: &File, text: &mut String) -> Result<(), AllocError>
-    ensures { OnOk result (string_bytes text.new ≡ string_bytes text.old ++ count_text file.now) }
+/// Appends the lines of a file that was read within these limits.
+fn push_counts(file: &File, limits: &Limits, text: &mut String) -> Result<(), AllocError>
+    ensures { OnOk result (string_bytes text.new ≡ string_bytes text.old ++ count_text limits.now file.now) }
 {
     let automaton = &file.automaton;
-    push_length("parameters", &automaton.parameters, MOST_PARAMETERS, text)?;
-    push_length("shared", &automaton.shared, MOST_SHARED, text)?;
-    push_length("locations", &automaton.locations, MOST_LOCATIONS, text)?;
-    push_length("rules", &automaton.rules, MOST_RULES, text)?;
-    push_length("rise guards", &automaton.rise, MOST_RISES, text)?;
-    push_length("fall guards", &automaton.fall, MOST_FALLS, text)?;
-    push_length("patterns", &file.patterns, MOST_PATTERNS, text)?;
+    push_length("parameters", &automaton.parameters, limits.parameters, text)?;
+    push_length("shared", &automaton.shared, limits.shared, text)?;
+    push_length("locations", &automaton.locations, limits.locations, text)?;
+    push_length("rules", &automaton.rules, limits.rules, text)?;
+    push_length("rise guards", &automaton.rise, limits.rises, text)?;
+    push_length("fall guards", &automaton.fall, limits.falls, text)?;
+    push_length("patterns", &file.patterns, limits.patterns, text)?;
     let events = most_events(file.patterns.as_slice());
     push_line("events", events, MOST_EVENTS, text)?;
     Ok(())

@@ -6,7 +6,7 @@ ghost use Rattle.ta_shelf.specs.Lines.{phrase_text};
 ghost use Rattle.ta_program.specs.Inside.Found.{EndsRefused};
 ghost use Rattle.ta_program.specs.RestEnds.{IsEnds, cycle_text, ends_of};
 
-use crate::limits::FILE;
+use crate::limits::FILE_NUMBER;
 use std::alloc::Global;
 use ta_rest::{RestFault, RestFile, rest_scope};
 use ta_scope::ScopedFile;
@@ -24,7 +24,7 @@ pub(crate) fn find_ends<'a>(
     match rest_scope(alloc, scoped) {
         Ok(rest) => Ok(rest),
         Err(RestFault::Cycle(rule)) => Err(Refusal::Refused {
-            number: FILE.number,
+            number: FILE_NUMBER,
             name,
             why: cycle_phrase(rule),
         }),

@@ -12,7 +12,7 @@ ghost use Rattle.ta_smt.specs.Named.{IsLegalWord, Spelling};
 ghost use Rattle.ta_program.specs.Export.{SaysSystem, export_meaning, export_words, system_meaning};
 ghost use Rattle.ta_program.specs.WordSeen.{asked_seen, word_seen};
 
-use crate::reading::read_legal;
+use crate::reading::read_narrow;
 use crate::request::Request;
 use crate::spelled::WordAsked;
 use crate::word_asked::{asked_of, find_word};
@@ -80,7 +80,7 @@ fn judge_export<'a, S: Shelf>(
     ensures cause { ReadCause result (S.faults shelf.old) (S.faults shelf.new) }
     ensures kept { S.files shelf.new ≡ S.files shelf.old }
 {
-    match read_legal(alloc, shelf, asked.file) {
+    match read_narrow(alloc, shelf, asked.file) {
         Ok(scoped) => {
             let answer = answer_export(alloc, &scoped.file, asked);
             drop(scoped);

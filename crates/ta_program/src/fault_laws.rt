@@ -3,6 +3,7 @@
 #![tactic(auto)]
 
 ghost use Rattle.ta_automaton.specs.declared.file.File.{File};
+ghost use Rattle.ta_base.specs.declared.limits.Limits.{Limits};
 ghost use Rattle.ta_smt.specs.Admit.{AskedWord};
 ghost use Rattle.ta_program.specs.Admit.{values_kind};
 ghost use Rattle.ta_program.specs.Compress.{long_kind};
@@ -17,12 +18,12 @@ use ta_meaning::meanings_are_unique;
 /// The bytes of FILE, of CERT, of RUN for `replay` and for `compress`, of VALUES and of a template have
 /// one error at most, which is the first.
 pub fn faults_are_determined()
-    ensures file { OneFault file_kind }
+    ensures file { (l : Limits) → OneFault (file_kind l) }
     ensures certificate { (subject : Subject) → OneFault (certificate_kind subject) }
     ensures replayed { (file : File) → OneFault (run_kind file) }
     ensures compressed { (file : File) → OneFault (long_kind file) }
     ensures values { (file : File) (word : AskedWord) → OneFault (values_kind file word) }
-    ensures template { OneFault template_kind }
+    ensures template { (l : Limits) → OneFault (template_kind l) }
 {
     meanings_are_unique()
 }

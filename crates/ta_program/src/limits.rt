@@ -1,14 +1,24 @@
-//! How long the files of the commands may be, and the numbers where they are no use; and the limits
-//! of lists that `ta_base` has no name for.
+//! How long the files of the commands may be, and the numbers where they are no use.
+#![tactic(auto)]
 
-use ta_base::limits::{CERTIFICATE_BYTES, RUN_BYTES, VALUES_BYTES};
+ghost use Rattle.std.specs.Prelude.{◌≡◌};
+ghost use Rattle.ta_program.specs.Kinds.{file_limit};
+
+use ta_base::limits::{CERTIFICATE_BYTES, Limits, RUN_BYTES, VALUES_BYTES};
 use ta_shelf::Limit;
 
-/// An automaton file within the narrow limits, or a template.
-pub const FILE: Limit = Limit {
-    bytes: 1_048_576,
-    number: 3,
-};
+/// The number where FILE is no use: an automaton file, or a template.
+pub const FILE_NUMBER: u8 = 3;
+
+/// How long FILE may be within a row of limits, and that number.
+pub(crate) fn file_limit(limits: &Limits) -> Limit
+    ensures { result ≡ file_limit limits.now }
+{
+    Limit {
+        bytes: limits.bytes as u64,
+        number: FILE_NUMBER,
+    }
+}
 
 /// A certificate, read or written.
 pub const CERTIFICATE: Limit = Limit {
@@ -27,9 +37,3 @@ pub const VALUES: Limit = Limit {
     bytes: VALUES_BYTES,
     number: 4,
 };
-
-/// How many shared variables an automaton has at most, as its type keeps (`WithinLimits`).
-pub const MOST_SHARED: usize = 16;
-
-/// How many patterns a file has at most, as its type keeps (`PatternsShape`).
-pub const MOST_PATTERNS: usize = 16;

@@ -5,7 +5,7 @@ ghost use Rattle.std.specs.Prelude.{◌≡◌, IfErr, IfOk, Some, option_map};
 ghost use Rattle.ta_program.specs.Inside.Found.{PickRefused};
 ghost use Rattle.ta_program.specs.PatternOption.{IsPick, PicksNamed};
 
-use crate::limits::FILE;
+use crate::limits::FILE_NUMBER;
 use ta_automaton::File;
 use ta_report::Pick;
 use ta_shelf::{Phrase, Refusal};
@@ -34,7 +34,7 @@ fn find_named<'a>(name: &'a str, file: &File, pattern: &str) -> Result<Pick, Ref
     match pattern_named(file.patterns.as_slice(), pattern) {
         Some(number) => Ok(Pick::One(number)),
         None => Err(Refusal::Refused {
-            number: FILE.number,
+            number: FILE_NUMBER,
             name,
             why: Phrase::Plain("F4 unknown name at offset 0"),
         }),

@@ -20,12 +20,13 @@ ghost use Rattle.ta_program.specs.Taken.{taken_of};
 use crate::limits::RUN;
 use crate::reading::read_legal;
 use crate::request::Request;
-use crate::values::file_name_of;
-use crate::words::{JSON_OPTION, Taken, take_words};
+use crate::values::{file_name_of, limits_of};
+use crate::words::{JSON_OPTION, Taken, WIDE_OPTION, take_words};
 use std::alloc::{AllocError, Global};
 use std::thread::Threads;
 use ta_automaton::File;
 use ta_base::Text;
+use ta_base::limits::Limits;
 use ta_replay::{Run, RunFault, Shown, read_run, replay};
 use ta_report::{run_fault_phrase, shown_json, shown_line};
 use ta_shelf::{Answer, Command, Outputs, Refusal, Shelf, read_text};
@@ -35,6 +36,7 @@ use ta_shelf::{Answer, Command, Outputs, Refusal, Shelf, read_text};
 pub(crate) struct Replay<'a> {
     file: &'a str,
     run: &'a str,
+    limits: Limits,
     json: bool,
 }
 
@@ -49,9 +51,10 @@ impl<'a> Request<'a> for Replay<'a> {
 }
 
 impl<'a> Command for Replay<'a> {
+    ghost use Rattle.ta_program.specs.CheckSeen.{replay_seen};
     ghost use Rattle.ta_program.specs.Replay.{replay_meaning};
 
-    ghost meaning = { λ command. replay_meaning command.file.now command.run.now command.json };
+    ghost meaning = { λ command. replay_meaning (replay_seen command) };
 
     fn outputs(&self) -> Outputs<'_> {
         Outputs::none()
@@ -64,7 +67,7 @@ impl<'a> Command for Replay<'a> {
         shelf: &mut S,
     ) -> Result<Answer, Refusal<'_>> {
         let _ = rt;
-        judge_files(alloc, shelf, self.file, self.run, self.json)
+        judge_files(alloc, shelf, self)
     }
 }
 
@@ -72,7 +75,7 @@ impl<'a> Command for Replay<'a> {
 fn read_replay<'a>(words: &[&'a str]) -> Option<Replay<'a>>
     ensures { option_map replay_seen result ≡ replay_words (map (λ w. w.now) words.now) }
 {
-    let options = [JSON_OPTION];
+    let options = [JSON_OPTION, WIDE_OPTION];
     replay_taken(take_words(2, &options, words)?)
 }
 
@@ -82,25 +85,27 @@ fn replay_taken(taken: Taken<'_>) -> Option<Replay<'_>>
 {
     let file = file_name_of(taken.plain(0))?;
     let run = file_name_of(taken.plain(1))?;
-    let json = taken.value(0).is_some();
-    Some(Replay { file, run, json })
+    Some(Replay {
+        file,
+        run,
+        limits: limits_of(taken.value(1).is_some()),
+        json: taken.value(0).is_some(),
+    })
 }
 
 /// Reads a file, then a run, and says that the run shows its pattern.
 fn judge_files<'a, S: Shelf>(
     alloc: Global,
     shelf: &mut S,
-    file: &'a str,
-    run: &'a str,
-    json: bool,
+    asked: &Replay<'a>,
 ) -> Result<Answer, Refusal<'a>>
-    ensures says { Grew (Says (replay_meaning file.now run.now json) (S.files shelf.old) result) (S.calls shelf.old) (S.calls shelf.new) }
+    ensures says { Grew (Says (replay_meaning (replay_seen asked.now)) (S.files shelf.old) result) (S.calls shelf.old) (S.calls shelf.new) }
     ensures cause { ReadCause result (S.faults shelf.old) (S.faults shelf.new) }
     ensures kept { S.files shelf.new ≡ S.files shelf.old }
 {
-    match read_legal(alloc, shelf, file) {
+    match read_legal(alloc, shelf, asked.file, &asked.limits) {
         Ok(scoped) => {
-            let answer = judge_run(alloc, shelf, scoped.file(), run, json);
+            let answer = judge_run(alloc, shelf, scoped.file(), asked.run, asked.json);
             drop(scoped);
             answer
         }

@@ -29,10 +29,10 @@ use crate::request::StagingRequest;
 use crate::silent_budget::SilentBudget;
 use crate::silent_names::{find_silent, names_of};
 use crate::telling::{Form, Report, tell};
-use crate::values::{budget_of, file_name_of, out_of};
+use crate::values::{budget_of, file_name_of, limits_for, out_of};
 use crate::words::{
     ALL_OPTION, CERTIFICATE_OPTION, JSON_OPTION, LAZY_OPTION, NODES_OPTION, PATTERN_OPTION,
-    SILENT_OPTION, Taken, take_words,
+    SILENT_OPTION, Taken, WIDE_OPTION, take_words,
 };
 use std::alloc::{AllocError, Global};
 use std::thread::Threads;
@@ -95,6 +95,7 @@ fn read_rest<'a>(words: &[&'a str]) -> Option<Rest<'a>>
         LAZY_OPTION,
         PATTERN_OPTION,
         ALL_OPTION,
+        WIDE_OPTION,
         SILENT_OPTION,
     ];
     rest_taken(take_words(1, &options, words)?)
@@ -108,12 +109,14 @@ fn rest_taken(taken: Taken<'_>) -> Option<Rest<'_>>
     let nodes = budget_of(taken.value(0))?;
     let out = out_of(file, taken.value(1))?;
     let lazy = taken.value(3).is_some();
-    let names = quiet_names(lazy, taken.value(6))?;
+    let limits = limits_for(taken.value(6).is_some(), lazy)?;
+    let names = quiet_names(lazy, taken.value(7))?;
     Some(Rest {
         file,
         silent: SilentBudget {
             budget: Budget {
                 given: ta_verdict::Budget { nodes, lazy },
+                limits,
             },
             names,
         },
@@ -150,7 +153,13 @@ fn judge_file<'a, R: Threads + Sync, S: Shelf>(
         (record { files = S.files shelf.new; calls = S.calls shelf.new; faults = S.faults shelf.new }) }
     ensures kept { S.files shelf.new ≡ S.files shelf.old }
 {
-    match read_spared(alloc, shelf, asked.file, &Outputs::one(asked.out)) {
+    match read_spared(
+        alloc,
+        shelf,
+        asked.file,
+        &asked.silent.budget.limits,
+        &Outputs::one(asked.out),
+    ) {
         Ok(scoped) => answer_scoped(rt, alloc, shelf, scoped, asked),
         Err(refusal) => Err(refusal),
     }

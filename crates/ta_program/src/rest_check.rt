@@ -21,8 +21,8 @@ use crate::proofs_said::answer_proofs;
 use crate::reading::read_legal;
 use crate::request::Request;
 use crate::silent_names::{find_silent, names_of};
-use crate::values::file_name_of;
-use crate::words::{ALL_OPTION, JSON_OPTION, SILENT_OPTION, Taken, take_words};
+use crate::values::{file_name_of, limits_of};
+use crate::words::{ALL_OPTION, JSON_OPTION, SILENT_OPTION, Taken, WIDE_OPTION, take_words};
 use std::alloc::Global;
 use std::thread::Threads;
 use ta_base::limits::Limits;
@@ -36,6 +36,7 @@ use ta_shelf::{Answer, Command, Outputs, Refusal, Shelf};
 pub(crate) struct RestCheck<'a> {
     file: &'a str,
     certificate: &'a str,
+    limits: Limits,
     silent: Option<&'a str>,
     options: ProofOptions,
 }
@@ -51,10 +52,10 @@ impl<'a> Request<'a> for RestCheck<'a> {
 }
 
 impl<'a> Command for RestCheck<'a> {
-    ghost use Rattle.std.specs.Prelude.{option_map};
     ghost use Rattle.ta_program.specs.RestCheck.{rest_check_meaning};
+    ghost use Rattle.ta_program.specs.RestSeen.{rest_check_seen};
 
-    ghost meaning = { λ command. rest_check_meaning command.file.now command.certificate.now (option_map (λ w. w.now) command.silent) command.options };
+    ghost meaning = { λ command. rest_check_meaning (rest_check_seen command) };
 
     fn outputs(&self) -> Outputs<'_> {
         Outputs::none()
@@ -67,14 +68,7 @@ impl<'a> Command for RestCheck<'a> {
         shelf: &mut S,
     ) -> Result<Answer, Refusal<'_>> {
         let _ = rt;
-        judge_files(
-            alloc,
-            shelf,
-            self.file,
-            self.certificate,
-            self.silent,
-            self.options,
-        )
+        judge_files(alloc, shelf, self)
     }
 }
 
@@ -82,7 +76,7 @@ impl<'a> Command for RestCheck<'a> {
 fn read_rest_check<'a>(words: &[&'a str]) -> Option<RestCheck<'a>>
     ensures { option_map rest_check_seen result ≡ rest_check_words (map (λ w. w.now) words.now) }
 {
-    let options = [SILENT_OPTION, ALL_OPTION, JSON_OPTION];
+    let options = [SILENT_OPTION, ALL_OPTION, JSON_OPTION, WIDE_OPTION];
     rest_check_taken(take_words(2, &options, words)?)
 }
 
@@ -96,6 +90,7 @@ fn rest_check_taken(taken: Taken<'_>) -> Option<RestCheck<'_>>
     Some(RestCheck {
         file,
         certificate,
+        limits: limits_of(taken.value(3).is_some()),
         silent,
         options: ProofOptions {
             all: taken.value(1).is_some(),
@@ -110,38 +105,32 @@ fn rest_check_taken(taken: Taken<'_>) -> Option<RestCheck<'_>>
 fn judge_files<'a, S: Shelf>(
     alloc: Global,
     shelf: &mut S,
-    file: &'a str,
-    certificate: &'a str,
-    silent: Option<&'a str>,
-    options: ProofOptions,
+    asked: &RestCheck<'a>,
 ) -> Result<Answer, Refusal<'a>>
-    ensures says { Grew (Says (rest_check_meaning file.now certificate.now (option_map (λ w. w.now) silent.entry) options) (S.files shelf.old) result) (S.calls shelf.old) (S.calls shelf.new) }
+    ensures says { Grew (Says (rest_check_meaning (rest_check_seen asked.now)) (S.files shelf.old) result) (S.calls shelf.old) (S.calls shelf.new) }
     ensures cause { ReadCause result (S.faults shelf.old) (S.faults shelf.new) }
     ensures kept { S.files shelf.new ≡ S.files shelf.old }
 {
-    match read_legal(alloc, shelf, file) {
-        Ok(scoped) => judge_scoped(alloc, shelf, file, scoped, certificate, silent, options),
+    match read_legal(alloc, shelf, asked.file, &asked.limits) {
+        Ok(scoped) => judge_scoped(alloc, shelf, scoped, asked),
         Err(refusal) => Err(refusal),
     }
 }
 
-/// Reads a certificate for the endings of a file of a name, unless a rule lies on a longer cycle.
+/// Reads a certificate for the endings of a file, unless a rule lies on a longer cycle.
 fn judge_scoped<'a, S: Shelf>(
     alloc: Global,
     shelf: &mut S,
-    name: &'a str,
     scoped: ScopedFile,
-    certificate: &'a str,
-    silent: Option<&'a str>,
-    options: ProofOptions,
+    asked: &RestCheck<'a>,
 ) -> Result<Answer, Refusal<'a>>
-    ensures says { Grew (Says (finds (IsEnds scoped.file) (CycleHinders name.now scoped.file) [] (quietly_meaning name.now certificate.now (option_map (λ w. w.now) silent.entry) options scoped.file)) (S.files shelf.old) result) (S.calls shelf.old) (S.calls shelf.new) }
+    ensures says { Grew (Says (finds (IsEnds scoped.file) (CycleHinders asked.now.file.now scoped.file) [] (quietly_meaning (rest_check_seen asked.now) scoped.file)) (S.files shelf.old) result) (S.calls shelf.old) (S.calls shelf.new) }
     ensures cause { ReadCause result (S.faults shelf.old) (S.faults shelf.new) }
     ensures kept { S.files shelf.new ≡ S.files shelf.old }
 {
-    match find_ends(alloc, name, scoped) {
+    match find_ends(alloc, asked.file, scoped) {
         Ok(rest) => {
-            let answer = judge_quietly(alloc, shelf, name, &rest, certificate, silent, options);
+            let answer = judge_quietly(alloc, shelf, &rest, asked);
             drop(rest);
             answer
         }
@@ -149,22 +138,19 @@ fn judge_scoped<'a, S: Shelf>(
     }
 }
 
-/// Reads a certificate for the endings of a file of a name, unless the names may not be silent in it.
+/// Reads a certificate for the endings of a file, unless the names may not be silent in it.
 fn judge_quietly<'a, S: Shelf>(
     alloc: Global,
     shelf: &mut S,
-    name: &'a str,
     rest: &RestFile,
-    certificate: &'a str,
-    silent: Option<&'a str>,
-    options: ProofOptions,
+    asked: &RestCheck<'a>,
 ) -> Result<Answer, Refusal<'a>>
-    ensures says { (file : File) → EndingsOf file rest.now.ending.file rest.now.added → Grew (Says (quietly_meaning name.now certificate.now (option_map (λ w. w.now) silent.entry) options file (ends_of rest.now)) (S.files shelf.old) result) (S.calls shelf.old) (S.calls shelf.new) }
+    ensures says { (file : File) → EndingsOf file rest.now.ending.file rest.now.added → Grew (Says (quietly_meaning (rest_check_seen asked.now) file (ends_of rest.now)) (S.files shelf.old) result) (S.calls shelf.old) (S.calls shelf.new) }
     ensures cause { ReadCause result (S.faults shelf.old) (S.faults shelf.new) }
     ensures kept { S.files shelf.new ≡ S.files shelf.old }
 {
-    match find_silent(alloc, name, &rest.ending.file.automaton, silent) {
-        Ok(places) => judge_rest(alloc, shelf, rest, places.as_slice(), certificate, options),
+    match find_silent(alloc, asked.file, &rest.ending.file.automaton, asked.silent) {
+        Ok(places) => judge_rest(alloc, shelf, rest, places.as_slice(), asked),
         Err(refusal) => Err(refusal),
     }
 }
@@ -175,19 +161,17 @@ fn judge_rest<'a, S: Shelf>(
     shelf: &mut S,
     rest: &RestFile,
     silent: &[u32],
-    name: &'a str,
-    options: ProofOptions,
+    asked: &RestCheck<'a>,
 ) -> Result<Answer, Refusal<'a>>
-    ensures says { (file : File) → EndingsOf file rest.now.ending.file rest.now.added → Grew (Says (rest_proved_meaning name.now options file (ends_of rest.now) silent.now) (S.files shelf.old) result) (S.calls shelf.old) (S.calls shelf.new) }
+    ensures says { (file : File) → EndingsOf file rest.now.ending.file rest.now.added → Grew (Says (rest_proved_meaning (rest_check_seen asked.now) file (ends_of rest.now) silent.now) (S.files shelf.old) result) (S.calls shelf.old) (S.calls shelf.new) }
     ensures cause { ReadCause result (S.faults shelf.old) (S.faults shelf.new) }
     ensures kept { S.files shelf.new ≡ S.files shelf.old }
 {
-    let limits = Limits::narrow();
-    let checker = Checker::resting_silently(alloc, rest, silent, limits.line_bytes);
-    match read_certificate(shelf, checker, name) {
+    let checker = Checker::resting_silently(alloc, rest, silent, asked.limits.line_bytes);
+    match read_certificate(shelf, checker, asked.certificate) {
         Ok(accepted) => {
             let numbers = accepted.patterns.as_slice();
-            answer_proofs(alloc, true, &rest.ending.file, options, numbers)
+            answer_proofs(alloc, true, &rest.ending.file, asked.options, numbers)
         }
         Err(refusal) => Err(refusal),
     }

@@ -3,6 +3,7 @@
 
 ghost use Rattle.std.specs.List.{concat};
 ghost use Rattle.std.specs.Prelude.{◌≡◌, ◌≤◌, ◌<◌, ◌++◌, [], decimal, IfOk, IfSome, IsSome, length, map, MatchOption, OnOk, Option, option_map, Some};
+ghost use Rattle.ta_base.specs.declared.limits.Limits.{Limits};
 ghost use Rattle.ta_search.specs.Filling.{filled_text};
 ghost use Rattle.ta_shelf.specs.Calls.{Grew};
 ghost use Rattle.ta_shelf.specs.Put.{Told};
@@ -21,19 +22,20 @@ ghost use Rattle.ta_program.specs.Taken.{taken_of};
 
 use crate::budget::Budget;
 use crate::certified::{are_within, put_of};
-use crate::limits::{CERTIFICATE, FILE};
+use crate::limits::{CERTIFICATE, FILE_NUMBER, file_limit};
 use crate::request::Request;
-use crate::values::{budget_of, file_name_of, filled_of, out_of};
+use crate::values::{budget_of, file_name_of, filled_of, limits_for, out_of};
 use crate::words::{
-    CERTIFICATE_OPTION, JSON_OPTION, LAZY_OPTION, NODES_OPTION, OptionWord, Taken, take_words,
+    CERTIFICATE_OPTION, JSON_OPTION, LAZY_OPTION, NODES_OPTION, OptionWord, Taken, WIDE_OPTION,
+    take_words,
 };
 use std::alloc::{AllocError, Global};
 use std::thread::Threads;
-use ta_base::limits::FILE_BYTES;
+use ta_base::limits::{FILE_BYTES, Limits};
 use ta_base::{List, Text};
 use ta_search::{
-    Outcome, SearchEnd, Template, TemplateFault, Tried, fill, read_template, search, search_told,
-    searches_are_determined,
+    Outcome, SearchEnd, Template, TemplateFault, Terms, Tried, fill, read_template, search,
+    search_told, searches_are_determined,
 };
 use ta_shelf::{
     Answer, Command, Content, Outputs, Phrase, Put, Refusal, Shelf, long_certificate, read_text,
@@ -88,6 +90,16 @@ impl<'a> Search<'a> {
     ghost use Rattle.ta_program.specs.SearchSeen.{search_seen};
     ghost use Rattle.ta_shelf.specs.Puts.{output_names};
 
+    /// The budget of each pattern, and the limits of filled texts.
+    fn terms(&self) -> Terms
+        ensures { result ≡ (search_seen self.now).terms }
+    {
+        Terms {
+            budget: self.budget.given,
+            limits: self.budget.limits,
+        }
+    }
+
     /// The names of the files that it may put on the shelf.
     fn may_put(&self) -> Outputs<'a>
         ensures { output_names result ≡ found_names (search_seen self.now) }
@@ -112,6 +124,7 @@ fn read_search<'a>(words: &[&'a str]) -> Option<Search<'a>>
         },
         LAZY_OPTION,
         JSON_OPTION,
+        WIDE_OPTION,
     ];
     search_taken(take_words(1, &options, words)?)
 }
@@ -124,13 +137,13 @@ fn search_taken(taken: Taken<'_>) -> Option<Search<'_>>
     let nodes = budget_of(taken.value(0))?;
     let out = out_of(file, taken.value(1))?;
     let filled = filled_of(file, out, taken.value(2))?;
+    let lazy = taken.value(3).is_some();
+    let limits = limits_for(taken.value(5).is_some(), lazy)?;
     Some(Search {
         file,
         budget: Budget {
-            given: ta_verdict::Budget {
-                nodes,
-                lazy: taken.value(3).is_some(),
-            },
+            given: ta_verdict::Budget { nodes, lazy },
+            limits,
         },
         out,
         filled,
@@ -150,7 +163,13 @@ fn judge_search<'a, R: Threads + Sync, S: Shelf>(
     ensures cause { ReadCause result (S.faults shelf.old) (S.faults shelf.new) }
     ensures kept { S.files shelf.new ≡ S.files shelf.old }
 {
-    match read_searched(alloc, shelf, asked.file, &asked.may_put()) {
+    match read_searched(
+        alloc,
+        shelf,
+        asked.file,
+        &asked.budget.limits,
+        &asked.may_put(),
+    ) {
         Ok(template) => answer_search(rt, alloc, &template, asked),
         Err(refusal) => Err(refusal),
     }
@@ -162,13 +181,14 @@ fn read_searched<'a, S: Shelf>(
     alloc: Global,
     shelf: &mut S,
     name: &'a str,
+    limits: &Limits,
     outputs: &Outputs<'a>,
 ) -> Result<Template, Refusal<'a>>
-    ensures stage { Grew (SparedStage template_kind (λ template. template) (S.files shelf.old) name.now (output_names outputs.now) result) (S.calls shelf.old) (S.calls shelf.new) }
+    ensures stage { Grew (SparedStage (template_kind limits.now) (λ template. template) (S.files shelf.old) name.now (output_names outputs.now) result) (S.calls shelf.old) (S.calls shelf.new) }
     ensures cause { ReadCause result (S.faults shelf.old) (S.faults shelf.new) }
     ensures kept { S.files shelf.new ≡ S.files shelf.old }
 {
-    match read_text(alloc, shelf, name, FILE) {
+    match read_text(alloc, shelf, name, file_limit(limits)) {
         Ok(bytes) => match template_of(alloc, name, bytes.as_slice()) {
             Ok(template) => match spare_read(shelf, outputs, bytes.as_slice()) {
                 Ok(()) => Ok(template),
@@ -183,14 +203,14 @@ fn read_searched<'a, S: Shelf>(
 /// The template that bytes of a name are the text of.
 fn template_of<'a>(alloc: Global, name: &'a str, bytes: &[u8]) -> Result<Template, Refusal<'a>>
     requires { length bytes.now ≤ FILE_BYTES }
-    ensures meant { MeantBy template_kind (λ template. template) name.now bytes.now result }
+    ensures meant { (l : Limits) → MeantBy (template_kind l) (λ template. template) name.now bytes.now result }
     ensures cause { ReadCause result 0 0 }
 {
     match read_template(alloc, bytes) {
         Ok(template) => Ok(template),
         Err(TemplateFault::Memory) => Err(Refusal::Memory),
         Err(fault) => Err(Refusal::Refused {
-            number: FILE.number,
+            number: FILE_NUMBER,
             name,
             why: template_fault_phrase(&fault),
         }),
@@ -232,7 +252,8 @@ fn answer_search<'a, R: Threads + Sync>(
     ensures says { (files : Option Told) → Says (found_meaning (search_seen asked.now) template.now) files result [] }
     ensures cause { ReadCause result 0 0 }
 {
-    let Ok(end) = search(rt, alloc, template, asked.budget.given) else {
+    let terms = asked.terms();
+    let Ok(end) = search(rt, alloc, template, terms) else {
         return Err(Refusal::Memory);
     };
     let Ok(told) = search_told(alloc, asked.json, template, &end) else {
@@ -278,7 +299,7 @@ fn answer_found<'a>(
     text: Text,
     asked: &Search<'a>,
 ) -> Result<Answer, Refusal<'a>>
-    requires { IsFoundEnd template.now asked.now.budget.given asked.now.json end text }
+    requires { IsFoundEnd template.now (search_seen asked.now).terms asked.now.json end text }
     ensures says { (files : Option Told) → Says (found_meaning (search_seen asked.now) template.now) files result [] }
     ensures cause { ReadCause result 0 0 }
 {
@@ -322,7 +343,7 @@ fn put_last<'a>(
     text: Text,
     asked: &Search<'a>,
 ) -> Result<Answer, Refusal<'a>>
-    requires { FoundBy template.now asked.now.budget.given asked.now.json last.values (concat last.pieces) text }
+    requires { FoundBy template.now (search_seen asked.now).terms asked.now.json last.values (concat last.pieces) text }
     ensures says { (files : Option Told) → Says (found_meaning (search_seen asked.now) template.now) files result [] }
     ensures cause { ReadCause result 0 0 }
 {
@@ -341,7 +362,7 @@ fn put_short<'a>(
     text: Text,
     asked: &Search<'a>,
 ) -> Result<Answer, Refusal<'a>>
-    requires found { FoundBy template.now asked.now.budget.given asked.now.json last.values (concat last.pieces) text }
+    requires found { FoundBy template.now (search_seen asked.now).terms asked.now.json last.values (concat last.pieces) text }
     requires within { IsSome (search_seen asked.now).out → length (concat last.pieces) ≤ CERTIFICATE_LIMIT.bytes }
     ensures says { (files : Option Told) → Says (found_meaning (search_seen asked.now) template.now) files result [] }
     ensures cause { ReadCause result 0 0 }

@@ -7,6 +7,7 @@ ghost use Rattle.ta_program.specs.Show.{IsShown};
 
 use crate::one_file::OfOneFile;
 use std::alloc::{AllocError, Global};
+use ta_base::limits::Limits;
 use ta_base::{List, Text};
 use ta_cert::Order;
 use ta_scope::ScopedFile;
@@ -19,9 +20,10 @@ pub(crate) struct Show;
 impl OfOneFile for Show {
     ghost use Rattle.ta_program.specs.Show.{IsShown};
 
-    ghost text = { IsShown };
+    ghost text = { λ limits. IsShown };
 
-    fn write_text(alloc: Global, scoped: &ScopedFile) -> Result<Text, AllocError> {
+    fn write_text(alloc: Global, scoped: &ScopedFile, limits: &Limits) -> Result<Text, AllocError> {
+        let _ = limits;
         file_text(alloc, scoped)
     }
 }

@@ -7,7 +7,7 @@ ghost use Rattle.ta_moments.specs.Silent.{silent_in};
 ghost use Rattle.ta_program.specs.Inside.Found.{SilentRefused, TellsSilent};
 ghost use Rattle.ta_program.specs.SilentNames.{AreSilent, names_of, silent_fault_text};
 
-use crate::limits::FILE;
+use crate::limits::FILE_NUMBER;
 use std::alloc::Global;
 use ta_automaton::Automaton;
 use ta_base::List;
@@ -65,7 +65,7 @@ fn refused<'a>(name: &'a str, fault: SilentFault) -> Refusal<'a>
     match fault {
         SilentFault::Memory => Refusal::Memory,
         _ => Refusal::Refused {
-            number: FILE.number,
+            number: FILE_NUMBER,
             name,
             why: silent_fault_phrase(fault),
         },

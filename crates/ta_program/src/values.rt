@@ -1,30 +1,67 @@
 //! What plain words and values of options may be.
 #![tactic(auto)]
 
-ghost use Rattle.std.specs.Prelude.{◌≡◌, ◌≤◌, map, option_map, IfSome, Some};
+ghost use Rattle.std.specs.Prelude.{◌≡◌, ◌≤◌, false, map, option_map, IfSome, Some};
 ghost use Rattle.std.specs.Char.{is_ascii_digit};
 ghost use Rattle.std.specs.List.{list_all};
-ghost use Rattle.ta_program.specs.Taken.{names_seen};
-ghost use Rattle.ta_program.specs.Values.{are_same, budget_of, filled_of, file_name_of, out_of, two_names};
+ghost use Rattle.ta_base.specs.LimitRows.{narrow};
+ghost use Rattle.ta_program.specs.Taken.{names_seen, taken_of};
+ghost use Rattle.ta_program.specs.Values.{are_same, budget_of, filled_of, file_name_of, limits_for, limits_of, out_of, two_names, two_taken};
 
-use crate::words::take_words;
-use ta_base::limits::{DEFAULT_NODES, MOST_NODES};
+use crate::words::{Taken, WIDE_OPTION, take_words};
+use ta_base::limits::{DEFAULT_NODES, Limits, MOST_NODES};
 
-/// The names of two files: FILE, and one that belongs to it.
+/// The names of two files, FILE and one that belongs to it, and the limits within which FILE is read.
 #[derive(Clone, Copy, Drop)]
 pub(crate) struct TwoNames<'a> {
     pub file: &'a str,
     pub other: &'a str,
+    pub limits: Limits,
 }
 
-/// The names that words give: two plain words, and no option.
+/// The names that words give: two plain words, and `--wide` or no option.
 pub(crate) fn two_names<'a>(words: &[&'a str]) -> Option<TwoNames<'a>>
     ensures { option_map names_seen result ≡ two_names (map (λ w. w.now) words.now) }
 {
-    let taken = take_words(2, &[], words)?;
+    let options = [WIDE_OPTION];
+    two_taken(take_words(2, &options, words)?)
+}
+
+/// The names by what was taken of the words.
+fn two_taken(taken: Taken<'_>) -> Option<TwoNames<'_>>
+    ensures { option_map names_seen result ≡ two_taken (taken_of taken.entry) }
+{
     let file = file_name_of(taken.plain(0))?;
     let other = file_name_of(taken.plain(1))?;
-    Some(TwoNames { file, other })
+    Some(TwoNames {
+        file,
+        other,
+        limits: limits_of(taken.value(0).is_some()),
+    })
+}
+
+/// The limits within which FILE is read: the wide ones with `--wide`.
+pub(crate) fn limits_of(is_wide: bool) -> Limits
+    ensures { result ≡ limits_of is_wide }
+{
+    if is_wide {
+        Limits::wide()
+    } else {
+        Limits::narrow()
+    }
+}
+
+/// The same where trees are searched: the tree of words orders every guard, so wide ones only with
+/// moments on demand.
+pub(crate) fn limits_for(is_wide: bool, lazy: bool) -> Option<Limits>
+    ensures asked { result ≡ limits_for is_wide lazy }
+    ensures narrow { IfSome result (λ limits. lazy ≡ false → limits ≡ narrow) }
+{
+    if is_wide && !lazy {
+        None
+    } else {
+        Some(limits_of(is_wide))
+    }
 }
 
 /// The name of a file, which isn't empty.

@@ -21,10 +21,10 @@ use crate::pattern_option::find_pick;
 use crate::reading::read_spared;
 use crate::request::StagingRequest;
 use crate::telling::{Form, Report, tell};
-use crate::values::{budget_of, file_name_of, out_of};
+use crate::values::{budget_of, file_name_of, limits_for, out_of};
 use crate::words::{
     ALL_OPTION, CERTIFICATE_OPTION, JSON_OPTION, LAZY_OPTION, NODES_OPTION, PATTERN_OPTION, Taken,
-    take_words,
+    WIDE_OPTION, take_words,
 };
 use std::alloc::{AllocError, Global};
 use std::thread::Threads;
@@ -85,6 +85,7 @@ fn read_verify<'a>(words: &[&'a str]) -> Option<Verify<'a>>
         LAZY_OPTION,
         PATTERN_OPTION,
         ALL_OPTION,
+        WIDE_OPTION,
     ];
     verify_taken(take_words(1, &options, words)?)
 }
@@ -96,13 +97,13 @@ fn verify_taken(taken: Taken<'_>) -> Option<Verify<'_>>
     let file = file_name_of(taken.plain(0))?;
     let nodes = budget_of(taken.value(0))?;
     let out = out_of(file, taken.value(1))?;
+    let lazy = taken.value(3).is_some();
+    let limits = limits_for(taken.value(6).is_some(), lazy)?;
     Some(Verify {
         file,
         budget: Budget {
-            given: ta_verdict::Budget {
-                nodes,
-                lazy: taken.value(3).is_some(),
-            },
+            given: ta_verdict::Budget { nodes, lazy },
+            limits,
         },
         out,
         json: taken.value(2).is_some(),
@@ -125,7 +126,13 @@ fn judge_verify<'a, R: Threads + Sync, S: Shelf>(
         (record { files = S.files shelf.new; calls = S.calls shelf.new; faults = S.faults shelf.new }) }
     ensures kept { S.files shelf.new ≡ S.files shelf.old }
 {
-    match read_spared(alloc, shelf, asked.file, &Outputs::one(asked.out)) {
+    match read_spared(
+        alloc,
+        shelf,
+        asked.file,
+        &asked.budget.limits,
+        &Outputs::one(asked.out),
+    ) {
         Ok(scoped) => {
             let answer = answer_picked(rt, alloc, shelf, &scoped, asked);
             drop(scoped);

@@ -54,6 +54,12 @@ pub(crate) const SILENT_OPTION: OptionWord<'static> = OptionWord {
     valued: true,
 };
 
+/// That FILE is read within the wide limits.
+pub(crate) const WIDE_OPTION: OptionWord<'static> = OptionWord {
+    word: "--wide",
+    valued: false,
+};
+
 /// That the parameters are to be printed.
 pub(crate) const PARAMETERS_OPTION: OptionWord<'static> = OptionWord {
     word: "--parameters",

@@ -19,7 +19,7 @@ pub use Rattle.ta_automaton.specs.declared.file.File.{File}
 pub use Rattle.ta_automaton.specs.declared.pattern.Pattern.{Pattern}
 pub use Rattle.ta_base.proofs.ByteLists.{differs, words_ascii}
 pub use Rattle.ta_base.proofs.Each.{each_all, each_append, each_at, each_back, each_map, each_push, each_weaker, word_avoids, word_tells}
-pub use Rattle.ta_base.proofs.Lists.{avoids-append, first_byte, heads, named_ended, not_long, not_parted, some_at}
+pub use Rattle.ta_base.proofs.Lists.{avoids-append, first_byte, heads, named_ended, not_parted, some_at}
 pub use Rattle.ta_base.proofs.Naturals.{at_most, quotient_below, rest_below}
 pub use Rattle.ta_base.proofs.Options.{below_if, none_behind}
 pub use Rattle.ta_base.proofs.Ranges.{In-numbers, each_number, numbers_get_or}
@@ -53,4 +53,4 @@ pub use Rattle.ta_search.specs.declared.template.Template.{Template}
 pub use Rattle.ta_syntax.specs.declared.fault.FileFault.{FileFault}
 pub use Rattle.ta_verdict.specs.Certificates.{CertificateOf, CertificatesAreDetermined, SafeOne, safe_numbers, safe_ones}
 pub use Rattle.ta_verdict.specs.Verdicts.{AreVerdicts, IsSample, SamplesAreDetermined, VerdictHolds, VerdictsAreDetermined, VerdictsHold, is_unknown}
-pub use Rattle.ta_verdict.specs.declared.budget.Budget.{Budget}
+pub use Rattle.ta_search.specs.declared.terms.Terms.{Terms}

@@ -3,10 +3,10 @@ use Rattle.ta_search.proofs.Common.{◌≡◌, ◌≢◌, ◌∙◌, ◌⊎◌, 
 use Rattle.ta_search.proofs.Common.{Result, refl, sym, ap, subst, arith, get_or_from_slice_get, slice_get_within, AllByRecursion, some_at, File, Pattern}
 use Rattle.ta_search.proofs.Common.{Certificate, Verdict, Safe, Unsafe, Spent, Overflow, FileFault, CertificateOf, safe_numbers, AreVerdicts, Outcome}
 use Rattle.ta_search.proofs.Common.{IsOfPattern, IsFirstNotSafe, HasVerdicts, IsRefusedFilling, IsSafe, IsSampled, OutcomeHolds, is_safe, safe_before}
-use Rattle.ta_search.proofs.Common.{VerdictHolds, Budget}
+use Rattle.ta_search.proofs.Common.{VerdictHolds, Terms}
 use Rattle.std.proofs.lemmas.List.Sums.{prefix_len_stops}
 use Rattle.std.proofs.lemmas.Result.{IfOk-weaker}
-use Rattle.ta_base.specs.LimitRows.{narrow}
+use Rattle.ta_base.specs.declared.limits.Limits.{Limits}
 use Rattle.ta_meaning.specs.FirstFault.{FirstFault}
 use Rattle.ta_report.specs.declared.verdict.ReportSample.TheVariants as sample
 use Rattle.ta_syntax.specs.declared.fault.FileFault.TheVariants as fault
@@ -14,10 +14,11 @@ use Rattle.ta_verdict.proofs.VerdictsMade.{as_many}
 use Rattle.ta_automaton.specs.Numbered.{OfPattern}
 
 -- an error that isn't want of memory refuses a text
-pub refused_by : (bytes : List ℕ) (e : FileFault) → length bytes ≤ 1048576 → (e ≡ fault.Memory) ⊎ FirstFault narrow bytes e → e ≢ fault.Memory
-    → IsRefusedFilling bytes e
-refused_by bytes e within (inl same) other = absurd (other same)
-refused_by bytes e within (inr first) other = record { within = within; first = first; told = other }
+pub refused_by :
+    (l : Limits) (bytes : List ℕ) (e : FileFault) → length bytes ≤ l.bytes → (e ≡ fault.Memory) ⊎ FirstFault l bytes e → e ≢ fault.Memory
+    → IsRefusedFilling l bytes e
+refused_by l bytes e within (inl same) other = absurd (other same)
+refused_by l bytes e within (inr first) other = record { within = within; first = first; told = other }
 
 -- behind those that are Safe stands one that isn't, or all are
 pub other_at : (vs : List Verdict) (v : Verdict) (place : ℕ) → place ≡ safe_before vs → slice_get vs place ≡ Some v → is_safe v ≡ false
@@ -37,52 +38,52 @@ all_before (Spent nodes ∷ vs) none = cc
 all_before (Overflow node kind ∷ vs) none = cc
 
 pub numbered :
-    (file : File) (budget : Budget) (vs : List Verdict) (v : Verdict) (place : ℕ) → AreVerdicts file budget vs → slice_get vs place ≡ Some v
+    (file : File) (terms : Terms) (vs : List Verdict) (v : Verdict) (place : ℕ) → AreVerdicts file terms.budget vs → slice_get vs place ≡ Some v
     → place < length file.patterns
-numbered file budget vs v place are at =
+numbered file terms vs v place are at =
     let within = slice_get_within vs place v at in
-    let same = as_many (VerdictHolds file budget) 0 file.patterns vs are.hold in
+    let same = as_many (VerdictHolds file terms.budget) 0 file.patterns vs are.hold in
     omega arith
 
 -- the outcome of the pattern that decides holds
 decided :
-    (bytes : List ℕ) (budget : Budget) (file : File) (vs : List Verdict) (p : Pattern) (v : Verdict) (o : Outcome) → HasVerdicts bytes budget file vs
-    → IsFirstNotSafe file vs p v → IsOfPattern file p v o → OutcomeHolds bytes budget o
-decided bytes budget file vs p (Safe nodes leaves) o judged decides is = absurd is
-decided bytes budget file vs p (Unsafe nodes run) o judged decides is =
-    subst (OutcomeHolds bytes budget) (sym is)
+    (bytes : List ℕ) (terms : Terms) (file : File) (vs : List Verdict) (p : Pattern) (v : Verdict) (o : Outcome) → HasVerdicts bytes terms file vs
+    → IsFirstNotSafe file vs p v → IsOfPattern file p v o → OutcomeHolds bytes terms o
+decided bytes terms file vs p (Safe nodes leaves) o judged decides is = absurd is
+decided bytes terms file vs p (Unsafe nodes run) o judged decides is =
+    subst (OutcomeHolds bytes terms) (sym is)
     (record { file = file; verdicts = vs; judged = judged; p = p; nodes = nodes; run = run; decides = decides; named = refl; shown = refl })
-decided bytes budget file vs p (Spent nodes) o judged decides is =
-    subst (OutcomeHolds bytes budget) (sym is) (record { file = file; verdicts = vs; judged = judged; p = p; decides = decides; unknown = refl; named = refl })
-decided bytes budget file vs p (Overflow node kind) o judged decides is =
-    subst (OutcomeHolds bytes budget) (sym is) (record { file = file; verdicts = vs; judged = judged; p = p; decides = decides; unknown = refl; named = refl })
+decided bytes terms file vs p (Spent nodes) o judged decides is =
+    subst (OutcomeHolds bytes terms) (sym is) (record { file = file; verdicts = vs; judged = judged; p = p; decides = decides; unknown = refl; named = refl })
+decided bytes terms file vs p (Overflow node kind) o judged decides is =
+    subst (OutcomeHolds bytes terms) (sym is) (record { file = file; verdicts = vs; judged = judged; p = p; decides = decides; unknown = refl; named = refl })
 
 judged_by :
-    (bytes : List ℕ) (budget : Budget) (file : File) (vs : List Verdict) (values : List ℤ) → IsSampled bytes budget file (sample.Sample values)
-    → AreVerdicts file budget vs → HasVerdicts bytes budget file vs
-judged_by bytes budget file vs values sampled are = record { values = values; sampled = sampled; verdicts = are }
+    (bytes : List ℕ) (terms : Terms) (file : File) (vs : List Verdict) (values : List ℤ) → IsSampled bytes terms file (sample.Sample values)
+    → AreVerdicts file terms.budget vs → HasVerdicts bytes terms file vs
+judged_by bytes terms file vs values sampled are = record { values = values; sampled = sampled; verdicts = are }
 
 pub pattern_holds :
-    {E : Type 0} (bytes : List ℕ) (budget : Budget) (file : File) (vs : List Verdict) (v : Verdict) (place : ℕ) (values : List ℤ) (result : Result Outcome E)
-    → IsSampled bytes budget file (sample.Sample values) → AreVerdicts file budget vs → place ≡ safe_before vs → slice_get vs place ≡ Some v
-    → OfPattern file place (λ p. IfOk result (IsOfPattern file p v)) → IfOk result (OutcomeHolds bytes budget)
-pattern_holds bytes budget file vs v place values result sampled are same at of =
+    {E : Type 0} (bytes : List ℕ) (terms : Terms) (file : File) (vs : List Verdict) (v : Verdict) (place : ℕ) (values : List ℤ) (result : Result Outcome E)
+    → IsSampled bytes terms file (sample.Sample values) → AreVerdicts file terms.budget vs → place ≡ safe_before vs → slice_get vs place ≡ Some v
+    → OfPattern file place (λ p. IfOk result (IsOfPattern file p v)) → IfOk result (OutcomeHolds bytes terms)
+pattern_holds bytes terms file vs v place values result sampled are same at of =
     let here : slice_get vs (safe_before vs) ≡ Some v = ap (slice_get vs) (sym same) ∙ at in
-    let p = some_at file.patterns (safe_before vs) (numbered file budget vs v (safe_before vs) are here) in
+    let p = some_at file.patterns (safe_before vs) (numbered file terms vs v (safe_before vs) are here) in
     let decides : IsFirstNotSafe file vs p.0 v = record { pattern = p.1; verdict = here } in
-    IfOk-weaker result (IsOfPattern file p.0 v) (OutcomeHolds bytes budget)
-    (λ o is. decided bytes budget file vs p.0 v o (judged_by bytes budget file vs values sampled are) decides is)
+    IfOk-weaker result (IsOfPattern file p.0 v) (OutcomeHolds bytes terms)
+    (λ o is. decided bytes terms file vs p.0 v o (judged_by bytes terms file vs values sampled are) decides is)
     (of p.0 (ap (slice_get file.patterns) same ∙ p.1))
 
 pub safe_holds :
-    (bytes : List ℕ) (budget : Budget) (file : File) (vs : List Verdict) (place : ℕ) (values : List ℤ) (text : List ℕ)
-    → IsSampled bytes budget file (sample.Sample values) → AreVerdicts file budget vs → place ≡ safe_before vs → slice_get vs place ≡ None
-    → CertificateOf file budget vs text → Certificate file narrow.line_bytes text (safe_numbers file vs) → IsSafe bytes budget text
-safe_holds bytes budget file vs place values text sampled are same none certificate accepted =
+    (bytes : List ℕ) (terms : Terms) (file : File) (vs : List Verdict) (place : ℕ) (values : List ℤ) (text : List ℕ)
+    → IsSampled bytes terms file (sample.Sample values) → AreVerdicts file terms.budget vs → place ≡ safe_before vs → slice_get vs place ≡ None
+    → CertificateOf file terms.budget vs text → Certificate file terms.limits.line_bytes text (safe_numbers file vs) → IsSafe bytes terms text
+safe_holds bytes terms file vs place values text sampled are same none certificate accepted =
     record {
       file = file;
       verdicts = vs;
-      judged = judged_by bytes budget file vs values sampled are;
+      judged = judged_by bytes terms file vs values sampled are;
       all = all_before vs (ap (slice_get vs) (sym same) ∙ none);
       certificate = certificate;
       accepted = accepted;

@@ -1,7 +1,7 @@
--- The outcome of a template with values in its holes, within a budget.
+-- The outcome of a template with values in its holes, within the terms of a search: a budget and the limits of files.
 use Rattle.std.specs.Prelude.{ℕ, ℤ, ◌<◌, ◌≤◌, ◌≡◌, ◌≢◌, Bool, true, false, List, length, slice_get, Some}
 use Rattle.std.specs.List.{prefix_len, AllByRecursion}
-use Rattle.ta_base.specs.LimitRows.{narrow}
+use Rattle.ta_base.specs.declared.limits.Limits.{Limits}
 use Rattle.ta_automaton.specs.declared.file.File.{File}
 use Rattle.ta_automaton.specs.declared.pattern.Pattern.{Pattern}
 use Rattle.ta_check.specs.Certificate.{Certificate}
@@ -19,7 +19,7 @@ use Rattle.ta_verdict.specs.Certificates.{CertificateOf, safe_numbers}
 use Rattle.ta_verdict.specs.Verdicts.{AreVerdicts, IsSample, is_unknown}
 use Rattle.ta_search.specs.declared.outcome.Outcome.{Outcome}
 use Rattle.ta_search.specs.declared.outcome.Outcome.TheVariants as outcome
-use Rattle.ta_verdict.specs.declared.budget.Budget.{Budget}
+use Rattle.ta_search.specs.declared.terms.Terms.{Terms}
 
 -- whether a verdict says that a pattern is safe
 abbrev pub is_safe : Verdict → Bool
@@ -35,28 +35,28 @@ is_unsampled sample.Empty = false
 is_unsampled (sample.Spent count) = true
 is_unsampled (sample.Overflow node kind) = true
 
--- the filled text is refused for this error
-pub record IsRefusedFilling (bytes : List ℕ) (e : FileFault) : Type 0 where
-  pub within : length bytes ≤ narrow.bytes
-  pub first : FirstFault narrow bytes e
+-- the filled text is refused for this error, by a row of limits
+pub record IsRefusedFilling (l : Limits) (bytes : List ℕ) (e : FileFault) : Type 0 where
+  pub within : length bytes ≤ l.bytes
+  pub first : FirstFault l bytes e
   pub told : e ≢ fault.Memory
 
 -- the filled text means this file, and this is the sample of its parameters
-pub record IsSampled (bytes : List ℕ) (budget : Budget) (file : File) (s : ReportSample) : Type 0 where
-  pub within : length bytes ≤ narrow.bytes
-  pub legal : Legal narrow bytes file
-  pub sample : IsSample file budget.nodes s
+pub record IsSampled (bytes : List ℕ) (terms : Terms) (file : File) (s : ReportSample) : Type 0 where
+  pub within : length bytes ≤ terms.limits.bytes
+  pub legal : Legal terms.limits bytes file
+  pub sample : IsSample file terms.budget.nodes s
 
 -- its sample is this one
-pub record HasSample (bytes : List ℕ) (budget : Budget) (s : ReportSample) : Type 0 where
+pub record HasSample (bytes : List ℕ) (terms : Terms) (s : ReportSample) : Type 0 where
   pub file : File
-  pub sampled : IsSampled bytes budget file s
+  pub sampled : IsSampled bytes terms file s
 
 -- there are parameters with an initial configuration, and each pattern of the file has its verdict
-pub record HasVerdicts (bytes : List ℕ) (budget : Budget) (file : File) (vs : List Verdict) : Type 0 where
+pub record HasVerdicts (bytes : List ℕ) (terms : Terms) (file : File) (vs : List Verdict) : Type 0 where
   pub values : List ℤ
-  pub sampled : IsSampled bytes budget file (sample.Sample values)
-  pub verdicts : AreVerdicts file budget vs
+  pub sampled : IsSampled bytes terms file (sample.Sample values)
+  pub verdicts : AreVerdicts file terms.budget vs
 
 -- how many verdicts come before the first that is not Safe
 abbrev pub safe_before : List Verdict → ℕ
@@ -68,10 +68,10 @@ pub record IsFirstNotSafe (file : File) (verdicts : List Verdict) (p : Pattern) 
   pub verdict : slice_get verdicts (safe_before verdicts) ≡ Some v
 
 -- that pattern has this name, and is unsafe with a run of this text
-pub record IsUnsafe (bytes : List ℕ) (budget : Budget) (name text : List ℕ) : Type 0 where
+pub record IsUnsafe (bytes : List ℕ) (terms : Terms) (name text : List ℕ) : Type 0 where
   pub file : File
   pub verdicts : List Verdict
-  pub judged : HasVerdicts bytes budget file verdicts
+  pub judged : HasVerdicts bytes terms file verdicts
   pub p : Pattern
   pub nodes : ℕ
   pub run : Run
@@ -80,30 +80,30 @@ pub record IsUnsafe (bytes : List ℕ) (budget : Budget) (name text : List ℕ) 
   pub shown : text ≡ run_text file run
 
 -- that pattern has this name, and is unknown with this verdict
-pub record IsUnknown (bytes : List ℕ) (budget : Budget) (name : List ℕ) (v : Verdict) : Type 0 where
+pub record IsUnknown (bytes : List ℕ) (terms : Terms) (name : List ℕ) (v : Verdict) : Type 0 where
   pub file : File
   pub verdicts : List Verdict
-  pub judged : HasVerdicts bytes budget file verdicts
+  pub judged : HasVerdicts bytes terms file verdicts
   pub p : Pattern
   pub decides : IsFirstNotSafe file verdicts p v
   pub unknown : is_unknown v ≡ true
   pub named : name ≡ p.name
 
 -- every verdict is Safe, and this is the text of their certificate, which the checker accepts as one of exactly these patterns
-pub record IsSafe (bytes : List ℕ) (budget : Budget) (text : List ℕ) : Type 0 where
+pub record IsSafe (bytes : List ℕ) (terms : Terms) (text : List ℕ) : Type 0 where
   pub file : File
   pub verdicts : List Verdict
-  pub judged : HasVerdicts bytes budget file verdicts
+  pub judged : HasVerdicts bytes terms file verdicts
   pub all : AllByRecursion (λ v. is_safe v ≡ true) verdicts
-  pub certificate : CertificateOf file budget verdicts text
-  pub accepted : Certificate file narrow.line_bytes text (safe_numbers file verdicts)
+  pub certificate : CertificateOf file terms.budget verdicts text
+  pub accepted : Certificate file terms.limits.line_bytes text (safe_numbers file verdicts)
 
--- the outcome of a filled text holds, for a budget
-abbrev pub OutcomeHolds : List ℕ → Budget → Outcome → Type 0
-OutcomeHolds bytes budget outcome.Long = narrow.bytes < length bytes
-OutcomeHolds bytes budget (outcome.Refused e) = IsRefusedFilling bytes e
-OutcomeHolds bytes budget outcome.Empty = HasSample bytes budget sample.Empty
-OutcomeHolds bytes budget (outcome.SampleUnknown s) = HasSample bytes budget s × (is_unsampled s ≡ true)
-OutcomeHolds bytes budget (outcome.Unsafe name run) = IsUnsafe bytes budget name run
-OutcomeHolds bytes budget (outcome.Unknown name v) = IsUnknown bytes budget name v
-OutcomeHolds bytes budget (outcome.Safe certificate) = IsSafe bytes budget certificate
+-- the outcome of a filled text holds, for the terms of a search
+abbrev pub OutcomeHolds : List ℕ → Terms → Outcome → Type 0
+OutcomeHolds bytes terms outcome.Long = terms.limits.bytes < length bytes
+OutcomeHolds bytes terms (outcome.Refused e) = IsRefusedFilling terms.limits bytes e
+OutcomeHolds bytes terms outcome.Empty = HasSample bytes terms sample.Empty
+OutcomeHolds bytes terms (outcome.SampleUnknown s) = HasSample bytes terms s × (is_unsampled s ≡ true)
+OutcomeHolds bytes terms (outcome.Unsafe name run) = IsUnsafe bytes terms name run
+OutcomeHolds bytes terms (outcome.Unknown name v) = IsUnknown bytes terms name v
+OutcomeHolds bytes terms (outcome.Safe certificate) = IsSafe bytes terms certificate

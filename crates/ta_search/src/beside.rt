@@ -11,8 +11,9 @@
 //! vectors tried in vain.
 #![tactic(auto)]
 
-ghost use Rattle.std.specs.Prelude.{◌≡◌, ◌≤◌, ◌<◌, IfOk, IfSome};
+ghost use Rattle.std.specs.Prelude.{◌≡◌, ◌≤◌, ◌<◌, IfOk, IfSome, false};
 ghost use Rattle.std.specs.List.{AllByRecursion};
+ghost use Rattle.ta_base.specs.LimitRows.{narrow};
 ghost use denote.Param.Send.{IsSync};
 ghost use Rattle.ta_search.specs.declared.template.Template.{Template};
 ghost use Rattle.ta_search.specs.Holes.{vector_count};
@@ -23,12 +24,12 @@ ghost use Rattle.ta_verdict.specs.declared.budget.Budget.{Budget};
 
 use crate::outcome::Tried;
 use crate::template::Template;
+use crate::terms::Terms;
 use crate::vector::{is_found, try_vector};
 use std::alloc::{AllocError, Global};
 use std::sync::atomic::{AtomicU64, Ordering};
 use std::thread::{Threads, join};
 use ta_base::limits::MOST_NODES;
-use ta_verdict::Budget;
 use ta_walk::most_beside;
 
 /// In how many parts vectors are tried at most.
@@ -89,19 +90,20 @@ pub(crate) fn try_beside<R: Threads + Sync>(
     alloc: Global,
     template: &Template,
     count: u64,
-    budget: Budget,
+    terms: Terms,
 ) -> Result<Vec<Option<Tried>>, AllocError>
     requires count { count ≡ vector_count template.now.holes }
-    requires some { 0 < budget.nodes }
-    requires limit { budget.nodes ≤ MOST_NODES }
-    ensures { IfOk result (λ places. AtHand template.now budget places.items) }
+    requires some { 0 < terms.budget.nodes }
+    requires limit { terms.budget.nodes ≤ MOST_NODES }
+    requires narrow { terms.budget.lazy ≡ false → terms.limits ≡ narrow }
+    ensures { IfOk result (λ places. AtHand template.now terms places.items) }
 {
     let parts = (1 + most_beside(rt)).min(MOST_PARTS).min(count);
     if parts < 2 {
         return Ok(Vec::new(alloc));
     }
     let board = Board::new(count);
-    let placed = try_parts(rt, alloc, template, &board, budget, parts)?;
+    let placed = try_parts(rt, alloc, template, &board, terms, parts)?;
     in_places(alloc, count, placed)
 }
 
@@ -111,26 +113,27 @@ fn try_parts<R: Threads + Sync>(
     alloc: Global,
     template: &Template,
     board: &Board,
-    budget: Budget,
+    terms: Terms,
     parts: u64,
 ) -> Result<Vec<Placed>, AllocError>
     requires count { board.now.count ≡ vector_count template.now.holes }
-    requires some { 0 < budget.nodes }
-    requires limit { budget.nodes ≤ MOST_NODES }
-    ensures { IfOk result (λ placed. AllByRecursion (IsPlaced template.now budget) placed.items) }
+    requires some { 0 < terms.budget.nodes }
+    requires limit { terms.budget.nodes ≤ MOST_NODES }
+    requires narrow { terms.budget.lazy ≡ false → terms.limits ≡ narrow }
+    ensures { IfOk result (λ placed. AllByRecursion (IsPlaced template.now terms) placed.items) }
 {
     if parts < 2 {
-        return Ok(try_part(rt, alloc, template, board, budget));
+        return Ok(try_part(rt, alloc, template, board, terms));
     }
     let others = parts - 1;
     let back = move || -> Result<Vec<Placed>, AllocError>
-        requires { IsSync R.row × (board.now.count ≡ vector_count template.now.holes) × (0 < budget.nodes) × (budget.nodes ≤ MOST_NODES) }
-        ensures { IfOk result (λ placed. AllByRecursion (IsPlaced template.entry.now budget) placed.items) }
-    { try_parts(rt, alloc, template, board, budget, others) };
+        requires { IsSync R.row × (board.now.count ≡ vector_count template.now.holes) × (0 < terms.budget.nodes) × (terms.budget.nodes ≤ MOST_NODES) × (terms.budget.lazy ≡ false → terms.limits ≡ narrow) }
+        ensures { IfOk result (λ placed. AllByRecursion (IsPlaced template.entry.now terms) placed.items) }
+    { try_parts(rt, alloc, template, board, terms, others) };
     let front = move || -> Vec<Placed>
-        requires { IsSync R.row × (board.now.count ≡ vector_count template.now.holes) × (0 < budget.nodes) × (budget.nodes ≤ MOST_NODES) }
-        ensures { AllByRecursion (IsPlaced template.entry.now budget) result.items }
-    { try_part(rt, alloc, template, board, budget) };
+        requires { IsSync R.row × (board.now.count ≡ vector_count template.now.holes) × (0 < terms.budget.nodes) × (terms.budget.nodes ≤ MOST_NODES) × (terms.budget.lazy ≡ false → terms.limits ≡ narrow) }
+        ensures { AllByRecursion (IsPlaced template.entry.now terms) result.items }
+    { try_part(rt, alloc, template, board, terms) };
     let (rest, mut placed) = join(rt, back, front);
     placed.append(&mut rest?)?;
     Ok(placed)
@@ -143,19 +146,20 @@ fn try_part<R: Threads + Sync>(
     alloc: Global,
     template: &Template,
     board: &Board,
-    budget: Budget,
+    terms: Terms,
 ) -> Vec<Placed>
     requires count { board.now.count ≡ vector_count template.now.holes }
-    requires some { 0 < budget.nodes }
-    requires limit { budget.nodes ≤ MOST_NODES }
-    ensures { AllByRecursion (IsPlaced template.now budget) result.items }
+    requires some { 0 < terms.budget.nodes }
+    requires limit { terms.budget.nodes ≤ MOST_NODES }
+    requires narrow { terms.budget.lazy ≡ false → terms.limits ≡ narrow }
+    ensures { AllByRecursion (IsPlaced template.now terms) result.items }
 {
     let mut placed = Vec::new(alloc);
     'vectors: for _ in 0..board.count {
         let Some(place) = board.take() else {
             return placed;
         };
-        let goes_on = add_tried(rt, alloc, template, place, budget, &mut placed).unwrap_or(false);
+        let goes_on = add_tried(rt, alloc, template, place, terms, &mut placed).unwrap_or(false);
         if !goes_on {
             board.end_at(place);
         }
@@ -169,16 +173,17 @@ fn add_tried<R: Threads + Sync>(
     alloc: Global,
     template: &Template,
     place: u64,
-    budget: Budget,
+    terms: Terms,
     placed: &mut Vec<Placed>,
 ) -> Result<bool, AllocError>
     requires place { place < vector_count template.now.holes }
-    requires some { 0 < budget.nodes }
-    requires limit { budget.nodes ≤ MOST_NODES }
-    requires placed { AllByRecursion (IsPlaced template.now budget) placed.old.items }
-    ensures { AllByRecursion (IsPlaced template.now budget) placed.new.items }
+    requires some { 0 < terms.budget.nodes }
+    requires limit { terms.budget.nodes ≤ MOST_NODES }
+    requires narrow { terms.budget.lazy ≡ false → terms.limits ≡ narrow }
+    requires placed { AllByRecursion (IsPlaced template.now terms) placed.old.items }
+    ensures { AllByRecursion (IsPlaced template.now terms) placed.new.items }
 {
-    let tried = try_vector(rt, alloc, template, place, budget)?;
+    let tried = try_vector(rt, alloc, template, place, terms)?;
     let goes_on = !is_found(&tried.outcome);
     placed.push(Placed { place, tried })?;
     Ok(goes_on)
@@ -190,7 +195,7 @@ fn in_places(
     count: u64,
     placed: Vec<Placed>,
 ) -> Result<Vec<Option<Tried>>, AllocError>
-    ensures { (t : Template) (budget : Budget) → AllByRecursion (IsPlaced t budget) placed.items → IfOk result (λ places. AtHand t budget places.items) }
+    ensures { (t : Template) (terms : Terms) → AllByRecursion (IsPlaced t terms) placed.items → IfOk result (λ places. AtHand t terms places.items) }
 {
     let mut places = empty_places(alloc, count)?;
     'placed: for Placed { place, tried } in placed {
@@ -201,7 +206,7 @@ fn in_places(
 
 /// So many empty places.
 fn empty_places(alloc: Global, count: u64) -> Result<Vec<Option<Tried>>, AllocError>
-    ensures { IfOk result (λ places. (t : Template) (budget : Budget) → AtHand t budget places.items) }
+    ensures { IfOk result (λ places. (t : Template) (terms : Terms) → AtHand t terms places.items) }
 {
     let mut places = Vec::new(alloc);
     'numbers: for _ in 0..count {
@@ -212,7 +217,7 @@ fn empty_places(alloc: Global, count: u64) -> Result<Vec<Option<Tried>>, AllocEr
 
 /// Puts a vector that was tried to its place.
 fn put(places: &mut Vec<Option<Tried>>, place: u64, tried: Tried)
-    ensures { (t : Template) (budget : Budget) → AtHand t budget places.old.items → IsTried t budget (vector_at t.holes place) tried → AtHand t budget places.new.items }
+    ensures { (t : Template) (terms : Terms) → AtHand t terms places.old.items → IsTried t terms (vector_at t.holes place) tried → AtHand t terms places.new.items }
 {
     if let Some(slot) = places.get_mut(place as usize) {
         *slot = Some(tried);
@@ -221,8 +226,8 @@ fn put(places: &mut Vec<Option<Tried>>, place: u64, tried: Tried)
 
 /// Takes the vector of a number, where it was tried.
 pub(crate) fn take(places: &mut Vec<Option<Tried>>, place: u64) -> Option<Tried>
-    ensures is { (t : Template) (budget : Budget) → AtHand t budget places.old.items → IfSome result (λ tried. IsTried t budget (vector_at t.holes place) tried) }
-    ensures left { (t : Template) (budget : Budget) → AtHand t budget places.old.items → AtHand t budget places.new.items }
+    ensures is { (t : Template) (terms : Terms) → AtHand t terms places.old.items → IfSome result (λ tried. IsTried t terms (vector_at t.holes place) tried) }
+    ensures left { (t : Template) (terms : Terms) → AtHand t terms places.old.items → AtHand t terms places.new.items }
 {
     places.get_mut(place as usize)?.take()
 }

@@ -25,7 +25,7 @@ pub fn texts_are_templates()
     ensures { TemplatesHaveAnswers }
 {}
 
-/// A template has one end of its search for a budget, and so one text.
+/// A template has one end of its search for a budget and by a row of limits, and so one text.
 pub fn searches_are_determined()
     ensures { SearchesAreDetermined }
 {

@@ -17,6 +17,7 @@ mod printing;
 mod reading;
 mod searching;
 mod template;
+mod terms;
 mod vector;
 
 pub use certificate::CertificateText;
@@ -32,3 +33,4 @@ pub use printing::search_text;
 pub use reading::read_template;
 pub use searching::search;
 pub use template::{Hole, Template};
+pub use terms::Terms;

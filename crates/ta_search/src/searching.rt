@@ -1,7 +1,8 @@
 //! The search for values with which every pattern is safe.
 #![tactic(auto)]
 
-ghost use Rattle.std.specs.Prelude.{◌≡◌, ◌≤◌, ◌<◌, IfOk, true};
+ghost use Rattle.std.specs.Prelude.{◌≡◌, ◌≤◌, ◌<◌, IfOk, false, true};
+ghost use Rattle.ta_base.specs.LimitRows.{narrow};
 ghost use Rattle.ta_search.specs.Holes.{vector_count};
 ghost use Rattle.ta_search.specs.Inside.Beside.{AtHand};
 ghost use Rattle.ta_search.specs.Inside.Trying.{vector_at};
@@ -11,12 +12,12 @@ use crate::beside::{take, try_beside};
 use crate::lines::vector_count;
 use crate::outcome::{SearchEnd, Tried};
 use crate::template::Template;
+use crate::terms::Terms;
 use crate::vector::{is_found, try_vector};
 use std::alloc::{AllocError, Global};
 use std::thread::Threads;
 use ta_base::List;
 use ta_base::limits::MOST_NODES;
-use ta_verdict::Budget;
 
 /// Tries the vectors of a template in lexicographic order, up to the first with which every pattern
 /// is safe, each within the budget. Where there are threads, vectors are tried beside each other;
@@ -25,18 +26,19 @@ pub fn search<R: Threads + Sync>(
     rt: &R,
     alloc: Global,
     template: &Template,
-    budget: Budget,
+    terms: Terms,
 ) -> Result<SearchEnd, AllocError>
-    requires some { 0 < budget.nodes }
-    requires limit { budget.nodes ≤ MOST_NODES }
-    ensures end { IfOk result (λ end. IsSearchEnd template.now budget end) }
-    ensures found { IfOk result (λ end. end.found ≡ true → LastIsFound template.now end) }
+    requires some { 0 < terms.budget.nodes }
+    requires limit { terms.budget.nodes ≤ MOST_NODES }
+    requires narrow { terms.budget.lazy ≡ false → terms.limits ≡ narrow }
+    ensures end { IfOk result (λ end. IsSearchEnd template.now terms end) }
+    ensures found { IfOk result (λ end. end.found ≡ true → LastIsFound template.now terms.limits end) }
 {
     let count = vector_count(template.holes.as_slice());
-    let mut at_hand = try_beside(rt, alloc, template, count, budget)?;
+    let mut at_hand = try_beside(rt, alloc, template, count, terms)?;
     let mut tried = Vec::new(alloc);
     'vectors: for place in 0..count {
-        let next = next_tried(rt, alloc, template, place, budget, &mut at_hand)?;
+        let next = next_tried(rt, alloc, template, place, terms, &mut at_hand)?;
         let found = is_found(&next.outcome);
         tried.push(next)?;
         if found {
@@ -58,18 +60,19 @@ fn next_tried<R: Threads + Sync>(
     alloc: Global,
     template: &Template,
     place: u64,
-    budget: Budget,
+    terms: Terms,
     at_hand: &mut Vec<Option<Tried>>,
 ) -> Result<Tried, AllocError>
     requires place { place < vector_count template.now.holes }
-    requires some { 0 < budget.nodes }
-    requires limit { budget.nodes ≤ MOST_NODES }
-    requires at_hand { AtHand template.now budget at_hand.old.items }
-    ensures tried { IfOk result (λ tried. IsTried template.now budget (vector_at template.now.holes place) tried) }
-    ensures at_hand { AtHand template.now budget at_hand.new.items }
+    requires some { 0 < terms.budget.nodes }
+    requires limit { terms.budget.nodes ≤ MOST_NODES }
+    requires narrow { terms.budget.lazy ≡ false → terms.limits ≡ narrow }
+    requires at_hand { AtHand template.now terms at_hand.old.items }
+    ensures tried { IfOk result (λ tried. IsTried template.now terms (vector_at template.now.holes place) tried) }
+    ensures at_hand { AtHand template.now terms at_hand.new.items }
 {
     match take(at_hand, place) {
         Some(tried) => Ok(tried),
-        None => try_vector(rt, alloc, template, place, budget),
+        None => try_vector(rt, alloc, template, place, terms),
     }
 }

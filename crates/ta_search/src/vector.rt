@@ -3,7 +3,7 @@
 
 ghost use Rattle.std.specs.Prelude.{◌≡◌, ◌≤◌, ◌<◌, ◌++◌, IfOk, OnOk, List, ℕ, ℤ, false, length};
 ghost use Rattle.std.specs.List.{AllByRecursion};
-ghost use Rattle.ta_automaton.specs.Narrow.{IsNarrow};
+ghost use Rattle.ta_automaton.specs.Narrow.{IsWithin};
 ghost use Rattle.ta_base.specs.LimitRows.{narrow};
 ghost use Rattle.ta_meaning.specs.Reading.{Legal};
 ghost use Rattle.ta_report.specs.Report.{VerdictFits};
@@ -19,17 +19,18 @@ use crate::filling::fill;
 use crate::lines::vector_count;
 use crate::outcome::{Outcome, Tried};
 use crate::template::{Hole, Template};
+use crate::terms::Terms;
 use std::alloc::{AllocError, Global};
 use std::thread::Threads;
 use ta_automaton::File;
-use ta_base::limits::{Limits, MOST_NODES, MOST_VECTORS};
+use ta_base::limits::{MOST_NODES, MOST_VECTORS};
 use ta_base::{List, Text};
 use ta_meaning::read_file;
 use ta_replay::print_run;
 use ta_report::{ReportSample, Verdict};
 use ta_scope::ScopedFile;
 use ta_syntax::FileFault;
-use ta_verdict::{Budget, judge_file, sample_of};
+use ta_verdict::{judge_file, sample_of};
 
 /// Whether an outcome says that every pattern is safe.
 pub(crate) fn is_found(outcome: &Outcome) -> bool
@@ -44,17 +45,18 @@ pub(crate) fn try_vector<R: Threads + Sync>(
     alloc: Global,
     template: &Template,
     place: u64,
-    budget: Budget,
+    terms: Terms,
 ) -> Result<Tried, AllocError>
     requires place { place < vector_count template.now.holes }
-    requires some { 0 < budget.nodes }
-    requires limit { budget.nodes ≤ MOST_NODES }
-    ensures { IfOk result (λ tried. IsTried template.now budget (vector_at template.now.holes place) tried) }
+    requires some { 0 < terms.budget.nodes }
+    requires limit { terms.budget.nodes ≤ MOST_NODES }
+    requires narrow { terms.budget.lazy ≡ false → terms.limits ≡ narrow }
+    ensures { IfOk result (λ tried. IsTried template.now terms (vector_at template.now.holes place) tried) }
 {
     let mut values = Vec::new(alloc);
     push_vector(&mut values, template.holes.as_slice(), place)?;
     let bytes = fill(alloc, template, values.as_slice())?;
-    let outcome = text_outcome(rt, alloc, bytes.as_slice(), budget)?;
+    let outcome = text_outcome(rt, alloc, bytes.as_slice(), terms)?;
     Ok(Tried {
         values: List::from_vec(values),
         outcome,
@@ -81,18 +83,18 @@ fn text_outcome<R: Threads + Sync>(
     rt: &R,
     alloc: Global,
     bytes: &[u8],
-    budget: Budget,
+    terms: Terms,
 ) -> Result<Outcome, AllocError>
-    requires some { 0 < budget.nodes }
-    requires limit { budget.nodes ≤ MOST_NODES }
-    ensures { IfOk result (OutcomeHolds bytes.now budget) }
+    requires some { 0 < terms.budget.nodes }
+    requires limit { terms.budget.nodes ≤ MOST_NODES }
+    requires narrow { terms.budget.lazy ≡ false → terms.limits ≡ narrow }
+    ensures { IfOk result (OutcomeHolds bytes.now terms) }
 {
-    let limits = Limits::narrow();
-    if bytes.len() > limits.bytes {
+    if bytes.len() > terms.limits.bytes {
         return Ok(Outcome::Long);
     }
-    match read_file(alloc, bytes, &limits) {
-        Ok(scoped) => file_outcome(rt, alloc, &scoped, budget),
+    match read_file(alloc, bytes, &terms.limits) {
+        Ok(scoped) => file_outcome(rt, alloc, &scoped, terms),
         Err(FileFault::Memory) => Err(AllocError),
         Err(fault) => Ok(Outcome::Refused(fault)),
     }
@@ -103,15 +105,16 @@ fn file_outcome<R: Threads + Sync>(
     rt: &R,
     alloc: Global,
     scoped: &ScopedFile,
-    budget: Budget,
+    terms: Terms,
 ) -> Result<Outcome, AllocError>
-    requires some { 0 < budget.nodes }
-    requires limit { budget.nodes ≤ MOST_NODES }
-    requires narrow { IsNarrow scoped.now.file.automaton }
-    ensures { (bytes : List ℕ) → length bytes ≤ narrow.bytes → Legal narrow bytes scoped.now.file → IfOk result (OutcomeHolds bytes budget) }
+    requires some { 0 < terms.budget.nodes }
+    requires limit { terms.budget.nodes ≤ MOST_NODES }
+    requires narrow { terms.budget.lazy ≡ false → terms.limits ≡ narrow }
+    requires within { IsWithin terms.limits scoped.now.file.automaton }
+    ensures { (bytes : List ℕ) → length bytes ≤ terms.limits.bytes → Legal terms.limits bytes scoped.now.file → IfOk result (OutcomeHolds bytes terms) }
 {
-    match sample_of(alloc, &scoped.file, budget.nodes)? {
-        ReportSample::Sample(_) => patterns_outcome(rt, alloc, scoped, budget),
+    match sample_of(alloc, &scoped.file, terms.budget.nodes)? {
+        ReportSample::Sample(_) => patterns_outcome(rt, alloc, scoped, terms),
         ReportSample::Empty => Ok(Outcome::Empty),
         ReportSample::Spent { count } => {
             Ok(Outcome::SampleUnknown(ReportSample::Spent { count }))
@@ -127,14 +130,15 @@ fn patterns_outcome<R: Threads + Sync>(
     rt: &R,
     alloc: Global,
     scoped: &ScopedFile,
-    budget: Budget,
+    terms: Terms,
 ) -> Result<Outcome, AllocError>
-    requires some { 0 < budget.nodes }
-    requires limit { budget.nodes ≤ MOST_NODES }
-    requires narrow { IsNarrow scoped.now.file.automaton }
-    ensures { (bytes : List ℕ) (values : List ℤ) → IsSampled bytes budget scoped.now.file (Sample values) → IfOk result (OutcomeHolds bytes budget) }
+    requires some { 0 < terms.budget.nodes }
+    requires limit { terms.budget.nodes ≤ MOST_NODES }
+    requires narrow { terms.budget.lazy ≡ false → terms.limits ≡ narrow }
+    requires within { IsWithin terms.limits scoped.now.file.automaton }
+    ensures { (bytes : List ℕ) (values : List ℤ) → IsSampled bytes terms scoped.now.file (Sample values) → IfOk result (OutcomeHolds bytes terms) }
 {
-    let judged = judge_file(rt, alloc, scoped, budget, true)?;
+    let judged = judge_file(rt, alloc, scoped, terms.budget, true)?;
     let verdicts = judged.verdicts.as_slice();
     let place = safe_before(verdicts);
     match verdicts.get(place) {

@@ -43,6 +43,7 @@ one_more r moments moment = ap (λ n. n * r) (length-append moments (moment ∷ 
   where
     more : length moments + 1 ≡ suc (length moments)
     more = omega arith
+
     turned : length moments * r + r ≡ r + length moments * r
     turned = omega arith
 

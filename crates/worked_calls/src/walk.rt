@@ -107,7 +107,9 @@ impl Dictionary for NoRoom {
 #[test]
 fn walks_without_room(rt: HostRuntime) {
     let scoped = read_file(rt.alloc(), FILE, &Limits::narrow()).expect(&rt, "a file");
-    assert!(rt; !scoped.file().patterns.as_slice().is_empty());
+    assert!(rt;
+        !scoped.file().patterns.as_slice().is_empty() && scoped.file().automaton.is_narrow()
+    );
     let orders = Orders::new();
     let tree = ClaimTree::new(Claim::Safe, scoped.file(), 0, &orders);
     assert!(rt; walk::<NoRoom, HostRuntime>(&rt, rt.alloc(), &tree, 10).is_err());
@@ -148,7 +150,9 @@ fn family<R: Abort>(rt: &R, alloc: Global) -> ScopedFile {
 #[test]
 fn halves_meet(rt: HostRuntime) {
     let scoped = family(&rt, rt.alloc());
-    assert!(rt; !scoped.file().patterns.as_slice().is_empty());
+    assert!(rt;
+        !scoped.file().patterns.as_slice().is_empty() && scoped.file().automaton.is_narrow()
+    );
     let gate = Meeting {
         came: AtomicU64::new(0),
         vain: AtomicU64::new(0),
@@ -176,7 +180,10 @@ fn left<R: Abort>(rt: &R, alloc: Global) -> RestFile {
 #[test]
 fn words_of_rest_are_walked(rt: HostRuntime) {
     let rest = left(&rt, rt.alloc());
-    assert!(rt; !rest.ending().file().patterns.as_slice().is_empty());
+    assert!(rt;
+        !rest.ending().file().patterns.as_slice().is_empty()
+            && rest.ending().file().automaton.is_narrow()
+    );
     let orders = Orders::new();
     let tree = ClaimTree::new(Claim::RestSafe, rest.ending().file(), 0, &orders);
     let end = walk::<NarrowDictionary, HostRuntime>(&rt, rt.alloc(), &tree, 10);

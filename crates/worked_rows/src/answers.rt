@@ -12,6 +12,7 @@ use crate::towers::pivots;
 use crate::trees;
 use std::alloc::AllocError;
 use std::thread::Threads;
+use ta_base::limits::Limits;
 
 /// Writes what a row gives. Where that is a file, it is kept instead, and the answer is false.
 pub fn answer<R: Threads + Sync>(
@@ -87,7 +88,8 @@ fn of_text<R: Threads + Sync>(
         "lines" => lines(given, text),
         "tree" => trees::fault(given, text),
         "tree-cuts" => trees::cuts(given, text),
-        "tree-limit" => trees::limit(given, text),
+        "tree-limit" => trees::limit(given, text, &Limits::narrow()),
+        "wide-limit" => trees::limit(given, text, &Limits::wide()),
         "prints" => trees::printed(given, text),
         _ => return of_file(rt, given, files, what, text),
     }

@@ -10,6 +10,7 @@ use crate::beside::Beside;
 use crate::describing::say_rows;
 use crate::given::Given;
 use crate::table::cut;
+use crate::walks::has_words;
 use std::alloc::AllocError;
 use ta_automaton::File;
 use ta_encode::{Bound, Encoded, Meaning, Side, encode, unknown_count};
@@ -22,7 +23,7 @@ use ta_words::{Element, NarrowTask, Word, allowed_rules, children, is_complete};
 pub fn of_word(given: &mut Given, file: &File, what: &str, rest: &str) -> Result<(), AllocError> {
     let (mask, rest) = cut(rest);
     let start_mask = mask.parse::<u8>().unwrap_or(0);
-    if file.patterns.as_slice().is_empty() {
+    if !has_words(file) {
         return given.end("no word of pattern 0");
     }
     let task = NarrowTask::of(file, 0);

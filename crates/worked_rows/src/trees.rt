@@ -3,20 +3,20 @@
 
 use crate::given::Given;
 use std::alloc::{AllocError, Global};
-use ta_base::limits::FILE_BYTES;
+use ta_base::limits::{FILE_BYTES, Limits};
 use ta_syntax::{FileFault, Tree, print_then_read, print_tree, read_tree};
 
-/// The first error of a text as a tree.
-fn fault_of(alloc: Global, bytes: &[u8]) -> Option<FileFault> {
+/// The first error of a text as a tree within these limits.
+fn fault_of(alloc: Global, bytes: &[u8], limits: &Limits) -> Option<FileFault> {
     if bytes.len() > FILE_BYTES {
         return Some(FileFault::Memory);
     }
-    read_tree(alloc, bytes).err()
+    read_tree(alloc, bytes, limits).err()
 }
 
 /// The first error of a text as a tree, or `a tree`.
 pub fn fault(given: &mut Given, text: &str) {
-    match fault_of(given.alloc, text.as_bytes()) {
+    match fault_of(given.alloc, text.as_bytes(), &Limits::narrow()) {
         Some(fault) => given.value(&fault),
         None => given.say("a tree"),
     }
@@ -28,7 +28,7 @@ pub fn printed(given: &mut Given, text: &str) {
     if bytes.len() > FILE_BYTES {
         return given.say("too long");
     }
-    match read_tree(given.alloc, bytes) {
+    match read_tree(given.alloc, bytes, &Limits::narrow()) {
         Ok(tree) => print_twice(given, &tree),
         Err(fault) => given.value(&fault),
     }
@@ -38,7 +38,7 @@ fn print_twice(given: &mut Given, tree: &Tree) {
     match print_tree(given.alloc, tree) {
         Ok(text) if text.as_str().len() <= FILE_BYTES => {
             given.say(text.as_str());
-            print_again(given, print_then_read(given.alloc, tree));
+            print_again(given, print_then_read(given.alloc, tree, &Limits::narrow()));
         }
         _ => given.say("not printed"),
     }
@@ -55,9 +55,10 @@ fn print_again(given: &mut Given, read: Result<Tree, FileFault>) {
     }
 }
 
-/// Where a text with so many items behind it, and with one more, has a list that is past its limit.
+/// Where a text with so many items behind it, and with one more, has a list that is past its limit in
+/// a row of limits.
 /// Between ` | ` stand how many, the item, and the text.
-pub fn limit(given: &mut Given, rest: &str) {
+pub fn limit(given: &mut Given, rest: &str, limits: &Limits) {
     let (count, rest) = rest.split_once(" | ").unwrap_or((rest, ""));
     let (item, front) = rest.split_once(" | ").unwrap_or((rest, ""));
     let mut text = Given::new(given.alloc);
@@ -65,14 +66,14 @@ pub fn limit(given: &mut Given, rest: &str) {
     for _ in 0..count.parse::<u16>().unwrap_or(0) {
         text.say(item);
     }
-    given.value(&past_limit(&text));
+    given.value(&past_limit(&text, limits));
     text.say(item);
     given.say(" ");
-    given.value(&past_limit(&text));
+    given.value(&past_limit(&text, limits));
 }
 
-fn past_limit(text: &Given) -> Option<u32> {
-    match fault_of(text.alloc, text.as_str().as_bytes()) {
+fn past_limit(text: &Given, limits: &Limits) -> Option<u32> {
+    match fault_of(text.alloc, text.as_str().as_bytes(), limits) {
         Some(FileFault::TooMany(at)) => Some(at),
         _ => None,
     }
@@ -86,7 +87,7 @@ pub fn cuts(given: &mut Given, text: &str) {
     let bytes = text.as_bytes();
     for length in 0..bytes.len() + 1 {
         let cut = &bytes[..length];
-        if !is_right(cut, fault_of(given.alloc, cut)) {
+        if !is_right(cut, fault_of(given.alloc, cut, &Limits::narrow())) {
             given.number(", but at ", length);
         }
     }

@@ -5,12 +5,18 @@ use crate::beside::Beside;
 use crate::given::Given;
 use std::alloc::AllocError;
 use std::thread::Threads;
+use ta_automaton::File;
 use ta_base::limits::MOST_NODES;
 use ta_cert::{Order, Proof, write_cert};
 use ta_dense::NarrowDictionary;
 use ta_rest::{Claim, ClaimTree};
 use ta_scope::ScopedFile;
 use ta_walk::{PlaceKind, WalkEnd, find_orders, walk};
+
+/// Whether a file has words of pattern 0.
+pub fn has_words(file: &File) -> bool {
+    file.automaton.is_narrow() && !file.patterns.as_slice().is_empty()
+}
 
 /// How the walk of pattern 0 ends under the orders that are found, and the certificate of a refutation.
 pub fn end<R: Threads + Sync>(
@@ -20,7 +26,7 @@ pub fn end<R: Threads + Sync>(
     nodes: u64,
     narrow: bool,
 ) -> Result<(), AllocError> {
-    if scoped.file().patterns.as_slice().is_empty() || nodes == 0 || nodes > MOST_NODES {
+    if !has_words(scoped.file()) || nodes == 0 || nodes > MOST_NODES {
         return given.end("no such walk");
     }
     let found = find_orders::<NarrowDictionary>(given.alloc, scoped)?;
@@ -68,7 +74,7 @@ pub fn solution<R: Threads + Sync>(
     scoped: &ScopedFile,
 ) -> Result<(), AllocError> {
     given.say("values");
-    if scoped.file().patterns.as_slice().is_empty() {
+    if !has_words(scoped.file()) {
         return Ok(());
     }
     let orders = find_orders::<NarrowDictionary>(given.alloc, scoped)?.orders;

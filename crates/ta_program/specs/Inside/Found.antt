@@ -9,7 +9,8 @@ use Rattle.ta_automaton.specs.declared.file.File.{File}
 use Rattle.ta_shelf.specs.Reading.{SaysOfFile}
 use Rattle.ta_moments.specs.declared.fault.SilentFault.{SilentFault}
 use Rattle.ta_moments.specs.declared.fault.SilentFault.TheVariants as fault
-use Rattle.ta_program.specs.declared.limits.TheConstants.{FILE}
+use Rattle.ta_base.specs.LimitRows.{narrow}
+use Rattle.ta_program.specs.Kinds.{file_limit}
 use Rattle.ta_program.specs.SilentNames.{NamesHinder, silent_fault_text}
 use Rattle.ta_program.specs.PatternOption.{PickHinders}
 use Rattle.ta_program.specs.Export.{WordHinders}
@@ -46,4 +47,4 @@ PickRefused name file pattern Memory = ⊥
 -- a refusal names this error, or says that memory ran out
 abbrev pub TellsSilent : List ℕ → SilentFault → Refusal → Type 0
 TellsSilent name fault.Memory refusal = refusal ≡ Memory
-TellsSilent name f refusal = SaysOfFile FILE name (silent_fault_text f) refusal
+TellsSilent name f refusal = SaysOfFile (file_limit narrow) name (silent_fault_text f) refusal

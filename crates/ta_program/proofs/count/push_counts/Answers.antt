@@ -7,7 +7,8 @@ use Rattle.ta_program.proofs.count.push_counts.Goals as goal
 pub returns : goal.returns
 returns c =
     let file = c.args.file.now in
-    let counts = counts_of file in
+    let l = c.args.limits.now in
+    let counts = counts_of l file in
     let count : ℕ → List ℕ × ℕ × ℕ = λ k. get_or counts k ([], 0, 0) in
     let t0 = string_bytes c.args.text.now in
     let t1 = string_bytes c.push_length.new.text in
@@ -18,7 +19,7 @@ returns c =
     let t6 = string_bytes c.push_length-6.new.text in
     let t7 = string_bytes c.push_length-7.new.text in
     let t8 = string_bytes c.push_line.new.text in
-    let all = t0 ++ count_text file in
+    let all = t0 ++ count_text l file in
     let events = c.most_events-events.ensures ∙ ap most_events c.as_slice.ensures in
     let last : t8 ≡ t7 ++ count_line (count 7) = c.in_ok-push_line.ensures ∙ ap (λ (n : ℕ). t7 ++ count_line (codes "events", n, MOST_EVENTS)) events in
     sym (append-nil t8)

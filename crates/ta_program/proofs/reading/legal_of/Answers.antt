@@ -1,5 +1,4 @@
 use Rattle.ta_program.proofs.Common.{◌≢◌, refl, inl, inr, rules}
-use Rattle.ta_base.specs.LimitRows.{narrow}
 use Rattle.ta_meaning.specs.FirstFault.{FirstFault}
 use Rattle.ta_syntax.specs.declared.fault.FileFault.TheVariants as fault
 use Rattle.ta_program.proofs.reading.legal_of.Goals as goal
@@ -7,5 +6,6 @@ use Rattle.ta_program.proofs.reading.legal_of.Goals as goal
 pub returns-in-Err-clause-meant : goal.returns-in-Err-clause-meant
 returns-in-Err-clause-meant c =
     let other : c.in-Err.fault ≢ fault.Memory = search rules in
-    let found : FirstFault narrow c.args.bytes.now c.in-Err.fault = elim (rw c.narrow.ensures at c.in-Err.ensures.reads) [ inl memory ↦ absurd (other memory) | inr first ↦ first ] in
+    let found : FirstFault c.args.limits.now c.args.bytes.now c.in-Err.fault = elim c.in-Err.ensures.reads
+    [ inl memory ↦ absurd (other memory) | inr first ↦ first ] in
     (refl, refl, c.in-Err.fault, found, c.file_fault_phrase.ensures)

@@ -11,6 +11,6 @@ first_of bytes (fault.UnknownHole offset) other is = is
 first_of bytes fault.Memory other is = absurd (other (λ i. fault.Memory))
 
 pub returns-in-Err-clause-meant : goal.returns-in-Err-clause-meant
-returns-in-Err-clause-meant c =
+returns-in-Err-clause-meant c = λ l.
     let other : c.in-Err.fault ≢ fault.Memory = search rules in
     (refl, refl, c.in-Err.fault, first_of c.args.bytes.now c.in-Err.fault other c.in-Err.ensures.fault, c.template_fault_phrase.ensures)

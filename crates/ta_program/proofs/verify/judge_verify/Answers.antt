@@ -13,7 +13,8 @@ returns-in-Ok-clause-says g c =
     record {
       lost = so.lost;
       middle = _;
-      says = grew_spared file_kind (λ (s : ScopedFile). s.file) files asked.file (may_put asked.out) (picked_meaning asked) (picked_monotone asked) (λ v. refl)
+      says = grew_spared (file_kind asked.limits) (λ (s : ScopedFile). s.file) files asked.file (may_put asked.out) (picked_meaning asked)
+          (picked_monotone asked) (λ v. refl)
           c.in-Ok.scoped (result_seen g.S.Shelf.stage_bytes so.lost c.answer_picked-answer.result) _ _
           (rw c.one.ensures at c.in-Ok.ensures.stage) so.says;
       staged = subst (λ (n : ℕ). Changed
@@ -33,7 +34,8 @@ returns-in-Err-clause-says g c =
       middle = _;
       says = subst (λ (seen : Result Answer Refusal). Grew (Says m files seen) (g.S.Shelf.calls c.args.shelf.now) (g.S.Shelf.calls c.read_spared.new.shelf))
           (sym (unread_seen ScopedFile g.S.Shelf.stage_bytes [] c.in-Err.refusal _ _ c.in-Err.ensures.cause))
-          (grew_kept file_kind (λ (s : ScopedFile). s.file) files asked.file (may_put asked.out) (picked_meaning asked) (omega arith) (omega arith)
+          (grew_kept (file_kind asked.limits) (λ (s : ScopedFile). s.file) files asked.file (may_put asked.out) (picked_meaning asked) (omega arith)
+          (omega arith)
           c.in-Err.refusal _ _ (rw c.one.ensures at c.in-Err.ensures.stage));
       staged = none_staged _ _ (unread_staged ScopedFile m.puts g.S.Shelf.stage_name g.S.Shelf.stage_bytes c.in-Err.refusal _ _ c.in-Err.ensures.cause);
     }

@@ -21,7 +21,7 @@ returns-clause-certificate g c = λ begun has.
       has = c.in_ok-add-2.ensures.added begun (head ++ proofs_text made.0) (ended_line line.End) made.2 c.in_ok-end.ensures.text;
       certificate = certificate;
       accepted = certificate_accepted file c.args.pick c.args.budget c.requires.narrow
-      (loops_pure file.automaton s.in_scope) c.requires.limit c.from_vec.result text certificate;
+          (loops_pure file.automaton s.in_scope) c.requires.limit c.from_vec.result text certificate;
     }
 
 pub returns-in_err-verdicts-clause-stops : goal.returns-in_err-verdicts-clause-stops

@@ -6,6 +6,5 @@ use Rattle.ta_program.proofs.check.CheckRequest.read.Goals as goal
 
 pub returns : goal.returns
 returns c =
-    asked_for check_seen (λ asked. Some asked.file) (λ asked. check_meaning asked.file asked.other asked.options)
-    (λ asked. check_decides asked.file asked.other asked.options) (λ asked. check_passes asked.file asked.other asked.options)
+    asked_for check_seen (λ asked. Some (asked.file, asked.limits)) check_meaning check_decides check_passes
     c.read_check.result (check_words (map (λ w. w.now) c.args.words.now)) c.read_check.ensures

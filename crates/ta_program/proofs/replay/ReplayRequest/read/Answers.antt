@@ -6,6 +6,5 @@ use Rattle.ta_program.proofs.replay.ReplayRequest.read.Goals as goal
 
 pub returns : goal.returns
 returns c =
-    asked_for replay_seen (λ asked. Some asked.file) (λ asked. replay_meaning asked.file asked.other asked.json)
-    (λ asked. replay_decides asked.file asked.other asked.json) (λ asked. replay_passes asked.file asked.other asked.json)
+    asked_for replay_seen (λ asked. Some (asked.file, asked.limits)) replay_meaning replay_decides replay_passes
     c.read_replay.result (replay_words (map (λ w. w.now) c.args.words.now)) c.read_replay.ensures

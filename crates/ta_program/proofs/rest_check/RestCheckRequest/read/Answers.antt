@@ -6,7 +6,5 @@ use Rattle.ta_program.proofs.rest_check.RestCheckRequest.read.Goals as goal
 
 pub returns : goal.returns
 returns c =
-    asked_where rest_check_seen (λ asked. LegalSilently asked.file asked.silent) (λ asked. rest_check_meaning asked.file asked.other asked.silent asked.options)
-    (λ asked. rest_check_decides asked.file asked.other asked.silent asked.options)
-    (λ asked. rest_check_passes asked.file asked.other asked.silent asked.options)
+    asked_where rest_check_seen (λ asked. LegalSilently asked.limits asked.file asked.silent) rest_check_meaning rest_check_decides rest_check_passes
     c.read_rest_check.result (rest_check_words (map (λ w. w.now) c.args.words.now)) c.read_rest_check.ensures

@@ -5,5 +5,5 @@ use Rattle.ta_program.proofs.verify.VerifyStagingRequest.read.Goals as goal
 
 pub returns : goal.returns
 returns c =
-    asked_where verify_seen (λ asked. LegalPicked asked.file asked.pattern) verify_meaning verify_decides verify_passes
+    asked_where verify_seen (λ asked. LegalPicked asked.limits asked.file asked.pattern) verify_meaning verify_decides verify_passes
     c.read_verify.result (verify_words (map (λ w. w.now) c.args.words.now)) c.read_verify.ensures
