@@ -56,7 +56,7 @@ usage_line =
     ++ codes "show FILE, export FILE PATTERN START WORD, admit FILE PATTERN START WORD VALUES, version, --lazy with verify, rest or search, "
     ++ codes "--silent NAMES with rest or rest-check, --json with rest, search, check, rest-check or replay, --pattern NAME with verify or rest, "
     ++ codes "--all with verify, rest, check or rest-check, --parameters with check, "
-    ++ codes "--wide with check, rest-check, replay, compress, count, show or --lazy\n"
+    ++ codes "--wide with verify, rest, search, check, rest-check, replay, compress, count or show\n"
 
 -- the words are no command's: nothing is read or written, and the line says so
 pub record OfNoCommand (number : ℕ) (before after : State) : Type 0 where
