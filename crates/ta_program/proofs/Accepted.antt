@@ -1,6 +1,8 @@
 -- what `verify` puts `check` accepts
 use Rattle.ta_base.specs.declared.limits.Limits.{Limits}
-use Rattle.ta_program.proofs.Common.{tree_safe, ◌≡◌, ◌∙◌, ◌≤◌, ℕ, List, [], length, Option, None, Some, refl, sym, ap, subst, inl, File, AllSafe, Certificate}
+use Rattle.ta_program.specs.Values.{limits_of}
+use Rattle.ta_program.proofs.Common.{Bool, tree_safe, ◌≡◌, ◌∙◌, ◌≤◌, ℕ, List, [], length, Option, None, Some, refl, sym, ap, subst, inl, File, AllSafe}
+use Rattle.ta_program.proofs.Common.{Certificate}
 use Rattle.ta_program.proofs.Common.{Told, WhereTold, is_more, sub_told, IsSo, Performs, State, HoldsText, in_files, seen, Answer, FileMeans, claiming}
 use Rattle.ta_program.proofs.Common.{CERTIFICATE, check_meaning, IsFile, certificate_kind, file_kind, SaysOrFails, WrittenIsAccepted, VerdictHolds, safe_among}
 use Rattle.ta_program.proofs.Common.{first_picked, picked, ◌+◌, false}
@@ -17,11 +19,15 @@ use Rattle.ta_report.proofs.Picks.{picked_there}
 use Rattle.ta_verdict.proofs.VerdictsMade.{held_at}
 
 -- `check` of such files
-module _ (l : Limits) (name out : List ℕ) (told : Told) (file : File) (numbers text : List ℕ) (is_file : IsFile l (in_files told) name file)
-    (held : told out ≡ Some text) (within : length text ≤ CERTIFICATE.bytes) (accepted : Certificate file l.line_bytes text numbers)
+module _ (is_wide : Bool) (name out : List ℕ) (told : Told) (file : File) (numbers text : List ℕ)
+    (is_file : IsFile (limits_of is_wide) (in_files told) name file)
+    (held : told out ≡ Some text) (within : length text ≤ CERTIFICATE.bytes) (accepted : Certificate file (limits_of is_wide).line_bytes text numbers)
     (safe : AllSafe file numbers) where
   abbrev checked_so : CheckWords
-  checked_so = record { file = name; other = out; limits = l; options = no_options }
+  checked_so = record { file = name; other = out; wide = is_wide; options = no_options }
+
+  abbrev l : Limits
+  l = limits_of is_wide
 
   is_certificate : FileMeans (certificate_kind (claiming claim.Safe file l.line_bytes)) (in_files told) out numbers
   is_certificate = record { bytes = text; had = record { seen = held; within = within }; means = record { accepted = accepted; safe = safe } }
@@ -57,7 +63,7 @@ told_before P (Some first) told h = (first, refl, h)
 pub written_is_accepted : WrittenIsAccepted
 written_is_accepted words first before after h asked out is given low told after_told again checked second begun ended begun_told done =
     let name = asked.file in
-    let l = asked.limits in
+    let l = limits_of asked.wide in
     let budget = asked.budget in
     let written = certificate_written words first before after h asked out is given low in
     let c = written.such in
@@ -81,6 +87,7 @@ written_is_accepted words first before after h asked out is given low told after
       sample = r.sample;
       verdicts = r.verdicts;
       reported = r.wrote;
-      accepted = checks l name out told r.file (safe_among r.file r.pick r.verdicts) c.text is_now files.2.held c.within c.accepted safe second begun ended
-          begun_told (as_check again second begun ended done (record { file = name; other = out; limits = l; options = no_options }) checked);
+      accepted = checks asked.wide name out told r.file (safe_among r.file r.pick r.verdicts) c.text is_now files.2.held c.within c.accepted safe second begun
+          ended
+          begun_told (as_check again second begun ended done (record { file = name; other = out; wide = asked.wide; options = no_options }) checked);
     }

@@ -1,6 +1,7 @@
 -- what `rest` puts `rest-check` accepts
 use Rattle.ta_base.specs.declared.limits.Limits.{Limits}
-use Rattle.ta_program.proofs.Common.{true, None, ◌≡◌, ◌∙◌, ◌≤◌, ◌+◌, ℕ, List, [], ◌∷◌, length, map, Option, Some, slice_get, refl, sym, ap, subst, inl}
+use Rattle.ta_program.specs.Values.{limits_of}
+use Rattle.ta_program.proofs.Common.{Bool, true, None, ◌≡◌, ◌∙◌, ◌≤◌, ◌+◌, ℕ, List, [], ◌∷◌, length, map, Option, Some, slice_get, refl, sym, ap, subst, inl}
 use Rattle.ta_program.proofs.Common.{Automaton, File, Pattern, Verdict, Endings, IsEnding, RestSafe, EachHolds, EndingVerdictHolds, some_at, slice_get_within}
 use Rattle.ta_program.proofs.Common.{arith, Told, WhereTold, is_more, sub_told, IsSo, Performs, State, HoldsText, in_files, seen, FileMeans, Answer, SafeOne}
 use Rattle.ta_program.proofs.Common.{as_many, first_picked, held_by, Pick, picked, safe_among, safe_ones, tree_size, with_safe, CERTIFICATE, IsFile}
@@ -71,12 +72,16 @@ alike_ones number (p ∷ ps) (q ∷ qs) (v ∷ vs) e f = alike_one number p q (t
     (alike_ones (number + 1) ps qs vs (omega (arith, e)) (omega (arith, f)))
 
 -- `rest-check` of such files, with these names
-module _ (l : Limits) (name out : List ℕ) (names : Option (List ℕ)) (told : Told) (file : File) (ends : FileEndings) (silent numbers text : List ℕ)
-    (is_file : IsFile l (in_files told) name file) (are_ends : IsEnds file ends) (are_silent : AreSilent file.automaton names silent)
-    (held : told out ≡ Some text) (within : length text ≤ CERTIFICATE.bytes) (accepted : QuietRestCertificate ends.ending silent l.line_bytes text numbers)
+module _ (is_wide : Bool) (name out : List ℕ) (names : Option (List ℕ)) (told : Told) (file : File) (ends : FileEndings) (silent numbers text : List ℕ)
+    (is_file : IsFile (limits_of is_wide) (in_files told) name file) (are_ends : IsEnds file ends) (are_silent : AreSilent file.automaton names silent)
+    (held : told out ≡ Some text) (within : length text ≤ CERTIFICATE.bytes)
+    (accepted : QuietRestCertificate ends.ending silent (limits_of is_wide).line_bytes text numbers)
     (safe : AllQuietRestSafe ends.ending silent numbers) where
   abbrev checked_so : RestCheckWords
-  checked_so = record { file = name; other = out; limits = l; silent = names; options = no_options }
+  checked_so = record { file = name; other = out; wide = is_wide; silent = names; options = no_options }
+
+  abbrev l : Limits
+  l = limits_of is_wide
 
   is_certificate : FileMeans (certificate_kind (claiming_with claim.RestSafe ends.ending silent l.line_bytes)) (in_files told) out numbers
   is_certificate = record { bytes = text; had = record { seen = held; within = within }; means = record { accepted = accepted; safe = safe } }
@@ -111,7 +116,7 @@ module _ (l : Limits) (name out : List ℕ) (names : Option (List ℕ)) (told : 
 pub written_at_rest_is_accepted : WrittenAtRestIsAccepted
 written_at_rest_is_accepted words first before after h asked out is given low told after_told again checked second begun ended begun_told done =
     let name = asked.verify.file in
-    let l = asked.verify.limits in
+    let l = limits_of asked.verify.wide in
     let names = asked.silent in
     let written = (rests_report words first before after h).certificate asked out is given low in
     let c = written.such in
@@ -133,9 +138,11 @@ written_at_rest_is_accepted words first before after h asked out is given low to
     (picked_there pick ending.patterns) in
     let many = as_many (EndingVerdictHolds r.file ending r.ends.added (resting asked.verify.budget r.silent)) (first_picked pick) (picked pick ending.patterns)
     r.verdicts r.are.hold in
-    let performs = as_rest_check again second begun ended done (record { file = name; other = out; limits = l; silent = names; options = no_options }) checked
+    let performs = as_rest_check again second begun ended done
+    (record { file = name; other = out; wide = asked.verify.wide; silent = names; options = no_options }) checked
     in
-    let accepted = rest_checks l name out names told r.file r.ends r.silent (safe_among ending pick r.verdicts) c.text is_now r.are_ends r.are_silent
+    let accepted = rest_checks asked.verify.wide name out names told r.file r.ends r.silent (safe_among ending pick r.verdicts) c.text is_now r.are_ends
+    r.are_silent
     files.2.held
     c.within c.accepted safe second begun ended begun_told performs in
     record {

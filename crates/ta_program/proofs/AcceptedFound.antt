@@ -1,4 +1,6 @@
 -- what `search` puts `check` accepts
+use Rattle.ta_program.specs.SearchWords.{terms_of}
+use Rattle.ta_program.specs.Values.{limits_of}
 use Rattle.ta_program.proofs.Common.{Terms, ◌≡◌, ◌≤◌, ℕ, List, [], ◌∷◌, ◌++◌, length, Bool, Option, Some, refl, sym, subst, inl, inr, arith, IsSome}
 use Rattle.ta_program.proofs.Common.{range_with_len, claiming, SearchEnd, Tried, Template, filled_text, AreTried, IsSearchEnd, LastIsFound, vectors, Told}
 use Rattle.ta_program.proofs.Common.{WhereTold, is_more, sub_told, in_files, seen, IsFile, FoundIsAccepted, HoldFound, IsTemplate, template_kind}
@@ -35,7 +37,7 @@ found_within t terms end is l =
 pub found_is_accepted : FoundIsAccepted
 found_is_accepted words before after h asked out filled is out_is filled_is told after_told again checked second begun ended begun_told done =
     let name = asked.file in
-    let l = asked.terms.limits in
+    let l = limits_of asked.wide in
     let searched = searches words 0 before after h asked is (omega arith) in
     let s = searched.such in
     let t = s.template in
@@ -54,7 +56,7 @@ found_is_accepted words before after h asked out filled is out_is filled_is told
     let same : told name ≡ files.0 name = holds.others name (λ given. apart.filled name name refl given refl) (λ given. apart.out name name refl given refl) in
     let held : told filled ≡ Some text = holds.first filled filled_is in
     let is_file : IsFile l (in_files told) filled file = record
-    { bytes = text; had = record { seen = held; within = found_within t asked.terms s.end s.is_end last }; means = last.found.legal } in
+    { bytes = text; had = record { seen = held; within = found_within t (terms_of asked) s.end s.is_end last }; means = last.found.legal } in
     let safe = each_holds (claiming claim.Safe file l.line_bytes) 0 file.patterns last.found.safe (get_from_none file.patterns) in
     let short = found.within (subst (λ (o : Option (List ℕ)). IsSome o) (sym out_is) refl) in
     record {
@@ -65,7 +67,7 @@ found_is_accepted words before after h asked out filled is out_is filled_is told
       last = last;
       held = held;
       is_file = is_file;
-      accepted = checks l filled out told file (range_with_len 0 (length file.patterns)) last.certificate is_file (holds.second out out_is) short
+      accepted = checks asked.wide filled out told file (range_with_len 0 (length file.patterns)) last.certificate is_file (holds.second out out_is) short
           last.found.accepted safe second begun ended begun_told
-          (as_check again second begun ended done (record { file = filled; other = out; limits = l; options = no_options }) checked);
+          (as_check again second begun ended done (record { file = filled; other = out; wide = asked.wide; options = no_options }) checked);
     }

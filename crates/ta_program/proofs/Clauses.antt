@@ -3,6 +3,7 @@ use Rattle.ta_base.specs.LimitRows.{narrow}
 use Rattle.ta_base.specs.declared.limits.Limits.{Limits}
 use Rattle.ta_meaning.proofs.FileLimits.{legal_within}
 use Rattle.ta_automaton.specs.Narrow.{IsWithin}
+use Rattle.ta_program.specs.Values.{limits_of}
 use Rattle.ta_program.proofs.Common.{verdict_safe, Budget, ◌≡◌, ◌≢◌, ◌≤◌, ◌+◌, ℕ, Bool, true, false, List, [], ◌∷◌, Option, None, Some, refl, sym, ap, subst}
 use Rattle.ta_program.proofs.Common.{◌∙◌, inl, arith, rules, codes, if◌then◌else◌, list_any, AllByRecursion, bytes_eq, or_parts, File, Pattern, PatternSafe}
 use Rattle.ta_program.proofs.Common.{one_legal, told_safe, report_of, Verdict, Safe, Unsafe, Spent, Overflow, filled_text, Grew, OthersStay, Told, WhereTold}
@@ -165,20 +166,20 @@ module _ (words : List (List ℕ)) (number : ℕ) (before after : State) (h : Ru
   ended = run_of words number before after
 
   pub as_verify : (asked : VerifyWords) → verify_of words ≡ Some asked → Performs (verify_meaning asked) number before after
-  as_verify asked is = performed_where (codes "verify") verify_words (λ a. LegalPicked a.limits a.file a.pattern) verify_meaning number before after
+  as_verify asked is = performed_where (codes "verify") verify_words (λ a. LegalPicked (limits_of a.wide) a.file a.pattern) verify_meaning number before after
       (λ rest r. r) words
       asked is h
 
   pub as_check : (asked : CheckWords) → check_of words ≡ Some asked → Performs (check_meaning asked) number before after
-  as_check asked is = performed (codes "check") check_words (λ a. Some (a.file, a.limits)) check_meaning number before after (λ rest r. r)
+  as_check asked is = performed (codes "check") check_words (λ a. Some (a.file, limits_of a.wide)) check_meaning number before after (λ rest r. r)
       words asked is h
 
   pub as_compress : (asked : TwoNames) → compress_of words ≡ Some asked → Performs (compress_meaning asked) number before after
-  as_compress asked is = performed (codes "compress") two_names (λ a. Some (a.file, a.limits)) compress_meaning number before after (λ rest r. r)
+  as_compress asked is = performed (codes "compress") two_names (λ a. Some (a.file, limits_of a.wide)) compress_meaning number before after (λ rest r. r)
       words asked is h
 
   pub as_replay : (asked : ReplayWords) → replay_of words ≡ Some asked → Performs (replay_meaning asked) number before after
-  as_replay asked is = performed (codes "replay") replay_words (λ a. Some (a.file, a.limits)) replay_meaning number before after (λ rest r. r)
+  as_replay asked is = performed (codes "replay") replay_words (λ a. Some (a.file, limits_of a.wide)) replay_meaning number before after (λ rest r. r)
       words asked is h
 
   as_bench : (k : ℕ) → bench_of words ≡ Some k → Performs (bench_meaning k) number before after
@@ -251,7 +252,7 @@ module _ (words : List (List ℕ)) (number : ℕ) (before after : State) (h : Ru
         stands = holds_text puts.put out puts.named before.shelf.files after.shelf.files
             (subst (λ (o : Option Told). WhereTold (HoldsPut puts.put) o after.shelf.files) stand.1 stand.2);
         told = tells_put puts.put out puts.named made (subst (λ (ps : List Put). PutWhole (map put_text ps) made) puts.only a.whole);
-        accepted = puts.accepted asked.limits (legal_within asked.limits report.is_file.bytes report.file report.is_file.means);
+        accepted = puts.accepted (limits_of asked.wide) (legal_within (limits_of asked.wide) report.is_file.bytes report.file report.is_file.means);
       }
 
   pub certificate_written : CertificateWritten ended
@@ -409,7 +410,8 @@ module _ (words : List (List ℕ)) (number : ℕ) (before after : State) (h : Ru
   show_meaning = one_file_meaning (λ l. IsShown)
 
   pub as_show : (asked : OneFileWords) → show_of words ≡ Some asked → Performs (show_meaning asked) number before after
-  as_show asked is = performed (codes "show") one_file_words (λ a. Some (a.file, a.limits)) show_meaning number before after (λ rest r. r) words asked is h
+  as_show asked is = performed (codes "show") one_file_words (λ a. Some (a.file, limits_of a.wide)) show_meaning number before after (λ rest r. r) words asked
+      is h
 
   pub shown_file : (asked : OneFileWords) (view : View) (made : List PutCall) → IsAnswered (show_meaning asked) view number before after made
       → ShowHolds view asked before.out.written after.out.written
@@ -420,7 +422,7 @@ module _ (words : List (List ℕ)) (number : ℕ) (before after : State) (h : Ru
         bytes = is.bytes;
         held = is.had.seen;
         text = says.is.text;
-        printed = record { limits = asked.limits; file = a.holds.holds.0; legal = is.means; is = says.is.is };
+        printed = record { limits = (limits_of asked.wide); file = a.holds.holds.0; legal = is.means; is = says.is.is };
         within = refl;
         wrote
             = a.written ∙ ap (with_text before.out.written) (says.writes.written ∙ says.is.whole);
@@ -431,7 +433,8 @@ module _ (words : List (List ℕ)) (number : ℕ) (before after : State) (h : Ru
       (λ view. ShowHolds view asked before.out.written after.out.written) (shown_file asked)
 
   as_count : (asked : OneFileWords) → count_of words ≡ Some asked → Performs (one_file_meaning IsCount asked) number before after
-  as_count asked is = performed (codes "count") one_file_words (λ a. Some (a.file, a.limits)) (one_file_meaning IsCount) number before after (λ rest r. r) words
+  as_count asked is = performed (codes "count") one_file_words (λ a. Some (a.file, limits_of a.wide)) (one_file_meaning IsCount) number before after
+      (λ rest r. r) words
       asked is h
 
   counted : (asked : OneFileWords) (view : View) (made : List PutCall) → IsAnswered (one_file_meaning IsCount asked) view number before after made
@@ -443,7 +446,7 @@ module _ (words : List (List ℕ)) (number : ℕ) (before after : State) (h : Ru
         is_file = a.holds.holds.1;
         wrote = a.written
             ∙ ap (with_text before.out.written) (says.writes.written ∙ says.is);
-        within = let is = a.holds.holds.1 in counts_within asked.limits is.bytes a.holds.holds.0 is.means;
+        within = let is = a.holds.holds.1 in counts_within (limits_of asked.wide) is.bytes a.holds.holds.0 is.means;
       }
 
   pub counts_file : CountsFile ended
@@ -493,7 +496,7 @@ module _ (words : List (List ℕ)) (number : ℕ) (before after : State) (h : Ru
 
   pub as_rest_check : (asked : RestCheckWords) → rest_check_of words ≡ Some asked
       → Performs (rest_check_meaning asked) number before after
-  as_rest_check asked is = performed_where (codes "rest-check") rest_check_words (λ a. LegalSilently a.limits a.file a.silent)
+  as_rest_check asked is = performed_where (codes "rest-check") rest_check_words (λ a. LegalSilently (limits_of a.wide) a.file a.silent)
       rest_check_meaning number before after (λ rest r. r) words asked is h
 
   pub at_rest : (asked : RestWords) (view : View) (made : List PutCall) → IsAnswered (rest_meaning asked) view number before after made
@@ -544,9 +547,9 @@ module _ (words : List (List ℕ)) (number : ℕ) (before after : State) (h : Ru
         told = tells_put puts.put out puts.named made (subst (λ (ps : List Put). PutWhole (map put_text ps) made) puts.only a.whole);
         accepted =
             let report = at_rest asked view made a in
-            puts.accepted asked.verify.limits
-            (subst (IsWithin asked.verify.limits) (sym report.are_ends.endings.automaton)
-            (legal_within asked.verify.limits report.is_file.bytes report.file report.is_file.means));
+            puts.accepted (limits_of asked.verify.wide)
+            (subst (IsWithin (limits_of asked.verify.wide)) (sym report.are_ends.endings.automaton)
+            (legal_within (limits_of asked.verify.wide) report.is_file.bytes report.file report.is_file.means));
       }
 
   -- what an answer of `rest` says
@@ -858,7 +861,7 @@ module _ (words : List (List ℕ)) (number : ℕ) (before after : State) (h : Ru
         holds = holds_file view asked.verify.file r.file r.is_file;
         text = report_of true asked.verify.json r.file r.pick r.sample r.verdicts;
         gained = r.wrote;
-        safe = λ k p named line. fair_but asked.verify.limits r.is_file.bytes r.file r.is_file.means r.are_ends.loops k p named asked.silent
+        safe = λ k p named line. fair_but (limits_of asked.verify.wide) r.is_file.bytes r.file r.is_file.means r.are_ends.loops k p named asked.silent
             (tells_rest_safe asked is view r k p named line);
       }
 
@@ -871,7 +874,7 @@ module _ (words : List (List ℕ)) (number : ℕ) (before after : State) (h : Ru
         holds = holds_file view asked.file r.file r.is_file;
         text = r.text;
         gained = r.wrote;
-        holds_of = λ k p named told. fair_but asked.limits r.is_file.bytes r.file r.is_file.means r.are_ends.loops k p named asked.silent
+        holds_of = λ k p named told. fair_but (limits_of asked.wide) r.is_file.bytes r.file r.is_file.means r.are_ends.loops k p named asked.silent
             (tells_rest_proved asked view r k p named told);
       }
 
@@ -981,7 +984,7 @@ module _ (words : List (List ℕ)) (number : ℕ) (before after : State) (h : Ru
         bytes = r.is_file.bytes;
         held = r.is_file.had.seen;
         safe = λ text printed file orders e.
-            let same : r.file ≡ file = one_legal_file asked.limits printed.limits r.is_file.bytes r.file printed.file r.is_file.means printed.legal
+            let same : r.file ≡ file = one_legal_file (limits_of asked.wide) printed.limits r.is_file.bytes r.file printed.file r.is_file.means printed.legal
             ∙ file_same printed.file file (map pair_of printed.is.orders) orders (sym printed.is.shown ∙ sym e) in
             subst (EachPicked runs.Safe asked.pattern) same safe;
       })
@@ -1055,11 +1058,11 @@ differs kind name outs rest number before after performs words =
 pub spares_read : (words : List (List ℕ)) (number : ℕ) (before after : State) → Runs (request_of words) number before after
     → SparesRead (run_of words number before after)
 spares_read words number before after h = record {
-  verify = λ asked is. differs (file_kind asked.limits) asked.file (may_put asked.out) (picked_meaning asked) number before after
+  verify = λ asked is. differs (file_kind (limits_of asked.wide)) asked.file (may_put asked.out) (picked_meaning asked) number before after
       (as_verify words number before after h asked is) words;
-  rest = λ asked is. differs (file_kind asked.verify.limits) asked.verify.file (may_put asked.verify.out)
+  rest = λ asked is. differs (file_kind (limits_of asked.verify.wide)) asked.verify.file (may_put asked.verify.out)
       (at_ends asked.verify.file (may_put asked.verify.out) (rest_quietly asked)) number before after (as_rest words number before after h asked is) words;
-  search = λ asked is. differs (template_kind asked.terms.limits) asked.file (found_names asked) (found_meaning asked) number before after
+  search = λ asked is. differs (template_kind (limits_of asked.wide)) asked.file (found_names asked) (found_meaning asked) number before after
       (as_search words number before after h asked is) words;
 }
 

@@ -1,4 +1,5 @@
 -- what a report of verdicts ends with where known files hold a legal FILE
+use Rattle.ta_program.specs.Values.{limits_of}
 use Rattle.ta_program.proofs.Common.{Budget, ◌≡◌, ◌≢◌, ◌≤◌, ℕ, suc, Bool, true, false, List, [], ◌∷◌, Option, None, Some, slice_get, refl, sym, subst, ◌∙◌, inl}
 use Rattle.ta_program.proofs.Common.{inr, arith, IsSome, list_any, File, Verdict, Told, answered, Decides, Meaning, Performs, State, in_files, seen, Answer}
 use Rattle.ta_program.proofs.Common.{is_unknown, is_unsafe, Runs, HindersCertificate, LongCertificate, long_line, IsFile, Completes, EndsSo, Reports}
@@ -69,7 +70,7 @@ rest_hinders_where file ends budget pick (Some out) some long = (long_line out, 
 
 -- of `verify`
 module _ (told : Told) (asked : VerifyWords) (file : File) (pick : Pick) (number : ℕ) (before after : State) (is : before.shelf.files ≡ Some told)
-    (is_file : IsFile asked.limits (in_files told) asked.file file) (is_pick : IsPick file asked.pattern pick)
+    (is_file : IsFile (limits_of asked.wide) (in_files told) asked.file file) (is_pick : IsPick file asked.pattern pick)
     (h : Performs (verify_meaning asked) number before after)
   where
     decided_then : (f : File) (k : Pick) (answer : Answer) → f ≡ file → k ≡ pick → Reports asked f k answer → IsDecided asked file pick → number ≡ answer.number
@@ -88,7 +89,7 @@ module _ (told : Told) (asked : VerifyWords) (file : File) (pick : Pick) (number
         let a = answered_told (verify_meaning asked) told number before after is h (verify_decides asked) (omega (arith, two)) in
         let answers = a.holds in
         let found = answers.2.1 in
-        let same : answers.0 ≡ file = same_file asked.limits told asked.file file answers.0 answers.1 is_file in
+        let same : answers.0 ≡ file = same_file (limits_of asked.wide) told asked.file file answers.0 answers.1 is_file in
         let there : IsPick file asked.pattern found.0 = subst (λ (x : File). IsPick x asked.pattern found.0) same found.1 in
         decided_then answers.0 found.0 a.answer same (pick_once file asked.pattern found.0 pick there is_pick) found.2 decides a.numbered two
 
@@ -113,7 +114,7 @@ module _ (told : Told) (asked : VerifyWords) (file : File) (pick : Pick) (number
           | inl own ↦ let three : number ≡ 3 = own.numbered in absurd (omega (arith, three, four))
           | inr rest ↦ elim rest.2 [
             | inl holds ↦ let same = same_told told asked.file asked.out number hinders.0 holds in (same.0, inr same.1)
-            | inr later ↦ picked_long rest.0 (same_file asked.limits told asked.file file rest.0 rest.1 is_file) four hinders.0 later.1
+            | inr later ↦ picked_long rest.0 (same_file (limits_of asked.wide) told asked.file file rest.0 rest.1 is_file) four hinders.0 later.1
           ]
         ]
 
@@ -124,14 +125,15 @@ module _ (told : Told) (asked : VerifyWords) (file : File) (pick : Pick) (number
       long = λ some long.
           let hinders = hinders_where file pick asked.budget asked.out some long in
           h.exact (verify_decides asked) told is 4
-          (hinders_so (file_kind asked.limits) told asked.file (picked_meaning asked) file is_file asked.out hinders.0 (inr (pick, is_pick, hinders.1)));
+          (hinders_so (file_kind (limits_of asked.wide)) told asked.file (picked_meaning asked) file is_file asked.out hinders.0
+          (inr (pick, is_pick, hinders.1)));
       same = λ same. h.exact (verify_decides asked) told is 4
-          (same_so (file_kind asked.limits) told asked.file (picked_meaning asked) file is_file asked.out same);
+          (same_so (file_kind (limits_of asked.wide)) told asked.file (picked_meaning asked) file is_file asked.out same);
     }
 
 -- of `rest`
 module _ (told : Told) (asked : RestWords) (file : File) (places : List ℕ) (pick : Pick) (number : ℕ) (before after : State)
-    (is : before.shelf.files ≡ Some told) (is_file : IsFile asked.verify.limits (in_files told) asked.verify.file file)
+    (is : before.shelf.files ≡ Some told) (is_file : IsFile (limits_of asked.verify.wide) (in_files told) asked.verify.file file)
     (silent : AreSilent file.automaton asked.silent places)
     (is_pick : IsPick file asked.verify.pattern pick) (h : Performs (rest_meaning asked) number before after) where
   abbrev budget : RestBudget
@@ -167,7 +169,8 @@ module _ (told : Told) (asked : RestWords) (file : File) (places : List ℕ) (pi
       let found = answers.2.1 in
       let quiet = found.2 in
       let one = quiet.2 in
-      known_then answers.0 found.0 quiet.0 one.0 a.answer (same_file asked.verify.limits told asked.verify.file file answers.0 answers.1 is_file) found.1
+      known_then answers.0 found.0 quiet.0 one.0 a.answer (same_file (limits_of asked.verify.wide) told asked.verify.file file answers.0 answers.1 is_file)
+      found.1
       quiet.1 one.1 one.2
       decided a.numbered two
 
@@ -208,7 +211,8 @@ module _ (told : Told) (asked : RestWords) (file : File) (places : List ℕ) (pi
           | inl holds ↦ let same = same_told told asked.verify.file asked.verify.out number hinders.0 holds in (same.0, inr same.1)
           | inr ended ↦ elim ended.1 [
             | inl cycle ↦ let three : number ≡ 3 = cycle.numbered in absurd (omega (arith, three, four))
-            | inr later ↦ long_then rest.0 later.0 (same_file asked.verify.limits told asked.verify.file file rest.0 rest.1 is_file) later.1 four hinders.0
+            | inr later ↦ long_then rest.0 later.0 (same_file (limits_of asked.verify.wide) told asked.verify.file file rest.0 rest.1 is_file) later.1 four
+                hinders.0
                 later.2
           ]
         ]
@@ -222,11 +226,13 @@ module _ (told : Told) (asked : RestWords) (file : File) (places : List ℕ) (pi
     long = λ some long.
         let hinders = rest_hinders_where file long.ends budget pick asked.verify.out some long.long in
         h.exact (rest_decides asked) told is 4
-        (hinders_so (file_kind asked.verify.limits) told asked.verify.file (at_ends asked.verify.file (may_put asked.verify.out) (rest_quietly asked)) file
+        (hinders_so (file_kind (limits_of asked.verify.wide)) told asked.verify.file (at_ends asked.verify.file (may_put asked.verify.out) (rest_quietly asked))
+        file
         is_file
         asked.verify.out hinders.0 (inr (long.ends, long.are_ends, inr (places, silent, inr (pick, is_pick, hinders.1)))));
     same = λ same. h.exact (rest_decides asked) told is 4
-        (same_so (file_kind asked.verify.limits) told asked.verify.file (at_ends asked.verify.file (may_put asked.verify.out) (rest_quietly asked)) file is_file
+        (same_so (file_kind (limits_of asked.verify.wide)) told asked.verify.file (at_ends asked.verify.file (may_put asked.verify.out) (rest_quietly asked))
+        file is_file
         asked.verify.out same);
   }
 

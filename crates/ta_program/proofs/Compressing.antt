@@ -1,5 +1,6 @@
 -- Where `compress` answers, and where a guard leaves the range.
 use Rattle.ta_base.specs.declared.limits.Limits.{Limits}
+use Rattle.ta_program.specs.Values.{limits_of}
 use Rattle.ta_program.proofs.Common.{◌≡◌, ◌∙◌, ◌⊎◌, ℕ, List, [], Option, Some, subst, refl, inl, inr, File, Run, Told, TwoNames, FileMeans, IsFile, State}
 use Rattle.ta_program.proofs.Common.{Performs, compress_meaning, file_kind, in_files, no_hindrance, one_legal, replies, replies_monotone, seen, whole_one}
 use Rattle.ta_program.proofs.Common.{CanCompress, Compresses, LeavesRange, SaysShort, long_kind, out_of_range_line, short_meaning}
@@ -22,10 +23,10 @@ not_refused : (told : Told) (asked : TwoNames) → CanCompress told asked → (n
     → (compress_meaning asked).refuses (in_files told) number line → ⊥
 not_refused told asked can number line refuses = elim refuses [
   | inl own ↦
-      no_hindrance (file_kind asked.limits) asked.file [] (λ file. short_meaning file asked.other) (λ file. short_monotone file asked.other) told
+      no_hindrance (file_kind (limits_of asked.wide)) asked.file [] (λ file. short_meaning file asked.other) (λ file. short_monotone file asked.other) told
       (λ bytes f fault legal found. legal.no_fault fault found) can.file number line can.is_file own
   | inr r ↦
-      let same : can.file ≡ r.0 = one_file asked.limits told asked.file can.file r.0 can.is_file r.1 in
+      let same : can.file ≡ r.0 = one_file (limits_of asked.wide) told asked.file can.file r.0 can.is_file r.1 in
       let is_run : FileMeans (long_kind r.0) (in_files told) asked.other can.run = subst
       (λ (f : File). FileMeans (long_kind f) (in_files told) asked.other can.run) same can.is_run in
       elim r.2 [

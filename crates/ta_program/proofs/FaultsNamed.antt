@@ -1,5 +1,7 @@
 -- What is printed names the error.
 use Rattle.ta_base.specs.declared.limits.Limits.{Limits}
+use Rattle.ta_program.specs.SearchWords.{terms_of}
+use Rattle.ta_program.specs.Values.{limits_of}
 use Rattle.ta_program.proofs.Common.{Budget, ◌≡◌, ◌∙◌, ◌≤◌, ℕ, Bool, true, false, List, [], ◌∷◌, Option, None, Some, refl, sym, ap, subst, inl, inr, arith}
 use Rattle.ta_program.proofs.Common.{codes, bytes_eq, File, one_legal, run_text, Template, one_fault, Told, replies_monotone, Monotone, Decides, Meaning}
 use Rattle.ta_program.proofs.Common.{Performs, State, Tells, file_line, in_files, seen, Writes, after, finds, replies, whole_faults_once, word_faults_once}
@@ -84,17 +86,17 @@ module _ (unique : FirstFaultsAreUnique) (told : Told) where
 
   verify_once : (asked : VerifyWords) → HinderOnce (verify_meaning asked) told
   verify_once asked =
-      spared_once (file_kind asked.limits) asked.file (may_put asked.out) (picked_meaning asked) (picked_monotone asked) told
+      spared_once (file_kind (limits_of asked.wide)) asked.file (may_put asked.out) (picked_meaning asked) (picked_monotone asked) told
       (λ bytes file fault legal found. legal.no_fault fault found)
-      (file_first asked.limits asked.file (may_put asked.out) (picked_meaning asked) (picked_monotone asked) (λ file.
+      (file_first (limits_of asked.wide) asked.file (may_put asked.out) (picked_meaning asked) (picked_monotone asked) (λ file.
       picks_once asked.file asked.pattern (may_put asked.out) file (report_meaning asked file) told (report_once asked file)))
 
   check_once : (asked : CheckWords) → HinderOnce (check_meaning asked) told
   check_once asked =
       let options = asked.options in
-      file_first asked.limits asked.file [] (proved_meaning asked) (proved_monotone asked) (λ file.
-      after_last (certificate_kind (claiming claim.Safe file asked.limits.line_bytes)) (certificate_settled
-      (claiming claim.Safe file asked.limits.line_bytes)) asked.other []
+      file_first (limits_of asked.wide) asked.file [] (proved_meaning asked) (proved_monotone asked) (λ file.
+      after_last (certificate_kind (claiming claim.Safe file (limits_of asked.wide).line_bytes)) (certificate_settled
+      (claiming claim.Safe file (limits_of asked.wide).line_bytes)) asked.other []
       (λ numbers. replies [] (SaysProofs false file options numbers)) (λ numbers. replies_monotone [] (SaysProofs false file options numbers)) told 4 refl
       (omega arith) (omega arith)
       (λ bytes numbers fault proves found. found.no_certificate numbers proves.accepted) (λ numbers number line none. none))
@@ -103,7 +105,7 @@ module _ (unique : FirstFaultsAreUnique) (told : Told) where
   replay_once asked =
       let run = asked.other in
       let json = asked.json in
-      file_first asked.limits asked.file [] (λ file. shown_meaning file json run) (λ file. shown_monotone file json run) (λ file.
+      file_first (limits_of asked.wide) asked.file [] (λ file. shown_meaning file json run) (λ file. shown_monotone file json run) (λ file.
       after_last (run_kind file) (settled (run_kind file) (λ bytes f none. none) (run_once file)) run [] (λ shown. replies [] (SaysShown file json shown))
       (λ shown. replies_monotone [] (SaysShown file json shown)) told 4 refl (omega arith) (omega arith)
       (λ bytes shown fault shows found. found.shows_nothing shown shows) (λ shown number line none. none))
@@ -111,7 +113,7 @@ module _ (unique : FirstFaultsAreUnique) (told : Told) where
   pub compress_once : (asked : TwoNames) → HinderOnce (compress_meaning asked) told
   compress_once asked =
       let run = asked.other in
-      file_first asked.limits asked.file [] (λ file. short_meaning file run) (λ file. short_monotone file run) (λ file.
+      file_first (limits_of asked.wide) asked.file [] (λ file. short_meaning file run) (λ file. short_monotone file run) (λ file.
       after_last (long_kind file) (settled (long_kind file) (λ bytes f none. none) (long_once file)) run [] (λ long. replies [] (SaysShort file long))
       (λ long. replies_monotone [] (SaysShort file long)) told 4 refl (omega arith) (omega arith)
       (λ bytes long fault able found. found.compresses_nothing long able) (λ long number line none. none))
@@ -150,24 +152,24 @@ module _ (unique : FirstFaultsAreUnique) (told : Told) where
   -- of a command of one file
   one_file_once : (text : Limits → File → List ℕ → Type 0) (asked : OneFileWords) → HinderOnce (one_file_meaning text asked) told
   one_file_once text asked =
-      let such = text asked.limits in
-      file_first asked.limits asked.file [] (λ file. printing (such file)) (λ file. replies_monotone [] (SaysText (such file)))
+      let such = text (limits_of asked.wide) in
+      file_first (limits_of asked.wide) asked.file [] (λ file. printing (such file)) (λ file. replies_monotone [] (SaysText (such file)))
       (λ file. replies_hinder [] (SaysText (such file)) told)
 
   found_once : (asked : SearchWords) (t : Template) → HinderOnce (found_meaning asked t) told
   found_once asked t =
-      settles_once (found_names asked) (Finds t asked) (HindersFound t asked.terms asked.out) told
-      (λ number line h. let is = hinders_four t asked.terms asked.out number line h in (omega (arith, is), omega (arith, is)))
+      settles_once (found_names asked) (Finds t asked) (HindersFound t (terms_of asked) asked.out) told
+      (λ number line h. let is = hinders_four t (terms_of asked) asked.out number line h in (omega (arith, is), omega (arith, is)))
       (λ number other line words h k. (
-        hinders_four t asked.terms asked.out number line h
-            ∙ sym (hinders_four t asked.terms asked.out other words k),
-        long_found t asked.terms asked.out line words number other h k,
+        hinders_four t (terms_of asked) asked.out number line h
+            ∙ sym (hinders_four t (terms_of asked) asked.out other words k),
+        long_found t (terms_of asked) asked.out line words number other h k,
       ))
 
   search_once : (asked : SearchWords) → HinderOnce (search_meaning asked) told
   search_once asked =
-      spared_once (template_kind asked.terms.limits) asked.file (found_names asked) (found_meaning asked) (found_monotone asked) told template_fits
-      (after_once (template_kind asked.terms.limits) (settled (template_kind asked.terms.limits) (λ bytes f none. none) one_fault) asked.file
+      spared_once (template_kind (limits_of asked.wide)) asked.file (found_names asked) (found_meaning asked) (found_monotone asked) told template_fits
+      (after_once (template_kind (limits_of asked.wide)) (settled (template_kind (limits_of asked.wide)) (λ bytes f none. none) one_fault) asked.file
       (found_names asked) (found_meaning asked)
       (found_monotone asked) told 3 refl (omega arith) (omega arith) template_fits (found_once asked) one_text)
 
@@ -215,7 +217,7 @@ module _ (unique : FirstFaultsAreUnique) (told : Told) where
 
   rest_once : (asked : RestWords) → HinderOnce (rest_meaning asked) told
   rest_once asked =
-      let l = asked.verify.limits in
+      let l = limits_of asked.verify.wide in
       let name = asked.verify.file in
       let puts = may_put asked.verify.out in
       let quietly = rest_quietly asked in
@@ -230,15 +232,15 @@ module _ (unique : FirstFaultsAreUnique) (told : Told) where
   proved_once : (asked : RestCheckWords) (file : File) (ends : FileEndings) (silent : List ℕ) → HinderOnce (rest_proved_meaning asked file ends silent) told
   proved_once asked file ends silent =
       let options = asked.options in
-      after_last (certificate_kind (claiming_with claim.RestSafe ends.ending silent asked.limits.line_bytes)) (certificate_settled
-      (claiming_with claim.RestSafe ends.ending silent asked.limits.line_bytes))
+      after_last (certificate_kind (claiming_with claim.RestSafe ends.ending silent (limits_of asked.wide).line_bytes)) (certificate_settled
+      (claiming_with claim.RestSafe ends.ending silent (limits_of asked.wide).line_bytes))
       asked.other [] (λ numbers. replies [] (SaysProofs true file options numbers)) (λ numbers. replies_monotone [] (SaysProofs true file options numbers))
       told 4 refl (omega arith) (omega arith)
       (λ bytes numbers fault proves found. found.no_certificate numbers proves.accepted) (λ numbers number line none. none)
 
   rest_check_once : (asked : RestCheckWords) → HinderOnce (rest_check_meaning asked) told
   rest_check_once asked =
-      ends_line asked.limits asked.file [] (quietly_meaning asked) (quietly_monotone asked) (λ file ends.
+      ends_line (limits_of asked.wide) asked.file [] (quietly_meaning asked) (quietly_monotone asked) (λ file ends.
       names_once asked.file asked.silent [] file (rest_proved_meaning asked file ends) (proved_once asked file ends))
 
   -- what words ask for, row by row
@@ -252,7 +254,8 @@ module _ (unique : FirstFaultsAreUnique) (told : Told) where
   asked_once file says = asked_where_once (λ w told. LegalFile told (file w)) says
 
   one_file_asked_once : (text : Limits → File → List ℕ → Type 0) (words : List (List ℕ)) → OfCommand (λ m. HinderOnce m told) (one_file_asked text words)
-  one_file_asked_once text words = asked_once (λ asked. Some (asked.file, asked.limits)) (one_file_meaning text) (one_file_words words) (one_file_once text)
+  one_file_asked_once text words = asked_once (λ asked. Some (asked.file, limits_of asked.wide)) (one_file_meaning text) (one_file_words words)
+      (one_file_once text)
 
   row_once : (named : Bool) (asked others : Asked) → OfCommand (λ m. HinderOnce m told) asked → OfCommand (λ m. HinderOnce m told) others
       → OfCommand (λ m. HinderOnce m told) (choose named asked others)
@@ -265,20 +268,20 @@ module _ (unique : FirstFaultsAreUnique) (told : Told) where
       row_once (bytes_eq word (codes "admit")) _ _ (asked_once (λ all. Some (all.asked.file, narrow)) admit_meaning (admit_words words) admit_once)
       (row_once (bytes_eq word (codes "bench")) _ _ (asked_once (λ k. None) bench_meaning (bench_words words) (λ k. replies_hinder [] (SaysBench k) told))
       (row_once (bytes_eq word (codes "check")) _ _
-      (asked_once (λ a. Some (a.file, a.limits)) check_meaning (check_words words) check_once)
+      (asked_once (λ a. Some (a.file, limits_of a.wide)) check_meaning (check_words words) check_once)
       (row_once (bytes_eq word (codes "compress")) _ _
-      (asked_once (λ names. Some (names.file, names.limits)) compress_meaning (two_names words) compress_once)
+      (asked_once (λ names. Some (names.file, limits_of names.wide)) compress_meaning (two_names words) compress_once)
       (row_once (bytes_eq word (codes "count")) _ _ (one_file_asked_once IsCount words)
       (row_once (bytes_eq word (codes "export")) _ _ (asked_once (λ asked. Some (asked.file, narrow)) export_meaning (export_words words) export_once)
       (row_once (bytes_eq word (codes "replay")) _ _
-      (asked_once (λ a. Some (a.file, a.limits)) replay_meaning (replay_words words) replay_once)
+      (asked_once (λ a. Some (a.file, limits_of a.wide)) replay_meaning (replay_words words) replay_once)
       (row_once (bytes_eq word (codes "rest")) _ _ (asked_where_once LegalRest rest_meaning (rest_words words) rest_once)
       (row_once (bytes_eq word (codes "rest-check")) _ _
-      (asked_where_once (λ a. LegalSilently a.limits a.file a.silent) rest_check_meaning (rest_check_words words) rest_check_once)
+      (asked_where_once (λ a. LegalSilently (limits_of a.wide) a.file a.silent) rest_check_meaning (rest_check_words words) rest_check_once)
       (row_once (bytes_eq word (codes "search")) _ _ (asked_where_once LegalTemplate search_meaning (search_words words) search_once)
       (row_once (bytes_eq word (codes "show")) _ _ (one_file_asked_once (λ l. IsShown) words)
       (row_once (bytes_eq word (codes "verify")) _ _
-      (asked_where_once (λ a. LegalPicked a.limits a.file a.pattern) verify_meaning (verify_words words) verify_once)
+      (asked_where_once (λ a. LegalPicked (limits_of a.wide) a.file a.pattern) verify_meaning (verify_words words) verify_once)
       (row_once (bytes_eq word (codes "version")) _ NoCommand
       (asked_once (λ asked. None) (λ asked. version_meaning) (version_words words) (λ asked. replies_hinder [] (Writes 0 version_text) told)) tt))))))))))))
 

@@ -1,6 +1,7 @@
 -- what each command says grows with what is seen, and known files leave one number
 use Rattle.ta_base.specs.LimitRows.{narrow}
 use Rattle.ta_base.specs.declared.limits.Limits.{Limits}
+use Rattle.ta_program.specs.Values.{limits_of}
 use Rattle.ta_program.proofs.Common.{Budget, ◌≡◌, ◌∙◌, ℕ, List, [], length, slice_get, Option, None, Some, refl, sym, ap, subst, inl, inr, arith, Bool, IsSome}
 use Rattle.ta_program.proofs.Common.{File, Pattern, one_legal, Verdict, Told, Decides, IsSo, Meaning, put_bytes, View, in_files, Answer, Kind, Writes, after}
 use Rattle.ta_program.proofs.Common.{replies, after_monotone, decides, no_hindrance, one_number, replies_monotone, replies_one, settles_monotone, Monotone}
@@ -23,7 +24,7 @@ use Rattle.ta_verdict.proofs.CertificatesOnce.{certificates_once}
 use Rattle.ta_verdict.proofs.VerdictsOnce.{verdicts_once}
 
 pub proved_monotone : (asked : CheckWords) (file : File) → Monotone (proved_meaning asked file)
-proved_monotone asked file = after_monotone (certificate_kind (claiming claim.Safe file asked.limits.line_bytes)) asked.other []
+proved_monotone asked file = after_monotone (certificate_kind (claiming claim.Safe file (limits_of asked.wide).line_bytes)) asked.other []
     (λ numbers. replies [] (SaysProofs false file asked.options numbers)) (λ numbers. replies_monotone [] (SaysProofs false file asked.options numbers))
 
 pub shown_monotone : (file : File) (json : Bool) (name : List ℕ) → Monotone (shown_meaning file json name)
@@ -126,68 +127,70 @@ asked_for seen file says = asked_where seen (λ w told. LegalFile told (file w))
 pub check_decides : (asked : CheckWords) → Decides (check_meaning asked)
 check_decides asked =
     let options = asked.options in
-    file_decides asked.limits asked.file [] (proved_meaning asked) (proved_monotone asked) (λ file told.
-    one_number (certificate_kind (claiming claim.Safe file asked.limits.line_bytes)) asked.other []
+    file_decides (limits_of asked.wide) asked.file [] (proved_meaning asked) (proved_monotone asked) (λ file told.
+    one_number (certificate_kind (claiming claim.Safe file (limits_of asked.wide).line_bytes)) asked.other []
     (λ numbers. replies [] (SaysProofs false file options numbers))
     (λ numbers. replies_monotone [] (SaysProofs false file options numbers)) told
     (λ bytes numbers fault proves found. found.no_certificate numbers proves.accepted)
     (λ bytes v w m n. replies_one [] (SaysProofs false file options v) (SaysProofs false file options w) (in_files told)
-    (λ a b x y. says_number false file options v w (one_list (claiming claim.Safe file asked.limits.line_bytes) bytes v w m.accepted n.accepted) a b x y)))
+    (λ a b x y. says_number false file options v w (one_list (claiming claim.Safe file (limits_of asked.wide).line_bytes) bytes v w m.accepted n.accepted) a b x
+    y)))
 
-pub check_passes : (asked : CheckWords) → Passes (Some (asked.file, asked.limits)) (check_meaning asked)
+pub check_passes : (asked : CheckWords) → Passes (Some (asked.file, limits_of asked.wide)) (check_meaning asked)
 check_passes asked =
-    file_passes asked.limits asked.file [] (proved_meaning asked) (proved_monotone asked)
-    (λ file told. second_passes (certificate_kind (claiming claim.Safe file asked.limits.line_bytes)) asked.other (λ numbers. replies []
+    file_passes (limits_of asked.wide) asked.file [] (proved_meaning asked) (proved_monotone asked)
+    (λ file told. second_passes (certificate_kind (claiming claim.Safe file (limits_of asked.wide).line_bytes)) asked.other (λ numbers. replies []
     (SaysProofs false file asked.options numbers)) refl
     (λ numbers view line none. none) (in_files told))
 
 pub compress_decides : (asked : TwoNames) → Decides (compress_meaning asked)
 compress_decides asked =
     let run = asked.other in
-    file_decides asked.limits asked.file [] (λ file. short_meaning file run) (λ file. short_monotone file run) (λ file told.
+    file_decides (limits_of asked.wide) asked.file [] (λ file. short_meaning file run) (λ file. short_monotone file run) (λ file told.
     one_number (long_kind file) run [] (λ long. replies [] (SaysShort file long)) (λ long. replies_monotone [] (SaysShort file long)) told
     (λ bytes long fault able found. found.compresses_nothing long able)
     (λ bytes v w m n. replies_one [] (SaysShort file v) (SaysShort file w) (in_files told) (λ a b x y. x.writes.numbered ∙ sym y.writes.numbered)))
 
-pub compress_passes : (asked : TwoNames) → Passes (Some (asked.file, asked.limits)) (compress_meaning asked)
+pub compress_passes : (asked : TwoNames) → Passes (Some (asked.file, limits_of asked.wide)) (compress_meaning asked)
 compress_passes asked =
     let run = asked.other in
-    file_passes asked.limits asked.file [] (λ file. short_meaning file run) (λ file. short_monotone file run)
+    file_passes (limits_of asked.wide) asked.file [] (λ file. short_meaning file run) (λ file. short_monotone file run)
     (λ file told. second_passes (long_kind file) run (λ long. replies [] (SaysShort file long)) refl (λ long view line none. none) (in_files told))
 
 pub replay_decides : (asked : ReplayWords) → Decides (replay_meaning asked)
 replay_decides asked =
     let run = asked.other in
     let json = asked.json in
-    file_decides asked.limits asked.file [] (λ file. shown_meaning file json run) (λ file. shown_monotone file json run) (λ file told.
+    file_decides (limits_of asked.wide) asked.file [] (λ file. shown_meaning file json run) (λ file. shown_monotone file json run) (λ file told.
     one_number (run_kind file) run [] (λ shown. replies [] (SaysShown file json shown)) (λ shown. replies_monotone [] (SaysShown file json shown)) told
     (λ bytes shown fault shows found. found.shows_nothing shown shows)
     (λ bytes v w m n. replies_one [] (SaysShown file json v) (SaysShown file json w) (in_files told) (λ a b x y. x.writes.numbered ∙ sym y.writes.numbered)))
 
-pub replay_passes : (asked : ReplayWords) → Passes (Some (asked.file, asked.limits)) (replay_meaning asked)
+pub replay_passes : (asked : ReplayWords) → Passes (Some (asked.file, limits_of asked.wide)) (replay_meaning asked)
 replay_passes asked =
     let run = asked.other in
     let json = asked.json in
-    file_passes asked.limits asked.file [] (λ file. shown_meaning file json run) (λ file. shown_monotone file json run)
+    file_passes (limits_of asked.wide) asked.file [] (λ file. shown_meaning file json run) (λ file. shown_monotone file json run)
     (λ file told. second_passes (run_kind file) run (λ shown. replies [] (SaysShown file json shown)) refl (λ shown view line none. none) (in_files told))
 
 pub verify_decides : (asked : VerifyWords) → Decides (verify_meaning asked)
 verify_decides asked =
-    spared_decides (file_kind asked.limits) asked.file (may_put asked.out) (picked_meaning asked) (picked_monotone asked)
+    spared_decides (file_kind (limits_of asked.wide)) asked.file (may_put asked.out) (picked_meaning asked) (picked_monotone asked)
     (λ bytes file fault legal found. legal.no_fault fault found)
-    (file_decides asked.limits asked.file (may_put asked.out) (picked_meaning asked) (picked_monotone asked) (λ file told.
+    (file_decides (limits_of asked.wide) asked.file (may_put asked.out) (picked_meaning asked) (picked_monotone asked) (λ file told.
     pick_one asked.file asked.pattern (may_put asked.out) file (report_meaning asked file) told (λ pick. reports_one asked file pick told)))
 
-pub verify_passes : (asked : VerifyWords) → PassesWhere (LegalPicked asked.limits asked.file asked.pattern) (verify_meaning asked)
+pub verify_passes : (asked : VerifyWords) → PassesWhere (LegalPicked (limits_of asked.wide) asked.file asked.pattern) (verify_meaning asked)
 verify_passes asked told line legal =
-    spared_passes (file_kind asked.limits) asked.file (may_put asked.out) (picked_meaning asked) (in_files told) line (λ refuses.
+    spared_passes (file_kind (limits_of asked.wide)) asked.file (may_put asked.out) (picked_meaning asked) (in_files told) line (λ refuses.
     elim refuses [
-      | inl own ↦ no_hindrance (file_kind asked.limits) asked.file (may_put asked.out) (picked_meaning asked) (picked_monotone asked) told
+      | inl own ↦ no_hindrance (file_kind (limits_of asked.wide)) asked.file (may_put asked.out) (picked_meaning asked) (picked_monotone asked) told
           (λ bytes f fault means found. means.no_fault fault found) legal.file 3 line legal.is_file own
       | inr r ↦
           let is = legal.is_file in
-          let same : r.0 ≡ legal.file = one_legal asked.limits is.bytes r.0 legal.file
-          (subst (λ (bytes : List ℕ). (file_kind asked.limits).means bytes r.0) (whole_one told asked.file asked.limits.bytes r.1.bytes is.bytes r.1.had is.had)
+          let same : r.0 ≡ legal.file = one_legal (limits_of asked.wide) is.bytes r.0 legal.file
+          (subst (λ (bytes : List ℕ). (file_kind (limits_of asked.wide)).means bytes r.0)
+          (whole_one told asked.file (limits_of asked.wide).bytes r.1.bytes is.bytes r.1.had is.had)
           r.1.means) is.means in
           pick_passes asked.file asked.pattern (may_put asked.out) legal.file (report_meaning asked legal.file) told legal.pick legal.is_pick line
           (λ found hinders. let four = (hinders_long legal.file found asked.budget asked.out 3 line hinders).0 in absurd (omega (arith, four)))

@@ -1,5 +1,6 @@
 -- what `rest` and `rest-check` say grows with what is seen, and known files leave one number
 use Rattle.ta_base.specs.declared.limits.Limits.{Limits}
+use Rattle.ta_program.specs.Values.{limits_of}
 use Rattle.ta_program.proofs.Common.{true, ◌≡◌, ◌∙◌, ℕ, List, [], length, Option, None, Some, refl, sym, ap, subst, inl, inr, arith, IsSome, cases_order}
 use Rattle.ta_program.proofs.Common.{Automaton, File, FirstLongerCycle, claiming_with, one_legal, Verdict, RestCertificateOf, Told, Decides, IsSo, Meaning}
 use Rattle.ta_program.proofs.Common.{put_bytes, in_files, Answer, finds, replies, after_monotone, finds_monotone, finds_one, no_hindrance, one_number}
@@ -171,10 +172,10 @@ rest_decides asked =
     let puts = may_put asked.verify.out in
     let quietly = rest_quietly asked in
     let monotone = rest_quietly_monotone asked in
-    spared_decides (file_kind asked.verify.limits) asked.verify.file puts (at_ends asked.verify.file puts quietly)
-    (ends_monotone asked.verify.limits asked.verify.file puts quietly monotone)
+    spared_decides (file_kind (limits_of asked.verify.wide)) asked.verify.file puts (at_ends asked.verify.file puts quietly)
+    (ends_monotone (limits_of asked.verify.wide) asked.verify.file puts quietly monotone)
     (λ bytes file fault legal found. legal.no_fault fault found)
-    (ends_decides asked.verify.limits asked.verify.file puts quietly monotone (λ file ends is told.
+    (ends_decides (limits_of asked.verify.wide) asked.verify.file puts quietly monotone (λ file ends is told.
     names_one asked.verify.file asked.silent puts file (λ places. rest_picked asked file ends (resting asked.verify.budget places)) told (λ places.
     pick_one asked.verify.file asked.verify.pattern puts file (rest_report_meaning asked file ends (resting asked.verify.budget places)) told (λ pick.
     rest_one asked file ends is (resting asked.verify.budget places) pick told))))
@@ -183,8 +184,8 @@ rest_decides asked =
 pub rest_passes : (asked : RestWords) → PassesWhere (LegalRest asked) (rest_meaning asked)
 rest_passes asked told line legal =
     let puts = may_put asked.verify.out in
-    spared_passes (file_kind asked.verify.limits) asked.verify.file puts (at_ends asked.verify.file puts (rest_quietly asked)) (in_files told) line
-    (ends_passes_where asked.verify.limits asked.verify.file puts (rest_quietly asked) (rest_quietly_monotone asked) (LegalRest asked) (λ told legal.
+    spared_passes (file_kind (limits_of asked.verify.wide)) asked.verify.file puts (at_ends asked.verify.file puts (rest_quietly asked)) (in_files told) line
+    (ends_passes_where (limits_of asked.verify.wide) asked.verify.file puts (rest_quietly asked) (rest_quietly_monotone asked) (LegalRest asked) (λ told legal.
     let quiet = legal.silently in (
       record { file = quiet.file; is_file = quiet.is_file; loops = quiet.loops },
       λ ends line. names_pass asked.verify.file asked.silent puts quiet.file (λ places. rest_picked asked quiet.file ends (resting asked.verify.budget places))
@@ -199,7 +200,7 @@ rest_passes asked told line legal =
 module _ (asked : RestCheckWords) where
   pub rest_proved_monotone : (file : File) (ends : FileEndings) (silent : List ℕ) → Monotone (rest_proved_meaning asked file ends silent)
   rest_proved_monotone file ends silent =
-      after_monotone (certificate_kind (claiming_with RestSafe ends.ending silent asked.limits.line_bytes)) asked.other [] (λ numbers. replies []
+      after_monotone (certificate_kind (claiming_with RestSafe ends.ending silent (limits_of asked.wide).line_bytes)) asked.other [] (λ numbers. replies []
       (SaysProofs true file asked.options numbers))
       (λ numbers. replies_monotone [] (SaysProofs true file asked.options numbers))
 
@@ -211,27 +212,28 @@ module _ (asked : RestCheckWords) where
       → IsSo (rest_proved_meaning asked file ends silent) (in_files told) other → number ≡ other
   proved_one file ends silent told =
       let options = asked.options in
-      one_number (certificate_kind (claiming_with RestSafe ends.ending silent asked.limits.line_bytes)) asked.other [] (λ numbers. replies []
+      one_number (certificate_kind (claiming_with RestSafe ends.ending silent (limits_of asked.wide).line_bytes)) asked.other [] (λ numbers. replies []
       (SaysProofs true file options numbers))
       (λ numbers. replies_monotone [] (SaysProofs true file options numbers)) told
       (λ bytes numbers fault proves found. found.no_certificate numbers proves.accepted)
       (λ bytes v w m n. replies_one [] (SaysProofs true file options v) (SaysProofs true file options w) (in_files told)
       (λ a b x y. says_number true file options v w (one_list
-      (claiming_with RestSafe ends.ending silent asked.limits.line_bytes) bytes v w m.accepted n.accepted) a b x y))
+      (claiming_with RestSafe ends.ending silent (limits_of asked.wide).line_bytes) bytes v w m.accepted n.accepted) a b x y))
 
   pub rest_check_decides : Decides (rest_check_meaning asked)
   rest_check_decides =
-      ends_decides asked.limits asked.file [] (quietly_meaning asked) quietly_monotone (λ file ends is told.
+      ends_decides (limits_of asked.wide) asked.file [] (quietly_meaning asked) quietly_monotone (λ file ends is told.
       names_one asked.file asked.silent [] file (rest_proved_meaning asked file ends) told (λ places. proved_one file ends places told))
 
   -- where the names may be silent neither they nor CERT hinder with 3
-  pub rest_check_passes : PassesWhere (LegalSilently asked.limits asked.file asked.silent) (rest_check_meaning asked)
+  pub rest_check_passes : PassesWhere (LegalSilently (limits_of asked.wide) asked.file asked.silent) (rest_check_meaning asked)
   rest_check_passes =
-      ends_passes_where asked.limits asked.file [] (quietly_meaning asked) quietly_monotone (LegalSilently asked.limits asked.file asked.silent)
+      ends_passes_where (limits_of asked.wide) asked.file [] (quietly_meaning asked) quietly_monotone
+      (LegalSilently (limits_of asked.wide) asked.file asked.silent)
       (λ told legal. (
         record { file = legal.file; is_file = legal.is_file; loops = legal.loops },
         λ ends line. names_pass asked.file asked.silent [] legal.file (rest_proved_meaning asked legal.file ends) told legal.places legal.are_silent line
             (λ places.
-            second_passes (certificate_kind (claiming_with RestSafe ends.ending places asked.limits.line_bytes)) asked.other
+            second_passes (certificate_kind (claiming_with RestSafe ends.ending places (limits_of asked.wide).line_bytes)) asked.other
             (λ numbers. replies [] (SaysProofs true legal.file asked.options numbers)) refl (λ numbers view line none. none) (in_files told) line),
       ))

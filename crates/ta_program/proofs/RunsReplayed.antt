@@ -1,4 +1,5 @@
 -- What is printed as a run `replay` shows.
+use Rattle.ta_program.specs.Values.{limits_of}
 use Rattle.ta_program.proofs.Common.{◌≡◌, ◌⊎◌, inl, ℕ, Bool, List, [], Option, Some, refl, sym, ◌∙◌, subst, length, ◌≤◌, File, Run, shown_of, report_of, Told}
 use Rattle.ta_program.proofs.Common.{Answer, Performs, State, in_files, seen, FileMeans, RUN, IsFile, ShowsRun, run_kind, PrintedRunsAreReplayed, SaysShown}
 use Rattle.ta_program.proofs.Common.{replay_meaning, ReportHolds, resting, false, true}
@@ -23,7 +24,7 @@ shown_answer json file run bytes shows =
     (answer, refl, record { pattern = p; named = shows.shows.named; writes = record { numbered = refl; written = refl; no_put = refl } })
 
 -- a run that shows its pattern is shown, 6 and 7 aside
-shown_number : (told : Told) (asked : ReplayWords) (file : File) (run : Run) → IsFile asked.limits (in_files told) asked.file file
+shown_number : (told : Told) (asked : ReplayWords) (file : File) (run : Run) → IsFile (limits_of asked.wide) (in_files told) asked.file file
     → FileMeans (run_kind file) (in_files told) asked.other run → (number : ℕ) (before after : State) → before.shelf.files ≡ Some told
     → Performs (replay_meaning asked) number before after → (number ≡ 0) ⊎ ((number ≡ 6) ⊎ (number ≡ 7))
 shown_number told asked file run is_file is_run number before after is p =
@@ -41,7 +42,8 @@ replays : (told : Told) (l : Limits) (name : List ℕ) (file : File) (run : Run)
 replays told l name file run bytes h shows within again names asks named_so limits_so later same has second begun ended begun_is done =
     let there : IsFile l (in_files later) name file = record
     { bytes = h.bytes; had = record { seen = same ∙ h.had.seen; within = h.had.within }; means = h.means } in
-    let is_file : IsFile names.limits (in_files later) names.file file = subst (λ (k : Limits). IsFile k (in_files later) names.file file) (sym limits_so)
+    let is_file : IsFile (limits_of names.wide) (in_files later) names.file file = subst (λ (k : Limits). IsFile k (in_files later) names.file file)
+    (sym limits_so)
     (subst (λ (n : List ℕ). IsFile l (in_files later) n file) (sym named_so) there) in
     let is_run : FileMeans (run_kind file) (in_files later) names.other run = record
     { bytes = bytes; had = record { seen = has; within = within }; means = shows }
@@ -51,7 +53,7 @@ replays told l name file run bytes h shows within again names asks named_so limi
 pub runs_replayed : PrintedRunsAreReplayed
 runs_replayed words number before after h asked asks low told is =
     let name = asked.file in
-    let l = asked.limits in
+    let l = limits_of asked.wide in
     let reports = verify_reports words number before after h asked asks low in
     let r = subst (λ (files : Option Told). ReportHolds number (seen files reports.read) asked before.out.written after.out.written) is reports.such in
     record {
@@ -68,7 +70,7 @@ runs_replayed words number before after h asked asks low told is =
 pub rest_runs_replayed : PrintedRestRunsAreReplayed
 rest_runs_replayed words number before after h asked asks low told is =
     let name = asked.verify.file in
-    let l = asked.verify.limits in
+    let l = limits_of asked.verify.wide in
     let reports = (rests_report words number before after h).report asked asks low in
     let r = subst (λ (files : Option Told). RestReportHolds number (seen files reports.read) asked before.out.written after.out.written) is reports.such in
     record {
@@ -100,7 +102,7 @@ compressed_replayed words before after h asked asks told is =
     let name = asked.file in
     let holds = (run_shortens words 0 before after h).holds asked asks refl in
     let r = subst (λ (files : Option Told). CompressHolds (seen files holds.added) asked before.out.written after.out.written) is holds.such in
-    let is_file = told_file asked.limits told holds.added name r.file r.is_file in
+    let is_file = told_file (limits_of asked.wide) told holds.added name r.file r.is_file in
     let short = r.is_short in
     record {
       file = r.file;
@@ -110,6 +112,6 @@ compressed_replayed words before after h asked asks told is =
       replayed = λ stays.
           let shows : ShowsRun r.file (run_text r.file r.short) r.short = record
           { text = record { fits = short.fits; text = refl }; shows = short.shows; stays = stays } in
-          replays told asked.limits name r.file r.short (run_text r.file r.short) is_file shows
+          replays told (limits_of asked.wide) name r.file r.short (run_text r.file r.short) is_file shows
           (run_within r.file r.short short.fits short.shows short.is_short);
     }

@@ -1,4 +1,6 @@
 -- what the answers of `search` say
+use Rattle.ta_program.specs.SearchWords.{terms_of}
+use Rattle.ta_program.specs.Values.{limits_of}
 use Rattle.ta_program.proofs.Common.{Terms, ◌≡◌, ◌∙◌, ◌<◌, ◌≤◌, ℕ, suc, Bool, true, false, List, [], ◌∷◌, ◌++◌, length, map, Option, None, Some, Ok, Err, refl}
 use Rattle.ta_program.proofs.Common.{sym, ap, subst, inl, inr, rules, arith, Contains, IsSome, AllByRecursion, each_append, Tried, Template, filled_text}
 use Rattle.ta_program.proofs.Common.{AreTried, LastIsFound, each_before, hole_values, vectors, Told, Says, file_line, phrase_text, PutsWithin, Answer, Put}
@@ -60,8 +62,8 @@ tried_sized t terms n (v ∷ vs) (x ∷ xs) found sized are = (
 )
 
 -- what was tried last has the values and the certificate that are known
-module _ (asked : SearchWords) (t : Template) (values certificate text : List ℕ) (h : FoundBy t asked.terms asked.json values certificate text) where
-  last : LastIsFound t asked.terms.limits h.end
+module _ (asked : SearchWords) (t : Template) (values certificate text : List ℕ) (h : FoundBy t (terms_of asked) asked.json values certificate text) where
+  last : LastIsFound t (limits_of asked.wide) h.end
   last = h.ends.last
 
   same : last.last ≡ record { values = values; outcome = Safe certificate }
@@ -104,7 +106,7 @@ module _ (asked : SearchWords) (t : Template) (values certificate text : List �
       }
 
   hinders : (out : Option (List ℕ)) (name : List ℕ) → out ≡ Some name → (number : ℕ) (line : List ℕ) → number ≡ CERTIFICATE.number → line ≡ long_line name
-      → CERTIFICATE.bytes < length certificate → HindersFound t asked.terms out number line
+      → CERTIFICATE.bytes < length certificate → HindersFound t (terms_of asked) out number line
   hinders None name is number line numbered said longer = absurd (cc)
   hinders (Some out) name is number line numbered said longer =
       let one : name ≡ out = cc in
@@ -140,4 +142,4 @@ module _ (asked : SearchWords) (t : Template) (values certificate text : List �
   values_sized =
       ap length (sym same_values) ∙ (each_back (λ (x : Tried). length x.values ≡ length t.holes) last.before (last.last ∷ [])
       (subst (AllByRecursion (λ (x : Tried). length x.values ≡ length t.holes)) last.whole
-      (tried_sized t asked.terms (length t.holes) (vectors t.holes) h.end.tried h.end.found (vectors_sized t.holes) h.ends.is_end))).0
+      (tried_sized t (terms_of asked) (length t.holes) (vectors t.holes) h.end.tried h.end.found (vectors_sized t.holes) h.ends.is_end))).0

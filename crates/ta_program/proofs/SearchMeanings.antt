@@ -1,4 +1,6 @@
 -- what `search` says grows with what is seen, and known files leave one number
+use Rattle.ta_program.specs.SearchWords.{terms_of}
+use Rattle.ta_program.specs.Values.{limits_of}
 use Rattle.ta_program.proofs.Common.{Terms, ◌≡◌, ◌∙◌, ℕ, List, length, Option, None, Some, refl, sym, ap, subst, inl, inr, arith, TemplateFault, SearchEnd}
 use Rattle.ta_program.proofs.Common.{Tried, Template, LastIsFound, SearchesAreDetermined, FirstTemplateFault, no_fault, one_template, Decides, IsSo, View}
 use Rattle.ta_program.proofs.Common.{in_files, Answer, after_monotone, decides, no_hindrance, one_number, settles_monotone, Monotone, PassesWhere, Finds}
@@ -34,7 +36,7 @@ certificates_same t l a b same f g =
     cc
 
 pub found_monotone : (asked : SearchWords) (t : Template) → Monotone (found_meaning asked t)
-found_monotone asked t = settles_monotone (found_names asked) (Finds t asked) (HindersFound t asked.terms asked.out)
+found_monotone asked t = settles_monotone (found_names asked) (Finds t asked) (HindersFound t (terms_of asked) asked.out)
 
 -- only a certificate that is too long hinders what was found, with 4
 pub hinders_four : (t : Template) (terms : Terms) (out : Option (List ℕ)) (number : ℕ) (line : List ℕ) → HindersFound t terms out number line → number ≡ 4
@@ -45,13 +47,13 @@ hinders_four t terms (Some out) number line h = h.numbered
 module _ (once : SearchesAreDetermined) where
   -- no certificate is both put and too long
   not_both : (asked : SearchWords) (t : Template) (out : Option (List ℕ)) (answer : Answer) (number : ℕ) (line : List ℕ) → asked.out ≡ out
-      → Finds t asked answer → HindersFound t asked.terms out number line → ⊥
+      → Finds t asked answer → HindersFound t (terms_of asked) out number line → ⊥
   not_both asked t None answer number line is f h = h
   not_both asked t (Some out) answer number line is f h =
       let long = h.long in
-      let ends = once t asked.terms f.end long.end f.is_end long.is_end in
+      let ends = once t (terms_of asked) f.end long.end f.is_end long.is_end in
       let put = f.found (ap (λ (end : SearchEnd). end.found) ends ∙ long.found) in
-      let same = ap length (certificates_same t asked.terms.limits f.end long.end ends put.last long.last) in
+      let same = ap length (certificates_same t (limits_of asked.wide) f.end long.end ends put.last long.last) in
       let within = put.within (rw is refl) in
       let longer = long.longer in
       omega (arith, same)
@@ -60,29 +62,30 @@ module _ (once : SearchesAreDetermined) where
       → IsSo (found_meaning asked t) view other → number ≡ other
   found_one asked t view number other so so' = elim so [
     | inl a ↦ elim so' [
-      | inl b ↦ sym a.1 ∙ (a.2.numbered ∙ ap end_number (once t asked.terms a.2.end b.2.end a.2.is_end b.2.is_end) ∙ sym b.2.numbered) ∙ b.1
+      | inl b ↦ sym a.1 ∙ (a.2.numbered ∙ ap end_number (once t (terms_of asked) a.2.end b.2.end a.2.is_end b.2.is_end) ∙ sym b.2.numbered) ∙ b.1
       | inr r ↦ absurd (not_both asked t asked.out a.0 other r.0 refl a.2 r.1)
     ]
     | inr q ↦ elim so' [
       | inl b ↦ absurd (not_both asked t asked.out b.0 number q.0 refl b.2 q.1)
-      | inr r ↦ hinders_four t asked.terms asked.out number q.0 q.1 ∙ sym (hinders_four t asked.terms asked.out other r.0 r.1)
+      | inr r ↦ hinders_four t (terms_of asked) asked.out number q.0 q.1 ∙ sym (hinders_four t (terms_of asked) asked.out other r.0 r.1)
     ]
   ]
 
   pub search_decides : (asked : SearchWords) → Decides (search_meaning asked)
   search_decides asked =
-      spared_decides (template_kind asked.terms.limits) asked.file (found_names asked) (found_meaning asked) (found_monotone asked) template_fits
-      (decides (after (template_kind asked.terms.limits) asked.file (found_names asked) (found_meaning asked))
-      (after_monotone (template_kind asked.terms.limits) asked.file (found_names asked) (found_meaning asked) (found_monotone asked)) (λ told.
-      one_number (template_kind asked.terms.limits) asked.file (found_names asked) (found_meaning asked) (found_monotone asked) told template_fits
+      spared_decides (template_kind (limits_of asked.wide)) asked.file (found_names asked) (found_meaning asked) (found_monotone asked) template_fits
+      (decides (after (template_kind (limits_of asked.wide)) asked.file (found_names asked) (found_meaning asked))
+      (after_monotone (template_kind (limits_of asked.wide)) asked.file (found_names asked) (found_meaning asked) (found_monotone asked)) (λ told.
+      one_number (template_kind (limits_of asked.wide)) asked.file (found_names asked) (found_meaning asked) (found_monotone asked) told template_fits
       (λ bytes v w m n number other so so'.
       found_one asked w (in_files told) number other (subst (λ (t : Template). IsSo (found_meaning asked t) (in_files told) number) (one_text bytes v w m n) so)
       so')))
 
 pub search_passes : (asked : SearchWords) → PassesWhere (LegalTemplate asked) (search_meaning asked)
 search_passes asked told line (t, is) =
-    spared_passes (template_kind asked.terms.limits) asked.file (found_names asked) (found_meaning asked) (in_files told) line (λ refuses. elim refuses [
-      | inl own ↦ no_hindrance (template_kind asked.terms.limits) asked.file (found_names asked) (found_meaning asked) (found_monotone asked) told template_fits
+    spared_passes (template_kind (limits_of asked.wide)) asked.file (found_names asked) (found_meaning asked) (in_files told) line (λ refuses. elim refuses [
+      | inl own ↦ no_hindrance (template_kind (limits_of asked.wide)) asked.file (found_names asked) (found_meaning asked) (found_monotone asked) told
+          template_fits
           t 3 line is own
-      | inr r ↦ let four = hinders_four r.0 asked.terms asked.out 3 line r.2 in absurd (omega (arith, four))
+      | inr r ↦ let four = hinders_four r.0 (terms_of asked) asked.out 3 line r.2 in absurd (omega (arith, four))
     ])

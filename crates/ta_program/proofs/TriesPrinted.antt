@@ -1,4 +1,5 @@
 -- what `search` prints of the values that were tried is so
+use Rattle.ta_program.specs.SearchWords.{terms_of}
 use Rattle.ta_program.proofs.Common.{verdict_safe, Budget, ◌≡◌, ◌+◌, ℕ, Bool, true, false, List, [], ◌∷◌, Option, refl, sym, subst, inl}
 use Rattle.ta_program.proofs.Common.{inr, arith, if◌then◌else◌, list_any, AllByRecursion, File, Pattern, unit_steps, Told, Verdict, Safe, Unsafe}
 use Rattle.ta_program.proofs.Common.{Spent, Overflow, VerdictHolds, View, filled_text, held}
@@ -94,6 +95,6 @@ tries_printed number view asked files files' written written' made h = record {
   is_template = h.is_template;
   end = h.end;
   gained = h.wrote;
-  means = tries_mean h.template asked.terms (vectors h.template.holes) h.end.tried h.end.found h.is_end;
+  means = tries_mean h.template (terms_of asked) (vectors h.template.holes) h.end.tried h.end.found h.is_end;
   found = found_exactly h.end.found (list_any (λ (x : Tried). leaves_unknown x.outcome) h.end.tried) number h.numbered;
 }

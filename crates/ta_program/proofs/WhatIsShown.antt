@@ -1,5 +1,6 @@
 -- what a run says of the file that `show` prints
 use Rattle.ta_base.specs.declared.limits.Limits.{Limits}
+use Rattle.ta_program.specs.Values.{limits_of}
 use Rattle.ta_program.proofs.Common.{arith, ◌≡◌, ◌≤◌, ◌∙◌, ◌++◌, ◌∷◌, ℕ, true, false, List, [], Option, None, Some, refl, sym, ap, subst, map, codes}
 use Rattle.ta_program.proofs.Common.{append_assoc, option_map, option_and_then_some, AllByRecursion, nat_lt, length}
 use Rattle.ta_program.proofs.Common.{Call, LegalFile, LegalSilently, CheckHolds, Event, IsFile, Meaning, PutCall, ReplayHolds, ReportHolds}
@@ -33,7 +34,7 @@ use Rattle.ta_program.specs.SilentNames.{names_of}
 use Rattle.ta_program.specs.Understood.{Asks, EachLine, IsOfAll, NeverRests, OccursSomewhere, Prints, ReadsWhole, RunOccurs, Says, Understood}
 use Rattle.ta_program.proofs.OneFileOfAny.{one_legal_file}
 use Rattle.ta_program.specs.OneFile.{OneFileWords, one_file_form, one_file_taken}
-use Rattle.ta_program.specs.Values.{limits_for}
+use Rattle.ta_program.specs.Values.{wide_of}
 use Rattle.ta_program.specs.Words.{OptionForm, is_dashed, is_given, valued}
 use Rattle.ta_program.proofs.Common.{Taken, EachPicked, LegalPicked, LegalRest, slice_get}
 use Rattle.ta_program.proofs.OptionUnset.{option_unset_of}
@@ -52,7 +53,7 @@ file_taken name taken asked first is =
     option_and_then_some _ (file_name_of (plain_of taken 0)) asked is (λ file named file_is.
     option_and_then_some _ (budget_of (option_value taken 0)) asked file_is (λ nodes counted nodes_is.
     option_and_then_some _ (out_of file (option_value taken 1)) asked nodes_is (λ out took out_is.
-    let made = made_of _ (limits_for (is_given taken 6) (is_given taken 3)) asked out_is in
+    let made = made_of _ (wide_of (is_given taken 6) (is_given taken 3)) asked out_is in
     sym (ap (λ (w : VerifyWords). w.file) made.2) ∙ named_so (plain_of taken 0) name file first named)))
 
 file_of_verify : (name : List ℕ) (more : List (List ℕ)) (asked : VerifyWords) → is_dashed name ≡ false → verify_words (name ∷ more) ≡ Some asked
@@ -69,7 +70,7 @@ of_all words asked none is = option_and_then_some verify_taken (taken_by verify_
     option_and_then_some _ (file_name_of (plain_of taken 0)) asked taken_is (λ file named file_is.
     option_and_then_some _ (budget_of (option_value taken 0)) asked file_is (λ nodes counted nodes_is.
     option_and_then_some _ (out_of file (option_value taken 1)) asked nodes_is (λ out took out_is.
-    let made = made_of _ (limits_for (is_given taken 6) (is_given taken 3)) asked out_is in
+    let made = made_of _ (wide_of (is_given taken 6) (is_given taken 3)) asked out_is in
     let unset = option_unset_of (codes "--pattern") 4 verify_form words taken
     (λ i o there e. let four : i ≡ 4 = omega (arith, e) in fifth_option o (subst (λ (n : ℕ). slice_get verify_form.options n ≡ Some o) four there))
     none refl by in
@@ -188,7 +189,7 @@ module _ (words : List (List ℕ)) (number : ℕ) (before after : State) (h : Ru
       → Says Such ended name
   of_verify Such name more asks low such =
       let so : runs_so (codes "verify" ∷ name ∷ more) = subst runs_so asks.are h in
-      let found = were_asked (λ a. LegalPicked a.limits a.file a.pattern) verify_meaning (verify_words (name ∷ more)) number before after so low in
+      let found = were_asked (λ a. LegalPicked (limits_of a.wide) a.file a.pattern) verify_meaning (verify_words (name ∷ more)) number before after so low in
       let asked = found.0 in
       let is : verify_of words ≡ Some asked = ap verify_of asks.are ∙ found.1 in
       let Of : View → Type 0 = λ view. ReportHolds number view asked before.out.written after.out.written in
@@ -205,7 +206,7 @@ module _ (words : List (List ℕ)) (number : ℕ) (before after : State) (h : Ru
       → Says Such ended name
   of_check Such name more asks low such =
       let so : runs_so (codes "check" ∷ name ∷ more) = subst runs_so asks.are h in
-      let found = were_asked (λ a told. LegalFile told (Some (a.file, a.limits))) check_meaning
+      let found = were_asked (λ a told. LegalFile told (Some (a.file, limits_of a.wide))) check_meaning
       (check_words (name ∷ more)) number before after so low in
       let asked = found.0 in
       let is : check_of words ≡ Some asked = ap check_of asks.are ∙ found.1 in
@@ -238,7 +239,7 @@ module _ (words : List (List ℕ)) (number : ℕ) (before after : State) (h : Ru
       → Says Such ended name
   of_rest_check Such name more asks low such =
       let so : runs_so (codes "rest-check" ∷ name ∷ more) = subst runs_so asks.are h in
-      let found = were_asked (λ a. LegalSilently a.limits a.file a.silent) rest_check_meaning
+      let found = were_asked (λ a. LegalSilently (limits_of a.wide) a.file a.silent) rest_check_meaning
       (rest_check_words (name ∷ more)) number before after so low in
       let asked = found.0 in
       let is : rest_check_of words ≡ Some asked = ap rest_check_of asks.are ∙ found.1 in
@@ -272,7 +273,7 @@ module _ (words : List (List ℕ)) (number : ℕ) (before after : State) (h : Ru
   of_replay name run_name asks none =
       let so : runs_so (codes "replay" ∷ name ∷ run_name ∷ []) = subst runs_so asks.are h in
       let low : number ≤ 2 = omega (arith, none) in
-      let found = were_asked (λ a told. LegalFile told (Some (a.file, a.limits))) replay_meaning
+      let found = were_asked (λ a told. LegalFile told (Some (a.file, limits_of a.wide))) replay_meaning
       (replay_words (name ∷ run_name ∷ [])) number before after so low in
       let asked = found.0 in
       let is : replay_of words ≡ Some asked = ap replay_of asks.are ∙ found.1 in
@@ -302,7 +303,8 @@ module _ (words : List (List ℕ)) (number : ℕ) (before after : State) (h : Ru
   of_show name more asks none =
       let so : runs_so (codes "show" ∷ name ∷ more) = subst runs_so asks.are h in
       let low : number ≤ 2 = omega (arith, none) in
-      let found = were_asked (λ a told. LegalFile told (Some (a.file, a.limits))) (one_file_meaning (λ l. IsShown)) (one_file_words (name ∷ more)) number before
+      let found = were_asked (λ a told. LegalFile told (Some (a.file, limits_of a.wide))) (one_file_meaning (λ l. IsShown)) (one_file_words (name ∷ more))
+      number before
       after so low in
       let asked = found.0 in
       let is : show_of words ≡ Some asked = ap show_of asks.are ∙ found.1 in
@@ -329,11 +331,11 @@ module _ (words : List (List ℕ)) (number : ℕ) (before after : State) (h : Ru
     proved = λ name more asks low. of_check (EachLine runs.Safe (codes "proved")) name more asks low
         (λ asked view r. line_proved words number before after h asked view r);
     rest_safe = λ name more asks low. of_rest (EachLine NeverRests (codes "rest safe, ")) name more asks low (λ asked is view r k p named line.
-        never_rests asked.verify.limits r.is_file.bytes r.file r.is_file.means r.are_ends.loops k p named asked.silent
+        never_rests (limits_of asked.verify.wide) r.is_file.bytes r.file r.is_file.means r.are_ends.loops k p named asked.silent
         (tells_rest_safe words number before after h asked is view r k p named
         (tells_by_line true asked.verify.json r.file r.pick r.sample r.verdicts p.name line)));
     rest_proved = λ name more asks low. of_rest_check (EachLine NeverRests (codes "rest proved")) name more asks low (λ asked view r k p named line.
-        never_rests asked.limits r.is_file.bytes r.file r.is_file.means r.are_ends.loops k p named asked.silent
+        never_rests (limits_of asked.wide) r.is_file.bytes r.file r.is_file.means r.are_ends.loops k p named asked.silent
         (line_rest_proved words number before after h asked view r k p named line));
     shown = of_replay;
   }

@@ -5,7 +5,7 @@ use Rattle.ta_program.proofs.Common.{search_of, search_taken, search_words, are_
 use Rattle.ta_program.proofs.Common.{verify_of, verify_taken, verify_words, Taken, behind_name, plain_of, taken_by, option_value, codes, nat_lt}
 use Rattle.ta_program.proofs.Common.{option_map, RestWords, quiet_names}
 use Rattle.std.proofs.lemmas.Option.{cond_some, none-some}
-use Rattle.ta_program.specs.Values.{limits_for}
+use Rattle.ta_program.specs.Values.{wide_of}
 use Rattle.ta_program.specs.Words.{is_given}
 use Rattle.ta_base.proofs.Booleans.{not_chosen}
 use Rattle.ta_base.proofs.Options.{some_where}
@@ -50,7 +50,7 @@ taken_differs taken asked is =
     option_and_then_some _ (file_name_of (plain_of taken 0)) asked is (λ file named file_is.
     option_and_then_some _ (budget_of (option_value taken 0)) asked file_is (λ nodes counted nodes_is.
     option_and_then_some _ (out_of file (option_value taken 1)) asked nodes_is (λ out took out_is.
-    made_so Differs _ (λ limits. file_apart file (option_value taken 1) out took) (limits_for (is_given taken 6) (is_given taken 3)) asked out_is)))
+    made_so Differs _ (λ wide. file_apart file (option_value taken 1) out took) (wide_of (is_given taken 6) (is_given taken 3)) asked out_is)))
 
 verify_differs : (words : List (List ℕ)) (asked : VerifyWords) → verify_words words ≡ Some asked → Differs asked
 verify_differs words asked is = option_and_then_some verify_taken (taken_by verify_form words) asked is
@@ -115,12 +115,12 @@ taken_apart taken asked is = option_and_then_some _ (file_name_of (plain_of take
     let given = option_value taken 2 in
     let by = not_chosen (are_same out given) None (out_of file given) (Some filled) from (none-some filled) in
     made_so AllApart _
-    (λ limits. record {
+    (λ wide. record {
       puts = subst (λ (o : Option (List ℕ)). Apart o out) (sym (out_given file given filled by.1)) (differ out given by.0);
       out = file_apart file (option_value taken 1) out took;
       filled = file_apart file given filled by.1;
     })
-    (limits_for (is_given taken 5) (is_given taken 3)) asked filled_is))))
+    (wide_of (is_given taken 5) (is_given taken 3)) asked filled_is))))
 
 search_apart : (words : List (List ℕ)) (asked : SearchWords) → search_words words ≡ Some asked → AllApart asked
 search_apart words asked is = option_and_then_some search_taken (taken_by search_form words) asked is (λ taken by taken_is. taken_apart taken asked taken_is)

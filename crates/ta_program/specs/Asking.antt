@@ -6,7 +6,7 @@ use Rattle.ta_program.specs.VerifyWords.{VerifyWords}
 abbrev pub verify_seen : Verify → VerifyWords
 verify_seen command = record {
   file = command.file.now;
-  limits = command.budget.limits;
+  wide = command.budget.wide;
   budget = command.budget.given;
   out = option_map (λ w. w.now) command.out;
   json = command.json;

@@ -21,6 +21,7 @@ use Rattle.ta_shelf.specs.Commands.{Meaning}
 use Rattle.ta_shelf.specs.Lines.{file_line}
 use Rattle.ta_shelf.specs.Sights.{HasBytes, View, in_files}
 use Rattle.ta_shelf.specs.Stages.{FileMeans, Kind, Writes, after, replies}
+use Rattle.ta_program.specs.Values.{limits_of}
 use Rattle.ta_program.specs.declared.limits.TheConstants.{RUN}
 use Rattle.ta_program.specs.Asked.{Asked, ask}
 use Rattle.ta_program.specs.Kinds.{IsFile, file_kind}
@@ -86,19 +87,19 @@ short_meaning file name = after (long_kind file) name [] (λ run. replies [] (Sa
 
 -- FILE is read, and then RUN
 abbrev pub compress_meaning : TwoNames → Meaning
-compress_meaning asked = after (file_kind asked.limits) asked.file [] (λ file. short_meaning file asked.other)
+compress_meaning asked = after (file_kind (limits_of asked.wide)) asked.file [] (λ file. short_meaning file asked.other)
 
 -- `compress FILE RUN [--wide]`
 abbrev pub compress_of : List (List ℕ) → Option TwoNames
 compress_of = behind_name (codes "compress") two_names
 
 abbrev pub compress_asked : List (List ℕ) → Asked
-compress_asked words = ask (λ asked. Some (asked.file, asked.limits)) compress_meaning (two_names words)
+compress_asked words = ask (λ asked. Some (asked.file, limits_of asked.wide)) compress_meaning (two_names words)
 
 -- FILE is legal, RUN is the text of a run that can be compressed, and the output gained the text of the compressed run
 pub record CompressHolds (view : View) (asked : TwoNames) (written written' : Option (List ℕ)) : Type 0 where
   pub file : File
-  pub is_file : IsFile asked.limits view asked.file file
+  pub is_file : IsFile (limits_of asked.wide) view asked.file file
   pub run : Run
   pub is_run : FileMeans (long_kind file) view asked.other run
   pub short : Run
@@ -108,7 +109,7 @@ pub record CompressHolds (view : View) (asked : TwoNames) (written written' : Op
 -- known files that have a legal FILE and the text of a run of it that can be compressed
 pub record CanCompress (told : Told) (asked : TwoNames) : Type 0 where
   pub file : File
-  pub is_file : IsFile asked.limits (in_files told) asked.file file
+  pub is_file : IsFile (limits_of asked.wide) (in_files told) asked.file file
   pub run : Run
   pub is_run : FileMeans (long_kind file) (in_files told) asked.other run
 
@@ -116,7 +117,7 @@ pub record CanCompress (told : Told) (asked : TwoNames) : Type 0 where
 -- of FILE leaves the range first
 pub record LeavesRange (told : Told) (asked : TwoNames) (line : ℕ) : Type 0 where
   pub file : File
-  pub is_file : IsFile asked.limits (in_files told) asked.file file
+  pub is_file : IsFile (limits_of asked.wide) (in_files told) asked.file file
   pub bytes : List ℕ
   pub had : HasBytes (in_files told) asked.other RUN.bytes bytes
   pub run : Run

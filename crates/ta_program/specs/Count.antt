@@ -8,6 +8,7 @@ use Rattle.ta_automaton.specs.declared.pattern.Pattern.{Pattern}
 use Rattle.ta_shelf.specs.Sink.{with_text}
 use Rattle.ta_shelf.specs.Sights.{View}
 use Rattle.ta_report.specs.Show.{each}
+use Rattle.ta_program.specs.Values.{limits_of}
 use Rattle.ta_program.specs.Kinds.{IsFile}
 use Rattle.ta_program.specs.OneFile.{OneFileWords, one_file_words}
 use Rattle.ta_program.specs.Words.{behind_name}
@@ -49,6 +50,6 @@ count_of = behind_name (codes "count") one_file_words
 -- FILE is legal, and the output gained the lines of the file that its bytes mean, and nothing else; no line says more than its limit
 pub record CountHolds (view : View) (asked : OneFileWords) (written written' : Option (List ℕ)) : Type 0 where
   pub file : File
-  pub is_file : IsFile asked.limits view asked.file file
-  pub wrote : written' ≡ with_text written (count_text asked.limits file)
-  pub within : AllByRecursion (λ c. c.1 ≤ c.2) (counts_of asked.limits file)
+  pub is_file : IsFile (limits_of asked.wide) view asked.file file
+  pub wrote : written' ≡ with_text written (count_text (limits_of asked.wide) file)
+  pub within : AllByRecursion (λ c. c.1 ≤ c.2) (counts_of (limits_of asked.wide) file)

@@ -21,6 +21,7 @@ use Rattle.ta_shelf.specs.Put.{Told}
 use Rattle.ta_shelf.specs.Sink.{with_text}
 use Rattle.ta_shelf.specs.Ends.{State, Tells}
 use Rattle.ta_shelf.specs.Sights.{in_files}
+use Rattle.ta_program.specs.Values.{limits_of}
 use Rattle.ta_program.specs.Admit.{AdmitAsked, admit_of}
 use Rattle.ta_program.specs.Asked.{Runs}
 use Rattle.ta_verdict.specs.Certificates.{safe_among}
@@ -40,7 +41,7 @@ use Rattle.ta_program.specs.VerifyWords.{VerifyWords, verify_of}
 -- it within the same limits: it ends with status 0, or with 6 or 7
 abbrev pub IsReplayed : Told → Limits → List ℕ → List ℕ → Type 0
 IsReplayed told l name bytes =
-    (words : List (List ℕ)) (asked : ReplayWords) → replay_of words ≡ Some asked → asked.file ≡ name → asked.limits ≡ l
+    (words : List (List ℕ)) (asked : ReplayWords) → replay_of words ≡ Some asked → asked.file ≡ name → limits_of asked.wide ≡ l
     → (later : Told) → later name ≡ told name → later asked.other ≡ Some bytes
     → (number : ℕ) (before after : State) → before.shelf.files ≡ Some later → Runs (request_of words) number before after
     → (number ≡ 0) ⊎ ((number ≡ 6) ⊎ (number ≡ 7))
@@ -59,7 +60,7 @@ PrintedRunsAreReplayed =
     (words : List (List ℕ)) (number : ℕ) (before after : State) → Runs (request_of words) number before after
     → (asked : VerifyWords) → verify_of words ≡ Some asked → number ≤ 2
     → (told : Told) → before.shelf.files ≡ Some told
-    → PrintsReplayed asked.json told asked.limits asked.file before after
+    → PrintsReplayed asked.json told (limits_of asked.wide) asked.file before after
 
 -- the output gained a text, and what it gives, in one form or the other, as the run of an unsafe pattern of FILE is replayed
 pub record TellsReplayed (telling : Telling) (told : Told) (l : Limits) (name : List ℕ) (before after : State) : Type 0 where
@@ -75,7 +76,7 @@ PrintedRestRunsAreReplayed =
     (words : List (List ℕ)) (number : ℕ) (before after : State) → Runs (request_of words) number before after
     → (asked : RestWords) → rest_of words ≡ Some asked → number ≤ 2
     → (told : Told) → before.shelf.files ≡ Some told
-    → TellsReplayed (telling_of true asked.verify.json) told asked.verify.limits asked.verify.file before after
+    → TellsReplayed (telling_of true asked.verify.json) told (limits_of asked.verify.wide) asked.verify.file before after
 
 -- the output gained a text, which is replayed
 pub record WritesReplayed (told : Told) (l : Limits) (name : List ℕ) (before after : State) : Type 0 where
@@ -105,7 +106,7 @@ CompressedRunsAreReplayed =
     (words : List (List ℕ)) (before after : State) → Runs (request_of words) 0 before after
     → (asked : TwoNames) → compress_of words ≡ Some asked
     → (told : Told) → before.shelf.files ≡ Some told
-    → WritesReplayedInRange told asked.limits asked.file before after
+    → WritesReplayedInRange told (limits_of asked.wide) asked.file before after
 
 -- if the run of known files is replayed and has few steps, but a guard leaves the range on its way, `compress` prints N11 with the line where
 -- one does first, 6 and 7 aside
@@ -141,9 +142,9 @@ WrittenIsAccepted =
     (words : List (List ℕ)) (first : ℕ) (before after : State) → Runs (request_of words) first before after
     → (asked : VerifyWords) (out : List ℕ) → verify_of words ≡ Some asked → asked.out ≡ Some out → first ≤ 2
     → (told : Told) → after.shelf.files ≡ Some told
-    → (again : List (List ℕ)) → check_of again ≡ Some (record { file = asked.file; other = out; limits = asked.limits; options = no_options })
+    → (again : List (List ℕ)) → check_of again ≡ Some (record { file = asked.file; other = out; wide = asked.wide; options = no_options })
     → (second : ℕ) (begun ended : State) → begun.shelf.files ≡ Some told → Runs (request_of again) second begun ended
-    → SaysTheSame (report_of false asked.json) check_text told asked.limits asked.file before after second begun ended
+    → SaysTheSame (report_of false asked.json) check_text told (limits_of asked.wide) asked.file before after second begun ended
 
 -- what `rest FILE --certificate OUT` put with status 0, 1 or 2 is accepted by `rest-check FILE OUT`, with the same silent names, over the
 -- files as they were left: it never ends with 3, 4 or 5, and with 0 it says that exactly the patterns are proved that were reported safe at
@@ -156,23 +157,23 @@ WrittenAtRestIsAccepted =
     → (again : List (List ℕ)) → rest_check_of again ≡ Some (record {
       file = asked.verify.file;
       other = out;
-      limits = asked.verify.limits;
+      wide = asked.verify.wide;
       silent = asked.silent;
       options = no_options;
     })
     → (second : ℕ) (begun ended : State) → begun.shelf.files ≡ Some told → Runs (request_of again) second begun ended
-    → SaysTheSame (report_of true asked.verify.json) rest_check_text told asked.verify.limits asked.verify.file before after second begun ended
+    → SaysTheSame (report_of true asked.verify.json) rest_check_text told (limits_of asked.verify.wide) asked.verify.file before after second begun ended
 
 -- a first run reported the search of FILE, a template, and its last values were found; OUT2 holds FILE's body with these values, which
 -- means a file; and a second run said that each of its patterns is proved, or it ended with 6 or 7
 pub record ProvesFound (told : Told) (asked : SearchWords) (filled : List ℕ) (before after : State) (number : ℕ) (begun ended : State) : Type 0 where
   pub template : Template
-  pub is_template : IsTemplate asked.terms.limits (in_files told) asked.file template
+  pub is_template : IsTemplate (limits_of asked.wide) (in_files told) asked.file template
   pub end : SearchEnd
   pub reported : after.out.written ≡ with_text before.out.written (search_told asked.json template end)
-  pub last : LastIsFound template asked.terms.limits end
+  pub last : LastIsFound template (limits_of asked.wide) end
   pub held : told filled ≡ Some (filled_text template last.last.values)
-  pub is_file : IsFile asked.terms.limits (in_files told) filled last.found.file
+  pub is_file : IsFile (limits_of asked.wide) (in_files told) filled last.found.file
   pub accepted : SaysOrFails (check_text last.found.file (range_with_len 0 (length last.found.file.patterns))) number begun ended
 
 -- what `search FILE --certificate OUT --filled OUT2` put with status 0 is accepted by `check OUT2 OUT` over the files as they were left: it
@@ -183,6 +184,6 @@ FoundIsAccepted =
     (words : List (List ℕ)) (before after : State) → Runs (request_of words) 0 before after
     → (asked : SearchWords) (out filled : List ℕ) → search_of words ≡ Some asked → asked.out ≡ Some out → asked.filled ≡ Some filled
     → (told : Told) → after.shelf.files ≡ Some told
-    → (again : List (List ℕ)) → check_of again ≡ Some (record { file = filled; other = out; limits = asked.terms.limits; options = no_options })
+    → (again : List (List ℕ)) → check_of again ≡ Some (record { file = filled; other = out; wide = asked.wide; options = no_options })
     → (second : ℕ) (begun ended : State) → begun.shelf.files ≡ Some told → Runs (request_of again) second begun ended
     → ProvesFound told asked filled before after second begun ended

@@ -11,6 +11,7 @@ use Rattle.ta_shelf.specs.OutputCalls.{Acts, AreOfStages, AreStaging}
 use Rattle.ta_shelf.specs.Puts.{KeptBut, may_put}
 use Rattle.ta_shelf.specs.Sights.{in_files}
 use Rattle.ta_shelf.specs.Sparing.{Differ}
+use Rattle.ta_program.specs.Values.{limits_of}
 use Rattle.ta_program.specs.Asked.{Asked, IsNoCommand, usage_line}
 use Rattle.ta_program.specs.Asked.Asked.{Command, NoCommand}
 use Rattle.ta_program.specs.Admit.{AdmitAsked, AdmitHolds, IsAdmitted, admit_of}
@@ -260,7 +261,7 @@ pub record EndsSo (exit : ℕ) (out : Option (List ℕ)) (Known Long Same : Type
 abbrev pub ReportEnds : ℕ → Option Told → Option VerifyWords → Type 0
 ReportEnds exit files words =
     (told : Told) (asked : VerifyWords) (file : File) (pick : Pick) → files ≡ Some told → words ≡ Some asked
-    → IsFile asked.limits (in_files told) asked.file file
+    → IsFile (limits_of asked.wide) (in_files told) asked.file file
     → IsPick file asked.pattern pick
     → EndsSo exit asked.out (IsDecided asked file pick) (LongCertificate file pick asked.budget) (HoldsSame told asked.file asked.out)
 
@@ -268,7 +269,8 @@ ReportEnds exit files words =
 abbrev pub RestReportEnds : ℕ → Option Told → Option RestWords → Type 0
 RestReportEnds exit files words =
     (told : Told) (asked : RestWords) (file : File) (places : List ℕ) (pick : Pick) → files ≡ Some told → words ≡ Some asked
-    → IsFile asked.verify.limits (in_files told) asked.verify.file file → AreSilent file.automaton asked.silent places → IsPick file asked.verify.pattern pick
+    → IsFile (limits_of asked.verify.wide) (in_files told) asked.verify.file file → AreSilent file.automaton asked.silent places
+    → IsPick file asked.verify.pattern pick
     → EndsSo exit asked.verify.out (IsDecidedAtRest asked file (resting asked.verify.budget places) pick)
     (LongAtRest file (resting asked.verify.budget places) pick) (HoldsSame told asked.verify.file asked.verify.out)
 

@@ -10,6 +10,7 @@ use Rattle.ta_shelf.specs.declared.answer.Answer.{Answer}
 use Rattle.ta_shelf.specs.Commands.{Meaning}
 use Rattle.ta_shelf.specs.Sights.{View}
 use Rattle.ta_shelf.specs.Stages.{FileMeans, Writes, after, replies}
+use Rattle.ta_program.specs.Values.{limits_of}
 use Rattle.ta_program.specs.Asked.{Asked, ask}
 use Rattle.ta_program.specs.Kinds.{IsFile, file_kind, run_kind}
 use Rattle.ta_program.specs.CheckWords.{ReplayWords, replay_words}
@@ -26,15 +27,15 @@ shown_meaning file json name = after (run_kind file) name [] (λ run. replies []
 
 -- FILE is read, and then RUN
 abbrev pub replay_meaning : ReplayWords → Meaning
-replay_meaning asked = after (file_kind asked.limits) asked.file [] (λ file. shown_meaning file asked.json asked.other)
+replay_meaning asked = after (file_kind (limits_of asked.wide)) asked.file [] (λ file. shown_meaning file asked.json asked.other)
 
 abbrev pub replay_asked : List (List ℕ) → Asked
-replay_asked words = ask (λ asked. Some (asked.file, asked.limits)) replay_meaning (replay_words words)
+replay_asked words = ask (λ asked. Some (asked.file, limits_of asked.wide)) replay_meaning (replay_words words)
 
 -- FILE is legal, RUN is the text of a run that shows its pattern, and the output gained the text that says so
 pub record ReplayHolds (view : View) (asked : ReplayWords) (written written' : Option (List ℕ)) : Type 0 where
   pub file : File
-  pub is_file : IsFile asked.limits view asked.file file
+  pub is_file : IsFile (limits_of asked.wide) view asked.file file
   pub run : Run
   pub is_run : FileMeans (run_kind file) view asked.other run
   pub pattern : Pattern

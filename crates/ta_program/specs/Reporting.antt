@@ -16,6 +16,7 @@ use Rattle.ta_shelf.specs.Puts.{HoldsText, may_put}
 use Rattle.ta_shelf.specs.Sights.{View}
 use Rattle.ta_shelf.specs.Sparing.{spared}
 use Rattle.ta_shelf.specs.Stages.{settles}
+use Rattle.ta_program.specs.Values.{limits_of}
 use Rattle.ta_program.specs.declared.limits.TheConstants.{CERTIFICATE}
 use Rattle.ta_verdict.specs.Certificates.{CertificateOn, safe_among}
 use Rattle.ta_program.specs.Certified.{HindersCertificate, PutsCertificate}
@@ -47,16 +48,16 @@ picked_meaning asked file = with_pick asked.file asked.pattern (may_put asked.ou
 
 -- FILE is read, OUT is compared with it, and the patterns and the report follow
 abbrev pub verify_meaning : VerifyWords → Meaning
-verify_meaning asked = spared (file_kind asked.limits) asked.file (may_put asked.out) (picked_meaning asked)
+verify_meaning asked = spared (file_kind (limits_of asked.wide)) asked.file (may_put asked.out) (picked_meaning asked)
 
 abbrev pub verify_asked : List (List ℕ) → Asked
-verify_asked words = ask_where (λ asked. LegalPicked asked.limits asked.file asked.pattern) verify_meaning (verify_words words)
+verify_asked words = ask_where (λ asked. LegalPicked (limits_of asked.wide) asked.file asked.pattern) verify_meaning (verify_words words)
 
 -- FILE is legal and has the pattern that is asked for, what is said of the parameters holds, each verdict holds, these give the status, and
 -- the output gained the report
 pub record ReportHolds (number : ℕ) (view : View) (asked : VerifyWords) (written written' : Option (List ℕ)) : Type 0 where
   pub file : File
-  pub is_file : IsFile asked.limits view asked.file file
+  pub is_file : IsFile (limits_of asked.wide) view asked.file file
   pub pick : Pick
   pub is_pick : IsPick file asked.pattern pick
   pub sample : ReportSample
@@ -76,7 +77,7 @@ pub record CertificateStands (number : ℕ) (view : View) (asked : VerifyWords) 
   pub within : length text ≤ CERTIFICATE.bytes
   pub stands : WhereTold (HoldsText out text) files files'
   pub told : TellsFile out text made
-  pub accepted : Certificate report.file asked.limits.line_bytes text (safe_among report.file report.pick report.verdicts)
+  pub accepted : Certificate report.file (limits_of asked.wide).line_bytes text (safe_among report.file report.pick report.verdicts)
 
 -- no verdict holds that leaves a picked pattern unknown; with `--all`, what holds of the parameters and of these patterns tells something
 pub record IsDecided (asked : VerifyWords) (file : File) (pick : Pick) : Type 0 where

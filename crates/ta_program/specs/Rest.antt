@@ -26,6 +26,7 @@ use Rattle.ta_shelf.specs.Sparing.{spared}
 use Rattle.ta_shelf.specs.Stages.{settles}
 use Rattle.ta_verdict.specs.Certificates.{safe_among}
 use Rattle.ta_verdict.specs.Verdicts.{IsSample, is_unknown}
+use Rattle.ta_program.specs.Values.{limits_of}
 use Rattle.ta_program.specs.declared.limits.TheConstants.{CERTIFICATE}
 use Rattle.ta_program.specs.Asked.{Asked, ask_where}
 use Rattle.ta_program.specs.Certified.{long_line}
@@ -100,12 +101,12 @@ rest_quietly asked file ends = with_silent asked.verify.file asked.silent (may_p
 
 -- FILE is read, OUT is compared with it, its endings are computed, and then the silent places, the patterns and the report follow
 abbrev pub rest_meaning : RestWords → Meaning
-rest_meaning asked = spared (file_kind asked.verify.limits) asked.verify.file (may_put asked.verify.out)
+rest_meaning asked = spared (file_kind (limits_of asked.verify.wide)) asked.verify.file (may_put asked.verify.out)
     (at_ends asked.verify.file (may_put asked.verify.out) (rest_quietly asked))
 
 -- FILE means an automaton whose cycles of rules are self-loops, the names may be silent in it, and it has the pattern that is asked for
 pub record LegalRest (asked : RestWords) (told : Told) : Type 0 where
-  pub silently : LegalSilently asked.verify.limits asked.verify.file asked.silent told
+  pub silently : LegalSilently (limits_of asked.verify.wide) asked.verify.file asked.silent told
   pub pick : Pick
   pub is_pick : IsPick silently.file asked.verify.pattern pick
 
@@ -136,7 +137,7 @@ pub record LongAtRest (file : File) (budget : RestBudget) (pick : Pick) : Type 0
 -- parameters holds, each verdict holds, these give the status, and the output gained the report
 pub record RestReportHolds (number : ℕ) (view : View) (asked : RestWords) (written written' : Option (List ℕ)) : Type 0 where
   pub file : File
-  pub is_file : IsFile asked.verify.limits view asked.verify.file file
+  pub is_file : IsFile (limits_of asked.verify.wide) view asked.verify.file file
   pub ends : FileEndings
   pub are_ends : IsEnds file ends
   pub silent : List ℕ
@@ -160,5 +161,5 @@ pub record RestCertificateStands (number : ℕ) (view : View) (asked : RestWords
   pub within : length text ≤ CERTIFICATE.bytes
   pub stands : WhereTold (HoldsText out text) files files'
   pub told : TellsFile out text made
-  pub accepted : QuietRestCertificate report.ends.ending report.silent asked.verify.limits.line_bytes text
+  pub accepted : QuietRestCertificate report.ends.ending report.silent (limits_of asked.verify.wide).line_bytes text
       (safe_among report.ends.ending report.pick report.verdicts)

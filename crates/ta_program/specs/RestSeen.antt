@@ -8,7 +8,7 @@ abbrev pub rest_seen : Rest → RestWords
 rest_seen command = record {
   verify = record {
     file = command.file.now;
-    limits = command.silent.budget.limits;
+    wide = command.silent.budget.wide;
     budget = command.silent.budget.given;
     out = option_map (λ w. w.now) command.out;
     json = command.json;
@@ -22,7 +22,7 @@ abbrev pub rest_check_seen : RestCheck → RestCheckWords
 rest_check_seen command = record {
   file = command.file.now;
   other = command.certificate.now;
-  limits = command.limits;
+  wide = command.wide;
   silent = option_map (λ w. w.now) command.silent;
   options = command.options;
 }

@@ -26,6 +26,8 @@ use Rattle.ta_shelf.specs.Sights.{View, in_files}
 use Rattle.ta_shelf.specs.Sparing.{spared}
 use Rattle.ta_shelf.specs.Stages.{FileMeans, Kind, settles}
 use Rattle.ta_search.specs.declared.terms.Terms.{Terms}
+use Rattle.ta_program.specs.SearchWords.{terms_of}
+use Rattle.ta_program.specs.Values.{limits_of}
 use Rattle.ta_program.specs.declared.limits.TheConstants.{CERTIFICATE}
 use Rattle.ta_program.specs.Asked.{Asked, ask_where}
 use Rattle.ta_program.specs.Certified.{long_line}
@@ -79,14 +81,14 @@ found_files filled out text certificate = with_given out certificate (with_given
 
 -- values were found, and these files are put; the certificate that is asked for is within its limit
 pub record PutsFound (template : Template) (end : SearchEnd) (asked : SearchWords) (puts : List answer.Put) : Type 0 where
-  pub last : LastIsFound template asked.terms.limits end
+  pub last : LastIsFound template (limits_of asked.wide) end
   pub are : map put_text puts ≡ found_files asked.filled asked.out (filled_text template last.last.values) last.certificate
   pub within : IsSome asked.out → length last.certificate ≤ CERTIFICATE.bytes
 
 -- the text of the search's end with the status that it gives, and the files of the values; if no values were found, no file
 pub record Finds (template : Template) (asked : SearchWords) (answer : Answer) : Type 0 where
   pub end : SearchEnd
-  pub is_end : IsSearchEnd template asked.terms end
+  pub is_end : IsSearchEnd template (terms_of asked) end
   pub numbered : answer.number ≡ end_number end
   pub written : answer.text ≡ search_told asked.json template end
   pub found : end.found ≡ true → PutsFound template end asked answer.puts
@@ -117,15 +119,15 @@ found_names asked = may_put asked.filled ++ may_put asked.out
 
 -- the search of a template ends so, unless the certificate that is asked for is too long
 abbrev pub found_meaning : SearchWords → Template → Meaning
-found_meaning asked template = settles (found_names asked) (Finds template asked) (HindersFound template asked.terms asked.out)
+found_meaning asked template = settles (found_names asked) (Finds template asked) (HindersFound template (terms_of asked) asked.out)
 
 -- FILE is read, OUT2 and OUT are compared with it, and its holes are searched
 abbrev pub search_meaning : SearchWords → Meaning
-search_meaning asked = spared (template_kind asked.terms.limits) asked.file (found_names asked) (found_meaning asked)
+search_meaning asked = spared (template_kind (limits_of asked.wide)) asked.file (found_names asked) (found_meaning asked)
 
 -- FILE is a template
 abbrev pub LegalTemplate : SearchWords → Told → Type 0
-LegalTemplate asked told = (template : Template) × IsTemplate asked.terms.limits (in_files told) asked.file template
+LegalTemplate asked told = (template : Template) × IsTemplate (limits_of asked.wide) (in_files told) asked.file template
 
 abbrev pub search_asked : List (List ℕ) → Asked
 search_asked words = ask_where LegalTemplate search_meaning (search_words words)
@@ -139,7 +141,7 @@ pub record HoldFound (filled out : Option (List ℕ)) (text certificate : List �
 -- values were found: every pattern of the filled text is safe and some parameters have an initial configuration, OUT2 holds that text, and
 -- OUT a certificate of it that proves all its patterns, so `check` accepts it; and the calls put exactly these in their places, whole
 pub record FoundStands (template : Template) (end : SearchEnd) (asked : SearchWords) (files files' : Option Told) (made : List Put) : Type 0 where
-  pub last : LastIsFound template asked.terms.limits end
+  pub last : LastIsFound template (limits_of asked.wide) end
   pub stands : WhereTold (HoldFound asked.filled asked.out (filled_text template last.last.values) last.certificate) files files'
   pub told : PutWhole (found_files asked.filled asked.out (filled_text template last.last.values) last.certificate) made
   pub within : IsSome asked.out → length last.certificate ≤ CERTIFICATE.bytes
@@ -151,9 +153,9 @@ pub record FoundStands (template : Template) (end : SearchEnd) (asked : SearchWo
 pub record SearchHolds (number : ℕ) (view : View) (asked : SearchWords) (files files' : Option Told) (written written' : Option (List ℕ)) (made : List Put) :
     Type 0 where
   pub template : Template
-  pub is_template : IsTemplate asked.terms.limits view asked.file template
+  pub is_template : IsTemplate (limits_of asked.wide) view asked.file template
   pub end : SearchEnd
-  pub is_end : IsSearchEnd template asked.terms end
+  pub is_end : IsSearchEnd template (terms_of asked) end
   pub numbered : end_number end ≡ number
   pub wrote : written' ≡ with_text written (search_told asked.json template end)
   pub found : number ≡ 0 → FoundStands template end asked files files' made

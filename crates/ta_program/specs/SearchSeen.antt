@@ -6,7 +6,8 @@ use Rattle.ta_program.specs.SearchWords.{SearchWords}
 abbrev pub search_seen : Search → SearchWords
 search_seen command = record {
   file = command.file.now;
-  terms = record { budget = command.budget.given; limits = command.budget.limits };
+  budget = command.budget.given;
+  wide = command.budget.wide;
   out = option_map (λ w. w.now) command.out;
   filled = option_map (λ w. w.now) command.filled;
   json = command.json;

@@ -11,6 +11,7 @@ use Rattle.ta_shelf.specs.Sights.{View, Whole}
 use Rattle.ta_report.specs.Show.{show_text}
 use Rattle.ta_report.specs.Unknowns.{unknowns_text}
 use Rattle.ta_walk.specs.FoundOrders.{FoundOrders}
+use Rattle.ta_program.specs.Values.{limits_of}
 use Rattle.ta_program.specs.OneFile.{OneFileWords, one_file_words}
 use Rattle.ta_program.specs.PatternOption.{EachPicked}
 use Rattle.ta_program.specs.Words.{behind_name}
@@ -47,7 +48,7 @@ pub record ShowHolds (view : View) (asked : OneFileWords) (written written' : Op
   pub held : view asked.file (Whole bytes)
   pub text : List ℕ
   pub printed : ShowPrints bytes text
-  pub within : printed.limits ≡ asked.limits
+  pub within : printed.limits ≡ limits_of asked.wide
   pub wrote : written' ≡ with_text written (text ++ unknowns_text printed.file)
 
 -- the patterns of each file with this text, or the one with the name that is given, occur in no run

@@ -23,7 +23,7 @@ abbrev pub form_of : ℕ → List OptionWord → Form
 form_of plain options = record { plain = plain; options = options_of options }
 
 abbrev pub names_seen : Names → TwoNames
-names_seen names = record { file = names.file.now; other = names.other.now; limits = names.limits }
+names_seen names = record { file = names.file.now; other = names.other.now; wide = names.wide }
 
 abbrev pub file_seen : AskedFile → OneFileWords
-file_seen asked = record { file = asked.name.now; limits = asked.limits }
+file_seen asked = record { file = asked.name.now; wide = asked.wide }

@@ -15,6 +15,7 @@ use Rattle.ta_search.specs.Filling.{filled_text}
 use Rattle.ta_search.specs.SearchJson.{search_told}
 use Rattle.ta_shelf.specs.Sink.{with_text}
 use Rattle.ta_shelf.specs.Sights.{View}
+use Rattle.ta_program.specs.Values.{limits_of}
 use Rattle.ta_program.specs.Search.{IsTemplate}
 use Rattle.ta_program.specs.SearchWords.{SearchWords}
 
@@ -59,8 +60,8 @@ OutcomeMeans l bytes (outcome.Safe certificate) = MeansSafe l bytes
 -- `found` exactly with status 0
 pub record EachTried (number : ℕ) (view : View) (asked : SearchWords) (written written' : Option (List ℕ)) : Type 0 where
   pub template : Template
-  pub is_template : IsTemplate asked.terms.limits view asked.file template
+  pub is_template : IsTemplate (limits_of asked.wide) view asked.file template
   pub end : SearchEnd
   pub gained : written' ≡ with_text written (search_told asked.json template end)
-  pub means : AllByRecursion (λ x. OutcomeMeans asked.terms.limits (filled_text template x.values) x.outcome) end.tried
+  pub means : AllByRecursion (λ x. OutcomeMeans (limits_of asked.wide) (filled_text template x.values) x.outcome) end.tried
   pub found : (end.found ≡ true) ↔ (number ≡ 0)

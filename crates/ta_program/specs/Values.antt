@@ -38,25 +38,25 @@ are_same _ _ = false
 abbrev pub filled_of : List ℕ → Option (List ℕ) → Option (List ℕ) → Option (Option (List ℕ))
 filled_of file out filled = if are_same out filled then None else out_of file filled
 
--- the limits within which FILE is read: the wide ones with `--wide`
+-- the limits within which FILE is read
 abbrev pub limits_of : Bool → Limits
 limits_of is_wide = if is_wide then wide else narrow
 
--- the same where trees are searched: wide ones only with moments on demand, since the tree of words orders every guard
-abbrev pub limits_for : Bool → Bool → Option Limits
-limits_for is_wide lazy = if is_wide && not lazy then None else Some (limits_of is_wide)
+-- whether these are the wide ones where trees are searched: only with moments on demand, since the tree of schemas orders every guard
+abbrev pub wide_of : Bool → Bool → Option Bool
+wide_of is_wide lazy = if is_wide && not lazy then None else Some is_wide
 
--- the names of two files, FILE and one that belongs to it, and the limits within which FILE is read
+-- the names of two files, FILE and one that belongs to it, and whether the wide limits are meant
 pub record TwoNames : Type 0 where
   pub file : List ℕ
   pub other : List ℕ
-  pub limits : Limits
+  pub wide : Bool
 
 abbrev pub two_form : Form
 two_form = record { plain = 2; options = flag (codes "--wide") ∷ [] }
 
 abbrev pub two_taken : Taken → Option TwoNames
-two_taken taken = option_and_then (λ file. option_map (λ other. record { file = file; other = other; limits = limits_of (is_given taken 0) })
+two_taken taken = option_and_then (λ file. option_map (λ other. record { file = file; other = other; wide = is_given taken 0 })
     (file_name_of (plain_of taken 1))) (file_name_of (plain_of taken 0))
 
 -- two plain words that are names of files, and `--wide` or no option

@@ -23,7 +23,6 @@ use crate::values::{file_name_of, limits_of};
 use crate::words::{ALL_OPTION, JSON_OPTION, PARAMETERS_OPTION, Taken, WIDE_OPTION, take_words};
 use std::alloc::Global;
 use std::thread::Threads;
-use ta_base::limits::Limits;
 use ta_cert::CertFault;
 use ta_check::{Accepted, Checker};
 use ta_report::cert_fault_phrase;
@@ -38,7 +37,7 @@ const PIECE: usize = 65_536;
 pub(crate) struct Check<'a> {
     file: &'a str,
     certificate: &'a str,
-    limits: Limits,
+    wide: bool,
     options: ProofOptions,
 }
 
@@ -90,7 +89,7 @@ fn check_taken(taken: Taken<'_>) -> Option<Check<'_>>
     Some(Check {
         file,
         certificate,
-        limits: limits_of(taken.value(3).is_some()),
+        wide: taken.value(3).is_some(),
         options: ProofOptions {
             all: taken.value(0).is_some(),
             parameters: taken.value(1).is_some(),
@@ -109,7 +108,7 @@ fn judge_files<'a, S: Shelf>(
     ensures cause { ReadCause result (S.faults shelf.old) (S.faults shelf.new) }
     ensures kept { S.files shelf.new ≡ S.files shelf.old }
 {
-    match read_legal(alloc, shelf, asked.file, &asked.limits) {
+    match read_legal(alloc, shelf, asked.file, asked.wide) {
         Ok(scoped) => {
             let answer = judge_certificate(alloc, shelf, &scoped, asked);
             drop(scoped);
@@ -130,7 +129,8 @@ fn judge_certificate<'a, S: Shelf>(
     ensures cause { ReadCause result (S.faults shelf.old) (S.faults shelf.new) }
     ensures kept { S.files shelf.new ≡ S.files shelf.old }
 {
-    let checker = Checker::new(alloc, scoped, asked.limits.line_bytes);
+    let limits = limits_of(asked.wide);
+    let checker = Checker::new(alloc, scoped, limits.line_bytes);
     match read_certificate(shelf, checker, asked.certificate) {
         Ok(accepted) => {
             let numbers = accepted.patterns.as_slice();

@@ -35,8 +35,9 @@ impl OfTwoFiles for Compress {
     ghost use Rattle.std.specs.Prelude.{Some};
     ghost use Rattle.ta_program.specs.Asked.{LegalFile};
     ghost use Rattle.ta_program.specs.Compress.{compress_meaning};
+    ghost use Rattle.ta_program.specs.Values.{limits_of};
 
-    ghost legal = { λ names told. LegalFile told (Some (names.file, names.limits)) };
+    ghost legal = { λ names told. LegalFile told (Some (names.file, limits_of names.wide)) };
 
     ghost stated = { compress_meaning };
 
@@ -45,7 +46,7 @@ impl OfTwoFiles for Compress {
         shelf: &mut S,
         names: TwoNames<'a>,
     ) -> Result<Answer, Refusal<'a>> {
-        match read_legal(alloc, shelf, names.file, &names.limits) {
+        match read_legal(alloc, shelf, names.file, names.wide) {
             Ok(scoped) => {
                 let answer = judge_long(alloc, shelf, &scoped, names.other);
                 drop(scoped);

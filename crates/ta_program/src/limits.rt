@@ -3,17 +3,20 @@
 
 ghost use Rattle.std.specs.Prelude.{◌≡◌};
 ghost use Rattle.ta_program.specs.Kinds.{file_limit};
+ghost use Rattle.ta_program.specs.Values.{limits_of};
 
-use ta_base::limits::{CERTIFICATE_BYTES, Limits, RUN_BYTES, VALUES_BYTES};
+use crate::values::limits_of;
+use ta_base::limits::{CERTIFICATE_BYTES, RUN_BYTES, VALUES_BYTES};
 use ta_shelf::Limit;
 
 /// The number where FILE is no use: an automaton file, or a template.
 pub const FILE_NUMBER: u8 = 3;
 
-/// How long FILE may be within a row of limits, and that number.
-pub(crate) fn file_limit(limits: &Limits) -> Limit
-    ensures { result ≡ file_limit limits.now }
+/// How long FILE may be, and that number.
+pub(crate) fn file_limit(is_wide: bool) -> Limit
+    ensures { result ≡ file_limit (limits_of is_wide) }
 {
+    let limits = limits_of(is_wide);
     Limit {
         bytes: limits.bytes as u64,
         number: FILE_NUMBER,

@@ -21,11 +21,11 @@ use ta_base::limits::Limits;
 use ta_scope::ScopedFile;
 use ta_shelf::{Answer, Command, Outputs, Refusal, Shelf};
 
-/// The name of FILE, and the limits within which it is read.
+/// The name of FILE, and whether the wide limits are meant.
 #[derive(Clone, Copy, Drop)]
 pub(crate) struct AskedFile<'a> {
     name: &'a str,
-    limits: Limits,
+    wide: bool,
 }
 
 /// A command of FILE alone, by what it prints.
@@ -42,7 +42,7 @@ pub(crate) trait OfOneFile: Drop + Sized {
         ensures { IfOk result (text limits.now scoped.now.file) };
 }
 
-/// The name of FILE, the limits within which it is read, and the command.
+/// The name of FILE, whether the wide limits are meant, and the command.
 #[derive(Drop)]
 pub(crate) struct OneFile<'a, C: OfOneFile> {
     asked: AskedFile<'a>,
@@ -99,7 +99,7 @@ fn one_file_taken(taken: Taken<'_>) -> Option<AskedFile<'_>>
     let name = file_name_of(taken.plain(0))?;
     Some(AskedFile {
         name,
-        limits: limits_of(taken.value(0).is_some()),
+        wide: taken.value(0).is_some(),
     })
 }
 
@@ -113,9 +113,10 @@ fn judge_one_file<'a, C: OfOneFile, S: Shelf>(
     ensures cause { ReadCause result (S.faults shelf.old) (S.faults shelf.new) }
     ensures kept { S.files shelf.new ≡ S.files shelf.old }
 {
-    match read_legal(alloc, shelf, asked.name, &asked.limits) {
+    match read_legal(alloc, shelf, asked.name, asked.wide) {
         Ok(scoped) => {
-            let answer = answer_one_file::<C>(alloc, &scoped, &asked.limits);
+            let limits = limits_of(asked.wide);
+            let answer = answer_one_file::<C>(alloc, &scoped, &limits);
             drop(scoped);
             answer
         }

@@ -20,13 +20,12 @@ ghost use Rattle.ta_program.specs.Taken.{taken_of};
 use crate::limits::RUN;
 use crate::reading::read_legal;
 use crate::request::Request;
-use crate::values::{file_name_of, limits_of};
+use crate::values::file_name_of;
 use crate::words::{JSON_OPTION, Taken, WIDE_OPTION, take_words};
 use std::alloc::{AllocError, Global};
 use std::thread::Threads;
 use ta_automaton::File;
 use ta_base::Text;
-use ta_base::limits::Limits;
 use ta_replay::{Run, RunFault, Shown, read_run, replay};
 use ta_report::{run_fault_phrase, shown_json, shown_line};
 use ta_shelf::{Answer, Command, Outputs, Refusal, Shelf, read_text};
@@ -36,7 +35,7 @@ use ta_shelf::{Answer, Command, Outputs, Refusal, Shelf, read_text};
 pub(crate) struct Replay<'a> {
     file: &'a str,
     run: &'a str,
-    limits: Limits,
+    wide: bool,
     json: bool,
 }
 
@@ -88,7 +87,7 @@ fn replay_taken(taken: Taken<'_>) -> Option<Replay<'_>>
     Some(Replay {
         file,
         run,
-        limits: limits_of(taken.value(1).is_some()),
+        wide: taken.value(1).is_some(),
         json: taken.value(0).is_some(),
     })
 }
@@ -103,7 +102,7 @@ fn judge_files<'a, S: Shelf>(
     ensures cause { ReadCause result (S.faults shelf.old) (S.faults shelf.new) }
     ensures kept { S.files shelf.new ≡ S.files shelf.old }
 {
-    match read_legal(alloc, shelf, asked.file, &asked.limits) {
+    match read_legal(alloc, shelf, asked.file, asked.wide) {
         Ok(scoped) => {
             let answer = judge_run(alloc, shelf, scoped.file(), asked.run, asked.json);
             drop(scoped);

@@ -29,7 +29,7 @@ use crate::request::StagingRequest;
 use crate::silent_budget::SilentBudget;
 use crate::silent_names::{find_silent, names_of};
 use crate::telling::{Form, Report, tell};
-use crate::values::{budget_of, file_name_of, limits_for, out_of};
+use crate::values::{budget_of, file_name_of, out_of, wide_of};
 use crate::words::{
     ALL_OPTION, CERTIFICATE_OPTION, JSON_OPTION, LAZY_OPTION, NODES_OPTION, PATTERN_OPTION,
     SILENT_OPTION, Taken, WIDE_OPTION, take_words,
@@ -109,14 +109,14 @@ fn rest_taken(taken: Taken<'_>) -> Option<Rest<'_>>
     let nodes = budget_of(taken.value(0))?;
     let out = out_of(file, taken.value(1))?;
     let lazy = taken.value(3).is_some();
-    let limits = limits_for(taken.value(6).is_some(), lazy)?;
+    let wide = wide_of(taken.value(6).is_some(), lazy)?;
     let names = quiet_names(lazy, taken.value(7))?;
     Some(Rest {
         file,
         silent: SilentBudget {
             budget: Budget {
                 given: ta_verdict::Budget { nodes, lazy },
-                limits,
+                wide,
             },
             names,
         },
@@ -157,7 +157,7 @@ fn judge_file<'a, R: Threads + Sync, S: Shelf>(
         alloc,
         shelf,
         asked.file,
-        &asked.silent.budget.limits,
+        asked.silent.budget.wide,
         &Outputs::one(asked.out),
     ) {
         Ok(scoped) => answer_scoped(rt, alloc, shelf, scoped, asked),

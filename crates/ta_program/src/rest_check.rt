@@ -25,7 +25,6 @@ use crate::values::{file_name_of, limits_of};
 use crate::words::{ALL_OPTION, JSON_OPTION, SILENT_OPTION, Taken, WIDE_OPTION, take_words};
 use std::alloc::Global;
 use std::thread::Threads;
-use ta_base::limits::Limits;
 use ta_check::Checker;
 use ta_rest::RestFile;
 use ta_scope::ScopedFile;
@@ -36,7 +35,7 @@ use ta_shelf::{Answer, Command, Outputs, Refusal, Shelf};
 pub(crate) struct RestCheck<'a> {
     file: &'a str,
     certificate: &'a str,
-    limits: Limits,
+    wide: bool,
     silent: Option<&'a str>,
     options: ProofOptions,
 }
@@ -90,7 +89,7 @@ fn rest_check_taken(taken: Taken<'_>) -> Option<RestCheck<'_>>
     Some(RestCheck {
         file,
         certificate,
-        limits: limits_of(taken.value(3).is_some()),
+        wide: taken.value(3).is_some(),
         silent,
         options: ProofOptions {
             all: taken.value(1).is_some(),
@@ -111,7 +110,7 @@ fn judge_files<'a, S: Shelf>(
     ensures cause { ReadCause result (S.faults shelf.old) (S.faults shelf.new) }
     ensures kept { S.files shelf.new ≡ S.files shelf.old }
 {
-    match read_legal(alloc, shelf, asked.file, &asked.limits) {
+    match read_legal(alloc, shelf, asked.file, asked.wide) {
         Ok(scoped) => judge_scoped(alloc, shelf, scoped, asked),
         Err(refusal) => Err(refusal),
     }
@@ -167,7 +166,8 @@ fn judge_rest<'a, S: Shelf>(
     ensures cause { ReadCause result (S.faults shelf.old) (S.faults shelf.new) }
     ensures kept { S.files shelf.new ≡ S.files shelf.old }
 {
-    let checker = Checker::resting_silently(alloc, rest, silent, asked.limits.line_bytes);
+    let limits = limits_of(asked.wide);
+    let checker = Checker::resting_silently(alloc, rest, silent, limits.line_bytes);
     match read_certificate(shelf, checker, asked.certificate) {
         Ok(accepted) => {
             let numbers = accepted.patterns.as_slice();

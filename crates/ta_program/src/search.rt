@@ -17,21 +17,22 @@ ghost use Rattle.ta_program.specs.declared.limits.TheConstants.{CERTIFICATE as C
 ghost use Rattle.ta_program.specs.Inside.FoundFiles.{IsFoundEnd, FoundBy, LastGives};
 ghost use Rattle.ta_program.specs.Search.{end_number, found_files, found_meaning, leaves_unknown, search_meaning, template_fault_text, template_kind, with_given};
 ghost use Rattle.ta_program.specs.SearchSeen.{search_seen};
-ghost use Rattle.ta_program.specs.SearchWords.{search_taken, search_words};
+ghost use Rattle.ta_program.specs.SearchWords.{search_taken, search_words, terms_of};
 ghost use Rattle.ta_program.specs.Taken.{taken_of};
+ghost use Rattle.ta_program.specs.Values.{limits_of};
 
 use crate::budget::Budget;
 use crate::certified::{are_within, put_of};
 use crate::limits::{CERTIFICATE, FILE_NUMBER, file_limit};
 use crate::request::Request;
-use crate::values::{budget_of, file_name_of, filled_of, limits_for, out_of};
+use crate::values::{budget_of, file_name_of, filled_of, limits_of, out_of, wide_of};
 use crate::words::{
     CERTIFICATE_OPTION, JSON_OPTION, LAZY_OPTION, NODES_OPTION, OptionWord, Taken, WIDE_OPTION,
     take_words,
 };
 use std::alloc::{AllocError, Global};
 use std::thread::Threads;
-use ta_base::limits::{FILE_BYTES, Limits};
+use ta_base::limits::FILE_BYTES;
 use ta_base::{List, Text};
 use ta_search::{
     Outcome, SearchEnd, Template, TemplateFault, Terms, Tried, fill, read_template, search,
@@ -88,15 +89,16 @@ impl<'a> Search<'a> {
     ghost use Rattle.std.specs.Prelude.{◌≡◌};
     ghost use Rattle.ta_program.specs.Search.{found_names};
     ghost use Rattle.ta_program.specs.SearchSeen.{search_seen};
+    ghost use Rattle.ta_program.specs.SearchWords.{terms_of};
     ghost use Rattle.ta_shelf.specs.Puts.{output_names};
 
     /// The budget of each pattern, and the limits of filled texts.
     fn terms(&self) -> Terms
-        ensures { result ≡ (search_seen self.now).terms }
+        ensures { result ≡ terms_of (search_seen self.now) }
     {
         Terms {
             budget: self.budget.given,
-            limits: self.budget.limits,
+            limits: limits_of(self.budget.wide),
         }
     }
 
@@ -138,12 +140,12 @@ fn search_taken(taken: Taken<'_>) -> Option<Search<'_>>
     let out = out_of(file, taken.value(1))?;
     let filled = filled_of(file, out, taken.value(2))?;
     let lazy = taken.value(3).is_some();
-    let limits = limits_for(taken.value(5).is_some(), lazy)?;
+    let wide = wide_of(taken.value(5).is_some(), lazy)?;
     Some(Search {
         file,
         budget: Budget {
             given: ta_verdict::Budget { nodes, lazy },
-            limits,
+            wide,
         },
         out,
         filled,
@@ -167,7 +169,7 @@ fn judge_search<'a, R: Threads + Sync, S: Shelf>(
         alloc,
         shelf,
         asked.file,
-        &asked.budget.limits,
+        asked.budget.wide,
         &asked.may_put(),
     ) {
         Ok(template) => answer_search(rt, alloc, &template, asked),
@@ -181,14 +183,14 @@ fn read_searched<'a, S: Shelf>(
     alloc: Global,
     shelf: &mut S,
     name: &'a str,
-    limits: &Limits,
+    is_wide: bool,
     outputs: &Outputs<'a>,
 ) -> Result<Template, Refusal<'a>>
-    ensures stage { Grew (SparedStage (template_kind limits.now) (λ template. template) (S.files shelf.old) name.now (output_names outputs.now) result) (S.calls shelf.old) (S.calls shelf.new) }
+    ensures stage { Grew (SparedStage (template_kind (limits_of is_wide)) (λ template. template) (S.files shelf.old) name.now (output_names outputs.now) result) (S.calls shelf.old) (S.calls shelf.new) }
     ensures cause { ReadCause result (S.faults shelf.old) (S.faults shelf.new) }
     ensures kept { S.files shelf.new ≡ S.files shelf.old }
 {
-    match read_text(alloc, shelf, name, file_limit(limits)) {
+    match read_text(alloc, shelf, name, file_limit(is_wide)) {
         Ok(bytes) => match template_of(alloc, name, bytes.as_slice()) {
             Ok(template) => match spare_read(shelf, outputs, bytes.as_slice()) {
                 Ok(()) => Ok(template),
@@ -299,7 +301,7 @@ fn answer_found<'a>(
     text: Text,
     asked: &Search<'a>,
 ) -> Result<Answer, Refusal<'a>>
-    requires { IsFoundEnd template.now (search_seen asked.now).terms asked.now.json end text }
+    requires { IsFoundEnd template.now (terms_of (search_seen asked.now)) asked.now.json end text }
     ensures says { (files : Option Told) → Says (found_meaning (search_seen asked.now) template.now) files result [] }
     ensures cause { ReadCause result 0 0 }
 {
@@ -343,7 +345,7 @@ fn put_last<'a>(
     text: Text,
     asked: &Search<'a>,
 ) -> Result<Answer, Refusal<'a>>
-    requires { FoundBy template.now (search_seen asked.now).terms asked.now.json last.values (concat last.pieces) text }
+    requires { FoundBy template.now (terms_of (search_seen asked.now)) asked.now.json last.values (concat last.pieces) text }
     ensures says { (files : Option Told) → Says (found_meaning (search_seen asked.now) template.now) files result [] }
     ensures cause { ReadCause result 0 0 }
 {
@@ -362,7 +364,7 @@ fn put_short<'a>(
     text: Text,
     asked: &Search<'a>,
 ) -> Result<Answer, Refusal<'a>>
-    requires found { FoundBy template.now (search_seen asked.now).terms asked.now.json last.values (concat last.pieces) text }
+    requires found { FoundBy template.now (terms_of (search_seen asked.now)) asked.now.json last.values (concat last.pieces) text }
     requires within { IsSome (search_seen asked.now).out → length (concat last.pieces) ≤ CERTIFICATE_LIMIT.bytes }
     ensures says { (files : Option Told) → Says (found_meaning (search_seen asked.now) template.now) files result [] }
     ensures cause { ReadCause result 0 0 }

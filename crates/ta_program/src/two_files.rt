@@ -23,7 +23,7 @@ pub(crate) trait OfTwoFiles: Drop + Sized {
     ghost use Rattle.ta_program.specs.Taken.{names_seen};
     ghost use Rattle.ta_program.specs.Values.{TwoNames as Names};
 
-    // whether FILE, by its name and its limits, is legal in told files
+    // whether FILE, by its name and the limits that are meant, is legal in told files
     ghost legal: { Names → Told → Type 0 };
 
     // what it says, by the names of FILE and of the second file

@@ -4,19 +4,18 @@
 ghost use Rattle.std.specs.Prelude.{◌≡◌, ◌≤◌, false, map, option_map, IfSome, Some};
 ghost use Rattle.std.specs.Char.{is_ascii_digit};
 ghost use Rattle.std.specs.List.{list_all};
-ghost use Rattle.ta_base.specs.LimitRows.{narrow};
 ghost use Rattle.ta_program.specs.Taken.{names_seen, taken_of};
-ghost use Rattle.ta_program.specs.Values.{are_same, budget_of, filled_of, file_name_of, limits_for, limits_of, out_of, two_names, two_taken};
+ghost use Rattle.ta_program.specs.Values.{are_same, budget_of, filled_of, file_name_of, limits_of, out_of, two_names, two_taken, wide_of};
 
 use crate::words::{Taken, WIDE_OPTION, take_words};
 use ta_base::limits::{DEFAULT_NODES, Limits, MOST_NODES};
 
-/// The names of two files, FILE and one that belongs to it, and the limits within which FILE is read.
+/// The names of two files, FILE and one that belongs to it, and whether the wide limits are meant.
 #[derive(Clone, Copy, Drop)]
 pub(crate) struct TwoNames<'a> {
     pub file: &'a str,
     pub other: &'a str,
-    pub limits: Limits,
+    pub wide: bool,
 }
 
 /// The names that words give: two plain words, and `--wide` or no option.
@@ -36,11 +35,11 @@ fn two_taken(taken: Taken<'_>) -> Option<TwoNames<'_>>
     Some(TwoNames {
         file,
         other,
-        limits: limits_of(taken.value(0).is_some()),
+        wide: taken.value(0).is_some(),
     })
 }
 
-/// The limits within which FILE is read: the wide ones with `--wide`.
+/// The limits within which FILE is read.
 pub(crate) fn limits_of(is_wide: bool) -> Limits
     ensures { result ≡ limits_of is_wide }
 {
@@ -51,16 +50,16 @@ pub(crate) fn limits_of(is_wide: bool) -> Limits
     }
 }
 
-/// The same where trees are searched: the tree of words orders every guard, so wide ones only with
-/// moments on demand.
-pub(crate) fn limits_for(is_wide: bool, lazy: bool) -> Option<Limits>
-    ensures asked { result ≡ limits_for is_wide lazy }
-    ensures narrow { IfSome result (λ limits. lazy ≡ false → limits ≡ narrow) }
+/// Whether these are the wide ones where trees are searched: only with moments on demand, since the tree
+/// of schemas orders every guard.
+pub(crate) fn wide_of(is_wide: bool, lazy: bool) -> Option<bool>
+    ensures asked { result ≡ wide_of is_wide lazy }
+    ensures narrow { IfSome result (λ wide. lazy ≡ false → wide ≡ false) }
 {
     if is_wide && !lazy {
         None
     } else {
-        Some(limits_of(is_wide))
+        Some(is_wide)
     }
 }
 

@@ -21,7 +21,7 @@ use crate::pattern_option::find_pick;
 use crate::reading::read_spared;
 use crate::request::StagingRequest;
 use crate::telling::{Form, Report, tell};
-use crate::values::{budget_of, file_name_of, limits_for, out_of};
+use crate::values::{budget_of, file_name_of, out_of, wide_of};
 use crate::words::{
     ALL_OPTION, CERTIFICATE_OPTION, JSON_OPTION, LAZY_OPTION, NODES_OPTION, PATTERN_OPTION, Taken,
     WIDE_OPTION, take_words,
@@ -98,12 +98,12 @@ fn verify_taken(taken: Taken<'_>) -> Option<Verify<'_>>
     let nodes = budget_of(taken.value(0))?;
     let out = out_of(file, taken.value(1))?;
     let lazy = taken.value(3).is_some();
-    let limits = limits_for(taken.value(6).is_some(), lazy)?;
+    let wide = wide_of(taken.value(6).is_some(), lazy)?;
     Some(Verify {
         file,
         budget: Budget {
             given: ta_verdict::Budget { nodes, lazy },
-            limits,
+            wide,
         },
         out,
         json: taken.value(2).is_some(),
@@ -130,7 +130,7 @@ fn judge_verify<'a, R: Threads + Sync, S: Shelf>(
         alloc,
         shelf,
         asked.file,
-        &asked.budget.limits,
+        asked.budget.wide,
         &Outputs::one(asked.out),
     ) {
         Ok(scoped) => {

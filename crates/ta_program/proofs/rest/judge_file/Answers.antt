@@ -1,3 +1,4 @@
+use Rattle.ta_program.specs.Values.{limits_of}
 use Rattle.ta_program.proofs.Common.{
   [],
   ℕ,
@@ -36,9 +37,9 @@ returns-in-Ok-clause-says g c =
     record {
       lost = so.lost;
       middle = _;
-      says = grew_spared (file_kind asked.verify.limits) (λ (s : ScopedFile). s.file) files asked.verify.file puts
+      says = grew_spared (file_kind (limits_of asked.verify.wide)) (λ (s : ScopedFile). s.file) files asked.verify.file puts
           (at_ends asked.verify.file puts (rest_quietly asked))
-          (ends_monotone asked.verify.limits asked.verify.file puts (rest_quietly asked) (rest_quietly_monotone asked)) (λ v. refl) c.in-Ok.scoped
+          (ends_monotone (limits_of asked.verify.wide) asked.verify.file puts (rest_quietly asked) (rest_quietly_monotone asked)) (λ v. refl) c.in-Ok.scoped
           (result_seen g.S.Shelf.stage_bytes so.lost c.answer_scoped.result) _ _
           (rw c.one.ensures at c.in-Ok.ensures.stage) so.says;
       staged = subst (λ (n : ℕ). Changed
@@ -56,7 +57,7 @@ returns-in-Err-clause-says g c =
       middle = _;
       says = subst (λ (seen : Result Answer Refusal). Grew (Says (rest_meaning asked) files seen) (g.S.Shelf.calls c.args.shelf.now)
           (g.S.Shelf.calls c.read_spared.new.shelf)) (sym (unread_seen ScopedFile g.S.Shelf.stage_bytes [] c.in-Err.refusal _ _ c.in-Err.ensures.cause))
-          (grew_kept (file_kind asked.verify.limits) (λ (s : ScopedFile). s.file) files asked.verify.file puts
+          (grew_kept (file_kind (limits_of asked.verify.wide)) (λ (s : ScopedFile). s.file) files asked.verify.file puts
           (at_ends asked.verify.file puts (rest_quietly asked)) (omega arith)
           (omega arith) c.in-Err.refusal _ _ (rw c.one.ensures at c.in-Err.ensures.stage));
       staged = none_staged _ _ (unread_staged ScopedFile puts g.S.Shelf.stage_name g.S.Shelf.stage_bytes c.in-Err.refusal _ _ c.in-Err.ensures.cause);

@@ -1,3 +1,4 @@
+use Rattle.ta_program.specs.Values.{limits_of}
 use Rattle.ta_program.proofs.Common.{[], ℕ, sym, arith, refl, subst, Changed, StagedBy, ScopedFile, Grew, Says, Result, Answer, Refusal}
 use Rattle.ta_program.proofs.Common.{grew_kept, grew_spared, may_put, file_kind, picked_meaning, verify_meaning, result_seen}
 use Rattle.ta_program.specs.Asking.{verify_seen}
@@ -13,7 +14,7 @@ returns-in-Ok-clause-says g c =
     record {
       lost = so.lost;
       middle = _;
-      says = grew_spared (file_kind asked.limits) (λ (s : ScopedFile). s.file) files asked.file (may_put asked.out) (picked_meaning asked)
+      says = grew_spared (file_kind (limits_of asked.wide)) (λ (s : ScopedFile). s.file) files asked.file (may_put asked.out) (picked_meaning asked)
           (picked_monotone asked) (λ v. refl)
           c.in-Ok.scoped (result_seen g.S.Shelf.stage_bytes so.lost c.answer_picked-answer.result) _ _
           (rw c.one.ensures at c.in-Ok.ensures.stage) so.says;
@@ -34,7 +35,7 @@ returns-in-Err-clause-says g c =
       middle = _;
       says = subst (λ (seen : Result Answer Refusal). Grew (Says m files seen) (g.S.Shelf.calls c.args.shelf.now) (g.S.Shelf.calls c.read_spared.new.shelf))
           (sym (unread_seen ScopedFile g.S.Shelf.stage_bytes [] c.in-Err.refusal _ _ c.in-Err.ensures.cause))
-          (grew_kept (file_kind asked.limits) (λ (s : ScopedFile). s.file) files asked.file (may_put asked.out) (picked_meaning asked) (omega arith)
+          (grew_kept (file_kind (limits_of asked.wide)) (λ (s : ScopedFile). s.file) files asked.file (may_put asked.out) (picked_meaning asked) (omega arith)
           (omega arith)
           c.in-Err.refusal _ _ (rw c.one.ensures at c.in-Err.ensures.stage));
       staged = none_staged _ _ (unread_staged ScopedFile m.puts g.S.Shelf.stage_name g.S.Shelf.stage_bytes c.in-Err.refusal _ _ c.in-Err.ensures.cause);
