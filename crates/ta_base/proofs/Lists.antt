@@ -697,9 +697,6 @@ pub either_clear : (b : Bool) (xs ys : List ℕ) → Avoids 10 xs → Avoids 10 
 either_clear true xs ys first second = first
 either_clear false xs ys first second = second
 
-pub not_long : (bytes : List ℕ) → 1048576 < length bytes → length bytes ≤ 1048576 → ⊥
-not_long bytes long within = omega arith
-
 -- three parts behind a text
 pub three_behind : (old a b c : List ℕ) → ((old ++ a) ++ b) ++ c ≡ old ++ (a ++ (b ++ c))
 three_behind old a b c = append_assoc (old ++ a) b c ∙ append_assoc old a (b ++ c)

@@ -97,22 +97,22 @@ pub const CERTIFICATE_BYTES: u64 = 1_073_741_824;
 /// How many bytes a run has at most.
 pub const RUN_BYTES: u64 = 16_777_216;
 
-/// How many parameters an automaton has at most.
+/// How many parameters an automaton has at most within the narrow limits, as the tree of schemas wants.
 pub const MOST_PARAMETERS: usize = 16;
 
-/// How many locations it has at most.
+/// How many locations it then has at most.
 pub const MOST_LOCATIONS: usize = 32;
 
-/// How many rules it has at most.
+/// How many rules it then has at most.
 pub const MOST_RULES: usize = 128;
 
 /// How many events a pattern has at most.
 pub const MOST_EVENTS: usize = 8;
 
-/// How many rise guards an automaton has at most.
+/// How many rise guards an automaton has at most within the narrow limits.
 pub const MOST_RISES: usize = 16;
 
-/// How many fall guards an automaton has at most.
+/// How many fall guards it then has at most.
 pub const MOST_FALLS: usize = 6;
 
 /// How many elements a word has at most: an event, a rise guard or a fall guard in each.

@@ -24,6 +24,6 @@ HasFile l bytes = (file : File) × Legal l bytes file
 abbrev pub HasFault : Limits → List ℕ → Type 0
 HasFault l bytes = (e : FileFault) × FirstFault l bytes e
 
--- a text of at most 1,048,576 bytes is a legal file, or has a first error
+-- a text of at most 4,194,304 bytes is a legal file, or has a first error
 abbrev pub TextsHaveAnswers : Type 0
 TextsHaveAnswers = (l : Limits) (bytes : List ℕ) → length bytes ≤ FILE_BYTES → Either (HasFile l bytes) (HasFault l bytes)

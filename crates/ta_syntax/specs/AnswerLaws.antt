@@ -55,6 +55,6 @@ HasTree l bytes = (tree : Tree) × IsTreeOf l bytes tree
 abbrev pub HasGrammarFault : Limits → List ℕ → Type 0
 HasGrammarFault l bytes = (e : FileFault) × (e ≢ fault.Memory) × FirstGrammarFault l bytes e
 
--- a text of at most 1,048,576 bytes has a tree, or a first error of its tokens or its grammar
+-- a text of at most 4,194,304 bytes has a tree, or a first error of its tokens or its grammar
 abbrev pub TextsHaveTrees : Type 0
 TextsHaveTrees = (l : Limits) (bytes : List ℕ) → length bytes ≤ FILE_BYTES → Either (HasTree l bytes) (HasGrammarFault l bytes)

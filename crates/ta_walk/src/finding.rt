@@ -6,8 +6,8 @@
 //! guards that rise at one moment can be put into an order that keeps all pairs, so schemas in
 //! other orders need not be explored.
 //!
-//! Cost: at most 16 * 15 small systems; no node of the budget is spent. A pair whose system leaves
-//! 128 bits is not taken: the tree is larger then, and the proof as sound.
+//! Cost: a small system for each ordered pair of rise guards; no node of the budget is spent. A pair
+//! whose system leaves 128 bits is not taken: the tree is larger then, and the proof as sound.
 #![tactic(auto)]
 
 ghost use Rattle.std.specs.Prelude.{ℕ, ℤ, ◌≡◌, ◌<◌, ◌+◌, ◌^◌, IfOk, List as Items, MatchOption, OnOk, length, map};
