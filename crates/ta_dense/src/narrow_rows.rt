@@ -2,7 +2,8 @@
 //!
 //! A merge makes `p*row - q*chosen`, so p times the row's bound plus q times that of the chosen row
 //! bounds the result, and becomes the new bound. It grows faster than the numbers, which are
-//! divided to lowest terms; where it no longer suffices it is taken anew from them (`tighten`). All
+//! divided to lowest terms; where it no longer suffices it is taken anew from them (`tighten`), and
+//! a kept pivot has the least one. All
 //! rows are tested before any is changed (`all_merge`), so a refused pivot leaves the dictionary
 //! whole, and the loops over cells need no test. Rows in lowest terms are mostly divided by 2 to 5
 //! and multiplied by 1 or 2: these have loops of their own, without divisions (narrow_cells.rt).
@@ -31,17 +32,26 @@ pub(crate) struct NarrowRow {
     pub(crate) sum: u32,
 }
 
-// Takes the row's bound anew: the greatest absolute value of its numbers.
-pub(crate) fn tighten(row: &mut NarrowRow)
-    requires { IsNarrow (length row.old.cells.items) row.old }
-    ensures view { narrow_view row.new ≡ narrow_view row.old }
-    ensures narrow { IsNarrow (length row.old.cells.items) row.new }
+// The greatest absolute value of the row's numbers.
+pub(crate) fn least_bound(row: &NarrowRow) -> u32
+    requires { IsNarrow (length row.now.cells.items) row.now }
+    ensures bound { IsBound result (narrow_view row.now) }
+    ensures fits { result < 2 ^ 31 }
 {
     let first = row
         .denominator
         .unsigned_abs()
         .max(row.constant.unsigned_abs());
-    row.bound = greatest_of(first, &row.cells);
+    greatest_of(first, &row.cells)
+}
+
+// Takes the row's bound anew.
+pub(crate) fn tighten(row: &mut NarrowRow)
+    requires { IsNarrow (length row.old.cells.items) row.old }
+    ensures view { narrow_view row.new ≡ narrow_view row.old }
+    ensures narrow { IsNarrow (length row.old.cells.items) row.new }
+{
+    row.bound = least_bound(row);
 }
 
 // Whether `c` times the first bound and `a` times the second are less than 2^31 together.

@@ -7,7 +7,7 @@ ghost use Rattle.ta_dense.specs.GrownPivots.{pivots_of};
 
 use crate::kept::DensePivot;
 use crate::kept_cells::KeptCells;
-use crate::narrow_rows::NarrowRow;
+use crate::narrow_rows::{NarrowRow, least_bound};
 use crate::small::widened_row;
 use std::alloc::{AllocError, Global};
 use std::marker::Model;
@@ -51,7 +51,7 @@ impl SmallPivot {
             denominator: chosen.denominator,
             constant: chosen.constant,
             cells: KeptCells::of(alloc, &chosen.cells)?,
-            bound: chosen.bound,
+            bound: least_bound(chosen),
         })
     }
 
