@@ -1,6 +1,10 @@
 //! Rows of walks.
 #![tactic(auto)]
 
+ghost use Rattle.std.specs.Prelude.{◌<◌, length};
+ghost use Rattle.std.specs.Bool.{OnTrue};
+ghost use Rattle.ta_automaton.specs.Narrow.{IsNarrow};
+
 use crate::beside::Beside;
 use crate::given::Given;
 use std::alloc::AllocError;
@@ -14,7 +18,10 @@ use ta_scope::ScopedFile;
 use ta_walk::{PlaceKind, WalkEnd, find_orders, walk};
 
 /// Whether a file has words of pattern 0.
-pub fn has_words(file: &File) -> bool {
+pub fn has_words(file: &File) -> bool
+    ensures narrow { OnTrue result (IsNarrow file.now.automaton) }
+    ensures some { OnTrue result (0 < length file.now.patterns) }
+{
     file.automaton.is_narrow() && !file.patterns.as_slice().is_empty()
 }
 
