@@ -22,6 +22,7 @@ mod FillSteps
 mod Primitive
 mod Bounded
 mod NarrowFacts
+mod RowCellFacts
 mod SharedFacts
 mod Mapped
 mod Halves

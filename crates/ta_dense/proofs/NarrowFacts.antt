@@ -8,7 +8,7 @@ use Rattle.ta_dense.proofs.ProperFacts.{IsProper-reduced, IsProper-merged_by, Is
 use Rattle.ta_dense.proofs.PivotParts.{Cut, cut_by, at_row}
 use Rattle.ta_dense.proofs.Bounded.{IsBound-merged_by, IsBound-divided, IsBound-turned, merges_by_in_range}
 
-pub narrow_itself : (n : ℕ) (r : NarrowRow) → IsNarrow n r → IsNarrow (length r.cells.items) r
+pub narrow_itself : (n : ℕ) (r : NarrowRow) → IsNarrow n r → IsNarrow (length r.cells) r
 narrow_itself n r k = subst (λ (m : ℕ). IsNarrow m r) (sym k.proper.long) k
 
 -- a row is as narrow as one with the same numbers and the same bound
@@ -24,7 +24,7 @@ pub narrow_merged_by : (n column : ℕ) (chosen r new : NarrowRow) (p q : ℤ) �
     narrow_view new ≡ merged_by p q column (narrow_view chosen) (narrow_view r) → new.bound ≡ unsigned_abs p * r.bound + unsigned_abs q * chosen.bound
     → IsNarrow n new
 narrow_merged_by n column chosen r new p q h positive c k within e f =
-    let same : length r.cells.items ≡ length chosen.cells.items = k.proper.long ∙ sym c.proper.long in
+    let same : length r.cells ≡ length chosen.cells = k.proper.long ∙ sym c.proper.long in
     narrow_from n new (merged_by p q column (narrow_view chosen) (narrow_view r)) (unsigned_abs p * r.bound + unsigned_abs q * chosen.bound) e f
     (IsProper-merged_by n p q column (narrow_view chosen) (narrow_view r) h positive c.proper k.proper
     (merges_by_in_range p q r.bound chosen.bound column (narrow_view chosen) (narrow_view r) same c.bounded k.bounded within))
@@ -48,7 +48,7 @@ merge_in_range n column chosen r c k m apart =
     let g = factor_divisor (cell_of (narrow_view chosen) column) (cell_of (narrow_view r) column) in
     merges_by_in_range (int_div (cell_of (narrow_view chosen) column) (pos g)) (int_div (cell_of (narrow_view r) column) (pos g)) r.bound chosen.bound column
     (narrow_view chosen) (narrow_view r) (k.proper.long ∙ sym c.proper.long) c.bounded k.bounded
-    (factors_below (cell_of (narrow_view chosen) column) (cell_of (narrow_view r) column) g r.bound chosen.bound (m apart))
+    (factors_below (cell_of (narrow_view chosen) column) (cell_of (narrow_view r) column) g r.bound chosen.bound (m.within apart))
 
 pub all_in_range : (n column : ℕ) (chosen : NarrowRow) (rows : List NarrowRow) → IsNarrow n chosen → AreNarrow n rows → AllMergeIn32 column chosen rows
     → RowsMergeBelow column (narrow_view chosen) (narrow_views rows) (length (narrow_views rows))
@@ -82,18 +82,18 @@ narrow_joined n before after chosen b c a = All-append (IsNarrow n) before (chos
 
 pub record NarrowCut (old before : List NarrowRow) (chosen : NarrowRow) (after : List NarrowRow) (row : ℕ) : Type 0 where
   pub cut : Cut (narrow_views old) row (narrow_views before) (narrow_view chosen) (narrow_views after)
-  pub wide : length (narrow_at old row).cells ≡ length chosen.cells.items
-  pub first : AreNarrow (length chosen.cells.items) before
-  pub itself : IsNarrow (length chosen.cells.items) chosen
-  pub last : AreNarrow (length chosen.cells.items) after
+  pub wide : length (narrow_at old row).cells ≡ length chosen.cells
+  pub first : AreNarrow (length chosen.cells) before
+  pub itself : IsNarrow (length chosen.cells) chosen
+  pub last : AreNarrow (length chosen.cells) after
 
 pub narrow_cut : (old before : List NarrowRow) (chosen : NarrowRow) (after : List NarrowRow) (row : ℕ) → AreNarrow (length (narrow_at old row).cells) old
     → old ≡ before ++ chosen ∷ after → length before ≡ row → NarrowCut old before chosen after row
 narrow_cut old before chosen after row all e l =
     let c = cut_by narrow_view old before after chosen row e l in
-    let wide : length (narrow_at old row).cells ≡ length chosen.cells.items = ap (λ (r : TableauRow). length r.cells)
+    let wide : length (narrow_at old row).cells ≡ length chosen.cells = ap (λ (r : TableauRow). length r.cells)
     (at_row (narrow_views old) (narrow_views before) (narrow_views after) (narrow_view chosen) row c) in
-    let n = length chosen.cells.items in
+    let n = length chosen.cells in
     let P : ℕ → List NarrowRow → Type 0 = AreNarrow in
     let own : AreNarrow n (before ++ chosen ∷ after) = subst (P n) e (subst (λ (m : ℕ). P m old) wide all) in
     record {
@@ -108,10 +108,10 @@ narrow_cut old before chosen after row all e l =
 pub narrow_cut_same : (old before : List NarrowRow) (chosen : NarrowRow) (after : List NarrowRow) (row : ℕ) (before' : List NarrowRow) (chosen' : NarrowRow)
     (after' : List NarrowRow) → NarrowCut old before chosen after row →
     narrow_views before' ≡ narrow_views before → narrow_view chosen' ≡ narrow_view chosen → narrow_views after' ≡ narrow_views after →
-    AreNarrow (length chosen.cells.items) before' → IsNarrow (length chosen.cells.items) chosen' → AreNarrow (length chosen.cells.items) after'
+    AreNarrow (length chosen.cells) before' → IsNarrow (length chosen.cells) chosen' → AreNarrow (length chosen.cells) after'
     → NarrowCut old before' chosen' after' row
 narrow_cut_same old before chosen after row before' chosen' after' c b v a nb nv na =
-    let long : length chosen.cells.items ≡ length chosen'.cells.items = ap (λ (r : TableauRow). length r.cells) (sym v) in
+    let long : length chosen.cells ≡ length chosen'.cells = ap (λ (r : TableauRow). length r.cells) (sym v) in
     record {
       cut = rw (b, v, a) c.cut;
       wide = c.wide ∙ long;

@@ -14,7 +14,7 @@ pub mod Narrow
 pub mod Shared
 pub mod Small
 pub mod KeptRows
-pub mod KeptCells
+pub mod RowCells
 pub mod SmallPivots
 pub mod GrownPivots
 pub mod Laws

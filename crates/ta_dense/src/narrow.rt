@@ -50,7 +50,10 @@ fn pivot_small(
     ensures in_range { IfOk result (λ d. AllMergeInRange small row column) }
     ensures fault { IfErr result (IsPivotFault small row column) }
 {
-    match small.pivot(alloc, row, column) {
+    let Ok(fits) = small.pivot(alloc, row, column) else {
+        return Err(PivotFault::Memory);
+    };
+    match fits {
         Ok(next) => Ok(NarrowDictionary {
             form: Form::Narrow(next),
         }),
@@ -193,9 +196,23 @@ impl Dictionary for NarrowDictionary {
         matches!(&self.form, Form::Wide(_))
     }
 
+    fn leaving(&self) -> Option<u32> {
+        match &self.form {
+            Form::Narrow(d) => d.leaving(),
+            Form::Wide(d) => d.leaving(),
+        }
+    }
+
+    fn entering(&self, row: u32) -> Option<u32> {
+        match &self.form {
+            Form::Narrow(d) => d.entering(row),
+            Form::Wide(d) => d.entering(row),
+        }
+    }
+
     fn keep(&self, alloc: Global, row: u32, column: u32) -> Result<NarrowPivot, AllocError> {
         let form = match &self.form {
-            Form::Narrow(d) => PivotForm::Narrow(d.keep(alloc, row, column)?),
+            Form::Narrow(d) => PivotForm::Narrow(d.keep(row, column)?),
             Form::Wide(d) => PivotForm::Wide(d.keep(alloc, row, column)?),
         };
         Ok(NarrowPivot { form })

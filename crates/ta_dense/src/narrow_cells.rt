@@ -1,7 +1,7 @@
 //! Lists of cells of 32 bits.
 
-ghost use Rattle.std.specs.Prelude.{◌≡◌, ◌<◌, ◌≤◌, ◌^◌, pos, ◌<ℤ◌, unsigned_abs, int_div, neg_ℤ, length, map, IfSome};
-ghost use Rattle.std.specs.Int.{IsGcd};
+ghost use Rattle.std.specs.Prelude.{◌≡◌, ◌<◌, ◌≤◌, ◌^◌, ℕ, pos, ◌<ℤ◌, ◌*ℤ◌, unsigned_abs, int_div, neg_ℤ, length, map, get_or, IfSome, FitsSigned};
+ghost use Rattle.std.specs.Int.{IsGcd, w32};
 ghost use Rattle.ta_linear.specs.Gcd.{gcd_of};
 ghost use Rattle.ta_dense.specs.Tableau.{combine, gcd_with};
 ghost use Rattle.ta_dense.specs.Bounds.{AllCombineIn32, AreBounded, AreSmall};
@@ -50,6 +50,18 @@ pub(crate) fn combine_narrow(p: i32, q: i32, cells: &mut [i32], chosen: &[i32])
     }
 }
 
+// `p` times each cell.
+pub(crate) fn scale_narrow(p: i32, cells: &mut [i32])
+    requires { (j : ℕ) → j < length cells.old → FitsSigned w32 (p *ℤ get_or cells.old j (pos 0)) }
+    ensures { cells.new ≡ map (λ z. p *ℤ z) cells.old }
+{
+    if p != 1 {
+        for j in 0..cells.len() {
+            cells[j] = p * cells[j];
+        }
+    }
+}
+
 // The greatest of a number and the absolute values of cells.
 pub(crate) fn greatest_of(start: u32, cells: &[i32]) -> u32
     requires start { start < 2 ^ 31 }
@@ -57,6 +69,7 @@ pub(crate) fn greatest_of(start: u32, cells: &[i32]) -> u32
     ensures above { start ≤ result }
     ensures bound { AreBounded result cells.now }
     ensures below { result < 2 ^ 31 }
+    ensures least { (b : ℕ) → start ≤ b → AreBounded b cells.now → result ≤ b }
 {
     let mut greatest = start;
     for cell in cells {

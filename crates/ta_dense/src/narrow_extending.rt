@@ -28,7 +28,7 @@ pub(crate) fn filled_rows(
 {
     let mut wide = Vec::with_capacity(alloc, rows.len())?;
     for row in rows {
-        wide.push(padded_narrow(alloc, row, row.basic, (unknowns + new) as usize)?)?;
+        wide.push(padded_narrow(row, row.basic, (unknowns + new) as usize)?)?;
     }
     Ok(wide)
 }
@@ -50,12 +50,12 @@ fn carry_narrow(
     let PivotForm::Narrow(kept) = &pivot.form else {
         return Ok(false);
     };
-    let chosen = kept.padded(alloc, columns)?;
+    let chosen = kept.padded(columns)?;
     let column = kept.column() as usize;
     if !all_merge(rows, &chosen, column) {
         return Ok(false);
     }
-    merge_all_narrow(rows, &chosen, column);
+    merge_all_narrow(alloc, rows, &chosen, column)?;
     Ok(true)
 }
 

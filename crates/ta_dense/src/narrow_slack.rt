@@ -9,6 +9,7 @@ ghost use Rattle.ta_dense.specs.Narrow.{narrow_view, narrow_views, IsNarrow, Are
 
 use crate::narrow_cells::{greatest_of, narrowed};
 use crate::narrow_rows::NarrowRow;
+use crate::row_cells::RowCells;
 use std::alloc::{AllocError, Global};
 use ta_linear::{Row, System};
 
@@ -56,6 +57,7 @@ fn narrow_slack_row(
         return Ok(None);
     }
     let bound = greatest_of(constant.unsigned_abs().max(1), &cells);
+    let cells = RowCells::of(alloc, cells)?;
     Ok(Some(NarrowRow {
         basic: slack,
         denominator: 1,
@@ -63,6 +65,7 @@ fn narrow_slack_row(
         cells,
         bound,
         sum: sum_of(constant, row.form.terms.as_slice()),
+        met: 0,
     }))
 }
 

@@ -59,7 +59,7 @@ fn have_same_numbers(row: &NarrowRow, other: &NarrowRow) -> bool
     if !is_same(row.constant, other.constant) {
         return false;
     }
-    row.cells.as_slice() == other.cells.as_slice()
+    row.cells.is_same(&other.cells)
 }
 
 // The stored row at a place.
@@ -173,8 +173,8 @@ fn is_alone(places: &[Place], row: usize) -> bool
     true
 }
 
-// A copy of a stored row.
-fn copied(alloc: Global, row: &NarrowRow) -> Result<NarrowRow, AllocError>
+// A stored row once more. It shares the row's cells.
+fn copied(row: &NarrowRow) -> Result<NarrowRow, AllocError>
     ensures view { IfOk result (λ r. narrow_view r ≡ narrow_view row.now) }
     ensures narrow { IfOk result (λ r. (n : ℕ) → IsNarrow n row.now → IsNarrow n r) }
 {
@@ -182,14 +182,15 @@ fn copied(alloc: Global, row: &NarrowRow) -> Result<NarrowRow, AllocError>
         basic: row.basic,
         denominator: row.denominator,
         constant: row.constant,
-        cells: Vec::from_slice(alloc, &row.cells)?,
+        cells: row.cells.shared()?,
         bound: row.bound,
         sum: row.sum,
+        met: 0,
     })
 }
 
 // Stores the numbers of a place once more where another place has them too: it is to be chosen.
-fn part(alloc: Global, shared: &mut SharedRows, row: usize) -> Result<(), AllocError>
+fn part(shared: &mut SharedRows, row: usize) -> Result<(), AllocError>
     requires row { row < length shared.old.places.items }
     requires inside { ArePlaced (length shared.old.rows.items) shared.old.places.items }
     ensures value { shared_views shared.new ≡ shared_views shared.old }
@@ -202,7 +203,7 @@ fn part(alloc: Global, shared: &mut SharedRows, row: usize) -> Result<(), AllocE
         return Ok(());
     }
     let place = place_of(&shared.places, row);
-    let copy = copied(alloc, stored(&shared.rows, place.at))?;
+    let copy = copied(stored(&shared.rows, place.at))?;
     let at = shared.rows.len();
     shared.rows.push(copy)?;
     shared.places[row] = Place {
@@ -214,49 +215,53 @@ fn part(alloc: Global, shared: &mut SharedRows, row: usize) -> Result<(), AllocE
 
 // Merges the row of a place that no other has into the others and turns it, or changes no number
 // where bounds don't show that all of it fits 32 bits.
-fn pivot_alone(shared: &mut SharedRows, row: usize, column: usize, entering: u32) -> bool
+fn pivot_alone(
+    alloc: Global,
+    shared: &mut SharedRows,
+    row: usize,
+    column: usize,
+    entering: u32,
+) -> Result<bool, AllocError>
     requires row { row < length shared.old.places.items }
     requires shared { AreShared (length (shared_at shared.old row).cells) shared.old }
     requires column { column < length (shared_at shared.old row).cells }
     requires positive { pos 0 <ℤ cell_of (shared_at shared.old row) column }
     requires alone { IsAlone shared.old.places.items row }
-    ensures value { OnTrue result (shared_views shared.new ≡ pivoted_rows (shared_views shared.old) row column entering) }
-    ensures in_range { OnTrue result (OthersMergeBelow row column (shared_at shared.old row) (shared_views shared.old) (length (shared_views shared.old))) }
-    ensures same { OnFalse result (shared_views shared.new ≡ shared_views shared.old) }
-    ensures kept { AreShared (length (shared_at shared.old row).cells) shared.new }
+    ensures value { IfOk result (λ fits. OnTrue fits (shared_views shared.new ≡ pivoted_rows (shared_views shared.old) row column entering)) }
+    ensures in_range { IfOk result (λ fits. OnTrue fits (OthersMergeBelow row column (shared_at shared.old row) (shared_views shared.old) (length (shared_views shared.old)))) }
+    ensures same { IfOk result (λ fits. OnFalse fits (shared_views shared.new ≡ shared_views shared.old)) }
+    ensures kept { IfOk result (λ fits. AreShared (length (shared_at shared.old row).cells) shared.new) }
 {
     let at = place_of(&shared.places, row).at;
-    if !pivot_narrow_rows(&mut shared.rows, at, column, entering) {
-        return false;
+    if !pivot_narrow_rows(alloc, &mut shared.rows, at, column, entering)? {
+        return Ok(false);
     }
     shared.places[row] = Place {
         basic: entering,
         at,
     };
-    true
+    Ok(true)
 }
 
-// The same for any row. It changes no number where memory runs out, either.
+// The same for any row.
 pub(crate) fn pivot_shared(
     alloc: Global,
     shared: &mut SharedRows,
     row: usize,
     column: usize,
     entering: u32,
-) -> bool
+) -> Result<bool, AllocError>
     requires row { row < length shared.old.places.items }
     requires shared { AreShared (length (shared_at shared.old row).cells) shared.old }
     requires column { column < length (shared_at shared.old row).cells }
     requires positive { pos 0 <ℤ cell_of (shared_at shared.old row) column }
-    ensures value { OnTrue result (shared_views shared.new ≡ pivoted_rows (shared_views shared.old) row column entering) }
-    ensures in_range { OnTrue result (OthersMergeBelow row column (shared_at shared.old row) (shared_views shared.old) (length (shared_views shared.old))) }
-    ensures same { OnFalse result (shared_views shared.new ≡ shared_views shared.old) }
-    ensures kept { AreShared (length (shared_at shared.old row).cells) shared.new }
+    ensures value { IfOk result (λ fits. OnTrue fits (shared_views shared.new ≡ pivoted_rows (shared_views shared.old) row column entering)) }
+    ensures in_range { IfOk result (λ fits. OnTrue fits (OthersMergeBelow row column (shared_at shared.old row) (shared_views shared.old) (length (shared_views shared.old)))) }
+    ensures same { IfOk result (λ fits. OnFalse fits (shared_views shared.new ≡ shared_views shared.old)) }
+    ensures kept { IfOk result (λ fits. AreShared (length (shared_at shared.old row).cells) shared.new) }
 {
-    match part(alloc, shared, row) {
-        Ok(()) => pivot_alone(shared, row, column, entering),
-        Err(_) => false,
-    }
+    part(shared, row)?;
+    pivot_alone(alloc, shared, row, column, entering)
 }
 
 // The places where there are more unknowns.

@@ -1,7 +1,9 @@
 //! A dictionary whose numbers fit 32 bits.
 
-ghost use Rattle.std.specs.Prelude.{◌≡◌, ◌<◌, ◌≤◌, ◌-◌, ◌++◌, replicate, ◌^◌, pos, ◌<ℤ◌, length, unsigned_abs, IfOk, IfErr, IfSome};
-ghost use Rattle.ta_dense.specs.Tableau.{basic_of, cell_of, pivoted, row_of};
+ghost use Rattle.std.specs.Prelude.{◌≡◌, ◌<◌, ◌≤◌, ◌-◌, ◌++◌, replicate, ◌^◌, pos, ◌<ℤ◌, length, unsigned_abs, IfOk, IfErr, IfSome, IfNone};
+ghost use Rattle.ta_dense.specs.Tableau.{basic_of, cell_of, non_basic_of, pivoted, row_of};
+ghost use Rattle.ta_dense.specs.Leaving.{Leaves, NoneLeaves};
+ghost use Rattle.ta_dense.specs.Entering.{Enters, NoneEnters};
 ghost use Rattle.ta_dense.specs.Merge.{IsProper, AllMergeInRange};
 ghost use Rattle.ta_dense.specs.Slack.{slack_tableau, variables};
 ghost use Rattle.ta_dense.specs.Kept.{AreKept, StayInRange, pivot_in};
@@ -15,7 +17,7 @@ ghost use Rattle.ta_dense.specs.Shared.{AreShared, row_at_place, shared_views};
 
 use crate::dense::DenseDictionary;
 use crate::dictionary::Dictionary;
-use crate::extending::{first_columns, padded_items, raised_columns};
+use crate::extending::{first_columns, raised_columns};
 use crate::narrow_extending::carry_narrow_rows;
 use crate::narrow_rows::NarrowRow;
 use crate::narrow_slack::narrow_slack_rows;
@@ -27,6 +29,9 @@ use crate::small_pivot::{NarrowPivot, SmallPivot};
 use std::alloc::{AllocError, Global};
 use std::marker::Model;
 use ta_linear::System;
+
+/// About how many bytes a row and its place take beside its cells.
+const ROW_BYTES: usize = 80;
 
 /// A dictionary whose numbers fit 32 bits, with a bound of each row's.
 #[derive(Drop)]
@@ -47,17 +52,6 @@ impl Model for SmallDictionary {
     ghost invariant = { IsSoundSmall };
 }
 
-// The cells in 128 bits.
-fn widened_cells(alloc: Global, cells: &[i32]) -> Result<Vec<i128>, AllocError>
-    ensures { IfOk result (λ v. v.items ≡ cells.now) }
-{
-    let mut wide = Vec::with_capacity(alloc, cells.len())?;
-    for cell in cells {
-        wide.push(*cell as i128)?;
-    }
-    Ok(wide)
-}
-
 // The row in 128 bits.
 pub(crate) fn widened_row(alloc: Global, row: &NarrowRow) -> Result<DenseRow, AllocError>
     ensures { IfOk result (λ r. row_view r ≡ narrow_view row.now) }
@@ -66,7 +60,7 @@ pub(crate) fn widened_row(alloc: Global, row: &NarrowRow) -> Result<DenseRow, Al
         basic: row.basic,
         denominator: row.denominator as i128,
         constant: row.constant as i128,
-        cells: widened_cells(alloc, &row.cells)?,
+        cells: row.cells.widened(alloc)?,
     })
 }
 
@@ -98,15 +92,14 @@ fn widened_all(
     Ok(rows)
 }
 
-// A copy of the row for a variable, with zeros up to a number of columns.
+// The row for a variable, with zeros up to a number of columns. It shares the row's cells.
 pub(crate) fn padded_narrow(
-    alloc: Global,
     row: &NarrowRow,
     basic: u32,
     columns: usize,
 ) -> Result<NarrowRow, AllocError>
-    requires narrow { IsNarrow (length row.now.cells.items) row.now }
-    requires columns { length row.now.cells.items ≤ columns }
+    requires narrow { IsNarrow (length row.now.cells) row.now }
+    requires columns { length row.now.cells ≤ columns }
     ensures value { IfOk result (λ r. narrow_view r ≡ padded basic columns (narrow_view row.now)) }
     ensures narrow { IfOk result (λ r. IsNarrow columns r) }
 {
@@ -114,9 +107,10 @@ pub(crate) fn padded_narrow(
         basic,
         denominator: row.denominator,
         constant: row.constant,
-        cells: padded_items(alloc, &row.cells, columns, 0)?,
+        cells: row.cells.padded(columns)?,
         bound: row.bound,
         sum: row.sum,
+        met: 0,
     })
 }
 
@@ -171,19 +165,28 @@ impl SmallDictionary {
         self.non_basic.len() as u32
     }
 
-    /// About how many bytes it holds: four for a cell, and some for each row and its place.
+    fn non_basic(&self, column: u32) -> u32
+        requires { column < length self.now.non_basic }
+        ensures { result ≡ non_basic_of self.now column }
+    {
+        self.non_basic[column as usize]
+    }
+
+    /// About how many bytes it holds and shares with no other: those of cells, and some for each row
+    /// and its place.
     pub(crate) fn bytes(&self) -> usize {
-        let stored = self.rows.rows.len();
-        stored
-            .saturating_mul(self.non_basic.len() + 16)
-            .saturating_mul(4)
+        let mut bytes = self.rows.places.len().saturating_mul(ROW_BYTES);
+        for row in self.rows.rows.as_slice() {
+            bytes = bytes.saturating_add(row.cells.own_bytes());
+        }
+        bytes
     }
 
     pub(crate) fn row_at(&self, row: u32) -> &NarrowRow
         requires { row < length self.now.rows }
         ensures denominator { result.now.denominator ≡ (row_of self.now row).denominator }
         ensures constant { result.now.constant ≡ (row_of self.now row).constant }
-        ensures cells { result.now.cells.items ≡ (row_of self.now row).cells }
+        ensures cells { result.now.cells ≡ (row_of self.now row).cells }
         ensures narrow { IsNarrow (length self.now.non_basic) result.now }
     {
         stored(
@@ -219,20 +222,50 @@ impl SmallDictionary {
         requires column { column < length self.now.non_basic }
         ensures { result ≡ cell_of (row_of self.now row) column }
     {
-        self.row_at(row).cells[column as usize]
+        self.row_at(row).cells.at(column as usize)
     }
 
-    pub(crate) fn keep(
-        &self,
-        alloc: Global,
-        row: u32,
-        column: u32,
-    ) -> Result<SmallPivot, AllocError>
+    /// The row of the least basic variable with a negative constant.
+    pub(crate) fn leaving(&self) -> Option<u32>
+        ensures found { IfSome result (Leaves self.now) }
+        ensures none { IfNone result (NoneLeaves self.now) }
+    {
+        let mut least = None;
+        for row in 0..self.rows() {
+            if self.constant(row) < 0 {
+                least = match least {
+                    Some(best) if self.basic(best) < self.basic(row) => Some(best),
+                    _ => Some(row),
+                };
+            }
+        }
+        least
+    }
+
+    /// The column of the least non-basic variable with a positive cell in the row.
+    pub(crate) fn entering(&self, row: u32) -> Option<u32>
+        requires { row < length self.now.rows }
+        ensures found { IfSome result (Enters self.now row) }
+        ensures none { IfNone result (NoneEnters self.now row) }
+    {
+        let mut least = None;
+        for column in 0..self.columns() {
+            if self.cell(row, column) > 0 {
+                least = match least {
+                    Some(best) if self.non_basic(best) < self.non_basic(column) => Some(best),
+                    _ => Some(column),
+                };
+            }
+        }
+        least
+    }
+
+    pub(crate) fn keep(&self, row: u32, column: u32) -> Result<SmallPivot, AllocError>
         requires row { row < length self.now.rows }
         requires column { column < length self.now.non_basic }
         ensures { IfOk result (λ k. k ≡ pivot_in self.now row column) }
     {
-        SmallPivot::of_row(alloc, row, column, self.row_at(row))
+        SmallPivot::of_row(row, column, self.row_at(row))
     }
 
     /// The dictionary of a longer system, where kept pivots are of 32-bit numbers and bounds show
@@ -265,19 +298,19 @@ impl SmallDictionary {
     }
 
     /// The dictionary after the pivot, or the same dictionary where bounds don't show that all of
-    /// the pivot fits 32 bits, or where memory runs out.
+    /// the pivot fits 32 bits.
     pub(crate) fn pivot(
         self,
         alloc: Global,
         row: u32,
         column: u32,
-    ) -> Result<SmallDictionary, SmallDictionary>
+    ) -> Result<Result<SmallDictionary, SmallDictionary>, AllocError>
         requires row { row < length self.rows }
         requires column { column < length self.non_basic }
         requires positive { pos 0 <ℤ cell_of (row_of self row) column }
-        ensures ok { IfOk result (λ d. d ≡ pivoted self row column) }
-        ensures in_range { IfOk result (λ d. AllMergeInRange self row column) }
-        ensures same { IfErr result (λ d. d ≡ self) }
+        ensures ok { IfOk result (λ fits. IfOk fits (λ d. d ≡ pivoted self row column)) }
+        ensures in_range { IfOk result (λ fits. IfOk fits (λ d. AllMergeInRange self row column)) }
+        ensures same { IfOk result (λ fits. IfErr fits (λ d. d ≡ self)) }
     {
         let SmallDictionary {
             mut non_basic,
@@ -285,10 +318,10 @@ impl SmallDictionary {
         } = self;
         let leaving = place_of(&rows.places, row as usize).basic;
         let entering = non_basic[column as usize];
-        if !pivot_shared(alloc, &mut rows, row as usize, column as usize, entering) {
-            return Err(SmallDictionary { non_basic, rows });
+        if !pivot_shared(alloc, &mut rows, row as usize, column as usize, entering)? {
+            return Ok(Err(SmallDictionary { non_basic, rows }));
         }
         non_basic[column as usize] = leaving;
-        Ok(SmallDictionary { non_basic, rows })
+        Ok(Ok(SmallDictionary { non_basic, rows }))
     }
 }

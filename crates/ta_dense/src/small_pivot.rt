@@ -6,8 +6,8 @@ ghost use Rattle.ta_dense.specs.Narrow.{narrow_view, IsNarrow};
 ghost use Rattle.ta_dense.specs.GrownPivots.{pivots_of};
 
 use crate::kept::DensePivot;
-use crate::kept_cells::KeptCells;
 use crate::narrow_rows::{NarrowRow, least_bound};
+use crate::row_cells::RowCells;
 use crate::small::widened_row;
 use std::alloc::{AllocError, Global};
 use std::marker::Model;
@@ -19,7 +19,7 @@ pub(crate) struct SmallPivot {
     column: u32,
     denominator: i32,
     constant: i32,
-    cells: KeptCells,
+    cells: RowCells,
     bound: u32,
 }
 
@@ -36,21 +36,21 @@ impl Model for SmallPivot {
 }
 
 impl SmallPivot {
+    /// It shares the row's cells, and copies none.
     pub(crate) fn of_row(
-        alloc: Global,
         row: u32,
         column: u32,
         chosen: &NarrowRow,
     ) -> Result<SmallPivot, AllocError>
-        requires { IsNarrow (length chosen.now.cells.items) chosen.now }
-        ensures { IfOk result (λ k. k ≡ record { row = row; column = column; denominator = chosen.now.denominator; constant = chosen.now.constant; cells = chosen.now.cells.items }) }
+        requires { IsNarrow (length chosen.now.cells) chosen.now }
+        ensures { IfOk result (λ k. k ≡ record { row = row; column = column; denominator = chosen.now.denominator; constant = chosen.now.constant; cells = chosen.now.cells }) }
     {
         Ok(SmallPivot {
             row,
             column,
             denominator: chosen.denominator,
             constant: chosen.constant,
-            cells: KeptCells::of(alloc, &chosen.cells)?,
+            cells: chosen.cells.shared()?,
             bound: least_bound(chosen),
         })
     }
@@ -62,7 +62,7 @@ impl SmallPivot {
     }
 
     /// The chosen row, with zeros up to a number of columns.
-    pub(crate) fn padded(&self, alloc: Global, columns: u32) -> Result<NarrowRow, AllocError>
+    pub(crate) fn padded(&self, columns: u32) -> Result<NarrowRow, AllocError>
         requires { length self.now.cells ≤ columns }
         ensures value { IfOk result (λ r. narrow_view r ≡ chosen_row columns self.now) }
         ensures narrow { IfOk result (λ r. IsNarrow columns r) }
@@ -71,23 +71,25 @@ impl SmallPivot {
             basic: 0,
             denominator: self.denominator,
             constant: self.constant,
-            cells: self.cells.padded(alloc, columns as usize)?,
+            cells: self.cells.padded(columns as usize)?,
             bound: self.bound,
             sum: 0,
+            met: 0,
         })
     }
 
     // The chosen row.
-    fn chosen(&self, alloc: Global) -> Result<NarrowRow, AllocError>
+    fn chosen(&self) -> Result<NarrowRow, AllocError>
         ensures { IfOk result (λ r. narrow_view r ≡ record { basic = 0; denominator = self.now.denominator; constant = self.now.constant; cells = self.now.cells }) }
     {
         Ok(NarrowRow {
             basic: 0,
             denominator: self.denominator,
             constant: self.constant,
-            cells: self.cells.padded(alloc, self.cells.count())?,
+            cells: self.cells.shared()?,
             bound: self.bound,
             sum: 0,
+            met: 0,
         })
     }
 
@@ -95,7 +97,7 @@ impl SmallPivot {
     pub(crate) fn widened(&self, alloc: Global) -> Result<DensePivot, AllocError>
         ensures { IfOk result (λ k. k ≡ self.now) }
     {
-        let chosen = self.chosen(alloc)?;
+        let chosen = self.chosen()?;
         Ok(DensePivot::of_row(self.row, self.column, widened_row(alloc, &chosen)?))
     }
 }

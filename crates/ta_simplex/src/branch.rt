@@ -32,14 +32,15 @@ use ta_linear::System;
 /// The bytes that dictionaries may hold together.
 const LIMIT: usize = 48_000_000;
 
-/// A system that ended at a vertex: how many unknowns and rows it has, its dictionary there, and how
-/// many pivots led to it.
+/// A system that ended at a vertex: how many unknowns and rows it has, its dictionary there, how many
+/// pivots led to it, and about how many bytes the dictionary holds alone.
 #[derive(Drop)]
 pub struct Standing<D: Dictionary> {
     pub(crate) unknowns: u32,
     pub(crate) rows: usize,
     pub(crate) dictionary: D,
     pub(crate) pivots: usize,
+    pub(crate) bytes: usize,
 }
 
 /// The systems of a branch of a tree, each of which begins with the rows of the one before, with the
@@ -164,11 +165,13 @@ impl<D: Dictionary> Branch<D> {
         ensures { IfOk result (λ done. IsBranch D.tableau D.pivot_of system.now.rows self.new) }
     {
         let pivots = self.kept.len();
+        let bytes = dictionary.bytes();
         self.systems.push(Standing {
             unknowns: system.unknowns,
             rows: system.row_count(),
             dictionary,
             pivots,
+            bytes,
         })?;
         self.give_up_first();
         Ok(())
@@ -189,7 +192,7 @@ impl<D: Dictionary> Branch<D> {
 fn bytes_of<D: Dictionary>(systems: &[Standing<D>]) -> usize {
     let mut bytes: usize = 0;
     for standing in systems {
-        bytes = bytes.saturating_add(standing.dictionary.bytes());
+        bytes = bytes.saturating_add(standing.bytes);
     }
     bytes
 }

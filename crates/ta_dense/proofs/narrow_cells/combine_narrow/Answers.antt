@@ -1,4 +1,4 @@
-use Rattle.ta_dense.proofs.Common.{◌≡◌, ap, ◌∙◌, sym, subst, refl, ℕ, ℤ, List, pos, negsuc, rules, to_z-of_z, SFits, of_z, to_z, w32, combine}
+use Rattle.ta_dense.proofs.Common.{◌≡◌, ap, ◌∙◌, sym, subst, refl, ℕ, ℤ, List, pos, negsuc, to_z-of_z, SFits, of_z, to_z, w32, combine}
 use Rattle.ta_dense.specs.Bounds.{AllCombineIn32}
 use Rattle.ta_dense.proofs.narrow_cells.combine_narrow.Goals as goal
 

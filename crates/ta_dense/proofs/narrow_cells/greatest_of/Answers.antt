@@ -10,4 +10,5 @@ returns c =
           let e = get_or_default c.args.cells.now k d (pos 0) h in
           subst (λ (z : ℤ). unsigned_abs z ≤ c.loop-cell.greatest) (sym e) (inv.bound k (omega arith));
       below = inv.below;
+      least = inv.least;
     }

@@ -11,7 +11,7 @@ returns-clause-in_range c =
     let old = narrow_views c.args.rows.now in
     let kept = c.in-Narrow.kept in
     let itself = narrow_itself columns chosen c.in_ok-chosen.ensures.narrow in
-    let below = all_in_range (length chosen.cells.items) column chosen c.all_merge.new.rows itself c.if-not-all_merge.ensures.narrow
+    let below = all_in_range (length chosen.cells) column chosen c.all_merge.new.rows itself c.if-not-all_merge.ensures.narrow
     c.if-not-all_merge.ensures.within in
     let first = subst (λ (xs : List TableauRow). RowsMergeBelow column (narrow_view chosen) xs (length xs)) c.if-not-all_merge.ensures.views below in
     let second = subst (λ (r : TableauRow). RowsMergeBelow column r old (length old)) c.in_ok-chosen.ensures.value first in

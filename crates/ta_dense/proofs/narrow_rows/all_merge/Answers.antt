@@ -9,7 +9,7 @@ returns-then-not-merges-clause-views c =
 pub loop-at-preserved : goal.loop-at-preserved
 loop-at-preserved c =
     let inv = c.loop-at.invariant in
-    let n = length c.args.chosen.now.cells.items in
+    let n = length c.args.chosen.now.cells in
     record {
       views = map-set_same narrow_view c.loop-at.rows c.loop-at.at c.merges.new.row c.index-rows-at.result c.if-not-merges.ensures.view ∙ inv.views;
       narrow = All-set (IsNarrow n) c.loop-at.rows c.loop-at.at c.merges.new.row c.if-not-merges.ensures.narrow inv.narrow;

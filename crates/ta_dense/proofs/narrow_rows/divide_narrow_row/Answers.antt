@@ -1,4 +1,4 @@
-use Rattle.ta_dense.proofs.Common.{ap, ◌∙◌, refl, rules, length, int_div, to_z-of_z, quot_fits, with_items_is, SFits, w32, pos_abs}
+use Rattle.ta_dense.proofs.Common.{refl, rules, int_div, to_z-of_z, quot_fits, SFits, w32, pos_abs}
 use Rattle.ta_dense.proofs.RowFacts.{row_same}
 use Rattle.ta_dense.proofs.narrow_rows.divide_narrow_row.Goals as goal
 
@@ -9,8 +9,6 @@ returns-clause-value c =
     let f2 : SFits w32 c.args.row.now.constant = search rules in
     let g1 : SFits w32 (int_div c.args.row.now.denominator c.args.divisor) = quot_fits w32 _ _ f1 c.requires in
     let g2 : SFits w32 (int_div c.args.row.now.constant c.args.divisor) = quot_fits w32 _ _ f2 c.requires in
-    let e = rw c.deref_mut.ensures.value at (simp to_z-of_z at c.divide_narrow.ensures) in
-    let items = with_items_is c.args.row.now.cells c.divide_narrow.new.cells (c.divide_narrow.auto.cells ∙ ap length c.deref_mut.ensures.value ∙ search rules)
-    in
+    let e = simp to_z-of_z at c.in_ok-divide.ensures in
     simp to_z-of_z
-    (rw (pos_abs c.args.divisor c.requires) (row_same c.args.row.now.basic _ _ _ _ _ _ refl refl (items ∙ e)))
+    (rw (pos_abs c.args.divisor c.requires) (row_same c.args.row.now.basic _ _ _ _ _ _ refl refl e))

@@ -5,5 +5,5 @@ abbrev pub invariant-loop-at : goal.invariant-loop-at
 invariant-loop-at l = record {
   done : (k : ℕ) → k < l.at → get_or (narrow_views l.rows) k no_row ≡ merged l.column (narrow_view l.chosen) (get_or (narrow_views l.initial.rows) k no_row);
   rest : (k : ℕ) (d : NarrowRow) → l.at ≤ k → get_or l.rows k d ≡ get_or l.initial.rows k d;
-  narrow : AreNarrow (length l.chosen.cells.items) l.rows;
+  narrow : AreNarrow (length l.chosen.cells) l.rows;
 }

@@ -1,5 +1,6 @@
-use Rattle.ta_dense.proofs.Common.{refl, ap, ◌∙◌, rules, length, set, List, ℤ, ◌*ℤ◌, to_z-of_z, with_items_is, SFits, w32}
+use Rattle.ta_dense.proofs.Common.{◌≡◌, arith, refl, ap, ◌∙◌, rules, length, set, List, ℤ, ◌*ℤ◌, to_z-of_z, SFits, w32}
 use Rattle.ta_dense.proofs.RowFacts.{row_same}
+use Rattle.ta_dense.proofs.PivotLaws.{length-combine}
 use Rattle.ta_dense.proofs.Bounded.{combine_in32, cells_in32}
 use Rattle.ta_dense.proofs.narrow_rows.merge_narrow_by.Goals as goal
 
@@ -47,13 +48,12 @@ overflow_sub-row c =
     let kr = k.right in
     simp to_z-of_z k.difference
 
-pub combine_narrow-requires-clause-fit : goal.combine_narrow-requires-clause-fit
-combine_narrow-requires-clause-fit c =
+pub combine-requires-clause-fit : goal.combine-requires-clause-fit
+combine-requires-clause-fit c =
     let fp = c.ranges.p in
     let fq = c.ranges.q in
-    rw (c.deref_mut.ensures.value, c.deref.ensures.value)
-    (simp to_z-of_z (cells_in32 c.args.p c.args.q c.args.row.now.bound c.args.chosen.now.bound c.args.row.now.cells.items c.args.chosen.now.cells.items
-    c.requires.long c.requires.row.cells c.requires.chosen.cells c.requires.within))
+    simp to_z-of_z (cells_in32 c.args.p c.args.q c.args.row.now.bound c.args.chosen.now.bound c.args.row.now.cells c.args.chosen.now.cells c.requires.long
+    c.requires.row.cells c.requires.chosen.cells c.requires.within)
 
 pub returns-clause-value : goal.returns-clause-value
 returns-clause-value c =
@@ -72,8 +72,26 @@ returns-clause-value c =
     let kl = k.left in
     let kr = k.right in
     let kd = k.difference in
-    let e = rw (c.deref_mut.ensures.value, c.deref.ensures.value) at (simp to_z-of_z at c.combine_narrow.ensures) in
-    let items = with_items_is c.args.row.now.cells c.combine_narrow.new.cells (c.combine_narrow.auto.cells ∙ ap length c.deref_mut.ensures.value ∙ search rules)
-    in
+    let e = simp to_z-of_z at c.in_ok-combine.ensures in
+    let w = simp to_z-of_z at c.in_ok-write.ensures in
     simp to_z-of_z (row_same c.args.row.now.basic _ _ _ _ _ _ refl refl
-    (ap (λ (cs : List ℤ). set cs c.args.column (c.args.q *ℤ c.args.chosen.now.denominator)) (items ∙ e)))
+    (w ∙ ap (λ (cs : List ℤ). set cs c.args.column (c.args.q *ℤ c.args.chosen.now.denominator)) e))
+
+pub write-requires : goal.write-requires
+write-requires c =
+    let fp = c.ranges.p in
+    let fq = c.ranges.q in
+    let e = simp to_z-of_z at c.in_ok-combine.ensures in
+    let l = length-combine c.args.p c.args.q c.args.row.now.cells c.args.chosen.now.cells c.requires.long in
+    let wide : length c.combine.new.self ≡ length c.args.row.now.cells = ap length e ∙ l in
+    let inside = c.requires.column in
+    let long = c.requires.long in
+    omega arith
+
+pub returns-clause-bound : goal.returns-clause-bound
+returns-clause-bound c =
+    let fp = c.ranges.p in
+    let fq = c.ranges.q in
+    let u = simp to_z-of_z at c.unsigned_abs.ensures.value in
+    let v = simp to_z-of_z at c.unsigned_abs-2.ensures.value in
+    rw (u, v) refl

@@ -29,12 +29,12 @@ kept : (c : After-all_merge-second) → NarrowCut c.args.rows.now c.all_merge-fi
 kept c whole =
     let P : ℕ → List NarrowRow → Type 0 = AreNarrow in
     subst (λ (m : ℕ). P m (c.all_merge-first.new.rows ++ c.tighten.new.row ∷ c.all_merge-second.new.rows)) (sym whole.wide)
-    (narrow_joined (length c.tighten.new.row.cells.items) c.all_merge-first.new.rows c.all_merge-second.new.rows c.tighten.new.row whole.first whole.itself
+    (narrow_joined (length c.tighten.new.row.cells) c.all_merge-first.new.rows c.all_merge-second.new.rows c.tighten.new.row whole.first whole.itself
     whole.last)
 
 -- the column is one of the chosen row's, and its cell there is positive
 inside : (c : After-all_merge-second) → NarrowCut c.args.rows.now c.all_merge-first.new.rows c.tighten.new.row c.all_merge-second.new.rows c.args.row
-    → c.args.column < length c.tighten.new.row.cells.items
+    → c.args.column < length c.tighten.new.row.cells
 inside c whole = subst (λ (m : ℕ). c.args.column < m) whole.wide c.requires.column
 
 above : (c : After-all_merge-second) → NarrowCut c.args.rows.now c.all_merge-first.new.rows c.tighten.new.row c.all_merge-second.new.rows c.args.row
@@ -75,13 +75,13 @@ returns-clause-value c =
     ∙ pivoted_cut (narrow_views c.args.rows.now) (narrow_views c.all_merge-first.new.rows) (narrow_views c.all_merge-second.new.rows)
     (narrow_views c.merge_all_narrow.new.rows) (narrow_views c.merge_all_narrow-2.new.rows) (narrow_view c.tighten.new.row)
     (narrow_view c.turn_narrow.new.row) c.args.row c.args.column c.args.entering whole.cut
-    c.merge_all_narrow.ensures.value c.turn_narrow.ensures.value c.merge_all_narrow-2.ensures.value
+    c.in_ok-merge_all_narrow.ensures.value c.in_ok-turn_narrow.ensures.value c.in_ok-merge_all_narrow-2.ensures.value
 
 pub returns-clause-in_range : goal.returns-clause-in_range
 returns-clause-in_range c =
     let at = goal.at.returns-clause-in_range c in
     let whole = merged at.After-all_merge-second (tight at.After-tighten (cut at.In-Some)) in
-    let n = length c.tighten.new.row.cells.items in
+    let n = length c.tighten.new.row.cells in
     all_others (narrow_views c.args.rows.now) (narrow_views c.all_merge-first.new.rows) (narrow_views c.all_merge-second.new.rows)
     (narrow_view c.tighten.new.row) c.args.row c.args.column (length c.args.rows.now) whole.cut (sym (length-map c.args.rows.now narrow_view))
     (all_in_range n c.args.column c.tighten.new.row c.all_merge-first.new.rows whole.itself whole.first c.if-not-first.ensures.within)
@@ -91,16 +91,16 @@ pub returns-clause-kept : goal.returns-clause-kept
 returns-clause-kept c =
     let at = goal.at.returns-clause-kept c in
     let whole = merged at.After-all_merge-second (tight at.After-tighten (cut at.In-Some)) in
-    let n = length c.tighten.new.row.cells.items in
+    let n = length c.tighten.new.row.cells in
     let P : ℕ → List NarrowRow → Type 0 = AreNarrow in
     let here = at_row (narrow_views c.args.rows.now) (narrow_views c.all_merge-first.new.rows) (narrow_views c.all_merge-second.new.rows)
     (narrow_view c.tighten.new.row) c.args.row whole.cut in
     let positive = subst (λ (r : TableauRow). pos 0 <ℤ cell_of r c.args.column) here c.requires.positive in
     let turned = narrow_turned n c.args.column c.args.entering c.tighten.new.row c.turn_narrow.new.row (omega arith) positive whole.itself
-    c.turn_narrow.ensures.value c.turn_narrow.ensures.bound in
+    c.in_ok-turn_narrow.ensures.value c.in_ok-turn_narrow.ensures.bound in
     subst (λ (m : ℕ). P m (c.merge_all_narrow.new.rows ++ c.turn_narrow.new.row ∷ c.merge_all_narrow-2.new.rows)) (sym whole.wide)
-    (narrow_joined n c.merge_all_narrow.new.rows c.merge_all_narrow-2.new.rows c.turn_narrow.new.row c.merge_all_narrow.ensures.narrow turned
-    c.merge_all_narrow-2.ensures.narrow)
+    (narrow_joined n c.merge_all_narrow.new.rows c.merge_all_narrow-2.new.rows c.turn_narrow.new.row c.in_ok-merge_all_narrow.ensures.narrow turned
+    c.in_ok-merge_all_narrow-2.ensures.narrow)
 
 pub merge_all_narrow-requires-clause-chosen : goal.merge_all_narrow-requires-clause-chosen
 merge_all_narrow-requires-clause-chosen c =

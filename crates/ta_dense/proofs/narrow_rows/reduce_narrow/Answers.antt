@@ -27,8 +27,8 @@ returns-else-divisor-gt1-clause-value c =
     let one : 1 ≡ c.divisor_of_narrow-divisor.result = omega arith in
     sym (divided-one (narrow_view c.args.row.now)) ∙ ap (λ (g : ℕ). divided g (narrow_view c.args.row.now)) (one ∙ v)
 
-pub returns-then-divisor-gt1-clause-value : goal.returns-then-divisor-gt1-clause-value
-returns-then-divisor-gt1-clause-value c =
-    let b = below (goal.at.returns-then-divisor-gt1-clause-value c).After-divisor_of_narrow-divisor in
-    c.divide_narrow_row.ensures.value ∙ ap (λ (g : ℕ). divided g (narrow_view c.args.row.now))
+pub returns-in_ok-divide_narrow_row-clause-value : goal.returns-in_ok-divide_narrow_row-clause-value
+returns-in_ok-divide_narrow_row-clause-value c =
+    let b = below (goal.at.returns-in_ok-divide_narrow_row-clause-value c).After-divisor_of_narrow-divisor in
+    c.in_ok-divide_narrow_row.ensures.value ∙ ap (λ (g : ℕ). divided g (narrow_view c.args.row.now))
     (ap unsigned_abs (to_z_pos w32 c.divisor_of_narrow-divisor.result b) ∙ c.divisor_of_narrow-divisor.ensures.value)

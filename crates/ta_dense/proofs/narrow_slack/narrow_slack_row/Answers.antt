@@ -14,7 +14,8 @@ value c =
     let filled : c.fill_narrow.new.cells ≡ coefficients c.args.unknowns c.args.row.now.form.terms =
     c.if-not-fill_narrow.ensures.value ∙ ap (λ (n : ℕ). coefficients n c.as_slice.result.now) long ∙ ap (coefficients c.args.unknowns) c.as_slice.ensures in
     let constant = simp to_z-of_z at c.in-Some.ensures.value in
-    simp to_z-of_z (row_same c.args.slack (pos 1) (pos 1) c.in-Some.constant c.args.row.now.form.constant _ _ refl constant (items ∙ filled))
+    let cells = c.in_ok-cells-2.ensures ∙ items ∙ filled in
+    simp to_z-of_z (row_same c.args.slack (pos 1) (pos 1) c.in-Some.constant c.args.row.now.form.constant _ _ refl constant cells)
 
 pub returns-clause-value : goal.returns-clause-value
 returns-clause-value c = value c
@@ -29,7 +30,7 @@ returns-clause-narrow c =
       bounded = record {
         denominator = omega (arith, above, most);
         constant = omega (arith, above, most, size);
-        cells = subst (AreBounded c.greatest_of-bound.result) c.deref.ensures.value c.greatest_of-bound.ensures.bound;
+        cells = subst (AreBounded c.greatest_of-bound.result) (c.deref.ensures.value ∙ sym c.in_ok-cells-2.ensures) c.greatest_of-bound.ensures.bound;
       };
       fits = c.greatest_of-bound.ensures.below;
     }

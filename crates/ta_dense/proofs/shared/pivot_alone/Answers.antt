@@ -15,8 +15,8 @@ pivot_narrow_rows-requires-clause-narrow c =
     subst (λ (xs : List NarrowRow). P (length (narrow_at xs c.place_of-at.result.at).cells) xs) (sym c.deref_mut.ensures.value)
     (subst (λ (m : ℕ). P m rows) wide c.requires.shared.narrow)
 
-pub returns-then-not-pivot_narrow_rows-clause-kept : goal.returns-then-not-pivot_narrow_rows-clause-kept
-returns-then-not-pivot_narrow_rows-clause-kept c =
+pub returns-then-not-branch-clause-kept : goal.returns-then-not-branch-clause-kept
+returns-then-not-branch-clause-kept c =
     let rows = c.args.shared.now.rows.items in
     let places = c.args.shared.now.places.items in
     let place : c.place_of-at.result ≡ get_or c.args.shared.now.places.items c.args.row no_place = c.place_of-at.ensures
@@ -29,7 +29,7 @@ returns-then-not-pivot_narrow_rows-clause-kept c =
     let held = with_items_is c.args.shared.now.rows c.pivot_narrow_rows.new.rows
     (c.pivot_narrow_rows.auto.rows ∙ ap (λ (xs : List NarrowRow). length xs) c.deref_mut.ensures.value ∙ search rules) in
     let across = ap (λ (xs : List NarrowRow). length (narrow_at xs a).cells) c.deref_mut.ensures.value ∙ sym wide in
-    let narrow = subst (λ (m : ℕ). P m new) across c.if-not-pivot_narrow_rows.ensures.kept in
+    let narrow = subst (λ (m : ℕ). P m new) across c.in_ok-pivot_narrow_rows.ensures.kept in
     let long : length c.pivot_narrow_rows.new.rows ≡ length c.args.shared.now.rows.items = c.pivot_narrow_rows.auto.rows
     ∙ ap (λ (xs : List NarrowRow). length xs) c.deref_mut.ensures.value in
     record {
@@ -54,16 +54,16 @@ returns c =
     let held = with_items_is c.args.shared.now.rows c.pivot_narrow_rows.new.rows (long ∙ search rules) in
     let p : Place = record { basic = c.args.entering; at = c.place_of-at.result.at } in
     let raw : narrow_views c.pivot_narrow_rows.new.rows ≡ pivoted_rows (narrow_views c.deref_mut.result.now) c.place_of-at.result.at c.args.column
-    c.args.entering = c.if-not-pivot_narrow_rows.ensures.value in
+    c.args.entering = (rw c.if-not-branch.false at c.in_ok-pivot_narrow_rows.ensures.value) in
     let value = raw ∙ ap (λ (xs : List NarrowRow). pivoted_rows (narrow_views xs) a c.args.column c.args.entering) c.deref_mut.ensures.value
     ∙ ap (λ (q : Place). pivoted_rows (narrow_views rows) q.at c.args.column c.args.entering) place in
     let within : OthersMergeBelow c.place_of-at.result.at c.args.column (narrow_at c.deref_mut.result.now c.place_of-at.result.at)
-    (narrow_views c.deref_mut.result.now) (length c.deref_mut.result.now) = c.if-not-pivot_narrow_rows.ensures.in_range in
+    (narrow_views c.deref_mut.result.now) (length c.deref_mut.result.now) = (rw c.if-not-branch.false at c.in_ok-pivot_narrow_rows.ensures.in_range) in
     let read = subst (λ (xs : List NarrowRow). OthersMergeBelow a c.args.column (narrow_at xs a) (narrow_views xs) (length xs)) c.deref_mut.ensures.value within
     in
     let others = subst (λ (q : Place). OthersMergeBelow q.at c.args.column (narrow_at rows q.at) (narrow_views rows) (length rows)) place read in
     let across = ap (λ (xs : List NarrowRow). length (narrow_at xs a).cells) c.deref_mut.ensures.value ∙ sym wide in
-    let narrow = subst (λ (m : ℕ). P m new) across c.if-not-pivot_narrow_rows.ensures.kept in
+    let narrow = subst (λ (m : ℕ). P m new) across c.in_ok-pivot_narrow_rows.ensures.kept in
     let under = c.requires.shared.inside c.args.row no_place c.requires.row in
     let here = ap (λ (q : Place). q.at) place in
     let below : c.place_of-at.result.at < length c.pivot_narrow_rows.new.rows = omega arith in

@@ -1,4 +1,4 @@
-use Rattle.ta_dense.proofs.Common.{◌≡◌, ◌≤◌, ◌-◌, ◌++◌, ◌∙◌, ap, arith, length, pos, replicate, rules, subst, sym, unsigned_abs, FitsSigned, List, ℤ, to_z-of_z}
+use Rattle.ta_dense.proofs.Common.{◌≡◌, ◌≤◌, ◌-◌, ◌++◌, arith, length, pos, replicate, rules, subst, sym, unsigned_abs, FitsSigned, List, ℤ, to_z-of_z}
 use Rattle.ta_dense.proofs.Common.{All-append, All-replicate, AreBounded, IsProper, narrow_view}
 use Rattle.std.specs.Int.{w32}
 use Rattle.ta_dense.proofs.ExtendFacts.{IsProper-padded}
@@ -12,8 +12,7 @@ returns-clause-narrow c =
     let zeros = replicate (n - length row.cells) (pos 0) in
     let fd : FitsSigned w32 c.args.row.now.denominator = search rules in
     let fk : FitsSigned w32 c.args.row.now.constant = search rules in
-    let items : row.cells ++ zeros ≡ c.in_ok-padded_items.field-0.items = sym
-    (c.in_ok-padded_items.ensures ∙ ap (λ (xs : List ℤ). xs ++ replicate (n - length xs) (pos 0)) c.deref.ensures.value) in
+    let items : row.cells ++ zeros ≡ c.in_ok-padded.field-0 = sym c.in_ok-padded.ensures in
     let small = All-replicate (λ (x : ℤ). unsigned_abs x ≤ c.args.row.now.bound) (n - length row.cells) (pos 0) (omega arith) in
     simp to_z-of_z record {
       proper = subst (λ (xs : List ℤ). IsProper n (record { basic = c.args.basic; denominator = row.denominator; constant = row.constant; cells = xs })) items

@@ -2,7 +2,6 @@ use Rattle.ta_dense.proofs.Common.{◌≡◌, ◌≤◌, ◌-◌, ◌++◌, ◌�
 use Rattle.ta_dense.proofs.Common.{to_z-of_z, All-append, All-replicate, AreBounded, IsProper, TableauRow, KeptPivot, chosen_row}
 use Rattle.std.specs.Int.{w32}
 use Rattle.ta_dense.specs.SmallPivots.{chosen_view}
-use Rattle.ta_dense.specs.KeptCells.{kept_cells}
 use Rattle.ta_dense.proofs.ExtendFacts.{IsProper-padded}
 use Rattle.ta_dense.proofs.small_pivot.SmallPivot.padded.Goals as goal
 
@@ -23,9 +22,9 @@ returns-clause-narrow c =
     let zeros = replicate (n - length row.cells) (pos 0) in
     let fd : FitsSigned w32 c.self.inside.denominator = search rules in
     let fk : FitsSigned w32 c.self.inside.constant = search rules in
-    let long : length (kept_cells c.self.inside.cells) ≤ c.args.columns =
+    let long : length c.self.inside.cells ≤ c.args.columns =
     subst (λ (k : KeptPivot). length k.cells ≤ n) (sym c.self.view_is) c.requires in
-    let items : row.cells ++ zeros ≡ c.in_ok-padded.field-0.items = sym c.in_ok-padded.ensures in
+    let items : row.cells ++ zeros ≡ c.in_ok-padded.field-0 = sym c.in_ok-padded.ensures in
     let own = c.self.invariant in
     let small = All-replicate (λ (x : ℤ). unsigned_abs x ≤ bound) (n - length row.cells) (pos 0) (omega arith) in
     simp to_z-of_z record {
